@@ -1,0 +1,101 @@
+-- The type table as a plain list of declarations.
+use Rattle.std.specs.Prelude.{ℕ, ◌≡◌, ◌<◌, ◌≤◌, Bool, false, List, [], ◌∷◌, ◌++◌, Option, Some, None, map, length, slice_get}
+use Rattle.gc_types.specs.declared.value.Mutability.TheVariants.{Const, Var}
+use Rattle.gc_types.specs.declared.value.StorageType.TheVariants as storage
+use Rattle.gc_types.specs.declared.value.ValType.TheVariants.{I32}
+use Rattle.gc_types.specs.declared.value.ValType.{ValType}
+use Rattle.gc_types.specs.declared.value.FieldType.{FieldType}
+use Rattle.gc_types.specs.declared.kind.TypeKind.{TypeKind}
+use Rattle.gc_types.specs.declared.kind.TypeKind.TheVariants as kinds
+
+-- what a declaration lists: the fields of a struct, the element of an array, the parameters of an
+-- exception, the parameters and results of a function
+pub data Shape : Type 0 where
+  struct_of : List FieldType → Shape
+  array_of : FieldType → Shape
+  exn_of : List ValType → Shape
+  func_of : List ValType → List ValType → Shape
+
+-- one declared type
+pub record Declaration : Type 0 where
+  pub shape : Shape
+  pub supertype : Option ℕ
+  pub is_final : Bool
+
+-- a table of types: its id (an engine and a number of that engine) and its declarations in order
+pub record TypeTable : Type 0 where
+  pub engine : ℕ
+  pub number : ℕ
+  pub declarations : List Declaration
+
+-- an exception's field of that type, which is constant
+abbrev pub constant_field : ValType → FieldType
+constant_field ty = record { mutability = Const; element_type = storage.ValType ty }
+
+-- the kind of a type
+abbrev pub shape_kind : Shape → TypeKind
+shape_kind (struct_of fields) = kinds.Struct
+shape_kind (array_of elem) = kinds.Array
+shape_kind (exn_of params) = kinds.Exn
+shape_kind (func_of params results) = kinds.Func
+
+-- the fields of a struct or an exception; other types have none
+abbrev pub shape_fields : Shape → Option (List FieldType)
+shape_fields (struct_of fields) = Some fields
+shape_fields (array_of elem) = None
+shape_fields (exn_of params) = Some (map constant_field params)
+shape_fields (func_of params results) = None
+
+abbrev pub declaration_fields : Option Declaration → Option (List FieldType)
+declaration_fields None = None
+declaration_fields (Some d) = shape_fields d.shape
+
+-- the fields of the type with that index
+abbrev pub fields_at : List Declaration → ℕ → Option (List FieldType)
+fields_at types ty = declaration_fields (slice_get types ty)
+
+-- the fields where the type is a struct
+abbrev pub shape_struct_fields : Shape → Option (List FieldType)
+shape_struct_fields (struct_of fields) = Some fields
+shape_struct_fields (array_of elem) = None
+shape_struct_fields (exn_of params) = None
+shape_struct_fields (func_of params results) = None
+
+abbrev pub declaration_struct_fields : Option Declaration → Option (List FieldType)
+declaration_struct_fields None = None
+declaration_struct_fields (Some d) = shape_struct_fields d.shape
+
+-- the fields of the struct type with that index
+abbrev pub struct_fields_at : List Declaration → ℕ → Option (List FieldType)
+struct_fields_at types ty = declaration_struct_fields (slice_get types ty)
+
+-- a declared struct with these fields, that is not final and has no supertype
+abbrev pub plain_struct : List FieldType → Declaration
+plain_struct fields = record { shape = struct_of fields; supertype = None; is_final = false }
+
+-- a type may have this many fields
+abbrev pub max_fields : ℕ
+max_fields = 10000
+
+-- a table may have this many types
+abbrev pub max_types : ℕ
+max_types = 4294967295
+
+-- a mutable 32-bit number
+abbrev pub IsMutableI32 : FieldType → Type 0
+IsMutableI32 f = f ≡ record { mutability = Var; element_type = storage.ValType I32 }
+
+-- A type that may be declared next: not too many fields, and not too many types before it.
+pub record Declarable (types : List Declaration) (fields : List FieldType) : Type 0 where
+  pub few_fields : length fields ≤ max_fields
+  pub few_types : length types < max_types
+
+-- the table with one more declaration
+abbrev pub declare : Declaration → TypeTable → TypeTable
+declare d table = record table { declarations = table.declarations ++ d ∷ [] }
+
+-- what a type value tells: its table's id and its index
+pub record TypeName : Type 0 where
+  pub engine : ℕ
+  pub number : ℕ
+  pub index : ℕ

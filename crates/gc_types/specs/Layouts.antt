@@ -1,0 +1,97 @@
+-- Where the fields of a type lie in an object.
+use Rattle.std.specs.Prelude.{ℕ, ◌+◌, ◌-◌, ◌*◌, ◌/◌, Bool, true, false, List, [], ◌∷◌}
+use Rattle.gc_types.specs.declared.value.FieldType.{FieldType}
+use Rattle.gc_types.specs.declared.value.StorageType.{StorageType}
+use Rattle.gc_types.specs.declared.value.StorageType.TheVariants as storage
+use Rattle.gc_types.specs.declared.value.ValType.TheVariants as val
+use Rattle.gc_types.specs.declared.value.ValType.{ValType}
+use Rattle.gc_types.specs.declared.value.HeapType.{HeapType}
+use Rattle.gc_types.specs.declared.value.HeapType.TheVariants as heap
+use Rattle.gc_types.specs.declared.kind.Layouts.{Layouts}
+use Rattle.gc_types.specs.declared.kind.Layouts.TheVariants.{Null, Counting, Copying}
+use Rattle.gc_types.specs.declared.layout.FieldLayout.{FieldLayout}
+use Rattle.gc_types.specs.declared.layout.GcStructLayout.{GcStructLayout}
+
+-- the bytes that a value takes
+abbrev pub value_width : ValType → ℕ
+value_width val.I32 = 4
+value_width val.I64 = 8
+value_width val.F32 = 4
+value_width val.F64 = 8
+value_width val.V128 = 16
+value_width (val.Ref ty) = 4
+
+-- the bytes that a field or an element takes
+abbrev pub storage_width : StorageType → ℕ
+storage_width storage.I8 = 1
+storage_width storage.I16 = 2
+storage_width (storage.ValType ty) = value_width ty
+
+-- functions and continuations are ids of side tables, so a field of theirs is no reference
+abbrev pub is_gc_heap_type : HeapType → Bool
+is_gc_heap_type heap.Func = false
+is_gc_heap_type heap.NoFunc = false
+is_gc_heap_type (heap.ConcreteFunc ty) = false
+is_gc_heap_type heap.Cont = false
+is_gc_heap_type heap.NoCont = false
+is_gc_heap_type heap.Any = true
+is_gc_heap_type heap.Eq = true
+is_gc_heap_type heap.I31 = true
+is_gc_heap_type heap.Struct = true
+is_gc_heap_type heap.Array = true
+is_gc_heap_type heap.None = true
+is_gc_heap_type (heap.ConcreteStruct ty) = true
+is_gc_heap_type (heap.ConcreteArray ty) = true
+is_gc_heap_type heap.Extern = true
+is_gc_heap_type heap.NoExtern = true
+is_gc_heap_type heap.Exn = true
+is_gc_heap_type heap.NoExn = true
+is_gc_heap_type (heap.ConcreteExn ty) = true
+
+abbrev pub is_gc_value : ValType → Bool
+is_gc_value val.I32 = false
+is_gc_value val.I64 = false
+is_gc_value val.F32 = false
+is_gc_value val.F64 = false
+is_gc_value val.V128 = false
+is_gc_value (val.Ref ty) = is_gc_heap_type ty.heap_type
+
+-- whether a collection follows what such a field holds
+abbrev pub is_gc_storage : StorageType → Bool
+is_gc_storage storage.I8 = false
+is_gc_storage storage.I16 = false
+is_gc_storage (storage.ValType ty) = is_gc_value ty
+
+-- the least multiple of w that is not below n
+abbrev pub round_up : ℕ → ℕ → ℕ
+round_up n w = (n + (w - 1)) / w * w
+
+-- where a field lies whose object is in use up to p
+abbrev pub field_offset : ℕ → FieldType → ℕ
+field_offset p field = round_up p (storage_width field.element_type)
+
+-- each field behind the one before it, at a multiple of its width; the first at p or behind it
+abbrev pub field_layouts : ℕ → List FieldType → List FieldLayout
+field_layouts p [] = []
+field_layouts p (field ∷ fields) =
+    record { offset = field_offset p field; is_gc_ref = is_gc_storage field.element_type }
+    ∷ field_layouts (field_offset p field + storage_width field.element_type) fields
+
+-- where the last field ends, or p where there is none
+abbrev pub fields_end : ℕ → List FieldType → ℕ
+fields_end p [] = p
+fields_end p (field ∷ fields) = fields_end (field_offset p field + storage_width field.element_type) fields
+
+-- the first offset of a struct that a field may take
+abbrev pub struct_base : Layouts → ℕ
+struct_base Null = 8
+struct_base Counting = 28
+struct_base Copying = 12
+
+-- the layout of a struct with these fields
+abbrev pub struct_layout : Layouts → List FieldType → GcStructLayout
+struct_layout layouts fields = record {
+  size = fields_end (struct_base layouts) fields;
+  is_exception = false;
+  fields = field_layouts (struct_base layouts) fields;
+}

@@ -1,0 +1,4 @@
+pub mod Kinds
+pub mod Declarations
+pub mod Layouts
+pub mod Entries

@@ -1,0 +1,21 @@
+//! Types of garbage-collected objects and where their values lie.
+//!
+//! The crate keeps a table of declared types (`Types`) and says, for each of the three heaps, at
+//! which offset each field of a type lies. It stands on nothing; every layer above asks it what a
+//! type is. Its definitions are in `specs/`: `Declarations` (the table as a plain list) and
+//! `Layouts` (offsets and sizes as functions of the declarations).
+#![tactic(auto)]
+
+pub mod index;
+pub mod kind;
+pub mod layout;
+pub mod types;
+pub mod value;
+
+pub use index::VMSharedTypeIndex;
+pub use kind::{Layouts, TypeKind, VMGcKind};
+pub use layout::{FieldLayout, FieldLayouts, GcStructLayout};
+pub use types::{StructType, TypeFault, Types};
+pub use value::{
+    FieldType, Func, HeapTopType, HeapType, Mutability, RefType, StorageType, Tag, ValType,
+};
