@@ -1,0 +1,14 @@
+//! The commands of a script and their replies, with the texts that spell them.
+//!
+//! A line of a script is one command, and each command has one spelling. `parse_line` reads a line,
+//! `reply_text` writes a reply. The grammars are in `specs/`: `Spelling` says how a command is
+//! spelled, `Text` how a reply is written.
+#![tactic(auto)]
+
+pub mod command;
+pub mod reply;
+
+pub use command::{
+    Command, FieldWord, FieldWords, HeapWord, Operand, Operands, StorageWord, ValueWord,
+};
+pub use reply::{ByteText, Refusal, Reply, ReplyValue};

@@ -1,0 +1,66 @@
+//! The header of an object: a kind word with 26 spare bits, and a type word.
+
+ghost use Rattle.std.specs.Prelude.{◌≡◌, ◌<◌, ◌%◌, ◌^◌};
+ghost use Rattle.gc_refs.specs.Header.{header_of, with_spare, spare_bits, header_bytes};
+
+use gc_types::{VMGcKind, VMSharedTypeIndex};
+use std::marker::Model;
+
+/// How many numbers the spare bits of a kind word tell apart.
+const SPARE: u32 = 0x0400_0000;
+
+/// The two words at the front of an object.
+#[derive(Clone, Copy, Debug, PartialEq, Eq, Hash)]
+pub struct VMGcHeader {
+    kind_word: u32,
+    ty: VMSharedTypeIndex,
+}
+
+impl Model for VMGcHeader {
+    ghost use Rattle.std.specs.Prelude.{◌<◌, ◌^◌};
+    ghost use Rattle.gc_refs.specs.Header.{Header};
+
+    ghost Value = { Header };
+
+    ghost view = { λ h. record { kind_word = h.kind_word; type_word = h.ty } };
+
+    ghost invariant = { λ h. h.kind_word < 2 ^ 32 };
+
+    ghost inverse = { λ h. record { kind_word = h.kind_word; ty = h.type_word } };
+}
+
+impl VMGcHeader {
+    /// The header of an object of that kind and type, its spare bits 0.
+    pub fn from_kind_and_index(kind: VMGcKind, ty: VMSharedTypeIndex) -> VMGcHeader
+        ensures { result ≡ header_of kind ty }
+    {
+        VMGcHeader {
+            kind_word: kind.as_u32(),
+            ty,
+        }
+    }
+
+    /// The 26 spare bits.
+    pub fn reserved_u26(&self) -> u32
+        ensures { result ≡ self.now.kind_word % spare_bits }
+    {
+        self.kind_word % SPARE
+    }
+
+    /// Sets the 26 spare bits; kind and type stay.
+    pub fn set_reserved_u26(&mut self, value: u32)
+        requires { value < spare_bits }
+        ensures { self.new ≡ with_spare value self.old }
+    {
+        self.kind_word = self.kind_word / SPARE * SPARE + value;
+    }
+
+    /// The header's eight bytes.
+    pub fn to_bytes(&self) -> [u8; 8]
+        ensures { result ≡ header_bytes self.now }
+    {
+        let [k0, k1, k2, k3] = self.kind_word.to_le_bytes();
+        let [t0, t1, t2, t3] = self.ty.as_u32().to_le_bytes();
+        [k0, k1, k2, k3, t0, t1, t2, t3]
+    }
+}

@@ -1,0 +1,14 @@
+//! Words, headers and raw values of garbage-collected objects.
+//!
+//! A reference is a 32-bit word: 0 is null, an odd word a 31-bit number, any other word the place of
+//! an object. An object begins with a header of two words. This crate says what they mean, once, for
+//! all heaps; it stands on `gc_types` for kinds and type indexes.
+#![tactic(auto)]
+
+pub mod header;
+pub mod v128;
+pub mod word;
+
+pub use header::VMGcHeader;
+pub use v128::V128;
+pub use word::VMGcRef;
