@@ -1,0 +1,52 @@
+-- When an allocation succeeds.
+use Rattle.std.specs.Prelude.{◌≡◌, ℕ, ◌+◌, ◌-◌, ◌*◌, ◌^◌, ◌<◌, ◌≤◌, min, max, Bool, true, false, Option, Some, None, IfSome}
+use Rattle.gc_types.specs.declared.kind.Layouts.{Layouts}
+use Rattle.gc_types.specs.declared.kind.Layouts.TheVariants.{Null, Counting, Copying}
+use Rattle.gc_types.specs.Layouts.{round_up}
+use Rattle.gc_model.specs.Values.{Object}
+use Rattle.gc_model.specs.Table.{Table, make, make_heap}
+use Rattle.gc_model.specs.Sizes.{object_size, next_place, alignment}
+
+-- the bytes of a page
+abbrev pub page : ℕ
+page = 65536
+
+-- the greatest number of pages of a heap
+abbrev pub max_pages : ℕ
+max_pages = 65535
+
+-- what a limiter tells: the greatest number of pages that it grants, where it tells it; how many
+-- asks it refused; and the last of these, as pages before and after
+pub record Limits : Type 0 where
+  pub limit : Option ℕ
+  pub refusals : ℕ
+  pub last_refused : Option (ℕ × ℕ)
+
+-- a count of 64 bits rose, or stands at its greatest value
+abbrev pub Rose : ℕ → ℕ → Type 0
+Rose before now = min (before + 1) (2 ^ 64 - 1) ≤ now
+
+-- the null heap has room for so many bytes behind its objects
+abbrev pub Fits : {D : Type 0} → Table D → ℕ → Type 0
+Fits t size = round_up (next_place t) alignment + size ≤ page * t.pages
+
+-- The first pages may be had: the heap is made, or a limit that is told grants them.
+abbrev pub MayMakeHeap : {D : Type 0} → Option ℕ → Table D → Type 0
+MayMakeHeap limit t = t.made ≡ false → IfSome limit (λ most. t.first ≤ most)
+
+-- The first pages were refused: some are wanted, and a limit that is told is below them.
+pub record IsRefusedHeap {D : Type 0} (limit : Option ℕ) (t : Table D) : Type 0 where
+  pub unmade : t.made ≡ false
+  pub wanted : 0 < t.first
+  pub above : IfSome limit (λ most. most < t.first)
+
+-- An object was made, with the heap's first pages where it wasn't made.
+pub record Allocates {D : Type 0} (limit : Option ℕ) (o : Object D) (t t' : Table D) : Type 0 where
+  pub may : MayMakeHeap limit t
+  pub fits : Fits (make_heap t) (object_size Null t.types o)
+  pub made : t' ≡ make o (make_heap t)
+
+-- An object was refused: its heap could not be made, or has no room for it.
+pub data LacksMemory {D : Type 0} (limit : Option ℕ) (o : Object D) (t t' : Table D) : Type 0 where
+  no_heap : IsRefusedHeap limit t → t' ≡ t → LacksMemory limit o t t'
+  no_room : MayMakeHeap limit t → (Fits (make_heap t) (object_size Null t.types o) → ⊥) → t' ≡ make_heap t → LacksMemory limit o t t'

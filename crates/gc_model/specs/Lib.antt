@@ -1,0 +1,7 @@
+pub mod Values
+pub mod Table
+pub mod Live
+pub mod Sizes
+pub mod Allocation
+pub mod Views
+pub mod Holds

@@ -1,0 +1,107 @@
+-- The object table and its changes.
+use Rattle.std.specs.Prelude.{ℕ, ◌+◌, Bool, true, false, List, [], ◌∷◌, ◌++◌, Option, None, length, replicate, if◌then◌else◌}
+use Rattle.gc_types.specs.declared.value.Func.{Func}
+use Rattle.gc_types.specs.Declarations.{Declaration}
+use Rattle.gc_model.specs.declared.GcClass.{GcClass}
+use Rattle.gc_model.specs.declared.GcClass.TheVariants.{Any}
+use Rattle.gc_model.specs.Values.{Reference, null, at, Object}
+
+-- a slot of a frame or a global
+pub record Slot : Type 0 where
+  pub class : GcClass
+  pub reference : Reference
+
+-- an owned root: its id, how many were made before it, what it names, and its handles
+pub record Owned : Type 0 where
+  pub id : ℕ
+  pub number : ℕ
+  pub reference : Reference
+  pub handles : ℕ
+
+-- a scoped root: the number of its push, and what it names
+pub record Scoped : Type 0 where
+  pub serial : ℕ
+  pub reference : Reference
+
+-- a push: its index among the scoped roots, and how many scope ends dropped a root before it
+pub record Push : Type 0 where
+  pub index : ℕ
+  pub generation : ℕ
+
+-- An object that a counting heap holds: its position and its place.
+pub record Block : Type 0 where
+  pub position : ℕ
+  pub place : ℕ
+
+-- The table. Objects are only added, or changed in one value; garbage is only "not reached".
+-- Frames, owned roots, the pending exception, function values and blocks are empty so far.
+pub record Table (D : Type 0) : Type 0 where
+  pub types : List Declaration
+  pub objects : List (Object D)
+  pub scoped : List Scoped
+  pub pushes : List Push
+  pub drops : ℕ
+  pub owns : ℕ
+  pub frames : List (List Slot)
+  pub globals : List Slot
+  pub owned : List Owned
+  pub pending : Option Reference
+  pub funcs : List (Option Func)
+  pub blocks : List Block
+  pub made : Bool
+  pub pages : ℕ
+  pub first : ℕ
+  pub max_scoped : ℕ
+  pub max_owned : ℕ
+
+-- how many globals there are
+abbrev pub global_count : ℕ
+global_count = 16
+
+abbrev pub empty_slot : Slot
+empty_slot = record { class = Any; reference = null }
+
+-- a table with nothing in it, whose heap is not made
+abbrev pub start : {D : Type 0} → ℕ → ℕ → ℕ → Table D
+start first max_scoped max_owned = record {
+  types = [];
+  objects = [];
+  scoped = [];
+  pushes = [];
+  drops = 0;
+  owns = 0;
+  frames = [];
+  globals = replicate global_count empty_slot;
+  owned = [];
+  pending = None;
+  funcs = [];
+  blocks = [];
+  made = false;
+  pages = 0;
+  first = first;
+  max_scoped = max_scoped;
+  max_owned = max_owned;
+}
+
+-- one more type
+abbrev pub declare : {D : Type 0} → Declaration → Table D → Table D
+declare d t = record t { types = t.types ++ d ∷ [] }
+
+-- one more scoped root, whose serial is the number of pushes before it
+abbrev pub push : {D : Type 0} → Reference → Table D → Table D
+push r t = record t {
+  scoped = t.scoped ++ (record { serial = length t.pushes; reference = r }) ∷ [];
+  pushes = t.pushes ++ (record { index = length t.scoped; generation = t.drops }) ∷ [];
+}
+
+-- one more object
+abbrev pub add_object : {D : Type 0} → Object D → Table D → Table D
+add_object o t = record t { objects = t.objects ++ o ∷ [] }
+
+-- one more object, named by a new scoped root
+abbrev pub make : {D : Type 0} → Object D → Table D → Table D
+make o t = push (at (length t.objects)) (add_object o t)
+
+-- the heap is made, with its first pages where it wasn't
+abbrev pub make_heap : {D : Type 0} → Table D → Table D
+make_heap t = record t { made = true; pages = (if t.made then t.pages else t.first) }

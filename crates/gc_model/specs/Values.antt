@@ -1,0 +1,28 @@
+-- References, values and objects of the table. Positions count from 0.
+use Rattle.std.specs.Prelude.{ℕ, List, Option}
+use Rattle.gc_types.specs.declared.value.Func.{Func}
+use Rattle.gc_types.specs.declared.value.Tag.{Tag}
+use Rattle.gc_model.specs.declared.GcClass.{GcClass}
+
+-- null, a 31-bit number, or the object at a position
+pub data Reference : Type 0 where
+  null : Reference
+  small : ℕ → Reference
+  at : ℕ → Reference
+
+-- a number with its width, as its bits; a function or none; a class with a reference
+pub data Value : Type 0 where
+  i32 : ℕ → Value
+  i64 : ℕ → Value
+  f32 : ℕ → Value
+  f64 : ℕ → Value
+  v128 : ℕ → Value
+  function : Option Func → Value
+  reference : GcClass → Reference → Value
+
+-- an object: its type's index and its values; a host object has a value of the embedder's
+pub data Object (D : Type 0) : Type 0 where
+  struct : ℕ → List Value → Object D
+  array : ℕ → List Value → Object D
+  host : D → Object D
+  exception : ℕ → Tag → List Value → Object D

@@ -1,0 +1,15 @@
+//! The object table, which all contracts above speak of, and what they see of a heap and a store.
+//!
+//! The table has plain lists and numbers, and objects that never move or vanish; it has no bytes, no
+//! places and no headers. `specs/` has it: `Values` (references, values, objects), `Table` (the table
+//! and its changes), `Live` (which handles are live), `Sizes`, `Allocation` (when an allocation
+//! succeeds), `Views` (what is seen of a heap and of a store) and `Holds` (the store holds the table).
+#![tactic(auto)]
+
+/// The class of a reference: which of the three hierarchies that hold objects it belongs to.
+#[derive(Clone, Copy, Debug, PartialEq, Eq, Hash)]
+pub enum GcClass {
+    Any,
+    Extern,
+    Exn,
+}
