@@ -39,8 +39,8 @@ Lies place (reference class r) bytes offset = ⊥
 pub record ValuesLie (place : Placing) (base : ℕ) (layouts : List FieldLayout) (values : List Value) (bytes : List ℕ) : Type 0 where
   pub same_count : length values ≡ length layouts
   pub each : (i : ℕ) (layout : FieldLayout) (value : Value)
-           → slice_get layouts i ≡ Some layout → slice_get values i ≡ Some value
-           → Lies place value bytes (layout.offset - base)
+      → slice_get layouts i ≡ Some layout → slice_get values i ≡ Some value
+      → Lies place value bytes (layout.offset - base)
 
 -- a struct of a heap stands for one of the table
 pub record StructStands (layouts : Layouts) (types : List Declaration) (place : Placing) (ty : ℕ) (values : List Value) (h : HeapObject) : Type 0 where
@@ -93,8 +93,8 @@ pub record EntryStands {D : Type 0} (t : Table D) (place : Placing) (index : ℕ
 pub record ScopedHold {D : Type 0} (t : Table D) (place : Placing) (entries : List RootEntry) : Type 0 where
   pub same_count : length entries ≡ length t.scoped
   pub each : (i : ℕ) (entry : RootEntry) (root : Scoped)
-           → slice_get entries i ≡ Some entry → slice_get t.scoped i ≡ Some root
-           → EntryStands t place i entry root
+      → slice_get entries i ≡ Some entry → slice_get t.scoped i ≡ Some root
+      → EntryStands t place i entry root
 
 -- A push is of an earlier generation, or it is of the present one and its root still stands.
 abbrev pub IsPast : {D : Type 0} → Table D → Push → Type 0

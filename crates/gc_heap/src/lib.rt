@@ -1,0 +1,12 @@
+//! The interface of a heap, and the null heap.
+//!
+//! A store asks its heap for memory, objects and bytes by the trait `GcHeap` and knows nothing of
+//! how a heap keeps them: contracts speak of the heap's content, a finite map from places to objects
+//! (`HeapView` of `gc_model`). The null heap is the simplest one: it never frees.
+#![tactic(auto)]
+
+pub mod heap;
+pub mod memory;
+
+pub use heap::{GcHeap, HeapFault, RefFault};
+pub use memory::HeapMemory;

@@ -1,0 +1,65 @@
+//! The memory of a heap.
+
+ghost use Rattle.std.specs.Prelude.{◌≡◌, ◌+◌, ◌*◌, ◌/◌, ◌≤◌, ◌<◌, ◌^◌, length, IfOk, OnErr, replicate};
+ghost use Rattle.gc_model.specs.Allocation.{page, max_pages};
+
+use std::alloc::{AllocError, Global};
+use std::marker::Model;
+
+/// Bytes of a page.
+pub const PAGE: usize = 65_536;
+
+/// The greatest number of pages of a heap.
+pub const MAX_PAGES: u32 = 65_535;
+
+/// The bytes of a heap, in whole pages. Contracts see them as a list.
+#[derive(Drop)]
+pub struct HeapMemory {
+    pages: u32,
+    bytes: Vec<u8>,
+}
+
+impl Model for HeapMemory {
+    ghost use Rattle.std.specs.Prelude.{◌≡◌, ◌*◌, ◌≤◌, List, ℕ, length};
+    ghost use Rattle.gc_model.specs.Allocation.{page, max_pages};
+
+    ghost Value = { List ℕ };
+
+    ghost view = { λ m. m.bytes.items };
+
+    ghost invariant = { λ m. (length m.bytes.items ≡ page * m.pages) × (m.pages ≤ max_pages) };
+}
+
+impl HeapMemory {
+    /// That many pages, whose bytes are 0.
+    pub fn new(alloc: Global, pages: u32) -> Result<HeapMemory, AllocError>
+        requires { pages ≤ max_pages }
+        ensures { IfOk result (λ m. m ≡ replicate (page * pages) 0) }
+    {
+        let bytes = vec![in alloc; 0; PAGE * pages as usize]?;
+        Ok(HeapMemory { pages, bytes })
+    }
+
+    /// How many pages there are.
+    pub fn pages(&self) -> u32
+        ensures size { page * result ≡ length self.now }
+        ensures bound { result ≤ max_pages }
+    {
+        self.pages
+    }
+
+    /// How many bytes there are.
+    pub fn byte_size(&self) -> usize
+        ensures { result ≡ length self.now }
+    {
+        self.bytes.len()
+    }
+
+    /// The bytes.
+    pub fn bytes(&self) -> &[u8]
+        ensures value { result.now ≡ self.now }
+        ensures bound { length self.now ≤ page * max_pages }
+    {
+        self.bytes.as_slice()
+    }
+}
