@@ -1,5 +1,5 @@
 -- When an allocation succeeds.
-use Rattle.std.specs.Prelude.{◌≡◌, ℕ, ◌+◌, ◌-◌, ◌*◌, ◌^◌, ◌<◌, ◌≤◌, min, max, Bool, true, false, Option, Some, None, IfSome}
+use Rattle.std.specs.Prelude.{◌≡◌, ℕ, ◌+◌, ◌-◌, ◌*◌, ◌^◌, ◌<◌, ◌≤◌, min, max, nat_le, Bool, true, false, Option, Some, None, IfSome}
 use Rattle.gc_types.specs.declared.kind.Layouts.{Layouts}
 use Rattle.gc_types.specs.declared.kind.Layouts.TheVariants.{Null, Counting, Copying}
 use Rattle.gc_types.specs.Layouts.{round_up}
@@ -21,6 +21,12 @@ pub record Limits : Type 0 where
   pub limit : Option ℕ
   pub refusals : ℕ
   pub last_refused : Option (ℕ × ℕ)
+
+-- a size that no heap of the kind can hold
+abbrev pub too_large : Layouts → ℕ → Bool
+too_large Null size = nat_le 67108864 size
+too_large Counting size = nat_le (2 ^ 32) (size + 16)
+too_large Copying size = nat_le (2 ^ 32) (round_up size alignment)
 
 -- a count of 64 bits rose, or stands at its greatest value
 abbrev pub Rose : ℕ → ℕ → Type 0

@@ -12,8 +12,9 @@ use Rattle.gc_types.specs.Layouts.{struct_base, field_layouts, fields_end}
 use Rattle.gc_model.specs.Values.{Reference, null, small, at, Value, i32, i64, f32, f64, v128, function, reference, Object, struct, array, host, exception}
 use Rattle.gc_model.specs.Table.{Table, Scoped, Push, empty_slot, global_count}
 use Rattle.gc_model.specs.Sizes.{next_place}
-use Rattle.gc_model.specs.Allocation.{page}
-use Rattle.gc_model.specs.Views.{HeapObject, HeapView, StoreView, RootEntry, u32_at}
+use Rattle.gc_model.specs.Allocation.{page, max_pages}
+use Rattle.gc_model.specs.declared.RootEntry.{RootEntry}
+use Rattle.gc_model.specs.Views.{HeapObject, HeapView, StoreView, u32_at}
 
 -- where the heap holds each position
 abbrev pub Placing : Type 0
@@ -127,7 +128,9 @@ pub record NumbersHold {D : Type 0} (s : StoreView) (t : Table D) : Type 0 where
   pub max_owned : s.max_owned ≡ t.max_owned
   pub made : s.heap.attached ≡ t.made
   pub capacity : s.heap.capacity ≡ page * t.pages
-  pub unmade : t.made ≡ false → t.pages ≡ 0
+  pub no_pages : t.made ≡ false → t.pages ≡ 0
+  pub no_objects : t.made ≡ false → t.objects ≡ []
+  pub first_fits : t.first ≤ max_pages
 
 -- the store holds the table under that placing
 pub record Holds {D : Type 0} (layouts : Layouts) (s : StoreView) (t : Table D) (place : Placing) : Type 0 where
@@ -139,3 +142,7 @@ pub record Holds {D : Type 0} (layouts : Layouts) (s : StoreView) (t : Table D) 
   pub pushes : PushesDiffer t
   pub nothing_else : NothingElse t
   pub only_numbers : OnlyNumbers t.types
+
+-- the store holds the table, wherever its objects lie
+abbrev pub HoldsTable : {D : Type 0} → Layouts → StoreView → Table D → Type 0
+HoldsTable layouts s t = (place : Placing) × Holds layouts s t place

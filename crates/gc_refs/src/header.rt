@@ -40,6 +40,13 @@ impl VMGcHeader {
         }
     }
 
+    /// The type word as an index; the reserved one where the object has no type.
+    pub fn type_index(&self) -> VMSharedTypeIndex
+        ensures { result ≡ self.now.type_word }
+    {
+        self.ty
+    }
+
     /// The 26 spare bits.
     pub fn reserved_u26(&self) -> u32
         ensures { result ≡ self.now.kind_word % spare_bits }

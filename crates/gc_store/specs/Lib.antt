@@ -1,0 +1,4 @@
+pub mod Ids
+pub mod Limiters
+pub mod Stores
+pub mod Roots
