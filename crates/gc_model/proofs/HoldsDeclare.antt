@@ -81,11 +81,12 @@ holds_declare layouts s t place fields numbers holds =
         };
         only = holds.objects.only;
         injective = holds.objects.injective;
+        even = holds.objects.even;
       };
       by_kind = declare_by_kind layouts d t place s.heap holds.objects holds.by_kind;
       scoped = record {
         same_count = holds.scoped.same_count;
-        each = λ i entry root e f. let stands = holds.scoped.each i entry root e f in record { pushed = stands.pushed; word = stands.word };
+        each = λ i entry root e f. let stands = holds.scoped.each i entry root e f in record { pushed = stands.pushed; word = stands.word; not_null = stands.not_null };
       };
       pushes = record { past = holds.pushes.past; apart = holds.pushes.apart };
       nothing_else = record {

@@ -59,11 +59,12 @@ holds_heap layouts s t place heap unmade made holds =
         placed = λ position word e. absurd (nowhere position word e);
         only = λ word object e. absurd (none-some object (sym (get-empty nat_cmp word) ∙ ap (λ (m : _). Rattle.std.specs.FinMap.get m word) (sym made.content) ∙ e));
         injective = λ p q word e f. absurd (nowhere p word e);
+        even = λ word object e. absurd (none-some object (sym (get-empty nat_cmp word) ∙ ap (λ (m : _). Rattle.std.specs.FinMap.get m word) (sym made.content) ∙ e));
       };
       by_kind = made_by_kind layouts t place heap t.first none made;
       scoped = record {
         same_count = holds.scoped.same_count;
-        each = λ i entry root e f. let stands = holds.scoped.each i entry root e f in record { pushed = stands.pushed; word = stands.word };
+        each = λ i entry root e f. let stands = holds.scoped.each i entry root e f in record { pushed = stands.pushed; word = stands.word; not_null = stands.not_null };
       };
       pushes = record { past = holds.pushes.past; apart = holds.pushes.apart };
       nothing_else = record {

@@ -1,5 +1,5 @@
 -- A store that holds a table holds it with one more struct, named by a new scoped root.
-use Rattle.std.proofs.Common.{◌≡◌, ◌≢◌, ℕ, ◌+◌, ◌-◌, ◌*◌, ◌<◌, ◌≤◌, ◌^◌, ◌⊎◌, inl, inr, List, [], ◌∷◌, ◌++◌, Bool, true, false, cond, nat_eq, eqb, Option, Some, None, length, sym, ap, ◌∙◌, refl, subst, arith, suc}
+use Rattle.std.proofs.Common.{◌≡◌, ◌≢◌, ℕ, ◌+◌, ◌-◌, ◌*◌, ◌%◌, ◌<◌, ◌≤◌, ◌^◌, ◌⊎◌, inl, inr, List, [], ◌∷◌, ◌++◌, Bool, true, false, cond, nat_eq, eqb, Option, Some, None, length, sym, ap, ◌∙◌, refl, subst, arith, suc}
 use Rattle.std.specs.List.{slice_get}
 use Rattle.std.specs.Ordering.{nat_cmp}
 use Rattle.std.specs.FinMap.{FinMap, get, insert}
@@ -72,6 +72,8 @@ pub record IsMadeObject {D : Type 0} (layouts : Layouts) (t : Table D) (place : 
   pub object : HeapObject
   pub stands : Stands layouts t.types place o object
   pub free : get old.content word ≡ None
+  pub is_even : word % 2 ≡ 0
+  pub not_null : 0 < word
   pub content : new.content ≡ insert old.content word object
   pub attached : new.attached ≡ old.attached
   pub capacity : new.capacity ≡ old.capacity
@@ -138,6 +140,16 @@ module _ {D : Type 0} (layouts : Layouts) (s : StoreView) (t : Table D) (place :
             (p.0, within p.0 w p.1)
       ] refl
 
+  -- places are even and not 0
+  even : (w : ℕ) (object : HeapObject) → get heap.content w ≡ Some object → (w % 2 ≡ 0) × (0 < w)
+  even w object e =
+      elim (eqb w word) as (λ b. eqb w word ≡ b → (w % 2 ≡ 0) × (0 < w)) [
+        | true ↦ λ same. let is : w ≡ word = grind (arith, common_steps, same) in (ap (λ k. k % 2) is ∙ made.is_even, subst (λ k. 0 < k) (sym is) made.not_null)
+        | false ↦ λ differs.
+            let ne : w ≢ word = grind (arith, common_steps, differs) in
+            holds.objects.even w object (sym (get-put_other s.heap.content word w made.object ne) ∙ ap (λ (m : FinMap nat_cmp HeapObject). get m w) (sym made.content) ∙ e)
+      ] refl
+
   -- an old position is not at the new place
   apart : (position w : ℕ) → place position ≡ Some w → word ≡ w → ⊥
   apart position w e same =
@@ -168,6 +180,7 @@ module _ {D : Type 0} (layouts : Layouts) (s : StoreView) (t : Table D) (place :
                 | inl old' ↦ let stands = holds.scoped.each i entry root old old' in record {
                       pushed = slice_get-push_old t.pushes _ root.serial _ stands.pushed;
                       word = is_word-more place place' root.reference entry.word within stands.word;
+                      not_null = stands.not_null;
                     }
                 | inr new' ↦ absurd (omega (arith, slice_get_within s.scoped i entry old, holds.scoped.same_count, new'.0))
               ]
@@ -178,6 +191,7 @@ module _ {D : Type 0} (layouts : Layouts) (s : StoreView) (t : Table D) (place :
                     let stands : EntryStands (make o t) place' (length t.scoped) (record { generation = s.generation; word = word }) (record { serial = length t.pushes; reference = at (length t.objects) }) = record {
                       pushed = subst (λ (g : ℕ). slice_get (t.pushes ++ (record { index = length t.scoped; generation = t.drops }) ∷ []) (length t.pushes) ≡ Some (record { index = length t.scoped; generation = g })) (sym holds.numbers.generation) (slice_get-push_new t.pushes _);
                       word = placed_at-new place (length t.objects) word;
+                      not_null = made.not_null;
                     } in
                     subst (λ (j : ℕ). EntryStands (make o t) place' j entry root) (sym new'.0)
                     (subst (λ (x : Scoped). EntryStands (make o t) place' (length t.scoped) entry x) new'.1
@@ -248,7 +262,7 @@ module _ {D : Type 0} (layouts : Layouts) (s : StoreView) (t : Table D) (place :
       no_objects = λ unmade. absurd (cc (sym is_made ∙ unmade));
       first_fits = holds.numbers.first_fits;
     };
-    objects = record { placed = held; only = only; injective = injective };
+    objects = record { placed = held; only = only; injective = injective; even = even };
     by_kind = made_by_kind layouts refl holds.by_kind;
     scoped = scoped;
     pushes = pushes;

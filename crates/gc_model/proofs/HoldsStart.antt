@@ -53,6 +53,7 @@ holds_untouched D layouts s untouched = record {
     placed = λ position word e. absurd (none-some word e);
     only = λ word object e. absurd (untouched.no_object word object e);
     injective = λ p q word e f. absurd (none-some word e);
+    even = λ word object e. absurd (untouched.no_object word object e);
   };
   by_kind = start_by_kind D layouts layouts s refl untouched;
   scoped = record { same_count = ap length untouched.scoped; each = λ i entry root e f. absurd (none-some root f) };

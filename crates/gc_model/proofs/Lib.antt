@@ -5,3 +5,4 @@ pub mod HoldsStart
 pub mod HoldsDeclare
 pub mod HoldsHeap
 pub mod HoldsMake
+pub mod Live

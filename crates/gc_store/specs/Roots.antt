@@ -6,6 +6,8 @@ use Rattle.gc_model.specs.Values.{Reference, null, small, at, Value, i32, i64, f
 use Rattle.gc_model.specs.Table.{Table, Push}
 use Rattle.gc_model.specs.Live.{rooted}
 use Rattle.gc_model.specs.Views.{StoreView}
+use Rattle.gc_model.specs.Holds.{Placing, Holds, IsWord}
+use Rattle.gc_types.specs.declared.kind.Layouts.{Layouts}
 use Rattle.gc_store.specs.declared.root.GcRootIndex.{GcRootIndex}
 use Rattle.gc_store.specs.declared.root.RootSlot.{RootSlot}
 use Rattle.gc_store.specs.declared.root.RootSlot.TheVariants as slot
@@ -87,3 +89,12 @@ slot_word entries (slot.Owned id) generation = Err fault.Unrooted
 -- The word that a handle has in the store, or why it has none.
 abbrev pub word_of : StoreView → GcRootIndex → Result ℕ RootFault
 word_of s handle = if is_of_store s handle then slot_word s.scoped handle.slot handle.generation else Err fault.WrongStore
+
+-- the word is that of a root of some table that the store holds
+pub record IsRootWord (D : Type 0) (layouts : Layouts) (s : StoreView) (word : ℕ) : Type 0 where
+  pub table : Table D
+  pub place : Placing
+  pub holds : Holds layouts s table place
+  pub root : Reference
+  pub is_word : IsWord place root word
+  pub not_null : 0 < word

@@ -1,11 +1,11 @@
 //! What a handle names, and what lies in it.
 
-ghost use Rattle.std.specs.Prelude.{◌≡◌, ℕ};
+ghost use Rattle.std.specs.Prelude.{◌≡◌, ℕ, ◌<◌, true, false, Err};
 ghost use Rattle.gc_model.specs.Table.{Table};
 ghost use Rattle.gc_model.specs.Live.{rooted};
-ghost use Rattle.gc_model.specs.Values.{Value};
-ghost use Rattle.gc_model.specs.Holds.{HoldsTable};
-ghost use Rattle.gc_store.specs.Roots.{word_of, Names, TellsRoot, is_of_store};
+ghost use Rattle.gc_model.specs.Values.{Value, Reference};
+ghost use Rattle.gc_model.specs.Holds.{HoldsTable, Holds, Placing, IsWord};
+ghost use Rattle.gc_store.specs.Roots.{word_of, IsRootWord, IsReference, Names, TellsRoot, is_of_store};
 
 use crate::root::{GcRootIndex, RawValue, RootFault, RootSlot, RootedObject};
 use crate::store::Store;
@@ -26,6 +26,35 @@ impl<H: GcHeap, D> Store<H, D> {
         match self.scoped.get(index as usize) {
             Some(entry) if entry.generation == handle.generation => Ok(entry.word),
             _ => Err(RootFault::Unrooted),
+        }
+    }
+
+    /// What the reference with that word is.
+    fn describe(&self, word: u32) -> RootedObject
+        requires { IsRootWord D H.LAYOUTS self.now word }
+        ensures { (t : Table D) (place : Placing) (r : Reference) → Holds H.LAYOUTS self.now t place → IsWord place r word → 0 < word → IsReference t r result }
+    {
+        let gc_ref = VMGcRef::from_raw_u32(word).unwrap();
+        if gc_ref.is_i31() {
+            return RootedObject::I31(word / 2);
+        }
+        match self.heap.header(&gc_ref) {
+            Ok(header) => RootedObject::Struct(header.type_index()),
+            Err(_) => unreachable!(),
+        }
+    }
+
+    /// What the handle's reference is. `WrongStore` where it is another store's handle, `Unrooted`
+    /// where it isn't live.
+    pub fn object(&self, handle: GcRootIndex) -> Result<RootedObject, RootFault>
+        ensures wrong_store { is_of_store self.now handle ≡ false → result ≡ Err RootFault.WrongStore }
+        ensures named { (t : Table D) (serial : ℕ) → HoldsTable H.LAYOUTS self.now t → Names self.now t handle serial → TellsRoot t (rooted t serial) result }
+        ensures unnamed { is_of_store self.now handle ≡ true → (t : Table D) → HoldsTable H.LAYOUTS self.now t → ((serial : ℕ) → ¬ Names self.now t handle serial) → result ≡ Err RootFault.Unrooted }
+    {
+        let _heap = &self.heap;
+        match self.word_of(handle) {
+            Ok(word) => Ok(self.describe(word)),
+            Err(fault) => Err(fault),
         }
     }
 }

@@ -63,7 +63,7 @@ impl<H: GcHeap, D> Model for Store<H, D> {
 
     ghost view = { λ s. store_view s.id s.config s.types.declarations (H.seen s.heap) s.scoped.items s.generation };
 
-    ghost invariant = { λ s. IsSound D H.layouts s.types (store_view s.id s.config s.types.declarations (H.seen s.heap) s.scoped.items s.generation) };
+    ghost invariant = { λ s. IsSound D H.LAYOUTS s.types (store_view s.id s.config s.types.declarations (H.seen s.heap) s.scoped.items s.generation) };
 }
 
 impl<H: GcHeap, D> Store<H, D> {
@@ -90,7 +90,7 @@ impl<H: GcHeap, D> Store<H, D> {
 
     /// Whether nothing was done with the store yet, so that it may be configured.
     pub fn is_new(&self) -> bool
-        ensures { IsTrue result ↔ HoldsStart D H.layouts self.now }
+        ensures { IsTrue result ↔ HoldsStart D H.LAYOUTS self.now }
     {
         self.is_untouched()
     }
@@ -98,7 +98,7 @@ impl<H: GcHeap, D> Store<H, D> {
     /// Whether there is no type, root, generation or memory.
     fn is_untouched(&self) -> bool
         ensures parts { IsTrue result ↔ ShowsNothing self.now }
-        ensures sound { HoldsSome D H.layouts self.now }
+        ensures sound { HoldsSome D H.LAYOUTS self.now }
     {
         self.scoped.is_empty()
             && self.generation == 0
@@ -108,7 +108,7 @@ impl<H: GcHeap, D> Store<H, D> {
 
     /// Gives a new store another configuration.
     pub fn configure(&mut self, config: HeapConfig)
-        requires { HoldsStart D H.layouts self.old }
+        requires { HoldsStart D H.LAYOUTS self.old }
         ensures { self.new ≡ configured config self.old }
     {
         self.config = config;
@@ -131,7 +131,7 @@ impl<H: GcHeap, D> Store<H, D> {
         requires no_supertype { supertype ≡ None }
         requires open { is_final ≡ false }
         requires numbers { All IsMutableI32 fields.now }
-        ensures step { (t : Table D) → HoldsTable H.layouts self.old t → DeclaresStruct H.layouts fields.now t result self.new }
+        ensures step { (t : Table D) → HoldsTable H.LAYOUTS self.old t → DeclaresStruct H.LAYOUTS fields.now t result self.new }
         ensures err { OnErr result (self.new ≡ self.old) }
     {
         self.types.declare_struct(fields, supertype, is_final)
