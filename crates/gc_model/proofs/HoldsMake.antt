@@ -74,7 +74,8 @@ pub record IsMadeObject {D : Type 0} (layouts : Layouts) (t : Table D) (place : 
   pub free : get old.content word ≡ None
   pub is_even : word % 2 ≡ 0
   pub not_null : 0 < word
-  pub content : new.content ≡ insert old.content word object
+  pub here : get new.content word ≡ Some object
+  pub others : (q : ℕ) → q ≢ word → get new.content q ≡ get old.content q
   pub attached : new.attached ≡ old.attached
   pub capacity : new.capacity ≡ old.capacity
   pub allocated : layouts ≡ Null → new.allocated + 1 ≡ round_up (old.allocated + 1) alignment + object_size Null t.types o
@@ -108,7 +109,7 @@ module _ {D : Type 0} (layouts : Layouts) (s : StoreView) (t : Table D) (place :
       record {
         object = held.object;
         entry = held.entry;
-        in_heap = ap (λ (m : FinMap nat_cmp HeapObject). get m w) made.content ∙ get-put_other s.heap.content word w made.object ne ∙ held.in_heap;
+        in_heap = made.others w ne ∙ held.in_heap;
         in_table = slice_get-push_old t.objects o position held.entry held.in_table;
         stands = stands-more layouts t.types place place' held.entry held.object within held.stands;
       }
@@ -117,7 +118,7 @@ module _ {D : Type 0} (layouts : Layouts) (s : StoreView) (t : Table D) (place :
   held_new = record {
     object = made.object;
     entry = o;
-    in_heap = ap (λ (m : FinMap nat_cmp HeapObject). get m word) made.content ∙ get-put_same s.heap.content word made.object;
+    in_heap = made.here;
     in_table = slice_get-push_new t.objects o;
     stands = stands-more layouts t.types place place' o made.object within made.stands;
   }
@@ -135,7 +136,7 @@ module _ {D : Type 0} (layouts : Layouts) (s : StoreView) (t : Table D) (place :
         | true ↦ λ same. let is : w ≡ word = grind (arith, common_steps, same) in (length t.objects, placed_at-new place (length t.objects) word ∙ ap Some (sym is))
         | false ↦ λ differs.
             let ne : w ≢ word = grind (arith, common_steps, differs) in
-            let before : get s.heap.content w ≡ Some object = sym (get-put_other s.heap.content word w made.object ne) ∙ ap (λ (m : FinMap nat_cmp HeapObject). get m w) (sym made.content) ∙ e in
+            let before : get s.heap.content w ≡ Some object = sym (made.others w ne) ∙ e in
             let p = holds.objects.only w object before in
             (p.0, within p.0 w p.1)
       ] refl
@@ -147,7 +148,7 @@ module _ {D : Type 0} (layouts : Layouts) (s : StoreView) (t : Table D) (place :
         | true ↦ λ same. let is : w ≡ word = grind (arith, common_steps, same) in (ap (λ k. k % 2) is ∙ made.is_even, subst (λ k. 0 < k) (sym is) made.not_null)
         | false ↦ λ differs.
             let ne : w ≢ word = grind (arith, common_steps, differs) in
-            holds.objects.even w object (sym (get-put_other s.heap.content word w made.object ne) ∙ ap (λ (m : FinMap nat_cmp HeapObject). get m w) (sym made.content) ∙ e)
+            holds.objects.even w object (sym (made.others w ne) ∙ e)
       ] refl
 
   -- an old position is not at the new place

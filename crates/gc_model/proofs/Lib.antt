@@ -6,3 +6,5 @@ pub mod HoldsDeclare
 pub mod HoldsHeap
 pub mod HoldsMake
 pub mod Live
+pub mod Layouts
+pub mod ByteLemmas
