@@ -1,3 +1,5 @@
 pub mod Sound
 pub mod Declare
 pub mod Roots
+pub mod Fields
+pub mod Writes

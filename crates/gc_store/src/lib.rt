@@ -8,7 +8,9 @@
 
 pub mod config;
 pub mod engine;
+mod field;
 pub mod limiter;
+pub mod place;
 pub mod read;
 pub mod root;
 pub mod store;

@@ -18,8 +18,8 @@ use std::marker::{Model, PhantomData};
 /// The heap has no room for an allocation, and got no more. It has what was to be stored.
 #[derive(Debug, Drop)]
 pub struct GcHeapOutOfMemory<T> {
-    inner: T,
-    bytes_needed: u64,
+    pub(crate) inner: T,
+    pub(crate) bytes_needed: u64,
 }
 
 /// Why an object is not placed.
@@ -40,6 +40,7 @@ pub enum PlaceFault {
 /// A heap with its types and its roots. `D` is the type of the embedder's host values.
 #[derive(Drop)]
 pub struct Store<H: GcHeap, D> {
+    pub(crate) alloc: Global,
     pub(crate) id: StoreId,
     pub(crate) config: HeapConfig,
     pub(crate) heap: H,
@@ -78,6 +79,7 @@ impl<H: GcHeap, D> Store<H, D> {
         ensures { IfOk result (λ s. s ≡ empty_store id.engine id.number config.first_pages config.max_scoped config.max_owned) }
     {
         Ok(Store {
+            alloc,
             id,
             config,
             heap,
