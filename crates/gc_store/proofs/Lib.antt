@@ -3,3 +3,4 @@ pub mod Declare
 pub mod Roots
 pub mod Fields
 pub mod Writes
+pub mod Places

@@ -83,6 +83,27 @@ MakesStruct layouts fields ty values old new (Ok (Err need)) = LacksRoom layouts
 MakesStruct layouts fields ty values old new (Err heap_fault.TooLarge) = IsTooLarge layouts (fields_end (struct_base layouts) fields) × (new ≡ old)
 MakesStruct layouts fields ty values old new (Err heap_fault.Memory) = new ≡ old
 
+-- a struct with these fields and numbers may be placed
+pub record CanPlaceIn (layouts : Layouts) (layout : GcStructLayout) (values : List RawValue) : Type 0 where
+  pub fields : List FieldType
+  pub laid_out : layout ≡ struct_layout layouts fields
+  pub numbers : All IsMutableI32 fields
+  pub same_count : length values ≡ length fields
+  pub are_numbers : All IsNumber values
+
+-- what making a heap and a struct in it answers and leaves
+abbrev pub PlacesIn : Layouts → List FieldType → ℕ → List Value → ℕ → HeapView → HeapView → Limits → Limits → Result ℕ PlaceFault → Type 0
+PlacesIn layouts fields ty values first old new limits limits' (Ok word) =
+    (mid : HeapView) × (MakesHeap first old mid limits limits' (Ok tt) × MadeStruct layouts fields ty values mid new word)
+PlacesIn layouts fields ty values first old new limits limits' (Err fault.FuncTableFull) = ⊥
+PlacesIn layouts fields ty values first old new limits limits' (Err fault.TooLarge) = IsTooLarge layouts (fields_end (struct_base layouts) fields)
+PlacesIn layouts fields ty values first old new limits limits' (Err fault.RootsFull) = ⊥
+PlacesIn layouts fields ty values first old new limits limits' (Err (fault.HeapOutOfMemory f)) =
+    (IsRefusedPages first old new limits limits' × (f.bytes_needed ≡ need_of layouts (fields_end (struct_base layouts) fields)))
+    ⊎ ((mid : HeapView) × (MakesHeap first old mid limits limits' (Ok tt) × LacksRoom layouts mid new f.bytes_needed (fields_end (struct_base layouts) fields)))
+PlacesIn layouts fields ty values first old new limits limits' (Err fault.Memory) =
+    (new ≡ old) × (limits' ≡ limits) ⊎ MakesHeap first old new limits limits' (Ok tt)
+
 -- a struct of a declared type may be placed with these numbers
 pub record CanPlace (s : StoreView) (ty : ℕ) (values : List RawValue) : Type 0 where
   pub fields : List FieldType

@@ -1,5 +1,5 @@
 -- What a store's calls do, for every table that it held.
-use Rattle.std.specs.Prelude.{◌≡◌, ℕ, ◌<◌, ◌≤◌, Bool, true, false, List, [], Option, Some, None, Result, Ok, Err, length}
+use Rattle.std.specs.Prelude.{◌≡◌, ℕ, ◌<◌, ◌≤◌, ◌-◌, ◌^◌, ◌==◌, ◌||◌, nat_le, Bool, true, false, List, [], Option, Some, None, Result, Ok, Err, length}
 use Rattle.gc_types.specs.declared.kind.Layouts.{Layouts}
 use Rattle.gc_types.specs.declared.value.FieldType.{FieldType}
 use Rattle.gc_types.specs.declared.types.TypeFault.{TypeFault}
@@ -51,6 +51,10 @@ pub record ShowsNothing (s : StoreView) : Type 0 where
   pub scoped : s.scoped ≡ []
   pub generation : s.generation ≡ 0
   pub attached : s.heap.attached ≡ false
+
+-- no further scoped root may be made
+abbrev pub is_full : StoreView → Bool
+is_full s = nat_le s.max_scoped (length s.scoped) || (s.generation == 2 ^ 64 - 1)
 
 -- what the declaration of a struct answers and leaves
 abbrev pub DeclaresStruct : {D : Type 0} → Layouts → List FieldType → Table D → Result TypeName TypeFault → StoreView → Type 0

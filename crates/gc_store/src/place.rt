@@ -8,7 +8,9 @@ ghost use Rattle.gc_model.specs.Table.{Table};
 ghost use Rattle.gc_model.specs.Values.{struct};
 ghost use Rattle.gc_model.specs.Holds.{HoldsTable};
 ghost use Rattle.gc_store.specs.Fields.{value_of};
-ghost use Rattle.gc_store.specs.Places.{MakesHeap, CanMake, MakesStruct, CanPlace, Places};
+ghost use Rattle.gc_store.specs.Places.{MakesHeap, CanMake, MakesStruct, PlacesIn, CanPlaceIn, CanPlace, Places};
+ghost use Rattle.gc_heap.specs.Heap.{need_of};
+ghost use Rattle.gc_store.specs.Stores.{is_full};
 
 use crate::field::write_values;
 use crate::limiter::ResourceLimiter;
@@ -81,5 +83,65 @@ pub(crate) fn make_struct<H: GcHeap>(
         }
         Ok(Err(need)) => Ok(Err(need)),
         Err(fault) => Err(fault),
+    }
+}
+
+/// The bytes that a heap without room for an object of that size would have to grow by.
+fn bytes_needed(layouts: Layouts, size: u32) -> u64
+    ensures { result ≡ need_of layouts size }
+{
+    let size = u64::from(size);
+    let rounded = (size + 15) / 16 * 16;
+    match layouts {
+        Layouts::Null => size + 16,
+        Layouts::Counting => rounded + 16,
+        Layouts::Copying => 2 * rounded + 32,
+    }
+}
+
+/// The fault of an allocation that has no room.
+fn out_of_memory(bytes_needed: u64) -> PlaceFault
+    ensures { result ≡ PlaceFault.HeapOutOfMemory (record { inner = tt; bytes_needed = bytes_needed }) }
+{
+    PlaceFault::HeapOutOfMemory(GcHeapOutOfMemory {
+        inner: (),
+        bytes_needed,
+    })
+}
+
+/// Makes the heap where it isn't made, and then a struct.
+fn place_in<H: GcHeap, L: ResourceLimiter>(
+    alloc: Global,
+    heap: &mut H,
+    first_pages: u32,
+    limiter: &mut L,
+    ty: VMSharedTypeIndex,
+    layout: &GcStructLayout,
+    values: &[RawValue],
+) -> Result<VMGcRef, PlaceFault>
+    requires pages { first_pages ≤ max_pages }
+    requires values { CanPlaceIn H.LAYOUTS layout.now values.now }
+    ensures { (fields : List FieldType) → layout.now ≡ struct_layout H.LAYOUTS fields → PlacesIn H.LAYOUTS fields ty (map value_of values.now) first_pages (H.seen heap.old) (H.seen heap.new) (L.limits limiter.old) (L.limits limiter.new) result }
+{
+    match make_heap(alloc, heap, first_pages, limiter) {
+        Ok(()) => match make_struct(heap, ty, layout, values) {
+            Ok(answer) => match answer {
+                Ok(gc_ref) => Ok(gc_ref),
+                Err(need) => Err(out_of_memory(need)),
+            },
+            Err(HeapFault::TooLarge) => Err(PlaceFault::TooLarge),
+            Err(HeapFault::Memory) => Err(PlaceFault::Memory),
+        },
+        Err(MakeFault::Refused) => Err(out_of_memory(bytes_needed(H::LAYOUTS, layout.size))),
+        Err(MakeFault::Memory) => Err(PlaceFault::Memory),
+    }
+}
+
+impl<H: GcHeap, D> Store<H, D> {
+    /// Whether no further scoped root may be made.
+    fn roots_full(&self) -> bool
+        ensures { result ≡ is_full self.now }
+    {
+        self.scoped.len() >= self.config.max_scoped as usize || self.generation == u64::MAX
     }
 }
