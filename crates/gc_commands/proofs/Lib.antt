@@ -1,2 +1,5 @@
 pub mod WordLemmas
 pub mod NumberLemmas
+pub mod ReadingLemmas
+pub mod LineLemmas
+pub mod UniqueLemmas
