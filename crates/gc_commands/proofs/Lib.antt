@@ -3,3 +3,4 @@ pub mod NumberLemmas
 pub mod ReadingLemmas
 pub mod LineLemmas
 pub mod UniqueLemmas
+pub mod HexLemmas

@@ -1,7 +1,7 @@
 -- A line and its words: what spells a command is cut into the command's words, and joins them again.
 use Rattle.std.proofs.Common.{◌≡◌, ◌==◌, ℕ, ℤ, pos, negsuc, suc, zero, ◌<◌, ◌≤◌, ◌^◌, List, [], ◌∷◌, ◌++◌, map, length, codes, FitsSigned, refl, sym, ap, subst, ◌∙◌, arith, Bool, true, false, ◌&&◌, nat_lt}
 use Rattle.std.specs.Fmt.{decimal, signed_decimal}
-use Rattle.std.specs.Int.{w32, IsInRange}
+use Rattle.std.specs.Int.{w32}
 use Rattle.std.specs.List.{All, AllByRecursion, join_with_byte, list_all, slice_split}
 use Rattle.std.specs.Str.{IsAscii, IsUtf8}
 use Rattle.std.specs.Str.Parse.{AllDigits}
@@ -16,7 +16,7 @@ use Rattle.gc_commands.specs.declared.command.Command.TheVariants.{Bad, Struct, 
 use Rattle.gc_commands.specs.declared.command.FieldWord.{FieldWord}
 use Rattle.gc_commands.specs.declared.command.Operand.{Operand}
 use Rattle.gc_commands.specs.declared.command.Operand.TheVariants as operand
-use Rattle.gc_commands.specs.Spelling.{IsBuilt, IsBuiltField, IsBuiltOperand, IsCommandOf, Spells, final_words, into_words, max_line, spelling, supertype_words, words_of}
+use Rattle.gc_commands.specs.Spelling.{IsBuilt, IsBuiltField, IsBuiltOperand, IsCommandOf, Spells, final_words, into_words, max_line, supertype_words, words_of}
 use Rattle.gc_commands.specs.Words.{field_text, operand_text}
 use Rattle.gc_commands.proofs.NumberLemmas.{own}
 
@@ -68,13 +68,25 @@ words_map Fits text word (x ∷ xs) all = (word x all.0, words_map Fits text wor
 -- the words of a command are words
 words_built : (c : Command) → IsBuilt c → AllByRecursion IsWord (words_of c)
 words_built Bad built = absurd built
-words_built (Struct is_final supertype fields) built = (word_text (codes "struct") refl,
-    subst (λ f. AllByRecursion IsWord (final_words f ++ supertype_words supertype ++ map field_text fields)) (sym built.0)
-    (subst (λ s. AllByRecursion IsWord (final_words false ++ supertype_words s ++ map field_text fields)) (sym built.1) (words_map IsBuiltField field_text word_field fields built.2)))
-words_built (New d t values) built = (word_text (codes "new") refl, (word_decimal d (let small = built.0 in omega arith),
-    (word_decimal t (let small = built.1 in omega arith), words_map IsBuiltOperand operand_text word_operand values built.2)))
-words_built (Field r i into) built = (word_text (codes "field") refl, (word_decimal r (let small = built.0 in omega arith),
-    (word_decimal i (let small = built.1 in omega arith), subst (λ d. AllByRecursion IsWord (into_words d)) (sym built.2) tt)))
+words_built (Struct is_final supertype fields) built = (
+  word_text (codes "struct") refl,
+  subst (λ f. AllByRecursion IsWord (final_words f ++ supertype_words supertype ++ map field_text fields)) (sym built.0)
+      (subst (λ s. AllByRecursion IsWord (final_words false ++ supertype_words s ++ map field_text fields)) (sym built.1) (words_map IsBuiltField field_text word_field fields built.2)),
+)
+words_built (New d t values) built = (
+  word_text (codes "new") refl,
+  (
+    word_decimal d (let small = built.0 in omega arith),
+    (word_decimal t (let small = built.1 in omega arith), words_map IsBuiltOperand operand_text word_operand values built.2),
+  ),
+)
+words_built (Field r i into) built = (
+  word_text (codes "field") refl,
+  (
+    word_decimal r (let small = built.0 in omega arith),
+    (word_decimal i (let small = built.1 in omega arith), subst (λ d. AllByRecursion IsWord (into_words d)) (sym built.2) tt),
+  ),
+)
 
 some_words : (c : Command) → IsBuilt c → 0 < length (words_of c)
 some_words Bad built = absurd built

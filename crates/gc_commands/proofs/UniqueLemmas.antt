@@ -1,7 +1,6 @@
 -- No two commands have one spelling.
-use Rattle.std.proofs.Common.{◌≡◌, ℕ, List, [], ◌∷◌, ◌++◌, map, false, None, refl, sym, ap, subst, ◌∙◌, arith, FitsSigned}
-use Rattle.std.specs.Fmt.{decimal, signed_decimal}
-use Rattle.std.specs.Int.{w32}
+use Rattle.std.proofs.Common.{◌≡◌, ℕ, List, [], ◌∷◌, map, false, None, refl, sym, ap, ◌∙◌, arith}
+use Rattle.std.specs.Fmt.{signed_decimal}
 use Rattle.std.specs.List.{AllByRecursion}
 use Rattle.std.proofs.lemmas.Fmt.{decimal_injective, signed_decimal_injective}
 use Rattle.gc_commands.specs.declared.command.Command.{Command}
@@ -9,7 +8,7 @@ use Rattle.gc_commands.specs.declared.command.Command.TheVariants.{Bad, Struct, 
 use Rattle.gc_commands.specs.declared.command.FieldWord.{FieldWord}
 use Rattle.gc_commands.specs.declared.command.Operand.{Operand}
 use Rattle.gc_commands.specs.declared.command.Operand.TheVariants as operand
-use Rattle.gc_commands.specs.Spelling.{IsBuilt, IsBuiltField, IsBuiltOperand, Spells, final_words, into_words, supertype_words, words_of}
+use Rattle.gc_commands.specs.Spelling.{IsBuilt, IsBuiltField, IsBuiltOperand, Spells, words_of}
 use Rattle.gc_commands.specs.Words.{field_text, operand_text}
 use Rattle.gc_commands.proofs.LineLemmas.{words_of_spelled}
 

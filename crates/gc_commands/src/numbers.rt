@@ -27,7 +27,11 @@ pub(crate) fn signed_number(word: &str) -> Option<i32>
         return Some(n as i32);
     };
     let n = number(digits, 1 << 31)?;
-    if n == 0 { None } else { Some(-(n as i64) as i32) }
+    if n == 0 {
+        None
+    } else {
+        Some(-(n as i64) as i32)
+    }
 }
 
 /// Whether a word is `0`, or begins with another digit.

@@ -13,9 +13,7 @@ ghost use Rattle.gc_commands.specs.Reading.{Reads, ReadsFirst};
 ghost use Rattle.gc_commands.specs.Spelling.{IsBuilt, IsBuiltField, IsBuiltOperand, IsCommandOf, Spells, words_of};
 ghost use Rattle.gc_commands.specs.Words.{field_text, operand_text};
 
-use crate::command::{
-    Command, FieldWord, FieldWords, Operand, Operands, StorageWord, ValueWord,
-};
+use crate::command::{Command, FieldWord, FieldWords, Operand, Operands, StorageWord, ValueWord};
 use crate::numbers::{number, signed_number};
 use crate::words::Words;
 use std::alloc::{AllocError, Global};
@@ -176,5 +174,4 @@ fn read_index(words: &mut Words) -> Option<u32>
 /// No two commands have one spelling.
 pub fn spelling_is_unique()
     ensures { (line : List ℕ) (one other : Command) → Spells line one → Spells line other → one ≡ other }
-{
-}
+{}

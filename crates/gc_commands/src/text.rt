@@ -73,10 +73,10 @@ fn name_of(refusal: Refusal) -> &'static str
 fn bytes_of(alloc: Global, bytes: &[u8]) -> Result<String, AllocError>
     ensures { IfOk result (λ text. string_bytes text ≡ codes "bytes " ++ bytes_text bytes.now) }
 {
-    let mut text = String::from_str(alloc, "bytes ")?;
     if bytes.is_empty() {
-        text.push('-')?;
+        return String::from_str(alloc, "bytes -");
     }
+    let mut text = String::from_str(alloc, "bytes ")?;
     for byte in bytes {
         push_hex(&mut text, u128::from(*byte), 2)?;
     }
@@ -99,7 +99,7 @@ fn push_hex(text: &mut String, number: u128, digits: u32) -> Result<(), AllocErr
     ensures { OnOk result (string_bytes text.new ≡ string_bytes text.old ++ hex_digits digits number) }
 {
     for place in (0..digits).rev() {
-        text.push(hex_digit_of((number >> (4 * place) & 0xf) as u32))?;
+        text.push(hex_digit_of(((number >> (4 * place)) % 16) as u32))?;
     }
     Ok(())
 }

@@ -1,4 +1,4 @@
-use Rattle.std.proofs.Common.{◌≡◌, ◌==◌, ℕ, List, Option, None, Some, sym, ap, subst, ◌∙◌}
+use Rattle.std.proofs.Common.{◌==◌, sym, ap, subst, ◌∙◌}
 use Rattle.std.specs.List.{slice_split}
 use Rattle.gc_commands.specs.Reading.{Reads}
 use Rattle.gc_commands.specs.Spelling.{IsBuilt, words_of}
