@@ -9,6 +9,8 @@ pub mod command;
 mod numbers;
 pub mod parse;
 pub mod reply;
+#[cfg(test)]
+mod tests;
 pub mod text;
 mod words;
 
