@@ -4,3 +4,4 @@ pub mod Roots
 pub mod Fields
 pub mod Writes
 pub mod Places
+pub mod Placing

@@ -5,7 +5,7 @@ use Rattle.gc_types.specs.declared.value.FieldType.{FieldType}
 use Rattle.gc_types.specs.declared.kind.Layouts.{Layouts}
 use Rattle.gc_types.specs.declared.kind.VMGcKind.TheVariants.{StructRef}
 use Rattle.gc_types.specs.declared.layout.GcStructLayout.{GcStructLayout}
-use Rattle.gc_types.specs.Declarations.{struct_fields_at, IsMutableI32}
+use Rattle.gc_types.specs.Declarations.{Declaration, struct_fields_at, IsMutableI32}
 use Rattle.gc_types.specs.Layouts.{struct_base, struct_layout, field_layouts, fields_end}
 use Rattle.gc_model.specs.Values.{Value, Object, struct}
 use Rattle.gc_model.specs.Table.{Table, make_heap}
@@ -105,6 +105,14 @@ PlacesIn layouts fields ty values first old new limits limits' (Err fault.Memory
     (new ≡ old) × (limits' ≡ limits) ⊎ MakesHeap first old new limits limits' (Ok tt)
 
 -- a struct of a declared type may be placed with these numbers
+pub record CanPlaceTyped (types : List Declaration) (ty : ℕ) (values : List RawValue) : Type 0 where
+  pub fields : List FieldType
+  pub declared : struct_fields_at types ty ≡ Some fields
+  pub numbers : All IsMutableI32 fields
+  pub same_count : length values ≡ length fields
+  pub are_numbers : All IsNumber values
+
+-- a struct of a store's type may be placed with these numbers
 pub record CanPlace (s : StoreView) (ty : ℕ) (values : List RawValue) : Type 0 where
   pub fields : List FieldType
   pub declared : struct_fields_at s.types ty ≡ Some fields

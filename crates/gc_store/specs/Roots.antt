@@ -98,3 +98,16 @@ pub record IsRootWord (D : Type 0) (layouts : Layouts) (s : StoreView) (word : �
   pub root : Reference
   pub is_word : IsWord place root word
   pub not_null : 0 < word
+
+-- the word is the place of a struct of some table that the store holds, with a 32-bit number there
+pub record HasNumber (D : Type 0) (layouts : Layouts) (s : StoreView) (word index : ℕ) : Type 0 where
+  pub table : Table D
+  pub place : Placing
+  pub holds : Holds layouts s table place
+  pub position : ℕ
+  pub placed : place position ≡ Some word
+  pub ty : ℕ
+  pub values : List Value
+  pub object : slice_get table.objects position ≡ Some (struct ty values)
+  pub n : ℕ
+  pub value_at : slice_get values index ≡ Some (i32 n)

@@ -1,17 +1,20 @@
 //! Making objects.
 
-ghost use Rattle.std.specs.Prelude.{◌≡◌, ◌≤◌, ℕ, List, map};
+ghost use Rattle.std.specs.Prelude.{◌≡◌, ◌≤◌, ◌<◌, ◌^◌, ◌++◌, ◌∷◌, [], ℕ, List, map, length, vec_len, vec_capacity, IsSome, Some};
 ghost use Rattle.gc_types.specs.declared.value.FieldType.{FieldType};
+ghost use Rattle.gc_types.specs.Declarations.{struct_fields_at};
 ghost use Rattle.gc_types.specs.Layouts.{struct_layout};
+ghost use Rattle.gc_model.specs.Sizes.{fields_size};
 ghost use Rattle.gc_model.specs.Allocation.{max_pages, too_large};
 ghost use Rattle.gc_model.specs.Table.{Table};
 ghost use Rattle.gc_model.specs.Values.{struct};
 ghost use Rattle.gc_model.specs.Holds.{HoldsTable};
 ghost use Rattle.gc_store.specs.Fields.{value_of};
-ghost use Rattle.gc_store.specs.Places.{MakesHeap, CanMake, MakesStruct, PlacesIn, CanPlaceIn, CanPlace, Places};
+ghost use Rattle.gc_store.specs.Places.{MakesHeap, CanMake, MakesStruct, PlacesIn, CanPlaceIn, CanPlaceTyped, CanPlace, Places};
 ghost use Rattle.gc_heap.specs.Heap.{need_of};
 ghost use Rattle.gc_store.specs.Stores.{is_full};
 
+use crate::engine::StoreId;
 use crate::field::write_values;
 use crate::limiter::ResourceLimiter;
 use crate::root::{GcRootIndex, RawValue, RootSlot};
@@ -19,7 +22,7 @@ use crate::store::{GcHeapOutOfMemory, PlaceFault, Store};
 use gc_heap::{GcHeap, HeapFault, HeapMemory};
 use gc_model::RootEntry;
 use gc_refs::VMGcRef;
-use gc_types::{GcStructLayout, Layouts, VMSharedTypeIndex};
+use gc_types::{GcStructLayout, Layouts, Types, VMSharedTypeIndex};
 use std::alloc::Global;
 
 /// Why a heap has no memory.
@@ -137,11 +140,94 @@ fn place_in<H: GcHeap, L: ResourceLimiter>(
     }
 }
 
+/// The bytes of a struct of a declared type.
+fn struct_size(types: &Types, layouts: Layouts, ty: VMSharedTypeIndex) -> u32
+    requires { IsSome (struct_fields_at types.now.declarations ty) }
+    ensures { result ≡ fields_size layouts (struct_fields_at types.now.declarations ty) }
+{
+    types.struct_layout(layouts, ty).unwrap().size
+}
+
+/// Makes the heap where it isn't made, and then a struct of a declared type.
+fn place_typed<H: GcHeap, L: ResourceLimiter>(
+    alloc: Global,
+    heap: &mut H,
+    first_pages: u32,
+    limiter: &mut L,
+    types: &Types,
+    ty: VMSharedTypeIndex,
+    values: &[RawValue],
+) -> Result<VMGcRef, PlaceFault>
+    requires pages { first_pages ≤ max_pages }
+    requires values { CanPlaceTyped types.now.declarations ty values.now }
+    ensures { (fields : List FieldType) → struct_fields_at types.now.declarations ty ≡ Some fields → PlacesIn H.LAYOUTS fields ty (map value_of values.now) first_pages (H.seen heap.old) (H.seen heap.new) (L.limits limiter.old) (L.limits limiter.new) result }
+{
+    let layout = types.struct_layout(H::LAYOUTS, ty).unwrap();
+    place_in(alloc, heap, first_pages, limiter, ty, layout, values)
+}
+
+/// Pushes a scoped root, for which there is room, and gives its handle.
+fn push_root(
+    scoped: &mut Vec<RootEntry>,
+    store_id: StoreId,
+    generation: u64,
+    word: u32,
+) -> GcRootIndex
+    requires room { vec_len scoped.old < vec_capacity scoped.old }
+    requires small { vec_len scoped.old < 2 ^ 32 }
+    ensures pushed { scoped.new.items ≡ scoped.old.items ++ (record { generation = generation; word = word }) ∷ [] }
+    ensures handle { result ≡ record { store_id = store_id; generation = generation; slot = RootSlot.Scoped (length scoped.old.items) } }
+{
+    let index = scoped.len() as u32;
+    match scoped.push(RootEntry { generation, word }) {
+        Ok(()) => GcRootIndex {
+            store_id,
+            generation,
+            slot: RootSlot::Scoped(index),
+        },
+        Err(_) => unreachable!(),
+    }
+}
+
 impl<H: GcHeap, D> Store<H, D> {
     /// Whether no further scoped root may be made.
     fn roots_full(&self) -> bool
         ensures { result ≡ is_full self.now }
     {
         self.scoped.len() >= self.config.max_scoped as usize || self.generation == u64::MAX
+    }
+
+    /// Places a struct of a declared type with these numbers, and pushes a scoped root for it.
+    /// Refused are, in this order: `TooLarge` where no heap of the kind can hold it; `RootsFull`
+    /// where no further scoped root may be made; `HeapOutOfMemory` where the limiter refused the
+    /// heap's first pages or the heap has no room. Its time is linear in the struct's size.
+    pub fn place_struct<L: ResourceLimiter>(
+        &mut self,
+        limiter: &mut L,
+        ty: VMSharedTypeIndex,
+        values: &[RawValue],
+    ) -> Result<GcRootIndex, PlaceFault>
+        requires { CanPlace self.old ty values.now }
+        ensures { (t : Table D) → HoldsTable H.LAYOUTS self.old t → Places H.LAYOUTS (struct ty (map value_of values.now)) (L.limits limiter.old) (L.limits limiter.new) t result self.new }
+    {
+        let size = struct_size(&self.types, H::LAYOUTS, ty);
+        if is_too_large(H::LAYOUTS, size) {
+            return Err(PlaceFault::TooLarge);
+        }
+        if self.roots_full() {
+            return Err(PlaceFault::RootsFull);
+        }
+        if self.scoped.reserve(1).is_err() {
+            return Err(PlaceFault::Memory);
+        }
+        let first_pages = self.config.first_pages;
+        let alloc = self.alloc;
+        match place_typed(alloc, &mut self.heap, first_pages, limiter, &self.types, ty, values) {
+            Ok(gc_ref) => {
+                let word = gc_ref.as_raw_u32();
+                Ok(push_root(&mut self.scoped, self.id, self.generation, word))
+            }
+            Err(fault) => Err(fault),
+        }
     }
 }

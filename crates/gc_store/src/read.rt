@@ -1,12 +1,13 @@
 //! What a handle names, and what lies in it.
 
-ghost use Rattle.std.specs.Prelude.{◌≡◌, ℕ, ◌<◌, true, false, Err};
+ghost use Rattle.std.specs.Prelude.{◌≡◌, ℕ, ◌<◌, true, false, Err, Some, List, slice_get, IfOk, IsOk};
 ghost use Rattle.gc_model.specs.Table.{Table};
 ghost use Rattle.gc_model.specs.Live.{rooted};
-ghost use Rattle.gc_model.specs.Values.{Value, Reference};
+ghost use Rattle.gc_model.specs.Values.{Value, Reference, struct, i32};
 ghost use Rattle.gc_model.specs.Holds.{HoldsTable, Holds, Placing, IsWord};
-ghost use Rattle.gc_store.specs.Roots.{word_of, IsRootWord, IsReference, Names, TellsRoot, is_of_store};
+ghost use Rattle.gc_store.specs.Roots.{word_of, IsRootWord, IsReference, Names, TellsRoot, is_of_store, HasNumber, HasField, IsRaw};
 
+use crate::field::field_offset;
 use crate::root::{GcRootIndex, RawValue, RootFault, RootSlot, RootedObject};
 use crate::store::Store;
 use gc_heap::GcHeap;
@@ -54,6 +55,28 @@ impl<H: GcHeap, D> Store<H, D> {
         let _heap = &self.heap;
         match self.word_of(handle) {
             Ok(word) => Ok(self.describe(word)),
+            Err(fault) => Err(fault),
+        }
+    }
+
+    /// The 32-bit number in that field of the object with that word.
+    fn read_number(&self, word: u32, index: u32) -> u32
+        requires { HasNumber D H.LAYOUTS self.now word index }
+        ensures { (t : Table D) (place : Placing) (position : ℕ) (ty : ℕ) (values : List Value) (n : ℕ) → Holds H.LAYOUTS self.now t place → place position ≡ Some word → slice_get t.objects position ≡ Some (struct ty values) → slice_get values index ≡ Some (i32 n) → result ≡ n }
+    {
+        let gc_ref = VMGcRef::from_raw_u32(word).unwrap();
+        let offset = field_offset(&self.heap, &self.types, &gc_ref, index);
+        self.heap.read_u32(&gc_ref, offset)
+    }
+
+    /// The value of that field of a struct. Numbers push no root.
+    pub fn read_value(&mut self, handle: GcRootIndex, index: u32) -> Result<RawValue, RootFault>
+        requires { (t : Table D) × HoldsTable H.LAYOUTS self.old t × (value : Value) × HasField self.old t handle index value }
+        ensures read { (t : Table D) (value : Value) → HoldsTable H.LAYOUTS self.old t → HasField self.old t handle index value → IfOk result (IsRaw value) × IsOk result }
+        ensures same { self.new ≡ self.old }
+    {
+        match self.word_of(handle) {
+            Ok(word) => Ok(RawValue::I32(self.read_number(word, index).cast_signed())),
             Err(fault) => Err(fault),
         }
     }
