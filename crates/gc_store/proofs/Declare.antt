@@ -1,17 +1,17 @@
 -- What a declaration leaves of a store.
-use Rattle.std.proofs.Common.{◌≡◌, ℕ, ◌+◌, List, [], ◌∷◌, ◌++◌, length, Result, Ok, Err, OnOk, OnErr, IfOk, sym, ap, ◌∙◌, refl, subst}
+use Rattle.std.proofs.Common.{◌≡◌, ℕ, List, length, Result, Ok, Err, OnOk, OnErr, IfOk, sym, ap, ◌∙◌, refl, subst}
 use Rattle.std.specs.Prelude.{All}
 use Rattle.gc_types.specs.declared.kind.Layouts.{Layouts}
 use Rattle.gc_types.specs.declared.value.FieldType.{FieldType}
 use Rattle.gc_types.specs.declared.types.TypeFault.{TypeFault}
 use Rattle.gc_types.specs.declared.types.TypeFault.TheVariants.{BadType, Memory}
-use Rattle.gc_types.specs.Declarations.{Declaration, TypeTable, TypeName, Declarable, plain_struct, IsMutableI32} 
+use Rattle.gc_types.specs.Declarations.{Declaration, TypeTable, TypeName, Declarable, plain_struct, IsMutableI32}
 use Rattle.gc_types.specs.Declarations as types
 use Rattle.gc_model.specs.declared.RootEntry.{RootEntry}
 use Rattle.gc_model.specs.Table.{Table, declare}
 use Rattle.gc_model.specs.Views.{StoreView, HeapView}
 use Rattle.gc_model.specs.Holds.{HoldsTable}
-use Rattle.gc_model.proofs.HoldsDeclare.{holds_declare, with_type}
+use Rattle.gc_model.proofs.HoldsDeclare.{holds_declare}
 use Rattle.gc_store.specs.declared.engine.StoreId.{StoreId}
 use Rattle.gc_store.specs.declared.config.HeapConfig.{HeapConfig}
 use Rattle.gc_store.specs.Stores.{store_view, IsSound, DeclaresStruct}

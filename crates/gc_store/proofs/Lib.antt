@@ -5,3 +5,4 @@ pub mod Fields
 pub mod Writes
 pub mod Places
 pub mod Placing
+pub mod Numbers

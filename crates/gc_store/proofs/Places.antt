@@ -1,23 +1,20 @@
 -- What an allocation and its writes make.
-use Rattle.std.proofs.Common.{inl, inr, ◌≡◌, ◌≢◌, ℕ, ◌+◌, ◌-◌, ◌*◌, ◌<◌, ◌≤◌, ◌⊎◌, Bool, true, false, List, [], ◌∷◌, ◌++◌, Option, Some, None, length, map, replicate, sym, ap, ◌∙◌, refl, subst, arith, zero, suc}
-use Rattle.std.specs.Prelude.{All}
+use Rattle.std.proofs.Common.{◌≡◌, ℕ, ◌+◌, ◌-◌, ◌≤◌, List, Some, length, sym, ap, ◌∙◌, refl, subst, arith}
 use Rattle.std.specs.FinMap as finite
-use Rattle.std.proofs.lemmas.List.{length-replicate, length-map}
+use Rattle.std.proofs.lemmas.List.{length-replicate}
 use Rattle.gc_types.specs.declared.value.FieldType.{FieldType}
 use Rattle.gc_types.specs.declared.kind.Layouts.{Layouts}
-use Rattle.gc_types.specs.declared.kind.VMGcKind.TheVariants.{StructRef}
 use Rattle.gc_types.specs.declared.layout.FieldLayout.{FieldLayout}
 use Rattle.gc_types.specs.declared.layout.GcStructLayout.{GcStructLayout}
-use Rattle.gc_types.specs.Declarations.{IsMutableI32}
 use Rattle.gc_types.specs.Layouts.{struct_base, struct_layout, field_layouts, fields_end}
 use Rattle.gc_model.specs.Values.{Value}
 use Rattle.gc_model.specs.Views.{HeapView, HeapObject}
-use Rattle.gc_model.specs.Holds.{Placing, ValuesLie}
+use Rattle.gc_model.specs.Holds.{ValuesLie}
 use Rattle.gc_model.proofs.Content.{get-put_same, get-put_other}
 use Rattle.gc_model.proofs.Layouts.{fields_end-le}
 use Rattle.gc_heap.specs.Heap.{AddsObject, with_object, zeroed, layout_kind, IsTooLarge, HasRoom}
 use Rattle.gc_store.specs.declared.root.RawValue.{RawValue}
-use Rattle.gc_store.specs.Fields.{CanWrite, WritesValues, value_of, IsNumber}
+use Rattle.gc_store.specs.Fields.{CanWrite, WritesValues}
 use Rattle.gc_store.specs.Places.{CanMake, MadeStruct}
 
 -- the size of a struct's layout is not below where its fields begin

@@ -1,5 +1,5 @@
 -- A struct that was made in the heap is the table's.
-use Rattle.std.proofs.Common.{inl, inr, ◌≡◌, ◌≢◌, ℕ, ◌+◌, ◌-◌, ◌*◌, ◌^◌, ◌<◌, ◌≤◌, ◌⊎◌, Bool, true, false, cond, List, [], ◌∷◌, ◌++◌, Option, Some, None, Result, Ok, Err, length, map, sym, ap, ◌∙◌, refl, subst, arith, zero, suc, le-leb}
+use Rattle.std.proofs.Common.{inl, inr, ◌≡◌, ℕ, ◌+◌, ◌-◌, ◌*◌, ◌^◌, ◌<◌, ◌≤◌, true, false, cond, List, [], ◌∷◌, ◌++◌, Some, Result, Ok, Err, length, sym, ap, ◌∙◌, refl, subst, arith, le-leb}
 use Rattle.std.specs.Prelude.{IfSome, nat_le, ◌||◌, ◌==◌}
 use Rattle.gc_types.specs.declared.value.FieldType.{FieldType}
 use Rattle.gc_types.specs.declared.kind.Layouts.{Layouts}
@@ -10,14 +10,14 @@ use Rattle.gc_model.specs.declared.RootEntry.{RootEntry}
 use Rattle.gc_model.specs.Values.{Value, Object, struct}
 use Rattle.gc_model.specs.Table.{Table, make, make_heap}
 use Rattle.gc_model.specs.Live.{roots_full}
-use Rattle.gc_model.specs.Sizes.{object_size, fields_size, alignment, next_place}
-use Rattle.gc_model.specs.Allocation.{Limits, page, too_large, Allocates, LacksMemory, no_heap, no_room, MayMakeHeap, IsRefusedHeap, FitsIn}
+use Rattle.gc_model.specs.Sizes.{object_size, fields_size, alignment}
+use Rattle.gc_model.specs.Allocation.{Limits, page, too_large, no_heap, no_room, MayMakeHeap, FitsIn}
 use Rattle.gc_model.specs.Views.{HeapView, StoreView}
 use Rattle.gc_model.specs.Holds.{Placing, Holds, HoldsTable}
 use Rattle.gc_model.proofs.HoldsHeap.{IsMadeHeap, holds_heap}
 use Rattle.gc_model.proofs.HoldsMake.{IsMadeObject, holds_make, placed_at}
 use Rattle.gc_model.proofs.Layouts.{round_up-le}
-use Rattle.gc_heap.specs.Heap.{HasRoom, IsTooLarge, LacksRoom, allocated_after, empty_heap, need_of}
+use Rattle.gc_heap.specs.Heap.{HasRoom, IsTooLarge, allocated_after, need_of}
 use Rattle.gc_store.specs.declared.engine.StoreId.{StoreId}
 use Rattle.gc_store.specs.declared.config.HeapConfig.{HeapConfig}
 use Rattle.gc_store.specs.declared.root.GcRootIndex.{GcRootIndex}
@@ -25,7 +25,7 @@ use Rattle.gc_store.specs.declared.root.RootSlot.TheVariants as slot
 use Rattle.gc_store.specs.declared.store.PlaceFault.{PlaceFault}
 use Rattle.gc_store.specs.declared.store.PlaceFault.TheVariants as fault
 use Rattle.gc_store.specs.Stores.{store_view, is_full}
-use Rattle.gc_store.specs.Places.{MakesHeap, GetsPages, IsRefusedPages, MadeStruct, PlacesIn, PlacesObject, LacksPlace, Places}
+use Rattle.gc_store.specs.Places.{MakesHeap, MadeStruct, PlacesIn, PlacesObject, Places}
 use Rattle.gc_store.specs.Limiters.{Refuses}
 
 -- a heap that is made stays as it is
@@ -60,7 +60,7 @@ allocated_next Counting allocated after size is null = absurd (cc)
 allocated_next Copying allocated after size is null = absurd (cc)
 
 module _ {D : Type 0} (layouts : Layouts) (id : StoreId) (config : HeapConfig) (types : List Declaration) (old new : HeapView) (scoped : List RootEntry) (generation : ℕ) (fields : List FieldType) (ty : ℕ) (values : List Value) (limits limits' : Limits) (t : Table D) (place : Placing)
-         (holds : Holds layouts (store_view id config types old scoped generation) t place) (declared : struct_fields_at types ty ≡ Some fields) where
+    (holds : Holds layouts (store_view id config types old scoped generation) t place) (declared : struct_fields_at types ty ≡ Some fields) where
   declared_in_table : struct_fields_at t.types ty ≡ Some fields
   declared_in_table = ap (λ (ts : List Declaration). struct_fields_at ts ty) (sym holds.types) ∙ declared
 
@@ -84,11 +84,11 @@ module _ {D : Type 0} (layouts : Layouts) (id : StoreId) (config : HeapConfig) (
   has_heap mid (inr gets, same) =
       let unmade : t.made ≡ false = sym holds.numbers.made ∙ gets.detached in
       let made : IsMadeHeap mid t.first = record {
-            attached = ap (λ (h : HeapView). h.attached) gets.empty;
-            content = ap (λ (h : HeapView). h.content) gets.empty;
-            capacity = ap (λ (h : HeapView). h.capacity) gets.empty ∙ ap (λ n. page * n) holds.numbers.first;
-            allocated = ap (λ (h : HeapView). h.allocated) gets.empty;
-          } in
+        attached = ap (λ (h : HeapView). h.attached) gets.empty;
+        content = ap (λ (h : HeapView). h.content) gets.empty;
+        capacity = ap (λ (h : HeapView). h.capacity) gets.empty ∙ ap (λ n. page * n) holds.numbers.first;
+        allocated = ap (λ (h : HeapView). h.allocated) gets.empty;
+      } in
       record {
         still = holds_heap layouts (store_view id config types old scoped generation) t place mid unmade made holds;
         may = λ _. subst (λ n. IfSome limits.limit (λ most. n ≤ most)) holds.numbers.first gets.granted;
@@ -119,12 +119,12 @@ module _ {D : Type 0} (layouts : Layouts) (id : StoreId) (config : HeapConfig) (
 
   -- a struct that was made and pushed is in the table, under the handle of its push
   pub places_ok : (mid : HeapView) (word : ℕ) (items : List RootEntry) (handle : GcRootIndex)
-                → too_large layouts (fields_end (struct_base layouts) fields) ≡ false
-                → is_full (store_view id config types old scoped generation) ≡ false
-                → MakesHeap config.first_pages old mid limits limits' (Ok tt) → MadeStruct layouts fields ty values mid new word
-                → items ≡ scoped ++ (record { generation = generation; word = word }) ∷ []
-                → handle ≡ record { store_id = id; generation = generation; slot = slot.Scoped (length scoped) }
-                → PlacesObject layouts (struct ty values) limits limits' t handle (store_view id config types new items generation)
+      → too_large layouts (fields_end (struct_base layouts) fields) ≡ false
+      → is_full (store_view id config types old scoped generation) ≡ false
+      → MakesHeap config.first_pages old mid limits limits' (Ok tt) → MadeStruct layouts fields ty values mid new word
+      → items ≡ scoped ++ (record { generation = generation; word = word }) ∷ []
+      → handle ≡ record { store_id = id; generation = generation; slot = slot.Scoped (length scoped) }
+      → PlacesObject layouts (struct ty values) limits limits' t handle (store_view id config types new items generation)
   places_ok mid word items handle small not_full makes made items_are handle_is =
       let has = has_heap mid makes in
       let object = made_object mid word made in
@@ -145,10 +145,10 @@ module _ {D : Type 0} (layouts : Layouts) (id : StoreId) (config : HeapConfig) (
 
   -- and one that was not made is refused as the table says
   pub places_err : (f : PlaceFault)
-                 → too_large layouts (fields_end (struct_base layouts) fields) ≡ false
-                 → is_full (store_view id config types old scoped generation) ≡ false
-                 → PlacesIn layouts fields ty values config.first_pages old new limits limits' (Err f)
-                 → Places layouts (struct ty values) limits limits' t (Err f) (store_view id config types new scoped generation)
+      → too_large layouts (fields_end (struct_base layouts) fields) ≡ false
+      → is_full (store_view id config types old scoped generation) ≡ false
+      → PlacesIn layouts fields ty values config.first_pages old new limits limits' (Err f)
+      → Places layouts (struct ty values) limits limits' t (Err f) (store_view id config types new scoped generation)
   places_err fault.FuncTableFull small not_full places = absurd places
   places_err fault.TooLarge small not_full places = absurd (cc (sym small ∙ too_large_is layouts (fields_end (struct_base layouts) fields) places))
   places_err fault.RootsFull small not_full places = absurd places

@@ -1,20 +1,17 @@
 -- What a handle's word tells of the table.
-use Rattle.std.proofs.Common.{inl, inr, ◌≡◌, ◌≢◌, ℕ, ◌+◌, ◌*◌, ◌/◌, ◌%◌, ◌<◌, List, Bool, true, false, cond, eqb, nat_eq, Option, Some, None, Result, Ok, Err, length, sym, ap, ◌∙◌, refl, subst, arith, rules}
-use Rattle.std.specs.Prelude.{◌&&◌}
+use Rattle.std.proofs.Common.{◌≡◌, ◌≢◌, ℕ, ◌/◌, ◌%◌, ◌<◌, List, Bool, true, false, cond, Option, Some, None, Result, Ok, Err, sym, ap, ◌∙◌, refl, subst, arith}
 use Rattle.std.specs.List.{slice_get}
 use Rattle.std.specs.Option.{SomeIff}
 use Rattle.std.proofs.lemmas.Grind.{common_steps}
 use Rattle.std.specs.FinMap as map
 use Rattle.gc_types.specs.declared.kind.Layouts.{Layouts}
-use Rattle.gc_refs.specs.Header.{Header}
 use Rattle.gc_model.specs.declared.RootEntry.{RootEntry}
 use Rattle.gc_model.specs.Values.{Reference, null, small, at, Object, struct, array, host, exception}
-use Rattle.gc_model.specs.Table.{Table, Push}
+use Rattle.gc_model.specs.Table.{Table}
 use Rattle.gc_model.specs.Live.{rooted}
 use Rattle.gc_model.specs.Views.{StoreView, HeapObject}
-use Rattle.gc_model.specs.Holds.{Placing, IsWord, Holds, HeldAt, Stands}
+use Rattle.gc_model.specs.Holds.{Placing, IsWord, Holds, Stands}
 use Rattle.gc_model.proofs.Live.{live_word, dead_word, entry_stands}
-use Rattle.gc_heap.specs.Heap.{IsHeaderOf}
 use Rattle.gc_store.specs.declared.root.GcRootIndex.{GcRootIndex}
 use Rattle.gc_store.specs.declared.root.RootSlot.{RootSlot}
 use Rattle.gc_store.specs.declared.root.RootSlot.TheVariants as slot
@@ -22,7 +19,7 @@ use Rattle.gc_store.specs.declared.root.RootFault.{RootFault}
 use Rattle.gc_store.specs.declared.root.RootFault.TheVariants as fault
 use Rattle.gc_store.specs.declared.root.RootedObject.{RootedObject}
 use Rattle.gc_store.specs.declared.root.RootedObject.TheVariants as rooted_object
-use Rattle.gc_store.specs.Roots.{word_of, slot_word, entry_word, is_of_store, handle_of, Names, IsRootWord, IsReference, IsObject, TellsRoot}
+use Rattle.gc_store.specs.Roots.{word_of, slot_word, entry_word, is_of_store, Names, IsRootWord, IsReference, IsObject, TellsRoot}
 
 -- the entry of a handle that has a word
 pub record HasEntry (s : StoreView) (handle : GcRootIndex) (word : ℕ) : Type 0 where
@@ -82,19 +79,22 @@ word_of-wrong s handle wrong = ap (λ b. cond b (slot_word s.scoped handle.slot 
 -- a handle that has a word is that of some push
 pub names-entry : {D : Type 0} (layouts : Layouts) (s : StoreView) (t : Table D) (place : Placing) → Holds layouts s t place → (handle : GcRootIndex) (word : ℕ) → HasEntry s handle word → (serial : ℕ) × Names s t handle serial
 names-entry layouts s t place holds handle word has =
-    let stands = entry_stands layouts s t place holds has.index has.entry has.entry_at in
-    (stands.0.serial, record {
-      push = record { index = has.index; generation = has.entry.generation };
-      pushed = stands.1.1.pushed;
-      is = λ i. record {
-        store_id = record { engine = (same_engine i); number = (same_number i) };
-        generation = sym has.generation i;
-        slot = has.slot i;
-      };
-    })
+    let stands = entry_stands layouts s t place holds has.index has.entry has.entry_at in (
+      stands.0.serial,
+      record {
+        push = record { index = has.index; generation = has.entry.generation };
+        pushed = stands.1.1.pushed;
+        is = λ i. record {
+          store_id = record { engine = (same_engine i); number = (same_number i) };
+          generation = sym has.generation i;
+          slot = has.slot i;
+        };
+      },
+    )
   where
     same_engine : handle.store_id.engine ≡ s.engine
     same_engine = grind (arith, common_steps, has.store)
+
     same_number : handle.store_id.number ≡ s.number
     same_number = grind (arith, common_steps, has.store)
 
@@ -127,10 +127,11 @@ named_live layouts s t place holds handle serial word names e =
 -- where a named handle has no word, its root is gone
 pub named_dead : {D : Type 0} (layouts : Layouts) (s : StoreView) (t : Table D) (place : Placing) → Holds layouts s t place → (handle : GcRootIndex) (serial : ℕ) (f : RootFault) → Names s t handle serial → word_of s handle ≡ Err f → (rooted t serial ≡ None) × (f ≡ fault.Unrooted)
 named_dead layouts s t place holds handle serial f names e =
-    let no = word_of-err s handle f (names-store s t handle serial names) e in
-    (dead_word layouts s t place holds serial names.push names.pushed
-      (λ entry at_index same. no.none names.push.index (ap (λ (h : GcRootIndex). h.slot) names.is) entry at_index (same ∙ sym (ap (λ (h : GcRootIndex). h.generation) names.is))),
-     no.unrooted)
+    let no = word_of-err s handle f (names-store s t handle serial names) e in (
+      dead_word layouts s t place holds serial names.push names.pushed
+          (λ entry at_index same. no.none names.push.index (ap (λ (h : GcRootIndex). h.slot) names.is) entry at_index (same ∙ sym (ap (λ (h : GcRootIndex). h.generation) names.is))),
+      no.unrooted,
+    )
 
 -- what the store answers of a root that is live
 pub tells_live : {D : Type 0} (t : Table D) (found : Option Reference) (r : Reference) (answer : RootedObject) → found ≡ Some r → IsReference t r answer → TellsRoot t found (Ok answer)

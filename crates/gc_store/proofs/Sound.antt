@@ -1,12 +1,11 @@
 -- That a store is sound: it holds some table.
-use Rattle.std.proofs.Common.{◌≡◌, ℕ, ◌≤◌, List, [], false, sym, ap, ◌∙◌, refl, subst}
+use Rattle.std.proofs.Common.{◌≡◌, List, [], sym, ap, subst}
 use Rattle.gc_types.specs.declared.kind.Layouts.{Layouts}
 use Rattle.gc_types.specs.Declarations.{Declaration, TypeTable}
 use Rattle.gc_model.specs.declared.RootEntry.{RootEntry}
 use Rattle.gc_model.specs.Table.{start}
 use Rattle.gc_model.specs.Views.{StoreView, HeapView, detached, empty_store}
-use Rattle.gc_model.specs.Holds.{HoldsTable}
-use Rattle.gc_model.proofs.HoldsStart.{nowhere, IsUntouched, holds_untouched, untouched_new, untouched_from_start, untouched_from_parts}
+use Rattle.gc_model.proofs.HoldsStart.{nowhere, IsUntouched, holds_untouched, untouched_new, untouched_from_start}
 use Rattle.gc_store.specs.declared.engine.StoreId.{StoreId}
 use Rattle.gc_store.specs.declared.config.HeapConfig.{HeapConfig}
 use Rattle.gc_store.specs.Stores.{store_view, IsSound, HoldsStart, configured}

@@ -1,17 +1,15 @@
 -- What a loop that writes fields one after another has written.
-use Rattle.std.proofs.Common.{inl, inr, ◌≡◌, ◌≢◌, ℕ, ◌+◌, ◌-◌, ◌<◌, ◌≤◌, ◌^◌, List, [], ◌∷◌, ◌++◌, Option, Some, None, length, map, sym, ap, ◌∙◌, refl, subst, arith, zero, suc}
+use Rattle.std.proofs.Common.{inl, inr, ◌≡◌, ℕ, ◌+◌, ◌-◌, ◌<◌, ◌≤◌, ◌^◌, List, Some, length, sym, ap, ◌∙◌, refl, subst, arith}
 use Rattle.std.specs.Prelude.{All}
 use Rattle.std.specs.List.{slice_get}
 use Rattle.std.specs.FinMap as finite
-use Rattle.std.specs.Ordering.{nat_cmp}
-use Rattle.std.proofs.lemmas.Grind.{common_steps}
-use Rattle.std.proofs.lemmas.Option.{none-some, slice_get_within, slice_get_cases, get_or_from_slice_get}
+use Rattle.std.proofs.lemmas.Option.{slice_get_within, slice_get_cases, get_or_from_slice_get}
 use Rattle.std.proofs.lemmas.Bool.{cases_lt}
 use Rattle.gc_types.specs.declared.value.FieldType.{FieldType}
 use Rattle.gc_types.specs.declared.kind.Layouts.{Layouts}
 use Rattle.gc_types.specs.declared.layout.FieldLayout.{FieldLayout}
 use Rattle.gc_types.specs.Declarations.{IsMutableI32}
-use Rattle.gc_types.specs.Layouts.{struct_base, field_layouts, fields_end, storage_width}
+use Rattle.gc_types.specs.Layouts.{struct_base, field_layouts, fields_end}
 use Rattle.gc_model.specs.Values.{Value, i32, i64, f32, f64, v128, function, reference}
 use Rattle.gc_model.specs.Views.{HeapView, HeapObject, u32_at, put_u32}
 use Rattle.gc_model.specs.Holds.{Placing, Lies}
@@ -86,12 +84,12 @@ fields_apart base fields i j one other numbers e f lt =
     omega (arith, layouts_apart base fields i j one other field.0 e f field.1 lt, width)
 
 module _ (layouts : Layouts) (fields : List FieldType) (values : List Value) (count n : ℕ) (layout : FieldLayout) (old mid new : HeapView) (word : ℕ) (before : HeapObject)
-         (numbers : All IsMutableI32 fields) (fits : n < 2 ^ 32)
-         (size : struct_base layouts + length before.bytes ≡ fields_end (struct_base layouts) fields)
-         (at_count : slice_get (field_layouts (struct_base layouts) fields) count ≡ Some layout)
-         (value_at : slice_get values count ≡ Some (i32 n))
-         (so_far : WrittenObject (struct_base layouts) (field_layouts (struct_base layouts) fields) values count old mid word before)
-         (wrote : (object : HeapObject) → finite.get mid.content word ≡ Some object → new ≡ put_object mid word (with_u32 layouts object layout.offset n)) where
+    (numbers : All IsMutableI32 fields) (fits : n < 2 ^ 32)
+    (size : struct_base layouts + length before.bytes ≡ fields_end (struct_base layouts) fields)
+    (at_count : slice_get (field_layouts (struct_base layouts) fields) count ≡ Some layout)
+    (value_at : slice_get values count ≡ Some (i32 n))
+    (so_far : WrittenObject (struct_base layouts) (field_layouts (struct_base layouts) fields) values count old mid word before)
+    (wrote : (object : HeapObject) → finite.get mid.content word ≡ Some object → new ≡ put_object mid word (with_u32 layouts object layout.offset n)) where
   base : ℕ
   base = struct_base layouts
 
@@ -114,8 +112,8 @@ module _ (layouts : Layouts) (fields : List FieldType) (values : List Value) (co
             let low = layout_low (struct_base layouts) fields i here e in
             let apart = fields_apart (struct_base layouts) fields i count here layout numbers e at_count below in
             lies_kept place value so_far.bytes bytes' (here.offset - struct_base layouts)
-              (u32_at-put_before so_far.bytes (layout.offset - struct_base layouts) n (here.offset - struct_base layouts) within (omega arith))
-              (so_far.lie place i here value below e f)
+            (u32_at-put_before so_far.bytes (layout.offset - struct_base layouts) n (here.offset - struct_base layouts) within (omega arith))
+            (so_far.lie place i here value below e f)
         | inr above ↦
             let same : i ≡ count = omega arith in
             let layouts_same : layout ≡ here = grind (arith, sym at_count ∙ ap (slice_get (field_layouts (struct_base layouts) fields)) (sym same) ∙ e) in

@@ -1,5 +1,5 @@
 -- Fields of an object in a heap.
-use Rattle.std.specs.Prelude.{◌≡◌, ℕ, ◌+◌, ◌-◌, ◌<◌, ◌≤◌, ◌^◌, Bool, true, false, List, [], Option, Some, None, Result, Ok, Err, length, map, slice_get, All}
+use Rattle.std.specs.Prelude.{◌≡◌, ℕ, ◌+◌, List, Some, length, All}
 use Rattle.std.specs.FinMap as finite
 use Rattle.std.specs.Int.{w32, w64}
 use Rattle.gc_types.specs.declared.value.FieldType.{FieldType}
@@ -7,7 +7,6 @@ use Rattle.gc_types.specs.declared.kind.Layouts.{Layouts}
 use Rattle.gc_types.specs.declared.layout.FieldLayout.{FieldLayout}
 use Rattle.gc_types.specs.Declarations.{Declaration, struct_fields_at, IsMutableI32}
 use Rattle.gc_types.specs.Layouts.{struct_base, field_layouts, fields_end}
-use Rattle.gc_model.specs.declared.GcClass.{GcClass}
 use Rattle.gc_model.specs.Values.{Value, i32, i64, f32, f64, v128, function, reference, null, number_bits}
 use Rattle.gc_model.specs.Views.{HeapView, HeapObject}
 use Rattle.gc_model.specs.Holds.{Placing, ValuesLie}

@@ -1,5 +1,5 @@
 -- What placing an object answers and leaves.
-use Rattle.std.specs.Prelude.{◌≡◌, ℕ, ◌+◌, ◌-◌, ◌*◌, ◌%◌, ◌<◌, ◌≤◌, ◌⊎◌, Bool, true, false, List, Option, Some, None, Result, Ok, Err, length, map, IfSome, All}
+use Rattle.std.specs.Prelude.{◌≡◌, ℕ, ◌+◌, ◌*◌, ◌%◌, ◌<◌, ◌≤◌, ◌⊎◌, true, false, List, Option, Some, None, Result, Ok, Err, length, IfSome, All}
 use Rattle.std.specs.FinMap as finite
 use Rattle.gc_types.specs.declared.value.FieldType.{FieldType}
 use Rattle.gc_types.specs.declared.kind.Layouts.{Layouts}
@@ -7,7 +7,7 @@ use Rattle.gc_types.specs.declared.kind.VMGcKind.TheVariants.{StructRef}
 use Rattle.gc_types.specs.declared.layout.GcStructLayout.{GcStructLayout}
 use Rattle.gc_types.specs.Declarations.{Declaration, struct_fields_at, IsMutableI32}
 use Rattle.gc_types.specs.Layouts.{struct_base, struct_layout, field_layouts, fields_end}
-use Rattle.gc_model.specs.Values.{Value, Object, struct}
+use Rattle.gc_model.specs.Values.{Value, Object}
 use Rattle.gc_model.specs.Table.{Table, make_heap}
 use Rattle.gc_model.specs.Live.{roots_full}
 use Rattle.gc_model.specs.Sizes.{object_size}
@@ -21,7 +21,6 @@ use Rattle.gc_store.specs.declared.root.GcRootIndex.{GcRootIndex}
 use Rattle.gc_store.specs.declared.root.RawValue.{RawValue}
 use Rattle.gc_store.specs.declared.place.MakeFault.{MakeFault}
 use Rattle.gc_store.specs.declared.place.MakeFault.TheVariants as make_fault
-use Rattle.gc_store.specs.declared.store.GcHeapOutOfMemory.{GcHeapOutOfMemory}
 use Rattle.gc_store.specs.declared.store.PlaceFault.{PlaceFault}
 use Rattle.gc_store.specs.declared.store.PlaceFault.TheVariants as fault
 use Rattle.gc_store.specs.Fields.{IsNumber}

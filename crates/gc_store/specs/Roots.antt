@@ -1,12 +1,12 @@
 -- Which root a handle names, and what it is.
-use Rattle.std.specs.Prelude.{◌≡◌, ℕ, ◌<◌, ◌==◌, ◌&&◌, Bool, true, false, List, Option, Some, None, Result, Ok, Err, length, slice_get, if◌then◌else◌}
+use Rattle.std.specs.Prelude.{◌≡◌, ℕ, ◌<◌, ◌==◌, ◌&&◌, Bool, List, Option, Some, None, Result, Ok, Err, length, slice_get, if◌then◌else◌}
 use Rattle.std.specs.Int.{w32, cast_signed}
 use Rattle.gc_model.specs.declared.RootEntry.{RootEntry}
 use Rattle.gc_model.specs.Values.{Reference, null, small, at, Value, i32, i64, f32, f64, v128, function, reference, Object, struct, array, host, exception}
 use Rattle.gc_model.specs.Table.{Table, Push}
 use Rattle.gc_model.specs.Live.{rooted}
 use Rattle.gc_model.specs.Views.{StoreView}
-use Rattle.gc_model.specs.Holds.{Placing, Holds, IsWord}
+use Rattle.gc_model.specs.Holds.{Placing, Holds, HoldsTable, IsWord}
 use Rattle.gc_types.specs.declared.kind.Layouts.{Layouts}
 use Rattle.gc_store.specs.declared.root.GcRootIndex.{GcRootIndex}
 use Rattle.gc_store.specs.declared.root.RootSlot.{RootSlot}
@@ -111,3 +111,10 @@ pub record HasNumber (D : Type 0) (layouts : Layouts) (s : StoreView) (word inde
   pub object : slice_get table.objects position ≡ Some (struct ty values)
   pub n : ℕ
   pub value_at : slice_get values index ≡ Some (i32 n)
+
+-- the handle is live and names a struct with a value at that index, in some table that the store holds
+pub record CanRead (D : Type 0) (layouts : Layouts) (s : StoreView) (handle : GcRootIndex) (index : ℕ) : Type 0 where
+  pub table : Table D
+  pub holds : HoldsTable layouts s table
+  pub value : Value
+  pub field : HasField s table handle index value

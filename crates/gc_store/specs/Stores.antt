@@ -1,5 +1,5 @@
 -- What a store's calls do, for every table that it held.
-use Rattle.std.specs.Prelude.{◌≡◌, ℕ, ◌<◌, ◌≤◌, ◌-◌, ◌^◌, ◌==◌, ◌||◌, nat_le, Bool, true, false, List, [], Option, Some, None, Result, Ok, Err, length}
+use Rattle.std.specs.Prelude.{◌≡◌, ℕ, ◌-◌, ◌^◌, ◌==◌, ◌||◌, nat_le, Bool, false, List, [], Result, Ok, Err, length}
 use Rattle.gc_types.specs.declared.kind.Layouts.{Layouts}
 use Rattle.gc_types.specs.declared.value.FieldType.{FieldType}
 use Rattle.gc_types.specs.declared.types.TypeFault.{TypeFault}
@@ -8,7 +8,7 @@ use Rattle.gc_types.specs.Declarations.{Declaration, TypeTable, TypeName, Declar
 use Rattle.gc_model.specs.declared.RootEntry.{RootEntry}
 use Rattle.gc_model.specs.Table.{Table, start, declare}
 use Rattle.gc_model.specs.Views.{StoreView, HeapView}
-use Rattle.gc_model.specs.Holds.{Placing, Holds, HoldsTable}
+use Rattle.gc_model.specs.Holds.{HoldsTable}
 use Rattle.gc_store.specs.declared.engine.StoreId.{StoreId}
 use Rattle.gc_store.specs.declared.config.HeapConfig.{HeapConfig}
 

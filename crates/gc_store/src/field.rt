@@ -15,12 +15,7 @@ use gc_refs::VMGcRef;
 use gc_types::{FieldLayout, Types};
 
 /// Where that field of a held object lies.
-pub(crate) fn field_offset<H: GcHeap>(
-    heap: &H,
-    types: &Types,
-    gc_ref: &VMGcRef,
-    index: u32,
-) -> u32
+pub(crate) fn field_offset<H: GcHeap>(heap: &H, types: &Types, gc_ref: &VMGcRef, index: u32) -> u32
     requires fields { HasFields H.LAYOUTS (H.seen heap.now) types.now.declarations gc_ref.now }
     requires within { (object : HeapObject) (fields : List FieldType) → finite.get (H.seen heap.now).content gc_ref.now ≡ Some object → struct_fields_at types.now.declarations object.ty ≡ Some fields → index < length fields }
     ensures { (object : HeapObject) (fields : List FieldType) → finite.get (H.seen heap.now).content gc_ref.now ≡ Some object → struct_fields_at types.now.declarations object.ty ≡ Some fields → IfSome (slice_get (field_layouts (struct_base H.LAYOUTS) fields) index) (λ layout. result ≡ layout.offset) }

@@ -222,7 +222,15 @@ impl<H: GcHeap, D> Store<H, D> {
         }
         let first_pages = self.config.first_pages;
         let alloc = self.alloc;
-        match place_typed(alloc, &mut self.heap, first_pages, limiter, &self.types, ty, values) {
+        match place_typed(
+            alloc,
+            &mut self.heap,
+            first_pages,
+            limiter,
+            &self.types,
+            ty,
+            values,
+        ) {
             Ok(gc_ref) => {
                 let word = gc_ref.as_raw_u32();
                 Ok(push_root(&mut self.scoped, self.id, self.generation, word))

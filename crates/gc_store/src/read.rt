@@ -5,7 +5,7 @@ ghost use Rattle.gc_model.specs.Table.{Table};
 ghost use Rattle.gc_model.specs.Live.{rooted};
 ghost use Rattle.gc_model.specs.Values.{Value, Reference, struct, i32};
 ghost use Rattle.gc_model.specs.Holds.{HoldsTable, Holds, Placing, IsWord};
-ghost use Rattle.gc_store.specs.Roots.{word_of, IsRootWord, IsReference, Names, TellsRoot, is_of_store, HasNumber, HasField, IsRaw};
+ghost use Rattle.gc_store.specs.Roots.{word_of, IsRootWord, IsReference, Names, TellsRoot, is_of_store, HasNumber, HasField, CanRead, IsRaw};
 
 use crate::field::field_offset;
 use crate::root::{GcRootIndex, RawValue, RootFault, RootSlot, RootedObject};
@@ -71,7 +71,7 @@ impl<H: GcHeap, D> Store<H, D> {
 
     /// The value of that field of a struct. Numbers push no root.
     pub fn read_value(&mut self, handle: GcRootIndex, index: u32) -> Result<RawValue, RootFault>
-        requires { (t : Table D) × HoldsTable H.LAYOUTS self.old t × (value : Value) × HasField self.old t handle index value }
+        requires { CanRead D H.LAYOUTS self.old handle index }
         ensures read { (t : Table D) (value : Value) → HoldsTable H.LAYOUTS self.old t → HasField self.old t handle index value → IfOk result (IsRaw value) × IsOk result }
         ensures same { self.new ≡ self.old }
     {

@@ -1,7 +1,6 @@
-use Rattle.std.proofs.Common.{◌≡◌, ℕ, ◌<◌, ◌+◌, List, Some, length, map, sym, ap, ◌∙◌, subst, refl, arith, get_or, false}
+use Rattle.std.proofs.Common.{◌≡◌, ◌<◌, ◌+◌, List, Some, length, map, sym, ap, ◌∙◌, subst, refl, arith, get_or, false}
 use Rattle.std.specs.List.{slice_get}
 use Rattle.std.specs.Option.{option_map}
-use Rattle.std.specs.FinMap as finite
 use Rattle.std.proofs.lemmas.List.{length-map}
 use Rattle.std.proofs.lemmas.Option.{slice_get-get_or, slice_get_read, slice_get-map}
 use Rattle.gc_types.specs.declared.layout.FieldLayout.{FieldLayout}
@@ -10,7 +9,6 @@ use Rattle.gc_model.specs.Values.{i32}
 use Rattle.gc_model.specs.Views.{HeapObject}
 use Rattle.gc_model.proofs.Layouts.{length-field_layouts}
 use Rattle.gc_store.specs.Fields.{value_of}
-use Rattle.gc_store.specs.declared.root.RawValue.{RawValue}
 use Rattle.gc_store.proofs.Fields.{same_object}
 use Rattle.gc_store.proofs.Writes.{WrittenObject, written_more, field_within, values_lie}
 use Rattle.gc_store.proofs.field.write_values.Given as given
@@ -54,7 +52,7 @@ loop-index-preserved g c before held =
     let at = (goal.at.loop-index-preserved g c).In-I32 in
     let value_at = slice_get-map value_of c.args.values.now c.loop-index.index ∙ ap (option_map value_of) (slice_get_read c.args.values.now (length c.args.values.now) c.loop-index.index c.index-values-index.result refl c.loop-index-test.true c.index-values-index.is ∙ ap Some c.in-I32.is) in
     let more = written_more g.H.GcHeap.LAYOUTS c.requires.fields (map value_of c.args.values.now) c.loop-index.index c.cast_unsigned.result _ (g.H.GcHeap.seen c.args.heap.now) (g.H.GcHeap.seen c.loop-index.heap) (g.H.GcHeap.seen c.write_u32.new.self) c.args.gc_ref.now c.requires.object
-        c.requires.numbers c.cast_unsigned.type_inv c.requires.size (layout_at g at) (value_at ∙ ap (λ n. Some (i32 n)) (sym c.cast_unsigned.ensures)) (so_far g at) c.write_u32.ensures in
+    c.requires.numbers c.cast_unsigned.type_inv c.requires.size (layout_at g at) (value_at ∙ ap (λ n. Some (i32 n)) (sym c.cast_unsigned.ensures)) (so_far g at) c.write_u32.ensures in
     let same : c.requires.object ≡ before = same_object (g.H.GcHeap.seen c.args.heap.now) c.args.gc_ref.now c.requires.object before c.requires.held held in
     subst (λ (o : HeapObject). WrittenObject (struct_base g.H.GcHeap.LAYOUTS) c.args.layouts.now (map value_of c.args.values.now) (c.loop-index.index + 1) (g.H.GcHeap.seen c.args.heap.now) (g.H.GcHeap.seen c.write_u32.new.self) c.args.gc_ref.now o) same
     (subst (λ (xs : List FieldLayout). WrittenObject (struct_base g.H.GcHeap.LAYOUTS) xs (map value_of c.args.values.now) (c.loop-index.index + 1) (g.H.GcHeap.seen c.args.heap.now) (g.H.GcHeap.seen c.write_u32.new.self) c.args.gc_ref.now c.requires.object) (sym c.requires.laid_out) more)

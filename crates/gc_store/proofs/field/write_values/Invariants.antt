@@ -1,4 +1,4 @@
-use Rattle.std.proofs.Common.{map, take}
+use Rattle.std.proofs.Common.{map}
 use Rattle.gc_types.specs.Layouts.{struct_base}
 use Rattle.gc_store.specs.Fields.{value_of}
 use Rattle.gc_store.proofs.Writes.{WrittenSoFar}

@@ -1,4 +1,3 @@
-use Rattle.std.proofs.Common.{sym, ap, ◌∙◌, refl}
 use Rattle.gc_heap.specs.Heap.{AddsObject, zeroed, layout_kind}
 use Rattle.gc_store.proofs.Places.{layout_size, can_write, made_struct, added_here}
 use Rattle.gc_store.proofs.place.make_struct.Given as given

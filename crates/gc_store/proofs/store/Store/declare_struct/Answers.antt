@@ -1,7 +1,7 @@
 use Rattle.std.proofs.Common.{subst, sym}
 use Rattle.gc_model.specs.Views.{StoreView}
 use Rattle.gc_model.specs.Holds.{HoldsTable}
-use Rattle.gc_store.proofs.Declare.{declared_step, sound_declared, TypesDeclare}
+use Rattle.gc_store.proofs.Declare.{declared_step, sound_declared}
 use Rattle.gc_store.proofs.store.Store.declare_struct.Goals as goal
 
 pub invariant_of-self : goal.invariant_of-self

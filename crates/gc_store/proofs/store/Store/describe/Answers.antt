@@ -1,6 +1,6 @@
-use Rattle.std.proofs.Common.{◌≡◌, ℕ, ◌%◌, ap, sym, ◌∙◌, subst, refl, Ok, Err, Some}
+use Rattle.std.proofs.Common.{◌≡◌, ◌%◌, ap, sym, ◌∙◌, refl, Some}
 use Rattle.std.specs.FinMap as map
-use Rattle.gc_model.specs.Views.{HeapView, StoreView, HeapObject}
+use Rattle.gc_model.specs.Views.{StoreView, HeapObject}
 use Rattle.gc_store.proofs.Roots.{SomeIff-value, describes_small, describes_object, held_object}
 use Rattle.gc_store.proofs.store.Store.describe.Given as given
 use Rattle.gc_store.proofs.store.Store.describe.Goals as goal

@@ -1,14 +1,14 @@
-use Rattle.std.proofs.Common.{◌≡◌, ap, sym, ◌∙◌, subst, refl, Ok, Err, Result, ℕ}
+use Rattle.std.proofs.Common.{ap, sym, ◌∙◌, subst}
 use Rattle.gc_model.specs.Views.{StoreView}
 use Rattle.gc_store.specs.Roots.{IsRootWord, word_of}
-use Rattle.gc_store.proofs.Roots.{root_word, named_live, named_dead, tells_live, tells_dead, word_of-ok, word_of-err, word_of-wrong, names-entry}
+use Rattle.gc_store.proofs.Roots.{root_word, named_live, named_dead, tells_live, tells_dead, word_of-ok, names-entry}
 use Rattle.gc_store.proofs.store.Store.object.Goals as goal
 
 pub describe-requires : goal.describe-requires
 describe-requires g c =
     subst (λ (s : StoreView). IsRootWord g.row.D.Denot g.H.GcHeap.LAYOUTS s c.in-Ok.word) c.self.view_is
     (root_word _ _ c.self.invariant.table c.self.invariant.holds.0 c.self.invariant.holds.1 c.args.handle c.in-Ok.word
-      (ap (λ (s : StoreView). word_of s c.args.handle) c.self.view_is ∙ sym c.word_of.ensures ∙ c.in-Ok.is))
+    (ap (λ (s : StoreView). word_of s c.args.handle) c.self.view_is ∙ sym c.word_of.ensures ∙ c.in-Ok.is))
 
 pub returns-in-Ok-clause-named : goal.returns-in-Ok-clause-named
 returns-in-Ok-clause-named g c t serial holds names =

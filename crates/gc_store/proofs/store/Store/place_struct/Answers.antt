@@ -1,14 +1,13 @@
-use Rattle.std.proofs.Common.{◌≡◌, ℕ, List, Some, Ok, Err, Result, false, length, map, sym, ap, ◌∙◌, subst, refl, ◌++◌, ◌∷◌, []}
-use Rattle.gc_types.specs.declared.value.FieldType.{FieldType}
+use Rattle.std.proofs.Common.{◌≡◌, ℕ, List, Some, Err, Result, false, length, map, sym, ap, ◌∙◌, subst, ◌++◌, ◌∷◌, []}
 use Rattle.gc_types.specs.declared.kind.Layouts.{Layouts}
-use Rattle.gc_types.specs.Declarations.{struct_fields_at, Declaration}
+use Rattle.gc_types.specs.Declarations.{struct_fields_at}
 use Rattle.gc_types.specs.Layouts.{struct_base, fields_end}
 use Rattle.gc_model.specs.declared.RootEntry.{RootEntry}
 use Rattle.gc_model.specs.Allocation.{too_large}
 use Rattle.gc_model.specs.Sizes.{fields_size}
 use Rattle.gc_model.specs.Table.{Table}
 use Rattle.gc_model.specs.Values.{struct}
-use Rattle.gc_model.specs.Views.{StoreView, HeapView}
+use Rattle.gc_model.specs.Views.{StoreView}
 use Rattle.gc_model.specs.Holds.{HoldsTable}
 use Rattle.gc_store.specs.declared.root.RootSlot.TheVariants as slot
 use Rattle.gc_store.specs.declared.store.PlaceFault.{PlaceFault}
@@ -49,10 +48,10 @@ made g c t holds =
     let before = (goal.at.After-push_root g c).After-place_typed in
     let p = subst (λ (r : Result ℕ PlaceFault). PlacesIn g.H.GcHeap.LAYOUTS c.requires.fields c.args.ty (map value_of c.args.values.now) c.self.inside.config.first_pages (g.H.GcHeap.seen c.self.inside.heap) (g.H.GcHeap.seen c.place_typed.new.heap) (g.L.ResourceLimiter.limits c.args.limiter.now) (g.L.ResourceLimiter.limits c.place_typed.new.limiter) r) c.in-Ok.is (placed g before) in
     places_ok g.H.GcHeap.LAYOUTS c.self.inside.id c.self.inside.config c.self.inside.types.declarations (g.H.GcHeap.seen c.self.inside.heap) (g.H.GcHeap.seen c.place_typed.new.heap) c.self.inside.scoped.items c.self.inside.generation c.requires.fields c.args.ty (map value_of c.args.values.now) _ _ t holds.0 holds.1 (declared g before)
-      p.0 c.in-Ok.gc_ref c.push_root.new.scoped.items c.push_root.result (small g before) (not_full g before) p.1.0 p.1.1
-      (c.push_root.ensures.pushed ∙ ap (λ (xs : List RootEntry). xs ++ (record { generation = c.self.inside.generation; word = c.as_raw_u32-word.result }) ∷ []) c.reserve.ensures.items
-        ∙ ap (λ (w : ℕ). c.self.inside.scoped.items ++ (record { generation = c.self.inside.generation; word = w }) ∷ []) c.as_raw_u32-word.ensures.value)
-      (c.push_root.ensures.handle ∙ ap (λ (xs : List RootEntry). record { store_id = c.self.inside.id; generation = c.self.inside.generation; slot = slot.Scoped (length xs) }) c.reserve.ensures.items)
+    p.0 c.in-Ok.gc_ref c.push_root.new.scoped.items c.push_root.result (small g before) (not_full g before) p.1.0 p.1.1
+    (c.push_root.ensures.pushed ∙ ap (λ (xs : List RootEntry). xs ++ (record { generation = c.self.inside.generation; word = c.as_raw_u32-word.result }) ∷ []) c.reserve.ensures.items
+    ∙ ap (λ (w : ℕ). c.self.inside.scoped.items ++ (record { generation = c.self.inside.generation; word = w }) ∷ []) c.as_raw_u32-word.ensures.value)
+    (c.push_root.ensures.handle ∙ ap (λ (xs : List RootEntry). record { store_id = c.self.inside.id; generation = c.self.inside.generation; slot = slot.Scoped (length xs) }) c.reserve.ensures.items)
 
 -- what a struct that was not made leaves
 refused : (g : given.Over) (c : In-Err g) (t : Table g.row.D.Denot) → HoldsTable g.H.GcHeap.LAYOUTS (store_view c.self.inside.id c.self.inside.config c.self.inside.types.declarations (g.H.GcHeap.seen c.self.inside.heap) c.self.inside.scoped.items c.self.inside.generation) t → Places g.H.GcHeap.LAYOUTS (struct c.args.ty (map value_of c.args.values.now)) (g.L.ResourceLimiter.limits c.args.limiter.now) (g.L.ResourceLimiter.limits c.place_typed.new.limiter) t (Err c.in-Err.fault) (store_view c.self.inside.id c.self.inside.config c.self.inside.types.declarations (g.H.GcHeap.seen c.place_typed.new.heap) c.reserve.new.self.items c.self.inside.generation)
@@ -61,7 +60,7 @@ refused g c t holds =
     let p = subst (λ (r : Result ℕ PlaceFault). PlacesIn g.H.GcHeap.LAYOUTS c.requires.fields c.args.ty (map value_of c.args.values.now) c.self.inside.config.first_pages (g.H.GcHeap.seen c.self.inside.heap) (g.H.GcHeap.seen c.place_typed.new.heap) (g.L.ResourceLimiter.limits c.args.limiter.now) (g.L.ResourceLimiter.limits c.place_typed.new.limiter) r) c.in-Err.is (placed g before) in
     subst (λ (xs : List RootEntry). Places g.H.GcHeap.LAYOUTS (struct c.args.ty (map value_of c.args.values.now)) (g.L.ResourceLimiter.limits c.args.limiter.now) (g.L.ResourceLimiter.limits c.place_typed.new.limiter) t (Err c.in-Err.fault) (store_view c.self.inside.id c.self.inside.config c.self.inside.types.declarations (g.H.GcHeap.seen c.place_typed.new.heap) xs c.self.inside.generation)) (sym c.reserve.ensures.items)
     (places_err g.H.GcHeap.LAYOUTS c.self.inside.id c.self.inside.config c.self.inside.types.declarations (g.H.GcHeap.seen c.self.inside.heap) (g.H.GcHeap.seen c.place_typed.new.heap) c.self.inside.scoped.items c.self.inside.generation c.requires.fields c.args.ty (map value_of c.args.values.now) _ _ t holds.0 holds.1 (declared g before)
-      c.in-Err.fault (small g before) (not_full g before) p)
+    c.in-Err.fault (small g before) (not_full g before) p)
 
 pub invariant_of-self-in-Ok : goal.invariant_of-self-in-Ok
 invariant_of-self-in-Ok g c =
