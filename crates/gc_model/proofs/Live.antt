@@ -5,11 +5,15 @@ use Rattle.std.proofs.lemmas.Grind.{common_steps}
 use Rattle.std.proofs.lemmas.Option.{none-some, slice_get_within, slice_get_past, slice_get_cases}
 use Rattle.gc_types.specs.declared.kind.Layouts.{Layouts}
 use Rattle.gc_model.specs.declared.RootEntry.{RootEntry}
-use Rattle.gc_model.specs.Values.{Reference}
+use Rattle.gc_types.specs.declared.value.FieldType.{FieldType}
+use Rattle.gc_types.specs.Declarations.{Declaration, struct_fields_at}
+use Rattle.gc_types.specs.Layouts.{struct_base}
+use Rattle.gc_model.specs.Values.{Reference, at, Value, Object, struct}
 use Rattle.gc_model.specs.Table.{Table, Scoped, Push}
 use Rattle.gc_model.specs.Live.{rooted, rooted_among}
-use Rattle.gc_model.specs.Views.{StoreView}
-use Rattle.gc_model.specs.Holds.{Placing, IsWord, Holds, EntryStands}
+use Rattle.gc_model.specs.Views.{StoreView, HeapObject}
+use Rattle.gc_model.proofs.Layouts.{length-field_layouts}
+use Rattle.gc_model.specs.Holds.{Placing, IsWord, Holds, EntryStands, Stands, StructStands}
 
 -- each root's serial is of a push whose index is the root's, counted from k
 abbrev pub AreIndexed : List Push → ℕ → List Scoped → Type 0
@@ -93,3 +97,30 @@ entry_stands layouts s t place holds i entry e =
       | inl found ↦ (found.0, (found.2, holds.scoped.each i entry found.0 e found.2))
       | inr past ↦ absurd (omega (arith, past.0, holds.scoped.same_count, slice_get_within s.scoped i entry e))
     ]
+
+-- a serial that is found is that of a root
+rooted_among-some : (serial : ℕ) (roots : List Scoped) (r : Reference) → rooted_among serial roots ≡ Some r → (i : ℕ) × ((root : Scoped) × ((slice_get roots i ≡ Some root) × (root.reference ≡ r)))
+rooted_among-some serial [] r e = absurd (none-some r e)
+rooted_among-some serial (x ∷ roots) r e =
+    elim (eqb x.serial serial) as (λ b. cond b (Some x.reference) (rooted_among serial roots) ≡ Some r → (i : ℕ) × ((root : Scoped) × ((slice_get (x ∷ roots) i ≡ Some root) × (root.reference ≡ r)))) [
+      | true ↦ λ h. (0, (x, (refl, grind (arith, h))))
+      | false ↦ λ h. let found = rooted_among-some serial roots r h in (suc found.0, (found.1.0, found.1.1))
+    ] e
+
+stands_fields : (layouts : Layouts) (types : List Declaration) (place : Placing) (ty : ℕ) (values : List Value) (h : HeapObject) → StructStands layouts types place ty values h → (fields : List FieldType) × ((struct_fields_at types ty ≡ Some fields) × (length values ≡ length fields))
+stands_fields layouts types place ty values h stands = (stands.fields, (stands.declared, stands.values_lie.same_count ∙ length-field_layouts (struct_base layouts) stands.fields))
+
+-- a struct that a live root names has as many values as its type has fields
+pub rooted_struct : {D : Type 0} (layouts : Layouts) (s : StoreView) (t : Table D) (place : Placing) → Holds layouts s t place → (serial position ty : ℕ) (values : List Value) → rooted t serial ≡ Some (at position) → slice_get t.objects position ≡ Some (struct ty values) → (fields : List FieldType) × ((struct_fields_at t.types ty ≡ Some fields) × (length values ≡ length fields))
+rooted_struct {D} layouts s t place holds serial position ty values live object =
+    let found = rooted_among-some serial t.scoped (at position) live in
+    let entry : (e : RootEntry) × (slice_get s.scoped found.0 ≡ Some e) =
+          elim ((slice_get_cases s.scoped found.0).1) [
+            | inl here ↦ (here.0, here.2)
+            | inr past ↦ absurd (omega (arith, past.0, holds.scoped.same_count, slice_get_within t.scoped found.0 found.1.0 found.1.1.0))
+          ] in
+    let stands = holds.scoped.each found.0 entry.0 found.1.0 entry.1 found.1.1.0 in
+    let placed : place position ≡ Some entry.0.word = subst (λ (r : Reference). IsWord place r entry.0.word) found.1.1.1 stands.word in
+    let held = holds.objects.placed position entry.0.word placed in
+    let same : held.entry ≡ struct ty values = grind (arith, sym held.in_table ∙ object) in
+    stands_fields layouts t.types place ty values held.object (subst (λ (o : Object D). Stands layouts t.types place o held.object) same held.stands)

@@ -118,3 +118,13 @@ pub record CanRead (D : Type 0) (layouts : Layouts) (s : StoreView) (handle : Gc
   pub holds : HoldsTable layouts s table
   pub value : Value
   pub field : HasField s table handle index value
+
+-- the handle is live in some table that the store holds, and names what the answer says
+pub record FindsRoot (D : Type 0) (layouts : Layouts) (s : StoreView) (handle : GcRootIndex) (answer : RootedObject) : Type 0 where
+  pub table : Table D
+  pub holds : HoldsTable layouts s table
+  pub serial : ℕ
+  pub names : Names s table handle serial
+  pub root : Reference
+  pub live : rooted table serial ≡ Some root
+  pub is : IsReference table root answer

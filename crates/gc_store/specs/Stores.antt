@@ -52,6 +52,11 @@ pub record ShowsNothing (s : StoreView) : Type 0 where
   pub generation : s.generation ≡ 0
   pub attached : s.heap.attached ≡ false
 
+-- the store has the same id
+pub record IsSameStore (old new : StoreView) : Type 0 where
+  pub engine : new.engine ≡ old.engine
+  pub number : new.number ≡ old.number
+
 -- no further scoped root may be made
 abbrev pub is_full : StoreView → Bool
 is_full s = nat_le s.max_scoped (length s.scoped) || (s.generation == 2 ^ 64 - 1)

@@ -12,7 +12,7 @@ ghost use Rattle.gc_model.specs.Holds.{HoldsTable};
 ghost use Rattle.gc_store.specs.Fields.{value_of};
 ghost use Rattle.gc_store.specs.Places.{MakesHeap, CanMake, MakesStruct, PlacesIn, CanPlaceIn, CanPlaceTyped, CanPlace, Places};
 ghost use Rattle.gc_heap.specs.Heap.{need_of};
-ghost use Rattle.gc_store.specs.Stores.{is_full};
+ghost use Rattle.gc_store.specs.Stores.{is_full, IsSameStore};
 
 use crate::engine::StoreId;
 use crate::field::write_values;
@@ -208,7 +208,8 @@ impl<H: GcHeap, D> Store<H, D> {
         values: &[RawValue],
     ) -> Result<GcRootIndex, PlaceFault>
         requires { CanPlace self.old ty values.now }
-        ensures { (t : Table D) → HoldsTable H.LAYOUTS self.old t → Places H.LAYOUTS (struct ty (map value_of values.now)) (L.limits limiter.old) (L.limits limiter.new) t result self.new }
+        ensures same { IsSameStore self.old self.new }
+        ensures places { (t : Table D) → HoldsTable H.LAYOUTS self.old t → Places H.LAYOUTS (struct ty (map value_of values.now)) (L.limits limiter.old) (L.limits limiter.new) t result self.new }
     {
         let size = struct_size(&self.types, H::LAYOUTS, ty);
         if is_too_large(H::LAYOUTS, size) {

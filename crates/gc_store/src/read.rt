@@ -5,7 +5,7 @@ ghost use Rattle.gc_model.specs.Table.{Table};
 ghost use Rattle.gc_model.specs.Live.{rooted};
 ghost use Rattle.gc_model.specs.Values.{Value, Reference, struct, i32};
 ghost use Rattle.gc_model.specs.Holds.{HoldsTable, Holds, Placing, IsWord};
-ghost use Rattle.gc_store.specs.Roots.{word_of, IsRootWord, IsReference, Names, TellsRoot, is_of_store, HasNumber, HasField, CanRead, IsRaw};
+ghost use Rattle.gc_store.specs.Roots.{word_of, IsRootWord, IsReference, Names, TellsRoot, is_of_store, HasNumber, HasField, CanRead, FindsRoot, IsRaw};
 
 use crate::field::field_offset;
 use crate::root::{GcRootIndex, RawValue, RootFault, RootSlot, RootedObject};
@@ -50,6 +50,7 @@ impl<H: GcHeap, D> Store<H, D> {
     pub fn object(&self, handle: GcRootIndex) -> Result<RootedObject, RootFault>
         ensures wrong_store { is_of_store self.now handle ≡ false → result ≡ Err RootFault.WrongStore }
         ensures named { (t : Table D) (serial : ℕ) → HoldsTable H.LAYOUTS self.now t → Names self.now t handle serial → TellsRoot t (rooted t serial) result }
+        ensures found { IfOk result (FindsRoot D H.LAYOUTS self.now handle) }
         ensures unnamed { is_of_store self.now handle ≡ true → (t : Table D) → HoldsTable H.LAYOUTS self.now t → ((serial : ℕ) → ¬ Names self.now t handle serial) → result ≡ Err RootFault.Unrooted }
     {
         let _heap = &self.heap;

@@ -5,7 +5,7 @@ ghost use Rattle.gc_types.specs.Declarations.{IsMutableI32};
 ghost use Rattle.gc_model.specs.Table.{Table};
 ghost use Rattle.gc_model.specs.Views.{detached, empty_store};
 ghost use Rattle.gc_model.specs.Holds.{HoldsTable};
-ghost use Rattle.gc_store.specs.Stores.{HoldsStart, HoldsSome, ShowsNothing, DeclaresStruct, configured};
+ghost use Rattle.gc_store.specs.Stores.{HoldsStart, HoldsSome, ShowsNothing, DeclaresStruct, IsSameStore, configured};
 
 use crate::config::HeapConfig;
 use crate::engine::StoreId;
@@ -135,6 +135,7 @@ impl<H: GcHeap, D> Store<H, D> {
         requires numbers { All IsMutableI32 fields.now }
         ensures step { (t : Table D) → HoldsTable H.LAYOUTS self.old t → DeclaresStruct H.LAYOUTS fields.now t result self.new }
         ensures err { OnErr result (self.new ≡ self.old) }
+        ensures same { IsSameStore self.old self.new }
     {
         self.types.declare_struct(fields, supertype, is_final)
     }

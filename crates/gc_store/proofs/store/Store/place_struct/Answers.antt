@@ -72,12 +72,12 @@ invariant_of-self-in-Err g c =
     let after = sound_places g.H.GcHeap.LAYOUTS (struct c.args.ty (map value_of c.args.values.now)) (g.L.ResourceLimiter.limits c.args.limiter.now) (g.L.ResourceLimiter.limits c.place_typed.new.limiter) c.self.invariant.table (Err c.in-Err.fault) _ (refused g (goal.at.invariant_of-self-in-Err g c).In-Err c.self.invariant.table c.self.invariant.holds) in
     record { engine = c.self.invariant.engine; number = c.self.invariant.number; table = after.0; holds = after.1 }
 
-pub returns-in-Ok : goal.returns-in-Ok
-returns-in-Ok g c t holds =
-    let at = (goal.at.returns-in-Ok g c).After-push_root in
+pub returns-in-Ok-clause-places : goal.returns-in-Ok-clause-places
+returns-in-Ok-clause-places g c t holds =
+    let at = (goal.at.returns-in-Ok-clause-places g c).After-push_root in
     made g at t (held g (goal.at.After-push_root g at).After-place_typed t holds)
 
-pub returns-in-Err : goal.returns-in-Err
-returns-in-Err g c t holds =
-    let at = (goal.at.returns-in-Err g c).In-Err in
+pub returns-in-Err-clause-places : goal.returns-in-Err-clause-places
+returns-in-Err-clause-places g c t holds =
+    let at = (goal.at.returns-in-Err-clause-places g c).In-Err in
     refused g at t (held g (goal.at.In-Err g at).After-place_typed t holds)
