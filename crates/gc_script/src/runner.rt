@@ -168,7 +168,8 @@ impl Runner {
             Err(PlaceFault::TooLarge) => Ok(Reply::Refused(Refusal::TooLarge)),
             Err(PlaceFault::RootsFull) => Ok(Reply::Refused(Refusal::RootsFull)),
             Err(PlaceFault::HeapOutOfMemory(_)) => Ok(Reply::Refused(Refusal::GcHeapOutOfMemory)),
-            Err(PlaceFault::FuncTableFull) => unreachable!(),
+            // No function is among the values, so the store never answers this.
+            Err(PlaceFault::FuncTableFull) => Err(RunError::OutOfMemory),
             Err(PlaceFault::Memory) => Err(RunError::OutOfMemory),
         }
     }
