@@ -4,3 +4,4 @@ pub mod StepLemmas
 pub mod ReadLemmas
 pub mod CountLemmas
 pub mod PlaceLemmas
+pub mod RunLemmas

@@ -62,6 +62,20 @@ fn is_built_operand(operand: &Operand) -> bool
     matches!(operand, Operand::I32(_))
 }
 
+/// Whether all fields are of a form that is built.
+fn are_built_fields(fields: &[FieldWord]) -> bool
+    ensures { result ≡ list_all is_built_field fields.now }
+{
+    fields.iter().all(|field| is_built_field(field))
+}
+
+/// Whether all operands are of a form that is built.
+fn are_built_operands(operands: &[Operand]) -> bool
+    ensures { result ≡ list_all is_built_operand operands.now }
+{
+    operands.iter().all(|operand| is_built_operand(operand))
+}
+
 /// The types of so many fields that are built.
 fn built_fields(alloc: Global, count: usize) -> Result<Vec<FieldType>, AllocError>
     ensures { IfOk result (λ fields. fields.items ≡ replicate count built_field) }
@@ -171,6 +185,63 @@ impl Runner {
             // No function is among the values, so the store never answers this.
             Err(PlaceFault::FuncTableFull) => Err(RunError::OutOfMemory),
             Err(PlaceFault::Memory) => Err(RunError::OutOfMemory),
+        }
+    }
+
+    /// Makes a struct of type `t`, if there is such a type and the operands are built and as many as
+    /// its fields.
+    fn make_struct<H: GcHeap, L: ResourceLimiter>(
+        &mut self,
+        store: &mut Store<H, u64>,
+        limiter: &mut L,
+        d: u16,
+        t: u32,
+        values: &[Operand],
+    ) -> Result<Reply, RunError>
+        ensures { (s : State) → HoldsState H.LAYOUTS store.old self.old s → RunsOne H.LAYOUTS (L.limits limiter.old) (L.limits limiter.new) s (Command.New d t values.now) result store.new self.new }
+    {
+        if !are_built_operands(values) {
+            return Ok(Reply::Refused(Refusal::BadLine));
+        }
+        match struct_field_count(store, VMSharedTypeIndex::new(t)) {
+            None => Ok(Reply::Refused(Refusal::NoSuchName)),
+            Some(count) if count != values.len() => Ok(Reply::Refused(Refusal::FieldCount)),
+            Some(_) => self.place_new(store, limiter, d, t, values),
+        }
+    }
+
+    /// Runs one command. What it refuses is a reply; an error is want of memory, which leaves the
+    /// table as it was or with its heap's first pages.
+    /// The time is linear in the command's length and in the number of the register that it sets.
+    pub fn run_one<H: GcHeap, L: ResourceLimiter>(
+        &mut self,
+        store: &mut Store<H, u64>,
+        limiter: &mut L,
+        command: &Command,
+    ) -> Result<Reply, RunError>
+        ensures { (s : State) → HoldsState H.LAYOUTS store.old self.old s → RunsOne H.LAYOUTS (L.limits limiter.old) (L.limits limiter.new) s command.now result store.new self.new }
+    {
+        match command {
+            Command::Bad => Ok(Reply::Refused(Refusal::BadLine)),
+            Command::Struct {
+                is_final,
+                supertype,
+                fields,
+            } => {
+                if *is_final || supertype.is_some() || !are_built_fields(fields.as_slice()) {
+                    return Ok(Reply::Refused(Refusal::BadLine));
+                }
+                self.declare_built(store, fields.as_slice().len())
+            }
+            Command::New { d, t, values } => {
+                self.make_struct(store, limiter, *d, *t, values.as_slice())
+            }
+            Command::Field { r, i, into } => {
+                if into.is_some() {
+                    return Ok(Reply::Refused(Refusal::BadLine));
+                }
+                Ok(self.read_field(store, *r, *i))
+            }
         }
     }
 
