@@ -1,2 +1,4 @@
 pub mod Bytes
+pub mod Codes
 pub mod Heap
+pub mod Walk

@@ -5,8 +5,11 @@
 //! (`HeapView` of `gc_model`). The null heap is the simplest one: it never frees.
 #![tactic(auto)]
 
+pub mod bump;
 pub mod heap;
 pub mod memory;
+pub mod null;
 
 pub use heap::{GcHeap, HeapFault, RefFault};
 pub use memory::HeapMemory;
+pub use null::{NullCollector, NullHeap};

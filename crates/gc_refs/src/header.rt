@@ -40,6 +40,30 @@ impl VMGcHeader {
         }
     }
 
+    /// The header of these two words.
+    pub fn from_words(kind_word: u32, type_word: u32) -> VMGcHeader
+        ensures { result ≡ record { kind_word = kind_word; type_word = type_word } }
+    {
+        VMGcHeader {
+            kind_word,
+            ty: VMSharedTypeIndex::new(type_word),
+        }
+    }
+
+    /// The kind word: the kind bits, and below them the 26 spare bits.
+    pub fn kind_word(&self) -> u32
+        ensures { result ≡ self.now.kind_word }
+    {
+        self.kind_word
+    }
+
+    /// The type word: the index of the object's type.
+    pub fn type_word(&self) -> u32
+        ensures { result ≡ self.now.type_word }
+    {
+        self.ty.as_u32()
+    }
+
     /// The 26 spare bits.
     pub fn reserved_u26(&self) -> u32
         ensures { result ≡ self.now.kind_word % spare_bits }

@@ -1,0 +1,1 @@
+-- What the objects that follow each other in a memory are, and what a write leaves of them.
