@@ -13,15 +13,15 @@ use Rattle.gc_heap.specs.Codes.{kind_of}
 use Rattle.gc_heap.specs.Walk.{first_place, header_size, size_at, object_at, place_after, entries, LiesAt, Follow}
 use Rattle.gc_heap.proofs.ByteLemmas.{SameBytes, SameBytes-part, part_in_same, u32_in_same}
 
-size_in_same : (a b : List ℕ) (p : ℕ) → SameBytes a b p (p + 8) → size_at b p ≡ size_at a p
+pub size_in_same : (a b : List ℕ) (p : ℕ) → SameBytes a b p (p + 8) → size_at b p ≡ size_at a p
 unfolding size_at
 size_in_same a b p s = ap (λ w. w % spare_bits) (u32_in_same a b p (SameBytes-part s p (p + 4) (omega arith) (omega arith)))
 
-kind_in_same : (a b : List ℕ) (p : ℕ) → SameBytes a b p (p + 8) → (object_at b p).kind ≡ (object_at a p).kind
+pub kind_in_same : (a b : List ℕ) (p : ℕ) → SameBytes a b p (p + 8) → (object_at b p).kind ≡ (object_at a p).kind
 unfolding object_at
 kind_in_same a b p s = ap (λ w. kind_of (w / spare_bits * spare_bits)) (u32_in_same a b p (SameBytes-part s p (p + 4) (omega arith) (omega arith)))
 
-ty_in_same : (a b : List ℕ) (p : ℕ) → SameBytes a b p (p + 8) → (object_at b p).ty ≡ (object_at a p).ty
+pub ty_in_same : (a b : List ℕ) (p : ℕ) → SameBytes a b p (p + 8) → (object_at b p).ty ≡ (object_at a p).ty
 unfolding object_at
 ty_in_same a b p s = u32_in_same a b (p + 4) (SameBytes-part s (p + 4) (p + 4 + 4) (omega arith) (omega arith))
 
@@ -43,7 +43,7 @@ bytes_in_same a b p lies s =
     let part : SameBytes a b (p + 8) (p + 8 + (size_at a p - 8)) = SameBytes-part s (p + 8) (p + 8 + (size_at a p - 8)) (omega arith) (omega (arith, lies.least)) in
     ap (λ n. take (n - 8) (drop (p + 8) b)) size ∙ part_in_same a b (p + 8) (size_at a p - 8) part
 
-same_object : (x y : HeapObject) → x.kind ≡ y.kind → x.ty ≡ y.ty → x.bytes ≡ y.bytes → x ≡ y
+pub same_object : (x y : HeapObject) → x.kind ≡ y.kind → x.ty ≡ y.ty → x.bytes ≡ y.bytes → x ≡ y
 same_object x y kind ty bytes = λ i. record { kind = kind i; ty = ty i; bytes = bytes i }
 
 -- an object whose bytes stay is the same
