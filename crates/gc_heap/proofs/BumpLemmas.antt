@@ -157,4 +157,84 @@ record PlacesNew (bytes : List ℕ) (place : ℕ) (kind : VMGcKind) (ty size : �
 places_new : (bytes : List ℕ) (place : ℕ) (kind : VMGcKind) (ty size : ℕ) → 8 ≤ size → size < spare_bits → ty < 2 ^ 32 → place + size ≤ length bytes
     → PlacesNew bytes place kind ty size
 unfolding size_at object_at
-places_new bytes place kind ty size least small ty_small fits = ?
+places_new bytes place kind ty size least small ty_small fits =
+    let word : ℕ = kind_word kind size in
+    let t : TellsKind word kind size = kind_word_tells kind size small in
+    let zeros : List ℕ = replicate (size - 8) 0 in
+    let zeros_len : length zeros ≡ size - 8 = length-replicate (size - 8) 0 in
+    let b1 : List ℕ = put_u32 bytes place word in
+    let len1 : length b1 ≡ length bytes = length-put_bytes bytes place (to_le_bytes w32 word) (omega arith) in
+    let b2 : List ℕ = put_u32 b1 (place + 4) ty in
+    let len2 : length b2 ≡ length b1 = length-put_bytes b1 (place + 4) (to_le_bytes w32 ty) (omega arith) in
+    let fits0 : place + 4 ≤ length bytes = omega arith in
+    let fits1 : place + 4 + 4 ≤ length b1 = omega arith in
+    let fits2 : place + 8 + length zeros ≤ length b2 = omega arith in
+    let b3 : List ℕ = put_bytes b2 (place + 8) zeros in
+    let low1 : SameBytes bytes b1 first_place place = put_bytes-below bytes place (to_le_bytes w32 word) first_place place fits0 (omega arith) in
+    let low2 : SameBytes b1 b2 first_place place = put_bytes-below b1 (place + 4) (to_le_bytes w32 ty) first_place place fits1 (omega arith) in
+    let low3 : SameBytes b2 b3 first_place place = put_bytes-below b2 (place + 8) zeros first_place place fits2 (omega arith) in
+    let first : SameBytes b1 b2 place (place + 4) = put_bytes-below b1 (place + 4) (to_le_bytes w32 ty) place (place + 4) fits1 (omega arith) in
+    let header : SameBytes b2 b3 place (place + 8) = put_bytes-below b2 (place + 8) zeros place (place + 8) fits2 (omega arith) in
+    let word_is : u32_at b3 place ≡ word =
+        u32_in_same b2 b3 place (SameBytes-part header place (place + 4) (omega arith) (omega arith))
+          ∙ u32_in_same b1 b2 place first
+          ∙ u32_at-put_u32 bytes place word fits0 t.small in
+    let ty_is : u32_at b3 (place + 4) ≡ ty =
+        u32_in_same b2 b3 (place + 4) (SameBytes-part header (place + 4) (place + 4 + 4) (omega arith) (omega arith))
+          ∙ u32_at-put_u32 b1 (place + 4) ty fits1 ty_small in
+    let size_is : size_at b3 place ≡ size = ap (λ w. w % spare_bits) word_is ∙ t.spare in
+    let kind_is : (object_at b3 place).kind ≡ kind = ap (λ w. kind_of (w / spare_bits * spare_bits)) word_is ∙ ap kind_of t.tells ∙ kind_of-kind_bits kind in
+    let bytes_is : (object_at b3 place).bytes ≡ zeros =
+        ap (λ k. take (k - 8) (drop (place + 8) b3)) size_is
+          ∙ ap (λ k. take k (drop (place + 8) b3)) (sym zeros_len)
+          ∙ part-put_bytes b2 (place + 8) zeros fits2 in
+    record {
+      below = SameBytes-then (SameBytes-then low1 low2) low3;
+      lies = record {
+        kind = ap (λ w. w / spare_bits * spare_bits) word_is ∙ t.tells ∙ ap kind_bits (sym kind_is);
+        least = omega arith;
+        inside = omega (arith, header.same_length);
+      };
+      size_is = size_is;
+      object = same_object _ _ kind_is ty_is bytes_is;
+    }
+
+-- What an allocation does to a memory.
+pub record Adds (bytes : List ℕ) (next n : ℕ) (place : ℕ) (kind : VMGcKind) (ty size : ℕ) : Type 0 where
+  pub bumped : IsBumped (with_new bytes place (kind_word kind size) ty size) (place + size) (n + 1)
+  pub adds : AddsObject Null (bump_view bytes next n) (bump_view (with_new bytes place (kind_word kind size) ty size) (place + size) (n + 1)) place (zeroed Null kind ty size) size
+
+pub adds_object : (bytes : List ℕ) (next n place : ℕ) (kind : VMGcKind) (ty size : ℕ) → IsBumped bytes next n → place ≡ round_up next alignment
+    → 8 ≤ size → size < spare_bits → ty < 2 ^ 32 → place + size ≤ length bytes → Adds bytes next n place kind ty size
+adds_object bytes next n place kind ty size s place_is least small ty_small fits =
+    let b : List ℕ = with_new bytes place (kind_word kind size) ty size in
+    let new : HeapObject = zeroed Null kind ty size in
+    let begun : 0 < next = s.begun in
+    let es : List (ℕ × HeapObject) = entries n bytes first_place in
+    let w : PlacesNew bytes place kind ty size = places_new bytes place kind ty size least small ty_small fits in
+    let follow : Follow n bytes first_place place = subst (Follow n bytes first_place) (sym place_is) s.follow in
+    let same = follow_in_same n bytes b first_place place w.below follow in
+    let pushed = follow_push n b first_place place same.0 w.lies in
+    let end_is : place_after b place ≡ round_up (place + size) alignment = ap (λ k. round_up (place + k) alignment) w.size_is in
+    let missing : map.find nat_cmp place es ≡ None = find_behind n bytes first_place place place follow (omega arith) in
+    let entries_are : entries (n + 1) b first_place ≡ es ++ (place, new) ∷ [] =
+        ap (λ k. entries k b first_place) (add-one n) ∙ pushed.1
+          ∙ ap (λ fs. fs ++ (place, object_at b place) ∷ []) same.1
+          ∙ ap (λ (x : HeapObject). es ++ (place, x) ∷ []) w.object in
+    record {
+      bumped = record {
+        begun = omega arith;
+        follow = subst (Follow (n + 1) b first_place) end_is (subst (λ k. Follow k b first_place (place_after b place)) (sym (add-one n)) pushed.0);
+      };
+      adds = record {
+        small = λ large. omega arith;
+        room = omega arith;
+        fresh = record {
+          even = omega arith;
+          not_null = omega arith;
+          free = map.get-from_entries nat_cmp_total es place ∙ missing;
+        };
+        added = same_view bytes b (place + size) (n + 1) _ refl refl (omega arith) w.below.same_length
+            (ap map.from_entries entries_are ∙ map.from_entries_push nat_cmp_total map.nat_cmp-IsAntisymmetric es place new missing);
+      };
+    }
