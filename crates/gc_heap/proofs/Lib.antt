@@ -1,3 +1,4 @@
 pub mod ByteLemmas
 pub mod WalkLemmas
 pub mod BumpLemmas
+pub mod NullLemmas

@@ -1,5 +1,5 @@
 -- What the objects that follow each other in a memory are, and what a write leaves of them.
-use Rattle.std.proofs.Common.{◌≡◌, ◌≢◌, ℕ, zero, suc, ◌+◌, ◌-◌, ◌*◌, ◌/◌, ◌%◌, ◌<◌, ◌≤◌, ◌^◌, Bool, true, false, cond, List, [], ◌∷◌, ◌++◌, length, take, drop, Option, Some, None, refl, sym, ap, subst, ◌∙◌, inl, inr, arith, eq-eqb}
+use Rattle.std.proofs.Common.{◌≡◌, ◌≢◌, ℕ, zero, suc, ◌+◌, ◌-◌, ◌*◌, ◌/◌, ◌%◌, ◌≤◌, Bool, true, false, cond, List, [], ◌∷◌, ◌++◌, take, drop, Option, Some, None, refl, sym, ap, subst, ◌∙◌, inl, inr, arith, eq-eqb}
 use Rattle.std.specs.Ordering.{nat_cmp, eq_by_cmp}
 use Rattle.std.specs.FinMap as map
 use Rattle.std.specs.Cmp.{unsigned_tied}
@@ -8,10 +8,11 @@ use Rattle.gc_types.specs.Kinds.{kind_bits}
 use Rattle.gc_types.specs.Layouts.{round_up}
 use Rattle.gc_refs.specs.Header.{spare_bits}
 use Rattle.gc_model.specs.Sizes.{alignment}
-use Rattle.gc_model.specs.Views.{HeapObject, u32_at}
+use Rattle.gc_model.specs.Views.{HeapObject}
 use Rattle.gc_heap.specs.Codes.{kind_of}
-use Rattle.gc_heap.specs.Walk.{first_place, header_size, size_at, object_at, place_after, entries, LiesAt, Follow}
-use Rattle.gc_heap.proofs.ByteLemmas.{SameBytes, SameBytes-part, part_in_same, u32_in_same}
+use Rattle.gc_heap.specs.Walk.{size_at, object_at, place_after, entries, LiesAt, Follow}
+use Rattle.gc_heap.specs.Bytes.{SameBytes}
+use Rattle.gc_heap.proofs.ByteLemmas.{SameBytes-part, part_in_same, u32_in_same}
 
 pub size_in_same : (a b : List ℕ) (p : ℕ) → SameBytes a b p (p + 8) → size_at b p ≡ size_at a p
 unfolding size_at
@@ -97,33 +98,34 @@ find_behind (suc n) bytes p e q h above =
     let bound : place_after bytes p + 8 * n ≤ e = follow_bounds n bytes (place_after bytes p) e h.1 in
     let ne : q ≢ p = λ is. absurd (omega (arith, h.0.least)) in
     find_other q p (object_at bytes p) (entries n bytes (place_after bytes p)) ne
-      ∙ find_behind n bytes (place_after bytes p) e q h.1 above
+    ∙ find_behind n bytes (place_after bytes p) e q h.1 above
 
 -- an object that lies among those from p up to e
 pub record LiesAmong (bytes : List ℕ) (p e q : ℕ) (object : HeapObject) : Type 0 where
   pub lies : LiesAt bytes q
   pub is : object ≡ object_at bytes q
+  pub aligned : q % 16 ≡ 0
   pub from : p ≤ q
   pub to : q + size_at bytes q ≤ e
 
-some_is : (x y : HeapObject) → Some x ≡ Some y → y ≡ x
+pub some_is : (x y : HeapObject) → Some x ≡ Some y → y ≡ x
 some_is x y e = cc
 
 -- what is found lies there
-pub found_lies : (n : ℕ) (bytes : List ℕ) (p e q : ℕ) (object : HeapObject) → Follow n bytes p e
+pub found_lies : (n : ℕ) (bytes : List ℕ) (p e q : ℕ) (object : HeapObject) → p % 16 ≡ 0 → Follow n bytes p e
     → map.find nat_cmp q (entries n bytes p) ≡ Some object → LiesAmong bytes p e q object
-found_lies zero bytes p e q object h found = cc
-found_lies (suc n) bytes p e q object h found =
+found_lies zero bytes p e q object aligned h found = cc
+found_lies (suc n) bytes p e q object aligned h found =
     let bound : place_after bytes p + 8 * n ≤ e = follow_bounds n bytes (place_after bytes p) e h.1 in
     let rest : List (ℕ × HeapObject) = entries n bytes (place_after bytes p) in
     elim (cases_eq q p) [
       | inl here ↦
           let at : map.find nat_cmp p ((p, object_at bytes p) ∷ rest) ≡ Some object = subst (λ k. map.find nat_cmp k ((p, object_at bytes p) ∷ rest) ≡ Some object) here found in
           let is : object ≡ object_at bytes p = some_is _ _ (sym (find_tied p (object_at bytes p) rest) ∙ at) in
-          subst (λ k. LiesAmong bytes p e k object) (sym here) (record { lies = h.0; is = is; from = omega arith; to = omega arith })
+          subst (λ k. LiesAmong bytes p e k object) (sym here) (record { lies = h.0; is = is; aligned = aligned; from = omega arith; to = omega arith })
       | inr there ↦
-          let l = found_lies n bytes (place_after bytes p) e q object h.1 (sym (find_other q p (object_at bytes p) rest there) ∙ found) in
-          record { lies = l.lies; is = l.is; from = omega (arith, l.from); to = l.to }
+          let l = found_lies n bytes (place_after bytes p) e q object (omega arith) h.1 (sym (find_other q p (object_at bytes p) rest there) ∙ found) in
+          record { lies = l.lies; is = l.is; aligned = l.aligned; from = omega (arith, l.from); to = l.to }
     ]
 
 shadowed : (b : Bool) (x y z : Option HeapObject) → cond b x z ≡ cond b x (cond b y z)
@@ -157,7 +159,7 @@ rewritten_first n a b q e h front back =
       follow = (lies_in_same a b q front h.0, subst (λ k. Follow n b k e) (sym after) tail.0);
       found = λ r.
           ap (λ es. cond (eq_by_cmp nat_cmp r q) (Some (object_at b q)) (map.find nat_cmp r es)) (ap (entries n b) after ∙ tail.1)
-            ∙ shadowed (eq_by_cmp nat_cmp r q) _ _ _;
+          ∙ shadowed (eq_by_cmp nat_cmp r q) _ _ _;
     }
 
 rewritten_later : (n : ℕ) (a b : List ℕ) (p e q : ℕ) → Follow (suc n) a p e → place_after a p ≤ q → SameBytes a b p (q + 8)
@@ -172,9 +174,9 @@ rewritten_later n a b p e q h from front rest =
       follow = (lies_in_same a b p header h.0, subst (λ k. Follow n b k e) (sym after) rest.follow);
       found = λ r.
           ap (λ o. cond (eq_by_cmp nat_cmp r p) (Some o) (map.find nat_cmp r (entries n b (place_after b p)))) object
-            ∙ ap (λ k. cond (eq_by_cmp nat_cmp r p) (Some (object_at a p)) (map.find nat_cmp r (entries n b k))) after
-            ∙ ap (cond (eq_by_cmp nat_cmp r p) (Some (object_at a p))) (rest.found r)
-            ∙ swapped r p q _ _ _ ne;
+          ∙ ap (λ k. cond (eq_by_cmp nat_cmp r p) (Some (object_at a p)) (map.find nat_cmp r (entries n b k))) after
+          ∙ ap (cond (eq_by_cmp nat_cmp r p) (Some (object_at a p))) (rest.found r)
+          ∙ swapped r p q _ _ _ ne;
     }
 
 -- an object may be rewritten behind its header
@@ -190,7 +192,7 @@ rewritten (suc n) a b p e q object h found front back =
           subst (λ k. Rewritten (suc n) a b p e k) (sym here) first
       | inr there ↦
           let found_in : map.find nat_cmp q rest ≡ Some object = sym (find_other q p (object_at a p) rest there) ∙ found in
-          let l = found_lies n a next e q object h.1 found_in in
+          let l = found_lies n a next e q object (omega arith) h.1 found_in in
           let later = rewritten n a b next e q object h.1 found_in (SameBytes-part front next (q + 8) (omega (arith, h.0.least)) (omega arith)) back in
           rewritten_later n a b p e q h l.from front later
     ]

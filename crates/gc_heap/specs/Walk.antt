@@ -1,12 +1,13 @@
 -- A memory whose objects follow each other from a first place on, as in the null heap: each begins
 -- with its kind word, whose spare bits are its size, and its type word.
-use Rattle.std.specs.Prelude.{◌≡◌, ℕ, zero, suc, ◌+◌, ◌-◌, ◌*◌, ◌/◌, ◌%◌, ◌<◌, ◌≤◌, Bool, true, List, [], ◌∷◌, take, drop, length, Option, Some, None}
+use Rattle.std.specs.Prelude.{◌≡◌, ℕ, zero, suc, ◌+◌, ◌-◌, ◌*◌, ◌/◌, ◌%◌, ◌<◌, ◌≤◌, true, List, [], ◌∷◌, take, drop, length, Option, Some, None}
 use Rattle.std.specs.FinMap as map
 use Rattle.gc_types.specs.Kinds.{kind_bits}
 use Rattle.gc_types.specs.Layouts.{round_up}
 use Rattle.gc_refs.specs.Header.{spare_bits}
 use Rattle.gc_model.specs.Sizes.{alignment}
 use Rattle.gc_model.specs.Views.{HeapObject, HeapView, detached, u32_at}
+use Rattle.gc_heap.specs.Bytes.{SameBytes}
 use Rattle.gc_heap.specs.Codes.{kind_of}
 
 -- where the first object lies: place 0 is null
@@ -48,6 +49,13 @@ pub record LiesAt (bytes : List ℕ) (place : ℕ) : Type 0 where
 abbrev pub Follow : ℕ → List ℕ → ℕ → ℕ → Type 0
 Follow zero bytes place end = place ≡ end
 Follow (suc n) bytes place end = LiesAt bytes place × Follow n bytes (place_after bytes place) end
+
+-- An object of so many bytes was written at a place, and what lies before it stays.
+pub record PlacesObject (before after : List ℕ) (place : ℕ) (object : HeapObject) (size : ℕ) : Type 0 where
+  pub below : SameBytes before after first_place place
+  pub lies : LiesAt after place
+  pub size_is : size_at after place ≡ size
+  pub object_is : object_at after place ≡ object
 
 -- what is seen of a memory with so many objects, which goes on at the next place
 abbrev pub bump_view : List ℕ → ℕ → ℕ → HeapView

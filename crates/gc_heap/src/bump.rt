@@ -17,6 +17,7 @@ ghost use Rattle.gc_types.specs.declared.kind.Layouts.TheVariants.{Null};
 ghost use Rattle.gc_types.specs.Layouts.{round_up};
 ghost use Rattle.gc_model.specs.Sizes.{alignment};
 ghost use Rattle.gc_model.specs.Views.{HeapObject, u32_at};
+ghost use Rattle.gc_heap.specs.Walk.{PlacesObject};
 ghost use Rattle.gc_heap.specs.Heap.{empty_heap, zeroed, Allocated, IsHeldRange, with_u32, put_object, IsHeaderOf};
 
 use crate::heap::{HeapFault, RefFault};
@@ -30,9 +31,6 @@ const SIZE_LIMIT: u32 = 0x0400_0000;
 
 /// Every object begins at a multiple of this many bytes.
 const ALIGNMENT: u64 = 16;
-
-/// Where the first object lies. Place 0 is null.
-const FIRST_PLACE: u32 = 16;
 
 /// The next place of an empty heap.
 const START: u32 = 1;
@@ -74,6 +72,27 @@ fn align_up(n: u32) -> u64
     (u64::from(n) + (ALIGNMENT - 1)) / ALIGNMENT * ALIGNMENT
 }
 
+/// Writes a new object of `size` bytes at a place: its header, and zeros behind it.
+fn write_object(
+    memory: &mut HeapMemory,
+    place: u32,
+    kind: VMGcKind,
+    ty: VMSharedTypeIndex,
+    size: u32,
+)
+    requires header { HEADER_SIZE ≤ size }
+    requires small { size < SIZE_LIMIT }
+    requires room { place + size ≤ length memory.old }
+    ensures { PlacesObject memory.old memory.new place (zeroed Null kind ty size) size }
+{
+    let at = place as usize;
+    let mut header = VMGcHeader::from_kind_and_index(kind, ty);
+    header.set_reserved_u26(size);
+    memory.write_u32(at, header.kind_word());
+    memory.write_u32(at + WORD, header.type_word());
+    memory.fill_zero(at + HEADER_SIZE as usize, (size - HEADER_SIZE) as usize);
+}
+
 impl BumpSpace {
     /// A memory with no objects.
     pub fn new(memory: HeapMemory) -> BumpSpace
@@ -105,12 +124,7 @@ impl BumpSpace {
         if end > u64::from(self.memory.capacity()) {
             return Ok(Err(u64::from(size) + ALIGNMENT));
         }
-        let mut header = VMGcHeader::from_kind_and_index(kind, ty);
-        header.set_reserved_u26(size);
-        let at = place as usize;
-        self.memory.write_u32(at, header.kind_word());
-        self.memory.write_u32(at + WORD, header.type_word());
-        self.memory.fill_zero(at + HEADER_SIZE as usize, (size - HEADER_SIZE) as usize);
+        write_object(&mut self.memory, place as u32, kind, ty, size);
         self.next = end as u32;
         self.objects += 1;
         match VMGcRef::from_raw_u32(place as u32) {
@@ -119,18 +133,18 @@ impl BumpSpace {
         }
     }
 
-    /// The header at a place, in constant time. `BadRef` for a 31-bit number and where no header
-    /// can lie.
+    /// The header at a place, in constant time. `BadRef` for a 31-bit number, and where no object
+    /// can begin.
     pub fn header(&self, gc_ref: &VMGcRef) -> Result<VMGcHeader, RefFault>
         ensures held { (object : HeapObject) → map.get self.now.content gc_ref.now ≡ Some object → IsOkAnd result (IsHeaderOf object) }
         ensures number { gc_ref.now % 2 ≡ 1 → IsErr result }
     {
-        let word = gc_ref.as_raw_u32();
-        let end = u64::from(word) + u64::from(HEADER_SIZE);
-        if gc_ref.is_i31() || word < FIRST_PLACE || end > u64::from(self.memory.capacity()) {
+        let place = u64::from(gc_ref.as_raw_u32());
+        let end = place + u64::from(HEADER_SIZE);
+        if place % ALIGNMENT != 0 || end > u64::from(self.memory.capacity()) {
             return Err(RefFault::BadRef);
         }
-        let at = word as usize;
+        let at = place as usize;
         let kind_word = self.memory.read_u32(at);
         let type_word = self.memory.read_u32(at + WORD);
         Ok(VMGcHeader::from_words(kind_word, type_word))
@@ -141,7 +155,8 @@ impl BumpSpace {
         requires { IsHeldRange Null self.now gc_ref.now offset 4 }
         ensures { (object : HeapObject) → map.get self.now.content gc_ref.now ≡ Some object → result ≡ u32_at object.bytes (offset - HEADER_SIZE) }
     {
-        self.memory.read_u32(gc_ref.as_raw_u32() as usize + offset as usize)
+        self.memory
+            .read_u32(gc_ref.as_raw_u32() as usize + offset as usize)
     }
 
     /// Writes the 32-bit number at an offset of a held object.
@@ -149,6 +164,7 @@ impl BumpSpace {
         requires { IsHeldRange Null self.old gc_ref.now offset 4 }
         ensures { (object : HeapObject) → map.get self.old.content gc_ref.now ≡ Some object → self.new ≡ put_object self.old gc_ref.now (with_u32 Null object offset value) }
     {
-        self.memory.write_u32(gc_ref.as_raw_u32() as usize + offset as usize, value);
+        self.memory
+            .write_u32(gc_ref.as_raw_u32() as usize + offset as usize, value);
     }
 }
