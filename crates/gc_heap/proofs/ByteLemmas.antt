@@ -21,13 +21,17 @@ SameBytes-then s t = record {
   at = λ j d p q. t.at j d p q ∙ s.at j d p q;
 }
 
+-- a byte of a part
+get_or-part : (bytes : List ℕ) (lo n k d : ℕ) → k < n → get_or (take n (drop lo bytes)) k d ≡ get_or bytes (lo + k) d
+get_or-part bytes lo n k d h = get_or-take n (drop lo bytes) k d h ∙ get_or-drop lo bytes k d
+
 -- a part that lies in equal bytes is the same
 pub part_in_same : (a b : List ℕ) (p n : ℕ) → SameBytes a b p (p + n) → take n (drop p b) ≡ take n (drop p a)
 part_in_same a b p n s =
     let len : length (take n (drop p b)) ≡ length (take n (drop p a)) = simp (length-take, length-drop, s.same_length) refl in
     same_lists _ _ len (λ k d h.
     let below : k < n = omega (arith, length-take n (drop p b)) in
-    rw (get_or-take n (drop p b) k d below, get_or-take n (drop p a) k d below, get_or-drop, get_or-drop) (s.at (p + k) d (omega arith) (omega arith)))
+    get_or-part b p n k d below ∙ s.at (p + k) d (omega arith) (omega arith) ∙ sym (get_or-part a p n k d below))
 
 -- a word that lies in equal bytes is the same
 pub u32_in_same : (a b : List ℕ) (p : ℕ) → SameBytes a b p (p + 4) → u32_at b p ≡ u32_at a p
@@ -79,10 +83,6 @@ part-put_bytes bytes p ws h =
     ∙ get_or-drop p (put_bytes bytes p ws) k d
     ∙ get_or-put_bytes_in bytes p ws (p + k) d h (omega arith) (omega arith)
     ∙ ap (λ i. get_or ws i d) (let e : p + k - p ≡ k = omega arith in e))
-
--- a byte of a part
-get_or-part : (bytes : List ℕ) (lo n k d : ℕ) → k < n → get_or (take n (drop lo bytes)) k d ≡ get_or bytes (lo + k) d
-get_or-part bytes lo n k d h = get_or-take n (drop lo bytes) k d h ∙ get_or-drop lo bytes k d
 
 length-part : (bytes : List ℕ) (lo n : ℕ) → lo + n ≤ length bytes → length (take n (drop lo bytes)) ≡ n
 length-part bytes lo n h = length-take-le n (drop lo bytes) (omega (arith, length-drop lo bytes))

@@ -2,3 +2,4 @@ pub mod ByteLemmas
 pub mod WalkLemmas
 pub mod BumpLemmas
 pub mod NullLemmas
+pub mod HeapLemmas

@@ -9,6 +9,8 @@ pub mod bump;
 pub mod heap;
 pub mod memory;
 pub mod null;
+#[cfg(test)]
+mod tests;
 
 pub use heap::{GcHeap, HeapFault, RefFault};
 pub use memory::HeapMemory;

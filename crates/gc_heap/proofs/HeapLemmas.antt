@@ -1,0 +1,42 @@
+-- What is known of a heap after an allocation or a write.
+use Rattle.std.proofs.Common.{◌≡◌, ℕ, ◌+◌, ◌-◌, ◌≤◌, Bool, true, cond, List, ◌++◌, length, take, drop, replicate, Option, Some, refl, sym, ap, subst, ◌∙◌, arith, eq-eqb}
+use Rattle.std.specs.FinMap as map
+use Rattle.std.specs.Cmp.{unsigned_tied}
+use Rattle.std.specs.Int.{w32, to_le_bytes}
+use Rattle.std.proofs.lemmas.Cmp.{nat_cmp_total}
+use Rattle.std.proofs.lemmas.List.{length-replicate}
+use Rattle.gc_types.specs.declared.kind.Layouts.{Layouts}
+use Rattle.gc_types.specs.declared.kind.VMGcKind.{VMGcKind}
+use Rattle.gc_types.specs.Layouts.{struct_base}
+use Rattle.gc_model.specs.Views.{HeapObject, HeapView}
+use Rattle.gc_heap.specs.Heap.{AddsObject, IsHeldRange, put_object, with_u32, zeroed}
+use Rattle.gc_heap.proofs.ByteLemmas.{length-put_bytes}
+
+get-insert_same : (heap : HeapView) (place : ℕ) (object : HeapObject) → map.get (map.insert heap.content place object) place ≡ Some object
+get-insert_same heap place object =
+    map.get-insert nat_cmp_total heap.content place object place
+    ∙ ap (λ b. cond b (Some object) (map.get heap.content place)) (unsigned_tied place place ∙ eq-eqb place place refl)
+
+-- a range behind the header of a new object is held
+pub new_range : (layouts : Layouts) (old new : HeapView) (place : ℕ) (kind : VMGcKind) (ty size offset count : ℕ)
+    → AddsObject layouts old new place (zeroed layouts kind ty size) size → struct_base layouts ≤ offset → offset + count ≤ size
+    → IsHeldRange layouts new place offset count
+new_range layouts old new place kind ty size offset count a from to = record {
+  object = zeroed layouts kind ty size;
+  held = ap (λ (h : HeapView). map.get h.content place) a.added ∙ get-insert_same old place (zeroed layouts kind ty size);
+  from = from;
+  to = omega (arith, length-replicate {A = ℕ} (size - struct_base layouts) 0);
+}
+
+-- a write of a number keeps the range that it writes
+pub written_range : (layouts : Layouts) (heap : HeapView) (place offset value : ℕ) (r : IsHeldRange layouts heap place offset 4)
+    → IsHeldRange layouts (put_object heap place (with_u32 layouts r.object offset value)) place offset 4
+written_range layouts heap place offset value r =
+    let from : struct_base layouts ≤ offset = r.from in
+    let to : offset + 4 ≤ struct_base layouts + length r.object.bytes = r.to in
+    record {
+      object = with_u32 layouts r.object offset value;
+      held = get-insert_same heap place (with_u32 layouts r.object offset value);
+      from = from;
+      to = omega (arith, length-put_bytes r.object.bytes (offset - struct_base layouts) (to_le_bytes w32 value) (omega arith));
+    }
