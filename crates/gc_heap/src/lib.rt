@@ -2,10 +2,11 @@
 //!
 //! A store asks its heap for memory, objects and bytes by the trait `GcHeap` and knows nothing of
 //! how a heap keeps them: contracts speak of the heap's content, a finite map from places to objects
-//! (`HeapView` of `gc_model`). The null heap is the simplest one: it never frees.
+//! (`HeapView` of `gc_model`). The null heap is the simplest one: it never frees. Its objects follow
+//! each other in a `HeapMemory`, and its content is read from those bytes (`specs/Walk.antt`).
 #![tactic(auto)]
 
-pub mod bump;
+mod bump;
 pub mod heap;
 pub mod memory;
 pub mod null;
