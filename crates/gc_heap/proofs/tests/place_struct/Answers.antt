@@ -1,4 +1,4 @@
-use Rattle.std.proofs.Common.{◌≡◌, ◌-◌, ◌≤◌, sym, subst, arith}
+use Rattle.std.proofs.Common.{◌-◌, ◌≤◌, sym, subst, arith}
 use Rattle.gc_types.specs.declared.kind.Layouts.{Layouts}
 use Rattle.gc_types.specs.Layouts.{struct_base}
 use Rattle.gc_heap.specs.Heap.{layout_kind}

@@ -1,4 +1,4 @@
-use Rattle.std.proofs.Common.{◌≡◌, true, sym, ap, ◌∙◌, subst}
+use Rattle.std.proofs.Common.{sym, ap, ◌∙◌, subst}
 use Rattle.gc_model.specs.Views.{HeapView}
 use Rattle.gc_heap.specs.Heap.{IsHeldRange}
 use Rattle.gc_heap.proofs.HeapLemmas.{written_range}
@@ -9,7 +9,7 @@ read_u32-requires-2 g c =
     let heap = g.H.GcHeap in
     let r = c.requires.held in
     subst (λ (h : HeapView). IsHeldRange heap.layouts h c.args.gc_ref.now c.args.offset 4) (sym (c.write_u32.ensures r.object r.held))
-    (written_range heap.layouts (heap.seen c.args.heap.now) c.args.gc_ref.now c.args.offset _ r)
+    (written_range heap.layouts (heap.seen c.args.heap.now) c.args.gc_ref.now c.args.offset 16909060 r)
 
 pub returns : goal.returns
 returns g c =
