@@ -1,5 +1,5 @@
 -- How types, fields and operands are spelled.
-use Rattle.std.specs.Prelude.{ℕ, ◌+◌, ◌-◌, ◌/◌, ◌%◌, ◌<◌, Bool, true, false, List, [], ◌∷◌, ◌++◌, codes, if◌then◌else◌, nat_lt, suc, zero}
+use Rattle.std.specs.Prelude.{ℕ, ◌+◌, ◌/◌, ◌%◌, Bool, true, false, List, [], ◌∷◌, ◌++◌, codes, if◌then◌else◌, nat_lt, suc, zero}
 use Rattle.std.specs.Fmt.{decimal, signed_decimal}
 use Rattle.gc_commands.specs.declared.command.FieldWord.{FieldWord}
 use Rattle.gc_commands.specs.declared.command.Operand.{Operand}

@@ -6,9 +6,17 @@
 #![tactic(auto)]
 
 pub mod command;
+mod numbers;
+pub mod parse;
 pub mod reply;
+#[cfg(test)]
+mod tests;
+pub mod text;
+mod words;
 
 pub use command::{
     Command, FieldWord, FieldWords, HeapWord, Operand, Operands, StorageWord, ValueWord,
 };
+pub use parse::{MAX_LINE, parse_line, spelling_is_unique};
 pub use reply::{ByteText, Refusal, Reply, ReplyValue};
+pub use text::reply_text;

@@ -13,11 +13,11 @@ use Rattle.gc_types.specs.Layouts.{round_up}
 use Rattle.gc_refs.specs.Header.{spare_bits}
 use Rattle.gc_model.specs.Sizes.{alignment}
 use Rattle.gc_model.specs.Views.{HeapObject, HeapView, u32_at, put_u32}
-use Rattle.gc_heap.specs.Bytes.{put_bytes, SameBytes}
+use Rattle.gc_model.specs.Bytes.{put_bytes, SameBytes}
 use Rattle.gc_heap.specs.Codes.{kind_of, kind_of-kind_bits}
 use Rattle.gc_heap.specs.Heap.{IsHeldRange, with_u32, put_object, zeroed, AddsObject, IsHeaderOf}
 use Rattle.gc_heap.specs.Walk.{first_place, size_at, object_at, place_after, entries, LiesAt, Follow, PlacesObject, bump_view, IsBumped}
-use Rattle.gc_heap.proofs.ByteLemmas.{SameBytes-part, SameBytes-then, u32_in_same, length-put_bytes, put_bytes-below, put_bytes-above, part-put_bytes, part-put_bytes_inside, u32_at-part, u32_at-put_u32}
+use Rattle.gc_model.proofs.ByteLemmas.{SameBytes-part, SameBytes-then, u32_in_same, length-put_bytes, put_bytes-below, put_bytes-above, part-put_bytes, part-put_bytes_inside, u32_at-part, u32_at-put_u32}
 use Rattle.gc_heap.proofs.WalkLemmas.{some_is, size_in_same, kind_in_same, ty_in_same, same_object, follow_in_same, follow_push, find_behind, LiesAmong, found_lies, rewritten}
 
 -- what is held lies in the memory

@@ -1,21 +1,15 @@
 -- What is known of a heap after an allocation or a write.
-use Rattle.std.proofs.Common.{◌≡◌, ℕ, ◌+◌, ◌-◌, ◌≤◌, cond, length, Some, refl, ap, ◌∙◌, arith, eq-eqb}
+use Rattle.std.proofs.Common.{ℕ, ◌+◌, ◌-◌, ◌≤◌, length, ap, ◌∙◌, arith}
 use Rattle.std.specs.FinMap as map
-use Rattle.std.specs.Cmp.{unsigned_tied}
 use Rattle.std.specs.Int.{w32, to_le_bytes}
-use Rattle.std.proofs.lemmas.Cmp.{nat_cmp_total}
 use Rattle.std.proofs.lemmas.List.{length-replicate}
 use Rattle.gc_types.specs.declared.kind.Layouts.{Layouts}
 use Rattle.gc_types.specs.declared.kind.VMGcKind.{VMGcKind}
 use Rattle.gc_types.specs.Layouts.{struct_base}
-use Rattle.gc_model.specs.Views.{HeapObject, HeapView}
+use Rattle.gc_model.specs.Views.{HeapView}
+use Rattle.gc_model.proofs.Content.{get-put_same}
 use Rattle.gc_heap.specs.Heap.{AddsObject, IsHeldRange, put_object, with_u32, zeroed}
-use Rattle.gc_heap.proofs.ByteLemmas.{length-put_bytes}
-
-get-insert_same : (heap : HeapView) (place : ℕ) (object : HeapObject) → map.get (map.insert heap.content place object) place ≡ Some object
-get-insert_same heap place object =
-    map.get-insert nat_cmp_total heap.content place object place
-    ∙ ap (λ b. cond b (Some object) (map.get heap.content place)) (unsigned_tied place place ∙ eq-eqb place place refl)
+use Rattle.gc_model.proofs.ByteLemmas.{length-put_bytes}
 
 -- a range behind the header of a new object is held
 pub new_range : (layouts : Layouts) (old new : HeapView) (place : ℕ) (kind : VMGcKind) (ty size offset count : ℕ)
@@ -23,7 +17,7 @@ pub new_range : (layouts : Layouts) (old new : HeapView) (place : ℕ) (kind : V
     → IsHeldRange layouts new place offset count
 new_range layouts old new place kind ty size offset count a from to = record {
   object = zeroed layouts kind ty size;
-  held = ap (λ (h : HeapView). map.get h.content place) a.added ∙ get-insert_same old place (zeroed layouts kind ty size);
+  held = ap (λ (h : HeapView). map.get h.content place) a.added ∙ get-put_same old.content place (zeroed layouts kind ty size);
   from = from;
   to = omega (arith, length-replicate {A = ℕ} (size - struct_base layouts) 0);
 }
@@ -36,7 +30,7 @@ written_range layouts heap place offset value r =
     let to : offset + 4 ≤ struct_base layouts + length r.object.bytes = r.to in
     record {
       object = with_u32 layouts r.object offset value;
-      held = get-insert_same heap place (with_u32 layouts r.object offset value);
+      held = get-put_same heap.content place (with_u32 layouts r.object offset value);
       from = from;
       to = omega (arith, length-put_bytes r.object.bytes (offset - struct_base layouts) (to_le_bytes w32 value) (omega arith));
     }

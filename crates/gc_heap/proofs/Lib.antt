@@ -1,4 +1,3 @@
-pub mod ByteLemmas
 pub mod WalkLemmas
 pub mod BumpLemmas
 pub mod NullLemmas

@@ -11,8 +11,8 @@ use Rattle.gc_model.specs.Sizes.{alignment}
 use Rattle.gc_model.specs.Views.{HeapObject}
 use Rattle.gc_heap.specs.Codes.{kind_of}
 use Rattle.gc_heap.specs.Walk.{size_at, object_at, place_after, entries, LiesAt, Follow}
-use Rattle.gc_heap.specs.Bytes.{SameBytes}
-use Rattle.gc_heap.proofs.ByteLemmas.{SameBytes-part, part_in_same, u32_in_same}
+use Rattle.gc_model.specs.Bytes.{SameBytes}
+use Rattle.gc_model.proofs.ByteLemmas.{SameBytes-part, part_in_same, u32_in_same}
 
 pub size_in_same : (a b : List ℕ) (p : ℕ) → SameBytes a b p (p + 8) → size_at b p ≡ size_at a p
 unfolding size_at

@@ -1,4 +1,3 @@
-pub mod Bytes
 pub mod Codes
 pub mod Heap
 pub mod Walk

@@ -7,7 +7,7 @@ use Rattle.gc_types.specs.Layouts.{round_up}
 use Rattle.gc_refs.specs.Header.{spare_bits}
 use Rattle.gc_model.specs.Sizes.{alignment}
 use Rattle.gc_model.specs.Views.{HeapObject, HeapView, detached, u32_at}
-use Rattle.gc_heap.specs.Bytes.{SameBytes}
+use Rattle.gc_model.specs.Bytes.{SameBytes}
 use Rattle.gc_heap.specs.Codes.{kind_of}
 
 -- where the first object lies: place 0 is null

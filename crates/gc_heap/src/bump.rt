@@ -89,7 +89,7 @@ fn write_object(
     let mut header = VMGcHeader::from_kind_and_index(kind, ty);
     header.set_reserved_u26(size);
     memory.write_u32(at, header.kind_word());
-    memory.write_u32(at + WORD, header.type_word());
+    memory.write_u32(at + WORD, header.type_index().as_u32());
     memory.fill_zero(at + HEADER_SIZE as usize, (size - HEADER_SIZE) as usize);
 }
 

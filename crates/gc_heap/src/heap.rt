@@ -37,9 +37,8 @@ pub trait GcHeap {
     ghost seen: { Self → HeapView };
 
     /// The layout of its objects.
-    ghost layouts: { Layouts };
+    ghost LAYOUTS: { Layouts };
 
-    /// The layout of its objects.
     const LAYOUTS: Layouts;
 
     // Attaching
@@ -65,8 +64,8 @@ pub trait GcHeap {
         layout: &GcStructLayout,
     ) -> Result<Result<VMGcRef, u64>, HeapFault>
         requires attached { (seen self.old).attached ≡ true }
-        requires size { struct_base layouts ≤ layout.now.size }
-        ensures { Allocated layouts (seen self.old) (seen self.new) (zeroed layouts (layout_kind layout.now) ty layout.now.size) layout.now.size result };
+        requires size { struct_base LAYOUTS ≤ layout.now.size }
+        ensures { Allocated LAYOUTS (seen self.old) (seen self.new) (zeroed LAYOUTS (layout_kind layout.now) ty layout.now.size) layout.now.size result };
 
     // Reading and writing
 
@@ -78,12 +77,12 @@ pub trait GcHeap {
 
     /// The 32-bit number at an offset of a held object, which lies behind its header and inside it.
     fn read_u32(&self, gc_ref: &VMGcRef, offset: u32) -> u32
-        requires { IsHeldRange layouts (seen self.now) gc_ref.now offset 4 }
-        ensures { (object : HeapObject) → map.get (seen self.now).content gc_ref.now ≡ Some object → result ≡ u32_at object.bytes (offset - struct_base layouts) };
+        requires { IsHeldRange LAYOUTS (seen self.now) gc_ref.now offset 4 }
+        ensures { (object : HeapObject) → map.get (seen self.now).content gc_ref.now ≡ Some object → result ≡ u32_at object.bytes (offset - struct_base LAYOUTS) };
 
     /// Writes the 32-bit number at an offset of a held object, which lies behind its header and
     /// inside it.
     fn write_u32(&mut self, gc_ref: &VMGcRef, offset: u32, value: u32)
-        requires { IsHeldRange layouts (seen self.old) gc_ref.now offset 4 }
-        ensures { (object : HeapObject) → map.get (seen self.old).content gc_ref.now ≡ Some object → seen self.new ≡ put_object (seen self.old) gc_ref.now (with_u32 layouts object offset value) };
+        requires { IsHeldRange LAYOUTS (seen self.old) gc_ref.now offset 4 }
+        ensures { (object : HeapObject) → map.get (seen self.old).content gc_ref.now ≡ Some object → seen self.new ≡ put_object (seen self.old) gc_ref.now (with_u32 LAYOUTS object offset value) };
 }

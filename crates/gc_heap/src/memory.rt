@@ -3,7 +3,7 @@
 ghost use Rattle.std.specs.Prelude.{◌≡◌, ◌+◌, ◌*◌, ◌/◌, ◌≤◌, ◌<◌, ◌^◌, length, IfOk, OnErr, replicate};
 ghost use Rattle.gc_model.specs.Allocation.{page, max_pages};
 ghost use Rattle.gc_model.specs.Views.{u32_at, put_u32};
-ghost use Rattle.gc_heap.specs.Bytes.{put_bytes};
+ghost use Rattle.gc_model.specs.Bytes.{put_bytes};
 
 use std::alloc::{AllocError, Global};
 use std::marker::Model;

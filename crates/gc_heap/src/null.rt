@@ -58,7 +58,7 @@ impl NullHeap {
 impl GcHeap for NullHeap {
     ghost seen = { λ h. h };
 
-    ghost layouts = { Null };
+    ghost LAYOUTS = { Null };
 
     const LAYOUTS: Layouts = Layouts::Null;
 

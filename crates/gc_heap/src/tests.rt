@@ -22,11 +22,11 @@ fn layout_of(alloc: Global, size: u32) -> GcStructLayout
 
 /// Allocates a struct with at least one field.
 fn place_struct<H: GcHeap>(heap: &mut H, layout: &GcStructLayout) -> Result<VMGcRef, Fail>
-    requires null { H.layouts ≡ Layouts.Null }
+    requires null { H.LAYOUTS ≡ Layouts.Null }
     requires attached { (H.seen heap.old).attached ≡ true }
     requires field { 12 ≤ layout.now.size }
     ensures attached { (H.seen heap.new).attached ≡ true }
-    ensures held { IfOk result (λ place. IsHeldRange H.layouts (H.seen heap.new) place (layout.now.size - 4) 4) }
+    ensures held { IfOk result (λ place. IsHeldRange H.LAYOUTS (H.seen heap.new) place (layout.now.size - 4) 4) }
 {
     match heap.alloc_uninit_struct_or_exn(VMSharedTypeIndex::new(3), layout)? {
         Ok(gc_ref) => Ok(gc_ref),
@@ -37,7 +37,7 @@ fn place_struct<H: GcHeap>(heap: &mut H, layout: &GcStructLayout) -> Result<VMGc
 /// Writes a number over a 0 and reads it back.
 fn writes_a_number<H: GcHeap>(rt: &impl Abort, heap: &mut H, gc_ref: &VMGcRef, offset: u32)
     requires attached { (H.seen heap.old).attached ≡ true }
-    requires held { IsHeldRange H.layouts (H.seen heap.old) gc_ref.now offset 4 }
+    requires held { IsHeldRange H.LAYOUTS (H.seen heap.old) gc_ref.now offset 4 }
     ensures { (H.seen heap.new).attached ≡ true }
 {
     assert_eq!(rt; heap.read_u32(gc_ref, offset), 0);
@@ -52,7 +52,7 @@ fn holds_a_number<H: GcHeap>(
     layout: &GcStructLayout,
     place: u32,
 ) -> Result<(), Fail>
-    requires null { H.layouts ≡ Layouts.Null }
+    requires null { H.LAYOUTS ≡ Layouts.Null }
     requires attached { (H.seen heap.old).attached ≡ true }
     requires field { 12 ≤ layout.now.size }
     requires small { layout.now.size < 2 ^ 26 }
@@ -63,7 +63,7 @@ fn holds_a_number<H: GcHeap>(
     writes_a_number(rt, heap, &gc_ref, layout.size - 4);
     let header = heap.header(&gc_ref)?;
     assert_eq!(rt; header.kind_word(), 0xA400_0000 + layout.size);
-    assert_eq!(rt; header.type_word(), 3);
+    assert_eq!(rt; header.type_index().as_u32(), 3);
     Ok(())
 }
 
@@ -73,7 +73,7 @@ fn refusal<H: GcHeap>(
     heap: &mut H,
     layout: &GcStructLayout,
 ) -> Result<Option<u64>, Fail>
-    requires null { H.layouts ≡ Layouts.Null }
+    requires null { H.LAYOUTS ≡ Layouts.Null }
     requires attached { (H.seen heap.old).attached ≡ true }
     requires size { 8 ≤ layout.now.size }
     ensures { (H.seen heap.new).attached ≡ true }
@@ -92,7 +92,7 @@ fn is_bad<H: GcHeap>(heap: &H, word: u32) -> Result<bool, Fail> {
 }
 
 fn exercise<H: GcHeap>(rt: &impl Abort, heap: &mut H, alloc: Global) -> Result<(), Fail>
-    requires null { H.layouts ≡ Layouts.Null }
+    requires null { H.LAYOUTS ≡ Layouts.Null }
     requires detached { (H.seen heap.old).attached ≡ false }
 {
     let mut memory = HeapMemory::new(alloc, 2)?;
@@ -110,7 +110,7 @@ fn exercise<H: GcHeap>(rt: &impl Abort, heap: &mut H, alloc: Global) -> Result<(
     holds_a_number(rt, heap, &layout_of(alloc, 40), 48)?;
     let header = heap.header(&empty)?;
     assert_eq!(rt; header.kind_word(), 0xA400_0008);
-    assert_eq!(rt; header.type_word(), 2);
+    assert_eq!(rt; header.type_index().as_u32(), 2);
 
     for word in [1, 17, 18, 20, 131_072, 0xFFFF_FFF0, u32::MAX] {
         assert!(rt; is_bad(heap, word)?, "{word}");

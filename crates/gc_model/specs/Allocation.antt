@@ -1,5 +1,5 @@
 -- When an allocation succeeds.
-use Rattle.std.specs.Prelude.{◌≡◌, ℕ, ◌+◌, ◌-◌, ◌*◌, ◌^◌, ◌<◌, ◌≤◌, min, max, Bool, true, false, Option, Some, None, IfSome}
+use Rattle.std.specs.Prelude.{◌≡◌, ℕ, ◌+◌, ◌-◌, ◌*◌, ◌^◌, ◌<◌, ◌≤◌, min, max, nat_le, Bool, true, false, Option, Some, None, IfSome}
 use Rattle.gc_types.specs.declared.kind.Layouts.{Layouts}
 use Rattle.gc_types.specs.declared.kind.Layouts.TheVariants.{Null, Counting, Copying}
 use Rattle.gc_types.specs.Layouts.{round_up}
@@ -22,6 +22,12 @@ pub record Limits : Type 0 where
   pub refusals : ℕ
   pub last_refused : Option (ℕ × ℕ)
 
+-- a size that no heap of the kind can hold
+abbrev pub too_large : Layouts → ℕ → Bool
+too_large Null size = nat_le 67108864 size
+too_large Counting size = nat_le (2 ^ 32) (size + 16)
+too_large Copying size = nat_le (2 ^ 32) (round_up size alignment)
+
 -- a count of 64 bits rose, or stands at its greatest value
 abbrev pub Rose : ℕ → ℕ → Type 0
 Rose before now = min (before + 1) (2 ^ 64 - 1) ≤ now
@@ -29,6 +35,12 @@ Rose before now = min (before + 1) (2 ^ 64 - 1) ≤ now
 -- the null heap has room for so many bytes behind its objects
 abbrev pub Fits : {D : Type 0} → Table D → ℕ → Type 0
 Fits t size = round_up (next_place t) alignment + size ≤ page * t.pages
+
+-- a heap of the kind has room for so many bytes; of the null kind alone so far
+abbrev pub FitsIn : {D : Type 0} → Layouts → Table D → ℕ → Type 0
+FitsIn Null t size = Fits t size
+FitsIn Counting t size = ⊥
+FitsIn Copying t size = ⊥
 
 -- The first pages may be had: the heap is made, or a limit that is told grants them.
 abbrev pub MayMakeHeap : {D : Type 0} → Option ℕ → Table D → Type 0
@@ -41,12 +53,12 @@ pub record IsRefusedHeap {D : Type 0} (limit : Option ℕ) (t : Table D) : Type 
   pub above : IfSome limit (λ most. most < t.first)
 
 -- An object was made, with the heap's first pages where it wasn't made.
-pub record Allocates {D : Type 0} (limit : Option ℕ) (o : Object D) (t t' : Table D) : Type 0 where
+pub record Allocates {D : Type 0} (layouts : Layouts) (limit : Option ℕ) (o : Object D) (t t' : Table D) : Type 0 where
   pub may : MayMakeHeap limit t
-  pub fits : Fits (make_heap t) (object_size Null t.types o)
+  pub fits : FitsIn layouts (make_heap t) (object_size layouts t.types o)
   pub made : t' ≡ make o (make_heap t)
 
 -- An object was refused: its heap could not be made, or has no room for it.
-pub data LacksMemory {D : Type 0} (limit : Option ℕ) (o : Object D) (t t' : Table D) : Type 0 where
-  no_heap : IsRefusedHeap limit t → t' ≡ t → LacksMemory limit o t t'
-  no_room : MayMakeHeap limit t → (Fits (make_heap t) (object_size Null t.types o) → ⊥) → t' ≡ make_heap t → LacksMemory limit o t t'
+pub data LacksMemory {D : Type 0} (layouts : Layouts) (limit : Option ℕ) (o : Object D) (t t' : Table D) : Type 0 where
+  no_heap : IsRefusedHeap limit t → t' ≡ t → LacksMemory layouts limit o t t'
+  no_room : MayMakeHeap limit t → (FitsIn layouts (make_heap t) (object_size layouts t.types o) → ⊥) → t' ≡ make_heap t → LacksMemory layouts limit o t t'

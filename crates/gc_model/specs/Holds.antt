@@ -1,5 +1,5 @@
 -- A store holds a table: its heap, its roots and its numbers stand for the table's.
-use Rattle.std.specs.Prelude.{◌≡◌, ℕ, ◌+◌, ◌-◌, ◌*◌, ◌<◌, ◌≤◌, ◌⊎◌, Bool, true, false, List, [], ◌∷◌, Option, Some, None, length, slice_get, replicate, All}
+use Rattle.std.specs.Prelude.{◌≡◌, ℕ, ◌+◌, ◌-◌, ◌*◌, ◌%◌, ◌<◌, ◌≤◌, ◌⊎◌, Bool, true, false, List, [], ◌∷◌, Option, Some, None, length, slice_get, replicate, All}
 use Rattle.std.specs.Ordering.{nat_cmp}
 use Rattle.std.specs.FinMap as map
 use Rattle.gc_types.specs.declared.value.FieldType.{FieldType}
@@ -12,8 +12,9 @@ use Rattle.gc_types.specs.Layouts.{struct_base, field_layouts, fields_end}
 use Rattle.gc_model.specs.Values.{Reference, null, small, at, Value, i32, i64, f32, f64, v128, function, reference, Object, struct, array, host, exception}
 use Rattle.gc_model.specs.Table.{Table, Scoped, Push, empty_slot, global_count}
 use Rattle.gc_model.specs.Sizes.{next_place}
-use Rattle.gc_model.specs.Allocation.{page}
-use Rattle.gc_model.specs.Views.{HeapObject, HeapView, StoreView, RootEntry, u32_at}
+use Rattle.gc_model.specs.Allocation.{page, max_pages}
+use Rattle.gc_model.specs.declared.RootEntry.{RootEntry}
+use Rattle.gc_model.specs.Views.{HeapObject, HeapView, StoreView, u32_at}
 
 -- where the heap holds each position
 abbrev pub Placing : Type 0
@@ -67,11 +68,12 @@ pub record HeldAt {D : Type 0} (layouts : Layouts) (t : Table D) (place : Placin
   pub stands : Stands layouts t.types place entry object
 
 -- The heap's objects are the table's: each placed position is held, each held place is some
--- position's, and no two positions share a place.
+-- position's, no two positions share a place, and places are even and not 0.
 pub record ObjectsHold {D : Type 0} (layouts : Layouts) (t : Table D) (place : Placing) (heap : HeapView) : Type 0 where
   pub placed : (position word : ℕ) → place position ≡ Some word → HeldAt layouts t place heap.content position word
   pub only : (word : ℕ) (object : HeapObject) → map.get heap.content word ≡ Some object → (position : ℕ) × (place position ≡ Some word)
   pub injective : (p q word : ℕ) → place p ≡ Some word → place q ≡ Some word → p ≡ q
+  pub even : (word : ℕ) (object : HeapObject) → map.get heap.content word ≡ Some object → (word % 2 ≡ 0) × (0 < word)
 
 -- a null heap holds every object, and goes on where the table says
 pub record NullHolds {D : Type 0} (t : Table D) (place : Placing) (heap : HeapView) : Type 0 where
@@ -84,10 +86,11 @@ KindHolds Null t place heap = NullHolds t place heap
 KindHolds Counting t place heap = Unit {0}
 KindHolds Copying t place heap = Unit {0}
 
--- a scoped root of the store is the table's: its push, and its word
+-- a scoped root of the store is the table's: its push, and its word, which is not null
 pub record EntryStands {D : Type 0} (t : Table D) (place : Placing) (index : ℕ) (entry : RootEntry) (root : Scoped) : Type 0 where
   pub pushed : slice_get t.pushes root.serial ≡ Some (record { index = index; generation = entry.generation })
   pub word : IsWord place root.reference entry.word
+  pub not_null : 0 < entry.word
 
 -- the scoped roots are the table's, in order
 pub record ScopedHold {D : Type 0} (t : Table D) (place : Placing) (entries : List RootEntry) : Type 0 where
@@ -127,7 +130,9 @@ pub record NumbersHold {D : Type 0} (s : StoreView) (t : Table D) : Type 0 where
   pub max_owned : s.max_owned ≡ t.max_owned
   pub made : s.heap.attached ≡ t.made
   pub capacity : s.heap.capacity ≡ page * t.pages
-  pub unmade : t.made ≡ false → t.pages ≡ 0
+  pub no_pages : t.made ≡ false → t.pages ≡ 0
+  pub no_objects : t.made ≡ false → t.objects ≡ []
+  pub first_fits : t.first ≤ max_pages
 
 -- the store holds the table under that placing
 pub record Holds {D : Type 0} (layouts : Layouts) (s : StoreView) (t : Table D) (place : Placing) : Type 0 where
@@ -139,3 +144,7 @@ pub record Holds {D : Type 0} (layouts : Layouts) (s : StoreView) (t : Table D) 
   pub pushes : PushesDiffer t
   pub nothing_else : NothingElse t
   pub only_numbers : OnlyNumbers t.types
+
+-- the store holds the table, wherever its objects lie
+abbrev pub HoldsTable : {D : Type 0} → Layouts → StoreView → Table D → Type 0
+HoldsTable layouts s t = (place : Placing) × Holds layouts s t place

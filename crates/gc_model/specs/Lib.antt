@@ -5,3 +5,4 @@ pub mod Sizes
 pub mod Allocation
 pub mod Views
 pub mod Holds
+pub mod Bytes

@@ -1,5 +1,6 @@
 -- References, values and objects of the table. Positions count from 0.
-use Rattle.std.specs.Prelude.{ℕ, List, Option}
+use Rattle.std.specs.Prelude.{ℕ, ℤ, List, Option}
+use Rattle.std.specs.Int.{Width, cast_unsigned, cast_signed}
 use Rattle.gc_types.specs.declared.value.Func.{Func}
 use Rattle.gc_types.specs.declared.value.Tag.{Tag}
 use Rattle.gc_model.specs.declared.GcClass.{GcClass}
@@ -26,3 +27,7 @@ pub data Object (D : Type 0) : Type 0 where
   array : ℕ → List Value → Object D
   host : D → Object D
   exception : ℕ → Tag → List Value → Object D
+
+-- The bits of a signed number of that width; those of one that is out of range are of no account.
+abbrev pub number_bits : Width → ℤ → ℕ
+number_bits w n = cast_unsigned w (cast_signed w (cast_unsigned w n))

@@ -5,6 +5,7 @@ use Rattle.std.specs.FinMap as map
 use Rattle.std.specs.Int.{w32, from_le_bytes, to_le_bytes}
 use Rattle.gc_types.specs.declared.kind.VMGcKind.{VMGcKind}
 use Rattle.gc_types.specs.Declarations.{Declaration}
+use Rattle.gc_model.specs.declared.RootEntry.{RootEntry}
 
 -- an object of a heap: its kind, its type and the bytes behind its header
 pub record HeapObject : Type 0 where
@@ -32,11 +33,6 @@ u32_at bytes offset = from_le_bytes w32 (take 4 (drop offset bytes))
 abbrev pub put_u32 : List ℕ → ℕ → ℕ → List ℕ
 put_u32 bytes offset n = take offset bytes ++ (to_le_bytes w32 n ++ drop (offset + 4) bytes)
 
--- a scoped root of a store: the generation in which it was pushed, and its word (0 is null)
-pub record RootEntry : Type 0 where
-  pub generation : ℕ
-  pub word : ℕ
-
 -- A store: its id, its types, its heap, its scoped roots, its generation and its configuration.
 pub record StoreView : Type 0 where
   pub engine : ℕ
@@ -48,3 +44,17 @@ pub record StoreView : Type 0 where
   pub first : ℕ
   pub max_scoped : ℕ
   pub max_owned : ℕ
+
+-- what is seen of a store with nothing in it
+abbrev pub empty_store : ℕ → ℕ → ℕ → ℕ → ℕ → StoreView
+empty_store engine number first max_scoped max_owned = record {
+  engine = engine;
+  number = number;
+  types = [];
+  heap = detached;
+  scoped = [];
+  generation = 0;
+  first = first;
+  max_scoped = max_scoped;
+  max_owned = max_owned;
+}

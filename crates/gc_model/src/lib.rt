@@ -13,3 +13,12 @@ pub enum GcClass {
     Extern,
     Exn,
 }
+
+/// A scoped root of a store.
+#[derive(Clone, Copy, Debug, PartialEq, Eq)]
+pub struct RootEntry {
+    /// How many scope ends had dropped a root when it was pushed.
+    pub generation: u64,
+    /// The word of the reference; 0 is null.
+    pub word: u32,
+}

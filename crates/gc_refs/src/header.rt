@@ -57,11 +57,11 @@ impl VMGcHeader {
         self.kind_word
     }
 
-    /// The type word: the index of the object's type.
-    pub fn type_word(&self) -> u32
+    /// The type word as an index; the reserved one where the object has no type.
+    pub fn type_index(&self) -> VMSharedTypeIndex
         ensures { result ≡ self.now.type_word }
     {
-        self.ty.as_u32()
+        self.ty
     }
 
     /// The 26 spare bits.

@@ -1,6 +1,6 @@
 //! The table of declared types.
 
-ghost use Rattle.std.specs.Prelude.{All, [], ◌≡◌, ◌<◌, ◌≤◌, ◌^◌, false, length, IfOk, OnOk, OnErr, option_copied, option_map, slice_get, IsErrOf};
+ghost use Rattle.std.specs.Prelude.{All, [], ◌↔◌, IsTrue, ◌≡◌, ◌<◌, ◌≤◌, ◌^◌, false, length, IfOk, OnOk, OnErr, option_copied, option_map, slice_get, IsErrOf};
 ghost use Rattle.std.specs.Option.{option_and_then};
 ghost use Rattle.std.specs.List.{AllByRecursion};
 ghost use Rattle.gc_types.specs.Declarations.{Declarable, IsMutableI32, TypeTable, declare, plain_struct, fields_at, struct_fields_at};
@@ -135,6 +135,13 @@ impl Types {
             },
             Err(_) => Err(TypeFault::Memory),
         }
+    }
+
+    /// Whether no type is declared.
+    pub fn is_empty(&self) -> bool
+        ensures { IsTrue result ↔ (self.now.declarations ≡ []) }
+    {
+        self.declared.is_empty()
     }
 
     /// How many fields the struct type has; None exactly where the index names none.

@@ -5,7 +5,7 @@ use Rattle.std.proofs.lemmas.List.{same_lists, length-take, length-drop, length-
 use Rattle.std.proofs.lemmas.Bool.{cases_lt}
 use Rattle.std.proofs.lemmas.Nat.{from_le_bytes-to_le_bytes_4}
 use Rattle.gc_model.specs.Views.{u32_at, put_u32}
-use Rattle.gc_heap.specs.Bytes.{put_bytes, SameBytes}
+use Rattle.gc_model.specs.Bytes.{put_bytes, SameBytes}
 
 -- a part of a range
 pub SameBytes-part : {a b : List ℕ} {lo hi : ℕ} → SameBytes a b lo hi → (lo' hi' : ℕ) → lo ≤ lo' → hi' ≤ hi → SameBytes a b lo' hi'
@@ -137,3 +137,11 @@ u32_at-part bytes lo n o u h =
 pub u32_at-put_u32 : (bytes : List ℕ) (p n : ℕ) → p + 4 ≤ length bytes → n < 2 ^ 32 → u32_at (put_u32 bytes p n) p ≡ n
 u32_at-put_u32 bytes p n h small =
     ap (from_le_bytes w32) (part-put_bytes bytes p (to_le_bytes w32 n) h) ∙ from_le_bytes-to_le_bytes_4 n small
+
+-- a write of a number keeps the length
+pub length-put_u32 : (bytes : List ℕ) (p n : ℕ) → p + 4 ≤ length bytes → length (put_u32 bytes p n) ≡ length bytes
+length-put_u32 bytes p n h = length-put_bytes bytes p (to_le_bytes w32 n) h
+
+-- a number before the one that was written is as it was
+pub u32_at-put_before : (bytes : List ℕ) (p n q : ℕ) → p + 4 ≤ length bytes → q + 4 ≤ p → u32_at (put_u32 bytes p n) q ≡ u32_at bytes q
+u32_at-put_before bytes p n q h below = u32_in_same bytes (put_u32 bytes p n) q (put_bytes-below bytes p (to_le_bytes w32 n) q (q + 4) h below)

@@ -1,0 +1,6 @@
+pub mod WordLemmas
+pub mod NumberLemmas
+pub mod ReadingLemmas
+pub mod LineLemmas
+pub mod UniqueLemmas
+pub mod HexLemmas

@@ -1,0 +1,5 @@
+use Rattle.gc_commands.proofs.UniqueLemmas.{one_spelling}
+use Rattle.gc_commands.proofs.parse.spelling_is_unique.Goals as goal
+
+pub returns : goal.returns
+returns c = one_spelling

@@ -1,0 +1,15 @@
+-- A heap's content after an object was put at a place.
+use Rattle.std.proofs.Common.{◌≡◌, ◌≢◌, ℕ, ◌+◌, ◌<◌, Option, Some, None, Bool, true, false, cond, sym, ap, ◌∙◌, refl, arith}
+use Rattle.std.specs.Ordering.{nat_cmp, eq_by_cmp, is_eq}
+use Rattle.std.specs.FinMap.{gets, FinMap, get, insert, get-insert, nat_cmp-IsAntisymmetric}
+use Rattle.std.specs.Cmp.{nat_cmp_total}
+use Rattle.std.proofs.lemmas.Grind.{common_steps}
+use Rattle.gc_model.specs.Views.{HeapObject}
+
+-- the object that was put there is there
+pub get-put_same : (m : FinMap nat_cmp HeapObject) (k : ℕ) (v : HeapObject) → get (insert m k v) k ≡ Some v
+get-put_same m k v = grind (arith, common_steps, gets)
+
+-- every other place is as it was
+pub get-put_other : (m : FinMap nat_cmp HeapObject) (k q : ℕ) (v : HeapObject) → q ≢ k → get (insert m k v) q ≡ get m q
+get-put_other m k q v ne = grind (arith, common_steps, gets)

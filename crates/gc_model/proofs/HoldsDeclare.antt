@@ -1,0 +1,102 @@
+-- A store that holds a table holds it with one more type.
+use Rattle.std.proofs.Common.{◌≡◌, ℕ, ◌+◌, ◌<◌, ◌≤◌, List, [], ◌∷◌, ◌++◌, Option, Some, None, sym, ap, ◌∙◌, refl, subst, arith}
+use Rattle.std.specs.Prelude.{All}
+use Rattle.std.specs.List.{slice_get}
+use Rattle.std.proofs.lemmas.Option.{slice_get_within}
+use Rattle.gc_types.specs.declared.value.FieldType.{FieldType}
+use Rattle.gc_types.specs.declared.kind.Layouts.{Layouts}
+use Rattle.gc_types.specs.declared.kind.Layouts.TheVariants.{Null, Counting, Copying}
+use Rattle.gc_types.specs.Declarations.{Declaration, plain_struct, IsMutableI32, struct_fields_at}
+use Rattle.gc_model.specs.Values.{Value, Object, struct, array, host, exception}
+use Rattle.gc_model.specs.Table.{Table, declare}
+use Rattle.gc_model.specs.Sizes.{next_place, next_after}
+use Rattle.gc_model.specs.Views.{StoreView, HeapView, HeapObject}
+use Rattle.gc_model.specs.Holds.{Placing, Holds, KindHolds, NullHolds, HeldAt, Stands, StructStands, EntryStands, ObjectsHold}
+use Rattle.gc_model.proofs.Types.{struct_fields_at-push, IsTyped, next_after-push_type, OnlyNumbers-push}
+
+-- the store with one more type
+abbrev pub with_type : Declaration → StoreView → StoreView
+with_type d s = record s { types = s.types ++ d ∷ [] }
+
+-- an object stands for the same in a longer table of types
+stands-push_type : {D : Type 0} (layouts : Layouts) (types : List Declaration) (d : Declaration) (place : Placing) (entry : Object D) (h : HeapObject) → Stands layouts types place entry h → Stands layouts (types ++ d ∷ []) place entry h
+stands-push_type layouts types d place (struct ty values) h stands = record {
+  fields = stands.fields;
+  declared = struct_fields_at-push types d ty stands.fields stands.declared;
+  kind = stands.kind;
+  same_type = stands.same_type;
+  size = stands.size;
+  values_lie = stands.values_lie;
+}
+stands-push_type layouts types d place (array ty values) h stands = stands
+stands-push_type layouts types d place (host value) h stands = stands
+stands-push_type layouts types d place (exception ty tag values) h stands = stands
+
+-- what stands for an object has its type
+pub typed-stands : {D : Type 0} (layouts : Layouts) (types : List Declaration) (place : Placing) (entry : Object D) (h : HeapObject) → Stands layouts types place entry h → IsTyped types entry
+typed-stands layouts types place (struct ty values) h stands = (stands.fields, stands.declared)
+typed-stands layouts types place (array ty values) h stands = tt
+typed-stands layouts types place (host value) h stands = tt
+typed-stands layouts types place (exception ty tag values) h stands = tt
+
+-- in a null heap each object's type is declared
+pub all_typed : {D : Type 0} (t : Table D) (place : Placing) (heap : HeapView) → ObjectsHold Null t place heap → NullHolds t place heap → (i : ℕ) (o : Object D) → slice_get t.objects i ≡ Some o → IsTyped t.types o
+all_typed {D} t place heap objects null i o e =
+    let placed = null.all_held i (slice_get_within t.objects i o e) in
+    let held = objects.placed i placed.0 placed.1 in
+    let same : held.entry ≡ o = grind (arith, sym held.in_table ∙ e) in
+    subst (IsTyped t.types) same (typed-stands Null t.types place held.entry held.object held.stands)
+
+declare_by_kind : {D : Type 0} (layouts : Layouts) (d : Declaration) (t : Table D) (place : Placing) (heap : HeapView) → ObjectsHold layouts t place heap → KindHolds layouts t place heap → KindHolds layouts (declare d t) place heap
+declare_by_kind Null d t place heap objects null = record {
+  all_held = null.all_held;
+  allocated = null.allocated ∙ sym (next_after-push_type t.types d 1 t.objects (all_typed t place heap objects null));
+}
+declare_by_kind Counting d t place heap objects kind = tt
+declare_by_kind Copying d t place heap objects kind = tt
+
+pub holds_declare : {D : Type 0} (layouts : Layouts) (s : StoreView) (t : Table D) (place : Placing) (fields : List FieldType) → All IsMutableI32 fields → Holds layouts s t place → Holds layouts (with_type (plain_struct fields) s) (declare (plain_struct fields) t) place
+holds_declare layouts s t place fields numbers holds =
+    let d : Declaration = plain_struct fields in
+    record {
+      types = ap (λ types. types ++ d ∷ []) holds.types;
+      numbers = record {
+        generation = holds.numbers.generation;
+        first = holds.numbers.first;
+        max_scoped = holds.numbers.max_scoped;
+        max_owned = holds.numbers.max_owned;
+        made = holds.numbers.made;
+        capacity = holds.numbers.capacity;
+        no_pages = holds.numbers.no_pages;
+        no_objects = holds.numbers.no_objects;
+        first_fits = holds.numbers.first_fits;
+      };
+      objects = record {
+        placed = λ position word e. let held = holds.objects.placed position word e in record {
+          object = held.object;
+          entry = held.entry;
+          in_heap = held.in_heap;
+          in_table = held.in_table;
+          stands = stands-push_type layouts t.types d place held.entry held.object held.stands;
+        };
+        only = holds.objects.only;
+        injective = holds.objects.injective;
+        even = holds.objects.even;
+      };
+      by_kind = declare_by_kind layouts d t place s.heap holds.objects holds.by_kind;
+      scoped = record {
+        same_count = holds.scoped.same_count;
+        each = λ i entry root e f. let stands = holds.scoped.each i entry root e f in record { pushed = stands.pushed; word = stands.word; not_null = stands.not_null };
+      };
+      pushes = record { past = holds.pushes.past; apart = holds.pushes.apart };
+      nothing_else = record {
+        owns = holds.nothing_else.owns;
+        frames = holds.nothing_else.frames;
+        globals = holds.nothing_else.globals;
+        owned = holds.nothing_else.owned;
+        pending = holds.nothing_else.pending;
+        funcs = holds.nothing_else.funcs;
+        blocks = holds.nothing_else.blocks;
+      };
+      only_numbers = OnlyNumbers-push t.types fields holds.only_numbers numbers;
+    }

@@ -1,0 +1,80 @@
+-- A store whose heap is made holds the table whose heap is made.
+use Rattle.std.proofs.Common.{◌≡◌, ℕ, ◌+◌, ◌*◌, ◌<◌, ◌≤◌, List, [], Bool, true, false, cond, Option, Some, None, length, sym, ap, ◌∙◌, refl, subst, arith}
+use Rattle.std.specs.List.{slice_get}
+use Rattle.std.specs.Ordering.{nat_cmp}
+use Rattle.std.specs.FinMap.{empty, get-empty}
+use Rattle.std.proofs.lemmas.Option.{none-some}
+use Rattle.gc_types.specs.declared.kind.Layouts.{Layouts}
+use Rattle.gc_types.specs.declared.kind.Layouts.TheVariants.{Null, Counting, Copying}
+use Rattle.gc_model.specs.Values.{Object}
+use Rattle.gc_model.specs.Table.{Table, make_heap}
+use Rattle.gc_model.specs.Allocation.{page}
+use Rattle.gc_model.specs.Sizes.{next_after}
+use Rattle.gc_model.specs.Views.{StoreView, HeapView, HeapObject}
+use Rattle.gc_model.specs.Holds.{Placing, Holds, KindHolds, NullHolds, HeldAt, ObjectsHold}
+
+-- a heap that was just made with so many pages
+pub record IsMadeHeap (heap : HeapView) (pages : ℕ) : Type 0 where
+  pub attached : heap.attached ≡ true
+  pub content : heap.content ≡ empty
+  pub capacity : heap.capacity ≡ page * pages
+  pub allocated : heap.allocated ≡ 0
+
+-- the store with another heap
+abbrev pub with_heap : HeapView → StoreView → StoreView
+with_heap heap s = record s { heap = heap }
+
+-- nothing is placed where there are no objects
+pub nothing_placed : {D : Type 0} (layouts : Layouts) (t : Table D) (place : Placing) (heap : HeapView) → ObjectsHold layouts t place heap → t.objects ≡ [] → (position word : ℕ) → place position ≡ Some word → ⊥
+nothing_placed layouts t place heap objects none position word e =
+    let held = objects.placed position word e in
+    none-some held.entry (sym (ap (λ os. slice_get os position) none) ∙ held.in_table)
+
+made_by_kind : {D : Type 0} (layouts : Layouts) (t : Table D) (place : Placing) (heap : HeapView) (pages : ℕ) → t.objects ≡ [] → IsMadeHeap heap pages → KindHolds layouts (make_heap t) place heap
+made_by_kind Null t place heap pages none made = record {
+  all_held = λ position within. absurd (omega (arith, ap length none));
+  allocated = ap (λ n. n + 1) made.allocated ∙ sym (ap (next_after t.types 1) none);
+}
+made_by_kind Counting t place heap pages none made = tt
+made_by_kind Copying t place heap pages none made = tt
+
+pub holds_heap : {D : Type 0} (layouts : Layouts) (s : StoreView) (t : Table D) (place : Placing) (heap : HeapView) → t.made ≡ false → IsMadeHeap heap t.first → Holds layouts s t place → Holds layouts (with_heap heap s) (make_heap t) place
+holds_heap layouts s t place heap unmade made holds =
+    let none : t.objects ≡ [] = holds.numbers.no_objects unmade in
+    let nowhere = nothing_placed layouts t place s.heap holds.objects none in
+    record {
+      types = holds.types;
+      numbers = record {
+        generation = holds.numbers.generation;
+        first = holds.numbers.first;
+        max_scoped = holds.numbers.max_scoped;
+        max_owned = holds.numbers.max_owned;
+        made = made.attached;
+        capacity = made.capacity ∙ ap (λ (b : Bool). page * cond b t.pages t.first) (sym unmade);
+        no_pages = λ h. absurd (cc);
+        no_objects = λ h. none;
+        first_fits = holds.numbers.first_fits;
+      };
+      objects = record {
+        placed = λ position word e. absurd (nowhere position word e);
+        only = λ word object e. absurd (none-some object (sym (get-empty nat_cmp word) ∙ ap (λ (m : _). Rattle.std.specs.FinMap.get m word) (sym made.content) ∙ e));
+        injective = λ p q word e f. absurd (nowhere p word e);
+        even = λ word object e. absurd (none-some object (sym (get-empty nat_cmp word) ∙ ap (λ (m : _). Rattle.std.specs.FinMap.get m word) (sym made.content) ∙ e));
+      };
+      by_kind = made_by_kind layouts t place heap t.first none made;
+      scoped = record {
+        same_count = holds.scoped.same_count;
+        each = λ i entry root e f. let stands = holds.scoped.each i entry root e f in record { pushed = stands.pushed; word = stands.word; not_null = stands.not_null };
+      };
+      pushes = record { past = holds.pushes.past; apart = holds.pushes.apart };
+      nothing_else = record {
+        owns = holds.nothing_else.owns;
+        frames = holds.nothing_else.frames;
+        globals = holds.nothing_else.globals;
+        owned = holds.nothing_else.owned;
+        pending = holds.nothing_else.pending;
+        funcs = holds.nothing_else.funcs;
+        blocks = holds.nothing_else.blocks;
+      };
+      only_numbers = holds.only_numbers;
+    }

@@ -1,0 +1,102 @@
+-- A store with nothing in it holds the empty table.
+use Rattle.std.proofs.Common.{◌≡◌, ℕ, ◌+◌, ◌*◌, ◌<◌, ◌≤◌, List, [], Option, Some, None, sym, ap, ◌∙◌, refl, arith, true, false, length, subst}
+use Rattle.std.specs.List.{slice_get}
+use Rattle.std.specs.Ordering.{nat_cmp}
+use Rattle.std.specs.FinMap.{get, get-empty}
+use Rattle.std.proofs.lemmas.Option.{none-some}
+use Rattle.std.proofs.lemmas.List.{nil_from_length}
+use Rattle.gc_types.specs.declared.kind.Layouts.{Layouts}
+use Rattle.gc_types.specs.declared.kind.Layouts.TheVariants.{Null, Counting, Copying}
+use Rattle.gc_model.specs.Allocation.{max_pages}
+use Rattle.gc_model.specs.Sizes.{next_after}
+use Rattle.gc_model.specs.Table.{Table, start}
+use Rattle.gc_model.specs.Views.{StoreView, HeapView, HeapObject, detached, empty_store}
+use Rattle.gc_model.specs.Holds.{Placing, Holds, KindHolds, HeldAt}
+use Rattle.gc_model.proofs.HoldsHeap.{nothing_placed}
+
+-- no position is placed
+abbrev pub nowhere : Placing
+nowhere position = None
+
+-- nothing was done with the store yet
+pub record IsUntouched (layouts : Layouts) (s : StoreView) : Type 0 where
+  pub types : s.types ≡ []
+  pub scoped : s.scoped ≡ []
+  pub generation : s.generation ≡ 0
+  pub attached : s.heap.attached ≡ false
+  pub capacity : s.heap.capacity ≡ 0
+  pub no_object : (word : ℕ) (object : HeapObject) → get s.heap.content word ≡ Some object → ⊥
+  pub allocated : layouts ≡ Null → s.heap.allocated ≡ 0
+  pub first_fits : s.first ≤ max_pages
+
+start_by_kind : (D : Type 0) (layouts k : Layouts) (s : StoreView) → layouts ≡ k → IsUntouched layouts s → KindHolds {D = D} k (start s.first s.max_scoped s.max_owned) nowhere s.heap
+start_by_kind D layouts Null s is untouched = record { all_held = λ position h. absurd (omega arith); allocated = ap (λ n. n + 1) (untouched.allocated is) }
+start_by_kind D layouts Counting s is untouched = tt
+start_by_kind D layouts Copying s is untouched = tt
+
+-- such a store holds the empty table with its numbers
+pub holds_untouched : (D : Type 0) (layouts : Layouts) (s : StoreView) → IsUntouched layouts s → Holds {D = D} layouts s (start s.first s.max_scoped s.max_owned) nowhere
+holds_untouched D layouts s untouched = record {
+  types = untouched.types;
+  numbers = record {
+    generation = untouched.generation;
+    first = refl;
+    max_scoped = refl;
+    max_owned = refl;
+    made = untouched.attached;
+    capacity = untouched.capacity;
+    no_pages = λ _. refl;
+    no_objects = λ _. refl;
+    first_fits = untouched.first_fits;
+  };
+  objects = record {
+    placed = λ position word e. absurd (none-some word e);
+    only = λ word object e. absurd (untouched.no_object word object e);
+    injective = λ p q word e f. absurd (none-some word e);
+    even = λ word object e. absurd (untouched.no_object word object e);
+  };
+  by_kind = start_by_kind D layouts layouts s refl untouched;
+  scoped = record { same_count = ap length untouched.scoped; each = λ i entry root e f. absurd (none-some root f) };
+  pushes = record { past = λ serial p e. absurd (none-some p e); apart = λ a b p e f. absurd (none-some p e) };
+  nothing_else = record { owns = refl; frames = refl; globals = refl; owned = refl; pending = refl; funcs = refl; blocks = refl };
+  only_numbers = λ ty fields e. absurd (none-some fields e);
+}
+
+untouched_allocated : {D : Type 0} (layouts : Layouts) (t : Table D) (place : Placing) (heap : HeapView) → t.objects ≡ [] → KindHolds layouts t place heap → layouts ≡ Null → heap.allocated ≡ 0
+untouched_allocated Null t place heap none kind is = let e : heap.allocated + 1 ≡ 1 = kind.allocated ∙ ap (next_after t.types 1) none in omega arith
+untouched_allocated Counting t place heap none kind is = absurd (cc)
+untouched_allocated Copying t place heap none kind is = absurd (cc)
+
+-- a store that holds some table, and shows no type, root, generation or memory, is untouched
+pub untouched_from_parts : {D : Type 0} (layouts : Layouts) (s : StoreView) (t : Table D) (place : Placing) → Holds layouts s t place → s.types ≡ [] → s.scoped ≡ [] → s.generation ≡ 0 → s.heap.attached ≡ false → IsUntouched layouts s
+untouched_from_parts layouts s t place holds no_types no_roots first_generation unmade =
+    let not_made : t.made ≡ false = sym holds.numbers.made ∙ unmade in
+    let none : t.objects ≡ [] = holds.numbers.no_objects not_made in
+    record {
+      types = no_types;
+      scoped = no_roots;
+      generation = first_generation;
+      attached = unmade;
+      capacity = omega (arith, holds.numbers.capacity, holds.numbers.no_pages not_made);
+      no_object = λ word object e. let p = holds.objects.only word object e in nothing_placed layouts t place s.heap holds.objects none p.0 word p.1;
+      allocated = untouched_allocated layouts t place s.heap none holds.by_kind;
+      first_fits = subst (λ n. n ≤ max_pages) (sym holds.numbers.first) holds.numbers.first_fits;
+    }
+
+-- a store that holds the empty table is untouched
+pub untouched_from_start : (D : Type 0) (layouts : Layouts) (s : StoreView) (place : Placing) → Holds {D = D} layouts s (start s.first s.max_scoped s.max_owned) place → IsUntouched layouts s
+untouched_from_start D layouts s place holds =
+    untouched_from_parts layouts s (start s.first s.max_scoped s.max_owned) place holds holds.types (nil_from_length s.scoped holds.scoped.same_count) holds.numbers.generation holds.numbers.made
+
+-- what is seen of a new store is untouched
+pub untouched_new : (layouts : Layouts) (engine number first max_scoped max_owned : ℕ) → first ≤ max_pages → IsUntouched layouts (empty_store engine number first max_scoped max_owned)
+untouched_new layouts engine number first max_scoped max_owned few = record {
+  types = refl;
+  scoped = refl;
+  generation = refl;
+  attached = refl;
+  capacity = refl;
+  no_object = λ word object e. none-some object (sym (get-empty nat_cmp word) ∙ e);
+  allocated = λ _. refl;
+  first_fits = few;
+}

@@ -1,0 +1,10 @@
+pub mod Content
+pub mod Lists
+pub mod Types
+pub mod HoldsStart
+pub mod HoldsDeclare
+pub mod HoldsHeap
+pub mod HoldsMake
+pub mod Live
+pub mod Layouts
+pub mod ByteLemmas

@@ -1,0 +1,24 @@
+-- Elements of a list that had one more put at its end.
+use Rattle.std.proofs.Common.{◌≡◌, ◌≢◌, ℕ, ◌+◌, ◌<◌, ◌≤◌, ◌⊎◌, inl, inr, List, [], ◌∷◌, ◌++◌, length, Option, Some, None, sym, ap, ◌∙◌, refl, arith, rules, suc, zero}
+use Rattle.std.specs.List.{slice_get}
+use Rattle.std.proofs.lemmas.Grind.{common_steps}
+use Rattle.std.proofs.lemmas.Option.{gets, slice_get_within, none-some}
+
+-- what stood in the list stands there still
+pub slice_get-push_old : {X : Type 0} (xs : List X) (y : X) (i : ℕ) (x : X) → slice_get xs i ≡ Some x → slice_get (xs ++ y ∷ []) i ≡ Some x
+slice_get-push_old [] y i x e = absurd (none-some x e)
+slice_get-push_old (z ∷ xs) y zero x e = e
+slice_get-push_old (z ∷ xs) y (suc i) x e = slice_get-push_old xs y i x e
+
+-- the new one stands at the end
+pub slice_get-push_new : {X : Type 0} (xs : List X) (y : X) → slice_get (xs ++ y ∷ []) (length xs) ≡ Some y
+slice_get-push_new [] y = refl
+slice_get-push_new (z ∷ xs) y = slice_get-push_new xs y
+
+-- an element of the longer list is an old one or the new one
+pub slice_get-push_cases : {X : Type 0} (xs : List X) (y : X) (i : ℕ) (x : X) → slice_get (xs ++ y ∷ []) i ≡ Some x → (slice_get xs i ≡ Some x) ⊎ ((i ≡ length xs) × (y ≡ x))
+slice_get-push_cases [] y zero x e = inr (refl, grind arith)
+slice_get-push_cases [] y (suc i) x e = absurd (none-some x e)
+slice_get-push_cases (z ∷ xs) y zero x e = inl e
+slice_get-push_cases (z ∷ xs) y (suc i) x e =
+    elim (slice_get-push_cases xs y i x e) [ inl old ↦ inl old | inr new ↦ inr (ap suc new.0, new.1) ]

@@ -1,0 +1,67 @@
+-- What a further declaration leaves of the types before it.
+use Rattle.std.proofs.Common.{◌≡◌, ℕ, ◌+◌, ◌<◌, ◌⊎◌, inl, inr, List, [], ◌∷◌, ◌++◌, length, Option, Some, None, sym, ap, ◌∙◌, refl, subst, arith, suc, zero}
+use Rattle.std.specs.List.{slice_get}
+use Rattle.std.specs.Prelude.{All}
+use Rattle.std.proofs.lemmas.Option.{none-some, slice_get_within}
+use Rattle.gc_types.specs.declared.value.FieldType.{FieldType}
+use Rattle.gc_types.specs.declared.kind.Layouts.TheVariants.{Null}
+use Rattle.gc_types.specs.Declarations.{Declaration, Shape, struct_of, array_of, exn_of, func_of, struct_fields_at, declaration_struct_fields, shape_struct_fields, plain_struct, IsMutableI32}
+use Rattle.gc_types.specs.Layouts.{fields_end, struct_base, round_up}
+use Rattle.gc_model.specs.Values.{Value, Object, struct, array, host, exception}
+use Rattle.gc_model.specs.Table.{Table}
+use Rattle.gc_model.specs.Sizes.{object_size, next_after, fields_size, alignment}
+use Rattle.gc_model.specs.Holds.{OnlyNumbers}
+use Rattle.gc_model.proofs.Lists.{slice_get-push_old, slice_get-push_cases}
+
+-- a struct type of the table is one of the longer table, with the same fields
+pub struct_fields_at-push : (types : List Declaration) (d : Declaration) (ty : ℕ) (fields : List FieldType) → struct_fields_at types ty ≡ Some fields → struct_fields_at (types ++ d ∷ []) ty ≡ Some fields
+struct_fields_at-push [] d ty fields e = absurd (none-some fields e)
+struct_fields_at-push (x ∷ types) d zero fields e = e
+struct_fields_at-push (x ∷ types) d (suc ty) fields e = struct_fields_at-push types d ty fields e
+
+-- a struct type of the longer table is an old one or the new one
+pub struct_fields_at-push_cases : (types : List Declaration) (d : Declaration) (ty : ℕ) (fields : List FieldType) → struct_fields_at (types ++ d ∷ []) ty ≡ Some fields → (struct_fields_at types ty ≡ Some fields) ⊎ (shape_struct_fields d.shape ≡ Some fields)
+struct_fields_at-push_cases [] d zero fields e = inr e
+struct_fields_at-push_cases [] d (suc ty) fields e = absurd (none-some fields e)
+struct_fields_at-push_cases (x ∷ types) d zero fields e = inl e
+struct_fields_at-push_cases (x ∷ types) d (suc ty) fields e = struct_fields_at-push_cases types d ty fields e
+
+-- the type that was declared last
+pub struct_fields_at-new : (types : List Declaration) (fields : List FieldType) → struct_fields_at (types ++ plain_struct fields ∷ []) (length types) ≡ Some fields
+struct_fields_at-new [] fields = refl
+struct_fields_at-new (x ∷ types) fields = struct_fields_at-new types fields
+
+-- an object's struct type is declared
+abbrev pub IsTyped : {D : Type 0} → List Declaration → Object D → Type 0
+IsTyped types (struct ty values) = (fields : List FieldType) × (struct_fields_at types ty ≡ Some fields)
+IsTyped types (array ty values) = Unit {0}
+IsTyped types (host value) = Unit {0}
+IsTyped types (exception ty tag values) = Unit {0}
+
+-- an object's size is the same in the longer table
+pub object_size-push : {D : Type 0} (types : List Declaration) (d : Declaration) (o : Object D) → IsTyped types o → object_size Null (types ++ d ∷ []) o ≡ object_size Null types o
+object_size-push types d (struct ty values) typed =
+    ap (fields_size Null) (struct_fields_at-push types d ty typed.0 typed.1 ∙ sym typed.1)
+object_size-push types d (array ty values) typed = refl
+object_size-push types d (host value) typed = refl
+object_size-push types d (exception ty tag values) typed = refl
+
+-- where the null heap goes on is the same in the longer table
+pub next_after-push_type : {D : Type 0} (types : List Declaration) (d : Declaration) (n : ℕ) (objects : List (Object D)) → ((i : ℕ) (o : Object D) → slice_get objects i ≡ Some o → IsTyped types o) → next_after (types ++ d ∷ []) n objects ≡ next_after types n objects
+next_after-push_type types d n [] typed = refl
+next_after-push_type {D} types d n (o ∷ objects) typed =
+    next_after-push_type types d (round_up n alignment + object_size Null (types ++ d ∷ []) o) objects (λ i. typed (suc i))
+    ∙ ap (λ size. next_after types (round_up n alignment + size) objects) (object_size-push types d o (typed 0 o refl))
+
+-- where the null heap goes on after one more object
+pub next_after-push : {D : Type 0} (types : List Declaration) (n : ℕ) (objects : List (Object D)) (o : Object D) → next_after types n (objects ++ o ∷ []) ≡ round_up (next_after types n objects) alignment + object_size Null types o
+next_after-push types n [] o = refl
+next_after-push types n (x ∷ objects) o = next_after-push types (round_up n alignment + object_size Null types x) objects o
+
+-- a struct of 32-bit numbers keeps that there are no other fields
+pub OnlyNumbers-push : (types : List Declaration) (fields : List FieldType) → OnlyNumbers types → All IsMutableI32 fields → OnlyNumbers (types ++ plain_struct fields ∷ [])
+OnlyNumbers-push types fields only numbers ty fs e =
+    elim (struct_fields_at-push_cases types (plain_struct fields) ty fs e) [
+      | inl old ↦ only ty fs old
+      | inr new ↦ subst (All IsMutableI32) (grind (arith, new)) numbers
+    ]

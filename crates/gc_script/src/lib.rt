@@ -1,0 +1,16 @@
+//! Runs scripts of heap commands on a store.
+//!
+//! A `Runner` has the registers of a session and runs one command after another; each is a step of
+//! the object table, and the replies to a list of commands are a run of it. `specs/` says what a
+//! step is: `Steps` has the tests of each command in their order and what it does, `Run` a whole run.
+#![tactic(auto)]
+
+pub mod registers;
+pub mod runner;
+
+pub use gc_commands::{
+    ByteText, Command, FieldWord, FieldWords, HeapWord, Operand, Operands, Refusal, Reply,
+    ReplyValue, StorageWord, ValueWord, parse_line, reply_text,
+};
+pub use registers::Register;
+pub use runner::RunError;

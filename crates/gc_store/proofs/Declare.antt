@@ -1,0 +1,55 @@
+-- What a declaration leaves of a store.
+use Rattle.std.proofs.Common.{◌≡◌, ℕ, List, length, Result, Ok, Err, OnOk, OnErr, IfOk, sym, ap, ◌∙◌, refl, subst}
+use Rattle.std.specs.Prelude.{All}
+use Rattle.gc_types.specs.declared.kind.Layouts.{Layouts}
+use Rattle.gc_types.specs.declared.value.FieldType.{FieldType}
+use Rattle.gc_types.specs.declared.types.TypeFault.{TypeFault}
+use Rattle.gc_types.specs.declared.types.TypeFault.TheVariants.{BadType, Memory}
+use Rattle.gc_types.specs.Declarations.{Declaration, TypeTable, TypeName, Declarable, plain_struct, IsMutableI32}
+use Rattle.gc_types.specs.Declarations as types
+use Rattle.gc_model.specs.declared.RootEntry.{RootEntry}
+use Rattle.gc_model.specs.Table.{Table, declare}
+use Rattle.gc_model.specs.Views.{StoreView, HeapView}
+use Rattle.gc_model.specs.Holds.{HoldsTable}
+use Rattle.gc_model.proofs.HoldsDeclare.{holds_declare}
+use Rattle.gc_store.specs.declared.engine.StoreId.{StoreId}
+use Rattle.gc_store.specs.declared.config.HeapConfig.{HeapConfig}
+use Rattle.gc_store.specs.Stores.{store_view, IsSound, DeclaresStruct}
+
+-- what the type table ensures of a declaration
+pub record TypesDeclare (fields : List FieldType) (old new : TypeTable) (r : Result TypeName TypeFault) : Type 0 where
+  pub declared : OnOk r (new ≡ types.declare (plain_struct fields) old)
+  pub named : IfOk r (λ ty. ty ≡ record { engine = old.engine; number = old.number; index = length old.declarations })
+  pub declarable : OnOk r (Declarable old.declarations fields)
+  pub bad : r ≡ Err BadType → ¬ Declarable old.declarations fields
+  pub err : OnErr r (new ≡ old)
+
+-- the store with these parts and that type table
+abbrev view : StoreId → HeapConfig → HeapView → List RootEntry → ℕ → TypeTable → StoreView
+view id config heap scoped generation t = store_view id config t.declarations heap scoped generation
+
+module _ {D : Type 0} (layouts : Layouts) (id : StoreId) (config : HeapConfig) (heap : HeapView) (scoped : List RootEntry) (generation : ℕ) (fields : List FieldType) (numbers : All IsMutableI32 fields) (old new : TypeTable) where
+  -- the store holds the table with the type
+  holds_new : (t : Table D) → new ≡ types.declare (plain_struct fields) old → HoldsTable layouts (view id config heap scoped generation old) t → HoldsTable layouts (view id config heap scoped generation new) (declare (plain_struct fields) t)
+  holds_new t e holds = (holds.0, subst (λ (n : TypeTable). Rattle.gc_model.specs.Holds.Holds layouts (view id config heap scoped generation n) (declare (plain_struct fields) t) holds.0) (sym e) (holds_declare layouts (view id config heap scoped generation old) t holds.0 fields numbers holds.1))
+
+  pub declared_step : (r : Result TypeName TypeFault) → TypesDeclare fields old new r → (t : Table D) → HoldsTable layouts (view id config heap scoped generation old) t → DeclaresStruct layouts fields t r (view id config heap scoped generation new)
+  declared_step (Ok ty) did t holds = (
+    subst (λ (ts : List Declaration). Declarable ts fields) holds.1.types did.declarable,
+    ap (λ (n : TypeName). n.index) did.named ∙ ap length holds.1.types,
+    holds_new t did.declared holds,
+  )
+  declared_step (Err BadType) did t holds = (
+    λ may. did.bad refl (subst (λ (ts : List Declaration). Declarable ts fields) (sym holds.1.types) may),
+    subst (λ (n : TypeTable). HoldsTable layouts (view id config heap scoped generation n) t) (sym did.err) holds,
+  )
+  declared_step (Err Memory) did t holds = subst (λ (n : TypeTable). HoldsTable layouts (view id config heap scoped generation n) t) (sym did.err) holds
+
+  pub sound_declared : (r : Result TypeName TypeFault) → TypesDeclare fields old new r → IsSound D layouts old (view id config heap scoped generation old) → IsSound D layouts new (view id config heap scoped generation new)
+  sound_declared (Ok ty) did sound = record {
+    engine = ap (λ (n : TypeTable). n.engine) did.declared ∙ sound.engine;
+    number = ap (λ (n : TypeTable). n.number) did.declared ∙ sound.number;
+    table = declare (plain_struct fields) sound.table;
+    holds = holds_new sound.table did.declared sound.holds;
+  }
+  sound_declared (Err e) did sound = subst (λ (n : TypeTable). IsSound D layouts n (view id config heap scoped generation n)) (sym did.err) sound

@@ -1,0 +1,17 @@
+use Rattle.std.proofs.Common.{subst, sym}
+use Rattle.gc_model.specs.Views.{StoreView}
+use Rattle.gc_model.specs.Holds.{HoldsTable}
+use Rattle.gc_store.proofs.Declare.{declared_step, sound_declared}
+use Rattle.gc_store.proofs.store.Store.declare_struct.Goals as goal
+
+pub invariant_of-self : goal.invariant_of-self
+invariant_of-self g c =
+    sound_declared _ c.self.inside.id c.self.inside.config _ _ c.self.inside.generation c.args.fields.now c.requires.numbers _ _ c.declare_struct.result
+    (record { declared = c.declare_struct.ensures.declared; named = c.declare_struct.ensures.named; declarable = c.declare_struct.ensures.declarable; bad = c.declare_struct.ensures.bad; err = c.declare_struct.ensures.err })
+    c.self.invariant
+
+pub returns-clause-step : goal.returns-clause-step
+returns-clause-step g c t holds =
+    declared_step _ c.self.inside.id c.self.inside.config _ _ c.self.inside.generation c.args.fields.now c.requires.numbers _ _ c.declare_struct.result
+    (record { declared = c.declare_struct.ensures.declared; named = c.declare_struct.ensures.named; declarable = c.declare_struct.ensures.declarable; bad = c.declare_struct.ensures.bad; err = c.declare_struct.ensures.err })
+    t (subst (λ (v : StoreView). HoldsTable g.H.GcHeap.LAYOUTS v t) (sym c.self.view_is) holds)

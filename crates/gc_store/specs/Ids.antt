@@ -1,0 +1,7 @@
+-- Ids of stores.
+use Rattle.std.specs.Prelude.{ℕ}
+
+-- an engine's number, and how many ids it gave
+pub record Given : Type 0 where
+  pub engine : ℕ
+  pub given : ℕ

@@ -1,0 +1,130 @@
+-- Which root a handle names, and what it is.
+use Rattle.std.specs.Prelude.{◌≡◌, ℕ, ◌<◌, ◌==◌, ◌&&◌, Bool, List, Option, Some, None, Result, Ok, Err, length, slice_get, if◌then◌else◌}
+use Rattle.std.specs.Int.{w32, cast_signed}
+use Rattle.gc_model.specs.declared.RootEntry.{RootEntry}
+use Rattle.gc_model.specs.Values.{Reference, null, small, at, Value, i32, i64, f32, f64, v128, function, reference, Object, struct, array, host, exception}
+use Rattle.gc_model.specs.Table.{Table, Push}
+use Rattle.gc_model.specs.Live.{rooted}
+use Rattle.gc_model.specs.Views.{StoreView}
+use Rattle.gc_model.specs.Holds.{Placing, Holds, HoldsTable, IsWord}
+use Rattle.gc_types.specs.declared.kind.Layouts.{Layouts}
+use Rattle.gc_store.specs.declared.root.GcRootIndex.{GcRootIndex}
+use Rattle.gc_store.specs.declared.root.RootSlot.{RootSlot}
+use Rattle.gc_store.specs.declared.root.RootSlot.TheVariants as slot
+use Rattle.gc_store.specs.declared.root.RootFault.{RootFault}
+use Rattle.gc_store.specs.declared.root.RootFault.TheVariants as fault
+use Rattle.gc_store.specs.declared.root.RootedObject.{RootedObject}
+use Rattle.gc_store.specs.declared.root.RootedObject.TheVariants as rooted_object
+use Rattle.gc_store.specs.declared.root.RawValue.{RawValue}
+use Rattle.gc_store.specs.declared.root.RawValue.TheVariants as raw
+
+-- whether a handle carries the store's id
+abbrev pub is_of_store : StoreView → GcRootIndex → Bool
+is_of_store s handle = (handle.store_id.engine == s.engine) && (handle.store_id.number == s.number)
+
+-- the handle of the push with that index and generation in a store
+abbrev pub handle_of : StoreView → ℕ → ℕ → GcRootIndex
+handle_of s index generation = record {
+  store_id = record { engine = s.engine; number = s.number };
+  generation = generation;
+  slot = slot.Scoped index;
+}
+
+-- the handle is of the push with that serial
+pub record Names {D : Type 0} (s : StoreView) (t : Table D) (handle : GcRootIndex) (serial : ℕ) : Type 0 where
+  pub push : Push
+  pub pushed : slice_get t.pushes serial ≡ Some push
+  pub is : handle ≡ handle_of s push.index push.generation
+
+-- what an object is, as the store says it
+abbrev pub IsObject : {D : Type 0} → Option (Object D) → RootedObject → Type 0
+IsObject None answer = ⊥
+IsObject (Some (struct ty values)) answer = answer ≡ rooted_object.Struct ty
+IsObject (Some (array ty values)) answer = answer ≡ rooted_object.Array ty (length values)
+IsObject (Some (host value)) answer = answer ≡ rooted_object.Host
+IsObject (Some (exception ty tag values)) answer = answer ≡ rooted_object.Exn ty tag
+
+-- what a reference is; no scoped root is null
+abbrev pub IsReference : {D : Type 0} → Table D → Reference → RootedObject → Type 0
+IsReference t null answer = ⊥
+IsReference t (small n) answer = answer ≡ rooted_object.I31 n
+IsReference t (at p) answer = IsObject (slice_get t.objects p) answer
+
+-- What the store answers of a root: that it is gone, or what it is.
+abbrev pub TellsRoot : {D : Type 0} → Table D → Option Reference → Result RootedObject RootFault → Type 0
+TellsRoot t None answer = answer ≡ Err fault.Unrooted
+TellsRoot t (Some r) (Ok answer) = IsReference t r answer
+TellsRoot t (Some r) (Err e) = ⊥
+
+-- the handle is live and names a struct with that value at that index
+pub record HasField {D : Type 0} (s : StoreView) (t : Table D) (handle : GcRootIndex) (index : ℕ) (value : Value) : Type 0 where
+  pub serial : ℕ
+  pub names : Names s t handle serial
+  pub position : ℕ
+  pub live : rooted t serial ≡ Some (at position)
+  pub ty : ℕ
+  pub values : List Value
+  pub object : slice_get t.objects position ≡ Some (struct ty values)
+  pub value_at : slice_get values index ≡ Some value
+
+-- a value of the table as the store gives it; 32-bit numbers alone so far
+abbrev pub IsRaw : Value → RawValue → Type 0
+IsRaw (i32 n) answer = answer ≡ raw.I32 (cast_signed w32 n)
+IsRaw (i64 n) answer = ⊥
+IsRaw (f32 n) answer = ⊥
+IsRaw (f64 n) answer = ⊥
+IsRaw (v128 n) answer = ⊥
+IsRaw (function f) answer = ⊥
+IsRaw (reference class r) answer = ⊥
+
+-- the word of an entry, where its generation is the handle's
+abbrev pub entry_word : Option RootEntry → ℕ → Result ℕ RootFault
+entry_word None generation = Err fault.Unrooted
+entry_word (Some entry) generation = if entry.generation == generation then Ok entry.word else Err fault.Unrooted
+
+abbrev pub slot_word : List RootEntry → RootSlot → ℕ → Result ℕ RootFault
+slot_word entries (slot.Scoped index) generation = entry_word (slice_get entries index) generation
+slot_word entries (slot.Owned id) generation = Err fault.Unrooted
+
+-- The word that a handle has in the store, or why it has none.
+abbrev pub word_of : StoreView → GcRootIndex → Result ℕ RootFault
+word_of s handle = if is_of_store s handle then slot_word s.scoped handle.slot handle.generation else Err fault.WrongStore
+
+-- the word is that of a root of some table that the store holds
+pub record IsRootWord (D : Type 0) (layouts : Layouts) (s : StoreView) (word : ℕ) : Type 0 where
+  pub table : Table D
+  pub place : Placing
+  pub holds : Holds layouts s table place
+  pub root : Reference
+  pub is_word : IsWord place root word
+  pub not_null : 0 < word
+
+-- the word is the place of a struct of some table that the store holds, with a 32-bit number there
+pub record HasNumber (D : Type 0) (layouts : Layouts) (s : StoreView) (word index : ℕ) : Type 0 where
+  pub table : Table D
+  pub place : Placing
+  pub holds : Holds layouts s table place
+  pub position : ℕ
+  pub placed : place position ≡ Some word
+  pub ty : ℕ
+  pub values : List Value
+  pub object : slice_get table.objects position ≡ Some (struct ty values)
+  pub n : ℕ
+  pub value_at : slice_get values index ≡ Some (i32 n)
+
+-- the handle is live and names a struct with a value at that index, in some table that the store holds
+pub record CanRead (D : Type 0) (layouts : Layouts) (s : StoreView) (handle : GcRootIndex) (index : ℕ) : Type 0 where
+  pub table : Table D
+  pub holds : HoldsTable layouts s table
+  pub value : Value
+  pub field : HasField s table handle index value
+
+-- the handle is live in some table that the store holds, and names what the answer says
+pub record FindsRoot (D : Type 0) (layouts : Layouts) (s : StoreView) (handle : GcRootIndex) (answer : RootedObject) : Type 0 where
+  pub table : Table D
+  pub holds : HoldsTable layouts s table
+  pub serial : ℕ
+  pub names : Names s table handle serial
+  pub root : Reference
+  pub live : rooted table serial ≡ Some root
+  pub is : IsReference table root answer

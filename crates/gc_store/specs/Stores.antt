@@ -1,0 +1,69 @@
+-- What a store's calls do, for every table that it held.
+use Rattle.std.specs.Prelude.{◌≡◌, ℕ, ◌-◌, ◌^◌, ◌==◌, ◌||◌, nat_le, Bool, false, List, [], Result, Ok, Err, length}
+use Rattle.gc_types.specs.declared.kind.Layouts.{Layouts}
+use Rattle.gc_types.specs.declared.value.FieldType.{FieldType}
+use Rattle.gc_types.specs.declared.types.TypeFault.{TypeFault}
+use Rattle.gc_types.specs.declared.types.TypeFault.TheVariants as type_fault
+use Rattle.gc_types.specs.Declarations.{Declaration, TypeTable, TypeName, Declarable, plain_struct}
+use Rattle.gc_model.specs.declared.RootEntry.{RootEntry}
+use Rattle.gc_model.specs.Table.{Table, start, declare}
+use Rattle.gc_model.specs.Views.{StoreView, HeapView}
+use Rattle.gc_model.specs.Holds.{HoldsTable}
+use Rattle.gc_store.specs.declared.engine.StoreId.{StoreId}
+use Rattle.gc_store.specs.declared.config.HeapConfig.{HeapConfig}
+
+-- what is seen of a store with these parts
+abbrev pub store_view : StoreId → HeapConfig → List Declaration → HeapView → List RootEntry → ℕ → StoreView
+store_view id config types heap scoped generation = record {
+  engine = id.engine;
+  number = id.number;
+  types = types;
+  heap = heap;
+  scoped = scoped;
+  generation = generation;
+  first = config.first_pages;
+  max_scoped = config.max_scoped;
+  max_owned = config.max_owned;
+}
+
+-- the store with another configuration
+abbrev pub configured : HeapConfig → StoreView → StoreView
+configured config s = record s { first = config.first_pages; max_scoped = config.max_scoped; max_owned = config.max_owned }
+
+-- the store holds some table, and its types carry its id
+pub record IsSound (D : Type 0) (layouts : Layouts) (types : TypeTable) (s : StoreView) : Type 0 where
+  pub engine : types.engine ≡ s.engine
+  pub number : types.number ≡ s.number
+  pub table : Table D
+  pub holds : HoldsTable layouts s table
+
+-- the store holds the empty table with the numbers of its configuration
+abbrev pub HoldsStart : (D : Type 0) → Layouts → StoreView → Type 0
+HoldsStart D layouts s = HoldsTable layouts s (start {D = D} s.first s.max_scoped s.max_owned)
+
+-- the store holds some table
+abbrev pub HoldsSome : (D : Type 0) → Layouts → StoreView → Type 0
+HoldsSome D layouts s = (t : Table D) × HoldsTable layouts s t
+
+-- the store shows no type, root, scope end or memory
+pub record ShowsNothing (s : StoreView) : Type 0 where
+  pub types : s.types ≡ []
+  pub scoped : s.scoped ≡ []
+  pub generation : s.generation ≡ 0
+  pub attached : s.heap.attached ≡ false
+
+-- the store has the same id
+pub record IsSameStore (old new : StoreView) : Type 0 where
+  pub engine : new.engine ≡ old.engine
+  pub number : new.number ≡ old.number
+
+-- no further scoped root may be made
+abbrev pub is_full : StoreView → Bool
+is_full s = nat_le s.max_scoped (length s.scoped) || (s.generation == 2 ^ 64 - 1)
+
+-- what the declaration of a struct answers and leaves
+abbrev pub DeclaresStruct : {D : Type 0} → Layouts → List FieldType → Table D → Result TypeName TypeFault → StoreView → Type 0
+DeclaresStruct layouts fields t (Ok ty) new =
+    Declarable t.types fields × (ty.index ≡ length t.types) × HoldsTable layouts new (declare (plain_struct fields) t)
+DeclaresStruct layouts fields t (Err type_fault.BadType) new = (¬ Declarable t.types fields) × HoldsTable layouts new t
+DeclaresStruct layouts fields t (Err type_fault.Memory) new = HoldsTable layouts new t

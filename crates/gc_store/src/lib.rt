@@ -1,0 +1,23 @@
+//! A store: one heap, its types and its roots.
+//!
+//! A store holds an object table, in which objects never move or vanish. Handles name its scoped
+//! roots; a handle of a scope that was left is refused for ever. The contracts say of each call: for
+//! every table that the store held before, it holds the changed table afterwards, and the answer is
+//! the table's. No place and no byte of the heap shows.
+#![tactic(auto)]
+
+pub mod config;
+pub mod engine;
+mod field;
+pub mod limiter;
+pub mod place;
+pub mod read;
+pub mod root;
+pub mod store;
+
+pub use config::HeapConfig;
+pub use engine::{Engine, StoreId};
+pub use gc_model::GcClass;
+pub use limiter::{PageLimit, ResourceLimiter};
+pub use root::{GcRootIndex, RawValue, RootFault, RootSlot, RootedObject};
+pub use store::{GcHeapOutOfMemory, PlaceFault, Store};

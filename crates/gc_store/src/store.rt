@@ -1,0 +1,142 @@
+//! The store.
+
+ghost use Rattle.std.specs.Prelude.{◌≡◌, ◌↔◌, false, IfOk, OnOk, OnErr, All, IsTrue, None, MatchResult};
+ghost use Rattle.gc_types.specs.Declarations.{IsMutableI32};
+ghost use Rattle.gc_model.specs.Table.{Table};
+ghost use Rattle.gc_model.specs.Views.{detached, empty_store};
+ghost use Rattle.gc_model.specs.Holds.{HoldsTable};
+ghost use Rattle.gc_store.specs.Stores.{HoldsStart, HoldsSome, ShowsNothing, DeclaresStruct, IsSameStore, configured};
+
+use crate::config::HeapConfig;
+use crate::engine::StoreId;
+use gc_heap::GcHeap;
+use gc_model::RootEntry;
+use gc_types::{FieldType, StructType, TypeFault, Types, VMSharedTypeIndex};
+use std::alloc::{AllocError, Global};
+use std::marker::{Model, PhantomData};
+
+/// The heap has no room for an allocation, and got no more. It has what was to be stored.
+#[derive(Debug, Drop)]
+pub struct GcHeapOutOfMemory<T> {
+    pub(crate) inner: T,
+    pub(crate) bytes_needed: u64,
+}
+
+/// Why an object is not placed.
+#[derive(Debug, Drop)]
+pub enum PlaceFault {
+    /// The function table is full.
+    FuncTableFull,
+    /// No heap of the kind can hold an object of that size.
+    TooLarge,
+    /// No further root may be made.
+    RootsFull,
+    /// The heap has no room, and the limiter refused it more.
+    HeapOutOfMemory(GcHeapOutOfMemory<()>),
+    /// Out of memory. Nothing changed, but the heap may have got its first pages.
+    Memory,
+}
+
+/// A heap with its types and its roots. `D` is the type of the embedder's host values.
+#[derive(Drop)]
+pub struct Store<H: GcHeap, D> {
+    pub(crate) alloc: Global,
+    pub(crate) id: StoreId,
+    pub(crate) config: HeapConfig,
+    pub(crate) heap: H,
+    pub(crate) types: Types,
+    pub(crate) scoped: Vec<RootEntry>,
+    pub(crate) generation: u64,
+    pub(crate) hosts: PhantomData<D>,
+}
+
+impl<H: GcHeap, D> Model for Store<H, D> {
+    ghost use Rattle.std.specs.Prelude.{◌≡◌};
+    ghost use Rattle.std.specs.Coded.{codes};
+    ghost use Rattle.std.specs.FinMap as map;
+    ghost use Rattle.gc_model.specs.Views.{StoreView};
+
+    ghost Value = { StoreView };
+
+    ghost coded = { Prim.hlevel (codes, map.code) };
+
+    ghost use Rattle.gc_store.specs.Stores.{store_view, IsSound};
+
+    ghost view = { λ s. store_view s.id s.config s.types.declarations (H.seen s.heap) s.scoped.items s.generation };
+
+    ghost invariant = { λ s. IsSound D H.LAYOUTS s.types (store_view s.id s.config s.types.declarations (H.seen s.heap) s.scoped.items s.generation) };
+}
+
+impl<H: GcHeap, D> Store<H, D> {
+    /// A store over that heap, which is not attached.
+    pub fn new(
+        alloc: Global,
+        id: StoreId,
+        heap: H,
+        config: HeapConfig,
+    ) -> Result<Store<H, D>, AllocError>
+        requires { H.seen heap ≡ detached }
+        ensures { IfOk result (λ s. s ≡ empty_store id.engine id.number config.first_pages config.max_scoped config.max_owned) }
+    {
+        Ok(Store {
+            alloc,
+            id,
+            config,
+            heap,
+            types: Types::new(alloc, id.engine, id.number),
+            scoped: Vec::new(alloc),
+            generation: 0,
+            hosts: PhantomData,
+        })
+    }
+
+    /// Whether nothing was done with the store yet, so that it may be configured.
+    pub fn is_new(&self) -> bool
+        ensures { IsTrue result ↔ HoldsStart D H.LAYOUTS self.now }
+    {
+        self.is_untouched()
+    }
+
+    /// Whether there is no type, root, generation or memory.
+    fn is_untouched(&self) -> bool
+        ensures parts { IsTrue result ↔ ShowsNothing self.now }
+        ensures sound { HoldsSome D H.LAYOUTS self.now }
+    {
+        self.scoped.is_empty()
+            && self.generation == 0
+            && self.types.is_empty()
+            && !self.heap.is_attached()
+    }
+
+    /// Gives a new store another configuration.
+    pub fn configure(&mut self, config: HeapConfig)
+        requires { HoldsStart D H.LAYOUTS self.old }
+        ensures { self.new ≡ configured config self.old }
+    {
+        self.config = config;
+    }
+
+    /// The type table.
+    pub fn types(&self) -> &Types
+        ensures { result.now.declarations ≡ self.now.types }
+    {
+        &self.types
+    }
+
+    /// Declares a struct type, as `Types::declare_struct` does.
+    pub fn declare_struct(
+        &mut self,
+        fields: &[FieldType],
+        supertype: Option<VMSharedTypeIndex>,
+        is_final: bool,
+    ) -> Result<StructType, TypeFault>
+        requires no_supertype { supertype ≡ None }
+        requires open { is_final ≡ false }
+        requires numbers { All IsMutableI32 fields.now }
+        ensures step { (t : Table D) → HoldsTable H.LAYOUTS self.old t → DeclaresStruct H.LAYOUTS fields.now t result self.new }
+        ensures err { OnErr result (self.new ≡ self.old) }
+        ensures same { IsSameStore self.old self.new }
+    {
+        self.types.declare_struct(fields, supertype, is_final)
+    }
+}
