@@ -1,7 +1,10 @@
 -- A run of commands.
 use Rattle.std.specs.Prelude.{◌≡◌, ℕ, ◌⊎◌, List, [], ◌∷◌, Option, Some, None, Result, Ok, Err, false}
 use Rattle.gc_types.specs.declared.kind.Layouts.{Layouts}
-use Rattle.gc_model.specs.Table.{make_heap}
+use Rattle.std.specs.Prelude.{replicate}
+use Rattle.gc_types.specs.Declarations.{plain_struct}
+use Rattle.gc_model.specs.Holds.{HoldsTable}
+use Rattle.gc_model.specs.Table.{Table, declare, make_heap}
 use Rattle.gc_model.specs.Allocation.{Limits}
 use Rattle.gc_model.specs.Views.{StoreView}
 use Rattle.gc_store.specs.Limiters.{Refuses}
@@ -11,7 +14,13 @@ use Rattle.gc_commands.specs.declared.reply.Reply.TheVariants as reply
 use Rattle.gc_commands.specs.declared.reply.Refusal.TheVariants as refusal
 use Rattle.gc_script.specs.declared.registers.Register.{Register}
 use Rattle.gc_script.specs.State.{State, HoldsState, with_table}
-use Rattle.gc_script.specs.Steps.{Step}
+use Rattle.std.specs.Prelude.{length, true}
+use Rattle.std.specs.List.{list_all}
+use Rattle.gc_types.specs.declared.value.FieldType.{FieldType}
+use Rattle.gc_types.specs.Declarations.{struct_fields_at}
+use Rattle.gc_commands.specs.declared.command.Command.TheVariants.{New}
+use Rattle.gc_commands.specs.declared.command.Operand.{Operand}
+use Rattle.gc_script.specs.Steps.{Step, Answers, first_failing, heap_tests, is_built_operand, is_bad_type, built_field}
 use Rattle.gc_script.specs.declared.runner.RunError.{RunError}
 
 -- as many replies as commands, each command a step from the state that the one before it left
@@ -38,3 +47,30 @@ WantsMemory layouts s new slots = HoldsState layouts new slots s ⊎ HoldsState 
 abbrev pub RunsOne : Layouts → Limits → Limits → State → Command → Result Reply RunError → StoreView → List (Option Register) → Type 0
 RunsOne layouts limits limits' s c (Ok answer) new slots = Ran layouts limits limits' s c answer new slots
 RunsOne layouts limits limits' s c (Err e) new slots = WantsMemory layouts s new slots × (limits'.limit ≡ limits.limit)
+
+-- What placing the object of `new` answers and leaves, once the tests on names and numbers passed:
+-- those on the heap are left.
+pub record PlacesNew (layouts : Layouts) (limits limits' : Limits) (s : State) (d t : ℕ) (vs : List Operand) (answer : Reply) (new : StoreView) (slots : List (Option Register)) : Type 0 where
+  pub after : State
+  pub answers : Answers layouts limits.limit s (New d t vs) (first_failing (heap_tests layouts s t vs)) answer after
+  pub holds : HoldsState layouts new slots after
+  pub same_limit : limits'.limit ≡ limits.limit
+  pub counted : answer ≡ reply.Refused refusal.GcHeapOutOfMemory → after.table.made ≡ false → Refuses limits limits' 0 s.table.first
+
+abbrev pub RunsNew : Layouts → Limits → Limits → State → ℕ → ℕ → List Operand → Result Reply RunError → StoreView → List (Option Register) → Type 0
+RunsNew layouts limits limits' s d t vs (Ok answer) new slots = PlacesNew layouts limits limits' s d t vs answer new slots
+RunsNew layouts limits limits' s d t vs (Err e) new slots = WantsMemory layouts s new slots × (limits'.limit ≡ limits.limit)
+
+-- values for a struct of a declared type, as many as it has fields, all of them built
+pub record CanMakeNew (store : StoreView) (t : ℕ) (vs : List Operand) : Type 0 where
+  pub fields : List FieldType
+  pub declared : struct_fields_at store.types t ≡ Some fields
+  pub same_count : length vs ≡ length fields
+  pub built : list_all is_built_operand vs ≡ true
+
+-- what declaring a struct of so many built fields answers and leaves
+abbrev pub DeclaresBuilt : Layouts → ℕ → Table ℕ → Result Reply RunError → StoreView → Type 0
+DeclaresBuilt layouts count t (Ok answer) new =
+    ((is_bad_type t count ≡ false) × (answer ≡ reply.Declared (length t.types)) × HoldsTable layouts new (declare (plain_struct (replicate count built_field)) t))
+    ⊎ ((is_bad_type t count ≡ true) × (answer ≡ reply.Refused refusal.BadType) × HoldsTable layouts new t)
+DeclaresBuilt layouts count t (Err e) new = HoldsTable layouts new t

@@ -146,27 +146,41 @@ field_count t ty = unwrap_or (option_map length (struct_fields_at t.types ty)) 0
 abbrev pub new_struct : ℕ → List Operand → Object ℕ
 new_struct t vs = struct t (map operand_value vs)
 
+-- the tests of an allocation that come before the heap is asked
+abbrev pub heap_tests : Layouts → State → ℕ → List Operand → List (Bool × Refusal)
+heap_tests layouts s t vs =
+    (too_large layouts (object_size layouts s.table.types (new_struct t vs)), refusal.TooLarge)
+    ∷ (roots_full s.table, refusal.RootsFull)
+    ∷ []
+
+-- the tests of reading a field of what a register names
+abbrev pub field_tests : State → ℕ → ℕ → List (Bool × Refusal)
+field_tests s r i =
+    (is_unset (target s r), refusal.NoSuchName)
+    ∷ (is_gone (target s r), refusal.Unrooted)
+    ∷ (is_other (target s r), refusal.WrongKind)
+    ∷ (nat_le (length (target_values (target s r))) i, refusal.OutOfBounds)
+    ∷ []
+
+-- the test of declaring a type of so many fields
+abbrev pub is_bad_type : Table ℕ → ℕ → Bool
+is_bad_type t count = nat_lt max_fields count || nat_le max_types (length t.types)
+
 -- The tests of a command, in their order; the first that is true refuses it.
 abbrev pub tests : Layouts → State → Command → List (Bool × Refusal)
 tests layouts s Bad = (true, refusal.BadLine) ∷ []
 tests layouts s (Struct is_final supertype fs) =
     (not (is_built (Struct is_final supertype fs)), refusal.BadLine)
-    ∷ (nat_lt max_fields (length fs) || nat_le max_types (length s.table.types), refusal.BadType)
+    ∷ (is_bad_type s.table (length fs), refusal.BadType)
     ∷ []
 tests layouts s (New d t vs) =
     (not (is_built (New d t vs)), refusal.BadLine)
     ∷ (is_none (struct_fields_at s.table.types t), refusal.NoSuchName)
     ∷ (not (length vs == field_count s.table t), refusal.FieldCount)
-    ∷ (too_large layouts (object_size layouts s.table.types (new_struct t vs)), refusal.TooLarge)
-    ∷ (roots_full s.table, refusal.RootsFull)
-    ∷ []
+    ∷ heap_tests layouts s t vs
 tests layouts s (Field r i into) =
     (not (is_built (Field r i into)), refusal.BadLine)
-    ∷ (is_unset (target s r), refusal.NoSuchName)
-    ∷ (is_gone (target s r), refusal.Unrooted)
-    ∷ (is_other (target s r), refusal.WrongKind)
-    ∷ (nat_le (length (target_values (target s r))) i, refusal.OutOfBounds)
-    ∷ []
+    ∷ field_tests s r i
 
 -- the refusal of the first test that is true
 abbrev pub first_failing : List (Bool × Refusal) → Option Refusal

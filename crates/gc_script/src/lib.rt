@@ -12,5 +12,5 @@ pub use gc_commands::{
     ByteText, Command, FieldWord, FieldWords, HeapWord, Operand, Operands, Refusal, Reply,
     ReplyValue, StorageWord, ValueWord, parse_line, reply_text,
 };
-pub use registers::Register;
-pub use runner::RunError;
+pub use registers::{Number, Register};
+pub use runner::{RunError, Runner};

@@ -3,14 +3,25 @@
 ghost use Rattle.std.specs.Prelude.{◌≡◌, ◌≢◌, ◌<◌, ◌≤◌, ℕ, length, Some, None, OnOk, [], slice_set};
 ghost use Rattle.gc_script.specs.Slots.{register_at};
 
-use gc_store::{GcClass, GcRootIndex, RawValue};
+use gc_refs::V128;
+use gc_store::{GcClass, GcRootIndex};
 use std::alloc::{AllocError, Global};
 use std::marker::Model;
+
+/// A number with its width. Floating-point numbers are their bits.
+#[derive(Clone, Copy, Debug)]
+pub enum Number {
+    I32(i32),
+    I64(i64),
+    F32(u32),
+    F64(u64),
+    V128(V128),
+}
 
 /// What a register holds: a number, or a class with a handle or null.
 #[derive(Clone, Copy, Debug)]
 pub enum Register {
-    Number(RawValue),
+    Number(Number),
     Reference(GcClass, Option<GcRootIndex>),
 }
 
@@ -27,6 +38,18 @@ impl Model for Registers {
     ghost Value = { List (Option Register) };
 
     ghost view = { λ r. r.slots.items };
+}
+
+/// Adds unset registers until there are so many.
+fn extend_to(slots: &mut Vec<Option<Register>>, wanted: usize) -> Result<(), AllocError>
+    ensures room { OnOk result (wanted ≤ length slots.new.items) }
+    ensures same { (d : ℕ) → register_at slots.new.items d ≡ register_at slots.old.items d }
+{
+    let present = slots.len();
+    for _count in present..wanted {
+        slots.extend_from_slice(&[None])?;
+    }
+    Ok(())
 }
 
 impl Registers {
@@ -54,11 +77,7 @@ impl Registers {
         ensures room { OnOk result (number < length self.new) }
         ensures same { (d : ℕ) → register_at self.new d ≡ register_at self.old d }
     {
-        let wanted = number as usize + 1;
-        for _ in self.slots.len()..wanted {
-            self.slots.push(None)?;
-        }
-        Ok(())
+        extend_to(&mut self.slots, number as usize + 1)
     }
 
     /// Sets the register, for which there is room.

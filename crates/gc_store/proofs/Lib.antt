@@ -6,3 +6,4 @@ pub mod Writes
 pub mod Places
 pub mod Placing
 pub mod Numbers
+pub mod Lengths

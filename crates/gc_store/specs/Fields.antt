@@ -5,6 +5,7 @@ use Rattle.std.specs.Int.{w32, w64}
 use Rattle.gc_types.specs.declared.value.FieldType.{FieldType}
 use Rattle.gc_types.specs.declared.kind.Layouts.{Layouts}
 use Rattle.gc_types.specs.declared.layout.FieldLayout.{FieldLayout}
+use Rattle.gc_types.specs.declared.layout.GcStructLayout.{GcStructLayout}
 use Rattle.gc_types.specs.Declarations.{Declaration, struct_fields_at, IsMutableI32}
 use Rattle.gc_types.specs.Layouts.{struct_base, field_layouts, fields_end}
 use Rattle.gc_model.specs.Values.{Value, i32, i64, f32, f64, v128, function, reference, null, number_bits}
@@ -63,3 +64,7 @@ pub record CanWrite (layouts : Layouts) (heap : HeapView) (word : ℕ) (places :
   pub numbers : All IsMutableI32 fields
   pub same_count : length values ≡ length fields
   pub are_numbers : All IsNumber values
+
+-- how many fields a layout has
+abbrev pub field_len : GcStructLayout → ℕ
+field_len layout = length layout.fields

@@ -128,3 +128,33 @@ pub record FindsRoot (D : Type 0) (layouts : Layouts) (s : StoreView) (handle : 
   pub root : Reference
   pub live : rooted table serial ≡ Some root
   pub is : IsReference table root answer
+
+-- how many values an object has, if it is a struct
+abbrev pub object_len : {D : Type 0} → Option (Object D) → Option ℕ
+object_len None = None
+object_len (Some (struct ty values)) = Some (length values)
+object_len (Some (array ty values)) = None
+object_len (Some (host value)) = None
+object_len (Some (exception ty tag values)) = None
+
+-- the same of a reference; no scoped root is null
+abbrev pub CountsValues : {D : Type 0} → Table D → Reference → Option ℕ → Type 0
+CountsValues t null answer = ⊥
+CountsValues t (small n) answer = answer ≡ None
+CountsValues t (at p) answer = answer ≡ object_len (slice_get t.objects p)
+
+-- What the store answers of a root: that it is gone, or how many values it has.
+abbrev pub TellsLength : {D : Type 0} → Table D → Option Reference → Result (Option ℕ) RootFault → Type 0
+TellsLength t None answer = answer ≡ Err fault.Unrooted
+TellsLength t (Some r) (Ok answer) = CountsValues t r answer
+TellsLength t (Some r) (Err e) = ⊥
+
+-- the handle is live in some table that the store holds, and has so many values there
+pub record FindsLength (D : Type 0) (layouts : Layouts) (s : StoreView) (handle : GcRootIndex) (answer : Option ℕ) : Type 0 where
+  pub table : Table D
+  pub holds : HoldsTable layouts s table
+  pub serial : ℕ
+  pub names : Names s table handle serial
+  pub root : Reference
+  pub live : rooted table serial ≡ Some root
+  pub counts : CountsValues table root answer

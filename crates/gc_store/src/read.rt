@@ -5,9 +5,9 @@ ghost use Rattle.gc_model.specs.Table.{Table};
 ghost use Rattle.gc_model.specs.Live.{rooted};
 ghost use Rattle.gc_model.specs.Values.{Value, Reference, struct, i32};
 ghost use Rattle.gc_model.specs.Holds.{HoldsTable, Holds, Placing, IsWord};
-ghost use Rattle.gc_store.specs.Roots.{word_of, IsRootWord, IsReference, Names, TellsRoot, is_of_store, HasNumber, HasField, CanRead, FindsRoot, IsRaw};
+ghost use Rattle.gc_store.specs.Roots.{word_of, IsRootWord, IsReference, Names, TellsRoot, is_of_store, HasNumber, HasField, CanRead, FindsRoot, CountsValues, TellsLength, FindsLength, IsRaw};
 
-use crate::field::field_offset;
+use crate::field::{field_count, field_offset};
 use crate::root::{GcRootIndex, RawValue, RootFault, RootSlot, RootedObject};
 use crate::store::Store;
 use gc_heap::GcHeap;
@@ -56,6 +56,35 @@ impl<H: GcHeap, D> Store<H, D> {
         let _heap = &self.heap;
         match self.word_of(handle) {
             Ok(word) => Ok(self.describe(word)),
+            Err(fault) => Err(fault),
+        }
+    }
+
+    /// How many values the struct with that word has; None where the reference is no struct.
+    fn count_values(&self, word: u32) -> Option<usize>
+        requires { IsRootWord D H.LAYOUTS self.now word }
+        ensures { (t : Table D) (place : Placing) (r : Reference) → Holds H.LAYOUTS self.now t place → IsWord place r word → 0 < word → CountsValues t r result }
+    {
+        let gc_ref = VMGcRef::from_raw_u32(word).unwrap();
+        if gc_ref.is_i31() {
+            return None;
+        }
+        match self.heap.header(&gc_ref) {
+            Ok(header) => field_count(&self.types, H::LAYOUTS, header.type_index()),
+            Err(_) => unreachable!(),
+        }
+    }
+
+    /// How many values the struct has that the handle names; the inner None where it names no
+    /// struct. `WrongStore` and `Unrooted` as in `object`.
+    pub fn struct_len(&self, handle: GcRootIndex) -> Result<Option<usize>, RootFault>
+        ensures wrong_store { is_of_store self.now handle ≡ false → result ≡ Err RootFault.WrongStore }
+        ensures named { (t : Table D) (serial : ℕ) → HoldsTable H.LAYOUTS self.now t → Names self.now t handle serial → TellsLength t (rooted t serial) result }
+        ensures found { IfOk result (FindsLength D H.LAYOUTS self.now handle) }
+    {
+        let _heap = &self.heap;
+        match self.word_of(handle) {
+            Ok(word) => Ok(self.count_values(word)),
             Err(fault) => Err(fault),
         }
     }

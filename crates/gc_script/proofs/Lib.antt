@@ -1,0 +1,4 @@
+pub mod SlotLemmas
+pub mod OperandLemmas
+pub mod StepLemmas
+pub mod CountLemmas

@@ -1,0 +1,41 @@
+use Rattle.std.proofs.Common.{◌≡◌, ap, sym, ◌∙◌, subst, refl, Ok, Err, Result, ℕ}
+use Rattle.gc_model.specs.Views.{StoreView}
+use Rattle.gc_model.specs.Holds.{Holds}
+use Rattle.gc_store.specs.Roots.{IsRootWord, word_of}
+use Rattle.gc_store.proofs.Roots.{root_word, named_live, named_dead, word_of-ok, word_of-err, names-entry}
+use Rattle.gc_store.proofs.Lengths.{length_live, length_dead}
+use Rattle.gc_store.proofs.store.Store.struct_len.Goals as goal
+
+pub count_values-requires : goal.count_values-requires
+count_values-requires g c =
+    subst (λ (s : StoreView). IsRootWord g.row.D.Denot g.H.GcHeap.LAYOUTS s c.in-Ok.word) c.self.view_is
+    (root_word _ _ c.self.invariant.table c.self.invariant.holds.0 c.self.invariant.holds.1 c.args.handle c.in-Ok.word
+      (ap (λ (s : StoreView). word_of s c.args.handle) c.self.view_is ∙ sym c.word_of.ensures ∙ c.in-Ok.is))
+
+pub returns-in-Ok-clause-named : goal.returns-in-Ok-clause-named
+returns-in-Ok-clause-named g c t serial holds names =
+    let live = named_live _ _ t holds.0 holds.1 c.args.handle serial c.in-Ok.word names (sym c.word_of.ensures ∙ c.in-Ok.is) in
+    length_live t _ live.0 c.count_values.result live.1.0 (c.count_values.ensures t holds.0 live.0 holds.1 live.1.1 live.1.2)
+
+pub returns-in-Err-clause-named : goal.returns-in-Err-clause-named
+returns-in-Err-clause-named g c t serial holds names =
+    let dead = named_dead _ _ t holds.0 holds.1 c.args.handle serial c.in-Err.fault names (sym c.word_of.ensures ∙ c.in-Err.is) in
+    length_dead t _ c.in-Err.fault dead.0 dead.1
+
+pub returns-in-Ok-clause-found : goal.returns-in-Ok-clause-found
+returns-in-Ok-clause-found g c =
+    let word = sym c.word_of.ensures ∙ c.in-Ok.is in
+    let t = c.self.invariant.table in
+    let place = c.self.invariant.holds.0 in
+    let holds : Holds g.H.GcHeap.LAYOUTS c.args.self.now t place = subst (λ (s : StoreView). Holds g.H.GcHeap.LAYOUTS s t place) c.self.view_is c.self.invariant.holds.1 in
+    let named = names-entry g.H.GcHeap.LAYOUTS c.args.self.now t place holds c.args.handle c.in-Ok.word (word_of-ok _ c.args.handle c.in-Ok.word word) in
+    let live = named_live g.H.GcHeap.LAYOUTS c.args.self.now t place holds c.args.handle named.0 c.in-Ok.word named.1 word in
+    record {
+      table = t;
+      holds = (place, holds);
+      serial = named.0;
+      names = named.1;
+      root = live.0;
+      live = live.1.0;
+      counts = c.count_values.ensures t place live.0 holds live.1.1 live.1.2;
+    }
