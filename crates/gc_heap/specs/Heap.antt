@@ -1,5 +1,5 @@
 -- What a heap's calls do, as seen by its content.
-use Rattle.std.specs.Prelude.{◌≡◌, ◌≢◌, ℕ, ◌+◌, ◌-◌, ◌*◌, ◌/◌, ◌%◌, ◌^◌, ◌<◌, ◌≤◌, Bool, true, false, List, [], length, replicate, Option, Some, None, Result, Ok, Err}
+use Rattle.std.specs.Prelude.{◌≡◌, ℕ, ◌+◌, ◌-◌, ◌*◌, ◌/◌, ◌%◌, ◌^◌, ◌<◌, ◌≤◌, Bool, true, false, length, replicate, Some, None, Result, Ok, Err}
 use Rattle.std.specs.FinMap as map
 use Rattle.gc_types.specs.declared.kind.Layouts.{Layouts}
 use Rattle.gc_types.specs.declared.kind.Layouts.TheVariants.{Null, Counting, Copying}
@@ -10,11 +10,9 @@ use Rattle.gc_types.specs.Layouts.{struct_base, round_up}
 use Rattle.gc_types.specs.Kinds.{kind_bits}
 use Rattle.gc_refs.specs.Header.{Header, spare_bits}
 use Rattle.gc_model.specs.Sizes.{alignment}
-use Rattle.gc_model.specs.Views.{HeapObject, HeapView, u32_at, put_u32}
+use Rattle.gc_model.specs.Views.{HeapObject, HeapView, put_u32}
 use Rattle.gc_heap.specs.declared.heap.HeapFault.{HeapFault}
 use Rattle.gc_heap.specs.declared.heap.HeapFault.TheVariants as fault
-use Rattle.gc_heap.specs.declared.heap.RefFault.{RefFault}
-use Rattle.gc_heap.specs.declared.heap.RefFault.TheVariants.{BadRef}
 
 -- an empty heap of so many bytes; of the null heap alone so far
 abbrev pub empty_heap : ℕ → HeapView

@@ -38,6 +38,7 @@ pub trait GcHeap {
 
     /// The layout of its objects.
     ghost LAYOUTS: { Layouts };
+
     const LAYOUTS: Layouts;
 
     // Attaching

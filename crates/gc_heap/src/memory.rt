@@ -2,6 +2,8 @@
 
 ghost use Rattle.std.specs.Prelude.{◌≡◌, ◌+◌, ◌*◌, ◌/◌, ◌≤◌, ◌<◌, ◌^◌, length, IfOk, OnErr, replicate};
 ghost use Rattle.gc_model.specs.Allocation.{page, max_pages};
+ghost use Rattle.gc_model.specs.Views.{u32_at, put_u32};
+ghost use Rattle.gc_model.specs.Bytes.{put_bytes};
 
 use std::alloc::{AllocError, Global};
 use std::marker::Model;
@@ -61,5 +63,40 @@ impl HeapMemory {
         ensures bound { length self.now ≤ page * max_pages }
     {
         self.bytes.as_slice()
+    }
+    /// How many bytes there are. Each place of a memory fits 32 bits.
+    pub fn capacity(&self) -> u32
+        ensures { result ≡ length self.now }
+    {
+        self.pages * PAGE as u32
+    }
+
+    /// The 32-bit number at an offset, its lowest byte first.
+    pub fn read_u32(&self, at: usize) -> u32
+        requires { at + 4 ≤ length self.now }
+        ensures { result ≡ u32_at self.now at }
+    {
+        u32::from_le_bytes([
+            self.bytes[at],
+            self.bytes[at + 1],
+            self.bytes[at + 2],
+            self.bytes[at + 3],
+        ])
+    }
+
+    /// Writes a 32-bit number at an offset, its lowest byte first.
+    pub fn write_u32(&mut self, at: usize, value: u32)
+        requires { at + 4 ≤ length self.old }
+        ensures { self.new ≡ put_u32 self.old at value }
+    {
+        self.bytes[at..at + 4].copy_from_slice(&value.to_le_bytes());
+    }
+
+    /// Makes `count` bytes from an offset on 0, in time linear in `count`.
+    pub fn fill_zero(&mut self, at: usize, count: usize)
+        requires { at + count ≤ length self.old }
+        ensures { self.new ≡ put_bytes self.old at (replicate count 0) }
+    {
+        self.bytes[at..at + count].fill(0);
     }
 }

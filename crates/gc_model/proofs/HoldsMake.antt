@@ -161,13 +161,13 @@ module _ {D : Type 0} (layouts : Layouts) (s : StoreView) (t : Table D) (place :
   injective p q w e f =
       elim (placed_at-cases place (length t.objects) word p w e) [
         | inl new ↦ elim (placed_at-cases place (length t.objects) word q w f) [
-            | inl new' ↦ new.0 ∙ sym new'.0
-            | inr old' ↦ absurd (apart q w old'.1 new.1)
-          ]
+          | inl new' ↦ new.0 ∙ sym new'.0
+          | inr old' ↦ absurd (apart q w old'.1 new.1)
+        ]
         | inr old ↦ elim (placed_at-cases place (length t.objects) word q w f) [
-            | inl new' ↦ absurd (apart p w old.1 new'.1)
-            | inr old' ↦ holds.objects.injective p q w old.1 old'.1
-          ]
+          | inl new' ↦ absurd (apart p w old.1 new'.1)
+          | inr old' ↦ holds.objects.injective p q w old.1 old'.1
+        ]
       ]
 
   -- the scoped roots, the new one behind the others
@@ -179,10 +179,10 @@ module _ {D : Type 0} (layouts : Layouts) (s : StoreView) (t : Table D) (place :
           | inl old ↦
               elim (slice_get-push_cases t.scoped (record { serial = length t.pushes; reference = at (length t.objects) }) i root f) [
                 | inl old' ↦ let stands = holds.scoped.each i entry root old old' in record {
-                      pushed = slice_get-push_old t.pushes _ root.serial _ stands.pushed;
-                      word = is_word-more place place' root.reference entry.word within stands.word;
-                      not_null = stands.not_null;
-                    }
+                  pushed = slice_get-push_old t.pushes _ root.serial _ stands.pushed;
+                  word = is_word-more place place' root.reference entry.word within stands.word;
+                  not_null = stands.not_null;
+                }
                 | inr new' ↦ absurd (omega (arith, slice_get_within s.scoped i entry old, holds.scoped.same_count, new'.0))
               ]
           | inr new ↦
@@ -223,13 +223,13 @@ module _ {D : Type 0} (layouts : Layouts) (s : StoreView) (t : Table D) (place :
     apart = λ a b p e f.
         elim (slice_get-push_cases t.pushes _ a p e) [
           | inl old ↦ elim (slice_get-push_cases t.pushes _ b p f) [
-              | inl old' ↦ holds.pushes.apart a b p old old'
-              | inr new' ↦ absurd (is_not_new a p old new'.1)
-            ]
+            | inl old' ↦ holds.pushes.apart a b p old old'
+            | inr new' ↦ absurd (is_not_new a p old new'.1)
+          ]
           | inr new ↦ elim (slice_get-push_cases t.pushes _ b p f) [
-              | inl old' ↦ absurd (is_not_new b p old' new.1)
-              | inr new' ↦ new.0 ∙ sym new'.0
-            ]
+            | inl old' ↦ absurd (is_not_new b p old' new.1)
+            | inr new' ↦ new.0 ∙ sym new'.0
+          ]
         ];
   }
 

@@ -115,10 +115,10 @@ pub rooted_struct : {D : Type 0} (layouts : Layouts) (s : StoreView) (t : Table 
 rooted_struct {D} layouts s t place holds serial position ty values live object =
     let found = rooted_among-some serial t.scoped (at position) live in
     let entry : (e : RootEntry) × (slice_get s.scoped found.0 ≡ Some e) =
-          elim ((slice_get_cases s.scoped found.0).1) [
-            | inl here ↦ (here.0, here.2)
-            | inr past ↦ absurd (omega (arith, past.0, holds.scoped.same_count, slice_get_within t.scoped found.0 found.1.0 found.1.1.0))
-          ] in
+    elim ((slice_get_cases s.scoped found.0).1) [
+      | inl here ↦ (here.0, here.2)
+      | inr past ↦ absurd (omega (arith, past.0, holds.scoped.same_count, slice_get_within t.scoped found.0 found.1.0 found.1.1.0))
+    ] in
     let stands = holds.scoped.each found.0 entry.0 found.1.0 entry.1 found.1.1.0 in
     let placed : place position ≡ Some entry.0.word = subst (λ (r : Reference). IsWord place r entry.0.word) found.1.1.1 stands.word in
     let held = holds.objects.placed position entry.0.word placed in

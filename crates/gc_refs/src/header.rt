@@ -40,6 +40,23 @@ impl VMGcHeader {
         }
     }
 
+    /// The header of these two words.
+    pub fn from_words(kind_word: u32, type_word: u32) -> VMGcHeader
+        ensures { result ≡ record { kind_word = kind_word; type_word = type_word } }
+    {
+        VMGcHeader {
+            kind_word,
+            ty: VMSharedTypeIndex::new(type_word),
+        }
+    }
+
+    /// The kind word: the kind bits, and below them the 26 spare bits.
+    pub fn kind_word(&self) -> u32
+        ensures { result ≡ self.now.kind_word }
+    {
+        self.kind_word
+    }
+
     /// The type word as an index; the reserved one where the object has no type.
     pub fn type_index(&self) -> VMSharedTypeIndex
         ensures { result ≡ self.now.type_word }

@@ -41,6 +41,14 @@ impl FieldLayouts {
     }
 }
 
+impl From<Vec<FieldLayout>> for FieldLayouts {
+    ghost from_gives = { λ v f. f ≡ v.items };
+
+    fn from(fields: Vec<FieldLayout>) -> FieldLayouts {
+        FieldLayouts { fields }
+    }
+}
+
 /// The layout of a struct or an exception.
 #[derive(Debug, Drop)]
 pub struct GcStructLayout {

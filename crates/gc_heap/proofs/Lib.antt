@@ -1,0 +1,4 @@
+pub mod WalkLemmas
+pub mod BumpLemmas
+pub mod NullLemmas
+pub mod HeapLemmas
