@@ -2,11 +2,13 @@
 use Rattle.std.proofs.Common.{inl, inr, ◌≡◌, ◌≢◌, ℕ, ◌==◌, List, [], ◌∷◌, length, Option, Some, None, Bool, true, false, cond, sym, ap, ◌∙◌, refl, subst, arith, replicate}
 use Rattle.std.specs.Prelude.{◌⊎◌, Result, Ok, Err, is_none, is_some, not, nat_le}
 use Rattle.std.specs.List.{slice_get, list_all}
-use Rattle.std.specs.Option.{option_map}
+use Rattle.std.specs.Option.{option_map, unwrap_or}
+use Rattle.std.proofs.lemmas.Bool.Decides.{nat_tests}
 use Rattle.std.proofs.lemmas.Grind.{common_steps}
 use Rattle.std.proofs.lemmas.Option.{none-some}
 use Rattle.gc_types.specs.declared.kind.Layouts.{Layouts}
-use Rattle.gc_types.specs.Declarations.{struct_fields_at, plain_struct}
+use Rattle.gc_types.specs.Declarations.{Declaration, struct_fields_at, plain_struct}
+use Rattle.gc_types.specs.declared.value.FieldType.{FieldType}
 use Rattle.gc_model.specs.Values.{Value}
 use Rattle.gc_model.specs.Table.{Table, declare}
 use Rattle.gc_model.specs.Allocation.{Limits}
@@ -43,33 +45,45 @@ new_runs layouts limits limits' s d t vs (Ok answer) new slots built known count
 }
 new_runs layouts limits limits' s d t vs (Err e) new slots built known counted ran = ran
 
+-- a type that has as many fields as there are operands
+counts_fields : (o : Option (List FieldType)) (count n : ℕ) → Some count ≡ option_map length o → n ≡ count → (is_none o ≡ false) × ((n == unwrap_or (option_map length o) 0) ≡ true)
+counts_fields None count n e is = absurd (none-some count (sym e))
+counts_fields (Some fs) count n e is = (refl, grind (arith, nat_tests, e, is))
+
+-- the same, where the store has the table's types
+pub counted_runs : (layouts : Layouts) (limits limits' : Limits) (store : StoreView) (slots : List (Option Register)) (s : State) (d t : ℕ) (vs : List Operand) (count : ℕ) (result : Result Reply RunError) (new : StoreView) (slots' : List (Option Register)) → HoldsState layouts store slots s → list_all is_built_operand vs ≡ true → Some count ≡ option_map length (struct_fields_at store.types t) → length vs ≡ count → RunsNew layouts limits limits' s d t vs result new slots' → RunsOne layouts limits limits' s (New d t vs) result new slots'
+counted_runs layouts limits limits' store slots s d t vs count result new slots' holds built known is ran =
+    let types : store.types ≡ s.table.types = holds.table.1.types in
+    let both = counts_fields (struct_fields_at s.table.types t) count (length vs) (known ∙ ap (λ (ts : List Declaration). option_map length (struct_fields_at ts t)) types) is in
+    new_runs layouts limits limits' s d t vs result new slots' built both.0 both.1 ran
+
 is_built_struct : (is_final : Bool) (supertype : Option ℕ) (fs : List FieldWord) → is_final ≡ false → is_some supertype ≡ false → list_all is_built_field fs ≡ true → is_built (Struct is_final supertype fs) ≡ true
-is_built_struct is_final supertype fs open plain built =
-    ap (λ b. cond b false (cond (is_some supertype) false (list_all is_built_field fs))) open ∙ ap (λ b. cond b false (list_all is_built_field fs)) plain ∙ built
+is_built_struct is_final supertype fs not_final plain built =
+    ap (λ b. cond b false (cond (is_some supertype) false (list_all is_built_field fs))) not_final ∙ ap (λ b. cond b false (list_all is_built_field fs)) plain ∙ built
 
 -- a declaration of built fields is left to the test on the type
 pub struct_runs : (layouts : Layouts) (limits : Limits) (old : StoreView) (s : State) (is_final : Bool) (supertype : Option ℕ) (fs : List FieldWord) (result : Result Reply RunError) (new : StoreView) (slots : List (Option Register)) → is_final ≡ false → is_some supertype ≡ false → list_all is_built_field fs ≡ true → IsSameStore old new → HoldsState layouts old slots s → DeclaresBuilt layouts (length fs) s.table result new → RunsOne layouts limits limits s (Struct is_final supertype fs) result new slots
-struct_runs layouts limits old s is_final supertype fs (Ok answer) new slots open plain built same holds (inl did) = record {
+struct_runs layouts limits old s is_final supertype fs (Ok answer) new slots not_final plain built same holds (inl did) = record {
   after = with_table (declare (plain_struct (replicate (length fs) built_field)) s.table) s;
   step = answers_by layouts limits.limit s (Struct is_final supertype fs) (first_failing (tests layouts s (Struct is_final supertype fs))) None answer _
-    (first_failing-skip (not (is_built (Struct is_final supertype fs))) refusal.BadLine ((is_bad_type s.table (length fs), refusal.BadType) ∷ []) (ap not (is_built_struct is_final supertype fs open plain built))
+    (first_failing-skip (not (is_built (Struct is_final supertype fs))) refusal.BadLine ((is_bad_type s.table (length fs), refusal.BadType) ∷ []) (ap not (is_built_struct is_final supertype fs not_final plain built))
      ∙ first_failing-skip (is_bad_type s.table (length fs)) refusal.BadType [] did.0)
     (did.1, refl);
   holds = holds_kept layouts old new slots slots s (declare (plain_struct (replicate (length fs) built_field)) s.table) same (λ i p e. e) (λ k. refl) holds did.2;
   same_limit = refl;
   counted = λ e unmade. absurd (cc (did.1, e));
 }
-struct_runs layouts limits old s is_final supertype fs (Ok answer) new slots open plain built same holds (inr did) = record {
+struct_runs layouts limits old s is_final supertype fs (Ok answer) new slots not_final plain built same holds (inr did) = record {
   after = s;
   step = answers_by layouts limits.limit s (Struct is_final supertype fs) (first_failing (tests layouts s (Struct is_final supertype fs))) (Some refusal.BadType) answer _
-    (first_failing-skip (not (is_built (Struct is_final supertype fs))) refusal.BadLine ((is_bad_type s.table (length fs), refusal.BadType) ∷ []) (ap not (is_built_struct is_final supertype fs open plain built))
+    (first_failing-skip (not (is_built (Struct is_final supertype fs))) refusal.BadLine ((is_bad_type s.table (length fs), refusal.BadType) ∷ []) (ap not (is_built_struct is_final supertype fs not_final plain built))
      ∙ first_failing-stop (is_bad_type s.table (length fs)) refusal.BadType [] did.0)
     (did.1, refl);
   holds = holds_same layouts old new slots slots s same (λ k. refl) holds did.2;
   same_limit = refl;
   counted = λ e unmade. absurd (cc (did.1, e));
 }
-struct_runs layouts limits old s is_final supertype fs (Err e) new slots open plain built same holds did =
+struct_runs layouts limits old s is_final supertype fs (Err e) new slots not_final plain built same holds did =
     (inl (holds_same layouts old new slots slots s same (λ k. refl) holds did), refl)
 
 -- reading asks no limit
