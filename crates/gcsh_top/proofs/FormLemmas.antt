@@ -1,9 +1,9 @@
 -- Where words are of no form.
-use Rattle.std.proofs.Common.{◌≡◌, ℕ, ◌<◌, ◌≤◌, List, [], ◌∷◌, map, length, get_or, refl, sym, ap, ◌∙◌, arith}
+use Rattle.std.proofs.Common.{◌≡◌, ℕ, ◌<◌, ◌≤◌, List, [], ◌∷◌, map, length, get_or, sym, ◌∙◌, arith}
 use Rattle.std.specs.Fmt.{decimal}
 use Rattle.std.proofs.lemmas.Fmt.{decimal_injective}
 use Rattle.gcsh_top.specs.declared.words.Form.{Form}
-use Rattle.gcsh_top.specs.Words.{IsForm, collector_word}
+use Rattle.gcsh_top.specs.Words.{IsForm}
 
 -- where the last word is a number, and the one before it is none up to that number
 pub no_first : (words : List (List ℕ)) (collector first last : List ℕ) (most : ℕ) → words ≡ collector ∷ first ∷ last ∷ [] → most ≤ 65535 → last ≡ decimal most

@@ -1,5 +1,5 @@
 -- A source and a sink in memory.
-use Rattle.std.specs.Prelude.{◌≡◌, ◌==◌, ℕ, ◌+◌, ◌≤◌, ◌<◌, Bool, true, false, List, [], length, take, drop, ◌++◌, Result, Ok, Err}
+use Rattle.std.specs.Prelude.{ℕ, ◌≤◌, ◌<◌, Bool, true, false, List, [], length, take, drop, ◌++◌, Result, Ok, Err}
 use Rattle.gcsh_top.specs.Ends.{is_end, raised}
 
 -- what a source has left, the numbers of the reads that fail, and what was counted so far

@@ -54,7 +54,8 @@ pub fn read_all<S: Source>(alloc: Global, source: &mut S) -> Result<Vec<u8>, Rea
     let mut input = Vec::new(alloc);
     loop {
         let wanted = PIECE.min(MAX_INPUT + 1 - input.len());
-        let Ok(count) = source.read(&mut piece[..wanted]) else {
+        let front = &mut piece[..wanted];
+        let Ok(count) = source.read(front) else {
             return Err(ReadFault::Source);
         };
         if count == 0 {
@@ -63,6 +64,6 @@ pub fn read_all<S: Source>(alloc: Global, source: &mut S) -> Result<Vec<u8>, Rea
         if count > MAX_INPUT - input.len() {
             return Err(ReadFault::TooLong);
         }
-        input.extend_from_slice(&piece[..count])?;
+        input.extend_from_slice(&front[..count])?;
     }
 }

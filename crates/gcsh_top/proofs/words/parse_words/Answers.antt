@@ -1,4 +1,4 @@
-use Rattle.std.proofs.Common.{string_bytes, ap, ◌∙◌, ◌∷◌, []}
+use Rattle.std.proofs.Common.{string_bytes}
 use Rattle.gcsh_top.proofs.FormLemmas.{no_first, three_words}
 use Rattle.gcsh_top.proofs.words.parse_words.Goals as goal
 
