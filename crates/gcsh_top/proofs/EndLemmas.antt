@@ -3,7 +3,8 @@ use Rattle.std.proofs.Common.{◌≡◌, ℕ, ◌+◌, ◌<◌, ◌≤◌, List,
 use Rattle.std.proofs.Math.Seq.{take-append_seam}
 use Rattle.std.specs.Io.KnownBytes.{Appends, Consumes, Keeps}
 use Rattle.std.proofs.KnownBytes.{Appends-kept, Appends-nil, Appends-trans, Consumes-kept, Consumes-nil, Consumes-trans}
-use Rattle.gcsh_top.specs.Ends.{Fills, Gave, TookPart, raised}
+use Rattle.gcsh_top.specs.Counts.{raised}
+use Rattle.gcsh_top.specs.Ends.{Fills, Gave, TookPart}
 
 -- a sink took a front of the bytes, and the rest of them is left
 pub record Progress (held held' : Option (List ℕ)) (bytes rest : List ℕ) : Type 0 where

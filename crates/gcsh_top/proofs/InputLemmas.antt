@@ -1,7 +1,7 @@
 -- What one turn of reading an input keeps.
 use Rattle.std.proofs.Common.{◌≡◌, ℕ, ◌+◌, ◌-◌, ◌<◌, ◌≤◌, min, Bool, List, length, take, IsTrue, rules, Result, Ok, Err, [], ◌∷◌, sym, ap, subst, ◌∙◌, arith, length-append, length-take, length-take-le, ◌++◌}
 use Rattle.std.specs.Result.{IsErrAnd}
-use Rattle.gcsh_top.specs.Ends.{is_end}
+use Rattle.gcsh_top.specs.Counts.{is_end}
 use Rattle.gcsh_top.specs.Input.{IsCount}
 use Rattle.gcsh_top.specs.declared.read.ReadFault.{ReadFault}
 use Rattle.gcsh_top.specs.declared.read.ReadFault.TheVariants.{Memory}

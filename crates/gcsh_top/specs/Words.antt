@@ -17,6 +17,10 @@ IsBuilt Copying = ⊥
 IsBuilt Counting = ⊥
 IsBuilt Null = Unit {0}
 
+-- the greatest number of pages of a heap
+abbrev pub max_pages : ℕ
+max_pages = 65535
+
 -- the words of a form: a collector, the pages that a heap begins with, the most that it may have
 abbrev pub words_of : Form → List (List ℕ)
 words_of form = collector_word form.collector ∷ decimal form.first ∷ decimal form.most ∷ []
@@ -25,5 +29,5 @@ words_of form = collector_word form.collector ∷ decimal form.first ∷ decimal
 pub record IsForm (words : List (List ℕ)) (form : Form) : Type 0 where
   pub built : IsBuilt form.collector
   pub ordered : form.first ≤ form.most
-  pub within : form.most ≤ 65535
+  pub within : form.most ≤ max_pages
   pub spelled : words ≡ words_of form

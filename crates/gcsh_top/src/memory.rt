@@ -1,8 +1,8 @@
 //! A source and a sink in memory, which tell their bytes and fail at the calls that they are told to.
 
 ghost use Rattle.std.specs.Prelude.{◌≡◌, ◌↔◌, ◌-◌, ◌⊎◌, ◌++◌, Contains, IfOk, IsErr, Some, drop, length, min, take};
-ghost use Rattle.gcsh_top.specs.Ends.{raised};
-ghost use Rattle.gcsh_top.specs.Memory.{IsFull, after_flush, after_read, after_write, fresh_store, fresh_supply};
+ghost use Rattle.gcsh_top.specs.Counts.{raised};
+ghost use Rattle.gcsh_top.specs.Memory.{IsFull, after_flush, after_read, after_write, fresh_sink, fresh_source};
 
 use crate::sink::{Sink, SinkFault};
 use crate::source::{Source, SourceFault};
@@ -23,11 +23,11 @@ pub struct MemSource {
 
 impl Model for MemSource {
     ghost use Rattle.std.specs.Prelude.{◌≤◌, drop, vec_len};
-    ghost use Rattle.gcsh_top.specs.Memory.{Supply};
+    ghost use Rattle.gcsh_top.specs.Memory.{SourceState};
 
-    ghost Value = { Supply };
+    ghost Value = { SourceState };
 
-    ghost view = { λ s. record { left = drop s.at s.bytes.items; failing = s.failing.items; calls = s.calls; faults = s.faults; given = s.given; ended = s.ended } };
+    ghost view = { λ s. record { left = drop s.at s.bytes.items; failing = s.failing.items; calls = s.calls; counts = record { faults = s.faults; given = s.given; ended = s.ended } } };
 
     ghost invariant = { λ s. s.at ≤ vec_len s.bytes };
 }
@@ -36,7 +36,7 @@ impl MemSource {
     /// A source of `bytes`. Its reads are numbered from 1; the ones whose number stands in
     /// `failing` fail, and each other one gives as many bytes as it can.
     pub fn new(bytes: Vec<u8>, failing: Vec<u64>) -> MemSource
-        ensures { result ≡ fresh_supply bytes.items failing.items }
+        ensures { result ≡ fresh_source bytes.items failing.items }
     {
         MemSource {
             bytes,
@@ -53,11 +53,11 @@ impl MemSource {
 impl Source for MemSource {
     ghost left = { λ s. Some s.left };
 
-    ghost faults = { λ s. s.faults };
+    ghost faults = { λ s. s.counts.faults };
 
-    ghost ended = { λ s. s.ended };
+    ghost ended = { λ s. s.counts.ended };
 
-    ghost given = { λ s. s.given };
+    ghost given = { λ s. s.counts.given };
 
     fn read(&mut self, buf: &mut [u8]) -> Result<usize, SourceFault>
         ensures fails { IsErr result ↔ Contains self.old.failing (raised self.old.calls 1) }
@@ -102,11 +102,11 @@ pub struct MemSink {
 
 impl Model for MemSink {
     ghost use Rattle.std.specs.Prelude.{◌≤◌, vec_capacity, vec_len};
-    ghost use Rattle.gcsh_top.specs.Memory.{Store};
+    ghost use Rattle.gcsh_top.specs.Memory.{SinkState};
 
-    ghost Value = { Store };
+    ghost Value = { SinkState };
 
-    ghost view = { λ s. record { held = s.bytes.items; room = s.room; failing = s.failing.items; calls = s.calls; faults = s.faults; flushed = s.flushed } };
+    ghost view = { λ s. record { held = s.bytes.items; room = s.room; failing = s.failing.items; calls = s.calls; counts = record { faults = s.faults; flushed = s.flushed } } };
 
     ghost invariant = { λ s. (vec_len s.bytes ≤ s.room) × (s.room ≤ vec_capacity s.bytes) };
 }
@@ -117,7 +117,7 @@ impl MemSink {
     /// left; each other one takes as many bytes as there is room for. A flush fails where 0 stands
     /// in `failing`. Takes no memory afterwards.
     pub fn new(alloc: Global, room: usize, failing: Vec<u64>) -> Result<MemSink, AllocError>
-        ensures { IfOk result (λ sink. sink ≡ fresh_store room failing.items) }
+        ensures { IfOk result (λ sink. sink ≡ fresh_sink room failing.items) }
     {
         Ok(MemSink {
             bytes: Vec::with_capacity(alloc, room)?,
@@ -140,9 +140,9 @@ impl MemSink {
 impl Sink for MemSink {
     ghost held = { λ s. Some s.held };
 
-    ghost faults = { λ s. s.faults };
+    ghost faults = { λ s. s.counts.faults };
 
-    ghost flushed = { λ s. s.flushed };
+    ghost flushed = { λ s. s.counts.flushed };
 
     fn write(&mut self, bytes: &[u8]) -> Result<usize, SinkFault>
         ensures fails { IsErr result ↔ (Contains self.old.failing (raised self.old.calls 1) ⊎ IsFull self.old bytes.now) }

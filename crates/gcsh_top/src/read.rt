@@ -2,7 +2,8 @@
 
 ghost use Rattle.std.specs.Prelude.{ℕ, ◌≤◌, IfOk, IsErrOf, IsTrue, OnOk, vec_len};
 ghost use Rattle.std.specs.Io.KnownBytes.{Consumes, IsAtEnd};
-ghost use Rattle.gcsh_top.specs.Ends.{Gave, Rose};
+ghost use Rattle.gcsh_top.specs.Counts.{Rose};
+ghost use Rattle.gcsh_top.specs.Ends.{Gave};
 ghost use Rattle.gcsh_top.specs.Input.{IsCount};
 
 use crate::source::Source;

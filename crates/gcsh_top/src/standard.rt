@@ -3,8 +3,8 @@
 //! Each call makes one call of std. What the world gives or takes is told by no contract, so the
 //! two tell counts alone.
 
-ghost use Rattle.std.specs.Prelude.{◌≡◌, None};
-ghost use Rattle.gcsh_top.specs.Standard.{fresh_input, fresh_output};
+ghost use Rattle.std.specs.Prelude.{◌≡◌, ◌≤◌, IfOk, None, length};
+ghost use Rattle.gcsh_top.specs.Counts.{after_flush, after_read, after_write, fresh_input, fresh_output};
 
 use crate::sink::{Sink, SinkFault};
 use crate::source::{Source, SourceFault};
@@ -21,7 +21,7 @@ pub struct StdSource<R> {
 }
 
 impl<R> Model for StdSource<R> {
-    ghost use Rattle.gcsh_top.specs.Standard.{Input};
+    ghost use Rattle.gcsh_top.specs.Counts.{Input};
 
     ghost Value = { Input };
 
@@ -51,7 +51,10 @@ impl<R: Read> Source for StdSource<R> {
 
     ghost given = { λ s. s.given };
 
-    fn read(&mut self, buf: &mut [u8]) -> Result<usize, SourceFault> {
+    fn read(&mut self, buf: &mut [u8]) -> Result<usize, SourceFault>
+        ensures within { IfOk result (λ n. n ≤ length buf.new) }
+        ensures state { self.new ≡ after_read self.old buf.new result }
+    {
         match self.reader.read(buf) {
             Ok(count) => {
                 self.given = self.given.saturating_add(count as u64);
@@ -76,7 +79,7 @@ pub struct StdSink<W> {
 }
 
 impl<W> Model for StdSink<W> {
-    ghost use Rattle.gcsh_top.specs.Standard.{Output};
+    ghost use Rattle.gcsh_top.specs.Counts.{Output};
 
     ghost Value = { Output };
 
@@ -103,7 +106,10 @@ impl<W: Write> Sink for StdSink<W> {
 
     ghost flushed = { λ s. s.flushed };
 
-    fn write(&mut self, bytes: &[u8]) -> Result<usize, SinkFault> {
+    fn write(&mut self, bytes: &[u8]) -> Result<usize, SinkFault>
+        ensures within { IfOk result (λ n. n ≤ length bytes.now) }
+        ensures state { self.new ≡ after_write self.old bytes.now result }
+    {
         self.flushed = false;
         match self.writer.write(bytes) {
             Ok(count) => {
@@ -119,7 +125,9 @@ impl<W: Write> Sink for StdSink<W> {
         }
     }
 
-    fn flush(&mut self) -> Result<(), SinkFault> {
+    fn flush(&mut self) -> Result<(), SinkFault>
+        ensures state { self.new ≡ after_flush self.old result }
+    {
         match self.writer.flush() {
             Ok(()) => {
                 self.flushed = true;
