@@ -17,6 +17,7 @@ mod words;
 pub use command::{
     Command, FieldWord, FieldWords, HeapWord, Operand, Operands, StorageWord, ValueWord,
 };
+pub use numbers::number;
 pub use parse::{MAX_LINE, parse_line, spelling_is_unique};
 pub use reply::{ByteText, Refusal, Reply, ReplyValue};
 pub use text::reply_text;

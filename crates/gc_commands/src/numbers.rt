@@ -6,7 +6,7 @@ ghost use Rattle.std.specs.Int.{w32};
 ghost use Rattle.gc_commands.specs.Reading.{IsPlain, Reads};
 
 /// The number that a word spells, if it is at most `most`.
-pub(crate) fn number(word: &str, most: u64) -> Option<u64>
+pub fn number(word: &str, most: u64) -> Option<u64>
     ensures { Reads (λ n. n ≤ most) decimal word.now result }
 {
     if !is_plain(word) {

@@ -1,0 +1,4 @@
+pub mod LineLemmas
+pub mod FormLemmas
+pub mod EndLemmas
+pub mod InputLemmas

@@ -1,0 +1,33 @@
+-- The words of the program.
+use Rattle.std.specs.Prelude.{◌≡◌, ℕ, ◌≤◌, List, [], ◌∷◌, codes}
+use Rattle.std.specs.Fmt.{decimal}
+use Rattle.gcsh_top.specs.declared.words.Collector.{Collector}
+use Rattle.gcsh_top.specs.declared.words.Collector.TheVariants.{Copying, Counting, Null}
+use Rattle.gcsh_top.specs.declared.words.Form.{Form}
+
+-- the word of a collector
+abbrev pub collector_word : Collector → List ℕ
+collector_word Copying = codes "copying"
+collector_word Counting = codes "counting"
+collector_word Null = codes "null"
+
+-- the null heap is the one collector that is built
+abbrev pub IsBuilt : Collector → Type 0
+IsBuilt Copying = ⊥
+IsBuilt Counting = ⊥
+IsBuilt Null = Unit {0}
+
+-- the greatest number of pages of a heap
+abbrev pub max_pages : ℕ
+max_pages = 65535
+
+-- the words of a form: a collector, the pages that a heap begins with, the most that it may have
+abbrev pub words_of : Form → List (List ℕ)
+words_of form = collector_word form.collector ∷ decimal form.first ∷ decimal form.most ∷ []
+
+-- the words are those of the form, whose collector is built and whose numbers are in range
+pub record IsForm (words : List (List ℕ)) (form : Form) : Type 0 where
+  pub built : IsBuilt form.collector
+  pub ordered : form.first ≤ form.most
+  pub within : form.most ≤ max_pages
+  pub spelled : words ≡ words_of form

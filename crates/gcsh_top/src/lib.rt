@@ -1,0 +1,29 @@
+//! The top of the program: its words, its ends, and the loops over them.
+//!
+//! A run reads from a `Source` and writes to a `Sink`. What the world does stands behind these two
+//! traits: a fault of an end is counted by it, so that whoever is told of a fault can see its cause.
+//! `MemSource` and `MemSink` tell their bytes, so that all that a run does can be stated of them;
+//! `StdSource` and `StdSink` stand before standard input and output, and tell counts alone.
+//! The definitions are in `specs/`: `Ends` (what reads and writes do), `Memory` (the ends in
+//! memory), `Words` (the words of the program), `Lines` (the lines of an input).
+#![tactic(auto)]
+
+pub mod lines;
+pub mod memory;
+pub mod read;
+pub mod sink;
+pub mod source;
+pub mod standard;
+#[cfg(test)]
+mod tests;
+pub mod words;
+pub mod write;
+
+pub use lines::next_line;
+pub use memory::{MemSink, MemSource};
+pub use read::{MAX_INPUT, ReadFault, read_all};
+pub use sink::{Sink, SinkFault};
+pub use source::{Source, SourceFault};
+pub use standard::{StdSink, StdSource};
+pub use words::{Collector, Form, MAX_PAGES, parse_words};
+pub use write::write_all;

@@ -1,0 +1,70 @@
+//! Reads an input to its end.
+
+ghost use Rattle.std.specs.Prelude.{ℕ, ◌≤◌, IfOk, IsErrOf, IsTrue, OnOk, vec_len};
+ghost use Rattle.std.specs.Io.KnownBytes.{Consumes, IsAtEnd};
+ghost use Rattle.gcsh_top.specs.Counts.{Rose};
+ghost use Rattle.gcsh_top.specs.Ends.{Gave};
+ghost use Rattle.gcsh_top.specs.Input.{IsCount};
+
+use crate::source::Source;
+use std::alloc::{AllocError, Global};
+use thiserror::Error;
+
+/// An input may have this many bytes.
+pub const MAX_INPUT: usize = 16_777_216;
+
+/// A read asks for this many bytes at most.
+const PIECE: usize = 65_536;
+
+/// Why an input was not read to its end.
+#[derive(Clone, Copy, Debug, PartialEq, Eq, Error)]
+pub enum ReadFault {
+    #[error("the source failed")]
+    Source,
+    #[error("the input is too long")]
+    TooLong,
+    #[error("out of memory")]
+    Memory,
+}
+
+impl From<AllocError> for ReadFault {
+    ghost use Rattle.std.specs.Prelude.{◌≡◌};
+    ghost use Rattle.gcsh_top.specs.declared.read.ReadFault.TheVariants.{Memory};
+
+    ghost from_gives = { λ _ fault. fault ≡ Memory };
+
+    fn from(_: AllocError) -> ReadFault {
+        ReadFault::Memory
+    }
+}
+
+/// Reads the whole input, of at most `MAX_INPUT` bytes. One byte more is read to see that it is
+/// too long, and none behind that one.
+pub fn read_all<S: Source>(alloc: Global, source: &mut S) -> Result<Vec<u8>, ReadFault>
+    ensures whole { IfOk result (λ input. Consumes (S.left source.old) (S.left source.new) input.items) }
+    ensures end { OnOk result (IsAtEnd (S.left source.new)) }
+    ensures ended { OnOk result (IsTrue (S.ended source.new)) }
+
+    // One byte too many was given exactly where the input is too long, and else no more than are allowed.
+    ensures given { (n : ℕ) × IsCount vec_len result n × Gave (S.left source.old) (S.left source.new) (S.given source.old) (S.given source.new) n }
+
+    ensures failed { IsErrOf result ReadFault.Source → Rose (S.faults source.old) (S.faults source.new) }
+    ensures faults { S.faults source.old ≤ S.faults source.new }
+{
+    let mut piece = vec![in alloc; 0u8; PIECE]?;
+    let mut input = Vec::new(alloc);
+    loop {
+        let wanted = PIECE.min(MAX_INPUT + 1 - input.len());
+        let front = &mut piece[..wanted];
+        let Ok(count) = source.read(front) else {
+            return Err(ReadFault::Source);
+        };
+        if count == 0 {
+            return Ok(input);
+        }
+        if count > MAX_INPUT - input.len() {
+            return Err(ReadFault::TooLong);
+        }
+        input.extend_from_slice(&front[..count])?;
+    }
+}

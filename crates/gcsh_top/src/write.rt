@@ -1,0 +1,27 @@
+//! Writes until all is taken.
+
+ghost use Rattle.std.specs.Prelude.{◌≤◌, OnErr, OnOk};
+ghost use Rattle.std.specs.Io.KnownBytes.{Appends};
+ghost use Rattle.gcsh_top.specs.Counts.{Rose};
+ghost use Rattle.gcsh_top.specs.Ends.{TookPart};
+
+use crate::sink::{Sink, SinkFault};
+
+/// Writes all of `bytes`, in as many writes as the sink makes of it. After a fault the sink took
+/// a front of them.
+pub fn write_all<K: Sink>(sink: &mut K, bytes: &[u8]) -> Result<(), SinkFault>
+    ensures ok { OnOk result (Appends (K.held sink.old) (K.held sink.new) bytes.now) }
+    ensures part { OnErr result (TookPart (K.held sink.old) (K.held sink.new) bytes.now) }
+    ensures failed { OnErr result (Rose (K.faults sink.old) (K.faults sink.new)) }
+    ensures faults { K.faults sink.old ≤ K.faults sink.new }
+{
+    let mut rest = bytes;
+    while !rest.is_empty() {
+        match sink.write(rest) {
+            Ok(0) => return Err(SinkFault),
+            Ok(count) => rest = &rest[count..],
+            Err(fault) => return Err(fault),
+        }
+    }
+    Ok(())
+}
