@@ -4,3 +4,4 @@ pub mod Memory
 pub mod Input
 pub mod Words
 pub mod Lines
+pub mod Runs

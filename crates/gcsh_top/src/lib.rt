@@ -11,19 +11,25 @@
 pub mod lines;
 pub mod memory;
 pub mod read;
+pub mod run;
 pub mod sink;
 pub mod source;
 pub mod standard;
+pub mod stores;
 #[cfg(test)]
 mod tests;
+pub mod top;
 pub mod words;
 pub mod write;
 
 pub use lines::next_line;
 pub use memory::{MemSink, MemSource};
 pub use read::{MAX_INPUT, ReadFault, read_all};
+pub use run::{LineFault, run_lines};
 pub use sink::{Sink, SinkFault};
 pub use source::{Source, SourceFault};
 pub use standard::{StdSink, StdSource};
+pub use stores::Stores;
+pub use top::gcsh_top;
 pub use words::{Collector, Form, MAX_PAGES, parse_words};
 pub use write::write_all;

@@ -1,0 +1,87 @@
+//! Runs the lines of an input.
+
+ghost use Rattle.std.specs.Prelude.{◌≡◌, ◌≤◌, IfOk, IsErrOf, OnOk};
+ghost use Rattle.gcsh_top.specs.Counts.{Rose};
+ghost use Rattle.gcsh_top.specs.Runs.{RanLine, RanLines};
+ghost use Rattle.gc_script.specs.State.{State, HoldsState};
+ghost use Rattle.gc_script.specs.Session.{reply_line};
+ghost use Rattle.std.specs.Io.KnownBytes.{Appends};
+
+use crate::lines::next_line;
+use crate::sink::{Sink, SinkFault};
+use crate::write::write_all;
+use gc_heap::GcHeap;
+use gc_script::{Reply, RunError, Runner, parse_line, reply_text};
+use gc_store::{ResourceLimiter, Store};
+use std::alloc::{AllocError, Global};
+use thiserror::Error;
+
+/// Why lines were not run to their end.
+#[derive(Clone, Copy, Debug, PartialEq, Eq, Error)]
+pub enum LineFault {
+    #[error("the sink failed")]
+    Sink,
+    #[error("out of memory")]
+    Memory,
+}
+
+/// Writes a reply with its line feed.
+fn write_reply<K: Sink>(alloc: Global, sink: &mut K, reply: &Reply) -> Result<(), LineFault>
+    ensures replied { OnOk result (Appends (K.held sink.old) (K.held sink.new) (reply_line reply.now)) }
+    ensures failed { IsErrOf result LineFault.Sink → Rose (K.faults sink.old) (K.faults sink.new) }
+    ensures faults { K.faults sink.old ≤ K.faults sink.new }
+{
+    let Ok(mut text) = reply_text(alloc, reply) else {
+        return Err(LineFault::Memory);
+    };
+    if text.push_str("\n").is_err() {
+        return Err(LineFault::Memory);
+    }
+    match write_all(sink, text.as_bytes()) {
+        Ok(()) => Ok(()),
+        Err(_) => Err(LineFault::Sink),
+    }
+}
+
+/// Runs one line, and writes its reply.
+fn run_line<H: GcHeap, L: ResourceLimiter, K: Sink>(
+    alloc: Global,
+    runner: &mut Runner,
+    store: &mut Store<H, u64>,
+    limiter: &mut L,
+    line: &[u8],
+    sink: &mut K,
+) -> Result<(), LineFault>
+    ensures ran { OnOk result ((s : State) → HoldsState H.LAYOUTS store.old runner.old s → RanLine H.LAYOUTS (L.limits limiter.old) (L.limits limiter.new) s line.now store.new runner.new (K.held sink.old) (K.held sink.new)) }
+    ensures failed { IsErrOf result LineFault.Sink → Rose (K.faults sink.old) (K.faults sink.new) }
+    ensures faults { K.faults sink.old ≤ K.faults sink.new }
+{
+    let Ok(command) = parse_line(alloc, line) else {
+        return Err(LineFault::Memory);
+    };
+    match runner.run_one(store, limiter, &command) {
+        Ok(reply) => write_reply(alloc, sink, &reply),
+        Err(RunError::OutOfMemory) => Err(LineFault::Memory),
+    }
+}
+
+/// Runs the lines of the input, one after the other, and writes their replies.
+pub fn run_lines<H: GcHeap, L: ResourceLimiter, K: Sink>(
+    alloc: Global,
+    runner: &mut Runner,
+    store: &mut Store<H, u64>,
+    limiter: &mut L,
+    input: &[u8],
+    sink: &mut K,
+) -> Result<(), LineFault>
+    ensures ran { OnOk result ((s : State) → HoldsState H.LAYOUTS store.old runner.old s → RanLines H.LAYOUTS (L.limits limiter.old).limit s input.now store.new runner.new (K.held sink.old) (K.held sink.new)) }
+    ensures failed { IsErrOf result LineFault.Sink → Rose (K.faults sink.old) (K.faults sink.new) }
+    ensures faults { K.faults sink.old ≤ K.faults sink.new }
+{
+    let mut rest = input;
+    while let Some((line, behind)) = next_line(rest) {
+        run_line(alloc, runner, store, limiter, line, sink)?;
+        rest = behind;
+    }
+    Ok(())
+}

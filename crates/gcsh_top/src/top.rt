@@ -1,0 +1,106 @@
+//! The top call of the program.
+
+ghost use Rattle.std.specs.Prelude.{◌≡◌, ◌≤◌, ◌+◌, ◌↔◌, ◌⊎◌, ℕ, IsTrue, map, string_bytes};
+ghost use Rattle.gc_types.specs.declared.kind.Layouts.TheVariants.{Null};
+ghost use Rattle.gc_store.specs.Stores.{HoldsStart};
+ghost use Rattle.gcsh_top.specs.declared.words.Form.{Form};
+ghost use Rattle.gcsh_top.specs.Counts.{Rose};
+ghost use Rattle.gcsh_top.specs.Ends.{Gave};
+ghost use Rattle.gcsh_top.specs.Input.{max_input};
+ghost use Rattle.gcsh_top.specs.Runs.{Completed, RanForm};
+ghost use Rattle.gcsh_top.specs.Words.{IsForm, max_pages};
+
+use crate::read::{ReadFault, read_all};
+use crate::run::{LineFault, run_lines};
+use crate::sink::Sink;
+use crate::source::Source;
+use crate::stores::Stores;
+use crate::words::{Form, parse_words};
+use gc_script::Runner;
+use gc_store::{HeapConfig, PageLimit};
+use std::alloc::Global;
+
+/// The input was read to its end, and every line has its reply.
+pub const DONE: u8 = 0;
+
+/// The words are of no form that is built. Nothing was read or written.
+pub const USAGE: u8 = 1;
+
+/// The source failed. Nothing was written.
+pub const READ_FAULT: u8 = 2;
+
+/// The sink failed.
+pub const WRITE_FAULT: u8 = 3;
+
+/// The input has more bytes than `MAX_INPUT`. Nothing was written.
+pub const TOO_LONG: u8 = 4;
+
+/// There was no memory.
+pub const NO_MEMORY: u8 = 5;
+
+/// Runs the program: `words` are those behind its name. The chosen store begins with FIRST pages,
+/// and has at most MOST. The input is read to its end, then each line is run and its reply written,
+/// with a line feed. The answer is the status that the program ends with, one of `DONE`, `USAGE`,
+/// `READ_FAULT`, `WRITE_FAULT`, `TOO_LONG` and `NO_MEMORY`.
+pub fn gcsh_top<S: Source, K: Sink>(
+    alloc: Global,
+    words: &[String],
+    source: &mut S,
+    sink: &mut K,
+    stores: &mut Stores,
+) -> u8
+    requires { HoldsStart ℕ Null stores.old.null }
+    ensures status { result ≤ 5 }
+    ensures done { result ≡ 0 → Completed (map string_bytes words.now) (S.left source.old) (S.left source.new) (K.held sink.old) (K.held sink.new) stores.new.null }
+    ensures ended { result ≡ 0 → IsTrue (S.ended source.new) }
+    ensures flushed { result ≡ 0 → IsTrue (K.flushed sink.new) }
+    ensures usage { (result ≡ 1) ↔ ((form : Form) → ¬ IsForm (map string_bytes words.now) form) }
+    ensures untouched { result ≡ 1 → (source.new ≡ source.old) × (sink.new ≡ sink.old) × (stores.new ≡ stores.old) }
+    ensures read_fault { result ≡ 2 → Rose (S.faults source.old) (S.faults source.new) }
+    ensures write_fault { result ≡ 3 → Rose (K.faults sink.old) (K.faults sink.new) }
+    ensures given { (n : ℕ) × Gave (S.left source.old) (S.left source.new) (S.given source.old) (S.given source.new) n × (n ≤ max_input + 1) × ((result ≡ 4) ↔ (n ≡ max_input + 1)) }
+    ensures unwritten { (result ≡ 2) ⊎ (result ≡ 4) → sink.new ≡ sink.old }
+{
+    let Some(form) = parse_words(words) else {
+        return USAGE;
+    };
+    let input = match read_all(alloc, source) {
+        Ok(input) => input,
+        Err(ReadFault::Source) => return READ_FAULT,
+        Err(ReadFault::TooLong) => return TOO_LONG,
+        Err(ReadFault::Memory) => return NO_MEMORY,
+    };
+    run_form(alloc, form, input.as_slice(), sink, stores)
+}
+
+/// Runs an input on the store that the form chooses.
+fn run_form<K: Sink>(
+    alloc: Global,
+    form: Form,
+    input: &[u8],
+    sink: &mut K,
+    stores: &mut Stores,
+) -> u8
+    requires first { form.first ≤ form.most }
+    requires most { form.most ≤ max_pages }
+    requires start { HoldsStart ℕ Null stores.old.null }
+    ensures status { (result ≡ 0) ⊎ ((result ≡ 3) ⊎ (result ≡ 5)) }
+    ensures done { result ≡ 0 → RanForm form input.now (K.held sink.old) (K.held sink.new) stores.new.null }
+    ensures flushed { result ≡ 0 → IsTrue (K.flushed sink.new) }
+    ensures write_fault { result ≡ 3 → Rose (K.faults sink.old) (K.faults sink.new) }
+{
+    let Some(config) = HeapConfig::with_pages(form.first) else {
+        unreachable!()
+    };
+    stores.null.configure(config);
+    let mut limiter = PageLimit::new(form.most);
+    let mut runner = Runner::new(alloc);
+    match run_lines(alloc, &mut runner, &mut stores.null, &mut limiter, input, sink) {
+        Err(LineFault::Sink) => WRITE_FAULT,
+        Err(LineFault::Memory) => NO_MEMORY,
+        Ok(()) => match sink.flush() {
+            Ok(()) => DONE,
+            Err(_) => WRITE_FAULT,
+        },
+    }
+}
