@@ -1,3 +1,4 @@
 pub mod Coding
 pub mod Runs
+pub mod Orders
 pub mod Held

@@ -3,5 +3,8 @@
 
 mod held;
 mod run;
+mod search;
+mod steps;
 
 pub use run::Run;
+pub use steps::Steps;

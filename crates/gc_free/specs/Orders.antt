@@ -1,0 +1,30 @@
+-- The two orders of free runs, and what a search in them finds and costs.
+use Rattle.std.specs.Prelude.{ℕ, zero, suc, ◌+◌, ◌-◌, ◌*◌, ◌^◌, ◌≤◌, nat_lt, cond, List, [], ◌∷◌}
+use Rattle.gc_free.specs.declared.run.Run.{Run}
+use Rattle.gc_free.specs.declared.search.Order.{Order}
+use Rattle.gc_free.specs.declared.search.Order.TheVariants.{ByPlace, ByLength}
+use Rattle.gc_free.specs.Runs.{insert_by}
+
+-- by length, and by place where lengths are equal, as one number
+abbrev pub length_key : Run → ℕ
+length_key r = r.length * 2 ^ 32 + r.place
+
+-- the number by which runs are ordered
+abbrev pub key_of : Order → Run → ℕ
+key_of ByPlace r = r.place
+key_of ByLength r = length_key r
+
+-- runs by length, and by place where lengths are equal
+abbrev pub by_length : List Run → List Run
+by_length [] = []
+by_length (r ∷ rs) = insert_by length_key r (by_length rs)
+
+-- how many runs at the front have a key below this one
+abbrev pub count_below : (Run → ℕ) → ℕ → List Run → ℕ
+count_below key k [] = 0
+count_below key k (x ∷ xs) = cond (nat_lt (key x) k) (suc (count_below key k xs)) 0
+
+-- no more steps than that number of searches, each in at most `count` runs, takes
+pub record IsSearched (searches count before after : ℕ) : Type 0 where
+  pub rises : before ≤ after
+  pub bound : 2 ^ (after - before) ≤ (2 * count + 1) ^ searches
