@@ -1,2 +1,8 @@
 mod Walks
 pub mod Narrowing
+pub mod InsertBy
+pub mod ByLength
+pub mod Shortest
+pub mod Spread
+pub mod TwoOrdersKept
+pub mod Costs

@@ -1,5 +1,5 @@
 -- Runs of places, and the gaps that blocks leave between two places.
-use Rattle.std.specs.Prelude.{ℕ, ◌+◌, ◌-◌, ◌*◌, ◌%◌, ◌<◌, ◌≤◌, ◌≡◌, ◌==◌, nat_lt, not, cond, List, [], ◌∷◌, ◌++◌, filter}
+use Rattle.std.specs.Prelude.{ℕ, ◌+◌, ◌-◌, ◌*◌, ◌%◌, ◌<◌, ◌≤◌, ◌≡◌, ◌==◌, nat_lt, not, cond, Bool, List, [], ◌∷◌, ◌++◌, filter}
 use Rattle.gc_free.specs.declared.run.Run.{Run}
 
 -- the run of these many places from this one on
@@ -29,10 +29,22 @@ abbrev pub insert_by : (Run → ℕ) → Run → List Run → List Run
 insert_by key r [] = r ∷ []
 insert_by key r (x ∷ xs) = cond (nat_lt (key x) (key r)) (x ∷ insert_by key r xs) (r ∷ x ∷ xs)
 
+-- without the first run whose key isn't below this one
+abbrev pub remove_by : (Run → ℕ) → ℕ → List Run → List Run
+remove_by key k [] = []
+remove_by key k (x ∷ xs) = cond (nat_lt (key x) k) (x ∷ remove_by key k xs) xs
+
 -- a run put among others by its place
 abbrev pub insert_run : Run → List Run → List Run
 insert_run r rs = insert_by (λ x. x.place) r rs
 
--- the others than the run at a place
-abbrev pub without : ℕ → List Run → List Run
-without place rs = filter (λ r. not (r.place == place)) rs
+-- whether a run begins at a place, and whether it ends before it
+abbrev pub begins_at : ℕ → Run → Bool
+begins_at place r = r.place == place
+
+abbrev pub ends_at : ℕ → Run → Bool
+ends_at place r = end_of r == place
+
+-- the others than those that pass a test
+abbrev pub without : (Run → Bool) → List Run → List Run
+without test rs = filter (λ r. not (test r)) rs

@@ -1,6 +1,7 @@
 //! A coalescing free list over the places of one heap, whose free runs are always maximal.
 #![tactic(auto)]
 
+mod free_runs;
 mod held;
 mod run;
 mod search;

@@ -16,7 +16,7 @@ pub(crate) enum Order {
 }
 
 /// Above every place, so that a length times this outweighs any place.
-const PLACES: u64 = 1 << 32;
+pub(crate) const PLACES: u64 = 1 << 32;
 
 impl Order {
     /// The number by which a run is ordered.
