@@ -6,3 +6,6 @@ pub mod Shortest
 pub mod Spread
 pub mod TwoOrdersKept
 pub mod Costs
+pub mod Slots
+pub mod Neighbours
+pub mod Merging

@@ -4,3 +4,6 @@ pub mod Orders
 pub mod Ordered
 pub mod TwoOrders
 pub mod Held
+pub mod Space
+pub mod Merged
+pub mod Kept

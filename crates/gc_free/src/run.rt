@@ -2,6 +2,9 @@
 ghost use Rattle.std.specs.Prelude.{◌≡◌, ◌^◌, ◌<◌};
 ghost use Rattle.gc_free.specs.Runs.{end_of};
 
+/// Every place and every block's size is a multiple of these bytes, and so is the first managed place.
+pub const ALIGN: u32 = 16;
+
 /// `length` bytes that begin at `place`.
 #[derive(Clone, Copy, Debug, PartialEq, Eq)]
 pub struct Run {
