@@ -9,3 +9,5 @@ pub mod Costs
 pub mod Slots
 pub mod Neighbours
 pub mod Merging
+pub mod Between
+pub mod Giving

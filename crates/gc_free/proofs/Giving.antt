@@ -1,0 +1,95 @@
+-- Blocks given back and new capacity keep what a free list keeps.
+use Rattle.std.proofs.Common.{ℕ, zero, suc, ◌≡◌, ◌≤◌, ◌<◌, ◌+◌, ◌-◌, ◌*◌, ◌/◌, ◌%◌, ◌^◌, min, max, length, List, [], ◌∷◌, ◌++◌, arith, refl, ap, sym, ◌∙◌, cond, ltb, eqb, true, false, inl, inr, ◌⊎◌, Option, Some, None, subst, append_assoc, append-nil, Bool, ◌||◌}
+use Rattle.std.proofs.lemmas.Bool.{lt-ltb, le-ltb, eq-eqb, ne_eqb, cases_lt, cases_eq, or_right}
+use Rattle.std.specs.List.{Contains, find}
+use Rattle.std.specs.Option.{MatchOption}
+use Rattle.gc_free.specs.declared.run.Run.{Run}
+use Rattle.gc_free.specs.Runs.{run, end_of, gap, gaps, insert_run, without, begins_at, IsSpread}
+use Rattle.gc_free.specs.Space.{Space, IsBetween, IsAligned, AllAligned, IsSound, places_end, free_runs, touches, covers, current_with, merge, give}
+use Rattle.gc_free.specs.Merged.{current_after, others_after}
+use Rattle.gc_free.specs.Kept.{is_current, IsKept}
+use Rattle.gc_free.proofs.Slots.{lower, upper, before, behind, gaps-split, gaps-around, before-under, behind-over, spread-behind, lower-ge, Under, Over}
+use Rattle.gc_free.proofs.Between.{Slot, between_at, beside, Beside, spread-remove, without-slot, aligned-remove, Holding, holding, between_within}
+use Rattle.gc_free.proofs.Merging.{Site, IsMerged, merged_none, merged_apart, merged_left, merged_right, around_is}
+
+-- whether the freed places touch the current run: on the left, on the right, or not at all
+pub data Touching (freed c : Run) : Type 0 where
+  on_left : end_of c ≡ freed.place → Touching freed c
+  on_right : end_of freed ≡ c.place → Touching freed c
+  not_at_all : (end_of c ≡ freed.place → ⊥) → (end_of freed ≡ c.place → ⊥) → touches freed c ≡ false → Touching freed c
+
+pub touches_left : (freed c : Run) → end_of c ≡ freed.place → touches freed c ≡ true
+touches_left freed c e = rw (eq-eqb (end_of c) freed.place e) (or_right (eqb (end_of freed) c.place) true refl)
+
+pub touches_right : (freed c : Run) → end_of freed ≡ c.place → touches freed c ≡ true
+touches_right freed c e = rw (eq-eqb (end_of freed) c.place e) refl
+
+pub touching : (freed c : Run) → Touching freed c
+touching freed c =
+    elim (cases_eq (end_of c) freed.place) [
+      | inl e ↦ on_left e
+      | inr l ↦ elim (cases_eq (end_of freed) c.place) [
+        | inl e ↦ on_right e
+        | inr r ↦ not_at_all l r (rw (ne_eqb (end_of freed) c.place r, ne_eqb (end_of c) freed.place l) refl)
+      ]
+    ]
+
+-- a block ends where the next begins at the latest
+upper_ge : (b : Run) (end : ℕ) (ts : List Run) → end_of b ≤ end → IsSpread (end_of b) end ts → end_of b ≤ upper end ts
+upper_ge b end [] l up = l
+upper_ge b end (t ∷ ts) l up = up.0
+
+-- the gaps round the places of a block, which lie between two neighbours
+pub block_site : (b : Run) (from end : ℕ) (hs ts : List Run) → IsSpread from end (hs ++ b ∷ ts) → Site b (before from hs) (behind end ts) (lower from hs) (upper end ts)
+block_site b from end hs ts up =
+    let here = spread-behind from end hs (b ∷ ts) up in
+    let under = before-under from end hs (b ∷ ts) up in
+    record { under = under; over = behind-over (end_of b) end ts here.3; left = here.0; some = here.1; right = upper_ge b end ts here.2 here.3 }
+
+-- what is kept once the block is given back: the current run, which lies between two of the blocks left
+pub record IsGiven (b : Run) (current : Option Run) (runs : List Run) (from end : ℕ) (left : List Run) : Type 0 where
+  pub merged : IsMerged b current runs (gaps from end left)
+  pub between : MatchOption (current_with b current (find (covers b.place) (gaps from end left))) (Unit {0}) (λ c. IsBetween c from end left)
+
+-- the whole run round the freed places lies between the neighbours
+whole_between : (lo hi from end : ℕ) (hs ts : List Run) → lo ≡ lower from hs → hi ≡ upper end ts → lo ≤ hi → IsBetween (run lo (hi - lo)) from end (hs ++ ts)
+whole_between lo hi from end hs ts e f l = between_at (run lo (hi - lo)) from end hs ts e (let g : lo + (hi - lo) ≡ hi = omega arith in g ∙ f)
+
+given_none : (b : Run) (from end : ℕ) (hs ts : List Run) → IsSpread from end (hs ++ b ∷ ts)
+    → IsGiven b None (without (is_current None) (gaps from end (hs ++ b ∷ ts))) from end (hs ++ ts)
+given_none b from end hs ts up =
+    let site = block_site b from end hs ts up in
+    record {
+      merged = rw (gaps-split from end hs ts, gaps-around from end hs b ts) (merged_none b (before from hs) (behind end ts) (lower from hs) (upper end ts) site);
+      between = tt;
+    }
+
+given_some : (b c : Run) (from end : ℕ) (hs ts : List Run) → IsSpread from end (hs ++ b ∷ ts) → IsBetween c from end (hs ++ b ∷ ts)
+    → IsGiven b (Some c) (without (is_current (Some c)) (gaps from end (hs ++ b ∷ ts))) from end (hs ++ ts)
+given_some b c from end hs ts up between =
+    let xs = before from hs in let ys = behind end ts in let lo = lower from hs in let hi = upper end ts in
+    let site = block_site b from end hs ts up in
+    let left : lo ≤ b.place = site.left in let some : 0 < b.length = site.some in let right : end_of b ≤ hi = site.right in
+    let side = beside c b from end hs ts up between in
+    let around : find (covers b.place) (gaps from end (hs ++ ts)) ≡ Some (run lo (hi - lo)) = ap (find (covers b.place)) (gaps-split from end hs ts) ∙ around_is b xs ys lo hi site in
+    let whole : IsBetween (run lo (hi - lo)) from end (hs ++ ts) = whole_between lo hi from end hs ts refl refl (omega arith) in
+    elim (touching b c) [
+      | on_left e ↦ record {
+        merged = rw (gaps-split from end hs ts, gaps-around from end hs b ts) (merged_left b c xs ys lo hi site e (side.left e));
+        between = rw (touches_left b c e, around) whole;
+      }
+      | on_right e ↦ record {
+        merged = rw (gaps-split from end hs ts, gaps-around from end hs b ts) (merged_right b c xs ys lo hi site e (side.right (sym e)));
+        between = rw (touches_right b c e, around) whole;
+      }
+      | not_at_all l r apart ↦ record {
+        merged = rw (gaps-split from end hs ts, gaps-around from end hs b ts) (merged_apart b c xs ys lo hi site apart (λ e. l (side.left_back (sym e))) r);
+        between = rw apart (side.apart l (λ e. r (sym e)));
+      }
+    ]
+
+pub given : (b : Run) (current : Option Run) (from end : ℕ) (hs ts : List Run) → IsSpread from end (hs ++ b ∷ ts)
+    → MatchOption current (Unit {0}) (λ c. IsBetween c from end (hs ++ b ∷ ts))
+    → IsGiven b current (without (is_current current) (gaps from end (hs ++ b ∷ ts))) from end (hs ++ ts)
+given b None from end hs ts up between = given_none b from end hs ts up
+given b (Some c) from end hs ts up between = given_some b c from end hs ts up between
