@@ -9,8 +9,8 @@ use Rattle.gc_free.specs.Space.{Space, IsBetween, IsAligned, AllAligned, IsSound
 use Rattle.gc_free.specs.Merged.{current_after, others_after}
 use Rattle.gc_free.specs.Kept.{is_current, IsKept}
 use Rattle.gc_free.proofs.Slots.{lower, upper, before, behind, gaps-split, gaps-around, before-under, behind-over, spread-behind, lower-ge, Under, Over}
-use Rattle.gc_free.proofs.Between.{Slot, between_at, beside, Beside, spread-remove, without-slot, aligned-remove, Holding, holding, between_within}
-use Rattle.gc_free.proofs.Merging.{Site, IsMerged, merged_none, merged_apart, merged_left, merged_right, around_is}
+use Rattle.gc_free.proofs.Between.{Slot, between_at, beside, Beside, spread-remove, without-slot, aligned-remove, length-slot, Holding, holding, between_within, last_left, last_left_back, last_apart}
+use Rattle.gc_free.proofs.Merging.{Site, IsMerged, merged_none, merged_apart, merged_left, merged_right, around_is, gap_none}
 
 -- whether the freed places touch the current run: on the left, on the right, or not at all
 pub data Touching (freed c : Run) : Type 0 where
@@ -93,3 +93,58 @@ pub given : (b : Run) (current : Option Run) (from end : ℕ) (hs ts : List Run)
     → IsGiven b current (without (is_current current) (gaps from end (hs ++ b ∷ ts))) from end (hs ++ ts)
 given b None from end hs ts up between = given_none b from end hs ts up
 given b (Some c) from end hs ts up between = given_some b c from end hs ts up between
+
+-- what is true of the blocks left once one is given back
+pub record GivenBack (b : Run) (from end : ℕ) (held : List Run) (current : Option Run) : Type 0 where
+  pub blocks : IsSpread from end (without (begins_at b.place) held)
+  pub aligned : AllAligned (without (begins_at b.place) held)
+  pub count : length held ≡ suc (length (without (begins_at b.place) held))
+  pub merged : IsGiven b current (without (is_current current) (gaps from end held)) from end (without (begins_at b.place) held)
+  pub block : IsSpread from end (b ∷ [])
+
+single : (b : Run) (from end low : ℕ) (bs : List Run) → low ≤ from → IsSpread from end (b ∷ bs) → IsSpread low end (b ∷ [])
+single b from end low bs l up = (let a : from ≤ b.place = up.0 in omega arith, up.1, up.2, tt)
+
+given_back_at : (b : Run) (current : Option Run) (from end : ℕ) (hs ts : List Run) → IsSpread from end (hs ++ b ∷ ts) → AllAligned (hs ++ b ∷ ts)
+    → MatchOption current (Unit {0}) (λ c. IsBetween c from end (hs ++ b ∷ ts)) → GivenBack b from end (hs ++ b ∷ ts) current
+given_back_at b current from end hs ts up aligned between =
+    let e : without (begins_at b.place) (hs ++ b ∷ ts) ≡ hs ++ ts = without-slot b from end hs ts up in
+    record {
+      blocks = rw e (spread-remove b from end hs ts up);
+      aligned = rw e (aligned-remove b hs ts aligned);
+      count = rw e (length-slot b hs ts);
+      merged = rw e (given b current from end hs ts up between);
+      block = single b (lower from hs) end from ts (lower-ge from end hs (b ∷ ts) up) (spread-behind from end hs (b ∷ ts) up);
+    }
+
+pub given_back : (b : Run) (current : Option Run) (from end : ℕ) (held : List Run) → IsSpread from end held → AllAligned held
+    → MatchOption current (Unit {0}) (λ c. IsBetween c from end held) → Contains held b → GivenBack b from end held current
+given_back b current from end held up aligned between has =
+    let h = holding b held has in
+    subst (λ l. IsSpread from end l → AllAligned l → MatchOption current (Unit {0}) (λ c. IsBetween c from end l) → GivenBack b from end l current) (sym h.is)
+    (given_back_at b current from end h.front h.back) up aligned between
+
+-- NEW CAPACITY
+
+none_held : (from end : ℕ) (held : List Run) → end < from → IsSpread from end held → held ≡ []
+none_held from end [] l up = refl
+none_held from end (b ∷ bs) l up = let a : from ≤ b.place = up.0 in let w : end_of b ≤ end = up.2 in absurd (omega arith)
+
+-- all gaps with the last one apart
+pub gaps-last : (from end : ℕ) (held : List Run) → gaps from end held ≡ before from held ++ (gap (lower from held) end ++ [])
+gaps-last from end held = ap (gaps from end) (sym (append-nil held)) ∙ gaps-split from end held []
+
+-- the last gap up to where new places begin
+pub last_gap : (from end : ℕ) (held : List Run) → IsSpread from end held → gap (lower from held) end ≡ gap (lower from held) (max from end)
+last_gap from end held up =
+    elim (cases_lt end from) [
+      | inl l ↦ rw (none_held from end held l up) (gap_none from end (omega arith) ∙ sym (gap_none from (max from end) (omega arith)))
+      | inr l ↦ let e : max from end ≡ end = omega arith in rw e refl
+    ]
+
+pub before_under_all : (from end : ℕ) (held : List Run) → IsSpread from end held → Under (lower from held) (before from held)
+before_under_all from end held up = before-under from end held [] (rw append-nil up)
+
+pub lower_within : (from end : ℕ) (held : List Run) → IsSpread from end held → lower from held ≤ max from end
+lower_within from end [] up = omega arith
+lower_within from end (b ∷ bs) up = let w : end_of b ≤ end = up.2 in let l = lower_within (end_of b) end bs up.3 in omega arith

@@ -11,3 +11,5 @@ pub mod Neighbours
 pub mod Merging
 pub mod Between
 pub mod Giving
+pub mod Growing
+pub mod Taking

@@ -27,7 +27,7 @@ gap_kept q from to ne =
       | inr l ↦ simp (le-ltb from to l)
     ]
 
-gap_dropped : (q from to : ℕ) → from ≡ q → without (begins_at q) (gap from to) ≡ []
+pub gap_dropped : (q from to : ℕ) → from ≡ q → without (begins_at q) (gap from to) ≡ []
 gap_dropped q from to e =
     elim (cases_lt from to) [
       | inl l ↦ simp (lt-ltb from to l, eq-eqb from q e)

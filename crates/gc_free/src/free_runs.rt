@@ -1,8 +1,8 @@
 //! The free runs other than the current one, in both orders.
-ghost use Rattle.std.specs.Prelude.{◌≡◌, ◌-◌, ◌^◌, ◌<◌, ◌≤◌, [], length, OnOk, IfOk, OnErr, vec_len, vec_capacity, find, slice_index_or};
+ghost use Rattle.std.specs.Prelude.{◌≡◌, ◌-◌, ◌^◌, ◌<◌, ◌≤◌, [], length, OnOk, IfSome, vec_len, vec_capacity, find, slice_index_or};
 ghost use Rattle.std.specs.List.{remove};
 ghost use Rattle.std.specs.List.Sorted.{IsNonDecreasingBy};
-ghost use Rattle.gc_free.specs.Runs.{IsSpread, insert_by, insert_run, remove_by, begins_at, ends_at, without};
+ghost use Rattle.gc_free.specs.Runs.{IsSpread, end_of, insert_by, insert_run, remove_by, begins_at, ends_at, without};
 ghost use Rattle.gc_free.specs.Orders.{key_of, count_below, shortest_fit, IsSearched};
 ghost use Rattle.gc_free.specs.Ordered.{without_found};
 ghost use Rattle.gc_free.specs.TwoOrders.{AreTwoOrders};
@@ -121,6 +121,7 @@ impl FreeRuns {
     /// Takes out the run that begins at a place, with at most two searches.
     pub(crate) fn take_from<L: Ledger>(&mut self, place: u32, steps: &mut Steps<L>) -> Option<Run>
         ensures found { result ≡ find (begins_at place) self.old.runs }
+        ensures begins { IfSome result (λ r. (r.place ≡ place) × (end_of r < 2 ^ 32)) }
         ensures runs { self.new.runs ≡ without (begins_at place) self.old.runs }
         ensures room { self.new.room ≡ self.old.room }
     {
@@ -137,6 +138,7 @@ impl FreeRuns {
     /// Takes out the run that ends before a place, with at most two searches.
     pub(crate) fn take_up_to<L: Ledger>(&mut self, place: u32, steps: &mut Steps<L>) -> Option<Run>
         ensures found { result ≡ find (ends_at place) self.old.runs }
+        ensures ends { IfSome result (λ r. end_of r ≡ place) }
         ensures runs { self.new.runs ≡ without (ends_at place) self.old.runs }
         ensures room { self.new.room ≡ self.old.room }
     {

@@ -1,11 +1,13 @@
 //! A coalescing free list over the places of one heap, whose free runs are always maximal.
 #![tactic(auto)]
 
+mod free_list;
 mod free_runs;
 mod held;
 mod run;
 mod search;
 mod steps;
 
-pub use run::Run;
+pub use free_list::FreeList;
+pub use run::{ALIGN, Run};
 pub use steps::Steps;

@@ -85,3 +85,12 @@ returns-clause-runs g c =
     let past : suc (c.count_before-at.result - 1) ≡ count_below place_of c.args.place runs = omega arith in
     rw (← c.self.view_is, c.remove_at.ensures.items) (ends_found c.args.place 0 (2 ^ 32 - 1) (c.count_before-at.result - 1) runs c.index.result.now c.self.invariant.spread past
     (sym (ap end_of c.index.ensures) ∙ sym c.end.ensures ∙ c.if-end-place.false)).rest
+
+pub returns-clause-ends : goal.returns-clause-ends
+returns-clause-ends g c =
+    let runs = c.self.inside.by_place.items in
+    let count : c.count_before-at.result ≡ count_below place_of c.args.place runs = rw c.deref.ensures.value at c.count_before-at.ensures.count in
+    let le = count_within place_of c.args.place runs in
+    let l : c.count_before-at.result - 1 < length runs = omega arith in
+    ap end_of (c.remove_at.ensures.run ∙ get_or_default runs (c.count_before-at.result - 1) c.remove_at.result c.index.result.now l)
+    ∙ ap end_of (sym c.index.ensures) ∙ sym c.end.ensures ∙ c.if-end-place.false
