@@ -10,7 +10,7 @@ use Rattle.gc_free.specs.Merged.{current_after, others_after}
 use Rattle.gc_free.specs.Kept.{is_current, IsKept}
 use Rattle.gc_free.proofs.Slots.{lower, upper, before, behind, gaps-split, gaps-around, before-under, behind-over, spread-behind, lower-ge, Under, Over}
 use Rattle.gc_free.proofs.Between.{Slot, between_at, beside, Beside, spread-remove, without-slot, aligned-remove, length-slot, Holding, holding, between_within, last_left, last_left_back, last_apart}
-use Rattle.gc_free.proofs.Merging.{Site, IsMerged, merged_none, merged_apart, merged_left, merged_right, around_is, gap_none}
+use Rattle.gc_free.proofs.MergedRuns.{Site, IsMerged, merged_none, merged_apart, merged_left, merged_right, around_is, gap_none}
 
 -- whether the freed places touch the current run: on the left, on the right, or not at all
 pub data Touching (freed c : Run) : Type 0 where

@@ -8,7 +8,7 @@ use Rattle.gc_free.specs.Space.{IsBetween, touches, covers, current_with}
 use Rattle.gc_free.specs.Kept.{is_current}
 use Rattle.gc_free.proofs.Slots.{lower, before, lower-ge}
 use Rattle.gc_free.proofs.Between.{between_within, between_at, last_left, last_left_back, last_apart}
-use Rattle.gc_free.proofs.Merging.{Site, merged_none, merged_apart, merged_left, around_is, gap_none}
+use Rattle.gc_free.proofs.MergedRuns.{Site, merged_none, merged_apart, merged_left, around_is, gap_none}
 use Rattle.gc_free.proofs.Giving.{Touching, on_left, on_right, not_at_all, touching, touches_left, IsGiven, gaps-last, last_gap, before_under_all, lower_within}
 
 -- the gaps as they are around the new places

@@ -8,8 +8,10 @@ pub mod TwoOrdersKept
 pub mod Costs
 pub mod Slots
 pub mod Neighbours
-pub mod Merging
+pub mod MergedRuns
 pub mod Between
 pub mod Giving
 pub mod Growing
 pub mod Taking
+pub mod PlacedRuns
+pub mod Keeping

@@ -12,7 +12,7 @@ use Rattle.gc_free.proofs.Spread.{none_begins}
 use Rattle.gc_free.proofs.Slots.{lower, upper, before, behind, gaps-split, gaps-around, before-under, behind-over, spread-behind, Under, Over}
 use Rattle.gc_free.proofs.Neighbours.{Under-none_begins, Over-none_begins, insert_run-middle, Under-more, Over-less, in_middle}
 use Rattle.gc_free.proofs.Between.{Slot, between_slot, between_behind, insert_run-slot, spread-insert, aligned-insert, length-slot}
-use Rattle.gc_free.proofs.Merging.{gap_none, gap_some, gap_dropped}
+use Rattle.gc_free.proofs.MergedRuns.{gap_none, gap_some, gap_dropped}
 
 -- the runs near a slot: those before it, the one in it, and those behind it
 pub record Open (from end : ℕ) (hs ts : List Run) : Type 0 where

@@ -6,4 +6,5 @@ pub mod TwoOrders
 pub mod Held
 pub mod Space
 pub mod Merged
+pub mod Placed
 pub mod Kept

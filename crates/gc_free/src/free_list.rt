@@ -1,14 +1,14 @@
 //! The coalescing free list.
-ghost use Rattle.std.specs.Prelude.{◌≡◌, ◌+◌, ◌-◌, ◌*◌, ◌%◌, ◌^◌, ◌<◌, ◌≤◌, ◌↔◌, IfOk, OnOk, OnErr, IsNone, All, Contains, None, length, option_map, MatchOption, min, max};
+ghost use Rattle.std.specs.Prelude.{◌≡◌, ◌+◌, ◌-◌, ◌*◌, ◌%◌, ◌^◌, ◌<◌, ◌≤◌, ◌↔◌, IfOk, OnOk, OnErr, IsNone, IfNone, IfSome, All, Contains, None, length, option_map};
 ghost use Rattle.std.specs.Int.NonZero.{non_zero_u32_get};
-ghost use Rattle.gc_free.specs.Runs.{run, end_of, IsSpread};
-ghost use Rattle.gc_free.specs.Orders.{IsSearched};
-ghost use Rattle.gc_free.specs.Merged.{joined, apart_from, current_after, others_after};
-ghost use Rattle.gc_free.specs.Space.{places_end, free_runs, new_space, take, give, grow, IsSound};
+ghost use Rattle.gc_free.specs.Runs.{run};
+ghost use Rattle.gc_free.specs.Space.{free_runs, new_space, take, give, grow, IsSound};
 
 use crate::free_runs::FreeRuns;
 use crate::held::{Change, HeldBlocks};
-use crate::run::{ALIGN, Run};
+use crate::merging::set_free;
+use crate::placing::place;
+use crate::run::{ALIGN, Run, places_end, run_between};
 use crate::steps::Steps;
 use std::alloc::{AllocError, Global};
 use std::marker::{Brand, Model};
@@ -39,58 +39,144 @@ impl Model for FreeList {
     ghost invariant = { λ l. IsKept (record { capacity = l.capacity; held = l.held.blocks; current = l.current }) l.others.runs l.others.room l.blocks };
 }
 
-/// Where the managed places end: at the capacity, or at the greatest u32, rounded down to whole places.
-fn places_end(capacity: usize) -> u32
-    ensures { result ≡ places_end capacity }
-{
-    let reached = match u32::try_from(capacity) {
-        Ok(capacity) => capacity,
-        Err(_) => u32::MAX,
-    };
-    reached / ALIGN * ALIGN
-}
-
-/// Freed places take in the other runs that touch them.
-fn absorb<L: Ledger>(others: &mut FreeRuns, freed: Run, steps: &mut Steps<L>) -> Run
-    requires { end_of freed < 2 ^ 32 }
-    ensures whole { result ≡ joined freed others.old.runs }
-    ensures rest { others.new.runs ≡ apart_from freed others.old.runs }
-    ensures room { others.new.room ≡ others.old.room }
-{
-    let before = others.take_up_to(freed.place, steps);
-    let behind = others.take_from(freed.end(), steps);
-    let whole = match before {
-        Some(before) => freed.joined(before),
-        None => freed,
-    };
-    match behind {
-        Some(behind) => whole.joined(behind),
-        None => whole,
+impl FreeList {
+    /// Manages the places from 16 up to `capacity` bytes, in one run, which is the current one.
+    pub fn new(alloc: Global, capacity: usize) -> Result<FreeList, AllocError>
+        ensures made { IfOk result (λ list. list ≡ new_space capacity) }
+        ensures sound { IfOk result IsSound }
+    {
+        let mut others = FreeRuns::new(alloc);
+        others.reserve(1)?;
+        Ok(FreeList {
+            capacity,
+            others,
+            current: run_between(ALIGN, places_end(capacity)),
+            blocks: 0,
+            held: HeldBlocks::none(),
+        })
     }
-}
 
-/// Puts freed places among the runs, and answers the run that is current then.
-fn set_free<L: Ledger>(
-    others: &mut FreeRuns,
-    current: Option<Run>,
-    freed: Run,
-    steps: &mut Steps<L>,
-) -> Option<Run>
-    requires fits { end_of freed < 2 ^ 32 }
-    requires current_fits { MatchOption current (Unit {0}) (λ c. end_of c < 2 ^ 32) }
-    requires after_fits { MatchOption (current_after freed current others.old.runs) (Unit {0}) (λ c. c.length < 2 ^ 32) }
-    requires spread { IsSpread 0 (2 ^ 32 - 1) (others_after freed current others.old.runs) }
-    requires room { length (others_after freed current others.old.runs) ≤ others.old.room }
-    ensures current { result ≡ current_after freed current others.old.runs }
-    ensures others { others.new.runs ≡ others_after freed current others.old.runs }
-    ensures room { others.old.room ≤ others.new.room }
-{
-    let whole = absorb(others, freed, steps);
-    if let Some(run) = current {
-        if freed.touches(run) {
-            return Some(whole.joined(run));
-        }
+    /// The bytes of capacity, of which those past the greatest u32 and a part of 16 at the end have no places.
+    pub fn current_capacity(&self) -> usize
+        ensures capacity { result ≡ self.now.capacity }
+        ensures sound { IsSound self.now }
+    {
+        self.capacity
     }
-    others.insert(whole, steps);
-    current
+
+    /// The capacity rises, and stops at the greatest usize. Takes no memory.
+    pub fn add_capacity(&mut self, additional: usize)
+        ensures grown { self.new ≡ grow additional self.old }
+        ensures sound { IsSound self.new }
+    {
+        self.grow::<Brand>(additional, Blank::new(1));
+    }
+
+    fn grow<L: Ledger>(&mut self, additional: usize, blank: Blank)
+        requires name { blank.name ≡ L.name }
+        requires parts { blank.parts ≡ L.parts }
+        requires some { 0 < blank.parts }
+        ensures grown { self.new ≡ grow additional self.old }
+        ensures sound { IsSound self.new }
+    {
+        let mut steps = Steps::<L>::new(blank);
+        let from = places_end(self.capacity).max(ALIGN);
+        self.capacity = self.capacity.saturating_add(additional);
+        let Some(places) = run_between(from, places_end(self.capacity)) else {
+            return;
+        };
+        self.current = set_free(&mut self.others, self.current, places, &mut steps);
+    }
+
+    /// A block of `alloc_size` bytes, at the front of the current run where that is long enough, and
+    /// else of the shortest run that is, at equal lengths the one at the lowest place. `None` exactly
+    /// where no free run is long enough. A logarithm of the runs in comparisons.
+    pub fn alloc_fast(&mut self, alloc_size: u32) -> Result<Option<NonZeroU32>, AllocError>
+        requires whole { alloc_size % ALIGN ≡ 0 }
+        requires some { 0 < alloc_size }
+        ensures place { IfOk result (λ place. option_map (λ p. non_zero_u32_get p) place ≡ (take alloc_size self.old).place) }
+        ensures after { OnOk result (self.new ≡ (take alloc_size self.old).space) }
+        ensures none { IfOk result (λ place. IsNone place ↔ All (λ r. r.length < alloc_size) (free_runs self.old)) }
+        ensures aligned { IfOk result (λ place. IfSome place (λ p. non_zero_u32_get p % ALIGN ≡ 0)) }
+        ensures err { OnErr result (self.new ≡ self.old) }
+        ensures sound { IsSound self.new }
+    {
+        self.alloc::<Brand>(alloc_size, Blank::new(1))
+    }
+
+    fn alloc<L: Ledger>(
+        &mut self,
+        alloc_size: u32,
+        blank: Blank,
+    ) -> Result<Option<NonZeroU32>, AllocError>
+        requires name { blank.name ≡ L.name }
+        requires parts { blank.parts ≡ L.parts }
+        requires counts { 0 < blank.parts }
+        requires whole { alloc_size % ALIGN ≡ 0 }
+        requires some { 0 < alloc_size }
+        ensures place { IfOk result (λ place. option_map (λ p. non_zero_u32_get p) place ≡ (take alloc_size self.old).place) }
+        ensures after { OnOk result (self.new ≡ (take alloc_size self.old).space) }
+        ensures none { IfOk result (λ place. IsNone place ↔ All (λ r. r.length < alloc_size) (free_runs self.old)) }
+        ensures aligned { IfOk result (λ place. IfSome place (λ p. non_zero_u32_get p % ALIGN ≡ 0)) }
+        ensures err { OnErr result (self.new ≡ self.old) }
+        ensures sound { IsSound self.new }
+    {
+        let mut steps = Steps::<L>::new(blank);
+        self.alloc_counted(alloc_size, &mut steps)
+    }
+
+    /// As `alloc_fast`. Each comparison of a search is a step.
+    pub fn alloc_counted<G: Ledger>(
+        &mut self,
+        alloc_size: u32,
+        steps: &mut Steps<G>,
+    ) -> Result<Option<NonZeroU32>, AllocError>
+        requires whole { alloc_size % ALIGN ≡ 0 }
+        requires some { 0 < alloc_size }
+        ensures place { IfOk result (λ place. option_map (λ p. non_zero_u32_get p) place ≡ (take alloc_size self.old).place) }
+        ensures after { OnOk result (self.new ≡ (take alloc_size self.old).space) }
+        ensures none { IfOk result (λ place. IsNone place ↔ All (λ r. r.length < alloc_size) (free_runs self.old)) }
+        ensures aligned { IfOk result (λ place. IfSome place (λ p. non_zero_u32_get p % ALIGN ≡ 0)) }
+        ensures err { OnErr result (self.new ≡ self.old) }
+        ensures sound { IsSound self.new }
+        ensures rises { steps.old ≤ steps.new }
+        ensures cost { 2 ^ (steps.new - steps.old) ≤ (2 * length (free_runs self.old) + 1) ^ 4 }
+    {
+        self.others.reserve(self.blocks + 2)?;
+        let placed = place(&mut self.others, self.current, alloc_size, steps);
+        self.current = placed.current;
+        let Some(block) = placed.block else {
+            return Ok(None);
+        };
+        self.blocks += 1;
+        self.held = self.held.after(&Change::Taken(block));
+        Ok(NonZeroU32::new(block.place))
+    }
+
+    /// Gives back a held block of `alloc_size` bytes. Takes no memory.
+    pub fn dealloc_fast(&mut self, index: NonZeroU32, alloc_size: u32)
+        requires { Contains self.old.held (run (non_zero_u32_get index) alloc_size) }
+        ensures given { self.new ≡ give (run (non_zero_u32_get index) alloc_size) self.old }
+        ensures sound { IsSound self.new }
+    {
+        let block = Run {
+            place: index.get(),
+            length: alloc_size,
+        };
+        self.give_back::<Brand>(block, Blank::new(1));
+    }
+
+    fn give_back<L: Ledger>(&mut self, block: Run, blank: Blank)
+        requires name { blank.name ≡ L.name }
+        requires parts { blank.parts ≡ L.parts }
+        requires some { 0 < blank.parts }
+        requires held { Contains self.old.held block }
+        ensures given { self.new ≡ give block self.old }
+        ensures sound { IsSound self.new }
+    {
+        let mut steps = Steps::<L>::new(blank);
+        self.current = set_free(&mut self.others, self.current, block, &mut steps);
+        self.blocks -= 1;
+        self.held = self.held.after(&Change::Given(block));
+    }
 }

@@ -18,6 +18,7 @@ impl Model for HeldBlocks {
 }
 
 /// What happens to a block.
+#[derive(Drop)]
 pub(crate) enum Change {
     Taken(Run),
     Given(Run),

@@ -4,6 +4,8 @@
 mod free_list;
 mod free_runs;
 mod held;
+mod merging;
+mod placing;
 mod run;
 mod search;
 mod steps;

@@ -4,8 +4,8 @@ use Rattle.gc_free.specs.Space.{touches}
 use Rattle.gc_free.specs.Runs.{insert_run}
 use Rattle.gc_free.specs.Merged.{joined, apart_from, others_after}
 use Rattle.gc_free.proofs.ByLength.{length-insert_by, place_of}
-use Rattle.gc_free.proofs.free_list.set_free.Goals as goal
-use Rattle.gc_free.proofs.free_list.set_free.Goals.{in-Some+else-touches, in_default}
+use Rattle.gc_free.proofs.merging.set_free.Goals as goal
+use Rattle.gc_free.proofs.merging.set_free.Goals.{in-Some+else-touches, in_default}
 
 pub insert-requires-clause-room : goal.insert-requires-clause-room
 insert-requires-clause-room g c =

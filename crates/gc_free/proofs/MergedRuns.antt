@@ -116,7 +116,7 @@ pub record IsMerged (freed : Run) (current : Option Run) (runs all : List Run) :
   pub current_is : current_after freed current runs ≡ current_with freed current (find (covers freed.place) all)
   pub others_are : others_after freed current runs ≡ without (is_current (current_with freed current (find (covers freed.place) all))) all
 
-without_none : (xs : List Run) → without (is_current None) xs ≡ xs
+pub without_none : (xs : List Run) → without (is_current None) xs ≡ xs
 without_none [] = refl
 without_none (x ∷ xs) = ap (λ l. x ∷ l) (without_none xs)
 

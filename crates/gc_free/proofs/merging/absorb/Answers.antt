@@ -1,7 +1,7 @@
 use Rattle.std.proofs.Common.{arith, ◌≡◌, ◌<◌, ◌≤◌, ◌+◌, ◌-◌, ◌^◌, ap, ◌∙◌}
 use Rattle.gc_free.specs.Runs.{end_of}
-use Rattle.gc_free.proofs.free_list.absorb.Goals as goal
-use Rattle.gc_free.proofs.free_list.absorb.Goals.{in-Some, in-None}
+use Rattle.gc_free.proofs.merging.absorb.Goals as goal
+use Rattle.gc_free.proofs.merging.absorb.Goals.{in-Some, in-None}
 
 pub joined-whole-requires : goal.joined-whole-requires
 joined-whole-requires g c =
