@@ -80,7 +80,7 @@ impl FreeList {
         ensures sound { IsSound self.new }
     {
         let mut steps = Steps::<L>::new(blank);
-        let from = places_end(self.capacity).max(ALIGN);
+        let from = ALIGN.max(places_end(self.capacity));
         self.capacity = self.capacity.saturating_add(additional);
         let Some(places) = run_between(from, places_end(self.capacity)) else {
             return;
