@@ -82,7 +82,7 @@ remove_is_by_place low high (suc at) (x ∷ xs) r up l is =
     let past : end_of x ≤ r.place = p.0 in let some : 0 < x.length = up.1 in
     rw (lt-ltb x.place r.place (omega arith)) (ap (λ l. x ∷ l) (remove_is_by_place (end_of x) high at xs r up.3 (omega arith) is))
 
-In-insert_run : (r : Run) (xs : List Run) → In r (insert_run r xs)
+pub In-insert_run : (r : Run) (xs : List Run) → In r (insert_run r xs)
 In-insert_run r [] = inl refl
 In-insert_run r (x ∷ xs) =
     elim (cases_lt x.place r.place) [
