@@ -8,3 +8,4 @@ pub mod Space
 pub mod Merged
 pub mod Placed
 pub mod Kept
+pub mod Listed

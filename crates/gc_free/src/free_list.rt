@@ -2,8 +2,10 @@
 ghost use Rattle.std.specs.Prelude.{◌≡◌, ◌+◌, ◌-◌, ◌*◌, ◌%◌, ◌^◌, ◌<◌, ◌≤◌, ◌↔◌, IfOk, OnOk, OnErr, IsNone, IfNone, IfSome, All, Contains, None, length, option_map};
 ghost use Rattle.std.specs.Int.NonZero.{non_zero_u32_get};
 ghost use Rattle.gc_free.specs.Runs.{run};
+ghost use Rattle.gc_free.specs.Listed.{listed, run_length_at};
 ghost use Rattle.gc_free.specs.Space.{free_runs, new_space, take, give, grow, IsSound};
 
+use crate::blocks::FreeBlocks;
 use crate::free_runs::FreeRuns;
 use crate::held::{Change, HeldBlocks};
 use crate::merging::set_free;
@@ -62,6 +64,43 @@ impl FreeList {
         ensures sound { IsSound self.now }
     {
         self.capacity
+    }
+
+    /// Each free run as its place and its length, by rising place with the current run last where it has places.
+    pub fn iter_free_blocks(&self) -> FreeBlocks<'_>
+        ensures blocks { result ≡ listed self.now }
+        ensures sound { IsSound self.now }
+    {
+        let current = match self.current {
+            Some(run) => run.if_any(),
+            None => None,
+        };
+        FreeBlocks::new(self.others.as_slice(), current)
+    }
+
+    /// The length of the free run that begins at a place, `None` exactly where none does. A logarithm of the runs in comparisons.
+    pub fn run_at(&self, place: u32) -> Option<u32>
+        ensures length { result ≡ run_length_at place self.now }
+        ensures sound { IsSound self.now }
+    {
+        self.length_at::<Brand>(place, Blank::new(1))
+    }
+
+    fn length_at<L: Ledger>(&self, place: u32, blank: Blank) -> Option<u32>
+        requires name { blank.name ≡ L.name }
+        requires parts { blank.parts ≡ L.parts }
+        requires some { 0 < blank.parts }
+        ensures length { result ≡ run_length_at place self.now }
+        ensures sound { IsSound self.now }
+    {
+        if let Some(run) = self.current {
+            if run.place == place && 0 < run.length {
+                return Some(run.length);
+            }
+        }
+        let mut steps = Steps::<L>::new(blank);
+        let run = self.others.get(place, &mut steps)?;
+        Some(run.length)
     }
 
     /// The capacity rises, and stops at the greatest usize. Takes no memory.

@@ -177,6 +177,21 @@ impl FreeRuns {
         Some(run)
     }
 
+    /// The run that begins at a place, with one search.
+    pub(crate) fn get<L: Ledger>(&self, place: u32, steps: &mut Steps<L>) -> Option<Run>
+        ensures { result ≡ find (begins_at place) self.now.runs }
+    {
+        let at = count_before(&self.by_place, Order::ByPlace, place as u64, steps);
+        if at == self.by_place.len() {
+            return None;
+        }
+        let run = self.by_place[at];
+        if run.place != place {
+            return None;
+        }
+        Some(run)
+    }
+
     /// The runs by rising place.
     pub(crate) fn as_slice(&self) -> &[Run]
         ensures { result.now ≡ self.now.runs }
