@@ -15,3 +15,4 @@ pub mod Growing
 pub mod Taking
 pub mod PlacedRuns
 pub mod Keeping
+pub mod RunsAt

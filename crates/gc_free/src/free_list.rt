@@ -2,7 +2,7 @@
 ghost use Rattle.std.specs.Prelude.{◌≡◌, ◌+◌, ◌-◌, ◌*◌, ◌%◌, ◌^◌, ◌<◌, ◌≤◌, ◌↔◌, IfOk, OnOk, OnErr, IsNone, IfNone, IfSome, All, Contains, None, length, option_map};
 ghost use Rattle.std.specs.Int.NonZero.{non_zero_u32_get};
 ghost use Rattle.gc_free.specs.Runs.{run};
-ghost use Rattle.gc_free.specs.Listed.{listed, run_length_at};
+ghost use Rattle.gc_free.specs.Listed.{listed, current_at, run_length_at};
 ghost use Rattle.gc_free.specs.Space.{free_runs, new_space, take, give, grow, IsSound};
 
 use crate::blocks::FreeBlocks;
@@ -39,6 +39,25 @@ impl Model for FreeList {
     ghost view = { λ l. record { capacity = l.capacity; held = l.held.blocks; current = l.current } };
 
     ghost invariant = { λ l. IsKept (record { capacity = l.capacity; held = l.held.blocks; current = l.current }) l.others.runs l.others.room l.blocks };
+}
+
+/// The current run, if it begins at a place and has any.
+fn current_at(current: Option<Run>, place: u32) -> Option<Run>
+    ensures { result ≡ current_at place current }
+{
+    match current {
+        Some(run) if run.place == place => run.if_any(),
+        _ => None,
+    }
+}
+
+fn length_of(run: Option<Run>) -> Option<u32>
+    ensures { result ≡ option_map (λ r. r.length) run }
+{
+    match run {
+        Some(run) => Some(run.length),
+        None => None,
+    }
 }
 
 impl FreeList {
@@ -93,14 +112,12 @@ impl FreeList {
         ensures length { result ≡ run_length_at place self.now }
         ensures sound { IsSound self.now }
     {
-        if let Some(run) = self.current {
-            if run.place == place && 0 < run.length {
-                return Some(run.length);
-            }
+        if let Some(run) = current_at(self.current, place) {
+            return Some(run.length);
         }
         let mut steps = Steps::<L>::new(blank);
-        let run = self.others.get(place, &mut steps)?;
-        Some(run.length)
+        let run = self.others.get(place, &mut steps);
+        length_of(run)
     }
 
     /// The capacity rises, and stops at the greatest usize. Takes no memory.
