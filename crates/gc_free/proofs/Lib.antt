@@ -16,3 +16,5 @@ pub mod Taking
 pub mod PlacedRuns
 pub mod Keeping
 pub mod RunsAt
+pub mod LawsOfRuns
+pub mod LawsOfCalls

@@ -78,7 +78,7 @@ before-under from high (h ∷ hs) ts up =
     let b : 0 < h.length = up.1 in let l = lower-ge (end_of h) high hs ts up.3 in
     Under-append (lower (end_of h) hs) (gap from h.place) (before (end_of h) hs) (Under-gap (lower (end_of h) hs) from h.place (omega arith)) (before-under (end_of h) high hs ts up.3)
 
-gaps-over : (low from end : ℕ) (bs : List Run) → low < from → IsSpread from end bs → Over low (gaps from end bs)
+pub gaps-over : (low from end : ℕ) (bs : List Run) → low < from → IsSpread from end bs → Over low (gaps from end bs)
 gaps-over low from end [] l up = Over-gap low from end l
 gaps-over low from end (b ∷ bs) l up =
     let a : from ≤ b.place = up.0 in

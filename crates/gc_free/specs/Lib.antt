@@ -9,3 +9,4 @@ pub mod Merged
 pub mod Placed
 pub mod Kept
 pub mod Listed
+pub mod Laws

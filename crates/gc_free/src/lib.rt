@@ -6,6 +6,7 @@ mod free_list;
 mod free_runs;
 mod held;
 mod layout;
+pub mod laws;
 mod merging;
 mod placing;
 mod run;
