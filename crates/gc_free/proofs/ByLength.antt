@@ -73,8 +73,8 @@ by_length-insert_run r low high (x ∷ xs) small lr up =
     let within : end_of x ≤ high = up.2 in
     elim (cases_lt x.place r.place) [
       | inl l ↦ rw (lt-ltb x.place r.place l) (
-        ap (insert_by length_key x) (by_length-insert_run r (end_of x) high xs small lr up.3)
-        ∙ insert_by-swap length_key x r (by_length xs) (key_apart x r (omega arith) lr (λ e. omega arith)))
+          ap (insert_by length_key x) (by_length-insert_run r (end_of x) high xs small lr up.3)
+          ∙ insert_by-swap length_key x r (by_length xs) (key_apart x r (omega arith) lr (λ e. omega arith)))
       | inr l ↦ rw (le-ltb x.place r.place l)
     ]
 
@@ -104,4 +104,4 @@ by_length-remove r low high (x ∷ xs) small up (inr h) =
     rw (lt-ltb x.place r.place l) (
     ap (insert_by length_key x) (by_length-remove r (end_of x) high xs small up.3 h)
     ∙ sym (remove_by-insert_by length_key (length_key r) 0 x (by_length xs) (by_length-rises xs) (Has-In length_key r (by_length xs) (In-by_length r xs h))
-      (key_apart x r (omega arith) (omega arith) (λ e. omega arith))))
+    (key_apart x r (omega arith) (omega arith) (λ e. omega arith))))

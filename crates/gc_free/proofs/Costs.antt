@@ -19,7 +19,7 @@ IsSearched-both a b n before middle after first second =
     let e : after - before ≡ (middle - before) + (after - middle) = omega arith in
     let power : 2 ^ (after - before) ≡ 2 ^ (middle - before) * 2 ^ (after - middle) = ap (λ i. 2 ^ i) e ∙ pow-add 2 (middle - before) (after - middle) in
     let product : 2 ^ (middle - before) * 2 ^ (after - middle) ≤ (2 * n + 1) ^ a * (2 * n + 1) ^ b =
-      mul-le (2 ^ (middle - before)) (2 ^ (after - middle)) ((2 * n + 1) ^ a) ((2 * n + 1) ^ b) first.bound second.bound in
+    mul-le (2 ^ (middle - before)) (2 ^ (after - middle)) ((2 * n + 1) ^ a) ((2 * n + 1) ^ b) first.bound second.bound in
     let bound : (2 * n + 1) ^ (a + b) ≡ (2 * n + 1) ^ a * (2 * n + 1) ^ b = pow-add (2 * n + 1) a b in
     record { rises = omega arith; bound = omega arith }
 

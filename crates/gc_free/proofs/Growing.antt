@@ -29,7 +29,7 @@ grown_none : (p n from end : ℕ) (held : List Run) → p ≡ max from end → 0
 grown_none p n from end held e some up =
     record {
       merged = rw (gaps-last from (p + n) held, old_gaps from end (p + n) held up, ← e)
-        (merged_none (run p n) (before from held) [] (lower from held) (p + n) (new_site p n from end held e some up));
+          (merged_none (run p n) (before from held) [] (lower from held) (p + n) (new_site p n from end held e some up));
       between = tt;
     }
 
@@ -48,19 +48,19 @@ grown_some c p n from end held e some up between =
     let around : find (covers p) (gaps from (p + n) held) ≡ Some (run lo (p + n - lo)) = ap (find (covers p)) (gaps-last from (p + n) held) ∙ around_is b xs [] lo (p + n) site in
     elim (touching b c) [
       | on_left t ↦
-        let t' : end_of c ≡ p = t in
-        record {
-          merged = rw (gaps-last from (p + n) held, old_gaps from end (p + n) held up, ← e) (merged_left b c xs [] lo (p + n) site t (last_left c from end held up between (omega arith)));
-          between = rw (touches_left b c t, around) (whole_last lo from (p + n) held refl (omega arith));
-        }
+          let t' : end_of c ≡ p = t in
+          record {
+            merged = rw (gaps-last from (p + n) held, old_gaps from end (p + n) held up, ← e) (merged_left b c xs [] lo (p + n) site t (last_left c from end held up between (omega arith)));
+            between = rw (touches_left b c t, around) (whole_last lo from (p + n) held refl (omega arith));
+          }
       | on_right t ↦ let t' : p + n ≡ c.place = t in absurd (omega arith)
       | not_at_all l r apart ↦
-        let l' : end_of c ≡ p → ⊥ = l in
-        record {
-          merged = rw (gaps-last from (p + n) held, old_gaps from end (p + n) held up, ← e)
-            (merged_apart b c xs [] lo (p + n) site apart (λ i. let back = last_left_back c from end held up between (sym i) in l (omega arith)) r);
-          between = rw apart (last_apart c from end (p + n) held between (λ i. l (omega arith)));
-        }
+          let l' : end_of c ≡ p → ⊥ = l in
+          record {
+            merged = rw (gaps-last from (p + n) held, old_gaps from end (p + n) held up, ← e)
+                (merged_apart b c xs [] lo (p + n) site apart (λ i. let back = last_left_back c from end held up between (sym i) in l (omega arith)) r);
+            between = rw apart (last_apart c from end (p + n) held between (λ i. l (omega arith)));
+          }
     ]
 
 pub grown : (current : Option Run) (p n from end : ℕ) (held : List Run) → p ≡ max from end → 0 < n → IsSpread from end held

@@ -118,8 +118,8 @@ remove_by-insert_by key k j x (y ∷ ys) up has ne =
     elim (cases_lt (key y) (key x)) [
       | inl lx ↦ elim (cases_lt (key y) k) [
         | inl lk ↦
-          let later : Has key k ys = elim has [ inl e ↦ absurd (omega arith) | inr h ↦ h ] in
-          simp (lt-ltb (key y) (key x) lx, lt-ltb (key y) k lk) (ap (λ l. y ∷ l) (remove_by-insert_by key k (key y) x ys up.1 later ne))
+            let later : Has key k ys = elim has [ inl e ↦ absurd (omega arith) | inr h ↦ h ] in
+            simp (lt-ltb (key y) (key x) lx, lt-ltb (key y) k lk) (ap (λ l. y ∷ l) (remove_by-insert_by key k (key y) x ys up.1 later ne))
         | inr lk ↦ simp (lt-ltb (key y) (key x) lx, le-ltb (key y) k lk)
       ]
       | inr lx ↦ elim (cases_lt (key x) k) [

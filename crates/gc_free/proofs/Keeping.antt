@@ -170,8 +170,8 @@ grow_kept s capacity runs room blocks kept more fits some =
     let spread = spread-widen 16 end 16 further s.held (omega arith) up sound.blocks in
     let total : p + n ≡ further = omega arith in
     let is : IsGiven (run p n) s.current runs 16 further s.held =
-      rw kept.others (subst (λ e. IsGiven (run p n) s.current (without (is_current s.current) (gaps 16 end s.held)) 16 e s.held) total
-      (grown s.current p n 16 end s.held refl (omega arith) sound.blocks sound.current)) in
+    rw kept.others (subst (λ e. IsGiven (run p n) s.current (without (is_current s.current) (gaps 16 end s.held)) 16 e s.held) total
+    (grown s.current p n 16 end s.held refl (omega arith) sound.blocks sound.current)) in
     let m = merges (run p n) s.current runs 16 further s.held small spread is in
     let has_room : length s.held < room = kept.has_room in
     let few : length (others_after (run p n) s.current runs) ≤ length s.held + 1 = m.count in

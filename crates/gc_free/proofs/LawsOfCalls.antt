@@ -48,9 +48,9 @@ grow_sound s additional sound =
     let old : s.capacity < 2 ^ 64 = sound.fits in
     elim (cases_lt from (places_end capacity)) [
       | inl l ↦ rw (lt-ltb from (places_end capacity) l)
-        ((grow_kept s capacity runs (length s.held + 3) (length s.held) (as_kept s sound) (omega arith) (omega arith) l).kept (length s.held + 3) (omega arith)).sound
+          ((grow_kept s capacity runs (length s.held + 3) (length s.held) (as_kept s sound) (omega arith) (omega arith) l).kept (length s.held + 3) (omega arith)).sound
       | inr l ↦ rw (le-ltb from (places_end capacity) l)
-        (idle_kept s capacity runs (length s.held + 3) (length s.held) (as_kept s sound) (omega arith) (omega arith) l).sound
+          (idle_kept s capacity runs (length s.held + 3) (length s.held) (as_kept s sound) (omega arith) (omega arith) l).sound
     ]
 
 call_sound : (call : Call) (s : Space) → IsSound s → IsAllowed call s → IsSound (after call s)
@@ -101,7 +101,7 @@ grows_at b c from end hs ts up between =
     let left : lo ≤ b.place = site.left in let some : 0 < b.length = site.some in let right : end_of b ≤ hi = site.right in
     let side = beside c b from end hs ts up between in
     let around : find (covers b.place) (gaps from end (hs ++ ts)) ≡ Some (run lo (hi - lo)) =
-      ap (find (covers b.place)) (gaps-split from end hs ts) ∙ around_is b (before from hs) (behind end ts) lo hi site in
+    ap (find (covers b.place)) (gaps-split from end hs ts) ∙ around_is b (before from hs) (behind end ts) lo hi site in
     elim (touching b c) [
       | on_left e ↦ let begins = side.left e in record { now = run lo (hi - lo); is = rw (touches_left b c e) around; begins = omega arith; ends = omega arith }
       | on_right e ↦ let ends = side.right (sym e) in record { now = run lo (hi - lo); is = rw (touches_right b c e) around; begins = omega arith; ends = omega arith }

@@ -45,19 +45,19 @@ gaps_cover p from end [] up = gap_covers p from end ∙ sym (and_true (leb from 
 gaps_cover p from end (b ∷ bs) up =
     let a : from ≤ b.place = up.0 in let some : 0 < b.length = up.1 in let w : end_of b ≤ end = up.2 in
     let parts : list_any (covers p) (gap from b.place ++ gaps (end_of b) end bs) ≡ ((leb from p && ltb p b.place) || ((leb (end_of b) p && ltb p end) && not (list_any (covers p) bs))) =
-      list_any-append (covers p) (gap from b.place) (gaps (end_of b) end bs)
-      ∙ ap (λ x. x || list_any (covers p) (gaps (end_of b) end bs)) (gap_covers p from b.place)
-      ∙ ap (λ x. (leb from p && ltb p b.place) || x) (gaps_cover p (end_of b) end bs up.3) in
+    list_any-append (covers p) (gap from b.place) (gaps (end_of b) end bs)
+    ∙ ap (λ x. x || list_any (covers p) (gaps (end_of b) end bs)) (gap_covers p from b.place)
+    ∙ ap (λ x. (leb from p && ltb p b.place) || x) (gaps_cover p (end_of b) end bs up.3) in
     parts ∙ elim (cases_lt p (end_of b)) [
       | inl before ↦
-        let later = none_covered p (end_of b) end bs before up.3 in
-        elim (cases_lt p b.place) [
-          | inl l ↦ elim (cases_lt p from) [
-            | inl h ↦ simp (lt-leb from p h, lt-leb (end_of b) p before)
-            | inr h ↦ simp (le-leb from p h, lt-ltb p b.place l, lt-ltb p end (omega arith), lt-leb b.place p l, later)
+          let later = none_covered p (end_of b) end bs before up.3 in
+          elim (cases_lt p b.place) [
+            | inl l ↦ elim (cases_lt p from) [
+              | inl h ↦ simp (lt-leb from p h, lt-leb (end_of b) p before)
+              | inr h ↦ simp (le-leb from p h, lt-ltb p b.place l, lt-ltb p end (omega arith), lt-leb b.place p l, later)
+            ]
+            | inr l ↦ simp (le-leb from p (omega arith), le-ltb p b.place l, lt-leb (end_of b) p before, lt-ltb p end (omega arith), le-leb b.place p l, lt-ltb p (end_of b) before)
           ]
-          | inr l ↦ simp (le-leb from p (omega arith), le-ltb p b.place l, lt-leb (end_of b) p before, lt-ltb p end (omega arith), le-leb b.place p l, lt-ltb p (end_of b) before)
-        ]
       | inr past ↦ simp (le-leb from p (omega arith), le-ltb p b.place (omega arith), le-leb (end_of b) p past, le-leb b.place p (omega arith), le-ltb p (end_of b) past)
     ]
 
@@ -81,7 +81,7 @@ apart_gaps from end (b ∷ bs) up =
     let some : 0 < b.length = up.1 in
     elim (cases_lt from b.place) [
       | inl l ↦ rw (lt-ltb from b.place l)
-        (omega arith, follows_over (from + (b.place - from)) (gaps (end_of b) end bs) (gaps-over (from + (b.place - from)) (end_of b) end bs (omega arith) up.3), rest)
+          (omega arith, follows_over (from + (b.place - from)) (gaps (end_of b) end bs) (gaps-over (from + (b.place - from)) (end_of b) end bs (omega arith) up.3), rest)
       | inr l ↦ rw (le-ltb from b.place l) rest
     ]
 
@@ -103,7 +103,7 @@ gaps_bytes from end (b ∷ bs) up =
     let g = gap_bytes from b.place in
     let i = gaps_bytes (end_of b) end bs up.3 in
     let both : bytes_of (gap from b.place ++ gaps (end_of b) end bs) ≡ bytes_of (gap from b.place) + bytes_of (gaps (end_of b) end bs) =
-      sum_by-append (λ r. r.length) (gap from b.place) (gaps (end_of b) end bs) in
+    sum_by-append (λ r. r.length) (gap from b.place) (gaps (end_of b) end bs) in
     let own : bytes_of (b ∷ bs) ≡ b.length + bytes_of bs = sum_by-cons (λ r. r.length) b bs in
     let a : from ≤ b.place = up.0 in let w : end_of b ≤ end = up.2 in
     omega arith

@@ -39,8 +39,8 @@ left_joins : (b : Run) (a : ℕ) → a ≤ b.place → join_if_any b (find (ends
 left_joins b a l =
     elim (cases_lt a b.place) [
       | inl some ↦
-        simp (lt-ltb a b.place some, eq-eqb (a + (b.place - a)) b.place (omega arith))
-        (run_same (min b.place a) a (b.length + (b.place - a)) (end_of b - a) (omega arith) (omega arith))
+          simp (lt-ltb a b.place some, eq-eqb (a + (b.place - a)) b.place (omega arith))
+          (run_same (min b.place a) a (b.length + (b.place - a)) (end_of b - a) (omega arith) (omega arith))
       | inr none ↦ simp (le-ltb a b.place none) (run_same b.place a b.length (end_of b - a) (omega arith) (omega arith))
     ]
 
@@ -135,9 +135,9 @@ merged_none freed xs ys lo hi site =
     record {
       current_is = refl;
       others_are =
-        ap (others_after freed None) (without_none runs)
-        ∙ ap (λ r. insert_run r (apart_from freed runs)) joins.whole ∙ ap (insert_run (run lo (hi - lo))) joins.rest
-        ∙ whole_inserted xs ys lo hi site.under site.over (omega arith) ∙ sym (without_none (xs ++ (gap lo hi ++ ys)));
+          ap (others_after freed None) (without_none runs)
+          ∙ ap (λ r. insert_run r (apart_from freed runs)) joins.whole ∙ ap (insert_run (run lo (hi - lo))) joins.rest
+          ∙ whole_inserted xs ys lo hi site.under site.over (omega arith) ∙ sym (without_none (xs ++ (gap lo hi ++ ys)));
     }
 
 -- a test takes its runs from each part
@@ -158,16 +158,16 @@ merged_apart freed c xs ys lo hi site apart ne_left ne_right =
     let xs' = without test xs in let ys' = without test ys in
     let site' : Site freed xs' ys' lo hi = record { under = Under-without test lo xs site.under; over = Over-without test hi ys site.over; left = left; some = some; right = right } in
     let kept : without test (xs ++ (gap lo p ++ (gap e hi ++ ys))) ≡ xs' ++ (gap lo p ++ (gap e hi ++ ys')) =
-      without_parts test xs (gap lo p) (gap e hi) ys
-      ∙ ap (λ l. xs' ++ (l ++ (without test (gap e hi) ++ ys'))) (gap_kept c.place lo p ne_left)
-      ∙ ap (λ l. xs' ++ (gap lo p ++ (l ++ ys'))) (gap_kept c.place e hi ne_right) in
+    without_parts test xs (gap lo p) (gap e hi) ys
+    ∙ ap (λ l. xs' ++ (l ++ (without test (gap e hi) ++ ys'))) (gap_kept c.place lo p ne_left)
+    ∙ ap (λ l. xs' ++ (gap lo p ++ (l ++ ys'))) (gap_kept c.place e hi ne_right) in
     let joins = joins_all freed xs' ys' lo hi lo hi site' left right in
     let all = xs ++ (gap lo hi ++ ys) in
     record {
       current_is = rw apart refl;
       others_are =
-        ap (others_after freed (Some c)) kept
-        ∙ rw apart (
+          ap (others_after freed (Some c)) kept
+          ∙ rw apart (
           ap (λ r. insert_run r (apart_from freed (xs' ++ (gap lo p ++ (gap e hi ++ ys'))))) joins.whole ∙ ap (insert_run (run lo (hi - lo))) joins.rest
           ∙ whole_inserted xs' ys' lo hi site'.under site'.over (omega arith)
           ∙ sym (without_three test xs (gap lo hi) ys ∙ ap (λ l. xs' ++ (l ++ ys')) (gap_kept c.place lo hi ne_left)));
@@ -187,8 +187,8 @@ merged_in freed c runs xs ys lo hi site in' =
     let none_before = Under-none_begins lo lo xs (omega arith) site.under in
     let none_behind = Over-none_begins lo hi ys (omega arith) site.over in
     let own : without (begins_at lo) all ≡ xs ++ ys =
-      without_three (begins_at lo) xs (gap lo hi) ys ∙ ap (λ l. l ++ (without (begins_at lo) (gap lo hi) ++ without (begins_at lo) ys)) none_before.all
-      ∙ ap (λ l. xs ++ (l ++ without (begins_at lo) ys)) (gap_dropped lo lo hi refl) ∙ ap (λ l. xs ++ l) none_behind.all in
+    without_three (begins_at lo) xs (gap lo hi) ys ∙ ap (λ l. l ++ (without (begins_at lo) (gap lo hi) ++ without (begins_at lo) ys)) none_before.all
+    ∙ ap (λ l. xs ++ (l ++ without (begins_at lo) ys)) (gap_dropped lo lo hi refl) ∙ ap (λ l. xs ++ l) none_behind.all in
     record {
       current_is = rw (in'.touching, around) (ap (λ r. Some r) in'.whole);
       others_are = rw (in'.touching, around) (in'.rest ∙ sym own);
@@ -204,11 +204,11 @@ merged_left freed c xs ys lo hi site ends begins =
     let none_behind = Over-none_begins c.place hi ys (omega arith) site.over in
     let runs = without test (xs ++ (gap lo p ++ (gap e hi ++ ys))) in
     let kept : runs ≡ xs ++ (gap p p ++ (gap e hi ++ ys)) =
-      without_parts test xs (gap lo p) (gap e hi) ys
-      ∙ ap (λ l. l ++ (without test (gap lo p) ++ (without test (gap e hi) ++ without test ys))) none_before.all
-      ∙ ap (λ l. xs ++ (l ++ (without test (gap e hi) ++ without test ys))) (gap_dropped c.place lo p (sym begins) ∙ sym (gap_none p p (omega arith)))
-      ∙ ap (λ l. xs ++ (gap p p ++ (l ++ without test ys))) (gap_kept c.place e hi (λ i. omega arith))
-      ∙ ap (λ l. xs ++ (gap p p ++ (gap e hi ++ l))) none_behind.all in
+    without_parts test xs (gap lo p) (gap e hi) ys
+    ∙ ap (λ l. l ++ (without test (gap lo p) ++ (without test (gap e hi) ++ without test ys))) none_before.all
+    ∙ ap (λ l. xs ++ (l ++ (without test (gap e hi) ++ without test ys))) (gap_dropped c.place lo p (sym begins) ∙ sym (gap_none p p (omega arith)))
+    ∙ ap (λ l. xs ++ (gap p p ++ (l ++ without test ys))) (gap_kept c.place e hi (λ i. omega arith))
+    ∙ ap (λ l. xs ++ (gap p p ++ (gap e hi ++ l))) none_behind.all in
     let joins = joins_all freed xs ys lo hi p hi site (omega arith) right in
     merged_in freed c runs xs ys lo hi site (record {
       touching = rw (eq-eqb (end_of c) p ends) (or_right (eqb e c.place) true refl);
@@ -226,11 +226,11 @@ merged_right freed c xs ys lo hi site begins ends =
     let none_behind = Over-none_begins c.place hi ys (omega arith) site.over in
     let runs = without test (xs ++ (gap lo p ++ (gap e hi ++ ys))) in
     let kept : runs ≡ xs ++ (gap lo p ++ (gap e e ++ ys)) =
-      without_parts test xs (gap lo p) (gap e hi) ys
-      ∙ ap (λ l. l ++ (without test (gap lo p) ++ (without test (gap e hi) ++ without test ys))) none_before.all
-      ∙ ap (λ l. xs ++ (l ++ (without test (gap e hi) ++ without test ys))) (gap_kept c.place lo p (λ i. omega arith))
-      ∙ ap (λ l. xs ++ (gap lo p ++ (l ++ without test ys))) (gap_dropped c.place e hi begins ∙ sym (gap_none e e (omega arith)))
-      ∙ ap (λ l. xs ++ (gap lo p ++ (gap e e ++ l))) none_behind.all in
+    without_parts test xs (gap lo p) (gap e hi) ys
+    ∙ ap (λ l. l ++ (without test (gap lo p) ++ (without test (gap e hi) ++ without test ys))) none_before.all
+    ∙ ap (λ l. xs ++ (l ++ (without test (gap e hi) ++ without test ys))) (gap_kept c.place lo p (λ i. omega arith))
+    ∙ ap (λ l. xs ++ (gap lo p ++ (l ++ without test ys))) (gap_dropped c.place e hi begins ∙ sym (gap_none e e (omega arith)))
+    ∙ ap (λ l. xs ++ (gap lo p ++ (gap e e ++ l))) none_behind.all in
     let joins = joins_all freed xs ys lo hi lo e site left (omega arith) in
     merged_in freed c runs xs ys lo hi site (record {
       touching = rw (eq-eqb e c.place begins) refl;

@@ -52,10 +52,10 @@ raised key k runs low high before now sorted was some e value is less =
       order = omega arith;
       within = within;
       below = λ i d l.
-        let le : key (get_or runs i e) ≤ key (get_or runs m e) = sorted i m e (omega arith) (omega arith) in
-        let inside : i < length runs = omega arith in
-        let same_key : key (get_or runs i d) ≡ key (get_or runs i e) = ap key (get_or_default runs i d e inside) in
-        omega arith;
+          let le : key (get_or runs i e) ≤ key (get_or runs m e) = sorted i m e (omega arith) (omega arith) in
+          let inside : i < length runs = omega arith in
+          let same_key : key (get_or runs i d) ≡ key (get_or runs i e) = ap key (get_or_default runs i d e inside) in
+          omega arith;
       above = was.above;
       rises = omega arith;
       width = rw power (halved p (high - low) (high - (m + 1)) (length runs) was.width (omega arith));
@@ -78,10 +78,10 @@ lowered key k runs low high before now sorted was some e value is more =
       within = omega arith;
       below = was.below;
       above = λ i d l h.
-        let le : key (get_or runs m d) ≤ key (get_or runs i d) = sorted m i d l h in
-        let inside : m < length runs = omega arith in
-        let same_key : key (get_or runs m d) ≡ key (get_or runs m e) = ap key (get_or_default runs m d e inside) in
-        omega arith;
+          let le : key (get_or runs m d) ≤ key (get_or runs i d) = sorted m i d l h in
+          let inside : m < length runs = omega arith in
+          let same_key : key (get_or runs m d) ≡ key (get_or runs m e) = ap key (get_or_default runs m d e inside) in
+          omega arith;
       rises = omega arith;
       width = rw power (halved p (high - low) (m - low) (length runs) was.width (omega arith));
       steps = rw power (stepped p (high - low) (length runs) was.width (omega arith));

@@ -137,7 +137,7 @@ placed_shortest size s r runs room blocks kept e whole some has_room =
     let t = taken r size 16 end s.held sound.blocks between some found.fits in
     let fits : size ≤ r.length = found.fits in
     let own : remove_by place_of r.place (free_runs s) ≡ without (begins_at r.place) (free_runs s) =
-      remove_by_is_without r 16 end (free_runs s) (gaps-spread 16 end s.held sound.blocks) found.among in
+    remove_by_is_without r 16 end (free_runs s) (gaps-spread 16 end s.held sound.blocks) found.among in
     let all = gaps 16 end (insert_run (run r.place size) s.held) in
     let held' = insert_run (run r.place size) s.held in
     let rest = rest_of size r in
@@ -145,14 +145,14 @@ placed_shortest size s r runs room blocks kept e whole some has_room =
       place = refl;
       space = refl;
       kept = kept_with size s r (if_any rest) runs (remove_by place_of r.place (free_runs s)) room blocks kept whole some fits between has_room
-        (elim (cases_lt 0 rest.length) [
-          | inl l ↦ rw (lt-ltb 0 rest.length l) t.between
-          | inr l ↦ rw (le-ltb 0 rest.length l) tt
-        ])
-        (own ∙ elim (cases_lt 0 rest.length) [
-          | inl l ↦ t.others ∙ sym (ap (λ o. without (is_current o) all) (cond-true _ (Some rest) None (lt-ltb 0 rest.length l)))
-          | inr l ↦ t.whole (omega arith) ∙ sym (ap (λ o. without (is_current o) all) (cond-false _ (Some rest) None (le-ltb 0 rest.length l)) ∙ without_none all)
-        ]);
+          (elim (cases_lt 0 rest.length) [
+            | inl l ↦ rw (lt-ltb 0 rest.length l) t.between
+            | inr l ↦ rw (le-ltb 0 rest.length l) tt
+          ])
+          (own ∙ elim (cases_lt 0 rest.length) [
+            | inl l ↦ t.others ∙ sym (ap (λ o. without (is_current o) all) (cond-true _ (Some rest) None (lt-ltb 0 rest.length l)))
+            | inr l ↦ t.whole (omega arith) ∙ sym (ap (λ o. without (is_current o) all) (cond-false _ (Some rest) None (le-ltb 0 rest.length l)) ∙ without_none all)
+          ]);
       none_short = λ i. absurd (cc);
       short_none = λ short. absurd (let l = all_short_at size (free_runs s) r short found.among in omega arith);
       aligned = ((between_within r 16 end s.held sound.blocks between).begins, between_aligned r 16 end s.held refl sound.aligned between);
@@ -219,7 +219,7 @@ pub after_none : (size : ℕ) (s : Space) (room blocks : ℕ) (by : Placing) (bl
 after_none size s room blocks by block current others p eb ec eo none =
     let own : by.block ≡ None = sym eb ∙ none in
     let space : (take size s).space ≡ record { capacity = s.capacity; held = s.held; current = current } =
-      p.space ∙ ap (λ o. record { capacity = s.capacity; held = held_with o s.held; current = by.current }) own ∙ ap (λ o. record { capacity = s.capacity; held = s.held; current = o }) (sym ec) in
+    p.space ∙ ap (λ o. record { capacity = s.capacity; held = held_with o s.held; current = by.current }) own ∙ ap (λ o. record { capacity = s.capacity; held = s.held; current = o }) (sym ec) in
     let kept = subst (λ z. IsKept z by.others room (blocks_with by.block blocks)) space p.kept in
     let fewer = subst (λ o. IsKept (record { capacity = s.capacity; held = s.held; current = current }) by.others room (blocks_with o blocks)) own kept in
     record {
@@ -243,7 +243,7 @@ pub after_some : (size : ℕ) (s : Space) (room blocks : ℕ) (by : Placing) (bl
 after_some size s room blocks by block current others b p eb ec eo some =
     let own : by.block ≡ Some b = sym eb ∙ some in
     let space : (take size s).space ≡ record { capacity = s.capacity; held = insert_run b s.held; current = current } =
-      p.space ∙ ap (λ o. record { capacity = s.capacity; held = held_with o s.held; current = by.current }) own ∙ ap (λ o. record { capacity = s.capacity; held = insert_run b s.held; current = o }) (sym ec) in
+    p.space ∙ ap (λ o. record { capacity = s.capacity; held = held_with o s.held; current = by.current }) own ∙ ap (λ o. record { capacity = s.capacity; held = insert_run b s.held; current = o }) (sym ec) in
     let kept = subst (λ z. IsKept z by.others room (blocks_with by.block blocks)) space p.kept in
     let more = subst (λ o. IsKept (record { capacity = s.capacity; held = insert_run b s.held; current = current }) by.others room (blocks_with o blocks)) own kept in
     let at = subst (λ o. MatchOption o (Unit {0}) (λ b. (16 ≤ b.place) × (b.place % 16 ≡ 0))) own p.aligned in

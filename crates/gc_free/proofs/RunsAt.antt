@@ -41,9 +41,9 @@ by_current s (Some c) own place r sound e =
     elim (cases_eq c.place place) [
       | inl same ↦ elim (cases_lt 0 c.length) [
         | inl some ↦
-          let e' : Some c ≡ Some r = rw (eq-eqb c.place place same, lt-ltb 0 c.length some) at e in
-          let among : In c (free_runs s) = subst (In c) (back.some some) (In-insert_run c (without (begins_at c.place) (free_runs s))) in
-          ap (λ p. find (begins_at p) (free_runs s)) (sym same) ∙ find_in 16 end c (free_runs s) (gaps-spread 16 end s.held sound.blocks) among ∙ e'
+            let e' : Some c ≡ Some r = rw (eq-eqb c.place place same, lt-ltb 0 c.length some) at e in
+            let among : In c (free_runs s) = subst (In c) (back.some some) (In-insert_run c (without (begins_at c.place) (free_runs s))) in
+            ap (λ p. find (begins_at p) (free_runs s)) (sym same) ∙ find_in 16 end c (free_runs s) (gaps-spread 16 end s.held sound.blocks) among ∙ e'
         | inr none ↦ let e' : None ≡ Some r = rw (eq-eqb c.place place same, le-ltb 0 c.length none) at e in absurd (cc)
       ]
       | inr other ↦ let e' : None ≡ Some r = rw (ne_eqb c.place place other) at e in absurd (cc)

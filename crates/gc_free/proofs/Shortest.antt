@@ -57,7 +57,7 @@ fit-insert size x k (y ∷ ys) small up places =
       | inr l ↦ elim (cases_lt x.length size) [
         | inl short ↦ rw (le-ltb (length_key y) (length_key x) l, lt-leb size x.length short) (sym (shorter_not size x (first_fit size (y ∷ ys)) short))
         | inr long ↦ rw (le-ltb (length_key y) (length_key x) l, le-leb size x.length long)
-          (sym (shorter_first size x (y ∷ ys) long small (l, up.1) (λ z h. (places z h).1)))
+            (sym (shorter_first size x (y ∷ ys) long small (l, up.1) (λ z h. (places z h).1)))
       ]
     ]
 
@@ -67,8 +67,8 @@ shortest_is_first size low high (x ∷ xs) small up =
     let some : 0 < x.length = up.1 in let within : end_of x ≤ high = up.2 in
     ap (shorter_fit size x) (shortest_is_first size (end_of x) high xs small up.3)
     ∙ sym (fit-insert size x 0 (by_length xs) (omega arith) (by_length-rises xs) (λ z h.
-      let p = In-place (end_of x) high z xs up.3 (In-unordered z xs h) in
-      let past : end_of x ≤ z.place = p.0 in let last : end_of z ≤ high = p.1 in let more : 0 < z.length = p.2 in (omega arith, omega arith)))
+    let p = In-place (end_of x) high z xs up.3 (In-unordered z xs h) in
+    let past : end_of x ≤ z.place = p.0 in let last : end_of z ≤ high = p.1 in let more : 0 < z.length = p.2 in (omega arith, omega arith)))
 
 -- a search for the length alone finds it
 pub fit_at : (size : ℕ) (ys : List Run) (d : Run) → ((z : Run) → In z ys → z.place < 2 ^ 32) → count_below length_key (size * 2 ^ 32) ys < length ys
@@ -78,8 +78,8 @@ fit_at size (y ∷ ys) d places l =
     let place : y.place < 2 ^ 32 = places y (inl refl) in
     elim (cases_lt (length_key y) (size * 2 ^ 32)) [
       | inl short ↦
-        let l' : suc (count_below length_key (size * 2 ^ 32) ys) < suc (length ys) = rw (lt-ltb (length_key y) (size * 2 ^ 32) short) at l in
-        rw (lt-ltb (length_key y) (size * 2 ^ 32) short, lt-leb size y.length (omega arith)) (fit_at size ys d (λ z h. places z (inr h)) (omega arith))
+          let l' : suc (count_below length_key (size * 2 ^ 32) ys) < suc (length ys) = rw (lt-ltb (length_key y) (size * 2 ^ 32) short) at l in
+          rw (lt-ltb (length_key y) (size * 2 ^ 32) short, lt-leb size y.length (omega arith)) (fit_at size ys d (λ z h. places z (inr h)) (omega arith))
       | inr long ↦ rw (le-ltb (length_key y) (size * 2 ^ 32) long, le-leb size y.length (omega arith))
     ]
 
@@ -89,10 +89,10 @@ no_fit size (y ∷ ys) places l =
     let place : y.place < 2 ^ 32 = places y (inl refl) in
     elim (cases_lt (length_key y) (size * 2 ^ 32)) [
       | inl short ↦
-        let l' : suc (length ys) ≤ suc (count_below length_key (size * 2 ^ 32) ys) = rw (lt-ltb (length_key y) (size * 2 ^ 32) short) at l in
-        rw (lt-leb size y.length (omega arith)) (no_fit size ys (λ z h. places z (inr h)) (omega arith))
+          let l' : suc (length ys) ≤ suc (count_below length_key (size * 2 ^ 32) ys) = rw (lt-ltb (length_key y) (size * 2 ^ 32) short) at l in
+          rw (lt-leb size y.length (omega arith)) (no_fit size ys (λ z h. places z (inr h)) (omega arith))
       | inr long ↦
-        let l' : suc (length ys) ≤ 0 = rw (le-ltb (length_key y) (size * 2 ^ 32) long) at l in absurd (omega arith)
+          let l' : suc (length ys) ≤ 0 = rw (le-ltb (length_key y) (size * 2 ^ 32) long) at l in absurd (omega arith)
     ]
 
 pub count_key : (key : Run → ℕ) (k : ℕ) (ys : List Run) (d : Run) → count_below key k ys < length ys → k ≤ key (get_or ys (count_below key k ys) d)
@@ -100,8 +100,8 @@ count_key key k [] d l = absurd (omega arith)
 count_key key k (y ∷ ys) d l =
     elim (cases_lt (key y) k) [
       | inl short ↦
-        let l' : suc (count_below key k ys) < suc (length ys) = rw (lt-ltb (key y) k short) at l in
-        rw (lt-ltb (key y) k short) (count_key key k ys d (omega arith))
+          let l' : suc (count_below key k ys) < suc (length ys) = rw (lt-ltb (key y) k short) at l in
+          rw (lt-ltb (key y) k short) (count_key key k ys d (omega arith))
       | inr long ↦ rw (le-ltb (key y) k long) long
     ]
 
@@ -117,10 +117,10 @@ remove_by-at key k zero (y ∷ ys) d e l =
 remove_by-at key k (suc n) (y ∷ ys) d e l =
     elim (cases_lt (key y) k) [
       | inl short ↦
-        let e' : suc n ≡ suc (count_below key k ys) = rw (lt-ltb (key y) k short) at e in
-        let same : n ≡ count_below key k ys = omega arith in
-        let found : k ≤ key (get_or ys n d) = subst (λ i. i < length ys → k ≤ key (get_or ys i d)) (sym same) (count_key key k ys d) (omega arith) in
-        rw (lt-ltb (key y) k short, lt-ltb (key y) (key (get_or ys n d)) (omega arith)) (ap (λ l. y ∷ l) (remove_by-at key k n ys d same (omega arith)))
+          let e' : suc n ≡ suc (count_below key k ys) = rw (lt-ltb (key y) k short) at e in
+          let same : n ≡ count_below key k ys = omega arith in
+          let found : k ≤ key (get_or ys n d) = subst (λ i. i < length ys → k ≤ key (get_or ys i d)) (sym same) (count_key key k ys d) (omega arith) in
+          rw (lt-ltb (key y) k short, lt-ltb (key y) (key (get_or ys n d)) (omega arith)) (ap (λ l. y ∷ l) (remove_by-at key k n ys d same (omega arith)))
       | inr long ↦ let e' : suc n ≡ 0 = rw (le-ltb (key y) k long) at e in absurd (omega arith)
     ]
 

@@ -48,8 +48,8 @@ begins_found p low high zero (x ∷ xs) d up e l is =
 begins_found p low high (suc n) (x ∷ xs) d up e l is =
     elim (cases_lt x.place p) [
       | inl lt ↦
-        let e' : suc n ≡ suc (count_below place_of p xs) = rw (lt-ltb x.place p lt) at e in
-        PassesAt-later (begins_at p) x xs n d (ne_eqb x.place p (λ e. omega arith)) (begins_found p (end_of x) high n xs d up.3 (omega arith) (omega arith) is)
+          let e' : suc n ≡ suc (count_below place_of p xs) = rw (lt-ltb x.place p lt) at e in
+          PassesAt-later (begins_at p) x xs n d (ne_eqb x.place p (λ e. omega arith)) (begins_found p (end_of x) high n xs d up.3 (omega arith) (omega arith) is)
       | inr le ↦ let e' : suc n ≡ 0 = rw (le-ltb x.place p le) at e in absurd (omega arith)
     ]
 
@@ -61,14 +61,14 @@ begins_none p low high zero (x ∷ xs) d up e other =
     elim (cases_lt x.place p) [
       | inl lt ↦ let e' : zero ≡ suc (count_below place_of p xs) = rw (lt-ltb x.place p lt) at e in absurd (omega arith)
       | inr le ↦
-        let ne : x.place ≡ p → ⊥ = other (omega arith) in
-        PassesNone-cons (begins_at p) x xs (ne_eqb x.place p ne) (none_begins p (end_of x) high xs (omega arith) up.3)
+          let ne : x.place ≡ p → ⊥ = other (omega arith) in
+          PassesNone-cons (begins_at p) x xs (ne_eqb x.place p ne) (none_begins p (end_of x) high xs (omega arith) up.3)
     ]
 begins_none p low high (suc n) (x ∷ xs) d up e other =
     elim (cases_lt x.place p) [
       | inl lt ↦
-        let e' : suc n ≡ suc (count_below place_of p xs) = rw (lt-ltb x.place p lt) at e in
-        PassesNone-cons (begins_at p) x xs (ne_eqb x.place p (λ e. omega arith)) (begins_none p (end_of x) high n xs d up.3 (omega arith) (λ l is. other (omega arith) is))
+          let e' : suc n ≡ suc (count_below place_of p xs) = rw (lt-ltb x.place p lt) at e in
+          PassesNone-cons (begins_at p) x xs (ne_eqb x.place p (λ e. omega arith)) (begins_none p (end_of x) high n xs d up.3 (omega arith) (λ l is. other (omega arith) is))
       | inr le ↦ let e' : suc n ≡ 0 = rw (le-ltb x.place p le) at e in absurd (omega arith)
     ]
 

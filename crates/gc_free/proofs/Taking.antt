@@ -48,16 +48,16 @@ taken_at c size from end hs ts up begins ends some fits =
     let at = open_slot from end hs ts up in
     let left : without (begins_at c.place) (gaps from end (hs ++ ts)) ≡ before from hs ++ behind end ts = others_at from end c.place hs ts at begins (omega arith) in
     let around : gaps from end (hs ++ b ∷ ts) ≡ before from hs ++ (gap (end_of b) hi ++ behind end ts) =
-      gaps-around from end hs b ts ∙ ap (λ g. before from hs ++ (g ++ (gap (end_of b) hi ++ behind end ts))) (gap_none lo b.place (omega arith)) in
+    gaps-around from end hs b ts ∙ ap (λ g. before from hs ++ (g ++ (gap (end_of b) hi ++ behind end ts))) (gap_none lo b.place (omega arith)) in
     let middle = in_middle (begins_at (end_of b)) (before from hs) (gap (end_of b) hi) (behind end ts)
-      (Under-none_begins (end_of b) lo (before from hs) (omega arith) at.under) (Over-none_begins (end_of b) hi (behind end ts) (omega arith) at.over) in
+    (Under-none_begins (end_of b) lo (before from hs) (omega arith) at.under) (Over-none_begins (end_of b) hi (behind end ts) (omega arith) at.over) in
     record {
       blocks = rw e (spread-insert b from end hs ts up (omega arith) some (omega arith));
       aligned = λ a all. rw e (aligned-insert b hs ts a all);
       count = rw e (length-slot b hs ts);
       between = rw e (between_behind (rest_of size c) from end hs b ts refl (let f : c.place + size + (c.length - size) ≡ c.place + c.length = omega arith in f ∙ ends));
       others = left ∙ sym (ap (λ l. without (begins_at (c.place + size)) (gaps from end l)) e ∙ ap (without (begins_at (end_of b))) around ∙ middle.rest
-        ∙ ap (λ g. before from hs ++ (g ++ behind end ts)) (gap_dropped (end_of b) (end_of b) hi refl));
+          ∙ ap (λ g. before from hs ++ (g ++ behind end ts)) (gap_dropped (end_of b) (end_of b) hi refl));
       whole = λ all. left ∙ sym (ap (gaps from end) e ∙ around ∙ ap (λ g. before from hs ++ (g ++ behind end ts)) (gap_none (end_of b) hi (omega arith)));
     }
 
@@ -78,12 +78,12 @@ put_back_at c from end hs ts up begins ends =
     let at = open_slot from end hs ts up in
     let left : without (begins_at c.place) (gaps from end (hs ++ ts)) ≡ before from hs ++ behind end ts = others_at from end c.place hs ts at begins (omega arith) in
     let filled : 0 < c.length → gaps from end (hs ++ ts) ≡ before from hs ++ c ∷ behind end ts = λ some.
-      gaps-split from end hs ts ∙ ap (λ g. before from hs ++ (g ++ behind end ts))
-      (gap_some lo hi (omega arith) ∙ ap (λ r. r ∷ []) (ap (λ p. run p (hi - lo)) (sym begins) ∙ ap (run c.place) (let n : hi - lo ≡ c.length = omega arith in n))) in
+    gaps-split from end hs ts ∙ ap (λ g. before from hs ++ (g ++ behind end ts))
+    (gap_some lo hi (omega arith) ∙ ap (λ r. r ∷ []) (ap (λ p. run p (hi - lo)) (sym begins) ∙ ap (run c.place) (let n : hi - lo ≡ c.length = omega arith in n))) in
     record {
       some = λ some. ap (insert_run c) left
-        ∙ insert_run-middle c (before from hs) (behind end ts) (Under-more lo (suc c.place) (before from hs) (omega arith) at.under) (Over-less c.place hi (behind end ts) (omega arith) at.over)
-        ∙ sym (filled some);
+          ∙ insert_run-middle c (before from hs) (behind end ts) (Under-more lo (suc c.place) (before from hs) (omega arith) at.under) (Over-less c.place hi (behind end ts) (omega arith) at.over)
+          ∙ sym (filled some);
       empty = λ none. left ∙ sym (gaps-split from end hs ts ∙ ap (λ g. before from hs ++ (g ++ behind end ts)) (gap_none lo hi (omega arith)));
       count = λ some. ap (λ l. suc (length l)) left ∙ sym (length-slot c (before from hs) (behind end ts)) ∙ ap length (sym (filled some));
     }
@@ -104,7 +104,7 @@ found_step size x xs None r before e =
     elim (cases_lt x.length size) [
       | inl short ↦ let e' : None ≡ Some r = rw (lt-leb size x.length short) at e in absurd (cc)
       | inr long ↦ let e' : Some x ≡ Some r = rw (le-leb size x.length long) at e in let same : x ≡ r = cc in
-        record { among = inl same; fits = subst (λ z. size ≤ z.length) same long }
+          record { among = inl same; fits = subst (λ z. size ≤ z.length) same long }
     ]
 found_step size x xs (Some best) r before e =
     let later : Some best ≡ Some r → IsShortest size (x ∷ xs) r = λ f. let i = before r f in record { among = inr i.among; fits = i.fits } in
@@ -113,8 +113,8 @@ found_step size x xs (Some best) r before e =
       | inr long ↦ elim (cases_lt best.length x.length) [
         | inl less ↦ later (rw (le-leb size x.length long, lt-leb x.length best.length less) at e)
         | inr more ↦
-          let e' : Some x ≡ Some r = rw (le-leb size x.length long, le-leb x.length best.length more) at e in let same : x ≡ r = cc in
-          record { among = inl same; fits = subst (λ z. size ≤ z.length) same long }
+            let e' : Some x ≡ Some r = rw (le-leb size x.length long, le-leb x.length best.length more) at e in let same : x ≡ r = cc in
+            record { among = inl same; fits = subst (λ z. size ≤ z.length) same long }
       ]
     ]
 

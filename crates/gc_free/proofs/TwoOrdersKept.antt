@@ -26,8 +26,8 @@ Has-found key k j [] up has = absurd has
 Has-found key k j (x ∷ xs) up has =
     elim (cases_lt (key x) k) [
       | inl l ↦
-        let later : Has key k xs = elim has [ inl e ↦ absurd (omega arith) | inr h ↦ h ] in
-        rw (lt-ltb (key x) k l) (let le = Has-found key k (key x) xs up.1 later in omega arith)
+          let later : Has key k xs = elim has [ inl e ↦ absurd (omega arith) | inr h ↦ h ] in
+          rw (lt-ltb (key x) k l) (let le = Has-found key k (key x) xs up.1 later in omega arith)
       | inr l ↦ rw (le-ltb (key x) k l) (omega arith)
     ]
 

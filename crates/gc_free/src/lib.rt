@@ -5,8 +5,8 @@ mod blocks;
 mod free_list;
 mod free_runs;
 mod held;
-mod layout;
 pub mod laws;
+mod layout;
 mod merging;
 mod placing;
 mod run;
@@ -18,3 +18,6 @@ pub use free_list::FreeList;
 pub use layout::Layout;
 pub use run::{ALIGN, Run};
 pub use steps::Steps;
+
+#[cfg(test)]
+mod tests;

@@ -34,11 +34,7 @@ fn put_back<L: Ledger>(others: &mut FreeRuns, current: Option<Run>, steps: &mut 
 }
 
 /// A block at the front of the shortest run that is long enough.
-fn place_in_shortest<L: Ledger>(
-    others: &mut FreeRuns,
-    size: u32,
-    steps: &mut Steps<L>,
-) -> Placed
+fn place_in_shortest<L: Ledger>(others: &mut FreeRuns, size: u32, steps: &mut Steps<L>) -> Placed
     requires { IsSpread 0 (2 ^ 32 - 1) others.old.runs }
     ensures block { result.block ≡ (place_in_shortest size others.old.runs).block }
     ensures current { result.current ≡ (place_in_shortest size others.old.runs).current }

@@ -16,10 +16,10 @@ joined-requires g c =
     let last : c.end.result ≡ end_of c.args.freed = c.end.ensures in
     elim c.match-before.branch [
       | in-Some w ↦
-        let ends : end_of w.in-Some.before ≡ c.args.freed.place = w.in-Some.ensures.ends in
-        let whole : c.match-before.whole.length ≡ c.args.freed.length + w.in-Some.before.length = ap (λ r. r.length) (w.whole-is ∙ w.joined-whole.ensures) in
-        omega arith
+          let ends : end_of w.in-Some.before ≡ c.args.freed.place = w.in-Some.ensures.ends in
+          let whole : c.match-before.whole.length ≡ c.args.freed.length + w.in-Some.before.length = ap (λ r. r.length) (w.whole-is ∙ w.joined-whole.ensures) in
+          omega arith
       | in-None w ↦
-        let whole : c.match-before.whole.length ≡ c.args.freed.length = ap (λ r. r.length) w.whole-is in
-        omega arith
+          let whole : c.match-before.whole.length ≡ c.args.freed.length = ap (λ r. r.length) w.whole-is in
+          omega arith
     ]

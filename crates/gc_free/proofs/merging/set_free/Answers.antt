@@ -16,14 +16,14 @@ insert-requires-clause-room g c =
     let room = c.absorb-whole.ensures.room in
     elim c.match-current.branch [
       | in-Some+else-touches w ↦
-        let apart : touches c.args.freed w.in-Some.run' ≡ false = sym w.if-touches.ensures in
-        let e : others_after c.args.freed c.args.current runs ≡ inserted = ap (λ o. others_after c.args.freed o runs) w.in-Some.is ∙ cond-false (touches c.args.freed w.in-Some.run') (apart_from c.args.freed runs) inserted apart in
-        let same : length (others_after c.args.freed c.args.current runs) ≡ length inserted = ap length e in
-        let has : length (others_after c.args.freed c.args.current runs) ≤ c.args.others.now.room = c.requires.room in
-        omega arith
+          let apart : touches c.args.freed w.in-Some.run' ≡ false = sym w.if-touches.ensures in
+          let e : others_after c.args.freed c.args.current runs ≡ inserted = ap (λ o. others_after c.args.freed o runs) w.in-Some.is ∙ cond-false (touches c.args.freed w.in-Some.run') (apart_from c.args.freed runs) inserted apart in
+          let same : length (others_after c.args.freed c.args.current runs) ≡ length inserted = ap length e in
+          let has : length (others_after c.args.freed c.args.current runs) ≤ c.args.others.now.room = c.requires.room in
+          omega arith
       | in_default w ↦
-        let e : others_after c.args.freed c.args.current runs ≡ inserted = ap (λ o. others_after c.args.freed o runs) w.in_default.is in
-        let same : length (others_after c.args.freed c.args.current runs) ≡ length inserted = ap length e in
-        let has : length (others_after c.args.freed c.args.current runs) ≤ c.args.others.now.room = c.requires.room in
-        omega arith
+          let e : others_after c.args.freed c.args.current runs ≡ inserted = ap (λ o. others_after c.args.freed o runs) w.in_default.is in
+          let same : length (others_after c.args.freed c.args.current runs) ≡ length inserted = ap length e in
+          let has : length (others_after c.args.freed c.args.current runs) ≤ c.args.others.now.room = c.requires.room in
+          omega arith
     ]

@@ -56,7 +56,7 @@ invariant_of-self-in_default g c =
     let wider : c.reserve.new.self.room ≤ c.place-placed.new.others.room = c.place-placed.ensures.room in
     let k = place_kept c.args.alloc_size s runs c.self.inside.others.room c.place-placed.new.others.room c.self.inside.blocks kept (omega arith) c.requires.whole c.requires.some (omega arith) in
     let after = after_none c.args.alloc_size s c.place-placed.new.others.room c.self.inside.blocks (place_in c.args.alloc_size s.current runs) c.place-placed.result.block c.place-placed.result.current c.place-placed.new.others.runs
-      k.placed c.place-placed.ensures.block c.place-placed.ensures.current c.place-placed.ensures.others c.in_default.is in
+    k.placed c.place-placed.ensures.block c.place-placed.ensures.current c.place-placed.ensures.others c.in_default.is in
     after.kept
 
 pub returns-in_default-clause-place : goal.returns-in_default-clause-place
@@ -69,7 +69,7 @@ returns-in_default-clause-place g c =
     let wider : c.reserve.new.self.room ≤ c.place-placed.new.others.room = c.place-placed.ensures.room in
     let k = place_kept c.args.alloc_size s runs c.self.inside.others.room c.place-placed.new.others.room c.self.inside.blocks kept (omega arith) c.requires.whole c.requires.some (omega arith) in
     let after = after_none c.args.alloc_size s c.place-placed.new.others.room c.self.inside.blocks (place_in c.args.alloc_size s.current runs) c.place-placed.result.block c.place-placed.result.current c.place-placed.new.others.runs
-      k.placed c.place-placed.ensures.block c.place-placed.ensures.current c.place-placed.ensures.others c.in_default.is in
+    k.placed c.place-placed.ensures.block c.place-placed.ensures.current c.place-placed.ensures.others c.in_default.is in
     after.place ∙ ap (λ z. (take c.args.alloc_size z).place) c.self.view_is
 
 pub returns-in_default-clause-after : goal.returns-in_default-clause-after
@@ -82,7 +82,7 @@ returns-in_default-clause-after g c =
     let wider : c.reserve.new.self.room ≤ c.place-placed.new.others.room = c.place-placed.ensures.room in
     let k = place_kept c.args.alloc_size s runs c.self.inside.others.room c.place-placed.new.others.room c.self.inside.blocks kept (omega arith) c.requires.whole c.requires.some (omega arith) in
     let after = after_none c.args.alloc_size s c.place-placed.new.others.room c.self.inside.blocks (place_in c.args.alloc_size s.current runs) c.place-placed.result.block c.place-placed.result.current c.place-placed.new.others.runs
-      k.placed c.place-placed.ensures.block c.place-placed.ensures.current c.place-placed.ensures.others c.in_default.is in
+    k.placed c.place-placed.ensures.block c.place-placed.ensures.current c.place-placed.ensures.others c.in_default.is in
     after.space ∙ ap (λ z. (take c.args.alloc_size z).space) c.self.view_is
 
 pub returns-in_default-clause-none : goal.returns-in_default-clause-none
@@ -95,7 +95,7 @@ returns-in_default-clause-none g c =
     let wider : c.reserve.new.self.room ≤ c.place-placed.new.others.room = c.place-placed.ensures.room in
     let k = place_kept c.args.alloc_size s runs c.self.inside.others.room c.place-placed.new.others.room c.self.inside.blocks kept (omega arith) c.requires.whole c.requires.some (omega arith) in
     let after = after_none c.args.alloc_size s c.place-placed.new.others.room c.self.inside.blocks (place_in c.args.alloc_size s.current runs) c.place-placed.result.block c.place-placed.result.current c.place-placed.new.others.runs
-      k.placed c.place-placed.ensures.block c.place-placed.ensures.current c.place-placed.ensures.others c.in_default.is in
+    k.placed c.place-placed.ensures.block c.place-placed.ensures.current c.place-placed.ensures.others c.in_default.is in
     rw (← c.self.view_is) ((λ _. after.short), (λ _. refl))
 
 pub returns-in_default-clause-cost : goal.returns-in_default-clause-cost
@@ -127,7 +127,7 @@ invariant_of-self-2 g c =
     let wider : c.reserve.new.self.room ≤ c.place-placed.new.others.room = c.place-placed.ensures.room in
     let k = place_kept c.args.alloc_size s runs c.self.inside.others.room c.place-placed.new.others.room c.self.inside.blocks kept (omega arith) c.requires.whole c.requires.some (omega arith) in
     let after = after_some c.args.alloc_size s c.place-placed.new.others.room c.self.inside.blocks (place_in c.args.alloc_size s.current runs) c.place-placed.result.block c.place-placed.result.current c.place-placed.new.others.runs c.in-Some.block
-      k.placed c.place-placed.ensures.block c.place-placed.ensures.current c.place-placed.ensures.others c.in-Some.is in
+    k.placed c.place-placed.ensures.block c.place-placed.ensures.current c.place-placed.ensures.others c.in-Some.is in
     rw c.after-self-inside.ensures after.kept
 
 pub returns-clause-place : goal.returns-clause-place
@@ -140,7 +140,7 @@ returns-clause-place g c =
     let wider : c.reserve.new.self.room ≤ c.place-placed.new.others.room = c.place-placed.ensures.room in
     let k = place_kept c.args.alloc_size s runs c.self.inside.others.room c.place-placed.new.others.room c.self.inside.blocks kept (omega arith) c.requires.whole c.requires.some (omega arith) in
     let after = after_some c.args.alloc_size s c.place-placed.new.others.room c.self.inside.blocks (place_in c.args.alloc_size s.current runs) c.place-placed.result.block c.place-placed.result.current c.place-placed.new.others.runs c.in-Some.block
-      k.placed c.place-placed.ensures.block c.place-placed.ensures.current c.place-placed.ensures.others c.in-Some.is in
+    k.placed c.place-placed.ensures.block c.place-placed.ensures.current c.place-placed.ensures.others c.in-Some.is in
     let low : 16 ≤ c.in-Some.block.place = after.low in
     let number = non_zero c.new.result c.in-Some.block.place (omega arith) c.new.ensures in
     number.is ∙ after.place ∙ ap (λ z. (take c.args.alloc_size z).place) c.self.view_is
@@ -155,7 +155,7 @@ returns-clause-after g c =
     let wider : c.reserve.new.self.room ≤ c.place-placed.new.others.room = c.place-placed.ensures.room in
     let k = place_kept c.args.alloc_size s runs c.self.inside.others.room c.place-placed.new.others.room c.self.inside.blocks kept (omega arith) c.requires.whole c.requires.some (omega arith) in
     let after = after_some c.args.alloc_size s c.place-placed.new.others.room c.self.inside.blocks (place_in c.args.alloc_size s.current runs) c.place-placed.result.block c.place-placed.result.current c.place-placed.new.others.runs c.in-Some.block
-      k.placed c.place-placed.ensures.block c.place-placed.ensures.current c.place-placed.ensures.others c.in-Some.is in
+    k.placed c.place-placed.ensures.block c.place-placed.ensures.current c.place-placed.ensures.others c.in-Some.is in
     ap (λ h. record { capacity = s.capacity; held = h; current = c.place-placed.result.current }) c.after-self-inside.ensures
     ∙ after.space ∙ ap (λ z. (take c.args.alloc_size z).space) c.self.view_is
 
@@ -169,7 +169,7 @@ returns-clause-none g c =
     let wider : c.reserve.new.self.room ≤ c.place-placed.new.others.room = c.place-placed.ensures.room in
     let k = place_kept c.args.alloc_size s runs c.self.inside.others.room c.place-placed.new.others.room c.self.inside.blocks kept (omega arith) c.requires.whole c.requires.some (omega arith) in
     let after = after_some c.args.alloc_size s c.place-placed.new.others.room c.self.inside.blocks (place_in c.args.alloc_size s.current runs) c.place-placed.result.block c.place-placed.result.current c.place-placed.new.others.runs c.in-Some.block
-      k.placed c.place-placed.ensures.block c.place-placed.ensures.current c.place-placed.ensures.others c.in-Some.is in
+    k.placed c.place-placed.ensures.block c.place-placed.ensures.current c.place-placed.ensures.others c.in-Some.is in
     let low : 16 ≤ c.in-Some.block.place = after.low in
     let number = non_zero c.new.result c.in-Some.block.place (omega arith) c.new.ensures in
     rw (← c.self.view_is) ((λ i. absurd (number.some i)), (λ all. absurd (after.fits all)))
@@ -184,7 +184,7 @@ returns-clause-aligned g c =
     let wider : c.reserve.new.self.room ≤ c.place-placed.new.others.room = c.place-placed.ensures.room in
     let k = place_kept c.args.alloc_size s runs c.self.inside.others.room c.place-placed.new.others.room c.self.inside.blocks kept (omega arith) c.requires.whole c.requires.some (omega arith) in
     let after = after_some c.args.alloc_size s c.place-placed.new.others.room c.self.inside.blocks (place_in c.args.alloc_size s.current runs) c.place-placed.result.block c.place-placed.result.current c.place-placed.new.others.runs c.in-Some.block
-      k.placed c.place-placed.ensures.block c.place-placed.ensures.current c.place-placed.ensures.others c.in-Some.is in
+    k.placed c.place-placed.ensures.block c.place-placed.ensures.current c.place-placed.ensures.others c.in-Some.is in
     non_zero_aligned c.new.result c.in-Some.block.place after.aligned c.new.ensures
 
 pub returns-clause-sound : goal.returns-clause-sound
@@ -197,7 +197,7 @@ returns-clause-sound g c =
     let wider : c.reserve.new.self.room ≤ c.place-placed.new.others.room = c.place-placed.ensures.room in
     let k = place_kept c.args.alloc_size s runs c.self.inside.others.room c.place-placed.new.others.room c.self.inside.blocks kept (omega arith) c.requires.whole c.requires.some (omega arith) in
     let after = after_some c.args.alloc_size s c.place-placed.new.others.room c.self.inside.blocks (place_in c.args.alloc_size s.current runs) c.place-placed.result.block c.place-placed.result.current c.place-placed.new.others.runs c.in-Some.block
-      k.placed c.place-placed.ensures.block c.place-placed.ensures.current c.place-placed.ensures.others c.in-Some.is in
+    k.placed c.place-placed.ensures.block c.place-placed.ensures.current c.place-placed.ensures.others c.in-Some.is in
     rw c.after-self-inside.ensures after.kept.sound
 
 pub returns-clause-cost : goal.returns-clause-cost

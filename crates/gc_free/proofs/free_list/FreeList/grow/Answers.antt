@@ -15,7 +15,7 @@ invariant_of-self g c =
     let from : c.max-from.result ≡ max 16 (places_end s.capacity) = c.max-from.ensures ∙ ap (max 16) c.places_end.ensures in
     let to : c.places_end-2.result ≡ places_end capacity = c.places_end-2.ensures in
     let first : first_of_runs (gap (max 16 (places_end s.capacity)) (places_end capacity)) ≡ None =
-      ap (λ n. first_of_runs (gap n (places_end capacity))) (sym from) ∙ ap (λ n. first_of_runs (gap c.max-from.result n)) (sym to) ∙ sym c.run_between.ensures ∙ c.in_default.is in
+    ap (λ n. first_of_runs (gap n (places_end capacity))) (sym from) ∙ ap (λ n. first_of_runs (gap c.max-from.result n)) (sym to) ∙ sym c.run_between.ensures ∙ c.in_default.is in
     let k = idle_kept s capacity c.self.inside.others.runs c.self.inside.others.room c.self.inside.blocks c.self.invariant up fits (gap_empty (max 16 (places_end s.capacity)) (places_end capacity) first) in
     k
 
@@ -30,7 +30,7 @@ returns-in_default-clause-sound g c =
     let from : c.max-from.result ≡ max 16 (places_end s.capacity) = c.max-from.ensures ∙ ap (max 16) c.places_end.ensures in
     let to : c.places_end-2.result ≡ places_end capacity = c.places_end-2.ensures in
     let first : first_of_runs (gap (max 16 (places_end s.capacity)) (places_end capacity)) ≡ None =
-      ap (λ n. first_of_runs (gap n (places_end capacity))) (sym from) ∙ ap (λ n. first_of_runs (gap c.max-from.result n)) (sym to) ∙ sym c.run_between.ensures ∙ c.in_default.is in
+    ap (λ n. first_of_runs (gap n (places_end capacity))) (sym from) ∙ ap (λ n. first_of_runs (gap c.max-from.result n)) (sym to) ∙ sym c.run_between.ensures ∙ c.in_default.is in
     let k = idle_kept s capacity c.self.inside.others.runs c.self.inside.others.room c.self.inside.blocks c.self.invariant up fits (gap_empty (max 16 (places_end s.capacity)) (places_end capacity) first) in
     k.sound
 
@@ -45,7 +45,7 @@ set_free-self-inside-requires-clause-current_fits g c =
     let from : c.max-from.result ≡ max 16 (places_end s.capacity) = c.max-from.ensures ∙ ap (max 16) c.places_end.ensures in
     let to : c.places_end-2.result ≡ places_end capacity = c.places_end-2.ensures in
     let first : first_of_runs (gap (max 16 (places_end s.capacity)) (places_end capacity)) ≡ Some c.in-Some.places =
-      ap (λ n. first_of_runs (gap n (places_end capacity))) (sym from) ∙ ap (λ n. first_of_runs (gap c.max-from.result n)) (sym to) ∙ sym c.run_between.ensures ∙ c.in-Some.is in
+    ap (λ n. first_of_runs (gap n (places_end capacity))) (sym from) ∙ ap (λ n. first_of_runs (gap c.max-from.result n)) (sym to) ∙ sym c.run_between.ensures ∙ c.in-Some.is in
     let k = grow_kept_at s capacity c.self.inside.others.runs c.self.inside.others.room c.self.inside.blocks c.in-Some.places c.self.invariant up fits first in
     k.current_fits
 
@@ -60,7 +60,7 @@ set_free-self-inside-requires-clause-after_fits g c =
     let from : c.max-from.result ≡ max 16 (places_end s.capacity) = c.max-from.ensures ∙ ap (max 16) c.places_end.ensures in
     let to : c.places_end-2.result ≡ places_end capacity = c.places_end-2.ensures in
     let first : first_of_runs (gap (max 16 (places_end s.capacity)) (places_end capacity)) ≡ Some c.in-Some.places =
-      ap (λ n. first_of_runs (gap n (places_end capacity))) (sym from) ∙ ap (λ n. first_of_runs (gap c.max-from.result n)) (sym to) ∙ sym c.run_between.ensures ∙ c.in-Some.is in
+    ap (λ n. first_of_runs (gap n (places_end capacity))) (sym from) ∙ ap (λ n. first_of_runs (gap c.max-from.result n)) (sym to) ∙ sym c.run_between.ensures ∙ c.in-Some.is in
     let k = grow_kept_at s capacity c.self.inside.others.runs c.self.inside.others.room c.self.inside.blocks c.in-Some.places c.self.invariant up fits first in
     k.after_fits
 
@@ -75,7 +75,7 @@ set_free-self-inside-requires-clause-spread g c =
     let from : c.max-from.result ≡ max 16 (places_end s.capacity) = c.max-from.ensures ∙ ap (max 16) c.places_end.ensures in
     let to : c.places_end-2.result ≡ places_end capacity = c.places_end-2.ensures in
     let first : first_of_runs (gap (max 16 (places_end s.capacity)) (places_end capacity)) ≡ Some c.in-Some.places =
-      ap (λ n. first_of_runs (gap n (places_end capacity))) (sym from) ∙ ap (λ n. first_of_runs (gap c.max-from.result n)) (sym to) ∙ sym c.run_between.ensures ∙ c.in-Some.is in
+    ap (λ n. first_of_runs (gap n (places_end capacity))) (sym from) ∙ ap (λ n. first_of_runs (gap c.max-from.result n)) (sym to) ∙ sym c.run_between.ensures ∙ c.in-Some.is in
     let k = grow_kept_at s capacity c.self.inside.others.runs c.self.inside.others.room c.self.inside.blocks c.in-Some.places c.self.invariant up fits first in
     k.spread
 
@@ -90,7 +90,7 @@ set_free-self-inside-requires-clause-room g c =
     let from : c.max-from.result ≡ max 16 (places_end s.capacity) = c.max-from.ensures ∙ ap (max 16) c.places_end.ensures in
     let to : c.places_end-2.result ≡ places_end capacity = c.places_end-2.ensures in
     let first : first_of_runs (gap (max 16 (places_end s.capacity)) (places_end capacity)) ≡ Some c.in-Some.places =
-      ap (λ n. first_of_runs (gap n (places_end capacity))) (sym from) ∙ ap (λ n. first_of_runs (gap c.max-from.result n)) (sym to) ∙ sym c.run_between.ensures ∙ c.in-Some.is in
+    ap (λ n. first_of_runs (gap n (places_end capacity))) (sym from) ∙ ap (λ n. first_of_runs (gap c.max-from.result n)) (sym to) ∙ sym c.run_between.ensures ∙ c.in-Some.is in
     let k = grow_kept_at s capacity c.self.inside.others.runs c.self.inside.others.room c.self.inside.blocks c.in-Some.places c.self.invariant up fits first in
     k.has_room
 
@@ -105,7 +105,7 @@ invariant_of-self-2 g c =
     let from : c.max-from.result ≡ max 16 (places_end s.capacity) = c.max-from.ensures ∙ ap (max 16) c.places_end.ensures in
     let to : c.places_end-2.result ≡ places_end capacity = c.places_end-2.ensures in
     let first : first_of_runs (gap (max 16 (places_end s.capacity)) (places_end capacity)) ≡ Some c.in-Some.places =
-      ap (λ n. first_of_runs (gap n (places_end capacity))) (sym from) ∙ ap (λ n. first_of_runs (gap c.max-from.result n)) (sym to) ∙ sym c.run_between.ensures ∙ c.in-Some.is in
+    ap (λ n. first_of_runs (gap n (places_end capacity))) (sym from) ∙ ap (λ n. first_of_runs (gap c.max-from.result n)) (sym to) ∙ sym c.run_between.ensures ∙ c.in-Some.is in
     let k = grow_kept_at s capacity c.self.inside.others.runs c.self.inside.others.room c.self.inside.blocks c.in-Some.places c.self.invariant up fits first in
     rw (c.set_free-self-inside.ensures.current, c.set_free-self-inside.ensures.others, k.current_is) (k.kept c.set_free-self-inside.new.others.room c.set_free-self-inside.ensures.room)
 
@@ -120,7 +120,7 @@ returns-clause-grown g c =
     let from : c.max-from.result ≡ max 16 (places_end s.capacity) = c.max-from.ensures ∙ ap (max 16) c.places_end.ensures in
     let to : c.places_end-2.result ≡ places_end capacity = c.places_end-2.ensures in
     let first : first_of_runs (gap (max 16 (places_end s.capacity)) (places_end capacity)) ≡ Some c.in-Some.places =
-      ap (λ n. first_of_runs (gap n (places_end capacity))) (sym from) ∙ ap (λ n. first_of_runs (gap c.max-from.result n)) (sym to) ∙ sym c.run_between.ensures ∙ c.in-Some.is in
+    ap (λ n. first_of_runs (gap n (places_end capacity))) (sym from) ∙ ap (λ n. first_of_runs (gap c.max-from.result n)) (sym to) ∙ sym c.run_between.ensures ∙ c.in-Some.is in
     let k = grow_kept_at s capacity c.self.inside.others.runs c.self.inside.others.room c.self.inside.blocks c.in-Some.places c.self.invariant up fits first in
     rw (← c.self.view_is, c.set_free-self-inside.ensures.current, k.current_is, ← is) (sym (merge_all_some (max 16 (places_end s.capacity)) (places_end capacity) _ c.in-Some.places first))
 
@@ -135,6 +135,6 @@ returns-clause-sound g c =
     let from : c.max-from.result ≡ max 16 (places_end s.capacity) = c.max-from.ensures ∙ ap (max 16) c.places_end.ensures in
     let to : c.places_end-2.result ≡ places_end capacity = c.places_end-2.ensures in
     let first : first_of_runs (gap (max 16 (places_end s.capacity)) (places_end capacity)) ≡ Some c.in-Some.places =
-      ap (λ n. first_of_runs (gap n (places_end capacity))) (sym from) ∙ ap (λ n. first_of_runs (gap c.max-from.result n)) (sym to) ∙ sym c.run_between.ensures ∙ c.in-Some.is in
+    ap (λ n. first_of_runs (gap n (places_end capacity))) (sym from) ∙ ap (λ n. first_of_runs (gap c.max-from.result n)) (sym to) ∙ sym c.run_between.ensures ∙ c.in-Some.is in
     let k = grow_kept_at s capacity c.self.inside.others.runs c.self.inside.others.room c.self.inside.blocks c.in-Some.places c.self.invariant up fits first in
     rw (c.set_free-self-inside.ensures.current, k.current_is) (k.kept c.self.inside.others.room (omega arith)).sound
