@@ -1,9 +1,9 @@
 -- A run that is all there is between two neighbours among the blocks.
-use Rattle.std.proofs.Common.{ℕ, zero, suc, ◌≡◌, ◌≤◌, ◌<◌, ◌+◌, ◌-◌, ◌*◌, ◌%◌, ◌^◌, length, List, [], ◌∷◌, ◌++◌, arith, refl, ap, sym, ◌∙◌, cond, ltb, true, false, inl, inr, ◌⊎◌, Option, Some, None, subst, append_assoc, append-nil, get_or}
+use Rattle.std.proofs.Common.{ℕ, zero, suc, ◌≡◌, ◌≤◌, ◌<◌, ◌+◌, ◌-◌, ◌%◌, length, List, [], ◌∷◌, ◌++◌, arith, refl, ap, sym, inl, inr, append-nil}
 use Rattle.std.proofs.lemmas.Bool.{lt-ltb, le-ltb, eq-eqb, ne_eqb, cases_lt}
 use Rattle.std.specs.List.{Contains}
 use Rattle.gc_free.specs.declared.run.Run.{Run}
-use Rattle.gc_free.specs.Runs.{run, end_of, gap, gaps, insert_run, without, begins_at, IsSpread}
+use Rattle.gc_free.specs.Runs.{end_of, gaps, insert_run, without, begins_at, IsSpread}
 use Rattle.gc_free.specs.Space.{IsBetween, IsAligned, AllAligned}
 use Rattle.gc_free.proofs.ByLength.{In}
 use Rattle.gc_free.proofs.Slots.{lower, upper, lower-ge, spread-behind}

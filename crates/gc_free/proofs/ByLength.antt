@@ -1,11 +1,10 @@
 -- The runs by length follow what is done to the runs by place.
-use Rattle.std.proofs.Common.{ℕ, zero, suc, ◌≡◌, ◌≤◌, ◌<◌, ◌+◌, ◌-◌, ◌*◌, ◌^◌, get_or, length, List, [], ◌∷◌, ◌++◌, arith, refl, ap, sym, ◌∙◌, cond, ltb, leb, true, false, inl, inr, ◌⊎◌, Option, Some, None, ◌&&◌, subst}
-use Rattle.std.proofs.lemmas.Bool.{lt-ltb, le-ltb, le-leb, lt-leb, cases_lt}
-use Rattle.std.specs.List.{insert, remove, Contains, find}
+use Rattle.std.proofs.Common.{ℕ, ◌≡◌, ◌≤◌, ◌<◌, ◌+◌, ◌^◌, length, List, [], ◌∷◌, arith, refl, ap, sym, ◌∙◌, inl, inr, ◌⊎◌, subst}
+use Rattle.std.proofs.lemmas.Bool.{lt-ltb, le-ltb, cases_lt}
 use Rattle.gc_free.specs.declared.run.Run.{Run}
 use Rattle.gc_free.specs.Runs.{insert_by, remove_by, insert_run, IsSpread, end_of}
-use Rattle.gc_free.specs.Orders.{count_below, length_key, by_length, shortest_fit, shorter_fit}
-use Rattle.gc_free.proofs.InsertBy.{Rises, Rises-lower, Rises-insert, Has, Has-above, remove_by-insert_same, remove_by-insert_by, insert_by-swap}
+use Rattle.gc_free.specs.Orders.{length_key, by_length}
+use Rattle.gc_free.proofs.InsertBy.{Rises, Rises-lower, Rises-insert, Has, remove_by-insert_same, remove_by-insert_by, insert_by-swap}
 
 abbrev pub place_of : Run → ℕ
 place_of r = r.place

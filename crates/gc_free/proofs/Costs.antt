@@ -1,5 +1,5 @@
 -- Searches one after another.
-use Rattle.std.proofs.Common.{ℕ, ◌≡◌, ◌≤◌, ◌<◌, ◌+◌, ◌-◌, ◌*◌, ◌^◌, arith, ap, ◌∙◌, sym}
+use Rattle.std.proofs.Common.{ℕ, ◌≡◌, ◌≤◌, ◌+◌, ◌-◌, ◌*◌, ◌^◌, arith, ap, ◌∙◌}
 use Rattle.std.proofs.lemmas.Nat.{pow-add, mul-le}
 use Rattle.std.proofs.Math.Nat.{pow-le-pow_left, pow-le-pow_right, one-le-pow}
 use Rattle.gc_free.specs.Orders.{IsSearched}

@@ -1,15 +1,14 @@
 -- Blocks given back and new capacity keep what a free list keeps.
-use Rattle.std.proofs.Common.{ℕ, zero, suc, ◌≡◌, ◌≤◌, ◌<◌, ◌+◌, ◌-◌, ◌*◌, ◌/◌, ◌%◌, ◌^◌, min, max, length, List, [], ◌∷◌, ◌++◌, arith, refl, ap, sym, ◌∙◌, cond, ltb, eqb, true, false, inl, inr, ◌⊎◌, Option, Some, None, subst, append_assoc, append-nil, Bool, ◌||◌}
-use Rattle.std.proofs.lemmas.Bool.{lt-ltb, le-ltb, eq-eqb, ne_eqb, cases_lt, cases_eq, or_right}
+use Rattle.std.proofs.Common.{ℕ, suc, ◌≡◌, ◌≤◌, ◌<◌, ◌+◌, ◌-◌, max, length, List, [], ◌∷◌, ◌++◌, arith, refl, ap, sym, ◌∙◌, eqb, true, false, inl, inr, Option, Some, None, subst, append-nil}
+use Rattle.std.proofs.lemmas.Bool.{eq-eqb, ne_eqb, cases_lt, cases_eq, or_right}
 use Rattle.std.specs.List.{Contains, find}
 use Rattle.std.specs.Option.{MatchOption}
 use Rattle.gc_free.specs.declared.run.Run.{Run}
-use Rattle.gc_free.specs.Runs.{run, end_of, gap, gaps, insert_run, without, begins_at, IsSpread}
-use Rattle.gc_free.specs.Space.{Space, IsBetween, IsAligned, AllAligned, IsSound, places_end, free_runs, touches, covers, current_with, merge, give}
-use Rattle.gc_free.specs.Merged.{current_after, others_after}
-use Rattle.gc_free.specs.Kept.{is_current, IsKept}
-use Rattle.gc_free.proofs.Slots.{lower, upper, before, behind, gaps-split, gaps-around, before-under, behind-over, spread-behind, lower-ge, Under, Over}
-use Rattle.gc_free.proofs.Between.{Slot, between_at, beside, Beside, spread-remove, without-slot, aligned-remove, length-slot, Holding, holding, between_within, last_left, last_left_back, last_apart}
+use Rattle.gc_free.specs.Runs.{run, end_of, gap, gaps, without, begins_at, IsSpread}
+use Rattle.gc_free.specs.Space.{IsBetween, AllAligned, touches, covers, current_with}
+use Rattle.gc_free.specs.Kept.{is_current}
+use Rattle.gc_free.proofs.Slots.{lower, upper, before, behind, gaps-split, gaps-around, before-under, behind-over, spread-behind, lower-ge, Under}
+use Rattle.gc_free.proofs.Between.{between_at, beside, spread-remove, without-slot, aligned-remove, length-slot, holding}
 use Rattle.gc_free.proofs.MergedRuns.{Site, IsMerged, merged_none, merged_apart, merged_left, merged_right, around_is, gap_none}
 
 -- whether the freed places touch the current run: on the left, on the right, or not at all

@@ -1,15 +1,15 @@
 -- New capacity keeps what a free list keeps.
-use Rattle.std.proofs.Common.{ℕ, zero, suc, ◌≡◌, ◌≤◌, ◌<◌, ◌+◌, ◌-◌, ◌*◌, ◌/◌, ◌%◌, ◌^◌, min, max, length, List, [], ◌∷◌, ◌++◌, arith, refl, ap, sym, ◌∙◌, cond, ltb, eqb, true, false, inl, inr, ◌⊎◌, Option, Some, None, subst, append_assoc, append-nil, Bool, ◌||◌}
+use Rattle.std.proofs.Common.{ℕ, ◌≡◌, ◌≤◌, ◌<◌, ◌+◌, ◌-◌, max, List, [], ◌++◌, arith, refl, ap, sym, ◌∙◌, Option, Some, None, subst, append-nil}
 use Rattle.std.specs.List.{find}
 use Rattle.std.specs.Option.{MatchOption}
 use Rattle.gc_free.specs.declared.run.Run.{Run}
-use Rattle.gc_free.specs.Runs.{run, end_of, gap, gaps, without, begins_at, IsSpread}
-use Rattle.gc_free.specs.Space.{IsBetween, touches, covers, current_with}
+use Rattle.gc_free.specs.Runs.{run, end_of, gap, gaps, without, IsSpread}
+use Rattle.gc_free.specs.Space.{IsBetween, covers}
 use Rattle.gc_free.specs.Kept.{is_current}
-use Rattle.gc_free.proofs.Slots.{lower, before, lower-ge}
+use Rattle.gc_free.proofs.Slots.{lower, before}
 use Rattle.gc_free.proofs.Between.{between_within, between_at, last_left, last_left_back, last_apart}
 use Rattle.gc_free.proofs.MergedRuns.{Site, merged_none, merged_apart, merged_left, around_is, gap_none}
-use Rattle.gc_free.proofs.Giving.{Touching, on_left, on_right, not_at_all, touching, touches_left, IsGiven, gaps-last, last_gap, before_under_all, lower_within}
+use Rattle.gc_free.proofs.Giving.{on_left, on_right, not_at_all, touching, touches_left, IsGiven, gaps-last, last_gap, before_under_all, lower_within}
 
 -- the gaps as they are around the new places
 old_gaps : (from end further : ℕ) (held : List Run) → IsSpread from end held

@@ -1,16 +1,16 @@
 -- Each change of a free list keeps what it keeps.
-use Rattle.std.proofs.Common.{ℕ, zero, suc, ◌≡◌, ◌≤◌, ◌<◌, ◌+◌, ◌-◌, ◌*◌, ◌/◌, ◌%◌, ◌^◌, min, max, length, List, [], ◌∷◌, ◌++◌, arith, refl, ap, sym, ◌∙◌, cond, ltb, true, false, inl, inr, ◌⊎◌, Option, Some, None, subst, Bool, lit≤}
+use Rattle.std.proofs.Common.{ℕ, suc, ◌≡◌, ◌≤◌, ◌<◌, ◌+◌, ◌-◌, ◌^◌, max, length, List, [], ◌∷◌, arith, refl, ap, sym, ◌∙◌, inl, inr, Option, Some, None, subst}
 use Rattle.std.proofs.lemmas.Bool.{lt-ltb, le-ltb, cases_lt}
 use Rattle.std.specs.List.{Contains, find}
 use Rattle.std.specs.Option.{MatchOption}
 use Rattle.gc_free.specs.declared.run.Run.{Run}
 use Rattle.gc_free.specs.Runs.{run, end_of, gap, gaps, without, begins_at, IsSpread}
-use Rattle.gc_free.specs.Space.{Space, IsBetween, AllAligned, IsSound, places_end, free_runs, covers, current_with, merge, give, grow, merge_all, new_space, first_of_runs}
+use Rattle.gc_free.specs.Space.{Space, IsBetween, places_end, covers, current_with, merge, give, merge_all, first_of_runs}
 use Rattle.gc_free.specs.Merged.{current_after, others_after}
 use Rattle.gc_free.specs.Kept.{is_current, IsKept}
 use Rattle.gc_free.proofs.Between.{between_within, length-gaps}
 use Rattle.gc_free.proofs.Taking.{gaps-spread, spread-without, spread-widen, length-without}
-use Rattle.gc_free.proofs.Giving.{IsGiven, GivenBack, given_back}
+use Rattle.gc_free.proofs.Giving.{IsGiven, given_back}
 use Rattle.gc_free.proofs.Growing.{grown}
 
 pub places_end_fits : (capacity : ℕ) → places_end capacity ≤ 2 ^ 32 - 1

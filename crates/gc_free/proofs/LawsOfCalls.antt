@@ -1,18 +1,18 @@
 -- The laws of lists of calls and of batches.
-use Rattle.std.proofs.Common.{ℕ, zero, suc, ◌≡◌, ◌≤◌, ◌<◌, ◌+◌, ◌-◌, ◌*◌, ◌^◌, min, max, length, List, [], ◌∷◌, ◌++◌, arith, refl, ap, sym, ◌∙◌, cond, ltb, eqb, not, true, false, inl, inr, ◌⊎◌, Option, Some, None, subst, get_or, Bool}
-use Rattle.std.proofs.lemmas.Bool.{lt-ltb, le-ltb, eq-eqb, ne_eqb, cases_lt, cases_eq, cases_Bool, both_ways}
+use Rattle.std.proofs.Common.{ℕ, zero, suc, ◌≡◌, ◌≤◌, ◌<◌, ◌+◌, ◌-◌, ◌^◌, min, max, length, List, [], ◌∷◌, ◌++◌, arith, refl, ap, sym, ◌∙◌, true, false, inl, inr, Option, Some, None, subst, Bool}
+use Rattle.std.proofs.lemmas.Bool.{lt-ltb, le-ltb, eq-eqb, ne_eqb, cases_lt, cases_Bool, both_ways}
 use Rattle.std.specs.List.{find, Contains}
 use Rattle.std.specs.Option.{MatchOption}
 use Rattle.gc_free.specs.declared.run.Run.{Run}
-use Rattle.gc_free.specs.Runs.{run, end_of, gap, gaps, without, begins_at, IsSpread}
-use Rattle.gc_free.specs.Space.{Space, places_end, free_runs, covers, touches, current_with, new_space, take, give, grow, merge, merge_all, first_of_runs, IsBetween, IsSound}
+use Rattle.gc_free.specs.Runs.{run, end_of, gaps, without, begins_at, IsSpread}
+use Rattle.gc_free.specs.Space.{Space, places_end, free_runs, covers, current_with, new_space, take, give, grow, IsBetween, IsSound}
 use Rattle.gc_free.specs.Kept.{is_current, IsKept}
 use Rattle.gc_free.specs.Laws.{Call, Take, Give, Grow, after, IsAllowed, after_all, AreAllowed, EveryListOfCallsIsSound, give_all, AreHeld, IsReordered, nothing, later, exchanged, both, OrderOfGivingBackIsNothing}
 use Rattle.gc_free.proofs.ByLength.{In}
-use Rattle.gc_free.proofs.Keeping.{give_kept, grow_kept, idle_kept, places_end_fits}
+use Rattle.gc_free.proofs.Keeping.{give_kept, grow_kept, idle_kept}
 use Rattle.gc_free.proofs.PlacedRuns.{place_kept}
-use Rattle.gc_free.proofs.Between.{beside, Holding, holding, between_within, without-slot}
-use Rattle.gc_free.proofs.Giving.{given_back, touching, on_left, on_right, not_at_all, touches_left, touches_right, block_site}
+use Rattle.gc_free.proofs.Between.{beside, holding, between_within, without-slot}
+use Rattle.gc_free.proofs.Giving.{touching, on_left, on_right, not_at_all, touches_left, touches_right, block_site}
 use Rattle.gc_free.proofs.MergedRuns.{around_is}
 use Rattle.gc_free.proofs.Slots.{lower, upper, before, behind, gaps-split}
 
@@ -136,7 +136,7 @@ contains_in b [] h = let l : h.0 < 0 = h.1 in omega arith
 contains_in b (x ∷ xs) (zero, l, e) = inl e
 contains_in b (x ∷ xs) (suc k, l, e) = inr (contains_in b xs (k, (let l' : suc k < suc (length xs) = l in omega arith), e))
 
-in_contains : (b : Run) (xs : List Run) → In b xs → Contains xs b
+pub in_contains : (b : Run) (xs : List Run) → In b xs → Contains xs b
 in_contains b [] h = absurd h
 in_contains b (x ∷ xs) (inl e) = (0, omega arith, e)
 in_contains b (x ∷ xs) (inr h) = let c = in_contains b xs h in (suc c.0, (let l : c.0 < length xs = c.1 in omega arith), c.2)

@@ -1,15 +1,15 @@
 -- The laws of free runs.
-use Rattle.std.proofs.Common.{ℕ, zero, suc, ◌≡◌, ◌≤◌, ◌<◌, ◌+◌, ◌-◌, ◌*◌, ◌^◌, length, List, [], ◌∷◌, ◌++◌, arith, refl, ap, sym, ◌∙◌, cond, ltb, leb, not, true, false, inl, inr, ◌⊎◌, subst, Bool, ◌&&◌, ◌||◌, sum_by}
+use Rattle.std.proofs.Common.{ℕ, ◌≡◌, ◌≤◌, ◌<◌, ◌+◌, ◌-◌, List, [], ◌∷◌, ◌++◌, arith, refl, ap, sym, ◌∙◌, ltb, leb, not, true, false, inl, inr, Bool, ◌&&◌, ◌||◌}
 use Rattle.std.proofs.lemmas.Bool.{lt-ltb, le-ltb, le-leb, lt-leb, cases_lt}
 use Rattle.std.proofs.lemmas.List.Sums.{sum_by-append, sum_by-cons}
 use Rattle.std.specs.List.{list_any}
 use Rattle.gc_free.specs.declared.run.Run.{Run}
-use Rattle.gc_free.specs.Runs.{run, end_of, gap, gaps, IsSpread}
-use Rattle.gc_free.specs.Space.{Space, places_end, free_runs, covers, IsSound}
+use Rattle.gc_free.specs.Runs.{end_of, gap, gaps, IsSpread}
+use Rattle.gc_free.specs.Space.{places_end, covers}
 use Rattle.gc_free.specs.Laws.{StandApart, FollowsApart, bytes_of, FreeRunsAreTheRest, FreeRunsAreMaximal, BytesAddUp, AllBackLeavesOneRun}
 use Rattle.gc_free.proofs.Slots.{Over, gaps-over}
 
-list_any-append : (test : Run → Bool) (xs ys : List Run) → list_any test (xs ++ ys) ≡ (list_any test xs || list_any test ys)
+pub list_any-append : (test : Run → Bool) (xs ys : List Run) → list_any test (xs ++ ys) ≡ (list_any test xs || list_any test ys)
 list_any-append test [] ys = refl
 list_any-append test (x ∷ xs) ys = elim (test x) as (λ b. (b || list_any test (xs ++ ys)) ≡ ((b || list_any test xs) || list_any test ys)) [ true ↦ refl | false ↦ list_any-append test xs ys ]
 

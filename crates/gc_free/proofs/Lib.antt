@@ -18,3 +18,4 @@ pub mod Keeping
 pub mod RunsAt
 pub mod LawsOfRuns
 pub mod LawsOfCalls
+pub mod LawsOfCurrent

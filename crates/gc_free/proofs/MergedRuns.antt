@@ -1,7 +1,7 @@
 -- Freed places merge with the runs that they touch, as the rule says.
-use Rattle.std.proofs.Common.{ℕ, zero, suc, ◌≡◌, ◌≤◌, ◌<◌, ◌+◌, ◌-◌, ◌*◌, ◌^◌, min, length, List, [], ◌∷◌, ◌++◌, arith, refl, ap, sym, ◌∙◌, cond, ltb, leb, eqb, not, true, false, inl, inr, ◌⊎◌, Option, Some, None, subst, Bool, ◌&&◌, ◌||◌}
-use Rattle.std.proofs.lemmas.Bool.{lt-ltb, le-ltb, le-leb, lt-leb, eq-eqb, ne_eqb, cases_lt, cases_eq, or_right}
-use Rattle.std.specs.List.{find, filter}
+use Rattle.std.proofs.Common.{ℕ, suc, ◌≡◌, ◌≤◌, ◌<◌, ◌+◌, ◌-◌, min, List, [], ◌∷◌, ◌++◌, arith, refl, ap, sym, ◌∙◌, eqb, true, false, inl, inr, Option, Some, None, Bool}
+use Rattle.std.proofs.lemmas.Bool.{lt-ltb, le-ltb, le-leb, eq-eqb, ne_eqb, cases_lt, or_right}
+use Rattle.std.specs.List.{find}
 use Rattle.gc_free.specs.declared.run.Run.{Run}
 use Rattle.gc_free.specs.Runs.{run, end_of, gap, insert_run, without, begins_at, ends_at}
 use Rattle.gc_free.specs.Space.{covers, touches, current_with}
@@ -9,7 +9,7 @@ use Rattle.gc_free.specs.Merged.{join, join_if_any, joined, apart_from, current_
 use Rattle.gc_free.specs.Kept.{is_current}
 use Rattle.gc_free.proofs.Spread.{PassesNone, PassesNone-cons}
 use Rattle.gc_free.proofs.Slots.{Under, Over}
-use Rattle.gc_free.proofs.Neighbours.{Under-without, Over-without, Under-none_begins, Under-none_ends, Under-none_covers, Over-none_begins, Over-none_ends, PassesNone-append, without-append, InMiddle, in_middle, insert_run-middle, Under-more, Over-less}
+use Rattle.gc_free.proofs.Neighbours.{Under-without, Over-without, Under-none_begins, Under-none_ends, Over-none_begins, Over-none_ends, PassesNone-append, without-append, in_middle, insert_run-middle, Under-more, Over-less}
 
 run_same : (p q m n : ℕ) → p ≡ q → m ≡ n → run p m ≡ run q n
 run_same p q m n e f = ap (λ x. run x m) e ∙ ap (λ x. run q x) f

@@ -1,15 +1,13 @@
 -- What the runs near some freed places are, and what is left of the others.
-use Rattle.std.proofs.Common.{ℕ, zero, suc, ◌≡◌, ◌≤◌, ◌<◌, ◌+◌, ◌-◌, ◌*◌, ◌^◌, min, length, List, [], ◌∷◌, ◌++◌, arith, refl, ap, sym, ◌∙◌, cond, ltb, leb, eqb, not, true, false, inl, inr, ◌⊎◌, Option, Some, None, subst, Bool, ◌&&◌, ◌||◌}
+use Rattle.std.proofs.Common.{ℕ, suc, ◌≡◌, ◌≤◌, ◌<◌, List, [], ◌∷◌, ◌++◌, arith, refl, ap, ◌∙◌, cond, not, true, false, Option, Some, None, Bool}
 use Rattle.std.specs.Option.{option_or}
-use Rattle.std.proofs.lemmas.Bool.{lt-ltb, le-ltb, le-leb, lt-leb, eq-eqb, ne_eqb, cases_lt, cases_eq}
+use Rattle.std.proofs.lemmas.Bool.{lt-ltb, le-ltb, le-leb, ne_eqb}
 use Rattle.std.proofs.lemmas.List.Elements.{filter-append}
 use Rattle.std.proofs.lemmas.List.Folds.{find-append}
-use Rattle.std.specs.List.{find, filter}
+use Rattle.std.specs.List.{find}
 use Rattle.gc_free.specs.declared.run.Run.{Run}
-use Rattle.gc_free.specs.Runs.{run, end_of, gap, gaps, insert_run, without, begins_at, ends_at, IsSpread}
-use Rattle.gc_free.specs.Space.{covers, touches}
-use Rattle.gc_free.specs.Merged.{join, join_if_any, joined, apart_from, current_after, others_after}
-use Rattle.gc_free.specs.Kept.{is_current}
+use Rattle.gc_free.specs.Runs.{end_of, insert_run, without, begins_at, ends_at}
+use Rattle.gc_free.specs.Space.{covers}
 use Rattle.gc_free.proofs.Spread.{PassesNone, PassesNone-cons}
 use Rattle.gc_free.proofs.Slots.{Under, Over}
 

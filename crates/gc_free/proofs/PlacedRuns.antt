@@ -1,5 +1,5 @@
 -- Where a block goes by the code's steps is where the placing rule puts it.
-use Rattle.std.proofs.Common.{ℕ, zero, suc, ◌≡◌, ◌≤◌, ◌<◌, ◌+◌, ◌-◌, ◌*◌, ◌/◌, ◌%◌, ◌^◌, min, length, List, [], ◌∷◌, ◌++◌, arith, refl, ap, sym, ◌∙◌, cond, ltb, leb, eqb, not, true, false, inl, inr, ◌⊎◌, Option, Some, None, subst, Bool, option_map}
+use Rattle.std.proofs.Common.{ℕ, suc, ◌≡◌, ◌≤◌, ◌<◌, ◌+◌, ◌-◌, ◌%◌, ◌^◌, length, List, [], ◌∷◌, arith, refl, ap, sym, ◌∙◌, inl, inr, Option, Some, None, subst, option_map}
 use Rattle.std.proofs.lemmas.Bool.{lt-ltb, le-ltb, le-leb, lt-leb, cases_lt, cond-true, cond-false, true≢false}
 use Rattle.std.specs.Option.{MatchOption}
 use Rattle.std.specs.List.{All, AllByRecursion}
@@ -11,11 +11,11 @@ use Rattle.gc_free.specs.declared.run.Run.{Run}
 use Rattle.gc_free.specs.Runs.{run, end_of, gaps, insert_run, remove_by, without, begins_at, IsSpread}
 use Rattle.gc_free.specs.Orders.{shortest_fit}
 use Rattle.gc_free.specs.Ordered.{without_found}
-use Rattle.gc_free.specs.Space.{Space, Taken, IsBetween, IsAligned, AllAligned, IsSound, places_end, free_runs, rest_of, if_any, take, take_from, take_shortest, taken_from}
-use Rattle.gc_free.specs.Placed.{Placing, with_current, place_in, place_in_shortest, block_in, left_of}
+use Rattle.gc_free.specs.Space.{Space, Taken, IsBetween, places_end, free_runs, rest_of, if_any, take, take_from, take_shortest, taken_from}
+use Rattle.gc_free.specs.Placed.{Placing, with_current, place_in, block_in, left_of}
 use Rattle.gc_free.specs.Kept.{is_current, IsKept}
 use Rattle.gc_free.proofs.ByLength.{In, length-insert_by, place_of}
-use Rattle.gc_free.proofs.Taking.{taken, IsTaken, put_back, IsPutBack, shortest_found, IsShortest, remove_by_is_without, gaps-spread, spread-widen, all_short, length-spread}
+use Rattle.gc_free.proofs.Taking.{taken, put_back, shortest_found, remove_by_is_without, gaps-spread, spread-widen, all_short, length-spread}
 use Rattle.gc_free.proofs.Between.{gap_between, between_within, between_aligned, length-gaps}
 use Rattle.gc_free.proofs.Keeping.{places_end_fits, current_fits}
 use Rattle.gc_free.proofs.TwoOrdersKept.{In-insert_run}

@@ -1,12 +1,11 @@
 -- The free run that begins at a place, by the current run and the others.
-use Rattle.std.proofs.Common.{ℕ, ◌≡◌, ◌≤◌, ◌<◌, ◌+◌, ◌-◌, List, [], ◌∷◌, arith, refl, ap, sym, ◌∙◌, cond, eqb, not, true, false, inl, inr, Option, Some, None, subst, option_map}
+use Rattle.std.proofs.Common.{ℕ, ◌≡◌, ◌≤◌, ◌<◌, List, [], ◌∷◌, arith, refl, ap, sym, ◌∙◌, inl, inr, Option, Some, None, subst}
 use Rattle.std.proofs.lemmas.Bool.{lt-ltb, le-ltb, eq-eqb, ne_eqb, cases_lt, cases_eq}
 use Rattle.std.specs.List.{find}
-use Rattle.std.specs.Option.{MatchOption}
 use Rattle.gc_free.specs.declared.run.Run.{Run}
-use Rattle.gc_free.specs.Runs.{end_of, gaps, insert_run, without, begins_at, IsSpread}
-use Rattle.gc_free.specs.Space.{Space, IsBetween, IsSound, places_end, free_runs, if_any}
-use Rattle.gc_free.specs.Listed.{current_at, run_length_at}
+use Rattle.gc_free.specs.Runs.{end_of, without, begins_at, IsSpread}
+use Rattle.gc_free.specs.Space.{Space, IsBetween, IsSound, places_end, free_runs}
+use Rattle.gc_free.specs.Listed.{current_at}
 use Rattle.gc_free.specs.Kept.{is_current, IsKept}
 use Rattle.gc_free.proofs.ByLength.{In, In-place}
 use Rattle.gc_free.proofs.TwoOrdersKept.{In-insert_run}

@@ -1,5 +1,5 @@
 -- The shortest run that is long enough is the first such by length.
-use Rattle.std.proofs.Common.{ℕ, zero, suc, ◌≡◌, ◌≤◌, ◌<◌, ◌+◌, ◌-◌, ◌*◌, ◌^◌, get_or, length, List, [], ◌∷◌, ◌++◌, arith, refl, ap, sym, ◌∙◌, cond, ltb, leb, true, false, inl, inr, ◌⊎◌, Option, Some, None, ◌&&◌, subst}
+use Rattle.std.proofs.Common.{ℕ, zero, suc, ◌≡◌, ◌≤◌, ◌<◌, ◌*◌, ◌^◌, get_or, length, List, [], ◌∷◌, arith, refl, ap, sym, ◌∙◌, leb, inl, inr, ◌⊎◌, Option, Some, None, subst}
 use Rattle.std.proofs.lemmas.Bool.{lt-ltb, le-ltb, le-leb, lt-leb, cases_lt}
 use Rattle.std.specs.List.{find}
 use Rattle.gc_free.specs.declared.run.Run.{Run}

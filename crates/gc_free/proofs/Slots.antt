@@ -1,9 +1,8 @@
 -- The gaps round one place between two neighbours among the blocks.
-use Rattle.std.proofs.Common.{ℕ, zero, suc, ◌≡◌, ◌≤◌, ◌<◌, ◌+◌, ◌-◌, ◌*◌, ◌^◌, length, List, [], ◌∷◌, ◌++◌, arith, refl, ap, sym, ◌∙◌, cond, ltb, eqb, not, true, false, inl, inr, ◌⊎◌, Option, Some, None, subst, append_assoc, append-nil, Bool}
-use Rattle.std.proofs.lemmas.Bool.{lt-ltb, le-ltb, eq-eqb, ne_eqb, cases_lt, cases_eq}
-use Rattle.std.specs.List.{find, filter}
+use Rattle.std.proofs.Common.{ℕ, ◌≡◌, ◌≤◌, ◌<◌, List, [], ◌∷◌, ◌++◌, arith, refl, ap, sym, ◌∙◌, inl, inr, append_assoc, append-nil}
+use Rattle.std.proofs.lemmas.Bool.{lt-ltb, le-ltb, cases_lt}
 use Rattle.gc_free.specs.declared.run.Run.{Run}
-use Rattle.gc_free.specs.Runs.{run, end_of, gap, gaps, insert_run, without, begins_at, ends_at, IsSpread}
+use Rattle.gc_free.specs.Runs.{end_of, gap, gaps, IsSpread}
 
 -- the place after the last of the blocks before, and the place of the first behind
 abbrev pub lower : ℕ → List Run → ℕ

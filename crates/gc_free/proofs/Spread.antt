@@ -1,7 +1,7 @@
 -- Which run begins or ends at a place, among runs that stand one after another.
-use Rattle.std.proofs.Common.{ℕ, zero, suc, ◌≡◌, ◌≤◌, ◌<◌, ◌+◌, ◌-◌, ◌*◌, ◌^◌, get_or, length, List, [], ◌∷◌, ◌++◌, arith, refl, ap, sym, ◌∙◌, cond, ltb, eqb, not, true, false, inl, inr, ◌⊎◌, Option, Some, None, subst, Bool}
-use Rattle.std.proofs.lemmas.Bool.{lt-ltb, le-ltb, eq-eqb, ne_eqb, cases_lt, cases_eq}
-use Rattle.std.specs.List.{remove, find, filter}
+use Rattle.std.proofs.Common.{ℕ, zero, suc, ◌≡◌, ◌≤◌, ◌<◌, get_or, length, List, [], ◌∷◌, arith, refl, ap, sym, true, false, inl, inr, Some, None, Bool}
+use Rattle.std.proofs.lemmas.Bool.{lt-ltb, le-ltb, eq-eqb, ne_eqb, cases_lt}
+use Rattle.std.specs.List.{remove, find}
 use Rattle.gc_free.specs.declared.run.Run.{Run}
 use Rattle.gc_free.specs.Runs.{IsSpread, end_of, begins_at, ends_at, without}
 use Rattle.gc_free.specs.Orders.{count_below}

@@ -1,8 +1,7 @@
 -- A block at the front of a run keeps what a free list keeps.
-use Rattle.std.proofs.Common.{ℕ, zero, suc, ◌≡◌, ◌≤◌, ◌<◌, ◌+◌, ◌-◌, ◌*◌, ◌/◌, ◌%◌, ◌^◌, min, max, length, List, [], ◌∷◌, ◌++◌, arith, refl, ap, sym, ◌∙◌, cond, ltb, leb, eqb, not, true, false, inl, inr, ◌⊎◌, Option, Some, None, subst, append_assoc, append-nil, Bool, ◌||◌, ◌&&◌}
-use Rattle.std.proofs.lemmas.Bool.{lt-ltb, le-ltb, le-leb, lt-leb, eq-eqb, ne_eqb, cases_lt, cases_eq}
-use Rattle.std.specs.List.{find, AllByRecursion}
-use Rattle.std.specs.Option.{MatchOption}
+use Rattle.std.proofs.Common.{ℕ, suc, ◌≡◌, ◌≤◌, ◌<◌, ◌+◌, ◌-◌, length, List, [], ◌∷◌, ◌++◌, arith, refl, ap, sym, ◌∙◌, cond, not, true, false, inl, inr, Option, Some, None, subst, Bool}
+use Rattle.std.proofs.lemmas.Bool.{lt-ltb, le-ltb, le-leb, lt-leb, eq-eqb, ne_eqb, cases_lt}
+use Rattle.std.specs.List.{AllByRecursion}
 use Rattle.gc_free.specs.declared.run.Run.{Run}
 use Rattle.gc_free.specs.Runs.{run, end_of, gap, gaps, insert_run, remove_by, without, begins_at, IsSpread}
 use Rattle.gc_free.specs.Orders.{shortest_fit, shorter_fit}
@@ -11,7 +10,7 @@ use Rattle.gc_free.proofs.ByLength.{In, In-place, place_of}
 use Rattle.gc_free.proofs.Spread.{none_begins}
 use Rattle.gc_free.proofs.Slots.{lower, upper, before, behind, gaps-split, gaps-around, before-under, behind-over, spread-behind, Under, Over}
 use Rattle.gc_free.proofs.Neighbours.{Under-none_begins, Over-none_begins, insert_run-middle, Under-more, Over-less, in_middle}
-use Rattle.gc_free.proofs.Between.{Slot, between_slot, between_behind, insert_run-slot, spread-insert, aligned-insert, length-slot}
+use Rattle.gc_free.proofs.Between.{between_slot, between_behind, insert_run-slot, spread-insert, aligned-insert, length-slot}
 use Rattle.gc_free.proofs.MergedRuns.{gap_none, gap_some, gap_dropped}
 
 -- the runs near a slot: those before it, the one in it, and those behind it

@@ -1,15 +1,15 @@
 -- What the two orders allow, and what keeps them.
-use Rattle.std.proofs.Common.{ℕ, zero, suc, ◌≡◌, ◌≤◌, ◌<◌, ◌+◌, ◌-◌, ◌*◌, ◌^◌, get_or, length, List, [], ◌∷◌, arith, refl, ap, sym, ◌∙◌, cond, ltb, true, false, inl, inr, ◌⊎◌, Option, Some, None, subst, lit<}
+use Rattle.std.proofs.Common.{ℕ, zero, suc, ◌≡◌, ◌≤◌, ◌<◌, ◌-◌, ◌^◌, get_or, length, List, [], ◌∷◌, arith, refl, ap, sym, inl, inr, subst, lit<}
 use Rattle.std.proofs.lemmas.Bool.{lt-ltb, le-ltb, cases_lt}
-use Rattle.std.specs.List.{remove, find}
+use Rattle.std.specs.List.{remove}
 use Rattle.std.specs.List.Sorted.{IsNonDecreasingBy}
 use Rattle.gc_free.specs.declared.run.Run.{Run}
 use Rattle.gc_free.specs.Runs.{IsSpread, end_of, insert_by, insert_run, remove_by}
-use Rattle.gc_free.specs.Orders.{count_below, length_key, by_length, shortest_fit, IsSearched}
+use Rattle.gc_free.specs.Orders.{count_below, length_key, by_length}
 use Rattle.gc_free.specs.TwoOrders.{AreTwoOrders}
-use Rattle.gc_free.proofs.InsertBy.{Rises, Rises-sorted, Has, Has-above}
+use Rattle.gc_free.proofs.InsertBy.{Rises, Rises-sorted, Has}
 use Rattle.gc_free.proofs.ByLength.{place_of, In, In-place, In-by_length, Has-In, IsSpread-rises, by_length-rises, by_length-insert_run, by_length-remove, length-by_length}
-use Rattle.gc_free.proofs.Shortest.{In-get_or, In-unordered, shortest_is_first, fit_at, no_fit, remove_by-at, first_fit}
+use Rattle.gc_free.proofs.Shortest.{In-get_or, In-unordered}
 
 pub sorted_by_place : (runs ordered : List Run) → AreTwoOrders runs ordered → IsNonDecreasingBy place_of runs
 sorted_by_place runs ordered two = Rises-sorted place_of 0 runs (IsSpread-rises 0 (2 ^ 32 - 1) runs two.spread)

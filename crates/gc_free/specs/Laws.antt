@@ -1,10 +1,10 @@
 -- Laws of the definitions, over every space and every list of calls.
-use Rattle.std.specs.Prelude.{ℕ, ◌≡◌, ◌+◌, ◌-◌, ◌*◌, ◌%◌, ◌^◌, ◌<◌, ◌≤◌, nat_lt, nat_le, ◌&&◌, not, List, [], ◌∷◌, length, Contains, sum_by}
+use Rattle.std.specs.Prelude.{ℕ, ◌≡◌, ◌+◌, ◌-◌, ◌%◌, ◌^◌, ◌<◌, ◌≤◌, nat_lt, nat_le, ◌&&◌, not, false, Some, List, [], ◌∷◌, length, Contains, sum_by}
 use Rattle.std.specs.List.{list_any}
 use Rattle.gc_free.specs.declared.run.Run.{Run}
 use Rattle.gc_free.specs.declared.run.TheConstants.{ALIGN}
 use Rattle.gc_free.specs.Runs.{end_of}
-use Rattle.gc_free.specs.Space.{Space, places_end, free_runs, covers, new_space, take, give, grow, IsSound}
+use Rattle.gc_free.specs.Space.{Space, places_end, free_runs, covers, touches, new_space, take, give, grow, IsSound}
 
 -- a place is free exactly where it is managed and no held block covers it
 abbrev pub FreeRunsAreTheRest : Type 0
@@ -34,6 +34,14 @@ BytesAddUp = (s : Space) → IsSound s → bytes_of (free_runs s) + bytes_of s.h
 -- once all blocks are back, there is at most one run
 abbrev pub AllBackLeavesOneRun : Type 0
 AllBackLeavesOneRun = (s : Space) → s.held ≡ [] → length (free_runs s) ≤ 1
+
+-- a current run with places is one of the free runs
+abbrev pub CurrentRunIsFree : Type 0
+CurrentRunIsFree = (s : Space) (c : Run) → IsSound s → s.current ≡ Some c → 0 < c.length → Contains (free_runs s) c
+
+-- no free run touches the place of a current run that was used up whole
+abbrev pub UsedUpRunStandsApart : Type 0
+UsedUpRunStandsApart = (s : Space) (c : Run) → IsSound s → s.current ≡ Some c → c.length ≡ 0 → list_any (touches c) (free_runs s) ≡ false
 
 -- CALLS
 

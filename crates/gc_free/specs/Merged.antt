@@ -1,5 +1,5 @@
 -- Freed places and the runs that they touch.
-use Rattle.std.specs.Prelude.{ℕ, ◌+◌, min, cond, Option, Some, None, List, find}
+use Rattle.std.specs.Prelude.{◌+◌, min, cond, Option, Some, None, List, find}
 use Rattle.gc_free.specs.declared.run.Run.{Run}
 use Rattle.gc_free.specs.Runs.{run, end_of, insert_run, without, begins_at, ends_at}
 use Rattle.gc_free.specs.Space.{touches}

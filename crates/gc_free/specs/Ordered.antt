@@ -1,5 +1,5 @@
 -- What a clause sees of the free runs that stand in both orders.
-use Rattle.std.specs.Prelude.{ℕ, ◌≡◌, List, Option, Some, None, refl}
+use Rattle.std.specs.Prelude.{ℕ, List, Option, Some, None, refl}
 use Rattle.std.specs.Coded.{Coded, code_by, coded×, coded_ℕ}
 use Rattle.gc_free.specs.declared.run.Run.{Run}
 use Rattle.gc_free.specs.Coding.{runs_code}

@@ -1,5 +1,5 @@
 -- The two orders of free runs, and what a search in them finds and costs.
-use Rattle.std.specs.Prelude.{ℕ, zero, suc, ◌+◌, ◌-◌, ◌*◌, ◌^◌, ◌≤◌, nat_lt, nat_le, ◌&&◌, cond, Option, Some, None, List, [], ◌∷◌}
+use Rattle.std.specs.Prelude.{ℕ, suc, ◌+◌, ◌-◌, ◌*◌, ◌^◌, ◌≤◌, nat_lt, nat_le, ◌&&◌, cond, Option, Some, None, List, [], ◌∷◌}
 use Rattle.gc_free.specs.declared.run.Run.{Run}
 use Rattle.gc_free.specs.declared.search.Order.{Order}
 use Rattle.gc_free.specs.declared.search.Order.TheVariants.{ByPlace, ByLength}

@@ -1,5 +1,5 @@
 -- Runs of places, and the gaps that blocks leave between two places.
-use Rattle.std.specs.Prelude.{ℕ, ◌+◌, ◌-◌, ◌*◌, ◌%◌, ◌<◌, ◌≤◌, ◌≡◌, ◌==◌, nat_lt, not, cond, Bool, List, [], ◌∷◌, ◌++◌, filter}
+use Rattle.std.specs.Prelude.{ℕ, ◌+◌, ◌-◌, ◌<◌, ◌≤◌, ◌==◌, nat_lt, not, cond, Bool, List, [], ◌∷◌, ◌++◌, filter}
 use Rattle.gc_free.specs.declared.run.Run.{Run}
 
 -- the run of these many places from this one on

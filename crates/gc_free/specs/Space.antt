@@ -1,5 +1,5 @@
 -- The space of a free list: its capacity, the held blocks and the current run. The free runs are what the blocks leave.
-use Rattle.std.specs.Prelude.{ℕ, ◌≡◌, ◌+◌, ◌-◌, ◌*◌, ◌/◌, ◌%◌, ◌^◌, ◌<◌, ◌≤◌, ◌==◌, ◌⊎◌, ◌||◌, ◌&&◌, nat_lt, nat_le, min, max, cond, Bool, not, false, Option, Some, None, List, [], ◌∷◌, length, find, option_map, MatchOption, refl}
+use Rattle.std.specs.Prelude.{ℕ, ◌≡◌, ◌+◌, ◌-◌, ◌*◌, ◌/◌, ◌%◌, ◌^◌, ◌<◌, ◌==◌, ◌⊎◌, ◌||◌, ◌&&◌, nat_lt, nat_le, min, max, cond, Bool, Option, Some, None, List, [], ◌∷◌, find, MatchOption, refl}
 use Rattle.std.specs.Coded.{Coded, code_by, coded×, coded_ℕ, coded_option}
 use Rattle.gc_free.specs.declared.run.Run.{Run}
 use Rattle.gc_free.specs.declared.run.TheConstants.{ALIGN}

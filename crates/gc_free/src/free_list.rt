@@ -38,7 +38,8 @@ impl Model for FreeList {
 
     ghost view = { λ l. record { capacity = l.capacity; held = l.held.blocks; current = l.current } };
 
-    ghost invariant = { λ l. IsKept (record { capacity = l.capacity; held = l.held.blocks; current = l.current }) l.others.runs l.others.room l.blocks };
+    ghost invariant = { λ l. IsKept (record { capacity = l.capacity; held = l.held.blocks; current = l.current })
+        l.others.runs l.others.room l.blocks };
 }
 
 /// The current run, if it begins at a place and has any.
@@ -77,7 +78,7 @@ impl FreeList {
         })
     }
 
-    /// The bytes of capacity, of which those past the greatest u32 and a part of 16 at the end have no places.
+    /// The bytes of capacity. Those past the greatest u32, and a part of 16 at the end, have no places.
     pub fn current_capacity(&self) -> usize
         ensures capacity { result ≡ self.now.capacity }
         ensures sound { IsSound self.now }
@@ -85,7 +86,8 @@ impl FreeList {
         self.capacity
     }
 
-    /// Each free run as its place and its length, by rising place with the current run last where it has places.
+    /// Each free run as its place and its length, by rising place with the current run last where it
+    /// has places.
     pub fn iter_free_blocks(&self) -> FreeBlocks<'_>
         ensures blocks { result ≡ listed self.now }
         ensures sound { IsSound self.now }
@@ -97,7 +99,8 @@ impl FreeList {
         FreeBlocks::new(self.others.as_slice(), current)
     }
 
-    /// The length of the free run that begins at a place, `None` exactly where none does. A logarithm of the runs in comparisons.
+    /// The length of the free run that begins at a place, `None` exactly where none does. A logarithm
+    /// of the runs in comparisons.
     pub fn run_at(&self, place: u32) -> Option<u32>
         ensures length { result ≡ run_length_at place self.now }
         ensures sound { IsSound self.now }
@@ -150,7 +153,8 @@ impl FreeList {
     pub fn alloc_fast(&mut self, alloc_size: u32) -> Result<Option<NonZeroU32>, AllocError>
         requires whole { alloc_size % ALIGN ≡ 0 }
         requires some { 0 < alloc_size }
-        ensures place { IfOk result (λ place. option_map (λ p. non_zero_u32_get p) place ≡ (take alloc_size self.old).place) }
+        ensures place { IfOk result (λ place.
+            option_map (λ p. non_zero_u32_get p) place ≡ (take alloc_size self.old).place) }
         ensures after { OnOk result (self.new ≡ (take alloc_size self.old).space) }
         ensures none { IfOk result (λ place. IsNone place ↔ All (λ r. r.length < alloc_size) (free_runs self.old)) }
         ensures aligned { IfOk result (λ place. IfSome place (λ p. non_zero_u32_get p % ALIGN ≡ 0)) }
@@ -170,7 +174,8 @@ impl FreeList {
         requires counts { 0 < blank.parts }
         requires whole { alloc_size % ALIGN ≡ 0 }
         requires some { 0 < alloc_size }
-        ensures place { IfOk result (λ place. option_map (λ p. non_zero_u32_get p) place ≡ (take alloc_size self.old).place) }
+        ensures place { IfOk result (λ place.
+            option_map (λ p. non_zero_u32_get p) place ≡ (take alloc_size self.old).place) }
         ensures after { OnOk result (self.new ≡ (take alloc_size self.old).space) }
         ensures none { IfOk result (λ place. IsNone place ↔ All (λ r. r.length < alloc_size) (free_runs self.old)) }
         ensures aligned { IfOk result (λ place. IfSome place (λ p. non_zero_u32_get p % ALIGN ≡ 0)) }
@@ -189,7 +194,8 @@ impl FreeList {
     ) -> Result<Option<NonZeroU32>, AllocError>
         requires whole { alloc_size % ALIGN ≡ 0 }
         requires some { 0 < alloc_size }
-        ensures place { IfOk result (λ place. option_map (λ p. non_zero_u32_get p) place ≡ (take alloc_size self.old).place) }
+        ensures place { IfOk result (λ place.
+            option_map (λ p. non_zero_u32_get p) place ≡ (take alloc_size self.old).place) }
         ensures after { OnOk result (self.new ≡ (take alloc_size self.old).space) }
         ensures none { IfOk result (λ place. IsNone place ↔ All (λ r. r.length < alloc_size) (free_runs self.old)) }
         ensures aligned { IfOk result (λ place. IfSome place (λ p. non_zero_u32_get p % ALIGN ≡ 0)) }

@@ -31,7 +31,10 @@ impl Model for FreeRuns {
     ghost use Rattle.std.specs.Prelude.{min, vec_capacity};
     ghost use Rattle.gc_free.specs.TwoOrders.{AreTwoOrders};
 
-    ghost view = { λ s. record { runs = s.by_place.items; room = min (vec_capacity s.by_place) (vec_capacity s.by_length) } };
+    ghost view = { λ s. record {
+      runs = s.by_place.items;
+      room = min (vec_capacity s.by_place) (vec_capacity s.by_length);
+    } };
 
     ghost invariant = { λ s. AreTwoOrders s.by_place.items s.by_length.items };
 }

@@ -1,4 +1,16 @@
-//! A coalescing free list over the places of one heap, whose free runs are always maximal.
+//! A coalescing free list over the places of one heap.
+//!
+//! ```text
+//! 0        16                                                      places' end   capacity
+//! | unused | held | free run | held | held | current run | held | free run |  < 16  |
+//! ```
+//!
+//! Places are bytes from the heap's start; blocks begin and end at multiples of 16. The free runs
+//! are what the held blocks leave, always maximal. At most one of them is current, and blocks are
+//! taken from its front while they fit. Giving a block back takes no memory.
+//!
+//! A caller gives back only what it holds. Contracts see a free list as a `Space`: its capacity, its
+//! held blocks and its current run. The laws of these are in `laws`.
 #![tactic(auto)]
 
 mod blocks;

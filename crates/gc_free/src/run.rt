@@ -4,10 +4,11 @@ ghost use Rattle.gc_free.specs.Runs.{run, end_of, gap};
 ghost use Rattle.gc_free.specs.Space.{touches, rest_of, if_any, places_end, first_of_runs};
 ghost use Rattle.gc_free.specs.Merged.{join, join_if_any};
 
-/// Every place and every block's size is a multiple of these bytes, and so is the first managed place.
+/// Every place and every block's size is a multiple of these bytes, which are the first managed place.
 pub const ALIGN: u32 = 16;
 
-/// Where the managed places end: at the capacity, or at the greatest u32, rounded down to whole places.
+/// Where the managed places end: at the capacity, or at the greatest u32, rounded down to a multiple
+/// of 16.
 pub(crate) fn places_end(capacity: usize) -> u32
     ensures { result ≡ places_end capacity }
 {

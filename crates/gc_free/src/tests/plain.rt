@@ -1,4 +1,5 @@
-//! The definitions as a plain program over the list of held blocks, which shares no code with the free list.
+//! The definitions as a plain program over the list of held blocks, which shares no code with the
+//! free list.
 
 use crate::run::Run;
 use std::alloc::{AllocError, Global};

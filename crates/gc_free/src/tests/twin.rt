@@ -133,7 +133,8 @@ impl Twin {
         Ok(())
     }
 
-    /// The calls' answers so far, the runs, their lengths by place and the bytes are those of the plain program.
+    /// The calls' answers so far, the runs, their lengths by place and the bytes are as the plain
+    /// program has them.
     fn check(&self) -> Result<bool, AllocError> {
         let runs = self.runs()?;
         let mut told = self.list.iter_free_blocks();
@@ -159,7 +160,8 @@ impl Twin {
     }
 }
 
-/// Whether a new free list answers each call as wanted, with so many free runs, and as the plain program does.
+/// Whether a new free list answers each call as wanted, with so many free runs, and as the plain
+/// program does.
 pub(super) fn answers(
     alloc: Global,
     capacity: usize,

@@ -1,4 +1,4 @@
-use Rattle.std.proofs.Common.{arith, ◌<◌, length, sym, subst, get_or, ◌-◌, ◌^◌}
+use Rattle.std.proofs.Common.{arith, ◌<◌, length, sym, subst, ◌-◌, ◌^◌}
 use Rattle.gc_free.proofs.ByLength.{In}
 use Rattle.gc_free.proofs.Shortest.{In-get_or}
 use Rattle.gc_free.proofs.TwoOrdersKept.{sorted_by_length, stands_by_length, two_orders-remove, remove_is_by_place}

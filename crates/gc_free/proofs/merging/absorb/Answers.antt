@@ -1,4 +1,4 @@
-use Rattle.std.proofs.Common.{arith, ◌≡◌, ◌<◌, ◌≤◌, ◌+◌, ◌-◌, ◌^◌, ap, ◌∙◌}
+use Rattle.std.proofs.Common.{arith, ◌≡◌, ◌<◌, ◌+◌, ◌^◌, ap, ◌∙◌}
 use Rattle.gc_free.specs.Runs.{end_of}
 use Rattle.gc_free.proofs.merging.absorb.Goals as goal
 use Rattle.gc_free.proofs.merging.absorb.Goals.{in-Some, in-None}

@@ -1,4 +1,4 @@
-use Rattle.std.proofs.Common.{arith, ◌≡◌, ◌<◌, ◌≤◌, ◌+◌, ap, ◌∙◌, sym, length, subst, Some, None, false}
+use Rattle.std.proofs.Common.{arith, ◌≡◌, ◌≤◌, ap, ◌∙◌, sym, length, false}
 use Rattle.std.proofs.lemmas.Bool.{cond-false}
 use Rattle.gc_free.specs.Space.{touches}
 use Rattle.gc_free.specs.Runs.{insert_run}

@@ -1,4 +1,4 @@
-use Rattle.std.proofs.Common.{arith, ◌≡◌, ◌≤◌, ap, length, ◌∙◌, sym}
+use Rattle.std.proofs.Common.{arith, ◌≡◌, ap, length, ◌∙◌, sym}
 use Rattle.gc_free.specs.Placed.{with_current}
 use Rattle.gc_free.proofs.Costs.{IsSearched-none, IsSearched-both, IsSearched-more}
 use Rattle.gc_free.proofs.PlacedRuns.{length-with_current}

@@ -1,4 +1,4 @@
-use Rattle.std.proofs.Common.{arith, ◌≡◌, ◌<◌, ◌≤◌, ◌-◌, ◌^◌, sym}
+use Rattle.std.proofs.Common.{arith, ◌≤◌, ◌-◌, ◌^◌, sym}
 use Rattle.gc_free.specs.Runs.{end_of}
 use Rattle.gc_free.proofs.ByLength.{In-place}
 use Rattle.gc_free.proofs.Taking.{shortest_found}

@@ -1,4 +1,3 @@
-use Rattle.std.proofs.Common.{◌+◌, ◌-◌, ◌/◌}
 use Rattle.gc_free.specs.Orders.{key_of}
 use Rattle.gc_free.proofs.Narrowing.{raised, lowered, found, searched}
 use Rattle.gc_free.proofs.search.count_before.Goals as goal

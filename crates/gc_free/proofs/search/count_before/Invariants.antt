@@ -1,5 +1,4 @@
-use Rattle.std.proofs.Common.{ℕ, ◌≡◌, ◌≤◌, ◌<◌, ◌+◌, ◌-◌, ◌*◌, ◌^◌, get_or, length, List}
-use Rattle.gc_free.specs.declared.run.Run.{Run}
+use Rattle.std.proofs.Common.{◌-◌}
 use Rattle.gc_free.specs.Orders.{key_of}
 use Rattle.gc_free.proofs.Narrowing.{IsNarrowed}
 use Rattle.gc_free.proofs.search.count_before.Given as goal

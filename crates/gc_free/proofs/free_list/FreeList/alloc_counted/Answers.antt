@@ -1,4 +1,4 @@
-use Rattle.std.proofs.Common.{arith, ℕ, ◌≤◌, ◌<◌, ◌≡◌, ◌+◌, ◌-◌, ◌*◌, ◌^◌, ap, sym, ◌∙◌, refl, Some, None, length}
+use Rattle.std.proofs.Common.{arith, ◌≤◌, ◌≡◌, ◌+◌, ap, ◌∙◌, refl, length}
 use Rattle.gc_free.specs.Space.{Space, free_runs, take}
 use Rattle.gc_free.specs.Kept.{IsKept}
 use Rattle.gc_free.specs.Placed.{place_in, with_current}

@@ -1,7 +1,6 @@
-use Rattle.std.proofs.Common.{arith, ◌≤◌, ◌≡◌, refl}
-use Rattle.gc_free.specs.Space.{Space, give}
-use Rattle.gc_free.specs.Kept.{IsKept}
-use Rattle.gc_free.proofs.Keeping.{GiveKept, give_kept}
+use Rattle.std.proofs.Common.{arith, refl}
+use Rattle.gc_free.specs.Space.{Space}
+use Rattle.gc_free.proofs.Keeping.{give_kept}
 use Rattle.gc_free.proofs.free_list.FreeList.give_back.Goals as goal
 
 pub set_free-self-inside-requires-clause-fits : goal.set_free-self-inside-requires-clause-fits

@@ -1,7 +1,7 @@
-use Rattle.std.proofs.Common.{arith, ℕ, ◌≤◌, ◌<◌, ◌≡◌, ◌+◌, ◌-◌, ◌^◌, min, max, ap, sym, ◌∙◌, refl, Some, None}
+use Rattle.std.proofs.Common.{arith, ◌≤◌, ◌<◌, ◌≡◌, ◌+◌, ◌-◌, ◌^◌, min, max, ap, sym, ◌∙◌, Some, None}
 use Rattle.gc_free.specs.Runs.{gap}
 use Rattle.gc_free.specs.Space.{Space, places_end, first_of_runs}
-use Rattle.gc_free.proofs.Keeping.{grow_kept_at, idle_kept, gap_empty, merge_all_some, merge_all_none}
+use Rattle.gc_free.proofs.Keeping.{grow_kept_at, idle_kept, gap_empty, merge_all_some}
 use Rattle.gc_free.proofs.free_list.FreeList.grow.Goals as goal
 
 pub invariant_of-self : goal.invariant_of-self

@@ -1,4 +1,4 @@
-use Rattle.std.proofs.Common.{◌≡◌, ◌∙◌, ap, sym, Some, None, option_map}
+use Rattle.std.proofs.Common.{◌∙◌, ap, sym, option_map}
 use Rattle.gc_free.specs.Space.{Space}
 use Rattle.gc_free.specs.Listed.{run_length_at}
 use Rattle.gc_free.proofs.RunsAt.{at_current, at_other}

@@ -1,4 +1,4 @@
-use Rattle.std.proofs.Common.{arith, ◌≡◌, ◌≤◌, ◌<◌, ◌∙◌, ap, sym, length, ◌-◌, ◌^◌, ◌+◌, get_or, Some}
+use Rattle.std.proofs.Common.{arith, ◌≡◌, ◌<◌, ◌∙◌, ap, sym, length, ◌-◌, ◌^◌, Some}
 use Rattle.gc_free.specs.Orders.{count_below}
 use Rattle.gc_free.proofs.ByLength.{place_of}
 use Rattle.gc_free.proofs.InsertBy.{count_within}

@@ -1,5 +1,4 @@
-use Rattle.std.proofs.Common.{arith, ◌≡◌, ◌≤◌, ◌<◌, ◌+◌, ◌-◌, ◌^◌, length, vec_capacity, vec_len}
-use Rattle.gc_free.specs.Runs.{insert_run, end_of}
+use Rattle.std.proofs.Common.{arith, ◌≡◌, length}
 use Rattle.gc_free.proofs.TwoOrdersKept.{sorted_by_place, sorted_by_length, same_length, two_orders-insert, place_fits}
 use Rattle.gc_free.proofs.Costs.{IsSearched-both, IsSearched-more}
 use Rattle.gc_free.proofs.free_runs.FreeRuns.insert.Goals as goal

@@ -1,4 +1,4 @@
-use Rattle.std.proofs.Common.{arith, ◌≡◌, ◌≤◌, ◌+◌, ◌-◌, length, vec_capacity, vec_len}
+use Rattle.std.proofs.Common.{arith, ◌≡◌, ◌≤◌, ◌+◌, length, vec_capacity, vec_len}
 use Rattle.gc_free.proofs.TwoOrdersKept.{same_length}
 use Rattle.gc_free.proofs.free_runs.FreeRuns.reserve.Goals as goal
 

@@ -1,11 +1,11 @@
-use Rattle.std.proofs.Common.{arith, ◌≡◌, ◌≤◌, ◌<◌, ◌∙◌, ap, sym, length, ◌-◌, ◌^◌, ◌+◌, get_or, Some}
+use Rattle.std.proofs.Common.{arith, ◌≡◌, ◌≤◌, ◌<◌, ◌∙◌, ap, sym, length, ◌-◌, ◌^◌, get_or, Some}
 use Rattle.std.proofs.lemmas.List.{get_or_default}
 use Rattle.gc_free.specs.Orders.{count_below}
 use Rattle.gc_free.proofs.ByLength.{place_of, In-place}
 use Rattle.gc_free.proofs.Shortest.{In-get_or}
 use Rattle.gc_free.specs.Runs.{end_of}
 use Rattle.gc_free.proofs.InsertBy.{count_within}
-use Rattle.gc_free.proofs.Spread.{PassesNone, PassesAt, begins_none, begins_found}
+use Rattle.gc_free.proofs.Spread.{begins_none, begins_found}
 use Rattle.gc_free.proofs.TwoOrdersKept.{sorted_by_place}
 use Rattle.gc_free.proofs.free_runs.FreeRuns.take_from.Goals as goal
 

@@ -1,7 +1,7 @@
-use Rattle.std.proofs.Common.{arith, ◌≡◌, ◌≤◌, ◌<◌, ◌∙◌, ap, sym, subst, length, ◌*◌, ◌-◌, ◌^◌, ◌+◌, get_or, Some, lit<}
-use Rattle.gc_free.specs.Runs.{end_of, remove_by}
+use Rattle.std.proofs.Common.{arith, ◌≡◌, ◌<◌, ◌∙◌, ap, sym, subst, length, ◌*◌, ◌-◌, ◌^◌, Some, lit<}
+use Rattle.gc_free.specs.Runs.{remove_by}
 use Rattle.gc_free.specs.Orders.{count_below, length_key, by_length}
-use Rattle.gc_free.proofs.ByLength.{In, place_of, In-place}
+use Rattle.gc_free.proofs.ByLength.{In}
 use Rattle.gc_free.proofs.Shortest.{In-get_or, In-unordered, shortest_is_first, fit_at, no_fit, remove_by-at}
 use Rattle.gc_free.proofs.InsertBy.{count_within, remove_at_count}
 use Rattle.gc_free.proofs.TwoOrdersKept.{sorted_by_place, sorted_by_length, stands_by_place, two_orders-remove, same_length, places_by_length}

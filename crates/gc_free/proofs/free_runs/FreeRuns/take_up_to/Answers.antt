@@ -1,4 +1,4 @@
-use Rattle.std.proofs.Common.{arith, ◌≡◌, ◌≤◌, ◌<◌, ◌∙◌, ap, sym, length, ◌-◌, ◌^◌, ◌+◌, get_or, Some, suc, zero}
+use Rattle.std.proofs.Common.{arith, ◌≡◌, ◌≤◌, ◌<◌, ◌∙◌, ap, sym, length, ◌-◌, ◌^◌, get_or, Some, suc}
 use Rattle.std.proofs.lemmas.List.{get_or_default}
 use Rattle.gc_free.specs.Runs.{end_of}
 use Rattle.gc_free.specs.Orders.{count_below}

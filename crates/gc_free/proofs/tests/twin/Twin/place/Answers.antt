@@ -1,4 +1,4 @@
-use Rattle.std.proofs.Common.{arith, ℕ, ◌≡◌, ◌<◌, ◌≤◌, ◌+◌, ap, sym, ◌∙◌, cond, Option, Some, None, length, vec_len, vec_capacity, is_ok, inl, inr, true, option_map}
+use Rattle.std.proofs.Common.{arith, ℕ, ◌≡◌, ◌≤◌, ◌+◌, ap, sym, ◌∙◌, Option, Some, None, vec_len, vec_capacity, is_ok, inl, inr, true, option_map}
 use Rattle.std.specs.List.{insert}
 use Rattle.std.specs.Int.NonZero.{non_zero_u32_get}
 use Rattle.std.proofs.lemmas.Bool.{lt-leb, le-leb, cases_lt, cond-true}
@@ -21,9 +21,9 @@ from_held size s (Some c) p e =
     elim (cases_lt c.length size) [
       | inl short ↦ rw (lt-leb size c.length short) (shortest_held size s (shortest_fit size (free_runs s)) p (rw (lt-leb size c.length short) at e))
       | inr long ↦
-        let e' : Some p ≡ Some c.place = rw (le-leb size c.length long) at e in
-        let same : c.place ≡ p = cc in
-        rw (le-leb size c.length long) (ap (λ q. insert_run (run q size) s.held) same)
+          let e' : Some p ≡ Some c.place = rw (le-leb size c.length long) at e in
+          let same : c.place ≡ p = cc in
+          rw (le-leb size c.length long) (ap (λ q. insert_run (run q size) s.held) same)
     ]
 
 pub count_before-at-requires : goal.count_before-at-requires
@@ -43,11 +43,11 @@ invariant_of-self-2 g c =
     let xs = c.reserve.new.self.items in
     let own : xs ≡ s.held = c.reserve.ensures.items ∙ c.args.self.now.same in
     let place : Some p ≡ (take c.args.size s).place =
-      ap (λ n. Some n) c.get.ensures.value ∙ sym (ap (option_map (λ x. non_zero_u32_get x)) c.in-Some.is) ∙ c.in_ok-place.ensures.place in
+    ap (λ n. Some n) c.get.ensures.value ∙ sym (ap (option_map (λ x. non_zero_u32_get x)) c.in-Some.is) ∙ c.in_ok-place.ensures.place in
     let held : c.alloc_counted.new.self.held ≡ insert_run block s.held = ap (λ z. z.held) c.in_ok-place.ensures.after ∙ from_held c.args.size s s.current p place in
     let room : vec_len c.reserve.new.self + 1 ≤ vec_capacity c.reserve.new.self = c.in_ok-reserve.ensures.ok in
     let ok : is_ok c.insert.result ≡ true = c.insert.ensures.succeeds (omega arith) in
     let at : c.count_before-at.result ≡ count_below place_of p xs = c.count_before-at.ensures.count ∙ ap (count_below place_of p) c.deref.ensures.value in
     let put : c.insert.new.self.items ≡ insert_run block xs =
-      c.insert.ensures.items ∙ cond-true (is_ok c.insert.result) (insert xs c.count_before-at.result block) xs ok ∙ ap (λ n. insert xs n block) at ∙ insert_at_count place_of block xs in
+    c.insert.ensures.items ∙ cond-true (is_ok c.insert.result) (insert xs c.count_before-at.result block) xs ok ∙ ap (λ n. insert xs n block) at ∙ insert_at_count place_of block xs in
     record { same = put ∙ ap (insert_run block) own ∙ sym held }
