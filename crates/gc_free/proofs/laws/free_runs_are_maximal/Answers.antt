@@ -1,0 +1,5 @@
+use Rattle.gc_free.proofs.LawsOfRuns.{free_runs_are_maximal}
+use Rattle.gc_free.proofs.laws.free_runs_are_maximal.Goals as goal
+
+pub returns : goal.returns
+returns c = free_runs_are_maximal

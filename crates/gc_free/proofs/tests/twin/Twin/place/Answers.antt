@@ -1,0 +1,53 @@
+use Rattle.std.proofs.Common.{arith, ℕ, ◌≡◌, ◌≤◌, ◌+◌, ap, sym, ◌∙◌, Option, Some, None, vec_len, vec_capacity, is_ok, inl, inr, true, option_map}
+use Rattle.std.specs.List.{insert}
+use Rattle.std.specs.Int.NonZero.{non_zero_u32_get}
+use Rattle.std.proofs.lemmas.Bool.{lt-leb, le-leb, cases_lt, cond-true}
+use Rattle.gc_free.specs.declared.run.Run.{Run}
+use Rattle.gc_free.specs.Runs.{run, insert_run}
+use Rattle.gc_free.specs.Orders.{shortest_fit, count_below}
+use Rattle.gc_free.specs.Space.{Space, take, take_from, take_shortest, free_runs, places_end}
+use Rattle.gc_free.proofs.ByLength.{place_of, IsSpread-rises}
+use Rattle.gc_free.proofs.InsertBy.{Rises-sorted, count_within, insert_at_count}
+use Rattle.gc_free.proofs.tests.twin.Twin.place.Goals as goal
+
+-- a block that was placed is held
+shortest_held : (size : ℕ) (s : Space) (o : Option Run) (p : ℕ) → Some p ≡ (take_shortest size s o).place → (take_shortest size s o).space.held ≡ insert_run (run p size) s.held
+shortest_held size s None p e = absurd (cc)
+shortest_held size s (Some r) p e = let same : r.place ≡ p = cc in ap (λ q. insert_run (run q size) s.held) same
+
+from_held : (size : ℕ) (s : Space) (o : Option Run) (p : ℕ) → Some p ≡ (take_from size s o).place → (take_from size s o).space.held ≡ insert_run (run p size) s.held
+from_held size s None p e = shortest_held size s (shortest_fit size (free_runs s)) p e
+from_held size s (Some c) p e =
+    elim (cases_lt c.length size) [
+      | inl short ↦ rw (lt-leb size c.length short) (shortest_held size s (shortest_fit size (free_runs s)) p (rw (lt-leb size c.length short) at e))
+      | inr long ↦
+          let e' : Some p ≡ Some c.place = rw (le-leb size c.length long) at e in
+          let same : c.place ≡ p = cc in
+          rw (le-leb size c.length long) (ap (λ q. insert_run (run q size) s.held) same)
+    ]
+
+pub count_before-at-requires : goal.count_before-at-requires
+count_before-at-requires g c =
+    let s = c.args.self.now.list in
+    let sound = c.current_capacity.ensures.sound in
+    rw (c.deref.ensures.value, c.reserve.ensures.items, c.args.self.now.same) (Rises-sorted place_of 16 s.held (IsSpread-rises 16 (places_end s.capacity) s.held sound.blocks))
+
+pub insert-requires : goal.insert-requires
+insert-requires g c = rw (c.count_before-at.ensures.count, c.deref.ensures.value) (let le = count_within place_of c.get.result c.reserve.new.self.items in omega arith)
+
+pub invariant_of-self-2 : goal.invariant_of-self-2
+invariant_of-self-2 g c =
+    let s = c.args.self.now.list in
+    let p = c.get.result in
+    let block = run p c.args.size in
+    let xs = c.reserve.new.self.items in
+    let own : xs ≡ s.held = c.reserve.ensures.items ∙ c.args.self.now.same in
+    let place : Some p ≡ (take c.args.size s).place =
+    ap (λ n. Some n) c.get.ensures.value ∙ sym (ap (option_map (λ x. non_zero_u32_get x)) c.in-Some.is) ∙ c.in_ok-place.ensures.place in
+    let held : c.alloc_counted.new.self.held ≡ insert_run block s.held = ap (λ z. z.held) c.in_ok-place.ensures.after ∙ from_held c.args.size s s.current p place in
+    let room : vec_len c.reserve.new.self + 1 ≤ vec_capacity c.reserve.new.self = c.in_ok-reserve.ensures.ok in
+    let ok : is_ok c.insert.result ≡ true = c.insert.ensures.succeeds (omega arith) in
+    let at : c.count_before-at.result ≡ count_below place_of p xs = c.count_before-at.ensures.count ∙ ap (count_below place_of p) c.deref.ensures.value in
+    let put : c.insert.new.self.items ≡ insert_run block xs =
+    c.insert.ensures.items ∙ cond-true (is_ok c.insert.result) (insert xs c.count_before-at.result block) xs ok ∙ ap (λ n. insert xs n block) at ∙ insert_at_count place_of block xs in
+    record { same = put ∙ ap (insert_run block) own ∙ sym held }

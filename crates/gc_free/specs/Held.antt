@@ -1,0 +1,11 @@
+-- The held blocks after a change.
+use Rattle.std.specs.Prelude.{List}
+use Rattle.gc_free.specs.declared.run.Run.{Run}
+use Rattle.gc_free.specs.declared.held.Change.{Change}
+use Rattle.gc_free.specs.declared.held.Change.TheVariants.{Taken, Given}
+use Rattle.gc_free.specs.Runs.{insert_run, without, begins_at}
+
+-- a block that is taken is held, and one that is given back no more
+abbrev pub held_after : Change → List Run → List Run
+held_after (Taken b) held = insert_run b held
+held_after (Given b) held = without (begins_at b.place) held

@@ -1,0 +1,12 @@
+pub mod Coding
+pub mod Runs
+pub mod Orders
+pub mod Ordered
+pub mod TwoOrders
+pub mod Held
+pub mod Space
+pub mod Merged
+pub mod Placed
+pub mod Kept
+pub mod Listed
+pub mod Laws

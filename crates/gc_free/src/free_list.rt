@@ -1,0 +1,244 @@
+//! The coalescing free list.
+ghost use Rattle.std.specs.Prelude.{◌≡◌, ◌+◌, ◌-◌, ◌*◌, ◌%◌, ◌^◌, ◌<◌, ◌≤◌, ◌↔◌, IfOk, OnOk, OnErr, IsNone, IfNone, IfSome, All, Contains, None, length, option_map};
+ghost use Rattle.std.specs.Int.NonZero.{non_zero_u32_get};
+ghost use Rattle.gc_free.specs.Runs.{run};
+ghost use Rattle.gc_free.specs.Listed.{listed, current_at, run_length_at};
+ghost use Rattle.gc_free.specs.Space.{free_runs, new_space, take, give, grow, IsSound};
+
+use crate::blocks::FreeBlocks;
+use crate::free_runs::FreeRuns;
+use crate::held::{Change, HeldBlocks};
+use crate::merging::set_free;
+use crate::placing::place;
+use crate::run::{ALIGN, Run, places_end, run_between};
+use crate::steps::Steps;
+use std::alloc::{AllocError, Global};
+use std::marker::{Brand, Model};
+use std::num::NonZeroU32;
+use std::sync::ledger::{Blank, Ledger};
+
+/// The free places of a heap, in runs.
+#[derive(Drop)]
+pub struct FreeList {
+    capacity: usize,
+    others: FreeRuns,
+    current: Option<Run>,
+    blocks: usize,
+    held: HeldBlocks,
+}
+
+impl Model for FreeList {
+    ghost use Rattle.gc_free.specs.Space.{Space, space_code};
+
+    ghost Value = { Space };
+
+    ghost coded = { space_code };
+
+    ghost use Rattle.gc_free.specs.Kept.{IsKept};
+
+    ghost view = { λ l. record { capacity = l.capacity; held = l.held.blocks; current = l.current } };
+
+    ghost invariant = { λ l. IsKept (record { capacity = l.capacity; held = l.held.blocks; current = l.current })
+        l.others.runs l.others.room l.blocks };
+}
+
+/// The current run, if it begins at a place and has any.
+fn current_at(current: Option<Run>, place: u32) -> Option<Run>
+    ensures { result ≡ current_at place current }
+{
+    match current {
+        Some(run) if run.place == place => run.if_any(),
+        _ => None,
+    }
+}
+
+fn length_of(run: Option<Run>) -> Option<u32>
+    ensures { result ≡ option_map (λ r. r.length) run }
+{
+    match run {
+        Some(run) => Some(run.length),
+        None => None,
+    }
+}
+
+impl FreeList {
+    /// Manages the places from 16 up to `capacity` bytes, in one run, which is the current one.
+    pub fn new(alloc: Global, capacity: usize) -> Result<FreeList, AllocError>
+        ensures made { IfOk result (λ list. list ≡ new_space capacity) }
+        ensures sound { IfOk result IsSound }
+    {
+        let mut others = FreeRuns::new(alloc);
+        others.reserve(1)?;
+        Ok(FreeList {
+            capacity,
+            others,
+            current: run_between(ALIGN, places_end(capacity)),
+            blocks: 0,
+            held: HeldBlocks::none(),
+        })
+    }
+
+    /// The bytes of capacity. Those past the greatest u32, and a part of 16 at the end, have no places.
+    pub fn current_capacity(&self) -> usize
+        ensures capacity { result ≡ self.now.capacity }
+        ensures sound { IsSound self.now }
+    {
+        self.capacity
+    }
+
+    /// Each free run as its place and its length, by rising place with the current run last where it
+    /// has places.
+    pub fn iter_free_blocks(&self) -> FreeBlocks<'_>
+        ensures blocks { result ≡ listed self.now }
+        ensures sound { IsSound self.now }
+    {
+        let current = match self.current {
+            Some(run) => run.if_any(),
+            None => None,
+        };
+        FreeBlocks::new(self.others.as_slice(), current)
+    }
+
+    /// The length of the free run that begins at a place, `None` exactly where none does. A logarithm
+    /// of the runs in comparisons.
+    pub fn run_at(&self, place: u32) -> Option<u32>
+        ensures length { result ≡ run_length_at place self.now }
+        ensures sound { IsSound self.now }
+    {
+        self.length_at::<Brand>(place, Blank::new(1))
+    }
+
+    fn length_at<L: Ledger>(&self, place: u32, blank: Blank) -> Option<u32>
+        requires name { blank.name ≡ L.name }
+        requires parts { blank.parts ≡ L.parts }
+        requires some { 0 < blank.parts }
+        ensures length { result ≡ run_length_at place self.now }
+        ensures sound { IsSound self.now }
+    {
+        if let Some(run) = current_at(self.current, place) {
+            return Some(run.length);
+        }
+        let mut steps = Steps::<L>::new(blank);
+        let run = self.others.get(place, &mut steps);
+        length_of(run)
+    }
+
+    /// The capacity rises, and stops at the greatest usize. Takes no memory.
+    pub fn add_capacity(&mut self, additional: usize)
+        ensures grown { self.new ≡ grow additional self.old }
+        ensures sound { IsSound self.new }
+    {
+        self.grow::<Brand>(additional, Blank::new(1));
+    }
+
+    fn grow<L: Ledger>(&mut self, additional: usize, blank: Blank)
+        requires name { blank.name ≡ L.name }
+        requires parts { blank.parts ≡ L.parts }
+        requires some { 0 < blank.parts }
+        ensures grown { self.new ≡ grow additional self.old }
+        ensures sound { IsSound self.new }
+    {
+        let mut steps = Steps::<L>::new(blank);
+        let from = ALIGN.max(places_end(self.capacity));
+        self.capacity = self.capacity.saturating_add(additional);
+        let Some(places) = run_between(from, places_end(self.capacity)) else {
+            return;
+        };
+        self.current = set_free(&mut self.others, self.current, places, &mut steps);
+    }
+
+    /// A block of `alloc_size` bytes, at the front of the current run where that is long enough, and
+    /// else of the shortest run that is, at equal lengths the one at the lowest place. `None` exactly
+    /// where no free run is long enough. A logarithm of the runs in comparisons.
+    pub fn alloc_fast(&mut self, alloc_size: u32) -> Result<Option<NonZeroU32>, AllocError>
+        requires whole { alloc_size % ALIGN ≡ 0 }
+        requires some { 0 < alloc_size }
+        ensures place { IfOk result (λ place.
+            option_map (λ p. non_zero_u32_get p) place ≡ (take alloc_size self.old).place) }
+        ensures after { OnOk result (self.new ≡ (take alloc_size self.old).space) }
+        ensures none { IfOk result (λ place. IsNone place ↔ All (λ r. r.length < alloc_size) (free_runs self.old)) }
+        ensures aligned { IfOk result (λ place. IfSome place (λ p. non_zero_u32_get p % ALIGN ≡ 0)) }
+        ensures err { OnErr result (self.new ≡ self.old) }
+        ensures sound { IsSound self.new }
+    {
+        self.alloc::<Brand>(alloc_size, Blank::new(1))
+    }
+
+    fn alloc<L: Ledger>(
+        &mut self,
+        alloc_size: u32,
+        blank: Blank,
+    ) -> Result<Option<NonZeroU32>, AllocError>
+        requires name { blank.name ≡ L.name }
+        requires parts { blank.parts ≡ L.parts }
+        requires counts { 0 < blank.parts }
+        requires whole { alloc_size % ALIGN ≡ 0 }
+        requires some { 0 < alloc_size }
+        ensures place { IfOk result (λ place.
+            option_map (λ p. non_zero_u32_get p) place ≡ (take alloc_size self.old).place) }
+        ensures after { OnOk result (self.new ≡ (take alloc_size self.old).space) }
+        ensures none { IfOk result (λ place. IsNone place ↔ All (λ r. r.length < alloc_size) (free_runs self.old)) }
+        ensures aligned { IfOk result (λ place. IfSome place (λ p. non_zero_u32_get p % ALIGN ≡ 0)) }
+        ensures err { OnErr result (self.new ≡ self.old) }
+        ensures sound { IsSound self.new }
+    {
+        let mut steps = Steps::<L>::new(blank);
+        self.alloc_counted(alloc_size, &mut steps)
+    }
+
+    /// As `alloc_fast`. Each comparison of a search is a step.
+    pub fn alloc_counted<G: Ledger>(
+        &mut self,
+        alloc_size: u32,
+        steps: &mut Steps<G>,
+    ) -> Result<Option<NonZeroU32>, AllocError>
+        requires whole { alloc_size % ALIGN ≡ 0 }
+        requires some { 0 < alloc_size }
+        ensures place { IfOk result (λ place.
+            option_map (λ p. non_zero_u32_get p) place ≡ (take alloc_size self.old).place) }
+        ensures after { OnOk result (self.new ≡ (take alloc_size self.old).space) }
+        ensures none { IfOk result (λ place. IsNone place ↔ All (λ r. r.length < alloc_size) (free_runs self.old)) }
+        ensures aligned { IfOk result (λ place. IfSome place (λ p. non_zero_u32_get p % ALIGN ≡ 0)) }
+        ensures err { OnErr result (self.new ≡ self.old) }
+        ensures sound { IsSound self.new }
+        ensures rises { steps.old ≤ steps.new }
+        ensures cost { 2 ^ (steps.new - steps.old) ≤ (2 * length (free_runs self.old) + 1) ^ 4 }
+    {
+        self.others.reserve(self.blocks + 2)?;
+        let placed = place(&mut self.others, self.current, alloc_size, steps);
+        self.current = placed.current;
+        let Some(block) = placed.block else {
+            return Ok(None);
+        };
+        self.blocks += 1;
+        self.held = self.held.after(&Change::Taken(block));
+        Ok(NonZeroU32::new(block.place))
+    }
+
+    /// Gives back a held block of `alloc_size` bytes. Takes no memory.
+    pub fn dealloc_fast(&mut self, index: NonZeroU32, alloc_size: u32)
+        requires { Contains self.old.held (run (non_zero_u32_get index) alloc_size) }
+        ensures given { self.new ≡ give (run (non_zero_u32_get index) alloc_size) self.old }
+        ensures sound { IsSound self.new }
+    {
+        let block = Run {
+            place: index.get(),
+            length: alloc_size,
+        };
+        self.give_back::<Brand>(block, Blank::new(1));
+    }
+
+    fn give_back<L: Ledger>(&mut self, block: Run, blank: Blank)
+        requires name { blank.name ≡ L.name }
+        requires parts { blank.parts ≡ L.parts }
+        requires some { 0 < blank.parts }
+        requires held { Contains self.old.held block }
+        ensures given { self.new ≡ give block self.old }
+        ensures sound { IsSound self.new }
+    {
+        let mut steps = Steps::<L>::new(blank);
+        self.current = set_free(&mut self.others, self.current, block, &mut steps);
+        self.blocks -= 1;
+        self.held = self.held.after(&Change::Given(block));
+    }
+}

@@ -1,0 +1,20 @@
+use Rattle.std.proofs.Common.{◌≤◌, ℕ, refl, sym, ap, subst, arith, ◌∙◌}
+use Rattle.gcsh_top.proofs.RunLemmas.{along_start, along_more, along_end}
+use Rattle.gcsh_top.proofs.run.run_lines.Goals as goal
+
+pub loop-line-init : goal.loop-line-init
+loop-line-init g c = record {
+  along = λ s holds. along_start _ _ s c.args.input.now _ _ _ holds;
+  no_fewer_faults = omega (arith);
+}
+
+pub loop-line-preserved : goal.loop-line-preserved
+loop-line-preserved g c = record {
+  along = λ s holds.
+    let so_far = c.loop-line.invariant.along s holds in
+    along_more _ _ _ _ s c.args.input.now c.loop-line.rest.now c.in-Some.line.now c.in-Some.behind.now _ _ _ _ _ _ _ so_far c.in-Some.ensures.line (c.in_ok-run_line.ensures.ran so_far.mid so_far.holds);
+  no_fewer_faults = omega (arith, c.loop-line.invariant.no_fewer_faults, c.run_line.ensures.faults);
+}
+
+pub returns-clause-ran : goal.returns-clause-ran
+returns-clause-ran g c s holds = along_end _ _ _ s c.args.input.now c.loop-line.rest.now _ _ _ _ (c.loop-line.invariant.along s holds) ?
