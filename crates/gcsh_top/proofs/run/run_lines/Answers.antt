@@ -17,4 +17,4 @@ loop-line-preserved g c = record {
 }
 
 pub returns-clause-ran : goal.returns-clause-ran
-returns-clause-ran g c s holds = along_end _ _ _ s c.args.input.now c.loop-line.rest.now _ _ _ _ (c.loop-line.invariant.along s holds) ?
+returns-clause-ran g c s holds = along_end _ _ _ s c.args.input.now c.loop-line.rest.now _ _ _ _ (c.loop-line.invariant.along s holds) c.in_default.ensures.line
