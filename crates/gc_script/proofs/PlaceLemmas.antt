@@ -52,8 +52,8 @@ names_kept s new t t' handle serial same keeps names = record {
   push = names.push;
   pushed = keeps serial names.push names.pushed;
   is = names.is
-     ∙ ap (λ e. handle_in e s.number names.push.index names.push.generation) (sym same.engine)
-     ∙ ap (λ n. handle_in new.engine n names.push.index names.push.generation) (sym same.number);
+      ∙ ap (λ e. handle_in e s.number names.push.index names.push.generation) (sym same.engine)
+      ∙ ap (λ n. handle_in new.engine n names.push.index names.push.generation) (sym same.number);
 }
 
 stands_kept : (s new : StoreView) (t t' : Table ℕ) (slot : Option Register) (held : Option Held) → IsSameStore s new → Keeps t.pushes t'.pushes → Stands s t slot held → Stands new t' slot held
@@ -132,10 +132,10 @@ placed layouts limits limits' old new slots slots' s d ty vs handle same holds p
     let keeps = keeps_pushed s.table.pushes places.after.pushes (record { index = length s.table.scoped; generation = s.table.drops }) pushes in
     let mid = holds_kept layouts old new slots slots s places.after same keeps (λ k. refl) holds places.holds in
     let names : Names new places.after handle (length s.table.pushes) = record {
-          push = record { index = length s.table.scoped; generation = s.table.drops };
-          pushed = ap (λ (xs : List Push). slice_get xs (length s.table.pushes)) pushes ∙ slice_get-push_new s.table.pushes (record { index = length s.table.scoped; generation = s.table.drops });
-          is = places.handle_is;
-        } in
+      push = record { index = length s.table.scoped; generation = s.table.drops };
+      pushed = ap (λ (xs : List Push). slice_get xs (length s.table.pushes)) pushes ∙ slice_get-push_new s.table.pushes (record { index = length s.table.scoped; generation = s.table.drops });
+      is = places.handle_is;
+    } in
     record {
       after = set_register d (reference class.Any (Some (length s.table.pushes))) (with_table places.after s);
       answers = answers_by layouts limits.limit s (New d ty vs) (first_failing (heap_tests layouts s ty vs)) None reply.Done _ (heap_tests_pass layouts s ty vs places.small places.not_full) (made places.after places.allocates refl refl);

@@ -141,11 +141,11 @@ field_read s t slot held class handle count i below is stands tells =
 -- the tests of `field`, by what the register names
 abbrev field_refusal : Target → ℕ → Option Refusal
 field_refusal x i = first_failing (
-  (is_unset x, refusal.NoSuchName)
-  ∷ (is_gone x, refusal.Unrooted)
-  ∷ (is_other x, refusal.WrongKind)
-  ∷ (nat_le (length (target_values x)) i, refusal.OutOfBounds)
-  ∷ [])
+    (is_unset x, refusal.NoSuchName)
+    ∷ (is_gone x, refusal.Unrooted)
+    ∷ (is_other x, refusal.WrongKind)
+    ∷ (nat_le (length (target_values x)) i, refusal.OutOfBounds)
+    ∷ [])
 
 not_past : (values : List Value) (i : ℕ) → i < length values → nat_le (length values) i ≡ false
 not_past values i below = grind (arith, nat_tests)
@@ -154,5 +154,5 @@ not_past values i below = grind (arith, nat_tests)
 pub answers_field : (layouts : Layouts) (s : State) (r i : ℕ) (values : List Value) (value : Value) (answer : ReplyValue) → target s r ≡ fields values → i < length values → slice_get values i ≡ Some value → answer ≡ shown value → Answers layouts None s (Field r i None) (first_failing (field_tests s r i)) (reply.Value answer) s
 answers_field layouts s r i values value answer is below value_is shown_is =
     answers_by layouts None s (Field r i None) (field_refusal (target s r) i) None (reply.Value answer) s
-      (ap (λ (x : Target). field_refusal x i) is ∙ ap (λ (b : Bool). cond b (Some refusal.OutOfBounds) None) (not_past values i below))
-      (ap (λ (x : Target). option_map (λ v. reply.Value (shown v)) (slice_get (target_values x) i)) is ∙ ap (option_map (λ v. reply.Value (shown v))) value_is ∙ ap (λ a. Some (reply.Value a)) (sym shown_is), refl)
+    (ap (λ (x : Target). field_refusal x i) is ∙ ap (λ (b : Bool). cond b (Some refusal.OutOfBounds) None) (not_past values i below))
+    (ap (λ (x : Target). option_map (λ v. reply.Value (shown v)) (slice_get (target_values x) i)) is ∙ ap (option_map (λ v. reply.Value (shown v))) value_is ∙ ap (λ a. Some (reply.Value a)) (sym shown_is), refl)

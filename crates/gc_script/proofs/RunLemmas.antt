@@ -35,10 +35,10 @@ pub new_runs : (layouts : Layouts) (limits limits' : Limits) (s : State) (d t : 
 new_runs layouts limits limits' s d t vs (Ok answer) new slots built known counted ran = record {
   after = ran.after;
   step = answers_by layouts limits.limit s (New d t vs) (first_failing (tests layouts s (New d t vs))) (first_failing (heap_tests layouts s t vs)) answer ran.after
-    (first_failing-skip (not (is_built (New d t vs))) refusal.BadLine ((is_none (struct_fields_at s.table.types t), refusal.NoSuchName) ∷ (not (length vs == field_count s.table t), refusal.FieldCount) ∷ heap_tests layouts s t vs) (ap not built)
-     ∙ first_failing-skip (is_none (struct_fields_at s.table.types t)) refusal.NoSuchName ((not (length vs == field_count s.table t), refusal.FieldCount) ∷ heap_tests layouts s t vs) known
-     ∙ first_failing-skip (not (length vs == field_count s.table t)) refusal.FieldCount (heap_tests layouts s t vs) (ap not counted))
-    ran.answers;
+      (first_failing-skip (not (is_built (New d t vs))) refusal.BadLine ((is_none (struct_fields_at s.table.types t), refusal.NoSuchName) ∷ (not (length vs == field_count s.table t), refusal.FieldCount) ∷ heap_tests layouts s t vs) (ap not built)
+      ∙ first_failing-skip (is_none (struct_fields_at s.table.types t)) refusal.NoSuchName ((not (length vs == field_count s.table t), refusal.FieldCount) ∷ heap_tests layouts s t vs) known
+      ∙ first_failing-skip (not (length vs == field_count s.table t)) refusal.FieldCount (heap_tests layouts s t vs) (ap not counted))
+      ran.answers;
   holds = ran.holds;
   same_limit = ran.same_limit;
   counted = ran.counted;
@@ -66,9 +66,9 @@ pub struct_runs : (layouts : Layouts) (limits : Limits) (old : StoreView) (s : S
 struct_runs layouts limits old s is_final supertype fs (Ok answer) new slots not_final plain built same holds (inl did) = record {
   after = with_table (declare (plain_struct (replicate (length fs) built_field)) s.table) s;
   step = answers_by layouts limits.limit s (Struct is_final supertype fs) (first_failing (tests layouts s (Struct is_final supertype fs))) None answer _
-    (first_failing-skip (not (is_built (Struct is_final supertype fs))) refusal.BadLine ((is_bad_type s.table (length fs), refusal.BadType) ∷ []) (ap not (is_built_struct is_final supertype fs not_final plain built))
-     ∙ first_failing-skip (is_bad_type s.table (length fs)) refusal.BadType [] did.0)
-    (did.1, refl);
+      (first_failing-skip (not (is_built (Struct is_final supertype fs))) refusal.BadLine ((is_bad_type s.table (length fs), refusal.BadType) ∷ []) (ap not (is_built_struct is_final supertype fs not_final plain built))
+      ∙ first_failing-skip (is_bad_type s.table (length fs)) refusal.BadType [] did.0)
+      (did.1, refl);
   holds = holds_kept layouts old new slots slots s (declare (plain_struct (replicate (length fs) built_field)) s.table) same (λ i p e. e) (λ k. refl) holds did.2;
   same_limit = refl;
   counted = λ e unmade. absurd (cc (did.1, e));
@@ -76,9 +76,9 @@ struct_runs layouts limits old s is_final supertype fs (Ok answer) new slots not
 struct_runs layouts limits old s is_final supertype fs (Ok answer) new slots not_final plain built same holds (inr did) = record {
   after = s;
   step = answers_by layouts limits.limit s (Struct is_final supertype fs) (first_failing (tests layouts s (Struct is_final supertype fs))) (Some refusal.BadType) answer _
-    (first_failing-skip (not (is_built (Struct is_final supertype fs))) refusal.BadLine ((is_bad_type s.table (length fs), refusal.BadType) ∷ []) (ap not (is_built_struct is_final supertype fs not_final plain built))
-     ∙ first_failing-stop (is_bad_type s.table (length fs)) refusal.BadType [] did.0)
-    (did.1, refl);
+      (first_failing-skip (not (is_built (Struct is_final supertype fs))) refusal.BadLine ((is_bad_type s.table (length fs), refusal.BadType) ∷ []) (ap not (is_built_struct is_final supertype fs not_final plain built))
+      ∙ first_failing-stop (is_bad_type s.table (length fs)) refusal.BadType [] did.0)
+      (did.1, refl);
   holds = holds_same layouts old new slots slots s same (λ k. refl) holds did.2;
   same_limit = refl;
   counted = λ e unmade. absurd (cc (did.1, e));
@@ -94,11 +94,11 @@ any_limit layouts limit s r i into (Some why) answer did = did
 -- the tests of `field`, by what the register names
 abbrev field_refusal : Target → ℕ → Option Refusal
 field_refusal x i = first_failing (
-  (is_unset x, refusal.NoSuchName)
-  ∷ (is_gone x, refusal.Unrooted)
-  ∷ (is_other x, refusal.WrongKind)
-  ∷ (nat_le (length (target_values x)) i, refusal.OutOfBounds)
-  ∷ [])
+    (is_unset x, refusal.NoSuchName)
+    ∷ (is_gone x, refusal.Unrooted)
+    ∷ (is_other x, refusal.WrongKind)
+    ∷ (nat_le (length (target_values x)) i, refusal.OutOfBounds)
+    ∷ [])
 
 not_from_value : (o : Option Value) (answer : Reply) → option_map (λ v. reply.Value (shown v)) o ≡ Some answer → ¬ (answer ≡ reply.Refused refusal.GcHeapOutOfMemory)
 not_from_value None answer e is = absurd (none-some answer e)

@@ -200,11 +200,11 @@ shown (values.reference class r) = reply_value.Null
 -- A struct was made and put into a register, or the heap had no room for it.
 pub data MakesNew (layouts : Layouts) (limit : Option ℕ) (d : ℕ) (o : Object ℕ) (s : State) (answer : Reply) (s' : State) : Type 0 where
   made : (t : Table ℕ) → Allocates layouts limit o s.table t → answer ≡ reply.Done
-       → s' ≡ set_register d (reference class.Any (Some (length s.table.pushes))) (with_table t s)
-       → MakesNew layouts limit d o s answer s'
+      → s' ≡ set_register d (reference class.Any (Some (length s.table.pushes))) (with_table t s)
+      → MakesNew layouts limit d o s answer s'
   lacks : (t : Table ℕ) → LacksMemory layouts limit o s.table t → answer ≡ reply.Refused refusal.GcHeapOutOfMemory
-        → s' ≡ with_table t s
-        → MakesNew layouts limit d o s answer s'
+      → s' ≡ with_table t s
+      → MakesNew layouts limit d o s answer s'
 
 -- what a command does whose tests all passed
 abbrev pub Does : Layouts → Option ℕ → State → Command → Reply → State → Type 0

@@ -17,7 +17,9 @@ ghost use Rattle.gc_store.specs.Fields.{value_of, IsNumber};
 ghost use Rattle.std.specs.Prelude.{map, replicate, length, All, true, None, option_map};
 
 use crate::registers::{Register, Registers};
-use gc_commands::{Command, FieldWord, Operand, Refusal, Reply, ReplyValue, StorageWord, ValueWord};
+use gc_commands::{
+    Command, FieldWord, Operand, Refusal, Reply, ReplyValue, StorageWord, ValueWord,
+};
 use gc_heap::GcHeap;
 use gc_store::{GcClass, PlaceFault, RawValue, ResourceLimiter, Store};
 use gc_types::{FieldType, Mutability, StorageType, TypeFault, VMSharedTypeIndex, ValType};

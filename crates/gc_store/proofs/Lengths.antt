@@ -44,8 +44,8 @@ counts_object k layouts s t place (small n) word ty answer holds is positive eve
 counts_object k layouts s t place (at p) word ty answer holds is positive even tells found =
     let held = holds.objects.placed p word is in
     let found_in_table : answer ≡ option_map (struct_layout k) (struct_fields_at t.types held.object.ty) =
-          found ∙ ap (λ (ts : List Declaration). option_map (struct_layout k) (struct_fields_at ts ty)) holds.types
-          ∙ ap (λ n. option_map (struct_layout k) (struct_fields_at t.types n)) (sym (tells held.object held.in_heap)) in
+    found ∙ ap (λ (ts : List Declaration). option_map (struct_layout k) (struct_fields_at ts ty)) holds.types
+    ∙ ap (λ n. option_map (struct_layout k) (struct_fields_at t.types n)) (sym (tells held.object held.in_heap)) in
     stands_len k layouts t.types place held.entry held.object answer held.stands found_in_table ∙ ap object_len (sym held.in_table)
 
 -- what the store answers of a root that is live, and of one that is gone

@@ -24,9 +24,9 @@ started config old new first holds is firsts scopeds owneds =
     let untouched = untouched_configured ℕ Null config old holds in
     let configured_start : HoldsTable {D = ℕ} Null (configured config old) (start config.first_pages config.max_scoped config.max_owned) = (nowhere, holds_untouched ℕ Null (configured config old) untouched) in
     subst (λ (n : ℕ). HoldsTable {D = ℕ} Null new (start first usual_roots n)) owneds
-      (subst (λ (n : ℕ). HoldsTable {D = ℕ} Null new (start first n config.max_owned)) scopeds
-        (subst (λ (n : ℕ). HoldsTable {D = ℕ} Null new (start n config.max_scoped config.max_owned)) firsts
-          (subst (λ (s : StoreView). HoldsTable {D = ℕ} Null s (start config.first_pages config.max_scoped config.max_owned)) (sym is) configured_start)))
+    (subst (λ (n : ℕ). HoldsTable {D = ℕ} Null new (start first n config.max_owned)) scopeds
+    (subst (λ (n : ℕ). HoldsTable {D = ℕ} Null new (start n config.max_scoped config.max_owned)) firsts
+    (subst (λ (s : StoreView). HoldsTable {D = ℕ} Null s (start config.first_pages config.max_scoped config.max_owned)) (sym is) configured_start)))
 
 pub started_state : (config : HeapConfig) (old new : StoreView) (first : ℕ) (slots : List (Option Register)) → HoldsStart ℕ Null old → new ≡ configured config old → config.first_pages ≡ first → config.max_scoped ≡ usual_roots → config.max_owned ≡ usual_roots → slots ≡ [] → HoldsState Null new slots (begin (start first usual_roots usual_roots))
 started_state config old new first slots holds is firsts scopeds owneds none = record {

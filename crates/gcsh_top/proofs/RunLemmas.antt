@@ -53,7 +53,7 @@ along_more layouts limits limits' limit s input rest line behind store store' sl
   output = so_far.output ++ reply_line did.answer;
   mid = did.ran.after;
   goes_on = λ more after session.
-    subst (λ bs. Session layouts limit s (lines input) bs after) (sym (append_assoc so_far.output (reply_line did.answer) more))
+      subst (λ bs. Session layouts limit s (lines input) bs after) (sym (append_assoc so_far.output (reply_line did.answer) more))
       (so_far.goes_on (reply_line did.answer ++ more) after (one_more layouts limits limits' limit so_far.mid line behind store' slots' b c did so_far.same_limit rest cut more after session));
   holds = did.ran.holds;
   replied = Appends-trans a b c so_far.output (reply_line did.answer) so_far.replied did.replied;
@@ -65,7 +65,7 @@ along_end layouts limit now s input rest store slots a b so_far none = record {
   output = so_far.output;
   after = so_far.mid;
   session = subst (λ bs. Session layouts limit s (lines input) bs so_far.mid) (append-nil so_far.output)
-    (so_far.goes_on [] so_far.mid (subst (λ ls. Session layouts limit so_far.mid ls [] so_far.mid) (ap lines (sym none)) (record { commands = []; replies = []; are_commands = tt; run = refl; output_is = refl })));
+      (so_far.goes_on [] so_far.mid (subst (λ ls. Session layouts limit so_far.mid ls [] so_far.mid) (ap lines (sym none)) (record { commands = []; replies = []; are_commands = tt; run = refl; output_is = refl })));
   holds = so_far.holds;
   replied = so_far.replied;
 }

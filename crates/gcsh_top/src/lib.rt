@@ -30,6 +30,6 @@ pub use sink::{Sink, SinkFault};
 pub use source::{Source, SourceFault};
 pub use standard::{StdSink, StdSource};
 pub use stores::Stores;
-pub use top::gcsh_top;
+pub use top::{DONE, NO_MEMORY, READ_FAULT, TOO_LONG, USAGE, WRITE_FAULT, gcsh_top};
 pub use words::{Collector, Form, MAX_PAGES, parse_words};
 pub use write::write_all;

@@ -95,7 +95,14 @@ fn run_form<K: Sink>(
     stores.null.configure(config);
     let mut limiter = PageLimit::new(form.most);
     let mut runner = Runner::new(alloc);
-    match run_lines(alloc, &mut runner, &mut stores.null, &mut limiter, input, sink) {
+    match run_lines(
+        alloc,
+        &mut runner,
+        &mut stores.null,
+        &mut limiter,
+        input,
+        sink,
+    ) {
         Err(LineFault::Sink) => WRITE_FAULT,
         Err(LineFault::Memory) => NO_MEMORY,
         Ok(()) => match sink.flush() {

@@ -9,5 +9,5 @@ use Rattle.gc_script.proofs.runner.struct_field_count.Goals as goal
 pub returns : goal.returns
 returns g c =
     counted c.LAYOUTS.result _ c.in_ok-layout.layout c.as_slice.result.now
-      (ap option_copied (sym c.in_ok-layout.was) ∙ c.struct_layout.ensures ∙ ap (λ (ts : List Declaration). option_map (struct_layout c.LAYOUTS.result) (struct_fields_at ts c.args.ty)) c.types.ensures)
-      c.as_slice.ensures
+    (ap option_copied (sym c.in_ok-layout.was) ∙ c.struct_layout.ensures ∙ ap (λ (ts : List Declaration). option_map (struct_layout c.LAYOUTS.result) (struct_fields_at ts c.args.ty)) c.types.ensures)
+    c.as_slice.ensures

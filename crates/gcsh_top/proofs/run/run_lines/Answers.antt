@@ -11,8 +11,8 @@ loop-line-init g c = record {
 pub loop-line-preserved : goal.loop-line-preserved
 loop-line-preserved g c = record {
   along = λ s holds.
-    let so_far = c.loop-line.invariant.along s holds in
-    along_more _ _ _ _ s c.args.input.now c.loop-line.rest.now c.in-Some.line.now c.in-Some.behind.now _ _ _ _ _ _ _ so_far c.in-Some.ensures.line (c.in_ok-run_line.ensures.ran so_far.mid so_far.holds);
+      let so_far = c.loop-line.invariant.along s holds in
+      along_more _ _ _ _ s c.args.input.now c.loop-line.rest.now c.in-Some.line.now c.in-Some.behind.now _ _ _ _ _ _ _ so_far c.in-Some.ensures.line (c.in_ok-run_line.ensures.ran so_far.mid so_far.holds);
   no_fewer_faults = omega (arith, c.loop-line.invariant.no_fewer_faults, c.run_line.ensures.faults);
 }
 

@@ -27,8 +27,8 @@ slots_are g c k = c.make_room.ensures.same k ∙ ap (λ (xs : List (Option Regis
 places_new : (g : given.Over) (c : After-place_struct g) (t : Table ℕ) → HoldsTable g.H.GcHeap.LAYOUTS c.args.store.now t → Places g.H.GcHeap.LAYOUTS (new_struct c.args.t c.args.values.now) (g.L.ResourceLimiter.limits c.args.limiter.now) (g.L.ResourceLimiter.limits c.place_struct.new.limiter) t c.place_struct.result c.place_struct.new.self
 places_new g c t holds =
     subst (λ (o : Object ℕ). Places g.H.GcHeap.LAYOUTS o (g.L.ResourceLimiter.limits c.args.limiter.now) (g.L.ResourceLimiter.limits c.place_struct.new.limiter) t c.place_struct.result c.place_struct.new.self)
-      (ap (λ (ty : ℕ). struct ty (map value_of c.as_slice.result.now)) c.new.ensures ∙ ap (struct c.args.t) (ap (map value_of) c.as_slice.ensures.value ∙ c.in-Ok.ensures.values))
-      (c.place_struct.ensures.places t holds)
+    (ap (λ (ty : ℕ). struct ty (map value_of c.as_slice.result.now)) c.new.ensures ∙ ap (struct c.args.t) (ap (map value_of) c.as_slice.ensures.value ∙ c.in-Ok.ensures.values))
+    (c.place_struct.ensures.places t holds)
 
 -- the same of a result that is known
 places_as : (g : given.Over) (c : After-place_struct g) (t : Table ℕ) (result : Result GcRootIndex PlaceFault) → c.place_struct.result ≡ result → HoldsTable g.H.GcHeap.LAYOUTS c.args.store.now t → Places g.H.GcHeap.LAYOUTS (new_struct c.args.t c.args.values.now) (g.L.ResourceLimiter.limits c.args.limiter.now) (g.L.ResourceLimiter.limits c.place_struct.new.limiter) t result c.place_struct.new.self
@@ -39,30 +39,30 @@ pub returns-in-Ok-place_struct : goal.returns-in-Ok-place_struct
 returns-in-Ok-place_struct g c s holds =
     let at = (goal.at.returns-in-Ok-place_struct g c).After-place_struct in
     placed _ _ _ c.args.store.now _ c.args.self.now _ s c.args.d c.args.t c.args.values.now c.in-Ok-place_struct.handle c.place_struct.ensures.same holds
-      (places_as g at s.table (Ok c.in-Ok-place_struct.handle) c.in-Ok-place_struct.is holds.table)
-      c.set.ensures.set
-      (λ k other. c.set.ensures.others k other ∙ slots_are g at k)
+    (places_as g at s.table (Ok c.in-Ok-place_struct.handle) c.in-Ok-place_struct.is holds.table)
+    c.set.ensures.set
+    (λ k other. c.set.ensures.others k other ∙ slots_are g at k)
 
 pub returns-in-Err-TooLarge : goal.returns-in-Err-TooLarge
 returns-in-Err-TooLarge g c s holds =
     let at = (goal.at.returns-in-Err-TooLarge g c).After-place_struct in
     let did = places_as g at s.table (Err fault.TooLarge) (c.in-Err-TooLarge.is ∙ ap Err c.in-Err-TooLarge.field-0-is) holds.table in
     refused _ _ _ c.args.store.now _ c.args.self.now _ s c.args.d c.args.t c.args.values.now refusal.TooLarge (λ e. cc e)
-      (heap_tests_large _ s c.args.t c.args.values.now did.0) c.place_struct.ensures.same holds did.1 (slots_are g at) did.2
+    (heap_tests_large _ s c.args.t c.args.values.now did.0) c.place_struct.ensures.same holds did.1 (slots_are g at) did.2
 
 pub returns-in-Err-RootsFull : goal.returns-in-Err-RootsFull
 returns-in-Err-RootsFull g c s holds =
     let at = (goal.at.returns-in-Err-RootsFull g c).After-place_struct in
     let did = places_as g at s.table (Err fault.RootsFull) (c.in-Err-RootsFull.is ∙ ap Err c.in-Err-RootsFull.field-0-is) holds.table in
     refused _ _ _ c.args.store.now _ c.args.self.now _ s c.args.d c.args.t c.args.values.now refusal.RootsFull (λ e. cc e)
-      (heap_tests_full _ s c.args.t c.args.values.now did.0 did.1) c.place_struct.ensures.same holds did.2 (slots_are g at) did.3
+    (heap_tests_full _ s c.args.t c.args.values.now did.0 did.1) c.place_struct.ensures.same holds did.2 (slots_are g at) did.3
 
 pub returns-in-Err-HeapOutOfMemory : goal.returns-in-Err-HeapOutOfMemory
 returns-in-Err-HeapOutOfMemory g c s holds =
     let at = (goal.at.returns-in-Err-HeapOutOfMemory g c).After-place_struct in
     lacked _ _ _ c.args.store.now _ c.args.self.now _ s c.args.d c.args.t c.args.values.now _ c.place_struct.ensures.same holds
-      (places_as g at s.table (Err (fault.HeapOutOfMemory c.in-Err-HeapOutOfMemory.field-0-0)) (c.in-Err-HeapOutOfMemory.is ∙ ap Err c.in-Err-HeapOutOfMemory.field-0-is) holds.table)
-      (slots_are g at)
+    (places_as g at s.table (Err (fault.HeapOutOfMemory c.in-Err-HeapOutOfMemory.field-0-0)) (c.in-Err-HeapOutOfMemory.is ∙ ap Err c.in-Err-HeapOutOfMemory.field-0-is) holds.table)
+    (slots_are g at)
 
 pub returns-in-Err-FuncTableFull : goal.returns-in-Err-FuncTableFull
 returns-in-Err-FuncTableFull g c s holds =

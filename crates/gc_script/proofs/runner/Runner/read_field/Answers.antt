@@ -30,6 +30,6 @@ slot_is g c =
 pub returns-in-Ok-clause-reads : goal.returns-in-Ok-clause-reads
 returns-in-Ok-clause-reads g c s holds =
     let read = field_read c.args.store.now s.table _ (s.registers c.args.r) _ c.in-Some-Reference-default-Some.handle c.in-Ok-Some.count c.args.i c.if-i-count.false (slot_is g (goal.at.returns-in-Ok-clause-reads g c).Else-i-count) (holds.registers c.args.r)
-          (λ serial names. (rw c.in-Ok-Some.field-0-is at c.in-Ok-Some.ensures).named s.table serial holds.table names) in
+    (λ serial names. (rw c.in-Ok-Some.field-0-is at c.in-Ok-Some.ensures).named s.table serial holds.table names) in
     answers_field g.H.GcHeap.LAYOUTS s c.args.r c.args.i read.values read.value c.shown.result read.target read.below read.value_is
-      (c.shown.ensures read.value (c.in-Ok.ensures.read s.table read.value holds.table read.field).0)
+    (c.shown.ensures read.value (c.in-Ok.ensures.read s.table read.value holds.table read.field).0)

@@ -10,7 +10,7 @@ pub count_values-requires : goal.count_values-requires
 count_values-requires g c =
     subst (λ (s : StoreView). IsRootWord g.row.D.Denot g.H.GcHeap.LAYOUTS s c.in-Ok.word) c.self.view_is
     (root_word _ _ c.self.invariant.table c.self.invariant.holds.0 c.self.invariant.holds.1 c.args.handle c.in-Ok.word
-      (ap (λ (s : StoreView). word_of s c.args.handle) c.self.view_is ∙ sym c.word_of.ensures ∙ c.in-Ok.is))
+    (ap (λ (s : StoreView). word_of s c.args.handle) c.self.view_is ∙ sym c.word_of.ensures ∙ c.in-Ok.is))
 
 pub returns-in-Ok-clause-named : goal.returns-in-Ok-clause-named
 returns-in-Ok-clause-named g c t serial holds names =
