@@ -1,7 +1,7 @@
 -- Lines that were run one after the other.
-use Rattle.std.proofs.Common.{◌≡◌, ◌≤◌, ℕ, List, [], ◌∷◌, ◌++◌, Option, Some, None, refl, sym, ap, subst, ◌∙◌, append_assoc, append-nil}
-use Rattle.std.specs.Prelude.{Result, Ok, Err, OnOk}
-use Rattle.std.specs.Io.KnownBytes.{Appends, Consumes, IsAtEnd}
+use Rattle.std.proofs.Common.{◌≡◌, ◌≤◌, ℕ, List, [], ◌∷◌, ◌++◌, Option, Some, None, refl, sym, ap, subst, ◌∙◌, append_assoc, append-nil, length, length-append, arith, ◌<◌, ◌+◌}
+use Rattle.std.specs.Prelude.{Result, Ok, Err, OnOk, OnErr}
+use Rattle.std.specs.Io.KnownBytes.{Appends, Consumes, IsAtEnd, Keeps}
 use Rattle.std.proofs.KnownBytes.{Appends-nil, Appends-trans}
 use Rattle.gc_types.specs.declared.kind.Layouts.{Layouts}
 use Rattle.gc_model.specs.Allocation.{Limits}
@@ -9,68 +9,122 @@ use Rattle.gc_model.specs.Views.{StoreView}
 use Rattle.gc_script.specs.declared.registers.Register.{Register}
 use Rattle.gc_script.specs.State.{State, HoldsState}
 use Rattle.gc_script.specs.Steps.{Step}
-use Rattle.gc_script.specs.Session.{Session, AreCommandsOf, reply_line}
+use Rattle.gc_script.specs.Session.{Session, reply_line}
+use Rattle.gcsh_top.specs.Ends.{TookPart}
 use Rattle.gcsh_top.specs.Lines.{lines}
-use Rattle.gcsh_top.specs.Runs.{RanLine, RanLines}
+use Rattle.gcsh_top.specs.Runs.{BrokeOff, RanLine, RanLines, StoppedLines}
 
 -- what follows from what a success says
 pub on_ok : {A E : Type 0} {P Q : Type 0} (r : Result A E) → (P → Q) → OnOk r P → OnOk r Q
 on_ok (Ok x) f p = f p
 on_ok (Err e) f p = p
 
--- The lines before the rest were run from s: whatever session the rest is from here, the input is that
--- session from s.
+-- The lines before the rest were run from s: whatever session some lines are from here, the lines done and
+-- those are that session from s.
 pub record Along (layouts : Layouts) (limit now : Option ℕ) (s : State) (input rest : List ℕ) (store : StoreView) (slots : List (Option Register)) (held held' : Option (List ℕ)) : Type 0 where
+  pub done : List (List ℕ)
+  pub cut : lines input ≡ done ++ lines rest
   pub output : List ℕ
   pub mid : State
-  pub goes_on : (more : List ℕ) (after : State) → Session layouts limit mid (lines rest) more after → Session layouts limit s (lines input) (output ++ more) after
+  pub goes_on : (ls : List (List ℕ)) (more : List ℕ) (after : State) → Session layouts limit mid ls more after → Session layouts limit s (done ++ ls) (output ++ more) after
   pub holds : HoldsState layouts store slots mid
   pub replied : Appends held held' output
   pub same_limit : now ≡ limit
 
 pub along_start : (layouts : Layouts) (limit : Option ℕ) (s : State) (input : List ℕ) (store : StoreView) (slots : List (Option Register)) (held : Option (List ℕ)) → HoldsState layouts store slots s → Along layouts limit limit s input input store slots held held
 along_start layouts limit s input store slots held holds = record {
+  done = [];
+  cut = refl;
   output = [];
   mid = s;
-  goes_on = λ more after session. session;
+  goes_on = λ ls more after session. session;
   holds = holds;
   replied = Appends-nil held;
   same_limit = refl;
 }
 
 -- a session that begins with one more line
-one_more : (layouts : Layouts) (limits limits' : Limits) (limit : Option ℕ) (s : State) (line behind : List ℕ) (store : StoreView) (slots : List (Option Register)) (held held' : Option (List ℕ)) (did : RanLine layouts limits limits' s line store slots held held') → limits.limit ≡ limit → (rest : List ℕ) → lines rest ≡ line ∷ lines behind → (more : List ℕ) (after : State) → Session layouts limit did.ran.after (lines behind) more after → Session layouts limit s (lines rest) (reply_line did.answer ++ more) after
-one_more layouts limits limits' limit s line behind store slots held held' did is rest cut more after session = record {
+one_more : (layouts : Layouts) (limits limits' : Limits) (limit : Option ℕ) (s : State) (line : List ℕ) (store : StoreView) (slots : List (Option Register)) (held held' : Option (List ℕ)) (did : RanLine layouts limits limits' s line store slots held held') → limits.limit ≡ limit → (ls : List (List ℕ)) (more : List ℕ) (after : State) → Session layouts limit did.ran.after ls more after → Session layouts limit s (line ∷ ls) (reply_line did.answer ++ more) after
+one_more layouts limits limits' limit s line store slots held held' did is ls more after session = record {
   commands = did.command ∷ session.commands;
   replies = did.answer ∷ session.replies;
-  are_commands = subst (λ ls. AreCommandsOf ls (did.command ∷ session.commands)) (sym cut) (did.is_command, session.are_commands);
-  run = (did.ran.after, (subst (λ l. Step layouts l s did.command did.answer did.ran.after) is did.ran.step, session.run));
-  output_is = ap (λ bs. reply_line did.answer ++ bs) session.output_is;
+  are_commands = (did.is_command, session.are_commands);
+  run = (did.ran.after, (subst (λ (l : Option ℕ). Step layouts l s did.command did.answer did.ran.after) is did.ran.step, session.run));
+  output_is = ap (λ (bs : List ℕ). reply_line did.answer ++ bs) session.output_is;
 }
+
+-- the same session of equal lines with equal output
+session_of : (layouts : Layouts) (limit : Option ℕ) (s after : State) (ls ls' : List (List ℕ)) (bytes bytes' : List ℕ) → ls ≡ ls' → bytes ≡ bytes' → Session layouts limit s ls bytes after → Session layouts limit s ls' bytes' after
+session_of layouts limit s after ls ls' bytes bytes' same_lines same_bytes session =
+    subst (λ (xs : List (List ℕ)). Session layouts limit s xs bytes' after) same_lines (subst (λ (bs : List ℕ). Session layouts limit s ls bs after) same_bytes session)
 
 pub along_more : (layouts : Layouts) (limits limits' : Limits) (limit : Option ℕ) (s : State) (input rest line behind : List ℕ) (store store' : StoreView) (slots slots' : List (Option Register)) (a b c : Option (List ℕ)) → (so_far : Along layouts limit limits.limit s input rest store slots a b) → lines rest ≡ line ∷ lines behind → RanLine layouts limits limits' so_far.mid line store' slots' b c → Along layouts limit limits'.limit s input behind store' slots' a c
 along_more layouts limits limits' limit s input rest line behind store store' slots slots' a b c so_far cut did = record {
+  done = so_far.done ++ line ∷ [];
+  cut = so_far.cut ∙ ap (λ (ls : List (List ℕ)). so_far.done ++ ls) cut ∙ sym (append_assoc so_far.done (line ∷ []) (lines behind));
   output = so_far.output ++ reply_line did.answer;
   mid = did.ran.after;
-  goes_on = λ more after session.
-      subst (λ bs. Session layouts limit s (lines input) bs after) (sym (append_assoc so_far.output (reply_line did.answer) more))
-      (so_far.goes_on (reply_line did.answer ++ more) after (one_more layouts limits limits' limit so_far.mid line behind store' slots' b c did so_far.same_limit rest cut more after session));
+  goes_on = λ ls more after session.
+      session_of layouts limit s after (so_far.done ++ line ∷ ls) ((so_far.done ++ line ∷ []) ++ ls) (so_far.output ++ (reply_line did.answer ++ more)) ((so_far.output ++ reply_line did.answer) ++ more)
+      (sym (append_assoc so_far.done (line ∷ []) ls)) (sym (append_assoc so_far.output (reply_line did.answer) more))
+      (so_far.goes_on (line ∷ ls) (reply_line did.answer ++ more) after (one_more layouts limits limits' limit so_far.mid line store' slots' b c did so_far.same_limit ls more after session));
   holds = did.ran.holds;
   replied = Appends-trans a b c so_far.output (reply_line did.answer) so_far.replied did.replied;
   same_limit = did.ran.same_limit ∙ so_far.same_limit;
 }
 
+-- the lines done are a session by themselves
+session_so_far : (layouts : Layouts) (limit now : Option ℕ) (s : State) (input rest : List ℕ) (store : StoreView) (slots : List (Option Register)) (a b : Option (List ℕ)) → (so_far : Along layouts limit now s input rest store slots a b) → Session layouts limit s so_far.done so_far.output so_far.mid
+session_so_far layouts limit now s input rest store slots a b so_far =
+    session_of layouts limit s so_far.mid (so_far.done ++ []) so_far.done (so_far.output ++ []) so_far.output (append-nil so_far.done) (append-nil so_far.output)
+    (so_far.goes_on [] [] so_far.mid (record { commands = []; replies = []; are_commands = tt; run = refl; output_is = refl }))
+
 pub along_end : (layouts : Layouts) (limit now : Option ℕ) (s : State) (input rest : List ℕ) (store : StoreView) (slots : List (Option Register)) (a b : Option (List ℕ)) → Along layouts limit now s input rest store slots a b → rest ≡ [] → RanLines layouts limit s input store slots a b
 along_end layouts limit now s input rest store slots a b so_far none = record {
   output = so_far.output;
   after = so_far.mid;
-  session = subst (λ bs. Session layouts limit s (lines input) bs so_far.mid) (append-nil so_far.output)
-      (so_far.goes_on [] so_far.mid (subst (λ ls. Session layouts limit so_far.mid ls [] so_far.mid) (ap lines (sym none)) (record { commands = []; replies = []; are_commands = tt; run = refl; output_is = refl })));
+  session = session_of layouts limit s so_far.mid so_far.done (lines input) so_far.output so_far.output
+      (sym (so_far.cut ∙ ap (λ (bs : List ℕ). so_far.done ++ lines bs) none ∙ append-nil so_far.done)) refl
+      (session_so_far layouts limit now s input rest store slots a b so_far);
   holds = so_far.holds;
   replied = so_far.replied;
 }
+
+-- the next line broke off
+pub along_broken : (layouts : Layouts) (limit now : Option ℕ) (s : State) (input rest line behind : List ℕ) (store store' : StoreView) (slots slots' : List (Option Register)) (a b c : Option (List ℕ)) → (so_far : Along layouts limit now s input rest store slots a b) → lines rest ≡ line ∷ lines behind → BrokeOff layouts now so_far.mid line store' slots' b c → StoppedLines layouts limit s input store' slots' a c
+along_broken layouts limit now s input rest line behind store store' slots slots' a b c so_far cut broke = record {
+  done = so_far.done;
+  line = line;
+  rest = lines behind;
+  cut = so_far.cut ∙ ap (λ (ls : List (List ℕ)). so_far.done ++ ls) cut;
+  output = so_far.output;
+  mid = so_far.mid;
+  session = session_so_far layouts limit now s input rest store slots a b so_far;
+  between = b;
+  written = so_far.replied;
+  broke_off = subst (λ (l : Option ℕ). BrokeOff layouts l so_far.mid line store' slots' b c) so_far.same_limit broke;
+}
+
+-- nothing of a reply was written
+pub took_none : (held : Option (List ℕ)) (bytes : List ℕ) (b : ℕ) → TookPart held held (bytes ++ b ∷ [])
+took_none held bytes b = (0, omega (arith, length-append bytes (b ∷ [])), Appends-nil held)
 
 -- what the loop over the lines keeps
 pub record RanSoFar (layouts : Layouts) (limit now : Option ℕ) (input rest : List ℕ) (store store' : StoreView) (slots slots' : List (Option Register)) (held held' : Option (List ℕ)) (faults faults' : ℕ) : Type 0 where
   pub along : (s : State) → HoldsState layouts store slots s → Along layouts limit now s input rest store' slots' held held'
   pub no_fewer_faults : faults ≤ faults'
+
+-- what follows from what a failure says
+pub on_err : {A E : Type 0} {P Q : Type 0} (r : Result A E) → (P → Q) → OnErr r P → OnErr r Q
+on_err (Ok x) f p = p
+on_err (Err e) f p = f p
+
+-- bytes that are as they were
+pub keeps_same : (held : Option (List ℕ)) → Keeps held held
+keeps_same None = tt
+keeps_same (Some bytes) = refl
+
+-- what holds of a failure
+pub on_any_err : {A E : Type 0} {Q : Type 0} (r : Result A E) → Q → OnErr r Q
+on_any_err (Ok x) q = tt
+on_any_err (Err e) q = q

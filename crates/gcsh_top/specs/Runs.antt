@@ -1,6 +1,6 @@
 -- What running lines leaves.
-use Rattle.std.specs.Prelude.{◌≡◌, ℕ, List, Option, Some}
-use Rattle.std.specs.Io.KnownBytes.{Appends, Consumes, IsAtEnd}
+use Rattle.std.specs.Prelude.{◌≡◌, ℕ, List, ◌∷◌, ◌++◌, Option, Some}
+use Rattle.std.specs.Io.KnownBytes.{Appends, Consumes, IsAtEnd, Keeps}
 use Rattle.gc_types.specs.declared.kind.Layouts.{Layouts}
 use Rattle.gc_types.specs.declared.kind.Layouts.TheVariants.{Null}
 use Rattle.gc_model.specs.Allocation.{Limits}
@@ -12,9 +12,10 @@ use Rattle.gc_commands.specs.declared.reply.Reply.{Reply}
 use Rattle.gc_commands.specs.Spelling.{IsCommandOf}
 use Rattle.gc_script.specs.declared.registers.Register.{Register}
 use Rattle.gc_script.specs.State.{State, HoldsState, begin}
-use Rattle.gc_script.specs.Run.{Ran}
+use Rattle.gc_script.specs.Run.{Ran, WantsMemory}
 use Rattle.gc_script.specs.Session.{Session, reply_line}
 use Rattle.gcsh_top.specs.declared.words.Form.{Form}
+use Rattle.gcsh_top.specs.Ends.{TookPart}
 use Rattle.gcsh_top.specs.Lines.{lines}
 use Rattle.gcsh_top.specs.Words.{IsForm}
 
@@ -34,6 +35,25 @@ pub record RanLines (layouts : Layouts) (limit : Option ℕ) (s : State) (input 
   pub holds : HoldsState layouts store slots after
   pub replied : Appends held held' output
 
+-- A line without its whole reply: for want of memory its command was not run, or it was run and a front of
+-- its reply was written.
+pub data BrokeOff (layouts : Layouts) (limit : Option ℕ) (s : State) (line : List ℕ) (store : StoreView) (slots : List (Option Register)) (held held' : Option (List ℕ)) : Type 0 where
+  not_run : WantsMemory layouts s store slots → Keeps held held' → BrokeOff layouts limit s line store slots held held'
+  not_written : (limits limits' : Limits) (command : Command) (answer : Reply) → limits.limit ≡ limit → IsCommandOf line command → Ran layouts limits limits' s command answer store slots → TookPart held held' (reply_line answer) → BrokeOff layouts limit s line store slots held held'
+
+-- the lines of the input were run and replied to up to one that broke off
+pub record StoppedLines (layouts : Layouts) (limit : Option ℕ) (s : State) (input : List ℕ) (store : StoreView) (slots : List (Option Register)) (held held' : Option (List ℕ)) : Type 0 where
+  pub done : List (List ℕ)
+  pub line : List ℕ
+  pub rest : List (List ℕ)
+  pub cut : lines input ≡ done ++ line ∷ rest
+  pub output : List ℕ
+  pub mid : State
+  pub session : Session layouts limit s done output mid
+  pub between : Option (List ℕ)
+  pub written : Appends held between output
+  pub broke_off : BrokeOff layouts limit mid line store slots between held'
+
 -- the greatest number of scoped roots, and that of owned ones
 abbrev pub usual_roots : ℕ
 usual_roots = 16777216
@@ -45,6 +65,21 @@ pub record RanForm (form : Form) (input : List ℕ) (held held' : Option (List �
   pub after : State
   pub session : Session Null (Some form.most) (begin (start form.first usual_roots usual_roots)) (lines input) output after
   pub holds : HoldsTable Null store after.table
+
+-- the store of a null heap that begins with the form's pages holds the empty table
+abbrev pub IsReady : Form → StoreView → Type 0
+IsReady form store = HoldsTable {D = ℕ} Null store (start form.first usual_roots usual_roots)
+
+-- How the run of an input ended before its end: a line broke off, or all was written and not flushed.
+pub data StoppedForm (form : Form) (input : List ℕ) (held held' : Option (List ℕ)) (store : StoreView) : Type 0 where
+  in_lines : (slots : List (Option Register)) → StoppedLines Null (Some form.most) (begin (start form.first usual_roots usual_roots)) input store slots held held' → StoppedForm form input held held' store
+  unflushed : RanForm form input held held' store → StoppedForm form input held held' store
+
+-- How a run of the program with those words ended before its end: nothing was run, as the input was not read to its
+-- end; or it was, and the run of the input stopped.
+pub data Stopped (words : List (List ℕ)) (left left' held held' : Option (List ℕ)) (store : StoreView) : Type 0 where
+  unread : (form : Form) → IsForm words form → IsReady form store → Keeps held held' → Stopped words left left' held held' store
+  unfinished : (form : Form) (input : List ℕ) → IsForm words form → Consumes left left' input → StoppedForm form input held held' store → Stopped words left left' held held' store
 
 -- What a whole run of the program did, by its words, what the source had left before and after, what
 -- the sink held before and after, and the store of a null heap. The input was read to its end; its lines are commands whose replies are a run of the table that

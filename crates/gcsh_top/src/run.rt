@@ -1,8 +1,9 @@
 //! Runs the lines of an input.
 
-ghost use Rattle.std.specs.Prelude.{◌≡◌, ◌≤◌, IfOk, IsErrOf, OnOk};
+ghost use Rattle.std.specs.Prelude.{◌≡◌, ◌≤◌, IfOk, IsErrOf, OnErr, OnOk};
 ghost use Rattle.gcsh_top.specs.Counts.{Rose};
-ghost use Rattle.gcsh_top.specs.Runs.{RanLine, RanLines};
+ghost use Rattle.gcsh_top.specs.Ends.{TookPart};
+ghost use Rattle.gcsh_top.specs.Runs.{BrokeOff, RanLine, RanLines, StoppedLines};
 ghost use Rattle.gc_script.specs.State.{State, HoldsState};
 ghost use Rattle.gc_script.specs.Session.{reply_line};
 ghost use Rattle.std.specs.Io.KnownBytes.{Appends};
@@ -28,6 +29,7 @@ pub enum LineFault {
 /// Writes a reply with its line feed.
 fn write_reply<K: Sink>(alloc: Global, sink: &mut K, reply: &Reply) -> Result<(), LineFault>
     ensures replied { OnOk result (Appends (K.held sink.old) (K.held sink.new) (reply_line reply.now)) }
+    ensures part { OnErr result (TookPart (K.held sink.old) (K.held sink.new) (reply_line reply.now)) }
     ensures failed { IsErrOf result LineFault.Sink → Rose (K.faults sink.old) (K.faults sink.new) }
     ensures faults { K.faults sink.old ≤ K.faults sink.new }
 {
@@ -53,6 +55,7 @@ fn run_line<H: GcHeap, L: ResourceLimiter, K: Sink>(
     sink: &mut K,
 ) -> Result<(), LineFault>
     ensures ran { OnOk result ((s : State) → HoldsState H.LAYOUTS store.old runner.old s → RanLine H.LAYOUTS (L.limits limiter.old) (L.limits limiter.new) s line.now store.new runner.new (K.held sink.old) (K.held sink.new)) }
+    ensures broke_off { OnErr result ((s : State) → HoldsState H.LAYOUTS store.old runner.old s → BrokeOff H.LAYOUTS (L.limits limiter.old).limit s line.now store.new runner.new (K.held sink.old) (K.held sink.new)) }
     ensures failed { IsErrOf result LineFault.Sink → Rose (K.faults sink.old) (K.faults sink.new) }
     ensures faults { K.faults sink.old ≤ K.faults sink.new }
 {
@@ -75,6 +78,7 @@ pub fn run_lines<H: GcHeap, L: ResourceLimiter, K: Sink>(
     sink: &mut K,
 ) -> Result<(), LineFault>
     ensures ran { OnOk result ((s : State) → HoldsState H.LAYOUTS store.old runner.old s → RanLines H.LAYOUTS (L.limits limiter.old).limit s input.now store.new runner.new (K.held sink.old) (K.held sink.new)) }
+    ensures stopped { OnErr result ((s : State) → HoldsState H.LAYOUTS store.old runner.old s → StoppedLines H.LAYOUTS (L.limits limiter.old).limit s input.now store.new runner.new (K.held sink.old) (K.held sink.new)) }
     ensures failed { IsErrOf result LineFault.Sink → Rose (K.faults sink.old) (K.faults sink.new) }
     ensures faults { K.faults sink.old ≤ K.faults sink.new }
 {

@@ -7,7 +7,7 @@ ghost use Rattle.gcsh_top.specs.declared.words.Form.{Form};
 ghost use Rattle.gcsh_top.specs.Counts.{Rose};
 ghost use Rattle.gcsh_top.specs.Ends.{Gave};
 ghost use Rattle.gcsh_top.specs.Input.{max_input};
-ghost use Rattle.gcsh_top.specs.Runs.{Completed, RanForm};
+ghost use Rattle.gcsh_top.specs.Runs.{Completed, IsReady, RanForm, Stopped, StoppedForm};
 ghost use Rattle.gcsh_top.specs.Words.{IsForm, max_pages};
 
 use crate::read::{ReadFault, read_all};
@@ -16,8 +16,9 @@ use crate::sink::Sink;
 use crate::source::Source;
 use crate::stores::Stores;
 use crate::words::{Form, parse_words};
+use gc_heap::NullHeap;
 use gc_script::Runner;
-use gc_store::{HeapConfig, PageLimit};
+use gc_store::{HeapConfig, PageLimit, Store};
 use std::alloc::Global;
 
 /// The input was read to its end, and every line has its reply.
@@ -59,18 +60,33 @@ pub fn gcsh_top<S: Source, K: Sink>(
     ensures read_fault { result ≡ 2 → Rose (S.faults source.old) (S.faults source.new) }
     ensures write_fault { result ≡ 3 → Rose (K.faults sink.old) (K.faults sink.new) }
     ensures given { (n : ℕ) × Gave (S.left source.old) (S.left source.new) (S.given source.old) (S.given source.new) n × (n ≤ max_input + 1) × ((result ≡ 4) ↔ (n ≡ max_input + 1)) }
+    ensures unrun { (result ≡ 2) ⊎ (result ≡ 4) → (form : Form) × IsForm (map string_bytes words.now) form × IsReady form stores.new.null }
+    ensures stopped { (result ≡ 3) ⊎ (result ≡ 5) → Stopped (map string_bytes words.now) (S.left source.old) (S.left source.new) (K.held sink.old) (K.held sink.new) stores.new.null }
     ensures unwritten { (result ≡ 2) ⊎ (result ≡ 4) → sink.new ≡ sink.old }
 {
     let Some(form) = parse_words(words) else {
         return USAGE;
     };
+    configure(form, &mut stores.null);
     let input = match read_all(alloc, source) {
         Ok(input) => input,
         Err(ReadFault::Source) => return READ_FAULT,
         Err(ReadFault::TooLong) => return TOO_LONG,
         Err(ReadFault::Memory) => return NO_MEMORY,
     };
-    run_form(alloc, form, input.as_slice(), sink, stores)
+    run_form(alloc, form, input.as_slice(), sink, &mut stores.null)
+}
+
+/// Lets a new store begin with the pages of the form.
+fn configure(form: Form, store: &mut Store<NullHeap, u64>)
+    requires first { form.first ≤ max_pages }
+    requires start { HoldsStart ℕ Null store.old }
+    ensures { IsReady form store.new }
+{
+    let Some(config) = HeapConfig::with_pages(form.first) else {
+        unreachable!()
+    };
+    store.configure(config);
 }
 
 /// Runs an input on the store that the form chooses.
@@ -79,30 +95,18 @@ fn run_form<K: Sink>(
     form: Form,
     input: &[u8],
     sink: &mut K,
-    stores: &mut Stores,
+    store: &mut Store<NullHeap, u64>,
 ) -> u8
-    requires first { form.first ≤ form.most }
-    requires most { form.most ≤ max_pages }
-    requires start { HoldsStart ℕ Null stores.old.null }
+    requires { IsReady form store.old }
     ensures status { (result ≡ 0) ⊎ ((result ≡ 3) ⊎ (result ≡ 5)) }
-    ensures done { result ≡ 0 → RanForm form input.now (K.held sink.old) (K.held sink.new) stores.new.null }
+    ensures done { result ≡ 0 → RanForm form input.now (K.held sink.old) (K.held sink.new) store.new }
     ensures flushed { result ≡ 0 → IsTrue (K.flushed sink.new) }
+    ensures stopped { (result ≡ 0 → ⊥) → StoppedForm form input.now (K.held sink.old) (K.held sink.new) store.new }
     ensures write_fault { result ≡ 3 → Rose (K.faults sink.old) (K.faults sink.new) }
 {
-    let Some(config) = HeapConfig::with_pages(form.first) else {
-        unreachable!()
-    };
-    stores.null.configure(config);
     let mut limiter = PageLimit::new(form.most);
     let mut runner = Runner::new(alloc);
-    match run_lines(
-        alloc,
-        &mut runner,
-        &mut stores.null,
-        &mut limiter,
-        input,
-        sink,
-    ) {
+    match run_lines(alloc, &mut runner, store, &mut limiter, input, sink) {
         Err(LineFault::Sink) => WRITE_FAULT,
         Err(LineFault::Memory) => NO_MEMORY,
         Ok(()) => match sink.flush() {

@@ -1,5 +1,5 @@
 use Rattle.std.proofs.Common.{◌≤◌, ℕ, refl, sym, ap, subst, arith, ◌∙◌}
-use Rattle.gcsh_top.proofs.RunLemmas.{along_start, along_more, along_end}
+use Rattle.gcsh_top.proofs.RunLemmas.{along_start, along_more, along_end, along_broken, on_any_err}
 use Rattle.gcsh_top.proofs.run.run_lines.Goals as goal
 
 pub loop-line-init : goal.loop-line-init
@@ -18,3 +18,10 @@ loop-line-preserved g c = record {
 
 pub returns-clause-ran : goal.returns-clause-ran
 returns-clause-ran g c s holds = along_end _ _ _ s c.args.input.now c.loop-line.rest.now _ _ _ _ (c.loop-line.invariant.along s holds) c.in_default.ensures.line
+
+pub returns-in_err-run_line-clause-stopped : goal.returns-in_err-run_line-clause-stopped
+returns-in_err-run_line-clause-stopped g c =
+    on_any_err c.from_residual.result
+    (λ s holds.
+    let so_far = c.loop-line.invariant.along s holds in
+    along_broken _ _ _ s c.args.input.now c.loop-line.rest.now c.in-Some.line.now c.in-Some.behind.now _ _ _ _ _ _ _ so_far c.in-Some.ensures.line (c.in_err-run_line.ensures.broke_off so_far.mid so_far.holds))

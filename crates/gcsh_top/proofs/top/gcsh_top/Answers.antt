@@ -1,0 +1,14 @@
+use Rattle.std.proofs.Common.{◌≡◌, ℕ, inl, inr, ap, sym, refl, ◌∙◌, subst, List, Option}
+use Rattle.std.specs.Io.KnownBytes.{Consumes}
+use Rattle.gcsh_top.specs.Runs.{Stopped, unread, unfinished, StoppedForm}
+use Rattle.gcsh_top.proofs.RunLemmas.{keeps_same}
+use Rattle.gcsh_top.proofs.FormRun.{not_done}
+use Rattle.gcsh_top.proofs.top.gcsh_top.Goals as goal
+
+pub returns-in-Err-Memory-clause-stopped : goal.returns-in-Err-Memory-clause-stopped
+returns-in-Err-Memory-clause-stopped g c _ = unread c.in-Some.form c.in-Some.ensures c.configure.ensures (keeps_same _)
+
+pub returns-clause-stopped : goal.returns-clause-stopped
+returns-clause-stopped g c stopped =
+    unfinished c.in-Some.form c.in-Ok.input.items c.in-Some.ensures c.in-Ok.ensures.whole
+    (subst (λ (input : List ℕ). StoppedForm c.in-Some.form input (g.K.Sink.held c.args.sink.now) (g.K.Sink.held c.run_form.new.sink) c.run_form.new.store) c.as_slice.ensures.value (c.run_form.ensures.stopped (not_done c.run_form.result stopped)))
