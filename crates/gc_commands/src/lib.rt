@@ -20,4 +20,4 @@ pub use command::{
 pub use numbers::number;
 pub use parse::{MAX_LINE, parse_line, spelling_is_unique};
 pub use reply::{ByteText, Refusal, Reply, ReplyValue};
-pub use text::reply_text;
+pub use text::{push_reply, reply_text};

@@ -11,37 +11,47 @@ use std::alloc::{AllocError, Global};
 pub fn reply_text(alloc: Global, reply: &Reply) -> Result<String, AllocError>
     ensures { IfOk result (λ text. string_bytes text ≡ text_of reply.now) }
 {
+    let mut text = String::new(alloc);
+    push_reply(&mut text, reply)?;
+    Ok(text)
+}
+
+/// Appends the text of a reply, without its line feed, to a text whose room may be used again.
+/// After want of memory a front of it may stand there.
+pub fn push_reply(text: &mut String, reply: &Reply) -> Result<(), AllocError>
+    ensures { OnOk result (string_bytes text.new ≡ string_bytes text.old ++ text_of reply.now) }
+{
     match reply {
-        Reply::Done => String::from_str(alloc, "ok"),
-        Reply::Declared(t) => format!(in alloc; "type {t}"),
-        Reply::Value(value) => value_of(alloc, value),
-        Reply::Length(n) => format!(in alloc; "len {n}"),
-        Reply::HostNumber(n) => format!(in alloc; "data {n}"),
-        Reply::Same(same) => String::from_str(alloc, if *same { "true" } else { "false" }),
-        Reply::Held { objects, hosts } => format!(in alloc; "held {objects} {hosts}"),
-        Reply::Capacity(n) => format!(in alloc; "cap {n}"),
-        Reply::Increments(n) => format!(in alloc; "increments {n}"),
-        Reply::Bytes(bytes) => bytes_of(alloc, bytes.as_slice()),
-        Reply::Refused(refusal) => String::from_str(alloc, name_of(*refusal)),
+        Reply::Done => text.push_str("ok"),
+        Reply::Declared(t) => write!(text, "type {t}"),
+        Reply::Value(value) => push_value(text, value),
+        Reply::Length(n) => write!(text, "len {n}"),
+        Reply::HostNumber(n) => write!(text, "data {n}"),
+        Reply::Same(same) => text.push_str(if *same { "true" } else { "false" }),
+        Reply::Held { objects, hosts } => write!(text, "held {objects} {hosts}"),
+        Reply::Capacity(n) => write!(text, "cap {n}"),
+        Reply::Increments(n) => write!(text, "increments {n}"),
+        Reply::Bytes(bytes) => push_bytes(text, bytes.as_slice()),
+        Reply::Refused(refusal) => text.push_str(name_of(*refusal)),
     }
 }
 
-/// The text of a value.
-fn value_of(alloc: Global, value: &ReplyValue) -> Result<String, AllocError>
-    ensures { IfOk result (λ text. string_bytes text ≡ value_text value.now) }
+/// Appends the text of a value.
+fn push_value(text: &mut String, value: &ReplyValue) -> Result<(), AllocError>
+    ensures { OnOk result (string_bytes text.new ≡ string_bytes text.old ++ value_text value.now) }
 {
     match value {
-        ReplyValue::I32(n) => format!(in alloc; "i32 {n}"),
-        ReplyValue::I64(n) => format!(in alloc; "i64 {n}"),
-        ReplyValue::F32(bits) => hex_of(alloc, "f32 ", u128::from(*bits), 8),
-        ReplyValue::F64(bits) => hex_of(alloc, "f64 ", u128::from(*bits), 16),
-        ReplyValue::V128(bits) => hex_of(alloc, "v128 ", bits.as_u128(), 32),
-        ReplyValue::Null => String::from_str(alloc, "null"),
-        ReplyValue::I31(n) => format!(in alloc; "i31 {n}"),
-        ReplyValue::Struct(t) => format!(in alloc; "struct {t}"),
-        ReplyValue::Array(t) => format!(in alloc; "array {t}"),
-        ReplyValue::Host => String::from_str(alloc, "host"),
-        ReplyValue::Exn(t, tag) => format!(in alloc; "exn {t} {tag}"),
+        ReplyValue::I32(n) => write!(text, "i32 {n}"),
+        ReplyValue::I64(n) => write!(text, "i64 {n}"),
+        ReplyValue::F32(bits) => push_digits(text, "f32 ", u128::from(*bits), 8),
+        ReplyValue::F64(bits) => push_digits(text, "f64 ", u128::from(*bits), 16),
+        ReplyValue::V128(bits) => push_digits(text, "v128 ", bits.as_u128(), 32),
+        ReplyValue::Null => text.push_str("null"),
+        ReplyValue::I31(n) => write!(text, "i31 {n}"),
+        ReplyValue::Struct(t) => write!(text, "struct {t}"),
+        ReplyValue::Array(t) => write!(text, "array {t}"),
+        ReplyValue::Host => text.push_str("host"),
+        ReplyValue::Exn(t, tag) => write!(text, "exn {t} {tag}"),
     }
 }
 
@@ -69,28 +79,32 @@ fn name_of(refusal: Refusal) -> &'static str
     }
 }
 
-/// The text of bytes: pairs of digits, or a dash for none.
-fn bytes_of(alloc: Global, bytes: &[u8]) -> Result<String, AllocError>
-    ensures { IfOk result (λ text. string_bytes text ≡ codes "bytes " ++ bytes_text bytes.now) }
+/// Appends the text of bytes: pairs of digits, or a dash for none.
+fn push_bytes(text: &mut String, bytes: &[u8]) -> Result<(), AllocError>
+    ensures { OnOk result (string_bytes text.new ≡ string_bytes text.old ++ (codes "bytes " ++ bytes_text bytes.now)) }
 {
     if bytes.is_empty() {
-        return String::from_str(alloc, "bytes -");
+        return text.push_str("bytes -");
     }
-    let mut text = String::from_str(alloc, "bytes ")?;
+    text.push_str("bytes ")?;
     for byte in bytes {
-        push_hex(&mut text, u128::from(*byte), 2)?;
+        push_hex(text, u128::from(*byte), 2)?;
     }
-    Ok(text)
+    Ok(())
 }
 
-/// A front, and so many hexadecimal digits of a number behind it.
-fn hex_of(alloc: Global, front: &str, number: u128, digits: u32) -> Result<String, AllocError>
+/// Appends a front, and so many hexadecimal digits of a number behind it.
+fn push_digits(
+    text: &mut String,
+    front: &str,
+    number: u128,
+    digits: u32,
+) -> Result<(), AllocError>
     requires { digits ≤ 32 }
-    ensures { IfOk result (λ text. string_bytes text ≡ front.now ++ hex_digits digits number) }
+    ensures { OnOk result (string_bytes text.new ≡ string_bytes text.old ++ (front.now ++ hex_digits digits number)) }
 {
-    let mut text = String::from_str(alloc, front)?;
-    push_hex(&mut text, number, digits)?;
-    Ok(text)
+    text.push_str(front)?;
+    push_hex(text, number, digits)
 }
 
 /// Appends so many hexadecimal digits of a number, highest first.

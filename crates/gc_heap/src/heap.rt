@@ -26,7 +26,7 @@ pub enum RefFault {
 /// What contracts see of it is `seen`: whether it has a memory, its content (a finite map from places
 /// to objects), its capacity and its allocated bytes.
 pub trait GcHeap {
-    ghost use Rattle.std.specs.Prelude.{◌≡◌, ◌≤◌, ◌%◌, ◌-◌, true, false, length, OnOk, OnErr, IsOkAnd, IsErr, Some};
+    ghost use Rattle.std.specs.Prelude.{◌≡◌, ◌≤◌, ◌%◌, ◌-◌, true, false, length, OnOk, OnErr, IfErr, IsOkAnd, IsErr, Some};
     ghost use Rattle.std.specs.FinMap as map;
     ghost use Rattle.gc_types.specs.declared.kind.Layouts.{Layouts};
     ghost use Rattle.gc_types.specs.Layouts.{struct_base};
@@ -52,7 +52,8 @@ pub trait GcHeap {
     fn attach(&mut self, memory: HeapMemory) -> Result<(), HeapMemory>
         requires { (seen self.old).attached ≡ false }
         ensures ok { OnOk result (seen self.new ≡ empty_heap (length memory)) }
-        ensures err { OnErr result (seen self.new ≡ seen self.old) };
+        ensures err { OnErr result (seen self.new ≡ seen self.old) }
+        ensures back { IfErr result (λ given. given ≡ memory) };
 
     // Allocation
 

@@ -89,8 +89,8 @@ untouched_from_start D layouts s place holds =
     untouched_from_parts layouts s (start s.first s.max_scoped s.max_owned) place holds holds.types (nil_from_length s.scoped holds.scoped.same_count) holds.numbers.generation holds.numbers.made
 
 -- what is seen of a new store is untouched
-pub untouched_new : (layouts : Layouts) (engine number first max_scoped max_owned : ℕ) → first ≤ max_pages → IsUntouched layouts (empty_store engine number first max_scoped max_owned)
-untouched_new layouts engine number first max_scoped max_owned few = record {
+pub untouched_new : (layouts : Layouts) (engine number first max_scoped max_owned : ℕ) (alloc_counter : Option ℕ) → first ≤ max_pages → IsUntouched layouts (empty_store engine number first max_scoped max_owned alloc_counter)
+untouched_new layouts engine number first max_scoped max_owned alloc_counter few = record {
   types = refl;
   scoped = refl;
   generation = refl;

@@ -61,6 +61,10 @@ global_count = 16
 abbrev pub empty_slot : Slot
 empty_slot = record { class = Any; reference = null }
 
+-- how many scoped roots a store may have that is configured by its pages alone, and how many owned ones
+abbrev pub usual_roots : ℕ
+usual_roots = 16777216
+
 -- a table with nothing in it, whose heap is not made
 abbrev pub start : {D : Type 0} → ℕ → ℕ → ℕ → Table D
 start first max_scoped max_owned = record {

@@ -44,10 +44,11 @@ pub record StoreView : Type 0 where
   pub first : ℕ
   pub max_scoped : ℕ
   pub max_owned : ℕ
+  pub alloc_counter : Option ℕ
 
 -- what is seen of a store with nothing in it
-abbrev pub empty_store : ℕ → ℕ → ℕ → ℕ → ℕ → StoreView
-empty_store engine number first max_scoped max_owned = record {
+abbrev pub empty_store : ℕ → ℕ → ℕ → ℕ → ℕ → Option ℕ → StoreView
+empty_store engine number first max_scoped max_owned alloc_counter = record {
   engine = engine;
   number = number;
   types = [];
@@ -57,4 +58,5 @@ empty_store engine number first max_scoped max_owned = record {
   first = first;
   max_scoped = max_scoped;
   max_owned = max_owned;
+  alloc_counter = alloc_counter;
 }

@@ -9,7 +9,7 @@ use Rattle.gc_model.specs.declared.GcClass.{GcClass}
 use Rattle.gc_model.specs.declared.GcClass.TheVariants as class
 use Rattle.gc_model.specs.Values.{Object}
 use Rattle.gc_model.specs.Table.{Table, Push, make_heap}
-use Rattle.gc_model.specs.Allocation.{Limits, Allocates, LacksMemory, no_heap, no_room, too_large}
+use Rattle.gc_model.specs.Allocation.{Limits, Allocates, LacksMemory, no_heap, no_room, too_large, MayMakeHeap}
 use Rattle.gc_model.specs.Live.{roots_full}
 use Rattle.gc_model.specs.Sizes.{object_size}
 use Rattle.gc_model.specs.Views.{StoreView}
@@ -32,7 +32,7 @@ use Rattle.gc_script.specs.declared.registers.Register.TheVariants as register
 use Rattle.gc_script.specs.Slots.{register_at}
 use Rattle.gc_script.specs.State.{State, Held, number, reference, Stands, HoldsState, with_table, set_register}
 use Rattle.gc_script.specs.Steps.{first_failing, heap_tests, new_struct, MakesNew, made, lacks}
-use Rattle.gc_script.specs.Run.{PlacesNew, WantsMemory}
+use Rattle.gc_script.specs.Run.{PlacesNew, WantsMemory, Counts}
 use Rattle.gc_script.proofs.StepLemmas.{first_failing-skip, first_failing-stop, answers_by}
 
 -- pushes that were there are still there
@@ -79,6 +79,8 @@ pub holds_kept : (layouts : Layouts) (s new : StoreView) (slots slots' : List (O
 holds_kept layouts s new slots slots' state t' same keeps slots_are holds table = record {
   table = table;
   registers = λ d. subst (λ (o : Option Register). Stands new t' o (state.registers d)) (sym (slots_are d)) (stands_kept s new state.table t' (register_at slots d) (state.registers d) same keeps (holds.registers d));
+  no_owned = holds.no_owned;
+  no_marks = holds.no_marks;
 }
 
 -- so where the table is the same
@@ -125,6 +127,10 @@ pub heap_tests_full : (layouts : Layouts) (s : State) (t : ℕ) (vs : List Opera
 heap_tests_full layouts s t vs small full =
     first_failing-skip _ refusal.TooLarge ((roots_full s.table, refusal.RootsFull) ∷ []) small ∙ first_failing-stop _ refusal.RootsFull [] full
 
+-- a reply that says nothing of the heap's memory, of a limiter that was not asked in vain
+pub counts_nothing : (limits limits' : Limits) (first : ℕ) (answer : Reply) (after : State) → ¬ (answer ≡ reply.Refused refusal.GcHeapOutOfMemory) → limits' ≡ limits → Counts limits limits' first answer after
+counts_nothing limits limits' first answer after other same = record { refused_pages = λ both. absurd (other both.0); nothing_else = λ _. same }
+
 -- a struct was placed
 pub placed : (layouts : Layouts) (limits limits' : Limits) (old new : StoreView) (slots slots' : List (Option Register)) (s : State) (d ty : ℕ) (vs : List Operand) (handle : GcRootIndex) → IsSameStore old new → HoldsState layouts old slots s → PlacesObject layouts (new_struct ty vs) limits limits' s.table handle new → register_at slots' d ≡ Some (register.Reference class.Any (Some handle)) → ((k : ℕ) → k ≢ d → register_at slots' k ≡ register_at slots k) → PlacesNew layouts limits limits' s d ty vs reply.Done new slots'
 placed layouts limits limits' old new slots slots' s d ty vs handle same holds places set others =
@@ -142,9 +148,10 @@ placed layouts limits limits' old new slots slots' s d ty vs handle same holds p
       holds = record {
         table = places.holds;
         registers = set_stands new places.after slots slots' s.registers d (length s.table.pushes) handle names set others mid.registers;
+        no_owned = holds.no_owned;
+        no_marks = holds.no_marks;
       };
-      same_limit = ap (λ (l : Limits). l.limit) places.same_limits;
-      counted = λ e unmade. absurd (cc);
+      counts = counts_nothing limits limits' s.table.first reply.Done _ (λ e. cc e) places.same_limits;
     }
 
 -- a refusal that leaves the limiter and the table
@@ -153,14 +160,13 @@ refused layouts limits limits' old new slots slots' s d ty vs why other found sa
   after = s;
   answers = answers_by layouts limits.limit s (New d ty vs) (first_failing (heap_tests layouts s ty vs)) (Some why) (reply.Refused why) s found (refl, refl);
   holds = holds_same layouts old new slots slots' s same slots_are holds table;
-  same_limit = ap (λ (l : Limits). l.limit) same_limits;
-  counted = λ e unmade. absurd (other e);
+  counts = counts_nothing limits limits' s.table.first (reply.Refused why) s other same_limits;
 }
 
--- the limit stands, whether the limiter was asked or not
-limit_stands : (limits limits' : Limits) (first : ℕ) (made : Bool) → (made ≡ false → Refuses limits limits' 0 first) → (made ≡ true → limits' ≡ limits) → limits'.limit ≡ limits.limit
-limit_stands limits limits' first true counted same = ap (λ (l : Limits). l.limit) (same refl)
-limit_stands limits limits' first false counted same = ap (λ (l : Limits). l.limit) (counted refl)
+-- the limiter counted the first pages where they were refused
+counts_pages : (limits limits' : Limits) (first : ℕ) (after : State) (made : Bool) → after.table.made ≡ made → (made ≡ false → Refuses limits limits' 0 first) → (made ≡ true → limits' ≡ limits) → Counts limits limits' first (reply.Refused refusal.GcHeapOutOfMemory) after
+counts_pages limits limits' first after true is counted same = record { refused_pages = λ both. absurd (cc (is, both.1)); nothing_else = λ _. same refl }
+counts_pages limits limits' first after false is counted same = record { refused_pages = λ _. counted refl; nothing_else = λ not_refused. absurd (not_refused (refl, is)) }
 
 -- there was no room
 pub lacked : (layouts : Layouts) (limits limits' : Limits) (old new : StoreView) (slots slots' : List (Option Register)) (s : State) (d ty : ℕ) (vs : List Operand) (need : ℕ) → IsSameStore old new → HoldsState layouts old slots s → LacksPlace layouts (new_struct ty vs) limits limits' s.table need new → ((k : ℕ) → register_at slots' k ≡ register_at slots k) → PlacesNew layouts limits limits' s d ty vs (reply.Refused refusal.GcHeapOutOfMemory) new slots'
@@ -168,11 +174,10 @@ lacked layouts limits limits' old new slots slots' s d ty vs need same holds pla
   after = with_table places.after s;
   answers = answers_by layouts limits.limit s (New d ty vs) (first_failing (heap_tests layouts s ty vs)) None (reply.Refused refusal.GcHeapOutOfMemory) _ (heap_tests_pass layouts s ty vs places.small places.not_full) (lacks places.after places.lacks refl refl);
   holds = holds_kept layouts old new slots slots' s places.after same (keeps_same s.table.pushes places.after.pushes (lacking_pushes layouts limits.limit (new_struct ty vs) s.table places.after places.lacks)) slots_are holds places.holds;
-  same_limit = limit_stands limits limits' s.table.first places.after.made places.counted places.same_limits;
-  counted = λ e unmade. places.counted unmade;
+  counts = counts_pages limits limits' s.table.first (with_table places.after s) places.after.made refl places.counted places.same_limits;
 }
 
 -- want of memory leaves the registers
-pub wanted : (layouts : Layouts) (old new : StoreView) (slots slots' : List (Option Register)) (s : State) → IsSameStore old new → HoldsState layouts old slots s → (HoldsTable layouts new s.table ⊎ HoldsTable layouts new (make_heap s.table)) → ((k : ℕ) → register_at slots' k ≡ register_at slots k) → WantsMemory layouts s new slots'
-wanted layouts old new slots slots' s same holds (inl table) slots_are = inl (holds_same layouts old new slots slots' s same slots_are holds table)
-wanted layouts old new slots slots' s same holds (inr table) slots_are = inr (holds_kept layouts old new slots slots' s (make_heap s.table) same (λ i p e. e) slots_are holds table)
+pub wanted : (layouts : Layouts) (limit : Option ℕ) (old new : StoreView) (slots slots' : List (Option Register)) (s : State) → IsSameStore old new → HoldsState layouts old slots s → (HoldsTable layouts new s.table ⊎ (MayMakeHeap limit s.table × HoldsTable layouts new (make_heap s.table))) → ((k : ℕ) → register_at slots' k ≡ register_at slots k) → WantsMemory layouts limit s new slots'
+wanted layouts limit old new slots slots' s same holds (inl table) slots_are = inl (holds_same layouts old new slots slots' s same slots_are holds table)
+wanted layouts limit old new slots slots' s same holds (inr made) slots_are = inr (made.0, holds_kept layouts old new slots slots' s (make_heap s.table) same (λ i p e. e) slots_are holds made.1)

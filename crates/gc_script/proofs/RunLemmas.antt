@@ -7,7 +7,7 @@ use Rattle.std.proofs.lemmas.Bool.Decides.{nat_tests}
 use Rattle.std.proofs.lemmas.Grind.{common_steps}
 use Rattle.std.proofs.lemmas.Option.{none-some}
 use Rattle.gc_types.specs.declared.kind.Layouts.{Layouts}
-use Rattle.gc_types.specs.Declarations.{Declaration, struct_fields_at, plain_struct}
+use Rattle.gc_types.specs.Declarations.{Declaration, struct_fields_at}
 use Rattle.gc_types.specs.declared.value.FieldType.{FieldType}
 use Rattle.gc_model.specs.Values.{Value}
 use Rattle.gc_model.specs.Table.{Table, declare}
@@ -25,10 +25,10 @@ use Rattle.gc_commands.specs.declared.reply.Refusal.TheVariants as refusal
 use Rattle.gc_script.specs.declared.registers.Register.{Register}
 use Rattle.gc_script.specs.declared.runner.RunError.{RunError}
 use Rattle.gc_script.specs.State.{State, HoldsState, with_table}
-use Rattle.gc_script.specs.Steps.{Target, unset, gone, other, fields, target, target_values, is_unset, is_gone, is_other, is_built, is_built_field, is_built_operand, is_bad_type, built_field, field_count, field_tests, heap_tests, tests, first_failing, Answers, Does, shown}
+use Rattle.gc_script.specs.Steps.{Target, unset, gone, other, fields, target, target_values, is_unset, is_gone, is_other, is_built, is_built_field, is_built_operand, built_struct, field_count, field_tests, heap_tests, tests, first_failing, Answers, Does, declared, bad, shown}
 use Rattle.gc_script.specs.Run.{RunsOne, RunsNew, Ran, WantsMemory, DeclaresBuilt}
 use Rattle.gc_script.proofs.StepLemmas.{first_failing-skip, first_failing-stop, answers_by}
-use Rattle.gc_script.proofs.PlaceLemmas.{holds_same, holds_kept}
+use Rattle.gc_script.proofs.PlaceLemmas.{holds_same, holds_kept, counts_nothing}
 
 -- a command of `new` whose first three tests pass is left to those on the heap
 pub new_runs : (layouts : Layouts) (limits limits' : Limits) (s : State) (d t : ℕ) (vs : List Operand) (result : Result Reply RunError) (new : StoreView) (slots : List (Option Register)) → list_all is_built_operand vs ≡ true → is_none (struct_fields_at s.table.types t) ≡ false → (length vs == field_count s.table t) ≡ true → RunsNew layouts limits limits' s d t vs result new slots → RunsOne layouts limits limits' s (New d t vs) result new slots
@@ -40,8 +40,7 @@ new_runs layouts limits limits' s d t vs (Ok answer) new slots built known count
       ∙ first_failing-skip (not (length vs == field_count s.table t)) refusal.FieldCount (heap_tests layouts s t vs) (ap not counted))
       ran.answers;
   holds = ran.holds;
-  same_limit = ran.same_limit;
-  counted = ran.counted;
+  counts = ran.counts;
 }
 new_runs layouts limits limits' s d t vs (Err e) new slots built known counted ran = ran
 
@@ -64,24 +63,20 @@ is_built_struct is_final supertype fs not_final plain built =
 -- a declaration of built fields is left to the test on the type
 pub struct_runs : (layouts : Layouts) (limits : Limits) (old : StoreView) (s : State) (is_final : Bool) (supertype : Option ℕ) (fs : List FieldWord) (result : Result Reply RunError) (new : StoreView) (slots : List (Option Register)) → is_final ≡ false → is_some supertype ≡ false → list_all is_built_field fs ≡ true → IsSameStore old new → HoldsState layouts old slots s → DeclaresBuilt layouts (length fs) s.table result new → RunsOne layouts limits limits s (Struct is_final supertype fs) result new slots
 struct_runs layouts limits old s is_final supertype fs (Ok answer) new slots not_final plain built same holds (inl did) = record {
-  after = with_table (declare (plain_struct (replicate (length fs) built_field)) s.table) s;
+  after = with_table (declare (built_struct (length fs)) s.table) s;
   step = answers_by layouts limits.limit s (Struct is_final supertype fs) (first_failing (tests layouts s (Struct is_final supertype fs))) None answer _
-      (first_failing-skip (not (is_built (Struct is_final supertype fs))) refusal.BadLine ((is_bad_type s.table (length fs), refusal.BadType) ∷ []) (ap not (is_built_struct is_final supertype fs not_final plain built))
-      ∙ first_failing-skip (is_bad_type s.table (length fs)) refusal.BadType [] did.0)
-      (did.1, refl);
-  holds = holds_kept layouts old new slots slots s (declare (plain_struct (replicate (length fs) built_field)) s.table) same (λ i p e. e) (λ k. refl) holds did.2;
-  same_limit = refl;
-  counted = λ e unmade. absurd (cc (did.1, e));
+      (first_failing-skip (not (is_built (Struct is_final supertype fs))) refusal.BadLine [] (ap not (is_built_struct is_final supertype fs not_final plain built)))
+      (declared did.0 did.1 refl);
+  holds = holds_kept layouts old new slots slots s (declare (built_struct (length fs)) s.table) same (λ i p e. e) (λ k. refl) holds did.2;
+  counts = counts_nothing limits limits s.table.first answer _ (λ e. cc (did.1, e)) refl;
 }
 struct_runs layouts limits old s is_final supertype fs (Ok answer) new slots not_final plain built same holds (inr did) = record {
   after = s;
-  step = answers_by layouts limits.limit s (Struct is_final supertype fs) (first_failing (tests layouts s (Struct is_final supertype fs))) (Some refusal.BadType) answer _
-      (first_failing-skip (not (is_built (Struct is_final supertype fs))) refusal.BadLine ((is_bad_type s.table (length fs), refusal.BadType) ∷ []) (ap not (is_built_struct is_final supertype fs not_final plain built))
-      ∙ first_failing-stop (is_bad_type s.table (length fs)) refusal.BadType [] did.0)
-      (did.1, refl);
+  step = answers_by layouts limits.limit s (Struct is_final supertype fs) (first_failing (tests layouts s (Struct is_final supertype fs))) None answer _
+      (first_failing-skip (not (is_built (Struct is_final supertype fs))) refusal.BadLine [] (ap not (is_built_struct is_final supertype fs not_final plain built)))
+      (bad did.0 did.1 refl);
   holds = holds_same layouts old new slots slots s same (λ k. refl) holds did.2;
-  same_limit = refl;
-  counted = λ e unmade. absurd (cc (did.1, e));
+  counts = counts_nothing limits limits s.table.first answer s (λ e. cc (did.1, e)) refl;
 }
 struct_runs layouts limits old s is_final supertype fs (Err e) new slots not_final plain built same holds did =
     (inl (holds_same layouts old new slots slots s same (λ k. refl) holds did), refl)
@@ -129,7 +124,6 @@ field_runs layouts limits store s r i None answer slots plain holds did = record
   after = s;
   step = any_limit layouts limits.limit s r i None (first_failing (field_tests s r i)) answer did;
   holds = holds;
-  same_limit = refl;
-  counted = λ e unmade. absurd (never_memory (target s r) i answer (reads_as layouts s r i (first_failing (field_tests s r i)) answer did) e);
+  counts = counts_nothing limits limits s.table.first answer s (never_memory (target s r) i answer (reads_as layouts s r i (first_failing (field_tests s r i)) answer did)) refl;
 }
 field_runs layouts limits store s r i (Some k) answer slots plain holds did = absurd (cc)

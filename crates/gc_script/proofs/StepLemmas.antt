@@ -1,18 +1,13 @@
 -- The first test that is true, and what follows from tests.
 use Rattle.std.proofs.Common.{◌≡◌, ◌≢◌, ℕ, ◌+◌, ◌<◌, ◌≤◌, List, [], ◌∷◌, ◌++◌, length, replicate, Option, Some, None, Bool, true, false, cond, sym, ap, ◌∙◌, refl, subst, arith, zero, suc}
-use Rattle.std.specs.Prelude.{nat_lt, nat_le, ◌||◌}
 use Rattle.std.proofs.lemmas.Grind.{common_steps}
 use Rattle.std.proofs.lemmas.Bool.Decides.{nat_tests}
-use Rattle.std.proofs.lemmas.List.{length-replicate}
-use Rattle.gc_types.specs.declared.value.FieldType.{FieldType}
 use Rattle.gc_types.specs.declared.kind.Layouts.{Layouts}
-use Rattle.gc_types.specs.Declarations.{Declaration, Declarable, max_fields, max_types}
-use Rattle.gc_model.specs.Table.{Table}
 use Rattle.gc_commands.specs.declared.command.Command.{Command}
 use Rattle.gc_commands.specs.declared.reply.Reply.{Reply}
 use Rattle.gc_commands.specs.declared.reply.Refusal.{Refusal}
 use Rattle.gc_script.specs.State.{State}
-use Rattle.gc_script.specs.Steps.{first_failing, is_bad_type, built_field, Answers}
+use Rattle.gc_script.specs.Steps.{first_failing, Answers}
 
 -- a test that is false is passed over
 pub first_failing-skip : (t : Bool) (why : Refusal) (ts : List (Bool × Refusal)) → t ≡ false → first_failing ((t, why) ∷ ts) ≡ first_failing ts
@@ -26,18 +21,3 @@ first_failing-stop t why ts e = ap (λ b. cond b (Some why) (first_failing ts)) 
 pub answers_by : (layouts : Layouts) (limit : Option ℕ) (s : State) (c : Command) (found known : Option Refusal) (answer : Reply) (s' : State) → found ≡ known → Answers layouts limit s c known answer s' → Answers layouts limit s c found answer s'
 answers_by layouts limit s c found known answer s' e answers = subst (λ (o : Option Refusal). Answers layouts limit s c o answer s') (sym e) answers
 
-neither : (a b : Bool) → (a || b) ≡ false → (a ≡ false) × (b ≡ false)
-neither true b e = absurd (cc)
-neither false b e = (refl, e)
-
--- what may not be declared is a bad type
-pub bad_from_not : (t : Table ℕ) (count : ℕ) → ¬ Declarable t.types (replicate count built_field) → is_bad_type t count ≡ true
-bad_from_not t count refuses =
-    elim (is_bad_type t count) as (λ b. is_bad_type t count ≡ b → is_bad_type t count ≡ true) [
-      | true ↦ λ e. e
-      | false ↦ λ e.
-          let both = neither (nat_lt max_fields count) (nat_le max_types (length t.types)) e in
-          let few : count ≤ 10000 = grind (arith, nat_tests, both.0) in
-          let types : length t.types < 4294967295 = grind (arith, nat_tests, both.1) in
-          absurd (refuses (record { few_fields = omega (arith, few, length-replicate count built_field); few_types = types }))
-    ] refl

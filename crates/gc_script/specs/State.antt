@@ -1,5 +1,5 @@
 -- The state of a session: an object table and registers.
-use Rattle.std.specs.Prelude.{◌≡◌, ℕ, ◌==◌, Bool, true, false, List, Option, Some, None, Result, Ok, Err, slice_get, if◌then◌else◌}
+use Rattle.std.specs.Prelude.{◌≡◌, ℕ, ◌==◌, Bool, true, false, List, [], Option, Some, None, Result, Ok, Err, slice_get, if◌then◌else◌}
 use Rattle.gc_types.specs.declared.kind.Layouts.{Layouts}
 use Rattle.gc_model.specs.declared.GcClass.{GcClass}
 use Rattle.gc_model.specs.Values.{Value}
@@ -17,10 +17,18 @@ pub data Held : Type 0 where
   number : Value → Held
   reference : GcClass → Option ℕ → Held
 
--- a table, and what each register holds that was set
+-- what an owned register holds: a class and the number of an owned root, or a root that was given up
+pub data HeldOwned : Type 0 where
+  owned : GcClass → ℕ → HeldOwned
+  unrooted : HeldOwned
+
+-- A table, what each register and each owned register holds that was set, and the scope marks. No
+-- command that is built sets an owned register or a mark.
 pub record State : Type 0 where
   pub table : Table ℕ
   pub registers : ℕ → Option Held
+  pub owned_registers : ℕ → Option HeldOwned
+  pub marks : List ℕ
 
 -- no register is set
 abbrev pub no_registers : ℕ → Option Held
@@ -28,7 +36,7 @@ no_registers d = None
 
 -- the state of a new session over that table
 abbrev pub begin : Table ℕ → State
-begin t = record { table = t; registers = no_registers }
+begin t = record { table = t; registers = no_registers; owned_registers = λ o. None; marks = [] }
 
 -- the state with that table
 abbrev pub with_table : Table ℕ → State → State
@@ -50,3 +58,5 @@ Stands s t _ _ = ⊥
 pub record HoldsState (layouts : Layouts) (s : StoreView) (slots : List (Option Register)) (state : State) : Type 0 where
   pub table : HoldsTable layouts s state.table
   pub registers : (d : ℕ) → Stands s state.table (register_at slots d) (state.registers d)
+  pub no_owned : (o : ℕ) → state.owned_registers o ≡ None
+  pub no_marks : state.marks ≡ []

@@ -1,5 +1,5 @@
 -- One step of a session.
-use Rattle.std.specs.Prelude.{◌≡◌, ℕ, ◌+◌, ◌<◌, ◌≤◌, ◌==◌, ◌||◌, nat_lt, nat_le, Bool, true, false, not, List, [], ◌∷◌, ◌++◌, Option, Some, None, is_some, is_none, length, map, replicate, slice_get, if◌then◌else◌, unwrap_or, option_map}
+use Rattle.std.specs.Prelude.{◌≡◌, ℕ, ◌+◌, ◌<◌, ◌≤◌, ◌==◌, nat_le, Bool, true, false, not, List, [], ◌∷◌, ◌++◌, Option, Some, None, is_some, is_none, length, map, replicate, slice_get, if◌then◌else◌, unwrap_or, option_map}
 use Rattle.std.specs.List.{list_all}
 use Rattle.std.specs.Int.{w32, w64, cast_signed}
 use Rattle.gc_types.specs.declared.value.FieldType.{FieldType}
@@ -7,7 +7,7 @@ use Rattle.gc_types.specs.declared.value.Mutability.TheVariants.{Var}
 use Rattle.gc_types.specs.declared.value.StorageType.TheVariants as storage_type
 use Rattle.gc_types.specs.declared.value.ValType.TheVariants as val_type
 use Rattle.gc_types.specs.declared.kind.Layouts.{Layouts}
-use Rattle.gc_types.specs.Declarations.{Declaration, struct_fields_at, plain_struct, max_fields, max_types}
+use Rattle.gc_types.specs.Declarations.{Declaration, Declarable, struct_fields_at, plain_struct}
 use Rattle.gc_model.specs.declared.GcClass.TheVariants as class
 use Rattle.gc_model.specs.Values.{Reference, null, small, at, Value, i32, i64, f32, f64, v128, function, Object, struct, array, host, exception, number_bits}
 use Rattle.gc_model.specs.Values as values
@@ -162,17 +162,12 @@ field_tests s r i =
     ∷ (nat_le (length (target_values (target s r))) i, refusal.OutOfBounds)
     ∷ []
 
--- the test of declaring a type of so many fields
-abbrev pub is_bad_type : Table ℕ → ℕ → Bool
-is_bad_type t count = nat_lt max_fields count || nat_le max_types (length t.types)
-
--- The tests of a command, in their order; the first that is true refuses it.
+-- The tests of a command, in their order; the first that is true refuses it. Whether a type may be
+-- declared is tested last, by `Declares`.
 abbrev pub tests : Layouts → State → Command → List (Bool × Refusal)
 tests layouts s Bad = (true, refusal.BadLine) ∷ []
 tests layouts s (Struct is_final supertype fs) =
-    (not (is_built (Struct is_final supertype fs)), refusal.BadLine)
-    ∷ (is_bad_type s.table (length fs), refusal.BadType)
-    ∷ []
+    (not (is_built (Struct is_final supertype fs)), refusal.BadLine) ∷ []
 tests layouts s (New d t vs) =
     (not (is_built (New d t vs)), refusal.BadLine)
     ∷ (is_none (struct_fields_at s.table.types t), refusal.NoSuchName)
@@ -197,6 +192,18 @@ shown (v128 n) = reply_value.V128 n
 shown (function f) = reply_value.Null
 shown (values.reference class r) = reply_value.Null
 
+-- A type was declared, or it may not be.
+pub data Declares (d : Declaration) (s : State) (answer : Reply) (s' : State) : Type 0 where
+  declared : Declarable s.table.types d → answer ≡ reply.Declared (length s.table.types)
+      → s' ≡ with_table (declare d s.table) s
+      → Declares d s answer s'
+  bad : ¬ Declarable s.table.types d → answer ≡ reply.Refused refusal.BadType → s' ≡ s
+      → Declares d s answer s'
+
+-- the declaration of a struct of so many fields that are built
+abbrev pub built_struct : ℕ → Declaration
+built_struct count = plain_struct (replicate count built_field)
+
 -- A struct was made and put into a register, or the heap had no room for it.
 pub data MakesNew (layouts : Layouts) (limit : Option ℕ) (d : ℕ) (o : Object ℕ) (s : State) (answer : Reply) (s' : State) : Type 0 where
   made : (t : Table ℕ) → Allocates layouts limit o s.table t → answer ≡ reply.Done
@@ -209,9 +216,7 @@ pub data MakesNew (layouts : Layouts) (limit : Option ℕ) (d : ℕ) (o : Object
 -- what a command does whose tests all passed
 abbrev pub Does : Layouts → Option ℕ → State → Command → Reply → State → Type 0
 Does layouts limit s Bad answer s' = ⊥
-Does layouts limit s (Struct is_final supertype fs) answer s' =
-    (answer ≡ reply.Declared (length s.table.types))
-    × (s' ≡ with_table (declare (plain_struct (replicate (length fs) built_field)) s.table) s)
+Does layouts limit s (Struct is_final supertype fs) answer s' = Declares (built_struct (length fs)) s answer s'
 Does layouts limit s (New d t vs) answer s' = MakesNew layouts limit d (new_struct t vs) s answer s'
 Does layouts limit s (Field r i into) answer s' =
     (option_map (λ v. reply.Value (shown v)) (slice_get (target_values (target s r)) i) ≡ Some answer) × (s' ≡ s)

@@ -167,7 +167,8 @@ impl Runner {
         values: &[Operand],
     ) -> Result<Reply, RunError>
         requires { CanMakeNew store.old t values.now }
-        ensures { (s : State) → HoldsState H.LAYOUTS store.old self.old s → RunsNew H.LAYOUTS (L.limits limiter.old) (L.limits limiter.new) s d t values.now result store.new self.new }
+        ensures runs { (s : State) → HoldsState H.LAYOUTS store.old self.old s → RunsNew H.LAYOUTS (L.limits limiter.old) (L.limits limiter.new) s d t values.now result store.new self.new }
+        ensures same { IsSameStore store.old store.new }
     {
         if self.registers.make_room(d).is_err() {
             return Err(RunError::OutOfMemory);
@@ -200,7 +201,8 @@ impl Runner {
         t: u32,
         values: &[Operand],
     ) -> Result<Reply, RunError>
-        ensures { (s : State) → HoldsState H.LAYOUTS store.old self.old s → RunsOne H.LAYOUTS (L.limits limiter.old) (L.limits limiter.new) s (Command.New d t values.now) result store.new self.new }
+        ensures runs { (s : State) → HoldsState H.LAYOUTS store.old self.old s → RunsOne H.LAYOUTS (L.limits limiter.old) (L.limits limiter.new) s (Command.New d t values.now) result store.new self.new }
+        ensures same { IsSameStore store.old store.new }
     {
         if !are_built_operands(values) {
             return Ok(Reply::Refused(Refusal::BadLine));
@@ -221,7 +223,8 @@ impl Runner {
         limiter: &mut L,
         command: &Command,
     ) -> Result<Reply, RunError>
-        ensures { (s : State) → HoldsState H.LAYOUTS store.old self.old s → RunsOne H.LAYOUTS (L.limits limiter.old) (L.limits limiter.new) s command.now result store.new self.new }
+        ensures runs { (s : State) → HoldsState H.LAYOUTS store.old self.old s → RunsOne H.LAYOUTS (L.limits limiter.old) (L.limits limiter.new) s command.now result store.new self.new }
+        ensures same { IsSameStore store.old store.new }
     {
         match command {
             Command::Bad => Ok(Reply::Refused(Refusal::BadLine)),

@@ -20,8 +20,8 @@ use Rattle.gc_store.specs.Stores.{store_view, IsSound, DeclaresStruct}
 pub record TypesDeclare (fields : List FieldType) (old new : TypeTable) (r : Result TypeName TypeFault) : Type 0 where
   pub declared : OnOk r (new ≡ types.declare (plain_struct fields) old)
   pub named : IfOk r (λ ty. ty ≡ record { engine = old.engine; number = old.number; index = length old.declarations })
-  pub declarable : OnOk r (Declarable old.declarations fields)
-  pub bad : r ≡ Err BadType → ¬ Declarable old.declarations fields
+  pub declarable : OnOk r (Declarable old.declarations (plain_struct fields))
+  pub bad : r ≡ Err BadType → ¬ Declarable old.declarations (plain_struct fields)
   pub err : OnErr r (new ≡ old)
 
 -- the store with these parts and that type table
@@ -33,17 +33,17 @@ module _ {D : Type 0} (layouts : Layouts) (id : StoreId) (config : HeapConfig) (
   holds_new : (t : Table D) → new ≡ types.declare (plain_struct fields) old → HoldsTable layouts (view id config heap scoped generation old) t → HoldsTable layouts (view id config heap scoped generation new) (declare (plain_struct fields) t)
   holds_new t e holds = (holds.0, subst (λ (n : TypeTable). Rattle.gc_model.specs.Holds.Holds layouts (view id config heap scoped generation n) (declare (plain_struct fields) t) holds.0) (sym e) (holds_declare layouts (view id config heap scoped generation old) t holds.0 fields numbers holds.1))
 
-  pub declared_step : (r : Result TypeName TypeFault) → TypesDeclare fields old new r → (t : Table D) → HoldsTable layouts (view id config heap scoped generation old) t → DeclaresStruct layouts fields t r (view id config heap scoped generation new)
-  declared_step (Ok ty) did t holds = (
-    subst (λ (ts : List Declaration). Declarable ts fields) holds.1.types did.declarable,
-    ap (λ (n : TypeName). n.index) did.named ∙ ap length holds.1.types,
+  pub declared_step : (r : Result TypeName TypeFault) → TypesDeclare fields old new r → IsSound D layouts old (view id config heap scoped generation old) → (t : Table D) → HoldsTable layouts (view id config heap scoped generation old) t → DeclaresStruct layouts fields t r (view id config heap scoped generation new)
+  declared_step (Ok ty) did sound t holds = (
+    subst (λ (ts : List Declaration). Declarable ts (plain_struct fields)) holds.1.types did.declarable,
+    did.named ∙ (λ i. record { engine = sound.engine i; number = sound.number i; index = length (holds.1.types i) }),
     holds_new t did.declared holds,
   )
-  declared_step (Err BadType) did t holds = (
-    λ may. did.bad refl (subst (λ (ts : List Declaration). Declarable ts fields) (sym holds.1.types) may),
+  declared_step (Err BadType) did sound t holds = (
+    λ may. did.bad refl (subst (λ (ts : List Declaration). Declarable ts (plain_struct fields)) (sym holds.1.types) may),
     subst (λ (n : TypeTable). HoldsTable layouts (view id config heap scoped generation n) t) (sym did.err) holds,
   )
-  declared_step (Err Memory) did t holds = subst (λ (n : TypeTable). HoldsTable layouts (view id config heap scoped generation n) t) (sym did.err) holds
+  declared_step (Err Memory) did sound t holds = subst (λ (n : TypeTable). HoldsTable layouts (view id config heap scoped generation n) t) (sym did.err) holds
 
   pub sound_declared : (r : Result TypeName TypeFault) → TypesDeclare fields old new r → IsSound D layouts old (view id config heap scoped generation old) → IsSound D layouts new (view id config heap scoped generation new)
   sound_declared (Ok ty) did sound = record {

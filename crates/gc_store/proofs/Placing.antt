@@ -181,7 +181,7 @@ module _ {D : Type 0} (layouts : Layouts) (id : StoreId) (config : HeapConfig) (
         same_limits = λ _. has.same;
       }
   places_err fault.Memory small not_full (inl (is, same)) = (inl (place, subst (λ (h : HeapView). Holds layouts (store_view id config types h scoped generation) t place) (sym is) holds), same)
-  places_err fault.Memory small not_full (inr makes) = let has = has_heap new makes in (inr (place, has.still), has.same)
+  places_err fault.Memory small not_full (inr makes) = let has = has_heap new makes in (inr (has.may, (place, has.still)), has.same)
 
 -- whatever placing answers, the store holds some table
 pub sound_places : {D : Type 0} (layouts : Layouts) (o : Object D) (limits limits' : Limits) (t : Table D) (r : Result GcRootIndex PlaceFault) (new : StoreView) → Places layouts o limits limits' t r new → (t' : Table D) × HoldsTable layouts new t'
@@ -191,4 +191,4 @@ sound_places layouts o limits limits' t (Err fault.TooLarge) new places = (t, pl
 sound_places layouts o limits limits' t (Err fault.RootsFull) new places = (t, places.2)
 sound_places layouts o limits limits' t (Err (fault.HeapOutOfMemory f)) new places = (places.after, places.holds)
 sound_places layouts o limits limits' t (Err fault.Memory) new (inl same, limits_same) = (t, same)
-sound_places layouts o limits limits' t (Err fault.Memory) new (inr made, limits_same) = (make_heap t, made)
+sound_places layouts o limits limits' t (Err fault.Memory) new (inr made, limits_same) = (make_heap t, made.1)

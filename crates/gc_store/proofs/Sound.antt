@@ -1,5 +1,7 @@
 -- That a store is sound: it holds some table.
 use Rattle.std.proofs.Common.{◌≡◌, List, [], sym, ap, subst}
+use Rattle.std.specs.Option.{option_map}
+use Rattle.std.specs.Int.NonZero.{non_zero_u32_get}
 use Rattle.gc_types.specs.declared.kind.Layouts.{Layouts}
 use Rattle.gc_types.specs.Declarations.{Declaration, TypeTable}
 use Rattle.gc_model.specs.declared.RootEntry.{RootEntry}
@@ -11,7 +13,7 @@ use Rattle.gc_store.specs.declared.config.HeapConfig.{HeapConfig}
 use Rattle.gc_store.specs.Stores.{store_view, IsSound, HoldsStart, configured}
 
 -- the parts of a new store show nothing
-pub new_view : (id : StoreId) (config : HeapConfig) (types : List Declaration) (heap : HeapView) (scoped : List RootEntry) → types ≡ [] → heap ≡ detached → scoped ≡ [] → store_view id config types heap scoped 0 ≡ empty_store id.engine id.number config.first_pages config.max_scoped config.max_owned
+pub new_view : (id : StoreId) (config : HeapConfig) (types : List Declaration) (heap : HeapView) (scoped : List RootEntry) → types ≡ [] → heap ≡ detached → scoped ≡ [] → store_view id config types heap scoped 0 ≡ empty_store id.engine id.number config.first_pages config.max_scoped config.max_owned (option_map non_zero_u32_get config.alloc_counter)
 new_view id config types heap scoped no_types no_heap no_roots i = store_view id config (no_types i) (no_heap i) (no_roots i) 0
 
 -- an untouched store is sound
@@ -27,7 +29,7 @@ sound_untouched D layouts types s engine number untouched = record {
 pub sound_new : (D : Type 0) (layouts : Layouts) (id : StoreId) (config : HeapConfig) (types : TypeTable) (heap : HeapView) (scoped : List RootEntry) → types ≡ record { engine = id.engine; number = id.number; declarations = [] } → heap ≡ detached → scoped ≡ [] → IsSound D layouts types (store_view id config types.declarations heap scoped 0)
 sound_new D layouts id config types heap scoped no_types no_heap no_roots =
     sound_untouched D layouts types (store_view id config types.declarations heap scoped 0) (ap (λ (t : TypeTable). t.engine) no_types) (ap (λ (t : TypeTable). t.number) no_types)
-    (subst (IsUntouched layouts) (sym (new_view id config types.declarations heap scoped (ap (λ (t : TypeTable). t.declarations) no_types) no_heap no_roots)) (untouched_new layouts id.engine id.number config.first_pages config.max_scoped config.max_owned config.few_pages))
+    (subst (IsUntouched layouts) (sym (new_view id config types.declarations heap scoped (ap (λ (t : TypeTable). t.declarations) no_types) no_heap no_roots)) (untouched_new layouts id.engine id.number config.first_pages config.max_scoped config.max_owned (option_map non_zero_u32_get config.alloc_counter) config.few_pages))
 
 -- another configuration leaves a store untouched
 pub untouched_configured : (D : Type 0) (layouts : Layouts) (config : HeapConfig) (s : StoreView) → HoldsStart D layouts s → IsUntouched layouts (configured config s)

@@ -11,7 +11,7 @@ use Rattle.gc_model.specs.Values.{Value, Object}
 use Rattle.gc_model.specs.Table.{Table, make_heap}
 use Rattle.gc_model.specs.Live.{roots_full}
 use Rattle.gc_model.specs.Sizes.{object_size}
-use Rattle.gc_model.specs.Allocation.{Limits, page, too_large, Allocates, LacksMemory}
+use Rattle.gc_model.specs.Allocation.{Limits, page, too_large, Allocates, LacksMemory, MayMakeHeap}
 use Rattle.gc_model.specs.Views.{HeapView, HeapObject, StoreView}
 use Rattle.gc_model.specs.Holds.{HoldsTable, Placing, ValuesLie}
 use Rattle.gc_heap.specs.declared.heap.HeapFault.{HeapFault}
@@ -148,4 +148,5 @@ Places layouts o limits limits' t (Err fault.TooLarge) new =
 Places layouts o limits limits' t (Err fault.RootsFull) new =
     (too_large layouts (object_size layouts t.types o) ≡ false) × (roots_full t ≡ true) × HoldsTable layouts new t × (limits' ≡ limits)
 Places layouts o limits limits' t (Err (fault.HeapOutOfMemory f)) new = LacksPlace layouts o limits limits' t f.bytes_needed new
-Places layouts o limits limits' t (Err fault.Memory) new = (HoldsTable layouts new t ⊎ HoldsTable layouts new (make_heap t)) × (limits' ≡ limits)
+Places layouts o limits limits' t (Err fault.Memory) new =
+    (HoldsTable layouts new t ⊎ (MayMakeHeap limits.limit t × HoldsTable layouts new (make_heap t))) × (limits' ≡ limits)

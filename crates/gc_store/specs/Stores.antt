@@ -1,5 +1,7 @@
 -- What a store's calls do, for every table that it held.
 use Rattle.std.specs.Prelude.{◌≡◌, ℕ, ◌-◌, ◌^◌, ◌==◌, ◌||◌, nat_le, Bool, false, List, [], Result, Ok, Err, length}
+use Rattle.std.specs.Option.{option_map}
+use Rattle.std.specs.Int.NonZero.{non_zero_u32_get}
 use Rattle.gc_types.specs.declared.kind.Layouts.{Layouts}
 use Rattle.gc_types.specs.declared.value.FieldType.{FieldType}
 use Rattle.gc_types.specs.declared.types.TypeFault.{TypeFault}
@@ -24,11 +26,12 @@ store_view id config types heap scoped generation = record {
   first = config.first_pages;
   max_scoped = config.max_scoped;
   max_owned = config.max_owned;
+  alloc_counter = option_map non_zero_u32_get config.alloc_counter;
 }
 
 -- the store with another configuration
 abbrev pub configured : HeapConfig → StoreView → StoreView
-configured config s = record s { first = config.first_pages; max_scoped = config.max_scoped; max_owned = config.max_owned }
+configured config s = record s { first = config.first_pages; max_scoped = config.max_scoped; max_owned = config.max_owned; alloc_counter = option_map non_zero_u32_get config.alloc_counter }
 
 -- the store holds some table, and its types carry its id
 pub record IsSound (D : Type 0) (layouts : Layouts) (types : TypeTable) (s : StoreView) : Type 0 where
@@ -64,6 +67,8 @@ is_full s = nat_le s.max_scoped (length s.scoped) || (s.generation == 2 ^ 64 - 1
 -- what the declaration of a struct answers and leaves
 abbrev pub DeclaresStruct : {D : Type 0} → Layouts → List FieldType → Table D → Result TypeName TypeFault → StoreView → Type 0
 DeclaresStruct layouts fields t (Ok ty) new =
-    Declarable t.types fields × (ty.index ≡ length t.types) × HoldsTable layouts new (declare (plain_struct fields) t)
-DeclaresStruct layouts fields t (Err type_fault.BadType) new = (¬ Declarable t.types fields) × HoldsTable layouts new t
+    Declarable t.types (plain_struct fields)
+    × (ty ≡ record { engine = new.engine; number = new.number; index = length t.types })
+    × HoldsTable layouts new (declare (plain_struct fields) t)
+DeclaresStruct layouts fields t (Err type_fault.BadType) new = (¬ Declarable t.types (plain_struct fields)) × HoldsTable layouts new t
 DeclaresStruct layouts fields t (Err type_fault.Memory) new = HoldsTable layouts new t

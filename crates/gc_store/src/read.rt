@@ -81,6 +81,7 @@ impl<H: GcHeap, D> Store<H, D> {
         ensures wrong_store { is_of_store self.now handle ≡ false → result ≡ Err RootFault.WrongStore }
         ensures named { (t : Table D) (serial : ℕ) → HoldsTable H.LAYOUTS self.now t → Names self.now t handle serial → TellsLength t (rooted t serial) result }
         ensures found { IfOk result (FindsLength D H.LAYOUTS self.now handle) }
+        ensures unnamed { is_of_store self.now handle ≡ true → (t : Table D) → HoldsTable H.LAYOUTS self.now t → ((serial : ℕ) → ¬ Names self.now t handle serial) → result ≡ Err RootFault.Unrooted }
     {
         let _heap = &self.heap;
         match self.word_of(handle) {

@@ -1,6 +1,8 @@
 //! The store.
 
 ghost use Rattle.std.specs.Prelude.{◌≡◌, ◌↔◌, false, IfOk, OnOk, OnErr, All, IsTrue, None, MatchResult};
+ghost use Rattle.std.specs.Option.{option_map};
+ghost use Rattle.std.specs.Int.NonZero.{non_zero_u32_get};
 ghost use Rattle.gc_types.specs.Declarations.{IsMutableI32};
 ghost use Rattle.gc_model.specs.Table.{Table};
 ghost use Rattle.gc_model.specs.Views.{detached, empty_store};
@@ -76,7 +78,7 @@ impl<H: GcHeap, D> Store<H, D> {
         config: HeapConfig,
     ) -> Result<Store<H, D>, AllocError>
         requires { H.seen heap ≡ detached }
-        ensures { IfOk result (λ s. s ≡ empty_store id.engine id.number config.first_pages config.max_scoped config.max_owned) }
+        ensures { IfOk result (λ s. s ≡ empty_store id.engine id.number config.first_pages config.max_scoped config.max_owned (option_map non_zero_u32_get config.alloc_counter)) }
     {
         Ok(Store {
             alloc,

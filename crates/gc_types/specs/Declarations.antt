@@ -1,5 +1,5 @@
 -- The type table as a plain list of declarations.
-use Rattle.std.specs.Prelude.{ℕ, ◌≡◌, ◌<◌, ◌≤◌, Bool, false, List, [], ◌∷◌, ◌++◌, Option, Some, None, map, length, slice_get}
+use Rattle.std.specs.Prelude.{ℕ, ◌≡◌, ◌<◌, ◌≤◌, Bool, false, List, [], ◌∷◌, ◌++◌, Option, Some, None, map, max, length, slice_get}
 use Rattle.gc_types.specs.declared.value.Mutability.TheVariants.{Const, Var}
 use Rattle.gc_types.specs.declared.value.StorageType.TheVariants as storage
 use Rattle.gc_types.specs.declared.value.ValType.TheVariants.{I32}
@@ -85,9 +85,16 @@ max_types = 4294967295
 abbrev pub IsMutableI32 : FieldType → Type 0
 IsMutableI32 f = f ≡ record { mutability = Var; element_type = storage.ValType I32 }
 
+-- how many fields, parameters or results a shape lists at most
+abbrev pub shape_len : Shape → ℕ
+shape_len (struct_of fields) = length fields
+shape_len (array_of elem) = 1
+shape_len (exn_of params) = length params
+shape_len (func_of params results) = max (length params) (length results)
+
 -- A type that may be declared next: not too many fields, and not too many types before it.
-pub record Declarable (types : List Declaration) (fields : List FieldType) : Type 0 where
-  pub few_fields : length fields ≤ max_fields
+pub record Declarable (types : List Declaration) (d : Declaration) : Type 0 where
+  pub few_fields : shape_len d.shape ≤ max_fields
   pub few_types : length types < max_types
 
 -- the table with one more declaration

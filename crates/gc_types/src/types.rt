@@ -115,8 +115,8 @@ impl Types {
         requires numbers { All IsMutableI32 fields.now }
         ensures declared { OnOk result (self.new ≡ declare (plain_struct fields.now) self.old) }
         ensures named { IfOk result (λ ty. ty ≡ record { engine = self.old.engine; number = self.old.number; index = length self.old.declarations }) }
-        ensures declarable { OnOk result (Declarable self.old.declarations fields.now) }
-        ensures bad { IsErrOf result TypeFault.BadType → ¬ Declarable self.old.declarations fields.now }
+        ensures declarable { OnOk result (Declarable self.old.declarations (plain_struct fields.now)) }
+        ensures bad { IsErrOf result TypeFault.BadType → ¬ Declarable self.old.declarations (plain_struct fields.now) }
         ensures err { OnErr result (self.new ≡ self.old) }
     {
         let _ = (supertype, is_final);

@@ -11,4 +11,4 @@ returns-in-Some-2 g c s holds =
     let built : list_all is_built_operand c.args.values.now ≡ true = search in
     let known : Some c.in-Some.count ≡ option_map length (struct_fields_at c.args.store.now.types c.args.t) = sym c.in-Some.is ∙ c.struct_field_count.ensures ∙ ap (λ (ty : ℕ). option_map length (struct_fields_at c.args.store.now.types ty)) c.new.ensures in
     let many : length c.args.values.now ≡ c.in-Some.count = search in
-    counted_runs _ _ _ c.args.store.now c.args.self.now s c.args.d c.args.t c.args.values.now c.in-Some.count c.place_new.result _ _ holds built known many (c.place_new.ensures s holds)
+    counted_runs _ _ _ c.args.store.now c.args.self.now s c.args.d c.args.t c.args.values.now c.in-Some.count c.place_new.result _ _ holds built known many (c.place_new.ensures.runs s holds)

@@ -72,4 +72,4 @@ pub returns : goal.returns
 returns g c s holds =
     let at = (goal.at.returns g c).After-place_struct in
     let did = places_as g at s.table (Err fault.Memory) (c.in-Err-Memory.is ∙ ap Err c.in-Err-Memory.field-0-is) holds.table in
-    (wanted _ c.args.store.now _ c.args.self.now _ s c.place_struct.ensures.same holds did.0 (slots_are g at), ap (λ (l : Limits). l.limit) did.1)
+    (wanted _ _ c.args.store.now _ c.args.self.now _ s c.place_struct.ensures.same holds did.0 (slots_are g at), did.1)

@@ -14,4 +14,4 @@ pub returns-clause-step : goal.returns-clause-step
 returns-clause-step g c t holds =
     declared_step _ c.self.inside.id c.self.inside.config _ _ c.self.inside.generation c.args.fields.now c.requires.numbers _ _ c.declare_struct.result
     (record { declared = c.declare_struct.ensures.declared; named = c.declare_struct.ensures.named; declarable = c.declare_struct.ensures.declarable; bad = c.declare_struct.ensures.bad; err = c.declare_struct.ensures.err })
-    t (subst (λ (v : StoreView). HoldsTable g.H.GcHeap.LAYOUTS v t) (sym c.self.view_is) holds)
+    c.self.invariant t (subst (λ (v : StoreView). HoldsTable g.H.GcHeap.LAYOUTS v t) (sym c.self.view_is) holds)

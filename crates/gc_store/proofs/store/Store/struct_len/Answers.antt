@@ -39,3 +39,8 @@ returns-in-Ok-clause-found g c =
       live = live.1.0;
       counts = c.count_values.ensures t place live.0 holds live.1.1 live.1.2;
     }
+
+pub returns-in-Ok-clause-unnamed : goal.returns-in-Ok-clause-unnamed
+returns-in-Ok-clause-unnamed g c own t holds unnamed =
+    let named = names-entry _ _ t holds.0 holds.1 c.args.handle c.in-Ok.word (word_of-ok _ c.args.handle c.in-Ok.word (sym c.word_of.ensures ∙ c.in-Ok.is)) in
+    absurd (unnamed named.0 named.1)
