@@ -1,3 +1,4 @@
+pub mod ResultLemmas
 pub mod SlotLemmas
 pub mod OperandLemmas
 pub mod StepLemmas
@@ -5,3 +6,4 @@ pub mod ReadLemmas
 pub mod CountLemmas
 pub mod PlaceLemmas
 pub mod RunLemmas
+pub mod ScriptLemmas

@@ -30,9 +30,9 @@ use Rattle.gc_commands.specs.declared.reply.Refusal.TheVariants as refusal
 use Rattle.gc_script.specs.declared.registers.Register.{Register}
 use Rattle.gc_script.specs.declared.registers.Register.TheVariants as register
 use Rattle.gc_script.specs.Slots.{register_at}
-use Rattle.gc_script.specs.State.{State, Held, number, reference, Stands, HoldsState, with_table, set_register}
+use Rattle.gc_script.specs.State.{State, Held, number, reference, Stands, HoldsState, begin, with_table, set_register}
 use Rattle.gc_script.specs.Steps.{first_failing, heap_tests, new_struct, MakesNew, made, lacks}
-use Rattle.gc_script.specs.Run.{PlacesNew, WantsMemory, Counts}
+use Rattle.gc_script.specs.Run.{PlacesNew, WantsMemory, Counts, refused_pages, nothing_else}
 use Rattle.gc_script.proofs.StepLemmas.{first_failing-skip, first_failing-stop, answers_by}
 
 -- pushes that were there are still there
@@ -55,6 +55,10 @@ names_kept s new t t' handle serial same keeps names = record {
       ∙ ap (λ e. handle_in e s.number names.push.index names.push.generation) (sym same.engine)
       ∙ ap (λ n. handle_in new.engine n names.push.index names.push.generation) (sym same.number);
 }
+
+-- a store that is the same as one that is the same as another
+pub same_twice : (a b c : StoreView) → IsSameStore a b → IsSameStore b c → IsSameStore a c
+same_twice a b c one two = record { engine = two.engine ∙ one.engine; number = two.number ∙ one.number }
 
 stands_kept : (s new : StoreView) (t t' : Table ℕ) (slot : Option Register) (held : Option Held) → IsSameStore s new → Keeps t.pushes t'.pushes → Stands s t slot held → Stands new t' slot held
 stands_kept s new t t' None None same keeps stands = tt
@@ -86,6 +90,15 @@ holds_kept layouts s new slots slots' state t' same keeps slots_are holds table 
 -- so where the table is the same
 pub holds_same : (layouts : Layouts) (s new : StoreView) (slots slots' : List (Option Register)) (state : State) → IsSameStore s new → ((d : ℕ) → register_at slots' d ≡ register_at slots d) → HoldsState layouts s slots state → HoldsTable layouts new state.table → HoldsState layouts new slots' state
 holds_same layouts s new slots slots' state same slots_are holds table = holds_kept layouts s new slots slots' state state.table same (λ i p e. e) slots_are holds table
+
+-- a store with no register set is in the state at the beginning
+pub begins : (layouts : Layouts) (store : StoreView) (slots : List (Option Register)) (t : Table ℕ) → HoldsTable layouts store t → slots ≡ [] → HoldsState layouts store slots (begin t)
+begins layouts store slots t holds none = record {
+  table = holds;
+  registers = λ d. subst (λ (xs : List (Option Register)). Stands store t (register_at xs d) None) (sym none) tt;
+  no_owned = λ o. refl;
+  no_marks = refl;
+}
 
 -- a register that is set to a handle stands for its serial
 set_stands : (new : StoreView) (t' : Table ℕ) (slots slots' : List (Option Register)) (registers : ℕ → Option Held) (d serial : ℕ) (handle : GcRootIndex) → Names new t' handle serial → register_at slots' d ≡ Some (register.Reference class.Any (Some handle)) → ((k : ℕ) → k ≢ d → register_at slots' k ≡ register_at slots k) → ((k : ℕ) → Stands new t' (register_at slots k) (registers k)) → (k : ℕ) → Stands new t' (register_at slots' k) (cond (k == d) (Some (reference class.Any (Some serial))) (registers k))
@@ -129,7 +142,7 @@ heap_tests_full layouts s t vs small full =
 
 -- a reply that says nothing of the heap's memory, of a limiter that was not asked in vain
 pub counts_nothing : (limits limits' : Limits) (first : ℕ) (answer : Reply) (after : State) → ¬ (answer ≡ reply.Refused refusal.GcHeapOutOfMemory) → limits' ≡ limits → Counts limits limits' first answer after
-counts_nothing limits limits' first answer after other same = record { refused_pages = λ both. absurd (other both.0); nothing_else = λ _. same }
+counts_nothing limits limits' first answer after other same = nothing_else (λ both. other both.0) same
 
 -- a struct was placed
 pub placed : (layouts : Layouts) (limits limits' : Limits) (old new : StoreView) (slots slots' : List (Option Register)) (s : State) (d ty : ℕ) (vs : List Operand) (handle : GcRootIndex) → IsSameStore old new → HoldsState layouts old slots s → PlacesObject layouts (new_struct ty vs) limits limits' s.table handle new → register_at slots' d ≡ Some (register.Reference class.Any (Some handle)) → ((k : ℕ) → k ≢ d → register_at slots' k ≡ register_at slots k) → PlacesNew layouts limits limits' s d ty vs reply.Done new slots'
@@ -165,8 +178,8 @@ refused layouts limits limits' old new slots slots' s d ty vs why other found sa
 
 -- the limiter counted the first pages where they were refused
 counts_pages : (limits limits' : Limits) (first : ℕ) (after : State) (made : Bool) → after.table.made ≡ made → (made ≡ false → Refuses limits limits' 0 first) → (made ≡ true → limits' ≡ limits) → Counts limits limits' first (reply.Refused refusal.GcHeapOutOfMemory) after
-counts_pages limits limits' first after true is counted same = record { refused_pages = λ both. absurd (cc (is, both.1)); nothing_else = λ _. same refl }
-counts_pages limits limits' first after false is counted same = record { refused_pages = λ _. counted refl; nothing_else = λ not_refused. absurd (not_refused (refl, is)) }
+counts_pages limits limits' first after true is counted same = nothing_else (λ both. cc (is, both.1)) (same refl)
+counts_pages limits limits' first after false is counted same = refused_pages (refl, is) (counted refl)
 
 -- there was no room
 pub lacked : (layouts : Layouts) (limits limits' : Limits) (old new : StoreView) (slots slots' : List (Option Register)) (s : State) (d ty : ℕ) (vs : List Operand) (need : ℕ) → IsSameStore old new → HoldsState layouts old slots s → LacksPlace layouts (new_struct ty vs) limits limits' s.table need new → ((k : ℕ) → register_at slots' k ≡ register_at slots k) → PlacesNew layouts limits limits' s d ty vs (reply.Refused refusal.GcHeapOutOfMemory) new slots'
@@ -180,4 +193,4 @@ lacked layouts limits limits' old new slots slots' s d ty vs need same holds pla
 -- want of memory leaves the registers
 pub wanted : (layouts : Layouts) (limit : Option ℕ) (old new : StoreView) (slots slots' : List (Option Register)) (s : State) → IsSameStore old new → HoldsState layouts old slots s → (HoldsTable layouts new s.table ⊎ (MayMakeHeap limit s.table × HoldsTable layouts new (make_heap s.table))) → ((k : ℕ) → register_at slots' k ≡ register_at slots k) → WantsMemory layouts limit s new slots'
 wanted layouts limit old new slots slots' s same holds (inl table) slots_are = inl (holds_same layouts old new slots slots' s same slots_are holds table)
-wanted layouts limit old new slots slots' s same holds (inr made) slots_are = inr (made.0, holds_kept layouts old new slots slots' s (make_heap s.table) same (λ i p e. e) slots_are holds made.1)
+wanted layouts limit old new slots slots' s same holds (inr has) slots_are = inr (has.0, holds_kept layouts old new slots slots' s (make_heap s.table) same (λ i p e. e) slots_are holds has.1)

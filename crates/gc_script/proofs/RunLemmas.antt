@@ -26,7 +26,7 @@ use Rattle.gc_script.specs.declared.registers.Register.{Register}
 use Rattle.gc_script.specs.declared.runner.RunError.{RunError}
 use Rattle.gc_script.specs.State.{State, HoldsState, with_table}
 use Rattle.gc_script.specs.Steps.{Target, unset, gone, other, fields, target, target_values, is_unset, is_gone, is_other, is_built, is_built_field, is_built_operand, built_struct, field_count, field_tests, heap_tests, tests, first_failing, Answers, Does, declared, bad, shown}
-use Rattle.gc_script.specs.Run.{RunsOne, RunsNew, Ran, WantsMemory, DeclaresBuilt}
+use Rattle.gc_script.specs.Run.{RunsOne, RunsNew, Ran, WantsMemory, DeclaresBuilt, Counts, refused_pages, nothing_else}
 use Rattle.gc_script.proofs.StepLemmas.{first_failing-skip, first_failing-stop, answers_by}
 use Rattle.gc_script.proofs.PlaceLemmas.{holds_same, holds_kept, counts_nothing}
 
@@ -127,3 +127,8 @@ field_runs layouts limits store s r i None answer slots plain holds did = record
   counts = counts_nothing limits limits s.table.first answer s (never_memory (target s r) i answer (reads_as layouts s r i (first_failing (field_tests s r i)) answer did)) refl;
 }
 field_runs layouts limits store s r i (Some k) answer slots plain holds did = absurd (cc)
+
+-- the limit is that of before, whatever was counted
+pub limit_stays : (limits limits' : Limits) (first : ℕ) (answer : Reply) (after : State) → Counts limits limits' first answer after → limits'.limit ≡ limits.limit
+limit_stays limits limits' first answer after (refused_pages said refuses) = ap (λ (l : Limits). l.limit) refuses
+limit_stays limits limits' first answer after (nothing_else not_said same) = ap (λ (l : Limits). l.limit) same

@@ -34,9 +34,9 @@ abbrev pub IsRefusedPages : Reply → State → Type 0
 IsRefusedPages answer after = (answer ≡ reply.Refused refusal.GcHeapOutOfMemory) × (after.table.made ≡ false)
 
 -- Where the heap's first pages were refused, the limiter counted that, and else nothing.
-pub record Counts (limits limits' : Limits) (first : ℕ) (answer : Reply) (after : State) : Type 0 where
-  pub refused_pages : IsRefusedPages answer after → Refuses limits limits' 0 first
-  pub nothing_else : ¬ IsRefusedPages answer after → limits' ≡ limits
+pub data Counts (limits limits' : Limits) (first : ℕ) (answer : Reply) (after : State) : Type 0 where
+  refused_pages : IsRefusedPages answer after → Refuses limits limits' 0 first → Counts limits limits' first answer after
+  nothing_else : ¬ IsRefusedPages answer after → limits' ≡ limits → Counts limits limits' first answer after
 
 -- A command was a step of the state, and the limiter counted what it refused.
 pub record Ran (layouts : Layouts) (limits limits' : Limits) (s : State) (c : Command) (answer : Reply) (new : StoreView) (slots : List (Option Register)) : Type 0 where

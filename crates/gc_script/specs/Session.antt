@@ -1,12 +1,14 @@
 -- A session: from the bytes in to the bytes out.
-use Rattle.std.specs.Prelude.{◌≡◌, ℕ, List, [], ◌∷◌, ◌++◌, Option}
+use Rattle.std.specs.Prelude.{◌≡◌, ℕ, List, [], ◌∷◌, ◌++◌, Option, Some}
 use Rattle.std.specs.List.{flat_map}
 use Rattle.gc_types.specs.declared.kind.Layouts.{Layouts}
+use Rattle.gc_model.specs.Table.{Table, start, usual_roots}
 use Rattle.gc_commands.specs.declared.command.Command.{Command}
 use Rattle.gc_commands.specs.declared.reply.Reply.{Reply}
 use Rattle.gc_commands.specs.Spelling.{IsCommandOf}
 use Rattle.gc_commands.specs.Text.{text_of}
-use Rattle.gc_script.specs.State.{State}
+use Rattle.gc_script.specs.Lines.{line_feed, lines}
+use Rattle.gc_script.specs.State.{State, begin}
 use Rattle.gc_script.specs.Run.{Run}
 
 -- each command is that of the line at its place
@@ -18,12 +20,19 @@ AreCommandsOf (line ∷ lines) [] = ⊥
 
 -- a reply with its line feed
 abbrev pub reply_line : Reply → List ℕ
-reply_line r = text_of r ++ 10 ∷ []
+reply_line r = text_of r ++ line_feed ∷ []
 
 -- The lines are commands whose replies are a run from that state, and the output is the replies' texts.
-pub record Session (layouts : Layouts) (limit : Option ℕ) (s : State) (lines : List (List ℕ)) (output : List ℕ) (s' : State) : Type 0 where
+pub record SessionFrom (layouts : Layouts) (limit : Option ℕ) (s : State) (lines : List (List ℕ)) (output : List ℕ) (s' : State) : Type 0 where
   pub commands : List Command
   pub replies : List Reply
   pub are_commands : AreCommandsOf lines commands
   pub run : Run layouts limit s commands replies s'
   pub output_is : output ≡ flat_map reply_line replies
+
+-- A session over a heap that begins with `first` pages and is granted up to `most`: the lines of the input
+-- are commands whose replies are a run from the empty table to t, and the output is the replies' texts.
+pub record Session (layouts : Layouts) (first most : ℕ) (input output : List ℕ) (t : Table ℕ) : Type 0 where
+  pub after : State
+  pub from_start : SessionFrom layouts (Some most) (begin (start first usual_roots usual_roots)) (lines input) output after
+  pub table_is : t ≡ after.table

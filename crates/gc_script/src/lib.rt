@@ -7,10 +7,12 @@
 
 pub mod registers;
 pub mod runner;
+pub mod script;
 
 pub use gc_commands::{
     ByteText, Command, FieldWord, FieldWords, HeapWord, Operand, Operands, Refusal, Reply,
-    ReplyValue, StorageWord, ValueWord, parse_line, reply_text,
+    ReplyValue, StorageWord, ValueWord, parse_line, push_reply, reply_text,
 };
 pub use registers::{Number, Register};
 pub use runner::{RunError, Runner};
+pub use script::run_script;

@@ -4,7 +4,7 @@ use Rattle.std.specs.Prelude.{◌⊎◌}
 use Rattle.std.specs.Io.KnownBytes.{Appends, Keeps}
 use Rattle.std.proofs.KnownBytes.{Appends-kept}
 use Rattle.gc_types.specs.declared.kind.Layouts.TheVariants.{Null}
-use Rattle.gc_model.specs.Table.{Table, start}
+use Rattle.gc_model.specs.Table.{Table, start, usual_roots}
 use Rattle.gc_model.specs.Views.{StoreView}
 use Rattle.gc_model.specs.Holds.{HoldsTable}
 use Rattle.gc_model.proofs.HoldsStart.{nowhere, holds_untouched}
@@ -12,12 +12,12 @@ use Rattle.gc_store.specs.declared.config.HeapConfig.{HeapConfig}
 use Rattle.gc_store.specs.Stores.{HoldsStart, configured}
 use Rattle.gc_store.proofs.Sound.{untouched_configured}
 use Rattle.gc_script.specs.declared.registers.Register.{Register}
-use Rattle.gc_script.specs.Slots.{register_at}
-use Rattle.gc_script.specs.State.{State, HoldsState, Stands, begin}
-use Rattle.gc_script.specs.Session.{Session}
+use Rattle.gc_script.proofs.PlaceLemmas.{begins}
+use Rattle.gc_script.specs.State.{State, HoldsState, begin}
+use Rattle.gc_script.specs.Session.{SessionFrom}
 use Rattle.gcsh_top.specs.declared.words.Form.{Form}
-use Rattle.gcsh_top.specs.Lines.{lines}
-use Rattle.gcsh_top.specs.Runs.{RanLines, RanForm, StoppedLines, StoppedForm, in_lines, IsReady, usual_roots}
+use Rattle.gc_script.specs.Lines.{lines}
+use Rattle.gcsh_top.specs.Runs.{RanLines, RanForm, StoppedLines, StoppedForm, in_lines, IsReady}
 
 -- a store that was configured holds the empty table with the form's numbers
 pub started : (config : HeapConfig) (old new : StoreView) (form : Form) → HoldsStart ℕ Null old → new ≡ configured config old → config.first_pages ≡ form.first → config.max_scoped ≡ usual_roots → config.max_owned ≡ usual_roots → IsReady form new
@@ -31,10 +31,7 @@ started config old new form holds is firsts scopeds owneds =
 
 -- such a store, with no register set, is in the state at the beginning
 pub ready_state : (form : Form) (store : StoreView) (slots : List (Option Register)) → IsReady form store → slots ≡ [] → HoldsState Null store slots (begin (start form.first usual_roots usual_roots))
-ready_state form store slots ready none = record {
-  table = ready;
-  registers = λ d. subst (λ (xs : List (Option Register)). Stands store (start form.first usual_roots usual_roots) (register_at xs d) None) (sym none) tt;
-}
+ready_state form store slots ready none = begins Null store slots (start form.first usual_roots usual_roots) ready none
 
 -- lines that stopped under the form's limit
 pub stopped_form : (form : Form) (limit : Option ℕ) (input : List ℕ) (store : StoreView) (slots : List (Option Register)) (a b : Option (List ℕ)) → limit ≡ Some form.most → StoppedLines Null limit (begin (start form.first usual_roots usual_roots)) input store slots a b → StoppedForm form input a b store
@@ -46,8 +43,12 @@ pub ran_form : (form : Form) (limit : Option ℕ) (input : List ℕ) (store : St
 ran_form form limit input store slots a b c is ran kept = record {
   output = ran.output;
   written = Appends-kept a b c ran.output ran.replied kept;
-  after = ran.after;
-  session = subst (λ (l : Option ℕ). Session Null l (begin (start form.first usual_roots usual_roots)) (lines input) ran.output ran.after) is ran.session;
+  table = ran.after.table;
+  session = record {
+    after = ran.after;
+    from_start = subst (λ (l : Option ℕ). SessionFrom Null l (begin (start form.first usual_roots usual_roots)) (lines input) ran.output ran.after) is ran.session;
+    table_is = refl;
+  };
   holds = ran.holds.table;
 }
 

@@ -4,7 +4,7 @@ use Rattle.std.proofs.Math.Numerals.{add-one, one-add}
 use Rattle.std.specs.List.{onto_first, position, position_or_len}
 use Rattle.std.proofs.lemmas.Bool.{ltb-true, ltb-false}
 use Rattle.std.proofs.lemmas.List.Sums.{prefix_len-le-length}
-use Rattle.gcsh_top.specs.Lines.{lines}
+use Rattle.gc_script.specs.Lines.{lines}
 
 -- so many bytes are the first line, and one byte behind them ends it
 abbrev CutsAt : List ℕ → ℕ → Type 0

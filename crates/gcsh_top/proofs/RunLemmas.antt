@@ -9,15 +9,12 @@ use Rattle.gc_model.specs.Views.{StoreView}
 use Rattle.gc_script.specs.declared.registers.Register.{Register}
 use Rattle.gc_script.specs.State.{State, HoldsState}
 use Rattle.gc_script.specs.Steps.{Step}
-use Rattle.gc_script.specs.Session.{Session, reply_line}
+use Rattle.gc_script.specs.Session.{SessionFrom, reply_line}
+use Rattle.gc_script.proofs.RunLemmas.{limit_stays}
+use Rattle.gc_store.specs.Stores.{IsSameStore}
 use Rattle.gcsh_top.specs.Ends.{TookPart}
-use Rattle.gcsh_top.specs.Lines.{lines}
+use Rattle.gc_script.specs.Lines.{lines}
 use Rattle.gcsh_top.specs.Runs.{BrokeOff, RanLine, RanLines, StoppedLines}
-
--- what follows from what a success says
-pub on_ok : {A E : Type 0} {P Q : Type 0} (r : Result A E) → (P → Q) → OnOk r P → OnOk r Q
-on_ok (Ok x) f p = f p
-on_ok (Err e) f p = p
 
 -- The lines before the rest were run from s: whatever session some lines are from here, the lines done and
 -- those are that session from s.
@@ -26,7 +23,7 @@ pub record Along (layouts : Layouts) (limit now : Option ℕ) (s : State) (input
   pub cut : lines input ≡ done ++ lines rest
   pub output : List ℕ
   pub mid : State
-  pub goes_on : (ls : List (List ℕ)) (more : List ℕ) (after : State) → Session layouts limit mid ls more after → Session layouts limit s (done ++ ls) (output ++ more) after
+  pub goes_on : (ls : List (List ℕ)) (more : List ℕ) (after : State) → SessionFrom layouts limit mid ls more after → SessionFrom layouts limit s (done ++ ls) (output ++ more) after
   pub holds : HoldsState layouts store slots mid
   pub replied : Appends held held' output
   pub same_limit : now ≡ limit
@@ -44,7 +41,7 @@ along_start layouts limit s input store slots held holds = record {
 }
 
 -- a session that begins with one more line
-one_more : (layouts : Layouts) (limits limits' : Limits) (limit : Option ℕ) (s : State) (line : List ℕ) (store : StoreView) (slots : List (Option Register)) (held held' : Option (List ℕ)) (did : RanLine layouts limits limits' s line store slots held held') → limits.limit ≡ limit → (ls : List (List ℕ)) (more : List ℕ) (after : State) → Session layouts limit did.ran.after ls more after → Session layouts limit s (line ∷ ls) (reply_line did.answer ++ more) after
+one_more : (layouts : Layouts) (limits limits' : Limits) (limit : Option ℕ) (s : State) (line : List ℕ) (store : StoreView) (slots : List (Option Register)) (held held' : Option (List ℕ)) (did : RanLine layouts limits limits' s line store slots held held') → limits.limit ≡ limit → (ls : List (List ℕ)) (more : List ℕ) (after : State) → SessionFrom layouts limit did.ran.after ls more after → SessionFrom layouts limit s (line ∷ ls) (reply_line did.answer ++ more) after
 one_more layouts limits limits' limit s line store slots held held' did is ls more after session = record {
   commands = did.command ∷ session.commands;
   replies = did.answer ∷ session.replies;
@@ -54,9 +51,9 @@ one_more layouts limits limits' limit s line store slots held held' did is ls mo
 }
 
 -- the same session of equal lines with equal output
-session_of : (layouts : Layouts) (limit : Option ℕ) (s after : State) (ls ls' : List (List ℕ)) (bytes bytes' : List ℕ) → ls ≡ ls' → bytes ≡ bytes' → Session layouts limit s ls bytes after → Session layouts limit s ls' bytes' after
+session_of : (layouts : Layouts) (limit : Option ℕ) (s after : State) (ls ls' : List (List ℕ)) (bytes bytes' : List ℕ) → ls ≡ ls' → bytes ≡ bytes' → SessionFrom layouts limit s ls bytes after → SessionFrom layouts limit s ls' bytes' after
 session_of layouts limit s after ls ls' bytes bytes' same_lines same_bytes session =
-    subst (λ (xs : List (List ℕ)). Session layouts limit s xs bytes' after) same_lines (subst (λ (bs : List ℕ). Session layouts limit s ls bs after) same_bytes session)
+    subst (λ (xs : List (List ℕ)). SessionFrom layouts limit s xs bytes' after) same_lines (subst (λ (bs : List ℕ). SessionFrom layouts limit s ls bs after) same_bytes session)
 
 pub along_more : (layouts : Layouts) (limits limits' : Limits) (limit : Option ℕ) (s : State) (input rest line behind : List ℕ) (store store' : StoreView) (slots slots' : List (Option Register)) (a b c : Option (List ℕ)) → (so_far : Along layouts limit limits.limit s input rest store slots a b) → lines rest ≡ line ∷ lines behind → RanLine layouts limits limits' so_far.mid line store' slots' b c → Along layouts limit limits'.limit s input behind store' slots' a c
 along_more layouts limits limits' limit s input rest line behind store store' slots slots' a b c so_far cut did = record {
@@ -70,11 +67,11 @@ along_more layouts limits limits' limit s input rest line behind store store' sl
       (so_far.goes_on (line ∷ ls) (reply_line did.answer ++ more) after (one_more layouts limits limits' limit so_far.mid line store' slots' b c did so_far.same_limit ls more after session));
   holds = did.ran.holds;
   replied = Appends-trans a b c so_far.output (reply_line did.answer) so_far.replied did.replied;
-  same_limit = did.ran.same_limit ∙ so_far.same_limit;
+  same_limit = limit_stays limits limits' so_far.mid.table.first did.answer did.ran.after did.ran.counts ∙ so_far.same_limit;
 }
 
 -- the lines done are a session by themselves
-session_so_far : (layouts : Layouts) (limit now : Option ℕ) (s : State) (input rest : List ℕ) (store : StoreView) (slots : List (Option Register)) (a b : Option (List ℕ)) → (so_far : Along layouts limit now s input rest store slots a b) → Session layouts limit s so_far.done so_far.output so_far.mid
+session_so_far : (layouts : Layouts) (limit now : Option ℕ) (s : State) (input rest : List ℕ) (store : StoreView) (slots : List (Option Register)) (a b : Option (List ℕ)) → (so_far : Along layouts limit now s input rest store slots a b) → SessionFrom layouts limit s so_far.done so_far.output so_far.mid
 session_so_far layouts limit now s input rest store slots a b so_far =
     session_of layouts limit s so_far.mid (so_far.done ++ []) so_far.done (so_far.output ++ []) so_far.output (append-nil so_far.done) (append-nil so_far.output)
     (so_far.goes_on [] [] so_far.mid (record { commands = []; replies = []; are_commands = tt; run = refl; output_is = refl }))
@@ -113,18 +110,9 @@ took_none held bytes b = (0, omega (arith, length-append bytes (b ∷ [])), Appe
 pub record RanSoFar (layouts : Layouts) (limit now : Option ℕ) (input rest : List ℕ) (store store' : StoreView) (slots slots' : List (Option Register)) (held held' : Option (List ℕ)) (faults faults' : ℕ) : Type 0 where
   pub along : (s : State) → HoldsState layouts store slots s → Along layouts limit now s input rest store' slots' held held'
   pub no_fewer_faults : faults ≤ faults'
-
--- what follows from what a failure says
-pub on_err : {A E : Type 0} {P Q : Type 0} (r : Result A E) → (P → Q) → OnErr r P → OnErr r Q
-on_err (Ok x) f p = p
-on_err (Err e) f p = f p
+  pub same : IsSameStore store store'
 
 -- bytes that are as they were
 pub keeps_same : (held : Option (List ℕ)) → Keeps held held
 keeps_same None = tt
 keeps_same (Some bytes) = refl
-
--- what holds of a failure
-pub on_any_err : {A E : Type 0} {Q : Type 0} (r : Result A E) → Q → OnErr r Q
-on_any_err (Ok x) q = tt
-on_any_err (Err e) q = q

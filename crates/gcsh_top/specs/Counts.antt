@@ -1,9 +1,5 @@
 -- What every source and every sink tells: counts, and what its last call met.
-use Rattle.std.specs.Prelude.{◌==◌, ℕ, ◌+◌, ◌-◌, ◌^◌, ◌≤◌, max, min, nat_lt, ◌&&◌, if◌then◌else◌, Bool, true, false, List, length, Result, Ok, Err}
-
--- a count of 64 bits rose, or stands at its greatest value
-abbrev pub Rose : ℕ → ℕ → Type 0
-Rose before now = min (before + 1) (2 ^ 64 - 1) ≤ now
+use Rattle.std.specs.Prelude.{◌==◌, ℕ, ◌+◌, ◌-◌, ◌^◌, max, min, nat_lt, ◌&&◌, if◌then◌else◌, Bool, true, false, List, length, Result, Ok, Err}
 
 -- a count of 64 bits raised by n: at its greatest value it stands still
 abbrev pub raised : ℕ → ℕ → ℕ

@@ -3,5 +3,4 @@ pub mod Ends
 pub mod Memory
 pub mod Input
 pub mod Words
-pub mod Lines
 pub mod Runs

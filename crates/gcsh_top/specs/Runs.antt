@@ -4,7 +4,7 @@ use Rattle.std.specs.Io.KnownBytes.{Appends, Consumes, IsAtEnd, Keeps}
 use Rattle.gc_types.specs.declared.kind.Layouts.{Layouts}
 use Rattle.gc_types.specs.declared.kind.Layouts.TheVariants.{Null}
 use Rattle.gc_model.specs.Allocation.{Limits}
-use Rattle.gc_model.specs.Table.{start}
+use Rattle.gc_model.specs.Table.{Table, start, usual_roots}
 use Rattle.gc_model.specs.Holds.{HoldsTable}
 use Rattle.gc_model.specs.Views.{StoreView}
 use Rattle.gc_commands.specs.declared.command.Command.{Command}
@@ -13,10 +13,10 @@ use Rattle.gc_commands.specs.Spelling.{IsCommandOf}
 use Rattle.gc_script.specs.declared.registers.Register.{Register}
 use Rattle.gc_script.specs.State.{State, HoldsState, begin}
 use Rattle.gc_script.specs.Run.{Ran, WantsMemory}
-use Rattle.gc_script.specs.Session.{Session, reply_line}
+use Rattle.gc_script.specs.Session.{Session, SessionFrom, reply_line}
 use Rattle.gcsh_top.specs.declared.words.Form.{Form}
 use Rattle.gcsh_top.specs.Ends.{TookPart}
-use Rattle.gcsh_top.specs.Lines.{lines}
+use Rattle.gc_script.specs.Lines.{lines}
 use Rattle.gcsh_top.specs.Words.{IsForm}
 
 -- the line is a command that was run, and the sink took its reply
@@ -31,14 +31,14 @@ pub record RanLine (layouts : Layouts) (limits limits' : Limits) (s : State) (li
 pub record RanLines (layouts : Layouts) (limit : Option ℕ) (s : State) (input : List ℕ) (store : StoreView) (slots : List (Option Register)) (held held' : Option (List ℕ)) : Type 0 where
   pub output : List ℕ
   pub after : State
-  pub session : Session layouts limit s (lines input) output after
+  pub session : SessionFrom layouts limit s (lines input) output after
   pub holds : HoldsState layouts store slots after
   pub replied : Appends held held' output
 
 -- A line without its whole reply: for want of memory its command was not run, or it was run and a front of
 -- its reply was written.
 pub data BrokeOff (layouts : Layouts) (limit : Option ℕ) (s : State) (line : List ℕ) (store : StoreView) (slots : List (Option Register)) (held held' : Option (List ℕ)) : Type 0 where
-  not_run : WantsMemory layouts s store slots → Keeps held held' → BrokeOff layouts limit s line store slots held held'
+  not_run : WantsMemory layouts limit s store slots → Keeps held held' → BrokeOff layouts limit s line store slots held held'
   not_written : (limits limits' : Limits) (command : Command) (answer : Reply) → limits.limit ≡ limit → IsCommandOf line command → Ran layouts limits limits' s command answer store slots → TookPart held held' (reply_line answer) → BrokeOff layouts limit s line store slots held held'
 
 -- the lines of the input were run and replied to up to one that broke off
@@ -49,22 +49,18 @@ pub record StoppedLines (layouts : Layouts) (limit : Option ℕ) (s : State) (in
   pub cut : lines input ≡ done ++ line ∷ rest
   pub output : List ℕ
   pub mid : State
-  pub session : Session layouts limit s done output mid
+  pub session : SessionFrom layouts limit s done output mid
   pub between : Option (List ℕ)
   pub written : Appends held between output
   pub broke_off : BrokeOff layouts limit mid line store slots between held'
-
--- the greatest number of scoped roots, and that of owned ones
-abbrev pub usual_roots : ℕ
-usual_roots = 16777216
 
 -- an input was run on a store whose heap is that of the form
 pub record RanForm (form : Form) (input : List ℕ) (held held' : Option (List ℕ)) (store : StoreView) : Type 0 where
   pub output : List ℕ
   pub written : Appends held held' output
-  pub after : State
-  pub session : Session Null (Some form.most) (begin (start form.first usual_roots usual_roots)) (lines input) output after
-  pub holds : HoldsTable Null store after.table
+  pub table : Table ℕ
+  pub session : Session Null form.first form.most input output table
+  pub holds : HoldsTable Null store table
 
 -- the store of a null heap that begins with the form's pages holds the empty table
 abbrev pub IsReady : Form → StoreView → Type 0

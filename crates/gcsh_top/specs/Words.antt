@@ -1,6 +1,7 @@
 -- The words of the program.
 use Rattle.std.specs.Prelude.{◌≡◌, ℕ, ◌≤◌, List, [], ◌∷◌, codes}
 use Rattle.std.specs.Fmt.{decimal}
+use Rattle.gc_model.specs.Allocation.{max_pages}
 use Rattle.gcsh_top.specs.declared.words.Collector.{Collector}
 use Rattle.gcsh_top.specs.declared.words.Collector.TheVariants.{Copying, Counting, Null}
 use Rattle.gcsh_top.specs.declared.words.Form.{Form}
@@ -16,10 +17,6 @@ abbrev pub IsBuilt : Collector → Type 0
 IsBuilt Copying = ⊥
 IsBuilt Counting = ⊥
 IsBuilt Null = Unit {0}
-
--- the greatest number of pages of a heap
-abbrev pub max_pages : ℕ
-max_pages = 65535
 
 -- the words of a form: a collector, the pages that a heap begins with, the most that it may have
 abbrev pub words_of : Form → List (List ℕ)

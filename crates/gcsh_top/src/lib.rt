@@ -17,6 +17,8 @@ pub mod source;
 pub mod standard;
 pub mod stores;
 #[cfg(test)]
+mod run_tests;
+#[cfg(test)]
 mod tests;
 pub mod top;
 pub mod words;

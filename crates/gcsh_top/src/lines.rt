@@ -1,7 +1,7 @@
 //! The lines of an input, one after the other.
 
 ghost use Rattle.std.specs.Prelude.{◌≡◌, ◌==◌, ◌<◌, [], ◌∷◌, IfSome, MatchOption, length, position};
-ghost use Rattle.gcsh_top.specs.Lines.{lines};
+ghost use Rattle.gc_script.specs.Lines.{lines};
 
 /// Ends a line.
 const LINE_FEED: u8 = b'\n';

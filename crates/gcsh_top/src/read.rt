@@ -2,7 +2,7 @@
 
 ghost use Rattle.std.specs.Prelude.{ℕ, ◌≤◌, IfOk, IsErrOf, IsTrue, OnOk, vec_len};
 ghost use Rattle.std.specs.Io.KnownBytes.{Consumes, IsAtEnd};
-ghost use Rattle.gcsh_top.specs.Counts.{Rose};
+ghost use Rattle.gc_model.specs.Allocation.{Rose};
 ghost use Rattle.gcsh_top.specs.Ends.{Gave};
 ghost use Rattle.gcsh_top.specs.Input.{IsCount};
 

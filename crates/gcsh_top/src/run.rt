@@ -1,18 +1,19 @@
 //! Runs the lines of an input.
 
 ghost use Rattle.std.specs.Prelude.{◌≡◌, ◌≤◌, IfOk, IsErrOf, OnErr, OnOk};
-ghost use Rattle.gcsh_top.specs.Counts.{Rose};
+ghost use Rattle.gc_model.specs.Allocation.{Rose};
 ghost use Rattle.gcsh_top.specs.Ends.{TookPart};
 ghost use Rattle.gcsh_top.specs.Runs.{BrokeOff, RanLine, RanLines, StoppedLines};
 ghost use Rattle.gc_script.specs.State.{State, HoldsState};
 ghost use Rattle.gc_script.specs.Session.{reply_line};
+ghost use Rattle.gc_store.specs.Stores.{IsSameStore};
 ghost use Rattle.std.specs.Io.KnownBytes.{Appends};
 
 use crate::lines::next_line;
 use crate::sink::{Sink, SinkFault};
 use crate::write::write_all;
 use gc_heap::GcHeap;
-use gc_script::{Reply, RunError, Runner, parse_line, reply_text};
+use gc_script::{Reply, RunError, Runner, parse_line, push_reply};
 use gc_store::{ResourceLimiter, Store};
 use std::alloc::{AllocError, Global};
 use thiserror::Error;
@@ -26,17 +27,15 @@ pub enum LineFault {
     Memory,
 }
 
-/// Writes a reply with its line feed.
-fn write_reply<K: Sink>(alloc: Global, sink: &mut K, reply: &Reply) -> Result<(), LineFault>
+/// Writes a reply with its line feed. The text is a buffer that is used again.
+fn write_reply<K: Sink>(text: &mut String, sink: &mut K, reply: &Reply) -> Result<(), LineFault>
     ensures replied { OnOk result (Appends (K.held sink.old) (K.held sink.new) (reply_line reply.now)) }
     ensures part { OnErr result (TookPart (K.held sink.old) (K.held sink.new) (reply_line reply.now)) }
     ensures failed { IsErrOf result LineFault.Sink → Rose (K.faults sink.old) (K.faults sink.new) }
     ensures faults { K.faults sink.old ≤ K.faults sink.new }
 {
-    let Ok(mut text) = reply_text(alloc, reply) else {
-        return Err(LineFault::Memory);
-    };
-    if text.push_str("\n").is_err() {
+    text.clear();
+    if push_reply(text, reply).is_err() || text.push_str("\n").is_err() {
         return Err(LineFault::Memory);
     }
     match write_all(sink, text.as_bytes()) {
@@ -52,18 +51,20 @@ fn run_line<H: GcHeap, L: ResourceLimiter, K: Sink>(
     store: &mut Store<H, u64>,
     limiter: &mut L,
     line: &[u8],
+    text: &mut String,
     sink: &mut K,
 ) -> Result<(), LineFault>
     ensures ran { OnOk result ((s : State) → HoldsState H.LAYOUTS store.old runner.old s → RanLine H.LAYOUTS (L.limits limiter.old) (L.limits limiter.new) s line.now store.new runner.new (K.held sink.old) (K.held sink.new)) }
     ensures broke_off { OnErr result ((s : State) → HoldsState H.LAYOUTS store.old runner.old s → BrokeOff H.LAYOUTS (L.limits limiter.old).limit s line.now store.new runner.new (K.held sink.old) (K.held sink.new)) }
     ensures failed { IsErrOf result LineFault.Sink → Rose (K.faults sink.old) (K.faults sink.new) }
     ensures faults { K.faults sink.old ≤ K.faults sink.new }
+    ensures same { IsSameStore store.old store.new }
 {
     let Ok(command) = parse_line(alloc, line) else {
         return Err(LineFault::Memory);
     };
     match runner.run_one(store, limiter, &command) {
-        Ok(reply) => write_reply(alloc, sink, &reply),
+        Ok(reply) => write_reply(text, sink, &reply),
         Err(RunError::OutOfMemory) => Err(LineFault::Memory),
     }
 }
@@ -81,10 +82,12 @@ pub fn run_lines<H: GcHeap, L: ResourceLimiter, K: Sink>(
     ensures stopped { OnErr result ((s : State) → HoldsState H.LAYOUTS store.old runner.old s → StoppedLines H.LAYOUTS (L.limits limiter.old).limit s input.now store.new runner.new (K.held sink.old) (K.held sink.new)) }
     ensures failed { IsErrOf result LineFault.Sink → Rose (K.faults sink.old) (K.faults sink.new) }
     ensures faults { K.faults sink.old ≤ K.faults sink.new }
+    ensures same { IsSameStore store.old store.new }
 {
+    let mut text = String::new(alloc);
     let mut rest = input;
     while let Some((line, behind)) = next_line(rest) {
-        run_line(alloc, runner, store, limiter, line, sink)?;
+        run_line(alloc, runner, store, limiter, line, &mut text, sink)?;
         rest = behind;
     }
     Ok(())

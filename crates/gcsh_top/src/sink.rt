@@ -11,7 +11,7 @@ pub struct SinkFault;
 pub trait Sink {
     ghost use Rattle.std.specs.Prelude.{◌≡◌, ◌<◌, ◌≤◌, ℕ, Bool, false, List, Option, IfOk, OnErr, is_ok, length};
     ghost use Rattle.std.specs.Io.KnownBytes.{Keeps, WriteAppends};
-    ghost use Rattle.gcsh_top.specs.Counts.{Rose};
+    ghost use Rattle.gc_model.specs.Allocation.{Rose};
 
     /// The bytes that it holds, where it tells them.
     ghost held: { Self → Option (List ℕ) };

@@ -11,7 +11,8 @@ pub struct SourceFault;
 pub trait Source {
     ghost use Rattle.std.specs.Prelude.{◌≡◌, ℕ, ◌≤◌, Bool, IsTrue, List, Option, IfOk, OnErr, length};
     ghost use Rattle.std.specs.Io.KnownBytes.{IsAtEnd, Keeps};
-    ghost use Rattle.gcsh_top.specs.Counts.{Rose, met_end, raised};
+    ghost use Rattle.gc_model.specs.Allocation.{Rose};
+    ghost use Rattle.gcsh_top.specs.Counts.{met_end, raised};
     ghost use Rattle.gcsh_top.specs.Ends.{Fills};
 
     /// The bytes that it has left, where it tells them.

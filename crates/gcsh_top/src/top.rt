@@ -2,13 +2,14 @@
 
 ghost use Rattle.std.specs.Prelude.{◌≡◌, ◌≤◌, ◌+◌, ◌↔◌, ◌⊎◌, ℕ, IsTrue, map, string_bytes};
 ghost use Rattle.gc_types.specs.declared.kind.Layouts.TheVariants.{Null};
-ghost use Rattle.gc_store.specs.Stores.{HoldsStart};
+ghost use Rattle.gc_store.specs.Stores.{HoldsStart, IsSameStore};
 ghost use Rattle.gcsh_top.specs.declared.words.Form.{Form};
-ghost use Rattle.gcsh_top.specs.Counts.{Rose};
+ghost use Rattle.gc_model.specs.Allocation.{Rose};
 ghost use Rattle.gcsh_top.specs.Ends.{Gave};
 ghost use Rattle.gcsh_top.specs.Input.{max_input};
 ghost use Rattle.gcsh_top.specs.Runs.{Completed, IsReady, RanForm, Stopped, StoppedForm};
-ghost use Rattle.gcsh_top.specs.Words.{IsForm, max_pages};
+ghost use Rattle.gc_model.specs.Allocation.{max_pages};
+ghost use Rattle.gcsh_top.specs.Words.{IsForm};
 
 use crate::read::{ReadFault, read_all};
 use crate::run::{LineFault, run_lines};
@@ -63,6 +64,7 @@ pub fn gcsh_top<S: Source, K: Sink>(
     ensures unrun { (result ≡ 2) ⊎ (result ≡ 4) → (form : Form) × IsForm (map string_bytes words.now) form × IsReady form stores.new.null }
     ensures stopped { (result ≡ 3) ⊎ (result ≡ 5) → Stopped (map string_bytes words.now) (S.left source.old) (S.left source.new) (K.held sink.old) (K.held sink.new) stores.new.null }
     ensures unwritten { (result ≡ 2) ⊎ (result ≡ 4) → sink.new ≡ sink.old }
+    ensures same { IsSameStore stores.old.null stores.new.null }
 {
     let Some(form) = parse_words(words) else {
         return USAGE;
@@ -81,7 +83,8 @@ pub fn gcsh_top<S: Source, K: Sink>(
 fn configure(form: Form, store: &mut Store<NullHeap, u64>)
     requires first { form.first ≤ max_pages }
     requires start { HoldsStart ℕ Null store.old }
-    ensures { IsReady form store.new }
+    ensures ready { IsReady form store.new }
+    ensures same { IsSameStore store.old store.new }
 {
     let Some(config) = HeapConfig::with_pages(form.first) else {
         unreachable!()
@@ -103,6 +106,7 @@ fn run_form<K: Sink>(
     ensures flushed { result ≡ 0 → IsTrue (K.flushed sink.new) }
     ensures stopped { (result ≡ 0 → ⊥) → StoppedForm form input.now (K.held sink.old) (K.held sink.new) store.new }
     ensures write_fault { result ≡ 3 → Rose (K.faults sink.old) (K.faults sink.new) }
+    ensures same { IsSameStore store.old store.new }
 {
     let mut limiter = PageLimit::new(form.most);
     let mut runner = Runner::new(alloc);

@@ -2,7 +2,7 @@
 
 ghost use Rattle.std.specs.Prelude.{◌≤◌, OnErr, OnOk};
 ghost use Rattle.std.specs.Io.KnownBytes.{Appends};
-ghost use Rattle.gcsh_top.specs.Counts.{Rose};
+ghost use Rattle.gc_model.specs.Allocation.{Rose};
 ghost use Rattle.gcsh_top.specs.Ends.{TookPart};
 
 use crate::sink::{Sink, SinkFault};

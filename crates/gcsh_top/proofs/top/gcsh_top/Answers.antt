@@ -6,7 +6,7 @@ use Rattle.gcsh_top.proofs.FormRun.{not_done}
 use Rattle.gcsh_top.proofs.top.gcsh_top.Goals as goal
 
 pub returns-in-Err-Memory-clause-stopped : goal.returns-in-Err-Memory-clause-stopped
-returns-in-Err-Memory-clause-stopped g c _ = unread c.in-Some.form c.in-Some.ensures c.configure.ensures (keeps_same _)
+returns-in-Err-Memory-clause-stopped g c _ = unread c.in-Some.form c.in-Some.ensures c.configure.ensures.ready (keeps_same _)
 
 pub returns-clause-stopped : goal.returns-clause-stopped
 returns-clause-stopped g c stopped =

@@ -6,8 +6,8 @@ use Rattle.gc_script.specs.Steps.{is_built_operand}
 use Rattle.gc_script.proofs.RunLemmas.{counted_runs}
 use Rattle.gc_script.proofs.runner.Runner.make_struct.Goals as goal
 
-pub returns-in-Some-2 : goal.returns-in-Some-2
-returns-in-Some-2 g c s holds =
+pub returns-in-Some-2-clause-runs : goal.returns-in-Some-2-clause-runs
+returns-in-Some-2-clause-runs g c s holds =
     let built : list_all is_built_operand c.args.values.now ≡ true = search in
     let known : Some c.in-Some.count ≡ option_map length (struct_fields_at c.args.store.now.types c.args.t) = sym c.in-Some.is ∙ c.struct_field_count.ensures ∙ ap (λ (ty : ℕ). option_map length (struct_fields_at c.args.store.now.types ty)) c.new.ensures in
     let many : length c.args.values.now ≡ c.in-Some.count = search in

@@ -35,41 +35,41 @@ places_as : (g : given.Over) (c : After-place_struct g) (t : Table ℕ) (result 
 places_as g c t result is holds =
     subst (λ (r : Result GcRootIndex PlaceFault). Places g.H.GcHeap.LAYOUTS (new_struct c.args.t c.args.values.now) (g.L.ResourceLimiter.limits c.args.limiter.now) (g.L.ResourceLimiter.limits c.place_struct.new.limiter) t r c.place_struct.new.self) is (places_new g c t holds)
 
-pub returns-in-Ok-place_struct : goal.returns-in-Ok-place_struct
-returns-in-Ok-place_struct g c s holds =
-    let at = (goal.at.returns-in-Ok-place_struct g c).After-place_struct in
+pub returns-in-Ok-place_struct-clause-runs : goal.returns-in-Ok-place_struct-clause-runs
+returns-in-Ok-place_struct-clause-runs g c s holds =
+    let at = (goal.at.returns-in-Ok-place_struct-clause-runs g c).After-place_struct in
     placed _ _ _ c.args.store.now _ c.args.self.now _ s c.args.d c.args.t c.args.values.now c.in-Ok-place_struct.handle c.place_struct.ensures.same holds
     (places_as g at s.table (Ok c.in-Ok-place_struct.handle) c.in-Ok-place_struct.is holds.table)
     c.set.ensures.set
     (λ k other. c.set.ensures.others k other ∙ slots_are g at k)
 
-pub returns-in-Err-TooLarge : goal.returns-in-Err-TooLarge
-returns-in-Err-TooLarge g c s holds =
-    let at = (goal.at.returns-in-Err-TooLarge g c).After-place_struct in
+pub returns-in-Err-TooLarge-clause-runs : goal.returns-in-Err-TooLarge-clause-runs
+returns-in-Err-TooLarge-clause-runs g c s holds =
+    let at = (goal.at.returns-in-Err-TooLarge-clause-runs g c).After-place_struct in
     let did = places_as g at s.table (Err fault.TooLarge) (c.in-Err-TooLarge.is ∙ ap Err c.in-Err-TooLarge.field-0-is) holds.table in
     refused _ _ _ c.args.store.now _ c.args.self.now _ s c.args.d c.args.t c.args.values.now refusal.TooLarge (λ e. cc e)
     (heap_tests_large _ s c.args.t c.args.values.now did.0) c.place_struct.ensures.same holds did.1 (slots_are g at) did.2
 
-pub returns-in-Err-RootsFull : goal.returns-in-Err-RootsFull
-returns-in-Err-RootsFull g c s holds =
-    let at = (goal.at.returns-in-Err-RootsFull g c).After-place_struct in
+pub returns-in-Err-RootsFull-clause-runs : goal.returns-in-Err-RootsFull-clause-runs
+returns-in-Err-RootsFull-clause-runs g c s holds =
+    let at = (goal.at.returns-in-Err-RootsFull-clause-runs g c).After-place_struct in
     let did = places_as g at s.table (Err fault.RootsFull) (c.in-Err-RootsFull.is ∙ ap Err c.in-Err-RootsFull.field-0-is) holds.table in
     refused _ _ _ c.args.store.now _ c.args.self.now _ s c.args.d c.args.t c.args.values.now refusal.RootsFull (λ e. cc e)
     (heap_tests_full _ s c.args.t c.args.values.now did.0 did.1) c.place_struct.ensures.same holds did.2 (slots_are g at) did.3
 
-pub returns-in-Err-HeapOutOfMemory : goal.returns-in-Err-HeapOutOfMemory
-returns-in-Err-HeapOutOfMemory g c s holds =
-    let at = (goal.at.returns-in-Err-HeapOutOfMemory g c).After-place_struct in
+pub returns-in-Err-HeapOutOfMemory-clause-runs : goal.returns-in-Err-HeapOutOfMemory-clause-runs
+returns-in-Err-HeapOutOfMemory-clause-runs g c s holds =
+    let at = (goal.at.returns-in-Err-HeapOutOfMemory-clause-runs g c).After-place_struct in
     lacked _ _ _ c.args.store.now _ c.args.self.now _ s c.args.d c.args.t c.args.values.now _ c.place_struct.ensures.same holds
     (places_as g at s.table (Err (fault.HeapOutOfMemory c.in-Err-HeapOutOfMemory.field-0-0)) (c.in-Err-HeapOutOfMemory.is ∙ ap Err c.in-Err-HeapOutOfMemory.field-0-is) holds.table)
     (slots_are g at)
 
-pub returns-in-Err-FuncTableFull : goal.returns-in-Err-FuncTableFull
-returns-in-Err-FuncTableFull g c s holds =
-    absurd (places_as g (goal.at.returns-in-Err-FuncTableFull g c).After-place_struct s.table (Err fault.FuncTableFull) (c.in-Err-FuncTableFull.is ∙ ap Err c.in-Err-FuncTableFull.field-0-is) holds.table)
+pub returns-in-Err-FuncTableFull-clause-runs : goal.returns-in-Err-FuncTableFull-clause-runs
+returns-in-Err-FuncTableFull-clause-runs g c s holds =
+    absurd (places_as g (goal.at.returns-in-Err-FuncTableFull-clause-runs g c).After-place_struct s.table (Err fault.FuncTableFull) (c.in-Err-FuncTableFull.is ∙ ap Err c.in-Err-FuncTableFull.field-0-is) holds.table)
 
-pub returns : goal.returns
-returns g c s holds =
-    let at = (goal.at.returns g c).After-place_struct in
+pub returns-clause-runs : goal.returns-clause-runs
+returns-clause-runs g c s holds =
+    let at = (goal.at.returns-clause-runs g c).After-place_struct in
     let did = places_as g at s.table (Err fault.Memory) (c.in-Err-Memory.is ∙ ap Err c.in-Err-Memory.field-0-is) holds.table in
     (wanted _ _ c.args.store.now _ c.args.self.now _ s c.place_struct.ensures.same holds did.0 (slots_are g at), did.1)

@@ -1,0 +1,13 @@
+use Rattle.std.proofs.Common.{ℕ, take}
+use Rattle.gc_model.specs.Table.{Table}
+use Rattle.gc_model.specs.Holds.{HoldsTable}
+use Rattle.gc_store.specs.Stores.{IsSameStore}
+use Rattle.gc_script.specs.State.{begin}
+use Rattle.gc_script.proofs.ScriptLemmas.{Along}
+use Rattle.gc_script.proofs.script.run_script.Given as goal
+
+abbrev pub invariant-loop-command : goal.invariant-loop-command
+invariant-loop-command g l = record {
+  along : (t : Table ℕ) → HoldsTable g.H.GcHeap.LAYOUTS l.fn.store t → Along g.H.GcHeap.LAYOUTS (g.L.ResourceLimiter.limits l.fn.limiter) (g.L.ResourceLimiter.limits l.limiter) (begin t) (take l.command-index l.commands) l.replies.items l.store l.runner;
+  same : IsSameStore l.fn.store l.store;
+}
