@@ -1,4 +1,6 @@
 pub mod Kinds
 pub mod Declarations
 pub mod Layouts
+pub mod Subtyping
+pub mod Ancestors
 pub mod Entries

@@ -6,9 +6,11 @@
 //! `Layouts` (offsets and sizes as functions of the declarations).
 #![tactic(auto)]
 
+mod ancestry;
 pub mod index;
 pub mod kind;
 pub mod layout;
+mod matching;
 pub mod types;
 pub mod value;
 
