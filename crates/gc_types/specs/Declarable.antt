@@ -104,4 +104,4 @@ pub record Declarable (types : List Declaration) (d : Declaration) : Type 0 wher
 
 -- Each type of the list could be declared behind those before it.
 pub record AreDeclared (types : List Declaration) : Type 0 where
-  pub each : (before behind : List Declaration) (d : Declaration) → types ≡ before ++ d ∷ behind → Declarable before d
+  pub each : (ty : ℕ) (d : Declaration) → slice_get types ty ≡ Some d → Declarable (take ty types) d

@@ -1,6 +1,10 @@
 pub mod Kinds
+pub mod Values
 pub mod Declarations
-pub mod Layouts
 pub mod Subtyping
 pub mod Ancestors
+pub mod Declarable
+pub mod Layouts
 pub mod Entries
+pub mod Shapes
+pub mod Tables

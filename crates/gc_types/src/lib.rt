@@ -7,17 +7,24 @@
 #![tactic(auto)]
 
 mod ancestry;
+mod checks;
+mod entry;
 pub mod index;
 pub mod kind;
 pub mod layout;
 mod matching;
+mod placement;
+mod type_names;
 pub mod types;
 pub mod value;
 
 pub use index::VMSharedTypeIndex;
 pub use kind::{Layouts, TypeKind, VMGcKind};
-pub use layout::{FieldLayout, FieldLayouts, GcStructLayout};
-pub use types::{StructType, TypeFault, Types};
+pub use layout::{
+    FieldLayout, FieldLayouts, GcArrayLayout, GcStructLayout, Offsets, TraceInfo,
+};
+pub use type_names::{ArrayType, ExnType, FuncType, StructType};
+pub use types::{TypeFault, Types};
 pub use value::{
     FieldType, Func, HeapTopType, HeapType, Mutability, RefType, StorageType, Tag, ValType,
 };
