@@ -1,1 +1,3 @@
 pub mod LayoutLemmas
+pub mod SubtypingLemmas
+pub mod AncestorLemmas

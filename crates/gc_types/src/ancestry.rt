@@ -127,7 +127,8 @@ impl Ancestry {
                 jump: VMSharedTypeIndex::new(self.entries.len() as u32),
             },
         };
-        self.entries.push(entry)
+        self.entries.push(entry)?;
+        Ok(())
     }
 
     /// Drops the newest type, where there is one.
