@@ -128,16 +128,14 @@ fn lay_out(
 }
 
 /// The offsets of the references among the fields.
-fn references(alloc: Global, fields: &FieldLayouts) -> Result<Offsets, AllocError>
-    ensures { IfOk result (λ offsets. offsets ≡ ref_offsets fields.now) }
+fn references(alloc: Global, fields: &[FieldLayout]) -> Result<Vec<u32>, AllocError>
+    ensures { IfOk result (λ offsets. offsets.items ≡ ref_offsets fields.now) }
 {
-    let offsets: Vec<u32> = fields
-        .as_slice()
+    fields
         .iter()
         .filter(|field| field.is_gc_ref)
         .map(|field| field.offset)
-        .collect(alloc)?;
-    Ok(Offsets::from(offsets))
+        .collect(alloc)
 }
 
 /// Where the values of a struct or an exception lie in one heap.
@@ -163,10 +161,12 @@ impl ObjectLayout {
             heap.struct_base()
         };
         let layout = lay_out(alloc, base, is_exception, fields)?;
-        let gc_ref_offsets = references(alloc, &layout.fields)?;
+        let offsets = references(alloc, layout.fields.as_slice())?;
         Ok(ObjectLayout {
             layout,
-            trace: TraceInfo::Struct { gc_ref_offsets },
+            trace: TraceInfo::Struct {
+                gc_ref_offsets: Offsets::from(offsets),
+            },
         })
     }
 }

@@ -35,7 +35,10 @@ pub enum TypeFault {
 }
 
 impl From<AllocError> for TypeFault {
-    ghost from_gives = { λ _ fault. fault ≡ TypeFault.Memory };
+    ghost use Rattle.std.specs.Prelude.{◌≡◌};
+    ghost use Rattle.gc_types.specs.declared.types.TypeFault.TheVariants.{Memory};
+
+    ghost from_gives = { λ _ fault. fault ≡ Memory };
 
     fn from(_: AllocError) -> TypeFault {
         TypeFault::Memory
