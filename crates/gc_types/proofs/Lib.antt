@@ -1,3 +1,4 @@
 pub mod LayoutLemmas
 pub mod SubtypingLemmas
 pub mod AncestorLemmas
+pub mod PlacedLemmas
