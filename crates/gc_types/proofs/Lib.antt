@@ -2,3 +2,4 @@ pub mod LayoutLemmas
 pub mod SubtypingLemmas
 pub mod AncestorLemmas
 pub mod PlacedLemmas
+pub mod HeapMatching
