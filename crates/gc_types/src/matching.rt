@@ -14,9 +14,9 @@ impl Ancestry {
     pub(crate) fn matches_heap(&self, x: &HeapType, y: &HeapType) -> bool
         ensures { IsTrue result ↔ MatchesHeap self.now x.now y.now }
     {
-        match (x.concrete(), y.concrete()) {
-            (Some((kind, x)), Some((other, y))) => kind == other && self.is_subtype(x, y),
-            (None, _) | (_, None) => x.is_under(y),
+        match x.concrete().zip(y.concrete()) {
+            Some(((kind, x), (other, y))) => kind == other && self.is_subtype(x, y),
+            None => x.is_under(y),
         }
     }
 
