@@ -2,3 +2,5 @@ pub mod LayoutLemmas
 pub mod SubtypingLemmas
 pub mod AncestorLemmas
 pub mod CheckLemmas
+pub mod PlacedLemmas
+pub mod HeapMatching

@@ -1,6 +1,7 @@
 pub mod Kinds
 pub mod Values
 pub mod Declarations
+pub mod HeapTypes
 pub mod Subtyping
 pub mod Ancestors
 pub mod Declarable

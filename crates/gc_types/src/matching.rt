@@ -1,10 +1,12 @@
 //! Which types match which (WebAssembly GC proposal).
 
-ghost use Rattle.std.specs.Prelude.{◌↔◌, IsTrue};
+ghost use Rattle.std.specs.Prelude.{◌≡◌, ◌↔◌, IsTrue};
+ghost use Rattle.gc_types.specs.HeapTypes.{concrete, is_under, is_under_eq};
 ghost use Rattle.gc_types.specs.Subtyping.{MatchesHeap, MatchesRef, MatchesVal, MatchesStorage, MatchesField};
 
 use crate::ancestry::Ancestry;
 use crate::index::VMSharedTypeIndex;
+use crate::kind::TypeKind;
 use crate::value::{FieldType, HeapType, Mutability, RefType, StorageType, ValType};
 
 impl Ancestry {
@@ -12,12 +14,9 @@ impl Ancestry {
     pub(crate) fn matches_heap(&self, x: &HeapType, y: &HeapType) -> bool
         ensures { IsTrue result ↔ MatchesHeap self.now x.now y.now }
     {
-        match (x, y) {
-            (HeapType::ConcreteStruct(x), HeapType::ConcreteStruct(y))
-            | (HeapType::ConcreteArray(x), HeapType::ConcreteArray(y))
-            | (HeapType::ConcreteFunc(x), HeapType::ConcreteFunc(y))
-            | (HeapType::ConcreteExn(x), HeapType::ConcreteExn(y)) => self.is_subtype(*x, *y),
-            _ => x.is_under(y),
+        match x.concrete().zip(y.concrete()) {
+            Some(((kind, x), (other, y))) => kind == other && self.is_subtype(x, y),
+            None => x.is_under(y),
         }
     }
 
@@ -63,12 +62,27 @@ impl Ancestry {
 }
 
 impl HeapType {
+    /// The kind and the index of the declared type that the heap type names; None for an abstract one.
+    pub(crate) fn concrete(&self) -> Option<(TypeKind, VMSharedTypeIndex)>
+        ensures { result ≡ concrete self.now }
+    {
+        match self {
+            HeapType::ConcreteStruct(ty) => Some((TypeKind::Struct, *ty)),
+            HeapType::ConcreteArray(ty) => Some((TypeKind::Array, *ty)),
+            HeapType::ConcreteFunc(ty) => Some((TypeKind::Func, *ty)),
+            HeapType::ConcreteExn(ty) => Some((TypeKind::Exn, *ty)),
+            _ => None,
+        }
+    }
+
     /// Whether the type matches the other by the diagram of heap types alone, with no two concrete
     /// types compared.
-    fn is_under(&self, upper: &HeapType) -> bool {
+    fn is_under(&self, upper: &HeapType) -> bool
+        ensures { result ≡ is_under self.now upper.now }
+    {
         match upper {
-            HeapType::Any => self.is_eq() || matches!(self, HeapType::Any),
-            HeapType::Eq => self.is_eq(),
+            HeapType::Any => matches!(self, HeapType::Any) || self.is_under_eq(),
+            HeapType::Eq => self.is_under_eq(),
             HeapType::I31 => matches!(self, HeapType::I31 | HeapType::None),
             HeapType::Struct => matches!(
                 self,
@@ -99,7 +113,9 @@ impl HeapType {
     }
 
     /// Whether the type matches `Eq`.
-    fn is_eq(&self) -> bool {
+    fn is_under_eq(&self) -> bool
+        ensures { result ≡ is_under_eq self.now }
+    {
         matches!(
             self,
             HeapType::Eq
