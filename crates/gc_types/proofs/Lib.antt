@@ -4,3 +4,4 @@ pub mod AncestorLemmas
 pub mod CheckLemmas
 pub mod PlacedLemmas
 pub mod HeapMatching
+pub mod TableLemmas
