@@ -3,3 +3,4 @@ pub mod SubtypingLemmas
 pub mod AncestorLemmas
 pub mod PlacedLemmas
 pub mod HeapMatching
+pub mod LawsOfMatching

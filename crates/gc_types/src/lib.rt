@@ -11,6 +11,7 @@ pub mod index;
 pub mod kind;
 pub mod layout;
 mod matching;
+pub mod matching_laws;
 pub mod types;
 pub mod value;
 
