@@ -12,6 +12,8 @@ pub mod kind;
 pub mod layout;
 mod matching;
 pub mod matching_laws;
+#[cfg(test)]
+mod matching_tests;
 pub mod types;
 pub mod value;
 
