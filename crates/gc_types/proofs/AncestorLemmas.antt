@@ -15,8 +15,8 @@ pub super_entry : (entries : List Entry) (a : ℕ) (s : Option ℕ) → slice_ge
 super_entry entries a s h =
     let read = sym (slice_get-map (λ (e : Entry). e.supertype) entries a) ∙ h in
     elim ((slice_get_cases entries a).1) [
-      inl (e, within, is, same) ↦ (e, is, grind (arith, sym (ap (option_map (λ (e : Entry). e.supertype)) is) ∙ read))
-    | inr (past, none) ↦ absurd (grind (arith, sym (ap (option_map (λ (e : Entry). e.supertype)) none) ∙ read))
+      | inl (e, within, is, same) ↦ (e, is, grind (arith, sym (ap (option_map (λ (e : Entry). e.supertype)) is) ∙ read))
+      | inr (past, none) ↦ absurd (grind (arith, sym (ap (option_map (λ (e : Entry). e.supertype)) none) ∙ read))
     ]
 
 -- the supertype of an entry that is read
@@ -52,11 +52,11 @@ pub meets_past : (entries : List Entry) → ArePlaced entries → (a j b : ℕ) 
     → Meets (entry_supers entries) a b → Meets (entry_supers entries) j b
 meets_past entries placed a j b far deep m =
     elim (meets_linear (entry_supers entries) far m) [
-      inl below ↦ below
-    | inr above ↦
-        let same = ancestor_same entries placed above deep in
-        let back : Meets (entry_supers entries) b b = here (meets_declared (entry_supers entries) above).0 in
-        subst (λ z. Meets (entry_supers entries) z b) same back
+      | inl below ↦ below
+      | inr above ↦
+          let same = ancestor_same entries placed above deep in
+          let back : Meets (entry_supers entries) b b = here (meets_declared (entry_supers entries) above).0 in
+          subst (λ z. Meets (entry_supers entries) z b) same back
     ]
 
 -- what a deeper type meets, its supertype meets

@@ -5,3 +5,4 @@ pub mod CheckLemmas
 pub mod PlacedLemmas
 pub mod HeapMatching
 pub mod TableLemmas
+pub mod LawsOfMatching

@@ -15,6 +15,9 @@ pub mod layout;
 mod matching;
 mod placement;
 mod type_names;
+pub mod matching_laws;
+#[cfg(test)]
+mod matching_tests;
 pub mod types;
 pub mod value;
 

@@ -31,6 +31,6 @@ returns-clause-jump c =
     let far = (c.requires.placed c.args.supertype c.entry_at-parent.result c.entry_at-parent.ensures).jump in
     let farther = (c.requires.placed c.entry_at-parent.result.jump c.entry_at-far.result c.entry_at-far.ensures).jump in
     elim c.if-parent-far.branch [
-      then-parent-far w ↦ subst (λ j. Meets (entry_supers c.args.entries.now) c.args.supertype j) (sym w.jump-is) (meets_trans (entry_supers c.args.entries.now) far farther)
-    | else-parent-far w ↦ subst (λ j. Meets (entry_supers c.args.entries.now) c.args.supertype j) (sym w.jump-is) (here (rw length-map c.requires.declared))
+      | then-parent-far w ↦ subst (λ j. Meets (entry_supers c.args.entries.now) c.args.supertype j) (sym w.jump-is) (meets_trans (entry_supers c.args.entries.now) far farther)
+      | else-parent-far w ↦ subst (λ j. Meets (entry_supers c.args.entries.now) c.args.supertype j) (sym w.jump-is) (here (rw length-map c.requires.declared))
     ]
