@@ -6,3 +6,5 @@ pub mod PlacedLemmas
 pub mod HeapMatching
 pub mod TableLemmas
 pub mod LawsOfMatching
+pub mod AlikeLemmas
+pub mod RefLemmas

@@ -12,6 +12,7 @@ mod entry;
 pub mod index;
 pub mod kind;
 pub mod layout;
+pub mod layout_laws;
 mod matching;
 mod placement;
 mod type_names;
