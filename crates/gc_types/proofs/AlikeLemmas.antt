@@ -150,7 +150,7 @@ sub_fields supers (struct_of fs) (struct_of gs) others m e = record {
   mine = fs;
   is = refl;
   matches =
-    subst (λ (o : List FieldType). AllZip (MatchesField supers) (take (length o) fs) o) (same_Some gs others e) m;
+      subst (λ (o : List FieldType). AllZip (MatchesField supers) (take (length o) fs) o) (same_Some gs others e) m;
 }
 sub_fields supers (array_of x) (array_of y) others m e = cc
 sub_fields supers (func_of ps rs) (func_of qs ss) others m e = cc
@@ -196,26 +196,26 @@ fields_lie layouts types fields all (here h) found = record {
   others = fields;
   declared = found;
   alike =
-    take_layouts (length fields) (struct_base layouts) fields
-    ∙ ap (field_layouts (struct_base layouts)) (take_all (length fields) fields (omega arith));
+      take_layouts (length fields) (struct_base layouts) fields
+      ∙ ap (field_layouts (struct_base layouts)) (take_all (length fields) fields (omega arith));
 }
 fields_lie layouts types fields {sub} all (up {p = p} is rest) found =
     let above = fields_lie layouts types fields all rest found in
     let s = step types sub p all is in
     let mine = sub_fields s.supers s.type.shape s.supertype.shape above.others s.matches
-      (sym (ap declaration_struct_fields s.above) ∙ above.declared) in
+    (sym (ap declaration_struct_fields s.above) ∙ above.declared) in
     let base = struct_base layouts in
     let n = length fields in
     let m = length above.others in
     let long : n ≤ m =
-      omega (arith, ap length above.alike, length-take n (field_layouts base above.others), length-layouts base above.others, length-layouts base fields) in
+    omega (arith, ap length above.alike, length-take n (field_layouts base above.others), length-layouts base above.others, length-layouts base fields) in
     record {
       others = mine.mine;
       declared = ap declaration_struct_fields s.found ∙ mine.is;
       alike =
-        sym (take-take n m (field_layouts base mine.mine) long)
-        ∙ ap (take n) (take_layouts m base mine.mine ∙ layouts_alike s.supers base (take m mine.mine) above.others mine.matches)
-        ∙ above.alike;
+          sym (take-take n m (field_layouts base mine.mine) long)
+          ∙ ap (take n) (take_layouts m base mine.mine ∙ layouts_alike s.supers base (take m mine.mine) above.others mine.matches)
+          ∙ above.alike;
     }
 
 -- the elements of a subtype lie as those of each of its supertypes
@@ -225,13 +225,13 @@ elems_lie layouts types elem {sub} all (up {p = p} is rest) found =
     let above = elems_lie layouts types elem all rest found in
     let s = step types sub p all is in
     let mine = sub_elem s.supers s.type.shape s.supertype.shape above.other s.matches
-      (sym (ap declaration_elem s.above) ∙ above.declared) in
+    (sym (ap declaration_elem s.above) ∙ above.declared) in
     let a = alike_storage s.supers mine.mine.element_type above.other.element_type mine.matches.read in
     record {
       other = mine.mine;
       declared = ap declaration_elem s.found ∙ mine.is;
       alike =
-        ap (λ w. array_placed layouts w (is_gc_storage mine.mine.element_type)) a.width
-        ∙ ap (array_placed layouts (storage_width above.other.element_type)) a.gc
-        ∙ above.alike;
+          ap (λ w. array_placed layouts w (is_gc_storage mine.mine.element_type)) a.width
+          ∙ ap (array_placed layouts (storage_width above.other.element_type)) a.gc
+          ∙ above.alike;
     }

@@ -68,9 +68,9 @@ by_recursion base p (f ∷ fields) h =
     let rest = by_recursion base (o + w) fields (omega arith) in
     let places = field_layouts (o + w) fields in
     elim (is_gc_storage f.element_type) as
-      (λ b. is_gc_storage f.element_type ≡ b → AllByRecursion (IsPlacedIn base size) (ref_offsets_of o b places)) [
-      true ↦ λ e. (reference base p w size (gc_width f.element_type e) h far ends, rest)
-    | false ↦ λ _. rest
+    (λ b. is_gc_storage f.element_type ≡ b → AllByRecursion (IsPlacedIn base size) (ref_offsets_of o b places)) [
+      | true ↦ λ e. (reference base p w size (gc_width f.element_type e) h far ends, rest)
+      | false ↦ λ _. rest
     ] refl
 
 -- each reference among the fields lies so

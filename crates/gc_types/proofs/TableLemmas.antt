@@ -57,23 +57,23 @@ may_stand types d may = (may.known, extends_there types d d.supertype may.extend
 declared_push : (types : List Declaration) (d : Declaration) → AreDeclared types → Declarable types d → (ty : ℕ) (e : Declaration) → slice_get (types ++ d ∷ []) ty ≡ Some e → Declarable (take ty (types ++ d ∷ [])) e
 declared_push types d all may ty e found =
     elim (cases_lt ty (length types)) [
-      inl below ↦
-        subst (λ (ts : List Declaration). Declarable ts e) (sym (take-append-le ty types (d ∷ []) (omega arith)))
-        (all.each ty e (sym (get_front types (d ∷ []) ty below) ∙ found))
-    | inr above ↦
-        let inside : ty < length (types ++ d ∷ []) = slice_get_within (types ++ d ∷ []) ty e found in
-        let at : ty ≡ length types = omega (arith, length_push types d) in
-        let is : d ≡ e = same_Some d e (sym (get_last types d) ∙ ap (slice_get (types ++ d ∷ [])) (sym at) ∙ found) in
-        let before : take ty (types ++ d ∷ []) ≡ types =
+      | inl below ↦
+          subst (λ (ts : List Declaration). Declarable ts e) (sym (take-append-le ty types (d ∷ []) (omega arith)))
+          (all.each ty e (sym (get_front types (d ∷ []) ty below) ∙ found))
+      | inr above ↦
+          let inside : ty < length (types ++ d ∷ []) = slice_get_within (types ++ d ∷ []) ty e found in
+          let at : ty ≡ length types = omega (arith, length_push types d) in
+          let is : d ≡ e = same_Some d e (sym (get_last types d) ∙ ap (slice_get (types ++ d ∷ [])) (sym at) ∙ found) in
+          let before : take ty (types ++ d ∷ []) ≡ types =
           take-append-le ty types (d ∷ []) (omega arith) ∙ take_all ty types above in
-        subst (λ (ts : List Declaration). Declarable ts e) (sym before) (subst (λ (x : Declaration). Declarable types x) is may)
+          subst (λ (ts : List Declaration). Declarable ts e) (sym before) (subst (λ (x : Declaration). Declarable types x) is may)
     ]
 
 -- the table after one more declaration
 pub table_push : (ancestry : List (Option ℕ)) (types : List Declaration) (d : Declaration) → IsTable ancestry types → Declarable types d → IsTable (ancestry ++ d.supertype ∷ []) (types ++ d ∷ [])
 table_push ancestry types d table may = record {
   supertypes =
-    ap (λ (a : List (Option ℕ)). a ++ d.supertype ∷ []) table.supertypes
-    ∙ sym (map-append (λ (x : Declaration). x.supertype) types (d ∷ []));
+      ap (λ (a : List (Option ℕ)). a ++ d.supertype ∷ []) table.supertypes
+      ∙ sym (map-append (λ (x : Declaration). x.supertype) types (d ∷ []));
   declared = record { each = declared_push types d table.declared may };
 }

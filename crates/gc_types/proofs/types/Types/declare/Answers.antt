@@ -10,20 +10,20 @@ use Rattle.gc_types.proofs.types.Types.declare.Goals.{Else-not-may_stand}
 may : (c : Else-not-may_stand) → Declarable c.self.inside.declared.items c.args.new
 may c =
     let whole : c.as_slice.result.now ≡ c.self.inside.declared.items ++ c.args.new ∷ [] =
-      c.as_slice.ensures.value ∙ c.in_ok-push.ensures.types in
+    c.as_slice.ensures.value ∙ c.in_ok-push.ensures.types in
     let early : (ty : ℕ) → c.args.new.supertype ≡ Some ty → ty < length c.self.inside.declared.items =
-      λ ty is.
-        let below : ty < c.len-index.result = c.is_earlier.ensures.0 c.if-not-is_earlier.false ty (c.supertype.ensures ∙ is) in
-        omega (arith, c.self.inside.declared.ok.0) in
+    λ ty is.
+    let below : ty < c.len-index.result = c.is_earlier.ensures.0 c.if-not-is_earlier.false ty (c.supertype.ensures ∙ is) in
+    omega (arith, c.self.inside.declared.ok.0) in
     let stands : MayStand (c.self.inside.declared.items ++ c.args.new ∷ []) c.args.new =
-      subst (λ (ts : List Declaration). MayStand ts c.args.new) whole
-      ((c.may_stand.ensures c.self.inside.declared.items c.args.new whole).0 c.if-not-may_stand.false) in
+    subst (λ (ts : List Declaration). MayStand ts c.args.new) whole
+    ((c.may_stand.ensures c.self.inside.declared.items c.args.new whole).0 c.if-not-may_stand.false) in
     declarable c.self.inside.declared.items c.args.new c.requires (omega (arith, c.self.inside.declared.ok.0)) early stands
 
 pub invariant_of-self-else-not-may_stand : goal.invariant_of-self-else-not-may_stand
 invariant_of-self-else-not-may_stand c =
     let table : IsTable (c.self.inside.ancestry ++ c.args.new.supertype ∷ []) (c.self.inside.declared.items ++ c.args.new ∷ []) =
-      table_push c.self.inside.ancestry c.self.inside.declared.items c.args.new c.self.invariant (may c) in
+    table_push c.self.inside.ancestry c.self.inside.declared.items c.args.new c.self.invariant (may c) in
     subst (λ (a : List (Option ℕ)). IsTable a c.push.new.types.items) (sym c.in_ok-push.ensures.ancestry)
     (subst (λ (ts : List Declaration). IsTable (c.self.inside.ancestry ++ c.args.new.supertype ∷ []) ts) (sym c.in_ok-push.ensures.types) table)
 
