@@ -20,6 +20,8 @@ pub mod matching_laws;
 #[cfg(test)]
 mod matching_tests;
 mod placement;
+#[cfg(test)]
+mod small_tests;
 mod type_names;
 pub mod types;
 #[cfg(test)]
