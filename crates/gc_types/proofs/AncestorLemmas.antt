@@ -1,13 +1,13 @@
 -- What depths tell of ancestors.
-use Rattle.std.proofs.Common.{ℕ, ◌≡◌, ◌<◌, ◌≤◌, ◌+◌, ◌-◌, ◌⊎◌, inl, inr, List, [], ◌∷◌, ◌++◌, Option, Some, None, map, length, take, refl, sym, ◌∙◌, ap, subst, arith, length-append}
+use Rattle.std.proofs.Common.{ℕ, ◌≡◌, ◌<◌, ◌≤◌, ◌+◌, inl, inr, List, Option, Some, None, length, refl, sym, ◌∙◌, ap, subst, arith}
 use Rattle.std.specs.List.{slice_get}
 use Rattle.std.proofs.lemmas.List.{length-map}
 use Rattle.std.specs.Option.{option_map}
 use Rattle.std.proofs.lemmas.Option.{slice_get_within, slice_get-map, slice_get_cases}
 use Rattle.gc_types.specs.declared.ancestry.Entry.{Entry}
 use Rattle.gc_types.specs.Subtyping.{Meets, here, up}
-use Rattle.gc_types.specs.Ancestors.{ArePlaced, IsPlaced, IsAbove, entry_supers, entry_depth, depth_at}
-use Rattle.gc_types.proofs.SubtypingLemmas.{meets_declared, meets_trans, meets_linear}
+use Rattle.gc_types.specs.Ancestors.{ArePlaced, IsAbove, entry_supers, entry_depth, depth_at}
+use Rattle.gc_types.proofs.SubtypingLemmas.{meets_declared, meets_linear}
 
 -- the entry behind a supertype that is read
 pub super_entry : (entries : List Entry) (a : ℕ) (s : Option ℕ) → slice_get (entry_supers entries) a ≡ Some s

@@ -1,11 +1,10 @@
 -- The table of heap types and the arrows of their diagram.
-use Rattle.std.proofs.Common.{ℕ, ◌≡◌, ◌<◌, ◌⊎◌, inl, inr, Bool, true, false, IsTrue, List, Option, Some, None, length, refl, sym, ◌∙◌, ap, subst}
+use Rattle.std.proofs.Common.{ℕ, ◌≡◌, Bool, false, IsTrue, List, Option, Some, None, refl, sym, ◌∙◌, ap, subst}
 use Rattle.std.specs.Option.{option_zip, option_map}
 use Rattle.gc_types.specs.declared.kind.TypeKind.{TypeKind}
-use Rattle.gc_types.specs.declared.kind.TypeKind.TheVariants as kinds
 use Rattle.gc_types.specs.declared.value.HeapType.{HeapType}
 use Rattle.gc_types.specs.declared.value.HeapType.TheVariants as heap
-use Rattle.gc_types.specs.HeapTypes.{concrete, is_under, is_under_eq}
+use Rattle.gc_types.specs.HeapTypes.{concrete, is_under}
 use Rattle.gc_types.specs.Subtyping.{Meets, MatchesHeap, same, along, through, Arrow, none_i31, none_struct, none_array, none_concrete_struct, none_concrete_array, concrete_struct, concrete_struct_struct, concrete_array, concrete_array_array, i31_eq, struct_eq, array_eq, eq_any, no_extern_extern, no_func_func, no_func_concrete_func, concrete_func, concrete_func_func, no_exn_exn, no_exn_concrete_exn, concrete_exn, concrete_exn_exn, no_cont_cont, IsAbstract}
 use Rattle.gc_types.proofs.SubtypingLemmas.{meets_trans}
 

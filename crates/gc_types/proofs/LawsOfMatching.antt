@@ -1,5 +1,5 @@
 -- Each of the relations is reflexive and transitive.
-use Rattle.std.proofs.Common.{ℕ, ◌≡◌, ◌<◌, List, Option, length, refl, sym, ◌∙◌, subst}
+use Rattle.std.proofs.Common.{ℕ, List, Option, refl, sym, ◌∙◌, subst}
 use Rattle.gc_types.specs.declared.value.HeapType.{HeapType}
 use Rattle.gc_types.specs.declared.value.HeapType.TheVariants as heap
 use Rattle.gc_types.specs.declared.value.RefType.{RefType}
@@ -8,7 +8,7 @@ use Rattle.gc_types.specs.declared.value.ValType.TheVariants as val
 use Rattle.gc_types.specs.declared.value.StorageType.{StorageType}
 use Rattle.gc_types.specs.declared.value.StorageType.TheVariants as storage
 use Rattle.gc_types.specs.declared.value.FieldType.{FieldType}
-use Rattle.gc_types.specs.Subtyping.{Meets, here, MatchesHeap, same, along, through, concrete_struct, concrete_array, concrete_func, concrete_exn, MatchesRef, MatchesVal, MatchesStorage, MatchesField, IsDeclaredHeap, IsDeclaredVal, IsDeclaredStorage}
+use Rattle.gc_types.specs.Subtyping.{here, MatchesHeap, same, along, through, concrete_struct, concrete_array, concrete_func, concrete_exn, MatchesRef, MatchesVal, MatchesStorage, MatchesField, IsDeclaredHeap, IsDeclaredVal, IsDeclaredStorage}
 
 pub heap_reflexive : (supers : List (Option ℕ)) (x : HeapType) → IsDeclaredHeap supers x → MatchesHeap supers x x
 heap_reflexive supers (heap.ConcreteStruct t) h = along (concrete_struct (here h))

@@ -25,7 +25,7 @@ fn family(alloc: Global) -> Result<Ancestry, AllocError> {
 /// Each type but the first has the one before it as its supertype.
 fn chain(alloc: Global, count: u32) -> Result<Ancestry, AllocError>
     requires { count < u32.MAX }
-    ensures { IfOk result (λ ancestry. count ≡ 0 → length ancestry ≡ 0) }
+    ensures { IfOk result (λ ancestry. length ancestry ≡ count) }
 {
     let mut ancestry = Ancestry::new(alloc);
     let mut supertype = None;
@@ -152,7 +152,6 @@ fn number(mutability: Mutability, element_type: StorageType) -> FieldType {
 fn fields_match_by_mutability_nullability_and_width(rt: HostRuntime) -> Result<(), Fail> {
     let ancestry = family(rt.alloc())?;
     let (fixed, var) = (Mutability::Const, Mutability::Var);
-    let (i32, i64) = (ValType::I32, ValType::I64);
     let cases = [
         (
             field(fixed, false, HeapType::I31),
@@ -221,26 +220,26 @@ fn fields_match_by_mutability_nullability_and_width(rt: HostRuntime) -> Result<(
         ),
         (
             number(fixed, StorageType::I8),
-            number(fixed, StorageType::ValType(i32)),
+            number(fixed, StorageType::ValType(ValType::I32)),
             false,
         ),
         (
-            number(fixed, StorageType::ValType(i32)),
+            number(fixed, StorageType::ValType(ValType::I32)),
             number(fixed, StorageType::I8),
             false,
         ),
         (
-            number(fixed, StorageType::ValType(i32)),
-            number(fixed, StorageType::ValType(i64)),
+            number(fixed, StorageType::ValType(ValType::I32)),
+            number(fixed, StorageType::ValType(ValType::I64)),
             false,
         ),
         (
-            number(var, StorageType::ValType(i64)),
-            number(var, StorageType::ValType(i64)),
+            number(var, StorageType::ValType(ValType::I64)),
+            number(var, StorageType::ValType(ValType::I64)),
             true,
         ),
         (
-            number(fixed, StorageType::ValType(i32)),
+            number(fixed, StorageType::ValType(ValType::I32)),
             field(fixed, true, HeapType::Any),
             false,
         ),
@@ -287,12 +286,12 @@ fn subtypes_are_found_and_others_not(rt: HostRuntime) -> Result<(), Fail> {
     Ok(())
 }
 
-/// Link by link these tests would take some 36 thousand million steps.
+/// Link by link these tests would take some seven thousand million steps.
 #[test]
 fn a_long_chain_is_climbed_quickly(rt: HostRuntime) -> Result<(), Fail> {
     let count = 60_000;
     let ancestry = chain(rt.alloc(), count)?;
-    for sup in 0..20 {
+    for sup in 0..4 {
         for sub in 0..count {
             assert_eq!(rt; ancestry.is_subtype(index(sub), index(sup)), sub >= sup);
         }

@@ -1,9 +1,7 @@
-use Rattle.std.proofs.Common.{◌≡◌, ◌<◌, ◌≤◌, ◌+◌, ◌-◌, ℕ, length, Some, ap, sym, ◌∙◌, subst, arith}
-use Rattle.std.specs.List.{slice_get}
+use Rattle.std.proofs.Common.{sym, subst, arith}
 use Rattle.std.proofs.lemmas.List.{length-map}
-use Rattle.gc_types.specs.declared.ancestry.Entry.{Entry}
 use Rattle.gc_types.specs.Subtyping.{Meets, here}
-use Rattle.gc_types.specs.Ancestors.{entry_supers, depth_at}
+use Rattle.gc_types.specs.Ancestors.{entry_supers}
 use Rattle.gc_types.proofs.AncestorLemmas.{jump_declared, jump_depth}
 use Rattle.gc_types.proofs.SubtypingLemmas.{meets_trans}
 use Rattle.gc_types.proofs.ancestry.below.Goals.{then-parent-far, else-parent-far}

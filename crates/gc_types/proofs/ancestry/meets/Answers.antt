@@ -1,10 +1,10 @@
-use Rattle.std.proofs.Common.{ℕ, ◌≡◌, ◌<◌, ◌≤◌, length, ap, sym, ◌∙◌, subst, arith, eq-eqb}
+use Rattle.std.proofs.Common.{◌≡◌, ◌<◌, length, ap, sym, ◌∙◌, subst, arith, eq-eqb}
 use Rattle.std.proofs.lemmas.List.{length-map}
 use borrow.Author.Tests.{eqb-true}
 use Rattle.gc_types.specs.Subtyping.{Meets, here}
 use Rattle.gc_types.specs.Ancestors.{entry_supers, entry_depth, depth_at}
 use Rattle.gc_types.proofs.SubtypingLemmas.{meets_declared, meets_trans}
-use Rattle.gc_types.proofs.AncestorLemmas.{jump_declared, pass_jump, pass_super, Passes, no_super, climbed_to, Climbed}
+use Rattle.gc_types.proofs.AncestorLemmas.{jump_declared, pass_jump, pass_super, Passes, no_super, climbed_to}
 use Rattle.gc_types.proofs.ancestry.meets.Goals.{then-entry_at-depth, else-entry_at-depth+in-Some, Joined-entry_at-depth}
 use Rattle.gc_types.proofs.ancestry.meets.Goals as goal
 
