@@ -1,5 +1,5 @@
 -- The type table as a plain list of declarations.
-use Rattle.std.specs.Prelude.{ℕ, ◌≡◌, ◌<◌, ◌≤◌, Bool, false, List, [], ◌∷◌, ◌++◌, Option, Some, None, map, max, length, slice_get}
+use Rattle.std.specs.Prelude.{ℕ, ◌≡◌, Bool, false, true, List, [], ◌∷◌, ◌++◌, Option, Some, None, map, slice_get, option_map, option_and_then, unwrap_or}
 use Rattle.gc_types.specs.declared.value.Mutability.TheVariants.{Const, Var}
 use Rattle.gc_types.specs.declared.value.StorageType.TheVariants as storage
 use Rattle.gc_types.specs.declared.value.ValType.TheVariants.{I32}
@@ -69,11 +69,53 @@ declaration_struct_fields (Some d) = shape_struct_fields d.shape
 abbrev pub struct_fields_at : List Declaration → ℕ → Option (List FieldType)
 struct_fields_at types ty = declaration_struct_fields (slice_get types ty)
 
+-- the element of an array; other types have none
+abbrev pub shape_elem : Shape → Option FieldType
+shape_elem (struct_of fields) = None
+shape_elem (array_of elem) = Some elem
+shape_elem (exn_of params) = None
+shape_elem (func_of params results) = None
+
+abbrev pub declaration_elem : Option Declaration → Option FieldType
+declaration_elem None = None
+declaration_elem (Some d) = shape_elem d.shape
+
+-- the element of the array type with that index
+abbrev pub elem_at : List Declaration → ℕ → Option FieldType
+elem_at types ty = declaration_elem (slice_get types ty)
+
+-- the kind of the type with that index
+abbrev pub kind_at : List Declaration → ℕ → Option TypeKind
+kind_at types ty = option_map (λ (d : Declaration). shape_kind d.shape) (slice_get types ty)
+
+-- the supertype that the type with that index was declared with
+abbrev pub supertype_at : List Declaration → ℕ → Option ℕ
+supertype_at types ty = option_and_then (λ (d : Declaration). d.supertype) (slice_get types ty)
+
+-- whether the type with that index is declared and final
+abbrev pub is_final_at : List Declaration → ℕ → Bool
+is_final_at types ty = unwrap_or (option_map (λ (d : Declaration). d.is_final) (slice_get types ty)) false
+
+-- a struct, array, function or exception type as it is declared; no type can extend an exception,
+-- which itself extends none
+abbrev pub struct_type : List FieldType → Option ℕ → Bool → Declaration
+struct_type fields supertype is_final = record { shape = struct_of fields; supertype = supertype; is_final = is_final }
+
+abbrev pub array_type : FieldType → Option ℕ → Bool → Declaration
+array_type elem supertype is_final = record { shape = array_of elem; supertype = supertype; is_final = is_final }
+
+abbrev pub func_type : List ValType → List ValType → Option ℕ → Bool → Declaration
+func_type params results supertype is_final =
+    record { shape = func_of params results; supertype = supertype; is_final = is_final }
+
+abbrev pub exn_type : List ValType → Declaration
+exn_type params = record { shape = exn_of params; supertype = None; is_final = true }
+
 -- a declared struct with these fields, that is not final and has no supertype
 abbrev pub plain_struct : List FieldType → Declaration
-plain_struct fields = record { shape = struct_of fields; supertype = None; is_final = false }
+plain_struct fields = struct_type fields None false
 
--- a type may have this many fields
+-- a type may have this many fields, parameters or results
 abbrev pub max_fields : ℕ
 max_fields = 10000
 
@@ -84,18 +126,6 @@ max_types = 4294967295
 -- a mutable 32-bit number
 abbrev pub IsMutableI32 : FieldType → Type 0
 IsMutableI32 f = f ≡ record { mutability = Var; element_type = storage.ValType I32 }
-
--- how many fields, parameters or results a shape lists at most
-abbrev pub shape_len : Shape → ℕ
-shape_len (struct_of fields) = length fields
-shape_len (array_of elem) = 1
-shape_len (exn_of params) = length params
-shape_len (func_of params results) = max (length params) (length results)
-
--- A type that may be declared next: not too many fields, and not too many types before it.
-pub record Declarable (types : List Declaration) (d : Declaration) : Type 0 where
-  pub few_fields : shape_len d.shape ≤ max_fields
-  pub few_types : length types < max_types
 
 -- the table with one more declaration
 abbrev pub declare : Declaration → TypeTable → TypeTable

@@ -1,5 +1,5 @@
 -- Where the fields of a type lie in an object.
-use Rattle.std.specs.Prelude.{ℕ, ◌+◌, ◌-◌, ◌*◌, ◌/◌, Bool, true, false, List, [], ◌∷◌}
+use Rattle.std.specs.Prelude.{ℕ, ◌+◌, ◌-◌, ◌*◌, ◌/◌, Bool, true, false, List, [], ◌∷◌, Option, Some, None, map, filter, slice_get, option_map}
 use Rattle.gc_types.specs.declared.value.FieldType.{FieldType}
 use Rattle.gc_types.specs.declared.value.StorageType.{StorageType}
 use Rattle.gc_types.specs.declared.value.StorageType.TheVariants as storage
@@ -11,6 +11,10 @@ use Rattle.gc_types.specs.declared.kind.Layouts.{Layouts}
 use Rattle.gc_types.specs.declared.kind.Layouts.TheVariants.{Null, Counting, Copying}
 use Rattle.gc_types.specs.declared.layout.FieldLayout.{FieldLayout}
 use Rattle.gc_types.specs.declared.layout.GcStructLayout.{GcStructLayout}
+use Rattle.gc_types.specs.declared.layout.GcArrayLayout.{GcArrayLayout}
+use Rattle.gc_types.specs.declared.layout.TraceInfo.{TraceInfo}
+use Rattle.gc_types.specs.declared.layout.TraceInfo.TheVariants as trace
+use Rattle.gc_types.specs.Declarations.{Shape, struct_of, array_of, exn_of, func_of, Declaration, constant_field, elem_at}
 
 -- the bytes that a value takes
 abbrev pub value_width : ValType → ℕ
@@ -88,6 +92,18 @@ struct_base Null = 8
 struct_base Counting = 28
 struct_base Copying = 12
 
+-- the first offset of an exception that a field may take
+abbrev pub exception_base : Layouts → ℕ
+exception_base Null = 16
+exception_base Counting = 36
+exception_base Copying = 20
+
+-- where the elements of an array begin, before that is rounded up to their width
+abbrev pub array_base : Layouts → ℕ
+array_base Null = 12
+array_base Counting = 32
+array_base Copying = 16
+
 -- the layout of a struct with these fields
 abbrev pub struct_layout : Layouts → List FieldType → GcStructLayout
 struct_layout layouts fields = record {
@@ -95,3 +111,57 @@ struct_layout layouts fields = record {
   is_exception = false;
   fields = field_layouts (struct_base layouts) fields;
 }
+
+-- the layout of an exception with these parameters, each of which is a field
+abbrev pub exn_layout : Layouts → List ValType → GcStructLayout
+exn_layout layouts params = record {
+  size = fields_end (exception_base layouts) (map constant_field params);
+  is_exception = true;
+  fields = field_layouts (exception_base layouts) (map constant_field params);
+}
+
+-- the layout of an array of these elements
+abbrev pub array_layout : Layouts → FieldType → GcArrayLayout
+array_layout layouts elem = record {
+  base_size = round_up (array_base layouts) (storage_width elem.element_type);
+  elem_size = storage_width elem.element_type;
+  elems_are_gc_refs = is_gc_storage elem.element_type;
+}
+
+-- the offsets of the references, in order
+abbrev pub ref_offsets : List FieldLayout → List ℕ
+ref_offsets places = map (λ (p : FieldLayout). p.offset) (filter (λ (p : FieldLayout). p.is_gc_ref) places)
+
+-- the layout of a struct or an exception; other types have none
+abbrev pub shape_layout : Layouts → Shape → Option GcStructLayout
+shape_layout layouts (struct_of fields) = Some (struct_layout layouts fields)
+shape_layout layouts (array_of elem) = None
+shape_layout layouts (exn_of params) = Some (exn_layout layouts params)
+shape_layout layouts (func_of params results) = None
+
+abbrev pub declaration_layout : Layouts → Option Declaration → Option GcStructLayout
+declaration_layout layouts None = None
+declaration_layout layouts (Some d) = shape_layout layouts d.shape
+
+-- the layout of the struct or exception type with that index
+abbrev pub layout_at : Layouts → List Declaration → ℕ → Option GcStructLayout
+layout_at layouts types ty = declaration_layout layouts (slice_get types ty)
+
+-- the layout of the array type with that index
+abbrev pub array_layout_at : Layouts → List Declaration → ℕ → Option GcArrayLayout
+array_layout_at layouts types ty = option_map (array_layout layouts) (elem_at types ty)
+
+-- which places of an object hold references; functions are no objects
+abbrev pub shape_trace : Layouts → Shape → Option TraceInfo
+shape_trace layouts (struct_of fields) = Some (trace.Struct (ref_offsets (struct_layout layouts fields).fields))
+shape_trace layouts (array_of elem) = Some (trace.Array (is_gc_storage elem.element_type))
+shape_trace layouts (exn_of params) = Some (trace.Struct (ref_offsets (exn_layout layouts params).fields))
+shape_trace layouts (func_of params results) = None
+
+abbrev pub declaration_trace : Layouts → Option Declaration → Option TraceInfo
+declaration_trace layouts None = None
+declaration_trace layouts (Some d) = shape_trace layouts d.shape
+
+-- the trace info of the type with that index
+abbrev pub trace_at : Layouts → List Declaration → ℕ → Option TraceInfo
+trace_at layouts types ty = declaration_trace layouts (slice_get types ty)

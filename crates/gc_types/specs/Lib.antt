@@ -1,4 +1,12 @@
 pub mod Kinds
+pub mod Values
 pub mod Declarations
+pub mod HeapTypes
+pub mod Subtyping
+pub mod Ancestors
+pub mod Declarable
 pub mod Layouts
 pub mod Entries
+pub mod Shapes
+pub mod Tables
+pub mod LayoutLaws

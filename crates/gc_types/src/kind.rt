@@ -1,7 +1,7 @@
 //! Kinds of types, of objects and of heaps.
 
-ghost use Rattle.std.specs.Prelude.{◌≡◌, ◌<◌, ◌^◌, ◌↔◌, IsTrue, bit_and, MatchOption};
-ghost use Rattle.gc_types.specs.Kinds.{kind_bits};
+ghost use Rattle.std.specs.Prelude.{◌≡◌, ◌≢◌, ◌<◌, ◌^◌, ◌↔◌, IsTrue, bit_and, IfSome, IfNone};
+ghost use Rattle.gc_types.specs.Kinds.{kind_bits, IsKindOf};
 
 /// What sort of type a declaration makes.
 #[derive(Clone, Copy, Debug, PartialEq, Eq, Hash)]
@@ -50,5 +50,37 @@ impl VMGcKind {
             VMGcKind::ArrayRef => 0xA800_0000,
             VMGcKind::ExnRef => 0x1000_0000,
         }
+    }
+
+    /// The kind that the upper six bits of the word tell; None exactly where they tell none.
+    pub fn from_high_bits_of_u32(word: u32) -> Option<VMGcKind>
+        ensures some { IfSome result (λ kind. kind_bits kind ≡ bit_and word VMGcKind.MASK) }
+        ensures none { IfNone result ((kind : VMGcKind) → kind_bits kind ≢ bit_and word VMGcKind.MASK) }
+    {
+        match word & VMGcKind::MASK {
+            0x4000_0000 => Some(VMGcKind::ExternRef),
+            0x8000_0000 => Some(VMGcKind::AnyRef),
+            0xA000_0000 => Some(VMGcKind::EqRef),
+            0xA400_0000 => Some(VMGcKind::StructRef),
+            0xA800_0000 => Some(VMGcKind::ArrayRef),
+            0x1000_0000 => Some(VMGcKind::ExnRef),
+            _ => None,
+        }
+    }
+
+    /// Whether each bit of the other kind is one of this kind: whether an object of this kind is one
+    /// of the other.
+    pub fn matches(self, other: VMGcKind) -> bool
+        ensures kinds { IsTrue result ↔ IsKindOf self other }
+        ensures bits { IsTrue result ↔ (bit_and (kind_bits self) (kind_bits other) ≡ kind_bits other) }
+    {
+        self.as_u32() & other.as_u32() == other.as_u32()
+    }
+
+    /// Whether the value fits into the bits of a kind word that a heap may use.
+    pub fn value_fits_in_unused_bits(value: u32) -> bool
+        ensures { IsTrue result ↔ (value < 67108864) }
+    {
+        value < 0x0400_0000
     }
 }

@@ -1,11 +1,7 @@
 //! Where the values of an object lie.
 
-ghost use Rattle.std.specs.Prelude.{◌≡◌, ◌+◌, ◌*◌, ◌≤◌, ◌<◌, ◌^◌, length, IfOk};
-ghost use Rattle.gc_types.specs.Layouts.{struct_base, struct_layout, storage_width, is_gc_storage, is_gc_heap_type, round_up};
+ghost use Rattle.std.specs.Prelude.{◌≡◌, ◌+◌, ◌*◌, ◌≤◌, ◌^◌, IfSome, IfNone};
 
-use crate::kind::Layouts;
-use crate::value::{FieldType, HeapType, StorageType, ValType};
-use std::alloc::{AllocError, Global};
 use std::marker::Model;
 
 /// Where one field lies.
@@ -59,93 +55,71 @@ pub struct GcStructLayout {
     pub fields: FieldLayouts,
 }
 
-impl Layouts {
-    /// The first offset of a struct that a field may take, in bytes.
-    pub fn struct_base(self) -> u32
-        ensures value { result ≡ struct_base self }
-        ensures small { result ≤ 28 }
+/// The layout of an array.
+#[derive(Clone, Copy, Debug, PartialEq, Eq)]
+pub struct GcArrayLayout {
+    /// Bytes of an array without elements; the first element lies here.
+    pub base_size: u32,
+    /// Bytes of each element.
+    pub elem_size: u32,
+    /// Whether the elements hold references that a collection follows.
+    pub elems_are_gc_refs: bool,
+}
+
+impl GcArrayLayout {
+    /// Bytes from the array's first byte to that element. None exactly where they pass a `u32`.
+    pub fn elem_offset(&self, i: u32) -> Option<u32>
+        ensures some { IfSome result (λ offset. offset ≡ self.now.base_size + i * self.now.elem_size) }
+        ensures none { IfNone result (2 ^ 32 ≤ self.now.base_size + i * self.now.elem_size) }
     {
-        match self {
-            Layouts::Null => 8,
-            Layouts::Counting => 28,
-            Layouts::Copying => 12,
-        }
+        i.checked_mul(self.elem_size)?.checked_add(self.base_size)
+    }
+
+    /// Bytes of an array of that length. None exactly where they pass a `u32`.
+    pub fn size(&self, len: u32) -> Option<u32>
+        ensures some { IfSome result (λ size. size ≡ self.now.base_size + len * self.now.elem_size) }
+        ensures none { IfNone result (2 ^ 32 ≤ self.now.base_size + len * self.now.elem_size) }
+    {
+        self.elem_offset(len)
     }
 }
 
-impl HeapType {
-    fn is_gc(&self) -> bool
-        ensures { result ≡ is_gc_heap_type self.now }
+/// Bytes from an object's first byte to each of its references, in order.
+#[derive(Debug, Drop)]
+pub struct Offsets {
+    offsets: Vec<u32>,
+}
+
+impl Model for Offsets {
+    ghost use Rattle.std.specs.Prelude.{List, ℕ};
+
+    ghost Value = { List ℕ };
+
+    ghost view = { λ o. o.offsets.items };
+}
+
+impl Offsets {
+    /// The offsets.
+    pub fn as_slice(&self) -> &[u32]
+        ensures { result.now ≡ self.now }
     {
-        !matches!(
-            self,
-            HeapType::Func
-                | HeapType::NoFunc
-                | HeapType::ConcreteFunc(_)
-                | HeapType::Cont
-                | HeapType::NoCont
-        )
+        self.offsets.as_slice()
     }
 }
 
-impl StorageType {
-    /// The bytes that a field of the type takes.
-    pub fn width(&self) -> u32
-        ensures value { result ≡ storage_width self.now }
-        ensures positive { 0 < result }
-        ensures small { result ≤ 16 }
-    {
-        match self {
-            StorageType::I8 => 1,
-            StorageType::I16 => 2,
-            StorageType::ValType(ValType::I32 | ValType::F32 | ValType::Ref(_)) => 4,
-            StorageType::ValType(ValType::I64 | ValType::F64) => 8,
-            StorageType::ValType(ValType::V128) => 16,
-        }
-    }
+impl From<Vec<u32>> for Offsets {
+    ghost from_gives = { λ v o. o ≡ v.items };
 
-    /// Whether a collection follows what a field of the type holds.
-    pub fn is_gc_ref(&self) -> bool
-        ensures { result ≡ is_gc_storage self.now }
-    {
-        match self {
-            StorageType::ValType(ValType::Ref(ty)) => ty.heap_type.is_gc(),
-            _ => false,
-        }
+    fn from(offsets: Vec<u32>) -> Offsets {
+        Offsets { offsets }
     }
 }
 
-/// The least multiple of `width` that is not below `offset`.
-fn next_multiple(offset: u32, width: u32) -> u32
-    requires positive { 0 < width }
-    requires fits { offset + width < 2 ^ 32 }
-    ensures value { result ≡ round_up offset width }
-    ensures near { result < offset + width }
-{
-    (offset + (width - 1)) / width * width
-}
-
-/// The layout of a struct with these fields. Its time is linear in their number.
-pub(crate) fn layout_struct(
-    alloc: Global,
-    layouts: Layouts,
-    fields: &[FieldType],
-) -> Result<GcStructLayout, AllocError>
-    requires { length fields.now ≤ 10000 }
-    ensures { IfOk result (λ layout. layout ≡ struct_layout layouts fields.now) }
-{
-    let mut places = Vec::with_capacity(alloc, fields.len())?;
-    let mut end = layouts.struct_base();
-    for field in fields {
-        let width = field.element_type.width();
-        let offset = next_multiple(end, width);
-        let is_gc_ref = field.element_type.is_gc_ref();
-        places.push(FieldLayout { offset, is_gc_ref })?;
-        end = offset + width;
-    }
-    Ok(GcStructLayout {
-        size: end,
-        is_exception: false,
-        fields: FieldLayouts { fields: places },
-    })
+/// Where the references of an object lie.
+#[derive(Debug, Drop)]
+pub enum TraceInfo {
+    /// In a struct or an exception.
+    Struct { gc_ref_offsets: Offsets },
+    /// In an array: in every element, or nowhere.
+    Array { gc_ref_elems: bool },
 }

@@ -1,20 +1,25 @@
 //! The table of declared types.
 
-ghost use Rattle.std.specs.Prelude.{All, [], ◌↔◌, IsTrue, ◌≡◌, ◌<◌, ◌≤◌, ◌^◌, false, length, IfOk, OnOk, OnErr, option_copied, option_map, slice_get, IsErrOf};
+ghost use Rattle.std.specs.Prelude.{[], ◌↔◌, IsTrue, ◌≡◌, length, IfOk, OnOk, OnErr, option_copied, option_map, slice_get, IsErrOf, IsSome};
 ghost use Rattle.std.specs.Option.{option_and_then};
-ghost use Rattle.std.specs.List.{AllByRecursion};
-ghost use Rattle.gc_types.specs.Declarations.{Declarable, IsMutableI32, TypeTable, declare, plain_struct, fields_at, struct_fields_at};
-ghost use Rattle.gc_types.specs.Layouts.{struct_layout};
+ghost use Rattle.gc_types.specs.Declarations.{TypeTable, declare, struct_type, array_type, exn_type, func_type, fields_at, struct_fields_at, elem_at, kind_at, supertype_at, is_final_at};
+ghost use Rattle.gc_types.specs.Declarable.{Declarable, AreDeclared, HasFewFields};
+ghost use Rattle.gc_types.specs.Subtyping.{supertypes_of, Meets, MatchesRef, MatchesVal, MatchesField};
+ghost use Rattle.gc_types.specs.Layouts.{struct_layout, layout_at, array_layout_at, trace_at};
 
+use crate::ancestry::Ancestry;
+use crate::checks;
+use crate::entry::{ArrayElem, Body, Declared, ExnParams, Signature, StructFields};
 use crate::index::VMSharedTypeIndex;
-use crate::kind::Layouts;
-use crate::layout::{GcStructLayout, layout_struct};
-use crate::value::FieldType;
-use std::alloc::{AllocError, AllocFailed, Global};
+use crate::kind::{Layouts, TypeKind};
+use crate::layout::{GcArrayLayout, GcStructLayout, TraceInfo};
+use crate::type_names::{ArrayType, ExnType, FuncType, StructType};
+use crate::value::{FieldType, RefType, ValType};
+use std::alloc::{AllocError, Global};
 use std::marker::Model;
 use thiserror::Error;
 
-/// How many fields a type may have.
+/// How many fields, parameters or results a type may have.
 pub const MAX_FIELDS: usize = 10_000;
 
 /// How many types a table may have: each index but the reserved one.
@@ -29,64 +34,38 @@ pub enum TypeFault {
     Memory,
 }
 
-/// A declared struct type: the id of its table and its index there.
-#[derive(Clone, Copy, Debug)]
-pub struct StructType {
-    engine: u64,
-    number: u64,
-    index: VMSharedTypeIndex,
-}
+impl From<AllocError> for TypeFault {
+    ghost use Rattle.std.specs.Prelude.{◌≡◌};
+    ghost use Rattle.gc_types.specs.declared.types.TypeFault.TheVariants.{Memory};
 
-impl Model for StructType {
-    ghost use Rattle.std.specs.List.{AllByRecursion};
-    ghost use Rattle.gc_types.specs.Declarations.{TypeName};
+    ghost from_gives = { λ _ fault. fault ≡ Memory };
 
-    ghost Value = { TypeName };
-
-    ghost view = { λ t. record { engine = t.engine; number = t.number; index = t.index } };
-
-    ghost inverse = { λ n. record { engine = n.engine; number = n.number; index = n.index } };
-}
-
-impl StructType {
-    /// The type's index in its table.
-    pub fn index(&self) -> VMSharedTypeIndex
-        ensures { result ≡ self.now.index }
-    {
-        self.index
+    fn from(_: AllocError) -> TypeFault {
+        TypeFault::Memory
     }
 }
 
-/// What is kept of a declared type: its fields and, made once, where they lie in each heap.
-#[derive(Drop)]
-pub(crate) struct Declared {
-    fields: Vec<FieldType>,
-    null: GcStructLayout,
-    counting: GcStructLayout,
-    copying: GcStructLayout,
-}
-
-/// The types that were declared, in order.
+/// The types that were declared, in order. Types that are declared alike are not merged: each has
+/// an index of its own.
 #[derive(Drop)]
 pub struct Types {
     alloc: Global,
     engine: u64,
     number: u64,
+    ancestry: Ancestry,
     declared: Vec<Declared>,
 }
 
 impl Model for Types {
-    ghost use Rattle.std.specs.Prelude.{map, All};
-    ghost use Rattle.std.specs.List.{AllByRecursion};
     ghost use Rattle.gc_types.specs.Declarations.{TypeTable};
 
     ghost Value = { TypeTable };
 
-    ghost use Rattle.gc_types.specs.Entries.{declaration_of, IsLaidOut};
+    ghost use Rattle.gc_types.specs.Tables.{IsTable};
 
-    ghost view = { λ t. record { engine = t.engine; number = t.number; declarations = map declaration_of t.declared.items } };
+    ghost view = { λ t. record { engine = t.engine; number = t.number; declarations = t.declared.items } };
 
-    ghost invariant = { λ t. All IsLaidOut t.declared.items };
+    ghost invariant = { λ t. IsTable t.ancestry t.declared.items };
 }
 
 impl Types {
@@ -98,43 +77,126 @@ impl Types {
             alloc,
             engine,
             number,
+            ancestry: Ancestry::new(alloc),
             declared: Vec::new(alloc),
         }
     }
 
-    /// Declares a struct with these fields. `BadType` where the table has 4,294,967,295 types or the
-    /// struct more than 10,000 fields. Its time is linear in the fields.
+    /// Declares a struct with these fields.
+    ///
+    /// `BadType` exactly where a field names an index above the new one, a type of another kind than
+    /// its variant says, or a continuation; or the supertype isn't an earlier struct, is final, or
+    /// isn't matched (each of its fields by the field at the same place); or there are more than
+    /// 10,000 fields; or the table has 4,294,967,295 types. While it is checked, the new type counts
+    /// as a subtype of its supertype, and it may name itself. Time is linear in the fields, times
+    /// the logarithm of the longest chain of supertypes.
     pub fn declare_struct(
         &mut self,
         fields: &[FieldType],
         supertype: Option<VMSharedTypeIndex>,
         is_final: bool,
     ) -> Result<StructType, TypeFault>
-        requires no_supertype { supertype ≡ None }
-        requires open { is_final ≡ false }
-        requires numbers { All IsMutableI32 fields.now }
-        ensures declared { OnOk result (self.new ≡ declare (plain_struct fields.now) self.old) }
+        ensures declared { OnOk result (self.new ≡ declare (struct_type fields.now supertype is_final) self.old) }
         ensures named { IfOk result (λ ty. ty ≡ record { engine = self.old.engine; number = self.old.number; index = length self.old.declarations }) }
-        ensures declarable { OnOk result (Declarable self.old.declarations (plain_struct fields.now)) }
-        ensures bad { IsErrOf result TypeFault.BadType → ¬ Declarable self.old.declarations (plain_struct fields.now) }
+        ensures declarable { OnOk result (Declarable self.old.declarations (struct_type fields.now supertype is_final)) }
+        ensures bad { IsErrOf result TypeFault.BadType → ¬ Declarable self.old.declarations (struct_type fields.now supertype is_final) }
         ensures err { OnErr result (self.new ≡ self.old) }
     {
-        let _ = (supertype, is_final);
-        let index = self.declared.len();
-        if fields.len() > MAX_FIELDS || index >= MAX_TYPES {
+        if fields.len() > MAX_FIELDS {
             return Err(TypeFault::BadType);
         }
-        match Declared::new(self.alloc, fields) {
-            Ok(declared) => match self.declared.push(declared) {
-                Ok(()) => Ok(StructType {
-                    engine: self.engine,
-                    number: self.number,
-                    index: VMSharedTypeIndex::new(index as u32),
-                }),
-                Err(_) => Err(TypeFault::Memory),
-            },
-            Err(_) => Err(TypeFault::Memory),
+        let body = Body::Struct(StructFields::new(self.alloc, fields)?);
+        let index = self.declare(Declared::new(body, supertype, is_final))?;
+        Ok(StructType::new(self.engine, self.number, index))
+    }
+
+    /// Declares an array of these elements. `BadType` as in `declare_struct`, where the element takes
+    /// the place of the fields.
+    pub fn declare_array(
+        &mut self,
+        elem: FieldType,
+        supertype: Option<VMSharedTypeIndex>,
+        is_final: bool,
+    ) -> Result<ArrayType, TypeFault>
+        ensures declared { OnOk result (self.new ≡ declare (array_type elem supertype is_final) self.old) }
+        ensures named { IfOk result (λ ty. ty ≡ record { engine = self.old.engine; number = self.old.number; index = length self.old.declarations }) }
+        ensures declarable { OnOk result (Declarable self.old.declarations (array_type elem supertype is_final)) }
+        ensures bad { IsErrOf result TypeFault.BadType → ¬ Declarable self.old.declarations (array_type elem supertype is_final) }
+        ensures err { OnErr result (self.new ≡ self.old) }
+    {
+        let body = Body::Array(ArrayElem::new(elem));
+        let index = self.declare(Declared::new(body, supertype, is_final))?;
+        Ok(ArrayType::new(self.engine, self.number, index))
+    }
+
+    /// Declares an exception with these parameters, which are its fields and constant. It has no
+    /// supertype and is final. `BadType` as in `declare_struct`.
+    pub fn declare_exn(&mut self, params: &[ValType]) -> Result<ExnType, TypeFault>
+        ensures declared { OnOk result (self.new ≡ declare (exn_type params.now) self.old) }
+        ensures named { IfOk result (λ ty. ty ≡ record { engine = self.old.engine; number = self.old.number; index = length self.old.declarations }) }
+        ensures declarable { OnOk result (Declarable self.old.declarations (exn_type params.now)) }
+        ensures bad { IsErrOf result TypeFault.BadType → ¬ Declarable self.old.declarations (exn_type params.now) }
+        ensures err { OnErr result (self.new ≡ self.old) }
+    {
+        if params.len() > MAX_FIELDS {
+            return Err(TypeFault::BadType);
         }
+        let body = Body::Exn(ExnParams::new(self.alloc, params)?);
+        let index = self.declare(Declared::new(body, None, true))?;
+        Ok(ExnType::new(self.engine, self.number, index))
+    }
+
+    /// Declares a function. `BadType` as in `declare_struct`, for parameters and for results; it
+    /// matches a supertype with as many of each where each parameter of the supertype matches its own,
+    /// and each of its results that of the supertype.
+    pub fn declare_func(
+        &mut self,
+        params: &[ValType],
+        results: &[ValType],
+        supertype: Option<VMSharedTypeIndex>,
+        is_final: bool,
+    ) -> Result<FuncType, TypeFault>
+        ensures declared { OnOk result (self.new ≡ declare (func_type params.now results.now supertype is_final) self.old) }
+        ensures named { IfOk result (λ ty. ty ≡ record { engine = self.old.engine; number = self.old.number; index = length self.old.declarations }) }
+        ensures declarable { OnOk result (Declarable self.old.declarations (func_type params.now results.now supertype is_final)) }
+        ensures bad { IsErrOf result TypeFault.BadType → ¬ Declarable self.old.declarations (func_type params.now results.now supertype is_final) }
+        ensures err { OnErr result (self.new ≡ self.old) }
+    {
+        if params.len() > MAX_FIELDS || results.len() > MAX_FIELDS {
+            return Err(TypeFault::BadType);
+        }
+        let body = Body::Func(Signature::new(self.alloc, params, results)?);
+        let index = self.declare(Declared::new(body, supertype, is_final))?;
+        Ok(FuncType::new(self.engine, self.number, index))
+    }
+
+    /// Declares that type.
+    fn declare(&mut self, new: Declared) -> Result<VMSharedTypeIndex, TypeFault>
+        requires { HasFewFields new.shape }
+        ensures declared { OnOk result (self.new ≡ declare new self.old) }
+        ensures index { IfOk result (λ index. index ≡ length self.old.declarations) }
+        ensures declarable { OnOk result (Declarable self.old.declarations new) }
+        ensures bad { IsErrOf result TypeFault.BadType → ¬ Declarable self.old.declarations new }
+        ensures err { OnErr result (self.new ≡ self.old) }
+    {
+        let index = self.declared.len();
+        if index >= MAX_TYPES || !checks::is_earlier(new.supertype(), index) {
+            return Err(TypeFault::BadType);
+        }
+        checks::push(&mut self.ancestry, &mut self.declared, new)?;
+        if !checks::may_stand(&self.ancestry, self.declared.as_slice()) {
+            checks::pop(&mut self.ancestry, &mut self.declared);
+            return Err(TypeFault::BadType);
+        }
+        Ok(VMSharedTypeIndex::new(index as u32))
+    }
+
+    /// Each type could be declared behind those before it. This call does nothing: its clause is a
+    /// law, and the premise of those on layouts (`layout_laws`).
+    pub fn are_declared(&self)
+        ensures { AreDeclared self.now.declarations }
+    {
+        let _types = &self.declared;
     }
 
     /// Whether no type is declared.
@@ -144,53 +206,110 @@ impl Types {
         self.declared.is_empty()
     }
 
-    /// How many fields the struct type has; None exactly where the index names none.
+    /// Whether the first type is the second or, by following supertypes, one of its subtypes; false
+    /// where one isn't declared. The number of steps is logarithmic in the depth of the first; that
+    /// is not proved.
+    pub fn is_subtype(&self, sub: VMSharedTypeIndex, sup: VMSharedTypeIndex) -> bool
+        ensures { IsTrue result ↔ Meets (supertypes_of self.now.declarations) sub sup }
+    {
+        self.ancestry.is_subtype(sub, sup)
+    }
+
+    /// Whether a reference of the first type is one of the second (WebAssembly GC proposal).
+    pub fn matches_ref(&self, a: &RefType, b: &RefType) -> bool
+        ensures { IsTrue result ↔ MatchesRef (supertypes_of self.now.declarations) a.now b.now }
+    {
+        self.ancestry.matches_ref(a, b)
+    }
+
+    /// Whether a value of the first type is one of the second.
+    pub fn matches_val(&self, a: &ValType, b: &ValType) -> bool
+        ensures { IsTrue result ↔ MatchesVal (supertypes_of self.now.declarations) a.now b.now }
+    {
+        self.ancestry.matches_val(a, b)
+    }
+
+    /// Whether a field of the first type may stand for one of the second.
+    pub fn matches_field(&self, a: &FieldType, b: &FieldType) -> bool
+        ensures { IsTrue result ↔ MatchesField (supertypes_of self.now.declarations) a.now b.now }
+    {
+        self.ancestry.matches_field(a, b)
+    }
+
+    /// What sort of type that is; None exactly where it isn't declared.
+    pub fn kind_of(&self, ty: VMSharedTypeIndex) -> Option<TypeKind>
+        ensures { result ≡ kind_at self.now.declarations ty }
+    {
+        let declared = self.declared.get(ty.as_u32() as usize)?;
+        Some(declared.kind())
+    }
+
+    /// The supertype that the type was declared with; None exactly where it isn't declared or has none.
+    pub fn supertype_of(&self, ty: VMSharedTypeIndex) -> Option<VMSharedTypeIndex>
+        ensures { result ≡ supertype_at self.now.declarations ty }
+    {
+        let declared = self.declared.get(ty.as_u32() as usize)?;
+        declared.supertype()
+    }
+
+    /// Whether no type may extend that one; false where it isn't declared.
+    pub fn is_final(&self, ty: VMSharedTypeIndex) -> bool
+        ensures { result ≡ is_final_at self.now.declarations ty }
+    {
+        match self.declared.get(ty.as_u32() as usize) {
+            Some(declared) => declared.is_final(),
+            None => false,
+        }
+    }
+
+    /// How many fields the struct or exception type has; None exactly where the index names none.
     pub fn fields_len(&self, ty: VMSharedTypeIndex) -> Option<usize>
         ensures { result ≡ option_map length (fields_at self.now.declarations ty) }
     {
         let declared = self.declared.get(ty.as_u32() as usize)?;
-        Some(declared.fields.len())
+        declared.fields_len()
     }
 
-    /// The type of that field; None exactly where there is no such type or field.
+    /// The type of that field; None exactly where there is no such struct or exception type or field.
     pub fn field(&self, ty: VMSharedTypeIndex, index: usize) -> Option<FieldType>
         ensures { result ≡ option_and_then (λ fields. slice_get fields index) (fields_at self.now.declarations ty) }
     {
         let declared = self.declared.get(ty.as_u32() as usize)?;
-        declared.fields.get(index).copied()
+        declared.field(index)
     }
 
-    /// Where the fields lie in that heap; None exactly where the index names no struct type.
-    pub fn struct_layout(&self, heap: Layouts, ty: VMSharedTypeIndex) -> Option<&GcStructLayout>
-        ensures { option_copied result ≡ option_map (struct_layout heap) (struct_fields_at self.now.declarations ty) }
+    /// The type of the elements; None exactly where the index names no array type.
+    pub fn array_elem(&self, ty: VMSharedTypeIndex) -> Option<FieldType>
+        ensures { result ≡ elem_at self.now.declarations ty }
     {
         let declared = self.declared.get(ty.as_u32() as usize)?;
-        Some(match heap {
-            Layouts::Null => &declared.null,
-            Layouts::Counting => &declared.counting,
-            Layouts::Copying => &declared.copying,
-        })
+        declared.array_elem()
     }
-}
 
-impl Declared {
-    ghost use Rattle.gc_types.specs.Entries.{IsLaidOut};
-
-    /// The entry of a struct with these fields.
-    fn new(alloc: Global, fields: &[FieldType]) -> Result<Declared, AllocError>
-        requires { length fields.now ≤ 10000 }
-        ensures fields { IfOk result (λ d. d.fields.items ≡ fields.now) }
-        ensures laid_out { IfOk result IsLaidOut }
+    /// Where the fields of the struct or exception type lie in that heap; None exactly where the
+    /// index names none.
+    pub fn struct_layout(&self, heap: Layouts, ty: VMSharedTypeIndex) -> Option<&GcStructLayout>
+        ensures value { option_copied result ≡ layout_at heap self.now.declarations ty }
+        ensures structs { IsSome (struct_fields_at self.now.declarations ty) → option_copied result ≡ option_map (struct_layout heap) (struct_fields_at self.now.declarations ty) }
     {
-        let null = layout_struct(alloc, Layouts::Null, fields)?;
-        let counting = layout_struct(alloc, Layouts::Counting, fields)?;
-        let copying = layout_struct(alloc, Layouts::Copying, fields)?;
-        let fields = Vec::from_slice(alloc, fields)?;
-        Ok(Declared {
-            fields,
-            null,
-            counting,
-            copying,
-        })
+        let declared = self.declared.get(ty.as_u32() as usize)?;
+        declared.struct_layout(heap)
+    }
+
+    /// Where the elements of the array type lie in that heap; None exactly where the index names none.
+    pub fn array_layout(&self, heap: Layouts, ty: VMSharedTypeIndex) -> Option<&GcArrayLayout>
+        ensures { option_copied result ≡ array_layout_at heap self.now.declarations ty }
+    {
+        let declared = self.declared.get(ty.as_u32() as usize)?;
+        declared.array_layout(heap)
+    }
+
+    /// Where the references of the type's objects lie in that heap; None exactly where the index
+    /// names no struct, exception or array type.
+    pub fn trace_info(&self, heap: Layouts, ty: VMSharedTypeIndex) -> Option<&TraceInfo>
+        ensures { option_copied result ≡ trace_at heap self.now.declarations ty }
+    {
+        let declared = self.declared.get(ty.as_u32() as usize)?;
+        declared.trace_info(heap)
     }
 }
