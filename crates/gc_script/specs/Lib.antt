@@ -5,3 +5,4 @@ pub mod Run
 pub mod Lines
 pub mod Session
 pub mod Script
+pub mod Rows

@@ -1,7 +1,7 @@
 -- A run of commands.
 use Rattle.std.specs.Prelude.{◌≡◌, ℕ, ◌⊎◌, List, [], ◌∷◌, Option, Some, None, Result, Ok, Err, false}
 use Rattle.gc_types.specs.declared.kind.Layouts.{Layouts}
-use Rattle.gc_types.specs.Declarations.{Declarable}
+use Rattle.gc_types.specs.Declarable.{Declarable}
 use Rattle.gc_model.specs.Holds.{HoldsTable}
 use Rattle.gc_model.specs.Table.{Table, declare, make_heap}
 use Rattle.gc_model.specs.Allocation.{Limits, MayMakeHeap}

@@ -7,7 +7,8 @@ use Rattle.gc_types.specs.declared.value.Mutability.TheVariants.{Var}
 use Rattle.gc_types.specs.declared.value.StorageType.TheVariants as storage_type
 use Rattle.gc_types.specs.declared.value.ValType.TheVariants as val_type
 use Rattle.gc_types.specs.declared.kind.Layouts.{Layouts}
-use Rattle.gc_types.specs.Declarations.{Declaration, Declarable, struct_fields_at, plain_struct}
+use Rattle.gc_types.specs.Declarable.{Declarable}
+use Rattle.gc_types.specs.Declarations.{Declaration, struct_fields_at, plain_struct}
 use Rattle.gc_model.specs.declared.GcClass.TheVariants as class
 use Rattle.gc_model.specs.Values.{Reference, null, small, at, Value, i32, i64, f32, f64, v128, function, Object, struct, array, host, exception, number_bits}
 use Rattle.gc_model.specs.Values as values

@@ -5,6 +5,7 @@
 //! step is: `Steps` has the tests of each command in their order and what it does, `Run` a whole run.
 #![tactic(auto)]
 
+pub mod laws;
 pub mod registers;
 pub mod runner;
 pub mod script;
@@ -13,6 +14,7 @@ pub use gc_commands::{
     ByteText, Command, FieldWord, FieldWords, HeapWord, Operand, Operands, Refusal, Reply,
     ReplyValue, StorageWord, ValueWord, parse_line, push_reply, reply_text,
 };
+pub use laws::one_struct_session;
 pub use registers::{Number, Register};
 pub use runner::{RunError, Runner};
 pub use script::run_script;

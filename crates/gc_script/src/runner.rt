@@ -109,8 +109,7 @@ fn raw_values(alloc: Global, operands: &[Operand]) -> Result<Vec<RawValue>, Allo
 fn struct_field_count<H: GcHeap, D>(store: &Store<H, D>, ty: VMSharedTypeIndex) -> Option<usize>
     ensures { result ≡ option_map length (struct_fields_at store.now.types ty) }
 {
-    let layout = store.types().struct_layout(H::LAYOUTS, ty)?;
-    Some(layout.fields.as_slice().len())
+    store.types().struct_len(ty)
 }
 
 /// A value as a reply shows it.

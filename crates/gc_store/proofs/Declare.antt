@@ -1,11 +1,12 @@
 -- What a declaration leaves of a store.
-use Rattle.std.proofs.Common.{◌≡◌, ℕ, List, length, Result, Ok, Err, OnOk, OnErr, IfOk, sym, ap, ◌∙◌, refl, subst}
+use Rattle.std.proofs.Common.{◌≡◌, ℕ, List, length, Option, None, Bool, false, Result, Ok, Err, OnOk, OnErr, IfOk, sym, ap, ◌∙◌, refl, subst}
 use Rattle.std.specs.Prelude.{All}
 use Rattle.gc_types.specs.declared.kind.Layouts.{Layouts}
 use Rattle.gc_types.specs.declared.value.FieldType.{FieldType}
 use Rattle.gc_types.specs.declared.types.TypeFault.{TypeFault}
 use Rattle.gc_types.specs.declared.types.TypeFault.TheVariants.{BadType, Memory}
-use Rattle.gc_types.specs.Declarations.{Declaration, TypeTable, TypeName, Declarable, plain_struct, IsMutableI32}
+use Rattle.gc_types.specs.Declarable.{Declarable}
+use Rattle.gc_types.specs.Declarations.{Declaration, TypeTable, TypeName, plain_struct, struct_type, IsMutableI32}
 use Rattle.gc_types.specs.Declarations as types
 use Rattle.gc_model.specs.declared.RootEntry.{RootEntry}
 use Rattle.gc_model.specs.Table.{Table, declare}
@@ -17,12 +18,17 @@ use Rattle.gc_store.specs.declared.config.HeapConfig.{HeapConfig}
 use Rattle.gc_store.specs.Stores.{store_view, IsSound, DeclaresStruct}
 
 -- what the type table ensures of a declaration
-pub record TypesDeclare (fields : List FieldType) (old new : TypeTable) (r : Result TypeName TypeFault) : Type 0 where
-  pub declared : OnOk r (new ≡ types.declare (plain_struct fields) old)
+pub record TypesDeclare (d : Declaration) (old new : TypeTable) (r : Result TypeName TypeFault) : Type 0 where
+  pub declared : OnOk r (new ≡ types.declare d old)
   pub named : IfOk r (λ ty. ty ≡ record { engine = old.engine; number = old.number; index = length old.declarations })
-  pub declarable : OnOk r (Declarable old.declarations (plain_struct fields))
-  pub bad : r ≡ Err BadType → ¬ Declarable old.declarations (plain_struct fields)
+  pub declarable : OnOk r (Declarable old.declarations d)
+  pub bad : r ≡ Err BadType → ¬ Declarable old.declarations d
   pub err : OnErr r (new ≡ old)
+
+-- the same of a struct that is not final and has no supertype
+pub declares_plain : (fields : List FieldType) (supertype : Option ℕ) (is_final : Bool) (old new : TypeTable) (r : Result TypeName TypeFault) → supertype ≡ None → is_final ≡ false → TypesDeclare (struct_type fields supertype is_final) old new r → TypesDeclare (plain_struct fields) old new r
+declares_plain fields supertype is_final old new r none not_final did =
+    subst (λ (d : Declaration). TypesDeclare d old new r) (λ i. struct_type fields (none i) (not_final i)) did
 
 -- the store with these parts and that type table
 abbrev view : StoreId → HeapConfig → HeapView → List RootEntry → ℕ → TypeTable → StoreView
@@ -33,7 +39,7 @@ module _ {D : Type 0} (layouts : Layouts) (id : StoreId) (config : HeapConfig) (
   holds_new : (t : Table D) → new ≡ types.declare (plain_struct fields) old → HoldsTable layouts (view id config heap scoped generation old) t → HoldsTable layouts (view id config heap scoped generation new) (declare (plain_struct fields) t)
   holds_new t e holds = (holds.0, subst (λ (n : TypeTable). Rattle.gc_model.specs.Holds.Holds layouts (view id config heap scoped generation n) (declare (plain_struct fields) t) holds.0) (sym e) (holds_declare layouts (view id config heap scoped generation old) t holds.0 fields numbers holds.1))
 
-  pub declared_step : (r : Result TypeName TypeFault) → TypesDeclare fields old new r → IsSound D layouts old (view id config heap scoped generation old) → (t : Table D) → HoldsTable layouts (view id config heap scoped generation old) t → DeclaresStruct layouts fields t r (view id config heap scoped generation new)
+  pub declared_step : (r : Result TypeName TypeFault) → TypesDeclare (plain_struct fields) old new r → IsSound D layouts old (view id config heap scoped generation old) → (t : Table D) → HoldsTable layouts (view id config heap scoped generation old) t → DeclaresStruct layouts fields t r (view id config heap scoped generation new)
   declared_step (Ok ty) did sound t holds = (
     subst (λ (ts : List Declaration). Declarable ts (plain_struct fields)) holds.1.types did.declarable,
     did.named ∙ (λ i. record { engine = sound.engine i; number = sound.number i; index = length (holds.1.types i) }),
@@ -45,7 +51,7 @@ module _ {D : Type 0} (layouts : Layouts) (id : StoreId) (config : HeapConfig) (
   )
   declared_step (Err Memory) did sound t holds = subst (λ (n : TypeTable). HoldsTable layouts (view id config heap scoped generation n) t) (sym did.err) holds
 
-  pub sound_declared : (r : Result TypeName TypeFault) → TypesDeclare fields old new r → IsSound D layouts old (view id config heap scoped generation old) → IsSound D layouts new (view id config heap scoped generation new)
+  pub sound_declared : (r : Result TypeName TypeFault) → TypesDeclare (plain_struct fields) old new r → IsSound D layouts old (view id config heap scoped generation old) → IsSound D layouts new (view id config heap scoped generation new)
   sound_declared (Ok ty) did sound = record {
     engine = ap (λ (n : TypeTable). n.engine) did.declared ∙ sound.engine;
     number = ap (λ (n : TypeTable). n.number) did.declared ∙ sound.number;

@@ -22,6 +22,11 @@ pub copied_value : {X : Type 0} (r : Option (Bor X)) (b : Bor X) (x : X) → opt
 copied_value None b x e f = absurd (none-some x e)
 copied_value (Some y) b x e f = let same : y ≡ b = grind (arith, f) in ap (λ (z : Bor _). z.now) (sym same) ∙ grind (arith, e)
 
+-- what equals something is present
+pub is_some_from : {X : Type 0} (o : Option X) (x : X) → o ≡ Some x → IsSome o
+is_some_from None x e = absurd (none-some x e)
+is_some_from (Some y) x e = grind (arith, common_steps)
+
 -- the layout of a declared type is found
 pub layout_found : (layouts : Layouts) (types : List Declaration) (asked ty : ℕ) (fields : List FieldType) → asked ≡ ty → struct_fields_at types ty ≡ Some fields → option_map (struct_layout layouts) (struct_fields_at types asked) ≡ Some (struct_layout layouts fields)
 layout_found layouts types asked ty fields same declared = ap (option_map (struct_layout layouts)) (ap (struct_fields_at types) same ∙ declared)

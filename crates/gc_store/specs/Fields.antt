@@ -64,7 +64,3 @@ pub record CanWrite (layouts : Layouts) (heap : HeapView) (word : ℕ) (places :
   pub numbers : All IsMutableI32 fields
   pub same_count : length values ≡ length fields
   pub are_numbers : All IsNumber values
-
--- how many fields a layout has
-abbrev pub field_len : GcStructLayout → ℕ
-field_len layout = length layout.fields

@@ -6,7 +6,8 @@ use Rattle.gc_types.specs.declared.kind.Layouts.{Layouts}
 use Rattle.gc_types.specs.declared.value.FieldType.{FieldType}
 use Rattle.gc_types.specs.declared.types.TypeFault.{TypeFault}
 use Rattle.gc_types.specs.declared.types.TypeFault.TheVariants as type_fault
-use Rattle.gc_types.specs.Declarations.{Declaration, TypeTable, TypeName, Declarable, plain_struct}
+use Rattle.gc_types.specs.Declarable.{Declarable}
+use Rattle.gc_types.specs.Declarations.{Declaration, TypeTable, TypeName, plain_struct}
 use Rattle.gc_model.specs.declared.RootEntry.{RootEntry}
 use Rattle.gc_model.specs.Table.{Table, start, declare}
 use Rattle.gc_model.specs.Views.{StoreView, HeapView}

@@ -5,26 +5,14 @@ ghost use Rattle.std.specs.FinMap as finite;
 ghost use Rattle.gc_types.specs.declared.value.FieldType.{FieldType};
 ghost use Rattle.gc_types.specs.declared.layout.FieldLayout.{FieldLayout};
 ghost use Rattle.gc_types.specs.Declarations.{struct_fields_at, IsMutableI32};
-ghost use Rattle.std.specs.Prelude.{option_map};
-ghost use Rattle.gc_store.specs.Fields.{field_len};
-ghost use Rattle.gc_types.specs.Layouts.{struct_layout, struct_base, field_layouts, fields_end};
+ghost use Rattle.gc_types.specs.Layouts.{struct_base, field_layouts, fields_end};
 ghost use Rattle.gc_model.specs.Views.{HeapObject, u32_at};
 ghost use Rattle.gc_store.specs.Fields.{HasFields, CanWrite, WritesValues, value_of, IsNumber};
 
 use crate::root::RawValue;
 use gc_heap::GcHeap;
 use gc_refs::VMGcRef;
-use gc_types::{FieldLayout, Layouts, Types, VMSharedTypeIndex};
-
-/// How many fields the struct type has, if it is declared.
-pub(crate) fn field_count(types: &Types, layouts: Layouts, ty: VMSharedTypeIndex) -> Option<usize>
-    ensures { result ≡ option_map field_len (option_map (struct_layout layouts) (struct_fields_at types.now.declarations ty)) }
-{
-    match types.struct_layout(layouts, ty) {
-        Some(layout) => Some(layout.fields.as_slice().len()),
-        None => None,
-    }
-}
+use gc_types::{FieldLayout, Types};
 
 /// Where that field of a held object lies.
 pub(crate) fn field_offset<H: GcHeap>(heap: &H, types: &Types, gc_ref: &VMGcRef, index: u32) -> u32

@@ -7,7 +7,7 @@ ghost use Rattle.gc_model.specs.Values.{Value, Reference, struct, i32};
 ghost use Rattle.gc_model.specs.Holds.{HoldsTable, Holds, Placing, IsWord};
 ghost use Rattle.gc_store.specs.Roots.{word_of, IsRootWord, IsReference, Names, TellsRoot, is_of_store, HasNumber, HasField, CanRead, FindsRoot, CountsValues, TellsLength, FindsLength, IsRaw};
 
-use crate::field::{field_count, field_offset};
+use crate::field::field_offset;
 use crate::root::{GcRootIndex, RawValue, RootFault, RootSlot, RootedObject};
 use crate::store::Store;
 use gc_heap::GcHeap;
@@ -70,7 +70,7 @@ impl<H: GcHeap, D> Store<H, D> {
             return None;
         }
         match self.heap.header(&gc_ref) {
-            Ok(header) => field_count(&self.types, H::LAYOUTS, header.type_index()),
+            Ok(header) => self.types.struct_len(header.type_index()),
             Err(_) => unreachable!(),
         }
     }

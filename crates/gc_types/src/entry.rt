@@ -2,7 +2,7 @@
 
 ghost use Rattle.std.specs.Prelude.{◌≡◌, ◌≤◌, true, false, length, map, option_map, option_copied, slice_get, IfOk};
 ghost use Rattle.std.specs.Option.{option_and_then};
-ghost use Rattle.gc_types.specs.Declarations.{shape_kind, shape_fields, shape_elem, constant_field};
+ghost use Rattle.gc_types.specs.Declarations.{shape_kind, shape_fields, shape_struct_fields, shape_elem, constant_field};
 ghost use Rattle.gc_types.specs.Layouts.{shape_layout, array_layout, shape_trace, is_gc_storage};
 ghost use Rattle.gc_types.specs.Entries.{object_layout};
 ghost use Rattle.gc_types.specs.Shapes.{shape_of};
@@ -272,6 +272,16 @@ impl Declared {
             Body::Struct(fields) => Some(fields.as_slice().len()),
             Body::Exn(params) => Some(params.as_slice().len()),
             Body::Array(_) | Body::Func(_) => None,
+        }
+    }
+
+    /// How many fields a struct has.
+    pub(crate) fn struct_len(&self) -> Option<usize>
+        ensures { result ≡ option_map length (shape_struct_fields self.now.shape) }
+    {
+        match &self.body {
+            Body::Struct(fields) => Some(fields.as_slice().len()),
+            Body::Array(_) | Body::Exn(_) | Body::Func(_) => None,
         }
     }
 

@@ -270,6 +270,14 @@ impl Types {
         declared.fields_len()
     }
 
+    /// How many fields the struct type has; None exactly where the index names no struct type.
+    pub fn struct_len(&self, ty: VMSharedTypeIndex) -> Option<usize>
+        ensures { result ≡ option_map length (struct_fields_at self.now.declarations ty) }
+    {
+        let declared = self.declared.get(ty.as_u32() as usize)?;
+        declared.struct_len()
+    }
+
     /// The type of that field; None exactly where there is no such struct or exception type or field.
     pub fn field(&self, ty: VMSharedTypeIndex, index: usize) -> Option<FieldType>
         ensures { result ≡ option_and_then (λ fields. slice_get fields index) (fields_at self.now.declarations ty) }

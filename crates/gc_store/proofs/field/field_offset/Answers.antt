@@ -11,7 +11,7 @@ use Rattle.gc_types.specs.Declarations.{struct_fields_at}
 use Rattle.gc_types.specs.Layouts.{struct_layout, field_layouts, struct_base}
 use Rattle.gc_model.specs.Views.{HeapObject}
 use Rattle.gc_model.proofs.Layouts.{length-field_layouts}
-use Rattle.gc_store.proofs.Fields.{copied_some, copied_value, layout_found, offset-if_some}
+use Rattle.gc_store.proofs.Fields.{copied_some, copied_value, is_some_from, layout_found, offset-if_some}
 use Rattle.gc_store.proofs.field.field_offset.Given as given
 use Rattle.gc_store.proofs.field.field_offset.Goals as goal
 use Rattle.gc_store.proofs.field.field_offset.Goals.{After-struct_layout, After-as_slice}
@@ -20,7 +20,8 @@ use Rattle.gc_store.proofs.field.field_offset.Goals.{After-struct_layout, After-
 found : (g : given.Over) (c : After-struct_layout g) (object : HeapObject) (fields : List FieldType) → finite.get (g.H.GcHeap.seen c.args.heap.now).content c.args.gc_ref.now ≡ Some object → struct_fields_at c.args.types.now.declarations object.ty ≡ Some fields → Rattle.std.specs.Option.option_copied c.struct_layout.result ≡ Some (struct_layout g.H.GcHeap.LAYOUTS fields)
 found g c object fields held declared =
     let told = c.in-Ok.ensures.held object held in
-    c.struct_layout.ensures
+    let known : struct_fields_at c.args.types.now.declarations c.type_index.result ≡ Some fields = ap (struct_fields_at c.args.types.now.declarations) (c.type_index.ensures ∙ told.ty) ∙ declared in
+    c.struct_layout.ensures.structs (is_some_from _ fields known)
     ∙ ap (λ (l : Layouts). option_map (struct_layout l) (struct_fields_at c.args.types.now.declarations c.type_index.result)) c.LAYOUTS.ensures
     ∙ layout_found _ c.args.types.now.declarations c.type_index.result object.ty fields (c.type_index.ensures ∙ told.ty) declared
 

@@ -1,6 +1,7 @@
 use Rattle.std.proofs.Common.{ap, ◌∙◌, sym, refl, subst, inr, replicate, List}
 use Rattle.gc_types.specs.declared.value.FieldType.{FieldType}
-use Rattle.gc_types.specs.Declarations.{Declarable, plain_struct}
+use Rattle.gc_types.specs.Declarable.{Declarable}
+use Rattle.gc_types.specs.Declarations.{plain_struct}
 use Rattle.gc_script.proofs.runner.Runner.declare_built.Goals as goal
 
 pub returns-in-Err-BadType-clause-declares : goal.returns-in-Err-BadType-clause-declares

@@ -1,9 +1,8 @@
-use Rattle.std.proofs.Common.{◌≡◌, ◌%◌, ap, sym, ◌∙◌, refl, Some}
+use Rattle.std.proofs.Common.{◌≡◌, ◌%◌, ap, sym, ◌∙◌, refl, Some, length}
 use Rattle.std.specs.Option.{option_map}
 use Rattle.std.proofs.Common.{Option, subst, ℕ}
 use Rattle.std.specs.FinMap as map
 use Rattle.gc_types.specs.Declarations.{struct_fields_at}
-use Rattle.gc_types.specs.Layouts.{struct_layout}
 use Rattle.gc_store.specs.Roots.{CountsValues}
 use Rattle.gc_model.specs.Views.{StoreView, HeapObject}
 use Rattle.gc_store.proofs.Roots.{SomeIff-value, held_object}
@@ -35,7 +34,6 @@ unreachable-requires g c =
 pub returns : goal.returns
 returns g c t place r holds is positive =
     let same = same_word g (goal.at.returns g c).After-is_i31 in
-    subst (λ (o : Option ℕ). CountsValues t r o) (sym c.field_count.ensures)
-    (counts_object c.LAYOUTS.result g.H.GcHeap.LAYOUTS c.args.self.now t place r c.args.word c.type_index.result _ holds is positive (λ odd. cc (c.if-is_i31.ensures.1 (ap (λ w. w % 2) same ∙ odd)))
+    counts_object g.H.GcHeap.LAYOUTS c.args.self.now t place r c.args.word c.type_index.result _ holds is positive (λ odd. cc (c.if-is_i31.ensures.1 (ap (λ w. w % 2) same ∙ odd)))
     (λ object e. let told = c.in-Ok.ensures.held object (found g (goal.at.returns g c).After-header same object e) in sym told.ty ∙ sym c.type_index.ensures)
-    (ap (λ (s : StoreView). option_map (struct_layout c.LAYOUTS.result) (struct_fields_at s.types c.type_index.result)) c.self.view_is))
+    (c.struct_len.ensures ∙ ap (λ (s : StoreView). option_map length (struct_fields_at s.types c.type_index.result)) c.self.view_is)

@@ -1,0 +1,161 @@
+-- The session of three lines that make a struct and read its field.
+use Rattle.std.proofs.Common.{◌≡◌, ℕ, ◌+◌, ◌<◌, ◌≤◌, List, [], ◌∷◌, ◌++◌, length, codes, Option, Some, None, true, false, pos, refl, sym, ap, subst, ◌∙◌, arith, rules}
+use Rattle.std.specs.Prelude.{FitsSigned, Result, Ok, Err}
+use Rattle.std.specs.List.{flat_map, join_with_byte}
+use Rattle.std.specs.Fmt.{decimal}
+use Rattle.std.proofs.lemmas.Fmt.{decimal_digit}
+use Rattle.gc_types.specs.declared.kind.Layouts.TheVariants.{Null}
+use Rattle.gc_types.specs.Declarable.{Declarable}
+use Rattle.gc_model.specs.declared.GcClass.TheVariants as class
+use Rattle.gc_model.specs.Values.{Object}
+use Rattle.gc_model.specs.Table.{Table, start, usual_roots, declare, make, make_heap}
+use Rattle.gc_model.specs.Allocation.{Allocates, LacksMemory, no_heap, no_room, FitsIn}
+use Rattle.gc_model.specs.Sizes.{object_size}
+use Rattle.gc_commands.specs.declared.command.Command.{Command}
+use Rattle.gc_commands.specs.declared.command.Command.TheVariants.{Bad, Struct, New, Field}
+use Rattle.gc_commands.specs.declared.command.FieldWord.{FieldWord}
+use Rattle.gc_commands.specs.declared.command.Operand.{Operand}
+use Rattle.gc_commands.specs.declared.command.Operand.TheVariants as operand
+use Rattle.gc_commands.specs.declared.command.StorageWord.TheVariants as storage
+use Rattle.gc_commands.specs.declared.command.ValueWord.TheVariants as value
+use Rattle.gc_commands.specs.declared.reply.Reply.{Reply}
+use Rattle.gc_commands.specs.declared.reply.Reply.TheVariants as reply
+use Rattle.gc_commands.specs.declared.reply.ReplyValue.TheVariants as reply_value
+use Rattle.gc_commands.specs.Spelling.{IsCommandOf, Spells}
+use Rattle.gc_commands.proofs.UniqueLemmas.{one_spelling}
+use Rattle.gc_script.specs.State.{State, reference, begin, with_table, set_register}
+use Rattle.gc_script.specs.Steps.{Step, Declares, declared, bad, built_struct, new_struct, MakesNew, made, lacks}
+use Rattle.gc_script.specs.Run.{Run}
+use Rattle.gc_script.specs.Session.{AreCommandsOf, Session, reply_line}
+use Rattle.gc_script.specs.Rows.{one_struct, one_struct_replies}
+
+abbrev number_field : FieldWord
+number_field = record { mutable = true; storage = storage.Value value.I32 }
+
+-- the commands of the three lines
+abbrev declares : Command
+declares = Struct false None (number_field ∷ [])
+
+abbrev makes : Command
+makes = New 1 0 (operand.I32 (pos 5) ∷ [])
+
+abbrev reads : Command
+reads = Field 1 0 None
+
+digit_zero : codes "0" ≡ decimal 0
+digit_zero = sym (decimal_digit 0 (omega arith))
+
+digit_one : codes "1" ≡ decimal 1
+digit_one = sym (decimal_digit 1 (omega arith))
+
+digit_five : codes "5" ≡ decimal 5
+digit_five = sym (decimal_digit 5 (omega arith))
+
+-- the texts of the replies
+replies_text : one_struct_replies ≡ flat_map reply_line (reply.Declared 0 ∷ reply.Done ∷ reply.Value (reply_value.I32 (pos 5)) ∷ [])
+replies_text = λ i. ((codes "type " ++ digit_zero i) ++ 10 ∷ []) ++ ((codes "ok" ++ 10 ∷ []) ++ (((codes "i32 " ++ digit_five i) ++ 10 ∷ []) ++ []))
+
+spells_declares : Spells (codes "struct m:i32") declares
+spells_declares = record { built = (refl, refl, (refl, tt)); short = omega arith; spelled = refl }
+
+spells_makes : Spells (codes "new 1 0 i32:5") makes
+spells_makes = record {
+  built = (omega arith, omega arith, (record { sfits = omega arith }, tt));
+  short = omega arith;
+  spelled = λ i. join_with_byte 32 (codes "new" ∷ digit_one i ∷ digit_zero i ∷ (codes "i32:" ++ digit_five i) ∷ []);
+}
+
+spells_reads : Spells (codes "field 1 0") reads
+spells_reads = record {
+  built = (omega arith, omega arith, refl);
+  short = omega arith;
+  spelled = λ i. join_with_byte 32 (codes "field" ∷ digit_one i ∷ digit_zero i ∷ []);
+}
+
+-- a line that spells a command is no other
+command_is : (line : List ℕ) (known c : Command) → Spells line known → IsCommandOf line c → c ≡ known
+command_is line known Bad spells is = absurd (is known spells)
+command_is line known (Struct f s xs) spells is = one_spelling line (Struct f s xs) known is spells
+command_is line known (New d t vs) spells is = one_spelling line (New d t vs) known is spells
+command_is line known (Field r i into) spells is = one_spelling line (Field r i into) known is spells
+
+-- the states between the commands
+abbrev nothing : State
+nothing = begin (start 1 usual_roots usual_roots)
+
+abbrev declared_one : State
+declared_one = with_table (declare (built_struct 1) nothing.table) nothing
+
+abbrev made_one : State
+made_one = set_register 1 (reference class.Any (Some 0)) (with_table (make (new_struct 0 (operand.I32 (pos 5) ∷ [])) (make_heap declared_one.table)) declared_one)
+
+may_declare : Declarable [] (built_struct 1)
+may_declare = record { few_fields = omega arith; few_types = omega arith; known = search rules; extends = tt }
+
+fits : FitsIn Null (make_heap declared_one.table) (object_size Null declared_one.table.types (new_struct 0 (operand.I32 (pos 5) ∷ [])))
+fits = omega arith
+
+step_declares : Step Null (Some 64) nothing declares (reply.Declared 0) declared_one
+step_declares = declared may_declare refl refl
+
+step_makes : Step Null (Some 64) declared_one makes reply.Done made_one
+step_makes = made _ (record { may = λ unmade. omega arith; fits = fits; made = refl }) refl refl
+
+step_reads : Step Null (Some 64) made_one reads (reply.Value (reply_value.I32 (pos 5))) made_one
+step_reads = (refl, refl)
+
+pub is_session : (t : Table ℕ) × Session Null 1 64 one_struct one_struct_replies t
+is_session = (made_one.table, record {
+  after = made_one;
+  from_start = record {
+    commands = declares ∷ makes ∷ reads ∷ [];
+    replies = reply.Declared 0 ∷ reply.Done ∷ reply.Value (reply_value.I32 (pos 5)) ∷ [];
+    are_commands = (spells_declares, (spells_makes, (spells_reads, tt)));
+    run = (declared_one, (step_declares, (made_one, (step_makes, (made_one, (step_reads, refl))))));
+    output_is = replies_text;
+  };
+  table_is = refl;
+})
+
+-- each step has one reply and one state after it
+declares_once : (answer : Reply) (s' : State) → Step Null (Some 64) nothing declares answer s' → (answer ≡ reply.Declared 0) × (s' ≡ declared_one)
+declares_once answer s' (declared may is after) = (is, after)
+declares_once answer s' (bad may_not is after) = absurd (may_not may_declare)
+
+makes_once : (answer : Reply) (s' : State) → Step Null (Some 64) declared_one makes answer s' → (answer ≡ reply.Done) × (s' ≡ made_one)
+makes_once answer s' (made t allocates is after) = (is, after ∙ ap (λ (x : Table ℕ). set_register 1 (reference class.Any (Some 0)) (with_table x declared_one)) allocates.made)
+makes_once answer s' (lacks t (no_heap refused same) is after) = absurd (let above = refused.above in omega arith)
+makes_once answer s' (lacks t (no_room may full same) is after) = absurd (full fits)
+
+reads_once : (answer : Reply) (s' : State) → Step Null (Some 64) made_one reads answer s' → answer ≡ reply.Value (reply_value.I32 (pos 5))
+reads_once answer s' did = cc (did.0)
+
+-- the replies of a run of the three commands
+replies_once : (rs : List Reply) (s' : State) → Run Null (Some 64) nothing (declares ∷ makes ∷ reads ∷ []) rs s' → rs ≡ reply.Declared 0 ∷ reply.Done ∷ reply.Value (reply_value.I32 (pos 5)) ∷ []
+replies_once [] s' run = absurd run
+replies_once (a ∷ []) s' run = absurd run.1.1
+replies_once (a ∷ b ∷ []) s' run = absurd run.1.1.1.1
+replies_once (a ∷ b ∷ c ∷ []) s' (mid, (first, (next, (second, (last, (third, end)))))) =
+    let one = declares_once a mid first in
+    let two = makes_once b next (subst (λ (s : State). Step Null (Some 64) s makes b next) one.1 second) in
+    let three = reads_once c last (subst (λ (s : State). Step Null (Some 64) s reads c last) two.1 third) in
+    λ i. one.0 i ∷ two.0 i ∷ three i ∷ []
+replies_once (a ∷ b ∷ c ∷ d ∷ rs) s' run = absurd run.1.1.1.1.1.1
+
+-- the commands of the three lines
+commands_once : (cs : List Command) → AreCommandsOf (codes "struct m:i32" ∷ codes "new 1 0 i32:5" ∷ codes "field 1 0" ∷ []) cs → cs ≡ declares ∷ makes ∷ reads ∷ []
+commands_once [] are = absurd are
+commands_once (a ∷ []) are = absurd are.1
+commands_once (a ∷ b ∷ []) are = absurd are.1.1
+commands_once (a ∷ b ∷ c ∷ []) are =
+    let one = command_is (codes "struct m:i32") declares a spells_declares are.0 in
+    let two = command_is (codes "new 1 0 i32:5") makes b spells_makes are.1.0 in
+    let three = command_is (codes "field 1 0") reads c spells_reads are.1.1.0 in
+    λ i. one i ∷ two i ∷ three i ∷ []
+commands_once (a ∷ b ∷ c ∷ d ∷ cs) are = absurd are.1.1.1
+
+pub one_output : (output : List ℕ) (t : Table ℕ) → Session Null 1 64 one_struct output t → output ≡ one_struct_replies
+one_output output t session =
+    let from = session.from_start in
+    let run = subst (λ (cs : List Command). Run Null (Some 64) nothing cs from.replies session.after) (commands_once from.commands from.are_commands) from.run in
+    from.output_is ∙ ap (flat_map reply_line) (replies_once from.replies session.after run) ∙ sym replies_text
