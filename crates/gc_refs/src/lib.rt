@@ -5,10 +5,14 @@
 //! all heaps; it stands on `gc_types` for kinds and type indexes.
 #![tactic(auto)]
 
+pub mod fault;
 pub mod header;
+pub mod i31;
 pub mod v128;
 pub mod word;
 
+pub use fault::{DataFault, RefFault};
 pub use header::VMGcHeader;
+pub use i31::I31;
 pub use v128::V128;
 pub use word::VMGcRef;
