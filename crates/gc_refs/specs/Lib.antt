@@ -1,2 +1,4 @@
 pub mod Header
+pub mod LittleEndian
+pub mod Views
 pub mod Words

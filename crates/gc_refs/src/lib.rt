@@ -5,14 +5,22 @@
 //! all heaps; it stands on `gc_types` for kinds and type indexes.
 #![tactic(auto)]
 
+pub mod data;
 pub mod fault;
 pub mod header;
 pub mod i31;
+pub mod object_refs;
+pub mod pod;
+pub mod typed;
 pub mod v128;
 pub mod word;
 
+pub use data::VMGcObjectData;
 pub use fault::{DataFault, RefFault};
 pub use header::VMGcHeader;
 pub use i31::I31;
+pub use object_refs::{VMArrayRef, VMExnRef, VMExternRef, VMStructRef};
+pub use pod::PodValType;
+pub use typed::{GcHeapObject, TypedGcRef};
 pub use v128::V128;
 pub use word::VMGcRef;
