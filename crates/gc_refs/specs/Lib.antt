@@ -1,4 +1,6 @@
 pub mod Header
 pub mod LittleEndian
+pub mod SameView
+pub mod Trace
 pub mod Views
 pub mod Words

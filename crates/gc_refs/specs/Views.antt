@@ -1,5 +1,6 @@
 -- Views of an object's bytes. A view has an offset for its first byte.
 use Rattle.std.specs.Prelude.{◌≡◌, ℕ, ◌+◌, ◌-◌, ◌≤◌, List, ◌++◌, take, drop, length, Result, Ok, Err, OkIff, MatchResult}
+use Rattle.std.specs.Borrow.{Bor}
 use Rattle.gc_refs.specs.declared.fault.DataFault.{DataFault}
 
 -- the n bytes at an offset lie inside the bytes that begin at the offset `first`
@@ -19,6 +20,13 @@ abbrev pub Reads : {A : Type 0} → ℕ → (List ℕ → A) → ℕ → List �
 Reads n number first bytes offset result =
     MatchResult result
     (λ value. IsInside first bytes offset n × (value ≡ number (part_of bytes (offset - first) n)))
+    (λ _. ¬ (IsInside first bytes offset n))
+
+-- a view of a range has exactly its bytes, and is refused exactly where it isn't inside
+abbrev pub LendsPart : ℕ → List ℕ → ℕ → ℕ → Result (Bor (List ℕ)) DataFault → Type 0
+LendsPart first bytes offset n result =
+    MatchResult result
+    (λ lent. IsInside first bytes offset n × (lent.now ≡ part_of bytes (offset - first) n))
     (λ _. ¬ (IsInside first bytes offset n))
 
 -- a write puts the part at the offset and changes no other byte, and refuses exactly where it isn't inside

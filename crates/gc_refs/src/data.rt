@@ -1,18 +1,17 @@
-//! Views of the bytes of an object, which copy nothing.
-//!
-//! Numbers lie in an object with their lowest byte first. A view refuses each range that isn't inside
-//! the bytes that it lends, and looks at no type.
+//! The bytes of an object, lent for reading.
 
-ghost use Rattle.std.specs.Prelude.{◌≡◌, ◌+◌, ◌-◌, ◌<◌, ◌≤◌, ◌^◌, length, MatchResult};
+ghost use Rattle.std.specs.Prelude.{◌≡◌};
 ghost use Rattle.std.specs.Int.{w8, w16, w32, w64, w128};
-ghost use Rattle.gc_refs.specs.LittleEndian.{unsigned_at, signed_at, unsigned_bytes, signed_bytes};
-ghost use Rattle.gc_refs.specs.Views.{IsInside, part_of, with_part, Reads, Writes, Copies};
+ghost use Rattle.gc_refs.specs.LittleEndian.{unsigned_at, signed_at};
+ghost use Rattle.gc_refs.specs.Views.{LendsPart, Reads};
 
 use crate::fault::DataFault;
-use crate::pod::PodValType;
+use crate::parts::{part, read_pod};
+use crate::v128::V128;
 use std::marker::Model;
 
-/// The bytes of an object, lent for reading.
+/// The bytes of an object, lent for reading. A view copies nothing and looks at no type: it refuses
+/// each range that isn't inside its bytes. Numbers lie there with their lowest byte first.
 #[derive(Drop)]
 pub struct VMGcObjectData<'a> {
     bytes: &'a [u8],
@@ -34,41 +33,73 @@ impl<'a> VMGcObjectData<'a> {
         VMGcObjectData { bytes }
     }
 
-    /// Lends the `len` bytes at an offset; `BadOffset` exactly where they aren't inside.
+    /// Lends the `len` bytes at an offset; `BadOffset` exactly where they aren't all inside.
     pub fn slice(&self, offset: u32, len: u32) -> Result<&[u8], DataFault>
-        ensures { MatchResult result (λ part. IsInside 0 self.now offset len × (part.now ≡ part_of self.now offset len)) (λ _. ¬ (IsInside 0 self.now offset len)) }
+        ensures { LendsPart 0 self.now offset len result }
     {
-        part(self.bytes, offset as usize, len)
+        part(0, self.bytes, offset, len)
     }
 
-    /// The number at an offset; `BadOffset` exactly where it isn't inside.
+    /// The byte at an offset; `BadOffset` exactly where one of its bytes isn't inside.
+    pub fn read_u8(&self, offset: u32) -> Result<u8, DataFault>
+        ensures { Reads 1 (unsigned_at w8) 0 self.now offset result }
+    {
+        read_pod(0, self.bytes, offset)
+    }
+
+    /// The 16-bit number at an offset; `BadOffset` exactly where one of its bytes isn't inside.
+    pub fn read_u16(&self, offset: u32) -> Result<u16, DataFault>
+        ensures { Reads 2 (unsigned_at w16) 0 self.now offset result }
+    {
+        read_pod(0, self.bytes, offset)
+    }
+
+    /// The 32-bit number at an offset; `BadOffset` exactly where one of its bytes isn't inside.
     pub fn read_u32(&self, offset: u32) -> Result<u32, DataFault>
         ensures { Reads 4 (unsigned_at w32) 0 self.now offset result }
     {
-        read_pod(self.bytes, offset as usize)
+        read_pod(0, self.bytes, offset)
     }
-}
 
-/// The `len` bytes from a place on.
-fn part(bytes: &[u8], place: usize, len: u32) -> Result<&[u8], DataFault>
-    requires { place < 2 ^ 32 }
-    ensures { MatchResult result (λ part. IsInside 0 bytes.now place len × (part.now ≡ part_of bytes.now place len)) (λ _. ¬ (IsInside 0 bytes.now place len)) }
-{
-    bytes
-        .get(place..place + len as usize)
-        .ok_or(DataFault::BadOffset)
-}
+    /// The 64-bit number at an offset; `BadOffset` exactly where one of its bytes isn't inside.
+    pub fn read_u64(&self, offset: u32) -> Result<u64, DataFault>
+        ensures { Reads 8 (unsigned_at w64) 0 self.now offset result }
+    {
+        read_pod(0, self.bytes, offset)
+    }
 
-/// The number at a place.
-fn read_pod<const N: usize, T: PodValType<N>>(bytes: &[u8], place: usize) -> Result<T, DataFault>
-    requires { N ≤ 16 }
-    ensures { Reads N T.number_of 0 bytes.now place result }
-{
-    let Some(rest) = bytes.get(place..) else {
-        return Err(DataFault::BadOffset);
-    };
-    match rest.first_chunk() {
-        Some(number) => Ok(T::read_le(number)),
-        None => Err(DataFault::BadOffset),
+    /// The byte, as a signed number at an offset; `BadOffset` exactly where one of its bytes isn't inside.
+    pub fn read_i8(&self, offset: u32) -> Result<i8, DataFault>
+        ensures { Reads 1 (signed_at w8) 0 self.now offset result }
+    {
+        read_pod(0, self.bytes, offset)
+    }
+
+    /// The signed 16-bit number at an offset; `BadOffset` exactly where one of its bytes isn't inside.
+    pub fn read_i16(&self, offset: u32) -> Result<i16, DataFault>
+        ensures { Reads 2 (signed_at w16) 0 self.now offset result }
+    {
+        read_pod(0, self.bytes, offset)
+    }
+
+    /// The signed 32-bit number at an offset; `BadOffset` exactly where one of its bytes isn't inside.
+    pub fn read_i32(&self, offset: u32) -> Result<i32, DataFault>
+        ensures { Reads 4 (signed_at w32) 0 self.now offset result }
+    {
+        read_pod(0, self.bytes, offset)
+    }
+
+    /// The signed 64-bit number at an offset; `BadOffset` exactly where one of its bytes isn't inside.
+    pub fn read_i64(&self, offset: u32) -> Result<i64, DataFault>
+        ensures { Reads 8 (signed_at w64) 0 self.now offset result }
+    {
+        read_pod(0, self.bytes, offset)
+    }
+
+    /// The vector value at an offset; `BadOffset` exactly where one of its bytes isn't inside.
+    pub fn read_v128(&self, offset: u32) -> Result<V128, DataFault>
+        ensures { Reads 16 (unsigned_at w128) 0 self.now offset result }
+    {
+        read_pod(0, self.bytes, offset)
     }
 }

@@ -6,21 +6,28 @@
 #![tactic(auto)]
 
 pub mod data;
+pub mod data_mut;
 pub mod fault;
 pub mod header;
 pub mod i31;
 pub mod object_refs;
+mod parts;
 pub mod pod;
+pub mod raw;
+pub mod trace;
 pub mod typed;
 pub mod v128;
 pub mod word;
 
 pub use data::VMGcObjectData;
+pub use data_mut::VMGcObjectDataMut;
 pub use fault::{DataFault, RefFault};
 pub use header::VMGcHeader;
 pub use i31::I31;
 pub use object_refs::{VMArrayRef, VMExnRef, VMExternRef, VMStructRef};
 pub use pod::PodValType;
+pub use raw::ValRaw;
+pub use trace::InlineTraceInfo;
 pub use typed::{GcHeapObject, TypedGcRef};
 pub use v128::V128;
 pub use word::VMGcRef;

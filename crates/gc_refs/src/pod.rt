@@ -1,8 +1,8 @@
 //! Numbers that objects hold as little-endian bytes.
 
 ghost use Rattle.std.specs.Prelude.{◌≡◌};
-ghost use Rattle.gc_refs.specs.LittleEndian.{unsigned_at, signed_at, unsigned_bytes, signed_bytes};
 ghost use Rattle.std.specs.Int.{w8, w16, w32, w64, w128};
+ghost use Rattle.gc_refs.specs.LittleEndian.{unsigned_at, signed_at, unsigned_bytes, signed_bytes};
 
 use crate::v128::V128;
 
@@ -24,6 +24,34 @@ pub trait PodValType<const N: usize>: Copy {
         ensures reads_back { number_of into.new ≡ self.now };
 }
 
+impl PodValType<1> for u8 {
+    ghost number_of = { unsigned_at w8 };
+
+    ghost bytes_of = { unsigned_bytes w8 };
+
+    fn read_le(bytes: &[u8; 1]) -> u8 {
+        u8::from_le_bytes(*bytes)
+    }
+
+    fn write_le(&self, into: &mut [u8; 1]) {
+        *into = self.to_le_bytes();
+    }
+}
+
+impl PodValType<2> for u16 {
+    ghost number_of = { unsigned_at w16 };
+
+    ghost bytes_of = { unsigned_bytes w16 };
+
+    fn read_le(bytes: &[u8; 2]) -> u16 {
+        u16::from_le_bytes(*bytes)
+    }
+
+    fn write_le(&self, into: &mut [u8; 2]) {
+        *into = self.to_le_bytes();
+    }
+}
+
 impl PodValType<4> for u32 {
     ghost number_of = { unsigned_at w32 };
 
@@ -38,6 +66,48 @@ impl PodValType<4> for u32 {
     }
 }
 
+impl PodValType<8> for u64 {
+    ghost number_of = { unsigned_at w64 };
+
+    ghost bytes_of = { unsigned_bytes w64 };
+
+    fn read_le(bytes: &[u8; 8]) -> u64 {
+        u64::from_le_bytes(*bytes)
+    }
+
+    fn write_le(&self, into: &mut [u8; 8]) {
+        *into = self.to_le_bytes();
+    }
+}
+
+impl PodValType<1> for i8 {
+    ghost number_of = { signed_at w8 };
+
+    ghost bytes_of = { signed_bytes w8 };
+
+    fn read_le(bytes: &[u8; 1]) -> i8 {
+        i8::from_le_bytes(*bytes)
+    }
+
+    fn write_le(&self, into: &mut [u8; 1]) {
+        *into = self.to_le_bytes();
+    }
+}
+
+impl PodValType<2> for i16 {
+    ghost number_of = { signed_at w16 };
+
+    ghost bytes_of = { signed_bytes w16 };
+
+    fn read_le(bytes: &[u8; 2]) -> i16 {
+        i16::from_le_bytes(*bytes)
+    }
+
+    fn write_le(&self, into: &mut [u8; 2]) {
+        *into = self.to_le_bytes();
+    }
+}
+
 impl PodValType<4> for i32 {
     ghost number_of = { signed_at w32 };
 
@@ -48,6 +118,20 @@ impl PodValType<4> for i32 {
     }
 
     fn write_le(&self, into: &mut [u8; 4]) {
+        *into = self.to_le_bytes();
+    }
+}
+
+impl PodValType<8> for i64 {
+    ghost number_of = { signed_at w64 };
+
+    ghost bytes_of = { signed_bytes w64 };
+
+    fn read_le(bytes: &[u8; 8]) -> i64 {
+        i64::from_le_bytes(*bytes)
+    }
+
+    fn write_le(&self, into: &mut [u8; 8]) {
         *into = self.to_le_bytes();
     }
 }
