@@ -1,6 +1,6 @@
 -- Views of an object's bytes. A view has an offset for its first byte.
 use Rattle.std.specs.Prelude.{◌≡◌, ℕ, ◌+◌, ◌-◌, ◌≤◌, List, ◌++◌, take, drop, length, Result, Ok, Err, OkIff, MatchResult}
-use Rattle.std.specs.Borrow.{Bor}
+use Rattle.std.specs.Borrow.{Bor, MutBor}
 use Rattle.gc_refs.specs.declared.fault.DataFault.{DataFault}
 
 -- the n bytes at an offset lie inside the bytes that begin at the offset `first`
@@ -25,6 +25,13 @@ Reads n number first bytes offset result =
 -- a view of a range has exactly its bytes, and is refused exactly where it isn't inside
 abbrev pub LendsPart : ℕ → List ℕ → ℕ → ℕ → Result (Bor (List ℕ)) DataFault → Type 0
 LendsPart first bytes offset n result =
+    MatchResult result
+    (λ lent. IsInside first bytes offset n × (lent.now ≡ part_of bytes (offset - first) n))
+    (λ _. ¬ (IsInside first bytes offset n))
+
+-- the same of a part that is lent for writing
+abbrev pub LendsPartMut : ℕ → List ℕ → ℕ → ℕ → Result (MutBor (List ℕ)) DataFault → Type 0
+LendsPartMut first bytes offset n result =
     MatchResult result
     (λ lent. IsInside first bytes offset n × (lent.now ≡ part_of bytes (offset - first) n))
     (λ _. ¬ (IsInside first bytes offset n))

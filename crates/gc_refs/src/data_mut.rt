@@ -3,10 +3,10 @@
 ghost use Rattle.std.specs.Prelude.{◌≡◌, ◌+◌, ◌<◌, ◌^◌, length};
 ghost use Rattle.std.specs.Int.{w8, w16, w32, w64, w128};
 ghost use Rattle.gc_refs.specs.LittleEndian.{unsigned_at, signed_at, unsigned_bytes, signed_bytes};
-ghost use Rattle.gc_refs.specs.Views.{LendsPart, Reads, Writes, Copies};
+ghost use Rattle.gc_refs.specs.Views.{LendsPart, LendsPartMut, Reads, Writes, Copies};
 
 use crate::fault::DataFault;
-use crate::parts::{copy_part, part, read_pod, write_part, write_pod};
+use crate::parts::{copy_part, part, place_of, read_pod, write_part, write_pod};
 use crate::v128::V128;
 use std::ops::Range;
 
@@ -45,6 +45,19 @@ impl<'a> VMGcObjectDataMut<'a> {
         ensures { LendsPart self.now.first self.now.bytes.now offset len result }
     {
         part(self.first, &*self.bytes, offset, len)
+    }
+
+    /// Lends the `len` bytes at an offset for writing; `BadOffset` exactly where they aren't all inside.
+    pub fn slice_mut(&mut self, offset: u32, len: u32) -> Result<&mut [u8], DataFault>
+        ensures { LendsPartMut self.old.first self.old.bytes.now offset len result }
+    {
+        let count = len as usize;
+        let first = self.first;
+        let bytes = &mut *self.bytes;
+        match place_of(first, bytes, offset, count) {
+            Ok(place) => Ok(&mut bytes[place..place + count]),
+            Err(fault) => Err(fault),
+        }
     }
 
     /// Writes these bytes at an offset; `BadOffset` exactly where they aren't all inside.

@@ -46,32 +46,130 @@ fn to_pod<const N: usize, T: PodValType<N>>(value: &ValRaw) -> T
 }
 
 impl ValRaw {
-    /// An `i32`, in 4 bytes.
+    /// An `i32`, in the first 4 bytes.
     pub fn i32(v: i32) -> ValRaw
         ensures { result ≡ signed_bytes w32 v ++ replicate 12 0 }
     {
         from_pod(v)
     }
 
-    /// The `i32` of the first 4 bytes.
-    pub fn get_i32(&self) -> i32
-        ensures { result ≡ signed_at w32 (take 4 self.now) }
+    /// An `i64`, in the first 8 bytes.
+    pub fn i64(v: i64) -> ValRaw
+        ensures { result ≡ signed_bytes w64 v ++ replicate 8 0 }
     {
-        to_pod(self)
+        from_pod(v)
     }
 
-    /// A vector value, in 16 bytes.
+    /// The bits of an `f32`, in the first 4 bytes.
+    pub fn f32(v: u32) -> ValRaw
+        ensures { result ≡ unsigned_bytes w32 v ++ replicate 12 0 }
+    {
+        from_pod(v)
+    }
+
+    /// The bits of an `f64`, in the first 8 bytes.
+    pub fn f64(v: u64) -> ValRaw
+        ensures { result ≡ unsigned_bytes w64 v ++ replicate 8 0 }
+    {
+        from_pod(v)
+    }
+
+    /// A vector value, in the first 16 bytes.
     pub fn v128(v: u128) -> ValRaw
         ensures { result ≡ unsigned_bytes w128 v }
     {
         from_pod(V128::from(v))
     }
 
-    /// The vector value of the 16 bytes.
+    /// A function reference, in the first 8 bytes.
+    pub fn funcref(v: u64) -> ValRaw
+        ensures { result ≡ unsigned_bytes w64 v ++ replicate 8 0 }
+    {
+        from_pod(v)
+    }
+
+    /// The word of an `externref`, 0 for null, in the first 4 bytes.
+    pub fn externref(v: u32) -> ValRaw
+        ensures { result ≡ unsigned_bytes w32 v ++ replicate 12 0 }
+    {
+        from_pod(v)
+    }
+
+    /// The word of an `anyref`, 0 for null, in the first 4 bytes.
+    pub fn anyref(v: u32) -> ValRaw
+        ensures { result ≡ unsigned_bytes w32 v ++ replicate 12 0 }
+    {
+        from_pod(v)
+    }
+
+    /// The word of an `exnref`, 0 for null, in the first 4 bytes.
+    pub fn exnref(v: u32) -> ValRaw
+        ensures { result ≡ unsigned_bytes w32 v ++ replicate 12 0 }
+    {
+        from_pod(v)
+    }
+
+    /// The `i32` that the first 4 bytes are.
+    pub fn get_i32(&self) -> i32
+        ensures { result ≡ signed_at w32 (take 4 self.now) }
+    {
+        to_pod(self)
+    }
+
+    /// The `i64` that the first 8 bytes are.
+    pub fn get_i64(&self) -> i64
+        ensures { result ≡ signed_at w64 (take 8 self.now) }
+    {
+        to_pod(self)
+    }
+
+    /// The bits of an `f32` that the first 4 bytes are.
+    pub fn get_f32(&self) -> u32
+        ensures { result ≡ unsigned_at w32 (take 4 self.now) }
+    {
+        to_pod(self)
+    }
+
+    /// The bits of an `f64` that the first 8 bytes are.
+    pub fn get_f64(&self) -> u64
+        ensures { result ≡ unsigned_at w64 (take 8 self.now) }
+    {
+        to_pod(self)
+    }
+
+    /// The vector value that the first 16 bytes are.
     pub fn get_v128(&self) -> u128
         ensures { result ≡ unsigned_at w128 self.now }
     {
         let vector: V128 = to_pod(self);
         vector.as_u128()
+    }
+
+    /// The function reference that the first 8 bytes are.
+    pub fn get_funcref(&self) -> u64
+        ensures { result ≡ unsigned_at w64 (take 8 self.now) }
+    {
+        to_pod(self)
+    }
+
+    /// The word of an `externref` that the first 4 bytes are.
+    pub fn get_externref(&self) -> u32
+        ensures { result ≡ unsigned_at w32 (take 4 self.now) }
+    {
+        to_pod(self)
+    }
+
+    /// The word of an `anyref` that the first 4 bytes are.
+    pub fn get_anyref(&self) -> u32
+        ensures { result ≡ unsigned_at w32 (take 4 self.now) }
+    {
+        to_pod(self)
+    }
+
+    /// The word of an `exnref` that the first 4 bytes are.
+    pub fn get_exnref(&self) -> u32
+        ensures { result ≡ unsigned_at w32 (take 4 self.now) }
+    {
+        to_pod(self)
     }
 }
