@@ -1,3 +1,4 @@
+pub mod Equality
 pub mod Header
 pub mod LittleEndian
 pub mod SameView

@@ -38,10 +38,20 @@ pub struct TypedGcRef<T> {
     object: PhantomData<T>,
 }
 
+impl<T> Model for TypedGcRef<T> {
+    ghost use Rattle.std.specs.Prelude.{ℕ};
+
+    ghost Value = { ℕ };
+
+    ghost view = { λ r. r.gc_ref };
+
+    ghost inverse = { λ n. record { gc_ref = n; object = record { } } };
+}
+
 impl<T> TypedGcRef<T> {
     /// The reference of that word, whose object isn't looked at.
     pub fn new_unchecked(gc_ref: VMGcRef) -> TypedGcRef<T>
-        ensures { result.gc_ref ≡ gc_ref }
+        ensures { result ≡ gc_ref }
     {
         TypedGcRef {
             gc_ref,
@@ -51,21 +61,21 @@ impl<T> TypedGcRef<T> {
 
     /// Lends the word.
     pub fn as_untyped(&self) -> &VMGcRef
-        ensures { result.now ≡ self.now.gc_ref }
+        ensures { result.now ≡ self.now }
     {
         &self.gc_ref
     }
 
     /// The same word again. Heaps that count references are not told of it.
     pub fn unchecked_copy(&self) -> TypedGcRef<T>
-        ensures { result.gc_ref ≡ self.now.gc_ref }
+        ensures { result ≡ self.now }
     {
         TypedGcRef::new_unchecked(self.gc_ref.unchecked_copy())
     }
 }
 
 impl<T> From<TypedGcRef<T>> for VMGcRef {
-    ghost from_gives = { λ r word. word ≡ r.gc_ref };
+    ghost from_gives = { λ r word. word ≡ r };
 
     fn from(r: TypedGcRef<T>) -> VMGcRef {
         r.gc_ref
