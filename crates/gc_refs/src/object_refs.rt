@@ -13,18 +13,16 @@ use std::marker::Model;
 
 /// A reference to a struct. Two are equal exactly where their words are.
 #[derive(Debug, PartialEq, Eq, Hash, Drop)]
-pub struct VMStructRef {
-    gc_ref: VMGcRef,
-}
+pub struct VMStructRef(VMGcRef);
 
 impl Model for VMStructRef {
     ghost use Rattle.std.specs.Prelude.{ℕ};
 
     ghost Value = { ℕ };
 
-    ghost view = { λ r. r.gc_ref };
+    ghost view = { λ r. r.0 };
 
-    ghost inverse = { λ n. record { gc_ref = n } };
+    ghost inverse = { λ n. record { 0 = n } };
 }
 
 impl VMStructRef {
@@ -32,23 +30,21 @@ impl VMStructRef {
     pub fn new_unchecked(gc_ref: VMGcRef) -> VMStructRef
         ensures { result ≡ gc_ref }
     {
-        VMStructRef { gc_ref }
+        VMStructRef(gc_ref)
     }
 
     /// Lends the word.
     pub fn as_gc_ref(&self) -> &VMGcRef
         ensures { result.now ≡ self.now }
     {
-        &self.gc_ref
+        &self.0
     }
 
     /// The same word again. Heaps that count references are not told of it.
     pub fn unchecked_copy(&self) -> VMStructRef
         ensures { result ≡ self.now }
     {
-        VMStructRef {
-            gc_ref: self.gc_ref.unchecked_copy(),
-        }
+        VMStructRef(self.0.unchecked_copy())
     }
 }
 
@@ -56,24 +52,22 @@ impl From<VMStructRef> for VMGcRef {
     ghost from_gives = { λ r word. word ≡ r };
 
     fn from(r: VMStructRef) -> VMGcRef {
-        r.gc_ref
+        r.0
     }
 }
 
 /// A reference to an array. Two are equal exactly where their words are.
 #[derive(Debug, PartialEq, Eq, Hash, Drop)]
-pub struct VMArrayRef {
-    gc_ref: VMGcRef,
-}
+pub struct VMArrayRef(VMGcRef);
 
 impl Model for VMArrayRef {
     ghost use Rattle.std.specs.Prelude.{ℕ};
 
     ghost Value = { ℕ };
 
-    ghost view = { λ r. r.gc_ref };
+    ghost view = { λ r. r.0 };
 
-    ghost inverse = { λ n. record { gc_ref = n } };
+    ghost inverse = { λ n. record { 0 = n } };
 }
 
 impl VMArrayRef {
@@ -81,23 +75,21 @@ impl VMArrayRef {
     pub fn new_unchecked(gc_ref: VMGcRef) -> VMArrayRef
         ensures { result ≡ gc_ref }
     {
-        VMArrayRef { gc_ref }
+        VMArrayRef(gc_ref)
     }
 
     /// Lends the word.
     pub fn as_gc_ref(&self) -> &VMGcRef
         ensures { result.now ≡ self.now }
     {
-        &self.gc_ref
+        &self.0
     }
 
     /// The same word again. Heaps that count references are not told of it.
     pub fn unchecked_copy(&self) -> VMArrayRef
         ensures { result ≡ self.now }
     {
-        VMArrayRef {
-            gc_ref: self.gc_ref.unchecked_copy(),
-        }
+        VMArrayRef(self.0.unchecked_copy())
     }
 }
 
@@ -105,24 +97,22 @@ impl From<VMArrayRef> for VMGcRef {
     ghost from_gives = { λ r word. word ≡ r };
 
     fn from(r: VMArrayRef) -> VMGcRef {
-        r.gc_ref
+        r.0
     }
 }
 
 /// A reference to an exception. Two are equal exactly where their words are.
 #[derive(Debug, PartialEq, Eq, Hash, Drop)]
-pub struct VMExnRef {
-    gc_ref: VMGcRef,
-}
+pub struct VMExnRef(VMGcRef);
 
 impl Model for VMExnRef {
     ghost use Rattle.std.specs.Prelude.{ℕ};
 
     ghost Value = { ℕ };
 
-    ghost view = { λ r. r.gc_ref };
+    ghost view = { λ r. r.0 };
 
-    ghost inverse = { λ n. record { gc_ref = n } };
+    ghost inverse = { λ n. record { 0 = n } };
 }
 
 impl VMExnRef {
@@ -130,14 +120,14 @@ impl VMExnRef {
     pub fn new_unchecked(gc_ref: VMGcRef) -> VMExnRef
         ensures { result ≡ gc_ref }
     {
-        VMExnRef { gc_ref }
+        VMExnRef(gc_ref)
     }
 
     /// Lends the word.
     pub fn as_gc_ref(&self) -> &VMGcRef
         ensures { result.now ≡ self.now }
     {
-        &self.gc_ref
+        &self.0
     }
 
     /// Lends the word for writing: the reference then has the word that is left there.
@@ -145,16 +135,14 @@ impl VMExnRef {
         ensures* writes_back { sem 𝓛 (Lends exn_row word_row self.entry result (λ word. word)) }
         ensures value { result.now ≡ self.old }
     {
-        &mut self.gc_ref
+        &mut self.0
     }
 
     /// The same word again. Heaps that count references are not told of it.
     pub fn unchecked_copy(&self) -> VMExnRef
         ensures { result ≡ self.now }
     {
-        VMExnRef {
-            gc_ref: self.gc_ref.unchecked_copy(),
-        }
+        VMExnRef(self.0.unchecked_copy())
     }
 }
 
@@ -162,24 +150,22 @@ impl From<VMExnRef> for VMGcRef {
     ghost from_gives = { λ r word. word ≡ r };
 
     fn from(r: VMExnRef) -> VMGcRef {
-        r.gc_ref
+        r.0
     }
 }
 
 /// A reference to an external object, which holds a value of the host. Two are equal exactly where their words are.
 #[derive(Debug, PartialEq, Eq, Hash, Drop)]
-pub struct VMExternRef {
-    gc_ref: VMGcRef,
-}
+pub struct VMExternRef(VMGcRef);
 
 impl Model for VMExternRef {
     ghost use Rattle.std.specs.Prelude.{ℕ};
 
     ghost Value = { ℕ };
 
-    ghost view = { λ r. r.gc_ref };
+    ghost view = { λ r. r.0 };
 
-    ghost inverse = { λ n. record { gc_ref = n } };
+    ghost inverse = { λ n. record { 0 = n } };
 }
 
 impl VMExternRef {
@@ -187,23 +173,21 @@ impl VMExternRef {
     pub fn new_unchecked(gc_ref: VMGcRef) -> VMExternRef
         ensures { result ≡ gc_ref }
     {
-        VMExternRef { gc_ref }
+        VMExternRef(gc_ref)
     }
 
     /// Lends the word.
     pub fn as_gc_ref(&self) -> &VMGcRef
         ensures { result.now ≡ self.now }
     {
-        &self.gc_ref
+        &self.0
     }
 
     /// The same word again. Heaps that count references are not told of it.
     pub fn unchecked_copy(&self) -> VMExternRef
         ensures { result ≡ self.now }
     {
-        VMExternRef {
-            gc_ref: self.gc_ref.unchecked_copy(),
-        }
+        VMExternRef(self.0.unchecked_copy())
     }
 }
 
@@ -211,6 +195,6 @@ impl From<VMExternRef> for VMGcRef {
     ghost from_gives = { λ r word. word ≡ r };
 
     fn from(r: VMExternRef) -> VMGcRef {
-        r.gc_ref
+        r.0
     }
 }

@@ -17,20 +17,18 @@ use std::num::NonZeroU32;
 /// It is no `Copy` and no `Clone`, since a heap that counts references has to hear of each copy;
 /// `unchecked_copy` is the way round that.
 #[derive(Debug, PartialEq, Eq, Hash, Drop)]
-pub struct VMGcRef {
-    word: u32,
-}
+pub struct VMGcRef(u32);
 
 impl Model for VMGcRef {
     ghost use Rattle.std.specs.Prelude.{ℕ, ◌<◌, ◌^◌};
 
     ghost Value = { ℕ };
 
-    ghost view = { λ r. r.word };
+    ghost view = { λ r. r.0 };
 
-    ghost invariant = { λ r. (0 < r.word) × (r.word < 2 ^ 32) };
+    ghost invariant = { λ r. (0 < r.0) × (r.0 < 2 ^ 32) };
 
-    ghost inverse = { λ n. record { word = n } };
+    ghost inverse = { λ n. record { 0 = n } };
 }
 
 impl VMGcRef {
@@ -44,7 +42,7 @@ impl VMGcRef {
         if word == 0 {
             None
         } else {
-            Some(VMGcRef { word })
+            Some(VMGcRef(word))
         }
     }
 
@@ -52,7 +50,7 @@ impl VMGcRef {
     pub fn from_raw_non_zero_u32(word: NonZeroU32) -> VMGcRef
         ensures { result ≡ non_zero_u32_get word }
     {
-        VMGcRef { word: word.get() }
+        VMGcRef(word.get())
     }
 
     /// The reference to the object at that place of a heap; None exactly where bit 0 is set, since
@@ -68,9 +66,7 @@ impl VMGcRef {
     pub fn from_i31(value: I31) -> VMGcRef
         ensures { result ≡ i31_word value }
     {
-        VMGcRef {
-            word: value.get_u32() * 2 + VMGcRef::I31_REF_DISCRIMINANT,
-        }
+        VMGcRef(value.get_u32() * 2 + VMGcRef::I31_REF_DISCRIMINANT)
     }
 
     /// The word.
@@ -78,21 +74,21 @@ impl VMGcRef {
         ensures value { result ≡ self.now }
         ensures not_null { 0 < result }
     {
-        self.word
+        self.0
     }
 
     /// The word, as a number that is never 0.
     pub fn as_raw_non_zero_u32(&self) -> NonZeroU32
         ensures { non_zero_u32_get result ≡ self.now }
     {
-        NonZeroU32::new(self.word).unwrap()
+        NonZeroU32::new(self.0).unwrap()
     }
 
     /// The same word again. Heaps that count references are not told of it.
     pub fn unchecked_copy(&self) -> VMGcRef
         ensures { result ≡ self.now }
     {
-        VMGcRef { word: self.word }
+        VMGcRef(self.0)
     }
 
     /// The same 31-bit number again. No heap needs to hear of it.
@@ -118,7 +114,7 @@ impl VMGcRef {
     pub fn is_i31(&self) -> bool
         ensures { IsTrue result ↔ (self.now % 2 ≡ 1) }
     {
-        self.word % 2 == VMGcRef::I31_REF_DISCRIMINANT
+        self.0 % 2 == VMGcRef::I31_REF_DISCRIMINANT
     }
 
     /// The 31-bit number that the word is; None exactly where it names an object.
@@ -137,7 +133,7 @@ impl VMGcRef {
         requires { IsI31Word self.now }
         ensures { self.now ≡ i31_word result }
     {
-        I31::wrapping_u32(self.word / 2)
+        I31::wrapping_u32(self.0 / 2)
     }
 }
 
@@ -146,7 +142,7 @@ impl fmt::LowerHex for VMGcRef {
     fn fmt<W: fmt::Write>(&self, f: &mut fmt::Formatter<W>) -> fmt::Result
         ensures { WritesOnOk W.write_str_gives f.old result (digits 16 false self.now) f.new }
     {
-        let word = self.word;
+        let word = self.0;
         fmt::LowerHex::fmt(&word, f)
     }
 }
@@ -156,7 +152,7 @@ impl fmt::UpperHex for VMGcRef {
     fn fmt<W: fmt::Write>(&self, f: &mut fmt::Formatter<W>) -> fmt::Result
         ensures { WritesOnOk W.write_str_gives f.old result (digits 16 true self.now) f.new }
     {
-        let word = self.word;
+        let word = self.0;
         fmt::UpperHex::fmt(&word, f)
     }
 }
