@@ -8,7 +8,12 @@ use crate::pod::PodValType;
 use std::ops::Range;
 
 /// Where the `count` bytes at an offset begin; `BadOffset` exactly where they aren't inside.
-pub(crate) fn place_of(first: u32, bytes: &[u8], offset: u32, count: usize) -> Result<usize, DataFault>
+pub(crate) fn place_of(
+    first: u32,
+    bytes: &[u8],
+    offset: u32,
+    count: usize,
+) -> Result<usize, DataFault>
     ensures { OkIff result (IsInside first bytes.now offset count) (offset - first) }
 {
     if offset < first {

@@ -45,7 +45,7 @@ impl<T> Model for TypedGcRef<T> {
 
     ghost view = { λ r. r.gc_ref };
 
-    ghost inverse = { λ n. record { gc_ref = n; object = record { } } };
+    ghost inverse = { λ n. record { gc_ref = n; object = record {} } };
 }
 
 impl<T> TypedGcRef<T> {

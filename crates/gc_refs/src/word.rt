@@ -39,11 +39,7 @@ impl VMGcRef {
     pub fn from_raw_u32(word: u32) -> Option<VMGcRef>
         ensures { SomeIff result (0 < word) word }
     {
-        if word == 0 {
-            None
-        } else {
-            Some(VMGcRef(word))
-        }
+        if word == 0 { None } else { Some(VMGcRef(word)) }
     }
 
     /// The reference of that word.
