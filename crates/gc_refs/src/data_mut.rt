@@ -40,14 +40,6 @@ impl<'a> VMGcObjectDataMut<'a> {
         VMGcObjectDataMut { first, bytes }
     }
 
-    /// The bytes themselves, for as long as the view was lent them.
-    pub fn into_slice_mut(self) -> &'a mut [u8]
-        ensures same_bytes { result.now ≡ self.entry.bytes.now }
-        ensures lent { result.ghost_name ≡ self.entry.bytes.ghost_name }
-    {
-        self.bytes
-    }
-
     /// Lends the `len` bytes at an offset; `BadOffset` exactly where they aren't all inside.
     pub fn slice(&self, offset: u32, len: u32) -> Result<&[u8], DataFault>
         ensures { LendsPart self.now.first self.now.bytes.now offset len result }

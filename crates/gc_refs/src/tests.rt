@@ -4,4 +4,5 @@ mod headers;
 mod lent;
 mod values;
 mod views;
+mod widths;
 mod words;

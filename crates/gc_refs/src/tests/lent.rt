@@ -1,6 +1,6 @@
 //! What a caller knows of bytes that a view was lent.
 
-ghost use Rattle.std.specs.Prelude.{◌≡◌, ◌+◌, ◌≤◌, ◌<◌, ◌^◌, [], ◌∷◌, length};
+ghost use Rattle.std.specs.Prelude.{◌≡◌, ◌+◌, ◌≤◌, ◌<◌, ◌^◌, length};
 ghost use Rattle.std.specs.Int.{w32};
 ghost use Rattle.gc_refs.specs.LittleEndian.{unsigned_bytes};
 ghost use Rattle.gc_refs.specs.Views.{part_of, with_part};
@@ -15,14 +15,4 @@ pub(super) fn writes_twice(bytes: &mut [u8], number: u32) -> Result<(), DataFaul
     let mut view = VMGcObjectDataMut::from_slice_mut(bytes);
     view.write_u32(4, number)?;
     view.copy_within(4..8, 8)
-}
-
-/// Writes a byte through the slice that a view gives back.
-pub(super) fn writes_behind_a_view(bytes: &mut [u8], value: u8)
-    requires { 2 ≤ length bytes.old }
-    ensures { bytes.new ≡ with_part bytes.old 1 (value ∷ []) }
-{
-    let view = VMGcObjectDataMut::from_slice_mut(bytes);
-    let part = &mut view.into_slice_mut()[1..2];
-    part[0] = value;
 }
