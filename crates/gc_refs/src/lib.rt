@@ -1,8 +1,11 @@
-//! Words, headers and raw values of garbage-collected objects.
+//! Words, headers, views of data and raw values of garbage-collected objects.
 //!
 //! A reference is a 32-bit word: 0 is null, an odd word a 31-bit number, any other word the place of
-//! an object. An object begins with a header of two words. This crate says what they mean, once, for
-//! all heaps; it stands on `gc_types` for kinds and type indexes.
+//! an object. An object begins with a header of two words, and its numbers lie with their lowest byte
+//! first. This crate says what they mean, once, for all heaps: words and headers are numbers, views
+//! lend exactly a range and refuse each that isn't inside, and equal references have equal words.
+//!
+//! It stands on `gc_types` for kinds and type indexes, knows no heap and takes no memory.
 #![tactic(auto)]
 
 pub mod data;
