@@ -1,5 +1,5 @@
 -- The bytes of a number add up to it, at every width.
-use Rattle.std.proofs.Common.{◌≡◌, ℕ, zero, suc, ◌+◌, ◌*◌, ◌/◌, ◌%◌, ◌^◌, ◌<◌, refl, sym, ap, ◌∙◌, add_comm, lit<, arith}
+use Rattle.std.proofs.Common.{◌≡◌, ℕ, zero, suc, ◌+◌, ◌*◌, ◌/◌, ◌%◌, ◌^◌, ◌<◌, refl, sym, ap, ◌∙◌, add_comm, lit<}
 use Rattle.std.specs.Int.{w128, to_le_bytes, from_le_bytes, sum_through, byte_worth, byte_at}
 use Rattle.std.proofs.Math.Arith.{mod-mul}
 use Rattle.std.proofs.Math.Nat.{mod-eq_of_lt, one-le-pow, pow-succ'}

@@ -1,6 +1,6 @@
 -- Numbers as bytes, the lowest byte first.
-use Rattle.std.specs.Prelude.{◌≡◌, ℕ, ℤ, ◌+◌, ◌*◌, List, [], ◌∷◌}
-use Rattle.std.specs.Int.{Width, w8, w16, w32, w64, w128, to_le_bytes, from_le_bytes, cast_signed, cast_unsigned}
+use Rattle.std.specs.Prelude.{ℕ, ℤ, List}
+use Rattle.std.specs.Int.{Width, to_le_bytes, from_le_bytes, cast_signed, cast_unsigned}
 
 -- the number that the first bytes of a list are, at that width
 abbrev pub unsigned_at : Width → List ℕ → ℕ

@@ -1,5 +1,5 @@
 -- Views of an object's bytes. A view has an offset for its first byte.
-use Rattle.std.specs.Prelude.{◌≡◌, ℕ, ◌+◌, ◌-◌, ◌≤◌, List, ◌++◌, take, drop, length, Result, Ok, Err, OkIff, MatchResult}
+use Rattle.std.specs.Prelude.{◌≡◌, ℕ, ◌+◌, ◌-◌, ◌≤◌, List, ◌++◌, take, drop, length, Result, MatchResult}
 use Rattle.std.specs.Borrow.{Bor, MutBor}
 use Rattle.gc_refs.specs.declared.fault.DataFault.{DataFault}
 

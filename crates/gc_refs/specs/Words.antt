@@ -1,5 +1,5 @@
 -- Words of references, and 31-bit numbers.
-use Rattle.std.specs.Prelude.{◌≡◌, ℕ, ℤ, pos, negsuc, ◌+◌, ◌-◌, ◌*◌, ◌/◌, ◌%◌, ◌^◌, ◌<◌, ◌≤◌, nat_lt, if◌then◌else◌}
+use Rattle.std.specs.Prelude.{◌≡◌, ℕ, ℤ, pos, negsuc, ◌+◌, ◌-◌, ◌*◌, ◌%◌, ◌<◌, nat_lt, if◌then◌else◌}
 use Rattle.std.specs.Int.{w32, cast_unsigned}
 
 -- a 31-bit number is below this number

@@ -1,4 +1,4 @@
-use Rattle.std.proofs.Common.{◌≡◌, ◌∙◌, ap}
+use Rattle.std.proofs.Common.{◌∙◌, ap}
 use Rattle.std.specs.Int.{w128, from_le_bytes}
 use Rattle.gc_refs.proofs.LittleEndianLemmas.{from_le_bytes-to_le_bytes_16}
 use Rattle.gc_refs.proofs.pod.V128PodValType16.write_le.Goals as goal
