@@ -1,6 +1,6 @@
 -- The header of an object.
-use Rattle.std.specs.Prelude.{◌≡◌, ℕ, ◌+◌, ◌*◌, ◌/◌, ◌%◌, ◌++◌, List, Option, Some, None}
-use Rattle.std.specs.Int.{w32, to_le_bytes}
+use Rattle.std.specs.Prelude.{◌≡◌, ℕ, ◌+◌, ◌*◌, ◌/◌, ◌++◌, List, take, drop, bit_and}
+use Rattle.std.specs.Int.{w32, to_le_bytes, from_le_bytes}
 use Rattle.gc_types.specs.declared.kind.VMGcKind.{VMGcKind}
 use Rattle.gc_types.specs.Kinds.{kind_bits}
 
@@ -24,3 +24,19 @@ with_spare spare h = record h { kind_word = h.kind_word / spare_bits * spare_bit
 -- the bytes of a header: its words, the kind word first, each with its lowest byte first
 abbrev pub header_bytes : Header → List ℕ
 header_bytes h = to_le_bytes w32 h.kind_word ++ to_le_bytes w32 h.type_word
+
+-- the header that the first eight bytes are
+abbrev pub header_at : List ℕ → Header
+header_at bytes = record { kind_word = from_le_bytes w32 (take 4 bytes); type_word = from_le_bytes w32 (take 4 (drop 4 bytes)) }
+
+-- the upper six bits of a kind word, in place
+abbrev pub kind_part : ℕ → ℕ
+kind_part word = word / spare_bits * spare_bits
+
+-- a kind word is of that kind
+abbrev pub IsOfKind : VMGcKind → ℕ → Type 0
+IsOfKind kind word = kind_bits kind ≡ kind_part word
+
+-- a kind matches another where it has all the other's bits
+abbrev pub KindMatches : VMGcKind → VMGcKind → Type 0
+KindMatches kind other = bit_and (kind_bits kind) (kind_bits other) ≡ kind_bits other
