@@ -1,5 +1,5 @@
 //! The coalescing free list.
-ghost use Rattle.std.specs.Prelude.{◌≡◌, ◌+◌, ◌-◌, ◌*◌, ◌%◌, ◌^◌, ◌<◌, ◌≤◌, ◌↔◌, IfOk, OnOk, OnErr, IsNone, IfNone, IfSome, All, Contains, None, length, option_map};
+ghost use Rattle.std.specs.Prelude.{◌≡◌, ◌+◌, ◌-◌, ◌*◌, ◌%◌, ◌^◌, ◌<◌, ◌≤◌, ◌↔◌, IfOk, OnOk, OnErr, IsNone, IfNone, IfSome, All, Contains, MatchOption, None, length, option_map};
 ghost use Rattle.std.specs.Int.NonZero.{non_zero_u32_get};
 ghost use Rattle.gc_free.specs.Runs.{run};
 ghost use Rattle.gc_free.specs.Listed.{listed, current_at, run_length_at};
@@ -186,7 +186,9 @@ impl FreeList {
         self.alloc_counted(alloc_size, &mut steps)
     }
 
-    /// As `alloc_fast`. Each comparison of a search is a step.
+    /// As `alloc_fast`. Each comparison of a search is a step: with r free runs, s steps are few enough
+    /// that 2^s is at most (2r + 1)^4, and where no current run is long enough as many that 2^(s + 1) is
+    /// at least r + 2.
     pub fn alloc_counted<G: Ledger>(
         &mut self,
         alloc_size: u32,
@@ -203,6 +205,8 @@ impl FreeList {
         ensures sound { IsSound self.new }
         ensures rises { steps.old ≤ steps.new }
         ensures cost { 2 ^ (steps.new - steps.old) ≤ (2 * length (free_runs self.old) + 1) ^ 4 }
+        ensures least { OnOk result (MatchOption self.old.current (Unit {0}) (λ c. c.length < alloc_size)
+            → length (free_runs self.old) + 2 ≤ 2 ^ (steps.new - steps.old + 1)) }
     {
         self.others.reserve(self.blocks + 2)?;
         let placed = place(&mut self.others, self.current, alloc_size, steps);

@@ -3,12 +3,13 @@ ghost use Rattle.std.specs.Prelude.{◌≡◌, ◌-◌, ◌^◌, ◌<◌, ◌≤
 ghost use Rattle.std.specs.List.{remove};
 ghost use Rattle.std.specs.List.Sorted.{IsNonDecreasingBy};
 ghost use Rattle.gc_free.specs.Runs.{IsSpread, end_of, insert_by, insert_run, remove_by, begins_at, ends_at, without};
-ghost use Rattle.gc_free.specs.Orders.{key_of, count_below, shortest_fit, IsSearched};
+ghost use Rattle.gc_free.specs.Orders.{key_of, count_below, shortest_fit, IsSearched, HasSearched};
 ghost use Rattle.gc_free.specs.Ordered.{without_found};
 ghost use Rattle.gc_free.specs.TwoOrders.{AreTwoOrders};
 
+use crate::key::{Key, Order};
 use crate::run::Run;
-use crate::search::{Order, PLACES, count_before};
+use crate::search::count_before;
 use crate::steps::Steps;
 use std::alloc::{AllocError, Global};
 use std::marker::Model;
@@ -47,7 +48,7 @@ fn insert_in_order<L: Ledger>(runs: &mut Vec<Run>, order: Order, run: Run, steps
     ensures capacity { vec_capacity runs.old ≤ vec_capacity runs.new }
     ensures cost { IsSearched 1 (length runs.old.items) steps.old steps.new }
 {
-    let at = count_before(runs, order, order.key(run), steps);
+    let at = count_before(runs, order, Key::new(order, run), steps);
     match runs.insert(at, run) {
         Ok(()) => {}
         Err(_) => unreachable!(),
@@ -62,7 +63,7 @@ fn remove_in_order<L: Ledger>(runs: &mut Vec<Run>, order: Order, run: Run, steps
     ensures capacity { vec_capacity runs.new ≡ vec_capacity runs.old }
     ensures cost { IsSearched 1 (length runs.old.items) steps.old steps.new }
 {
-    let at = count_before(runs, order, order.key(run), steps);
+    let at = count_before(runs, order, Key::new(order, run), steps);
     let _ = runs.remove(at);
 }
 
@@ -128,7 +129,7 @@ impl FreeRuns {
         ensures runs { self.new.runs ≡ without (begins_at place) self.old.runs }
         ensures room { self.new.room ≡ self.old.room }
     {
-        let at = count_before(&self.by_place, Order::ByPlace, place as u64, steps);
+        let at = count_before(&self.by_place, Order::ByPlace, Key::of_place(place), steps);
         if at == self.by_place.len() {
             return None;
         }
@@ -145,7 +146,7 @@ impl FreeRuns {
         ensures runs { self.new.runs ≡ without (ends_at place) self.old.runs }
         ensures room { self.new.room ≡ self.old.room }
     {
-        let at = count_before(&self.by_place, Order::ByPlace, place as u64, steps);
+        let at = count_before(&self.by_place, Order::ByPlace, Key::of_place(place), steps);
         if at == 0 {
             return None;
         }
@@ -165,13 +166,10 @@ impl FreeRuns {
         ensures runs { self.new.runs ≡ without_found result self.old.runs }
         ensures room { self.new.room ≡ self.old.room }
         ensures cost { IsSearched 2 (length self.old.runs) steps.old steps.new }
+        ensures least { HasSearched (length self.old.runs) steps.old steps.new }
     {
-        let at = count_before(
-            &self.by_length,
-            Order::ByLength,
-            size as u64 * PLACES,
-            steps,
-        );
+        let key = Key::of_length(size);
+        let at = count_before(&self.by_length, Order::ByLength, key, steps);
         if at == self.by_length.len() {
             return None;
         }
@@ -184,7 +182,7 @@ impl FreeRuns {
     pub(crate) fn get<L: Ledger>(&self, place: u32, steps: &mut Steps<L>) -> Option<Run>
         ensures { result ≡ find (begins_at place) self.now.runs }
     {
-        let at = count_before(&self.by_place, Order::ByPlace, place as u64, steps);
+        let at = count_before(&self.by_place, Order::ByPlace, Key::of_place(place), steps);
         if at == self.by_place.len() {
             return None;
         }

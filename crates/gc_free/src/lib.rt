@@ -17,6 +17,7 @@ mod blocks;
 mod free_list;
 mod free_runs;
 mod held;
+mod key;
 pub mod laws;
 mod layout;
 mod merging;

@@ -212,3 +212,29 @@ returns-clause-cost g c =
     let few : length (with_current s.current runs) ≡ length (free_runs s) = ap length k.all in
     let cost = rw few at c.place-placed.ensures.cost in
     rw (← c.self.view_is) cost.bound
+
+pub returns-in_default-clause-least : goal.returns-in_default-clause-least
+returns-in_default-clause-least g c =
+    let s : Space = record { capacity = c.self.inside.capacity; held = c.self.inside.held.blocks; current = c.self.inside.current } in
+    let runs = c.reserve.new.self.runs in
+    let kept : IsKept s runs c.self.inside.others.room c.self.inside.blocks = rw c.reserve.ensures.runs c.self.invariant in
+    let grown : c.self.inside.others.room ≤ c.reserve.new.self.room = c.reserve.ensures.grown in
+    let enough : c.self.inside.blocks + 2 ≤ c.reserve.new.self.room = c.in_ok-reserve.ensures.ok in
+    let wider : c.reserve.new.self.room ≤ c.place-placed.new.others.room = c.place-placed.ensures.room in
+    let k = place_kept c.args.alloc_size s runs c.self.inside.others.room c.place-placed.new.others.room c.self.inside.blocks kept (omega arith) c.requires.whole c.requires.some (omega arith) in
+    let few : length (with_current s.current runs) ≡ length (free_runs s) = ap length k.all in
+    let least = rw few at c.place-placed.ensures.least in
+    rw (← c.self.view_is) least
+
+pub returns-clause-least : goal.returns-clause-least
+returns-clause-least g c =
+    let s : Space = record { capacity = c.self.inside.capacity; held = c.self.inside.held.blocks; current = c.self.inside.current } in
+    let runs = c.reserve.new.self.runs in
+    let kept : IsKept s runs c.self.inside.others.room c.self.inside.blocks = rw c.reserve.ensures.runs c.self.invariant in
+    let grown : c.self.inside.others.room ≤ c.reserve.new.self.room = c.reserve.ensures.grown in
+    let enough : c.self.inside.blocks + 2 ≤ c.reserve.new.self.room = c.in_ok-reserve.ensures.ok in
+    let wider : c.reserve.new.self.room ≤ c.place-placed.new.others.room = c.place-placed.ensures.room in
+    let k = place_kept c.args.alloc_size s runs c.self.inside.others.room c.place-placed.new.others.room c.self.inside.blocks kept (omega arith) c.requires.whole c.requires.some (omega arith) in
+    let few : length (with_current s.current runs) ≡ length (free_runs s) = ap length k.all in
+    let least = rw few at c.place-placed.ensures.least in
+    rw (← c.self.view_is) least
