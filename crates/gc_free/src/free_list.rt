@@ -28,15 +28,18 @@ pub struct FreeList {
 }
 
 impl Model for FreeList {
-    ghost use Rattle.gc_free.specs.Space.{Space, space_code};
+    ghost use Rattle.gc_free.specs.View.{View, view_code};
 
-    ghost Value = { Space };
+    ghost Value = { View };
 
-    ghost coded = { space_code };
+    ghost coded = { view_code };
 
     ghost use Rattle.gc_free.specs.Kept.{IsKept};
 
-    ghost view = { λ l. record { capacity = l.capacity; held = l.held.blocks; current = l.current } };
+    ghost view = { λ l. record {
+      space = record { capacity = l.capacity; held = l.held.blocks; current = l.current };
+      memory = l.others.memory;
+    } };
 
     ghost invariant = { λ l. IsKept (record { capacity = l.capacity; held = l.held.blocks; current = l.current })
         l.others.runs l.others.room l.blocks };
@@ -64,8 +67,8 @@ fn length_of(run: Option<Run>) -> Option<u32>
 impl FreeList {
     /// Manages the places from 16 up to `capacity` bytes, in one run, which is the current one.
     pub fn new(alloc: Global, capacity: usize) -> Result<FreeList, AllocError>
-        ensures made { IfOk result (λ list. list ≡ new_space capacity) }
-        ensures sound { IfOk result IsSound }
+        ensures made { IfOk result (λ list. list.space ≡ new_space capacity) }
+        ensures sound { IfOk result (λ list. IsSound list.space) }
     {
         let mut others = FreeRuns::new(alloc);
         others.reserve(1)?;
@@ -80,8 +83,8 @@ impl FreeList {
 
     /// The bytes of capacity. Those past the greatest u32, and a part of 16 at the end, have no places.
     pub fn current_capacity(&self) -> usize
-        ensures capacity { result ≡ self.now.capacity }
-        ensures sound { IsSound self.now }
+        ensures capacity { result ≡ self.now.space.capacity }
+        ensures sound { IsSound self.now.space }
     {
         self.capacity
     }
@@ -89,8 +92,8 @@ impl FreeList {
     /// Each free run as its place and its length, by rising place with the current run last where it
     /// has places.
     pub fn iter_free_blocks(&self) -> FreeBlocks<'_>
-        ensures blocks { result ≡ listed self.now }
-        ensures sound { IsSound self.now }
+        ensures blocks { result ≡ listed self.now.space }
+        ensures sound { IsSound self.now.space }
     {
         let current = match self.current {
             Some(run) => run.if_any(),
@@ -102,8 +105,8 @@ impl FreeList {
     /// The length of the free run that begins at a place, `None` exactly where none does. A logarithm
     /// of the runs in comparisons.
     pub fn run_at(&self, place: u32) -> Option<u32>
-        ensures length { result ≡ run_length_at place self.now }
-        ensures sound { IsSound self.now }
+        ensures length { result ≡ run_length_at place self.now.space }
+        ensures sound { IsSound self.now.space }
     {
         self.length_at::<Brand>(place, Blank::new(1))
     }
@@ -112,8 +115,8 @@ impl FreeList {
         requires name { blank.name ≡ L.name }
         requires parts { blank.parts ≡ L.parts }
         requires some { 0 < blank.parts }
-        ensures length { result ≡ run_length_at place self.now }
-        ensures sound { IsSound self.now }
+        ensures length { result ≡ run_length_at place self.now.space }
+        ensures sound { IsSound self.now.space }
     {
         if let Some(run) = current_at(self.current, place) {
             return Some(run.length);
@@ -125,8 +128,9 @@ impl FreeList {
 
     /// The capacity rises, and stops at the greatest usize. Takes no memory.
     pub fn add_capacity(&mut self, additional: usize)
-        ensures grown { self.new ≡ grow additional self.old }
-        ensures sound { IsSound self.new }
+        ensures grown { self.new.space ≡ grow additional self.old.space }
+        ensures memory { self.new.memory ≡ self.old.memory }
+        ensures sound { IsSound self.new.space }
     {
         self.grow::<Brand>(additional, Blank::new(1));
     }
@@ -135,8 +139,9 @@ impl FreeList {
         requires name { blank.name ≡ L.name }
         requires parts { blank.parts ≡ L.parts }
         requires some { 0 < blank.parts }
-        ensures grown { self.new ≡ grow additional self.old }
-        ensures sound { IsSound self.new }
+        ensures grown { self.new.space ≡ grow additional self.old.space }
+        ensures memory { self.new.memory ≡ self.old.memory }
+        ensures sound { IsSound self.new.space }
     {
         let mut steps = Steps::<L>::new(blank);
         let from = ALIGN.max(places_end(self.capacity));
@@ -154,12 +159,12 @@ impl FreeList {
         requires whole { alloc_size % ALIGN ≡ 0 }
         requires some { 0 < alloc_size }
         ensures place { IfOk result (λ place.
-            option_map (λ p. non_zero_u32_get p) place ≡ (take alloc_size self.old).place) }
-        ensures after { OnOk result (self.new ≡ (take alloc_size self.old).space) }
-        ensures none { IfOk result (λ place. IsNone place ↔ All (λ r. r.length < alloc_size) (free_runs self.old)) }
+            option_map (λ p. non_zero_u32_get p) place ≡ (take alloc_size self.old.space).place) }
+        ensures after { OnOk result (self.new.space ≡ (take alloc_size self.old.space).space) }
+        ensures none { IfOk result (λ place. IsNone place ↔ All (λ r. r.length < alloc_size) (free_runs self.old.space)) }
         ensures aligned { IfOk result (λ place. IfSome place (λ p. non_zero_u32_get p % ALIGN ≡ 0)) }
-        ensures err { OnErr result (self.new ≡ self.old) }
-        ensures sound { IsSound self.new }
+        ensures err { OnErr result (self.new.space ≡ self.old.space) }
+        ensures sound { IsSound self.new.space }
     {
         self.alloc::<Brand>(alloc_size, Blank::new(1))
     }
@@ -175,12 +180,12 @@ impl FreeList {
         requires whole { alloc_size % ALIGN ≡ 0 }
         requires some { 0 < alloc_size }
         ensures place { IfOk result (λ place.
-            option_map (λ p. non_zero_u32_get p) place ≡ (take alloc_size self.old).place) }
-        ensures after { OnOk result (self.new ≡ (take alloc_size self.old).space) }
-        ensures none { IfOk result (λ place. IsNone place ↔ All (λ r. r.length < alloc_size) (free_runs self.old)) }
+            option_map (λ p. non_zero_u32_get p) place ≡ (take alloc_size self.old.space).place) }
+        ensures after { OnOk result (self.new.space ≡ (take alloc_size self.old.space).space) }
+        ensures none { IfOk result (λ place. IsNone place ↔ All (λ r. r.length < alloc_size) (free_runs self.old.space)) }
         ensures aligned { IfOk result (λ place. IfSome place (λ p. non_zero_u32_get p % ALIGN ≡ 0)) }
-        ensures err { OnErr result (self.new ≡ self.old) }
-        ensures sound { IsSound self.new }
+        ensures err { OnErr result (self.new.space ≡ self.old.space) }
+        ensures sound { IsSound self.new.space }
     {
         let mut steps = Steps::<L>::new(blank);
         self.alloc_counted(alloc_size, &mut steps)
@@ -197,16 +202,16 @@ impl FreeList {
         requires whole { alloc_size % ALIGN ≡ 0 }
         requires some { 0 < alloc_size }
         ensures place { IfOk result (λ place.
-            option_map (λ p. non_zero_u32_get p) place ≡ (take alloc_size self.old).place) }
-        ensures after { OnOk result (self.new ≡ (take alloc_size self.old).space) }
-        ensures none { IfOk result (λ place. IsNone place ↔ All (λ r. r.length < alloc_size) (free_runs self.old)) }
+            option_map (λ p. non_zero_u32_get p) place ≡ (take alloc_size self.old.space).place) }
+        ensures after { OnOk result (self.new.space ≡ (take alloc_size self.old.space).space) }
+        ensures none { IfOk result (λ place. IsNone place ↔ All (λ r. r.length < alloc_size) (free_runs self.old.space)) }
         ensures aligned { IfOk result (λ place. IfSome place (λ p. non_zero_u32_get p % ALIGN ≡ 0)) }
-        ensures err { OnErr result (self.new ≡ self.old) }
-        ensures sound { IsSound self.new }
+        ensures err { OnErr result (self.new.space ≡ self.old.space) }
+        ensures sound { IsSound self.new.space }
         ensures rises { steps.old ≤ steps.new }
-        ensures cost { 2 ^ (steps.new - steps.old) ≤ (2 * length (free_runs self.old) + 1) ^ 4 }
-        ensures least { OnOk result (MatchOption self.old.current (Unit {0}) (λ c. c.length < alloc_size)
-            → length (free_runs self.old) + 2 ≤ 2 ^ (steps.new - steps.old + 1)) }
+        ensures cost { 2 ^ (steps.new - steps.old) ≤ (2 * length (free_runs self.old.space) + 1) ^ 4 }
+        ensures least { OnOk result (MatchOption self.old.space.current (Unit {0}) (λ c. c.length < alloc_size)
+            → length (free_runs self.old.space) + 2 ≤ 2 ^ (steps.new - steps.old + 1)) }
     {
         self.others.reserve(self.blocks + 2)?;
         let placed = place(&mut self.others, self.current, alloc_size, steps);
@@ -221,9 +226,10 @@ impl FreeList {
 
     /// Gives back a held block of `alloc_size` bytes. Takes no memory.
     pub fn dealloc_fast(&mut self, index: NonZeroU32, alloc_size: u32)
-        requires { Contains self.old.held (run (non_zero_u32_get index) alloc_size) }
-        ensures given { self.new ≡ give (run (non_zero_u32_get index) alloc_size) self.old }
-        ensures sound { IsSound self.new }
+        requires { Contains self.old.space.held (run (non_zero_u32_get index) alloc_size) }
+        ensures given { self.new.space ≡ give (run (non_zero_u32_get index) alloc_size) self.old.space }
+        ensures memory { self.new.memory ≡ self.old.memory }
+        ensures sound { IsSound self.new.space }
     {
         let block = Run {
             place: index.get(),
@@ -236,9 +242,10 @@ impl FreeList {
         requires name { blank.name ≡ L.name }
         requires parts { blank.parts ≡ L.parts }
         requires some { 0 < blank.parts }
-        requires held { Contains self.old.held block }
-        ensures given { self.new ≡ give block self.old }
-        ensures sound { IsSound self.new }
+        requires held { Contains self.old.space.held block }
+        ensures given { self.new.space ≡ give block self.old.space }
+        ensures memory { self.new.memory ≡ self.old.memory }
+        ensures sound { IsSound self.new.space }
     {
         let mut steps = Steps::<L>::new(blank);
         self.current = set_free(&mut self.others, self.current, block, &mut steps);

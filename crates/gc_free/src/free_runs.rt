@@ -1,5 +1,6 @@
 //! The free runs other than the current one, in both orders.
 ghost use Rattle.std.specs.Prelude.{◌≡◌, ◌-◌, ◌^◌, ◌<◌, ◌≤◌, [], length, OnOk, IfSome, vec_len, vec_capacity, find, slice_index_or};
+ghost use Rattle.std.specs.Vec.{vec_ptr, SameBlock};
 ghost use Rattle.std.specs.List.{remove};
 ghost use Rattle.std.specs.List.Sorted.{IsNonDecreasingBy};
 ghost use Rattle.gc_free.specs.Runs.{IsSpread, end_of, insert_by, insert_run, remove_by, begins_at, ends_at, without};
@@ -15,7 +16,8 @@ use std::alloc::{AllocError, Global};
 use std::marker::Model;
 use std::sync::ledger::Ledger;
 
-/// Each run stands in both orders. A clause sees the runs by rising place, and how many have room.
+/// Each run stands in both orders. A clause sees the runs by rising place, how many have room,
+/// and the memory that they lie in.
 #[derive(Drop)]
 pub(crate) struct FreeRuns {
     by_place: Vec<Run>,
@@ -30,11 +32,18 @@ impl Model for FreeRuns {
     ghost coded = { ordered_code };
 
     ghost use Rattle.std.specs.Prelude.{min, vec_capacity};
+    ghost use Rattle.std.specs.Vec.{vec_ptr};
     ghost use Rattle.gc_free.specs.TwoOrders.{AreTwoOrders};
 
     ghost view = { λ s. record {
       runs = s.by_place.items;
       room = min (vec_capacity s.by_place) (vec_capacity s.by_length);
+      memory = record {
+        by_place = vec_ptr s.by_place;
+        by_place_room = vec_capacity s.by_place;
+        by_length = vec_ptr s.by_length;
+        by_length_room = vec_capacity s.by_length;
+      };
     } };
 
     ghost invariant = { λ s. AreTwoOrders s.by_place.items s.by_length.items };
@@ -45,7 +54,7 @@ fn insert_in_order<L: Ledger>(runs: &mut Vec<Run>, order: Order, run: Run, steps
     requires sorted { IsNonDecreasingBy (key_of order) runs.old.items }
     requires room { vec_len runs.old < vec_capacity runs.old }
     ensures items { runs.new.items ≡ insert_by (key_of order) run runs.old.items }
-    ensures capacity { vec_capacity runs.old ≤ vec_capacity runs.new }
+    ensures in_place { SameBlock runs.old runs.new }
     ensures cost { IsSearched 1 (length runs.old.items) steps.old steps.new }
 {
     let at = count_before(runs, order, Key::new(order, run), steps);
@@ -61,6 +70,7 @@ fn remove_in_order<L: Ledger>(runs: &mut Vec<Run>, order: Order, run: Run, steps
     requires present { count_below (key_of order) (key_of order run) runs.old.items < length runs.old.items }
     ensures items { runs.new.items ≡ remove_by (key_of order) (key_of order run) runs.old.items }
     ensures capacity { vec_capacity runs.new ≡ vec_capacity runs.old }
+    ensures in_place { vec_ptr runs.new ≡ vec_ptr runs.old }
     ensures cost { IsSearched 1 (length runs.old.items) steps.old steps.new }
 {
     let at = count_before(runs, order, Key::new(order, run), steps);
@@ -81,6 +91,8 @@ fn remove_at<L: Ledger>(
     ensures items { by_place.new.items ≡ remove by_place.old.items at }
     ensures by_place { vec_capacity by_place.new ≡ vec_capacity by_place.old }
     ensures by_length { vec_capacity by_length.new ≡ vec_capacity by_length.old }
+    ensures place_block { vec_ptr by_place.new ≡ vec_ptr by_place.old }
+    ensures length_block { vec_ptr by_length.new ≡ vec_ptr by_length.old }
 {
     let run = by_place.remove(at);
     remove_in_order(by_length, Order::ByLength, run, steps);
@@ -115,7 +127,8 @@ impl FreeRuns {
         requires room { length self.old.runs < self.old.room }
         requires spread { IsSpread 0 (2 ^ 32 - 1) (insert_run run self.old.runs) }
         ensures runs { self.new.runs ≡ insert_run run self.old.runs }
-        ensures room { self.old.room ≤ self.new.room }
+        ensures room { self.new.room ≡ self.old.room }
+        ensures memory { self.new.memory ≡ self.old.memory }
         ensures cost { IsSearched 2 (length self.old.runs) steps.old steps.new }
     {
         insert_in_order(&mut self.by_place, Order::ByPlace, run, steps);
@@ -128,6 +141,7 @@ impl FreeRuns {
         ensures begins { IfSome result (λ r. (r.place ≡ place) × (end_of r < 2 ^ 32)) }
         ensures runs { self.new.runs ≡ without (begins_at place) self.old.runs }
         ensures room { self.new.room ≡ self.old.room }
+        ensures memory { self.new.memory ≡ self.old.memory }
     {
         let at = count_before(&self.by_place, Order::ByPlace, Key::of_place(place), steps);
         if at == self.by_place.len() {
@@ -145,6 +159,7 @@ impl FreeRuns {
         ensures ends { IfSome result (λ r. end_of r ≡ place) }
         ensures runs { self.new.runs ≡ without (ends_at place) self.old.runs }
         ensures room { self.new.room ≡ self.old.room }
+        ensures memory { self.new.memory ≡ self.old.memory }
     {
         let at = count_before(&self.by_place, Order::ByPlace, Key::of_place(place), steps);
         if at == 0 {
