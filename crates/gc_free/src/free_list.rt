@@ -17,7 +17,11 @@ use std::marker::{Brand, Model};
 use std::num::NonZeroU32;
 use std::sync::ledger::{Blank, Ledger};
 
-/// The free places of a heap, in runs.
+/// The free places of a heap, in runs. The name and the calls are those of wasmtime's free list; the
+/// placing rule is this project's, and loses no place.
+///
+/// Contracts see a `View`: the space (the capacity, the held blocks and the current run) and the
+/// memory that the free runs lie in.
 #[derive(Drop)]
 pub struct FreeList {
     capacity: usize,
@@ -66,6 +70,7 @@ fn length_of(run: Option<Run>) -> Option<u32>
 
 impl FreeList {
     /// Manages the places from 16 up to `capacity` bytes, in one run, which is the current one.
+    /// `AllocError` where there is no memory for the first entry.
     pub fn new(alloc: Global, capacity: usize) -> Result<FreeList, AllocError>
         ensures made { IfOk result (λ list. list.space ≡ new_space capacity) }
         ensures sound { IfOk result (λ list. IsSound list.space) }
@@ -89,8 +94,8 @@ impl FreeList {
         self.capacity
     }
 
-    /// Each free run as its place and its length, by rising place with the current run last where it
-    /// has places.
+    /// Each free run as its place and its length in bytes, by rising place with the current run last
+    /// where it has places.
     pub fn iter_free_blocks(&self) -> FreeBlocks<'_>
         ensures blocks { result ≡ listed self.now.space }
         ensures sound { IsSound self.now.space }
@@ -102,8 +107,8 @@ impl FreeList {
         FreeBlocks::new(self.others.as_slice(), current)
     }
 
-    /// The length of the free run that begins at a place, `None` exactly where none does. A logarithm
-    /// of the runs in comparisons.
+    /// The length in bytes of the free run that begins at a place, `None` exactly where none does. One
+    /// search of the runs (not proved).
     pub fn run_at(&self, place: u32) -> Option<u32>
         ensures length { result ≡ run_length_at place self.now.space }
         ensures sound { IsSound self.now.space }
@@ -126,7 +131,9 @@ impl FreeList {
         length_of(run)
     }
 
-    /// The capacity rises, and stops at the greatest usize. Takes no memory.
+    /// The capacity rises by so many bytes, and stops at the greatest usize. New places merge with the
+    /// run that they touch, which is current then if it was, or if it is a current run used up whole.
+    /// Takes no memory. Up to six searches, and entries of the runs move up (not proved).
     pub fn add_capacity(&mut self, additional: usize)
         ensures grown { self.new.space ≡ grow additional self.old.space }
         ensures memory { self.new.memory ≡ self.old.memory }
@@ -153,8 +160,14 @@ impl FreeList {
     }
 
     /// A block of `alloc_size` bytes, at the front of the current run where that is long enough, and
-    /// else of the shortest run that is, at equal lengths the one at the lowest place. `None` exactly
-    /// where no free run is long enough. A logarithm of the runs in comparisons.
+    /// else of the shortest run that is, at equal lengths the one at the lowest place. The rest of that
+    /// run is current then. `None` exactly where no free run is long enough, and then none is current.
+    ///
+    /// Condition: `alloc_size` is a multiple of 16, and not 0; `aligned_size` makes it so.
+    ///
+    /// `AllocError` where there is no memory for the entries of the runs that the block may leave; then
+    /// runs and blocks are as before. The searches are those of `alloc_counted`; entries of the runs
+    /// behind the one that is taken move (not proved).
     pub fn alloc_fast(&mut self, alloc_size: u32) -> Result<Option<NonZeroU32>, AllocError>
         requires whole { alloc_size % ALIGN ≡ 0 }
         requires some { 0 < alloc_size }
@@ -191,9 +204,9 @@ impl FreeList {
         self.alloc_counted(alloc_size, &mut steps)
     }
 
-    /// As `alloc_fast`. Each comparison of a search is a step: with r free runs, s steps are few enough
-    /// that 2^s is at most (2r + 1)^4, and where no current run is long enough as many that 2^(s + 1) is
-    /// at least r + 2.
+    /// As `alloc_fast`, with its condition, its answers and its `AllocError`. Each comparison of a search
+    /// is a step. With r free runs before the call and s steps in it, 2^s is at most (2r + 1)^4; where no
+    /// current run is long enough, 2^(s + 1) is at least r + 2.
     pub fn alloc_counted<G: Ledger>(
         &mut self,
         alloc_size: u32,
@@ -224,7 +237,11 @@ impl FreeList {
         Ok(NonZeroU32::new(block.place))
     }
 
-    /// Gives back a held block of `alloc_size` bytes. Takes no memory.
+    /// Gives back the block of `alloc_size` bytes at `index`. It merges with the runs that it touches;
+    /// the whole is current where one of them was, or where it touches a current run used up whole.
+    /// Takes no memory. Up to six searches, and entries of the runs move (not proved).
+    ///
+    /// Condition: that block is held.
     pub fn dealloc_fast(&mut self, index: NonZeroU32, alloc_size: u32)
         requires { Contains self.old.space.held (run (non_zero_u32_get index) alloc_size) }
         ensures given { self.new.space ≡ give (run (non_zero_u32_get index) alloc_size) self.old.space }

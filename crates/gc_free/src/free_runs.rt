@@ -77,7 +77,7 @@ fn remove_in_order<L: Ledger>(runs: &mut Vec<Run>, order: Order, run: Run, steps
     let _ = runs.remove(at);
 }
 
-/// Takes a run out of both orders, by its index in the order of places, with one search.
+/// Takes a run out of both orders, by its index in the order of places.
 fn remove_at<L: Ledger>(
     by_place: &mut Vec<Run>,
     by_length: &mut Vec<Run>,
@@ -135,7 +135,7 @@ impl FreeRuns {
         insert_in_order(&mut self.by_length, Order::ByLength, run, steps);
     }
 
-    /// Takes out the run that begins at a place, with at most two searches.
+    /// Takes out the run that begins at a place.
     pub(crate) fn take_from<L: Ledger>(&mut self, place: u32, steps: &mut Steps<L>) -> Option<Run>
         ensures found { result ≡ find (begins_at place) self.old.runs }
         ensures begins { IfSome result (λ r. (r.place ≡ place) × (end_of r < 2 ^ 32)) }
@@ -153,7 +153,7 @@ impl FreeRuns {
         Some(remove_at(&mut self.by_place, &mut self.by_length, at, steps))
     }
 
-    /// Takes out the run that ends before a place, with at most two searches.
+    /// Takes out the run that ends before a place.
     pub(crate) fn take_up_to<L: Ledger>(&mut self, place: u32, steps: &mut Steps<L>) -> Option<Run>
         ensures found { result ≡ find (ends_at place) self.old.runs }
         ensures ends { IfSome result (λ r. end_of r ≡ place) }
@@ -193,7 +193,7 @@ impl FreeRuns {
         Some(run)
     }
 
-    /// The run that begins at a place, with one search.
+    /// The run that begins at a place.
     pub(crate) fn get<L: Ledger>(&self, place: u32, steps: &mut Steps<L>) -> Option<Run>
         ensures { result ≡ find (begins_at place) self.now.runs }
     {

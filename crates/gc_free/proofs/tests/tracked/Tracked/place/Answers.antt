@@ -1,30 +1,14 @@
-use Rattle.std.proofs.Common.{arith, ℕ, ◌≡◌, ◌≤◌, ◌+◌, ap, sym, ◌∙◌, Option, Some, None, vec_len, vec_capacity, is_ok, inl, inr, true, option_map}
+use Rattle.std.proofs.Common.{arith, ◌≡◌, ◌≤◌, ◌+◌, ap, sym, ◌∙◌, Some, vec_len, vec_capacity, is_ok, true, option_map}
 use Rattle.std.specs.List.{insert}
 use Rattle.std.specs.Int.NonZero.{non_zero_u32_get}
-use Rattle.std.proofs.lemmas.Bool.{lt-leb, le-leb, cases_lt, cond-true}
-use Rattle.gc_free.specs.declared.run.Run.{Run}
+use Rattle.std.proofs.lemmas.Bool.{cond-true}
 use Rattle.gc_free.specs.Runs.{run, insert_run}
-use Rattle.gc_free.specs.Orders.{shortest_fit, count_below}
-use Rattle.gc_free.specs.Space.{Space, take, take_from, take_shortest, free_runs, places_end}
+use Rattle.gc_free.specs.Orders.{count_below}
+use Rattle.gc_free.specs.Space.{take, places_end}
+use Rattle.gc_free.proofs.Holding.{from_held}
 use Rattle.gc_free.proofs.ByLength.{place_of, IsSpread-rises}
 use Rattle.gc_free.proofs.InsertBy.{Rises-sorted, count_within, insert_at_count}
 use Rattle.gc_free.proofs.tests.tracked.Tracked.place.Goals as goal
-
--- a block that was placed is held
-shortest_held : (size : ℕ) (s : Space) (o : Option Run) (p : ℕ) → Some p ≡ (take_shortest size s o).place → (take_shortest size s o).space.held ≡ insert_run (run p size) s.held
-shortest_held size s None p e = absurd (cc)
-shortest_held size s (Some r) p e = let same : r.place ≡ p = cc in ap (λ q. insert_run (run q size) s.held) same
-
-from_held : (size : ℕ) (s : Space) (o : Option Run) (p : ℕ) → Some p ≡ (take_from size s o).place → (take_from size s o).space.held ≡ insert_run (run p size) s.held
-from_held size s None p e = shortest_held size s (shortest_fit size (free_runs s)) p e
-from_held size s (Some c) p e =
-    elim (cases_lt c.length size) [
-      | inl short ↦ rw (lt-leb size c.length short) (shortest_held size s (shortest_fit size (free_runs s)) p (rw (lt-leb size c.length short) at e))
-      | inr long ↦
-          let e' : Some p ≡ Some c.place = rw (le-leb size c.length long) at e in
-          let same : c.place ≡ p = cc in
-          rw (le-leb size c.length long) (ap (λ q. insert_run (run q size) s.held) same)
-    ]
 
 pub count_before-at-requires : goal.count_before-at-requires
 count_before-at-requires g c =

@@ -1,0 +1,126 @@
+//! Times calls one by one, at lists with many free runs. It judges no time.
+ghost use Rattle.std.specs.Prelude.{◌≡◌, ◌%◌, ◌<◌};
+
+use crate::free_list::FreeList;
+use std::alloc::{AllocError, Global};
+use std::test::Fail;
+use std::time::{Clock, Instant};
+
+/// Nanoseconds, over some calls of each kind.
+#[derive(Clone, Copy, Debug)]
+pub(super) struct Times {
+    /// Two readings of the clock, with nothing between them. Every other time has them in it.
+    clock: u64,
+    alloc_fast: u64,
+    dealloc_fast: u64,
+}
+
+/// Takes two blocks of 16 bytes and gives the first back.
+fn add_run(list: &mut FreeList) -> Result<(), AllocError> {
+    let _ = list.current_capacity();
+    let Some(first) = list.alloc_fast(16)? else {
+        return Ok(());
+    };
+    let _ = list.alloc_fast(16)?;
+    list.dealloc_fast(first, 16);
+    Ok(())
+}
+
+/// A free list with so many free runs of 16 bytes, and a current run of so many bytes behind them.
+pub(super) fn spread(alloc: Global, runs: u32, current: u32) -> Result<FreeList, AllocError> {
+    let capacity = runs as usize * 32 + 16 + current as usize;
+    let mut list = FreeList::new(alloc, capacity)?;
+    for _ in 0..runs {
+        add_run(&mut list)?;
+    }
+    Ok(list)
+}
+
+fn nanos_between(start: Instant, end: Instant) -> u64 {
+    u64::try_from(end.duration_since(start).as_nanos()).unwrap_or(u64::MAX)
+}
+
+/// Takes a block of 16 bytes and gives it back.
+fn time_pair(clock: &impl Clock, list: &mut FreeList) -> Result<Times, Fail> {
+    let _ = list.current_capacity();
+    let before = Instant::now(clock)?;
+    let start = Instant::now(clock)?;
+    let place = list.alloc_fast(16)?;
+    let taken = Instant::now(clock)?;
+    let Some(place) = place else {
+        return Err("no room")?;
+    };
+    list.dealloc_fast(place, 16);
+    let given = Instant::now(clock)?;
+    Ok(Times {
+        clock: nanos_between(before, start),
+        alloc_fast: nanos_between(start, taken),
+        dealloc_fast: nanos_between(taken, given),
+    })
+}
+
+/// The means over so many pairs.
+pub(super) fn time_pairs(clock: &impl Clock, list: &mut FreeList, pairs: u32) -> Result<Times, Fail>
+    requires { 0 < pairs }
+{
+    let mut sum = Times {
+        clock: 0,
+        alloc_fast: 0,
+        dealloc_fast: 0,
+    };
+    for _ in 0..pairs {
+        let times = time_pair(clock, list)?;
+        sum.clock = sum.clock.saturating_add(times.clock);
+        sum.alloc_fast = sum.alloc_fast.saturating_add(times.alloc_fast);
+        sum.dealloc_fast = sum.dealloc_fast.saturating_add(times.dealloc_fast);
+    }
+    Ok(Times {
+        clock: sum.clock / pairs as u64,
+        alloc_fast: sum.alloc_fast / pairs as u64,
+        dealloc_fast: sum.dealloc_fast / pairs as u64,
+    })
+}
+
+/// The mean of so many calls of `run_at`, over places from the first on.
+pub(super) fn time_run_at(clock: &impl Clock, list: &FreeList, calls: u32) -> Result<u64, Fail>
+    requires { 0 < calls }
+{
+    let mut bytes: u64 = 0;
+    let start = Instant::now(clock)?;
+    for call in 0..calls {
+        let place = call.wrapping_mul(48).saturating_add(16);
+        bytes = bytes.saturating_add(list.run_at(place).unwrap_or(0) as u64);
+    }
+    let end = Instant::now(clock)?;
+    if bytes == 0 {
+        return Err("no run")?;
+    }
+    Ok(nanos_between(start, end) / calls as u64)
+}
+
+/// The mean of so many calls of `add_capacity`.
+pub(super) fn time_add_capacity(
+    clock: &impl Clock,
+    list: &mut FreeList,
+    calls: u32,
+) -> Result<u64, Fail>
+    requires { 0 < calls }
+{
+    let start = Instant::now(clock)?;
+    for _ in 0..calls {
+        list.add_capacity(16);
+    }
+    let end = Instant::now(clock)?;
+    Ok(nanos_between(start, end) / calls as u64)
+}
+
+/// The nanoseconds of a walk over all free runs, and how many there are.
+pub(super) fn time_walk(clock: &impl Clock, list: &FreeList) -> Result<(u64, u32), Fail> {
+    let mut count: u32 = 0;
+    let start = Instant::now(clock)?;
+    for _ in list.iter_free_blocks() {
+        count = count.saturating_add(1);
+    }
+    let end = Instant::now(clock)?;
+    Ok((nanos_between(start, end), count))
+}
