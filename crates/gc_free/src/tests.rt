@@ -377,7 +377,7 @@ fn rounds_sizes(rt: HostRuntime) {
 
 #[test]
 fn times_each_call(rt: HostRuntime) -> Result<(), Fail> {
-    println!(rt; "means in nanoseconds, each with two readings of the clock in it")?;
+    println!(rt; "nanoseconds; those of a pair have the clock's in them")?;
     for runs in [10, 1_000, 100_000] {
         let mut searched = spread(rt.alloc(), runs, 0)?;
         let mut current = spread(rt.alloc(), runs, 4096)?;
@@ -385,7 +385,7 @@ fn times_each_call(rt: HostRuntime) -> Result<(), Fail> {
         assert_eq!(rt; count, runs);
         let lowest = time_pairs(&rt, &mut searched, 100)?;
         let front = time_pairs(&rt, &mut current, 100)?;
-        let run_at = time_run_at(&rt, &current, 1000)?;
+        let run_at = time_run_at(&rt, &current, runs, 1000)?;
         let add_capacity = time_add_capacity(&rt, &mut current, 1000)?;
         println!(rt; "{runs} free runs")?;
         println!(rt; "  the lowest of the shortest runs: {lowest:?}")?;

@@ -81,18 +81,26 @@ pub(super) fn time_pairs(clock: &impl Clock, list: &mut FreeList, pairs: u32) ->
     })
 }
 
-/// The mean of so many calls of `run_at`, over places from the first on.
-pub(super) fn time_run_at(clock: &impl Clock, list: &FreeList, calls: u32) -> Result<u64, Fail>
-    requires { 0 < calls }
+/// The mean of so many calls of `run_at`, each at one of the free runs of 16 bytes.
+pub(super) fn time_run_at(
+    clock: &impl Clock,
+    list: &FreeList,
+    runs: u32,
+    calls: u32,
+) -> Result<u64, Fail>
+    requires runs { 0 < runs }
+    requires calls { 0 < calls }
 {
-    let mut bytes: u64 = 0;
+    let mut found: u32 = 0;
     let start = Instant::now(clock)?;
     for call in 0..calls {
-        let place = call.wrapping_mul(48).saturating_add(16);
-        bytes = bytes.saturating_add(list.run_at(place).unwrap_or(0) as u64);
+        let run = call.wrapping_mul(7919) % runs;
+        if list.run_at(run.wrapping_mul(32).wrapping_add(16)) == Some(16) {
+            found = found.saturating_add(1);
+        }
     }
     let end = Instant::now(clock)?;
-    if bytes == 0 {
+    if found < calls {
         return Err("no run")?;
     }
     Ok(nanos_between(start, end) / calls as u64)
