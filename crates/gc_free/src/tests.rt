@@ -5,7 +5,7 @@ mod timing;
 mod tracked;
 mod twin;
 
-use crate::tests::timing::{spread, time_add_capacity, time_pairs, time_run_at, time_walk};
+use crate::tests::timing::measure;
 use crate::tests::tracked::By;
 use crate::tests::twin::{Call, Twin, agrees_at_random, answers};
 use crate::{FreeList, Layout};
@@ -377,20 +377,9 @@ fn rounds_sizes(rt: HostRuntime) {
 
 #[test]
 fn times_each_call(rt: HostRuntime) -> Result<(), Fail> {
-    println!(rt; "nanoseconds; those of a pair have the clock's in them")?;
     for runs in [10, 1_000, 100_000] {
-        let mut searched = spread(rt.alloc(), runs, 0)?;
-        let mut current = spread(rt.alloc(), runs, 4096)?;
-        let (walk, count) = time_walk(&rt, &searched)?;
-        assert_eq!(rt; count, runs);
-        let lowest = time_pairs(&rt, &mut searched, 100)?;
-        let front = time_pairs(&rt, &mut current, 100)?;
-        let run_at = time_run_at(&rt, &current, runs, 1000)?;
-        let add_capacity = time_add_capacity(&rt, &mut current, 1000)?;
-        println!(rt; "{runs} free runs")?;
-        println!(rt; "  the lowest of the shortest runs: {lowest:?}")?;
-        println!(rt; "  the current run: {front:?}")?;
-        println!(rt; "  run_at {run_at}, add_capacity {add_capacity}, all runs {walk}")?;
+        let report = measure(&rt, rt.alloc(), runs)?;
+        println!(rt; "nanoseconds: {report:?}")?;
     }
     Ok(())
 }

@@ -8,11 +8,25 @@ use std::time::{Clock, Instant};
 
 /// Nanoseconds, over some calls of each kind.
 #[derive(Clone, Copy, Debug)]
-pub(super) struct Times {
+struct Times {
     /// Two readings of the clock, with nothing between them. Every other time has them in it.
     clock: u64,
     alloc_fast: u64,
     dealloc_fast: u64,
+}
+
+/// What was measured at so many free runs.
+#[derive(Clone, Copy, Debug)]
+pub(super) struct Report {
+    runs: u32,
+    /// Pairs at the lowest of the shortest runs, so that every entry behind it moves.
+    lowest: Times,
+    /// Pairs at the current run.
+    current: Times,
+    run_at: u64,
+    add_capacity: u64,
+    /// A walk over all free runs.
+    walk: u64,
 }
 
 /// Takes two blocks of 16 bytes and gives the first back.
@@ -27,7 +41,7 @@ fn add_run(list: &mut FreeList) -> Result<(), AllocError> {
 }
 
 /// A free list with so many free runs of 16 bytes, and a current run of so many bytes behind them.
-pub(super) fn spread(alloc: Global, runs: u32, current: u32) -> Result<FreeList, AllocError> {
+fn spread(alloc: Global, runs: u32, current: u32) -> Result<FreeList, AllocError> {
     let capacity = runs as usize * 32 + 16 + current as usize;
     let mut list = FreeList::new(alloc, capacity)?;
     for _ in 0..runs {
@@ -60,7 +74,7 @@ fn time_pair(clock: &impl Clock, list: &mut FreeList) -> Result<Times, Fail> {
 }
 
 /// The means over so many pairs.
-pub(super) fn time_pairs(clock: &impl Clock, list: &mut FreeList, pairs: u32) -> Result<Times, Fail>
+fn time_pairs(clock: &impl Clock, list: &mut FreeList, pairs: u32) -> Result<Times, Fail>
     requires { 0 < pairs }
 {
     let mut sum = Times {
@@ -82,12 +96,7 @@ pub(super) fn time_pairs(clock: &impl Clock, list: &mut FreeList, pairs: u32) ->
 }
 
 /// The mean of so many calls of `run_at`, each at one of the free runs of 16 bytes.
-pub(super) fn time_run_at(
-    clock: &impl Clock,
-    list: &FreeList,
-    runs: u32,
-    calls: u32,
-) -> Result<u64, Fail>
+fn time_run_at(clock: &impl Clock, list: &FreeList, runs: u32, calls: u32) -> Result<u64, Fail>
     requires runs { 0 < runs }
     requires calls { 0 < calls }
 {
@@ -107,11 +116,7 @@ pub(super) fn time_run_at(
 }
 
 /// The mean of so many calls of `add_capacity`.
-pub(super) fn time_add_capacity(
-    clock: &impl Clock,
-    list: &mut FreeList,
-    calls: u32,
-) -> Result<u64, Fail>
+fn time_add_capacity(clock: &impl Clock, list: &mut FreeList, calls: u32) -> Result<u64, Fail>
     requires { 0 < calls }
 {
     let start = Instant::now(clock)?;
@@ -122,13 +127,33 @@ pub(super) fn time_add_capacity(
     Ok(nanos_between(start, end) / calls as u64)
 }
 
-/// The nanoseconds of a walk over all free runs, and how many there are.
-pub(super) fn time_walk(clock: &impl Clock, list: &FreeList) -> Result<(u64, u32), Fail> {
+/// The nanoseconds of a walk over all free runs, of which there are so many.
+fn time_walk(clock: &impl Clock, list: &FreeList, runs: u32) -> Result<u64, Fail> {
     let mut count: u32 = 0;
     let start = Instant::now(clock)?;
     for _ in list.iter_free_blocks() {
         count = count.saturating_add(1);
     }
     let end = Instant::now(clock)?;
-    Ok((nanos_between(start, end), count))
+    if count != runs {
+        return Err("another number of runs")?;
+    }
+    Ok(nanos_between(start, end))
+}
+
+/// Measures each call at so many free runs.
+pub(super) fn measure(clock: &impl Clock, alloc: Global, runs: u32) -> Result<Report, Fail>
+    requires { 0 < runs }
+{
+    let mut used_up = spread(alloc, runs, 0)?;
+    let mut list = spread(alloc, runs, 4096)?;
+    let walk = time_walk(clock, &used_up, runs)?;
+    Ok(Report {
+        runs,
+        lowest: time_pairs(clock, &mut used_up, 100)?,
+        current: time_pairs(clock, &mut list, 100)?,
+        run_at: time_run_at(clock, &list, runs, 1000)?,
+        add_capacity: time_add_capacity(clock, &mut list, 1000)?,
+        walk,
+    })
 }
