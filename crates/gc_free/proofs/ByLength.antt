@@ -27,7 +27,7 @@ In-insert_same key r (x ∷ xs) =
       | inr l ↦ rw (le-ltb (key x) (key r) l) (inl refl)
     ]
 
-In-insert : (key : Run → ℕ) (a r : Run) (xs : List Run) → In r xs → In r (insert_by key a xs)
+pub In-insert : (key : Run → ℕ) (a r : Run) (xs : List Run) → In r xs → In r (insert_by key a xs)
 In-insert key a r [] h = absurd h
 In-insert key a r (x ∷ xs) h =
     elim (cases_lt (key x) (key a)) [

@@ -2,7 +2,7 @@
 use Rattle.std.proofs.Common.{ℕ, ◌≡◌, ◌≤◌, ◌+◌, ◌-◌, ◌*◌, ◌^◌, arith, ap, ◌∙◌}
 use Rattle.std.proofs.lemmas.Nat.{pow-add, mul-le}
 use Rattle.std.proofs.Math.Nat.{pow-le-pow_left, pow-le-pow_right, one-le-pow}
-use Rattle.gc_free.specs.Orders.{IsSearched}
+use Rattle.gc_free.specs.Orders.{IsSearched, HasSearched}
 
 -- more searches, in more runs, take no fewer steps
 pub IsSearched-more : (a b n m before after : ℕ) → a ≤ b → n ≤ m → IsSearched a n before after → IsSearched b m before after
@@ -28,3 +28,9 @@ IsSearched-none a n steps =
     let one : 1 ≤ (2 * n + 1) ^ a = one-le-pow a (2 * n + 1) (omega arith) in
     let e : steps - steps ≡ 0 = omega arith in
     record { rises = omega arith; bound = rw e one }
+
+-- steps before and after a search take none back
+pub HasSearched-wider : (n from to before after : ℕ) → before ≤ from → from ≤ to → to ≤ after → HasSearched n from to → HasSearched n before after
+HasSearched-wider n from to before after first rises last least =
+    let more : 2 ^ (to - from + 1) ≤ 2 ^ (after - before + 1) = pow-le-pow_right (omega arith) (omega arith) in
+    omega arith

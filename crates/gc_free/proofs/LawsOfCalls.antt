@@ -131,7 +131,7 @@ without-swap : (f g : Run → Bool) (xs : List Run) → without f (without g xs)
 without-swap f g [] = refl
 without-swap f g (x ∷ xs) = swap_step f g x xs (f x) (g x) refl refl (without-swap f g xs)
 
-contains_in : (b : Run) (xs : List Run) → Contains xs b → In b xs
+pub contains_in : (b : Run) (xs : List Run) → Contains xs b → In b xs
 contains_in b [] h = let l : h.0 < 0 = h.1 in omega arith
 contains_in b (x ∷ xs) (zero, l, e) = inl e
 contains_in b (x ∷ xs) (suc k, l, e) = inr (contains_in b xs (k, (let l' : suc k < suc (length xs) = l in omega arith), e))

@@ -19,3 +19,4 @@ pub mod RunsAt
 pub mod LawsOfRuns
 pub mod LawsOfCalls
 pub mod LawsOfCurrent
+pub mod Holding

@@ -6,7 +6,7 @@ use Rattle.std.proofs.lemmas.List.{get_or_default}
 use Rattle.std.proofs.Math.Nat.{pow-suc, pow-zero, mul_assoc}
 use Rattle.std.specs.List.Sorted.{IsNonDecreasingBy}
 use Rattle.gc_free.specs.declared.run.Run.{Run}
-use Rattle.gc_free.specs.Orders.{count_below, IsSearched}
+use Rattle.gc_free.specs.Orders.{count_below, IsSearched, HasSearched}
 
 -- all before `low` are below the key, none from `high` on is, and each step halved what is between
 pub record IsNarrowed (key : Run → ℕ) (k : ℕ) (runs : List Run) (low high before now : ℕ) : Type 0 where
@@ -17,6 +17,7 @@ pub record IsNarrowed (key : Run → ℕ) (k : ℕ) (runs : List Run) (low high 
   pub rises : before ≤ now
   pub width : 2 ^ (now - before) * (high - low) ≤ length runs
   pub steps : 2 ^ (now - before) ≤ 2 * length runs + 1
+  pub least : length runs + 2 ≤ 2 ^ (now - before) * (high - low + 2)
 
 -- one more step doubles the power
 doubled : (before now : ℕ) → before ≤ now → 2 ^ (now + 1 - before) ≡ 2 ^ (now - before) * 2
@@ -35,6 +36,13 @@ halved p w v n bound half =
 stepped : (p w n : ℕ) → p * w ≤ n → 0 < w → p * 2 ≤ 2 * n + 1
 stepped p w n bound some =
     let le : p * 1 ≤ p * w = mul-le p 1 p w (omega arith) (omega arith) in
+    omega arith
+
+-- and the width is at least half, but for two
+spared : (p w v n : ℕ) → n ≤ p * (w + 2) → w ≤ 2 * v + 2 → n ≤ p * 2 * (v + 2)
+spared p w v n least half =
+    let e : p * 2 * (v + 2) ≡ p * (2 * (v + 2)) = mul_assoc p 2 (v + 2) in
+    let le : p * (w + 2) ≤ p * (2 * (v + 2)) = mul-le p (w + 2) p (2 * (v + 2)) (omega arith) (omega arith) in
     omega arith
 
 pub raised : (key : Run → ℕ) (k : ℕ) (runs : List Run) (low high before now : ℕ) → IsNonDecreasingBy key runs → IsNarrowed key k runs low high before now
@@ -60,6 +68,7 @@ raised key k runs low high before now sorted was some e value is less =
       rises = omega arith;
       width = rw power (halved p (high - low) (high - (m + 1)) (length runs) was.width (omega arith));
       steps = rw power (stepped p (high - low) (length runs) was.width (omega arith));
+      least = rw power (spared p (high - low) (high - (m + 1)) (length runs + 2) was.least (omega arith));
     }
 
 pub lowered : (key : Run → ℕ) (k : ℕ) (runs : List Run) (low high before now : ℕ) → IsNonDecreasingBy key runs → IsNarrowed key k runs low high before now
@@ -85,6 +94,7 @@ lowered key k runs low high before now sorted was some e value is more =
       rises = omega arith;
       width = rw power (halved p (high - low) (m - low) (length runs) was.width (omega arith));
       steps = rw power (stepped p (high - low) (length runs) was.width (omega arith));
+      least = rw power (spared p (high - low) (m - low) (length runs + 2) was.least (omega arith));
     }
 
 -- the place that splits the runs is the number of those below
@@ -107,3 +117,14 @@ pub searched : (key : Run → ℕ) (k : ℕ) (runs : List Run) (low high before 
     → IsSearched 1 (length runs) before now
 searched key k runs low high before now was =
     record { rises = was.rises; bound = rw (pow-suc (2 * length runs + 1) 0, pow-zero (2 * length runs + 1)) (let le : 2 ^ (now - before) ≤ 2 * length runs + 1 = was.steps in omega arith) }
+
+pub has_searched : (key : Run → ℕ) (k : ℕ) (runs : List Run) (low high before now : ℕ) → IsNarrowed key k runs low high before now → high ≤ low
+    → HasSearched (length runs) before now
+has_searched key k runs low high before now was le =
+    let order : low ≤ high = was.order in
+    let rises : before ≤ now = was.rises in
+    let e : now - before + 1 ≡ suc (now - before) = omega arith in
+    let power : 2 ^ (now - before + 1) ≡ 2 ^ (now - before) * 2 = ap (λ n. 2 ^ n) e ∙ pow-suc 2 (now - before) in
+    let none : high - low + 2 ≡ 2 = omega arith in
+    let least : length runs + 2 ≤ 2 ^ (now - before) * 2 = rw none at was.least in
+    omega arith

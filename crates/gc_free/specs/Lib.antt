@@ -1,6 +1,7 @@
 pub mod Coding
 pub mod Runs
 pub mod Orders
+pub mod Memory
 pub mod Ordered
 pub mod TwoOrders
 pub mod Held
@@ -9,4 +10,5 @@ pub mod Merged
 pub mod Placed
 pub mod Kept
 pub mod Listed
+pub mod View
 pub mod Laws

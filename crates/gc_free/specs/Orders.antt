@@ -1,8 +1,8 @@
 -- The two orders of free runs, and what a search in them finds and costs.
 use Rattle.std.specs.Prelude.{ℕ, suc, ◌+◌, ◌-◌, ◌*◌, ◌^◌, ◌≤◌, nat_lt, nat_le, ◌&&◌, cond, Option, Some, None, List, [], ◌∷◌}
 use Rattle.gc_free.specs.declared.run.Run.{Run}
-use Rattle.gc_free.specs.declared.search.Order.{Order}
-use Rattle.gc_free.specs.declared.search.Order.TheVariants.{ByPlace, ByLength}
+use Rattle.gc_free.specs.declared.key.Order.{Order}
+use Rattle.gc_free.specs.declared.key.Order.TheVariants.{ByPlace, ByLength}
 use Rattle.gc_free.specs.Runs.{insert_by}
 
 -- by length, and by place where lengths are equal, as one number
@@ -38,3 +38,7 @@ count_below key k (x ∷ xs) = cond (nat_lt (key x) k) (suc (count_below key k x
 pub record IsSearched (searches count before after : ℕ) : Type 0 where
   pub rises : before ≤ after
   pub bound : 2 ^ (after - before) ≤ (2 * count + 1) ^ searches
+
+-- no fewer steps than one search in `count` runs takes
+abbrev pub HasSearched : ℕ → ℕ → ℕ → Type 0
+HasSearched count before after = count + 2 ≤ 2 ^ (after - before + 1)

@@ -1,5 +1,5 @@
 //! The coalescing free list.
-ghost use Rattle.std.specs.Prelude.{◌≡◌, ◌+◌, ◌-◌, ◌*◌, ◌%◌, ◌^◌, ◌<◌, ◌≤◌, ◌↔◌, IfOk, OnOk, OnErr, IsNone, IfNone, IfSome, All, Contains, None, length, option_map};
+ghost use Rattle.std.specs.Prelude.{◌≡◌, ◌+◌, ◌-◌, ◌*◌, ◌%◌, ◌^◌, ◌<◌, ◌≤◌, ◌↔◌, IfOk, OnOk, OnErr, IsNone, IfNone, IfSome, All, Contains, MatchOption, None, length, option_map};
 ghost use Rattle.std.specs.Int.NonZero.{non_zero_u32_get};
 ghost use Rattle.gc_free.specs.Runs.{run};
 ghost use Rattle.gc_free.specs.Listed.{listed, current_at, run_length_at};
@@ -17,7 +17,11 @@ use std::marker::{Brand, Model};
 use std::num::NonZeroU32;
 use std::sync::ledger::{Blank, Ledger};
 
-/// The free places of a heap, in runs.
+/// The free places of a heap, in runs. The name and the calls are those of wasmtime's free list; the
+/// placing rule is this project's, and loses no place.
+///
+/// Contracts see a `View`: the space (the capacity, the held blocks and the current run) and the
+/// memory that the free runs lie in.
 #[derive(Drop)]
 pub struct FreeList {
     capacity: usize,
@@ -28,15 +32,18 @@ pub struct FreeList {
 }
 
 impl Model for FreeList {
-    ghost use Rattle.gc_free.specs.Space.{Space, space_code};
+    ghost use Rattle.gc_free.specs.View.{View, view_code};
 
-    ghost Value = { Space };
+    ghost Value = { View };
 
-    ghost coded = { space_code };
+    ghost coded = { view_code };
 
     ghost use Rattle.gc_free.specs.Kept.{IsKept};
 
-    ghost view = { λ l. record { capacity = l.capacity; held = l.held.blocks; current = l.current } };
+    ghost view = { λ l. record {
+      space = record { capacity = l.capacity; held = l.held.blocks; current = l.current };
+      memory = l.others.memory;
+    } };
 
     ghost invariant = { λ l. IsKept (record { capacity = l.capacity; held = l.held.blocks; current = l.current })
         l.others.runs l.others.room l.blocks };
@@ -63,9 +70,10 @@ fn length_of(run: Option<Run>) -> Option<u32>
 
 impl FreeList {
     /// Manages the places from 16 up to `capacity` bytes, in one run, which is the current one.
+    /// `AllocError` where there is no memory for the first entry.
     pub fn new(alloc: Global, capacity: usize) -> Result<FreeList, AllocError>
-        ensures made { IfOk result (λ list. list ≡ new_space capacity) }
-        ensures sound { IfOk result IsSound }
+        ensures made { IfOk result (λ list. list.space ≡ new_space capacity) }
+        ensures sound { IfOk result (λ list. IsSound list.space) }
     {
         let mut others = FreeRuns::new(alloc);
         others.reserve(1)?;
@@ -80,17 +88,17 @@ impl FreeList {
 
     /// The bytes of capacity. Those past the greatest u32, and a part of 16 at the end, have no places.
     pub fn current_capacity(&self) -> usize
-        ensures capacity { result ≡ self.now.capacity }
-        ensures sound { IsSound self.now }
+        ensures capacity { result ≡ self.now.space.capacity }
+        ensures sound { IsSound self.now.space }
     {
         self.capacity
     }
 
-    /// Each free run as its place and its length, by rising place with the current run last where it
-    /// has places.
+    /// Each free run as its place and its length in bytes, by rising place with the current run last
+    /// where it has places.
     pub fn iter_free_blocks(&self) -> FreeBlocks<'_>
-        ensures blocks { result ≡ listed self.now }
-        ensures sound { IsSound self.now }
+        ensures blocks { result ≡ listed self.now.space }
+        ensures sound { IsSound self.now.space }
     {
         let current = match self.current {
             Some(run) => run.if_any(),
@@ -99,11 +107,11 @@ impl FreeList {
         FreeBlocks::new(self.others.as_slice(), current)
     }
 
-    /// The length of the free run that begins at a place, `None` exactly where none does. A logarithm
-    /// of the runs in comparisons.
+    /// The length in bytes of the free run that begins at a place, `None` exactly where none does. One
+    /// search of the runs (not proved).
     pub fn run_at(&self, place: u32) -> Option<u32>
-        ensures length { result ≡ run_length_at place self.now }
-        ensures sound { IsSound self.now }
+        ensures length { result ≡ run_length_at place self.now.space }
+        ensures sound { IsSound self.now.space }
     {
         self.length_at::<Brand>(place, Blank::new(1))
     }
@@ -112,8 +120,8 @@ impl FreeList {
         requires name { blank.name ≡ L.name }
         requires parts { blank.parts ≡ L.parts }
         requires some { 0 < blank.parts }
-        ensures length { result ≡ run_length_at place self.now }
-        ensures sound { IsSound self.now }
+        ensures length { result ≡ run_length_at place self.now.space }
+        ensures sound { IsSound self.now.space }
     {
         if let Some(run) = current_at(self.current, place) {
             return Some(run.length);
@@ -123,10 +131,13 @@ impl FreeList {
         length_of(run)
     }
 
-    /// The capacity rises, and stops at the greatest usize. Takes no memory.
+    /// The capacity rises by so many bytes, and stops at the greatest usize. New places merge with the
+    /// run that they touch, which is current then if it was, or if it is a current run used up whole.
+    /// Takes no memory. Up to six searches, and entries of the runs move up (not proved).
     pub fn add_capacity(&mut self, additional: usize)
-        ensures grown { self.new ≡ grow additional self.old }
-        ensures sound { IsSound self.new }
+        ensures grown { self.new.space ≡ grow additional self.old.space }
+        ensures memory { self.new.memory ≡ self.old.memory }
+        ensures sound { IsSound self.new.space }
     {
         self.grow::<Brand>(additional, Blank::new(1));
     }
@@ -135,8 +146,9 @@ impl FreeList {
         requires name { blank.name ≡ L.name }
         requires parts { blank.parts ≡ L.parts }
         requires some { 0 < blank.parts }
-        ensures grown { self.new ≡ grow additional self.old }
-        ensures sound { IsSound self.new }
+        ensures grown { self.new.space ≡ grow additional self.old.space }
+        ensures memory { self.new.memory ≡ self.old.memory }
+        ensures sound { IsSound self.new.space }
     {
         let mut steps = Steps::<L>::new(blank);
         let from = ALIGN.max(places_end(self.capacity));
@@ -148,18 +160,24 @@ impl FreeList {
     }
 
     /// A block of `alloc_size` bytes, at the front of the current run where that is long enough, and
-    /// else of the shortest run that is, at equal lengths the one at the lowest place. `None` exactly
-    /// where no free run is long enough. A logarithm of the runs in comparisons.
+    /// else of the shortest run that is, at equal lengths the one at the lowest place. The rest of that
+    /// run is current then. `None` exactly where no free run is long enough, and then none is current.
+    ///
+    /// Condition: `alloc_size` is a multiple of 16, and not 0; `aligned_size` makes it so.
+    ///
+    /// `AllocError` where there is no memory for the entries of the runs that the block may leave; then
+    /// runs and blocks are as before. The searches are those of `alloc_counted`; entries of the runs
+    /// behind the one that is taken move (not proved).
     pub fn alloc_fast(&mut self, alloc_size: u32) -> Result<Option<NonZeroU32>, AllocError>
         requires whole { alloc_size % ALIGN ≡ 0 }
         requires some { 0 < alloc_size }
         ensures place { IfOk result (λ place.
-            option_map (λ p. non_zero_u32_get p) place ≡ (take alloc_size self.old).place) }
-        ensures after { OnOk result (self.new ≡ (take alloc_size self.old).space) }
-        ensures none { IfOk result (λ place. IsNone place ↔ All (λ r. r.length < alloc_size) (free_runs self.old)) }
+            option_map (λ p. non_zero_u32_get p) place ≡ (take alloc_size self.old.space).place) }
+        ensures after { OnOk result (self.new.space ≡ (take alloc_size self.old.space).space) }
+        ensures none { IfOk result (λ place. IsNone place ↔ All (λ r. r.length < alloc_size) (free_runs self.old.space)) }
         ensures aligned { IfOk result (λ place. IfSome place (λ p. non_zero_u32_get p % ALIGN ≡ 0)) }
-        ensures err { OnErr result (self.new ≡ self.old) }
-        ensures sound { IsSound self.new }
+        ensures err { OnErr result (self.new.space ≡ self.old.space) }
+        ensures sound { IsSound self.new.space }
     {
         self.alloc::<Brand>(alloc_size, Blank::new(1))
     }
@@ -175,18 +193,20 @@ impl FreeList {
         requires whole { alloc_size % ALIGN ≡ 0 }
         requires some { 0 < alloc_size }
         ensures place { IfOk result (λ place.
-            option_map (λ p. non_zero_u32_get p) place ≡ (take alloc_size self.old).place) }
-        ensures after { OnOk result (self.new ≡ (take alloc_size self.old).space) }
-        ensures none { IfOk result (λ place. IsNone place ↔ All (λ r. r.length < alloc_size) (free_runs self.old)) }
+            option_map (λ p. non_zero_u32_get p) place ≡ (take alloc_size self.old.space).place) }
+        ensures after { OnOk result (self.new.space ≡ (take alloc_size self.old.space).space) }
+        ensures none { IfOk result (λ place. IsNone place ↔ All (λ r. r.length < alloc_size) (free_runs self.old.space)) }
         ensures aligned { IfOk result (λ place. IfSome place (λ p. non_zero_u32_get p % ALIGN ≡ 0)) }
-        ensures err { OnErr result (self.new ≡ self.old) }
-        ensures sound { IsSound self.new }
+        ensures err { OnErr result (self.new.space ≡ self.old.space) }
+        ensures sound { IsSound self.new.space }
     {
         let mut steps = Steps::<L>::new(blank);
         self.alloc_counted(alloc_size, &mut steps)
     }
 
-    /// As `alloc_fast`. Each comparison of a search is a step.
+    /// As `alloc_fast`, with its condition, its answers and its `AllocError`. Each comparison of a search
+    /// is a step. With r free runs before the call and s steps in it, 2^s is at most (2r + 1)^4; where no
+    /// current run is long enough, 2^(s + 1) is at least r + 2.
     pub fn alloc_counted<G: Ledger>(
         &mut self,
         alloc_size: u32,
@@ -195,14 +215,16 @@ impl FreeList {
         requires whole { alloc_size % ALIGN ≡ 0 }
         requires some { 0 < alloc_size }
         ensures place { IfOk result (λ place.
-            option_map (λ p. non_zero_u32_get p) place ≡ (take alloc_size self.old).place) }
-        ensures after { OnOk result (self.new ≡ (take alloc_size self.old).space) }
-        ensures none { IfOk result (λ place. IsNone place ↔ All (λ r. r.length < alloc_size) (free_runs self.old)) }
+            option_map (λ p. non_zero_u32_get p) place ≡ (take alloc_size self.old.space).place) }
+        ensures after { OnOk result (self.new.space ≡ (take alloc_size self.old.space).space) }
+        ensures none { IfOk result (λ place. IsNone place ↔ All (λ r. r.length < alloc_size) (free_runs self.old.space)) }
         ensures aligned { IfOk result (λ place. IfSome place (λ p. non_zero_u32_get p % ALIGN ≡ 0)) }
-        ensures err { OnErr result (self.new ≡ self.old) }
-        ensures sound { IsSound self.new }
+        ensures err { OnErr result (self.new.space ≡ self.old.space) }
+        ensures sound { IsSound self.new.space }
         ensures rises { steps.old ≤ steps.new }
-        ensures cost { 2 ^ (steps.new - steps.old) ≤ (2 * length (free_runs self.old) + 1) ^ 4 }
+        ensures cost { 2 ^ (steps.new - steps.old) ≤ (2 * length (free_runs self.old.space) + 1) ^ 4 }
+        ensures least { OnOk result (MatchOption self.old.space.current (Unit {0}) (λ c. c.length < alloc_size)
+            → length (free_runs self.old.space) + 2 ≤ 2 ^ (steps.new - steps.old + 1)) }
     {
         self.others.reserve(self.blocks + 2)?;
         let placed = place(&mut self.others, self.current, alloc_size, steps);
@@ -215,11 +237,16 @@ impl FreeList {
         Ok(NonZeroU32::new(block.place))
     }
 
-    /// Gives back a held block of `alloc_size` bytes. Takes no memory.
+    /// Gives back the block of `alloc_size` bytes at `index`. It merges with the runs that it touches;
+    /// the whole is current where one of them was, or where it touches a current run used up whole.
+    /// Takes no memory. Up to six searches, and entries of the runs move (not proved).
+    ///
+    /// Condition: that block is held.
     pub fn dealloc_fast(&mut self, index: NonZeroU32, alloc_size: u32)
-        requires { Contains self.old.held (run (non_zero_u32_get index) alloc_size) }
-        ensures given { self.new ≡ give (run (non_zero_u32_get index) alloc_size) self.old }
-        ensures sound { IsSound self.new }
+        requires { Contains self.old.space.held (run (non_zero_u32_get index) alloc_size) }
+        ensures given { self.new.space ≡ give (run (non_zero_u32_get index) alloc_size) self.old.space }
+        ensures memory { self.new.memory ≡ self.old.memory }
+        ensures sound { IsSound self.new.space }
     {
         let block = Run {
             place: index.get(),
@@ -232,9 +259,10 @@ impl FreeList {
         requires name { blank.name ≡ L.name }
         requires parts { blank.parts ≡ L.parts }
         requires some { 0 < blank.parts }
-        requires held { Contains self.old.held block }
-        ensures given { self.new ≡ give block self.old }
-        ensures sound { IsSound self.new }
+        requires held { Contains self.old.space.held block }
+        ensures given { self.new.space ≡ give block self.old.space }
+        ensures memory { self.new.memory ≡ self.old.memory }
+        ensures sound { IsSound self.new.space }
     {
         let mut steps = Steps::<L>::new(blank);
         self.current = set_free(&mut self.others, self.current, block, &mut steps);

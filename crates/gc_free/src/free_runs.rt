@@ -1,20 +1,23 @@
 //! The free runs other than the current one, in both orders.
 ghost use Rattle.std.specs.Prelude.{◌≡◌, ◌-◌, ◌^◌, ◌<◌, ◌≤◌, [], length, OnOk, IfSome, vec_len, vec_capacity, find, slice_index_or};
+ghost use Rattle.std.specs.Vec.{vec_ptr, SameBlock};
 ghost use Rattle.std.specs.List.{remove};
 ghost use Rattle.std.specs.List.Sorted.{IsNonDecreasingBy};
 ghost use Rattle.gc_free.specs.Runs.{IsSpread, end_of, insert_by, insert_run, remove_by, begins_at, ends_at, without};
-ghost use Rattle.gc_free.specs.Orders.{key_of, count_below, shortest_fit, IsSearched};
+ghost use Rattle.gc_free.specs.Orders.{key_of, count_below, shortest_fit, IsSearched, HasSearched};
 ghost use Rattle.gc_free.specs.Ordered.{without_found};
 ghost use Rattle.gc_free.specs.TwoOrders.{AreTwoOrders};
 
+use crate::key::{Key, Order};
 use crate::run::Run;
-use crate::search::{Order, PLACES, count_before};
+use crate::search::count_before;
 use crate::steps::Steps;
 use std::alloc::{AllocError, Global};
 use std::marker::Model;
 use std::sync::ledger::Ledger;
 
-/// Each run stands in both orders. A clause sees the runs by rising place, and how many have room.
+/// Each run stands in both orders. A clause sees the runs by rising place, how many have room,
+/// and the memory that they lie in.
 #[derive(Drop)]
 pub(crate) struct FreeRuns {
     by_place: Vec<Run>,
@@ -29,11 +32,18 @@ impl Model for FreeRuns {
     ghost coded = { ordered_code };
 
     ghost use Rattle.std.specs.Prelude.{min, vec_capacity};
+    ghost use Rattle.std.specs.Vec.{vec_ptr};
     ghost use Rattle.gc_free.specs.TwoOrders.{AreTwoOrders};
 
     ghost view = { λ s. record {
       runs = s.by_place.items;
       room = min (vec_capacity s.by_place) (vec_capacity s.by_length);
+      memory = record {
+        by_place = vec_ptr s.by_place;
+        by_place_room = vec_capacity s.by_place;
+        by_length = vec_ptr s.by_length;
+        by_length_room = vec_capacity s.by_length;
+      };
     } };
 
     ghost invariant = { λ s. AreTwoOrders s.by_place.items s.by_length.items };
@@ -44,10 +54,10 @@ fn insert_in_order<L: Ledger>(runs: &mut Vec<Run>, order: Order, run: Run, steps
     requires sorted { IsNonDecreasingBy (key_of order) runs.old.items }
     requires room { vec_len runs.old < vec_capacity runs.old }
     ensures items { runs.new.items ≡ insert_by (key_of order) run runs.old.items }
-    ensures capacity { vec_capacity runs.old ≤ vec_capacity runs.new }
+    ensures in_place { SameBlock runs.old runs.new }
     ensures cost { IsSearched 1 (length runs.old.items) steps.old steps.new }
 {
-    let at = count_before(runs, order, order.key(run), steps);
+    let at = count_before(runs, order, Key::new(order, run), steps);
     match runs.insert(at, run) {
         Ok(()) => {}
         Err(_) => unreachable!(),
@@ -60,13 +70,14 @@ fn remove_in_order<L: Ledger>(runs: &mut Vec<Run>, order: Order, run: Run, steps
     requires present { count_below (key_of order) (key_of order run) runs.old.items < length runs.old.items }
     ensures items { runs.new.items ≡ remove_by (key_of order) (key_of order run) runs.old.items }
     ensures capacity { vec_capacity runs.new ≡ vec_capacity runs.old }
+    ensures in_place { vec_ptr runs.new ≡ vec_ptr runs.old }
     ensures cost { IsSearched 1 (length runs.old.items) steps.old steps.new }
 {
-    let at = count_before(runs, order, order.key(run), steps);
+    let at = count_before(runs, order, Key::new(order, run), steps);
     let _ = runs.remove(at);
 }
 
-/// Takes a run out of both orders, by its index in the order of places, with one search.
+/// Takes a run out of both orders, by its index in the order of places.
 fn remove_at<L: Ledger>(
     by_place: &mut Vec<Run>,
     by_length: &mut Vec<Run>,
@@ -80,6 +91,8 @@ fn remove_at<L: Ledger>(
     ensures items { by_place.new.items ≡ remove by_place.old.items at }
     ensures by_place { vec_capacity by_place.new ≡ vec_capacity by_place.old }
     ensures by_length { vec_capacity by_length.new ≡ vec_capacity by_length.old }
+    ensures place_block { vec_ptr by_place.new ≡ vec_ptr by_place.old }
+    ensures length_block { vec_ptr by_length.new ≡ vec_ptr by_length.old }
 {
     let run = by_place.remove(at);
     remove_in_order(by_length, Order::ByLength, run, steps);
@@ -114,21 +127,23 @@ impl FreeRuns {
         requires room { length self.old.runs < self.old.room }
         requires spread { IsSpread 0 (2 ^ 32 - 1) (insert_run run self.old.runs) }
         ensures runs { self.new.runs ≡ insert_run run self.old.runs }
-        ensures room { self.old.room ≤ self.new.room }
+        ensures room { self.new.room ≡ self.old.room }
+        ensures memory { self.new.memory ≡ self.old.memory }
         ensures cost { IsSearched 2 (length self.old.runs) steps.old steps.new }
     {
         insert_in_order(&mut self.by_place, Order::ByPlace, run, steps);
         insert_in_order(&mut self.by_length, Order::ByLength, run, steps);
     }
 
-    /// Takes out the run that begins at a place, with at most two searches.
+    /// Takes out the run that begins at a place.
     pub(crate) fn take_from<L: Ledger>(&mut self, place: u32, steps: &mut Steps<L>) -> Option<Run>
         ensures found { result ≡ find (begins_at place) self.old.runs }
         ensures begins { IfSome result (λ r. (r.place ≡ place) × (end_of r < 2 ^ 32)) }
         ensures runs { self.new.runs ≡ without (begins_at place) self.old.runs }
         ensures room { self.new.room ≡ self.old.room }
+        ensures memory { self.new.memory ≡ self.old.memory }
     {
-        let at = count_before(&self.by_place, Order::ByPlace, place as u64, steps);
+        let at = count_before(&self.by_place, Order::ByPlace, Key::of_place(place), steps);
         if at == self.by_place.len() {
             return None;
         }
@@ -138,14 +153,15 @@ impl FreeRuns {
         Some(remove_at(&mut self.by_place, &mut self.by_length, at, steps))
     }
 
-    /// Takes out the run that ends before a place, with at most two searches.
+    /// Takes out the run that ends before a place.
     pub(crate) fn take_up_to<L: Ledger>(&mut self, place: u32, steps: &mut Steps<L>) -> Option<Run>
         ensures found { result ≡ find (ends_at place) self.old.runs }
         ensures ends { IfSome result (λ r. end_of r ≡ place) }
         ensures runs { self.new.runs ≡ without (ends_at place) self.old.runs }
         ensures room { self.new.room ≡ self.old.room }
+        ensures memory { self.new.memory ≡ self.old.memory }
     {
-        let at = count_before(&self.by_place, Order::ByPlace, place as u64, steps);
+        let at = count_before(&self.by_place, Order::ByPlace, Key::of_place(place), steps);
         if at == 0 {
             return None;
         }
@@ -165,13 +181,10 @@ impl FreeRuns {
         ensures runs { self.new.runs ≡ without_found result self.old.runs }
         ensures room { self.new.room ≡ self.old.room }
         ensures cost { IsSearched 2 (length self.old.runs) steps.old steps.new }
+        ensures least { HasSearched (length self.old.runs) steps.old steps.new }
     {
-        let at = count_before(
-            &self.by_length,
-            Order::ByLength,
-            size as u64 * PLACES,
-            steps,
-        );
+        let key = Key::of_length(size);
+        let at = count_before(&self.by_length, Order::ByLength, key, steps);
         if at == self.by_length.len() {
             return None;
         }
@@ -180,11 +193,11 @@ impl FreeRuns {
         Some(run)
     }
 
-    /// The run that begins at a place, with one search.
+    /// The run that begins at a place.
     pub(crate) fn get<L: Ledger>(&self, place: u32, steps: &mut Steps<L>) -> Option<Run>
         ensures { result ≡ find (begins_at place) self.now.runs }
     {
-        let at = count_before(&self.by_place, Order::ByPlace, place as u64, steps);
+        let at = count_before(&self.by_place, Order::ByPlace, Key::of_place(place), steps);
         if at == self.by_place.len() {
             return None;
         }

@@ -1,4 +1,4 @@
-//! The blocks that are held. Only clauses read them: they take no bytes and cost no time.
+//! The blocks that are held. Only clauses read them.
 ghost use Rattle.std.specs.Prelude.{◌≡◌, List, []};
 ghost use Rattle.std.specs.Borrow.{ftrue};
 ghost use Rattle.gc_free.specs.declared.run.Run.{Run as Block};

@@ -9,14 +9,15 @@
 //! are what the held blocks leave, always maximal. At most one of them is current, and blocks are
 //! taken from its front while they fit. Giving a block back takes no memory.
 //!
-//! A caller gives back only what it holds. Contracts see a free list as a `Space`: its capacity, its
-//! held blocks and its current run. The laws of these are in `laws`.
+//! A caller gives back only what it holds. Contracts see a free list as a `View`: its capacity, held
+//! blocks and current run, which are its `Space`, and its memory. The laws of spaces are in `laws`.
 #![tactic(auto)]
 
 mod blocks;
 mod free_list;
 mod free_runs;
 mod held;
+mod key;
 pub mod laws;
 mod layout;
 mod merging;

@@ -14,6 +14,7 @@ fn absorb<L: Ledger>(others: &mut FreeRuns, freed: Run, steps: &mut Steps<L>) ->
     ensures whole { result ≡ joined freed others.old.runs }
     ensures rest { others.new.runs ≡ apart_from freed others.old.runs }
     ensures room { others.new.room ≡ others.old.room }
+    ensures memory { others.new.memory ≡ others.old.memory }
 {
     let before = others.take_up_to(freed.place, steps);
     let behind = others.take_from(freed.end(), steps);
@@ -42,6 +43,7 @@ pub(crate) fn set_free<L: Ledger>(
     ensures current { result ≡ current_after freed current others.old.runs }
     ensures others { others.new.runs ≡ others_after freed current others.old.runs }
     ensures room { others.old.room ≤ others.new.room }
+    ensures memory { others.new.memory ≡ others.old.memory }
 {
     let whole = absorb(others, freed, steps);
     if let Some(run) = current {

@@ -1,7 +1,7 @@
 //! Where a block goes.
 ghost use Rattle.std.specs.Prelude.{◌≡◌, ◌-◌, ◌^◌, ◌<◌, ◌≤◌, length, MatchOption};
 ghost use Rattle.gc_free.specs.Runs.{end_of, IsSpread};
-ghost use Rattle.gc_free.specs.Orders.{IsSearched};
+ghost use Rattle.gc_free.specs.Orders.{IsSearched, HasSearched};
 ghost use Rattle.gc_free.specs.Placed.{with_current, place_in, place_in_shortest};
 
 use crate::free_runs::FreeRuns;
@@ -41,6 +41,7 @@ fn place_in_shortest<L: Ledger>(others: &mut FreeRuns, size: u32, steps: &mut St
     ensures others { others.new.runs ≡ (place_in_shortest size others.old.runs).others }
     ensures room { others.new.room ≡ others.old.room }
     ensures cost { IsSearched 2 (length others.old.runs) steps.old steps.new }
+    ensures least { HasSearched (length others.old.runs) steps.old steps.new }
 {
     let Some(run) = others.take_shortest(size, steps) else {
         return Placed {
@@ -69,6 +70,7 @@ pub(crate) fn place<L: Ledger>(
     ensures others { others.new.runs ≡ (place_in size current others.old.runs).others }
     ensures room { others.old.room ≤ others.new.room }
     ensures cost { IsSearched 4 (length (with_current current others.old.runs)) steps.old steps.new }
+    ensures least { MatchOption current (Unit {0}) (λ c. c.length < size) → HasSearched (length (with_current current others.old.runs)) steps.old steps.new }
 {
     if let Some(run) = current {
         if size <= run.length {

@@ -1,4 +1,4 @@
-//! A counter of steps that takes no bytes and no time.
+//! A counter of steps, made of tokens that nothing reads at run time.
 ghost use Rattle.std.specs.Prelude.{◌≡◌, ℕ, ◌+◌, ◌<◌};
 
 use std::marker::Model;

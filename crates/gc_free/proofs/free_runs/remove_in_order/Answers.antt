@@ -4,4 +4,4 @@ use Rattle.gc_free.proofs.free_runs.remove_in_order.Goals as goal
 
 pub returns-clause-items : goal.returns-clause-items
 returns-clause-items g c =
-    rw (c.remove.ensures.items, c.count_before-at.ensures.count, c.key.ensures, c.deref.ensures.value) (remove_at_count (key_of c.args.order) (key_of c.args.order c.args.run) c.args.runs.now.items)
+    rw (c.remove.ensures.items, c.count_before-at.ensures.count, c.new.ensures, c.deref.ensures.value) (remove_at_count (key_of c.args.order) (key_of c.args.order c.args.run) c.args.runs.now.items)

@@ -14,7 +14,7 @@ overflow_add-self-inside g c =
 
 pub returns-in_err-reserve-clause-cost : goal.returns-in_err-reserve-clause-cost
 returns-in_err-reserve-clause-cost g c =
-    (IsSearched-none 4 (length (free_runs c.args.self.now)) c.args.steps.now).bound
+    (IsSearched-none 4 (length (free_runs c.args.self.now.space)) c.args.steps.now).bound
 
 pub place-placed-requires-clause-spread : goal.place-placed-requires-clause-spread
 place-placed-requires-clause-spread g c =
@@ -70,7 +70,7 @@ returns-in_default-clause-place g c =
     let k = place_kept c.args.alloc_size s runs c.self.inside.others.room c.place-placed.new.others.room c.self.inside.blocks kept (omega arith) c.requires.whole c.requires.some (omega arith) in
     let after = after_none c.args.alloc_size s c.place-placed.new.others.room c.self.inside.blocks (place_in c.args.alloc_size s.current runs) c.place-placed.result.block c.place-placed.result.current c.place-placed.new.others.runs
     k.placed c.place-placed.ensures.block c.place-placed.ensures.current c.place-placed.ensures.others c.in_default.is in
-    after.place ∙ ap (λ z. (take c.args.alloc_size z).place) c.self.view_is
+    after.place ∙ ap (λ v. (take c.args.alloc_size v.space).place) c.self.view_is
 
 pub returns-in_default-clause-after : goal.returns-in_default-clause-after
 returns-in_default-clause-after g c =
@@ -83,7 +83,7 @@ returns-in_default-clause-after g c =
     let k = place_kept c.args.alloc_size s runs c.self.inside.others.room c.place-placed.new.others.room c.self.inside.blocks kept (omega arith) c.requires.whole c.requires.some (omega arith) in
     let after = after_none c.args.alloc_size s c.place-placed.new.others.room c.self.inside.blocks (place_in c.args.alloc_size s.current runs) c.place-placed.result.block c.place-placed.result.current c.place-placed.new.others.runs
     k.placed c.place-placed.ensures.block c.place-placed.ensures.current c.place-placed.ensures.others c.in_default.is in
-    after.space ∙ ap (λ z. (take c.args.alloc_size z).space) c.self.view_is
+    after.space ∙ ap (λ v. (take c.args.alloc_size v.space).space) c.self.view_is
 
 pub returns-in_default-clause-none : goal.returns-in_default-clause-none
 returns-in_default-clause-none g c =
@@ -143,7 +143,7 @@ returns-clause-place g c =
     k.placed c.place-placed.ensures.block c.place-placed.ensures.current c.place-placed.ensures.others c.in-Some.is in
     let low : 16 ≤ c.in-Some.block.place = after.low in
     let number = non_zero c.new.result c.in-Some.block.place (omega arith) c.new.ensures in
-    number.is ∙ after.place ∙ ap (λ z. (take c.args.alloc_size z).place) c.self.view_is
+    number.is ∙ after.place ∙ ap (λ v. (take c.args.alloc_size v.space).place) c.self.view_is
 
 pub returns-clause-after : goal.returns-clause-after
 returns-clause-after g c =
@@ -157,7 +157,7 @@ returns-clause-after g c =
     let after = after_some c.args.alloc_size s c.place-placed.new.others.room c.self.inside.blocks (place_in c.args.alloc_size s.current runs) c.place-placed.result.block c.place-placed.result.current c.place-placed.new.others.runs c.in-Some.block
     k.placed c.place-placed.ensures.block c.place-placed.ensures.current c.place-placed.ensures.others c.in-Some.is in
     ap (λ h. record { capacity = s.capacity; held = h; current = c.place-placed.result.current }) c.after-self-inside.ensures
-    ∙ after.space ∙ ap (λ z. (take c.args.alloc_size z).space) c.self.view_is
+    ∙ after.space ∙ ap (λ v. (take c.args.alloc_size v.space).space) c.self.view_is
 
 pub returns-clause-none : goal.returns-clause-none
 returns-clause-none g c =
@@ -212,3 +212,29 @@ returns-clause-cost g c =
     let few : length (with_current s.current runs) ≡ length (free_runs s) = ap length k.all in
     let cost = rw few at c.place-placed.ensures.cost in
     rw (← c.self.view_is) cost.bound
+
+pub returns-in_default-clause-least : goal.returns-in_default-clause-least
+returns-in_default-clause-least g c =
+    let s : Space = record { capacity = c.self.inside.capacity; held = c.self.inside.held.blocks; current = c.self.inside.current } in
+    let runs = c.reserve.new.self.runs in
+    let kept : IsKept s runs c.self.inside.others.room c.self.inside.blocks = rw c.reserve.ensures.runs c.self.invariant in
+    let grown : c.self.inside.others.room ≤ c.reserve.new.self.room = c.reserve.ensures.grown in
+    let enough : c.self.inside.blocks + 2 ≤ c.reserve.new.self.room = c.in_ok-reserve.ensures.ok in
+    let wider : c.reserve.new.self.room ≤ c.place-placed.new.others.room = c.place-placed.ensures.room in
+    let k = place_kept c.args.alloc_size s runs c.self.inside.others.room c.place-placed.new.others.room c.self.inside.blocks kept (omega arith) c.requires.whole c.requires.some (omega arith) in
+    let few : length (with_current s.current runs) ≡ length (free_runs s) = ap length k.all in
+    let least = rw few at c.place-placed.ensures.least in
+    rw (← c.self.view_is) least
+
+pub returns-clause-least : goal.returns-clause-least
+returns-clause-least g c =
+    let s : Space = record { capacity = c.self.inside.capacity; held = c.self.inside.held.blocks; current = c.self.inside.current } in
+    let runs = c.reserve.new.self.runs in
+    let kept : IsKept s runs c.self.inside.others.room c.self.inside.blocks = rw c.reserve.ensures.runs c.self.invariant in
+    let grown : c.self.inside.others.room ≤ c.reserve.new.self.room = c.reserve.ensures.grown in
+    let enough : c.self.inside.blocks + 2 ≤ c.reserve.new.self.room = c.in_ok-reserve.ensures.ok in
+    let wider : c.reserve.new.self.room ≤ c.place-placed.new.others.room = c.place-placed.ensures.room in
+    let k = place_kept c.args.alloc_size s runs c.self.inside.others.room c.place-placed.new.others.room c.self.inside.blocks kept (omega arith) c.requires.whole c.requires.some (omega arith) in
+    let few : length (with_current s.current runs) ≡ length (free_runs s) = ap length k.all in
+    let least = rw few at c.place-placed.ensures.least in
+    rw (← c.self.view_is) least

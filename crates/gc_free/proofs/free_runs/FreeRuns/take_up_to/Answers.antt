@@ -15,28 +15,28 @@ count_before-at-requires g c = rw c.deref.ensures.value (sorted_by_place c.self.
 pub returns-then-at-eq0-clause-found : goal.returns-then-at-eq0-clause-found
 returns-then-at-eq0-clause-found g c =
     let runs = c.self.inside.by_place.items in
-    let count : c.count_before-at.result ≡ count_below place_of c.args.place runs = rw c.deref.ensures.value at c.count_before-at.ensures.count in
+    let count : c.count_before-at.result ≡ count_below place_of c.args.place runs = rw (c.deref.ensures.value, c.of_place.ensures) at c.count_before-at.ensures.count in
     let zero_is : 0 ≡ count_below place_of c.args.place runs = omega arith in
     rw (← c.self.view_is) (sym (ends_none_first c.args.place 0 (2 ^ 32 - 1) runs c.self.invariant.spread zero_is).none)
 
 pub returns-then-at-eq0-clause-runs : goal.returns-then-at-eq0-clause-runs
 returns-then-at-eq0-clause-runs g c =
     let runs = c.self.inside.by_place.items in
-    let count : c.count_before-at.result ≡ count_below place_of c.args.place runs = rw c.deref.ensures.value at c.count_before-at.ensures.count in
+    let count : c.count_before-at.result ≡ count_below place_of c.args.place runs = rw (c.deref.ensures.value, c.of_place.ensures) at c.count_before-at.ensures.count in
     let zero_is : 0 ≡ count_below place_of c.args.place runs = omega arith in
     rw (← c.self.view_is) (sym (ends_none_first c.args.place 0 (2 ^ 32 - 1) runs c.self.invariant.spread zero_is).all)
 
 pub index-requires : goal.index-requires
 index-requires g c =
     let runs = c.self.inside.by_place.items in
-    let count : c.count_before-at.result ≡ count_below place_of c.args.place runs = rw c.deref.ensures.value at c.count_before-at.ensures.count in
+    let count : c.count_before-at.result ≡ count_below place_of c.args.place runs = rw (c.deref.ensures.value, c.of_place.ensures) at c.count_before-at.ensures.count in
     let le = count_within place_of c.args.place runs in
     omega arith
 
 pub end-requires : goal.end-requires
 end-requires g c =
     let runs = c.self.inside.by_place.items in
-    let count : c.count_before-at.result ≡ count_below place_of c.args.place runs = rw c.deref.ensures.value at c.count_before-at.ensures.count in
+    let count : c.count_before-at.result ≡ count_below place_of c.args.place runs = rw (c.deref.ensures.value, c.of_place.ensures) at c.count_before-at.ensures.count in
     let le = count_within place_of c.args.place runs in
     let l : c.count_before-at.result - 1 < length runs = omega arith in
     let p = In-place 0 (2 ^ 32 - 1) (get_or runs (c.count_before-at.result - 1) c.index.result.now) runs c.self.invariant.spread (In-get_or runs (c.count_before-at.result - 1) c.index.result.now l) in
@@ -47,7 +47,7 @@ end-requires g c =
 pub returns-then-end-place-clause-found : goal.returns-then-end-place-clause-found
 returns-then-end-place-clause-found g c =
     let runs = c.self.inside.by_place.items in
-    let count : c.count_before-at.result ≡ count_below place_of c.args.place runs = rw c.deref.ensures.value at c.count_before-at.ensures.count in
+    let count : c.count_before-at.result ≡ count_below place_of c.args.place runs = rw (c.deref.ensures.value, c.of_place.ensures) at c.count_before-at.ensures.count in
     let past : suc (c.count_before-at.result - 1) ≡ count_below place_of c.args.place runs = omega arith in
     rw (← c.self.view_is) (sym (ends_none c.args.place 0 (2 ^ 32 - 1) (c.count_before-at.result - 1) runs c.index.result.now c.self.invariant.spread past
     (λ is. c.if-end-place.true (c.end.ensures ∙ ap end_of c.index.ensures ∙ is))).none)
@@ -55,7 +55,7 @@ returns-then-end-place-clause-found g c =
 pub returns-then-end-place-clause-runs : goal.returns-then-end-place-clause-runs
 returns-then-end-place-clause-runs g c =
     let runs = c.self.inside.by_place.items in
-    let count : c.count_before-at.result ≡ count_below place_of c.args.place runs = rw c.deref.ensures.value at c.count_before-at.ensures.count in
+    let count : c.count_before-at.result ≡ count_below place_of c.args.place runs = rw (c.deref.ensures.value, c.of_place.ensures) at c.count_before-at.ensures.count in
     let past : suc (c.count_before-at.result - 1) ≡ count_below place_of c.args.place runs = omega arith in
     rw (← c.self.view_is) (sym (ends_none c.args.place 0 (2 ^ 32 - 1) (c.count_before-at.result - 1) runs c.index.result.now c.self.invariant.spread past
     (λ is. c.if-end-place.true (c.end.ensures ∙ ap end_of c.index.ensures ∙ is))).all)
@@ -63,14 +63,14 @@ returns-then-end-place-clause-runs g c =
 pub remove_at-requires-clause-within : goal.remove_at-requires-clause-within
 remove_at-requires-clause-within g c =
     let runs = c.self.inside.by_place.items in
-    let count : c.count_before-at.result ≡ count_below place_of c.args.place runs = rw c.deref.ensures.value at c.count_before-at.ensures.count in
+    let count : c.count_before-at.result ≡ count_below place_of c.args.place runs = rw (c.deref.ensures.value, c.of_place.ensures) at c.count_before-at.ensures.count in
     let le = count_within place_of c.args.place runs in
     omega arith
 
 pub returns-clause-found : goal.returns-clause-found
 returns-clause-found g c =
     let runs = c.self.inside.by_place.items in
-    let count : c.count_before-at.result ≡ count_below place_of c.args.place runs = rw c.deref.ensures.value at c.count_before-at.ensures.count in
+    let count : c.count_before-at.result ≡ count_below place_of c.args.place runs = rw (c.deref.ensures.value, c.of_place.ensures) at c.count_before-at.ensures.count in
     let past : suc (c.count_before-at.result - 1) ≡ count_below place_of c.args.place runs = omega arith in
     let le = count_within place_of c.args.place runs in
     let l : c.count_before-at.result - 1 < length runs = omega arith in
@@ -81,7 +81,7 @@ returns-clause-found g c =
 pub returns-clause-runs : goal.returns-clause-runs
 returns-clause-runs g c =
     let runs = c.self.inside.by_place.items in
-    let count : c.count_before-at.result ≡ count_below place_of c.args.place runs = rw c.deref.ensures.value at c.count_before-at.ensures.count in
+    let count : c.count_before-at.result ≡ count_below place_of c.args.place runs = rw (c.deref.ensures.value, c.of_place.ensures) at c.count_before-at.ensures.count in
     let past : suc (c.count_before-at.result - 1) ≡ count_below place_of c.args.place runs = omega arith in
     rw (← c.self.view_is, c.remove_at.ensures.items) (ends_found c.args.place 0 (2 ^ 32 - 1) (c.count_before-at.result - 1) runs c.index.result.now c.self.invariant.spread past
     (sym (ap end_of c.index.ensures) ∙ sym c.end.ensures ∙ c.if-end-place.false)).rest
@@ -89,7 +89,7 @@ returns-clause-runs g c =
 pub returns-clause-ends : goal.returns-clause-ends
 returns-clause-ends g c =
     let runs = c.self.inside.by_place.items in
-    let count : c.count_before-at.result ≡ count_below place_of c.args.place runs = rw c.deref.ensures.value at c.count_before-at.ensures.count in
+    let count : c.count_before-at.result ≡ count_below place_of c.args.place runs = rw (c.deref.ensures.value, c.of_place.ensures) at c.count_before-at.ensures.count in
     let le = count_within place_of c.args.place runs in
     let l : c.count_before-at.result - 1 < length runs = omega arith in
     ap end_of (c.remove_at.ensures.run ∙ get_or_default runs (c.count_before-at.result - 1) c.remove_at.result c.index.result.now l)

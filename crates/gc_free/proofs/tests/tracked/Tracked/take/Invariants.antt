@@ -1,4 +1,4 @@
-use Rattle.gc_free.proofs.tests.twin.Twin.take.Given as goal
+use Rattle.gc_free.proofs.tests.tracked.Tracked.take.Given as goal
 
 abbrev pub ghosts-place : goal.ghosts-place
 ghosts-place a = record { name = a.blank.name; parts = a.blank.parts }
