@@ -22,6 +22,15 @@ fn value(heap_type: HeapType) -> ValType {
     })
 }
 
+fn eq() -> ValType {
+    value(HeapType::Eq)
+}
+
+/// The function type that is declared behind the family.
+fn itself() -> ValType {
+    value(HeapType::ConcreteFunc(index(9)))
+}
+
 fn present(heap_type: HeapType) -> ValType {
     ValType::Ref(RefType {
         nullable: false,
@@ -55,14 +64,12 @@ fn fixed_ref(heap_type: HeapType) -> FieldType {
 /// exception 6, and structs 7 and 8 with one constant field, a reference to struct 0 and to itself.
 fn family(alloc: Global) -> Result<Types, TypeFault> {
     let mut types = Types::new(alloc, 1, 1);
-    let number = var(I32);
-    let eq = value(HeapType::Eq);
-    types.declare_struct(&[number], None, false)?;
-    types.declare_struct(&[number, fixed(I64)], Some(index(0)), true)?;
+    types.declare_struct(&[var(I32)], None, false)?;
+    types.declare_struct(&[var(I32), fixed(I64)], Some(index(0)), true)?;
     types.declare_array(var(StorageType::I8), None, false)?;
     types.declare_array(var(StorageType::I8), Some(index(2)), false)?;
-    types.declare_func(&[eq], &[eq], None, false)?;
-    types.declare_func(&[eq], &[eq], Some(index(4)), false)?;
+    types.declare_func(&[eq()], &[eq()], None, false)?;
+    types.declare_func(&[eq()], &[eq()], Some(index(4)), false)?;
     types.declare_exn(&[ValType::I32])?;
     for named in [0, 8] {
         let field = fixed_ref(HeapType::ConcreteStruct(index(named)));
@@ -126,93 +133,121 @@ fn constant_fields_follow_the_arrows(rt: HostRuntime) -> Result<(), Fail> {
 
 #[test]
 fn structs_are_accepted_where_they_may_be(rt: HostRuntime) -> Result<(), Fail> {
-    let number = var(I32);
-    let itself = HeapType::ConcreteStruct(index(9));
     let cases = [
-        (number, number, None, true),
-        (number, number, Some(0), true),
-        (number, fixed(I64), Some(0), true),
-        (number, number, Some(1), false),
-        (number, number, Some(2), false),
-        (number, number, Some(4), false),
-        (number, number, Some(6), false),
-        (number, number, Some(9), false),
-        (number, number, Some(10), false),
-        (number, number, Some(u32::MAX), false),
-        (fixed(I32), number, Some(0), false),
-        (var(I64), number, Some(0), false),
-        (var(StorageType::I8), number, Some(0), false),
-        (var(StorageType::I8), number, None, true),
+        (var(I32), var(I32), None, true),
+        (var(I32), var(I32), Some(0), true),
+        (var(I32), fixed(I64), Some(0), true),
+        (var(I32), var(I32), Some(1), false),
+        (var(I32), var(I32), Some(2), false),
+        (var(I32), var(I32), Some(4), false),
+        (var(I32), var(I32), Some(6), false),
+        (var(I32), var(I32), Some(9), false),
+        (var(I32), var(I32), Some(10), false),
+        (var(I32), var(I32), Some(u32::MAX), false),
+        (fixed(I32), var(I32), Some(0), false),
+        (var(I64), var(I32), Some(0), false),
+        (var(StorageType::I8), var(I32), Some(0), false),
+        (var(StorageType::I8), var(I32), None, true),
         (
             fixed_ref(HeapType::ConcreteStruct(index(1))),
-            number,
+            var(I32),
             Some(7),
             true,
         ),
-        (fixed_ref(HeapType::None), number, Some(7), true),
-        (fixed_ref(HeapType::Struct), number, Some(7), false),
+        (fixed_ref(HeapType::None), var(I32), Some(7), true),
+        (fixed_ref(HeapType::Struct), var(I32), Some(7), false),
         (
             fixed_ref(HeapType::ConcreteArray(index(2))),
-            number,
+            var(I32),
             Some(7),
             false,
         ),
         (
             var_ref(HeapType::ConcreteStruct(index(0))),
-            number,
+            var(I32),
             Some(7),
             false,
         ),
         (
             var_ref(HeapType::ConcreteStruct(index(1))),
-            number,
+            var(I32),
             None,
             true,
         ),
-        (number, var_ref(itself), None, true),
-        (number, var_ref(itself), Some(0), true),
-        (fixed_ref(itself), number, Some(7), false),
-        (fixed_ref(itself), number, Some(8), true),
-        (var_ref(itself), number, Some(8), false),
         (
-            number,
+            var(I32),
+            var_ref(HeapType::ConcreteStruct(index(9))),
+            None,
+            true,
+        ),
+        (
+            var(I32),
+            var_ref(HeapType::ConcreteStruct(index(9))),
+            Some(0),
+            true,
+        ),
+        (
+            fixed_ref(HeapType::ConcreteStruct(index(9))),
+            var(I32),
+            Some(7),
+            false,
+        ),
+        (
+            fixed_ref(HeapType::ConcreteStruct(index(9))),
+            var(I32),
+            Some(8),
+            true,
+        ),
+        (
+            var_ref(HeapType::ConcreteStruct(index(9))),
+            var(I32),
+            Some(8),
+            false,
+        ),
+        (
+            var(I32),
             var_ref(HeapType::ConcreteStruct(index(10))),
             None,
             false,
         ),
         (
-            number,
+            var(I32),
             var_ref(HeapType::ConcreteArray(index(9))),
             None,
             false,
         ),
         (
-            number,
+            var(I32),
             var_ref(HeapType::ConcreteStruct(index(2))),
             None,
             false,
         ),
         (
-            number,
+            var(I32),
             var_ref(HeapType::ConcreteArray(index(0))),
             None,
             false,
         ),
         (
-            number,
+            var(I32),
             var_ref(HeapType::ConcreteFunc(index(4))),
             None,
             true,
         ),
-        (number, var_ref(HeapType::ConcreteExn(index(6))), None, true),
         (
-            number,
+            var(I32),
+            var_ref(HeapType::ConcreteExn(index(6))),
+            None,
+            true,
+        ),
+        (
+            var(I32),
             var_ref(HeapType::ConcreteExn(index(4))),
             None,
             false,
         ),
-        (number, var_ref(HeapType::Cont), None, false),
-        (number, var_ref(HeapType::NoCont), None, false),
+        (var(I32), var_ref(HeapType::Cont), None, false),
+        (var(I32), var_ref(HeapType::NoCont), None, false),
     ];
     for (first, second, supertype, want) in cases {
         let mut types = family(rt.alloc())?;
@@ -250,22 +285,20 @@ fn arrays_are_accepted_where_they_may_be(rt: HostRuntime) -> Result<(), Fail> {
 
 #[test]
 fn functions_are_accepted_where_they_may_be(rt: HostRuntime) -> Result<(), Fail> {
-    let eq = value(HeapType::Eq);
-    let itself = value(HeapType::ConcreteFunc(index(9)));
     let cases = [
-        (eq, eq, Some(4), true),
-        (value(HeapType::Any), eq, Some(4), true),
-        (value(HeapType::I31), eq, Some(4), false),
-        (eq, value(HeapType::I31), Some(4), true),
-        (eq, value(HeapType::Any), Some(4), false),
-        (present(HeapType::Eq), eq, Some(4), false),
-        (eq, present(HeapType::Eq), Some(4), true),
-        (eq, eq, Some(0), false),
+        (eq(), eq(), Some(4), true),
+        (value(HeapType::Any), eq(), Some(4), true),
+        (value(HeapType::I31), eq(), Some(4), false),
+        (eq(), value(HeapType::I31), Some(4), true),
+        (eq(), value(HeapType::Any), Some(4), false),
+        (present(HeapType::Eq), eq(), Some(4), false),
+        (eq(), present(HeapType::Eq), Some(4), true),
+        (eq(), eq(), Some(0), false),
         (ValType::I32, ValType::I64, None, true),
-        (itself, itself, None, true),
-        (eq, itself, Some(4), false),
-        (value(HeapType::ConcreteFunc(index(0))), eq, None, false),
-        (eq, value(HeapType::ConcreteFunc(index(10))), None, false),
+        (itself(), itself(), None, true),
+        (eq(), itself(), Some(4), false),
+        (value(HeapType::ConcreteFunc(index(0))), eq(), None, false),
+        (eq(), value(HeapType::ConcreteFunc(index(10))), None, false),
     ];
     for (param, result, supertype, want) in cases {
         let mut types = family(rt.alloc())?;
@@ -277,9 +310,9 @@ fn functions_are_accepted_where_they_may_be(rt: HostRuntime) -> Result<(), Fail>
         );
     }
     let mut types = family(rt.alloc())?;
-    let more = types.declare_func(&[eq, eq], &[eq], Some(index(4)), false);
+    let more = types.declare_func(&[eq(), eq()], &[eq()], Some(index(4)), false);
     assert_eq!(rt; is_accepted(more), Some(false));
-    let fewer = types.declare_func(&[eq], &[], Some(index(4)), false);
+    let fewer = types.declare_func(&[eq()], &[], Some(index(4)), false);
     assert_eq!(rt; is_accepted(fewer), Some(false));
     Ok(())
 }
