@@ -1,10 +1,9 @@
 -- Types that match lie alike.
-use Rattle.std.proofs.Common.{◌≡◌, ℕ, zero, suc, ◌+◌, ◌*◌, ◌<◌, ◌≤◌, List, [], ◌∷◌, ◌++◌, length, take, map, slice_get, Option, Some, None, Bool, option_map, sym, ◌∙◌, ap, subst, refl, arith, length-take}
+use Rattle.std.proofs.Common.{◌≡◌, ℕ, zero, suc, ◌+◌, ◌≤◌, List, [], ◌∷◌, ◌++◌, length, take, slice_get, Option, Some, None, Bool, option_map, sym, ◌∙◌, ap, subst, refl, arith, length-take}
 use Rattle.std.proofs.lemmas.List.{take_all, take-take}
 use Rattle.std.specs.List.{AllZip}
-use Rattle.std.proofs.lemmas.Option.{same_Some, slice_get_within, slice_get-map}
+use Rattle.std.proofs.lemmas.Option.{same_Some, slice_get-map}
 use Rattle.gc_types.specs.declared.value.HeapType.{HeapType}
-use Rattle.gc_types.specs.declared.value.HeapType.TheVariants as heap
 use Rattle.gc_types.specs.declared.value.ValType.{ValType}
 use Rattle.gc_types.specs.declared.value.ValType.TheVariants as val
 use Rattle.gc_types.specs.declared.value.StorageType.{StorageType}
@@ -13,9 +12,9 @@ use Rattle.gc_types.specs.declared.value.FieldType.{FieldType}
 use Rattle.gc_types.specs.declared.kind.Layouts.{Layouts}
 use Rattle.gc_types.specs.declared.layout.FieldLayout.{FieldLayout}
 use Rattle.gc_types.specs.Declarations.{Declaration, Shape, struct_of, array_of, exn_of, func_of, struct_fields_at, elem_at, shape_struct_fields, shape_elem, declaration_struct_fields, declaration_elem}
-use Rattle.gc_types.specs.Declarable.{Declarable, AreDeclared, Extends, ExtendsOf, MatchesShape}
-use Rattle.gc_types.specs.Subtyping.{supertypes_of, Meets, here, up, Arrow, MatchesHeap, same, along, through, MatchesRef, MatchesVal, MatchesStorage, MatchesField, none_i31, none_struct, none_array, none_concrete_struct, none_concrete_array, concrete_struct, concrete_struct_struct, concrete_array, concrete_array_array, i31_eq, struct_eq, array_eq, eq_any, no_extern_extern, no_func_func, no_func_concrete_func, concrete_func, concrete_func_func, no_exn_exn, no_exn_concrete_exn, concrete_exn, concrete_exn_exn, no_cont_cont}
-use Rattle.gc_types.specs.Layouts.{is_gc_heap_type, is_gc_value, is_gc_storage, value_width, storage_width, field_offset, field_layouts, struct_base, array_base, struct_layout, array_layout, round_up}
+use Rattle.gc_types.specs.Declarable.{AreDeclared, ExtendsOf, MatchesShape}
+use Rattle.gc_types.specs.Subtyping.{supertypes_of, Meets, here, up, Arrow, MatchesHeap, same, along, through, MatchesVal, MatchesStorage, MatchesField, none_i31, none_struct, none_array, none_concrete_struct, none_concrete_array, concrete_struct, concrete_struct_struct, concrete_array, concrete_array_array, i31_eq, struct_eq, array_eq, eq_any, no_extern_extern, no_func_func, no_func_concrete_func, concrete_func, concrete_func_func, no_exn_exn, no_exn_concrete_exn, concrete_exn, concrete_exn_exn, no_cont_cont}
+use Rattle.gc_types.specs.Layouts.{is_gc_heap_type, is_gc_storage, storage_width, field_offset, field_layouts, struct_base, array_base, round_up}
 use Rattle.gc_types.specs.declared.layout.GcArrayLayout.{GcArrayLayout}
 use Rattle.gc_types.specs.LayoutLaws.{LiesAlike, ElemsLieAlike}
 

@@ -1,11 +1,10 @@
 -- What holds of a table after one more declaration.
-use Rattle.std.proofs.Common.{◌≡◌, ℕ, zero, suc, ◌+◌, ◌<◌, ◌≤◌, List, [], ◌∷◌, ◌++◌, length, take, map, slice_get, Option, Some, None, sym, ◌∙◌, ap, subst, refl, arith, inl, inr}
+use Rattle.std.proofs.Common.{◌≡◌, ℕ, zero, suc, ◌<◌, List, [], ◌∷◌, ◌++◌, length, take, slice_get, Option, Some, None, sym, ◌∙◌, ap, subst, refl, arith, inl, inr}
 use Rattle.std.proofs.lemmas.Bool.{cases_lt}
 use Rattle.std.proofs.lemmas.Option.{slice_get_within, same_Some}
 use Rattle.std.proofs.lemmas.List.{take-append-le, take_all, map-append, length_push}
 use Rattle.gc_types.specs.Declarations.{Declaration, max_types}
-use Rattle.gc_types.specs.Declarable.{Declarable, AreDeclared, Extends, ExtendsOf, HasFewFields}
-use Rattle.gc_types.specs.Subtyping.{supertypes_of}
+use Rattle.gc_types.specs.Declarable.{Declarable, AreDeclared, ExtendsOf, HasFewFields}
 use Rattle.gc_types.specs.Tables.{IsTable, ExtendsIn, MayStand}
 
 -- an element of the front of a list

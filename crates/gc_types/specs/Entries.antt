@@ -1,5 +1,5 @@
 -- What the table keeps of each declared type.
-use Rattle.std.specs.Prelude.{◌≡◌, ℕ, Bool, true, false, List, map, Option}
+use Rattle.std.specs.Prelude.{ℕ, Bool, true, false, List}
 use Rattle.gc_types.specs.declared.kind.Layouts.{Layouts}
 use Rattle.gc_types.specs.declared.kind.Layouts.TheVariants.{Null, Counting, Copying}
 use Rattle.gc_types.specs.declared.value.FieldType.{FieldType}

@@ -1,7 +1,4 @@
 -- What the small calls of types answer.
-use Rattle.std.specs.Prelude.{Bool, true, false}
-use Rattle.gc_types.specs.declared.value.Mutability.{Mutability}
-use Rattle.gc_types.specs.declared.value.Mutability.TheVariants.{Const, Var}
 use Rattle.gc_types.specs.declared.value.StorageType.{StorageType}
 use Rattle.gc_types.specs.declared.value.StorageType.TheVariants as storage
 use Rattle.gc_types.specs.declared.value.ValType.{ValType}

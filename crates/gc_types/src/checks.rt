@@ -1,9 +1,8 @@
 //! Whether a type may be declared.
 
-ghost use Rattle.std.specs.Prelude.{◌≡◌, ◌<◌, ◌-◌, ◌↔◌, ◌∷◌, [], ◌++◌, All, IsTrue, OnOk, OnErr, Option, ℕ, List, length, take, slice_get, option_map};
+ghost use Rattle.std.specs.Prelude.{◌≡◌, ◌<◌, ◌-◌, ◌↔◌, ◌∷◌, [], ◌++◌, All, IsTrue, OnOk, OnErr, ℕ, List, length, take};
 ghost use Rattle.std.specs.List.{AllZip};
-ghost use Rattle.gc_types.specs.declared.kind.TypeKind.{TypeKind};
-ghost use Rattle.gc_types.specs.Declarations.{Declaration, kind_at, supertype_at};
+ghost use Rattle.gc_types.specs.Declarations.{Declaration, kind_at};
 ghost use Rattle.gc_types.specs.Declarable.{IsKnownHeap, IsKnownVal, IsKnownStorage, IsKnownField, NamesKnown, MatchesShape};
 ghost use Rattle.gc_types.specs.Tables.{ExtendsIn, MayStand};
 ghost use Rattle.gc_types.specs.Subtyping.{supertypes_of, MatchesVal, MatchesField};

@@ -1,6 +1,6 @@
 //! Kinds of types, of objects and of heaps.
 
-ghost use Rattle.std.specs.Prelude.{◌≡◌, ◌≢◌, ◌<◌, ◌^◌, ◌↔◌, IsTrue, bit_and, IfSome, IfNone};
+ghost use Rattle.std.specs.Prelude.{◌≡◌, ◌≢◌, ◌<◌, ◌↔◌, IsTrue, bit_and, IfSome, IfNone};
 ghost use Rattle.gc_types.specs.Kinds.{kind_bits, IsKindOf};
 
 /// What sort of type a declaration makes.

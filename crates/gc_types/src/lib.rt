@@ -1,9 +1,11 @@
 //! Types of garbage-collected objects and where their values lie.
 //!
-//! The crate keeps a table of declared types (`Types`) and says, for each of the three heaps, at
-//! which offset each field of a type lies. It stands on nothing; every layer above asks it what a
-//! type is. Its definitions are in `specs/`: `Declarations` (the table as a plain list) and
-//! `Layouts` (offsets and sizes as functions of the declarations).
+//! The crate keeps a table of declared types (`Types`): which may be declared, which are subtypes of
+//! which and match which (WebAssembly GC proposal), and for each of the three heaps at which offset
+//! each value of a type lies. It stands on nothing; every layer above asks it what a type is. Its
+//! definitions are in `specs/`: `Declarations` (the table as a plain list), `Subtyping` (what
+//! matches what), `Declarable` (which types may be declared) and `Layouts` (offsets, sizes and trace
+//! infos as functions of the declarations).
 #![tactic(auto)]
 
 mod ancestry;

@@ -1,6 +1,6 @@
 //! The layouts of a type in each of the three heaps.
 
-ghost use Rattle.std.specs.Prelude.{◌≡◌, ◌+◌, ◌*◌, ◌≤◌, ◌<◌, ◌^◌, length, IfOk, Bool};
+ghost use Rattle.std.specs.Prelude.{◌≡◌, ◌+◌, ◌≤◌, ◌<◌, ◌^◌, length, IfOk};
 ghost use Rattle.gc_types.specs.Layouts.{struct_base, exception_base, array_base, array_layout, storage_width, is_gc_storage, is_gc_heap_type, round_up, ref_offsets};
 ghost use Rattle.gc_types.specs.Entries.{fields_layout, object_layout, object_layouts, object_in, array_layouts, array_in};
 

@@ -2,7 +2,7 @@
 
 ghost use Rattle.std.specs.Prelude.{[], ◌↔◌, IsTrue, ◌≡◌, length, IfOk, OnOk, OnErr, option_copied, option_map, slice_get, IsErrOf, IsSome};
 ghost use Rattle.std.specs.Option.{option_and_then};
-ghost use Rattle.gc_types.specs.Declarations.{TypeTable, declare, struct_type, array_type, exn_type, func_type, fields_at, struct_fields_at, elem_at, kind_at, supertype_at, is_final_at};
+ghost use Rattle.gc_types.specs.Declarations.{declare, struct_type, array_type, exn_type, func_type, fields_at, struct_fields_at, elem_at, kind_at, supertype_at, is_final_at};
 ghost use Rattle.gc_types.specs.Declarable.{Declarable, AreDeclared, HasFewFields};
 ghost use Rattle.gc_types.specs.Subtyping.{supertypes_of, Meets, MatchesRef, MatchesVal, MatchesField};
 ghost use Rattle.gc_types.specs.Layouts.{struct_layout, layout_at, array_layout_at, trace_at};

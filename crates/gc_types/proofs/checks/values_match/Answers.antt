@@ -1,9 +1,9 @@
-use Rattle.std.proofs.Common.{ℕ, ◌<◌, ◌≡◌, suc, length, ◌++◌, ◌∷◌, [], sym, ◌∙◌, subst, arith, IsTrue, false, true, get_or, refl}
+use Rattle.std.proofs.Common.{length, sym, ◌∙◌, subst, arith, get_or, refl}
 use Rattle.std.proofs.lemmas.List.{length_push}
 use Rattle.std.proofs.lemmas.Slice.Zip.{zip_turn, zip_end}
 use Rattle.gc_types.specs.declared.value.ValType.{ValType}
 use Rattle.gc_types.specs.Subtyping.{MatchesVal}
-use Rattle.gc_types.proofs.CheckLemmas.{matched_more, zipped, zipped_at, zipped_long}
+use Rattle.gc_types.proofs.CheckLemmas.{matched_more, zipped, zipped_at}
 use Rattle.gc_types.proofs.checks.values_match.Goals as goal
 use Rattle.gc_types.proofs.checks.values_match.Goals.{After-next}
 

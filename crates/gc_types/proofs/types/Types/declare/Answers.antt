@@ -1,4 +1,4 @@
-use Rattle.std.proofs.Common.{◌≡◌, ℕ, ◌<◌, ◌∷◌, [], ◌++◌, List, length, sym, ◌∙◌, ap, subst, arith, Option, Some}
+use Rattle.std.proofs.Common.{◌≡◌, ℕ, ◌<◌, ◌∷◌, [], ◌++◌, List, length, sym, ◌∙◌, subst, arith, Option, Some}
 use Rattle.gc_types.specs.Declarations.{Declaration, TypeTable}
 use Rattle.gc_types.specs.Declarable.{Declarable}
 use Rattle.gc_types.specs.Tables.{IsTable, MayStand}
