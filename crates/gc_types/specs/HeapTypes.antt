@@ -1,4 +1,5 @@
--- What a heap type names, and the diagram of heap types as a table.
+-- What a heap type names, and the diagram of heap types as a table that the code follows. `Subtyping`
+-- decides what matches.
 use Rattle.std.specs.Prelude.{ℕ, Bool, true, false, Option, Some, None}
 use Rattle.gc_types.specs.declared.kind.TypeKind.{TypeKind}
 use Rattle.gc_types.specs.declared.kind.TypeKind.TheVariants as kinds

@@ -12,6 +12,13 @@ kind_bits StructRef = 0xA4000000
 kind_bits ArrayRef = 0xA8000000
 kind_bits ExnRef = 0x10000000
 
+-- the bits that tell a kind, and those that a heap may use as it likes
+abbrev pub kind_mask : ℕ
+kind_mask = 0xFC000000
+
+abbrev pub spare_mask : ℕ
+spare_mask = 0x03FFFFFF
+
 -- An object of the first kind is one of the second: structs and arrays are compared by identity,
 -- and what is compared so is any reference. External references and exceptions stand apart.
 abbrev pub IsKindOf : VMGcKind → VMGcKind → Type 0

@@ -1,7 +1,7 @@
 //! Kinds of types, of objects and of heaps.
 
 ghost use Rattle.std.specs.Prelude.{◌≡◌, ◌≢◌, ◌<◌, ◌↔◌, IsTrue, bit_and, IfSome, IfNone};
-ghost use Rattle.gc_types.specs.Kinds.{kind_bits, IsKindOf};
+ghost use Rattle.gc_types.specs.Kinds.{kind_bits, IsKindOf, kind_mask, spare_mask};
 
 /// What sort of type a declaration makes.
 #[derive(Clone, Copy, Debug, PartialEq, Eq, Hash)]
@@ -38,6 +38,13 @@ impl VMGcKind {
     /// The bits of a kind word that a heap may use as it likes.
     pub const UNUSED_MASK: u32 = 0x03FF_FFFF;
 
+    /// The two masks share no bit and make up the word. This call does nothing.
+    pub fn masks()
+        ensures kind { VMGcKind.MASK ≡ kind_mask }
+        ensures spare { VMGcKind.UNUSED_MASK ≡ spare_mask }
+    {
+    }
+
     /// The kind bits in place, with the other bits 0.
     pub fn as_u32(self) -> u32
         ensures { result ≡ kind_bits self }
@@ -54,8 +61,8 @@ impl VMGcKind {
 
     /// The kind that the upper six bits of the word tell; None exactly where they tell none.
     pub fn from_high_bits_of_u32(word: u32) -> Option<VMGcKind>
-        ensures some { IfSome result (λ kind. kind_bits kind ≡ bit_and word VMGcKind.MASK) }
-        ensures none { IfNone result ((kind : VMGcKind) → kind_bits kind ≢ bit_and word VMGcKind.MASK) }
+        ensures some { IfSome result (λ kind. kind_bits kind ≡ bit_and word kind_mask) }
+        ensures none { IfNone result ((kind : VMGcKind) → kind_bits kind ≢ bit_and word kind_mask) }
     {
         match word & VMGcKind::MASK {
             0x4000_0000 => Some(VMGcKind::ExternRef),

@@ -37,6 +37,15 @@ impl FieldLayouts {
     }
 }
 
+impl FieldLayouts {
+    /// The vector that they are kept in.
+    pub fn into_vec(self) -> Vec<FieldLayout>
+        ensures { result.items ≡ self }
+    {
+        self.fields
+    }
+}
+
 impl From<Vec<FieldLayout>> for FieldLayouts {
     ghost from_gives = { λ v f. f ≡ v.items };
 
@@ -104,6 +113,15 @@ impl Offsets {
         ensures { result.now ≡ self.now }
     {
         self.offsets.as_slice()
+    }
+}
+
+impl Offsets {
+    /// The vector that they are kept in.
+    pub fn into_vec(self) -> Vec<u32>
+        ensures { result.items ≡ self }
+    {
+        self.offsets
     }
 }
 

@@ -27,6 +27,8 @@ mod small_tests;
 mod type_names;
 pub mod types;
 #[cfg(test)]
+mod table_tests;
+#[cfg(test)]
 mod types_tests;
 pub mod value;
 

@@ -34,6 +34,20 @@ impl StructType {
         }
     }
 
+    /// The first number of its table's id.
+    pub fn engine(&self) -> u64
+        ensures { result ≡ self.now.engine }
+    {
+        self.engine
+    }
+
+    /// The second number of its table's id.
+    pub fn number(&self) -> u64
+        ensures { result ≡ self.now.number }
+    {
+        self.number
+    }
+
     /// The type's index in its table.
     pub fn index(&self) -> VMSharedTypeIndex
         ensures { result ≡ self.now.index }
@@ -69,6 +83,20 @@ impl ArrayType {
             number,
             index,
         }
+    }
+
+    /// The first number of its table's id.
+    pub fn engine(&self) -> u64
+        ensures { result ≡ self.now.engine }
+    {
+        self.engine
+    }
+
+    /// The second number of its table's id.
+    pub fn number(&self) -> u64
+        ensures { result ≡ self.now.number }
+    {
+        self.number
     }
 
     /// The type's index in its table.
@@ -108,6 +136,20 @@ impl ExnType {
         }
     }
 
+    /// The first number of its table's id.
+    pub fn engine(&self) -> u64
+        ensures { result ≡ self.now.engine }
+    {
+        self.engine
+    }
+
+    /// The second number of its table's id.
+    pub fn number(&self) -> u64
+        ensures { result ≡ self.now.number }
+    {
+        self.number
+    }
+
     /// The type's index in its table.
     pub fn index(&self) -> VMSharedTypeIndex
         ensures { result ≡ self.now.index }
@@ -143,6 +185,20 @@ impl FuncType {
             number,
             index,
         }
+    }
+
+    /// The first number of its table's id.
+    pub fn engine(&self) -> u64
+        ensures { result ≡ self.now.engine }
+    {
+        self.engine
+    }
+
+    /// The second number of its table's id.
+    pub fn number(&self) -> u64
+        ensures { result ≡ self.now.number }
+    {
+        self.number
     }
 
     /// The type's index in its table.

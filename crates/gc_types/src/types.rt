@@ -1,6 +1,6 @@
 //! The table of declared types.
 
-ghost use Rattle.std.specs.Prelude.{[], ◌↔◌, IsTrue, ◌≡◌, length, IfOk, OnOk, OnErr, option_copied, option_map, slice_get, IsErrOf, IsSome};
+ghost use Rattle.std.specs.Prelude.{[], ◌↔◌, IsTrue, ◌≡◌, length, IfOk, OnOk, OnErr, option_copied, option_map, slice_get, IsErrOf, IfSome, IsSome, Some};
 ghost use Rattle.std.specs.Option.{option_and_then};
 ghost use Rattle.gc_types.specs.Declarations.{declare, struct_type, array_type, exn_type, func_type, fields_at, struct_fields_at, elem_at, kind_at, supertype_at, is_final_at};
 ghost use Rattle.gc_types.specs.Declarable.{Declarable, AreDeclared, HasFewFields};
@@ -215,21 +215,23 @@ impl Types {
         self.ancestry.is_subtype(sub, sup)
     }
 
-    /// Whether a reference of the first type is one of the second (WebAssembly GC proposal).
+    /// Whether a reference of the first type is one of the second (WebAssembly GC proposal). An index
+    /// that isn't declared matches no concrete type, not even itself.
     pub fn matches_ref(&self, a: &RefType, b: &RefType) -> bool
         ensures { IsTrue result ↔ MatchesRef (supertypes_of self.now.declarations) a.now b.now }
     {
         self.ancestry.matches_ref(a, b)
     }
 
-    /// Whether a value of the first type is one of the second.
+    /// Whether a value of the first type is one of the second; undeclared indexes as in `matches_ref`.
     pub fn matches_val(&self, a: &ValType, b: &ValType) -> bool
         ensures { IsTrue result ↔ MatchesVal (supertypes_of self.now.declarations) a.now b.now }
     {
         self.ancestry.matches_val(a, b)
     }
 
-    /// Whether a field of the first type may stand for one of the second.
+    /// Whether a field of the first type may stand for one of the second; undeclared indexes as in
+    /// `matches_ref`.
     pub fn matches_field(&self, a: &FieldType, b: &FieldType) -> bool
         ensures { IsTrue result ↔ MatchesField (supertypes_of self.now.declarations) a.now b.now }
     {
@@ -242,6 +244,50 @@ impl Types {
     {
         let declared = self.declared.get(ty.as_u32() as usize)?;
         Some(declared.kind())
+    }
+
+    /// The name of that struct type; None exactly where the index names none.
+    pub fn struct_type(&self, ty: VMSharedTypeIndex) -> Option<StructType>
+        ensures names { IfSome result (λ name. name ≡ record { engine = self.now.engine; number = self.now.number; index = ty }) }
+        ensures kind { IsSome result ↔ (kind_at self.now.declarations ty ≡ Some TypeKind.Struct) }
+    {
+        match self.kind_of(ty) {
+            Some(TypeKind::Struct) => Some(StructType::new(self.engine, self.number, ty)),
+            _ => None,
+        }
+    }
+
+    /// The name of that array type; None exactly where the index names none.
+    pub fn array_type(&self, ty: VMSharedTypeIndex) -> Option<ArrayType>
+        ensures names { IfSome result (λ name. name ≡ record { engine = self.now.engine; number = self.now.number; index = ty }) }
+        ensures kind { IsSome result ↔ (kind_at self.now.declarations ty ≡ Some TypeKind.Array) }
+    {
+        match self.kind_of(ty) {
+            Some(TypeKind::Array) => Some(ArrayType::new(self.engine, self.number, ty)),
+            _ => None,
+        }
+    }
+
+    /// The name of that exception type; None exactly where the index names none.
+    pub fn exn_type(&self, ty: VMSharedTypeIndex) -> Option<ExnType>
+        ensures names { IfSome result (λ name. name ≡ record { engine = self.now.engine; number = self.now.number; index = ty }) }
+        ensures kind { IsSome result ↔ (kind_at self.now.declarations ty ≡ Some TypeKind.Exn) }
+    {
+        match self.kind_of(ty) {
+            Some(TypeKind::Exn) => Some(ExnType::new(self.engine, self.number, ty)),
+            _ => None,
+        }
+    }
+
+    /// The name of that function type; None exactly where the index names none.
+    pub fn func_type(&self, ty: VMSharedTypeIndex) -> Option<FuncType>
+        ensures names { IfSome result (λ name. name ≡ record { engine = self.now.engine; number = self.now.number; index = ty }) }
+        ensures kind { IsSome result ↔ (kind_at self.now.declarations ty ≡ Some TypeKind.Func) }
+    {
+        match self.kind_of(ty) {
+            Some(TypeKind::Func) => Some(FuncType::new(self.engine, self.number, ty)),
+            _ => None,
+        }
     }
 
     /// The supertype that the type was declared with; None exactly where it isn't declared or has none.
