@@ -20,9 +20,9 @@ ghost use Rattle.gc_model.specs.Views.{HeapObject, u32_at};
 ghost use Rattle.gc_heap.specs.Walk.{PlacesObject};
 ghost use Rattle.gc_heap.specs.Heap.{empty_heap, zeroed, Allocated, IsHeldRange, with_u32, put_object, IsHeaderOf};
 
-use crate::heap::{HeapFault, RefFault};
+use crate::heap::HeapFault;
 use crate::memory::HeapMemory;
-use gc_refs::{VMGcHeader, VMGcRef};
+use gc_refs::{RefFault, VMGcHeader, VMGcRef};
 use gc_types::{VMGcKind, VMSharedTypeIndex};
 use std::marker::Model;
 

@@ -1,7 +1,7 @@
 //! The interface of a heap.
 
 use crate::memory::HeapMemory;
-use gc_refs::{VMGcHeader, VMGcRef};
+use gc_refs::{RefFault, VMGcHeader, VMGcRef};
 use gc_types::{GcStructLayout, Layouts, VMSharedTypeIndex};
 use thiserror::Error;
 
@@ -12,13 +12,6 @@ pub enum HeapFault {
     TooLarge,
     #[error("out of memory")]
     Memory,
-}
-
-/// A word names no held object.
-#[derive(Clone, Copy, Debug, PartialEq, Eq, Error)]
-pub enum RefFault {
-    #[error("the reference names no object")]
-    BadRef,
 }
 
 /// A heap of garbage-collected objects.

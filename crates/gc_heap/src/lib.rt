@@ -13,6 +13,7 @@ pub mod null;
 #[cfg(test)]
 mod tests;
 
-pub use heap::{GcHeap, HeapFault, RefFault};
+pub use gc_refs::RefFault;
+pub use heap::{GcHeap, HeapFault};
 pub use memory::HeapMemory;
 pub use null::{NullCollector, NullHeap};

@@ -7,9 +7,9 @@ ghost use Rattle.gc_types.specs.declared.kind.Layouts.TheVariants.{Null};
 ghost use Rattle.gc_model.specs.Views.{detached};
 
 use crate::bump::BumpSpace;
-use crate::heap::{GcHeap, HeapFault, RefFault};
+use crate::heap::{GcHeap, HeapFault};
 use crate::memory::HeapMemory;
-use gc_refs::{VMGcHeader, VMGcRef};
+use gc_refs::{RefFault, VMGcHeader, VMGcRef};
 use gc_types::{GcStructLayout, Layouts, VMGcKind, VMSharedTypeIndex};
 use std::alloc::Global;
 use std::marker::Model;
