@@ -1,5 +1,5 @@
 -- Commands that were run one after the other.
-use Rattle.std.proofs.Common.{◌≡◌, ℕ, ◌+◌, ◌-◌, ◌^◌, ◌≤◌, ◌<◌, min, List, [], ◌∷◌, ◌++◌, take, drop, length, Option, Some, inl, inr, refl, sym, ap, subst, ◌∙◌, arith, append_assoc, append-nil}
+use Rattle.std.proofs.Common.{◌≡◌, ℕ, ◌+◌, ◌-◌, ◌^◌, ◌≤◌, ◌<◌, min, zero, suc, List, [], ◌∷◌, ◌++◌, take, drop, length, Option, Some, inl, inr, refl, sym, ap, subst, ◌∙◌, arith, append_assoc, append-nil}
 use Rattle.gc_types.specs.declared.kind.Layouts.{Layouts}
 use Rattle.gc_model.specs.Allocation.{Limits, MayMakeHeap}
 use Rattle.gc_model.specs.Views.{StoreView}
@@ -17,6 +17,11 @@ pub record CountedRun (layouts : Layouts) (limit : Option ℕ) (s : State) (cs :
   pub run : Run layouts limit s cs rs s'
   pub refused : RefusedIn layouts limit s cs rs s' run n
 
+-- what a limiter has counted after so many refusals
+pub record CountedSo (limits now : Limits) (refused : ℕ) : Type 0 where
+  pub none : refused ≡ 0 → now ≡ limits
+  pub some : 0 < refused → now.refusals ≡ min (limits.refusals + refused) (2 ^ 64 - 1)
+
 -- The first commands were run from s: whatever run some commands are from here, the commands done and those
 -- are that run from s.
 pub record Along (layouts : Layouts) (limits now : Limits) (s : State) (done : List Command) (replies : List Reply) (store : StoreView) (slots : List (Option Register)) : Type 0 where
@@ -24,7 +29,7 @@ pub record Along (layouts : Layouts) (limits now : Limits) (s : State) (done : L
   pub refused : ℕ
   pub goes_on : (cs : List Command) (rs : List Reply) (after : State) (n : ℕ) → CountedRun layouts limits.limit mid cs rs after n → CountedRun layouts limits.limit s (done ++ cs) (replies ++ rs) after (refused + n)
   pub holds : HoldsState layouts store slots mid
-  pub counted : min (limits.refusals + refused) (2 ^ 64 - 1) ≤ now.refusals
+  pub counted : CountedSo limits now refused
   pub same_limit : now.limit ≡ limits.limit
 
 -- nothing was run yet
@@ -37,7 +42,7 @@ along_start layouts limits s done replies store slots none none_yet holds = reco
       (subst (λ (xs : List Command). CountedRun layouts limits.limit s (xs ++ cs) (replies ++ rs) after n) (sym none)
       (subst (λ (ys : List Reply). CountedRun layouts limits.limit s cs (ys ++ rs) after n) (sym none_yet) counted));
   holds = holds;
-  counted = omega arith;
+  counted = record { none = λ _. refl; some = λ any. absurd (omega (arith, any)) };
   same_limit = refl;
 }
 
@@ -46,23 +51,41 @@ one_more : (layouts : Layouts) (limit : Option ℕ) (s mid : State) (c : Command
 one_more layouts limit s mid c r step cs rs after n m adds counted = record { run = (mid, (step, counted.run)); refused = (n, (counted.refused, adds)) }
 
 -- what one more reply adds, and what the limiter has counted then
-record Adds (r : Reply) (mid : State) (before refused refusals' : ℕ) : Type 0 where
+record Adds (r : Reply) (mid : State) (limits next : Limits) (refused : ℕ) : Type 0 where
   k : ℕ
   adds : (n : ℕ) → AddsRefused r mid n (k + n)
-  counted : min (before + (refused + k)) (2 ^ 64 - 1) ≤ refusals'
+  counted : CountedSo limits next (refused + k)
 
-adds_by : (limits limits' : Limits) (first before refused : ℕ) (r : Reply) (mid : State) → min (before + refused) (2 ^ 64 - 1) ≤ limits.refusals → Counts limits limits' first r mid → Adds r mid before refused limits'.refusals
-adds_by limits limits' first before refused r mid so_far (refused_pages said refuses) =
-    let is : limits'.refusals ≡ min (limits.refusals + 1) (2 ^ 64 - 1) = ap (λ (l : Limits). l.refusals) refuses in
-    record { k = 1; adds = λ n. inl (said, refl); counted = omega (arith, is, so_far) }
-adds_by limits limits' first before refused r mid so_far (nothing_else not_said same) =
-    let is : limits'.refusals ≡ limits.refusals = ap (λ (l : Limits). l.refusals) same in
-    record { k = 0; adds = λ n. inr (not_said, omega arith); counted = omega (arith, is, so_far) }
+-- one more refusal on top of so many
+count_more : (before refused now : ℕ) → (refused ≡ 0 → now ≡ before) → (0 < refused → now ≡ min (before + refused) (2 ^ 64 - 1)) → min (now + 1) (2 ^ 64 - 1) ≡ min (before + (refused + 1)) (2 ^ 64 - 1)
+count_more before zero now none some = let is = none refl in omega (arith, is)
+count_more before (suc n) now none some = let is = some (omega arith) in omega (arith, is)
+
+adds_by : (limits now next : Limits) (first refused : ℕ) (r : Reply) (mid : State) → CountedSo limits now refused → Counts now next first r mid → Adds r mid limits next refused
+adds_by limits now next first refused r mid so_far (refused_pages said refuses) =
+    let is : next.refusals ≡ min (now.refusals + 1) (2 ^ 64 - 1) = ap (λ (l : Limits). l.refusals) refuses in
+    record {
+      k = 1;
+      adds = λ n. inl (said, refl);
+      counted = record {
+        none = λ e. absurd (omega (arith, e));
+        some = λ _. is ∙ count_more limits.refusals refused now.refusals (λ e. ap (λ (l : Limits). l.refusals) (so_far.none e)) so_far.some;
+      };
+    }
+adds_by limits now next first refused r mid so_far (nothing_else not_said same) =
+    record {
+      k = 0;
+      adds = λ n. inr (not_said, omega arith);
+      counted = record {
+        none = λ e. same ∙ so_far.none (omega (arith, e));
+        some = λ any. ap (λ (l : Limits). l.refusals) same ∙ so_far.some (omega (arith, any)) ∙ ap (λ n. min (limits.refusals + n) (2 ^ 64 - 1)) (omega arith);
+      };
+    }
 
 -- one more command was run
 pub along_more : (layouts : Layouts) (limits now next : Limits) (s : State) (done : List Command) (c : Command) (replies replies' : List Reply) (store store' : StoreView) (slots slots' : List (Option Register)) → (so_far : Along layouts limits now s done replies store slots) → RanNext layouts now next so_far.mid c replies replies' store' slots' → Along layouts limits next s (done ++ c ∷ []) replies' store' slots'
 along_more layouts limits now next s done c replies replies' store store' slots slots' so_far did =
-    let more : Adds did.answer did.ran.after limits.refusals so_far.refused next.refusals = adds_by now next so_far.mid.table.first limits.refusals so_far.refused did.answer did.ran.after so_far.counted did.ran.counts in
+    let more : Adds did.answer did.ran.after limits next so_far.refused = adds_by limits now next so_far.mid.table.first so_far.refused did.answer did.ran.after so_far.counted did.ran.counts in
     let step : Step layouts limits.limit so_far.mid c did.answer did.ran.after = subst (λ (l : Option ℕ). Step layouts l so_far.mid c did.answer did.ran.after) so_far.same_limit did.ran.step in
     record {
       mid = did.ran.after;
@@ -88,7 +111,9 @@ ran_so_far layouts limits now s done replies store slots so_far =
       run = whole.run;
       refused = so_far.refused + 0;
       refused_in = whole.refused;
-      counted = omega (arith, so_far.counted);
+      same_limit = so_far.same_limit;
+      uncounted = λ e. so_far.counted.none (omega (arith, e));
+      counted = λ any. so_far.counted.some (omega (arith, any)) ∙ ap (λ n. min (limits.refusals + n) (2 ^ 64 - 1)) (omega arith);
     }
 
 -- all commands were run

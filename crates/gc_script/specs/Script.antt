@@ -1,5 +1,5 @@
 -- What running a script answers and leaves.
-use Rattle.std.specs.Prelude.{◌≡◌, ℕ, ◌+◌, ◌-◌, ◌^◌, ◌≤◌, min, ◌⊎◌, List, [], ◌∷◌, ◌++◌, Option}
+use Rattle.std.specs.Prelude.{◌≡◌, ℕ, ◌+◌, ◌-◌, ◌^◌, ◌<◌, min, ◌⊎◌, List, [], ◌∷◌, ◌++◌, Option}
 use Rattle.gc_types.specs.declared.kind.Layouts.{Layouts}
 use Rattle.gc_model.specs.Table.{make_heap}
 use Rattle.gc_model.specs.Allocation.{Limits, MayMakeHeap}
@@ -22,13 +22,15 @@ RefusedIn layouts limit s (c ∷ cs) (r ∷ rs) s' run n = (rest : ℕ) × (Refu
 RefusedIn layouts limit s [] (r ∷ rs) s' run n = ⊥
 RefusedIn layouts limit s (c ∷ cs) [] s' run n = ⊥
 
--- The replies are a run of the commands. The limiter's count rose by at least the number of replies
--- that say that the heap's first pages were refused, or stands at its greatest value.
+-- The replies are a run of the commands. The limiter's count rose by the number of replies that say that
+-- the heap's first pages were refused, as far as it goes; where there are none, the limiter is as before.
 pub record RanScript (layouts : Layouts) (limits limits' : Limits) (s : State) (cs : List Command) (rs : List Reply) (s' : State) : Type 0 where
   pub run : Run layouts limits.limit s cs rs s'
   pub refused : ℕ
   pub refused_in : RefusedIn layouts limits.limit s cs rs s' run refused
-  pub counted : min (limits.refusals + refused) (2 ^ 64 - 1) ≤ limits'.refusals
+  pub same_limit : limits'.limit ≡ limits.limit
+  pub uncounted : refused ≡ 0 → limits' ≡ limits
+  pub counted : 0 < refused → limits'.refusals ≡ min (limits.refusals + refused) (2 ^ 64 - 1)
 
 -- the store holds the table at the end
 pub record EndedScript (layouts : Layouts) (limits limits' : Limits) (s : State) (cs : List Command) (rs : List Reply) (new : StoreView) : Type 0 where

@@ -1,5 +1,5 @@
 -- That a store is sound: it holds some table.
-use Rattle.std.proofs.Common.{◌≡◌, List, [], sym, ap, subst}
+use Rattle.std.proofs.Common.{◌≡◌, ℕ, List, [], sym, ap, subst}
 use Rattle.std.specs.Option.{option_map}
 use Rattle.std.specs.Int.NonZero.{non_zero_u32_get}
 use Rattle.gc_types.specs.declared.kind.Layouts.{Layouts}
@@ -25,11 +25,21 @@ sound_untouched D layouts types s engine number untouched = record {
   holds = (nowhere, holds_untouched D layouts s untouched);
 }
 
+-- a new store is untouched
+pub untouched_fresh : (layouts : Layouts) (id : StoreId) (config : HeapConfig) (types : List Declaration) (heap : HeapView) (scoped : List RootEntry) → types ≡ [] → heap ≡ detached → scoped ≡ [] → IsUntouched layouts (store_view id config types heap scoped 0)
+untouched_fresh layouts id config types heap scoped no_types no_heap no_roots =
+    subst (IsUntouched layouts) (sym (new_view id config types heap scoped no_types no_heap no_roots)) (untouched_new layouts id.engine id.number config.first_pages config.max_scoped config.max_owned (option_map non_zero_u32_get config.alloc_counter) config.few_pages)
+
+-- so it holds the empty table
+pub starts_fresh : (D : Type 0) (layouts : Layouts) (id : StoreId) (config : HeapConfig) (types : TypeTable) (heap : HeapView) (scoped : List RootEntry) → types ≡ record { engine = id.engine; number = id.number; declarations = [] } → heap ≡ detached → scoped ≡ [] → HoldsStart D layouts (store_view id config types.declarations heap scoped 0)
+starts_fresh D layouts id config types heap scoped no_types no_heap no_roots =
+    (nowhere, holds_untouched D layouts (store_view id config types.declarations heap scoped 0) (untouched_fresh layouts id config types.declarations heap scoped (ap (λ (t : TypeTable). t.declarations) no_types) no_heap no_roots))
+
 -- a new store is sound
 pub sound_new : (D : Type 0) (layouts : Layouts) (id : StoreId) (config : HeapConfig) (types : TypeTable) (heap : HeapView) (scoped : List RootEntry) → types ≡ record { engine = id.engine; number = id.number; declarations = [] } → heap ≡ detached → scoped ≡ [] → IsSound D layouts types (store_view id config types.declarations heap scoped 0)
 sound_new D layouts id config types heap scoped no_types no_heap no_roots =
     sound_untouched D layouts types (store_view id config types.declarations heap scoped 0) (ap (λ (t : TypeTable). t.engine) no_types) (ap (λ (t : TypeTable). t.number) no_types)
-    (subst (IsUntouched layouts) (sym (new_view id config types.declarations heap scoped (ap (λ (t : TypeTable). t.declarations) no_types) no_heap no_roots)) (untouched_new layouts id.engine id.number config.first_pages config.max_scoped config.max_owned (option_map non_zero_u32_get config.alloc_counter) config.few_pages))
+    (untouched_fresh layouts id config types.declarations heap scoped (ap (λ (t : TypeTable). t.declarations) no_types) no_heap no_roots)
 
 -- another configuration leaves a store untouched
 pub untouched_configured : (D : Type 0) (layouts : Layouts) (config : HeapConfig) (s : StoreView) → HoldsStart D layouts s → IsUntouched layouts (configured config s)
@@ -45,3 +55,11 @@ untouched_configured D layouts config s holds =
       allocated = untouched.allocated;
       first_fits = config.few_pages;
     }
+
+-- and so it holds the empty table with the new numbers
+pub starts_configured : (D : Type 0) (layouts : Layouts) (config : HeapConfig) (s : StoreView) → HoldsStart D layouts s → HoldsStart D layouts (configured config s)
+starts_configured D layouts config s holds = (nowhere, holds_untouched D layouts (configured config s) (untouched_configured D layouts config s holds))
+
+-- a table of types with that id
+pub own_types : (types : TypeTable) (e n : ℕ) → types.engine ≡ e → types.number ≡ n → types ≡ record { engine = e; number = n; declarations = types.declarations }
+own_types types e n engine number i = record { engine = engine i; number = number i; declarations = types.declarations }

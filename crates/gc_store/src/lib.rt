@@ -14,6 +14,8 @@ pub mod place;
 pub mod read;
 pub mod root;
 pub mod store;
+#[cfg(test)]
+mod tests;
 
 pub use config::HeapConfig;
 pub use engine::{Engine, StoreId};

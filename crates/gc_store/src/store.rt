@@ -78,7 +78,8 @@ impl<H: GcHeap, D> Store<H, D> {
         config: HeapConfig,
     ) -> Result<Store<H, D>, AllocError>
         requires { H.seen heap ≡ detached }
-        ensures { IfOk result (λ s. s ≡ empty_store id.engine id.number config.first_pages config.max_scoped config.max_owned (option_map non_zero_u32_get config.alloc_counter)) }
+        ensures start { IfOk result (HoldsStart D H.LAYOUTS) }
+        ensures seen { IfOk result (λ s. s ≡ empty_store id.engine id.number config.first_pages config.max_scoped config.max_owned (option_map non_zero_u32_get config.alloc_counter)) }
     {
         Ok(Store {
             alloc,
@@ -113,14 +114,15 @@ impl<H: GcHeap, D> Store<H, D> {
     /// Gives a new store another configuration.
     pub fn configure(&mut self, config: HeapConfig)
         requires { HoldsStart D H.LAYOUTS self.old }
-        ensures { self.new ≡ configured config self.old }
+        ensures start { HoldsStart D H.LAYOUTS self.new }
+        ensures seen { self.new ≡ configured config self.old }
     {
         self.config = config;
     }
 
-    /// The type table.
+    /// The type table, whose id is the store's.
     pub fn types(&self) -> &Types
-        ensures { result.now.declarations ≡ self.now.types }
+        ensures { result.now ≡ record { engine = self.now.engine; number = self.now.number; declarations = self.now.types } }
     {
         &self.types
     }

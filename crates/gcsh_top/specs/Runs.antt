@@ -72,10 +72,10 @@ pub data StoppedForm (form : Form) (input : List ℕ) (held held' : Option (List
   unflushed : RanForm form input held held' store → StoppedForm form input held held' store
 
 -- How a run of the program with those words ended before its end: nothing was run, as the input was not read to its
--- end; or it was, and the run of the input stopped.
+-- end; or it was, and its run stopped.
 pub data Stopped (words : List (List ℕ)) (left left' held held' : Option (List ℕ)) (store : StoreView) : Type 0 where
   unread : (form : Form) → IsForm words form → IsReady form store → Keeps held held' → Stopped words left left' held held' store
-  unfinished : (form : Form) (input : List ℕ) → IsForm words form → Consumes left left' input → StoppedForm form input held held' store → Stopped words left left' held held' store
+  unfinished : (form : Form) (input : List ℕ) → IsForm words form → Consumes left left' input → IsAtEnd left' → StoppedForm form input held held' store → Stopped words left left' held held' store
 
 -- What a whole run of the program did, by its words, what the source had left before and after, what
 -- the sink held before and after, and the store of a null heap. The input was read to its end; its lines are commands whose replies are a run of the table that

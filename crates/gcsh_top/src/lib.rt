@@ -5,17 +5,19 @@
 //! `MemSource` and `MemSink` tell their bytes, so that all that a run does can be stated of them;
 //! `StdSource` and `StdSink` stand before standard input and output, and tell counts alone.
 //! The definitions are in `specs/`: `Ends` (what reads and writes do), `Memory` (the ends in
-//! memory), `Words` (the words of the program), `Lines` (the lines of an input).
+//! memory), `Words` (the words of the program), `Runs` (what a run leaves).
 #![tactic(auto)]
 
 pub mod lines;
 pub mod memory;
 pub mod read;
-pub mod run;
+mod run;
 pub mod sink;
 pub mod source;
 pub mod standard;
 pub mod stores;
+#[cfg(test)]
+mod ask_tests;
 #[cfg(test)]
 mod run_tests;
 #[cfg(test)]
@@ -27,7 +29,6 @@ pub mod write;
 pub use lines::next_line;
 pub use memory::{MemSink, MemSource};
 pub use read::{MAX_INPUT, ReadFault, read_all};
-pub use run::{LineFault, run_lines};
 pub use sink::{Sink, SinkFault};
 pub use source::{Source, SourceFault};
 pub use standard::{StdSink, StdSource};

@@ -20,7 +20,7 @@ use thiserror::Error;
 
 /// Why lines were not run to their end.
 #[derive(Clone, Copy, Debug, PartialEq, Eq, Error)]
-pub enum LineFault {
+pub(crate) enum LineFault {
     #[error("the sink failed")]
     Sink,
     #[error("out of memory")]
@@ -70,7 +70,7 @@ fn run_line<H: GcHeap, L: ResourceLimiter, K: Sink>(
 }
 
 /// Runs the lines of the input, one after the other, and writes their replies.
-pub fn run_lines<H: GcHeap, L: ResourceLimiter, K: Sink>(
+pub(crate) fn run_lines<H: GcHeap, L: ResourceLimiter, K: Sink>(
     alloc: Global,
     runner: &mut Runner,
     store: &mut Store<H, u64>,

@@ -112,6 +112,7 @@ fn words_of_no_form_are_status_1(rt: HostRuntime) -> Result<(), Fail> {
     let forms = [
         "", "null", "null 1", "null 1 64 64", "fast 1 64", "copying 1 64", "counting 1 64",
         "null 2 1", "null 01 64", "null 00 64", "null +1 64", "null 1 65536", "null 1 64 churn 1",
+        "copying 2 1", "copying 01 64",
     ];
     for words in forms {
         let (status, sink) = top(rt.alloc(), &run(words, ONE_STRUCT))?;

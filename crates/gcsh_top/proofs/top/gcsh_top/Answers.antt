@@ -10,5 +10,5 @@ returns-in-Err-Memory-clause-stopped g c _ = unread c.in-Some.form c.in-Some.ens
 
 pub returns-clause-stopped : goal.returns-clause-stopped
 returns-clause-stopped g c stopped =
-    unfinished c.in-Some.form c.in-Ok.input.items c.in-Some.ensures c.in-Ok.ensures.whole
+    unfinished c.in-Some.form c.in-Ok.input.items c.in-Some.ensures c.in-Ok.ensures.whole c.in-Ok.ensures.end
     (subst (λ (input : List ℕ). StoppedForm c.in-Some.form input (g.K.Sink.held c.args.sink.now) (g.K.Sink.held c.run_form.new.sink) c.run_form.new.store) c.as_slice.ensures.value (c.run_form.ensures.stopped (not_done c.run_form.result stopped)))

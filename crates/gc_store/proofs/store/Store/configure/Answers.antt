@@ -1,5 +1,5 @@
 use Rattle.std.proofs.Common.{subst, sym}
-use Rattle.gc_store.proofs.Sound.{sound_untouched, untouched_configured}
+use Rattle.gc_store.proofs.Sound.{sound_untouched, untouched_configured, starts_configured}
 use Rattle.gc_store.specs.Stores.{HoldsStart}
 use Rattle.gc_store.proofs.store.Store.configure.Goals as goal
 
@@ -7,3 +7,6 @@ pub invariant_of-self : goal.invariant_of-self
 invariant_of-self g c =
     sound_untouched _ _ _ _ c.self.invariant.engine c.self.invariant.number
     (untouched_configured _ _ c.args.config _ (subst (HoldsStart _ _) (sym c.self.view_is) c.requires))
+
+pub returns-clause-start : goal.returns-clause-start
+returns-clause-start g c = starts_configured _ _ c.args.config _ (subst (HoldsStart _ _) (sym c.self.view_is) c.requires)
