@@ -1,0 +1,4 @@
+pub mod SideTables
+pub mod Slots
+pub mod Slabs
+pub mod Lends

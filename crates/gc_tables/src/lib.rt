@@ -1,0 +1,16 @@
+//! Side tables of a garbage-collected heap.
+//!
+//! What an object of the heap names that is no object itself stands in a table beside the heap: the
+//! values of host objects, functions and continuations. The object has a number of 31 bits and no
+//! address, so that whatever is written into the heap's bytes names at worst another entry of the
+//! table, or none. Contracts see each table as a finite map from ids to values, with the number of
+//! its spare places beside it.
+#![tactic(auto)]
+
+mod id;
+mod iter;
+mod slab;
+
+pub use id::Id;
+pub use iter::SlabIter;
+pub use slab::{Slab, SlabFault};
