@@ -1,5 +1,5 @@
 -- Lists of places as finite maps.
-use Rattle.std.proofs.Common.{◌≡◌, ◌≢◌, ◌⊎◌, inl, inr, ℕ, zero, suc, ◌+◌, ◌-◌, ◌<◌, ◌==◌, ◌&&◌, Bool, true, false, cond, T, List, [], ◌∷◌, ◌++◌, length, get_or, set, Option, Some, None, is_some, refl, sym, ap, subst, ◌∙◌, arith, eq-eqb, ne_eqb}
+use Rattle.std.proofs.Common.{◌≡◌, ◌≢◌, ◌⊎◌, inl, inr, ℕ, zero, suc, ◌+◌, ◌-◌, ◌<◌, ◌==◌, ◌&&◌, Bool, true, false, cond, T, List, [], ◌∷◌, ◌++◌, length, get_or, set, Option, Some, None, is_some, IsSome, IsTrue, true≢false, refl, sym, ap, subst, ◌∙◌, arith, eq-eqb, ne_eqb}
 use Rattle.std.proofs.lemmas.Bool.{cases_eq, cases_order}
 use Rattle.std.proofs.lemmas.List.{get_or-set_same, get_or-set_other, get_or_past, get_or-append-add}
 use Rattle.std.specs.Ordering.{nat_cmp, eq_by_cmp, is_lt}
@@ -130,3 +130,8 @@ module _ {X : Type 0} (m : finite.FinMap nat_cmp X) (id : ℕ) where
             | inl same ↦ found_here q id None _ same ∙ sym (ap (finite.get m) same ∙ none)
             | inr differs ↦ found_behind q id None _ differs
           ]
+
+-- what has no value is none
+pub none_of_absent : {X : Type 0} (o : Option X) → (IsSome o → IsTrue false) → o ≡ None
+none_of_absent None absent = refl
+none_of_absent (Some x) absent = absurd (true≢false (sym (absent refl)))

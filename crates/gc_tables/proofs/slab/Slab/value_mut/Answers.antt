@@ -1,7 +1,7 @@
 use Rattle.std.proofs.Common.{◌≡◌, ◌<◌, Some, length, refl, sym, ap, ◌∙◌, arith}
 use Rattle.std.proofs.lemmas.Option.{slice_get_within}
 use Rattle.std.specs.FinMap as finite
-use Rattle.gc_tables.specs.Slots.{value_of}
+use Rattle.gc_tables.specs.declared.slab.Entry.TheVariants.{Occupied}
 use Rattle.gc_tables.proofs.LinkLemmas.{get-entry_map, entry_map-fill, occupied_at, linked-write, read_place}
 use Rattle.gc_tables.proofs.slab.Slab.value_mut.Goals as goal
 
@@ -18,7 +18,8 @@ value_mut-requires g c =
     let found = occupied_at c.self.inside.entries.items c.args.id (rw (← c.self.view_is) at c.requires) in
     let occupied = found.1 in
     let read = read_place _ _ _ c.args.id _ _ c.self.inside.entries.ok.0 c.index.ensures (slice_get_within _ _ _ occupied) c.index_mut.ensures.value refl in
-    ?
+    let same : c.index_mut.result.now ≡ Occupied found.0 = cc in
+    rw same refl
 
 pub invariant_of-self-lent : goal.invariant_of-self-lent
 invariant_of-self-lent g c w =
