@@ -187,3 +187,11 @@ module _ {X : Type 0} where
         chain = chain-set es id (Occupied w) linked.vacant free (λ m _. occupied_off es id v found m) linked.chain;
         bounded = omega (arith, length-set es id (Occupied w), linked.bounded);
       }
+
+  -- ids are below the greatest number of entries
+  pub ids_below : (es : List (Entry X)) (free : Option ℕ) (count id : ℕ) → IsLinked es free count → IsSome (finite.get (entry_map es) id) → id < max_entries
+  ids_below es free count id linked present =
+      let found = occupied_at es id present in
+      let within = slice_get_within es id _ found.1 in
+      let bounded = linked.bounded in
+      omega arith

@@ -2,3 +2,6 @@ pub mod SideTables
 pub mod Slots
 pub mod Slabs
 pub mod Lends
+pub mod Interned
+pub mod Conts
+pub mod HostLends

@@ -7,10 +7,16 @@
 //! its spare places beside it.
 #![tactic(auto)]
 
+mod cont_ref;
+mod host_data;
 mod id;
+mod interner;
 mod iter;
 mod slab;
 
+pub use cont_ref::{ContFault, ContRefTable};
+pub use host_data::{ExternRefHostDataId, ExternRefHostDataTable, HostFault};
 pub use id::Id;
+pub use interner::InternFault;
 pub use iter::SlabIter;
 pub use slab::{Slab, SlabFault};

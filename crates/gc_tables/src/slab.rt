@@ -1,6 +1,6 @@
 //! A slab: values of one type, each under an id that the slab picks.
 
-ghost use Rattle.std.specs.Prelude.{◌≡◌, ◌≢◌, ◌↔◌, ◌+◌, ◌<◌, ◌≤◌, None, Some, Err, IsTrue, IsOk, IfOk, OnOk, OnErr, IfErr, IfNone, IsSome, option_copied, slice_index_or, map as list_map};
+ghost use Rattle.std.specs.Prelude.{ℕ, ◌≡◌, ◌≢◌, ◌↔◌, ◌+◌, ◌<◌, ◌≤◌, None, Some, Err, IsTrue, IsOk, IfOk, OnOk, OnErr, IfErr, IfNone, IsSome, option_copied, slice_index_or, map as list_map};
 ghost use Rattle.std.specs.Option.{option_copied_mut};
 ghost use Rattle.std.specs.FinMap as map;
 ghost use Rattle.std.specs.Borrow.{Lends, sem};
@@ -207,7 +207,14 @@ impl<T> Slab<T> {
     pub fn get(&self, id: Id) -> Option<&T>
         ensures { option_copied result ≡ value_at self.now id }
     {
-        occupant(&self.entries, id.index())
+        self.at(id.into_raw())
+    }
+
+    /// The value whose id is that number.
+    pub(crate) fn at(&self, raw: u32) -> Option<&T>
+        ensures { option_copied result ≡ value_at self.now raw }
+    {
+        occupant(&self.entries, raw as usize)
     }
 
     /// The value under that id, for writing. None exactly where the id names no entry.
@@ -232,7 +239,8 @@ impl<T> Slab<T> {
 
     /// The number of entries.
     pub fn len(&self) -> u64
-        ensures { result ≡ entry_count self.now }
+        ensures value { result ≡ entry_count self.now }
+        ensures ids { (id : ℕ) → IsSome (value_at self.now id) → id < max_entries }
     {
         u64::from(self.len)
     }
