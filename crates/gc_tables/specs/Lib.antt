@@ -4,4 +4,5 @@ pub mod Slabs
 pub mod Lends
 pub mod Interned
 pub mod Conts
+pub mod Funcs
 pub mod HostLends

@@ -8,6 +8,7 @@
 #![tactic(auto)]
 
 mod cont_ref;
+mod func_ref;
 mod host_data;
 mod id;
 mod interner;
@@ -15,6 +16,7 @@ mod iter;
 mod slab;
 
 pub use cont_ref::{ContFault, ContRefTable};
+pub use func_ref::{FuncFault, FuncRefTable, FuncRefTableId};
 pub use host_data::{ExternRefHostDataId, ExternRefHostDataTable, HostFault};
 pub use id::Id;
 pub use interner::InternFault;
