@@ -1,13 +1,13 @@
 -- What depths tell of ancestors.
-use Rattle.std.proofs.Common.{ℕ, ◌≡◌, ◌<◌, ◌≤◌, ◌+◌, ◌-◌, ◌⊎◌, inl, inr, List, [], ◌∷◌, ◌++◌, Option, Some, None, map, length, take, refl, sym, ◌∙◌, ap, subst, arith, length-append}
+use Rattle.std.proofs.Common.{ℕ, ◌≡◌, ◌<◌, ◌≤◌, ◌+◌, inl, inr, List, Option, Some, None, length, refl, sym, ◌∙◌, ap, subst, arith}
 use Rattle.std.specs.List.{slice_get}
 use Rattle.std.proofs.lemmas.List.{length-map}
 use Rattle.std.specs.Option.{option_map}
 use Rattle.std.proofs.lemmas.Option.{slice_get_within, slice_get-map, slice_get_cases}
 use Rattle.gc_types.specs.declared.ancestry.Entry.{Entry}
 use Rattle.gc_types.specs.Subtyping.{Meets, here, up}
-use Rattle.gc_types.specs.Ancestors.{ArePlaced, IsPlaced, IsAbove, entry_supers, entry_depth, depth_at}
-use Rattle.gc_types.proofs.SubtypingLemmas.{meets_declared, meets_trans, meets_linear}
+use Rattle.gc_types.specs.Ancestors.{ArePlaced, IsAbove, entry_supers, entry_depth, depth_at}
+use Rattle.gc_types.proofs.SubtypingLemmas.{meets_declared, meets_linear}
 
 -- the entry behind a supertype that is read
 pub super_entry : (entries : List Entry) (a : ℕ) (s : Option ℕ) → slice_get (entry_supers entries) a ≡ Some s
@@ -15,8 +15,8 @@ pub super_entry : (entries : List Entry) (a : ℕ) (s : Option ℕ) → slice_ge
 super_entry entries a s h =
     let read = sym (slice_get-map (λ (e : Entry). e.supertype) entries a) ∙ h in
     elim ((slice_get_cases entries a).1) [
-      inl (e, within, is, same) ↦ (e, is, grind (arith, sym (ap (option_map (λ (e : Entry). e.supertype)) is) ∙ read))
-    | inr (past, none) ↦ absurd (grind (arith, sym (ap (option_map (λ (e : Entry). e.supertype)) none) ∙ read))
+      | inl (e, within, is, same) ↦ (e, is, grind (arith, sym (ap (option_map (λ (e : Entry). e.supertype)) is) ∙ read))
+      | inr (past, none) ↦ absurd (grind (arith, sym (ap (option_map (λ (e : Entry). e.supertype)) none) ∙ read))
     ]
 
 -- the supertype of an entry that is read
@@ -52,11 +52,11 @@ pub meets_past : (entries : List Entry) → ArePlaced entries → (a j b : ℕ) 
     → Meets (entry_supers entries) a b → Meets (entry_supers entries) j b
 meets_past entries placed a j b far deep m =
     elim (meets_linear (entry_supers entries) far m) [
-      inl below ↦ below
-    | inr above ↦
-        let same = ancestor_same entries placed above deep in
-        let back : Meets (entry_supers entries) b b = here (meets_declared (entry_supers entries) above).0 in
-        subst (λ z. Meets (entry_supers entries) z b) same back
+      | inl below ↦ below
+      | inr above ↦
+          let same = ancestor_same entries placed above deep in
+          let back : Meets (entry_supers entries) b b = here (meets_declared (entry_supers entries) above).0 in
+          subst (λ z. Meets (entry_supers entries) z b) same back
     ]
 
 -- what a deeper type meets, its supertype meets

@@ -13,10 +13,10 @@ known_more P xs i x inside is here before k d h =
 pub matched_more : {A : Type 0} (R : A → A → Type 0) (xs ys : List A) (i : ℕ) (x y : A) → ((d : A) → x ≡ get_or xs i d) → ((d : A) → y ≡ get_or ys i d) → R x y → ((k : ℕ) (d e : A) → k < i → R (get_or xs k d) (get_or ys k e)) → (k : ℕ) (d e : A) → k < suc i → R (get_or xs k d) (get_or ys k e)
 matched_more R xs ys i x y isx isy here before k d e h =
     elim (cases_eq k i) [
-      inl same ↦
-        subst (λ n. R (get_or xs n d) (get_or ys n e)) (sym same)
+      | inl same ↦
+          subst (λ n. R (get_or xs n d) (get_or ys n e)) (sym same)
           (subst (λ b. R (get_or xs i d) b) (isy e) (subst (λ a. R a y) (isx d) here))
-    | inr ne ↦ before k d e (omega arith)
+      | inr ne ↦ before k d e (omega arith)
     ]
 
 -- lists of one length are related where they are place by place

@@ -1,11 +1,10 @@
 -- The table of heap types and the arrows of their diagram.
-use Rattle.std.proofs.Common.{ℕ, ◌≡◌, ◌<◌, ◌⊎◌, inl, inr, Bool, true, false, IsTrue, List, Option, Some, None, length, refl, sym, ◌∙◌, ap, subst}
+use Rattle.std.proofs.Common.{ℕ, ◌≡◌, Bool, false, IsTrue, List, Option, Some, None, refl, sym, ◌∙◌, ap, subst}
 use Rattle.std.specs.Option.{option_zip, option_map}
 use Rattle.gc_types.specs.declared.kind.TypeKind.{TypeKind}
-use Rattle.gc_types.specs.declared.kind.TypeKind.TheVariants as kinds
 use Rattle.gc_types.specs.declared.value.HeapType.{HeapType}
 use Rattle.gc_types.specs.declared.value.HeapType.TheVariants as heap
-use Rattle.gc_types.specs.HeapTypes.{concrete, is_under, is_under_eq}
+use Rattle.gc_types.specs.HeapTypes.{concrete, is_under}
 use Rattle.gc_types.specs.Subtyping.{Meets, MatchesHeap, same, along, through, Arrow, none_i31, none_struct, none_array, none_concrete_struct, none_concrete_array, concrete_struct, concrete_struct_struct, concrete_array, concrete_array_array, i31_eq, struct_eq, array_eq, eq_any, no_extern_extern, no_func_func, no_func_concrete_func, concrete_func, concrete_func_func, no_exn_exn, no_exn_concrete_exn, concrete_exn, concrete_exn_exn, no_cont_cont, IsAbstract}
 use Rattle.gc_types.proofs.SubtypingLemmas.{meets_trans}
 
@@ -147,9 +146,10 @@ from_table supers x y (Some c) None one h = h
 -- where not both are concrete, the table says whether they match
 pub by_table : (supers : List (Option ℕ)) (x y : HeapType) (b : Bool) → b ≡ is_under x y → NotBoth (concrete x) (concrete y)
     → (IsTrue b → MatchesHeap supers x y) × (MatchesHeap supers x y → IsTrue b)
-by_table supers x y b is one =
-    (λ h. table_sound supers x y (sym is ∙ h) one,
-     λ m. is ∙ from_table supers x y (concrete x) (concrete y) one (matches_below supers m))
+by_table supers x y b is one = (
+  λ h. table_sound supers x y (sym is ∙ h) one,
+  λ m. is ∙ from_table supers x y (concrete x) (concrete y) one (matches_below supers m),
+)
 
 both_table : (supers : List (Option ℕ)) (x y : HeapType) (c d : Option (TypeKind × ℕ)) (k l : TypeKind) (a b : ℕ) → c ≡ Some (k, a) → d ≡ Some (l, b)
     → ByTable supers x y c d → (k ≡ l) × Meets supers a b
@@ -183,14 +183,16 @@ pub same_kind : (supers : List (Option ℕ)) (x y : HeapType) (p q : TypeKind ×
     → ((IsTrue b → Meets supers p.1 q.1) × (Meets supers p.1 q.1 → IsTrue b))
     → (IsTrue b → MatchesHeap supers x y) × (MatchesHeap supers x y → IsTrue b)
 same_kind supers x y p q b zipped equal is =
-    let parts = both (concrete x) (concrete y) p q zipped in
-    (λ h. concrete_sound supers x y p.0 q.0 p.1 q.1 (ap kind_named parts.0) (ap kind_named parts.1) (sym (ap index_named parts.0)) (sym (ap index_named parts.1)) equal (is.0 h),
-     λ m. is.1 (by_index supers x y p.0 q.0 p.1 q.1 parts.0 parts.1 m).1)
+    let parts = both (concrete x) (concrete y) p q zipped in (
+      λ h. concrete_sound supers x y p.0 q.0 p.1 q.1 (ap kind_named parts.0) (ap kind_named parts.1) (sym (ap index_named parts.0)) (sym (ap index_named parts.1)) equal (is.0 h),
+      λ m. is.1 (by_index supers x y p.0 q.0 p.1 q.1 parts.0 parts.1 m).1,
+    )
 
 -- two of different kinds don't match
 pub other_kind : (supers : List (Option ℕ)) (x y : HeapType) (p q : TypeKind × ℕ) (b : Bool) → option_zip (concrete x) (concrete y) ≡ Some (p, q) → (p.0 ≡ q.0 → ⊥)
     → b ≡ false → (IsTrue b → MatchesHeap supers x y) × (MatchesHeap supers x y → IsTrue b)
 other_kind supers x y p q b zipped other no_answer =
-    let parts = both (concrete x) (concrete y) p q zipped in
-    (λ h. cc,
-     λ m. absurd (other (by_index supers x y p.0 q.0 p.1 q.1 parts.0 parts.1 m).0))
+    let parts = both (concrete x) (concrete y) p q zipped in (
+      λ h. cc,
+      λ m. absurd (other (by_index supers x y p.0 q.0 p.1 q.1 parts.0 parts.1 m).0),
+    )

@@ -4,3 +4,7 @@ pub mod AncestorLemmas
 pub mod CheckLemmas
 pub mod PlacedLemmas
 pub mod HeapMatching
+pub mod TableLemmas
+pub mod LawsOfMatching
+pub mod AlikeLemmas
+pub mod RefLemmas

@@ -1,5 +1,5 @@
 -- The places of the entries stay as newer ones come and go.
-use Rattle.std.proofs.Common.{ℕ, ◌≡◌, ◌<◌, ◌≤◌, ◌+◌, ◌⊎◌, inl, inr, List, [], ◌∷◌, ◌++◌, Option, Some, None, map, length, get_or, refl, sym, ◌∙◌, ap, subst, arith, length-append}
+use Rattle.std.proofs.Common.{ℕ, ◌≡◌, ◌<◌, ◌≤◌, ◌+◌, inl, inr, List, [], ◌∷◌, ◌++◌, Option, Some, None, length, get_or, refl, sym, ◌∙◌, ap, subst, arith, length-append}
 use Rattle.std.specs.List.{slice_get}
 use Rattle.std.proofs.Math.ListN.{get_or-append}
 use Rattle.std.proofs.Math.Seq.{get_or-append_seam}
@@ -47,8 +47,8 @@ entries_meet_in_front entries more placed (up {a = a} {p = p} s m) within =
 depth_in_whole : (entries more : List Entry) (p : ℕ) → p < length entries → depth_at (entries ++ more) p ≡ depth_at entries p
 depth_in_whole entries more p within =
     elim ((slice_get_cases entries p).1) [
-      inl (e, inside, is, same) ↦ ap entry_depth (front_in_whole entries more p e is) ∙ sym (ap entry_depth is)
-    | inr (past, none) ↦ absurd (omega arith)
+      | inl (e, inside, is, same) ↦ ap entry_depth (front_in_whole entries more p e is) ∙ sym (ap entry_depth is)
+      | inr (past, none) ↦ absurd (omega arith)
     ]
 
 above_in_whole : (entries more : List Entry) (i : ℕ) (e : Entry) (s : Option ℕ) → i ≤ length entries → IsAbove entries i e s → IsAbove (entries ++ more) i e s
@@ -82,40 +82,40 @@ record IsNewest (entries : List Entry) (e : Entry) : Type 0 where
 placed_more : (entries : List Entry) (new : Entry) → ArePlaced entries → IsNewest entries new → ArePlaced (entries ++ new ∷ [])
 placed_more entries new placed newest i e is =
     elim (cases_lt i (length entries)) [
-      inl within ↦
-        let place = placed i e (whole_in_front entries (new ∷ []) i e within is) in
-        record {
-          above = above_in_whole entries (new ∷ []) i e e.supertype (omega arith) place.above;
-          jump = entries_meet_in_whole entries (new ∷ []) i e.jump place.jump;
-          bounded = place.bounded;
-        }
-    | inr past ↦
-        let inside = slice_get_within (entries ++ new ∷ []) i e is in
-        let at_end : i ≡ length entries = omega (arith, simp length-append at inside) in
-        let same : e ≡ new = last_read entries new e (subst (λ n. slice_get (entries ++ new ∷ []) n ≡ Some e) at_end is) in
-        let place : IsPlaced (entries ++ new ∷ []) (length entries) new = record {
-          above = above_in_whole entries (new ∷ []) (length entries) new new.supertype (omega arith) newest.above;
-          jump = newest.jump;
-          bounded = newest.bounded;
-        } in
-        subst (λ n. IsPlaced (entries ++ new ∷ []) n e) (sym at_end) (subst (λ (x : Entry). IsPlaced (entries ++ new ∷ []) (length entries) x) (sym same) place)
+      | inl within ↦
+          let place = placed i e (whole_in_front entries (new ∷ []) i e within is) in
+          record {
+            above = above_in_whole entries (new ∷ []) i e e.supertype (omega arith) place.above;
+            jump = entries_meet_in_whole entries (new ∷ []) i e.jump place.jump;
+            bounded = place.bounded;
+          }
+      | inr past ↦
+          let inside = slice_get_within (entries ++ new ∷ []) i e is in
+          let at_end : i ≡ length entries = omega (arith, simp length-append at inside) in
+          let same : e ≡ new = last_read entries new e (subst (λ n. slice_get (entries ++ new ∷ []) n ≡ Some e) at_end is) in
+          let place : IsPlaced (entries ++ new ∷ []) (length entries) new = record {
+            above = above_in_whole entries (new ∷ []) (length entries) new new.supertype (omega arith) newest.above;
+            jump = newest.jump;
+            bounded = newest.bounded;
+          } in
+          subst (λ n. IsPlaced (entries ++ new ∷ []) n e) (sym at_end) (subst (λ (x : Entry). IsPlaced (entries ++ new ∷ []) (length entries) x) (sym same) place)
     ]
 
 new_read : (entries : List Entry) (new : Entry) (s : Option ℕ) → new.supertype ≡ s → slice_get (entry_supers (entries ++ new ∷ [])) (length entries) ≡ Some s
 new_read entries new s is =
     slice_get_read (entry_supers (entries ++ new ∷ [])) (length (entry_supers (entries ++ new ∷ []))) (length entries) s refl (simp (length-map, length-append) (omega arith))
-      (sym (ap (λ (xs : List (Option ℕ)). get_or xs (length entries) s) (map-append (λ (e : Entry). e.supertype) entries (new ∷ []))
-        ∙ ap (λ n. get_or (entry_supers entries ++ new.supertype ∷ []) n s) (sym (length-map entries (λ (e : Entry). e.supertype)))
-        ∙ get_or-append_seam (entry_supers entries) new.supertype [] s ∙ is))
+    (sym (ap (λ (xs : List (Option ℕ)). get_or xs (length entries) s) (map-append (λ (e : Entry). e.supertype) entries (new ∷ []))
+    ∙ ap (λ n. get_or (entry_supers entries ++ new.supertype ∷ []) n s) (sym (length-map entries (λ (e : Entry). e.supertype)))
+    ∙ get_or-append_seam (entry_supers entries) new.supertype [] s ∙ is))
 
 depth_bounded : (entries : List Entry) → ArePlaced entries → (p deep : ℕ) → p < length entries → deep ≡ depth_at entries p + 1 → deep ≤ length entries
 depth_bounded entries placed p deep within is =
     elim ((slice_get_cases entries p).1) [
-      inl (e, inside, read, same) ↦
-        let bounded = (placed p e read).bounded in
-        let mine : depth_at entries p ≡ e.depth = ap entry_depth read in
-        omega arith
-    | inr (past, none) ↦ absurd (omega arith)
+      | inl (e, inside, read, same) ↦
+          let bounded = (placed p e read).bounded in
+          let mine : depth_at entries p ≡ e.depth = ap entry_depth read in
+          omega arith
+      | inr (past, none) ↦ absurd (omega arith)
     ]
 
 -- a newest type with a supertype

@@ -1,5 +1,5 @@
 -- What is kept of each declared type to find its ancestors quickly.
-use Rattle.std.specs.Prelude.{ℕ, ◌≡◌, ◌<◌, ◌≤◌, ◌+◌, List, Option, Some, None, map, length, slice_get}
+use Rattle.std.specs.Prelude.{ℕ, ◌≡◌, ◌<◌, ◌≤◌, ◌+◌, List, Option, Some, None, map, slice_get}
 use Rattle.gc_types.specs.declared.ancestry.Entry.{Entry}
 use Rattle.gc_types.specs.Subtyping.{Meets}
 

@@ -9,3 +9,4 @@ pub mod Layouts
 pub mod Entries
 pub mod Shapes
 pub mod Tables
+pub mod LayoutLaws

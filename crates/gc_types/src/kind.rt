@@ -71,7 +71,8 @@ impl VMGcKind {
     /// Whether each bit of the other kind is one of this kind: whether an object of this kind is one
     /// of the other.
     pub fn matches(self, other: VMGcKind) -> bool
-        ensures { IsTrue result ↔ IsKindOf self other }
+        ensures kinds { IsTrue result ↔ IsKindOf self other }
+        ensures bits { IsTrue result ↔ (bit_and (kind_bits self) (kind_bits other) ≡ kind_bits other) }
     {
         self.as_u32() & other.as_u32() == other.as_u32()
     }

@@ -12,17 +12,25 @@ mod entry;
 pub mod index;
 pub mod kind;
 pub mod layout;
+pub mod layout_laws;
+#[cfg(test)]
+mod layout_tests;
 mod matching;
+pub mod matching_laws;
+#[cfg(test)]
+mod matching_tests;
 mod placement;
+#[cfg(test)]
+mod small_tests;
 mod type_names;
 pub mod types;
+#[cfg(test)]
+mod types_tests;
 pub mod value;
 
 pub use index::VMSharedTypeIndex;
 pub use kind::{Layouts, TypeKind, VMGcKind};
-pub use layout::{
-    FieldLayout, FieldLayouts, GcArrayLayout, GcStructLayout, Offsets, TraceInfo,
-};
+pub use layout::{FieldLayout, FieldLayouts, GcArrayLayout, GcStructLayout, Offsets, TraceInfo};
 pub use type_names::{ArrayType, ExnType, FuncType, StructType};
 pub use types::{TypeFault, Types};
 pub use value::{

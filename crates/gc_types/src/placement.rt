@@ -99,7 +99,6 @@ fn next_multiple(offset: u32, width: u32) -> u32
     (offset + (width - 1)) / width * width
 }
 
-
 /// The layout of an object whose fields begin at `base`. Its time is linear in their number.
 fn lay_out(
     alloc: Global,

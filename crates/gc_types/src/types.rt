@@ -191,6 +191,14 @@ impl Types {
         Ok(VMSharedTypeIndex::new(index as u32))
     }
 
+    /// Each type could be declared behind those before it. This call does nothing: its clause is a
+    /// law, and the premise of those on layouts (`layout_laws`).
+    pub fn are_declared(&self)
+        ensures { AreDeclared self.now.declarations }
+    {
+        let _types = &self.declared;
+    }
+
     /// Whether no type is declared.
     pub fn is_empty(&self) -> bool
         ensures { IsTrue result ↔ (self.now.declarations ≡ []) }

@@ -1,9 +1,7 @@
-use Rattle.std.proofs.Common.{◌≡◌, ◌<◌, ◌≤◌, ◌+◌, ◌-◌, ℕ, length, Some, ap, sym, ◌∙◌, subst, arith}
-use Rattle.std.specs.List.{slice_get}
+use Rattle.std.proofs.Common.{sym, subst, arith}
 use Rattle.std.proofs.lemmas.List.{length-map}
-use Rattle.gc_types.specs.declared.ancestry.Entry.{Entry}
 use Rattle.gc_types.specs.Subtyping.{Meets, here}
-use Rattle.gc_types.specs.Ancestors.{entry_supers, depth_at}
+use Rattle.gc_types.specs.Ancestors.{entry_supers}
 use Rattle.gc_types.proofs.AncestorLemmas.{jump_declared, jump_depth}
 use Rattle.gc_types.proofs.SubtypingLemmas.{meets_trans}
 use Rattle.gc_types.proofs.ancestry.below.Goals.{then-parent-far, else-parent-far}
@@ -31,6 +29,6 @@ returns-clause-jump c =
     let far = (c.requires.placed c.args.supertype c.entry_at-parent.result c.entry_at-parent.ensures).jump in
     let farther = (c.requires.placed c.entry_at-parent.result.jump c.entry_at-far.result c.entry_at-far.ensures).jump in
     elim c.if-parent-far.branch [
-      then-parent-far w ↦ subst (λ j. Meets (entry_supers c.args.entries.now) c.args.supertype j) (sym w.jump-is) (meets_trans (entry_supers c.args.entries.now) far farther)
-    | else-parent-far w ↦ subst (λ j. Meets (entry_supers c.args.entries.now) c.args.supertype j) (sym w.jump-is) (here (rw length-map c.requires.declared))
+      | then-parent-far w ↦ subst (λ j. Meets (entry_supers c.args.entries.now) c.args.supertype j) (sym w.jump-is) (meets_trans (entry_supers c.args.entries.now) far farther)
+      | else-parent-far w ↦ subst (λ j. Meets (entry_supers c.args.entries.now) c.args.supertype j) (sym w.jump-is) (here (rw length-map c.requires.declared))
     ]

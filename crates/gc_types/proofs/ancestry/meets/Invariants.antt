@@ -1,5 +1,3 @@
-use Rattle.std.proofs.Common.{◌≡◌, ℕ}
-use Rattle.gc_types.specs.Ancestors.{depth_at}
 use Rattle.gc_types.proofs.AncestorLemmas.{Climbed}
 use Rattle.gc_types.proofs.ancestry.meets.Given as goal
 

@@ -1,4 +1,4 @@
-use Rattle.std.proofs.Common.{◌≡◌, ℕ, List, length, sym, ◌∙◌, ap, subst, arith}
+use Rattle.std.proofs.Common.{List, sym, subst, arith}
 use Rattle.std.proofs.lemmas.List.{length-map}
 use Rattle.gc_types.specs.declared.ancestry.Entry.{Entry}
 use Rattle.gc_types.specs.Ancestors.{ArePlaced}
@@ -11,12 +11,12 @@ returns-then-as_u32-len c =
     rw (← c.self.view_is) (
       (λ h. cc),
       λ m.
-        let declared = simp length-map at (meets_declared _ m) in
-        let whole = c.self.inside.entries.ok.0 in
-        elim c.then-as_u32-len.branch [
-          then-as_u32-len-via-then-as_u32-len w ↦ absurd (omega arith)
-        | then-as_u32-len-via-else-as_u32-len+then-as_u32-len-2 w ↦ absurd (omega arith)
-        ]
+          let declared = simp length-map at (meets_declared _ m) in
+          let whole = c.self.inside.entries.ok.0 in
+          elim c.then-as_u32-len.branch [
+            | then-as_u32-len-via-then-as_u32-len w ↦ absurd (omega arith)
+            | then-as_u32-len-via-else-as_u32-len+then-as_u32-len-2 w ↦ absurd (omega arith)
+          ],
     )
 
 pub meets-requires-clause-placed : goal.meets-requires-clause-placed

@@ -1,7 +1,5 @@
-use Rattle.std.proofs.Common.{rules, ◌≡◌, ℕ, IsTrue, Option, Some, None, sym, ◌∙◌}
+use Rattle.std.proofs.Common.{rules, ◌≡◌, IsTrue, sym, ◌∙◌}
 use Rattle.gc_types.specs.Subtyping.{Meets}
-use Rattle.std.specs.Option.{option_zip}
-use Rattle.gc_types.specs.HeapTypes.{concrete}
 use Rattle.gc_types.proofs.HeapMatching.{none_both, same_kind, other_kind}
 use Rattle.gc_types.proofs.ancestry.Ancestry.matches_heap.Goals as goal
 
