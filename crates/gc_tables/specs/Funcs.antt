@@ -1,6 +1,5 @@
 -- The table of functions.
-use Rattle.std.specs.Prelude.{◌≡◌, ℕ, ◌==◌, ◌&&◌, IsTrue, Option, Some, None, refl}
-use Rattle.std.specs.Option.{option_eq}
+use Rattle.std.specs.Prelude.{◌≡◌, ℕ, Option, Some, None, refl}
 use Rattle.std.specs.Coded.{Coded, code_by, coded×, coded_ℕ}
 use Rattle.gc_types.specs.Declarations.{TypeTable}
 use Rattle.gc_types.specs.Subtyping.{supertypes_of, Meets}
@@ -18,7 +17,3 @@ func_code =
 abbrev pub FitsType : TypeTable → ℕ → Option Func → Type 0
 FitsType types expected None = Unit {0}
 FitsType types expected (Some func) = Meets (supertypes_of types.declarations) func.ty expected
-
--- functions that are equal by their fields are one
-pub func_exact : (a b : Option Func) → IsTrue (option_eq (λ x y. (x.number == y.number) && (x.ty == y.ty)) a b) → a ≡ b
-func_exact a b e = ?

@@ -6,3 +6,4 @@ pub mod Interned
 pub mod Conts
 pub mod Funcs
 pub mod HostLends
+pub mod FuncEquality

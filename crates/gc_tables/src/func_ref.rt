@@ -62,7 +62,7 @@ impl FuncRefTableId {
 }
 
 impl Exact for Option<Func> {
-    ghost use Rattle.gc_tables.specs.Funcs.{func_exact};
+    ghost use Rattle.gc_tables.specs.FuncEquality.{func_exact};
 
     ghost exact = { func_exact };
 }
@@ -131,12 +131,14 @@ impl FuncRefTable {
         ensures bad { IsErrOf result FuncFault.BadFuncRefId ↔ (value_at self.now id ≡ None) }
         ensures mismatch { IsErrOf result FuncFault.FuncTypeMismatch ↔ IsSomeAnd (value_at self.now id) (λ func. ¬ FitsType types.now expected func) }
     {
-        let func = self.get_untyped(id)?;
-        match func {
-            Some(found) if !types.is_subtype(found.ty, expected) => {
-                Err(FuncFault::FuncTypeMismatch)
+        match self.get_untyped(id)? {
+            None => Ok(None),
+            Some(func) => {
+                if !types.is_subtype(func.ty, expected) {
+                    return Err(FuncFault::FuncTypeMismatch);
+                }
+                Ok(Some(func))
             }
-            _ => Ok(func),
         }
     }
 

@@ -22,3 +22,8 @@ pub use id::Id;
 pub use interner::InternFault;
 pub use iter::SlabIter;
 pub use slab::{Slab, SlabFault};
+
+#[cfg(test)]
+mod law_tests;
+#[cfg(test)]
+mod tests;
