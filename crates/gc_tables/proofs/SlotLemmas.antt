@@ -65,23 +65,23 @@ module _ {X : Type 0} where
 
   -- places that differ at one id alone, which now has a value
   inserted : (old new : List (Option X)) (id : ℕ) (v : X)
-    → ((q : ℕ) → get_or new q None ≡ cond (eq_by_cmp nat_cmp q id) (Some v) (get_or old q None))
-    → map_of new ≡ finite.insert (map_of old) id v
+      → ((q : ℕ) → get_or new q None ≡ cond (eq_by_cmp nat_cmp q id) (Some v) (get_or old q None))
+      → map_of new ≡ finite.insert (map_of old) id v
   inserted old new id v is =
       finite.same_map nat_cmp_total finite.nat_cmp-IsAntisymmetric _ _ (λ q.
       get-map_of new q ∙ is q
       ∙ sym (finite.get-insert nat_cmp_total (map_of old) id v q ∙ ap (cond (eq_by_cmp nat_cmp q id) (Some v)) (get-map_of old q)))
 
   removed : (old new : List (Option X)) (id : ℕ)
-    → ((q : ℕ) → get_or new q None ≡ cond (eq_by_cmp nat_cmp q id) None (get_or old q None))
-    → map_of new ≡ finite.remove (map_of old) id
+      → ((q : ℕ) → get_or new q None ≡ cond (eq_by_cmp nat_cmp q id) None (get_or old q None))
+      → map_of new ≡ finite.remove (map_of old) id
   removed old new id is =
       finite.same_map nat_cmp_total finite.nat_cmp-IsAntisymmetric _ _ (λ q.
       get-map_of new q ∙ is q
       ∙ sym (finite.get-remove nat_cmp_total (map_of old) id q ∙ ap (cond (eq_by_cmp nat_cmp q id) None) (get-map_of old q)))
 
   get_or-written : (slots : List (Option X)) (id : ℕ) (x : Option X) (q : ℕ) → id < length slots
-    → get_or (set slots id x) q None ≡ cond (eq_by_cmp nat_cmp q id) x (get_or slots q None)
+      → get_or (set slots id x) q None ≡ cond (eq_by_cmp nat_cmp q id) x (get_or slots q None)
   get_or-written slots id x q within =
       elim (cases_eq q id) [
         | inl same ↦ ap (λ k. get_or (set slots id x) k None) same ∙ get_or-set_same slots id x None within ∙ sym (found_here q id x _ same)
@@ -95,7 +95,7 @@ module _ {X : Type 0} where
   map_of-set_none slots id within = removed slots _ id (λ q. get_or-written slots id None q within)
 
   get_or-pushed : (slots : List (Option X)) (x : Option X) (q : ℕ)
-    → get_or (slots ++ x ∷ []) q None ≡ cond (eq_by_cmp nat_cmp q (length slots)) x (get_or slots q None)
+      → get_or (slots ++ x ∷ []) q None ≡ cond (eq_by_cmp nat_cmp q (length slots)) x (get_or slots q None)
   get_or-pushed [] x zero = refl
   get_or-pushed [] x (suc q) = sym (found_behind (suc q) 0 x None (λ same. omega arith))
   get_or-pushed (s ∷ rest) x zero = sym (found_behind 0 (suc (length rest)) x s (λ same. omega arith))

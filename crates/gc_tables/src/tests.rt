@@ -35,7 +35,10 @@ fn a_host_value_is_written_and_taken_out(rt: HostRuntime) -> Result<(), Fail> {
     assert_eq!(rt; table.len(), 1);
     assert_eq!(rt; table.dealloc(id), Ok(43));
     assert_eq!(rt; table.dealloc(id), Err(HostFault::BadHostDataId));
-    assert_eq!(rt; table.get(id).map(|value| *value), Err(HostFault::BadHostDataId));
+    assert_eq!(rt;
+        table.get(id).map(|value| *value),
+        Err(HostFault::BadHostDataId)
+    );
     assert_eq!(rt; table.len(), 0);
     Ok(())
 }
@@ -126,7 +129,10 @@ fn a_slab_is_filled_emptied_and_filled_again(rt: HostRuntime) -> Result<(), Fail
     for value in [20, 21, 22, 23] {
         slab.alloc(value)?;
     }
-    let ids: Vec<u32> = slab.iter().map(|(id, _)| id.into_raw()).collect(rt.alloc())?;
+    let ids: Vec<u32> = slab
+        .iter()
+        .map(|(id, _)| id.into_raw())
+        .collect(rt.alloc())?;
     assert_eq!(rt; ids.as_slice(), [0, 1, 2, 3, 4].as_slice());
     assert_eq!(rt; slab.get(b).copied(), Some(11));
     assert_eq!(rt; slab.dealloc(b), Some(11));
@@ -142,7 +148,11 @@ fn ids_are_below_their_bound(rt: HostRuntime) {
         (2147483648, None),
         (4294967295, None),
     ] {
-        assert_eq!(rt; Id::try_from_raw(raw).map(|id| id.into_raw()), want, "at {raw}");
+        assert_eq!(rt;
+            Id::try_from_raw(raw).map(|id| id.into_raw()),
+            want,
+            "at {raw}"
+        );
     }
     for (raw, want) in [
         (0, None),
