@@ -27,10 +27,10 @@ low_i31 z = cast_unsigned w32 z % i31_numbers
 abbrev pub i31_word : ℕ → ℕ
 i31_word n = 2 * n + 1
 
--- a word is a 31-bit number, and else the place of an object
+-- a word is a 31-bit number
 abbrev pub IsI31Word : ℕ → Type 0
 IsI31Word word = word % 2 ≡ 1
 
--- the word names an object: it is its place
+-- the word is no 31-bit number: it is the place of an object where it isn't 0, which is null
 abbrev pub IsHeapWord : ℕ → Type 0
 IsHeapWord word = word % 2 ≡ 0

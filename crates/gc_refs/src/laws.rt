@@ -1,6 +1,7 @@
 //! What holds of the types of this crate, whatever the calls. These functions do nothing: their
 //! clauses are the laws.
 
+ghost use Rattle.std.specs.Prelude.{◌≡◌};
 ghost use Rattle.gc_refs.specs.Equality.{IsOfNumbers};
 
 use crate::i31::I31;
@@ -23,4 +24,9 @@ pub fn equality_is_of_numbers()
 /// The same of a typed reference, whatever its type is.
 pub fn typed_equality_is_of_words<T>()
     ensures { IsOfNumbers ⟦<TypedGcRef<T> as PartialEq>⟧.eq ⟦<TypedGcRef<T> as Hash>⟧.hash_input }
+{}
+
+/// The bit that marks the word of a 31-bit number is the lowest.
+pub fn discriminant_is_the_lowest_bit()
+    ensures { VMGcRef.I31_REF_DISCRIMINANT ≡ 1 }
 {}
