@@ -94,12 +94,7 @@ fn push_bytes(text: &mut String, bytes: &[u8]) -> Result<(), AllocError>
 }
 
 /// Appends a front, and so many hexadecimal digits of a number behind it.
-fn push_digits(
-    text: &mut String,
-    front: &str,
-    number: u128,
-    digits: u32,
-) -> Result<(), AllocError>
+fn push_digits(text: &mut String, front: &str, number: u128, digits: u32) -> Result<(), AllocError>
     requires { digits ≤ 32 }
     ensures { OnOk result (string_bytes text.new ≡ string_bytes text.old ++ (front.now ++ hex_digits digits number)) }
 {

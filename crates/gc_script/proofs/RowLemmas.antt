@@ -105,17 +105,20 @@ step_reads : Step Null (Some 64) made_one reads (reply.Value (reply_value.I32 (p
 step_reads = (refl, refl)
 
 pub is_session : (t : Table ℕ) × Session Null 1 64 one_struct one_struct_replies t
-is_session = (made_one.table, record {
-  after = made_one;
-  from_start = record {
-    commands = declares ∷ makes ∷ reads ∷ [];
-    replies = reply.Declared 0 ∷ reply.Done ∷ reply.Value (reply_value.I32 (pos 5)) ∷ [];
-    are_commands = (spells_declares, (spells_makes, (spells_reads, tt)));
-    run = (declared_one, (step_declares, (made_one, (step_makes, (made_one, (step_reads, refl))))));
-    output_is = replies_text;
-  };
-  table_is = refl;
-})
+is_session = (
+  made_one.table,
+  record {
+    after = made_one;
+    from_start = record {
+      commands = declares ∷ makes ∷ reads ∷ [];
+      replies = reply.Declared 0 ∷ reply.Done ∷ reply.Value (reply_value.I32 (pos 5)) ∷ [];
+      are_commands = (spells_declares, (spells_makes, (spells_reads, tt)));
+      run = (declared_one, (step_declares, (made_one, (step_makes, (made_one, (step_reads, refl))))));
+      output_is = replies_text;
+    };
+    table_is = refl;
+  },
+)
 
 -- each step has one reply and one state after it
 declares_once : (answer : Reply) (s' : State) → Step Null (Some 64) nothing declares answer s' → (answer ≡ reply.Declared 0) × (s' ≡ declared_one)

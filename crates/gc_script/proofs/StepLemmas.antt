@@ -20,4 +20,3 @@ first_failing-stop t why ts e = ap (λ b. cond b (Some why) (first_failing ts)) 
 -- what a command answers, by what its tests found
 pub answers_by : (layouts : Layouts) (limit : Option ℕ) (s : State) (c : Command) (found known : Option Refusal) (answer : Reply) (s' : State) → found ≡ known → Answers layouts limit s c known answer s' → Answers layouts limit s c found answer s'
 answers_by layouts limit s c found known answer s' e answers = subst (λ (o : Option Refusal). Answers layouts limit s c o answer s') (sym e) answers
-

@@ -42,8 +42,7 @@ impl VMGcKind {
     pub fn masks()
         ensures kind { VMGcKind.MASK ≡ kind_mask }
         ensures spare { VMGcKind.UNUSED_MASK ≡ spare_mask }
-    {
-    }
+    {}
 
     /// The kind bits in place, with the other bits 0.
     pub fn as_u32(self) -> u32

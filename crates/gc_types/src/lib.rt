@@ -24,10 +24,10 @@ mod matching_tests;
 mod placement;
 #[cfg(test)]
 mod small_tests;
-mod type_names;
-pub mod types;
 #[cfg(test)]
 mod table_tests;
+mod type_names;
+pub mod types;
 #[cfg(test)]
 mod types_tests;
 pub mod value;

@@ -62,7 +62,10 @@ fn kinds_are_read_back(rt: HostRuntime) {
     for (kind, bits) in kinds {
         let word: u32 = bits << 26;
         assert_eq!(rt; kind.as_u32(), word);
-        assert_eq!(rt; VMGcKind::from_high_bits_of_u32(word | 0x03FF_FFFF), Some(kind));
+        assert_eq!(rt;
+            VMGcKind::from_high_bits_of_u32(word | 0x03FF_FFFF),
+            Some(kind)
+        );
         for (other, lower) in kinds {
             assert_eq!(rt;
                 kind.matches(other),

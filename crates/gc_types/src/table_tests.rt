@@ -37,10 +37,22 @@ fn types_are_numbered_and_named(rt: HostRuntime) -> Result<(), Fail> {
     assert_eq!(rt; structure.engine(), 3);
     assert_eq!(rt; array.number(), 8);
     for ty in 0..5 {
-        assert_eq!(rt; types.struct_type(index(ty)).map(|name| name.index()), (ty == 0).then_some(index(0)));
-        assert_eq!(rt; types.array_type(index(ty)).map(|name| name.index()), (ty == 1).then_some(index(1)));
-        assert_eq!(rt; types.exn_type(index(ty)).map(|name| name.index()), (ty == 2).then_some(index(2)));
-        assert_eq!(rt; types.func_type(index(ty)).map(|name| name.index()), (ty == 3).then_some(index(3)));
+        assert_eq!(rt;
+            types.struct_type(index(ty)).map(|name| name.index()),
+            (ty == 0).then_some(index(0))
+        );
+        assert_eq!(rt;
+            types.array_type(index(ty)).map(|name| name.index()),
+            (ty == 1).then_some(index(1))
+        );
+        assert_eq!(rt;
+            types.exn_type(index(ty)).map(|name| name.index()),
+            (ty == 2).then_some(index(2))
+        );
+        assert_eq!(rt;
+            types.func_type(index(ty)).map(|name| name.index()),
+            (ty == 3).then_some(index(3))
+        );
         assert_eq!(rt; types.struct_len(index(ty)), (ty == 0).then_some(1));
     }
     assert!(rt; types.declare_struct(&[], Some(index(3)), false).is_err());

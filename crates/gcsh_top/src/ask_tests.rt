@@ -45,7 +45,12 @@ fn the_first_pages_are_asked_for_once(rt: HostRuntime) -> Result<(), Fail> {
     let mut engine = Engine::new(0);
     let id = engine.next_store_id().ok_or("no id")?;
     let config = HeapConfig::with_pages(1).ok_or("no configuration")?;
-    let mut store: Store<NullHeap, u64> = Store::new(rt.alloc(), id, NullHeap::new(rt.alloc()), config)?;
+    let mut store: Store<NullHeap, u64> = Store::new(
+        rt.alloc(),
+        id,
+        NullHeap::new(rt.alloc()),
+        config,
+    )?;
     let mut limiter = FirstAskOnly {
         asks: 0,
         refusals: 0,

@@ -91,7 +91,11 @@ fn runs_print_their_replies(rt: HostRuntime) -> Result<(), Fail> {
             "type 0\ntype 1\nok\nok\ni32 1\nok\ni32 5\ni32 2\ni32 3\n",
         ),
         // A struct of no field has no field 0.
-        ("null 1 64", "struct\nnew 0 0\nfield 0 0\n", "type 0\nok\nOutOfBounds\n"),
+        (
+            "null 1 64",
+            "struct\nnew 0 0\nfield 0 0\n",
+            "type 0\nok\nOutOfBounds\n",
+        ),
         // A heap of no pages has no room, and a refused object sets no register.
         (
             "null 0 64",
@@ -110,9 +114,21 @@ fn runs_print_their_replies(rt: HostRuntime) -> Result<(), Fail> {
 #[test]
 fn words_of_no_form_are_status_1(rt: HostRuntime) -> Result<(), Fail> {
     let forms = [
-        "", "null", "null 1", "null 1 64 64", "fast 1 64", "copying 1 64", "counting 1 64",
-        "null 2 1", "null 01 64", "null 00 64", "null +1 64", "null 1 65536", "null 1 64 churn 1",
-        "copying 2 1", "copying 01 64",
+        "",
+        "null",
+        "null 1",
+        "null 1 64 64",
+        "fast 1 64",
+        "copying 1 64",
+        "counting 1 64",
+        "null 2 1",
+        "null 01 64",
+        "null 00 64",
+        "null +1 64",
+        "null 1 65536",
+        "null 1 64 churn 1",
+        "copying 2 1",
+        "copying 01 64",
     ];
     for words in forms {
         let (status, sink) = top(rt.alloc(), &run(words, ONE_STRUCT))?;
@@ -177,13 +193,21 @@ fn inputs_and_lines_have_limits(rt: HostRuntime) -> Result<(), Fail> {
 }
 
 #[test]
-fn a_type_has_at_most_10_000_fields_and_a_heap_its_first_pages(rt: HostRuntime) -> Result<(), Fail> {
+fn a_type_has_at_most_10_000_fields_and_a_heap_its_first_pages(
+    rt: HostRuntime,
+) -> Result<(), Fail> {
     // A struct of 10,000 fields takes 40,008 bytes; the first begins at place 16, the next at 40,032.
     let fields = times(rt.alloc(), " m:i32", 10_000)?;
     let values = times(rt.alloc(), " i32:7", 10_000)?;
     let heaps = [
-        ("null 1 64", "type 0\nBadType\nok\nGcHeapOutOfMemory\nGcHeapOutOfMemory\nGcHeapOutOfMemory\ni32 7\n"),
-        ("null 2 64", "type 0\nBadType\nok\nok\nok\nGcHeapOutOfMemory\ni32 7\n"),
+        (
+            "null 1 64",
+            "type 0\nBadType\nok\nGcHeapOutOfMemory\nGcHeapOutOfMemory\nGcHeapOutOfMemory\ni32 7\n",
+        ),
+        (
+            "null 2 64",
+            "type 0\nBadType\nok\nok\nok\nGcHeapOutOfMemory\ni32 7\n",
+        ),
     ];
     for (words, want) in heaps {
         let mut input = String::from_str(rt.alloc(), "struct")?;
@@ -231,10 +255,25 @@ fn commands_of(alloc: Global, text: &str) -> Result<Vec<Command>, AllocError> {
 
 #[test]
 fn commands_run_one_by_one(rt: HostRuntime) -> Result<(), Fail> {
-    let three = "struct m:i32\nnew 1 0 i32:5\nnew 2 0 i32:6\nnew 3 0 i32:7\nfield 1 0\nfield 2 0\nfield 3 0";
+    let three =
+        "struct m:i32\nnew 1 0 i32:5\nnew 2 0 i32:6\nnew 3 0 i32:7\nfield 1 0\nfield 2 0\nfield 3 0";
     let runs = [
-        (1, 2, 64, "type 0,ok,ok,RootsFull,i32 5,i32 6,NoSuchName,", 0, None),
-        (1, 0, 64, "type 0,RootsFull,RootsFull,RootsFull,NoSuchName,NoSuchName,NoSuchName,", 0, None),
+        (
+            1,
+            2,
+            64,
+            "type 0,ok,ok,RootsFull,i32 5,i32 6,NoSuchName,",
+            0,
+            None,
+        ),
+        (
+            1,
+            0,
+            64,
+            "type 0,RootsFull,RootsFull,RootsFull,NoSuchName,NoSuchName,NoSuchName,",
+            0,
+            None,
+        ),
         (1, 3, 1, "type 0,ok,ok,ok,i32 5,i32 6,i32 7,", 0, None),
         (
             2,
@@ -281,8 +320,9 @@ fn a_script_has_one_reply_a_command(rt: HostRuntime) -> Result<(), Fail> {
     let first = commands_of(rt.alloc(), "struct m:i32\nnew 1 0 i32:5\nfield 1 0")?;
     let then = commands_of(rt.alloc(), "field 1 0\nnew 1 0 i32:6\nfield 1 0\n")?;
     for (commands, want) in [(first, "type 0,ok,i32 5,"), (then, "NoSuchName,ok,i32 6,")] {
-        let replies = run_script(rt.alloc(), &mut store, &mut limiter, commands.as_slice())
-            .map_err(|_| AllocError)?;
+        let replies = run_script(rt.alloc(), &mut store, &mut limiter, commands.as_slice()).map_err(
+            |_| AllocError,
+        )?;
         let mut texts = String::new(rt.alloc());
         for reply in replies.iter() {
             texts.push_str(reply_text(rt.alloc(), reply)?.as_str())?;
