@@ -9,6 +9,7 @@ use std::test::Fail;
 
 /// What a run has: its words, its input, and the room of its sink with the numbers of the reads and
 /// writes that fail.
+#[derive(Clone, Copy, Drop)]
 struct Run<'a> {
     words: &'a str,
     input: &'a str,
@@ -18,7 +19,7 @@ struct Run<'a> {
 }
 
 /// A run with ends that never fail.
-fn run<'a>(words: &'a str, input: &'a str) -> Run<'a> {
+fn run_of<'a>(words: &'a str, input: &'a str) -> Run<'a> {
     Run {
         words,
         input,
@@ -104,7 +105,7 @@ fn runs_print_their_replies(rt: HostRuntime) -> Result<(), Fail> {
         ),
     ];
     for (words, input, want) in runs {
-        let (status, sink) = top(rt.alloc(), &run(words, input))?;
+        let (status, sink) = top(rt.alloc(), &run_of(words, input))?;
         assert_eq!(rt; status, 0);
         assert_eq!(rt; sink.bytes(), want.as_bytes(), "{input}");
     }
@@ -131,7 +132,7 @@ fn words_of_no_form_are_status_1(rt: HostRuntime) -> Result<(), Fail> {
         "copying 01 64",
     ];
     for words in forms {
-        let (status, sink) = top(rt.alloc(), &run(words, ONE_STRUCT))?;
+        let (status, sink) = top(rt.alloc(), &run_of(words, ONE_STRUCT))?;
         assert_eq!(rt; status, 1, "{words}");
         assert!(rt; sink.bytes().is_empty());
     }
@@ -185,7 +186,7 @@ fn inputs_and_lines_have_limits(rt: HostRuntime) -> Result<(), Fail> {
     ];
     for (length, want, written) in lengths {
         let input = times(rt.alloc(), "a", length)?;
-        let (status, sink) = top(rt.alloc(), &run("null 1 64", input.as_str()))?;
+        let (status, sink) = top(rt.alloc(), &run_of("null 1 64", input.as_str()))?;
         assert_eq!(rt; status, want);
         assert_eq!(rt; sink.bytes(), written.as_bytes());
     }
@@ -221,7 +222,7 @@ fn a_type_has_at_most_10_000_fields_and_a_heap_its_first_pages(
             input.push_str("\n")?;
         }
         input.push_str("field 1 9999\n")?;
-        let (status, sink) = top(rt.alloc(), &run(words, input.as_str()))?;
+        let (status, sink) = top(rt.alloc(), &run_of(words, input.as_str()))?;
         assert_eq!(rt; status, 0);
         assert_eq!(rt; sink.bytes(), want.as_bytes());
     }
