@@ -8,7 +8,7 @@ use Rattle.std.specs.FinMap as finite
 use Rattle.std.specs.HashMap as hash
 use Rattle.std.specs.Map.{lookup}
 use Rattle.gc_tables.specs.SideTables.{SideTable, value_at}
-use Rattle.gc_tables.specs.Interned.{IsInterned, IsIdOf, Interns, IsIndex}
+use Rattle.gc_tables.specs.Interned.{IsInterned, IsIdOf, AddsEntry, Interns, IsIndex}
 use Rattle.gc_tables.proofs.SlotLemmas.{tied, apart}
 
 module _ {T : Type 0} (entries : finite.FinMap nat_cmp T) (id : ℕ) (v : T) where
@@ -71,7 +71,28 @@ module _ {T : Type 0} where
           ],
           λ here. ap (λ e. finite.get e other) is ∙ get-added_here old.entries id value other here,
         );
-        known = λ there. absurd (missing there);
-        fresh = λ _. ap (λ e. finite.get e id) (sym same) ∙ free;
-        added = λ _. is;
+        change = inr (record { missing = missing; fresh = ap (λ e. finite.get e id) (sym same) ∙ free; added = is });
       }
+
+  pub interns-known : (t : SideTable T) (value : T) (id : ℕ) → IsIdOf t value id → Interns t t value id
+  interns-known t value id is_id = record { is_id = is_id; change = inl ((id, (is_id id).1 refl), refl) }
+
+  -- each id keeps its value
+  pub interns-keeps : (old new : SideTable T) (value : T) (id : ℕ) → Interns old new value id
+      → (other : ℕ) (v : T) → value_at old other ≡ Some v → value_at new other ≡ Some v
+  interns-keeps old new value id interns other v there =
+      elim interns.change [
+        | inl known ↦ ap (λ e. finite.get e other) known.1 ∙ there
+        | inr adds ↦
+            let differs : other ≢ id = λ same. none-some v (sym adds.fresh ∙ ap (finite.get old.entries) (sym same) ∙ there) in
+            ap (λ e. finite.get e other) adds.added ∙ get-added_behind old.entries id value other differs ∙ there
+      ]
+
+  -- equal ids exactly for equal values
+  pub interns-same : (old mid new : SideTable T) (one two : T) (first second : ℕ) → Interns old mid one first → Interns mid new two second
+      → (first ≡ second) ↔ (one ≡ two)
+  interns-same old mid new one two first second a b =
+      let kept : value_at new first ≡ Some one = interns-keeps mid new two second b first one ((a.is_id first).1 refl) in (
+        λ same. same_Some one two (sym kept ∙ (b.is_id first).1 same),
+        λ same. (b.is_id first).0 (kept ∙ ap Some same),
+      )

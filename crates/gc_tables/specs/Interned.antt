@@ -1,5 +1,5 @@
 -- Tables in which each value stands once.
-use Rattle.std.specs.Prelude.{◌≡◌, ◌↔◌, ℕ, Bool, Option, Some, None}
+use Rattle.std.specs.Prelude.{◌≡◌, ◌↔◌, ◌⊎◌, ℕ, Bool, Option, Some, None}
 use Rattle.std.specs.Ordering.{nat_cmp}
 use Rattle.std.specs.FinMap as map
 use Rattle.std.specs.HashMap as hash
@@ -14,13 +14,16 @@ module _ {T : Type 0} where
   abbrev pub IsIdOf : SideTable T → T → ℕ → Type 0
   IsIdOf t value id = (other : ℕ) → (value_at t other ≡ Some value) ↔ (other ≡ id)
 
-  -- The value has that id afterwards, and no other does. It is a new entry where the value wasn't
-  -- interned, and else nothing changes.
+  -- one more entry, for a value that wasn't interned, under an id that named none
+  pub record AddsEntry (old new : SideTable T) (value : T) (id : ℕ) : Type 0 where
+    pub missing : ¬ IsInterned old value
+    pub fresh : value_at old id ≡ None
+    pub added : new.entries ≡ map.insert old.entries id value
+
+  -- The value has that id afterwards, and no other does. Nothing changes where it was interned.
   pub record Interns (old new : SideTable T) (value : T) (id : ℕ) : Type 0 where
     pub is_id : IsIdOf new value id
-    pub known : IsInterned old value → new.entries ≡ old.entries
-    pub fresh : ¬ IsInterned old value → value_at old id ≡ None
-    pub added : ¬ IsInterned old value → new.entries ≡ map.insert old.entries id value
+    pub change : (IsInterned old value × (new.entries ≡ old.entries)) ⊎ AddsEntry old new value id
 
 -- the index finds each value of the table under its id, and nothing else
 abbrev pub IsIndex : {T S : Type 0} → (T → T → Bool) → map.FinMap nat_cmp T → hash.HashMap T ℕ S → Type 0

@@ -16,6 +16,19 @@ fn two_types(alloc: Global) -> Result<Types, TypeFault> {
     Ok(types)
 }
 
+/// Whether the ids of the entries are 0, 1 and so on.
+fn ids_count_up(slab: &Slab<u32>) -> bool {
+    let mut next = 0;
+    for (id, _value) in slab.iter() {
+        let raw = id.into_raw();
+        if raw != next {
+            return false;
+        }
+        next = raw + 1;
+    }
+    true
+}
+
 #[test]
 fn correct_dyn_object(rt: HostRuntime) -> Result<(), Fail> {
     let mut table = ExternRefHostDataTable::new(rt.alloc());
@@ -129,11 +142,8 @@ fn a_slab_is_filled_emptied_and_filled_again(rt: HostRuntime) -> Result<(), Fail
     for value in [20, 21, 22, 23] {
         slab.alloc(value)?;
     }
-    let ids: Vec<u32> = slab
-        .iter()
-        .map(|(id, _)| id.into_raw())
-        .collect(rt.alloc())?;
-    assert_eq!(rt; ids.as_slice(), [0, 1, 2, 3, 4].as_slice());
+    assert_eq!(rt; slab.len(), 5);
+    assert!(rt; ids_count_up(&slab));
     assert_eq!(rt; slab.get(b).copied(), Some(11));
     assert_eq!(rt; slab.dealloc(b), Some(11));
     assert_eq!(rt; slab.len(), 4);
