@@ -52,10 +52,13 @@ impl ContRefTable {
     /// another for another. It takes constant time on average, where the table doesn't grow.
     ///
     /// `Full` exactly where there is a continuation that isn't interned, and 2^31 are; `Memory` only
-    /// where there was no spare place. Both leave the entries as they were.
+    /// where there was no spare place. Both leave the entries as they were. A continuation that is
+    /// interned already takes no memory.
     pub fn intern(&mut self, cont: Option<u64>) -> Result<u32, InternFault>
         ensures none { cont ≡ None → (result ≡ Ok 0) × (self.new ≡ self.old) }
         ensures some { ForSome cont (λ value. IfOk result (λ raw. (0 < raw) × Interns self.old self.new value (raw - 1))) }
+
+        ensures known { ForSome cont (λ value. IsInterned self.old value → IsOk result) }
 
         ensures full { IsErrOf result InternFault.Full ↔ ((entry_count self.old ≡ max_entries) × ((value : ℕ) × (cont ≡ Some value) × (¬ IsInterned self.old value))) }
         ensures room { 0 < self.old.spare → ¬ IsErrOf result InternFault.Memory }
@@ -90,6 +93,7 @@ impl ContRefTable {
     /// The number of entries.
     pub fn len(&self) -> u64
         ensures value { result ≡ entry_count self.now }
+        ensures bound { result ≤ max_entries }
         ensures ids { (id : ℕ) → IsSome (value_at self.now id) → id < max_entries }
     {
         self.interner.len()

@@ -101,9 +101,11 @@ impl FuncRefTable {
     /// id of its own. It takes constant time on average, where the table doesn't grow.
     ///
     /// `Full` exactly where the value is new and there are 2^31 entries; `Memory` only where there
-    /// was no spare place. Both leave the entries as they were.
+    /// was no spare place. Both leave the entries as they were. A value that is interned already takes
+    /// no memory.
     pub fn intern(&mut self, func: Option<Func>) -> Result<FuncRefTableId, InternFault>
         ensures ok { IfOk result (Interns self.old self.new func) }
+        ensures known { IsInterned self.old func → IsOk result }
 
         ensures full { IsErrOf result InternFault.Full ↔ ((entry_count self.old ≡ max_entries) × (¬ IsInterned self.old func)) }
         ensures room { 0 < self.old.spare → ¬ IsErrOf result InternFault.Memory }
@@ -157,6 +159,7 @@ impl FuncRefTable {
     /// The number of entries.
     pub fn len(&self) -> u64
         ensures value { result ≡ entry_count self.now }
+        ensures bound { result ≤ max_entries }
         ensures ids { (id : ℕ) → IsSome (value_at self.now id) → id < max_entries }
     {
         self.interner.len()

@@ -144,6 +144,7 @@ impl<D> ExternRefHostDataTable<D> {
     /// The number of entries.
     pub fn len(&self) -> u64
         ensures value { result ≡ entry_count self.now }
+        ensures bound { result ≤ max_entries }
         ensures ids { (id : ℕ) → IsSome (value_at self.now id) → id < max_entries }
     {
         self.slab.len()

@@ -73,6 +73,7 @@ impl<K: Exact> Interner<K> {
     /// The id of the value, which is put in where it isn't there.
     pub(crate) fn intern(&mut self, value: K) -> Result<Id, InternFault>
         ensures ok { IfOk result (Interns self.old self.new value) }
+        ensures known { IsInterned self.old value → IsOk result }
         ensures full { IsErrOf result InternFault.Full ↔ ((entry_count self.old ≡ max_entries) × (¬ IsInterned self.old value)) }
         ensures room { 0 < self.old.spare → ¬ IsErrOf result InternFault.Memory }
         ensures err { OnErr result (self.new.entries ≡ self.old.entries) }
@@ -123,6 +124,7 @@ impl<K: Exact> Interner<K> {
 
     pub(crate) fn len(&self) -> u64
         ensures value { result ≡ entry_count self.now }
+        ensures bound { result ≤ max_entries }
         ensures ids { (id : ℕ) → IsSome (value_at self.now id) → id < max_entries }
     {
         self.values.len()

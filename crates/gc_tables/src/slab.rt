@@ -240,6 +240,7 @@ impl<T> Slab<T> {
     /// The number of entries.
     pub fn len(&self) -> u64
         ensures value { result ≡ entry_count self.now }
+        ensures bound { result ≤ max_entries }
         ensures ids { (id : ℕ) → IsSome (value_at self.now id) → id < max_entries }
     {
         u64::from(self.len)

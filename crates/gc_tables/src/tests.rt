@@ -2,7 +2,7 @@
 
 use crate::{
     ContFault, ContRefTable, ExternRefHostDataId, ExternRefHostDataTable, FuncFault, FuncRefTable,
-    FuncRefTableId, HostFault, Id, Slab,
+    FuncRefTableId, HostFault, Id, InternFault, Slab, SlabFault,
 };
 use gc_types::{Func, TypeFault, Types, VMSharedTypeIndex};
 use std::alloc::Global;
@@ -96,6 +96,8 @@ fn no_function_has_an_id_of_its_own(rt: HostRuntime) -> Result<(), Fail> {
     assert_eq!(rt; table.get_typed(&types, none, ty), Ok(None));
     if let Some(other) = FuncRefTableId::from_raw(3) {
         assert_eq!(rt; table.get_untyped(other), Err(FuncFault::BadFuncRefId));
+        let typed = table.get_typed(&types, other, ty);
+        assert_eq!(rt; typed, Err(FuncFault::BadFuncRefId));
     }
     Ok(())
 }
@@ -147,6 +149,50 @@ fn a_slab_is_filled_emptied_and_filled_again(rt: HostRuntime) -> Result<(), Fail
     assert_eq!(rt; slab.get(b).copied(), Some(11));
     assert_eq!(rt; slab.dealloc(b), Some(11));
     assert_eq!(rt; slab.len(), 4);
+    Ok(())
+}
+
+#[test]
+fn a_slab_is_emptied(rt: HostRuntime) -> Result<(), Fail> {
+    let mut slab = Slab::new(rt.alloc());
+    let a = slab.alloc(10u32)?;
+    let b = slab.alloc(11)?;
+    assert_eq!(rt; slab.dealloc(b), Some(11));
+    assert_eq!(rt; slab.dealloc(a), Some(10));
+    assert_eq!(rt; slab.len(), 0);
+    assert!(rt; slab.is_empty());
+    let c = slab.alloc(12)?;
+    let d = slab.alloc(13)?;
+    assert_eq!(rt; slab.get(c).copied(), Some(12));
+    assert_eq!(rt; slab.get(d).copied(), Some(13));
+    assert!(rt; ids_count_up(&slab));
+    assert!(rt; !slab.is_empty());
+    Ok(())
+}
+
+#[test]
+fn faults_have_texts(rt: HostRuntime) -> Result<(), Fail> {
+    let alloc = rt.alloc();
+    assert_eq!(rt;
+        format!(in alloc; "{}", InternFault::Full)?.as_str(),
+        "the table is full"
+    );
+    assert_eq!(rt;
+        format!(in alloc; "{}", InternFault::Memory)?.as_str(),
+        "out of memory"
+    );
+    assert_eq!(rt;
+        format!(in alloc; "{}", SlabFault::Full(1u32))?.as_str(),
+        "the table is full"
+    );
+    assert_eq!(rt;
+        format!(in alloc; "{}", SlabFault::Memory(1u32))?.as_str(),
+        "out of memory"
+    );
+    assert_eq!(rt;
+        format!(in alloc; "{}", FuncFault::BadFuncRefId)?.as_str(),
+        "the id names no function"
+    );
     Ok(())
 }
 

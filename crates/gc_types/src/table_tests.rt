@@ -17,16 +17,19 @@ fn nullable(heap_type: HeapType) -> RefType {
     }
 }
 
+fn byte() -> FieldType {
+    FieldType {
+        mutability: Mutability::Var,
+        element_type: StorageType::I8,
+    }
+}
+
 #[test]
 fn types_are_numbered_and_named(rt: HostRuntime) -> Result<(), Fail> {
     let mut types = Types::new(rt.alloc(), 3, 8);
     assert!(rt; types.is_empty());
-    let byte = FieldType {
-        mutability: Mutability::Var,
-        element_type: StorageType::I8,
-    };
-    let structure = types.declare_struct(&[byte], None, false)?;
-    let array = types.declare_array(byte, None, true)?;
+    let structure = types.declare_struct(&[byte()], None, false)?;
+    let array = types.declare_array(byte(), None, true)?;
     let exception = types.declare_exn(&[ValType::I64])?;
     let function = types.declare_func(&[ValType::I32], &[], None, false)?;
     assert!(rt; !types.is_empty());
@@ -36,27 +39,27 @@ fn types_are_numbered_and_named(rt: HostRuntime) -> Result<(), Fail> {
     assert_eq!(rt; function.index(), index(3));
     assert_eq!(rt; structure.engine(), 3);
     assert_eq!(rt; array.number(), 8);
-    for ty in 0..5 {
-        assert_eq!(rt;
-            types.struct_type(index(ty)).map(|name| name.index()),
-            (ty == 0).then_some(index(0))
-        );
-        assert_eq!(rt;
-            types.array_type(index(ty)).map(|name| name.index()),
-            (ty == 1).then_some(index(1))
-        );
-        assert_eq!(rt;
-            types.exn_type(index(ty)).map(|name| name.index()),
-            (ty == 2).then_some(index(2))
-        );
-        assert_eq!(rt;
-            types.func_type(index(ty)).map(|name| name.index()),
-            (ty == 3).then_some(index(3))
-        );
-        assert_eq!(rt; types.struct_len(index(ty)), (ty == 0).then_some(1));
-    }
     assert!(rt; types.declare_struct(&[], Some(index(3)), false).is_err());
-    assert!(rt; types.declare_array(byte, Some(index(1)), false).is_err());
+    assert!(rt; types.declare_array(byte(), Some(index(1)), false).is_err());
+    Ok(())
+}
+
+#[test]
+fn a_name_is_had_by_its_kind(rt: HostRuntime) -> Result<(), Fail> {
+    let mut types = Types::new(rt.alloc(), 3, 8);
+    types.declare_struct(&[byte()], None, false)?;
+    types.declare_array(byte(), None, true)?;
+    types.declare_exn(&[ValType::I64])?;
+    types.declare_func(&[ValType::I32], &[], None, false)?;
+    for ty in 0..5 {
+        let (structure, array) = (types.struct_type(index(ty)), types.array_type(index(ty)));
+        let (exception, function) = (types.exn_type(index(ty)), types.func_type(index(ty)));
+        assert_eq!(rt; structure.is_some(), ty == 0);
+        assert_eq!(rt; array.is_some(), ty == 1);
+        assert_eq!(rt; exception.is_some(), ty == 2);
+        assert_eq!(rt; function.is_some(), ty == 3);
+        assert_eq!(rt; types.struct_len(index(ty)).is_some(), ty == 0);
+    }
     Ok(())
 }
 

@@ -5,8 +5,8 @@ ghost use Rattle.std.specs.Prelude.{◌≡◌, IfOk};
 use crate::{FuncRefTable, InternFault};
 use gc_types::Func;
 
-/// What was interned is what is read.
-fn read_back(table: &mut FuncRefTable, func: Option<Func>) -> Result<Option<Func>, InternFault>
+/// A function value that was interned is what is read.
+pub fn read_back(table: &mut FuncRefTable, func: Option<Func>) -> Result<Option<Func>, InternFault>
     ensures { IfOk result (λ read. read ≡ func) }
 {
     let id = table.intern(func)?;
