@@ -17,8 +17,8 @@ fn an_offset_near_the_greatest_number_is_refused(rt: HostRuntime) {
 }
 
 #[test]
-fn reads_of_both_views_agree(rt: HostRuntime) -> Result<(), Fail> {
-    let bytes = [
+fn numbers_are_read_with_the_lowest_byte_first(rt: HostRuntime) -> Result<(), Fail> {
+    let mut bytes = [
         1, 0x82, 3, 0x84, 5, 6, 7, 0x88, 9, 10, 11, 12, 13, 14, 15, 16,
     ];
     let view = VMGcObjectData::from_slice(&bytes);
@@ -36,6 +36,22 @@ fn reads_of_both_views_agree(rt: HostRuntime) -> Result<(), Fail> {
     );
     assert!(rt; view.read_u32(13).is_err());
     assert_eq!(rt; view.slice(2, 3)?, [3, 0x84, 5].as_slice());
+    let part = VMGcObjectDataMut::from_part(12, &mut bytes);
+    assert_eq!(rt; part.read_u8(13)?, 0x82);
+    assert_eq!(rt; part.read_i8(13)?, -126);
+    assert_eq!(rt; part.read_u16(12)?, 0x8201);
+    assert_eq!(rt; part.read_i16(12)?, -32_255);
+    assert_eq!(rt; part.read_u32(12)?, 0x8403_8201);
+    assert_eq!(rt; part.read_i32(16)?, -2_012_805_627);
+    assert_eq!(rt; part.read_u64(12)?, 0x8807_0605_8403_8201);
+    assert_eq!(rt; part.read_i64(20)?, 0x100F_0E0D_0C0B_0A09);
+    assert_eq!(rt;
+        part.read_v128(12)?.as_u128(),
+        0x100F_0E0D_0C0B_0A09_8807_0605_8403_8201
+    );
+    assert!(rt; part.read_u32(25).is_err());
+    assert!(rt; part.read_u8(11).is_err());
+    assert!(rt; part.read_u8(0).is_err());
     Ok(())
 }
 
@@ -82,6 +98,50 @@ fn a_slice_is_exactly_its_range(rt: HostRuntime) -> Result<(), Fail> {
     lent.copy_from_slice(&[8, 9]);
     part.write_u8(15, 7)?;
     assert_eq!(rt; bytes, [1, 8, 9, 7]);
+    Ok(())
+}
+
+#[test]
+fn bytes_are_lent_for_writing_or_refused(rt: HostRuntime) -> Result<(), Fail> {
+    let cases = [
+        (12, 6, Some([1, 1, 1, 1, 1, 1])),
+        (12, 2, Some([1, 1, 7, 7, 7, 7])),
+        (14, 3, Some([7, 7, 1, 1, 1, 7])),
+        (17, 1, Some([7, 7, 7, 7, 7, 1])),
+        (18, 0, Some([7; 6])),
+        (11, 1, None),
+        (0, 6, None),
+        (13, 6, None),
+        (18, 1, None),
+        (u32::MAX, 2, None),
+    ];
+    for (offset, len, want) in cases {
+        let mut bytes = [7; 6];
+        let mut view = VMGcObjectDataMut::from_part(12, &mut bytes);
+        let lent = view.slice_mut(offset, len);
+        let granted = lent.is_ok();
+        if let Ok(part) = lent {
+            part.fill(1);
+        }
+        assert_eq!(rt; granted, want.is_some(), "{len} bytes at {offset}");
+        assert_eq!(rt; bytes, want.unwrap_or([7; 6]), "{len} bytes at {offset}");
+    }
+    Ok(())
+}
+
+#[test]
+fn a_part_is_written_at_its_own_offsets(rt: HostRuntime) -> Result<(), Fail> {
+    let mut bytes = [0; 8];
+    let mut part = VMGcObjectDataMut::from_part(12, &mut bytes);
+    part.write_u16(13, 0x0201)?;
+    part.copy_from_slice(17, &[3, 4, 5])?;
+    part.copy_within(13..15, 15)?;
+    assert!(rt; part.write_u16(11, 9).is_err());
+    assert!(rt; part.write_u16(19, 9).is_err());
+    assert!(rt; part.copy_from_slice(18, &[9, 9, 9]).is_err());
+    assert!(rt; part.copy_within(11..13, 14).is_err());
+    assert!(rt; part.copy_within(12..14, 11).is_err());
+    assert_eq!(rt; bytes, [0, 1, 2, 1, 2, 3, 4, 5]);
     Ok(())
 }
 

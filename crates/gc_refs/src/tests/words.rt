@@ -92,6 +92,7 @@ fn a_word_is_null_a_number_or_a_place(rt: HostRuntime) -> Result<(), Fail> {
             gc_ref.unchecked_copy()
         );
     }
+    crate::laws::discriminant_is_the_lowest_bit();
     assert_eq!(rt; VMGcRef::I31_REF_DISCRIMINANT, 1);
     Ok(())
 }
@@ -100,8 +101,6 @@ fn a_word_is_null_a_number_or_a_place(rt: HostRuntime) -> Result<(), Fail> {
 fn words_have_their_texts(rt: HostRuntime) -> Result<(), Fail> {
     let alloc = rt.alloc();
     let gc_ref = VMGcRef::from_raw_u32(0xAB0).expect(&rt, "not null");
-    let exn = VMExnRef::new_unchecked(gc_ref.unchecked_copy());
-    let typed: TypedGcRef<VMGcHeader> = TypedGcRef::new_unchecked(gc_ref.unchecked_copy());
     let minus_one = I31::wrapping_i32(-1);
     let texts = [
         (format!(in alloc; "{}", Lower(&gc_ref))?, "ab0"),
@@ -109,9 +108,7 @@ fn words_have_their_texts(rt: HostRuntime) -> Result<(), Fail> {
         (format!(in alloc; "{}", Upper(&gc_ref))?, "AB0"),
         (format!(in alloc; "{:#}", Upper(&gc_ref))?, "0xAB0"),
         (format!(in alloc; "{}", Placed(&gc_ref))?, "0xab0"),
-        (format!(in alloc; "{}", Placed(&exn))?, "0xab0"),
         (format!(in alloc; "{gc_ref:?}")?, "VMGcRef(2736)"),
-        (format!(in alloc; "{exn:?}")?, "VMExnRef(VMGcRef(2736))"),
         (
             format!(in alloc; "{minus_one:?}")?,
             "I31 { as_u32: 2147483647, as_i32: -1 }",
@@ -124,12 +121,54 @@ fn words_have_their_texts(rt: HostRuntime) -> Result<(), Fail> {
     for (text, want) in &texts {
         assert_eq!(rt; text.as_str(), *want);
     }
-    let shown = format!(in alloc; "{typed:?}")?;
-    assert!(rt;
-        shown
-            .as_str()
-            .starts_with("TypedGcRef { gc_ref: VMGcRef(2736)")
-    );
+    let full = VMGcRef::from_raw_u32(0xFEDC_BA90).expect(&rt, "not null");
+    let wide = [
+        (format!(in alloc; "{}", Lower(&full))?, "fedcba90"),
+        (format!(in alloc; "{}", Upper(&full))?, "FEDCBA90"),
+        (format!(in alloc; "{}", Placed(&full))?, "0xfedcba90"),
+        (format!(in alloc; "{full:?}")?, "VMGcRef(4275878544)"),
+    ];
+    for (text, want) in &wide {
+        assert_eq!(rt; text.as_str(), *want);
+    }
+    Ok(())
+}
+
+#[test]
+fn references_of_a_kind_have_their_texts(rt: HostRuntime) -> Result<(), Fail> {
+    let alloc = rt.alloc();
+    let gc_ref = VMGcRef::from_raw_u32(0xAB0).expect(&rt, "not null");
+    let of_struct = VMStructRef::new_unchecked(gc_ref.unchecked_copy());
+    let of_array = VMArrayRef::new_unchecked(gc_ref.unchecked_copy());
+    let of_exn = VMExnRef::new_unchecked(gc_ref.unchecked_copy());
+    let of_extern = VMExternRef::new_unchecked(gc_ref.unchecked_copy());
+    let typed: TypedGcRef<VMGcHeader> = TypedGcRef::new_unchecked(gc_ref);
+    let texts = [
+        (format!(in alloc; "{}", Placed(&of_struct))?, "0xab0"),
+        (format!(in alloc; "{}", Placed(&of_array))?, "0xab0"),
+        (format!(in alloc; "{}", Placed(&of_exn))?, "0xab0"),
+        (format!(in alloc; "{}", Placed(&of_extern))?, "0xab0"),
+        (
+            format!(in alloc; "{of_struct:?}")?,
+            "VMStructRef(VMGcRef(2736))",
+        ),
+        (
+            format!(in alloc; "{of_array:?}")?,
+            "VMArrayRef(VMGcRef(2736))",
+        ),
+        (format!(in alloc; "{of_exn:?}")?, "VMExnRef(VMGcRef(2736))"),
+        (
+            format!(in alloc; "{of_extern:?}")?,
+            "VMExternRef(VMGcRef(2736))",
+        ),
+        (
+            format!(in alloc; "{typed:?}")?,
+            "TypedGcRef { gc_ref: VMGcRef(2736), object: PhantomData<_> }",
+        ),
+    ];
+    for (text, want) in &texts {
+        assert_eq!(rt; text.as_str(), *want);
+    }
     Ok(())
 }
 
@@ -150,6 +189,9 @@ fn typed_references_keep_their_word(rt: HostRuntime) {
     assert_eq!(rt; *of_extern.as_gc_ref(), gc_ref);
     assert_eq!(rt; *typed.as_untyped(), gc_ref);
     assert_eq!(rt; of_struct.unchecked_copy(), of_struct);
+    assert_eq!(rt; of_array.unchecked_copy(), of_array);
+    assert_eq!(rt; of_exn.unchecked_copy(), of_exn);
+    assert_eq!(rt; of_extern.unchecked_copy(), of_extern);
     assert_eq!(rt; typed.unchecked_copy(), typed);
     *of_exn.as_gc_ref_mut() = VMGcRef::from_i31(I31::wrapping_u32(5));
     assert_eq!(rt; of_exn.as_gc_ref().as_raw_u32(), 11);
