@@ -1,3 +1,6 @@
-pub mod Codes
+pub mod Barriers
+pub mod Collection
+pub mod Content
 pub mod Heap
-pub mod Walk
+pub mod Objects
+pub mod References

@@ -1,9 +1,19 @@
 //! The interface of a heap.
 
+use crate::collection::{GcProgress, GcStoreTraceState};
 use crate::memory::HeapMemory;
-use gc_refs::{RefFault, VMGcHeader, VMGcRef};
-use gc_types::{GcStructLayout, Layouts, VMSharedTypeIndex};
+use gc_free::Steps;
+use gc_refs::{RefFault, VMArrayRef, VMExternRef, VMGcHeader, VMGcObjectData, VMGcRef};
+use gc_roots::GcRootsList;
+use gc_tables::ExternRefHostDataId;
+use gc_types::{GcArrayLayout, GcStructLayout, Layouts, VMSharedTypeIndex};
+use std::ops::Range;
+use std::sync::ledger::Ledger;
 use thiserror::Error;
+
+/// The kind of a heap. It decides how the heap's objects are laid out, so it is the same as their
+/// layouts.
+pub type HeapKind = Layouts;
 
 /// Why an allocation failed that no growth can help.
 #[derive(Clone, Copy, Debug, PartialEq, Eq, Error)]
@@ -16,23 +26,65 @@ pub enum HeapFault {
 
 /// A heap of garbage-collected objects.
 ///
-/// What contracts see of it is `seen`: whether it has a memory, its content (a finite map from places
-/// to objects), its capacity and its allocated bytes.
+/// What contracts see of it is `seen`: its content (a finite map from places to objects), its
+/// capacity and its counts (`HeapView` of `gc_model`). All calls but `is_attached` want a heap that is
+/// `sound`, as it is outside a collection and while its memory is not taken; of a sound heap `IsHeap`
+/// is true, by the law `is_heap`.
+///
+/// A word is an `i31` where it is odd, and else the place of an object. Reads are safe for every
+/// word, and answer `BadRef` always for an i31 and else only for a word that names no held object of
+/// the kind that is asked for; all other calls want a word of a held object.
 pub trait GcHeap {
-    ghost use Rattle.std.specs.Prelude.{◌≡◌, ◌≤◌, ◌%◌, ◌-◌, true, false, length, OnOk, OnErr, IfErr, IsOkAnd, IsErr, Some};
-    ghost use Rattle.std.specs.FinMap as map;
+    ghost use Rattle.std.specs.Prelude.{ℕ, ◌≡◌, ◌≤◌, ◌<◌, ◌⊎◌, ◌%◌, ◌-◌, ◌+◌, ◌^◌, ◌++◌, Bool, true, false, List, length, take, drop, replicate, OnOk, OnErr, IfErr, IsOkAnd, IsErr, IsOk, Some};
+    ghost use Rattle.std.specs.Ordering.{nat_cmp};
+    ghost use Rattle.std.specs.Option.{option_copied};
+    ghost use Rattle.std.specs.FinMap as finite;
+    ghost use Rattle.std.specs.FinSet as finset;
     ghost use Rattle.gc_types.specs.declared.kind.Layouts.{Layouts};
-    ghost use Rattle.gc_types.specs.Layouts.{struct_base};
-    ghost use Rattle.gc_model.specs.Views.{HeapView, HeapObject, u32_at};
-    ghost use Rattle.gc_heap.specs.Heap.{empty_heap, zeroed, layout_kind, Allocated, IsHeldRange, with_u32, put_object, IsHeaderOf};
+    ghost use Rattle.gc_types.specs.declared.kind.VMGcKind.{VMGcKind};
+    ghost use Rattle.gc_types.specs.declared.kind.VMGcKind.TheVariants.{ExternRef, StructRef, ArrayRef, ExnRef};
+    ghost use Rattle.gc_types.specs.Declarations.{Declaration};
+    ghost use Rattle.gc_types.specs.Layouts.{array_base};
+    ghost use Rattle.gc_refs.specs.Header.{IsOfKind, spare_bits};
+    ghost use Rattle.gc_roots.specs.Roots.{Root};
+    ghost use Rattle.gc_model.specs.Views.{HeapView, HeapObject, detached_in, u32_at};
+    ghost use Rattle.gc_heap.specs.declared.collection.GcProgress.{GcProgress};
+    ghost use Rattle.gc_heap.specs.Objects.{held_size, extern_size, first_offset, array_length, external, zeroed, HasFields, IsHeaderOf, IsObjectData};
+    ghost use Rattle.gc_heap.specs.References.{SpareFits, LayoutTraces, ArrayTraces};
+    ghost use Rattle.gc_heap.specs.Content.{IsHeld, IsHeap};
+    ghost use Rattle.gc_heap.specs.Heap.{empty_heap, grown, Allocated, layout_kind, new_struct, new_array, array_size, given_back, IsWritable, with_data, put_object, with_spare_of, CanAllocate, CanGiveBack, IsStructOrExn, IsArray, IsSameHeader};
+    ghost use Rattle.gc_heap.specs.Barriers.{CanName, CanUnname, CanNameSlot, CanUnnameSlot, IsNamed, cloned, dropped, exposed, overwritten};
+    ghost use Rattle.gc_heap.specs.Collection.{Start, has_host, IsPartOf, CanCollect, Collected, Stepped, IsStepCount};
+
+    /// What a collection knows between two increments.
+    type State: Drop;
 
     /// What contracts see of the heap.
     ghost seen: { Self → HeapView };
 
-    /// The layout of its objects.
-    ghost LAYOUTS: { Layouts };
+    /// The heap is as it is outside a collection, and has its memory or none.
+    ghost sound: { Self → Type 0 };
 
-    const LAYOUTS: Layouts;
+    /// The memory of the heap is taken; the heap was seen so before, with a memory of these bytes.
+    ghost taken: { Self → HeapView → List ℕ → Type 0 };
+
+    /// A state of `begin`, of which no increment was done.
+    ghost begun: { Self.State → Type 0 };
+
+    /// How many steps the counted increments of a state took.
+    ghost ticks: { Self.State → ℕ };
+
+    /// A collection that began there has done so many increments, each of them counted or not; it
+    /// has this heap, state, roots, types and host values now.
+    ghost under_way: { Start → ℕ → Bool → Self → Self.State → List Root → List Declaration → (ℕ → Bool) → Type 0 };
+
+    /// What is left of a collection; each increment makes it less.
+    ghost left: { Self → Self.State → ℕ };
+
+    /// The kind of the heap.
+    ghost KIND: { Layouts };
+
+    const KIND: HeapKind;
 
     // Attaching
 
@@ -43,40 +95,288 @@ pub trait GcHeap {
     /// Gives the heap its memory. It holds no objects then. An Err is want of memory and hands the
     /// memory back.
     fn attach(&mut self, memory: HeapMemory) -> Result<(), HeapMemory>
-        requires { (seen self.old).attached ≡ false }
-        ensures ok { OnOk result (seen self.new ≡ empty_heap (length memory)) }
+        requires sound { sound self.old }
+        requires detached { (seen self.old).attached ≡ false }
+        ensures sound { sound self.new }
+        ensures ok { OnOk result (seen self.new ≡ empty_heap KIND (length memory) (seen self.old).scopes) }
         ensures err { OnErr result (seen self.new ≡ seen self.old) }
         ensures back { IfErr result (λ given. given ≡ memory) };
 
+    /// Takes the memory away. All objects are forgotten, and no scope is open.
+    fn detach(&mut self) -> HeapMemory
+        requires sound { sound self.old }
+        requires attached { (seen self.old).attached ≡ true }
+        ensures sound { sound self.new }
+        ensures seen { seen self.new ≡ detached_in 0 }
+        ensures size { length result ≡ (seen self.old).capacity };
+
+    /// Hands the memory out, so that it can grow. Until it is replaced only `is_attached` may be
+    /// called, which is false.
+    fn take_memory(&mut self) -> HeapMemory
+        requires sound { sound self.old }
+        requires attached { (seen self.old).attached ≡ true }
+        ensures taken { taken self.new (seen self.old) result }
+        ensures size { length result ≡ (seen self.old).capacity }
+        ensures none { (seen self.new).attached ≡ false };
+
+    /// Gives the memory back that was taken, with that many new bytes behind its old ones. All
+    /// objects stay.
+    fn replace_memory(&mut self, memory: HeapMemory, delta_bytes_grown: u64)
+        requires taken { (view : HeapView) × ((bytes : List ℕ) × (taken self.old view bytes × (memory ≡ bytes ++ replicate delta_bytes_grown 0) × ((delta_bytes_grown ≡ 0) ⊎ (view.needs_gc ≡ false)))) }
+        ensures sound { sound self.new }
+        ensures seen { (view : HeapView) (bytes : List ℕ) → taken self.old view bytes → seen self.new ≡ grown KIND view delta_bytes_grown };
+
+    // Scopes in which no collection may begin
+
+    /// Opens a scope in which no collection may begin.
+    fn enter_no_gc_scope(&mut self)
+        requires sound { sound self.old }
+        requires below { (seen self.old).scopes < 2 ^ 64 - 1 }
+        ensures sound { sound self.new }
+        ensures seen { seen self.new ≡ record (seen self.old) { scopes = (seen self.old).scopes + 1 } };
+
+    /// Closes such a scope.
+    fn exit_no_gc_scope(&mut self)
+        requires sound { sound self.old }
+        requires open { 0 < (seen self.old).scopes }
+        ensures sound { sound self.new }
+        ensures seen { seen self.new ≡ record (seen self.old) { scopes = (seen self.old).scopes - 1 } };
+
+    // Barriers
+
+    /// The same word once more. A heap that counts references counts it.
+    fn clone_gc_ref(&mut self, gc_ref: &VMGcRef) -> VMGcRef
+        requires sound { sound self.old }
+        requires named { CanName (seen self.old) gc_ref.now }
+        ensures sound { sound self.new }
+        ensures value { result ≡ gc_ref.now }
+        ensures seen { seen self.new ≡ cloned (seen self.old) gc_ref.now };
+
+    /// A word is given up. A heap that counts references takes it off.
+    fn drop_gc_ref(&mut self, gc_ref: VMGcRef)
+        requires sound { sound self.old }
+        requires named { CanUnname (seen self.old) gc_ref }
+        ensures sound { sound self.new }
+        ensures seen { seen self.new ≡ dropped (seen self.old) gc_ref };
+
+    /// Overwrites a slot with a copy of a word, or with null. A heap that counts references counts
+    /// the copy before it takes off what the slot held.
+    fn write_gc_ref(&mut self, destination: &mut Option<VMGcRef>, source: Option<&VMGcRef>)
+        requires sound { sound self.old }
+        requires source { CanNameSlot (seen self.old) (option_copied source) }
+        requires destination { CanUnnameSlot (seen self.old) destination.old }
+        ensures sound { sound self.new }
+        ensures value { destination.new ≡ option_copied source.entry }
+        ensures seen { seen self.new ≡ overwritten (seen self.old) destination.old (option_copied source.entry) };
+
+    /// A word is shown to a frame slot, which holds it from then on. A heap that counts references
+    /// puts its object on the list of shown words, in the place of the name that is given up.
+    fn expose_gc_ref_to_wasm(&mut self, gc_ref: VMGcRef)
+        requires sound { sound self.old }
+        requires named { CanUnname (seen self.old) gc_ref }
+        ensures sound { sound self.new }
+        ensures seen { seen self.new ≡ exposed (seen self.old) gc_ref };
+
     // Allocation
 
-    /// Allocates a struct or an exception, whose bytes are 0 behind its header. The inner Err is the
+    /// Allocates an object of `size` bytes with that header, whose data is 0. The inner Err is the
     /// number of bytes that the heap would have to grow by.
+    fn alloc_raw(
+        &mut self,
+        header: VMGcHeader,
+        size: u32,
+    ) -> Result<Result<VMGcRef, u64>, HeapFault>
+        requires sound { sound self.old }
+        requires attached { (seen self.old).attached ≡ true }
+        requires fits { CanAllocate KIND header size }
+        ensures sound { sound self.new }
+        ensures allocated { (kind : VMGcKind) → IsOfKind kind header.kind_word → Allocated KIND (seen self.old) (seen self.new) (zeroed KIND kind header.type_word (header.kind_word % spare_bits) size) size result };
+
+    /// Allocates an external object for that host value.
+    fn alloc_externref(
+        &mut self,
+        host_data: ExternRefHostDataId,
+    ) -> Result<Result<VMExternRef, u64>, HeapFault>
+        requires sound { sound self.old }
+        requires attached { (seen self.old).attached ≡ true }
+        ensures sound { sound self.new }
+        ensures allocated { Allocated KIND (seen self.old) (seen self.new) (external host_data) (extern_size KIND) result };
+
+    /// Allocates a struct or an exception, whose data is 0.
     fn alloc_uninit_struct_or_exn(
         &mut self,
         ty: VMSharedTypeIndex,
         layout: &GcStructLayout,
     ) -> Result<Result<VMGcRef, u64>, HeapFault>
+        requires sound { sound self.old }
         requires attached { (seen self.old).attached ≡ true }
-        requires size { struct_base LAYOUTS ≤ layout.now.size }
-        ensures { Allocated LAYOUTS (seen self.old) (seen self.new) (zeroed LAYOUTS (layout_kind layout.now) ty layout.now.size) layout.now.size result };
+        requires size { first_offset KIND (layout_kind layout.now) ≤ layout.now.size }
+        requires traces { LayoutTraces KIND layout.now (first_offset KIND (layout_kind layout.now)) }
+        ensures sound { sound self.new }
+        ensures allocated { Allocated KIND (seen self.old) (seen self.new) (new_struct KIND ty layout.now) layout.now.size result };
+
+    /// Allocates an array of that length, whose elements are 0.
+    fn alloc_uninit_array(
+        &mut self,
+        ty: VMSharedTypeIndex,
+        length: u32,
+        layout: &GcArrayLayout,
+    ) -> Result<Result<VMArrayRef, u64>, HeapFault>
+        requires sound { sound self.old }
+        requires attached { (seen self.old).attached ≡ true }
+        requires size { array_base KIND ≤ layout.now.base_size }
+        requires traces { ArrayTraces KIND layout.now }
+        ensures sound { sound self.new }
+        ensures allocated { Allocated KIND (seen self.old) (seen self.new) (new_array KIND ty length layout.now) (array_size layout.now length) result };
+
+    /// Gives back a struct or an exception that nothing names, as one that was just allocated and
+    /// will not be used. A heap that counts references frees it; what its fields name is not told.
+    fn dealloc_uninit_struct_or_exn(&mut self, gc_ref: VMGcRef)
+        requires sound { sound self.old }
+        requires held { CanGiveBack (seen self.old) gc_ref IsStructOrExn }
+        ensures sound { sound self.new }
+        ensures seen { (object : HeapObject) → finite.get (seen self.old).content gc_ref ≡ Some object → seen self.new ≡ given_back KIND (seen self.old) gc_ref object };
+
+    /// Gives back an array that nothing names.
+    fn dealloc_uninit_array(&mut self, array: VMArrayRef)
+        requires sound { sound self.old }
+        requires held { CanGiveBack (seen self.old) array IsArray }
+        ensures sound { sound self.new }
+        ensures seen { (object : HeapObject) → finite.get (seen self.old).content array ≡ Some object → seen self.new ≡ given_back KIND (seen self.old) array object };
 
     // Reading and writing
 
-    /// The header of an object. `BadRef` for a 31-bit number, and else only for a word that names no
-    /// held object.
-    fn header(&self, gc_ref: &VMGcRef) -> Result<VMGcHeader, RefFault>
-        ensures held { (object : HeapObject) → map.get (seen self.now).content gc_ref.now ≡ Some object → IsOkAnd result (IsHeaderOf object) }
-        ensures number { gc_ref.now % 2 ≡ 1 → IsErr result };
+    /// The id of the host value of an external object.
+    fn externref_host_data(&self, r: &VMExternRef) -> Result<ExternRefHostDataId, RefFault>
+        requires { sound self.now }
+        ensures held { (object : HeapObject) → finite.get (seen self.now).content r.now ≡ Some object → object.kind ≡ ExternRef → IsOkAnd result (λ id. id + 1 ≡ u32_at object.bytes 0) }
+        ensures number { r.now % 2 ≡ 1 → IsErr result };
 
-    /// The 32-bit number at an offset of a held object, which lies behind its header and inside it.
-    fn read_u32(&self, gc_ref: &VMGcRef, offset: u32) -> u32
-        requires { IsHeldRange LAYOUTS (seen self.now) gc_ref.now offset 4 }
-        ensures { (object : HeapObject) → map.get (seen self.now).content gc_ref.now ≡ Some object → result ≡ u32_at object.bytes (offset - struct_base LAYOUTS) };
+    /// The header of an object.
+    fn header(&self, r: &VMGcRef) -> Result<VMGcHeader, RefFault>
+        requires { sound self.now }
+        ensures held { (object : HeapObject) → finite.get (seen self.now).content r.now ≡ Some object → IsOkAnd result (IsHeaderOf KIND object) }
+        ensures number { r.now % 2 ≡ 1 → IsErr result };
 
-    /// Writes the 32-bit number at an offset of a held object, which lies behind its header and
-    /// inside it.
-    fn write_u32(&mut self, gc_ref: &VMGcRef, offset: u32, value: u32)
-        requires { IsHeldRange LAYOUTS (seen self.old) gc_ref.now offset 4 }
-        ensures { (object : HeapObject) → map.get (seen self.old).content gc_ref.now ≡ Some object → seen self.new ≡ put_object (seen self.old) gc_ref.now (with_u32 LAYOUTS object offset value) };
+    /// Sets the header of an object, whose kind and type stay. The heap keeps the spare bits that it
+    /// uses itself: all of them in a null and a copying heap, the lowest three in a counting heap.
+    fn set_header(&mut self, r: &VMGcRef, header: VMGcHeader) -> Result<(), RefFault>
+        requires sound { sound self.old }
+        requires named { IsNamed (seen self.old) r.now }
+        requires same { (object : HeapObject) → finite.get (seen self.old).content r.now ≡ Some object → IsSameHeader object header }
+        ensures sound { sound self.new }
+        ensures held { (object : HeapObject) → finite.get (seen self.old).content r.now ≡ Some object → IsOk result × (seen self.new ≡ put_object (seen self.old) r.now (with_spare_of KIND object (header.kind_word % spare_bits))) }
+        ensures number { r.now % 2 ≡ 1 → IsErr result × (seen self.new ≡ seen self.old) };
+
+    /// The bytes of an object, its header and the heap's own words among them; in a copying heap
+    /// they are a multiple of 16.
+    fn object_size(&self, r: &VMGcRef) -> Result<usize, RefFault>
+        requires { sound self.now }
+        ensures held { (object : HeapObject) → finite.get (seen self.now).content r.now ≡ Some object → IsOkAnd result (λ size. size ≡ held_size KIND object) }
+        ensures number { r.now % 2 ≡ 1 → IsErr result };
+
+    /// Where the bytes of an object lie in the heap's bytes.
+    fn object_range(&self, r: &VMGcRef) -> Result<Range<usize>, RefFault>
+        requires { sound self.now }
+        ensures held { (object : HeapObject) → finite.get (seen self.now).content r.now ≡ Some object → IsOkAnd result (λ range. (range.start ≡ r.now) × (range.end ≡ r.now + held_size KIND object)) }
+        ensures number { r.now % 2 ≡ 1 → IsErr result };
+
+    /// The length of an array.
+    fn array_len(&self, r: &VMArrayRef) -> Result<u32, RefFault>
+        requires { sound self.now }
+        ensures held { (object : HeapObject) → finite.get (seen self.now).content r.now ≡ Some object → object.kind ≡ ArrayRef → IsOkAnd result (λ count. count ≡ array_length object) }
+        ensures number { r.now % 2 ≡ 1 → IsErr result };
+
+    /// Lends the bytes of an object for reading.
+    fn gc_object_data(&self, r: &VMGcRef) -> Result<VMGcObjectData<'_>, RefFault>
+        requires { sound self.now }
+        ensures held { (object : HeapObject) → finite.get (seen self.now).content r.now ≡ Some object → IsOkAnd result (IsObjectData KIND object) }
+        ensures number { r.now % 2 ≡ 1 → IsErr result };
+
+    /// Writes bytes at an offset of an object, in the part of it that its holder may write: from the
+    /// first free offset of a struct, the instance word of an exception or the element base of an
+    /// array on.
+    fn write_object_data(&mut self, r: &VMGcRef, offset: u32, bytes: &[u8])
+        requires sound { sound self.old }
+        requires inside { IsWritable KIND (seen self.old) r.now offset (length bytes.now) }
+        ensures sound { sound self.new }
+        ensures seen { (object : HeapObject) → finite.get (seen self.old).content r.now ≡ Some object → seen self.new ≡ put_object (seen self.old) r.now (with_data KIND object offset bytes.now) };
+
+    /// All bytes of the heap's memory; none where it isn't attached.
+    fn heap_slice(&self) -> &[u8]
+        requires { sound self.now }
+        ensures size { length result.now ≡ (seen self.now).capacity }
+        ensures objects { (place : ℕ) (object : HeapObject) → finite.get (seen self.now).content place ≡ Some object → IsObjectData KIND object (take (held_size KIND object) (drop place result.now)) };
+
+    // Numbers
+
+    /// How many objects the heap holds.
+    fn object_count(&self) -> u64
+        requires { sound self.now }
+        ensures { result ≡ finite.len (seen self.now).content };
+
+    /// How many bytes are allocated.
+    fn allocated_bytes(&self) -> usize
+        requires { sound self.now }
+        ensures { result ≡ (seen self.now).allocated };
+
+    /// Whether a collection must come before the heap may grow.
+    fn needs_gc_before_next_growth(&self) -> bool
+        requires { sound self.now }
+        ensures { result ≡ (seen self.now).needs_gc };
+
+    // Collection
+
+    /// A collection that is to be stepped.
+    fn begin(&self) -> Self::State
+        requires sound { sound self.now }
+        requires attached { (seen self.now).attached ≡ true }
+        requires open { (seen self.now).scopes ≡ 0 }
+        ensures begun { begun result }
+        ensures ticks { ticks result ≡ 0 };
+
+    /// Does one increment of a collection. From the first one until it answers `Complete` no other
+    /// call on the heap is allowed. It takes no memory.
+    fn step<D: Drop>(
+        &mut self,
+        state: &mut Self::State,
+        roots: &mut GcRootsList,
+        trace: &mut GcStoreTraceState<'_, D>,
+    ) -> GcProgress
+        requires { (s : Start) × ((n : ℕ) × ((c : Bool) × under_way s n c self.old state.old roots.old.roots trace.old.types.now.declarations (has_host trace.old.host_data_table.now.entries))) }
+        ensures step { (s : Start) (n : ℕ) (c : Bool) → under_way s n c self.old state.old roots.old.roots trace.old.types.now.declarations (has_host trace.old.host_data_table.now.entries)
+            → Stepped KIND s (n + 1) result (under_way s (n + 1) false self.new state.new roots.new.roots trace.old.types.now.declarations (has_host trace.new.host_data_table.now.entries)) (sound self.new × Collected KIND s (seen self.new) roots.new.roots (has_host trace.new.host_data_table.now.entries)) }
+        ensures less { result ≡ GcProgress.Continue → left self.new state.new < left self.old state.old }
+        ensures ticks { ticks state.new ≡ ticks state.old }
+        ensures spare { roots.new.spare ≡ roots.old.spare }
+        ensures values { IsPartOf trace.new.host_data_table.now.entries trace.old.host_data_table.now.entries }
+        ensures hosts { trace.new.host_data_table.ghost_name ≡ trace.old.host_data_table.ghost_name }
+        ensures types { trace.new.types ≡ trace.old.types };
+
+    /// Does one increment as `step` does, and counts a step of the counter for each object that it
+    /// copies, each reference that it looks at, and each root word that isn't null.
+    fn step_counted<D: Drop, G: Ledger>(
+        &mut self,
+        state: &mut Self::State,
+        roots: &mut GcRootsList,
+        trace: &mut GcStoreTraceState<'_, D>,
+        steps: &mut Steps<G>,
+    ) -> GcProgress
+        requires { (s : Start) × ((n : ℕ) × ((c : Bool) × under_way s n c self.old state.old roots.old.roots trace.old.types.now.declarations (has_host trace.old.host_data_table.now.entries))) }
+        ensures step { (s : Start) (n : ℕ) (c : Bool) → under_way s n c self.old state.old roots.old.roots trace.old.types.now.declarations (has_host trace.old.host_data_table.now.entries)
+            → Stepped KIND s (n + 1) result (under_way s (n + 1) c self.new state.new roots.new.roots trace.old.types.now.declarations (has_host trace.new.host_data_table.now.entries)) (sound self.new × (c ≡ true → IsStepCount KIND s (ticks state.new)) × Collected KIND s (seen self.new) roots.new.roots (has_host trace.new.host_data_table.now.entries)) }
+        ensures less { result ≡ GcProgress.Continue → left self.new state.new < left self.old state.old }
+        ensures ticks { ticks state.new + steps.old ≡ ticks state.old + steps.new }
+        ensures rises { steps.old ≤ steps.new }
+        ensures spare { roots.new.spare ≡ roots.old.spare }
+        ensures values { IsPartOf trace.new.host_data_table.now.entries trace.old.host_data_table.now.entries }
+        ensures hosts { trace.new.host_data_table.ghost_name ≡ trace.old.host_data_table.ghost_name }
+        ensures types { trace.new.types ≡ trace.old.types };
+
+    /// What is always true of a sound heap.
+    ghost is_heap: { (heap : Self) → sound heap → IsHeap KIND (seen heap) };
+
+    /// A collection is under way with no increment done, where it may begin.
+    ghost starts: { (s : Start) (heap : Self) (state : Self.State) → sound heap → begun state → seen heap ≡ s.heap → CanCollect KIND s
+        → under_way s 0 true heap state s.roots s.types s.hosts };
 }

@@ -1,4 +1,0 @@
-pub mod WalkLemmas
-pub mod BumpLemmas
-pub mod NullLemmas
-pub mod HeapLemmas

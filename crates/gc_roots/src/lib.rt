@@ -1,0 +1,6 @@
+//! Roots (a first shape).
+#![tactic(auto)]
+
+pub mod list;
+
+pub use list::GcRootsList;
