@@ -1,0 +1,4 @@
+pub mod ChangeLemmas
+pub mod WordLemmas
+pub mod ChainLemmas
+pub mod HeaderLemmas

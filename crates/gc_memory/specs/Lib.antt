@@ -1,0 +1,5 @@
+pub mod Words
+pub mod Changes
+pub mod Chains
+pub mod Offsets
+pub mod Lends
