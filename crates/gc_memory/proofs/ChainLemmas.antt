@@ -1,30 +1,10 @@
 -- Objects that follow each other.
-use Rattle.std.proofs.Common.{◌≡◌, ℕ, ◌+◌, ◌-◌, ◌*◌, ◌%◌, ◌<◌, ◌≤◌, List, [], ◌∷◌, ◌++◌, refl, sym, ap, subst, ◌∙◌, inl, inr, arith}
-use Rattle.std.proofs.Math.Logic.{◌⊎◌}
+use Rattle.std.proofs.Common.{◌≡◌, ℕ, zero, suc, cond, nat_eq, nat_lt, true, length, ◌+◌, ◌-◌, ◌*◌, ◌%◌, ◌<◌, ◌≤◌, List, [], ◌∷◌, ◌++◌, refl, sym, ap, subst, ◌∙◌, inl, inr, arith}
+use Rattle.std.proofs.lemmas.Bool.{lt-ltb, le-ltb}
 use Rattle.gc_model.specs.Sizes.{alignment}
-use Rattle.gc_memory.specs.Chains.{In, here, there, Chain, done, next, size_sum}
-
--- a number of the first list is one of both together
-pub In-left : (x : ℕ) (xs ys : List ℕ) → In x xs → In x (xs ++ ys)
-In-left x [] ys i = elim i [ ]
-In-left x (_ ∷ xs) ys here = here
-In-left x (_ ∷ xs) ys (there i) = there (In-left x xs ys i)
-
--- so is one of the second
-pub In-right : (x : ℕ) (xs ys : List ℕ) → In x ys → In x (xs ++ ys)
-In-right x [] ys i = i
-In-right x (y ∷ xs) ys i = there (In-right x xs ys i)
-
--- a number of both together is one of the first or of the second
-pub In-split : (x : ℕ) (xs ys : List ℕ) → In x (xs ++ ys) → In x xs ⊎ In x ys
-In-split x [] ys i = inr i
-In-split x (_ ∷ xs) ys here = inl here
-In-split x (y ∷ xs) ys (there i) = elim (In-split x xs ys i) [ inl a ↦ inl (there a) | inr b ↦ inr b ]
-
--- the one number of a list of one
-pub In-one : (x y : ℕ) → In x (y ∷ []) → x ≡ y
-In-one x _ here = refl
-In-one x y (there i) = elim i [ ]
+use Rattle.gc_memory.specs.Lists.{In, here, there, sum_over, occ}
+use Rattle.gc_memory.specs.Chains.{Chain, done, next, places_of, places}
+use Rattle.gc_memory.proofs.ListLemmas.{sum_over-same, occ-same, occ-other, occ-none}
 
 -- objects don't end before they begin
 pub Chain-end : (size : ℕ → ℕ) (a e : ℕ) (ps : List ℕ) → Chain size a e ps → a ≤ e
@@ -32,7 +12,7 @@ Chain-end size a _ [] done = omega arith
 Chain-end size a e (_ ∷ ps) (next l w c) = omega (arith, Chain-end size (a + size a) e ps c)
 
 -- they take as many bytes as their sizes say
-pub Chain-sum : (size : ℕ → ℕ) (a e : ℕ) (ps : List ℕ) → Chain size a e ps → a + size_sum size ps ≡ e
+pub Chain-sum : (size : ℕ → ℕ) (a e : ℕ) (ps : List ℕ) → Chain size a e ps → a + sum_over size ps ≡ e
 Chain-sum size a _ [] done = omega arith
 Chain-sum size a e (_ ∷ ps) (next l w c) = omega (arith, Chain-sum size (a + size a) e ps c)
 
@@ -103,3 +83,71 @@ same_places size a e f (_ ∷ ps) (_ ∷ qs) (next l w c) (next m x d) h = ap (�
 -- the places are a function of the sizes
 pub Chain-unique : (size : ℕ → ℕ) (a e : ℕ) (ps qs : List ℕ) → Chain size a e ps → Chain size a e qs → ps ≡ qs
 Chain-unique size a e ps qs c d = same_places size a e e ps qs c d refl
+
+-- where the objects end at once there are none, else one is at the start
+pub Chain-first : (size : ℕ → ℕ) (a e : ℕ) (ps : List ℕ) → Chain size a e ps → a < e → In a ps
+Chain-first size a _ [] done h = absurd (omega arith)
+Chain-first size a e (_ ∷ ps) (next l w c) h = here
+
+-- behind an object is another one, or the end
+pub Chain-next : (size : ℕ → ℕ) (a e p : ℕ) (ps : List ℕ) → Chain size a e ps → In p ps → p + size p < e → In (p + size p) ps
+Chain-next size a e p [] c i h = elim i [ ]
+Chain-next size a e _ (_ ∷ ps) (next l w c) here h = there (Chain-first size (a + size a) e ps c h)
+Chain-next size a e p (_ ∷ ps) (next l w c) (there i) h = there (Chain-next size (a + size a) e p ps c i h)
+
+-- A chain at one of its objects: those before it, and those behind.
+pub record ChainAt (size : ℕ → ℕ) (a e p : ℕ) (ps : List ℕ) : Type 0 where
+  pub before : List ℕ
+  pub behind : List ℕ
+  pub splits : ps ≡ before ++ (p ∷ behind)
+  pub front : Chain size a p before
+  pub back : Chain size (p + size p) e behind
+
+pub Chain-split : (size : ℕ → ℕ) (a e p : ℕ) (ps : List ℕ) → Chain size a e ps → In p ps → ChainAt size a e p ps
+Chain-split size a e p [] c i = elim i [ ]
+Chain-split size a e _ (_ ∷ ps) (next l w c) here = record { before = []; behind = ps; splits = refl; front = done; back = c }
+Chain-split size a e p (_ ∷ ps) (next l w c) (there i) =
+    let s = Chain-split size (a + size a) e p ps c i in
+    record {
+      before = a ∷ s.before;
+      behind = s.behind;
+      splits = ap (λ qs. a ∷ qs) s.splits;
+      front = next l w s.front;
+      back = s.back;
+    }
+
+-- as many objects take at least 16 times as many bytes
+pub Chain-length : (size : ℕ → ℕ) (a e : ℕ) (ps : List ℕ) → Chain size a e ps → a + 16 * length ps ≤ e
+Chain-length size a _ [] done = omega arith
+Chain-length size a e (_ ∷ ps) (next l w c) = omega (arith, Chain-length size (a + size a) e ps c)
+
+places_are : (n : ℕ) (size : ℕ → ℕ) (a e : ℕ) (ps : List ℕ) → Chain size a e ps → length ps ≤ n → places_of n size a e ≡ ps
+places_are zero size a _ [] done h = refl
+places_are (suc n) size a _ [] done h = ap (λ b. cond b (a ∷ places_of n size (a + size a) a) []) (le-ltb a a (omega arith))
+places_are zero size a e (_ ∷ ps) (next l w c) h = absurd (omega arith)
+places_are (suc n) size a e (_ ∷ ps) (next l w c) h =
+    ap (λ b. cond b (a ∷ places_of n size (a + size a) e) []) (lt-ltb a e (omega (arith, Chain-end size (a + size a) e ps c)))
+    ∙ ap (λ qs. a ∷ qs) (places_are n size (a + size a) e ps c (omega arith))
+
+-- the places that are read are those of the objects
+pub Chain-places : (size : ℕ → ℕ) (a e : ℕ) (ps : List ℕ) → Chain size a e ps → places size a e ≡ ps
+Chain-places size a e ps c = places_are e size a e ps c (omega (arith, Chain-length size a e ps c))
+
+-- what changes at one object changes the sum by as much
+pub Chain-changed : (size : ℕ → ℕ) (a e p : ℕ) (ps : List ℕ) (f g : ℕ → ℕ) → Chain size a e ps → In p ps
+    → ((q : ℕ) → In q ps → (q ≡ p → ⊥) → g q ≡ f q) → sum_over g ps + f p ≡ sum_over f ps + g p
+Chain-changed size a e p [] f g c i same = elim i [ ]
+Chain-changed size a e _ (_ ∷ ps) f g (next l w c) here same =
+    omega (arith, sum_over-same f g ps (λ q i. same q (there i) (λ h. omega (arith, (Chain-lies size (a + size a) e q ps c i).from))))
+Chain-changed size a e p (_ ∷ ps) f g (next l w c) (there i) same =
+    let head : g a ≡ f a = same a here (λ h. omega (arith, (Chain-lies size (a + size a) e p ps c i).from)) in
+    omega (arith, Chain-changed size (a + size a) e p ps f g c i (λ q j. same q (there j)))
+
+-- an object stands once in a chain
+pub Chain-once : (size : ℕ → ℕ) (a e p : ℕ) (ps : List ℕ) → Chain size a e ps → In p ps → occ p ps ≡ 1
+Chain-once size a e p [] c i = elim i [ ]
+Chain-once size a e _ (_ ∷ ps) (next l w c) here =
+    let none : occ a ps ≡ 0 = occ-none a ps (λ i. omega (arith, (Chain-lies size (a + size a) e a ps c i).from)) in
+    omega (arith, occ-same a ps)
+Chain-once size a e p (_ ∷ ps) (next l w c) (there i) =
+    occ-other p a ps (λ h. omega (arith, (Chain-lies size (a + size a) e p ps c i).from)) ∙ Chain-once size (a + size a) e p ps c i

@@ -170,3 +170,7 @@ SameAcross-kept {q = q} {lo = lo} {hi = hi} s t = SameAcross-then s (SameAcross-
 -- a copy of what an earlier change had left as it was
 pub SameAcross-from : {a b c : List ℕ} {p q lo hi : ℕ} → SameBytes a b (p + lo) (p + hi) → SameAcross b p c q lo hi → SameAcross a p c q lo hi
 SameAcross-from {p = p} {lo = lo} {hi = hi} s t = SameAcross-then (SameAcross-same p lo hi s) t
+
+-- growth leaves what there was as it was
+pub SameAcross-grown : (bytes more : List ℕ) (p lo hi : ℕ) → p + hi ≤ length bytes → SameAcross bytes p (bytes ++ more) p lo hi
+SameAcross-grown bytes more p lo hi h = record { at = λ j d l u. get_or_append_left bytes more d (p + j) (omega arith) }

@@ -8,5 +8,7 @@
 
 pub mod memory;
 pub mod offsets;
+#[cfg(test)]
+mod tests;
 
 pub use memory::HeapMemory;
