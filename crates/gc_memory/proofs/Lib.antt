@@ -1,0 +1,5 @@
+pub mod ChangeLemmas
+pub mod WordLemmas
+pub mod ListLemmas
+pub mod ChainLemmas
+pub mod HeaderLemmas

@@ -1,0 +1,82 @@
+//! A memory that is written, copied within and grown.
+
+ghost use Rattle.std.specs.Prelude.{◌≡◌, ◌<◌, length, slice_set};
+
+use crate::{HeapMemory, offsets};
+use gc_refs::VMGcHeader;
+use gc_types::{Layouts, VMGcKind, VMSharedTypeIndex};
+use std::test::Fail;
+
+/// Sets the first byte of the bytes that are lent.
+fn set_first(memory: &mut HeapMemory, value: u8)
+    requires { 0 < length memory.old }
+    ensures { memory.new ≡ slice_set memory.old 0 value }
+{
+    memory.bytes_mut()[0] = value;
+}
+
+#[test]
+fn a_memory_grows_from_no_pages(rt: HostRuntime) -> Result<(), Fail> {
+    let mut memory = HeapMemory::new(rt.alloc(), 0)?;
+    assert_eq!(rt; memory.byte_size(), 0);
+    memory.grow(1)?;
+    memory.write_u32(65_532, 0xFFFF_FFFF);
+    memory.grow(1)?;
+    assert_eq!(rt; memory.pages(), 2);
+    assert_eq!(rt; memory.capacity(), 131_072);
+    assert_eq!(rt; memory.read_u32(65_532), 0xFFFF_FFFF);
+    assert_eq!(rt; memory.read_u64(65_536), 0);
+    assert_eq!(rt; memory.read_u32(131_068), 0);
+    Ok(())
+}
+
+#[test]
+fn bytes_are_copied_also_over_themselves(rt: HostRuntime) -> Result<(), Fail> {
+    let mut memory = HeapMemory::new(rt.alloc(), 2)?;
+    memory.write_bytes(65_532, b"abcdefgh");
+    assert_eq!(rt; memory.read_u64(65_532), 0x6867_6665_6463_6261);
+    memory.move_bytes(65_532, 65_534, 6);
+    assert_eq!(rt; memory.slice(65_532, 8), b"ababcdef".as_slice());
+    memory.move_bytes(65_534, 65_532, 6);
+    assert_eq!(rt; memory.slice(65_532, 8), b"abcdefef".as_slice());
+    memory.fill_zero(65_533, 6);
+    assert_eq!(rt; memory.slice(65_532, 8), b"a\0\0\0\0\0\0f".as_slice());
+    Ok(())
+}
+
+#[test]
+fn a_header_is_a_kind_word_and_a_type_word(rt: HostRuntime) -> Result<(), Fail> {
+    let mut memory = HeapMemory::new(rt.alloc(), 1)?;
+    let ty = VMSharedTypeIndex::new(3);
+    memory.write_header(16, VMGcHeader::from_kind_and_index(VMGcKind::StructRef, ty));
+    assert_eq!(rt; memory.slice(16, 8), b"\0\0\0\xA4\x03\0\0\0".as_slice());
+    memory.write_u64(16, 0x0000_0007_A800_0001);
+    let header = memory.read_header(16);
+    assert_eq!(rt; header.kind_word(), 0xA800_0001);
+    assert_eq!(rt; header.type_index().as_u32(), 7);
+    set_first(&mut memory, 9);
+    assert_eq!(rt; memory.bytes()[0], 9);
+    Ok(())
+}
+
+#[test]
+fn words_lie_where_each_heap_has_them(rt: HostRuntime) {
+    for (layouts, expected) in [
+        (Layouts::Null, [8, 8, 12, 8, 12]),
+        (Layouts::Counting, [28, 28, 32, 28, 32]),
+        (Layouts::Copying, [12, 12, 16, 16, 24]),
+    ] {
+        assert_eq!(rt; offsets::array_length(layouts), expected[0]);
+        assert_eq!(rt; offsets::exception_instance(layouts), expected[1]);
+        assert_eq!(rt; offsets::exception_tag(layouts), expected[2]);
+        assert_eq!(rt; offsets::host_id(layouts), expected[3]);
+        assert_eq!(rt; offsets::external_size(layouts), expected[4]);
+    }
+    assert_eq!(rt; offsets::stored_size(Layouts::Null, 20), 20);
+    assert_eq!(rt; offsets::stored_size(Layouts::Counting, 20), 20);
+    assert_eq!(rt; offsets::stored_size(Layouts::Copying, 20), 32);
+    assert_eq!(rt;
+        offsets::stored_size(Layouts::Copying, u32::MAX),
+        0x1_0000_0000
+    );
+}
