@@ -1,6 +1,0 @@
-//! Roots (a first shape).
-#![tactic(auto)]
-
-pub mod list;
-
-pub use list::GcRootsList;
