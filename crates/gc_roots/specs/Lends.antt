@@ -15,7 +15,8 @@ rest_of it = iter_mut_rest it.rest
 abbrev pub with_roots : Roots → List Root → Roots
 with_roots list roots = record {
   roots = take (length list.roots) (roots ++ drop (length roots) list.roots);
-  spare = list.spare }
+  spare = list.spare;
+}
 
 -- once the borrow of the iterator ends, the list has the roots as they were left
 abbrev pub lends_roots : MutBor Roots → GcRootsIter → Fml
