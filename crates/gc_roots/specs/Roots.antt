@@ -7,6 +7,10 @@ pub record Root : Type 0 where
   pub on_stack : Bool
   pub word : ℕ
 
+-- the root of these parts
+abbrev pub root : ℕ → Bool → ℕ → Root
+root place on_stack word = record { place = place; on_stack = on_stack; word = word }
+
 -- the roots in order, and the number of spare places: so many more can be added without taking memory
 pub record Roots : Type 0 where
   pub roots : List Root
@@ -14,10 +18,7 @@ pub record Roots : Type 0 where
 
 -- the root with another word
 abbrev pub with_word : Root → ℕ → Root
-with_word root word = record { place = root.place; on_stack = root.on_stack; word = word }
-
-abbrev pub root : ℕ → Bool → ℕ → Root
-root place on_stack word = record { place = place; on_stack = on_stack; word = word }
+with_word old word = root old.place old.on_stack word
 
 -- what stands at an index past the end
 abbrev pub no_root : Root

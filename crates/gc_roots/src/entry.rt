@@ -1,6 +1,6 @@
 //! One root of a list.
 
-ghost use Rattle.std.specs.Prelude.{◌≡◌, ◌<◌};
+ghost use Rattle.std.specs.Prelude.{◌≡◌};
 ghost use Rattle.gc_roots.specs.Roots.{root, with_word};
 
 use crate::place::RootPlace;
@@ -66,8 +66,10 @@ pub struct GcRoot<'a> {
 }
 
 impl<'a> GcRoot<'a> {
+    ghost use Rattle.gc_roots.specs.Lends.{shown, IsSameLoan};
+
     pub(crate) fn new(entry: &'a mut RawGcRoot) -> GcRoot<'a>
-        ensures shown { result.entry.now ≡ entry.old }
+        ensures shown { shown result ≡ entry.old }
         ensures lent { result.entry.ghost_name ≡ entry.entry.ghost_name }
     {
         GcRoot { entry }
@@ -75,29 +77,29 @@ impl<'a> GcRoot<'a> {
 
     /// The number that the root was added with.
     pub fn place(&self) -> RootPlace
-        ensures { result.number ≡ self.now.entry.now.place }
+        ensures { result.number ≡ (shown self.now).place }
     {
         self.entry.place()
     }
 
     /// Whether the root is a slot of a frame on a wasm stack.
     pub fn is_on_wasm_stack(&self) -> bool
-        ensures { result ≡ self.now.entry.now.on_stack }
+        ensures { result ≡ (shown self.now).on_stack }
     {
         self.entry.is_on_wasm_stack()
     }
 
     /// The word.
     pub fn get(&self) -> VMGcRef
-        ensures { result ≡ self.now.entry.now.word }
+        ensures { result ≡ (shown self.now).word }
     {
         self.entry.get()
     }
 
-    /// Replaces the word.
+    /// Replaces the word, in the list too.
     pub fn set(&mut self, new_ref: VMGcRef)
-        ensures word { self.new.entry.now ≡ with_word self.old.entry.now new_ref }
-        ensures same_root { self.new.entry.ghost_name ≡ self.old.entry.ghost_name }
+        ensures word { shown self.new ≡ with_word (shown self.old) new_ref }
+        ensures same_loan { IsSameLoan self.old self.new }
     {
         self.entry.set(new_ref);
     }

@@ -2,7 +2,7 @@
 
 ghost use Rattle.std.specs.Prelude.{◌≡◌};
 ghost use Rattle.std.specs.Slice.Iter.{iter_mut_name};
-ghost use Rattle.gc_roots.specs.Lends.{rest_of};
+ghost use Rattle.gc_roots.specs.Lends.{shown, rest_of};
 
 use crate::entry::{GcRoot, RawGcRoot};
 use std::slice;
@@ -29,7 +29,7 @@ impl<'a> Iterator for GcRootsIter<'a> {
 
     ghost use Rattle.std.specs.Iterator.{YieldsFirstBy, item_count};
 
-    ghost next_gives = { YieldsFirstBy (λ root. root.entry.now) rest_of };
+    ghost next_gives = { YieldsFirstBy (shown) rest_of };
 
     ghost remaining = { item_count rest_of };
 

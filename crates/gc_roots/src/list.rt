@@ -1,6 +1,6 @@
 //! The list.
 
-ghost use Rattle.std.specs.Prelude.{ℕ, ◌≡◌, ◌+◌, ◌<◌, ◌≤◌, ◌==◌, [], ◌∷◌, ◌++◌, length, true, false, IsOk, OnOk};
+ghost use Rattle.std.specs.Prelude.{ℕ, ◌≡◌, ◌+◌, ◌<◌, ◌≤◌, ◌==◌, [], ◌∷◌, ◌++◌, length, true, false, IsOk, OnOk, OnErr};
 ghost use Rattle.std.specs.Borrow.{sem};
 ghost use Rattle.gc_roots.specs.Roots.{root, root_at, with_word_at};
 
@@ -41,13 +41,13 @@ impl GcRootsList {
         }
     }
 
-    /// Makes room: so many roots can be added without taking memory. An error means that there was
-    /// none left, and changes nothing.
+    /// Makes room: so many roots can then be added, which takes no memory. An error changes nothing.
     pub fn reserve(&mut self, n: usize) -> Result<(), AllocError>
         ensures roots { self.new.roots ≡ self.old.roots }
         ensures room { OnOk result (n ≤ self.new.spare) }
         ensures succeeds { n ≤ self.old.spare → IsOk result }
         ensures grown { self.old.spare ≤ self.new.spare }
+        ensures err { OnErr result (self.new ≡ self.old) }
     {
         self.entries.reserve(n)
     }
