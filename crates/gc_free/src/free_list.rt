@@ -11,7 +11,7 @@ use crate::held::{Change, HeldBlocks};
 use crate::merging::set_free;
 use crate::placing::place;
 use crate::run::{ALIGN, Run, places_end, run_between};
-use crate::steps::Steps;
+use gc_steps::Steps;
 use std::alloc::{AllocError, Global};
 use std::marker::{Brand, Model};
 use std::num::NonZeroU32;

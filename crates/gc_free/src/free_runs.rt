@@ -11,7 +11,7 @@ ghost use Rattle.gc_free.specs.TwoOrders.{AreTwoOrders};
 use crate::key::{Key, Order};
 use crate::run::Run;
 use crate::search::count_before;
-use crate::steps::Steps;
+use gc_steps::Steps;
 use std::alloc::{AllocError, Global};
 use std::marker::Model;
 use std::sync::ledger::Ledger;

@@ -3,7 +3,7 @@ ghost use Rattle.std.specs.Prelude.{◌≡◌, ◌+◌, ◌*◌, ◌^◌, nat_lt
 ghost use Rattle.gc_free.specs.Orders.{key_of};
 
 use crate::run::Run;
-use crate::steps::Steps;
+use gc_steps::Steps;
 use std::marker::Model;
 use std::sync::ledger::Ledger;
 

@@ -24,13 +24,12 @@ mod merging;
 mod placing;
 mod run;
 mod search;
-mod steps;
 
 pub use blocks::FreeBlocks;
 pub use free_list::FreeList;
 pub use layout::Layout;
 pub use run::{ALIGN, Run};
-pub use steps::Steps;
+pub use gc_steps::Steps;
 
 #[cfg(test)]
 mod tests;

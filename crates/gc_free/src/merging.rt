@@ -5,7 +5,7 @@ ghost use Rattle.gc_free.specs.Merged.{joined, apart_from, current_after, others
 
 use crate::free_runs::FreeRuns;
 use crate::run::Run;
-use crate::steps::Steps;
+use gc_steps::Steps;
 use std::sync::ledger::Ledger;
 
 /// Freed places take in the other runs that touch them.

@@ -6,7 +6,7 @@ ghost use Rattle.gc_free.specs.Placed.{with_current, place_in, place_in_shortest
 
 use crate::free_runs::FreeRuns;
 use crate::run::Run;
-use crate::steps::Steps;
+use gc_steps::Steps;
 use std::sync::ledger::Ledger;
 
 /// A block, if there was room for one, and the run that is current then.

@@ -5,7 +5,7 @@ ghost use Rattle.gc_free.specs.Orders.{key_of, count_below, IsSearched, HasSearc
 
 use crate::key::{Key, Order};
 use crate::run::Run;
-use crate::steps::Steps;
+use gc_steps::Steps;
 use std::sync::ledger::Ledger;
 
 /// How many of the ordered runs stand before `key`.

@@ -5,33 +5,15 @@ use Rattle.gc_types.specs.declared.kind.Layouts.{Layouts}
 use Rattle.gc_types.specs.declared.kind.Layouts.TheVariants.{Null, Counting, Copying}
 use Rattle.gc_types.specs.declared.kind.VMGcKind.{VMGcKind}
 use Rattle.gc_types.specs.declared.kind.VMGcKind.TheVariants.{ExternRef, AnyRef, EqRef, StructRef, ArrayRef, ExnRef}
-use Rattle.gc_types.specs.Layouts.{struct_base, exception_base, array_base, round_up}
+use Rattle.gc_types.specs.Layouts.{struct_base, exception_base, array_base}
 use Rattle.gc_types.specs.Kinds.{kind_bits}
 use Rattle.gc_refs.specs.Header.{Header, spare_bits, kind_part}
-use Rattle.gc_model.specs.Sizes.{alignment}
+use Rattle.gc_memory.specs.Offsets.{external_size, host_id_offset, stored_size}
 use Rattle.gc_model.specs.Views.{HeapObject, u32_at}
-
--- the bytes of an external object
-abbrev pub extern_size : Layouts → ℕ
-extern_size Null = 12
-extern_size Counting = 32
-extern_size Copying = 24
-
--- where the host id of an external object lies
-abbrev pub host_offset : Layouts → ℕ
-host_offset Null = 8
-host_offset Counting = 28
-host_offset Copying = 16
-
--- the bytes that a heap keeps for an object of that size: the copying heap keeps whole multiples of 16
-abbrev pub stored_size : Layouts → ℕ → ℕ
-stored_size Null size = size
-stored_size Counting size = size
-stored_size Copying size = round_up size alignment
 
 -- where the data of an object begins, counted from its first byte
 abbrev pub data_offset : Layouts → VMGcKind → ℕ
-data_offset layouts ExternRef = host_offset layouts
+data_offset layouts ExternRef = host_id_offset layouts
 data_offset layouts AnyRef = struct_base layouts
 data_offset layouts EqRef = struct_base layouts
 data_offset layouts StructRef = struct_base layouts
@@ -41,7 +23,7 @@ data_offset layouts ExnRef = struct_base layouts
 -- the first offset that a field or an element may take; behind an array's length, and behind an
 -- exception's instance and tag
 abbrev pub first_offset : Layouts → VMGcKind → ℕ
-first_offset layouts ExternRef = host_offset layouts + 4
+first_offset layouts ExternRef = host_id_offset layouts + 4
 first_offset layouts AnyRef = struct_base layouts
 first_offset layouts EqRef = struct_base layouts
 first_offset layouts StructRef = struct_base layouts
@@ -51,7 +33,7 @@ first_offset layouts ExnRef = exception_base layouts
 -- where the part of an object begins that its holder may write: an exception's instance and tag are
 -- in it, an array's length is not
 abbrev pub writable_offset : Layouts → VMGcKind → ℕ
-writable_offset layouts ExternRef = stored_size layouts (extern_size layouts)
+writable_offset layouts ExternRef = stored_size layouts (external_size layouts)
 writable_offset layouts AnyRef = struct_base layouts
 writable_offset layouts EqRef = struct_base layouts
 writable_offset layouts StructRef = struct_base layouts
@@ -60,7 +42,7 @@ writable_offset layouts ExnRef = struct_base layouts
 
 -- the bytes of an object of that kind with so many bytes of data
 abbrev pub size_with : Layouts → VMGcKind → ℕ → ℕ
-size_with layouts ExternRef n = stored_size layouts (extern_size layouts)
+size_with layouts ExternRef n = stored_size layouts (external_size layouts)
 size_with layouts AnyRef n = struct_base layouts + n
 size_with layouts EqRef n = struct_base layouts + n
 size_with layouts StructRef n = struct_base layouts + n

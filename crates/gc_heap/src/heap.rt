@@ -1,8 +1,8 @@
 //! The interface of a heap.
 
 use crate::collection::{GcProgress, GcStoreTraceState};
-use crate::memory::HeapMemory;
-use gc_free::Steps;
+use gc_memory::HeapMemory;
+use gc_steps::Steps;
 use gc_refs::{RefFault, VMArrayRef, VMExternRef, VMGcHeader, VMGcObjectData, VMGcRef};
 use gc_roots::GcRootsList;
 use gc_tables::ExternRefHostDataId;
@@ -47,9 +47,10 @@ pub trait GcHeap {
     ghost use Rattle.gc_types.specs.Layouts.{array_base};
     ghost use Rattle.gc_refs.specs.Header.{IsOfKind, spare_bits};
     ghost use Rattle.gc_roots.specs.Roots.{Root};
+    ghost use Rattle.gc_memory.specs.Offsets.{external_size};
     ghost use Rattle.gc_model.specs.Views.{HeapView, HeapObject, detached_in, u32_at};
     ghost use Rattle.gc_heap.specs.declared.collection.GcProgress.{GcProgress};
-    ghost use Rattle.gc_heap.specs.Objects.{held_size, extern_size, first_offset, array_length, external, zeroed, HasFields, IsHeaderOf, IsObjectData};
+    ghost use Rattle.gc_heap.specs.Objects.{held_size, first_offset, array_length, external, zeroed, HasFields, IsHeaderOf, IsObjectData};
     ghost use Rattle.gc_heap.specs.References.{SpareFits, LayoutTraces, ArrayTraces};
     ghost use Rattle.gc_heap.specs.Content.{IsHeld, IsHeap};
     ghost use Rattle.gc_heap.specs.Heap.{empty_heap, grown, Allocated, layout_kind, new_struct, new_array, array_size, given_back, IsWritable, with_data, put_object, with_spare_of, CanAllocate, CanGiveBack, IsStructOrExn, IsArray, IsSameHeader};
@@ -200,7 +201,7 @@ pub trait GcHeap {
         requires sound { sound self.old }
         requires attached { (seen self.old).attached ≡ true }
         ensures sound { sound self.new }
-        ensures allocated { Allocated KIND (seen self.old) (seen self.new) (external host_data) (extern_size KIND) result };
+        ensures allocated { Allocated KIND (seen self.old) (seen self.new) (external host_data) (external_size KIND) result };
 
     /// Allocates a struct or an exception, whose data is 0.
     fn alloc_uninit_struct_or_exn(

@@ -3,9 +3,8 @@
 
 pub mod collection;
 pub mod heap;
-pub mod memory;
 
 pub use collection::{GcProgress, GcStoreTraceState};
 pub use gc_refs::RefFault;
 pub use heap::{GcHeap, HeapFault, HeapKind};
-pub use memory::HeapMemory;
+pub use gc_memory::HeapMemory;

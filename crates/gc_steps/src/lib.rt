@@ -1,4 +1,9 @@
 //! A counter of steps, made of tokens that nothing reads at run time.
+//!
+//! A bound on the work of a call needs something that counts it: the counted calls of the free list and
+//! of the heaps take a `Steps` and tick it. Contracts see it as a number.
+#![tactic(auto)]
+
 ghost use Rattle.std.specs.Prelude.{◌≡◌, ℕ, ◌+◌, ◌<◌};
 
 use std::marker::Model;
