@@ -2,8 +2,8 @@
 use Rattle.std.specs.Prelude.{ℕ, ◌+◌}
 use Rattle.gc_types.specs.declared.kind.Layouts.{Layouts}
 use Rattle.gc_types.specs.declared.kind.Layouts.TheVariants.{Null, Counting, Copying}
-use Rattle.gc_types.specs.Layouts.{struct_base, round_up}
-use Rattle.gc_model.specs.Sizes.{alignment}
+use Rattle.gc_types.specs.Layouts.{struct_base}
+pub use Rattle.gc_model.specs.Sizes.{stored_size}
 
 -- the type word of a header; its kind word is at 0
 abbrev pub type_word_offset : ℕ
@@ -60,10 +60,3 @@ forwarding_offset = 12
 
 abbrev pub next_external_offset : ℕ
 next_external_offset = 20
-
--- What a heap keeps as the size of an object of that many bytes: the copying heap rounds it up to a
--- multiple of 16.
-abbrev pub stored_size : Layouts → ℕ → ℕ
-stored_size Null size = size
-stored_size Counting size = size
-stored_size Copying size = round_up size alignment

@@ -36,11 +36,18 @@ Rose before now = min (before + 1) (2 ^ 64 - 1) ≤ now
 abbrev pub Fits : {D : Type 0} → Table D → ℕ → Type 0
 Fits t size = round_up (next_place t) alignment + size ≤ page * t.pages
 
--- a heap of the kind has room for so many bytes; of the null kind alone so far
+-- a heap of the kind has room for so many bytes; of the null kind alone so far, of the others nothing
+-- is said
 abbrev pub FitsIn : {D : Type 0} → Layouts → Table D → ℕ → Type 0
 FitsIn Null t size = Fits t size
-FitsIn Counting t size = ⊥
-FitsIn Copying t size = ⊥
+FitsIn Counting t size = Unit {0}
+FitsIn Copying t size = Unit {0}
+
+-- it has none; of the null kind alone so far
+abbrev pub LacksFit : {D : Type 0} → Layouts → Table D → ℕ → Type 0
+LacksFit Null t size = Fits t size → ⊥
+LacksFit Counting t size = Unit {0}
+LacksFit Copying t size = Unit {0}
 
 -- The first pages may be had: the heap is made, or a limit that is told grants them.
 abbrev pub MayMakeHeap : {D : Type 0} → Option ℕ → Table D → Type 0
@@ -61,4 +68,4 @@ pub record Allocates {D : Type 0} (layouts : Layouts) (limit : Option ℕ) (o : 
 -- An object was refused: its heap could not be made, or has no room for it.
 pub data LacksMemory {D : Type 0} (layouts : Layouts) (limit : Option ℕ) (o : Object D) (t t' : Table D) : Type 0 where
   no_heap : IsRefusedHeap limit t → t' ≡ t → LacksMemory layouts limit o t t'
-  no_room : MayMakeHeap limit t → (FitsIn layouts (make_heap t) (object_size layouts t.types o) → ⊥) → t' ≡ make_heap t → LacksMemory layouts limit o t t'
+  no_room : MayMakeHeap limit t → LacksFit layouts (make_heap t) (object_size layouts t.types o) → t' ≡ make_heap t → LacksMemory layouts limit o t t'

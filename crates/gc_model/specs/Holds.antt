@@ -11,7 +11,7 @@ use Rattle.gc_types.specs.Declarations.{Declaration, struct_fields_at, IsMutable
 use Rattle.gc_types.specs.Layouts.{struct_base, field_layouts, fields_end}
 use Rattle.gc_model.specs.Values.{Reference, null, small, at, Value, i32, i64, f32, f64, v128, function, reference, Object, struct, array, host, exception}
 use Rattle.gc_model.specs.Table.{Table, Scoped, Push, empty_slot, global_count}
-use Rattle.gc_model.specs.Sizes.{next_place}
+use Rattle.gc_model.specs.Sizes.{next_place, stored_size}
 use Rattle.gc_model.specs.Allocation.{page, max_pages}
 use Rattle.gc_model.specs.declared.RootEntry.{RootEntry}
 use Rattle.gc_model.specs.Views.{HeapObject, HeapView, StoreView, u32_at}
@@ -49,7 +49,7 @@ pub record StructStands (layouts : Layouts) (types : List Declaration) (place : 
   pub declared : struct_fields_at types ty ≡ Some fields
   pub kind : h.kind ≡ StructRef
   pub same_type : h.ty ≡ ty
-  pub size : struct_base layouts + length h.bytes ≡ fields_end (struct_base layouts) fields
+  pub size : struct_base layouts + length h.bytes ≡ stored_size layouts (fields_end (struct_base layouts) fields)
   pub values_lie : ValuesLie place (struct_base layouts) (field_layouts (struct_base layouts) fields) values h.bytes
 
 -- an object of a heap stands for one of the table; structs alone so far

@@ -24,6 +24,12 @@ object_size layouts types (exception ty tag values) = 0
 abbrev pub alignment : ℕ
 alignment = 16
 
+-- the bytes that a heap keeps for an object of that size: the copying heap keeps whole multiples of 16
+abbrev pub stored_size : Layouts → ℕ → ℕ
+stored_size Null size = size
+stored_size Counting size = size
+stored_size Copying size = round_up size alignment
+
 -- where the null heap goes on after these objects, if it stood at n before them: each begins at the
 -- next multiple of 16
 abbrev pub next_after : {D : Type 0} → List Declaration → ℕ → List (Object D) → ℕ

@@ -143,7 +143,7 @@ impl Runner {
         store: &mut Store<H, u64>,
         count: usize,
     ) -> Result<Reply, RunError>
-        ensures declares { (t : Table ℕ) → HoldsTable H.LAYOUTS store.old t → DeclaresBuilt H.LAYOUTS count t result store.new }
+        ensures declares { (t : Table ℕ) → HoldsTable H.KIND store.old t → DeclaresBuilt H.KIND count t result store.new }
         ensures same { IsSameStore store.old store.new }
     {
         let Ok(fields) = built_fields(self.alloc, count) else {
@@ -166,7 +166,7 @@ impl Runner {
         values: &[Operand],
     ) -> Result<Reply, RunError>
         requires { CanMakeNew store.old t values.now }
-        ensures runs { (s : State) → HoldsState H.LAYOUTS store.old self.old s → RunsNew H.LAYOUTS (L.limits limiter.old) (L.limits limiter.new) s d t values.now result store.new self.new }
+        ensures runs { (s : State) → HoldsState H.KIND store.old self.old s → RunsNew H.KIND (L.limits limiter.old) (L.limits limiter.new) s d t values.now result store.new self.new }
         ensures same { IsSameStore store.old store.new }
     {
         if self.registers.make_room(d).is_err() {
@@ -200,7 +200,7 @@ impl Runner {
         t: u32,
         values: &[Operand],
     ) -> Result<Reply, RunError>
-        ensures runs { (s : State) → HoldsState H.LAYOUTS store.old self.old s → RunsOne H.LAYOUTS (L.limits limiter.old) (L.limits limiter.new) s (Command.New d t values.now) result store.new self.new }
+        ensures runs { (s : State) → HoldsState H.KIND store.old self.old s → RunsOne H.KIND (L.limits limiter.old) (L.limits limiter.new) s (Command.New d t values.now) result store.new self.new }
         ensures same { IsSameStore store.old store.new }
     {
         if !are_built_operands(values) {
@@ -222,7 +222,7 @@ impl Runner {
         limiter: &mut L,
         command: &Command,
     ) -> Result<Reply, RunError>
-        ensures runs { (s : State) → HoldsState H.LAYOUTS store.old self.old s → RunsOne H.LAYOUTS (L.limits limiter.old) (L.limits limiter.new) s command.now result store.new self.new }
+        ensures runs { (s : State) → HoldsState H.KIND store.old self.old s → RunsOne H.KIND (L.limits limiter.old) (L.limits limiter.new) s command.now result store.new self.new }
         ensures same { IsSameStore store.old store.new }
     {
         match command {
@@ -251,7 +251,7 @@ impl Runner {
 
     /// The value of field `i` of the struct in register `r`.
     fn read_field<H: GcHeap>(&self, store: &mut Store<H, u64>, r: u16, i: u32) -> Reply
-        ensures reads { (s : State) → HoldsState H.LAYOUTS store.old self.now s → Answers H.LAYOUTS None s (Command.Field r i None) (first_failing (field_tests s r i)) result s }
+        ensures reads { (s : State) → HoldsState H.KIND store.old self.now s → Answers H.KIND None s (Command.Field r i None) (first_failing (field_tests s r i)) result s }
         ensures same { store.new ≡ store.old }
     {
         let handle = match self.registers.get(r) {

@@ -22,8 +22,8 @@ fn run_next<H: GcHeap, L: ResourceLimiter>(
     command: &Command,
     replies: &mut Vec<Reply>,
 ) -> Result<(), RunError>
-    ensures ran { OnOk result ((s : State) → HoldsState H.LAYOUTS store.old runner.old s → RanNext H.LAYOUTS (L.limits limiter.old) (L.limits limiter.new) s command.now replies.old.items replies.new.items store.new runner.new) }
-    ensures wants { OnErr result ((s : State) → HoldsState H.LAYOUTS store.old runner.old s → WantsMemory H.LAYOUTS (L.limits limiter.old).limit s store.new runner.new × (L.limits limiter.new ≡ L.limits limiter.old)) }
+    ensures ran { OnOk result ((s : State) → HoldsState H.KIND store.old runner.old s → RanNext H.KIND (L.limits limiter.old) (L.limits limiter.new) s command.now replies.old.items replies.new.items store.new runner.new) }
+    ensures wants { OnErr result ((s : State) → HoldsState H.KIND store.old runner.old s → WantsMemory H.KIND (L.limits limiter.old).limit s store.new runner.new × (L.limits limiter.new ≡ L.limits limiter.old)) }
     ensures same { IsSameStore store.old store.new }
 {
     if replies.reserve(1).is_err() {
@@ -45,8 +45,8 @@ pub fn run_script<H: GcHeap, L: ResourceLimiter>(
     limiter: &mut L,
     commands: &[Command],
 ) -> Result<Vec<Reply>, RunError>
-    ensures ended { IfOk result (λ replies. (t : Table ℕ) → HoldsTable H.LAYOUTS store.old t → EndedScript H.LAYOUTS (L.limits limiter.old) (L.limits limiter.new) (begin t) commands.now replies.items store.new) }
-    ensures stopped { OnErr result ((t : Table ℕ) → HoldsTable H.LAYOUTS store.old t → StoppedScript H.LAYOUTS (L.limits limiter.old) (L.limits limiter.new) (begin t) commands.now store.new) }
+    ensures ended { IfOk result (λ replies. (t : Table ℕ) → HoldsTable H.KIND store.old t → EndedScript H.KIND (L.limits limiter.old) (L.limits limiter.new) (begin t) commands.now replies.items store.new) }
+    ensures stopped { OnErr result ((t : Table ℕ) → HoldsTable H.KIND store.old t → StoppedScript H.KIND (L.limits limiter.old) (L.limits limiter.new) (begin t) commands.now store.new) }
     ensures same { IsSameStore store.old store.new }
 {
     let mut runner = Runner::new(alloc);

@@ -76,8 +76,8 @@ pub(crate) fn make_struct<H: GcHeap>(
     layout: &GcStructLayout,
     values: &[RawValue],
 ) -> Result<Result<VMGcRef, u64>, HeapFault>
-    requires { CanMake H.LAYOUTS (H.seen heap.old) layout.now values.now }
-    ensures { (fields : List FieldType) → layout.now ≡ struct_layout H.LAYOUTS fields → MakesStruct H.LAYOUTS fields ty (map value_of values.now) (H.seen heap.old) (H.seen heap.new) result }
+    requires { CanMake H.KIND (H.seen heap.old) layout.now values.now }
+    ensures { (fields : List FieldType) → layout.now ≡ struct_layout H.KIND fields → MakesStruct H.KIND fields ty (map value_of values.now) (H.seen heap.old) (H.seen heap.new) result }
 {
     match heap.alloc_uninit_struct_or_exn(ty, layout) {
         Ok(Ok(gc_ref)) => {
@@ -123,8 +123,8 @@ fn place_in<H: GcHeap, L: ResourceLimiter>(
     values: &[RawValue],
 ) -> Result<VMGcRef, PlaceFault>
     requires pages { first_pages ≤ max_pages }
-    requires values { CanPlaceIn H.LAYOUTS layout.now values.now }
-    ensures { (fields : List FieldType) → layout.now ≡ struct_layout H.LAYOUTS fields → PlacesIn H.LAYOUTS fields ty (map value_of values.now) first_pages (H.seen heap.old) (H.seen heap.new) (L.limits limiter.old) (L.limits limiter.new) result }
+    requires values { CanPlaceIn H.KIND layout.now values.now }
+    ensures { (fields : List FieldType) → layout.now ≡ struct_layout H.KIND fields → PlacesIn H.KIND fields ty (map value_of values.now) first_pages (H.seen heap.old) (H.seen heap.new) (L.limits limiter.old) (L.limits limiter.new) result }
 {
     match make_heap(alloc, heap, first_pages, limiter) {
         Ok(()) => match make_struct(heap, ty, layout, values) {
@@ -135,7 +135,7 @@ fn place_in<H: GcHeap, L: ResourceLimiter>(
             Err(HeapFault::TooLarge) => Err(PlaceFault::TooLarge),
             Err(HeapFault::Memory) => Err(PlaceFault::Memory),
         },
-        Err(MakeFault::Refused) => Err(out_of_memory(bytes_needed(H::LAYOUTS, layout.size))),
+        Err(MakeFault::Refused) => Err(out_of_memory(bytes_needed(H::KIND, layout.size))),
         Err(MakeFault::Memory) => Err(PlaceFault::Memory),
     }
 }
@@ -160,9 +160,9 @@ fn place_typed<H: GcHeap, L: ResourceLimiter>(
 ) -> Result<VMGcRef, PlaceFault>
     requires pages { first_pages ≤ max_pages }
     requires values { CanPlaceTyped types.now.declarations ty values.now }
-    ensures { (fields : List FieldType) → struct_fields_at types.now.declarations ty ≡ Some fields → PlacesIn H.LAYOUTS fields ty (map value_of values.now) first_pages (H.seen heap.old) (H.seen heap.new) (L.limits limiter.old) (L.limits limiter.new) result }
+    ensures { (fields : List FieldType) → struct_fields_at types.now.declarations ty ≡ Some fields → PlacesIn H.KIND fields ty (map value_of values.now) first_pages (H.seen heap.old) (H.seen heap.new) (L.limits limiter.old) (L.limits limiter.new) result }
 {
-    let layout = types.struct_layout(H::LAYOUTS, ty).unwrap();
+    let layout = types.struct_layout(H::KIND, ty).unwrap();
     place_in(alloc, heap, first_pages, limiter, ty, layout, values)
 }
 
@@ -209,10 +209,10 @@ impl<H: GcHeap, D> Store<H, D> {
     ) -> Result<GcRootIndex, PlaceFault>
         requires { CanPlace self.old ty values.now }
         ensures same { IsSameStore self.old self.new }
-        ensures places { (t : Table D) → HoldsTable H.LAYOUTS self.old t → Places H.LAYOUTS (struct ty (map value_of values.now)) (L.limits limiter.old) (L.limits limiter.new) t result self.new }
+        ensures places { (t : Table D) → HoldsTable H.KIND self.old t → Places H.KIND (struct ty (map value_of values.now)) (L.limits limiter.old) (L.limits limiter.new) t result self.new }
     {
-        let size = struct_size(&self.types, H::LAYOUTS, ty);
-        if is_too_large(H::LAYOUTS, size) {
+        let size = struct_size(&self.types, H::KIND, ty);
+        if is_too_large(H::KIND, size) {
             return Err(PlaceFault::TooLarge);
         }
         if self.roots_full() {

@@ -32,8 +32,8 @@ impl<H: GcHeap, D> Store<H, D> {
 
     /// What the reference with that word is.
     fn describe(&self, word: u32) -> RootedObject
-        requires { IsRootWord D H.LAYOUTS self.now word }
-        ensures { (t : Table D) (place : Placing) (r : Reference) → Holds H.LAYOUTS self.now t place → IsWord place r word → 0 < word → IsReference t r result }
+        requires { IsRootWord D H.KIND self.now word }
+        ensures { (t : Table D) (place : Placing) (r : Reference) → Holds H.KIND self.now t place → IsWord place r word → 0 < word → IsReference t r result }
     {
         let gc_ref = VMGcRef::from_raw_u32(word).unwrap();
         if gc_ref.is_i31() {
@@ -49,9 +49,9 @@ impl<H: GcHeap, D> Store<H, D> {
     /// where it isn't live.
     pub fn object(&self, handle: GcRootIndex) -> Result<RootedObject, RootFault>
         ensures wrong_store { is_of_store self.now handle ≡ false → result ≡ Err RootFault.WrongStore }
-        ensures named { (t : Table D) (serial : ℕ) → HoldsTable H.LAYOUTS self.now t → Names self.now t handle serial → TellsRoot t (rooted t serial) result }
-        ensures found { IfOk result (FindsRoot D H.LAYOUTS self.now handle) }
-        ensures unnamed { is_of_store self.now handle ≡ true → (t : Table D) → HoldsTable H.LAYOUTS self.now t → ((serial : ℕ) → ¬ Names self.now t handle serial) → result ≡ Err RootFault.Unrooted }
+        ensures named { (t : Table D) (serial : ℕ) → HoldsTable H.KIND self.now t → Names self.now t handle serial → TellsRoot t (rooted t serial) result }
+        ensures found { IfOk result (FindsRoot D H.KIND self.now handle) }
+        ensures unnamed { is_of_store self.now handle ≡ true → (t : Table D) → HoldsTable H.KIND self.now t → ((serial : ℕ) → ¬ Names self.now t handle serial) → result ≡ Err RootFault.Unrooted }
     {
         let _heap = &self.heap;
         match self.word_of(handle) {
@@ -62,8 +62,8 @@ impl<H: GcHeap, D> Store<H, D> {
 
     /// How many values the struct with that word has; None where the reference is no struct.
     fn count_values(&self, word: u32) -> Option<usize>
-        requires { IsRootWord D H.LAYOUTS self.now word }
-        ensures { (t : Table D) (place : Placing) (r : Reference) → Holds H.LAYOUTS self.now t place → IsWord place r word → 0 < word → CountsValues t r result }
+        requires { IsRootWord D H.KIND self.now word }
+        ensures { (t : Table D) (place : Placing) (r : Reference) → Holds H.KIND self.now t place → IsWord place r word → 0 < word → CountsValues t r result }
     {
         let gc_ref = VMGcRef::from_raw_u32(word).unwrap();
         if gc_ref.is_i31() {
@@ -79,9 +79,9 @@ impl<H: GcHeap, D> Store<H, D> {
     /// struct. `WrongStore` and `Unrooted` as in `object`.
     pub fn struct_len(&self, handle: GcRootIndex) -> Result<Option<usize>, RootFault>
         ensures wrong_store { is_of_store self.now handle ≡ false → result ≡ Err RootFault.WrongStore }
-        ensures named { (t : Table D) (serial : ℕ) → HoldsTable H.LAYOUTS self.now t → Names self.now t handle serial → TellsLength t (rooted t serial) result }
-        ensures found { IfOk result (FindsLength D H.LAYOUTS self.now handle) }
-        ensures unnamed { is_of_store self.now handle ≡ true → (t : Table D) → HoldsTable H.LAYOUTS self.now t → ((serial : ℕ) → ¬ Names self.now t handle serial) → result ≡ Err RootFault.Unrooted }
+        ensures named { (t : Table D) (serial : ℕ) → HoldsTable H.KIND self.now t → Names self.now t handle serial → TellsLength t (rooted t serial) result }
+        ensures found { IfOk result (FindsLength D H.KIND self.now handle) }
+        ensures unnamed { is_of_store self.now handle ≡ true → (t : Table D) → HoldsTable H.KIND self.now t → ((serial : ℕ) → ¬ Names self.now t handle serial) → result ≡ Err RootFault.Unrooted }
     {
         let _heap = &self.heap;
         match self.word_of(handle) {
@@ -92,8 +92,8 @@ impl<H: GcHeap, D> Store<H, D> {
 
     /// The 32-bit number in that field of the object with that word.
     fn read_number(&self, word: u32, index: u32) -> u32
-        requires { HasNumber D H.LAYOUTS self.now word index }
-        ensures { (t : Table D) (place : Placing) (position : ℕ) (ty : ℕ) (values : List Value) (n : ℕ) → Holds H.LAYOUTS self.now t place → place position ≡ Some word → slice_get t.objects position ≡ Some (struct ty values) → slice_get values index ≡ Some (i32 n) → result ≡ n }
+        requires { HasNumber D H.KIND self.now word index }
+        ensures { (t : Table D) (place : Placing) (position : ℕ) (ty : ℕ) (values : List Value) (n : ℕ) → Holds H.KIND self.now t place → place position ≡ Some word → slice_get t.objects position ≡ Some (struct ty values) → slice_get values index ≡ Some (i32 n) → result ≡ n }
     {
         let gc_ref = VMGcRef::from_raw_u32(word).unwrap();
         let offset = field_offset(&self.heap, &self.types, &gc_ref, index);
@@ -102,8 +102,8 @@ impl<H: GcHeap, D> Store<H, D> {
 
     /// The value of that field of a struct. Numbers push no root.
     pub fn read_value(&mut self, handle: GcRootIndex, index: u32) -> Result<RawValue, RootFault>
-        requires { CanRead D H.LAYOUTS self.old handle index }
-        ensures read { (t : Table D) (value : Value) → HoldsTable H.LAYOUTS self.old t → HasField self.old t handle index value → IfOk result (IsRaw value) × IsOk result }
+        requires { CanRead D H.KIND self.old handle index }
+        ensures read { (t : Table D) (value : Value) → HoldsTable H.KIND self.old t → HasField self.old t handle index value → IfOk result (IsRaw value) × IsOk result }
         ensures same { self.new ≡ self.old }
     {
         match self.word_of(handle) {

@@ -66,7 +66,7 @@ impl<H: GcHeap, D> Model for Store<H, D> {
 
     ghost view = { λ s. store_view s.id s.config s.types.declarations (H.seen s.heap) s.scoped.items s.generation };
 
-    ghost invariant = { λ s. IsSound D H.LAYOUTS s.types (store_view s.id s.config s.types.declarations (H.seen s.heap) s.scoped.items s.generation) };
+    ghost invariant = { λ s. IsSound D H.KIND s.types (store_view s.id s.config s.types.declarations (H.seen s.heap) s.scoped.items s.generation) };
 }
 
 impl<H: GcHeap, D> Store<H, D> {
@@ -78,7 +78,7 @@ impl<H: GcHeap, D> Store<H, D> {
         config: HeapConfig,
     ) -> Result<Store<H, D>, AllocError>
         requires { H.seen heap ≡ detached }
-        ensures start { IfOk result (HoldsStart D H.LAYOUTS) }
+        ensures start { IfOk result (HoldsStart D H.KIND) }
         ensures seen { IfOk result (λ s. s ≡ empty_store id.engine id.number config.first_pages config.max_scoped config.max_owned (option_map non_zero_u32_get config.alloc_counter)) }
     {
         Ok(Store {
@@ -95,7 +95,7 @@ impl<H: GcHeap, D> Store<H, D> {
 
     /// Whether nothing was done with the store yet, so that it may be configured.
     pub fn is_new(&self) -> bool
-        ensures { IsTrue result ↔ HoldsStart D H.LAYOUTS self.now }
+        ensures { IsTrue result ↔ HoldsStart D H.KIND self.now }
     {
         self.is_untouched()
     }
@@ -103,7 +103,7 @@ impl<H: GcHeap, D> Store<H, D> {
     /// Whether there is no type, root, generation or memory.
     fn is_untouched(&self) -> bool
         ensures parts { IsTrue result ↔ ShowsNothing self.now }
-        ensures sound { HoldsSome D H.LAYOUTS self.now }
+        ensures sound { HoldsSome D H.KIND self.now }
     {
         self.scoped.is_empty()
             && self.generation == 0
@@ -113,8 +113,8 @@ impl<H: GcHeap, D> Store<H, D> {
 
     /// Gives a new store another configuration.
     pub fn configure(&mut self, config: HeapConfig)
-        requires { HoldsStart D H.LAYOUTS self.old }
-        ensures start { HoldsStart D H.LAYOUTS self.new }
+        requires { HoldsStart D H.KIND self.old }
+        ensures start { HoldsStart D H.KIND self.new }
         ensures seen { self.new ≡ configured config self.old }
     {
         self.config = config;
@@ -137,7 +137,7 @@ impl<H: GcHeap, D> Store<H, D> {
         requires no_supertype { supertype ≡ None }
         requires open { is_final ≡ false }
         requires numbers { All IsMutableI32 fields.now }
-        ensures step { (t : Table D) → HoldsTable H.LAYOUTS self.old t → DeclaresStruct H.LAYOUTS fields.now t result self.new }
+        ensures step { (t : Table D) → HoldsTable H.KIND self.old t → DeclaresStruct H.KIND fields.now t result self.new }
         ensures err { OnErr result (self.new ≡ self.old) }
         ensures same { IsSameStore self.old self.new }
     {

@@ -18,7 +18,7 @@ pub loop-command-preserved : goal.loop-command-preserved
 loop-command-preserved g c = record {
   along = λ t holds.
       let so_far = c.loop-command.invariant.along t holds in
-      subst (λ (done : List Command). Along g.H.GcHeap.LAYOUTS (g.L.ResourceLimiter.limits c.args.limiter.now) (g.L.ResourceLimiter.limits c.run_next.new.limiter) (begin t) done c.run_next.new.replies.items c.run_next.new.store c.run_next.new.runner)
+      subst (λ (done : List Command). Along g.H.GcHeap.KIND (g.L.ResourceLimiter.limits c.args.limiter.now) (g.L.ResourceLimiter.limits c.run_next.new.limiter) (begin t) done c.run_next.new.replies.items c.run_next.new.store c.run_next.new.runner)
       (sym (take_more c.args.commands.now c.loop-command.command-index c.command-item.result c.loop-command-test.true ∙ ap (λ (x : Command). take c.loop-command.command-index c.args.commands.now ++ x ∷ []) (sym c.command-item.is)))
       (along_more _ _ _ _ (begin t) (take c.loop-command.command-index c.args.commands.now) c.command-item.result _ _ _ _ _ _ so_far (c.in_ok-run_next.ensures.ran so_far.mid so_far.holds));
   same = same_twice _ _ _ c.loop-command.invariant.same c.run_next.ensures.same;

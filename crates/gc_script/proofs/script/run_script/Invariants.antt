@@ -8,6 +8,6 @@ use Rattle.gc_script.proofs.script.run_script.Given as goal
 
 abbrev pub invariant-loop-command : goal.invariant-loop-command
 invariant-loop-command g l = record {
-  along : (t : Table ℕ) → HoldsTable g.H.GcHeap.LAYOUTS l.fn.store t → Along g.H.GcHeap.LAYOUTS (g.L.ResourceLimiter.limits l.fn.limiter) (g.L.ResourceLimiter.limits l.limiter) (begin t) (take l.command-index l.commands) l.replies.items l.store l.runner;
+  along : (t : Table ℕ) → HoldsTable g.H.GcHeap.KIND l.fn.store t → Along g.H.GcHeap.KIND (g.L.ResourceLimiter.limits l.fn.limiter) (g.L.ResourceLimiter.limits l.limiter) (begin t) (take l.command-index l.commands) l.replies.items l.store l.runner;
   same : IsSameStore l.fn.store l.store;
 }

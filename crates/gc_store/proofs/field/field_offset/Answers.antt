@@ -17,12 +17,12 @@ use Rattle.gc_store.proofs.field.field_offset.Goals as goal
 use Rattle.gc_store.proofs.field.field_offset.Goals.{After-struct_layout, After-as_slice}
 
 -- the type of a held object has its layout
-found : (g : given.Over) (c : After-struct_layout g) (object : HeapObject) (fields : List FieldType) → finite.get (g.H.GcHeap.seen c.args.heap.now).content c.args.gc_ref.now ≡ Some object → struct_fields_at c.args.types.now.declarations object.ty ≡ Some fields → Rattle.std.specs.Option.option_copied c.struct_layout.result ≡ Some (struct_layout g.H.GcHeap.LAYOUTS fields)
+found : (g : given.Over) (c : After-struct_layout g) (object : HeapObject) (fields : List FieldType) → finite.get (g.H.GcHeap.seen c.args.heap.now).content c.args.gc_ref.now ≡ Some object → struct_fields_at c.args.types.now.declarations object.ty ≡ Some fields → Rattle.std.specs.Option.option_copied c.struct_layout.result ≡ Some (struct_layout g.H.GcHeap.KIND fields)
 found g c object fields held declared =
     let told = c.in-Ok.ensures.held object held in
     let known : struct_fields_at c.args.types.now.declarations c.type_index.result ≡ Some fields = ap (struct_fields_at c.args.types.now.declarations) (c.type_index.ensures ∙ told.ty) ∙ declared in
     c.struct_layout.ensures.structs (is_some_from _ fields known)
-    ∙ ap (λ (l : Layouts). option_map (struct_layout l) (struct_fields_at c.args.types.now.declarations c.type_index.result)) c.LAYOUTS.ensures
+    ∙ ap (λ (l : Layouts). option_map (struct_layout l) (struct_fields_at c.args.types.now.declarations c.type_index.result)) c.KIND.ensures
     ∙ layout_found _ c.args.types.now.declarations c.type_index.result object.ty fields (c.type_index.ensures ∙ told.ty) declared
 
 pub unwrap-layout-requires : goal.unwrap-layout-requires
@@ -30,7 +30,7 @@ unwrap-layout-requires g c =
     let has = c.requires.fields in
     copied_some c.struct_layout.result _ (found g (goal.at.unwrap-layout-requires g c).After-struct_layout has.object has.fields has.held has.declared)
 
-places : (g : given.Over) (c : After-as_slice g) (object : HeapObject) (fields : List FieldType) → finite.get (g.H.GcHeap.seen c.args.heap.now).content c.args.gc_ref.now ≡ Some object → struct_fields_at c.args.types.now.declarations object.ty ≡ Some fields → c.as_slice.result.now ≡ field_layouts (struct_base g.H.GcHeap.LAYOUTS) fields
+places : (g : given.Over) (c : After-as_slice g) (object : HeapObject) (fields : List FieldType) → finite.get (g.H.GcHeap.seen c.args.heap.now).content c.args.gc_ref.now ≡ Some object → struct_fields_at c.args.types.now.declarations object.ty ≡ Some fields → c.as_slice.result.now ≡ field_layouts (struct_base g.H.GcHeap.KIND) fields
 places g c object fields held declared =
     let is = copied_value c.struct_layout.result c.unwrap-layout.result _ (found g (goal.at.After-as_slice g c).After-struct_layout object fields held declared) c.unwrap-layout.ensures in
     c.as_slice.ensures ∙ ap (λ (l : GcStructLayout). l.fields) is
@@ -40,7 +40,7 @@ bounds-as_slice-index g c =
     let has = c.requires.fields in
     let is = places g (goal.at.bounds-as_slice-index g c).After-as_slice has.object has.fields has.held has.declared in
     let within = c.requires.within has.object has.fields has.held has.declared in
-    omega (arith, within, ap length is, length-field_layouts (struct_base g.H.GcHeap.LAYOUTS) has.fields)
+    omega (arith, within, ap length is, length-field_layouts (struct_base g.H.GcHeap.KIND) has.fields)
 
 pub returns : goal.returns
 returns g c object fields held declared =

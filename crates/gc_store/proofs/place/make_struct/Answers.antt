@@ -8,7 +8,7 @@ pub alloc_uninit_struct_or_exn-requires-clause-size : goal.alloc_uninit_struct_o
 alloc_uninit_struct_or_exn-requires-clause-size g c = layout_size _ c.args.layout.now c.requires.fields c.requires.laid_out
 
 -- the allocation added an object
-adds : (g : given.Over) (c : In-Ok-Ok g) → AddsObject g.H.GcHeap.LAYOUTS (g.H.GcHeap.seen c.args.heap.now) (g.H.GcHeap.seen c.alloc_uninit_struct_or_exn.new.self) c.in-Ok-Ok.gc_ref (zeroed g.H.GcHeap.LAYOUTS (layout_kind c.args.layout.now) c.args.ty c.args.layout.now.size) c.args.layout.now.size
+adds : (g : given.Over) (c : In-Ok-Ok g) → AddsObject g.H.GcHeap.KIND (g.H.GcHeap.seen c.args.heap.now) (g.H.GcHeap.seen c.alloc_uninit_struct_or_exn.new.self) c.in-Ok-Ok.gc_ref (zeroed g.H.GcHeap.KIND (layout_kind c.args.layout.now) c.args.ty c.args.layout.now.size) c.args.layout.now.size
 adds g c = rw c.in-Ok-Ok.field-0-is at c.in-Ok-Ok.ensures
 
 pub write_values-requires : goal.write_values-requires

@@ -9,17 +9,17 @@ returns-in-Ok-answer g c fields is = (
   g.H.GcHeap.seen c.make_heap.new.heap,
   (
     c.in-Ok.ensures,
-    subst (λ (a : Result ℕ ℕ). MakesStruct g.H.GcHeap.LAYOUTS fields c.args.ty (map value_of c.args.values.now) (g.H.GcHeap.seen c.make_heap.new.heap) (g.H.GcHeap.seen c.make_struct.new.heap) (Ok a)) c.in-Ok-answer.is (c.in-Ok-make_struct.ensures fields is),
+    subst (λ (a : Result ℕ ℕ). MakesStruct g.H.GcHeap.KIND fields c.args.ty (map value_of c.args.values.now) (g.H.GcHeap.seen c.make_heap.new.heap) (g.H.GcHeap.seen c.make_struct.new.heap) (Ok a)) c.in-Ok-answer.is (c.in-Ok-make_struct.ensures fields is),
   ),
 )
 
 pub returns-in-Err : goal.returns-in-Err
 returns-in-Err g c fields is =
-    subst (λ (f : PlaceFault). PlacesIn g.H.GcHeap.LAYOUTS fields c.args.ty (map value_of c.args.values.now) c.args.first_pages (g.H.GcHeap.seen c.args.heap.now) (g.H.GcHeap.seen c.make_struct.new.heap) (g.L.ResourceLimiter.limits c.args.limiter.now) (g.L.ResourceLimiter.limits c.make_heap.new.limiter) (Err f)) (sym c.out_of_memory.ensures)
+    subst (λ (f : PlaceFault). PlacesIn g.H.GcHeap.KIND fields c.args.ty (map value_of c.args.values.now) c.args.first_pages (g.H.GcHeap.seen c.args.heap.now) (g.H.GcHeap.seen c.make_struct.new.heap) (g.L.ResourceLimiter.limits c.args.limiter.now) (g.L.ResourceLimiter.limits c.make_heap.new.limiter) (Err f)) (sym c.out_of_memory.ensures)
     (inr (
       g.H.GcHeap.seen c.make_heap.new.heap,
       (
         c.in-Ok.ensures,
-        subst (λ (a : Result ℕ ℕ). MakesStruct g.H.GcHeap.LAYOUTS fields c.args.ty (map value_of c.args.values.now) (g.H.GcHeap.seen c.make_heap.new.heap) (g.H.GcHeap.seen c.make_struct.new.heap) (Ok a)) c.in-Err.is (c.in-Ok-make_struct.ensures fields is),
+        subst (λ (a : Result ℕ ℕ). MakesStruct g.H.GcHeap.KIND fields c.args.ty (map value_of c.args.values.now) (g.H.GcHeap.seen c.make_heap.new.heap) (g.H.GcHeap.seen c.make_struct.new.heap) (Ok a)) c.in-Err.is (c.in-Ok-make_struct.ensures fields is),
       ),
     ))

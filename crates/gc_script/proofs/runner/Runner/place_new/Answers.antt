@@ -24,16 +24,16 @@ slots_are : (g : given.Over) (c : After-place_struct g) (k : ℕ) → register_a
 slots_are g c k = c.make_room.ensures.same k ∙ ap (λ (xs : List (Option Register)). register_at xs k) c.self.view_is
 
 -- what was placed is the object of the command
-places_new : (g : given.Over) (c : After-place_struct g) (t : Table ℕ) → HoldsTable g.H.GcHeap.LAYOUTS c.args.store.now t → Places g.H.GcHeap.LAYOUTS (new_struct c.args.t c.args.values.now) (g.L.ResourceLimiter.limits c.args.limiter.now) (g.L.ResourceLimiter.limits c.place_struct.new.limiter) t c.place_struct.result c.place_struct.new.self
+places_new : (g : given.Over) (c : After-place_struct g) (t : Table ℕ) → HoldsTable g.H.GcHeap.KIND c.args.store.now t → Places g.H.GcHeap.KIND (new_struct c.args.t c.args.values.now) (g.L.ResourceLimiter.limits c.args.limiter.now) (g.L.ResourceLimiter.limits c.place_struct.new.limiter) t c.place_struct.result c.place_struct.new.self
 places_new g c t holds =
-    subst (λ (o : Object ℕ). Places g.H.GcHeap.LAYOUTS o (g.L.ResourceLimiter.limits c.args.limiter.now) (g.L.ResourceLimiter.limits c.place_struct.new.limiter) t c.place_struct.result c.place_struct.new.self)
+    subst (λ (o : Object ℕ). Places g.H.GcHeap.KIND o (g.L.ResourceLimiter.limits c.args.limiter.now) (g.L.ResourceLimiter.limits c.place_struct.new.limiter) t c.place_struct.result c.place_struct.new.self)
     (ap (λ (ty : ℕ). struct ty (map value_of c.as_slice.result.now)) c.new.ensures ∙ ap (struct c.args.t) (ap (map value_of) c.as_slice.ensures.value ∙ c.in-Ok.ensures.values))
     (c.place_struct.ensures.places t holds)
 
 -- the same of a result that is known
-places_as : (g : given.Over) (c : After-place_struct g) (t : Table ℕ) (result : Result GcRootIndex PlaceFault) → c.place_struct.result ≡ result → HoldsTable g.H.GcHeap.LAYOUTS c.args.store.now t → Places g.H.GcHeap.LAYOUTS (new_struct c.args.t c.args.values.now) (g.L.ResourceLimiter.limits c.args.limiter.now) (g.L.ResourceLimiter.limits c.place_struct.new.limiter) t result c.place_struct.new.self
+places_as : (g : given.Over) (c : After-place_struct g) (t : Table ℕ) (result : Result GcRootIndex PlaceFault) → c.place_struct.result ≡ result → HoldsTable g.H.GcHeap.KIND c.args.store.now t → Places g.H.GcHeap.KIND (new_struct c.args.t c.args.values.now) (g.L.ResourceLimiter.limits c.args.limiter.now) (g.L.ResourceLimiter.limits c.place_struct.new.limiter) t result c.place_struct.new.self
 places_as g c t result is holds =
-    subst (λ (r : Result GcRootIndex PlaceFault). Places g.H.GcHeap.LAYOUTS (new_struct c.args.t c.args.values.now) (g.L.ResourceLimiter.limits c.args.limiter.now) (g.L.ResourceLimiter.limits c.place_struct.new.limiter) t r c.place_struct.new.self) is (places_new g c t holds)
+    subst (λ (r : Result GcRootIndex PlaceFault). Places g.H.GcHeap.KIND (new_struct c.args.t c.args.values.now) (g.L.ResourceLimiter.limits c.args.limiter.now) (g.L.ResourceLimiter.limits c.place_struct.new.limiter) t r c.place_struct.new.self) is (places_new g c t holds)
 
 pub returns-in-Ok-place_struct-clause-runs : goal.returns-in-Ok-place_struct-clause-runs
 returns-in-Ok-place_struct-clause-runs g c s holds =

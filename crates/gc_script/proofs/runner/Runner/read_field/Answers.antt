@@ -10,7 +10,7 @@ use Rattle.gc_script.proofs.runner.Runner.read_field.Goals as goal
 use Rattle.gc_script.proofs.runner.Runner.read_field.Goals.{Else-i-count}
 
 -- the field may be read
-readable : (g : given.Over) (c : Else-i-count g) → CanRead ℕ g.H.GcHeap.LAYOUTS c.args.store.now c.in-Some-Reference-default-Some.handle c.args.i
+readable : (g : given.Over) (c : Else-i-count g) → CanRead ℕ g.H.GcHeap.KIND c.args.store.now c.in-Some-Reference-default-Some.handle c.args.i
 readable g c = can_read _ _ _ c.in-Ok-Some.count c.args.i c.if-i-count.false ((rw c.in-Ok-Some.field-0-is at c.in-Ok-Some.ensures).found)
 
 pub read_value-requires : goal.read_value-requires
@@ -31,5 +31,5 @@ pub returns-in-Ok-clause-reads : goal.returns-in-Ok-clause-reads
 returns-in-Ok-clause-reads g c s holds =
     let read = field_read c.args.store.now s.table _ (s.registers c.args.r) _ c.in-Some-Reference-default-Some.handle c.in-Ok-Some.count c.args.i c.if-i-count.false (slot_is g (goal.at.returns-in-Ok-clause-reads g c).Else-i-count) (holds.registers c.args.r)
     (λ serial names. (rw c.in-Ok-Some.field-0-is at c.in-Ok-Some.ensures).named s.table serial holds.table names) in
-    answers_field g.H.GcHeap.LAYOUTS s c.args.r c.args.i read.values read.value c.shown.result read.target read.below read.value_is
+    answers_field g.H.GcHeap.KIND s c.args.r c.args.i read.values read.value c.shown.result read.target read.below read.value_is
     (c.shown.ensures read.value (c.in-Ok.ensures.read s.table read.value holds.table read.field).0)

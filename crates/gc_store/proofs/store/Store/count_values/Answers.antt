@@ -34,6 +34,6 @@ unreachable-requires g c =
 pub returns : goal.returns
 returns g c t place r holds is positive =
     let same = same_word g (goal.at.returns g c).After-is_i31 in
-    counts_object g.H.GcHeap.LAYOUTS c.args.self.now t place r c.args.word c.type_index.result _ holds is positive (λ odd. cc (c.if-is_i31.ensures.1 (ap (λ w. w % 2) same ∙ odd)))
+    counts_object g.H.GcHeap.KIND c.args.self.now t place r c.args.word c.type_index.result _ holds is positive (λ odd. cc (c.if-is_i31.ensures.1 (ap (λ w. w % 2) same ∙ odd)))
     (λ object e. let told = c.in-Ok.ensures.held object (found g (goal.at.returns g c).After-header same object e) in sym told.ty ∙ sym c.type_index.ensures)
     (c.struct_len.ensures ∙ ap (λ (s : StoreView). option_map length (struct_fields_at s.types c.type_index.result)) c.self.view_is)

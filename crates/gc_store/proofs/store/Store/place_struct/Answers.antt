@@ -24,42 +24,42 @@ declared : (g : given.Over) (c : After-place_typed g) → struct_fields_at c.sel
 declared g c = ap (λ (s : StoreView). struct_fields_at s.types c.args.ty) c.self.view_is ∙ c.requires.declared
 
 -- the struct is not too large
-small : (g : given.Over) (c : After-place_typed g) → too_large g.H.GcHeap.LAYOUTS (fields_end (struct_base g.H.GcHeap.LAYOUTS) c.requires.fields) ≡ false
+small : (g : given.Over) (c : After-place_typed g) → too_large g.H.GcHeap.KIND (fields_end (struct_base g.H.GcHeap.KIND) c.requires.fields) ≡ false
 small g c =
-    ap (too_large g.H.GcHeap.LAYOUTS) (sym (ap (fields_size g.H.GcHeap.LAYOUTS) (declared g c)))
-    ∙ ap (too_large g.H.GcHeap.LAYOUTS) (ap (λ (k : Layouts). fields_size k (struct_fields_at c.self.inside.types.declarations c.args.ty)) (sym c.LAYOUTS.ensures) ∙ sym c.struct_size-size.ensures)
-    ∙ ap (λ (k : Layouts). too_large k c.struct_size-size.result) (sym c.LAYOUTS-2.ensures)
+    ap (too_large g.H.GcHeap.KIND) (sym (ap (fields_size g.H.GcHeap.KIND) (declared g c)))
+    ∙ ap (too_large g.H.GcHeap.KIND) (ap (λ (k : Layouts). fields_size k (struct_fields_at c.self.inside.types.declarations c.args.ty)) (sym c.KIND.ensures) ∙ sym c.struct_size-size.ensures)
+    ∙ ap (λ (k : Layouts). too_large k c.struct_size-size.result) (sym c.KIND-2.ensures)
     ∙ sym c.is_too_large.ensures ∙ c.if-is_too_large.false
 
 -- and a root may be pushed
 not_full : (g : given.Over) (c : After-place_typed g) → is_full (store_view c.self.inside.id c.self.inside.config c.self.inside.types.declarations (g.H.GcHeap.seen c.self.inside.heap) c.self.inside.scoped.items c.self.inside.generation) ≡ false
 not_full g c = ap is_full c.self.view_is ∙ sym c.roots_full.ensures ∙ c.if-roots_full.false
 
-placed : (g : given.Over) (c : After-place_typed g) → PlacesIn g.H.GcHeap.LAYOUTS c.requires.fields c.args.ty (map value_of c.args.values.now) c.self.inside.config.first_pages (g.H.GcHeap.seen c.self.inside.heap) (g.H.GcHeap.seen c.place_typed.new.heap) (g.L.ResourceLimiter.limits c.args.limiter.now) (g.L.ResourceLimiter.limits c.place_typed.new.limiter) c.place_typed.result
+placed : (g : given.Over) (c : After-place_typed g) → PlacesIn g.H.GcHeap.KIND c.requires.fields c.args.ty (map value_of c.args.values.now) c.self.inside.config.first_pages (g.H.GcHeap.seen c.self.inside.heap) (g.H.GcHeap.seen c.place_typed.new.heap) (g.L.ResourceLimiter.limits c.args.limiter.now) (g.L.ResourceLimiter.limits c.place_typed.new.limiter) c.place_typed.result
 placed g c = c.place_typed.ensures c.requires.fields (declared g c)
 
 -- a table that the store held, as its parts show it
-held : (g : given.Over) (c : After-place_typed g) (t : Table g.row.D.Denot) → HoldsTable g.H.GcHeap.LAYOUTS c.args.self.now t → HoldsTable g.H.GcHeap.LAYOUTS (store_view c.self.inside.id c.self.inside.config c.self.inside.types.declarations (g.H.GcHeap.seen c.self.inside.heap) c.self.inside.scoped.items c.self.inside.generation) t
-held g c t holds = subst (λ (s : StoreView). HoldsTable g.H.GcHeap.LAYOUTS s t) (sym c.self.view_is) holds
+held : (g : given.Over) (c : After-place_typed g) (t : Table g.row.D.Denot) → HoldsTable g.H.GcHeap.KIND c.args.self.now t → HoldsTable g.H.GcHeap.KIND (store_view c.self.inside.id c.self.inside.config c.self.inside.types.declarations (g.H.GcHeap.seen c.self.inside.heap) c.self.inside.scoped.items c.self.inside.generation) t
+held g c t holds = subst (λ (s : StoreView). HoldsTable g.H.GcHeap.KIND s t) (sym c.self.view_is) holds
 
 -- what a struct that was made and pushed leaves
-made : (g : given.Over) (c : After-push_root g) (t : Table g.row.D.Denot) → HoldsTable g.H.GcHeap.LAYOUTS (store_view c.self.inside.id c.self.inside.config c.self.inside.types.declarations (g.H.GcHeap.seen c.self.inside.heap) c.self.inside.scoped.items c.self.inside.generation) t → PlacesObject g.H.GcHeap.LAYOUTS (struct c.args.ty (map value_of c.args.values.now)) (g.L.ResourceLimiter.limits c.args.limiter.now) (g.L.ResourceLimiter.limits c.place_typed.new.limiter) t c.push_root.result (store_view c.self.inside.id c.self.inside.config c.self.inside.types.declarations (g.H.GcHeap.seen c.place_typed.new.heap) c.push_root.new.scoped.items c.self.inside.generation)
+made : (g : given.Over) (c : After-push_root g) (t : Table g.row.D.Denot) → HoldsTable g.H.GcHeap.KIND (store_view c.self.inside.id c.self.inside.config c.self.inside.types.declarations (g.H.GcHeap.seen c.self.inside.heap) c.self.inside.scoped.items c.self.inside.generation) t → PlacesObject g.H.GcHeap.KIND (struct c.args.ty (map value_of c.args.values.now)) (g.L.ResourceLimiter.limits c.args.limiter.now) (g.L.ResourceLimiter.limits c.place_typed.new.limiter) t c.push_root.result (store_view c.self.inside.id c.self.inside.config c.self.inside.types.declarations (g.H.GcHeap.seen c.place_typed.new.heap) c.push_root.new.scoped.items c.self.inside.generation)
 made g c t holds =
     let before = (goal.at.After-push_root g c).After-place_typed in
-    let p = subst (λ (r : Result ℕ PlaceFault). PlacesIn g.H.GcHeap.LAYOUTS c.requires.fields c.args.ty (map value_of c.args.values.now) c.self.inside.config.first_pages (g.H.GcHeap.seen c.self.inside.heap) (g.H.GcHeap.seen c.place_typed.new.heap) (g.L.ResourceLimiter.limits c.args.limiter.now) (g.L.ResourceLimiter.limits c.place_typed.new.limiter) r) c.in-Ok.is (placed g before) in
-    places_ok g.H.GcHeap.LAYOUTS c.self.inside.id c.self.inside.config c.self.inside.types.declarations (g.H.GcHeap.seen c.self.inside.heap) (g.H.GcHeap.seen c.place_typed.new.heap) c.self.inside.scoped.items c.self.inside.generation c.requires.fields c.args.ty (map value_of c.args.values.now) _ _ t holds.0 holds.1 (declared g before)
+    let p = subst (λ (r : Result ℕ PlaceFault). PlacesIn g.H.GcHeap.KIND c.requires.fields c.args.ty (map value_of c.args.values.now) c.self.inside.config.first_pages (g.H.GcHeap.seen c.self.inside.heap) (g.H.GcHeap.seen c.place_typed.new.heap) (g.L.ResourceLimiter.limits c.args.limiter.now) (g.L.ResourceLimiter.limits c.place_typed.new.limiter) r) c.in-Ok.is (placed g before) in
+    places_ok g.H.GcHeap.KIND c.self.inside.id c.self.inside.config c.self.inside.types.declarations (g.H.GcHeap.seen c.self.inside.heap) (g.H.GcHeap.seen c.place_typed.new.heap) c.self.inside.scoped.items c.self.inside.generation c.requires.fields c.args.ty (map value_of c.args.values.now) _ _ t holds.0 holds.1 (declared g before)
     p.0 c.in-Ok.gc_ref c.push_root.new.scoped.items c.push_root.result (small g before) (not_full g before) p.1.0 p.1.1
     (c.push_root.ensures.pushed ∙ ap (λ (xs : List RootEntry). xs ++ (record { generation = c.self.inside.generation; word = c.as_raw_u32-word.result }) ∷ []) c.reserve.ensures.items
     ∙ ap (λ (w : ℕ). c.self.inside.scoped.items ++ (record { generation = c.self.inside.generation; word = w }) ∷ []) c.as_raw_u32-word.ensures.value)
     (c.push_root.ensures.handle ∙ ap (λ (xs : List RootEntry). record { store_id = c.self.inside.id; generation = c.self.inside.generation; slot = slot.Scoped (length xs) }) c.reserve.ensures.items)
 
 -- what a struct that was not made leaves
-refused : (g : given.Over) (c : In-Err g) (t : Table g.row.D.Denot) → HoldsTable g.H.GcHeap.LAYOUTS (store_view c.self.inside.id c.self.inside.config c.self.inside.types.declarations (g.H.GcHeap.seen c.self.inside.heap) c.self.inside.scoped.items c.self.inside.generation) t → Places g.H.GcHeap.LAYOUTS (struct c.args.ty (map value_of c.args.values.now)) (g.L.ResourceLimiter.limits c.args.limiter.now) (g.L.ResourceLimiter.limits c.place_typed.new.limiter) t (Err c.in-Err.fault) (store_view c.self.inside.id c.self.inside.config c.self.inside.types.declarations (g.H.GcHeap.seen c.place_typed.new.heap) c.reserve.new.self.items c.self.inside.generation)
+refused : (g : given.Over) (c : In-Err g) (t : Table g.row.D.Denot) → HoldsTable g.H.GcHeap.KIND (store_view c.self.inside.id c.self.inside.config c.self.inside.types.declarations (g.H.GcHeap.seen c.self.inside.heap) c.self.inside.scoped.items c.self.inside.generation) t → Places g.H.GcHeap.KIND (struct c.args.ty (map value_of c.args.values.now)) (g.L.ResourceLimiter.limits c.args.limiter.now) (g.L.ResourceLimiter.limits c.place_typed.new.limiter) t (Err c.in-Err.fault) (store_view c.self.inside.id c.self.inside.config c.self.inside.types.declarations (g.H.GcHeap.seen c.place_typed.new.heap) c.reserve.new.self.items c.self.inside.generation)
 refused g c t holds =
     let before = (goal.at.In-Err g c).After-place_typed in
-    let p = subst (λ (r : Result ℕ PlaceFault). PlacesIn g.H.GcHeap.LAYOUTS c.requires.fields c.args.ty (map value_of c.args.values.now) c.self.inside.config.first_pages (g.H.GcHeap.seen c.self.inside.heap) (g.H.GcHeap.seen c.place_typed.new.heap) (g.L.ResourceLimiter.limits c.args.limiter.now) (g.L.ResourceLimiter.limits c.place_typed.new.limiter) r) c.in-Err.is (placed g before) in
-    subst (λ (xs : List RootEntry). Places g.H.GcHeap.LAYOUTS (struct c.args.ty (map value_of c.args.values.now)) (g.L.ResourceLimiter.limits c.args.limiter.now) (g.L.ResourceLimiter.limits c.place_typed.new.limiter) t (Err c.in-Err.fault) (store_view c.self.inside.id c.self.inside.config c.self.inside.types.declarations (g.H.GcHeap.seen c.place_typed.new.heap) xs c.self.inside.generation)) (sym c.reserve.ensures.items)
-    (places_err g.H.GcHeap.LAYOUTS c.self.inside.id c.self.inside.config c.self.inside.types.declarations (g.H.GcHeap.seen c.self.inside.heap) (g.H.GcHeap.seen c.place_typed.new.heap) c.self.inside.scoped.items c.self.inside.generation c.requires.fields c.args.ty (map value_of c.args.values.now) _ _ t holds.0 holds.1 (declared g before)
+    let p = subst (λ (r : Result ℕ PlaceFault). PlacesIn g.H.GcHeap.KIND c.requires.fields c.args.ty (map value_of c.args.values.now) c.self.inside.config.first_pages (g.H.GcHeap.seen c.self.inside.heap) (g.H.GcHeap.seen c.place_typed.new.heap) (g.L.ResourceLimiter.limits c.args.limiter.now) (g.L.ResourceLimiter.limits c.place_typed.new.limiter) r) c.in-Err.is (placed g before) in
+    subst (λ (xs : List RootEntry). Places g.H.GcHeap.KIND (struct c.args.ty (map value_of c.args.values.now)) (g.L.ResourceLimiter.limits c.args.limiter.now) (g.L.ResourceLimiter.limits c.place_typed.new.limiter) t (Err c.in-Err.fault) (store_view c.self.inside.id c.self.inside.config c.self.inside.types.declarations (g.H.GcHeap.seen c.place_typed.new.heap) xs c.self.inside.generation)) (sym c.reserve.ensures.items)
+    (places_err g.H.GcHeap.KIND c.self.inside.id c.self.inside.config c.self.inside.types.declarations (g.H.GcHeap.seen c.self.inside.heap) (g.H.GcHeap.seen c.place_typed.new.heap) c.self.inside.scoped.items c.self.inside.generation c.requires.fields c.args.ty (map value_of c.args.values.now) _ _ t holds.0 holds.1 (declared g before)
     c.in-Err.fault (small g before) (not_full g before) p)
 
 pub invariant_of-self-in-Ok : goal.invariant_of-self-in-Ok
@@ -69,7 +69,7 @@ invariant_of-self-in-Ok g c =
 
 pub invariant_of-self-in-Err : goal.invariant_of-self-in-Err
 invariant_of-self-in-Err g c =
-    let after = sound_places g.H.GcHeap.LAYOUTS (struct c.args.ty (map value_of c.args.values.now)) (g.L.ResourceLimiter.limits c.args.limiter.now) (g.L.ResourceLimiter.limits c.place_typed.new.limiter) c.self.invariant.table (Err c.in-Err.fault) _ (refused g (goal.at.invariant_of-self-in-Err g c).In-Err c.self.invariant.table c.self.invariant.holds) in
+    let after = sound_places g.H.GcHeap.KIND (struct c.args.ty (map value_of c.args.values.now)) (g.L.ResourceLimiter.limits c.args.limiter.now) (g.L.ResourceLimiter.limits c.place_typed.new.limiter) c.self.invariant.table (Err c.in-Err.fault) _ (refused g (goal.at.invariant_of-self-in-Err g c).In-Err c.self.invariant.table c.self.invariant.holds) in
     record { engine = c.self.invariant.engine; number = c.self.invariant.number; table = after.0; holds = after.1 }
 
 pub returns-in-Ok-clause-places : goal.returns-in-Ok-clause-places

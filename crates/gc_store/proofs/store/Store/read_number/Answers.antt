@@ -14,7 +14,7 @@ use Rattle.gc_store.proofs.store.Store.read_number.Goals as goal
 use Rattle.gc_store.proofs.store.Store.read_number.Goals.{Start, After-self, After-field_offset-offset}
 
 -- where the number lies, in some table that the store holds
-lies : (g : given.Over) (c : Start g) → NumberAt g.H.GcHeap.LAYOUTS c.args.self.now c.args.word c.args.index c.requires.n
+lies : (g : given.Over) (c : Start g) → NumberAt g.H.GcHeap.KIND c.args.self.now c.args.word c.args.index c.requires.n
 lies g c = number_at _ _ c.requires.table c.requires.place c.requires.position c.args.word c.args.index c.requires.ty c.requires.n c.requires.values c.requires.holds c.requires.placed c.requires.object c.requires.value_at
 
 pub unwrap-gc_ref-requires : goal.unwrap-gc_ref-requires
@@ -44,7 +44,7 @@ field_offset-offset-requires-clause-within g c object fields held declared =
     subst (λ (fs : List FieldType). c.args.index < length fs) fields_same l.within
 
 -- where the field lies
-offset_is : (g : given.Over) (c : After-field_offset-offset g) (n : ℕ) (l : NumberAt g.H.GcHeap.LAYOUTS c.args.self.now c.args.word c.args.index n) → c.field_offset-offset.result ≡ l.layout.offset
+offset_is : (g : given.Over) (c : After-field_offset-offset g) (n : ℕ) (l : NumberAt g.H.GcHeap.KIND c.args.self.now c.args.word c.args.index n) → c.field_offset-offset.result ≡ l.layout.offset
 offset_is g c n l =
     let at = (goal.at.After-field_offset-offset g c).After-self in
     let told = c.field_offset-offset.ensures l.object l.fields (in_heap g at l.object l.held) (in_types g at l.object.ty l.fields l.declared) in
@@ -55,7 +55,7 @@ read_u32-requires g c =
     let here = (goal.at.read_u32-requires g c).After-field_offset-offset in
     let at = (goal.at.After-field_offset-offset g here).After-self in
     let l = lies g (goal.at.After-self g at).Start in
-    let bounds = field_within (struct_base g.H.GcHeap.LAYOUTS) l.fields c.args.index l.layout l.numbers l.layout_at in
+    let bounds = field_within (struct_base g.H.GcHeap.KIND) l.fields c.args.index l.layout l.numbers l.layout_at in
     let is = offset_is g here c.requires.n l in
     record { object = l.object; held = in_heap g at l.object l.held; from = omega (arith, bounds.0, is); to = omega (arith, bounds.1, is, l.size) }
 
@@ -63,6 +63,6 @@ pub returns : goal.returns
 returns g c t place position ty values n holds placed object value_at =
     let here = (goal.at.returns g c).After-field_offset-offset in
     let at = (goal.at.After-field_offset-offset g here).After-self in
-    let l = number_at g.H.GcHeap.LAYOUTS c.args.self.now t place position c.args.word c.args.index ty n values holds placed object value_at in
+    let l = number_at g.H.GcHeap.KIND c.args.self.now t place position c.args.word c.args.index ty n values holds placed object value_at in
     c.read_u32.ensures l.object (in_heap g at l.object l.held)
-    ∙ ap (λ (o : ℕ). u32_at l.object.bytes (o - struct_base g.H.GcHeap.LAYOUTS)) (offset_is g here n l) ∙ l.lies
+    ∙ ap (λ (o : ℕ). u32_at l.object.bytes (o - struct_base g.H.GcHeap.KIND)) (offset_is g here n l) ∙ l.lies
