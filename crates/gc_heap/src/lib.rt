@@ -1,6 +1,7 @@
 //! The interface of a heap, and the null heap.
 #![tactic(auto)]
 
+pub mod access;
 pub mod collection;
 pub mod heap;
 

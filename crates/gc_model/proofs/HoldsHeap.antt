@@ -14,11 +14,11 @@ use Rattle.gc_model.specs.Views.{StoreView, HeapView, HeapObject}
 use Rattle.gc_model.specs.Holds.{Placing, Holds, KindHolds, NullHolds, HeldAt, ObjectsHold}
 
 -- a heap that was just made with so many pages
-pub record IsMadeHeap (heap : HeapView) (pages : ℕ) : Type 0 where
+pub record IsMadeHeap (layouts : Layouts) (heap : HeapView) (pages : ℕ) : Type 0 where
   pub attached : heap.attached ≡ true
   pub content : heap.content ≡ empty
   pub capacity : heap.capacity ≡ page * pages
-  pub allocated : heap.allocated ≡ 0
+  pub allocated : layouts ≡ Null → heap.allocated ≡ 0
 
 -- the store with another heap
 abbrev pub with_heap : HeapView → StoreView → StoreView
@@ -30,15 +30,15 @@ nothing_placed layouts t place heap objects none position word e =
     let held = objects.placed position word e in
     none-some held.entry (sym (ap (λ os. slice_get os position) none) ∙ held.in_table)
 
-made_by_kind : {D : Type 0} (layouts : Layouts) (t : Table D) (place : Placing) (heap : HeapView) (pages : ℕ) → t.objects ≡ [] → IsMadeHeap heap pages → KindHolds layouts (make_heap t) place heap
+made_by_kind : {D : Type 0} (layouts : Layouts) (t : Table D) (place : Placing) (heap : HeapView) (pages : ℕ) → t.objects ≡ [] → IsMadeHeap layouts heap pages → KindHolds layouts (make_heap t) place heap
 made_by_kind Null t place heap pages none made = record {
   all_held = λ position within. absurd (omega (arith, ap length none));
-  allocated = ap (λ n. n + 1) made.allocated ∙ sym (ap (next_after t.types 1) none);
+  allocated = ap (λ n. n + 1) (made.allocated refl) ∙ sym (ap (next_after t.types 1) none);
 }
 made_by_kind Counting t place heap pages none made = tt
 made_by_kind Copying t place heap pages none made = tt
 
-pub holds_heap : {D : Type 0} (layouts : Layouts) (s : StoreView) (t : Table D) (place : Placing) (heap : HeapView) → t.made ≡ false → IsMadeHeap heap t.first → Holds layouts s t place → Holds layouts (with_heap heap s) (make_heap t) place
+pub holds_heap : {D : Type 0} (layouts : Layouts) (s : StoreView) (t : Table D) (place : Placing) (heap : HeapView) → t.made ≡ false → IsMadeHeap layouts heap t.first → Holds layouts s t place → Holds layouts (with_heap heap s) (make_heap t) place
 holds_heap layouts s t place heap unmade made holds =
     let none : t.objects ≡ [] = holds.numbers.no_objects unmade in
     let nowhere = nothing_placed layouts t place s.heap holds.objects none in

@@ -34,12 +34,12 @@ declares_plain fields supertype is_final old new r none not_final did =
 abbrev view : StoreId → HeapConfig → HeapView → List RootEntry → ℕ → TypeTable → StoreView
 view id config heap scoped generation t = store_view id config t.declarations heap scoped generation
 
-module _ {D : Type 0} (layouts : Layouts) (id : StoreId) (config : HeapConfig) (heap : HeapView) (scoped : List RootEntry) (generation : ℕ) (fields : List FieldType) (numbers : All IsMutableI32 fields) (old new : TypeTable) where
+module _ {D : Type 0} (layouts : Layouts) (heap_is_sound : Type 0) (id : StoreId) (config : HeapConfig) (heap : HeapView) (scoped : List RootEntry) (generation : ℕ) (fields : List FieldType) (numbers : All IsMutableI32 fields) (old new : TypeTable) where
   -- the store holds the table with the type
   holds_new : (t : Table D) → new ≡ types.declare (plain_struct fields) old → HoldsTable layouts (view id config heap scoped generation old) t → HoldsTable layouts (view id config heap scoped generation new) (declare (plain_struct fields) t)
   holds_new t e holds = (holds.0, subst (λ (n : TypeTable). Rattle.gc_model.specs.Holds.Holds layouts (view id config heap scoped generation n) (declare (plain_struct fields) t) holds.0) (sym e) (holds_declare layouts (view id config heap scoped generation old) t holds.0 fields numbers holds.1))
 
-  pub declared_step : (r : Result TypeName TypeFault) → TypesDeclare (plain_struct fields) old new r → IsSound D layouts old (view id config heap scoped generation old) → (t : Table D) → HoldsTable layouts (view id config heap scoped generation old) t → DeclaresStruct layouts fields t r (view id config heap scoped generation new)
+  pub declared_step : (r : Result TypeName TypeFault) → TypesDeclare (plain_struct fields) old new r → IsSound D layouts heap_is_sound old (view id config heap scoped generation old) → (t : Table D) → HoldsTable layouts (view id config heap scoped generation old) t → DeclaresStruct layouts fields t r (view id config heap scoped generation new)
   declared_step (Ok ty) did sound t holds = (
     subst (λ (ts : List Declaration). Declarable ts (plain_struct fields)) holds.1.types did.declarable,
     did.named ∙ (λ i. record { engine = sound.engine i; number = sound.number i; index = length (holds.1.types i) }),
@@ -51,11 +51,12 @@ module _ {D : Type 0} (layouts : Layouts) (id : StoreId) (config : HeapConfig) (
   )
   declared_step (Err Memory) did sound t holds = subst (λ (n : TypeTable). HoldsTable layouts (view id config heap scoped generation n) t) (sym did.err) holds
 
-  pub sound_declared : (r : Result TypeName TypeFault) → TypesDeclare (plain_struct fields) old new r → IsSound D layouts old (view id config heap scoped generation old) → IsSound D layouts new (view id config heap scoped generation new)
+  pub sound_declared : (r : Result TypeName TypeFault) → TypesDeclare (plain_struct fields) old new r → IsSound D layouts heap_is_sound old (view id config heap scoped generation old) → IsSound D layouts heap_is_sound new (view id config heap scoped generation new)
   sound_declared (Ok ty) did sound = record {
+    heap = sound.heap;
     engine = ap (λ (n : TypeTable). n.engine) did.declared ∙ sound.engine;
     number = ap (λ (n : TypeTable). n.number) did.declared ∙ sound.number;
     table = declare (plain_struct fields) sound.table;
     holds = holds_new sound.table did.declared sound.holds;
   }
-  sound_declared (Err e) did sound = subst (λ (n : TypeTable). IsSound D layouts n (view id config heap scoped generation n)) (sym did.err) sound
+  sound_declared (Err e) did sound = subst (λ (n : TypeTable). IsSound D layouts heap_is_sound n (view id config heap scoped generation n)) (sym did.err) sound

@@ -7,10 +7,12 @@ use Rattle.std.specs.FinMap as finite
 use Rattle.std.proofs.lemmas.Option.{none-some, slice_get_within, slice_get_cases}
 use Rattle.gc_types.specs.declared.value.FieldType.{FieldType}
 use Rattle.gc_types.specs.declared.kind.Layouts.{Layouts}
+use Rattle.gc_types.specs.declared.kind.VMGcKind.TheVariants.{StructRef}
 use Rattle.gc_types.specs.declared.layout.FieldLayout.{FieldLayout}
 use Rattle.gc_types.specs.Declarations.{Declaration, struct_fields_at, IsMutableI32}
 use Rattle.gc_types.specs.Layouts.{struct_base, field_layouts, fields_end}
 use Rattle.gc_model.specs.Values.{Reference, at, Value, i32, i64, f32, f64, v128, function, reference, Object, struct}
+use Rattle.gc_model.specs.Sizes.{stored_size}
 use Rattle.gc_model.specs.Table.{Table}
 use Rattle.gc_model.specs.Views.{StoreView, HeapObject, u32_at}
 use Rattle.gc_model.specs.Holds.{Placing, Holds, HoldsTable, IsWord, Lies, Stands, StructStands}
@@ -30,7 +32,8 @@ pub record NumberAt (layouts : Layouts) (s : StoreView) (word index n : ℕ) : T
   pub held : finite.get s.heap.content word ≡ Some object
   pub fields : List FieldType
   pub declared : struct_fields_at s.types object.ty ≡ Some fields
-  pub size : struct_base layouts + length object.bytes ≡ fields_end (struct_base layouts) fields
+  pub size : struct_base layouts + length object.bytes ≡ stored_size layouts (fields_end (struct_base layouts) fields)
+  pub kind : object.kind ≡ StructRef
   pub numbers : All IsMutableI32 fields
   pub within : index < length fields
   pub layout : FieldLayout
@@ -54,6 +57,7 @@ number_stands layouts s types place word index n ty values h same held positive 
       held = held;
       fields = stands.fields;
       declared = ap (λ (ts : List Declaration). struct_fields_at ts h.ty) same ∙ ap (struct_fields_at types) stands.same_type ∙ stands.declared;
+      kind = stands.kind;
       size = stands.size;
       numbers = numbers stands.fields stands.declared;
       within = omega (arith, below, length-field_layouts (struct_base layouts) stands.fields);

@@ -11,13 +11,13 @@ use Rattle.gc_model.specs.Values.{Value, Object, struct}
 use Rattle.gc_model.specs.Table.{Table, make, make_heap}
 use Rattle.gc_model.specs.Live.{roots_full}
 use Rattle.gc_model.specs.Sizes.{object_size, fields_size, alignment}
-use Rattle.gc_model.specs.Allocation.{Limits, page, too_large, no_heap, no_room, MayMakeHeap, FitsIn}
+use Rattle.gc_model.specs.Allocation.{Limits, page, too_large, no_heap, no_room, MayMakeHeap, FitsIn, LacksFit}
 use Rattle.gc_model.specs.Views.{HeapView, StoreView}
 use Rattle.gc_model.specs.Holds.{Placing, Holds, HoldsTable}
 use Rattle.gc_model.proofs.HoldsHeap.{IsMadeHeap, holds_heap}
 use Rattle.gc_model.proofs.HoldsMake.{IsMadeObject, holds_make, placed_at}
 use Rattle.gc_model.proofs.Layouts.{round_up-le}
-use Rattle.gc_heap.specs.Heap.{HasRoom, IsTooLarge, allocated_after, need_of}
+use Rattle.gc_heap.specs.Heap.{HasRoom, IsTooLarge, allocated_at_first, allocated_after, need_of}
 use Rattle.gc_store.specs.declared.engine.StoreId.{StoreId}
 use Rattle.gc_store.specs.declared.config.HeapConfig.{HeapConfig}
 use Rattle.gc_store.specs.declared.root.GcRootIndex.{GcRootIndex}
@@ -35,13 +35,13 @@ made_again t is i = record t { made = sym is i; pages = cond (is i) t.pages t.fi
 -- the heap has room exactly where the table says that the object fits
 room_fits : {D : Type 0} (layouts : Layouts) (s : StoreView) (t : Table D) (place : Placing) → Holds layouts s t place → (n : ℕ) → HasRoom layouts s.heap n → FitsIn layouts t n
 room_fits Null s t place holds n room = omega (arith, room, holds.by_kind.allocated, holds.numbers.capacity, ap (λ k. round_up k alignment) holds.by_kind.allocated)
-room_fits Counting s t place holds n room = room
-room_fits Copying s t place holds n room = room
+room_fits Counting s t place holds n room = tt
+room_fits Copying s t place holds n room = tt
 
-fits_room : {D : Type 0} (layouts : Layouts) (s : StoreView) (t : Table D) (place : Placing) → Holds layouts s t place → (n : ℕ) → FitsIn layouts t n → HasRoom layouts s.heap n
-fits_room Null s t place holds n fits = omega (arith, fits, holds.by_kind.allocated, holds.numbers.capacity, ap (λ k. round_up k alignment) holds.by_kind.allocated)
-fits_room Counting s t place holds n fits = fits
-fits_room Copying s t place holds n fits = fits
+lacks_fit : {D : Type 0} (layouts : Layouts) (s : StoreView) (t : Table D) (place : Placing) → Holds layouts s t place → (n : ℕ) → (HasRoom layouts s.heap n → ⊥) → LacksFit layouts t n
+lacks_fit Null s t place holds n lacks = λ fits. lacks (omega (arith, fits, holds.by_kind.allocated, holds.numbers.capacity, ap (λ k. round_up k alignment) holds.by_kind.allocated))
+lacks_fit Counting s t place holds n lacks = tt
+lacks_fit Copying s t place holds n lacks = tt
 
 -- what is too large for the heap is too large for the table
 too_large_is : (layouts : Layouts) (n : ℕ) → IsTooLarge layouts n → too_large layouts n ≡ true
@@ -73,7 +73,7 @@ module _ {D : Type 0} (layouts : Layouts) (id : StoreId) (config : HeapConfig) (
     may : MayMakeHeap limits.limit t
     same : limits' ≡ limits
 
-  has_heap : (mid : HeapView) → MakesHeap config.first_pages old mid limits limits' (Ok tt) → HasHeap mid
+  has_heap : (mid : HeapView) → MakesHeap layouts config.first_pages old mid limits limits' (Ok tt) → HasHeap mid
   has_heap mid (inl (attached, is), same) =
       let made : t.made ≡ true = sym holds.numbers.made ∙ attached in
       record {
@@ -83,11 +83,11 @@ module _ {D : Type 0} (layouts : Layouts) (id : StoreId) (config : HeapConfig) (
       }
   has_heap mid (inr gets, same) =
       let unmade : t.made ≡ false = sym holds.numbers.made ∙ gets.detached in
-      let made : IsMadeHeap mid t.first = record {
+      let made : IsMadeHeap layouts mid t.first = record {
         attached = ap (λ (h : HeapView). h.attached) gets.empty;
         content = ap (λ (h : HeapView). h.content) gets.empty;
         capacity = ap (λ (h : HeapView). h.capacity) gets.empty ∙ ap (λ n. page * n) holds.numbers.first;
-        allocated = ap (λ (h : HeapView). h.allocated) gets.empty;
+        allocated = λ null. ap (λ (h : HeapView). h.allocated) gets.empty ∙ ap (λ k. allocated_at_first k (page * config.first_pages)) null;
       } in
       record {
         still = holds_heap layouts (store_view id config types old scoped generation) t place mid unmade made holds;
@@ -121,7 +121,7 @@ module _ {D : Type 0} (layouts : Layouts) (id : StoreId) (config : HeapConfig) (
   pub places_ok : (mid : HeapView) (word : ℕ) (items : List RootEntry) (handle : GcRootIndex)
       → too_large layouts (fields_end (struct_base layouts) fields) ≡ false
       → is_full (store_view id config types old scoped generation) ≡ false
-      → MakesHeap config.first_pages old mid limits limits' (Ok tt) → MadeStruct layouts fields ty values mid new word
+      → MakesHeap layouts config.first_pages old mid limits limits' (Ok tt) → MadeStruct layouts fields ty values mid new word
       → items ≡ scoped ++ (record { generation = generation; word = word }) ∷ []
       → handle ≡ record { store_id = id; generation = generation; slot = slot.Scoped (length scoped) }
       → PlacesObject layouts (struct ty values) limits limits' t handle (store_view id config types new items generation)
@@ -175,7 +175,7 @@ module _ {D : Type 0} (layouts : Layouts) (id : StoreId) (config : HeapConfig) (
         not_full = sym (full_is layouts (store_view id config types old scoped generation) t place holds) ∙ not_full;
         asked = lacks.asked ∙ ap (need_of layouts) (sym (size_in layouts));
         after = make_heap t;
-        lacks = no_room has.may (λ fits. lacks.no_room (fits_room layouts (store_view id config types mid scoped generation) (make_heap t) place has.still _ (subst (FitsIn layouts (make_heap t)) (size_in layouts) fits))) refl;
+        lacks = no_room has.may (subst (LacksFit layouts (make_heap t)) (sym (size_in layouts)) (lacks_fit layouts (store_view id config types mid scoped generation) (make_heap t) place has.still _ lacks.no_room)) refl;
         holds = (place, subst (λ (h : HeapView). Holds layouts (store_view id config types h scoped generation) (make_heap t) place) (sym lacks.same) has.still);
         counted = λ unmade. absurd (cc unmade);
         same_limits = λ _. has.same;

@@ -17,8 +17,9 @@ pub new_view : (id : StoreId) (config : HeapConfig) (types : List Declaration) (
 new_view id config types heap scoped no_types no_heap no_roots i = store_view id config (no_types i) (no_heap i) (no_roots i) 0
 
 -- an untouched store is sound
-pub sound_untouched : (D : Type 0) (layouts : Layouts) (types : TypeTable) (s : StoreView) → types.engine ≡ s.engine → types.number ≡ s.number → IsUntouched layouts s → IsSound D layouts types s
-sound_untouched D layouts types s engine number untouched = record {
+pub sound_untouched : (D : Type 0) (layouts : Layouts) (heap_is_sound : Type 0) → heap_is_sound → (types : TypeTable) (s : StoreView) → types.engine ≡ s.engine → types.number ≡ s.number → IsUntouched layouts s → IsSound D layouts heap_is_sound types s
+sound_untouched D layouts heap_is_sound heap types s engine number untouched = record {
+  heap = heap;
   engine = engine;
   number = number;
   table = start s.first s.max_scoped s.max_owned;
@@ -36,9 +37,9 @@ starts_fresh D layouts id config types heap scoped no_types no_heap no_roots =
     (nowhere, holds_untouched D layouts (store_view id config types.declarations heap scoped 0) (untouched_fresh layouts id config types.declarations heap scoped (ap (λ (t : TypeTable). t.declarations) no_types) no_heap no_roots))
 
 -- a new store is sound
-pub sound_new : (D : Type 0) (layouts : Layouts) (id : StoreId) (config : HeapConfig) (types : TypeTable) (heap : HeapView) (scoped : List RootEntry) → types ≡ record { engine = id.engine; number = id.number; declarations = [] } → heap ≡ detached → scoped ≡ [] → IsSound D layouts types (store_view id config types.declarations heap scoped 0)
-sound_new D layouts id config types heap scoped no_types no_heap no_roots =
-    sound_untouched D layouts types (store_view id config types.declarations heap scoped 0) (ap (λ (t : TypeTable). t.engine) no_types) (ap (λ (t : TypeTable). t.number) no_types)
+pub sound_new : (D : Type 0) (layouts : Layouts) (heap_is_sound : Type 0) → heap_is_sound → (id : StoreId) (config : HeapConfig) (types : TypeTable) (heap : HeapView) (scoped : List RootEntry) → types ≡ record { engine = id.engine; number = id.number; declarations = [] } → heap ≡ detached → scoped ≡ [] → IsSound D layouts heap_is_sound types (store_view id config types.declarations heap scoped 0)
+sound_new D layouts heap_is_sound is_sound id config types heap scoped no_types no_heap no_roots =
+    sound_untouched D layouts heap_is_sound is_sound types (store_view id config types.declarations heap scoped 0) (ap (λ (t : TypeTable). t.engine) no_types) (ap (λ (t : TypeTable). t.number) no_types)
     (untouched_fresh layouts id config types.declarations heap scoped (ap (λ (t : TypeTable). t.declarations) no_types) no_heap no_roots)
 
 -- another configuration leaves a store untouched

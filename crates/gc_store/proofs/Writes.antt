@@ -3,20 +3,25 @@ use Rattle.std.proofs.Common.{inl, inr, ◌≡◌, ℕ, ◌+◌, ◌-◌, ◌<�
 use Rattle.std.specs.Prelude.{All}
 use Rattle.std.specs.List.{slice_get}
 use Rattle.std.specs.FinMap as finite
+use Rattle.std.specs.Int.{w32, to_le_bytes}
 use Rattle.std.proofs.lemmas.Option.{slice_get_within, slice_get_cases, get_or_from_slice_get}
 use Rattle.std.proofs.lemmas.Bool.{cases_lt}
 use Rattle.gc_types.specs.declared.value.FieldType.{FieldType}
 use Rattle.gc_types.specs.declared.kind.Layouts.{Layouts}
+use Rattle.gc_types.specs.declared.kind.VMGcKind.TheVariants.{StructRef}
 use Rattle.gc_types.specs.declared.layout.FieldLayout.{FieldLayout}
 use Rattle.gc_types.specs.Declarations.{IsMutableI32}
 use Rattle.gc_types.specs.Layouts.{struct_base, field_layouts, fields_end}
 use Rattle.gc_model.specs.Values.{Value, i32, i64, f32, f64, v128, function, reference}
+use Rattle.gc_model.specs.Sizes.{stored_size}
 use Rattle.gc_model.specs.Views.{HeapView, HeapObject, u32_at, put_u32}
 use Rattle.gc_model.specs.Holds.{Placing, Lies}
 use Rattle.gc_model.proofs.Content.{get-put_same, get-put_other}
-use Rattle.gc_model.proofs.Layouts.{layout_low, layout_high, layouts_apart, width_i32, length-field_layouts}
+use Rattle.gc_model.proofs.Layouts.{layout_low, layout_high, layouts_apart, width_i32, length-field_layouts, stored_size-le}
 use Rattle.gc_model.proofs.ByteLemmas.{length-put_u32, u32_at-put_u32, u32_at-put_before}
-use Rattle.gc_heap.specs.Heap.{put_object, with_u32}
+use Rattle.gc_heap.specs.Objects.{HasFields, size_with, writable_offset}
+use Rattle.gc_heap.specs.Heap.{put_object, IsWritable}
+use Rattle.gc_heap.specs.Access.{WritesData, IsReadable}
 use Rattle.gc_store.specs.Fields.{WritesValues}
 
 -- the object at the place in question had its first values written
@@ -85,11 +90,11 @@ fields_apart base fields i j one other numbers e f lt =
 
 module _ (layouts : Layouts) (fields : List FieldType) (values : List Value) (count n : ℕ) (layout : FieldLayout) (old mid new : HeapView) (word : ℕ) (before : HeapObject)
     (numbers : All IsMutableI32 fields) (fits : n < 2 ^ 32)
-    (size : struct_base layouts + length before.bytes ≡ fields_end (struct_base layouts) fields)
+    (size : struct_base layouts + length before.bytes ≡ stored_size layouts (fields_end (struct_base layouts) fields))
     (at_count : slice_get (field_layouts (struct_base layouts) fields) count ≡ Some layout)
     (value_at : slice_get values count ≡ Some (i32 n))
     (so_far : WrittenObject (struct_base layouts) (field_layouts (struct_base layouts) fields) values count old mid word before)
-    (wrote : (object : HeapObject) → finite.get mid.content word ≡ Some object → new ≡ put_object mid word (with_u32 layouts object layout.offset n)) where
+    (wrote : WritesData layouts mid new word layout.offset (to_le_bytes w32 n)) where
   base : ℕ
   base = struct_base layouts
 
@@ -103,7 +108,7 @@ module _ (layouts : Layouts) (fields : List FieldType) (values : List Value) (co
   is_new = wrote (record before { bytes = so_far.bytes }) so_far.written
 
   within : layout.offset - struct_base layouts + 4 ≤ length so_far.bytes
-  within = let bounds = field_within (struct_base layouts) fields count layout numbers at_count in omega (arith, bounds.0, bounds.1, so_far.same_length, size)
+  within = let bounds = field_within (struct_base layouts) fields count layout numbers at_count in omega (arith, bounds.0, bounds.1, so_far.same_length, size, stored_size-le layouts (fields_end (struct_base layouts) fields))
 
   lie : (place : Placing) (i : ℕ) (here : FieldLayout) (value : Value) → i < count + 1 → slice_get (field_layouts (struct_base layouts) fields) i ≡ Some here → slice_get values i ≡ Some value → Lies place value bytes' (here.offset - struct_base layouts)
   lie place i here value lt e f =
@@ -148,3 +153,23 @@ values_lie base layouts values count old new word before same_count all done = r
   same_length = done.same_length;
   lie = λ place. record { same_count = same_count; each = λ i layout value e f. done.lie place i layout value (omega (arith, slice_get_within values i value f)) e f };
 }
+
+-- a range behind the header of a held struct may be read and written
+module _ (layouts : Layouts) (heap : HeapView) (place offset count : ℕ) (object : HeapObject) (held : finite.get heap.content place ≡ Some object) (kind : object.kind ≡ StructRef)
+    (from : struct_base layouts ≤ offset) (to : offset + count ≤ struct_base layouts + length object.bytes) where
+  pub struct_readable : IsReadable layouts heap place offset count
+  struct_readable = record {
+    object = object;
+    held = held;
+    has_fields = subst HasFields (sym kind) tt;
+    from = from;
+    to = subst (λ k. offset + count ≤ size_with layouts k (length object.bytes)) (sym kind) to;
+  }
+
+  pub struct_writable : IsWritable layouts heap place offset count
+  struct_writable = record {
+    object = object;
+    held = held;
+    from = subst (λ k. writable_offset layouts k ≤ offset) (sym kind) from;
+    to = subst (λ k. offset + count ≤ size_with layouts k (length object.bytes)) (sym kind) to;
+  }

@@ -4,11 +4,12 @@ use Rattle.std.specs.FinMap as finite
 use Rattle.std.specs.Int.{w32, w64}
 use Rattle.gc_types.specs.declared.value.FieldType.{FieldType}
 use Rattle.gc_types.specs.declared.kind.Layouts.{Layouts}
+use Rattle.gc_types.specs.declared.kind.VMGcKind.TheVariants.{StructRef}
 use Rattle.gc_types.specs.declared.layout.FieldLayout.{FieldLayout}
-use Rattle.gc_types.specs.declared.layout.GcStructLayout.{GcStructLayout}
 use Rattle.gc_types.specs.Declarations.{Declaration, struct_fields_at, IsMutableI32}
 use Rattle.gc_types.specs.Layouts.{struct_base, field_layouts, fields_end}
 use Rattle.gc_model.specs.Values.{Value, i32, i64, f32, f64, v128, function, reference, null, number_bits}
+use Rattle.gc_model.specs.Sizes.{stored_size}
 use Rattle.gc_model.specs.Views.{HeapView, HeapObject}
 use Rattle.gc_model.specs.Holds.{Placing, ValuesLie}
 use Rattle.gc_store.specs.declared.root.RawValue.{RawValue}
@@ -20,7 +21,8 @@ pub record HasFields (layouts : Layouts) (heap : HeapView) (types : List Declara
   pub held : finite.get heap.content word ≡ Some object
   pub fields : List FieldType
   pub declared : struct_fields_at types object.ty ≡ Some fields
-  pub size : struct_base layouts + length object.bytes ≡ fields_end (struct_base layouts) fields
+  pub kind : object.kind ≡ StructRef
+  pub size : struct_base layouts + length object.bytes ≡ stored_size layouts (fields_end (struct_base layouts) fields)
   pub numbers : All IsMutableI32 fields
 
 -- The value of the table that a given number is. Functions and references are not stored so far.
@@ -60,7 +62,8 @@ pub record CanWrite (layouts : Layouts) (heap : HeapView) (word : ℕ) (places :
   pub held : finite.get heap.content word ≡ Some object
   pub fields : List FieldType
   pub laid_out : places ≡ field_layouts (struct_base layouts) fields
-  pub size : struct_base layouts + length object.bytes ≡ fields_end (struct_base layouts) fields
+  pub kind : object.kind ≡ StructRef
+  pub size : struct_base layouts + length object.bytes ≡ stored_size layouts (fields_end (struct_base layouts) fields)
   pub numbers : All IsMutableI32 fields
   pub same_count : length values ≡ length fields
   pub are_numbers : All IsNumber values

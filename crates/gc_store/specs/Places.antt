@@ -10,7 +10,7 @@ use Rattle.gc_types.specs.Layouts.{struct_base, struct_layout, field_layouts, fi
 use Rattle.gc_model.specs.Values.{Value, Object}
 use Rattle.gc_model.specs.Table.{Table, make_heap}
 use Rattle.gc_model.specs.Live.{roots_full}
-use Rattle.gc_model.specs.Sizes.{object_size}
+use Rattle.gc_model.specs.Sizes.{object_size, stored_size}
 use Rattle.gc_model.specs.Allocation.{Limits, page, too_large, Allocates, LacksMemory, MayMakeHeap}
 use Rattle.gc_model.specs.Views.{HeapView, HeapObject, StoreView}
 use Rattle.gc_model.specs.Holds.{HoldsTable, Placing, ValuesLie}
@@ -28,9 +28,9 @@ use Rattle.gc_store.specs.Limiters.{Refuses}
 use Rattle.gc_store.specs.Roots.{handle_of}
 
 -- a heap that had no memory got its first pages, which a limit that is told grants
-pub record GetsPages (first : ℕ) (old new : HeapView) (limit : Option ℕ) : Type 0 where
+pub record GetsPages (layouts : Layouts) (first : ℕ) (old new : HeapView) (limit : Option ℕ) : Type 0 where
   pub detached : old.attached ≡ false
-  pub empty : new ≡ empty_heap (page * first)
+  pub empty : new ≡ empty_heap layouts (page * first) old.scopes
   pub granted : IfSome limit (λ most. first ≤ most)
 
 -- the first pages were refused
@@ -42,11 +42,11 @@ pub record IsRefusedPages (first : ℕ) (old new : HeapView) (limits limits' : L
   pub counted : Refuses limits limits' 0 first
 
 -- what making a heap answers and leaves
-abbrev pub MakesHeap : ℕ → HeapView → HeapView → Limits → Limits → Result (Unit {0}) MakeFault → Type 0
-MakesHeap first old new limits limits' (Ok done) =
-    (((old.attached ≡ true) × (new ≡ old)) ⊎ GetsPages first old new limits.limit) × (limits' ≡ limits)
-MakesHeap first old new limits limits' (Err make_fault.Refused) = IsRefusedPages first old new limits limits'
-MakesHeap first old new limits limits' (Err make_fault.Memory) = (new ≡ old) × (limits' ≡ limits)
+abbrev pub MakesHeap : Layouts → ℕ → HeapView → HeapView → Limits → Limits → Result (Unit {0}) MakeFault → Type 0
+MakesHeap layouts first old new limits limits' (Ok done) =
+    (((old.attached ≡ true) × (new ≡ old)) ⊎ GetsPages layouts first old new limits.limit) × (limits' ≡ limits)
+MakesHeap layouts first old new limits limits' (Err make_fault.Refused) = IsRefusedPages first old new limits limits'
+MakesHeap layouts first old new limits limits' (Err make_fault.Memory) = (new ≡ old) × (limits' ≡ limits)
 
 -- a struct with these fields and numbers may be made in an attached heap
 pub record CanMake (layouts : Layouts) (heap : HeapView) (layout : GcStructLayout) (values : List RawValue) : Type 0 where
@@ -64,7 +64,7 @@ pub record MadeStruct (layouts : Layouts) (fields : List FieldType) (ty : ℕ) (
   pub object : HeapObject
   pub kind : object.kind ≡ StructRef
   pub same_type : object.ty ≡ ty
-  pub size : struct_base layouts + length object.bytes ≡ fields_end (struct_base layouts) fields
+  pub size : struct_base layouts + length object.bytes ≡ stored_size layouts (fields_end (struct_base layouts) fields)
   pub lie : (place : Placing) → ValuesLie place (struct_base layouts) (field_layouts (struct_base layouts) fields) values object.bytes
   pub free : finite.get old.content word ≡ None
   pub is_even : word % 2 ≡ 0
@@ -93,15 +93,15 @@ pub record CanPlaceIn (layouts : Layouts) (layout : GcStructLayout) (values : Li
 -- what making a heap and a struct in it answers and leaves
 abbrev pub PlacesIn : Layouts → List FieldType → ℕ → List Value → ℕ → HeapView → HeapView → Limits → Limits → Result ℕ PlaceFault → Type 0
 PlacesIn layouts fields ty values first old new limits limits' (Ok word) =
-    (mid : HeapView) × (MakesHeap first old mid limits limits' (Ok tt) × MadeStruct layouts fields ty values mid new word)
+    (mid : HeapView) × (MakesHeap layouts first old mid limits limits' (Ok tt) × MadeStruct layouts fields ty values mid new word)
 PlacesIn layouts fields ty values first old new limits limits' (Err fault.FuncTableFull) = ⊥
 PlacesIn layouts fields ty values first old new limits limits' (Err fault.TooLarge) = IsTooLarge layouts (fields_end (struct_base layouts) fields)
 PlacesIn layouts fields ty values first old new limits limits' (Err fault.RootsFull) = ⊥
 PlacesIn layouts fields ty values first old new limits limits' (Err (fault.HeapOutOfMemory f)) =
     (IsRefusedPages first old new limits limits' × (f.bytes_needed ≡ need_of layouts (fields_end (struct_base layouts) fields)))
-    ⊎ ((mid : HeapView) × (MakesHeap first old mid limits limits' (Ok tt) × LacksRoom layouts mid new f.bytes_needed (fields_end (struct_base layouts) fields)))
+    ⊎ ((mid : HeapView) × (MakesHeap layouts first old mid limits limits' (Ok tt) × LacksRoom layouts mid new f.bytes_needed (fields_end (struct_base layouts) fields)))
 PlacesIn layouts fields ty values first old new limits limits' (Err fault.Memory) =
-    (new ≡ old) × (limits' ≡ limits) ⊎ MakesHeap first old new limits limits' (Ok tt)
+    (new ≡ old) × (limits' ≡ limits) ⊎ MakesHeap layouts first old new limits limits' (Ok tt)
 
 -- a struct of a declared type may be placed with these numbers
 pub record CanPlaceTyped (types : List Declaration) (ty : ℕ) (values : List RawValue) : Type 0 where

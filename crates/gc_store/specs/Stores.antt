@@ -34,8 +34,9 @@ store_view id config types heap scoped generation = record {
 abbrev pub configured : HeapConfig → StoreView → StoreView
 configured config s = record s { first = config.first_pages; max_scoped = config.max_scoped; max_owned = config.max_owned; alloc_counter = option_map non_zero_u32_get config.alloc_counter }
 
--- the store holds some table, and its types carry its id
-pub record IsSound (D : Type 0) (layouts : Layouts) (types : TypeTable) (s : StoreView) : Type 0 where
+-- the heap is sound, the store holds some table, and its types carry its id
+pub record IsSound (D : Type 0) (layouts : Layouts) (heap_is_sound : Type 0) (types : TypeTable) (s : StoreView) : Type 0 where
+  pub heap : heap_is_sound
   pub engine : types.engine ≡ s.engine
   pub number : types.number ≡ s.number
   pub table : Table D

@@ -11,11 +11,13 @@ ghost use Rattle.gc_store.specs.Fields.{HasFields, CanWrite, WritesValues, value
 
 use crate::root::RawValue;
 use gc_heap::GcHeap;
+use gc_heap::access::write_u32;
 use gc_refs::VMGcRef;
 use gc_types::{FieldLayout, Types};
 
 /// Where that field of a held object lies.
 pub(crate) fn field_offset<H: GcHeap>(heap: &H, types: &Types, gc_ref: &VMGcRef, index: u32) -> u32
+    requires sound { H.sound heap.now }
     requires fields { HasFields H.KIND (H.seen heap.now) types.now.declarations gc_ref.now }
     requires within { (object : HeapObject) (fields : List FieldType) → finite.get (H.seen heap.now).content gc_ref.now ≡ Some object → struct_fields_at types.now.declarations object.ty ≡ Some fields → index < length fields }
     ensures { (object : HeapObject) (fields : List FieldType) → finite.get (H.seen heap.now).content gc_ref.now ≡ Some object → struct_fields_at types.now.declarations object.ty ≡ Some fields → IfSome (slice_get (field_layouts (struct_base H.KIND) fields) index) (λ layout. result ≡ layout.offset) }
@@ -23,9 +25,7 @@ pub(crate) fn field_offset<H: GcHeap>(heap: &H, types: &Types, gc_ref: &VMGcRef,
     let Ok(header) = heap.header(gc_ref) else {
         unreachable!()
     };
-    let layout = types
-        .struct_layout(H::KIND, header.type_index())
-        .unwrap();
+    let layout = types.struct_layout(H::KIND, header.type_index()).unwrap();
     layout.fields.as_slice()[index as usize].offset
 }
 
@@ -36,13 +36,15 @@ pub(crate) fn write_values<H: GcHeap>(
     layouts: &[FieldLayout],
     values: &[RawValue],
 )
-    requires { CanWrite H.KIND (H.seen heap.old) gc_ref.now layouts.now values.now }
-    ensures { (object : HeapObject) → finite.get (H.seen heap.old).content gc_ref.now ≡ Some object → WritesValues (struct_base H.KIND) layouts.now (map value_of values.now) (H.seen heap.old) (H.seen heap.new) gc_ref.now object }
+    requires sound { H.sound heap.old }
+    requires values { CanWrite H.KIND (H.seen heap.old) gc_ref.now layouts.now values.now }
+    ensures sound { H.sound heap.new }
+    ensures written { (object : HeapObject) → finite.get (H.seen heap.old).content gc_ref.now ≡ Some object → WritesValues (struct_base H.KIND) layouts.now (map value_of values.now) (H.seen heap.old) (H.seen heap.new) gc_ref.now object }
 {
     for (index, value) in values.iter().enumerate() {
         let RawValue::I32(number) = value else {
             unreachable!()
         };
-        heap.write_u32(gc_ref, layouts[index].offset, number.cast_unsigned());
+        write_u32(heap, gc_ref, layouts[index].offset, number.cast_unsigned());
     }
 }

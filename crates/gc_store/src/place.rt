@@ -51,8 +51,10 @@ pub(crate) fn make_heap<H: GcHeap, L: ResourceLimiter>(
     first_pages: u32,
     limiter: &mut L,
 ) -> Result<(), MakeFault>
-    requires { first_pages ≤ max_pages }
-    ensures { MakesHeap first_pages (H.seen heap.old) (H.seen heap.new) (L.limits limiter.old) (L.limits limiter.new) result }
+    requires sound { H.sound heap.old }
+    requires pages { first_pages ≤ max_pages }
+    ensures sound { H.sound heap.new }
+    ensures made { MakesHeap H.KIND first_pages (H.seen heap.old) (H.seen heap.new) (L.limits limiter.old) (L.limits limiter.new) result }
 {
     if heap.is_attached() {
         return Ok(());
@@ -76,8 +78,10 @@ pub(crate) fn make_struct<H: GcHeap>(
     layout: &GcStructLayout,
     values: &[RawValue],
 ) -> Result<Result<VMGcRef, u64>, HeapFault>
-    requires { CanMake H.KIND (H.seen heap.old) layout.now values.now }
-    ensures { (fields : List FieldType) → layout.now ≡ struct_layout H.KIND fields → MakesStruct H.KIND fields ty (map value_of values.now) (H.seen heap.old) (H.seen heap.new) result }
+    requires sound { H.sound heap.old }
+    requires values { CanMake H.KIND (H.seen heap.old) layout.now values.now }
+    ensures sound { H.sound heap.new }
+    ensures made { (fields : List FieldType) → layout.now ≡ struct_layout H.KIND fields → MakesStruct H.KIND fields ty (map value_of values.now) (H.seen heap.old) (H.seen heap.new) result }
 {
     match heap.alloc_uninit_struct_or_exn(ty, layout) {
         Ok(Ok(gc_ref)) => {
@@ -122,9 +126,11 @@ fn place_in<H: GcHeap, L: ResourceLimiter>(
     layout: &GcStructLayout,
     values: &[RawValue],
 ) -> Result<VMGcRef, PlaceFault>
+    requires sound { H.sound heap.old }
     requires pages { first_pages ≤ max_pages }
     requires values { CanPlaceIn H.KIND layout.now values.now }
-    ensures { (fields : List FieldType) → layout.now ≡ struct_layout H.KIND fields → PlacesIn H.KIND fields ty (map value_of values.now) first_pages (H.seen heap.old) (H.seen heap.new) (L.limits limiter.old) (L.limits limiter.new) result }
+    ensures sound { H.sound heap.new }
+    ensures placed { (fields : List FieldType) → layout.now ≡ struct_layout H.KIND fields → PlacesIn H.KIND fields ty (map value_of values.now) first_pages (H.seen heap.old) (H.seen heap.new) (L.limits limiter.old) (L.limits limiter.new) result }
 {
     match make_heap(alloc, heap, first_pages, limiter) {
         Ok(()) => match make_struct(heap, ty, layout, values) {
@@ -158,9 +164,11 @@ fn place_typed<H: GcHeap, L: ResourceLimiter>(
     ty: VMSharedTypeIndex,
     values: &[RawValue],
 ) -> Result<VMGcRef, PlaceFault>
+    requires sound { H.sound heap.old }
     requires pages { first_pages ≤ max_pages }
     requires values { CanPlaceTyped types.now.declarations ty values.now }
-    ensures { (fields : List FieldType) → struct_fields_at types.now.declarations ty ≡ Some fields → PlacesIn H.KIND fields ty (map value_of values.now) first_pages (H.seen heap.old) (H.seen heap.new) (L.limits limiter.old) (L.limits limiter.new) result }
+    ensures sound { H.sound heap.new }
+    ensures placed { (fields : List FieldType) → struct_fields_at types.now.declarations ty ≡ Some fields → PlacesIn H.KIND fields ty (map value_of values.now) first_pages (H.seen heap.old) (H.seen heap.new) (L.limits limiter.old) (L.limits limiter.new) result }
 {
     let layout = types.struct_layout(H::KIND, ty).unwrap();
     place_in(alloc, heap, first_pages, limiter, ty, layout, values)

@@ -11,6 +11,7 @@ use crate::field::field_offset;
 use crate::root::{GcRootIndex, RawValue, RootFault, RootSlot, RootedObject};
 use crate::store::Store;
 use gc_heap::GcHeap;
+use gc_heap::access::read_u32;
 use gc_refs::VMGcRef;
 
 impl<H: GcHeap, D> Store<H, D> {
@@ -97,7 +98,7 @@ impl<H: GcHeap, D> Store<H, D> {
     {
         let gc_ref = VMGcRef::from_raw_u32(word).unwrap();
         let offset = field_offset(&self.heap, &self.types, &gc_ref, index);
-        self.heap.read_u32(&gc_ref, offset)
+        read_u32(&self.heap, &gc_ref, offset)
     }
 
     /// The value of that field of a struct. Numbers push no root.

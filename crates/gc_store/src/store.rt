@@ -66,7 +66,7 @@ impl<H: GcHeap, D> Model for Store<H, D> {
 
     ghost view = { λ s. store_view s.id s.config s.types.declarations (H.seen s.heap) s.scoped.items s.generation };
 
-    ghost invariant = { λ s. IsSound D H.KIND s.types (store_view s.id s.config s.types.declarations (H.seen s.heap) s.scoped.items s.generation) };
+    ghost invariant = { λ s. IsSound D H.KIND (H.sound s.heap) s.types (store_view s.id s.config s.types.declarations (H.seen s.heap) s.scoped.items s.generation) };
 }
 
 impl<H: GcHeap, D> Store<H, D> {
@@ -77,7 +77,8 @@ impl<H: GcHeap, D> Store<H, D> {
         heap: H,
         config: HeapConfig,
     ) -> Result<Store<H, D>, AllocError>
-        requires { H.seen heap ≡ detached }
+        requires sound { H.sound heap }
+        requires empty { H.seen heap ≡ detached }
         ensures start { IfOk result (HoldsStart D H.KIND) }
         ensures seen { IfOk result (λ s. s ≡ empty_store id.engine id.number config.first_pages config.max_scoped config.max_owned (option_map non_zero_u32_get config.alloc_counter)) }
     {

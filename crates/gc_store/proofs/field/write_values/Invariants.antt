@@ -6,4 +6,4 @@ use Rattle.gc_store.proofs.field.write_values.Given as goal
 
 abbrev pub invariant-loop-index : goal.invariant-loop-index
 invariant-loop-index g l =
-    WrittenSoFar (struct_base g.H.GcHeap.KIND) l.layouts (map value_of l.values) l.index (g.H.GcHeap.seen l.fn.heap) (g.H.GcHeap.seen l.heap) l.gc_ref
+    g.H.GcHeap.sound l.heap × WrittenSoFar (struct_base g.H.GcHeap.KIND) l.layouts (map value_of l.values) l.index (g.H.GcHeap.seen l.fn.heap) (g.H.GcHeap.seen l.heap) l.gc_ref

@@ -5,7 +5,7 @@ use Rattle.gc_store.proofs.store.Store.configure.Goals as goal
 
 pub invariant_of-self : goal.invariant_of-self
 invariant_of-self g c =
-    sound_untouched _ _ _ _ c.self.invariant.engine c.self.invariant.number
+    sound_untouched _ _ _ c.self.invariant.heap _ _ c.self.invariant.engine c.self.invariant.number
     (untouched_configured _ _ c.args.config _ (subst (HoldsStart _ _) (sym c.self.view_is) c.requires))
 
 pub returns-clause-start : goal.returns-clause-start

@@ -1,9 +1,7 @@
 use Rattle.std.proofs.Common.{◌≡◌, ◌%◌, ap, sym, ◌∙◌, refl, Some, length}
 use Rattle.std.specs.Option.{option_map}
-use Rattle.std.proofs.Common.{Option, subst, ℕ}
 use Rattle.std.specs.FinMap as map
 use Rattle.gc_types.specs.Declarations.{struct_fields_at}
-use Rattle.gc_store.specs.Roots.{CountsValues}
 use Rattle.gc_model.specs.Views.{StoreView, HeapObject}
 use Rattle.gc_store.proofs.Roots.{SomeIff-value, held_object}
 use Rattle.gc_store.proofs.Lengths.{counts_small, counts_object}

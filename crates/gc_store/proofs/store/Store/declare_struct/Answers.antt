@@ -6,14 +6,14 @@ use Rattle.gc_store.proofs.store.Store.declare_struct.Goals as goal
 
 pub invariant_of-self : goal.invariant_of-self
 invariant_of-self g c =
-    sound_declared _ c.self.inside.id c.self.inside.config _ _ c.self.inside.generation c.args.fields.now c.requires.numbers _ _ c.declare_struct.result
+    sound_declared _ _ c.self.inside.id c.self.inside.config _ _ c.self.inside.generation c.args.fields.now c.requires.numbers _ _ c.declare_struct.result
     (declares_plain c.args.fields.now c.args.supertype c.args.is_final _ _ c.declare_struct.result c.requires.no_supertype c.requires.open
     (record { declared = c.declare_struct.ensures.declared; named = c.declare_struct.ensures.named; declarable = c.declare_struct.ensures.declarable; bad = c.declare_struct.ensures.bad; err = c.declare_struct.ensures.err }))
     c.self.invariant
 
 pub returns-clause-step : goal.returns-clause-step
 returns-clause-step g c t holds =
-    declared_step _ c.self.inside.id c.self.inside.config _ _ c.self.inside.generation c.args.fields.now c.requires.numbers _ _ c.declare_struct.result
+    declared_step _ _ c.self.inside.id c.self.inside.config _ _ c.self.inside.generation c.args.fields.now c.requires.numbers _ _ c.declare_struct.result
     (declares_plain c.args.fields.now c.args.supertype c.args.is_final _ _ c.declare_struct.result c.requires.no_supertype c.requires.open
     (record { declared = c.declare_struct.ensures.declared; named = c.declare_struct.ensures.named; declarable = c.declare_struct.ensures.declarable; bad = c.declare_struct.ensures.bad; err = c.declare_struct.ensures.err }))
     c.self.invariant t (subst (λ (v : StoreView). HoldsTable g.H.GcHeap.KIND v t) (sym c.self.view_is) holds)

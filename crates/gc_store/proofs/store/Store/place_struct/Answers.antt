@@ -36,7 +36,7 @@ not_full : (g : given.Over) (c : After-place_typed g) → is_full (store_view c.
 not_full g c = ap is_full c.self.view_is ∙ sym c.roots_full.ensures ∙ c.if-roots_full.false
 
 placed : (g : given.Over) (c : After-place_typed g) → PlacesIn g.H.GcHeap.KIND c.requires.fields c.args.ty (map value_of c.args.values.now) c.self.inside.config.first_pages (g.H.GcHeap.seen c.self.inside.heap) (g.H.GcHeap.seen c.place_typed.new.heap) (g.L.ResourceLimiter.limits c.args.limiter.now) (g.L.ResourceLimiter.limits c.place_typed.new.limiter) c.place_typed.result
-placed g c = c.place_typed.ensures c.requires.fields (declared g c)
+placed g c = c.place_typed.ensures.placed c.requires.fields (declared g c)
 
 -- a table that the store held, as its parts show it
 held : (g : given.Over) (c : After-place_typed g) (t : Table g.row.D.Denot) → HoldsTable g.H.GcHeap.KIND c.args.self.now t → HoldsTable g.H.GcHeap.KIND (store_view c.self.inside.id c.self.inside.config c.self.inside.types.declarations (g.H.GcHeap.seen c.self.inside.heap) c.self.inside.scoped.items c.self.inside.generation) t
@@ -65,12 +65,12 @@ refused g c t holds =
 pub invariant_of-self-in-Ok : goal.invariant_of-self-in-Ok
 invariant_of-self-in-Ok g c =
     let after = made g (goal.at.invariant_of-self-in-Ok g c).After-push_root c.self.invariant.table c.self.invariant.holds in
-    record { engine = c.self.invariant.engine; number = c.self.invariant.number; table = after.after; holds = after.holds }
+    record { heap = c.place_typed.ensures.sound; engine = c.self.invariant.engine; number = c.self.invariant.number; table = after.after; holds = after.holds }
 
 pub invariant_of-self-in-Err : goal.invariant_of-self-in-Err
 invariant_of-self-in-Err g c =
     let after = sound_places g.H.GcHeap.KIND (struct c.args.ty (map value_of c.args.values.now)) (g.L.ResourceLimiter.limits c.args.limiter.now) (g.L.ResourceLimiter.limits c.place_typed.new.limiter) c.self.invariant.table (Err c.in-Err.fault) _ (refused g (goal.at.invariant_of-self-in-Err g c).In-Err c.self.invariant.table c.self.invariant.holds) in
-    record { engine = c.self.invariant.engine; number = c.self.invariant.number; table = after.0; holds = after.1 }
+    record { heap = c.place_typed.ensures.sound; engine = c.self.invariant.engine; number = c.self.invariant.number; table = after.0; holds = after.1 }
 
 pub returns-in-Ok-clause-places : goal.returns-in-Ok-clause-places
 returns-in-Ok-clause-places g c t holds =

@@ -1,14 +1,15 @@
-use Rattle.std.proofs.Common.{◌≡◌, ℕ, ◌<◌, ◌-◌, List, Option, Some, length, sym, ap, ◌∙◌, subst, arith}
+use Rattle.std.proofs.Common.{◌≡◌, ℕ, ◌<◌, ◌≤◌, ◌+◌, ◌-◌, List, Option, Some, length, sym, ap, ◌∙◌, subst, arith}
 use Rattle.std.specs.Prelude.{IfSome}
 use Rattle.std.specs.FinMap as finite
 use Rattle.gc_types.specs.declared.value.FieldType.{FieldType}
 use Rattle.gc_types.specs.declared.layout.FieldLayout.{FieldLayout}
 use Rattle.gc_types.specs.Declarations.{struct_fields_at}
-use Rattle.gc_types.specs.Layouts.{struct_base}
+use Rattle.gc_types.specs.Layouts.{struct_base, fields_end}
+use Rattle.gc_model.proofs.Layouts.{stored_size-le}
 use Rattle.gc_model.specs.Views.{StoreView, HeapObject, u32_at}
 use Rattle.gc_store.proofs.Roots.{SomeIff-value}
 use Rattle.gc_store.proofs.Numbers.{NumberAt, number_at, SomeIff-some}
-use Rattle.gc_store.proofs.Writes.{field_within}
+use Rattle.gc_store.proofs.Writes.{field_within, struct_readable}
 use Rattle.gc_store.proofs.store.Store.read_number.Given as given
 use Rattle.gc_store.proofs.store.Store.read_number.Goals as goal
 use Rattle.gc_store.proofs.store.Store.read_number.Goals.{Start, After-self, After-field_offset-offset}
@@ -33,7 +34,7 @@ pub field_offset-offset-requires-clause-fields : goal.field_offset-offset-requir
 field_offset-offset-requires-clause-fields g c =
     let at = (goal.at.field_offset-offset-requires-clause-fields g c).After-self in
     let l = lies g (goal.at.After-self g at).Start in
-    record { object = l.object; held = in_heap g at l.object l.held; fields = l.fields; declared = in_types g at l.object.ty l.fields l.declared; size = l.size; numbers = l.numbers }
+    record { object = l.object; held = in_heap g at l.object l.held; fields = l.fields; declared = in_types g at l.object.ty l.fields l.declared; kind = l.kind; size = l.size; numbers = l.numbers }
 
 pub field_offset-offset-requires-clause-within : goal.field_offset-offset-requires-clause-within
 field_offset-offset-requires-clause-within g c object fields held declared =
@@ -50,14 +51,16 @@ offset_is g c n l =
     let told = c.field_offset-offset.ensures l.object l.fields (in_heap g at l.object l.held) (in_types g at l.object.ty l.fields l.declared) in
     subst (λ (o : Option FieldLayout). IfSome o (λ layout. c.field_offset-offset.result ≡ layout.offset)) l.layout_at told
 
-pub read_u32-requires : goal.read_u32-requires
-read_u32-requires g c =
-    let here = (goal.at.read_u32-requires g c).After-field_offset-offset in
+pub read_u32-requires-clause-inside : goal.read_u32-requires-clause-inside
+read_u32-requires-clause-inside g c =
+    let here = (goal.at.read_u32-requires-clause-inside g c).After-field_offset-offset in
     let at = (goal.at.After-field_offset-offset g here).After-self in
     let l = lies g (goal.at.After-self g at).Start in
     let bounds = field_within (struct_base g.H.GcHeap.KIND) l.fields c.args.index l.layout l.numbers l.layout_at in
     let is = offset_is g here c.requires.n l in
-    record { object = l.object; held = in_heap g at l.object l.held; from = omega (arith, bounds.0, is); to = omega (arith, bounds.1, is, l.size) }
+    let low : struct_base g.H.GcHeap.KIND ≤ c.field_offset-offset.result = omega (arith, bounds.0, is) in
+    let high : c.field_offset-offset.result + 4 ≤ struct_base g.H.GcHeap.KIND + length l.object.bytes = omega (arith, bounds.1, is, l.size, stored_size-le g.H.GcHeap.KIND (fields_end (struct_base g.H.GcHeap.KIND) l.fields)) in
+    struct_readable _ _ _ _ _ l.object (in_heap g at l.object l.held) l.kind low high
 
 pub returns : goal.returns
 returns g c t place position ty values n holds placed object value_at =

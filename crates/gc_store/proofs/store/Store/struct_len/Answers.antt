@@ -1,8 +1,8 @@
-use Rattle.std.proofs.Common.{◌≡◌, ap, sym, ◌∙◌, subst, refl, Ok, Err, Result, ℕ}
+use Rattle.std.proofs.Common.{ap, sym, ◌∙◌, subst}
 use Rattle.gc_model.specs.Views.{StoreView}
 use Rattle.gc_model.specs.Holds.{Holds}
 use Rattle.gc_store.specs.Roots.{IsRootWord, word_of}
-use Rattle.gc_store.proofs.Roots.{root_word, named_live, named_dead, word_of-ok, word_of-err, names-entry}
+use Rattle.gc_store.proofs.Roots.{root_word, named_live, named_dead, word_of-ok, names-entry}
 use Rattle.gc_store.proofs.Lengths.{length_live, length_dead}
 use Rattle.gc_store.proofs.store.Store.struct_len.Goals as goal
 
