@@ -1,6 +1,7 @@
 -- What a list is after one word was replaced, for callers that go through it by index.
-use Rattle.std.proofs.Common.{◌≡◌, ◌≢◌, ◌<◌, ◌+◌, ◌++◌, ℕ, List, map, take, drop, length}
+use Rattle.std.proofs.Common.{◌≡◌, ◌≢◌, ◌<◌, ◌+◌, ◌++◌, ℕ, List, map, take, drop, length, arith}
 use Rattle.std.proofs.lemmas.List.{length-set, get_or-set_same, get_or-set_other, get_or_default}
+use Rattle.std.proofs.lemmas.Grind.{common_steps}
 use Rattle.std.proofs.lemmas.List.Edits.{map_over_more}
 use Rattle.gc_roots.specs.Roots.{Root, no_root, root_at, with_word, with_word_at}
 
@@ -17,9 +18,11 @@ pub root_at-other : (roots : List Root) (i j w : ℕ) → j ≢ i → root_at (w
 root_at-other roots i j w other = get_or-set_other roots i j (with_word (root_at roots i) w) no_root other
 
 -- where each word up to an index is f of what it was, one more is: f of the word that stands there replaces it
-pub one_more_word : (f : ℕ → ℕ) (old new : List Root) (i : ℕ) → i < length old → i < length new
+pub one_more_word : (f : ℕ → ℕ) (old new : List Root) (i : ℕ) → i < length old
     → new ≡ map (λ r. with_word r (f r.word)) (take i old) ++ drop i old
     → with_word_at new i (f (root_at new i).word) ≡ map (λ r. with_word r (f r.word)) (take (i + 1) old) ++ drop (i + 1) old
-one_more_word f old new i inside inside' e =
-    map_over_more (λ r. with_word r (f r.word)) old new i (root_at new i) inside e
-    (get_or_default new i no_root (root_at new i) inside')
+one_more_word f old new i inside e =
+    let change : Root → Root = λ r. with_word r (f r.word) in
+    let as_many : length new ≡ length old = grind (arith, common_steps, e) in
+    map_over_more change old new i (root_at new i) inside e
+    (get_or_default new i no_root (root_at new i) (omega (arith, as_many, inside)))

@@ -1,4 +1,4 @@
-//! The list.
+//! The list of roots, read and written by index or lent root by root.
 
 ghost use Rattle.std.specs.Prelude.{ℕ, ◌≡◌, ◌+◌, ◌<◌, ◌≤◌, ◌==◌, [], ◌∷◌, ◌++◌, length, true, false, IsOk, OnOk, OnErr};
 ghost use Rattle.std.specs.Borrow.{sem};
