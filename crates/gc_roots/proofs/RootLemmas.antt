@@ -1,9 +1,9 @@
--- What a list is after one word was replaced, for callers that go through it by index.
-use Rattle.std.proofs.Common.{◌≡◌, ◌≢◌, ◌<◌, ◌+◌, ◌++◌, ℕ, List, map, take, drop, length, arith}
+-- What a list is after words were replaced: one by its index, or all in a walk.
+use Rattle.std.proofs.Common.{◌≡◌, ◌≢◌, ◌<◌, ◌+◌, ◌++◌, ℕ, zero, suc, List, [], ◌∷◌, refl, ap, map, take, drop, length, arith}
 use Rattle.std.proofs.lemmas.List.{length-set, get_or-set_same, get_or-set_other, get_or_default}
 use Rattle.std.proofs.lemmas.Grind.{common_steps}
 use Rattle.std.proofs.lemmas.List.Edits.{map_over_more}
-use Rattle.gc_roots.specs.Roots.{Root, no_root, root_at, with_word, with_word_at}
+use Rattle.gc_roots.specs.Roots.{Root, no_root, root_at, with_word, with_word_at, with_words}
 
 -- there are as many roots
 pub length-with_word_at : (roots : List Root) (i w : ℕ) → length (with_word_at roots i w) ≡ length roots
@@ -26,3 +26,21 @@ one_more_word f old new i inside e =
     let as_many : length new ≡ length old = grind (arith, common_steps, e) in
     map_over_more change old new i (root_at new i) inside e
     (get_or_default new i no_root (root_at new i) (omega (arith, as_many, inside)))
+
+-- with other words there are as many roots, each with its number and its flag
+pub length-with_words : (roots : List Root) (words : List ℕ) → length (with_words roots words) ≡ length roots
+length-with_words [] words = refl
+length-with_words (first ∷ rest) [] = refl
+length-with_words (first ∷ rest) (word ∷ words) = ap suc (length-with_words rest words)
+
+pub place-with_words : (roots : List Root) (words : List ℕ) (i : ℕ) → (root_at (with_words roots words) i).place ≡ (root_at roots i).place
+place-with_words [] words i = refl
+place-with_words (first ∷ rest) [] i = refl
+place-with_words (first ∷ rest) (word ∷ words) zero = refl
+place-with_words (first ∷ rest) (word ∷ words) (suc i) = place-with_words rest words i
+
+pub on_stack-with_words : (roots : List Root) (words : List ℕ) (i : ℕ) → (root_at (with_words roots words) i).on_stack ≡ (root_at roots i).on_stack
+on_stack-with_words [] words i = refl
+on_stack-with_words (first ∷ rest) [] i = refl
+on_stack-with_words (first ∷ rest) (word ∷ words) zero = refl
+on_stack-with_words (first ∷ rest) (word ∷ words) (suc i) = on_stack-with_words rest words i
