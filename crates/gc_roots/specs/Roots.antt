@@ -1,5 +1,5 @@
 -- What contracts see of a list of roots.
-use Rattle.std.specs.Prelude.{ℕ, Bool, false, List, slice_index_or, slice_set}
+use Rattle.std.specs.Prelude.{[], ◌∷◌, ℕ, Bool, false, List, slice_index_or, slice_set}
 
 -- a root: the number that its owner knows it by, whether it is a slot of a wasm frame, and its word
 pub record Root : Type 0 where
@@ -31,3 +31,9 @@ root_at roots index = slice_index_or roots index no_root
 -- the roots, one of them with another word
 abbrev pub with_word_at : List Root → ℕ → ℕ → List Root
 with_word_at roots index word = slice_set roots index (with_word (root_at roots index) word)
+
+-- the roots with these words in their order; where they are fewer, the other roots keep theirs
+abbrev pub with_words : List Root → List ℕ → List Root
+with_words [] words = []
+with_words (first ∷ rest) [] = first ∷ rest
+with_words (first ∷ rest) (word ∷ words) = with_word first word ∷ with_words rest words

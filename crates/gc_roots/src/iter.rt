@@ -1,25 +1,29 @@
 //! The roots of a list, one by one.
 
-ghost use Rattle.std.specs.Prelude.{◌≡◌};
+ghost use Rattle.std.specs.Prelude.{◌≡◌, length};
 ghost use Rattle.std.specs.Slice.Iter.{iter_mut_name};
+ghost use Rattle.gc_roots.specs.Columns.{roots_of};
 ghost use Rattle.gc_roots.specs.Lends.{shown, rest_of};
 
-use crate::entry::{GcRoot, RawGcRoot};
+use crate::entry::{GcRoot, Origin};
+use gc_refs::VMGcRef;
 use std::slice;
 
 /// The roots that are left, in the order of the list.
 #[derive(Drop)]
 pub struct GcRootsIter<'a> {
-    rest: slice::IterMut<'a, RawGcRoot>,
+    origins: slice::Iter<'a, Origin>,
+    words: slice::IterMut<'a, VMGcRef>,
 }
 
 impl<'a> GcRootsIter<'a> {
-    pub(crate) fn new(entries: &'a mut [RawGcRoot]) -> GcRootsIter<'a>
-        ensures rest { rest_of result ≡ entries.old }
-        ensures lent { iter_mut_name result.rest ≡ entries.entry.ghost_name }
+    pub(crate) fn new(origins: &'a [Origin], words: &'a mut [VMGcRef]) -> GcRootsIter<'a>
+        ensures rest { rest_of result ≡ roots_of origins.now words.old }
+        ensures lent { iter_mut_name result.words ≡ words.entry.ghost_name }
     {
         GcRootsIter {
-            rest: entries.iter_mut(),
+            origins: origins.iter(),
+            words: words.iter_mut(),
         }
     }
 }
@@ -29,13 +33,16 @@ impl<'a> Iterator for GcRootsIter<'a> {
 
     ghost use Rattle.std.specs.Iterator.{YieldsFirstBy, item_count};
 
-    ghost next_gives = { YieldsFirstBy (shown) rest_of };
+    ghost next_gives = { YieldsFirstBy shown rest_of };
 
     ghost remaining = { item_count rest_of };
 
     fn next(&mut self) -> Option<GcRoot<'a>> {
-        match self.rest.next() {
-            Some(entry) => Some(GcRoot::new(entry)),
+        match self.origins.next() {
+            Some(origin) => match self.words.next() {
+                Some(word) => Some(GcRoot::new(*origin, word)),
+                None => None,
+            },
             None => None,
         }
     }
