@@ -1,10 +1,12 @@
 //! A memory that is written, copied within and grown.
 
-ghost use Rattle.std.specs.Prelude.{◌≡◌, ◌<◌, length, slice_set};
+ghost use Rattle.std.specs.Prelude.{◌≡◌, ◌<◌, ◌≤◌, length, slice_set};
+ghost use Rattle.gc_model.specs.Allocation.{page};
 
 use crate::{HeapMemory, offsets};
 use gc_refs::VMGcHeader;
 use gc_types::{Layouts, VMGcKind, VMSharedTypeIndex};
+use std::process::Abort;
 use std::test::Fail;
 
 /// Sets the first byte of the bytes that are lent.
@@ -15,15 +17,12 @@ fn set_first(memory: &mut HeapMemory, value: u8)
     memory.bytes_mut()[0] = value;
 }
 
-#[test]
-fn a_memory_grows_from_no_pages(rt: HostRuntime) -> Result<(), Fail> {
-    let mut memory = HeapMemory::new(rt.alloc(), 0)?;
-    assert_eq!(rt; memory.byte_size(), 0);
-    memory.grow(1)?;
+/// Writes a word at the end of a page and grows the memory by another.
+fn grows_behind_a_word(rt: &impl Abort, memory: &mut HeapMemory) -> Result<(), Fail>
+    requires { length memory.old ≡ page }
+{
     memory.write_u32(65_532, 0xFFFF_FFFF);
     memory.grow(1)?;
-    assert_eq!(rt; memory.pages(), 2);
-    assert_eq!(rt; memory.capacity(), 131_072);
     assert_eq!(rt; memory.read_u32(65_532), 0xFFFF_FFFF);
     assert_eq!(rt; memory.read_u64(65_536), 0);
     assert_eq!(rt; memory.read_u32(131_068), 0);
@@ -31,16 +30,37 @@ fn a_memory_grows_from_no_pages(rt: HostRuntime) -> Result<(), Fail> {
 }
 
 #[test]
+fn a_memory_grows_from_no_pages(rt: HostRuntime) -> Result<(), Fail> {
+    let mut memory = HeapMemory::new(rt.alloc(), 0)?;
+    assert_eq!(rt; memory.byte_size(), 0);
+    memory.grow(1)?;
+    grows_behind_a_word(&rt, &mut memory)?;
+    assert_eq!(rt; memory.pages(), 2);
+    assert_eq!(rt; memory.capacity(), 131_072);
+    Ok(())
+}
+
+/// Copies six bytes at the end of a page, and looks at the eight bytes that stand there then.
+fn copies(rt: &impl Abort, memory: &mut HeapMemory, from: usize, to: usize, expected: &[u8])
+    requires room { 65540 ≤ length memory.old }
+    requires from { from ≤ 65534 }
+    requires to { to ≤ 65534 }
+    ensures { length memory.new ≡ length memory.old }
+{
+    memory.move_bytes(from, to, 6);
+    assert_eq!(rt; memory.slice(65_532, 8), expected);
+}
+
+#[test]
 fn bytes_are_copied_also_over_themselves(rt: HostRuntime) -> Result<(), Fail> {
     let mut memory = HeapMemory::new(rt.alloc(), 2)?;
-    memory.write_bytes(65_532, b"abcdefgh");
-    assert_eq!(rt; memory.read_u64(65_532), 0x6867_6665_6463_6261);
-    memory.move_bytes(65_532, 65_534, 6);
-    assert_eq!(rt; memory.slice(65_532, 8), b"ababcdef".as_slice());
-    memory.move_bytes(65_534, 65_532, 6);
-    assert_eq!(rt; memory.slice(65_532, 8), b"abcdefef".as_slice());
+    memory.write_u64(65_532, 0x6867_6665_6463_6261);
+    copies(&rt, &mut memory, 65_532, 65_534, b"ababcdef");
+    copies(&rt, &mut memory, 65_534, 65_532, b"abcdefef");
     memory.fill_zero(65_533, 6);
-    assert_eq!(rt; memory.slice(65_532, 8), b"a\0\0\0\0\0\0f".as_slice());
+    copies(&rt, &mut memory, 65_533, 65_534, b"a\0\0\0\0\0\0\0");
+    memory.write_bytes(65_535, b"xyz");
+    assert_eq!(rt; memory.read_u64(65_532), 0x0000_7A79_7800_0061);
     Ok(())
 }
 
