@@ -1,5 +1,5 @@
 -- Objects that follow each other.
-use Rattle.std.proofs.Common.{◌≡◌, ℕ, zero, suc, cond, nat_eq, nat_lt, true, length, ◌+◌, ◌-◌, ◌*◌, ◌%◌, ◌<◌, ◌≤◌, List, [], ◌∷◌, ◌++◌, refl, sym, ap, subst, ◌∙◌, inl, inr, arith}
+use Rattle.std.proofs.Common.{◌≡◌, ℕ, zero, suc, cond, length, ◌+◌, ◌*◌, ◌%◌, ◌<◌, ◌≤◌, List, [], ◌∷◌, ◌++◌, refl, sym, ap, subst, ◌∙◌, arith}
 use Rattle.std.proofs.lemmas.Bool.{lt-ltb, le-ltb}
 use Rattle.gc_model.specs.Sizes.{alignment}
 use Rattle.gc_memory.specs.Lists.{In, here, there, sum_over, occ}

@@ -174,3 +174,16 @@ SameAcross-from {p = p} {lo = lo} {hi = hi} s t = SameAcross-then (SameAcross-sa
 -- growth leaves what there was as it was
 pub SameAcross-grown : (bytes more : List ℕ) (p lo hi : ℕ) → p + hi ≤ length bytes → SameAcross bytes p (bytes ++ more) p lo hi
 SameAcross-grown bytes more p lo hi h = record { at = λ j d l u. get_or_append_left bytes more d (p + j) (omega arith) }
+
+-- a write of a number of 64 bits keeps the length
+pub length-put_u64 : (bytes : List ℕ) (p n : ℕ) → p + 8 ≤ length bytes → length (put_u64 bytes p n) ≡ length bytes
+length-put_u64 bytes p n h = length-put_bytes bytes p (to_le_bytes w64 n) h
+
+-- so does one that makes bytes 0
+pub length-put_zeros : (bytes : List ℕ) (p n : ℕ) → p + n ≤ length bytes → length (put_bytes bytes p (replicate n 0)) ≡ length bytes
+length-put_zeros bytes p n h = (Wrote-zeros bytes p n h).same_length
+
+-- and a copy
+pub length-move : (bytes : List ℕ) (from to n : ℕ) → from + n ≤ length bytes → to + n ≤ length bytes
+    → length (put_bytes bytes to (take n (drop from bytes))) ≡ length bytes
+length-move bytes from to n h k = (Wrote-move bytes from to n h k).same_length

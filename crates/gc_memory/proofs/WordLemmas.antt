@@ -1,5 +1,5 @@
 -- Words in a memory that changes.
-use Rattle.std.proofs.Common.{◌≡◌, ℕ, ◌+◌, ◌-◌, ◌*◌, ◌<◌, ◌≤◌, ◌^◌, List, ◌++◌, [], ◌∷◌, length, take, drop, get_or, replicate, refl, sym, ap, ◌∙◌, inl, inr, arith}
+use Rattle.std.proofs.Common.{◌≡◌, ℕ, ◌+◌, ◌*◌, ◌<◌, ◌≤◌, ◌^◌, List, ◌++◌, length, take, drop, get_or, replicate, refl, sym, ap, ◌∙◌, arith}
 use Rattle.std.proofs.Math.Logic.{◌⊎◌}
 use Rattle.std.specs.Int.{w32, w64, from_le_bytes, to_le_bytes}
 use Rattle.std.proofs.lemmas.List.{get_or-take, get_or-drop}
@@ -7,7 +7,7 @@ use Rattle.std.proofs.lemmas.Nat.{from_le_bytes-to_le_bytes_4, from_le_bytes-to_
 use Rattle.gc_model.specs.Views.{u32_at, put_u32}
 use Rattle.gc_model.specs.Bytes.{put_bytes, SameBytes}
 use Rattle.gc_model.proofs.ByteLemmas.{SameBytes-part, part-put_bytes}
-use Rattle.gc_memory.specs.Words.{u64_at, put_u64, word, word64}
+use Rattle.gc_memory.specs.Words.{AreBytes, u64_at, put_u64, word, word64}
 use Rattle.gc_memory.specs.Changes.{Wrote, SameAcross}
 use Rattle.gc_memory.proofs.ChangeLemmas.{Wrote-before, Wrote-behind, Wrote-apart, get_or-zeros, get_or-grown}
 
@@ -92,14 +92,14 @@ word-zeros bytes p n q h l u = word_of_zeros (put_bytes bytes p (replicate n 0))
 pub word-grown : (bytes : List ℕ) (n p : ℕ) → word (bytes ++ replicate n 0) p ≡ word bytes p
 word-grown bytes n p = word_by_bytes bytes (bytes ++ replicate n 0) p p (λ k l. get_or-grown bytes n (p + k))
 
--- a word of numbers that are bytes fits 32 bits
-pub word-less : (bytes : List ℕ) (p : ℕ) → ((k : ℕ) → k < 4 → get_or bytes (p + k) 0 < 256) → word bytes p < 2 ^ 32
+-- a word of bytes fits 32 bits
+pub word-less : (bytes : List ℕ) (p : ℕ) → AreBytes bytes → word bytes p < 2 ^ 32
 unfolding word
 word-less bytes p small =
-    let b0 : get_or bytes (p + 0) 0 < 256 = small 0 (omega arith) in
-    let b1 : get_or bytes (p + 1) 0 < 256 = small 1 (omega arith) in
-    let b2 : get_or bytes (p + 2) 0 < 256 = small 2 (omega arith) in
-    let b3 : get_or bytes (p + 3) 0 < 256 = small 3 (omega arith) in
+    let b0 : get_or bytes (p + 0) 0 < 256 = small (p + 0) in
+    let b1 : get_or bytes (p + 1) 0 < 256 = small (p + 1) in
+    let b2 : get_or bytes (p + 2) 0 < 256 = small (p + 2) in
+    let b3 : get_or bytes (p + 3) 0 < 256 = small (p + 3) in
     omega (arith, u32_by_bytes bytes p, b0, b1, b2, b3)
 
 byte_of_half : (bytes : List ℕ) (p k : ℕ) → k < 4 → get_or (take 8 (drop p bytes)) (4 + k) 0 ≡ get_or bytes (p + 4 + k) 0
@@ -124,6 +124,10 @@ u64_by_halves bytes p =
 pub word64_by_words : (bytes : List ℕ) (p : ℕ) → word64 bytes p ≡ word bytes p + word bytes (p + 4) * 2 ^ 32
 unfolding word word64
 word64_by_words bytes p = u64_by_halves bytes p
+
+-- a number of 64 bits of bytes fits them
+pub word64-less : (bytes : List ℕ) (p : ℕ) → AreBytes bytes → word64 bytes p < 2 ^ 64
+word64-less bytes p small = omega (arith, word64_by_words bytes p, word-less bytes p small, word-less bytes (p + 4) small)
 
 -- two places with equal halves have equal numbers
 word64_by_equal : (a b : List ℕ) (p q : ℕ) → word b q ≡ word a p → word b (q + 4) ≡ word a (p + 4) → word64 b q ≡ word64 a p

@@ -1,7 +1,11 @@
 -- Numbers of several bytes in a memory.
-use Rattle.std.specs.Prelude.{ℕ, ◌+◌, List, ◌++◌, take, drop}
+use Rattle.std.specs.Prelude.{ℕ, ◌+◌, ◌<◌, List, ◌++◌, take, drop, slice_index_or}
 use Rattle.std.specs.Int.{w64, from_le_bytes, to_le_bytes}
 use Rattle.gc_model.specs.Views.{u32_at}
+
+-- each number of the list is a byte
+abbrev pub AreBytes : List ℕ → Type 0
+AreBytes bytes = (j : ℕ) → slice_index_or bytes j 0 < 256
 
 -- the 64-bit number that lies at an offset, its lowest byte first
 abbrev pub u64_at : List ℕ → ℕ → ℕ

@@ -5,7 +5,7 @@ ghost use Rattle.gc_refs.specs.Header.{header_bytes};
 ghost use Rattle.gc_model.specs.Allocation.{page, max_pages};
 ghost use Rattle.gc_model.specs.Views.{u32_at, put_u32};
 ghost use Rattle.gc_model.specs.Bytes.{put_bytes};
-ghost use Rattle.gc_memory.specs.Words.{u64_at, put_u64};
+ghost use Rattle.gc_memory.specs.Words.{AreBytes, u64_at, put_u64};
 ghost use Rattle.gc_memory.specs.Changes.{Wrote};
 ghost use Rattle.std.specs.Borrow.{sem};
 ghost use Rattle.gc_memory.specs.Lends.{LendsBytes};
@@ -46,6 +46,14 @@ fn word_at(bytes: &[u8], at: usize) -> u32
     u32::from_le_bytes([bytes[at], bytes[at + 1], bytes[at + 2], bytes[at + 3]])
 }
 
+/// The same slice. A function that is given one knows that each of its numbers is a byte.
+fn known_bytes(bytes: &[u8]) -> &[u8]
+    ensures value { result.now ≡ bytes.now }
+    ensures fits { AreBytes bytes.now }
+{
+    bytes
+}
+
 impl HeapMemory {
     /// That many pages, whose bytes are 0.
     pub fn new(alloc: Global, pages: u32) -> Result<HeapMemory, AllocError>
@@ -61,6 +69,7 @@ impl HeapMemory {
     pub fn grow(&mut self, pages: u32) -> Result<(), AllocError>
         requires { length self.old + page * pages ≤ page * max_pages }
         ensures grown { OnOk result (self.new ≡ self.old ++ replicate (page * pages) 0) }
+        ensures longer { OnOk result (length self.new ≡ length self.old + page * pages) }
         ensures kept { OnErr result (self.new ≡ self.old) }
     {
         let total = self.pages + pages;
@@ -95,8 +104,9 @@ impl HeapMemory {
     pub fn bytes(&self) -> &[u8]
         ensures value { result.now ≡ self.now }
         ensures bound { length self.now ≤ page * max_pages }
+        ensures fits { AreBytes self.now }
     {
-        self.bytes.as_slice()
+        known_bytes(&self.bytes)
     }
 
     /// Lends all bytes for writing.
@@ -118,7 +128,8 @@ impl HeapMemory {
     /// Writes these bytes at an offset.
     pub fn write_bytes(&mut self, at: usize, bytes: &[u8])
         requires { at + length bytes.now ≤ length self.old }
-        ensures { self.new ≡ put_bytes self.old at bytes.now }
+        ensures bytes { self.new ≡ put_bytes self.old at bytes.now }
+        ensures same_length { length self.new ≡ length self.old }
     {
         self.bytes[at..at + bytes.len()].copy_from_slice(bytes);
     }
@@ -126,7 +137,8 @@ impl HeapMemory {
     /// Makes `count` bytes from an offset on 0, in time linear in `count`.
     pub fn fill_zero(&mut self, at: usize, count: usize)
         requires { at + count ≤ length self.old }
-        ensures { self.new ≡ put_bytes self.old at (replicate count 0) }
+        ensures bytes { self.new ≡ put_bytes self.old at (replicate count 0) }
+        ensures same_length { length self.new ≡ length self.old }
     {
         self.bytes[at..at + count].fill(0);
     }
@@ -135,7 +147,8 @@ impl HeapMemory {
     pub fn move_bytes(&mut self, from: usize, to: usize, count: usize)
         requires source { from + count ≤ length self.old }
         requires destination { to + count ≤ length self.old }
-        ensures { self.new ≡ put_bytes self.old to (take count (drop from self.old)) }
+        ensures bytes { self.new ≡ put_bytes self.old to (take count (drop from self.old)) }
+        ensures same_length { length self.new ≡ length self.old }
     {
         self.bytes.copy_within(from..from + count, to);
     }
@@ -151,7 +164,8 @@ impl HeapMemory {
     /// Writes a 32-bit number at an offset, its lowest byte first.
     pub fn write_u32(&mut self, at: usize, value: u32)
         requires { at + 4 ≤ length self.old }
-        ensures { self.new ≡ put_u32 self.old at value }
+        ensures bytes { self.new ≡ put_u32 self.old at value }
+        ensures same_length { length self.new ≡ length self.old }
     {
         self.bytes[at..at + 4].copy_from_slice(&value.to_le_bytes());
     }
@@ -176,7 +190,8 @@ impl HeapMemory {
     /// Writes a 64-bit number at an offset, its lowest byte first.
     pub fn write_u64(&mut self, at: usize, value: u64)
         requires { at + 8 ≤ length self.old }
-        ensures { self.new ≡ put_u64 self.old at value }
+        ensures bytes { self.new ≡ put_u64 self.old at value }
+        ensures same_length { length self.new ≡ length self.old }
     {
         self.bytes[at..at + 8].copy_from_slice(&value.to_le_bytes());
     }
@@ -196,6 +211,7 @@ impl HeapMemory {
         ensures kind_word { u32_at self.new at ≡ header.kind_word }
         ensures type_word { u32_at self.new (at + 4) ≡ header.type_word }
         ensures around { Wrote self.old self.new at 8 }
+        ensures same_length { length self.new ≡ length self.old }
     {
         let _pages = &self.pages;
         self.write_u32(at, header.kind_word());

@@ -1,7 +1,5 @@
-use Rattle.std.proofs.Common.{◌≡◌, ◌+◌, ◌^◌, ◌<◌, ◌∙◌, ℕ, ap, subst, sym, arith}
-use Rattle.gc_refs.specs.Header.{Header, header_bytes}
+use Rattle.std.proofs.Common.{◌≡◌, ◌+◌, ◌^◌, ◌<◌, ◌∙◌, ap, subst, sym, arith}
 use Rattle.gc_model.specs.Views.{u32_at, put_u32}
-use Rattle.gc_model.specs.Bytes.{put_bytes}
 use Rattle.gc_memory.specs.Changes.{Wrote}
 use Rattle.gc_memory.proofs.HeaderLemmas.{header_put, kind_word_put, Wrote-header}
 use Rattle.gc_memory.proofs.memory.HeapMemory.write_header.Goals as goal
@@ -9,9 +7,9 @@ use Rattle.gc_memory.proofs.memory.HeapMemory.write_header.Goals as goal
 -- the words that were written
 words : (c : goal.After-write_u32-2) → c.write_u32-2.new.self ≡ put_u32 (put_u32 c.args.self.now c.args.at c.args.header.kind_word) (c.args.at + 4) c.args.header.type_word
 words c =
-    let first = c.write_u32.ensures ∙ ap (put_u32 c.args.self.now c.args.at) c.kind_word.ensures in
+    let first = c.write_u32.ensures.bytes ∙ ap (put_u32 c.args.self.now c.args.at) c.kind_word.ensures in
     let ty_is = c.as_u32.ensures ∙ c.type_index.ensures in
-    c.write_u32-2.ensures
+    c.write_u32-2.ensures.bytes
     ∙ ap (put_u32 c.write_u32.new.self (c.args.at + 4)) ty_is
     ∙ ap (λ b. put_u32 b (c.args.at + 4) c.args.header.type_word) first
 
