@@ -187,3 +187,7 @@ length-put_zeros bytes p n h = (Wrote-zeros bytes p n h).same_length
 pub length-move : (bytes : List ℕ) (from to n : ℕ) → from + n ≤ length bytes → to + n ≤ length bytes
     → length (put_bytes bytes to (take n (drop from bytes))) ≡ length bytes
 length-move bytes from to n h k = (Wrote-move bytes from to n h k).same_length
+
+-- what is the same is so both ways
+pub SameBytes-back : {a b : List ℕ} {lo hi : ℕ} → SameBytes a b lo hi → SameBytes b a lo hi
+SameBytes-back s = record { same_length = sym s.same_length; at = λ j d l u. sym (s.at j d l u) }

@@ -2,8 +2,9 @@
 //! known of bytes that were written, moved or grown.
 //!
 //! Contracts see a `HeapMemory` as the list of its bytes. A heap states its own invariant on those bytes,
-//! place by place: `specs/` has words at a place (`Words`), what a change leaves as it was (`Changes`), and
-//! objects that follow each other (`Chains`); `proofs/` has the laws of each.
+//! place by place: `specs/` has words at a place (`Words`), what a change leaves as it was (`Changes`),
+//! places as sets and multisets (`Lists`), and objects that follow each other (`Chains`); `proofs/` has the
+//! laws of each.
 #![tactic(auto)]
 
 pub mod memory;

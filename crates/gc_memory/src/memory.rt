@@ -213,6 +213,7 @@ impl HeapMemory {
         ensures around { Wrote self.old self.new at 8 }
         ensures same_length { length self.new ≡ length self.old }
     {
+        // The proof learns from it that a memory ends below 2^32, so that the sum fits.
         let _pages = &self.pages;
         self.write_u32(at, header.kind_word());
         self.write_u32(at + 4, header.type_index().as_u32());
