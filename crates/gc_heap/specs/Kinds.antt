@@ -25,10 +25,10 @@ pub record TellsHeader (layouts : Layouts) (h : HeapView) (word : ℕ) (is_such 
   pub number : word % 2 ≡ 1 → answer ≡ false
   pub object : (o : HeapObject) → finite.get h.content word ≡ Some o → (header : Header) × (IsHeaderOf layouts o header × (answer ≡ is_such header))
 
--- The same word is answered exactly where a test is true. A word that is taken is handed back where it
--- is false.
+-- the same word is answered exactly where a test is true
 abbrev pub GivesWhere : (Bool → Type 0) → ℕ → Option ℕ → Type 0
 GivesWhere Tells word answer = MatchOption answer (Tells false) (λ r. (r ≡ word) × Tells true)
 
-abbrev pub TakesWhere : (Bool → Type 0) → ℕ → Result ℕ ℕ → Type 0
-TakesWhere Tells word answer = MatchResult answer (λ r. (r ≡ word) × Tells true) (λ back. (back ≡ word) × Tells false)
+-- the same word is answered exactly where a test is true, and else what was taken is handed back
+abbrev pub TakesWhere : {S : Type 0} → (Bool → Type 0) → (S → ℕ) → S → Result ℕ S → Type 0
+TakesWhere Tells word taken answer = MatchResult answer (λ r. (r ≡ word taken) × Tells true) (λ back. (back ≡ taken) × Tells false)
