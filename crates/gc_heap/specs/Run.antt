@@ -1,5 +1,5 @@
 -- Where a whole collection begins.
-use Rattle.std.specs.Prelude.{ℕ, List}
+use Rattle.std.specs.Prelude.{List}
 use Rattle.std.specs.Ordering.{nat_cmp}
 use Rattle.std.specs.FinMap.{FinMap}
 use Rattle.gc_types.specs.Declarations.{Declaration}

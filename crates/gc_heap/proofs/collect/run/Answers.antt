@@ -1,5 +1,5 @@
-use Rattle.std.proofs.Common.{Bool, true, ◌≡◌, refl}
-use Rattle.gc_heap.specs.Collection.{Start, has_host}
+use Rattle.std.proofs.Common.{true, refl}
+use Rattle.gc_heap.specs.Collection.{Start}
 use Rattle.gc_heap.specs.Run.{start_at}
 use Rattle.gc_heap.proofs.collect.run.Goals as goal
 

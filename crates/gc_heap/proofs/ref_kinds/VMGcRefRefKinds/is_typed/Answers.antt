@@ -1,4 +1,4 @@
-use Rattle.std.proofs.Common.{◌≡◌, Option, Some, None}
+use Rattle.std.proofs.Common.{◌≡◌, Some, None}
 use Rattle.gc_refs.specs.Header.{Header}
 use Rattle.gc_heap.proofs.ref_kinds.VMGcRefRefKinds.is_typed.Goals as goal
 
