@@ -1,5 +1,6 @@
 pub mod Access
 pub mod Barriers
+pub mod Client
 pub mod Collection
 pub mod Content
 pub mod Heap

@@ -2,6 +2,7 @@
 #![tactic(auto)]
 
 pub mod access;
+pub mod client;
 pub mod collect;
 pub mod collection;
 pub mod heap;
