@@ -1,1 +1,4 @@
 pub mod AccessLemmas
+pub mod ClientLemmas
+pub mod KindLemmas
+pub mod NumberLemmas

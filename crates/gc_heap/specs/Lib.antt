@@ -1,8 +1,11 @@
 pub mod Access
 pub mod Barriers
+pub mod Client
 pub mod Collection
 pub mod Content
 pub mod Heap
+pub mod Kinds
 pub mod Objects
 pub mod References
+pub mod Run
 pub mod Totals

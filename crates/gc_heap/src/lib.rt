@@ -2,10 +2,13 @@
 #![tactic(auto)]
 
 pub mod access;
+pub mod client;
+pub mod collect;
 pub mod collection;
 pub mod heap;
+pub mod ref_kinds;
 
 pub use collection::{GcProgress, GcStoreTraceState};
+pub use gc_memory::HeapMemory;
 pub use gc_refs::RefFault;
 pub use heap::{GcHeap, HeapFault, HeapKind};
-pub use gc_memory::HeapMemory;

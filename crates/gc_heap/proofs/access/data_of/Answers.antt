@@ -1,6 +1,4 @@
-use Rattle.std.proofs.Common.{ℕ, ◌≡◌, Result, Ok, Err, IsOk, IsOkAnd, Some, refl, subst}
-use Rattle.std.specs.FinMap as finite
-use Rattle.gc_model.specs.Views.{HeapObject}
+use Rattle.std.proofs.Common.{Result, Ok, Err, IsOk, IsOkAnd, refl, subst}
 use Rattle.gc_heap.specs.Objects.{IsObjectData}
 use Rattle.gc_heap.proofs.access.data_of.Goals as goal
 

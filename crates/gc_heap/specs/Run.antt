@@ -1,0 +1,12 @@
+-- Where a whole collection begins.
+use Rattle.std.specs.Prelude.{List}
+use Rattle.std.specs.Ordering.{nat_cmp}
+use Rattle.std.specs.FinMap.{FinMap}
+use Rattle.gc_types.specs.Declarations.{Declaration}
+use Rattle.gc_roots.specs.Roots.{Root}
+use Rattle.gc_model.specs.Views.{HeapView}
+use Rattle.gc_heap.specs.Collection.{Start, has_host}
+
+-- the start with this heap, these roots and types, and the ids that this host table has
+abbrev pub start_at : {D : Type 0} → HeapView → List Root → List Declaration → FinMap nat_cmp D → Start
+start_at h roots types entries = record { heap = h; roots = roots; types = types; hosts = has_host entries }
