@@ -2,5 +2,10 @@ pub mod Barriers
 pub mod Collection
 pub mod Content
 pub mod Heap
+pub mod NullLaws
+pub mod NullStates
+pub mod NullWalk
+pub mod NullWalkLaws
 pub mod Objects
 pub mod References
+pub mod Totals

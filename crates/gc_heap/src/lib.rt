@@ -4,8 +4,10 @@
 pub mod collection;
 pub mod heap;
 pub mod memory;
+pub mod null;
 
 pub use collection::{GcProgress, GcStoreTraceState};
 pub use gc_refs::RefFault;
 pub use heap::{GcHeap, HeapFault, HeapKind};
 pub use memory::HeapMemory;
+pub use null::{NullCollection, NullCollector, NullHeap};

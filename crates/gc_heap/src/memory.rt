@@ -1,6 +1,6 @@
 //! The memory of a heap.
 
-ghost use Rattle.std.specs.Prelude.{◌≡◌, ◌+◌, ◌*◌, ◌/◌, ◌≤◌, ◌<◌, ◌^◌, length, IfOk, OnErr, replicate};
+ghost use Rattle.std.specs.Prelude.{◌≡◌, ◌+◌, ◌*◌, ◌/◌, ◌≤◌, ◌<◌, ◌^◌, length, take, drop, IfOk, OnErr, replicate};
 ghost use Rattle.gc_model.specs.Allocation.{page, max_pages};
 ghost use Rattle.gc_model.specs.Views.{u32_at, put_u32};
 ghost use Rattle.gc_model.specs.Bytes.{put_bytes};
@@ -98,5 +98,21 @@ impl HeapMemory {
         ensures { self.new ≡ put_bytes self.old at (replicate count 0) }
     {
         self.bytes[at..at + count].fill(0);
+    }
+
+    /// Lends `count` bytes from an offset on.
+    pub fn slice(&self, at: usize, count: usize) -> &[u8]
+        requires { at + count ≤ length self.now }
+        ensures { result.now ≡ take count (drop at self.now) }
+    {
+        &self.bytes[at..at + count]
+    }
+
+    /// Writes these bytes at an offset.
+    pub fn write_bytes(&mut self, at: usize, bytes: &[u8])
+        requires { at + length bytes.now ≤ length self.old }
+        ensures { self.new ≡ put_bytes self.old at bytes.now }
+    {
+        self.bytes[at..at + bytes.len()].copy_from_slice(bytes);
     }
 }

@@ -1,0 +1,4 @@
+pub mod NullWalkLemmas
+pub mod NullMemoryLemmas
+pub mod NullHeapLemmas
+pub mod NullStepLemmas
