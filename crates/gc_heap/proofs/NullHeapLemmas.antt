@@ -24,7 +24,7 @@ use Rattle.gc_model.proofs.ByteLemmas.{u32_at-part}
 use Rattle.gc_heap.specs.Objects.{held_size, size_with, first_offset, data_offset, external, IsHeaderOf, IsObjectData}
 use Rattle.gc_heap.specs.Heap.{grown, put_object, with_data, IsWritable}
 use Rattle.gc_heap.specs.Barriers.{cloned, dropped, exposed, copied, emptied, overwritten, raise, lower, show}
-use Rattle.gc_heap.specs.NullWalk.{first_place, size_at, object_at, IsHost, LiesAt, placed, header_in, CanBegin, HasObject}
+use Rattle.gc_heap.specs.NullWalk.{first_place, size_at, object_at, IsHost, LiesAt, placed, header_in, CanBegin, HasObject, HasFirstWord}
 use Rattle.gc_heap.specs.NullWalkLaws.{least, object_bytes, object_ty, size_word, length-object, held_is, len_entries, LiesAmong}
 use Rattle.gc_heap.specs.NullStates.{bump_view, view_of, null_seen, HasMemory, IsBumped, IsNullSound, IsNullTaken}
 use Rattle.gc_heap.specs.NullLaws.{data_begins, nothing_in_detached, null_is_heap}
@@ -126,11 +126,16 @@ first_word_is bytes q object l least_size =
       sym (ap (λ bs. u32_at bs 0) object_is ∙ u32_at-part bytes (q + 8) (size_at bytes q - 8) 0 (omega arith) (omega arith) ∙ ap (u32_at bytes) (let e : q + 8 + 0 ≡ q + 8 = omega arith in e)),
     )
 
-pub word_reads : (bytes : List ℕ) (q : ℕ) (object : HeapObject) (result : Result ℕ RefFault) → Lies bytes q object → 12 ≤ held_size Null object
-    → MatchResult result (λ word. (q % 16 ≡ 0) × (q + 12 ≤ length bytes) × (word ≡ u32_at bytes (q + 8))) (λ _. (q % 16 ≡ 0) × (q + 12 ≤ length bytes) → ⊥)
+pub word_reads : (bytes : List ℕ) (q : ℕ) (kind : VMGcKind) (object : HeapObject) (result : Result ℕ RefFault) → Lies bytes q object → object.kind ≡ kind → 12 ≤ held_size Null object
+    → MatchResult result (λ word. HasFirstWord bytes q kind × (word ≡ u32_at bytes (q + 8))) (λ _. HasFirstWord bytes q kind → ⊥)
     → IsOkAnd result (λ word. word ≡ u32_at object.bytes 0)
-word_reads bytes q object (Ok word) l least_size read = read.2 ∙ (first_word_is bytes q object l least_size).1
-word_reads bytes q object (Err fault) l least_size read = absurd (read (l.aligned, (first_word_is bytes q object l least_size).0))
+word_reads bytes q kind object (Ok word) l is_kind least_size read = read.1 ∙ (first_word_is bytes q object l least_size).1
+word_reads bytes q kind object (Err fault) l is_kind least_size read =
+    absurd (read (record {
+      begins = begins bytes q object l;
+      is_kind = ap kind_bits (sym is_kind ∙ ap (λ (o : HeapObject). o.kind) l.is) ∙ sym l.lies.kind;
+      inside = omega (arith, (first_word_is bytes q object l least_size).0);
+    }))
 
 -- a null heap tells no counts, so barriers leave it as it is
 no_counts_in : (m : Option (List ℕ)) (next objects scopes : ℕ) → (view_of m next objects scopes).counts ≡ no_counts

@@ -115,3 +115,9 @@ pub record CanBegin (bytes : List ℕ) (place : ℕ) : Type 0 where
 pub record HasObject (bytes : List ℕ) (place : ℕ) : Type 0 where
   pub begins : CanBegin bytes place
   pub inside : place + u32_at bytes place % spare_bits ≤ length bytes
+
+-- an object of that kind may begin there, and the first word of its data lies in the memory
+pub record HasFirstWord (bytes : List ℕ) (place : ℕ) (kind : VMGcKind) : Type 0 where
+  pub begins : CanBegin bytes place
+  pub is_kind : IsOfKind kind (u32_at bytes place)
+  pub inside : place + header_size + 4 ≤ length bytes

@@ -233,7 +233,7 @@ impl GcHeap for NullHeap {
     fn dealloc_uninit_array(&mut self, _array: VMArrayRef) {}
 
     fn externref_host_data(&self, r: &VMExternRef) -> Result<ExternRefHostDataId, RefFault> {
-        match self.first_word(r.as_gc_ref()) {
+        match self.first_word(r.as_gc_ref(), VMGcKind::ExternRef) {
             Ok(number) => ExternRefHostDataId::from_raw(number).ok_or(RefFault::BadRef),
             Err(fault) => Err(fault),
         }
@@ -266,7 +266,7 @@ impl GcHeap for NullHeap {
     }
 
     fn array_len(&self, r: &VMArrayRef) -> Result<u32, RefFault> {
-        self.first_word(r.as_gc_ref())
+        self.first_word(r.as_gc_ref(), VMGcKind::ArrayRef)
     }
 
     fn gc_object_data(&self, r: &VMGcRef) -> Result<VMGcObjectData<'_>, RefFault> {

@@ -6,12 +6,13 @@ ghost use Rattle.gc_types.specs.declared.kind.Layouts.TheVariants.{Null};
 ghost use Rattle.gc_refs.specs.Header.{spare_bits};
 ghost use Rattle.gc_model.specs.Views.{HeapObject, u32_at};
 ghost use Rattle.gc_heap.specs.Objects.{held_size, IsHeaderOf, IsObjectData};
-ghost use Rattle.gc_heap.specs.NullWalk.{header_in, CanBegin, HasObject};
+ghost use Rattle.gc_heap.specs.NullWalk.{header_in, CanBegin, HasObject, HasFirstWord};
 ghost use Rattle.gc_heap.specs.NullStates.{null_seen, IsNullSound};
 
 use super::{ALIGNMENT, HEADER_SIZE, NullHeap, WORD};
 use crate::memory::HeapMemory;
 use gc_refs::{RefFault, VMGcHeader, VMGcRef};
+use gc_types::VMGcKind;
 
 /// The header at a place. `BadRef` exactly where no object can begin: the place is no multiple of 16,
 /// or the memory ends before a header does.
@@ -47,17 +48,21 @@ fn read_object(memory: &HeapMemory, place: u32) -> Result<&[u8], RefFault>
     }
 }
 
-/// The first word of the data at a place. `BadRef` exactly where it isn't in the memory, or no object
-/// can begin.
-fn read_first_word(memory: &HeapMemory, place: u32) -> Result<u32, RefFault>
-    ensures { MatchResult result (λ word. (place % 16 ≡ 0) × (place + 12 ≤ length memory.now) × (word ≡ u32_at memory.now (place + 8))) (λ _. (place % 16 ≡ 0) × (place + 12 ≤ length memory.now) → ⊥) }
+/// The first word of the data of an object of that kind at a place. `BadRef` exactly where it isn't
+/// in the memory, no object can begin, or its header is of another kind.
+fn read_first_word(memory: &HeapMemory, place: u32, kind: VMGcKind) -> Result<u32, RefFault>
+    ensures { MatchResult result (λ word. HasFirstWord memory.now place kind × (word ≡ u32_at memory.now (place + 8))) (λ _. HasFirstWord memory.now place kind → ⊥) }
 {
-    let from = u64::from(place);
-    let end = from + u64::from(HEADER_SIZE + WORD);
-    if from % ALIGNMENT != 0 || end > u64::from(memory.capacity()) {
-        return Err(RefFault::BadRef);
+    match read_header(memory, place) {
+        Ok(header) => {
+            let end = u64::from(place) + u64::from(HEADER_SIZE + WORD);
+            if header.kind() != Some(kind) || end > u64::from(memory.capacity()) {
+                return Err(RefFault::BadRef);
+            }
+            Ok(memory.read_u32(place as usize + HEADER_SIZE as usize))
+        }
+        Err(fault) => Err(fault),
     }
-    Ok(memory.read_u32(place as usize + HEADER_SIZE as usize))
 }
 
 impl NullHeap {
@@ -85,15 +90,15 @@ impl NullHeap {
         }
     }
 
-    /// The first word of the data of an object that has one; `BadRef` only where no such object is
-    /// held.
-    pub(super) fn first_word(&self, r: &VMGcRef) -> Result<u32, RefFault>
+    /// The first word of the data of an object of that kind, which has one; `BadRef` only where no
+    /// object of the kind is held.
+    pub(super) fn first_word(&self, r: &VMGcRef, kind: VMGcKind) -> Result<u32, RefFault>
         requires { IsNullSound self.now }
-        ensures held { (object : HeapObject) → finite.get (null_seen self.now).content r.now ≡ Some object → 12 ≤ held_size Null object → IsOkAnd result (λ word. word ≡ u32_at object.bytes 0) }
+        ensures held { (object : HeapObject) → finite.get (null_seen self.now).content r.now ≡ Some object → object.kind ≡ kind → 12 ≤ held_size Null object → IsOkAnd result (λ word. word ≡ u32_at object.bytes 0) }
         ensures number { r.now % 2 ≡ 1 → IsErr result }
     {
         match &self.memory {
-            Some(memory) => read_first_word(memory, r.as_raw_u32()),
+            Some(memory) => read_first_word(memory, r.as_raw_u32(), kind),
             None => Err(RefFault::BadRef),
         }
     }

@@ -8,4 +8,4 @@ pub returns-clause-held : goal.returns-clause-held
 returns-clause-held c = λ object held kind.
     let h = c.args.self.now in
     c.first_word.ensures.held object (subst (λ (q : ℕ). finite.get (null_seen h).content q ≡ Some object) (sym c.as_gc_ref.ensures) held)
-    (array_size_least h c.args.r.now object c.requires held kind)
+    kind (array_size_least h c.args.r.now object c.requires held kind)
