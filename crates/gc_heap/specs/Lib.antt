@@ -5,6 +5,10 @@ pub mod Collection
 pub mod Content
 pub mod Heap
 pub mod Kinds
+pub mod NullLaws
+pub mod NullStates
+pub mod NullWalk
+pub mod NullWalkLaws
 pub mod Objects
 pub mod References
 pub mod Run

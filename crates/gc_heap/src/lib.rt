@@ -1,4 +1,10 @@
 //! The interface of a heap, and the null heap.
+//!
+//! A store asks its heap for memory, objects and bytes by the trait `GcHeap` and knows nothing of
+//! how a heap keeps them: contracts speak of the heap's content, a finite map from places to objects
+//! (`HeapView` of `gc_model`). What serves every heap is here too: typed reads and writes (`access`),
+//! collections run to their end (`collect`), and what a word's object is (`ref_kinds`). The null
+//! heap is the simplest heap: its objects follow each other, and it never frees.
 #![tactic(auto)]
 
 pub mod access;
@@ -6,9 +12,12 @@ pub mod client;
 pub mod collect;
 pub mod collection;
 pub mod heap;
+pub mod null;
 pub mod ref_kinds;
 
 pub use collection::{GcProgress, GcStoreTraceState};
 pub use gc_memory::HeapMemory;
 pub use gc_refs::RefFault;
 pub use heap::{GcHeap, HeapFault, HeapKind};
+pub use null::{NullCollection, NullCollector, NullHeap};
+pub use ref_kinds::RefKinds;

@@ -1,0 +1,328 @@
+//! The null heap: it allocates until its memory is full, and never frees.
+//!
+//! ```text
+//! place   0        16                  32                    next
+//!         +--------+------+------+-----+------+------+-------+---------
+//!         | unused | kind | type | ... | kind | type | data  | free
+//!         +--------+------+------+-----+------+------+-------+---------
+//! ```
+//!
+//! Every object begins at a multiple of 16 with its kind word, whose 26 spare bits are its size in
+//! bytes, and its type word; its data begins behind these 8 bytes, with the length of an array and
+//! the number of an external object's host id first. Nothing of the memory is read to allocate, and
+//! no call walks over the objects.
+
+ghost use Rattle.std.specs.Prelude.{◌≡◌};
+ghost use Rattle.gc_model.specs.Views.{detached_in};
+ghost use Rattle.gc_heap.specs.NullStates.{null_seen, IsNullSound};
+
+mod place;
+mod read;
+
+use crate::collection::{GcProgress, GcStoreTraceState};
+use crate::heap::{GcHeap, HeapFault, HeapKind};
+use gc_memory::HeapMemory;
+use gc_steps::Steps;
+use gc_refs::{RefFault, VMArrayRef, VMExternRef, VMGcHeader, VMGcObjectData, VMGcRef};
+use gc_roots::GcRootsList;
+use gc_tables::ExternRefHostDataId;
+use gc_types::{GcArrayLayout, GcStructLayout, Layouts, VMGcKind, VMSharedTypeIndex};
+use std::alloc::Global;
+use std::ops::Range;
+use std::sync::ledger::Ledger;
+
+/// Every object begins at a multiple of this many bytes.
+const ALIGNMENT: u64 = 16;
+
+/// Bytes of a header. The data of an object begins there.
+const HEADER_SIZE: u32 = 8;
+
+/// Bytes of a word.
+const WORD: u32 = 4;
+
+/// Bytes of an external object.
+const EXTERN_SIZE: u32 = 12;
+
+/// Where the last object of an empty heap ends.
+const START: u32 = 1;
+
+/// The null collector, which never collects.
+pub struct NullCollector;
+
+impl NullCollector {
+    /// The layout of the objects of a null heap.
+    pub fn layouts() -> Layouts
+        ensures { result ≡ Layouts.Null }
+    {
+        Layouts::Null
+    }
+}
+
+/// A collection of a null heap, which keeps every object. Its one increment does nothing.
+#[derive(Drop)]
+pub struct NullCollection;
+
+/// A heap that never frees.
+#[derive(Drop)]
+pub struct NullHeap {
+    memory: Option<HeapMemory>,
+    /// Where the last object ends.
+    next: u32,
+    /// How many objects there are.
+    objects: u64,
+    /// How many scopes stand in which no collection may begin.
+    scopes: u64,
+}
+
+impl NullHeap {
+    /// A heap with no memory. It takes none until one is attached.
+    pub fn new(_alloc: Global) -> NullHeap
+        ensures sound { IsNullSound result }
+        ensures seen { null_seen result ≡ detached_in 0 }
+    {
+        NullHeap {
+            memory: None,
+            next: START,
+            objects: 0,
+            scopes: 0,
+        }
+    }
+}
+
+impl GcHeap for NullHeap {
+    ghost use Rattle.std.specs.Prelude.{ℕ};
+    ghost use Rattle.gc_types.specs.declared.kind.Layouts.TheVariants.{Null};
+    ghost use Rattle.gc_heap.specs.NullStates.{null_seen, IsNullSound, IsNullTaken, IsNullUnderWay};
+    ghost use Rattle.gc_heap.specs.NullLaws.{null_is_heap, null_starts};
+
+    type State = NullCollection;
+
+    ghost seen = { null_seen };
+
+    ghost sound = { IsNullSound };
+
+    ghost taken = { IsNullTaken };
+
+    ghost begun = { λ _. Unit {0} };
+
+    ghost ticks = { λ _. 0 };
+
+    ghost under_way = { λ s n _ heap _ roots types hosts. IsNullUnderWay s n heap roots types hosts };
+
+    ghost left = { λ _ _. 0 };
+
+    ghost KIND = { Null };
+
+    ghost is_heap = { null_is_heap };
+
+    ghost starts = { λ s heap _ sound _ seen can. null_starts s heap sound seen can };
+
+    const KIND: HeapKind = Layouts::Null;
+
+    fn is_attached(&self) -> bool {
+        self.memory.is_some()
+    }
+
+    fn attach(&mut self, memory: HeapMemory) -> Result<(), HeapMemory> {
+        let _pages = memory.pages();
+        self.memory = Some(memory);
+        self.next = START;
+        self.objects = 0;
+        Ok(())
+    }
+
+    fn detach(&mut self) -> HeapMemory {
+        match self.memory.take() {
+            Some(memory) => {
+                self.next = START;
+                self.objects = 0;
+                self.scopes = 0;
+                memory
+            }
+            None => unreachable!(),
+        }
+    }
+
+    fn take_memory(&mut self) -> HeapMemory {
+        match self.memory.take() {
+            Some(memory) => memory,
+            None => unreachable!(),
+        }
+    }
+
+    fn replace_memory(&mut self, memory: HeapMemory, _delta_bytes_grown: u64) {
+        let _pages = memory.pages();
+        self.memory = Some(memory);
+    }
+
+    fn enter_no_gc_scope(&mut self) {
+        self.scopes += 1;
+    }
+
+    fn exit_no_gc_scope(&mut self) {
+        self.scopes -= 1;
+    }
+
+    fn clone_gc_ref(&mut self, gc_ref: &VMGcRef) -> VMGcRef {
+        gc_ref.unchecked_copy()
+    }
+
+    fn drop_gc_ref(&mut self, _gc_ref: VMGcRef) {}
+
+    fn write_gc_ref(&mut self, destination: &mut Option<VMGcRef>, source: Option<&VMGcRef>) {
+        *destination = match source {
+            Some(word) => Some(word.unchecked_copy()),
+            None => None,
+        };
+    }
+
+    fn expose_gc_ref_to_wasm(&mut self, _gc_ref: VMGcRef) {}
+
+    fn alloc_raw(
+        &mut self,
+        header: VMGcHeader,
+        size: u32,
+    ) -> Result<Result<VMGcRef, u64>, HeapFault> {
+        self.allocate(header, size, None)
+    }
+
+    fn alloc_externref(
+        &mut self,
+        host_data: ExternRefHostDataId,
+    ) -> Result<Result<VMExternRef, u64>, HeapFault> {
+        let number = host_data.into_raw();
+        match self.allocate(VMGcHeader::externref(), EXTERN_SIZE, Some(number)) {
+            Ok(Ok(gc_ref)) => Ok(Ok(VMExternRef::new_unchecked(gc_ref))),
+            Ok(Err(need)) => Ok(Err(need)),
+            Err(fault) => Err(fault),
+        }
+    }
+
+    fn alloc_uninit_struct_or_exn(
+        &mut self,
+        ty: VMSharedTypeIndex,
+        layout: &GcStructLayout,
+    ) -> Result<Result<VMGcRef, u64>, HeapFault> {
+        let kind = if layout.is_exception {
+            VMGcKind::ExnRef
+        } else {
+            VMGcKind::StructRef
+        };
+        self.allocate(VMGcHeader::from_kind_and_index(kind, ty), layout.size, None)
+    }
+
+    fn alloc_uninit_array(
+        &mut self,
+        ty: VMSharedTypeIndex,
+        length: u32,
+        layout: &GcArrayLayout,
+    ) -> Result<Result<VMArrayRef, u64>, HeapFault> {
+        let Some(size) = layout.size(length) else {
+            return Err(HeapFault::TooLarge);
+        };
+        let header = VMGcHeader::from_kind_and_index(VMGcKind::ArrayRef, ty);
+        match self.allocate(header, size, Some(length)) {
+            Ok(Ok(gc_ref)) => Ok(Ok(VMArrayRef::new_unchecked(gc_ref))),
+            Ok(Err(need)) => Ok(Err(need)),
+            Err(fault) => Err(fault),
+        }
+    }
+
+    fn dealloc_uninit_struct_or_exn(&mut self, _gc_ref: VMGcRef) {}
+
+    fn dealloc_uninit_array(&mut self, _array: VMArrayRef) {}
+
+    fn externref_host_data(&self, r: &VMExternRef) -> Result<ExternRefHostDataId, RefFault> {
+        match self.first_word(r.as_gc_ref(), VMGcKind::ExternRef) {
+            Ok(number) => ExternRefHostDataId::from_raw(number).ok_or(RefFault::BadRef),
+            Err(fault) => Err(fault),
+        }
+    }
+
+    fn header(&self, r: &VMGcRef) -> Result<VMGcHeader, RefFault> {
+        self.header_of(r)
+    }
+
+    fn set_header(&mut self, r: &VMGcRef, _header: VMGcHeader) -> Result<(), RefFault> {
+        match self.header_of(r) {
+            Ok(_) => Ok(()),
+            Err(fault) => Err(fault),
+        }
+    }
+
+    fn object_size(&self, r: &VMGcRef) -> Result<usize, RefFault> {
+        match self.header_of(r) {
+            Ok(header) => Ok(header.reserved_u26() as usize),
+            Err(fault) => Err(fault),
+        }
+    }
+
+    fn object_range(&self, r: &VMGcRef) -> Result<Range<usize>, RefFault> {
+        let start = r.as_raw_u32() as usize;
+        match self.object_bytes(r) {
+            Ok(bytes) => Ok(start..start + bytes.len()),
+            Err(fault) => Err(fault),
+        }
+    }
+
+    fn array_len(&self, r: &VMArrayRef) -> Result<u32, RefFault> {
+        self.first_word(r.as_gc_ref(), VMGcKind::ArrayRef)
+    }
+
+    fn gc_object_data(&self, r: &VMGcRef) -> Result<VMGcObjectData<'_>, RefFault> {
+        match self.object_bytes(r) {
+            Ok(bytes) => Ok(VMGcObjectData::from_slice(bytes)),
+            Err(fault) => Err(fault),
+        }
+    }
+
+    fn write_object_data(&mut self, r: &VMGcRef, offset: u32, bytes: &[u8]) {
+        let at = r.as_raw_u32() as usize + offset as usize;
+        match &mut self.memory {
+            Some(memory) => memory.write_bytes(at, bytes),
+            None => unreachable!(),
+        }
+    }
+
+    fn heap_slice(&self) -> &[u8] {
+        match &self.memory {
+            Some(memory) => memory.bytes(),
+            None => &[],
+        }
+    }
+
+    fn object_count(&self) -> u64 {
+        self.objects
+    }
+
+    fn allocated_bytes(&self) -> usize {
+        (self.next - START) as usize
+    }
+
+    fn needs_gc_before_next_growth(&self) -> bool {
+        false
+    }
+
+    fn begin(&self) -> NullCollection {
+        NullCollection
+    }
+
+    fn step<D: Drop>(
+        &mut self,
+        _state: &mut NullCollection,
+        _roots: &mut GcRootsList,
+        _trace: &mut GcStoreTraceState<'_, D>,
+    ) -> GcProgress {
+        GcProgress::Complete
+    }
+
+    fn step_counted<D: Drop, G: Ledger>(
+        &mut self,
+        _state: &mut NullCollection,
+        _roots: &mut GcRootsList,
+        _trace: &mut GcStoreTraceState<'_, D>,
+        _steps: &mut Steps<G>,
+    ) -> GcProgress {
+        GcProgress::Complete
+    }
+}
