@@ -1,5 +1,5 @@
 -- A null heap with no memory holds nothing; with one, what is read there is what is held.
-use Rattle.std.proofs.Common.{◌≡◌, ◌↔◌, ◌⊎◌, inl, inr, IfSome, IsNone, ℕ, ◌+◌, ◌-◌, ◌*◌, ◌/◌, ◌%◌, ◌<◌, ◌≤◌, ◌^◌, ◌++◌, true, List, [], take, drop, length, replicate, Option, Some, None, Result, Ok, Err, MatchResult, IsOkAnd, Bor, refl, sym, ap, subst, ◌∙◌, arith}
+use Rattle.std.proofs.Common.{◌≡◌, ◌↔◌, ◌⊎◌, inl, inr, IfSome, IsNone, ℕ, ◌+◌, ◌-◌, ◌*◌, ◌%◌, ◌<◌, ◌≤◌, ◌^◌, ◌++◌, List, [], take, drop, length, replicate, Option, Some, None, Result, Ok, Err, MatchResult, IsOkAnd, Bor, refl, sym, ap, subst, ◌∙◌, arith}
 use Rattle.std.specs.Ordering.{nat_cmp}
 use Rattle.std.specs.FinMap as map
 use Rattle.std.specs.Result.{result_ok}
@@ -8,18 +8,18 @@ use Rattle.std.specs.Int.{w32, to_le_bytes}
 use Rattle.std.proofs.lemmas.Cmp.{nat_cmp_total}
 use Rattle.std.proofs.lemmas.Nat.{from_le_bytes-to_le_bytes_4}
 use Rattle.std.proofs.lemmas.Grind.{common_steps}
-use Rattle.std.proofs.lemmas.List.{append-nil, length-replicate, length-take, length-take-le, length-drop, drop-take, drop-drop, take-take}
+use Rattle.std.proofs.lemmas.List.{append-nil, length-replicate, length-take-le, length-drop, drop-take, drop-drop, take-take}
 use Rattle.gc_types.specs.declared.kind.Layouts.TheVariants.{Null}
 use Rattle.gc_types.specs.declared.kind.VMGcKind.{VMGcKind}
-use Rattle.gc_types.specs.declared.kind.VMGcKind.TheVariants.{ExternRef, AnyRef, EqRef, StructRef, ArrayRef, ExnRef}
+use Rattle.gc_types.specs.declared.kind.VMGcKind.TheVariants.{ExternRef, ArrayRef}
 use Rattle.gc_types.specs.Kinds.{kind_bits}
 use Rattle.gc_types.specs.Layouts.{round_up}
-use Rattle.gc_refs.specs.Header.{Header, spare_bits, kind_part}
+use Rattle.gc_refs.specs.Header.{Header, spare_bits}
 use Rattle.gc_refs.specs.declared.fault.RefFault.{RefFault}
 use Rattle.gc_model.specs.Sizes.{alignment}
 use Rattle.gc_model.specs.Allocation.{page, max_pages}
 use Rattle.gc_model.specs.Bytes.{put_bytes}
-use Rattle.gc_model.specs.Views.{HeapObject, HeapView, Counts, no_counts, u32_at}
+use Rattle.gc_model.specs.Views.{Counts, no_counts, HeapObject, HeapView, Counts, no_counts, u32_at}
 use Rattle.gc_model.proofs.ByteLemmas.{u32_at-part}
 use Rattle.gc_heap.specs.Objects.{held_size, size_with, first_offset, data_offset, external, IsHeaderOf, IsObjectData}
 use Rattle.gc_heap.specs.Heap.{grown, put_object, with_data, IsWritable}
@@ -34,6 +34,16 @@ use Rattle.gc_heap.proofs.NullMemoryLemmas.{held_lies, written_inside, write_dat
 pub nothing_held : (h : NullHeap) (q : ℕ) (object : HeapObject) → h.memory ≡ None → map.get (null_seen h).content q ≡ Some object → ⊥
 nothing_held h q object is held =
     nothing_in_detached q object (subst (λ (m : Option (List ℕ)). map.get (view_of m h.next h.objects h.scopes).content q ≡ Some object) is held)
+
+-- a null heap counts nothing
+counted_of : (memory : Option (List ℕ)) (next objects scopes : ℕ) → (view_of memory next objects scopes).counts ≡ no_counts
+counted_of None next objects scopes = refl
+counted_of (Some bytes) next objects scopes = refl
+
+pub nothing_counted : (h : NullHeap) (q n : ℕ) → map.get (null_seen h).counts.counted q ≡ Some n → ⊥
+nothing_counted h q n counted =
+    let none : map.get (null_seen h).counts.counted q ≡ None = ap (λ (c : Counts). map.get c.counted q) (counted_of h.memory h.next h.objects h.scopes) ∙ map.get-empty nat_cmp q in
+    cc
 
 -- a heap with a memory is seen as that memory is
 pub seen_in : (h : NullHeap) (bytes : List ℕ) → h.memory ≡ Some bytes → null_seen h ≡ bump_view bytes h.next h.objects h.scopes
@@ -107,6 +117,7 @@ data_is bytes q object l =
     record {
       size = length-take-le n (drop q bytes) (omega (arith, length-drop q bytes));
       header = subst (IsHeaderOf Null object) (λ i. record { kind_word = (sym first) i; type_word = (sym second) i }) (header_is bytes q object l);
+      size_word = tt;
       data_is = ap (λ k. take (length object.bytes) (drop k part)) (data_begins object.kind)
           ∙ ap (λ k. take (length object.bytes) (drop 8 (take k (drop q bytes)))) (sym whole)
           ∙ ap (take (length object.bytes)) (drop-take 8 (n - 8) (drop q bytes) ∙ ap (take (n - 8)) (drop-drop 8 q bytes))
@@ -189,10 +200,10 @@ pub record Replaces (h : NullHeap) (view : HeapView) (memory : List ℕ) (delta 
   pub seen : bump_view memory h.next h.objects h.scopes ≡ grown Null view delta
 
 pub replaces : (h : NullHeap) (view : HeapView) (bytes memory : List ℕ) (delta : ℕ) → IsNullTaken h view bytes → memory ≡ bytes ++ replicate delta 0
-    → length memory ≤ page * max_pages → Replaces h view memory delta
-replaces h view bytes memory delta taken is bound =
+    → length memory % page ≡ 0 → length memory ≤ page * max_pages → Replaces h view memory delta
+replaces h view bytes memory delta taken is whole bound =
     let more : List ℕ = replicate delta 0 in
-    let g = grows bytes more h.next h.objects taken.bumped (subst (λ (m : List ℕ). length m ≤ page * max_pages) is bound) in
+    let g = grows bytes more h.next h.objects taken.bumped (subst (λ (m : List ℕ). length m % page ≡ 0) is whole) (subst (λ (m : List ℕ). length m ≤ page * max_pages) is bound) in
     record {
       sound = record {
         memory = subst (λ (m : List ℕ). IsBumped m h.next h.objects) (sym is) g.bumped;

@@ -1,5 +1,5 @@
 -- What an allocation, a write and a growth do to what is seen of a memory.
-use Rattle.std.proofs.Common.{◌≡◌, ℕ, zero, suc, ◌+◌, ◌-◌, ◌*◌, ◌/◌, ◌%◌, ◌<◌, ◌≤◌, ◌^◌, true, false, cond, List, [], ◌∷◌, ◌++◌, length, take, drop, replicate, Option, Some, None, refl, sym, ap, subst, ◌∙◌, inl, inr, arith, add-one, eq-eqb}
+use Rattle.std.proofs.Common.{◌≡◌, ℕ, zero, suc, ◌+◌, ◌-◌, ◌*◌, ◌%◌, ◌<◌, ◌≤◌, ◌^◌, true, false, cond, List, [], ◌∷◌, ◌++◌, length, take, drop, replicate, Option, Some, None, refl, sym, ap, subst, ◌∙◌, inl, inr, arith, add-one, eq-eqb}
 use Rattle.std.specs.Ordering.{nat_cmp, eq_by_cmp}
 use Rattle.std.specs.Int.{w32, to_le_bytes, from_le_bytes}
 use Rattle.std.specs.FinMap as map
@@ -7,23 +7,23 @@ use Rattle.std.specs.Cmp.{unsigned_tied}
 use Rattle.std.proofs.lemmas.Cmp.{nat_cmp_total}
 use Rattle.std.proofs.lemmas.Bool.{cases_eq, ne_eqb}
 use Rattle.std.proofs.Math.Seq.{take-add}
-use Rattle.std.proofs.lemmas.List.{length-replicate, length-append, length-take, length-drop, take-append-le, drop-append-le, drop-drop}
+use Rattle.std.proofs.lemmas.List.{length-replicate, length-append, length-drop, take-append-le, drop-append-le, drop-drop}
 use Rattle.gc_types.specs.declared.kind.VMGcKind.{VMGcKind}
 use Rattle.gc_types.specs.declared.kind.VMGcKind.TheVariants.{ExternRef, AnyRef, EqRef, StructRef, ArrayRef, ExnRef}
 use Rattle.gc_types.specs.declared.kind.Layouts.TheVariants.{Null}
 use Rattle.gc_types.specs.Kinds.{kind_bits}
 use Rattle.gc_types.specs.Layouts.{round_up}
-use Rattle.gc_refs.specs.Header.{Header, spare_bits, kind_part, IsOfKind}
+use Rattle.gc_refs.specs.Header.{spare_bits, kind_part, IsOfKind}
 use Rattle.gc_model.specs.Sizes.{alignment}
 use Rattle.gc_model.specs.Allocation.{page, max_pages}
-use Rattle.gc_model.specs.Views.{HeapObject, HeapView, u32_at, put_u32}
+use Rattle.gc_model.specs.Views.{HeapObject, u32_at, put_u32}
 use Rattle.gc_model.specs.Bytes.{put_bytes, SameBytes}
-use Rattle.gc_heap.specs.Objects.{held_size, size_with, first_offset, writable_offset, IsObjectKind}
+use Rattle.gc_heap.specs.Objects.{held_size, first_offset, writable_offset, IsObjectKind}
 use Rattle.gc_heap.specs.Heap.{IsWritable, with_data, put_object, AddsObject}
-use Rattle.gc_heap.specs.NullWalk.{first_place, kind_of, size_at, object_at, place_after, entries, IsHost, LiesAt, Follow, data_with, word_end, placed, IsNew, PlacesObject}
+use Rattle.gc_heap.specs.NullWalk.{first_place, kind_of, size_at, object_at, place_after, entries, IsHost, LiesAt, Follow, data_with, word_end, placed, PlacesObject}
 use Rattle.gc_heap.specs.NullStates.{bump_view, IsBumped}
-use Rattle.gc_heap.specs.NullWalkLaws.{first_least, least, spare_is, object_bytes, length-object, held_is, held_length, LiesAmong, some_is, found_lies, find_behind}
-use Rattle.gc_model.proofs.ByteLemmas.{SameBytes-part, SameBytes-then, u32_in_same, part_in_same, length-put_bytes, put_bytes-below, put_bytes-above, part-put_bytes, part-put_bytes_inside, u32_at-part, u32_at-put_u32}
+use Rattle.gc_heap.specs.NullWalkLaws.{first_least, least, spare_is, object_bytes, length-object, held_is, LiesAmong, some_is, found_lies, find_behind}
+use Rattle.gc_model.proofs.ByteLemmas.{SameBytes-part, SameBytes-then, u32_in_same, part_in_same, length-put_bytes, put_bytes-below, put_bytes-above, part-put_bytes, part-put_bytes_inside, u32_at-put_u32}
 use Rattle.gc_heap.proofs.NullWalkLemmas.{size_in_same, kind_in_same, ty_in_same, same_object, lies_in_header, follow_in_same, follow_push, rewritten}
 
 -- what is held lies in the memory
@@ -151,6 +151,7 @@ write_data bytes next n scopes q o ws object s r held =
       bumped = record {
         begun = s.begun;
         within = subst (λ k. next ≤ k + 1) (sym front.same_length) s.within;
+        pages = subst (λ k. k % page ≡ 0) (sym front.same_length) s.pages;
         bound = subst (λ k. k ≤ page * max_pages) (sym front.same_length) s.bound;
         follow = changed.follow;
         ends = ends_written bytes b next n q e s l.lies lies (size_in_same bytes b q header) object l.is found changed.found;
@@ -273,6 +274,7 @@ pub adds_object : (before after : List ℕ) (next n place : ℕ) (object : HeapO
     → size < spare_bits → place + size ≤ length before → PlacesObject before after place object size → Adds before after next n place object size
 adds_object before after next n place object size s place_is small fits w =
     let begun : 0 < next = s.begun in
+    let from_allocated : next ≡ next - 1 + 1 = omega arith in
     let es : List (ℕ × HeapObject) = entries n before first_place in
     let old : map.FinMap nat_cmp HeapObject = map.from_entries es in
     let follow : Follow n before first_place place = subst (Follow n before first_place) (sym place_is) s.follow in
@@ -291,6 +293,7 @@ adds_object before after next n place object size s place_is small fits w =
       bumped = record {
         begun = omega arith;
         within = omega (arith, w.below.same_length);
+        pages = subst (λ k. k % page ≡ 0) (sym w.below.same_length) s.pages;
         bound = subst (λ k. k ≤ page * max_pages) (sym w.below.same_length) s.bound;
         follow = subst (Follow (n + 1) after first_place) end_is (subst (λ k. Follow k after first_place (place_after after place)) (sym (add-one n)) pushed.0);
         ends = λ r x found.
@@ -306,6 +309,7 @@ adds_object before after next n place object size s place_is small fits w =
           not_null = omega arith;
           free = map.get-from_entries nat_cmp_total es place ∙ missing;
         };
+        lies = place_is ∙ ap (λ k. round_up k alignment) from_allocated;
         added = same_view _ _ _ _ _ _ scopes content_is w.below.same_length (omega arith);
       };
     }
@@ -379,14 +383,15 @@ pub record Grows (bytes more : List ℕ) (next n : ℕ) : Type 0 where
   pub bumped : IsBumped (bytes ++ more) next n
   pub view : (scopes : ℕ) → bump_view (bytes ++ more) next n scopes ≡ record (bump_view bytes next n scopes) { capacity = length bytes + length more }
 
-pub grows : (bytes more : List ℕ) (next n : ℕ) → IsBumped bytes next n → length (bytes ++ more) ≤ page * max_pages → Grows bytes more next n
-grows bytes more next n s bound =
+pub grows : (bytes more : List ℕ) (next n : ℕ) → IsBumped bytes next n → length (bytes ++ more) % page ≡ 0 → length (bytes ++ more) ≤ page * max_pages → Grows bytes more next n
+grows bytes more next n s whole bound =
     let e : ℕ = round_up next alignment in
     let grown = follow_grown n bytes more first_place e s.follow in
     record {
       bumped = record {
         begun = s.begun;
         within = omega (arith, s.within, length-append bytes more);
+        pages = whole;
         bound = bound;
         follow = grown.0;
         ends = λ r x found. s.ends r x (subst (λ (es : List (ℕ × HeapObject)). map.find nat_cmp r es ≡ Some x) grown.1 found);

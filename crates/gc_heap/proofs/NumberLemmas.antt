@@ -20,7 +20,8 @@ use Rattle.gc_roots.specs.Roots.{Root, root, root_at}
 use Rattle.gc_model.specs.Views.{HeapObject, HeapView}
 use Rattle.gc_model.proofs.Content.{get-put_same}
 use Rattle.gc_model.proofs.ByteLemmas.{length-put_bytes, part-put_bytes}
-use Rattle.gc_heap.specs.Objects.{held_size, size_with, stored_size, writable_offset, HasFields}
+use Rattle.gc_model.specs.Sizes.{stored_size}
+use Rattle.gc_heap.specs.Objects.{held_size, size_with, writable_offset, HasFields}
 use Rattle.gc_heap.specs.References.{struct_spare}
 use Rattle.gc_heap.specs.Heap.{AddsObject, IsWritable, with_data, put_object, layout_kind, exn_or_struct, new_struct}
 use Rattle.gc_heap.specs.Collection.{Collected, IsMoved}

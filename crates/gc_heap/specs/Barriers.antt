@@ -1,8 +1,12 @@
 -- What barriers do. Only a heap that counts references tells counts; in the others they do nothing.
-use Rattle.std.specs.Prelude.{◌≡◌, ℕ, ◌+◌, ◌-◌, ◌<◌, ◌%◌, ◌⊎◌, ◌==◌, ◌&&◌, not, if◌then◌else◌, Bool, Option, Some, None}
+use Rattle.std.specs.Prelude.{◌≡◌, ℕ, ◌+◌, ◌-◌, ◌*◌, ◌<◌, ◌%◌, List, ◌⊎◌, ◌==◌, ◌&&◌, not, if◌then◌else◌, Bool, Option, Some, None}
 use Rattle.std.specs.FinMap as finite
 use Rattle.std.specs.FinSet as finset
-use Rattle.gc_model.specs.Views.{HeapView, Counts}
+use Rattle.std.specs.FinSet.{FinSet}
+use Rattle.std.specs.Ordering.{nat_cmp}
+use Rattle.gc_memory.specs.Words.{u64_at}
+use Rattle.gc_memory.specs.Offsets.{count_offset}
+use Rattle.gc_model.specs.Views.{HeapView, Counts, u32_at}
 use Rattle.gc_heap.specs.Content.{IsHeld}
 
 -- a word that a barrier may be given: a 31-bit number, or the place of a held object
@@ -97,3 +101,15 @@ CanNameSlot h (Some word) = CanName h word
 abbrev pub CanUnnameSlot : HeapView → Option ℕ → Type 0
 CanUnnameSlot h None = Unit {0}
 CanUnnameSlot h (Some word) = CanUnname h word
+
+-- 1 where the place is in the set, else 0
+abbrev pub one_in : FinSet nat_cmp → ℕ → ℕ
+one_in places place = if finset.contains places place then 1 else 0
+
+-- The bytes of a heap show the count of a counted place: its count word is the count, plus 1 where the
+-- object is on the list of shown words, plus 1 where it is queued, and above 0; of the heap's own three
+-- spare bits, from the lowest on, the first is clear (not marked), and the others tell these two.
+pub record ShowsCount (h : HeapView) (bytes : List ℕ) (place n : ℕ) : Type 0 where
+  pub word : u64_at bytes (place + count_offset) ≡ n + one_in h.counts.shown place + one_in h.counts.queued place
+  pub positive : 0 < n + one_in h.counts.shown place + one_in h.counts.queued place
+  pub flags : u32_at bytes place % 8 ≡ 2 * one_in h.counts.shown place + 4 * one_in h.counts.queued place

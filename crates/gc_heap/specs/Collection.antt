@@ -120,12 +120,16 @@ pub record CountsAnew (types : List Declaration) (h : HeapView) (roots : List Ro
   pub shown : (place : ℕ) → IsTrue (finset.contains h.counts.shown place) → Contains (stack_words roots) place
   pub queued : h.counts.queued ≡ finset.empty
 
--- what a collection leaves in one kind of heap alone: exact counts, or the other half active; a null
--- heap is as it was
-abbrev pub KindCollected : Layouts → Start → HeapView → List Root → Type 0
-KindCollected Null s h roots = h ≡ s.heap
-KindCollected Counting s h roots = CountsAnew s.types h roots × (h.needs_gc ≡ false)
-KindCollected Copying s h roots = h.needs_gc ≡ not s.heap.needs_gc
+-- no object has moved, and each that is kept is as it was
+abbrev pub Stays : (ℕ → Type 0) → (ℕ → ℕ) → HeapView → HeapView → Type 0
+Stays IsKept to old new = (place : ℕ) → IsKept place → (to place ≡ place) × (finite.get new.content place ≡ finite.get old.content place)
+
+-- What a collection leaves in one kind of heap alone: a null heap is as it was; in a counting heap no
+-- object moves, and counts are exact; in a copying heap the other half is active.
+abbrev pub KindCollected : Layouts → Start → (ℕ → ℕ) → HeapView → List Root → Type 0
+KindCollected Null s to h roots = (h ≡ s.heap) × Stays (Kept Null s) to s.heap h
+KindCollected Counting s to h roots = Stays (Kept Counting s) to s.heap h × (CountsAnew s.types h roots × (h.needs_gc ≡ false))
+KindCollected Copying s to h roots = h.needs_gc ≡ not s.heap.needs_gc
 
 -- A collection is complete: the objects are those that are kept, at their new places and with their
 -- references moved; the root words are moved with them; and the host table has lost the values of the
@@ -143,7 +147,7 @@ pub record Collected (layouts : Layouts) (s : Start) (h : HeapView) (roots : Lis
   pub attached : h.attached ≡ true
   pub capacity : h.capacity ≡ s.heap.capacity
   pub scopes : h.scopes ≡ 0
-  pub by_kind : KindCollected layouts s h roots
+  pub by_kind : KindCollected layouts s to h roots
 
 -- a list of the places that are reached, each once
 pub record AreReached (layouts : Layouts) (s : Start) (places : List ℕ) : Type 0 where

@@ -1,5 +1,5 @@
 -- What is always true of a heap.
-use Rattle.std.specs.Prelude.{◌≡◌, ◌↔◌, ℕ, ◌+◌, ◌*◌, ◌%◌, ◌^◌, ◌<◌, ◌≤◌, ◌==◌, if◌then◌else◌, false, Some, length, map, sum, IsTrue, IsSome}
+use Rattle.std.specs.Prelude.{◌≡◌, ◌↔◌, ℕ, ◌+◌, ◌*◌, ◌/◌, ◌%◌, ◌^◌, ◌<◌, ◌≤◌, ◌==◌, if◌then◌else◌, false, Some, length, map, sum, IsTrue, IsSome}
 use Rattle.std.specs.FinMap as finite
 use Rattle.std.specs.FinSet as finset
 use Rattle.std.specs.Ordering.{nat_cmp}
@@ -56,13 +56,19 @@ pub record LiesAtPlace (layouts : Layouts) (capacity place : ℕ) (o : HeapObjec
   pub spare : IsSpare layouts o
   pub inside : place + held_size layouts o ≤ capacity
 
+-- the bytes of each half of a copying heap: the capacity, in whole multiples of 32, is halved
+abbrev pub half_of : ℕ → ℕ
+half_of capacity = capacity / 32 * 16
+
+-- where the active half of a copying heap begins
+abbrev pub half_start : HeapView → ℕ
+half_start h = if h.needs_gc then half_of h.capacity else 0
+
 -- the allocated bytes, where the objects alone determine them: the blocks of a counting heap; the
 -- blocks of a copying heap and the 16 bytes before them, where it has any memory; in a null heap all
 -- objects lie below them
 abbrev pub AllocatedIs : Layouts → HeapView → Type 0
-AllocatedIs Null h =
-    (h.allocated ≤ h.capacity)
-    × ((place : ℕ) (o : HeapObject) → finite.get h.content place ≡ Some o → place + held_size Null o ≤ h.allocated + 1)
+AllocatedIs Null h = (place : ℕ) (o : HeapObject) → finite.get h.content place ≡ Some o → place + held_size Null o ≤ h.allocated + 1
 AllocatedIs Counting h = h.allocated ≡ total (block_size Counting) h.content
 AllocatedIs Copying h = h.allocated ≡ (if h.capacity == 0 then 0 else 16 + total (block_size Copying) h.content)
 
@@ -72,12 +78,22 @@ pub record TellsCounts (h : HeapView) : Type 0 where
   pub shown : (place : ℕ) → IsTrue (finset.contains h.counts.shown place) → IsHeld h place
   pub queued : (place : ℕ) → IsTrue (finset.contains h.counts.queued place) → IsHeld h place
 
--- what one kind of heap owes alone: counts where it tells them; only a copying heap asks for a
--- collection before it grows
+-- In a copying heap all objects lie in the active half, behind its first 16 bytes and below the
+-- allocated ones, and each takes whole multiples of 16. With the sum of their sizes that says that they
+-- lie without gaps.
+pub record LiesInHalf (h : HeapView) : Type 0 where
+  pub counts : h.counts ≡ no_counts
+  pub half : h.allocated ≤ half_of h.capacity
+  pub from : (place : ℕ) (o : HeapObject) → finite.get h.content place ≡ Some o → half_start h + 16 ≤ place
+  pub below : (place : ℕ) (o : HeapObject) → finite.get h.content place ≡ Some o → place + held_size Copying o ≤ half_start h + h.allocated
+  pub whole : (place : ℕ) (o : HeapObject) → finite.get h.content place ≡ Some o → held_size Copying o % alignment ≡ 0
+
+-- what one kind of heap owes alone: counts where it tells them; a half that holds all objects; only a
+-- copying heap asks for a collection before it grows, exactly while its upper half is active
 abbrev pub KindIs : Layouts → HeapView → Type 0
 KindIs Null h = (h.counts ≡ no_counts) × (h.needs_gc ≡ false)
 KindIs Counting h = TellsCounts h × (h.needs_gc ≡ false)
-KindIs Copying h = h.counts ≡ no_counts
+KindIs Copying h = LiesInHalf h
 
 -- What is always true of a heap outside a collection.
 pub record IsHeap (layouts : Layouts) (h : HeapView) : Type 0 where
@@ -85,7 +101,9 @@ pub record IsHeap (layouts : Layouts) (h : HeapView) : Type 0 where
   pub apart : (p q : ℕ) (o o' : HeapObject) → finite.get h.content p ≡ Some o → finite.get h.content q ≡ Some o'
       → p < q → p + held_size layouts o ≤ q
   pub fits : total (held_size layouts) h.content ≤ h.capacity
+  pub pages : h.capacity % page ≡ 0
   pub bound : h.capacity ≤ page * max_pages
+  pub within : h.allocated ≤ h.capacity
   pub allocated : AllocatedIs layouts h
   pub by_kind : KindIs layouts h
   pub detached : h.attached ≡ false → h ≡ detached_in h.scopes

@@ -16,7 +16,7 @@ use Rattle.gc_model.specs.Bytes.{put_bytes}
 use Rattle.gc_model.specs.Views.{HeapObject, HeapView, Counts, detached_in}
 use Rattle.gc_heap.specs.Objects.{held_size, first_offset, zeroed, zeroed_array, writable_offset, HasFields}
 use Rattle.gc_heap.specs.References.{struct_spare, array_spare, SpareFits}
-use Rattle.gc_heap.specs.Content.{total, block_size}
+use Rattle.gc_heap.specs.Content.{total, block_size, half_of, half_start}
 use Rattle.gc_heap.specs.declared.heap.HeapFault.{HeapFault}
 use Rattle.gc_heap.specs.declared.heap.HeapFault.TheVariants as fault
 
@@ -64,10 +64,6 @@ pub record IsFree (h : HeapView) (place bytes : ℕ) : Type 0 where
   pub inside : place + bytes ≤ h.capacity
   pub free : (q : ℕ) (o : HeapObject) → finite.get h.content q ≡ Some o → (q + block_size Counting o ≤ place) ⊎ (place + bytes ≤ q)
 
--- the bytes of each half of a copying heap: the capacity, in whole multiples of 32, is halved
-abbrev pub half_of : ℕ → ℕ
-half_of capacity = capacity / 32 * 16
-
 -- There is room for an object of that size: behind the last object of a null heap; between the
 -- objects of a counting heap; and in a copying heap half of the memory holds all objects and this one,
 -- each in whole multiples of 16, behind its first 16 bytes.
@@ -108,11 +104,26 @@ pub record IsNewPlace (h : HeapView) (place : ℕ) : Type 0 where
   pub not_null : 0 < place
   pub free : finite.get h.content place ≡ None
 
+-- An object of a counting heap ends there.
+pub record EndsAt (h : HeapView) (place : ℕ) : Type 0 where
+  pub before : ℕ
+  pub object : HeapObject
+  pub held : finite.get h.content before ≡ Some object
+  pub ends : before + block_size Counting object ≡ place
+
+-- Where a new object of that size lies: behind the last object of a null heap; at the front of a free
+-- stretch of a counting heap, which is not told which; and behind the last object of the active half.
+abbrev pub IsPlaceFor : Layouts → HeapView → ℕ → ℕ → Type 0
+IsPlaceFor Null h place size = place ≡ round_up (h.allocated + 1) alignment
+IsPlaceFor Counting h place size = IsFree h place (round_up size alignment) × ((place ≡ 16) ⊎ EndsAt h place)
+IsPlaceFor Copying h place size = place ≡ half_start h + h.allocated
+
 -- An object was added at a new place.
 pub record AddsObject (layouts : Layouts) (old new : HeapView) (place : ℕ) (object : HeapObject) (size : ℕ) : Type 0 where
   pub small : IsTooLarge layouts size → ⊥
   pub room : HasRoom layouts old size
   pub fresh : IsNewPlace old place
+  pub lies : IsPlaceFor layouts old place size
   pub added : new ≡ with_object layouts old place object size
 
 -- There was no room; the answer says how many bytes it takes.

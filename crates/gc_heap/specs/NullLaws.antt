@@ -1,6 +1,6 @@
 -- The laws of a null heap: what is always true of it outside a collection, and that a collection may
 -- begin.
-use Rattle.std.proofs.Common.{◌≡◌, ℕ, zero, suc, ◌+◌, ◌-◌, ◌*◌, ◌/◌, ◌%◌, ◌<◌, ◌≤◌, ◌^◌, true, false, List, length, Option, Some, None, refl, sym, ap, subst, ◌∙◌, arith}
+use Rattle.std.proofs.Common.{◌≡◌, ℕ, ◌+◌, ◌%◌, ◌<◌, ◌≤◌, ◌^◌, List, length, Option, Some, None, refl, sym, ap, subst, ◌∙◌, arith}
 use Rattle.std.specs.Ordering.{nat_cmp}
 use Rattle.std.specs.FinMap as map
 use Rattle.std.proofs.lemmas.Cmp.{nat_cmp_total}
@@ -9,15 +9,15 @@ use Rattle.gc_types.specs.declared.kind.VMGcKind.{VMGcKind}
 use Rattle.gc_types.specs.declared.kind.VMGcKind.TheVariants.{ExternRef, AnyRef, EqRef, StructRef, ArrayRef, ExnRef}
 use Rattle.gc_types.specs.Layouts.{round_up}
 use Rattle.gc_model.specs.Sizes.{alignment}
-use Rattle.gc_model.specs.Views.{HeapObject, HeapView, detached_in}
-use Rattle.gc_heap.specs.Objects.{held_size, first_offset, data_offset}
+use Rattle.gc_model.specs.Views.{HeapObject, detached_in}
+use Rattle.gc_heap.specs.Objects.{held_size, data_offset}
 use Rattle.gc_heap.specs.Content.{total, LiesAtPlace, IsHeap}
 use Rattle.gc_heap.specs.Totals.{total-empty}
 use Rattle.gc_heap.specs.Collection.{Start, CanCollect}
 use Rattle.gc_heap.specs.NullWalk.{first_place, size_at, object_at, entries, LiesAt}
 use Rattle.gc_heap.specs.NullStates.{bump_view, view_of, null_seen, HasMemory, IsBumped, IsNullSound, IsNullUnderWay}
 use Rattle.gc_heap.specs.declared.null.NullHeap.{NullHeap}
-use Rattle.gc_heap.specs.NullWalkLaws.{least, spare_is, length-object, held_is, held_length, found_lies, total_entries, apart_among, LiesAmong}
+use Rattle.gc_heap.specs.NullWalkLaws.{least, spare_is, length-object, held_is, found_lies, total_entries, apart_among, LiesAmong}
 
 -- nothing is held in a heap with no memory
 pub nothing_in_detached : (q : ℕ) (o : HeapObject) → map.get {X = HeapObject} (map.empty {R = nat_cmp}) q ≡ Some o → ⊥
@@ -30,8 +30,10 @@ detached_is_heap scopes small = record {
   objects = λ place o held. absurd (nothing_in_detached place o held);
   apart = λ p q o o' at_p at_q before. absurd (nothing_in_detached p o at_p);
   fits = omega (arith, total-empty (held_size Null));
+  pages = refl;
   bound = omega arith;
-  allocated = (omega arith, λ place o held. absurd (nothing_in_detached place o held));
+  within = omega arith;
+  allocated = λ place o held. absurd (nothing_in_detached place o held);
   by_kind = (refl, refl);
   detached = λ _. refl;
   scopes = small;
@@ -82,8 +84,10 @@ bumped_is_heap bytes next n scopes s small =
           let before_end : p + size_at bytes p ≤ q = apart_among n bytes first_place e p q o o' (omega arith) s.follow (found p o at_p) (found q o' at_q) before in
           omega (arith, size p o at_p);
       fits = omega arith;
+      pages = s.pages;
       bound = s.bound;
-      allocated = (omega arith, λ q o held. let inside : q + held_size Null o ≤ next = s.ends q o (found q o held) in omega arith);
+      within = omega arith;
+      allocated = λ q o held. let inside : q + held_size Null o ≤ next = s.ends q o (found q o held) in omega arith;
       by_kind = (refl, refl);
       detached = λ not. cc;
       scopes = small;

@@ -1,6 +1,6 @@
 -- A null heap by its fields: what is seen of it, and how it is outside a collection, while its memory
 -- is out, and in a collection.
-use Rattle.std.specs.Prelude.{◌≡◌, ℕ, zero, suc, ◌+◌, ◌-◌, ◌*◌, ◌<◌, ◌≤◌, ◌^◌, Bool, true, List, length, Option, Some, None}
+use Rattle.std.specs.Prelude.{◌≡◌, ℕ, zero, suc, ◌+◌, ◌-◌, ◌*◌, ◌%◌, ◌<◌, ◌≤◌, ◌^◌, Bool, true, List, length, Option, Some, None}
 use Rattle.std.specs.Ordering.{nat_cmp}
 use Rattle.std.specs.FinMap as finite
 use Rattle.gc_types.specs.declared.kind.Layouts.TheVariants.{Null}
@@ -28,6 +28,7 @@ bump_view bytes next objects scopes = record (detached_in scopes) {
 pub record IsBumped (bytes : List ℕ) (next objects : ℕ) : Type 0 where
   pub begun : 0 < next
   pub within : next ≤ length bytes + 1
+  pub pages : length bytes % page ≡ 0
   pub bound : length bytes ≤ page * max_pages
   pub follow : Follow objects bytes first_place (round_up next alignment)
   pub ends : (place : ℕ) (o : HeapObject) → finite.find nat_cmp place (entries objects bytes first_place) ≡ Some o → place + held_size Null o ≤ next

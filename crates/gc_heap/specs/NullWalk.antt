@@ -1,6 +1,6 @@
 -- A memory whose objects follow each other from a first place on, as in the null heap: each begins
 -- with its kind word, whose spare bits are its size, and its type word.
-use Rattle.std.specs.Prelude.{◌≡◌, ℕ, zero, suc, ◌+◌, ◌-◌, ◌*◌, ◌/◌, ◌%◌, ◌<◌, ◌≤◌, ◌==◌, if◌then◌else◌, List, [], ◌∷◌, ◌++◌, take, drop, replicate, length, Option, Some, None}
+use Rattle.std.specs.Prelude.{◌≡◌, ℕ, zero, suc, ◌+◌, ◌-◌, ◌%◌, ◌<◌, ◌≤◌, ◌==◌, if◌then◌else◌, List, [], ◌∷◌, ◌++◌, take, drop, replicate, length, Option, Some, None}
 use Rattle.std.specs.Int.{w32, to_le_bytes}
 use Rattle.gc_types.specs.declared.kind.Layouts.TheVariants.{Null}
 use Rattle.gc_types.specs.declared.kind.VMGcKind.{VMGcKind}

@@ -8,7 +8,7 @@ use Rattle.gc_types.specs.declared.kind.VMGcKind.TheVariants.{ExternRef, AnyRef,
 use Rattle.gc_types.specs.Layouts.{struct_base, exception_base, array_base}
 use Rattle.gc_types.specs.Kinds.{kind_bits}
 use Rattle.gc_refs.specs.Header.{Header, spare_bits, kind_part}
-use Rattle.gc_memory.specs.Offsets.{external_size, host_id_offset, stored_size}
+use Rattle.gc_memory.specs.Offsets.{external_size, host_id_offset, counting_size_offset, copying_size_offset, stored_size}
 use Rattle.gc_model.specs.Views.{HeapObject, u32_at}
 
 -- where the data of an object begins, counted from its first byte
@@ -114,8 +114,15 @@ pub record IsHeaderOf (layouts : Layouts) (o : HeapObject) (header : Header) : T
   pub ty : header.type_word ≡ o.ty
   pub spare : SpareIs layouts o (header.kind_word % spare_bits)
 
--- all bytes of an object, from its first one on: its header and its data lie in them
+-- the word of an object that tells its size; the null heap has none
+abbrev pub SizeWordIs : Layouts → HeapObject → List ℕ → Type 0
+SizeWordIs Null o bytes = Unit {0}
+SizeWordIs Counting o bytes = u32_at bytes counting_size_offset ≡ held_size Counting o
+SizeWordIs Copying o bytes = u32_at bytes copying_size_offset ≡ held_size Copying o
+
+-- all bytes of an object, from its first one on: its header, its size and its data lie in them
 pub record IsObjectData (layouts : Layouts) (o : HeapObject) (bytes : List ℕ) : Type 0 where
   pub size : length bytes ≡ held_size layouts o
   pub header : IsHeaderOf layouts o (record { kind_word = u32_at bytes 0; type_word = u32_at bytes 4 })
+  pub size_word : SizeWordIs layouts o bytes
   pub data_is : take (length o.bytes) (drop (data_offset layouts o.kind) bytes) ≡ o.bytes

@@ -6,8 +6,8 @@ ghost use Rattle.gc_heap.specs.Run.{start_at};
 
 use crate::collection::{GcProgress, GcStoreTraceState};
 use crate::heap::GcHeap;
-use gc_steps::Steps;
 use gc_roots::GcRootsList;
+use gc_steps::Steps;
 use std::sync::ledger::Ledger;
 
 /// Does the increments that a collection has left. It takes no memory.
@@ -23,6 +23,7 @@ pub fn collect<H: GcHeap, D: Drop>(
         → Collected H.KIND s (H.seen heap.new) roots.new.roots (has_host trace.new.host_data_table.now.entries) }
     ensures ticks { H.ticks state.new ≡ H.ticks state.old }
     ensures spare { roots.new.spare ≡ roots.old.spare }
+    ensures host_spare { trace.old.host_data_table.now.spare ≤ trace.new.host_data_table.now.spare }
     ensures values { IsPartOf trace.new.host_data_table.now.entries trace.old.host_data_table.now.entries }
     ensures hosts { trace.new.host_data_table.ghost_name ≡ trace.old.host_data_table.ghost_name }
     ensures types { trace.new.types ≡ trace.old.types }
@@ -54,6 +55,7 @@ pub fn collect_counted<H: GcHeap, D: Drop, G: Ledger>(
     ensures ticks { H.ticks state.new + steps.old ≡ H.ticks state.old + steps.new }
     ensures rises { steps.old ≤ steps.new }
     ensures spare { roots.new.spare ≡ roots.old.spare }
+    ensures host_spare { trace.old.host_data_table.now.spare ≤ trace.new.host_data_table.now.spare }
     ensures values { IsPartOf trace.new.host_data_table.now.entries trace.old.host_data_table.now.entries }
     ensures hosts { trace.new.host_data_table.ghost_name ≡ trace.old.host_data_table.ghost_name }
     ensures types { trace.new.types ≡ trace.old.types }
@@ -78,6 +80,7 @@ pub fn run<H: GcHeap, D: Drop>(
     ensures collected { Collected H.KIND (start_at (H.seen heap.old) roots.old.roots trace.old.types.now.declarations trace.old.host_data_table.now.entries)
         (H.seen heap.new) roots.new.roots (has_host trace.new.host_data_table.now.entries) }
     ensures spare { roots.new.spare ≡ roots.old.spare }
+    ensures host_spare { trace.old.host_data_table.now.spare ≤ trace.new.host_data_table.now.spare }
     ensures values { IsPartOf trace.new.host_data_table.now.entries trace.old.host_data_table.now.entries }
     ensures hosts { trace.new.host_data_table.ghost_name ≡ trace.old.host_data_table.ghost_name }
     ensures types { trace.new.types ≡ trace.old.types }

@@ -2,9 +2,9 @@
 
 use crate::collection::{GcProgress, GcStoreTraceState};
 use gc_memory::HeapMemory;
-use gc_steps::Steps;
 use gc_refs::{RefFault, VMArrayRef, VMExternRef, VMGcHeader, VMGcObjectData, VMGcRef};
 use gc_roots::GcRootsList;
+use gc_steps::Steps;
 use gc_tables::ExternRefHostDataId;
 use gc_types::{GcArrayLayout, GcStructLayout, Layouts, VMSharedTypeIndex};
 use std::ops::Range;
@@ -27,9 +27,10 @@ pub enum HeapFault {
 /// A heap of garbage-collected objects.
 ///
 /// What contracts see of it is `seen`: its content (a finite map from places to objects), its
-/// capacity and its counts (`HeapView` of `gc_model`). All calls but `is_attached` want a heap that is
-/// `sound`, as it is outside a collection and while its memory is not taken; of a sound heap `IsHeap`
-/// is true, by the law `is_heap`.
+/// capacity and its counts (`HeapView` of `gc_model`). Most calls want a heap that is `sound`, as it is
+/// outside a collection and while its memory is not taken; of a sound heap `IsHeap` is true, by the
+/// law `is_heap`. `is_attached` wants nothing, `replace_memory` a heap whose memory is taken, and
+/// `step` and `step_counted` a collection that is under way.
 ///
 /// A word is an `i31` where it is odd, and else the place of an object. Reads are safe for every
 /// word, and answer `BadRef` always for an i31 and else only for a word that names no held object of
@@ -54,7 +55,7 @@ pub trait GcHeap {
     ghost use Rattle.gc_heap.specs.References.{SpareFits, LayoutTraces, ArrayTraces};
     ghost use Rattle.gc_heap.specs.Content.{IsHeld, IsHeap};
     ghost use Rattle.gc_heap.specs.Heap.{empty_heap, grown, Allocated, layout_kind, new_struct, new_array, array_size, given_back, IsWritable, with_data, put_object, with_spare_of, CanAllocate, CanGiveBack, IsStructOrExn, IsArray, IsSameHeader};
-    ghost use Rattle.gc_heap.specs.Barriers.{CanName, CanUnname, CanNameSlot, CanUnnameSlot, IsNamed, cloned, dropped, exposed, overwritten};
+    ghost use Rattle.gc_heap.specs.Barriers.{ShowsCount, CanName, CanUnname, CanNameSlot, CanUnnameSlot, IsNamed, cloned, dropped, exposed, overwritten};
     ghost use Rattle.gc_heap.specs.Collection.{Start, has_host, IsPartOf, CanCollect, Collected, Stepped, IsStepCount};
 
     /// What a collection knows between two increments.
@@ -307,7 +308,8 @@ pub trait GcHeap {
     fn heap_slice(&self) -> &[u8]
         requires { sound self.now }
         ensures size { length result.now ≡ (seen self.now).capacity }
-        ensures objects { (place : ℕ) (object : HeapObject) → finite.get (seen self.now).content place ≡ Some object → IsObjectData KIND object (take (held_size KIND object) (drop place result.now)) };
+        ensures objects { (place : ℕ) (object : HeapObject) → finite.get (seen self.now).content place ≡ Some object → IsObjectData KIND object (take (held_size KIND object) (drop place result.now)) }
+        ensures counts { (place n : ℕ) → finite.get (seen self.now).counts.counted place ≡ Some n → ShowsCount (seen self.now) result.now place n };
 
     // Numbers
 
@@ -350,6 +352,7 @@ pub trait GcHeap {
         ensures less { result ≡ GcProgress.Continue → left self.new state.new < left self.old state.old }
         ensures ticks { ticks state.new ≡ ticks state.old }
         ensures spare { roots.new.spare ≡ roots.old.spare }
+        ensures host_spare { trace.old.host_data_table.now.spare ≤ trace.new.host_data_table.now.spare }
         ensures values { IsPartOf trace.new.host_data_table.now.entries trace.old.host_data_table.now.entries }
         ensures hosts { trace.new.host_data_table.ghost_name ≡ trace.old.host_data_table.ghost_name }
         ensures types { trace.new.types ≡ trace.old.types };
@@ -370,6 +373,7 @@ pub trait GcHeap {
         ensures ticks { ticks state.new + steps.old ≡ ticks state.old + steps.new }
         ensures rises { steps.old ≤ steps.new }
         ensures spare { roots.new.spare ≡ roots.old.spare }
+        ensures host_spare { trace.old.host_data_table.now.spare ≤ trace.new.host_data_table.now.spare }
         ensures values { IsPartOf trace.new.host_data_table.now.entries trace.old.host_data_table.now.entries }
         ensures hosts { trace.new.host_data_table.ghost_name ≡ trace.old.host_data_table.ghost_name }
         ensures types { trace.new.types ≡ trace.old.types };

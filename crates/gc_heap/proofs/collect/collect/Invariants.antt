@@ -1,4 +1,4 @@
-use Rattle.std.proofs.Common.{ℕ, Bool, ◌≡◌}
+use Rattle.std.proofs.Common.{ℕ, Bool, ◌≡◌, ◌≤◌}
 use Rattle.gc_heap.specs.Collection.{Start, has_host, IsPartOf}
 use Rattle.gc_heap.proofs.collect.collect.Given as goal
 
@@ -8,6 +8,7 @@ invariant-increments g l = record {
       → (m : ℕ) × ((d : Bool) × g.H.GcHeap.under_way s m d l.heap l.state l.roots.roots l.trace.types.now.declarations (has_host l.trace.host_data_table.now.entries));
   ticks : g.H.GcHeap.ticks l.state ≡ g.H.GcHeap.ticks l.fn.state;
   spare : l.roots.spare ≡ l.fn.roots.spare;
+  host_spare : l.fn.trace.host_data_table.now.spare ≤ l.trace.host_data_table.now.spare;
   values : IsPartOf l.trace.host_data_table.now.entries l.fn.trace.host_data_table.now.entries;
   hosts : l.trace.host_data_table.ghost_name ≡ l.fn.trace.host_data_table.ghost_name;
   types : l.trace.types ≡ l.fn.trace.types;

@@ -9,6 +9,7 @@ invariant-increments g l = record {
   ticks : g.H.GcHeap.ticks l.state + l.fn.steps ≡ g.H.GcHeap.ticks l.fn.state + l.steps;
   rises : l.fn.steps ≤ l.steps;
   spare : l.roots.spare ≡ l.fn.roots.spare;
+  host_spare : l.fn.trace.host_data_table.now.spare ≤ l.trace.host_data_table.now.spare;
   values : IsPartOf l.trace.host_data_table.now.entries l.fn.trace.host_data_table.now.entries;
   hosts : l.trace.host_data_table.ghost_name ≡ l.fn.trace.host_data_table.ghost_name;
   types : l.trace.types ≡ l.fn.trace.types;

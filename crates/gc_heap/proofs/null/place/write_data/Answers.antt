@@ -1,12 +1,9 @@
-use Rattle.std.proofs.Common.{◌≡◌, ◌+◌, ◌-◌, ℕ, Option, length, take, drop, replicate, sym, ap, subst, ◌∙◌, arith}
-use Rattle.std.proofs.lemmas.List.{length-replicate}
+use Rattle.std.proofs.Common.{◌+◌, ◌-◌, replicate, ap, ◌∙◌}
 use Rattle.gc_model.specs.Bytes.{put_bytes}
-use Rattle.gc_model.specs.Views.{put_u32}
-use Rattle.gc_heap.specs.NullWalk.{data_with}
-use Rattle.gc_heap.proofs.NullMemoryLemmas.{word_and_zeros, told_data}
+use Rattle.gc_heap.proofs.NullMemoryLemmas.{told_data}
 use Rattle.gc_heap.proofs.null.place.write_data.Goals as goal
 
 pub returns-in-Some-clause-data_is : goal.returns-in-Some-clause-data_is
 returns-in-Some-clause-data_is c =
-    let after = c.fill_zero-in-Some.ensures ∙ ap (λ b. put_bytes b (c.args.place + 8 + 4) (replicate (c.args.size - 12) 0)) c.write_u32.ensures in
+    let after = c.fill_zero-in-Some.ensures.bytes ∙ ap (λ b. put_bytes b (c.args.place + 8 + 4) (replicate (c.args.size - 12) 0)) c.write_u32.ensures.bytes in
     told_data c.args.memory.now c.fill_zero-in-Some.new.self c.args.place c.args.size c.in-Some.word c.args.word c.in-Some.is c.requires.word c.requires.room after

@@ -1,7 +1,7 @@
-use Rattle.std.proofs.Common.{◌≡◌, ◌+◌, ◌/◌, ◌*◌, ◌^◌, ◌<◌, ◌≤◌, ◌∙◌, ap, subst, sym, arith, List, ℕ, length}
+use Rattle.std.proofs.Common.{◌+◌, ◌^◌, ◌<◌, ◌∙◌, ap, subst, sym, arith, List, ℕ}
 use Rattle.gc_types.specs.declared.kind.VMGcKind.{VMGcKind}
 use Rattle.gc_types.specs.Kinds.{kind_bits}
-use Rattle.gc_refs.specs.Header.{Header, with_spare, spare_bits}
+use Rattle.gc_refs.specs.Header.{Header}
 use Rattle.gc_model.specs.Views.{put_u32}
 use Rattle.gc_model.specs.Bytes.{SameBytes}
 use Rattle.gc_heap.specs.NullWalk.{placed, PlacesObject}
@@ -19,8 +19,8 @@ returns c = λ kind is_kind.
     let word_is = c.kind_word.ensures ∙ ap (λ (h : Header). h.kind_word) c.set_reserved_u26.ensures ∙ ap (λ w. w + size) (sym new.is_kind) in
     let ty_is = c.as_u32.ensures ∙ c.type_index.ensures ∙ ap (λ (h : Header). h.type_word) c.set_reserved_u26.ensures in
     let ty_small : ty < 2 ^ 32 = omega (arith, c.as_u32.type_inv, ty_is) in
-    let first = c.write_u32.ensures ∙ ap (put_u32 bytes place) word_is in
-    let second = c.write_u32-2.ensures ∙ ap (put_u32 c.write_u32.new.self (place + 4)) ty_is ∙ ap (λ b. put_u32 b (place + 4) ty) first in
+    let first = c.write_u32.ensures.bytes ∙ ap (put_u32 bytes place) word_is in
+    let second = c.write_u32-2.ensures.bytes ∙ ap (put_u32 c.write_u32.new.self (place + 4)) ty_is ∙ ap (λ b. put_u32 b (place + 4) ty) first in
     let same = subst (λ (b : List ℕ). SameBytes b c.write_data.new.memory 0 (place + 8)) second c.write_data.ensures.below in
     subst (λ (k : VMGcKind). PlacesObject bytes c.write_data.new.memory place (placed k ty c.args.word size) size)
     (same_kind new.kind kind c.args.header.kind_word new.is_kind is_kind)
