@@ -2,3 +2,4 @@ pub mod NullWalkLemmas
 pub mod NullMemoryLemmas
 pub mod NullHeapLemmas
 pub mod NullStepLemmas
+pub mod HeapLemmas

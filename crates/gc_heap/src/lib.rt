@@ -5,6 +5,8 @@ pub mod collection;
 pub mod heap;
 pub mod memory;
 pub mod null;
+#[cfg(test)]
+mod tests;
 
 pub use collection::{GcProgress, GcStoreTraceState};
 pub use gc_refs::RefFault;
