@@ -1,5 +1,6 @@
 pub mod AccessLemmas
 pub mod ClientLemmas
+pub mod HeapLemmas
 pub mod KindLemmas
 pub mod NullHeapLemmas
 pub mod NullMemoryLemmas

@@ -14,6 +14,8 @@ pub mod collection;
 pub mod heap;
 pub mod null;
 pub mod ref_kinds;
+#[cfg(test)]
+mod tests;
 
 pub use collection::{GcProgress, GcStoreTraceState};
 pub use gc_memory::HeapMemory;

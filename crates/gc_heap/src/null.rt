@@ -313,6 +313,7 @@ impl GcHeap for NullHeap {
         _roots: &mut GcRootsList,
         _trace: &mut GcStoreTraceState<'_, D>,
     ) -> GcProgress {
+        // Every object is kept, so no host value is freed.
         GcProgress::Complete
     }
 
