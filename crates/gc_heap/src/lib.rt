@@ -13,3 +13,4 @@ pub use collection::{GcProgress, GcStoreTraceState};
 pub use gc_refs::RefFault;
 pub use heap::{GcHeap, HeapFault, HeapKind};
 pub use memory::HeapMemory;
+pub use ref_kinds::RefKinds;
