@@ -1,5 +1,5 @@
 -- What a client of a heap is given.
-use Rattle.std.specs.Prelude.{◌≡◌, ℕ, ◌+◌, ◌≤◌, false, List, [], Some}
+use Rattle.std.specs.Prelude.{◌≡◌, ℕ, ◌+◌, ◌≤◌, false, List, [], Some, Result, Ok, Err}
 use Rattle.std.specs.Int.{w32}
 use Rattle.std.specs.FinMap.{insert}
 use Rattle.gc_types.specs.declared.kind.Layouts.{Layouts}
@@ -11,8 +11,10 @@ use Rattle.gc_refs.specs.LittleEndian.{unsigned_at}
 use Rattle.gc_model.specs.Views.{HeapObject, HeapView}
 use Rattle.gc_heap.specs.Objects.{held_size}
 use Rattle.gc_heap.specs.References.{struct_spare}
-use Rattle.gc_heap.specs.Heap.{IsNewPlace, counts_with}
+use Rattle.gc_heap.specs.Heap.{IsNewPlace, LacksRoom, IsTooLarge, counts_with}
 use Rattle.gc_heap.specs.Access.{data_part}
+use Rattle.gc_heap.specs.declared.heap.HeapFault.{HeapFault}
+use Rattle.gc_heap.specs.declared.heap.HeapFault.TheVariants as fault
 
 -- a declared struct without references, with room for a 32-bit number at that offset
 pub record IsNumberStruct (layouts : Layouts) (types : List Declaration) (ty : ℕ) (layout : GcStructLayout) (offset : ℕ) : Type 0 where
@@ -45,3 +47,10 @@ pub record MakesNumber (layouts : Layouts) (types : List Declaration) (layout : 
   pub object : HeapObject
   pub adds : AddsPlain layouts types layout old new place object
   pub number_is : unsigned_at w32 (data_part layouts object offset 4) ≡ number
+
+-- what an allocation of so many bytes answers and does; where it gives a value, that is such a value
+abbrev pub GivesOrRefuses : {A : Type 0} → Layouts → HeapView → HeapView → ℕ → (A → Type 0) → Result (Result A ℕ) HeapFault → Type 0
+GivesOrRefuses layouts old new size IsSuch (Ok (Ok value)) = IsSuch value
+GivesOrRefuses layouts old new size IsSuch (Ok (Err need)) = LacksRoom layouts old new need size
+GivesOrRefuses layouts old new size IsSuch (Err fault.TooLarge) = IsTooLarge layouts size × (new ≡ old)
+GivesOrRefuses layouts old new size IsSuch (Err fault.Memory) = new ≡ old
