@@ -22,5 +22,4 @@ pub use gc_memory::HeapMemory;
 pub use gc_refs::RefFault;
 pub use heap::{GcHeap, HeapFault, HeapKind};
 pub use null::{NullCollection, NullCollector, NullHeap};
-pub use memory::HeapMemory;
 pub use ref_kinds::RefKinds;

@@ -90,18 +90,29 @@ fn attach_pages<H: GcHeap>(heap: &mut H, alloc: Global, pages: u32) -> Result<()
     Ok(())
 }
 
-/// Takes the memory and puts it back.
-fn lends_its_memory<H: GcHeap>(heap: &mut H) -> Result<usize, Fail>
+/// Takes the memory, which becomes a page longer, and puts it back.
+fn grows_by_a_page<H: GcHeap>(heap: &mut H) -> Result<usize, Fail>
     requires sound { H.sound heap.old }
     ensures sound { H.sound heap.new }
 {
-    if !heap.is_attached() {
+    if !heap.is_attached()
+        || heap.needs_gc_before_next_growth()
+        || heap.heap_slice().len() > 65_536
+    {
         return Err("no memory")?;
     }
-    let memory = heap.take_memory();
-    let size = memory.byte_size();
-    heap.replace_memory(memory, 0);
-    Ok(size)
+    let mut memory = heap.take_memory();
+    match memory.grow(1) {
+        Ok(()) => {
+            let size = memory.byte_size();
+            heap.replace_memory(memory, 65_536);
+            Ok(size)
+        }
+        Err(_) => {
+            heap.replace_memory(memory, 0);
+            Err("out of memory")?
+        }
+    }
 }
 
 fn each_kind<H: GcHeap>(
@@ -120,7 +131,7 @@ fn each_kind<H: GcHeap>(
     let exception = place(heap, &layout_of(alloc, 24, true))?;
     assert_eq!(rt; told(heap, &structure)?, (16, 0xA400_0014, 3, 20));
     assert_eq!(rt; told(heap, &exception)?, (48, 0x1000_0018, 3, 24));
-    assert_eq!(rt; lends_its_memory(heap)?, 65_536);
+    assert_eq!(rt; grows_by_a_page(heap)?, 131_072);
     assert_eq!(rt; told(heap, &structure)?, (16, 0xA400_0014, 3, 20));
     let array = place_array(heap, 3)?;
     let external = place_external(heap, host)?;
@@ -134,7 +145,7 @@ fn each_kind<H: GcHeap>(
     assert_eq!(rt; heap.object_range(array.as_gc_ref())?, 80..104);
     assert_eq!(rt; heap.object_count(), 4);
     assert_eq!(rt; heap.allocated_bytes(), 123);
-    assert_eq!(rt; heap.heap_slice().len(), 65_536);
+    assert_eq!(rt; heap.heap_slice().len(), 131_072);
     Ok(())
 }
 
