@@ -1,5 +1,5 @@
 -- A null heap with no memory holds nothing; with one, what is read there is what is held.
-use Rattle.std.proofs.Common.{◌≡◌, ◌↔◌, ◌⊎◌, inl, inr, IfSome, IsNone, ℕ, ◌+◌, ◌-◌, ◌*◌, ◌/◌, ◌%◌, ◌<◌, ◌≤◌, ◌^◌, ◌++◌, true, List, [], take, drop, length, replicate, Option, Some, None, Result, Ok, Err, MatchResult, IsOkAnd, Bor, refl, sym, ap, subst, ◌∙◌, arith}
+use Rattle.std.proofs.Common.{◌≡◌, ◌↔◌, ◌⊎◌, inl, inr, IfSome, IsNone, ℕ, ◌+◌, ◌-◌, ◌*◌, ◌%◌, ◌<◌, ◌≤◌, ◌^◌, ◌++◌, List, [], take, drop, length, replicate, Option, Some, None, Result, Ok, Err, MatchResult, IsOkAnd, Bor, refl, sym, ap, subst, ◌∙◌, arith}
 use Rattle.std.specs.Ordering.{nat_cmp}
 use Rattle.std.specs.FinMap as map
 use Rattle.std.specs.Result.{result_ok}
@@ -8,13 +8,13 @@ use Rattle.std.specs.Int.{w32, to_le_bytes}
 use Rattle.std.proofs.lemmas.Cmp.{nat_cmp_total}
 use Rattle.std.proofs.lemmas.Nat.{from_le_bytes-to_le_bytes_4}
 use Rattle.std.proofs.lemmas.Grind.{common_steps}
-use Rattle.std.proofs.lemmas.List.{append-nil, length-replicate, length-take, length-take-le, length-drop, drop-take, drop-drop, take-take}
+use Rattle.std.proofs.lemmas.List.{append-nil, length-replicate, length-take-le, length-drop, drop-take, drop-drop, take-take}
 use Rattle.gc_types.specs.declared.kind.Layouts.TheVariants.{Null}
 use Rattle.gc_types.specs.declared.kind.VMGcKind.{VMGcKind}
-use Rattle.gc_types.specs.declared.kind.VMGcKind.TheVariants.{ExternRef, AnyRef, EqRef, StructRef, ArrayRef, ExnRef}
+use Rattle.gc_types.specs.declared.kind.VMGcKind.TheVariants.{ExternRef, ArrayRef}
 use Rattle.gc_types.specs.Kinds.{kind_bits}
 use Rattle.gc_types.specs.Layouts.{round_up}
-use Rattle.gc_refs.specs.Header.{Header, spare_bits, kind_part}
+use Rattle.gc_refs.specs.Header.{Header, spare_bits}
 use Rattle.gc_refs.specs.declared.fault.RefFault.{RefFault}
 use Rattle.gc_model.specs.Sizes.{alignment}
 use Rattle.gc_model.specs.Allocation.{page, max_pages}
@@ -275,7 +275,7 @@ null_host h q object sound held kind = host_in h h.memory q object refl sound he
 pub extern_made : (id number : ℕ) → number ≡ id + 1 → placed ExternRef (2 ^ 32 - 1) (Some number) 12 ≡ external id
 extern_made id number is = λ i. record { kind = ExternRef; ty = 2 ^ 32 - 1; spare = 0; bytes = (append-nil (to_le_bytes w32 number) ∙ ap (to_le_bytes w32) is) i }
 
-pub extern_host : (number ty : ℕ) → 0 < number → number ≤ 2147483648 → IsHost (placed ExternRef ty (Some number) 12)
+pub extern_host : (number ty : ℕ) → 0 < number → number ≤ max_entries → IsHost (placed ExternRef ty (Some number) 12)
 extern_host number ty from to =
     let bytes : List ℕ = to_le_bytes w32 number in
     let is : bytes ++ [] ≡ bytes = append-nil bytes in
@@ -283,7 +283,7 @@ extern_host number ty from to =
     record {
       size = ap length is;
       from = subst (λ n. 0 < n) (sym read) from;
-      to = subst (λ n. n ≤ 2147483648) (sym read) to;
+      to = subst (λ n. n ≤ max_entries) (sym read) to;
     }
 
 -- the number of an id is read as that id

@@ -1,5 +1,5 @@
 -- What an allocation, a write and a growth do to what is seen of a memory.
-use Rattle.std.proofs.Common.{◌≡◌, ℕ, zero, suc, ◌+◌, ◌-◌, ◌*◌, ◌/◌, ◌%◌, ◌<◌, ◌≤◌, ◌^◌, true, false, cond, List, [], ◌∷◌, ◌++◌, length, take, drop, replicate, Option, Some, None, refl, sym, ap, subst, ◌∙◌, inl, inr, arith, add-one, eq-eqb}
+use Rattle.std.proofs.Common.{◌≡◌, ℕ, zero, suc, ◌+◌, ◌-◌, ◌*◌, ◌%◌, ◌<◌, ◌≤◌, ◌^◌, true, false, cond, List, [], ◌∷◌, ◌++◌, length, take, drop, replicate, Option, Some, None, refl, sym, ap, subst, ◌∙◌, inl, inr, arith, add-one, eq-eqb}
 use Rattle.std.specs.Ordering.{nat_cmp, eq_by_cmp}
 use Rattle.std.specs.Int.{w32, to_le_bytes, from_le_bytes}
 use Rattle.std.specs.FinMap as map
@@ -7,23 +7,24 @@ use Rattle.std.specs.Cmp.{unsigned_tied}
 use Rattle.std.proofs.lemmas.Cmp.{nat_cmp_total}
 use Rattle.std.proofs.lemmas.Bool.{cases_eq, ne_eqb}
 use Rattle.std.proofs.Math.Seq.{take-add}
-use Rattle.std.proofs.lemmas.List.{length-replicate, length-append, length-take, length-drop, take-append-le, drop-append-le, drop-drop}
+use Rattle.std.proofs.lemmas.List.{length-replicate, length-append, length-drop, take-append-le, drop-append-le, drop-drop}
 use Rattle.gc_types.specs.declared.kind.VMGcKind.{VMGcKind}
 use Rattle.gc_types.specs.declared.kind.VMGcKind.TheVariants.{ExternRef, AnyRef, EqRef, StructRef, ArrayRef, ExnRef}
 use Rattle.gc_types.specs.declared.kind.Layouts.TheVariants.{Null}
 use Rattle.gc_types.specs.Kinds.{kind_bits}
 use Rattle.gc_types.specs.Layouts.{round_up}
-use Rattle.gc_refs.specs.Header.{Header, spare_bits, kind_part, IsOfKind}
+use Rattle.gc_refs.specs.Header.{spare_bits, kind_part, IsOfKind}
+use Rattle.gc_tables.specs.SideTables.{max_entries}
 use Rattle.gc_model.specs.Sizes.{alignment}
 use Rattle.gc_model.specs.Allocation.{page, max_pages}
-use Rattle.gc_model.specs.Views.{HeapObject, HeapView, u32_at, put_u32}
+use Rattle.gc_model.specs.Views.{HeapObject, u32_at, put_u32}
 use Rattle.gc_model.specs.Bytes.{put_bytes, SameBytes}
-use Rattle.gc_heap.specs.Objects.{held_size, size_with, first_offset, writable_offset, IsObjectKind}
+use Rattle.gc_heap.specs.Objects.{held_size, first_offset, writable_offset, IsObjectKind}
 use Rattle.gc_heap.specs.Heap.{IsWritable, with_data, put_object, AddsObject}
-use Rattle.gc_heap.specs.NullWalk.{first_place, kind_of, size_at, object_at, place_after, entries, IsHost, LiesAt, Follow, data_with, word_end, placed, IsNew, PlacesObject}
+use Rattle.gc_heap.specs.NullWalk.{first_place, kind_of, size_at, object_at, place_after, entries, IsHost, LiesAt, Follow, data_with, word_end, placed, PlacesObject}
 use Rattle.gc_heap.specs.NullStates.{bump_view, IsBumped}
-use Rattle.gc_heap.specs.NullWalkLaws.{first_least, least, spare_is, object_bytes, length-object, held_is, held_length, LiesAmong, some_is, found_lies, find_behind}
-use Rattle.gc_model.proofs.ByteLemmas.{SameBytes-part, SameBytes-then, u32_in_same, part_in_same, length-put_bytes, put_bytes-below, put_bytes-above, part-put_bytes, part-put_bytes_inside, u32_at-part, u32_at-put_u32}
+use Rattle.gc_heap.specs.NullWalkLaws.{first_least, least, spare_is, object_bytes, length-object, held_is, LiesAmong, some_is, found_lies, find_behind}
+use Rattle.gc_model.proofs.ByteLemmas.{SameBytes-part, SameBytes-then, u32_in_same, part_in_same, length-put_bytes, put_bytes-below, put_bytes-above, part-put_bytes, part-put_bytes_inside, u32_at-put_u32}
 use Rattle.gc_heap.proofs.NullWalkLemmas.{size_in_same, kind_in_same, ty_in_same, same_object, lies_in_header, follow_in_same, follow_push, rewritten}
 
 -- what is held lies in the memory
@@ -69,7 +70,7 @@ host_written o offset ws from to host =
     record {
       size = same.same_length ∙ host.size;
       from = subst (λ n. 0 < n) (sym number) host.from;
-      to = subst (λ n. n ≤ 2147483648) (sym number) host.to;
+      to = subst (λ n. n ≤ max_entries) (sym number) host.to;
     }
 
 -- a written object: its header stays, and its bytes are written

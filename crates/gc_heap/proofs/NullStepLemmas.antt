@@ -1,13 +1,12 @@
 -- The one increment of a collection of a null heap.
-use Rattle.std.proofs.Common.{◌≡◌, ℕ, zero, suc, ◌+◌, ◌%◌, ◌==◌, ◌&&◌, not, if◌then◌else◌, Bool, true, false, List, [], ◌∷◌, map, refl, sym, ap, subst, ◌∙◌}
+use Rattle.std.proofs.Common.{◌≡◌, ℕ, zero, suc, ◌+◌, ◌%◌, ◌==◌, ◌&&◌, not, if◌then◌else◌, Bool, true, false, List, [], ◌∷◌, map, refl, sym, ap, subst}
 use Rattle.gc_types.specs.declared.kind.Layouts.TheVariants.{Null}
 use Rattle.gc_types.specs.Declarations.{Declaration}
 use Rattle.gc_roots.specs.Roots.{Root}
 use Rattle.gc_model.specs.Views.{HeapObject, HeapView}
 use Rattle.gc_heap.specs.References.{word_in}
-use Rattle.gc_heap.specs.Content.{IsHeld}
 use Rattle.gc_heap.specs.Collection.{Start, CanCollect, Collected, IsMoved, moved, moved_root}
-use Rattle.gc_heap.specs.NullStates.{null_seen, IsNullSound, IsAtStart, IsNullUnderWay}
+use Rattle.gc_heap.specs.NullStates.{null_seen, IsNullSound, IsNullUnderWay}
 use Rattle.gc_heap.specs.declared.null.NullHeap.{NullHeap}
 
 stays : (b : Bool) (word : ℕ) → (if b then word else word) ≡ word

@@ -1,6 +1,6 @@
 -- The laws of a null heap: what is always true of it outside a collection, and that a collection may
 -- begin.
-use Rattle.std.proofs.Common.{◌≡◌, ℕ, zero, suc, ◌+◌, ◌-◌, ◌*◌, ◌/◌, ◌%◌, ◌<◌, ◌≤◌, ◌^◌, true, false, List, length, Option, Some, None, refl, sym, ap, subst, ◌∙◌, arith}
+use Rattle.std.proofs.Common.{◌≡◌, ℕ, ◌+◌, ◌%◌, ◌<◌, ◌≤◌, ◌^◌, List, length, Option, Some, None, refl, sym, ap, subst, ◌∙◌, arith}
 use Rattle.std.specs.Ordering.{nat_cmp}
 use Rattle.std.specs.FinMap as map
 use Rattle.std.proofs.lemmas.Cmp.{nat_cmp_total}
@@ -9,15 +9,15 @@ use Rattle.gc_types.specs.declared.kind.VMGcKind.{VMGcKind}
 use Rattle.gc_types.specs.declared.kind.VMGcKind.TheVariants.{ExternRef, AnyRef, EqRef, StructRef, ArrayRef, ExnRef}
 use Rattle.gc_types.specs.Layouts.{round_up}
 use Rattle.gc_model.specs.Sizes.{alignment}
-use Rattle.gc_model.specs.Views.{HeapObject, HeapView, detached_in}
-use Rattle.gc_heap.specs.Objects.{held_size, first_offset, data_offset}
+use Rattle.gc_model.specs.Views.{HeapObject, detached_in}
+use Rattle.gc_heap.specs.Objects.{held_size, data_offset}
 use Rattle.gc_heap.specs.Content.{total, LiesAtPlace, IsHeap}
 use Rattle.gc_heap.specs.Totals.{total-empty}
 use Rattle.gc_heap.specs.Collection.{Start, CanCollect}
 use Rattle.gc_heap.specs.NullWalk.{first_place, size_at, object_at, entries, LiesAt}
 use Rattle.gc_heap.specs.NullStates.{bump_view, view_of, null_seen, HasMemory, IsBumped, IsNullSound, IsNullUnderWay}
 use Rattle.gc_heap.specs.declared.null.NullHeap.{NullHeap}
-use Rattle.gc_heap.specs.NullWalkLaws.{least, spare_is, length-object, held_is, held_length, found_lies, total_entries, apart_among, LiesAmong}
+use Rattle.gc_heap.specs.NullWalkLaws.{least, spare_is, length-object, held_is, found_lies, total_entries, apart_among, LiesAmong}
 
 -- nothing is held in a heap with no memory
 pub nothing_in_detached : (q : ℕ) (o : HeapObject) → map.get {X = HeapObject} (map.empty {R = nat_cmp}) q ≡ Some o → ⊥

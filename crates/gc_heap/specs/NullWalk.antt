@@ -1,6 +1,6 @@
 -- A memory whose objects follow each other from a first place on, as in the null heap: each begins
 -- with its kind word, whose spare bits are its size, and its type word.
-use Rattle.std.specs.Prelude.{◌≡◌, ℕ, zero, suc, ◌+◌, ◌-◌, ◌*◌, ◌/◌, ◌%◌, ◌<◌, ◌≤◌, ◌==◌, if◌then◌else◌, List, [], ◌∷◌, ◌++◌, take, drop, replicate, length, Option, Some, None}
+use Rattle.std.specs.Prelude.{◌≡◌, ℕ, zero, suc, ◌+◌, ◌-◌, ◌%◌, ◌<◌, ◌≤◌, ◌==◌, if◌then◌else◌, List, [], ◌∷◌, ◌++◌, take, drop, replicate, length, Option, Some, None}
 use Rattle.std.specs.Int.{w32, to_le_bytes}
 use Rattle.gc_types.specs.declared.kind.Layouts.TheVariants.{Null}
 use Rattle.gc_types.specs.declared.kind.VMGcKind.{VMGcKind}
@@ -53,7 +53,7 @@ abbrev pub entries : ℕ → List ℕ → ℕ → List (ℕ × HeapObject)
 entries zero bytes place = []
 entries (suc n) bytes place = (place, object_at bytes place) ∷ entries n bytes (place_after bytes place)
 
--- an external object has its host id alone, and that is one of an id
+-- an external object holds a host id alone: the number that stands for an id, which is the id plus 1
 pub record IsHost (o : HeapObject) : Type 0 where
   pub size : length o.bytes ≡ 4
   pub from : 0 < u32_at o.bytes 0

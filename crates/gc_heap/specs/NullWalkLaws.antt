@@ -1,6 +1,6 @@
 -- Laws of objects that follow each other: where they lie, and what they take together.
-use Rattle.std.proofs.Common.{◌≡◌, ◌≢◌, ℕ, zero, suc, ◌+◌, ◌-◌, ◌*◌, ◌/◌, ◌%◌, ◌≤◌, ◌<◌, is_some, length, Bool, true, false, cond, List, [], ◌∷◌, ◌++◌, take, drop, Option, Some, None, refl, sym, ap, subst, ◌∙◌, inl, inr, arith, eq-eqb}
-use Rattle.std.specs.Ordering.{nat_cmp, eq_by_cmp}
+use Rattle.std.proofs.Common.{◌≡◌, ◌≢◌, ℕ, zero, suc, ◌+◌, ◌-◌, ◌*◌, ◌%◌, ◌≤◌, ◌<◌, is_some, length, cond, List, ◌∷◌, take, drop, Option, Some, None, refl, sym, ap, subst, ◌∙◌, inl, inr, arith, eq-eqb}
+use Rattle.std.specs.Ordering.{nat_cmp}
 use Rattle.std.specs.FinMap as map
 use Rattle.std.specs.Cmp.{unsigned_tied}
 use Rattle.std.proofs.lemmas.Cmp.{nat_cmp_total}
@@ -9,17 +9,12 @@ use Rattle.std.proofs.lemmas.Bool.{cases_eq, ne_eqb}
 use Rattle.gc_types.specs.declared.kind.Layouts.TheVariants.{Null}
 use Rattle.gc_types.specs.declared.kind.VMGcKind.{VMGcKind}
 use Rattle.gc_types.specs.declared.kind.VMGcKind.TheVariants.{ExternRef, AnyRef, EqRef, StructRef, ArrayRef, ExnRef}
-use Rattle.gc_types.specs.Kinds.{kind_bits}
-use Rattle.gc_types.specs.Layouts.{round_up}
-use Rattle.gc_refs.specs.Header.{spare_bits, kind_part}
-use Rattle.gc_model.specs.Sizes.{alignment}
+use Rattle.gc_refs.specs.Header.{spare_bits}
 use Rattle.gc_model.specs.Views.{HeapObject, u32_at}
-use Rattle.gc_heap.specs.Objects.{first_offset, held_size, size_with, IsObjectKind}
+use Rattle.gc_heap.specs.Objects.{first_offset, held_size, size_with}
 use Rattle.gc_heap.specs.Content.{total}
 use Rattle.gc_heap.specs.Totals.{total-empty, total-insert}
-use Rattle.gc_heap.specs.NullWalk.{kind_of, size_at, object_at, place_after, entries, IsHost, LiesAt, Follow}
-use Rattle.gc_model.specs.Bytes.{SameBytes}
-use Rattle.gc_model.proofs.ByteLemmas.{SameBytes-part, part_in_same, u32_in_same}
+use Rattle.gc_heap.specs.NullWalk.{size_at, object_at, place_after, entries, LiesAt, Follow}
 
 pub first_least : (k : VMGcKind) → 8 ≤ first_offset Null k
 first_least ExternRef = omega arith

@@ -106,6 +106,18 @@ total-same f g m n same =
     let alike = same_entries nat_cmp nat_cmp_total nat_cmp-IsAntisymmetric (numbers f (entries m)) (numbers g (entries n)) (sorted_numbers f (entries m) (entries_sorted m)) (sorted_numbers g (entries n) (entries_sorted n)) found in
     sum_numbers f (entries m) ∙ ap (λ es. sum (map (λ (e : ℕ × ℕ). e.1) es)) alike ∙ sym (sum_numbers g (entries n))
 
+-- where each number is 0
+pub total-zero : (f : HeapObject → ℕ) (m : FinMap nat_cmp HeapObject) → ((q : ℕ) (v : HeapObject) → get m q ≡ Some v → f v ≡ 0) → total f m ≡ 0
+total-zero f m none = total-same f (λ _. 0) m m (λ q. alike (get m q) (none q)) ∙ total-entries (λ _. 0) m ∙ zeros (entries m)
+  where
+    alike : (o : Option HeapObject) → ((v : HeapObject) → o ≡ Some v → f v ≡ 0) → option_map f o ≡ option_map (λ _. 0) o
+    alike None h = refl
+    alike (Some v) h = ap Some (h v refl)
+
+    zeros : (es : List (ℕ × HeapObject)) → sum_of (λ _. 0) es ≡ 0
+    zeros [] = refl
+    zeros (e ∷ es) = sum_by-cons (λ (e : ℕ × HeapObject). 0) e es ∙ ap (λ n. 0 + n) (zeros es)
+
 -- how many objects are held, as a sum
 pub len-total : (m : FinMap nat_cmp HeapObject) → len m ≡ total (λ _. 1) m
 len-total m = len-entries m ∙ ones (entries m) ∙ sym (total-entries (λ _. 1) m)

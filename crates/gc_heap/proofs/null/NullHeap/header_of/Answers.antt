@@ -1,4 +1,3 @@
-use Rattle.std.proofs.Common.{◌≡◌, ◌∙◌, ap, subst}
 use Rattle.gc_heap.proofs.NullHeapLemmas.{nothing_held, lies_whole, header_reads}
 use Rattle.gc_heap.proofs.null.NullHeap.header_of.Goals as goal
 

@@ -1,4 +1,4 @@
-use Rattle.std.proofs.Common.{◌≡◌, ◌+◌, ℕ, Some, IsOkAnd, sym, subst}
+use Rattle.std.proofs.Common.{◌≡◌, ℕ, Some, sym, subst}
 use Rattle.std.specs.FinMap as finite
 use Rattle.gc_model.specs.Views.{u32_at}
 use Rattle.gc_heap.specs.NullStates.{null_seen}

@@ -1,6 +1,6 @@
-use Rattle.std.proofs.Common.{ℕ, ◌≤◌, ◌*◌, length, arith}
+use Rattle.std.proofs.Common.{◌≤◌, ◌*◌, length, arith}
 use Rattle.gc_model.specs.Allocation.{page, max_pages}
-use Rattle.gc_heap.proofs.NullHeapLemmas.{Replaces, replaces}
+use Rattle.gc_heap.proofs.NullHeapLemmas.{replaces}
 use Rattle.gc_heap.proofs.null.NullHeapGcHeap.replace_memory.Goals as goal
 
 pub returns-clause-sound : goal.returns-clause-sound

@@ -1,13 +1,10 @@
-use Rattle.std.proofs.Common.{◌≡◌, ◌+◌, ◌<◌, ◌≤◌, ℕ, length, arith, subst, sym, ap, ◌∙◌}
-use Rattle.gc_types.specs.declared.kind.Layouts.TheVariants.{Null}
+use Rattle.std.proofs.Common.{◌≡◌, ◌+◌, ◌<◌, ◌≤◌, length, arith}
 use Rattle.gc_types.specs.declared.kind.VMGcKind.{VMGcKind}
 use Rattle.gc_types.specs.Layouts.{round_up}
 use Rattle.gc_refs.specs.Header.{IsOfKind, spare_bits}
 use Rattle.gc_model.specs.Sizes.{alignment}
-use Rattle.gc_heap.specs.Heap.{AddsObject}
 use Rattle.gc_heap.specs.NullWalk.{first_place, placed}
 use Rattle.gc_heap.specs.NullWalkLaws.{follow_bounds}
-use Rattle.gc_heap.specs.NullStates.{bump_view}
 use Rattle.gc_heap.proofs.NullMemoryLemmas.{Adds, adds_object}
 use Rattle.gc_heap.proofs.null.place.allocate_in.Goals as goal
 

@@ -1,9 +1,6 @@
-use Rattle.std.proofs.Common.{◌≡◌, ◌+◌, ◌-◌, ℕ, Option, length, take, drop, replicate, sym, ap, subst, ◌∙◌, arith}
-use Rattle.std.proofs.lemmas.List.{length-replicate}
+use Rattle.std.proofs.Common.{◌+◌, ◌-◌, replicate, ap, ◌∙◌}
 use Rattle.gc_model.specs.Bytes.{put_bytes}
-use Rattle.gc_model.specs.Views.{put_u32}
-use Rattle.gc_heap.specs.NullWalk.{data_with}
-use Rattle.gc_heap.proofs.NullMemoryLemmas.{word_and_zeros, told_data}
+use Rattle.gc_heap.proofs.NullMemoryLemmas.{told_data}
 use Rattle.gc_heap.proofs.null.place.write_data.Goals as goal
 
 pub returns-in-Some-clause-data_is : goal.returns-in-Some-clause-data_is

@@ -1,7 +1,7 @@
-use Rattle.std.proofs.Common.{◌≡◌, ◌+◌, ◌/◌, ◌*◌, ◌^◌, ◌<◌, ◌≤◌, ◌∙◌, ap, subst, sym, arith, List, ℕ, length}
+use Rattle.std.proofs.Common.{◌+◌, ◌^◌, ◌<◌, ◌∙◌, ap, subst, sym, arith, List, ℕ}
 use Rattle.gc_types.specs.declared.kind.VMGcKind.{VMGcKind}
 use Rattle.gc_types.specs.Kinds.{kind_bits}
-use Rattle.gc_refs.specs.Header.{Header, with_spare, spare_bits}
+use Rattle.gc_refs.specs.Header.{Header}
 use Rattle.gc_model.specs.Views.{put_u32}
 use Rattle.gc_model.specs.Bytes.{SameBytes}
 use Rattle.gc_heap.specs.NullWalk.{placed, PlacesObject}
