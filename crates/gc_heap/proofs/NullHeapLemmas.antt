@@ -286,7 +286,7 @@ null_host h q object sound held kind = host_in h h.memory q object refl sound he
 pub extern_made : (id number : ℕ) → number ≡ id + 1 → placed ExternRef (2 ^ 32 - 1) (Some number) 12 ≡ external id
 extern_made id number is = λ i. record { kind = ExternRef; ty = 2 ^ 32 - 1; spare = 0; bytes = (append-nil (to_le_bytes w32 number) ∙ ap (to_le_bytes w32) is) i }
 
-pub extern_host : (number ty : ℕ) → 0 < number → number ≤ 2147483648 → IsHost (placed ExternRef ty (Some number) 12)
+pub extern_host : (number ty : ℕ) → 0 < number → number ≤ max_entries → IsHost (placed ExternRef ty (Some number) 12)
 extern_host number ty from to =
     let bytes : List ℕ = to_le_bytes w32 number in
     let is : bytes ++ [] ≡ bytes = append-nil bytes in
@@ -294,7 +294,7 @@ extern_host number ty from to =
     record {
       size = ap length is;
       from = subst (λ n. 0 < n) (sym read) from;
-      to = subst (λ n. n ≤ 2147483648) (sym read) to;
+      to = subst (λ n. n ≤ max_entries) (sym read) to;
     }
 
 -- the number of an id is read as that id

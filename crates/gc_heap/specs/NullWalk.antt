@@ -53,7 +53,7 @@ abbrev pub entries : ℕ → List ℕ → ℕ → List (ℕ × HeapObject)
 entries zero bytes place = []
 entries (suc n) bytes place = (place, object_at bytes place) ∷ entries n bytes (place_after bytes place)
 
--- an external object has its host id alone, and that is one of an id
+-- an external object holds a host id alone: the number that stands for an id, which is the id plus 1
 pub record IsHost (o : HeapObject) : Type 0 where
   pub size : length o.bytes ≡ 4
   pub from : 0 < u32_at o.bytes 0
