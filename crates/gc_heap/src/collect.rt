@@ -2,7 +2,7 @@
 
 ghost use Rattle.std.specs.Prelude.{ℕ, Bool, true, ◌≡◌, ◌+◌, ◌≤◌};
 ghost use Rattle.gc_heap.specs.Collection.{Start, has_host, IsPartOf, CanCollect, Collected, IsStepCount};
-ghost use Rattle.gc_heap.specs.Run.{start_at};
+ghost use Rattle.gc_heap.specs.Run.{start_at, IsRise};
 
 use crate::collection::{GcProgress, GcStoreTraceState};
 use crate::heap::GcHeap;
@@ -87,4 +87,28 @@ pub fn run<H: GcHeap, D: Drop>(
 {
     let mut state = heap.begin();
     collect(heap, &mut state, roots, trace);
+}
+
+/// Does a whole collection as `run` does, and counts its steps. A copying collection takes one for
+/// each object that the roots reach, for each reference in them, and for each root word that isn't
+/// null.
+pub fn run_counted<H: GcHeap, D: Drop, G: Ledger>(
+    heap: &mut H,
+    roots: &mut GcRootsList,
+    trace: &mut GcStoreTraceState<'_, D>,
+    steps: &mut Steps<G>,
+)
+    requires sound { H.sound heap.old }
+    requires can { CanCollect H.KIND (start_at (H.seen heap.old) roots.old.roots trace.old.types.now.declarations trace.old.host_data_table.now.entries) }
+    ensures sound { H.sound heap.new }
+    ensures collected { Collected H.KIND (start_at (H.seen heap.old) roots.old.roots trace.old.types.now.declarations trace.old.host_data_table.now.entries)
+        (H.seen heap.new) roots.new.roots (has_host trace.new.host_data_table.now.entries) }
+    ensures counted { IsRise (IsStepCount H.KIND (start_at (H.seen heap.old) roots.old.roots trace.old.types.now.declarations trace.old.host_data_table.now.entries)) steps.old steps.new }
+    ensures spare { roots.new.spare ≡ roots.old.spare }
+    ensures values { IsPartOf trace.new.host_data_table.now.entries trace.old.host_data_table.now.entries }
+    ensures hosts { trace.new.host_data_table.ghost_name ≡ trace.old.host_data_table.ghost_name }
+    ensures types { trace.new.types ≡ trace.old.types }
+{
+    let mut state = heap.begin();
+    collect_counted(heap, &mut state, roots, trace, steps);
 }

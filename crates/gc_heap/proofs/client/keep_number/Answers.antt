@@ -1,6 +1,5 @@
-use Rattle.std.proofs.Common.{sym, subst, ◌∙◌}
-use Rattle.gc_heap.specs.Collection.{CanCollect, Collected, has_host}
-use Rattle.gc_heap.specs.Run.{start_at}
+use Rattle.std.proofs.Common.{◌∙◌}
+use Rattle.gc_heap.specs.Collection.{has_host}
 use Rattle.gc_heap.specs.Client.{MakesNumber}
 use Rattle.gc_heap.proofs.ClientLemmas.{can_collect}
 use Rattle.gc_heap.proofs.NumberLemmas.{number_kept, HoldsNumber}
@@ -17,7 +16,7 @@ run-requires-clause-can g c =
     let types = c.args.trace.now.types.now.declarations in
     let entries = c.args.trace.now.host_data_table.now.entries in
     let made = made_object g (goal.at.run-requires-clause-can g c).In-Ok-Ok in
-    subst (λ roots. CanCollect g.H.GcHeap.KIND (start_at (g.H.GcHeap.seen c.make_number.new.heap) roots types entries)) (sym c.add_vmgcref_root.ensures.roots)
+    rw c.add_vmgcref_root.ensures.roots
     (can_collect g.H.GcHeap.KIND types c.args.layout.now (g.H.GcHeap.seen c.args.heap.now) (g.H.GcHeap.seen c.make_number.new.heap) c.in-Ok-Ok.object made.object made.adds c.args.roots.now.roots 0 (has_host entries) c.requires.can)
 
 -- where the number is after the collection
@@ -26,8 +25,7 @@ found : (g : _) (c : After-word_at-moved g) → MakesNumber g.H.GcHeap.KIND c.ar
 found g c made =
     let types = c.args.trace.now.types.now.declarations in
     let entries = c.args.trace.now.host_data_table.now.entries in
-    let done = subst (λ roots. Collected g.H.GcHeap.KIND (start_at (g.H.GcHeap.seen c.make_number.new.heap) roots types entries) (g.H.GcHeap.seen c.run.new.heap) c.run.new.roots.roots (has_host c.run.new.trace.host_data_table.now.entries))
-    c.add_vmgcref_root.ensures.roots c.run.ensures.collected in
+    let done = rw c.add_vmgcref_root.ensures.roots at c.run.ensures.collected in
     number_kept g.H.GcHeap.KIND types c.args.layout.now c.args.offset c.args.number (g.H.GcHeap.seen c.args.heap.now) (g.H.GcHeap.seen c.make_number.new.heap) (g.H.GcHeap.seen c.run.new.heap) c.in-Ok-Ok.object
     made c.requires.layout.from c.requires.layout.to
     c.args.roots.now.roots c.run.new.roots.roots (has_host entries) (has_host c.run.new.trace.host_data_table.now.entries) done
