@@ -27,9 +27,9 @@ mod search;
 
 pub use blocks::FreeBlocks;
 pub use free_list::FreeList;
+pub use gc_steps::Steps;
 pub use layout::Layout;
 pub use run::{ALIGN, Run};
-pub use gc_steps::Steps;
 
 #[cfg(test)]
 mod tests;
