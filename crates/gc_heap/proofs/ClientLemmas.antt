@@ -1,6 +1,7 @@
 -- A collection may begin after a struct without references was made and rooted.
 use Rattle.std.proofs.Common.{◌≡◌, ◌≢◌, ℕ, zero, suc, ◌+◌, ◌%◌, ◌<◌, ◌⊎◌, inl, inr, Bool, true, false, not, cond, nat_eq, List, [], ◌∷◌, ◌++◌, length, map, filter, Option, Some, None, Contains, option_map, slice_get, slice_index_or, refl, sym, ap, ap₂, ◌∙◌, subst, arith}
-use Rattle.std.specs.FinMap.{FinMap, get, insert, gets}
+use Rattle.std.specs.FinMap.{FinMap, get, insert, gets, empty, get-empty}
+use Rattle.std.proofs.lemmas.Option.{none-some}
 use Rattle.std.specs.FinSet as finset
 use Rattle.std.specs.Ordering.{nat_cmp}
 use Rattle.std.proofs.lemmas.Bool.Decides.{nat_tests}
@@ -19,6 +20,7 @@ use Rattle.gc_model.specs.Views.{HeapObject, HeapView}
 use Rattle.gc_model.proofs.Content.{get-put_same, get-put_other}
 use Rattle.gc_heap.specs.References.{reference_offsets, references, typed_offsets, info_offsets, traced_offsets, word_in, HoldsType, IsTyped}
 use Rattle.gc_heap.specs.Content.{total, IsHeld}
+use Rattle.gc_heap.specs.Heap.{empty_heap}
 use Rattle.gc_heap.specs.Collection.{Start, CanCollect, AreCounted, CountsExact, IsWordOf, IsExternal, names_of, occurrences, held_words, stack_words, Kept, by_root, IsMoved, moved, moved_root}
 use Rattle.gc_heap.specs.Totals.{total-insert, total-zero}
 use Rattle.gc_heap.specs.Client.{IsPlainObject, AddsPlain}
@@ -239,3 +241,24 @@ moved-place to place aligned above = grind (arith, nat_tests)
 pub last_moved : (to : ℕ → ℕ) (roots : List Root) (r : Root) → root_at (map (moved_root to) (roots ++ r ∷ [])) (length roots) ≡ moved_root to r
 last_moved to [] r = refl
 last_moved to (x ∷ roots) r = last_moved to roots r
+
+nothing : {X : Type 0} (q : ℕ) (x : X) → get (empty {X = X} {R = nat_cmp}) q ≡ Some x → ⊥
+nothing q x is = none-some x (sym (get-empty nat_cmp q) ∙ is)
+
+counts_empty : (layouts : Layouts) (types : List Declaration) (bytes : ℕ) → AreCounted layouts types (empty_heap layouts bytes 0) []
+counts_empty Null types bytes = tt
+counts_empty Counting types bytes = record { counted = λ place n is. absurd (nothing place n is); shown = λ place held on_stack. absurd (nothing place held.0 held.1) }
+counts_empty Copying types bytes = tt
+
+-- a collection may begin in an empty heap that no root names
+pub can_collect_empty : (layouts : Layouts) (types : List Declaration) (bytes : ℕ) (hosts : ℕ → Bool) → CanCollect layouts (start (empty_heap layouts bytes 0) [] types hosts)
+can_collect_empty layouts types bytes hosts = record {
+  attached = refl;
+  open_scopes = refl;
+  roots = λ r h. absurd (omega (arith, h.1));
+  fields = λ q x w is has. absurd (nothing q x is);
+  typed = λ q x is. absurd (nothing q x is);
+  hosts = λ q x is. absurd (nothing q x is.held);
+  own_hosts = λ p q x y is is' same. absurd (nothing p x is.held);
+  counts = counts_empty layouts types bytes;
+}

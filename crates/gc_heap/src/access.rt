@@ -3,7 +3,7 @@
 //! Offsets are counted in bytes from an object's first byte, its header included, as layouts count
 //! them. Numbers lie with their lowest byte first.
 
-ghost use Rattle.std.specs.Prelude.{ℕ, ◌≡◌, Some};
+ghost use Rattle.std.specs.Prelude.{◌≡◌, Some};
 ghost use Rattle.std.specs.FinMap as finite;
 ghost use Rattle.std.specs.Int.{w8, w16, w32, w64, w128};
 ghost use Rattle.gc_refs.specs.LittleEndian.{unsigned_at, unsigned_bytes};

@@ -1,6 +1,6 @@
 //! A client of any heap: what it proves, it proves of each heap, by the contract of `GcHeap` alone.
 
-ghost use Rattle.std.specs.Prelude.{ℕ, List, true, ◌≡◌, ◌<◌};
+ghost use Rattle.std.specs.Prelude.{List, true, ◌≡◌, ◌<◌};
 ghost use Rattle.gc_types.specs.Declarations.{Declaration};
 ghost use Rattle.gc_heap.specs.Collection.{CanCollect};
 ghost use Rattle.gc_heap.specs.Run.{start_at};

@@ -1,11 +1,9 @@
 //! What the object that a word names is, of any heap.
 
-ghost use Rattle.std.specs.Prelude.{ℕ, ◌≡◌, ◌%◌, Some, None, true, false, IsSomeAnd};
+ghost use Rattle.std.specs.Prelude.{◌≡◌, ◌%◌, Some, None, false};
 ghost use Rattle.std.specs.FinMap as finite;
-ghost use Rattle.gc_types.specs.declared.kind.VMGcKind.TheVariants.{ExternRef, StructRef, ArrayRef, ExnRef};
 ghost use Rattle.gc_model.specs.Views.{HeapObject};
-ghost use Rattle.gc_heap.specs.Objects.{IsHeaderOf};
-ghost use Rattle.gc_heap.specs.Kinds.{TellsKind, TellsHeader, IsAny, GivesWhere, TakesWhere};
+ghost use Rattle.gc_heap.specs.Kinds.{TellsKind};
 
 use crate::heap::GcHeap;
 use gc_refs::{
@@ -20,7 +18,6 @@ use gc_types::VMGcKind;
 pub trait RefKinds: Sized {
     ghost use Rattle.std.specs.Prelude.{ℕ, ◌≡◌, ◌%◌, Some, None, true, false, IsSomeAnd};
     ghost use Rattle.std.specs.FinMap as finite;
-    ghost use Rattle.gc_types.specs.declared.kind.VMGcKind.{VMGcKind};
     ghost use Rattle.gc_types.specs.declared.kind.VMGcKind.TheVariants.{ExternRef, StructRef, ArrayRef, ExnRef};
     ghost use Rattle.gc_model.specs.Views.{HeapObject};
     ghost use Rattle.gc_refs.specs.Words.{IsHeapWord};
