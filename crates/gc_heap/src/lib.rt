@@ -12,6 +12,8 @@ pub mod client;
 pub mod collect;
 pub mod collection;
 pub mod heap;
+#[cfg(test)]
+mod kinds_tests;
 pub mod null;
 pub mod ref_kinds;
 #[cfg(test)]

@@ -9,7 +9,7 @@ use crate::free_list::FreeList;
 use crate::key::{Key, Order};
 use crate::run::Run;
 use crate::search::count_before;
-use crate::steps::Steps;
+use gc_steps::Steps;
 use std::alloc::{AllocError, Global};
 use std::marker::Brand;
 use std::num::NonZeroU32;
