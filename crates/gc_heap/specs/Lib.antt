@@ -4,3 +4,4 @@ pub mod Content
 pub mod Heap
 pub mod Objects
 pub mod References
+pub mod Totals
