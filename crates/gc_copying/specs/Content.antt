@@ -1,5 +1,5 @@
 -- The objects of a copying heap, and what is always true of them outside a collection.
-use Rattle.std.specs.Prelude.{◌≡◌, ℕ, ◌+◌, ◌-◌, ◌%◌, ◌<◌, ◌≤◌, Bool, true, List, [], ◌∷◌, length, map}
+use Rattle.std.specs.Prelude.{◌≡◌, ℕ, ◌*◌, ◌+◌, ◌-◌, ◌%◌, ◌<◌, ◌≤◌, Bool, true, List, [], ◌∷◌, length, map}
 use Rattle.std.specs.Ordering.{nat_cmp}
 use Rattle.std.specs.FinMap as finite
 use Rattle.gc_types.specs.declared.kind.Layouts.TheVariants.{Copying}
@@ -26,7 +26,7 @@ space_view bytes upper bump scopes = record (detached_in scopes) {
   attached = true;
   content = objects_at bytes (places_in bytes upper bump);
   capacity = length bytes;
-  allocated = bump - half_start bytes upper;
+  allocated = bump - half_start (length bytes) upper;
   needs_gc = upper;
 }
 
@@ -61,8 +61,8 @@ pub record ExternalsLinked (bytes : List ℕ) (head : ℕ) (ps : List ℕ) : Typ
 -- of them, and the external ones are linked.
 pub record IsSpace (bytes : List ℕ) (upper : Bool) (bump head objects : ℕ) : Type 0 where
   pub bound : length bytes ≤ page * max_pages
-  pub chain : Chain (size_at bytes) (first_place bytes upper) bump (places_in bytes upper bump)
-  pub inside : bump ≤ half_end bytes upper
+  pub chain : Chain (size_at bytes) (first_place (length bytes) upper) bump (places_in bytes upper bump)
+  pub inside : bump ≤ half_end (length bytes) upper
   pub whole : (p : ℕ) → In p (places_in bytes upper bump) → IsWhole bytes p
   pub count : objects ≡ length (places_in bytes upper bump)
   pub externals : ExternalsLinked bytes head (places_in bytes upper bump)

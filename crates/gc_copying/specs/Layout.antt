@@ -9,20 +9,20 @@ use Rattle.gc_memory.specs.Chains.{places}
 use Rattle.gc_model.specs.Views.{HeapObject}
 use Rattle.gc_heap.specs.Heap.{half_of}
 
--- where the active half of a memory begins, and where it ends
-abbrev pub half_start : List ℕ → Bool → ℕ
-half_start bytes upper = cond upper (half_of (length bytes)) 0
+-- where the active half of a memory of so many bytes begins, and where it ends
+abbrev pub half_start : ℕ → Bool → ℕ
+half_start capacity upper = cond upper (half_of capacity) 0
 
-abbrev pub half_end : List ℕ → Bool → ℕ
-half_end bytes upper = half_start bytes upper + half_of (length bytes)
+abbrev pub half_end : ℕ → Bool → ℕ
+half_end capacity upper = half_start capacity upper + half_of capacity
 
 -- the bytes of a half that no object lies in: its first 16, where there is any memory
-abbrev pub skipped : List ℕ → ℕ
-skipped bytes = if length bytes == 0 then 0 else 16
+abbrev pub skipped : ℕ → ℕ
+skipped capacity = if capacity == 0 then 0 else 16
 
 -- where the first object of the active half lies
-abbrev pub first_place : List ℕ → Bool → ℕ
-first_place bytes upper = half_start bytes upper + skipped bytes
+abbrev pub first_place : ℕ → Bool → ℕ
+first_place capacity upper = half_start capacity upper + skipped capacity
 
 -- the bytes of the object at a place
 abbrev pub size_at : List ℕ → ℕ → ℕ
@@ -30,7 +30,7 @@ size_at bytes place = word bytes (place + 8)
 
 -- the places of the objects of the active half, which ends at a bump place
 abbrev pub places_in : List ℕ → Bool → ℕ → List ℕ
-places_in bytes upper bump = places (size_at bytes) (first_place bytes upper) bump
+places_in bytes upper bump = places (size_at bytes) (first_place (length bytes) upper) bump
 
 -- the kind of these bits; an external object's where they are no kind's
 abbrev pub kind_of : ℕ → VMGcKind

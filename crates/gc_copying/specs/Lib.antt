@@ -1,2 +1,4 @@
 pub mod Layout
 pub mod Content
+pub mod States
+pub mod ObjectLaws
