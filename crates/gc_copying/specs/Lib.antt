@@ -2,3 +2,4 @@ pub mod Layout
 pub mod Content
 pub mod States
 pub mod ObjectLaws
+pub mod HeapLaws
