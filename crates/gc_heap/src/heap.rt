@@ -125,7 +125,7 @@ pub trait GcHeap {
     fn replace_memory(&mut self, memory: HeapMemory, delta_bytes_grown: u64)
         requires taken { (view : HeapView) × ((bytes : List ℕ) × (taken self.old view bytes × (memory ≡ bytes ++ replicate delta_bytes_grown 0) × ((delta_bytes_grown ≡ 0) ⊎ (view.needs_gc ≡ false)))) }
         ensures sound { sound self.new }
-        ensures seen { (view : HeapView) (bytes : List ℕ) → taken self.old view bytes → seen self.new ≡ grown KIND view delta_bytes_grown };
+        ensures seen { (view : HeapView) (bytes : List ℕ) → taken self.old view bytes → memory ≡ bytes ++ replicate delta_bytes_grown 0 → seen self.new ≡ grown KIND view delta_bytes_grown };
 
     // Scopes in which no collection may begin
 
