@@ -14,7 +14,8 @@ use Rattle.gc_model.specs.Allocation.{page, max_pages}
 use Rattle.gc_model.specs.Views.{HeapObject, HeapView, detached_in}
 use Rattle.gc_heap.specs.Objects.{first_offset, IsObjectKind}
 use Rattle.gc_heap.specs.Content.{IsSpare}
-use Rattle.gc_copying.specs.Layout.{half_start, half_end, first_place, size_at, places_in, kind_at, object_at}
+use Rattle.gc_copying.specs.Spaces.{half_start, half_end}
+use Rattle.gc_copying.specs.Layout.{first_place, size_at, places_in, kind_at, object_at}
 
 -- the objects at these places
 abbrev pub objects_at : List ℕ → List ℕ → finite.FinMap nat_cmp HeapObject

@@ -19,7 +19,8 @@ use Rattle.gc_heap.specs.Objects.{size_with, held_size, first_offset, data_offse
 use Rattle.gc_heap.specs.Content.{total, block_size, LiesAtPlace, IsHeap}
 use Rattle.gc_heap.specs.Totals.{total-empty}
 use Rattle.gc_heap.specs.Heap.{half_of, HasRoom}
-use Rattle.gc_copying.specs.Layout.{half_start, half_end, skipped, first_place, size_at, places_in, kind_at, data_at, object_at}
+use Rattle.gc_copying.specs.Spaces.{half_start, half_end}
+use Rattle.gc_copying.specs.Layout.{skipped, first_place, size_at, places_in, kind_at, data_at, object_at}
 use Rattle.gc_copying.specs.Content.{objects_at, space_view, IsWhole, IsSpace}
 use Rattle.gc_copying.specs.ObjectLaws.{length-data_at, length-external, held_size-at, FoundAt, held_only, total-at}
 

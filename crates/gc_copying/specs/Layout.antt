@@ -7,14 +7,7 @@ use Rattle.gc_refs.specs.Header.{spare_bits, kind_part}
 use Rattle.gc_memory.specs.Words.{word}
 use Rattle.gc_memory.specs.Chains.{places}
 use Rattle.gc_model.specs.Views.{HeapObject}
-use Rattle.gc_heap.specs.Heap.{half_of}
-
--- where the active half of a memory of so many bytes begins, and where it ends
-abbrev pub half_start : ℕ → Bool → ℕ
-half_start capacity upper = cond upper (half_of capacity) 0
-
-abbrev pub half_end : ℕ → Bool → ℕ
-half_end capacity upper = half_start capacity upper + half_of capacity
+use Rattle.gc_copying.specs.Spaces.{half_start}
 
 -- the bytes of a half that no object lies in: its first 16, where there is any memory
 abbrev pub skipped : ℕ → ℕ

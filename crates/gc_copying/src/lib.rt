@@ -1,7 +1,8 @@
-//! The copying heap.
+//! The copying heap: objects lie in one half of the memory, and a collection copies those that the
+//! roots reach into the other half.
 #![tactic(auto)]
 
 pub mod layout;
-mod space;
+pub(crate) mod space;
 
 pub use layout::{CopyingCollector, round_down_heap_capacity};
