@@ -4,3 +4,4 @@ pub mod Content
 pub mod States
 pub mod ObjectLaws
 pub mod HeapLaws
+pub mod Placing
