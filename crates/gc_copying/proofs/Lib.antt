@@ -1,1 +1,2 @@
-mod SpaceLemmas
+pub mod SpaceLemmas
+pub mod MakeLemmas

@@ -61,7 +61,7 @@ pub record LiesInSpace (bytes : List ℕ) (upper : Bool) (bump p : ℕ) : Type 0
   pub aligned : p % 16 ≡ 0
   pub not_null : 0 < p
 
-first_aligned : (n : ℕ) (upper : Bool) → first_place n upper % 16 ≡ 0
+pub first_aligned : (n : ℕ) (upper : Bool) → first_place n upper % 16 ≡ 0
 first_aligned n upper = let h = half_lies n upper in elim (skips n upper) [
   | nothing e s start half ↦ omega (arith, h.aligned)
   | sixteen more s ↦ omega (arith, h.aligned)

@@ -3,6 +3,7 @@
 #![tactic(auto)]
 
 pub mod layout;
+mod place;
 pub(crate) mod space;
 
 pub use layout::{CopyingCollector, round_down_heap_capacity};
