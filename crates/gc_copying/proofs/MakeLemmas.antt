@@ -1,5 +1,5 @@
 -- The objects that an allocation makes.
-use Rattle.std.proofs.Common.{◌≡◌, ℕ, ◌+◌, ◌-◌, ◌*◌, ◌/◌, ◌%◌, ◌<◌, ◌≤◌, ◌^◌, Bool, true, false, cond, List, [], ◌∷◌, ◌++◌, take, drop, length, replicate, Ok, Err, refl, sym, ap, subst, ◌∙◌, inl, inr, arith}
+use Rattle.std.proofs.Common.{◌≡◌, ℕ, ◌+◌, ◌-◌, ◌*◌, ◌/◌, ◌%◌, ◌<◌, ◌≤◌, ◌^◌, Bool, true, false, cond, List, [], ◌∷◌, ◌++◌, take, drop, length, replicate, refl, sym, ap, subst, ◌∙◌, inl, inr, arith}
 use Rattle.std.specs.Prelude.{All, if◌then◌else◌}
 use Rattle.std.proofs.Math.Logic.{◌⊎◌}
 use Rattle.std.specs.Int.{w32, to_le_bytes}
@@ -14,22 +14,26 @@ use Rattle.gc_refs.specs.Header.{Header, header_of, spare_bits, kind_part, IsOfK
 use Rattle.gc_tables.specs.SideTables.{max_entries}
 use Rattle.gc_memory.specs.Words.{word}
 use Rattle.gc_memory.specs.Changes.{Wrote}
+use Rattle.gc_memory.specs.Lists.{In, here}
 use Rattle.gc_memory.proofs.ChangeLemmas.{Wrote-within, Wrote-then, Wrote-before, Wrote-put_u32, Wrote-zeros, Wrote-put_bytes}
 use Rattle.gc_memory.proofs.ChainLemmas.{Chain-end, Chain-length, Chain-aligned}
 use Rattle.gc_memory.proofs.WordLemmas.{word-is, word_before, word_behind, word-put_u32, word_of_zeros}
 use Rattle.gc_model.specs.Bytes.{put_bytes}
 use Rattle.gc_model.proofs.ByteLemmas.{part_in_same, part-put_bytes, part-put_bytes_inside}
 use Rattle.gc_model.specs.Views.{HeapObject, HeapView, no_counts, u32_at, put_u32}
-use Rattle.gc_heap.specs.Heap.{AddsObject, HasRoom}
+use Rattle.gc_heap.specs.Heap.{AddsObject, LacksRoom, Allocated, CanAllocate, HasRoom}
 use Rattle.gc_refs.specs.Trace.{form_unit, form_of}
 use Rattle.gc_heap.specs.Objects.{held_size, first_offset, zeroed, zeroed_array, external, IsObjectKind, HasFields}
 use Rattle.gc_heap.specs.References.{SpareFits, bitmap_offsets, array_spare}
 use Rattle.gc_heap.specs.Content.{IsSpare}
 use Rattle.gc_copying.specs.Spaces.{half_start, half_end}
 use Rattle.gc_copying.specs.Layout.{first_place, places_in, size_at, kind_of, kind_at, data_at, object_at}
-use Rattle.gc_copying.specs.Content.{space_view, IsExternalAt, IsWhole, IsSpace}
-use Rattle.gc_copying.specs.HeapLaws.{Skips, nothing, sixteen, skips, HalfLies, half_lies, first_aligned}
-use Rattle.gc_copying.specs.Placing.{WritesBlock, PutsObject, MovesHead, FindsRoom}
+use Rattle.gc_copying.specs.Content.{Linked, last, link, space_view, IsExternalAt, IsWhole, IsSpace}
+use Rattle.gc_copying.specs.HeapLaws.{Skips, nothing, sixteen, skips, HalfLies, half_lies, first_aligned, lies_in_space}
+use Rattle.gc_copying.specs.declared.place.Room.TheVariants as room
+use Rattle.gc_copying.specs.States.{IsSound, seen_in}
+use Rattle.gc_copying.specs.declared.space.Space.{Space}
+use Rattle.gc_copying.specs.Placing.{CanPlace, WritesBlock, PutsObject, MovesHead, FindsRoom}
 use Rattle.gc_copying.proofs.SpaceLemmas.{same_object, adds, room_is}
 
 -- a header, a size and zeros, written one behind the other
@@ -142,9 +146,14 @@ zeroed_spare ArrayRef ty spare size h least fits =
     let held = held_zeroed ArrayRef ty spare size h least in
     let zeros : ℕ = round_up size 16 - 12 in
     let none : u32_at (replicate {A = ℕ} zeros 0) 0 ≡ 0 =
-    sym (word-is (replicate {A = ℕ} zeros 0) 0) ∙ word_of_zeros (replicate {A = ℕ} zeros 0) 0 (λ k l. get_or-replicate zeros (0 + k) 0 0 (omega arith)) in
-    (omega (arith, fits.0), (fits.1, λ odd. subst (λ n. 16 + u32_at (replicate {A = ℕ} zeros 0) 0 * 4 ≤ n) (sym held)
-    (subst (λ n. 16 + n * 4 ≤ round_up size 16) (sym none) (omega arith))))
+    sym (word-is (replicate {A = ℕ} zeros 0) 0) ∙ word_of_zeros (replicate {A = ℕ} zeros 0) 0 (λ k l. get_or-replicate zeros (0 + k) 0 0 (omega arith)) in (
+      omega (arith, fits.0),
+      (
+        fits.1,
+        λ odd. subst (λ n. 16 + u32_at (replicate {A = ℕ} zeros 0) 0 * 4 ≤ n) (sym held)
+            (subst (λ n. 16 + n * 4 ≤ round_up size 16) (sym none) (omega arith)),
+      ),
+    )
 
 -- A header with zeros behind it is a new object.
 pub puts_zeroed : (a b : List ℕ) (p size block : ℕ) (h : Header) (k : VMGcKind) → WritesBlock a b p h block → block ≡ round_up size 16
@@ -262,14 +271,6 @@ puts_external a m n b p id head w first second room id_small head_small =
       next = nw;
     }
 
--- What lets an object be written behind the last one.
-pub record CanPlace (bytes : List ℕ) (bump objects block : ℕ) : Type 0 where
-  pub begun : 0 < bump
-  pub least : 16 ≤ block
-  pub room : bump + block ≤ length bytes
-  pub small : bump + block < 2 ^ 32
-  pub count : objects < 2 ^ 32
-
 -- What an allocation does to a space.
 pub record Makes (a b : List ℕ) (upper : Bool) (bump block head objects size : ℕ) (object : HeapObject) : Type 0 where
   pub space : IsSpace b upper (bump + block) head (objects + 1)
@@ -287,7 +288,7 @@ bump_positive bytes upper bump head objects block s fits least =
     ]
 
 pub can_place : (bytes : List ℕ) (upper : Bool) (bump head objects scopes size block : ℕ) → IsSpace bytes upper bump head objects → 0 < size
-    → FindsRoom (space_view bytes upper bump scopes) size (Ok (Ok block)) → CanPlace bytes bump objects block
+    → FindsRoom (space_view bytes upper bump scopes) size (room.Fits block) → CanPlace bytes bump objects block
 can_place bytes upper bump head objects scopes size block s positive found =
     let fits = room_is bytes upper bump head objects scopes size s positive found.1.0 in
     let rounded : block ≡ round_up size 16 = found.1.1 in
@@ -306,7 +307,7 @@ can_place bytes upper bump head objects scopes size block s positive found =
     }
 
 pub makes : (a b : List ℕ) (upper : Bool) (bump head head' objects size block : ℕ) (object : HeapObject) → IsSpace a upper bump head objects → 0 < size
-    → ((scopes : ℕ) → FindsRoom (space_view a upper bump scopes) size (Ok (Ok block))) → PutsObject a b bump object block → MovesHead b bump head head'
+    → ((scopes : ℕ) → FindsRoom (space_view a upper bump scopes) size (room.Fits block)) → PutsObject a b bump object block → MovesHead b bump head head'
     → Makes a b upper bump block head' objects size object
 makes a b upper bump head head' objects size block object s positive found puts moves =
     let fits = room_is a upper bump head objects 0 size s positive (found 0).1.0 in
@@ -337,3 +338,88 @@ makes a b upper bump head head' objects size block object s positive found puts 
         };
       };
     }
+
+-- an object with fields has some bytes
+pub size_positive : (k : VMGcKind) (size : ℕ) → first_offset Copying k ≤ size → 0 < size
+size_positive ExternRef size h = omega arith
+size_positive AnyRef size h = omega arith
+size_positive EqRef size h = omega arith
+size_positive StructRef size h = omega arith
+size_positive ArrayRef size h = omega arith
+size_positive ExnRef size h = omega arith
+
+-- no room was found
+pub lacks_room : (h : HeapView) (size need : ℕ) → FindsRoom h size (room.Lacks need) → LacksRoom Copying h h need size
+lacks_room h size need found = record { small = found.0; no_room = found.1.0; asked = found.1.1; same = refl }
+
+-- A space has a new object at a place.
+pub record MakesObject (old new : Space) (place : ℕ) (object : HeapObject) (size : ℕ) : Type 0 where
+  pub sound : IsSound new
+  pub adds_object : (scopes : ℕ) → AddsObject Copying (seen_in scopes old) (seen_in scopes new) place object size
+
+pub makes_object : (old new : Space) (m : List ℕ) (place block head size : ℕ) (object : HeapObject)
+    → new ≡ record old { memory = m; bump = old.bump + block; externals = head; objects = old.objects + 1 } → place ≡ old.bump
+    → Makes old.memory m old.upper old.bump block head old.objects size object → MakesObject old new place object size
+makes_object old new m place block head size object is at made =
+    subst (λ (s : Space). MakesObject old s place object size) (sym is)
+    (subst (λ q. MakesObject old (record old { memory = m; bump = old.bump + block; externals = head; objects = old.objects + 1 }) q object size) (sym at)
+    (record { sound = made.space; adds_object = made.adds_object }))
+
+-- an object with that header was made
+pub makes_zeroed : (old new : Space) (place block size : ℕ) (h : Header) (k : VMGcKind) → IsSound old → CanAllocate Copying h size
+    → ((scopes : ℕ) → FindsRoom (seen_in scopes old) size (room.Fits block)) → WritesBlock old.memory new.memory old.bump h block
+    → new ≡ record old { memory = new.memory; bump = old.bump + block; objects = old.objects + 1 } → place ≡ old.bump → IsOfKind k h.kind_word
+    → MakesObject old new place (zeroed Copying k h.type_word (h.kind_word % spare_bits) size) size
+makes_zeroed old new place block size h k s fits found w moved at is =
+    let same : fits.kind ≡ k = kinds_same fits.kind k h.kind_word fits.is_kind is in
+    let fields : HasFields k = subst HasFields same fits.has_fields in
+    let least : first_offset Copying k ≤ size = subst (λ j. first_offset Copying j ≤ size) same fits.least in
+    let spare : SpareFits Copying k size (h.kind_word % spare_bits) = subst (λ j. SpareFits Copying j size (h.kind_word % spare_bits)) same fits.spare in
+    let puts = puts_zeroed old.memory new.memory old.bump size block h k w (found 0).1.1 is fields least spare in
+    let kind : kind_at new.memory old.bump ≡ k = ap (λ (o : HeapObject). o.kind) puts.object_is in
+    let o : HeapObject = zeroed Copying k h.type_word (h.kind_word % spare_bits) size in
+    makes_object old new new.memory place block old.externals size o moved at
+    (makes old.memory new.memory old.upper old.bump old.externals old.externals old.objects size block o s (size_positive k size least) found puts
+    (inl (λ e. not_external k fields (sym kind ∙ e), refl)))
+
+-- an array was made
+pub makes_array : (old mid new : Space) (m : List ℕ) (place block size ty count : ℕ) (h : Header) (refs : Bool) → IsSound old
+    → ((scopes : ℕ) → FindsRoom (seen_in scopes old) size (room.Fits block)) → WritesBlock old.memory mid.memory old.bump h block
+    → mid ≡ record old { memory = mid.memory; bump = old.bump + block; objects = old.objects + 1 } → new ≡ record mid { memory = m } → m ≡ put_u32 mid.memory (old.bump + 12) count
+    → place ≡ old.bump → IsOfKind ArrayRef h.kind_word → h.type_word ≡ ty → h.kind_word % spare_bits ≡ array_spare Copying refs
+    → count < 2 ^ 32 → 16 ≤ size → (refs ≡ true → 16 + count * 4 ≤ size) → MakesObject old new place (zeroed_array Copying ty (array_spare Copying refs) count size) size
+makes_array old mid new m place block size ty count h refs s found w moved is written at kind type_is spare small least elements =
+    let can = can_place old.memory old.upper old.bump old.externals old.objects 0 size block s (omega arith) (found 0) in
+    let puts = puts_array old.memory mid.memory m old.bump size block ty count h refs w written can.room (found 0).1.1 kind type_is spare small least elements in
+    let kind_is : kind_at m old.bump ≡ ArrayRef = ap (λ (o : HeapObject). o.kind) puts.object_is in
+    let o : HeapObject = zeroed_array Copying ty (array_spare Copying refs) count size in
+    makes_object old new m place block old.externals size o (is ∙ ap (λ (x : Space). record x { memory = m }) moved) at
+    (makes old.memory m old.upper old.bump old.externals old.externals old.objects size block o s (omega arith) found puts
+    (inl (λ e. not_external ArrayRef tt (sym kind_is ∙ e), refl)))
+
+-- the head of the list of external objects is a place of the memory, or 0
+pub head_small : (bytes : List ℕ) (upper : Bool) (bump head objects : ℕ) → IsSpace bytes upper bump head objects → head < 2 ^ 32
+head_small bytes upper bump head objects s = by_list head s.externals.list s.externals.linked (λ p i. (s.externals.only p i).0)
+  where
+    by_list : (h : ℕ) (list : List ℕ) → Linked bytes h list → ((p : ℕ) → In p list → In p (places_in bytes upper bump)) → h < 2 ^ 32
+    by_list _ [] last among = omega arith
+    by_list _ (p ∷ ps) (link positive rest) among =
+        let l = lies_in_space bytes upper bump head objects p s (among p here) in
+        let bound = s.bound in
+        omega (arith, l.inside)
+
+-- an external object was made
+pub makes_external : (old mid new : Space) (m n : List ℕ) (place block id : ℕ) → IsSound old
+    → ((scopes : ℕ) → FindsRoom (seen_in scopes old) 24 (room.Fits block)) → WritesBlock old.memory mid.memory old.bump (header_of ExternRef (2 ^ 32 - 1)) block
+    → mid ≡ record old { memory = mid.memory; bump = old.bump + block; objects = old.objects + 1 } → new ≡ record mid { memory = n; externals = place }
+    → m ≡ put_u32 mid.memory (old.bump + 16) (id + 1) → n ≡ put_u32 m (old.bump + 20) old.externals
+    → place ≡ old.bump → id + 1 ≤ max_entries → MakesObject old new place (external id) 24
+makes_external old mid new m n place block id s found w moved is first second at small =
+    let rounded : block ≡ 32 = (found 0).1.1 in
+    let can = can_place old.memory old.upper old.bump old.externals old.objects 0 24 block s (omega arith) (found 0) in
+    let made = puts_external old.memory mid.memory m n old.bump id old.externals
+    (subst (λ k. WritesBlock old.memory mid.memory old.bump (header_of ExternRef (2 ^ 32 - 1)) k) rounded w) first second (let room = can.room in omega arith) small (head_small old.memory old.upper old.bump old.externals old.objects s) in
+    makes_object old new n place block old.bump 24 (external id) (is ∙ ap (λ (x : Space). record x { memory = n; externals = place }) moved
+    ∙ ap (λ q. record old { memory = n; bump = old.bump + block; externals = q; objects = old.objects + 1 }) at) at
+    (makes old.memory n old.upper old.bump old.externals old.bump old.objects 24 block (external id) s (omega arith) found
+    (subst (PutsObject old.memory n old.bump (external id)) (sym rounded) made.puts) (inr (made.kind, (refl, made.next))))

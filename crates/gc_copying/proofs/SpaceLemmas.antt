@@ -151,28 +151,28 @@ externals_moved a b upper bump head head' objects s same positive moves =
     let none : In bump x.list → ⊥ = λ i. not_at_bump a upper bump head objects s (x.only bump i).0 in
     elim moves [
       | inl other ↦ record {
-          list = x.list;
-          linked = subst (λ h. Linked b h x.list) (sym other.1) kept;
-          only = only;
-          each = λ p i e. elim (In-split p ps (bump ∷ []) i) [
-            | inl j ↦ each p j e
-            | inr j ↦ absurd (other.0 (subst (λ q. kind_at b q ≡ ExternRef) (In-one p bump j) e))
-          ];
-          once = x.once;
-        }
+        list = x.list;
+        linked = subst (λ h. Linked b h x.list) (sym other.1) kept;
+        only = only;
+        each = λ p i e. elim (In-split p ps (bump ∷ []) i) [
+          | inl j ↦ each p j e
+          | inr j ↦ absurd (other.0 (subst (λ q. kind_at b q ≡ ExternRef) (In-one p bump j) e))
+        ];
+        once = x.once;
+      }
       | inr new ↦ record {
-          list = bump ∷ x.list;
-          linked = subst (λ h. Linked b h (bump ∷ x.list)) (sym new.1.0) (link positive (subst (λ h. Linked b h x.list) (sym new.1.1) kept));
-          only = λ p i. external_only p i new.0 only;
-          each = λ p i e. elim (In-split p ps (bump ∷ []) i) [
-            | inl j ↦ there (each p j e)
-            | inr j ↦ subst (λ q. In q (bump ∷ x.list)) (sym (In-one p bump j)) here
-          ];
-          once = λ p. elim (cases_eq p bump) [
-            | inl e ↦ subst (λ q. occ q (bump ∷ x.list) ≤ 1) (sym e) (omega (arith, occ-same bump x.list, occ-none bump x.list none))
-            | inr ne ↦ subst (λ n. n ≤ 1) (sym (occ-other p bump x.list ne)) (x.once p)
-          ];
-        }
+        list = bump ∷ x.list;
+        linked = subst (λ h. Linked b h (bump ∷ x.list)) (sym new.1.0) (link positive (subst (λ h. Linked b h x.list) (sym new.1.1) kept));
+        only = λ p i. external_only p i new.0 only;
+        each = λ p i e. elim (In-split p ps (bump ∷ []) i) [
+          | inl j ↦ there (each p j e)
+          | inr j ↦ subst (λ q. In q (bump ∷ x.list)) (sym (In-one p bump j)) here
+        ];
+        once = λ p. elim (cases_eq p bump) [
+          | inl e ↦ subst (λ q. occ q (bump ∷ x.list) ≤ 1) (sym e) (omega (arith, occ-same bump x.list, occ-none bump x.list none))
+          | inr ne ↦ subst (λ n. n ≤ 1) (sym (occ-other p bump x.list ne)) (x.once p)
+        ];
+      }
     ]
   where
     external_only : (p : ℕ) → In p (bump ∷ s.externals.list) → kind_at b bump ≡ ExternRef

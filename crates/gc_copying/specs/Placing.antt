@@ -1,5 +1,5 @@
 -- What an allocation writes.
-use Rattle.std.specs.Prelude.{◌≡◌, ℕ, ◌+◌, ◌-◌, ◌≤◌, ◌⊎◌, List, take, drop, replicate, Result, Ok, Err}
+use Rattle.std.specs.Prelude.{◌≡◌, ℕ, ◌+◌, ◌-◌, ◌≤◌, ◌<◌, ◌^◌, ◌⊎◌, List, length, take, drop, replicate}
 use Rattle.gc_types.specs.declared.kind.Layouts.TheVariants.{Copying}
 use Rattle.gc_types.specs.declared.kind.VMGcKind.TheVariants.{ExternRef}
 use Rattle.gc_types.specs.Layouts.{round_up}
@@ -9,10 +9,18 @@ use Rattle.gc_memory.specs.Changes.{Wrote}
 use Rattle.gc_model.specs.Sizes.{alignment}
 use Rattle.gc_model.specs.Views.{HeapObject, HeapView}
 use Rattle.gc_heap.specs.Heap.{IsTooLarge, HasRoom, need_of}
-use Rattle.gc_heap.specs.declared.heap.HeapFault.{HeapFault}
-use Rattle.gc_heap.specs.declared.heap.HeapFault.TheVariants as fault
+use Rattle.gc_copying.specs.declared.place.Room.{Room}
+use Rattle.gc_copying.specs.declared.place.Room.TheVariants as room
 use Rattle.gc_copying.specs.Layout.{size_at, kind_at, object_at}
 use Rattle.gc_copying.specs.Content.{IsWhole}
+
+-- What lets an object be written behind the last one.
+pub record CanPlace (bytes : List ℕ) (bump objects block : ℕ) : Type 0 where
+  pub begun : 0 < bump
+  pub least : 16 ≤ block
+  pub room : bump + block ≤ length bytes
+  pub small : bump + block < 2 ^ 32
+  pub count : objects < 2 ^ 32
 
 -- so many bytes were written at a place: a header, their number, and zeros
 pub record WritesBlock (before after : List ℕ) (place : ℕ) (header : Header) (size : ℕ) : Type 0 where
@@ -36,9 +44,9 @@ MovesHead after place old new =
     ((kind_at after place ≡ ExternRef → ⊥) × (new ≡ old))
     ⊎ ((kind_at after place ≡ ExternRef) × ((new ≡ place) × (word after (place + 20) ≡ old)))
 
--- where an object of that size fits, what it takes; else what the heap would have to grow by
-abbrev pub FindsRoom : HeapView → ℕ → Result (Result ℕ ℕ) HeapFault → Type 0
-FindsRoom h size (Ok (Ok rounded)) = (IsTooLarge Copying size → ⊥) × (HasRoom Copying h size × (rounded ≡ round_up size alignment))
-FindsRoom h size (Ok (Err need)) = (IsTooLarge Copying size → ⊥) × ((HasRoom Copying h size → ⊥) × (need ≡ need_of Copying size))
-FindsRoom h size (Err fault.TooLarge) = IsTooLarge Copying size
-FindsRoom h size (Err fault.Memory) = ⊥
+-- What is found of an object of that size: it fits, and takes so many bytes; the heap would have to grow
+-- by so many; or no heap can hold it.
+abbrev pub FindsRoom : HeapView → ℕ → Room → Type 0
+FindsRoom h size (room.Fits block) = (IsTooLarge Copying size → ⊥) × (HasRoom Copying h size × (block ≡ round_up size alignment))
+FindsRoom h size (room.Lacks need) = (IsTooLarge Copying size → ⊥) × ((HasRoom Copying h size → ⊥) × (need ≡ need_of Copying size))
+FindsRoom h size room.TooLarge = IsTooLarge Copying size

@@ -2,6 +2,7 @@
 //! roots reach into the other half.
 #![tactic(auto)]
 
+mod alloc;
 pub mod layout;
 mod place;
 pub(crate) mod space;

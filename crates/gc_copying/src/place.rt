@@ -13,12 +13,23 @@ ghost use Rattle.gc_types.specs.Layouts.{round_up};
 ghost use Rattle.gc_model.specs.Sizes.{alignment};
 ghost use Rattle.gc_heap.specs.Heap.{IsTooLarge};
 ghost use Rattle.gc_copying.specs.States.{IsSound, seen_in};
-ghost use Rattle.gc_copying.specs.Placing.{WritesBlock, FindsRoom};
+ghost use Rattle.gc_copying.specs.Placing.{CanPlace, WritesBlock, FindsRoom};
 
 use crate::space::Space;
-use gc_heap::{HeapFault, HeapMemory};
+use gc_heap::HeapMemory;
 use gc_memory::offsets::{ALIGNMENT, COPYING_FORWARDING, COPYING_SIZE};
 use gc_refs::{VMGcHeader, VMGcRef};
+
+/// Whether a new object fits behind the last one.
+#[derive(Clone, Copy, Debug, PartialEq, Eq)]
+pub(crate) enum Room {
+    /// It fits, and takes this many bytes.
+    Fits(u32),
+    /// The memory would have to grow by this many bytes.
+    Lacks(u64),
+    /// No heap can hold it.
+    TooLarge,
+}
 
 /// The greatest size that, rounded up to a multiple of 16, is a number of 32 bits.
 const MAX_SIZE: u64 = 0xFFFF_FFF0;
@@ -52,20 +63,21 @@ fn write_block(memory: &mut HeapMemory, place: u32, header: VMGcHeader, size: u3
 }
 
 impl Space {
-    /// The bytes that an object of `size` bytes takes, where they fit behind the last object. The inner
-    /// Err is the number of bytes that the memory would have to grow by: a half grows by half of them.
-    pub(crate) fn room(&self, size: u64) -> Result<Result<u32, u64>, HeapFault>
+    /// Whether an object of `size` bytes fits behind the last one. A half grows by half of what the memory
+    /// grows by, so what is lacking is twice the object's bytes, and 32 for
+    /// the bytes that are skipped.
+    pub(crate) fn room(&self, size: u64) -> Room
         requires sound { IsSound self.now }
         requires positive { 0 < size }
         ensures { (scopes : ℕ) → FindsRoom (seen_in scopes self.now) size result }
     {
         match block_size(size) {
-            None => Err(HeapFault::TooLarge),
+            None => Room::TooLarge,
             Some(block) => {
                 if u64::from(self.bump) + u64::from(block) <= u64::from(self.limit()) {
-                    Ok(Ok(block))
+                    Room::Fits(block)
                 } else {
-                    Ok(Err(2 * u64::from(block) + 2 * u64::from(ALIGNMENT)))
+                    Room::Lacks(2 * u64::from(block) + 2 * u64::from(ALIGNMENT))
                 }
             }
         }
@@ -73,11 +85,7 @@ impl Space {
 
     /// Writes a new object of `size` bytes behind the last one, and answers its place.
     pub(crate) fn place(&mut self, header: VMGcHeader, size: u32) -> VMGcRef
-        requires begun { 0 < self.old.bump }
-        requires least { 16 ≤ size }
-        requires room { self.old.bump + size ≤ length self.old.memory }
-        requires small { self.old.bump + size < 2 ^ 32 }
-        requires count { self.old.objects < 2 ^ 32 }
+        requires { CanPlace self.old.memory self.old.bump self.old.objects size }
         ensures place { result ≡ self.old.bump }
         ensures moved { self.new ≡ record self.old { memory = self.new.memory; bump = self.old.bump + size; objects = self.old.objects + 1 } }
         ensures block { WritesBlock self.old.memory self.new.memory self.old.bump header size }

@@ -14,7 +14,12 @@ returns-then-from c = λ scopes.
 pub returns-else-from : goal.returns-else-from
 returns-else-from c = λ scopes.
     let s = c.args.self.now in
-    let some = c.in-Some.ensures.some in
-    (some.1, (λ room.
-    let fits = room_is s.memory s.upper s.bump s.externals s.objects scopes c.args.size c.requires.sound c.requires.positive room in
-    absurd (omega (arith, fits, some.0, c.if-from.false)), omega (arith, some.0)))
+    let some = c.in-Some.ensures.some in (
+      some.1,
+      (
+        λ room.
+            let fits = room_is s.memory s.upper s.bump s.externals s.objects scopes c.args.size c.requires.sound c.requires.positive room in
+            absurd (omega (arith, fits, some.0, c.if-from.false)),
+        omega (arith, some.0),
+      ),
+    )
