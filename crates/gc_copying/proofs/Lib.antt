@@ -1,2 +1,3 @@
 pub mod SpaceLemmas
 pub mod MakeLemmas
+pub mod TraceLemmas

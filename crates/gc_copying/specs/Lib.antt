@@ -5,3 +5,4 @@ pub mod States
 pub mod ObjectLaws
 pub mod HeapLaws
 pub mod Placing
+pub mod Tracing

@@ -6,18 +6,19 @@ ghost use Rattle.gc_types.specs.declared.kind.VMGcKind.{VMGcKind};
 ghost use Rattle.gc_types.specs.Layouts.{array_base};
 ghost use Rattle.gc_refs.specs.Header.{IsOfKind, spare_bits};
 ghost use Rattle.gc_memory.specs.Offsets.{external_size};
-ghost use Rattle.gc_heap.specs.Objects.{zeroed, external};
-ghost use Rattle.gc_heap.specs.References.{ArrayTraces};
-ghost use Rattle.gc_heap.specs.Heap.{Allocated, CanAllocate, new_array, array_size};
+ghost use Rattle.gc_heap.specs.Objects.{first_offset, zeroed, external};
+ghost use Rattle.gc_heap.specs.References.{LayoutTraces, ArrayTraces};
+ghost use Rattle.gc_heap.specs.Heap.{Allocated, CanAllocate, layout_kind, new_struct, new_array, array_size};
 ghost use Rattle.gc_copying.specs.States.{IsSound, seen_in};
 
 use crate::place::Room;
 use crate::space::Space;
+use crate::trace::struct_trace;
 use gc_heap::HeapFault;
 use gc_memory::offsets::{COPYING_NEXT_EXTERNAL, array_length, external_size, host_id};
 use gc_refs::{InlineTraceInfo, VMArrayRef, VMExternRef, VMGcHeader, VMGcRef};
 use gc_tables::ExternRefHostDataId;
-use gc_types::{GcArrayLayout, Layouts, VMGcKind, VMSharedTypeIndex};
+use gc_types::{GcArrayLayout, GcStructLayout, Layouts, VMGcKind, VMSharedTypeIndex};
 
 /// The header of an object of that kind and type with these spare bits.
 fn header_with(kind: VMGcKind, ty: VMSharedTypeIndex, spare: u32) -> VMGcHeader
@@ -29,6 +30,17 @@ fn header_with(kind: VMGcKind, ty: VMSharedTypeIndex, spare: u32) -> VMGcHeader
     let mut header = VMGcHeader::from_kind_and_index(kind, ty);
     header.set_reserved_u26(spare);
     header
+}
+
+/// The kind of an object with that layout.
+fn kind_of_layout(layout: &GcStructLayout) -> VMGcKind
+    ensures { result ≡ layout_kind layout.now }
+{
+    if layout.is_exception {
+        VMGcKind::ExnRef
+    } else {
+        VMGcKind::StructRef
+    }
 }
 
 /// The bytes of an array of that length.
@@ -55,6 +67,23 @@ impl Space {
             Room::Lacks(need) => Ok(Err(need)),
             Room::TooLarge => Err(HeapFault::TooLarge),
         }
+    }
+
+    /// Allocates a struct or an exception, whose data is 0.
+    pub(crate) fn alloc_struct_or_exn(
+        &mut self,
+        ty: VMSharedTypeIndex,
+        layout: &GcStructLayout,
+    ) -> Result<Result<VMGcRef, u64>, HeapFault>
+        requires sound { IsSound self.old }
+        requires size { first_offset Copying (layout_kind layout.now) ≤ layout.now.size }
+        requires traces { LayoutTraces Copying layout.now (first_offset Copying (layout_kind layout.now)) }
+        ensures sound { IsSound self.new }
+        ensures allocated { (scopes : ℕ) → Allocated Copying (seen_in scopes self.old) (seen_in scopes self.new) (new_struct Copying ty layout.now) layout.now.size result }
+    {
+        let trace = struct_trace(layout.fields.as_slice()).encode();
+        let header = header_with(kind_of_layout(layout), ty, trace);
+        self.alloc_raw(header, layout.size)
     }
 
     /// Allocates an array of that length, whose elements are 0.

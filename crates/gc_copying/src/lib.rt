@@ -5,6 +5,7 @@
 mod alloc;
 pub mod layout;
 mod place;
+mod trace;
 pub(crate) mod space;
 
 pub use layout::{CopyingCollector, round_down_heap_capacity};
