@@ -1,3 +1,4 @@
 pub mod SpaceLemmas
 pub mod MakeLemmas
 pub mod TraceLemmas
+pub mod WriteLemmas
