@@ -2,3 +2,4 @@ pub mod SpaceLemmas
 pub mod MakeLemmas
 pub mod TraceLemmas
 pub mod WriteLemmas
+pub mod GrowLemmas

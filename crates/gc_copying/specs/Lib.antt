@@ -6,3 +6,4 @@ pub mod ObjectLaws
 pub mod HeapLaws
 pub mod Placing
 pub mod Tracing
+pub mod Growth
