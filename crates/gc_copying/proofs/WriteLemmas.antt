@@ -45,9 +45,10 @@ traces_same o o' ExternRef spare size count t = spare ∙ t
 traces_same o o' AnyRef spare size count t = t
 traces_same o o' EqRef spare size count t = t
 traces_same o o' StructRef spare size count t = subst (λ n. IsTraceWord StructRef n o'.spare) (sym size) (subst (λ w. IsTraceWord StructRef (held_size Copying o) w) (sym spare) t)
-traces_same o o' ArrayRef spare size count t =
-    (subst (λ w. IsTraceWord ArrayRef (held_size Copying o') w) (sym spare) t.0,
-    λ odd. subst (λ n. 16 + array_length o' * 4 ≤ n) (sym size) (subst (λ n. 16 + n * 4 ≤ held_size Copying o) (sym (count refl)) (t.1 (sym (ap (λ w. w % 2) spare) ∙ odd))))
+traces_same o o' ArrayRef spare size count t = (
+  subst (λ w. IsTraceWord ArrayRef (held_size Copying o') w) (sym spare) t.0,
+  λ odd. subst (λ n. 16 + array_length o' * 4 ≤ n) (sym size) (subst (λ n. 16 + n * 4 ≤ held_size Copying o) (sym (count refl)) (t.1 (sym (ap (λ w. w % 2) spare) ∙ odd))),
+)
 traces_same o o' ExnRef spare size count t = subst (λ n. IsTraceWord ExnRef n o'.spare) (sym size) (subst (λ w. IsTraceWord ExnRef (held_size Copying o) w) (sym spare) t)
 
 no_bytes : (ws : List ℕ) → length ws ≡ 0 → ws ≡ []
@@ -128,9 +129,10 @@ rewrites a b p offset ws w least inside from to written =
     let off = array_far e in
     ap (λ j. u32_at (data_at b p j) 0) (kind ∙ e) ∙ array_word b p (omega arith) (let len = x.same_length in omega arith) ∙ word_before x (p + 12) (omega arith)
     ∙ sym (ap (λ j. u32_at (data_at a p j) 0) e ∙ array_word a p least inside) in
-    let spare : IsSpare Copying (object_at b p) =
-    (subst (λ n. n % spare_bits < 2 ^ 25) (sym first) w.spare.0,
-    subst (TracesInside (object_at b p)) (sym kind) (traces_same (object_at a p) (object_at b p) k (ap (λ n. n % spare_bits) first) (sizes_b ∙ size ∙ sym sizes_a) count w.spare.1)) in
+    let spare : IsSpare Copying (object_at b p) = (
+      subst (λ n. n % spare_bits < 2 ^ 25) (sym first) w.spare.0,
+      subst (TracesInside (object_at b p)) (sym kind) (traces_same (object_at a p) (object_at b p) k (ap (λ n. n % spare_bits) first) (sizes_b ∙ size ∙ sym sizes_a) count w.spare.1),
+    ) in
     record {
       keeps = record {
         size = size;

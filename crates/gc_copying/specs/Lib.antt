@@ -7,3 +7,4 @@ pub mod HeapLaws
 pub mod Placing
 pub mod Tracing
 pub mod Growth
+pub mod Reading

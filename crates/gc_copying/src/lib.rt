@@ -5,7 +5,8 @@
 mod alloc;
 pub mod layout;
 mod place;
-mod trace;
+mod read;
 pub(crate) mod space;
+mod trace;
 
 pub use layout::{CopyingCollector, round_down_heap_capacity};
