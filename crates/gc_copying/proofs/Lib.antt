@@ -3,3 +3,4 @@ pub mod MakeLemmas
 pub mod TraceLemmas
 pub mod WriteLemmas
 pub mod GrowLemmas
+pub mod ReadLemmas

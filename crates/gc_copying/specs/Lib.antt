@@ -8,3 +8,4 @@ pub mod Placing
 pub mod Tracing
 pub mod Growth
 pub mod Reading
+pub mod CopyingHeapLaw

@@ -3,10 +3,13 @@
 #![tactic(auto)]
 
 mod alloc;
+mod growth;
+pub mod heap;
 pub mod layout;
 mod place;
 mod read;
 pub(crate) mod space;
 mod trace;
 
+pub use heap::CopyingHeap;
 pub use layout::{CopyingCollector, round_down_heap_capacity};
