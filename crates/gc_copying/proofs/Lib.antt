@@ -4,3 +4,4 @@ pub mod TraceLemmas
 pub mod WriteLemmas
 pub mod GrowLemmas
 pub mod ReadLemmas
+pub mod BackingLemmas

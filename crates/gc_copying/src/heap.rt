@@ -344,9 +344,9 @@ impl CopyingHeap {
         ensures held { (object : HeapObject) → finite.get (copying_seen self.now).content r.now ≡ Some object → IsOkAnd result (λ size. size ≡ held_size Copying object) }
         ensures number { r.now % 2 ≡ 1 → IsErr result }
     {
-        match self.object_range(r) {
-            Ok(range) => Ok(range.end - range.start),
-            Err(fault) => Err(fault),
+        match &self.backing {
+            Backing::Attached(space) => space.object_size(r),
+            _ => Err(RefFault::BadRef),
         }
     }
 

@@ -74,6 +74,18 @@ impl Space {
         }
     }
 
+    /// How many bytes an object takes.
+    pub(crate) fn object_size(&self, gc_ref: &VMGcRef) -> Result<usize, RefFault>
+        requires { IsSound self.now }
+        ensures held { (object : HeapObject) → finite.get (seen_in 0 self.now).content gc_ref.now ≡ Some object → IsOkAnd result (λ size. size ≡ held_size Copying object) }
+        ensures number { gc_ref.now % 2 ≡ 1 → IsErr result }
+    {
+        match self.range(gc_ref) {
+            Ok(range) => Ok(range.end - range.start),
+            Err(fault) => Err(fault),
+        }
+    }
+
     /// The header of an object.
     pub(crate) fn header(&self, gc_ref: &VMGcRef) -> Result<VMGcHeader, RefFault>
         requires { IsSound self.now }
