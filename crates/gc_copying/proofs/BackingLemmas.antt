@@ -1,5 +1,5 @@
 -- What is seen of a heap by where it has its memory.
-use Rattle.std.proofs.Common.{◌≡◌, ℕ, ◌+◌, ◌*◌, ◌%◌, ◌<◌, ◌≤◌, ◌^◌, ◌++◌, Bool, true, false, cond, List, [], ◌∷◌, length, replicate, Option, Some, None, refl, sym, ap, ap₂, subst, ◌∙◌, inl, inr, arith}
+use Rattle.std.proofs.Common.{◌≡◌, ℕ, ◌*◌, ◌%◌, ◌≤◌, ◌++◌, false, cond, List, length, replicate, Option, Some, None, refl, sym, ap, subst, ◌∙◌, inl, inr, arith}
 use Rattle.std.proofs.Math.Logic.{◌⊎◌}
 use Rattle.std.specs.Ordering.{nat_cmp, eq_by_cmp}
 use Rattle.std.specs.Cmp.{unsigned_tied, nat_cmp_total}
@@ -8,21 +8,19 @@ use Rattle.std.proofs.lemmas.Bool.{cases_eq, ne_eqb, eq-eqb}
 use Rattle.gc_types.specs.declared.kind.Layouts.TheVariants.{Copying}
 use Rattle.gc_model.specs.Allocation.{page, max_pages}
 use Rattle.gc_model.specs.Views.{HeapObject, HeapView, Counts, no_counts, detached_in}
-use Rattle.gc_heap.specs.Content.{IsHeap, LiesAtPlace}
 use Rattle.gc_heap.specs.Heap.{put_object, grown}
 use Rattle.gc_heap.specs.Barriers.{raise, lower, show, cloned, dropped, exposed, copied, emptied, overwritten}
-use Rattle.gc_copying.specs.Content.{objects_at, space_view, IsSpace}
-use Rattle.gc_copying.specs.Layout.{first_place, size_at, places_in}
+use Rattle.gc_copying.specs.Layout.{first_place, places_in}
 use Rattle.gc_copying.specs.Growth.{bump_in_more}
 use Rattle.gc_copying.specs.ObjectLaws.{len-at}
 use Rattle.gc_copying.specs.CopyingHeapLaw.{copying_is_heap}
-use Rattle.gc_copying.specs.States.{seen_in, seen_of, copying_seen, IsBacked, IsSound, IsOut, IsCopyingSound, IsCopyingTaken}
+use Rattle.gc_copying.specs.States.{seen_in, seen_of, copying_seen, IsSound, IsOut, IsCopyingSound}
 use Rattle.gc_copying.specs.declared.space.Space.{Space}
 use Rattle.gc_copying.specs.declared.growth.Marks.{Marks}
 use Rattle.gc_copying.specs.declared.heap.CopyingHeap.{CopyingHeap}
 use Rattle.gc_copying.specs.declared.heap.Backing.{Backing}
 use Rattle.gc_copying.specs.declared.heap.Backing.TheVariants as backing
-use Rattle.gc_copying.proofs.GrowLemmas.{Grows, grows}
+use Rattle.gc_copying.proofs.GrowLemmas.{grows}
 
 -- where no memory is attached, what is seen is a heap without one
 pub not_attached : (scopes : ℕ) (b : Backing) → ((s : Space) → b ≡ backing.Attached s → ⊥) → seen_of scopes b ≡ detached_in scopes

@@ -1,8 +1,7 @@
 -- A memory that a copying heap gets, and one that grows.
-use Rattle.std.proofs.Common.{◌≡◌, ℕ, ◌+◌, ◌-◌, ◌*◌, ◌/◌, ◌%◌, ◌<◌, ◌≤◌, Bool, true, false, cond, List, [], ◌∷◌, ◌++◌, take, drop, length, replicate, refl, sym, ap, ap₂, subst, ◌∙◌, inl, inr, arith}
+use Rattle.std.proofs.Common.{◌≡◌, ℕ, ◌+◌, ◌-◌, ◌*◌, ◌%◌, ◌<◌, ◌≤◌, Bool, true, false, cond, List, [], ◌∷◌, ◌++◌, take, drop, length, replicate, refl, sym, ap, ap₂, subst, ◌∙◌, inl, inr, arith}
 use Rattle.std.proofs.Math.Logic.{◌⊎◌}
 use Rattle.std.specs.Prelude.{◌==◌, if◌then◌else◌}
-use Rattle.std.specs.FinMap as finite
 use Rattle.std.proofs.lemmas.Bool.{cases_eq, ne_eqb, eq-eqb}
 use Rattle.std.proofs.lemmas.List.{length-append, length-replicate, length-drop, take-append-le, drop-append-le, append-nil}
 use Rattle.gc_types.specs.declared.kind.Layouts.TheVariants.{Copying}
@@ -10,20 +9,19 @@ use Rattle.gc_types.specs.declared.kind.VMGcKind.{VMGcKind}
 use Rattle.gc_types.specs.declared.kind.VMGcKind.TheVariants.{ExternRef, AnyRef, EqRef, StructRef, ArrayRef, ExnRef}
 use Rattle.gc_refs.specs.Header.{spare_bits}
 use Rattle.gc_memory.specs.Words.{word}
-use Rattle.gc_memory.specs.Lists.{In, here, occ}
+use Rattle.gc_memory.specs.Lists.{In, here}
 use Rattle.gc_memory.specs.Chains.{Chain, done, next}
 use Rattle.gc_memory.proofs.ChainLemmas.{Chain-resized, Chain-places, Chain-end}
 use Rattle.gc_memory.proofs.WordLemmas.{word-grown}
 use Rattle.gc_model.specs.Allocation.{page, max_pages}
-use Rattle.gc_model.specs.Views.{HeapObject, HeapView, no_counts}
-use Rattle.gc_heap.specs.Objects.{first_offset}
+use Rattle.gc_model.specs.Views.{no_counts}
 use Rattle.gc_heap.specs.Content.{IsSpare}
-use Rattle.gc_heap.specs.Heap.{half_of, empty_heap, grown}
+use Rattle.gc_heap.specs.Heap.{empty_heap, grown}
 use Rattle.gc_copying.specs.Spaces.{half_start, half_end}
 use Rattle.gc_copying.specs.Layout.{skipped, first_place, size_at, places_in, kind_at, data_at, object_at}
 use Rattle.gc_copying.specs.Growth.{bump_in_more}
-use Rattle.gc_copying.specs.Content.{objects_at, space_view, IsWhole, Linked, last, link, ExternalsLinked, IsSpace}
-use Rattle.gc_copying.specs.HeapLaws.{Skips, nothing, sixteen, skips, half_lies, lies_in_space}
+use Rattle.gc_copying.specs.Content.{objects_at, space_view, Linked, last, link, IsSpace}
+use Rattle.gc_copying.specs.HeapLaws.{nothing, sixteen, skips, half_lies, lies_in_space}
 use Rattle.gc_copying.proofs.SpaceLemmas.{same_object, kind_in_same, whole_in_same, objects_same, space_of}
 use Rattle.gc_copying.proofs.WriteLemmas.{externals_kept}
 

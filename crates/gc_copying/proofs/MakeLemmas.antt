@@ -1,9 +1,9 @@
 -- The objects that an allocation makes.
-use Rattle.std.proofs.Common.{◌≡◌, ℕ, ◌+◌, ◌-◌, ◌*◌, ◌/◌, ◌%◌, ◌<◌, ◌≤◌, ◌^◌, Bool, true, false, cond, List, [], ◌∷◌, ◌++◌, take, drop, length, replicate, refl, sym, ap, subst, ◌∙◌, inl, inr, arith}
-use Rattle.std.specs.Prelude.{All, if◌then◌else◌}
+use Rattle.std.proofs.Common.{◌≡◌, ℕ, ◌+◌, ◌-◌, ◌*◌, ◌%◌, ◌<◌, ◌≤◌, ◌^◌, Bool, true, false, List, [], ◌∷◌, ◌++◌, take, drop, length, replicate, refl, sym, ap, subst, ◌∙◌, inl, inr, arith}
+use Rattle.std.specs.Prelude.{All}
 use Rattle.std.proofs.Math.Logic.{◌⊎◌}
 use Rattle.std.specs.Int.{w32, to_le_bytes}
-use Rattle.std.proofs.lemmas.List.{length-replicate, length-drop, drop-replicate, get_or-replicate}
+use Rattle.std.proofs.lemmas.List.{length-replicate, drop-replicate, get_or-replicate}
 use Rattle.std.proofs.lemmas.Nat.{from_le_bytes-to_le_bytes_4}
 use Rattle.gc_types.specs.declared.kind.Layouts.TheVariants.{Copying}
 use Rattle.gc_types.specs.declared.kind.VMGcKind.{VMGcKind}
@@ -15,21 +15,21 @@ use Rattle.gc_tables.specs.SideTables.{max_entries}
 use Rattle.gc_memory.specs.Words.{word}
 use Rattle.gc_memory.specs.Changes.{Wrote}
 use Rattle.gc_memory.specs.Lists.{In, here}
-use Rattle.gc_memory.proofs.ChangeLemmas.{Wrote-within, Wrote-then, Wrote-before, Wrote-put_u32, Wrote-zeros, Wrote-put_bytes}
+use Rattle.gc_memory.proofs.ChangeLemmas.{Wrote-within, Wrote-then, Wrote-before, Wrote-put_u32, Wrote-zeros}
 use Rattle.gc_memory.proofs.ChainLemmas.{Chain-end, Chain-length, Chain-aligned}
-use Rattle.gc_memory.proofs.WordLemmas.{word-is, word_before, word_behind, word-put_u32, word_of_zeros}
+use Rattle.gc_memory.proofs.WordLemmas.{word-is, word_before, word-put_u32, word_of_zeros}
 use Rattle.gc_model.specs.Bytes.{put_bytes}
 use Rattle.gc_model.proofs.ByteLemmas.{part_in_same, part-put_bytes, part-put_bytes_inside}
 use Rattle.gc_model.specs.Views.{HeapObject, HeapView, no_counts, u32_at, put_u32}
-use Rattle.gc_heap.specs.Heap.{AddsObject, LacksRoom, Allocated, CanAllocate, HasRoom}
-use Rattle.gc_refs.specs.Trace.{form_unit, form_of}
+use Rattle.gc_heap.specs.Heap.{AddsObject, LacksRoom, CanAllocate}
+use Rattle.gc_refs.specs.Trace.{form_of}
 use Rattle.gc_heap.specs.Objects.{held_size, first_offset, zeroed, zeroed_array, external, IsObjectKind, HasFields}
 use Rattle.gc_heap.specs.References.{SpareFits, bitmap_offsets, array_spare}
 use Rattle.gc_heap.specs.Content.{IsSpare}
 use Rattle.gc_copying.specs.Spaces.{half_start, half_end}
 use Rattle.gc_copying.specs.Layout.{first_place, places_in, size_at, kind_of, kind_at, data_at, object_at}
 use Rattle.gc_copying.specs.Content.{Linked, last, link, space_view, IsExternalAt, IsWhole, IsSpace}
-use Rattle.gc_copying.specs.HeapLaws.{Skips, nothing, sixteen, skips, HalfLies, half_lies, first_aligned, lies_in_space}
+use Rattle.gc_copying.specs.HeapLaws.{nothing, sixteen, skips, half_lies, first_aligned, lies_in_space}
 use Rattle.gc_copying.specs.declared.place.Room.TheVariants as room
 use Rattle.gc_copying.specs.States.{IsSound, seen_in}
 use Rattle.gc_copying.specs.declared.space.Space.{Space}

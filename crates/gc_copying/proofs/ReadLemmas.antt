@@ -1,5 +1,5 @@
 -- What the words of a held object tell.
-use Rattle.std.proofs.Common.{◌≡◌, ℕ, ◌+◌, ◌-◌, ◌%◌, ◌<◌, ◌≤◌, Bool, true, false, List, take, drop, length, get_or, Some, None, Ok, Err, refl, sym, ap, subst, ◌∙◌, arith}
+use Rattle.std.proofs.Common.{◌≡◌, ℕ, ◌+◌, ◌-◌, ◌%◌, ◌<◌, ◌≤◌, Bool, List, take, drop, length, get_or, Some, Ok, Err, refl, sym, ap, subst, ◌∙◌, arith}
 use Rattle.std.specs.Prelude.{Result, IsOkAnd, MatchResult}
 use Rattle.std.specs.FinMap as finite
 use Rattle.std.proofs.lemmas.List.{same_lists, get_or-take, get_or-drop, length-take-le, length-drop}
@@ -7,8 +7,7 @@ use Rattle.gc_types.specs.declared.kind.Layouts.TheVariants.{Copying}
 use Rattle.gc_types.specs.declared.kind.VMGcKind.{VMGcKind}
 use Rattle.gc_types.specs.declared.kind.VMGcKind.TheVariants.{ExternRef, AnyRef, EqRef, StructRef, ArrayRef, ExnRef}
 use Rattle.gc_types.specs.Kinds.{kind_bits}
-use Rattle.gc_refs.specs.Header.{Header, kind_part, spare_bits}
-use Rattle.gc_tables.specs.SideTables.{max_entries}
+use Rattle.gc_refs.specs.Header.{kind_part, spare_bits}
 use Rattle.gc_memory.specs.Words.{word}
 use Rattle.gc_memory.specs.Lists.{In}
 use Rattle.gc_memory.proofs.WordLemmas.{word-is}
@@ -17,7 +16,7 @@ use Rattle.gc_model.specs.Views.{HeapObject, u32_at}
 use Rattle.gc_heap.specs.Objects.{held_size, first_offset, data_offset, array_length, IsObjectKind, IsHeaderOf, IsObjectData}
 use Rattle.gc_copying.specs.Layout.{size_at, places_in, kind_at, data_at, object_at}
 use Rattle.gc_copying.specs.Content.{objects_at, IsWhole, IsExternalAt, IsSpace}
-use Rattle.gc_copying.specs.ObjectLaws.{held_size-at, FoundAt, held_only}
+use Rattle.gc_copying.specs.ObjectLaws.{held_size-at, held_only}
 use Rattle.gc_copying.specs.HeapLaws.{LiesInSpace, lies_in_space}
 use Rattle.gc_copying.proofs.WriteLemmas.{array_word}
 

@@ -1,10 +1,9 @@
 -- What the changes of a memory leave of the objects of a copying heap.
-use Rattle.std.proofs.Common.{◌≡◌, ℕ, ◌+◌, ◌-◌, ◌*◌, ◌/◌, ◌%◌, ◌<◌, ◌≤◌, ◌^◌, Bool, true, false, cond, List, [], ◌∷◌, ◌++◌, take, drop, length, map, Option, Some, None, refl, sym, ap, ap₂, subst, ◌∙◌, inl, inr, arith}
-use Rattle.std.proofs.Math.Logic.{◌⊎◌}
-use Rattle.std.specs.Ordering.{nat_cmp, eq_by_cmp}
-use Rattle.std.specs.Cmp.{unsigned_tied, nat_cmp_total}
+use Rattle.std.proofs.Common.{◌≡◌, ℕ, ◌+◌, ◌-◌, ◌*◌, ◌%◌, ◌<◌, ◌≤◌, Bool, List, [], ◌∷◌, ◌++◌, take, drop, length, map, None, refl, sym, ap, ap₂, subst, ◌∙◌, inl, inr, arith}
+use Rattle.std.specs.Ordering.{nat_cmp}
+use Rattle.std.specs.Cmp.{nat_cmp_total}
 use Rattle.std.specs.FinMap as finite
-use Rattle.std.proofs.lemmas.Bool.{cases_eq, cases_lt, ne_eqb, eq-eqb}
+use Rattle.std.proofs.lemmas.Bool.{cases_eq}
 use Rattle.std.proofs.lemmas.List.{length-append, map-append}
 use Rattle.gc_types.specs.declared.kind.Layouts.TheVariants.{Copying}
 use Rattle.gc_types.specs.declared.kind.VMGcKind.{VMGcKind}
@@ -13,25 +12,24 @@ use Rattle.gc_types.specs.Kinds.{kind_bits}
 use Rattle.gc_types.specs.Layouts.{round_up}
 use Rattle.gc_refs.specs.Header.{spare_bits, kind_part}
 use Rattle.gc_memory.specs.Words.{word}
-use Rattle.gc_memory.specs.Changes.{Wrote}
 use Rattle.gc_memory.specs.Lists.{In, here, there, occ}
-use Rattle.gc_memory.specs.Chains.{Chain, done, next}
-use Rattle.gc_memory.proofs.ChainLemmas.{Chain-resized, Chain-push, Chain-places, Chain-apart}
+use Rattle.gc_memory.specs.Chains.{Chain}
+use Rattle.gc_memory.proofs.ChainLemmas.{Chain-resized, Chain-push, Chain-places}
 use Rattle.gc_memory.proofs.ChangeLemmas.{Wrote-before}
-use Rattle.gc_memory.proofs.ListLemmas.{In-left, In-right, In-split, In-one, In-occ, occ-In, occ-none, occ-same, occ-other}
+use Rattle.gc_memory.proofs.ListLemmas.{In-left, In-right, In-split, In-one, occ-none, occ-same, occ-other}
 use Rattle.gc_memory.proofs.WordLemmas.{word_in_same}
 use Rattle.gc_model.specs.Allocation.{page, max_pages}
 use Rattle.gc_model.specs.Bytes.{SameBytes}
 use Rattle.gc_model.proofs.ByteLemmas.{SameBytes-part, part_in_same}
-use Rattle.gc_model.specs.Views.{HeapObject, HeapView}
+use Rattle.gc_model.specs.Views.{HeapObject}
 use Rattle.gc_heap.specs.Objects.{first_offset, IsObjectKind}
-use Rattle.gc_heap.specs.Content.{IsSpare, total, block_size}
-use Rattle.gc_heap.specs.Heap.{half_of, HasRoom}
-use Rattle.gc_copying.specs.Spaces.{half_start, half_end}
+use Rattle.gc_heap.specs.Content.{IsSpare}
+use Rattle.gc_heap.specs.Heap.{HasRoom}
+use Rattle.gc_copying.specs.Spaces.{half_end}
 use Rattle.gc_copying.specs.Layout.{first_place, size_at, places_in, kind_of, kind_at, data_at, object_at}
-use Rattle.gc_copying.specs.Content.{objects_at, space_view, IsExternalAt, IsWhole, Linked, last, link, ExternalsLinked, IsSpace}
-use Rattle.gc_copying.specs.ObjectLaws.{held_in, held_none}
-use Rattle.gc_copying.specs.HeapLaws.{Skips, nothing, sixteen, skips, HalfLies, half_lies, LiesInSpace, lies_in_space, blocks_are}
+use Rattle.gc_copying.specs.Content.{objects_at, space_view, IsWhole, Linked, last, link, ExternalsLinked, IsSpace}
+use Rattle.gc_copying.specs.ObjectLaws.{held_none}
+use Rattle.gc_copying.specs.HeapLaws.{nothing, sixteen, skips, lies_in_space, blocks_are}
 use Rattle.gc_copying.specs.Placing.{PutsObject, MovesHead}
 
 -- the kind of an object whose kind word stays

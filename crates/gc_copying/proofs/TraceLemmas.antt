@@ -1,13 +1,12 @@
 -- The trace word of a new struct or exception.
 use Rattle.std.proofs.Common.{◌≡◌, ℕ, zero, suc, ◌+◌, ◌-◌, ◌*◌, ◌/◌, ◌%◌, ◌<◌, ◌≤◌, ◌^◌, Bool, true, false, cond, max, List, [], ◌∷◌, ◌++◌, drop, length, get_or, refl, sym, ap, ap₂, subst, ◌∙◌, inl, inr, arith}
 use Rattle.std.proofs.Math.Logic.{◌⊎◌}
-use Rattle.std.specs.Prelude.{All, filter, map, bit_or, nat_le, ◌==◌, if◌then◌else◌}
+use Rattle.std.specs.Prelude.{All, filter, map, bit_or}
 use Rattle.std.specs.Int.{bit_at}
 use Rattle.std.proofs.lemmas.Bool.{cases_eq, cases_lt, eq-eqb, ne_eqb, le-leb, lt-leb}
-use Rattle.std.proofs.lemmas.List.{get_or_append_left, get_or-append_right, length-append}
 use Rattle.std.proofs.lemmas.List.Elements.{All-cons, All-nil}
 use Rattle.std.proofs.lemmas.Nat.{or_mod, or_comm}
-use Rattle.std.proofs.lemmas.Nat.Bits.{bit_at_lowest, bit_at-suc, bit_at-zero, bit_at_or, bit_at-pow_other, bit_at-lt, same_from_bits}
+use Rattle.std.proofs.lemmas.Nat.Bits.{bit_at_lowest, bit_at-suc, bit_at-zero, bit_at_or, bit_at-pow_other, same_from_bits}
 use Rattle.std.proofs.Math.Nat.{pow-le-pow_right}
 use Rattle.gc_types.specs.declared.kind.Layouts.TheVariants.{Copying}
 use Rattle.gc_types.specs.declared.layout.FieldLayout.{FieldLayout}
@@ -19,7 +18,7 @@ use Rattle.gc_refs.specs.declared.trace.InlineTraceInfo.TheVariants.{Bitmap, Arr
 use Rattle.gc_refs.specs.Trace.{form_unit, form_of, trace_word, HasTraceWord}
 use Rattle.gc_heap.specs.Objects.{first_offset, HasFields}
 use Rattle.gc_heap.specs.Heap.{exn_or_struct, layout_kind, CanAllocate}
-use Rattle.gc_heap.specs.References.{IsTraceable, SpareFits, LayoutTraces, bitmap_of, is_past_bitmap, struct_spare, if_bit, bit_offsets, bitmap_offsets}
+use Rattle.gc_heap.specs.References.{IsTraceable, SpareFits, LayoutTraces, bitmap_of, is_past_bitmap, struct_spare, bit_offsets, bitmap_offsets}
 use Rattle.gc_copying.specs.Tracing.{traced_from}
 
 -- bits of two bitmaps together

@@ -1,5 +1,5 @@
 -- What a write to the data of an object leaves of a space.
-use Rattle.std.proofs.Common.{◌≡◌, ℕ, ◌+◌, ◌-◌, ◌*◌, ◌%◌, ◌<◌, ◌≤◌, ◌^◌, Bool, true, false, cond, List, [], ◌∷◌, ◌++◌, take, drop, length, Option, Some, None, refl, sym, ap, ap₂, subst, ◌∙◌, inl, inr, arith}
+use Rattle.std.proofs.Common.{◌≡◌, ℕ, ◌+◌, ◌-◌, ◌*◌, ◌%◌, ◌<◌, ◌≤◌, ◌^◌, Bool, true, cond, List, [], ◌∷◌, ◌++◌, take, drop, length, Some, refl, sym, ap, subst, ◌∙◌, inl, inr, arith}
 use Rattle.std.proofs.Math.Logic.{◌⊎◌}
 use Rattle.std.specs.Ordering.{nat_cmp, eq_by_cmp}
 use Rattle.std.specs.Cmp.{unsigned_tied, nat_cmp_total}
@@ -18,19 +18,19 @@ use Rattle.gc_memory.proofs.ChainLemmas.{Chain-resized, Chain-apart, Chain-place
 use Rattle.gc_memory.proofs.ChangeLemmas.{Wrote-before, Wrote-behind, Wrote-put_bytes}
 use Rattle.gc_memory.proofs.ListLemmas.{In-occ, occ-In}
 use Rattle.gc_memory.proofs.WordLemmas.{word-is, word_before}
-use Rattle.gc_model.specs.Bytes.{put_bytes, SameBytes}
-use Rattle.gc_model.proofs.ByteLemmas.{part_in_same, part-put_bytes_inside, u32_at-part}
-use Rattle.gc_model.specs.Views.{HeapObject, HeapView, no_counts, u32_at}
-use Rattle.gc_heap.specs.Objects.{size_with, held_size, first_offset, writable_offset, array_length, IsObjectKind}
+use Rattle.gc_model.specs.Bytes.{put_bytes}
+use Rattle.gc_model.proofs.ByteLemmas.{part-put_bytes_inside, u32_at-part}
+use Rattle.gc_model.specs.Views.{HeapObject, no_counts, u32_at}
+use Rattle.gc_heap.specs.Objects.{held_size, first_offset, writable_offset, array_length, IsObjectKind}
 use Rattle.gc_heap.specs.References.{IsTraceWord}
 use Rattle.gc_heap.specs.Content.{IsSpare, TracesInside}
 use Rattle.gc_heap.specs.Heap.{IsWritable, with_data, put_object}
 use Rattle.gc_model.specs.Allocation.{page, max_pages}
 use Rattle.gc_copying.specs.Spaces.{half_start, half_end}
 use Rattle.gc_copying.specs.Layout.{first_place, size_at, places_in, kind_at, data_at, object_at}
-use Rattle.gc_copying.specs.Content.{objects_at, space_view, IsWhole, Linked, ExternalsLinked, IsSpace}
-use Rattle.gc_copying.specs.ObjectLaws.{length-data_at, held_size-at, FoundAt, held_only, held_in, held_none}
-use Rattle.gc_copying.specs.HeapLaws.{LiesInSpace, lies_in_space}
+use Rattle.gc_copying.specs.Content.{objects_at, space_view, IsWhole, ExternalsLinked, IsSpace}
+use Rattle.gc_copying.specs.ObjectLaws.{length-data_at, held_size-at, held_only, held_in, held_none}
+use Rattle.gc_copying.specs.HeapLaws.{lies_in_space}
 use Rattle.gc_copying.proofs.SpaceLemmas.{SameObject, same_object, kind_in_same, object_in_same, whole_in_same, linked_in_same, space_of}
 
 -- the length of an array is the word behind its size

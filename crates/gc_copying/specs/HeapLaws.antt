@@ -1,6 +1,5 @@
 -- A sound copying heap is what a heap always is.
-use Rattle.std.proofs.Common.{◌≡◌, ℕ, ◌+◌, ◌-◌, ◌*◌, ◌/◌, ◌%◌, ◌<◌, ◌≤◌, ◌^◌, Bool, true, false, cond, List, [], ◌∷◌, length, Option, Some, None, refl, sym, ap, subst, ◌∙◌, inl, inr, arith}
-use Rattle.std.proofs.Math.Logic.{◌⊎◌}
+use Rattle.std.proofs.Common.{◌≡◌, ℕ, ◌+◌, ◌-◌, ◌%◌, ◌<◌, ◌≤◌, ◌^◌, Bool, true, false, cond, List, length, Some, refl, sym, ap, subst, ◌∙◌, inl, inr, arith}
 use Rattle.std.specs.Prelude.{◌==◌, if◌then◌else◌}
 use Rattle.std.specs.Ordering.{nat_cmp}
 use Rattle.std.specs.FinMap as finite
@@ -9,20 +8,18 @@ use Rattle.gc_types.specs.declared.kind.Layouts.TheVariants.{Copying}
 use Rattle.gc_types.specs.declared.kind.VMGcKind.{VMGcKind}
 use Rattle.gc_types.specs.declared.kind.VMGcKind.TheVariants.{ExternRef, AnyRef, EqRef, StructRef, ArrayRef, ExnRef}
 use Rattle.gc_types.specs.Layouts.{round_up}
-use Rattle.gc_memory.specs.Lists.{In, sum_over}
-use Rattle.gc_memory.specs.Chains.{Chain}
-use Rattle.gc_memory.proofs.ChainLemmas.{LiesInChain, Chain-lies, Chain-sum, Chain-apart}
+use Rattle.gc_memory.specs.Lists.{In}
+use Rattle.gc_memory.proofs.ChainLemmas.{Chain-lies, Chain-sum, Chain-apart}
 use Rattle.gc_memory.proofs.ListLemmas.{sum_over-same}
-use Rattle.gc_model.specs.Sizes.{alignment}
-use Rattle.gc_model.specs.Views.{HeapObject, HeapView, detached_in}
-use Rattle.gc_heap.specs.Objects.{size_with, held_size, first_offset, data_offset, IsObjectKind}
+use Rattle.gc_model.specs.Views.{HeapObject, detached_in}
+use Rattle.gc_heap.specs.Objects.{size_with, held_size, first_offset, data_offset}
 use Rattle.gc_heap.specs.Content.{total, block_size, LiesAtPlace, IsHeap}
 use Rattle.gc_heap.specs.Totals.{total-empty}
-use Rattle.gc_heap.specs.Heap.{half_of, HasRoom}
+use Rattle.gc_heap.specs.Heap.{half_of}
 use Rattle.gc_copying.specs.Spaces.{half_start, half_end}
 use Rattle.gc_copying.specs.Layout.{skipped, first_place, size_at, places_in, kind_at, data_at, object_at}
 use Rattle.gc_copying.specs.Content.{objects_at, space_view, IsWhole, IsSpace}
-use Rattle.gc_copying.specs.ObjectLaws.{length-data_at, length-external, held_size-at, FoundAt, held_only, total-at}
+use Rattle.gc_copying.specs.ObjectLaws.{length-external, held_size-at, held_only, total-at}
 
 -- a half begins at a multiple of 16 and ends in the memory
 pub record HalfLies (n : ℕ) (upper : Bool) : Type 0 where

@@ -1,6 +1,6 @@
 -- Laws of the objects of a copying heap: their sizes, and the map of them.
-use Rattle.std.proofs.Common.{◌≡◌, ℕ, ◌+◌, ◌-◌, ◌*◌, ◌/◌, ◌%◌, ◌<◌, ◌≤◌, Bool, true, false, cond, List, [], ◌∷◌, take, drop, length, map, Option, Some, None, refl, sym, ap, subst, ◌∙◌, inl, inr, arith}
-use Rattle.std.specs.Ordering.{nat_cmp, eq_by_cmp}
+use Rattle.std.proofs.Common.{◌≡◌, ℕ, ◌+◌, ◌-◌, ◌≤◌, cond, List, [], ◌∷◌, take, drop, length, map, Some, None, refl, sym, ap, subst, ◌∙◌, inl, inr, arith}
+use Rattle.std.specs.Ordering.{nat_cmp}
 use Rattle.std.specs.Cmp.{unsigned_tied, nat_cmp_total}
 use Rattle.std.specs.FinMap as finite
 use Rattle.std.proofs.lemmas.Bool.{cases_eq, ne_eqb, eq-eqb}
@@ -10,11 +10,10 @@ use Rattle.gc_types.specs.declared.kind.VMGcKind.{VMGcKind}
 use Rattle.gc_types.specs.declared.kind.VMGcKind.TheVariants.{ExternRef, AnyRef, EqRef, StructRef, ArrayRef, ExnRef}
 use Rattle.gc_memory.specs.Lists.{In, here, there, sum_over}
 use Rattle.gc_memory.specs.Chains.{Chain, done, next}
-use Rattle.gc_memory.proofs.ChainLemmas.{Chain-lies, Chain-sum}
-use Rattle.gc_memory.proofs.ListLemmas.{sum_over-same}
+use Rattle.gc_memory.proofs.ChainLemmas.{Chain-lies}
 use Rattle.gc_model.specs.Views.{HeapObject}
 use Rattle.gc_heap.specs.Objects.{size_with, held_size, first_offset, IsObjectKind}
-use Rattle.gc_heap.specs.Content.{total, block_size}
+use Rattle.gc_heap.specs.Content.{total}
 use Rattle.gc_heap.specs.Totals.{total-empty, total-insert, len_with}
 use Rattle.gc_copying.specs.Layout.{size_at, kind_at, data_at, object_at}
 use Rattle.gc_copying.specs.Content.{objects_at, IsWhole}

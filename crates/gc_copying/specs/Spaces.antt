@@ -1,5 +1,5 @@
 -- The two halves of the memory of a copying heap.
-use Rattle.std.specs.Prelude.{ℕ, ◌+◌, ◌*◌, Bool, if◌then◌else◌}
+use Rattle.std.specs.Prelude.{ℕ, ◌+◌, Bool, if◌then◌else◌}
 use Rattle.gc_heap.specs.Heap.{half_of}
 
 -- where the lower or the upper half begins, in a memory of so many bytes

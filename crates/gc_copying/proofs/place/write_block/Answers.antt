@@ -1,4 +1,4 @@
-use Rattle.std.proofs.Common.{◌<◌, ◌^◌, arith}
+use Rattle.std.proofs.Common.{arith}
 use Rattle.gc_copying.proofs.MakeLemmas.{writes_block}
 use Rattle.gc_copying.proofs.place.write_block.Goals as goal
 

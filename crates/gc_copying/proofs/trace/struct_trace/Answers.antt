@@ -1,4 +1,4 @@
-use Rattle.std.proofs.Common.{◌≡◌, ◌+◌, false, get_or, sym, subst, arith}
+use Rattle.std.proofs.Common.{◌+◌, false, get_or, sym, subst, arith}
 use Rattle.std.proofs.lemmas.List.{drop_more, drop_all}
 use Rattle.gc_types.specs.declared.layout.FieldLayout.{FieldLayout}
 use Rattle.gc_copying.proofs.TraceLemmas.{TracedAt, traced_skip, traced_take, traced_end}

@@ -1,16 +1,11 @@
-use Rattle.std.proofs.Common.{◌≡◌, ℕ, ◌+◌, ◌-◌, ◌*◌, ◌%◌, ◌∙◌, ◌≤◌, ◌<◌, ◌^◌, true, length, refl, sym, ap, ap₂, subst, arith}
-use Rattle.gc_types.specs.declared.kind.VMGcKind.{VMGcKind}
+use Rattle.std.proofs.Common.{◌≡◌, ℕ, ◌+◌, ◌*◌, ◌∙◌, ◌≤◌, true, refl, sym, ap, ap₂, subst, arith}
 use Rattle.gc_types.specs.declared.kind.Layouts.TheVariants.{Copying}
-use Rattle.gc_refs.specs.Header.{Header, IsOfKind, spare_bits}
-use Rattle.gc_memory.specs.Offsets.{external_size}
 use Rattle.gc_model.specs.Views.{put_u32}
-use Rattle.gc_heap.specs.Objects.{zeroed, external}
 use Rattle.gc_heap.specs.Heap.{IsTooLarge, new_array, array_size}
-use Rattle.gc_copying.specs.States.{IsSound, seen_in}
-use Rattle.gc_copying.specs.Placing.{FindsRoom, WritesBlock, CanPlace}
-use Rattle.gc_copying.specs.declared.space.Space.{Space}
+use Rattle.gc_copying.specs.States.{seen_in}
+use Rattle.gc_copying.specs.Placing.{FindsRoom, CanPlace}
 use Rattle.gc_copying.specs.declared.place.Room.TheVariants as room
-use Rattle.gc_copying.proofs.MakeLemmas.{can_place, size_positive, lacks_room, MakesObject, makes_zeroed, makes_array, makes_external}
+use Rattle.gc_copying.proofs.MakeLemmas.{can_place, lacks_room, MakesObject, makes_array}
 use Rattle.gc_heap.specs.References.{ArrayTraces}
 use Rattle.gc_types.specs.declared.layout.GcArrayLayout.{GcArrayLayout}
 use Rattle.gc_copying.proofs.space.Space.alloc_array.Goals as goal

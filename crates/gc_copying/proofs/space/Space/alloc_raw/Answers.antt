@@ -1,16 +1,13 @@
-use Rattle.std.proofs.Common.{◌≡◌, ℕ, ◌+◌, ◌-◌, ◌*◌, ◌%◌, ◌∙◌, ◌≤◌, ◌<◌, ◌^◌, true, length, refl, sym, ap, ap₂, subst, arith}
+use Rattle.std.proofs.Common.{◌%◌, refl, subst}
 use Rattle.gc_types.specs.declared.kind.VMGcKind.{VMGcKind}
 use Rattle.gc_types.specs.declared.kind.Layouts.TheVariants.{Copying}
-use Rattle.gc_refs.specs.Header.{Header, IsOfKind, spare_bits}
-use Rattle.gc_memory.specs.Offsets.{external_size}
-use Rattle.gc_model.specs.Views.{put_u32}
-use Rattle.gc_heap.specs.Objects.{zeroed, external}
-use Rattle.gc_heap.specs.Heap.{IsTooLarge, new_array, array_size}
-use Rattle.gc_copying.specs.States.{IsSound, seen_in}
-use Rattle.gc_copying.specs.Placing.{FindsRoom, WritesBlock, CanPlace}
-use Rattle.gc_copying.specs.declared.space.Space.{Space}
+use Rattle.gc_refs.specs.Header.{IsOfKind, spare_bits}
+use Rattle.gc_heap.specs.Objects.{zeroed}
+use Rattle.gc_heap.specs.Heap.{IsTooLarge}
+use Rattle.gc_copying.specs.States.{seen_in}
+use Rattle.gc_copying.specs.Placing.{FindsRoom}
 use Rattle.gc_copying.specs.declared.place.Room.TheVariants as room
-use Rattle.gc_copying.proofs.MakeLemmas.{can_place, size_positive, lacks_room, MakesObject, makes_zeroed, makes_array, makes_external}
+use Rattle.gc_copying.proofs.MakeLemmas.{can_place, size_positive, lacks_room, MakesObject, makes_zeroed}
 use Rattle.gc_copying.proofs.space.Space.alloc_raw.Goals as goal
 use Rattle.gc_copying.proofs.space.Space.alloc_raw.Goals.{After-place}
 

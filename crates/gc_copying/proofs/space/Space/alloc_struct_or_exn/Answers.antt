@@ -1,8 +1,8 @@
-use Rattle.std.proofs.Common.{◌≡◌, ℕ, ◌%◌, ◌∙◌, ◌≤◌, ◌<◌, true, length, get_or, sym, ap, ap₂, subst}
+use Rattle.std.proofs.Common.{◌≡◌, ℕ, ◌∙◌, ◌≤◌, ◌<◌, true, length, get_or, sym, ap, ap₂, subst}
 use Rattle.gc_types.specs.declared.kind.Layouts.TheVariants.{Copying}
 use Rattle.gc_types.specs.declared.layout.FieldLayout.{FieldLayout}
 use Rattle.gc_types.specs.Layouts.{ref_offsets}
-use Rattle.gc_refs.specs.Header.{IsOfKind, spare_bits}
+use Rattle.gc_refs.specs.Header.{IsOfKind}
 use Rattle.gc_heap.specs.Objects.{zeroed}
 use Rattle.gc_heap.specs.References.{struct_spare}
 use Rattle.gc_heap.specs.Heap.{Allocated, layout_kind}

@@ -1,4 +1,4 @@
-use Rattle.std.proofs.Common.{◌≡◌, ℕ, ◌*◌, ◌≤◌, ◌%◌, false, sym, subst, length, arith}
+use Rattle.std.proofs.Common.{◌≡◌, ◌*◌, ◌≤◌, ◌%◌, false, sym, subst, length, arith}
 use Rattle.gc_model.specs.Allocation.{page, max_pages}
 use Rattle.gc_copying.specs.Content.{IsSpace}
 use Rattle.gc_copying.proofs.GrowLemmas.{empty_space}

@@ -1,4 +1,4 @@
-use Rattle.std.proofs.Common.{◌≡◌, ◌+◌, ◌*◌, ◌≤◌, length, arith}
+use Rattle.std.proofs.Common.{◌+◌, ◌≤◌, length, arith}
 use Rattle.gc_types.specs.Layouts.{round_up}
 use Rattle.gc_copying.specs.Spaces.{half_end}
 use Rattle.gc_copying.proofs.SpaceLemmas.{has_room, room_is}

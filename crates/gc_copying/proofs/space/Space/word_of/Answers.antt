@@ -1,16 +1,8 @@
-use Rattle.std.proofs.Common.{◌≡◌, ℕ, ◌+◌, ◌-◌, ◌∙◌, ◌<◌, ◌≤◌, ◌%◌, true, false, refl, sym, ap, ap₂, subst, length, take, drop, Some, inl, inr, arith}
-use Rattle.gc_types.specs.declared.kind.Layouts.TheVariants.{Copying}
-use Rattle.gc_types.specs.declared.kind.VMGcKind.TheVariants.{ExternRef, ArrayRef}
+use Rattle.std.proofs.Common.{◌+◌, ◌∙◌, sym, ap, arith}
 use Rattle.gc_types.specs.Kinds.{kind_bits}
 use Rattle.gc_refs.specs.Header.{Header, kind_part, IsOfKind}
-use Rattle.gc_memory.specs.Words.{word}
 use Rattle.gc_memory.proofs.WordLemmas.{word-is}
-use Rattle.gc_model.specs.Bytes.{put_bytes}
 use Rattle.gc_model.specs.Views.{u32_at}
-use Rattle.gc_heap.specs.Objects.{IsHeaderOf, IsObjectData}
-use Rattle.gc_copying.specs.Layout.{size_at, places_in, kind_at}
-use Rattle.gc_copying.specs.HeapLaws.{lies_in_space}
-use Rattle.gc_copying.proofs.ReadLemmas.{held_at, header_of, size_of, array_of, host_of, data_of, match_ok}
 use Rattle.gc_copying.proofs.space.Space.word_of.Goals as goal
 use Rattle.gc_copying.proofs.space.Space.word_of.Goals.{else-is_of_kind-via-then-is_of_kind+else-at-range, else-is_of_kind-via-else-is_of_kind}
 
