@@ -1,0 +1,11 @@
+pub mod Spaces
+pub mod Layout
+pub mod Content
+pub mod States
+pub mod ObjectLaws
+pub mod HeapLaws
+pub mod Placing
+pub mod Tracing
+pub mod Growth
+pub mod Reading
+pub mod CopyingHeapLaw
