@@ -1,0 +1,5 @@
+pub mod MoreBytes
+pub mod MidLemmas
+pub mod CopyKeeps
+pub mod ScanKeeps
+pub mod ForwardLemmas

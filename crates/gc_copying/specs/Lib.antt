@@ -1,1 +1,5 @@
 pub mod Spaces
+pub mod CopyWords
+pub mod CopyStart
+pub mod CopyMiddle
+pub mod CopySteps

@@ -2,4 +2,5 @@
 //! roots reach into the other half.
 #![tactic(auto)]
 
+pub(crate) mod copy;
 pub(crate) mod space;
