@@ -28,11 +28,11 @@ midway s t old new bump count mid len upper b n =
 -- an old object that isn't copied may be copied
 pub can_copy : {s : From} {m : List ℕ} {base bump limit count t : ℕ} → Mid s m base bump limit count t → (p : ℕ) → In p s.places → flag m p ≡ 0
     → CanCopy m p bump
-can_copy {s = s} {m = m} {bump = bump} mid p i fresh =
+can_copy {s = s} {m = m} {bump = bump} {limit = limit} mid p i fresh =
     let at = lies mid p i in
     let size : size_at m p ≡ size_at s.memory p = mid.sizes p i in
     let len = mid.same_length in
-    let fits : bump + size_at s.memory p ≤ _ = omega (arith, sum_over-member (left_at s m) s.places p i, left_fresh s m p fresh, mid.room) in
+    let fits : bump + size_at s.memory p ≤ limit = omega (arith, sum_over-member (left_at s m) s.places p i, left_fresh s m p fresh, mid.room) in
     record {
       source = omega (arith, at.to, mid.start.inside);
       destination = omega (arith, mid.inside);
@@ -58,6 +58,14 @@ word_inside {s = s} mid p i =
 pub no_place : (w : ℕ) → (w ≡ 0) ⊎ (w % 2 ≡ 1) → IsPlaceWord w → ⊥
 no_place w (inl h) place = omega (arith, place.not_null)
 no_place w (inr h) place = omega (arith, place.even)
+
+-- a number that is neither null nor odd is one
+pub place_word : (w : ℕ) → (w ≡ 0 → ⊥) → (w % 2 ≡ 1 → ⊥) → IsPlaceWord w
+place_word w ne odd = record { not_null = omega arith; even = omega arith }
+
+-- the flag is one of two numbers
+pub not_one : (k : ℕ) → (k / copied_unit % 2 ≡ 1 → ⊥) → k / copied_unit % 2 ≡ 0
+not_one k ne = omega arith
 
 -- the flag as it was read
 pub flag_read : (m : List ℕ) (p k : ℕ) → k ≡ u32_at m p → flag m p ≡ k / copied_unit % 2
