@@ -3,3 +3,4 @@ pub mod MidLemmas
 pub mod CopyKeeps
 pub mod ScanKeeps
 pub mod ForwardLemmas
+pub mod ScanLemmas

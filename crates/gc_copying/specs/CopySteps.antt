@@ -78,3 +78,16 @@ pub record CanScan (h : Space) (q : ℕ) (left : List ℕ) : Type 0 where
 pub record Scans (s : From) (p q u : ℕ) (left : List ℕ) (old new : Space) : Type 0 where
   pub scanning : Scanning s p q u left new
   pub later : Later s old.memory new.memory
+
+-- The reference at an offset is the next one to scan.
+pub record CanScanAt (h : Space) (q offset : ℕ) : Type 0 where
+  pub start : From
+  pub place : ℕ
+  pub from : ℕ
+  pub left : List ℕ
+  pub scanning : Scanning start place q from (offset ∷ left) h
+
+-- All references of the copy at q were moved, so the frontier is behind it.
+pub record ScansAll (s : From) (p q : ℕ) (old new : Space) : Type 0 where
+  pub mid : Midway s (q + size_at s.memory p) new
+  pub later : Later s old.memory new.memory

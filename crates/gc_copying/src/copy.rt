@@ -6,3 +6,4 @@
 //! others. At the end the host values of the external objects that were not copied are freed.
 
 pub(crate) mod forward;
+pub(crate) mod scan;
