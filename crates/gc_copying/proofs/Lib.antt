@@ -4,3 +4,4 @@ pub mod CopyKeeps
 pub mod ScanKeeps
 pub mod ForwardLemmas
 pub mod ScanLemmas
+pub mod OffsetLemmas

@@ -41,6 +41,10 @@ external_bits = 16
 abbrev pub IsExternal : List ℕ → ℕ → Type 0
 IsExternal m p = word m p / spare_bits ≡ external_bits
 
+-- the offsets that a bitmap names
+unfoldable pub bitmap_places : ℕ → List ℕ
+bitmap_places bits = bit_offsets 12 23 bits
+
 -- the offsets of the references of an object with so many elements, by the trace info of its type
 abbrev pub info_offsets : ℕ → Option TraceInfo → List ℕ
 info_offsets count None = []
@@ -51,7 +55,7 @@ info_offsets count (Some (trace.Array false)) = []
 -- the offsets of the references of an object: by its kind word, else by its type
 abbrev pub traced : List Declaration → ℕ → ℕ → ℕ → List ℕ
 traced types kind_word ty count =
-    if form_of kind_word == 0 then bit_offsets 12 23 (kind_word % form_unit) else
+    if form_of kind_word == 0 then bitmap_places (kind_word % form_unit) else
     (if form_of kind_word == 1 then (if kind_word % 2 == 1 then word_offsets (array_base Copying) count else []) else
     info_offsets count (trace_at Copying types ty))
 

@@ -9,6 +9,12 @@ use gc_memory::HeapMemory;
 /// Bit 25 of a kind word: the object has been copied, and its forwarding word says where it is.
 pub(crate) const COPIED: u32 = 0x0200_0000;
 
+/// Where the first field of a struct lies, counted from its first byte.
+pub(crate) const FIRST_FIELD: u32 = 12;
+
+/// Where the elements of an array of references begin.
+pub(crate) const FIRST_ELEMENT: u32 = 16;
+
 /// The bytes at the start of the active half that hold no object, so that no object lies at 0.
 pub(crate) const SKIPPED: u32 = 16;
 

@@ -1,10 +1,13 @@
 //! Scanning one copy: each of its references is moved.
 
-ghost use Rattle.std.specs.Prelude.{ℕ, ◌≡◌, ◌+◌, ◌≤◌, List, length, ◌∷◌};
+ghost use Rattle.std.specs.Prelude.{ℕ, ◌≡◌, ◌+◌, ◌<◌, ◌≤◌, List, length, ◌∷◌};
+ghost use Rattle.gc_refs.specs.Trace.{form_unit};
+ghost use Rattle.gc_heap.specs.References.{word_offsets};
+ghost use Rattle.gc_copying.specs.CopyWords.{bitmap_places};
 ghost use Rattle.gc_copying.specs.CopyStart.{From};
-ghost use Rattle.gc_copying.specs.CopySteps.{SameSides, Scanning, CanScanAt, Scans};
+ghost use Rattle.gc_copying.specs.CopySteps.{SameSides, Scanning, CanScan, CanScanAt, Scans, ScansAll};
 
-use crate::space::Space;
+use crate::space::{FIRST_ELEMENT, FIRST_FIELD, Space};
 use gc_steps::Steps;
 use std::sync::ledger::Ledger;
 
@@ -22,5 +25,51 @@ impl Space {
         steps.tick();
         let moved = self.forward(reference, steps);
         self.memory.write_u32(at, moved);
+    }
+
+    /// Moves the references that a bitmap names: bit s the word at 12 + 4 * s.
+    fn scan_bitmap<G: Ledger>(&mut self, copy: u32, bits: u32, steps: &mut Steps<G>)
+        requires left { CanScan self.old copy (bitmap_places bits) }
+        requires bits { bits < form_unit }
+        ensures scanned { (s : From) (p u : ℕ) → Scanning s p copy u (bitmap_places bits) self.old → ScansAll s p copy self.old self.new }
+        ensures sides { SameSides self.old self.new }
+        ensures ticks { steps.new + self.old.objects ≡ steps.old + self.new.objects + length (bitmap_places bits) }
+        ensures rises { steps.old ≤ steps.new }
+    {
+        let mut rest = bits;
+        let mut offset = FIRST_FIELD;
+        while rest != 0 {
+            if rest % 2 == 1 {
+                self.scan_field(copy, offset, steps);
+            }
+            rest /= 2;
+            offset += 4;
+        }
+    }
+
+    /// Moves the elements of an array of so many references.
+    fn scan_elements<G: Ledger>(&mut self, copy: u32, count: u32, steps: &mut Steps<G>)
+        requires { CanScan self.old copy (word_offsets 16 count) }
+        ensures scanned { (s : From) (p u : ℕ) → Scanning s p copy u (word_offsets 16 count) self.old → ScansAll s p copy self.old self.new }
+        ensures sides { SameSides self.old self.new }
+        ensures ticks { steps.new + self.old.objects ≡ steps.old + self.new.objects + length (word_offsets 16 count) }
+        ensures rises { steps.old ≤ steps.new }
+    {
+        for index in 0..count {
+            self.scan_field(copy, FIRST_ELEMENT + 4 * index, steps);
+        }
+    }
+
+    /// Moves the references at these offsets.
+    fn scan_offsets<G: Ledger>(&mut self, copy: u32, offsets: &[u32], steps: &mut Steps<G>)
+        requires { CanScan self.old copy offsets.now }
+        ensures scanned { (s : From) (p u : ℕ) → Scanning s p copy u offsets.now self.old → ScansAll s p copy self.old self.new }
+        ensures sides { SameSides self.old self.new }
+        ensures ticks { steps.new + self.old.objects ≡ steps.old + self.new.objects + length offsets.now }
+        ensures rises { steps.old ≤ steps.new }
+    {
+        for offset in offsets {
+            self.scan_field(copy, *offset, steps);
+        }
     }
 }
