@@ -5,3 +5,4 @@ pub mod ScanKeeps
 pub mod ForwardLemmas
 pub mod ScanLemmas
 pub mod OffsetLemmas
+pub mod TraceLemmas

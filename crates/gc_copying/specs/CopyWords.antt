@@ -1,14 +1,13 @@
 -- The words of an object of a copying heap.
-use Rattle.std.specs.Prelude.{◌≡◌, ℕ, ◌+◌, ◌/◌, ◌%◌, ◌<◌, ◌≤◌, ◌⊎◌, ◌==◌, if◌then◌else◌, true, false, List, [], ◌∷◌, Option, Some, None}
+use Rattle.std.specs.Prelude.{◌≡◌, ℕ, ◌+◌, ◌/◌, ◌%◌, ◌<◌, ◌≤◌, ◌⊎◌, ◌==◌, if◌then◌else◌, Bool, true, false, List, [], ◌∷◌, Option, Some, None}
 use Rattle.gc_types.specs.declared.kind.Layouts.TheVariants.{Copying}
 use Rattle.gc_types.specs.declared.layout.TraceInfo.{TraceInfo}
 use Rattle.gc_types.specs.declared.layout.TraceInfo.TheVariants as trace
 use Rattle.gc_types.specs.Declarations.{Declaration}
-use Rattle.gc_types.specs.Layouts.{trace_at, array_base}
+use Rattle.gc_types.specs.Layouts.{trace_at}
 use Rattle.gc_refs.specs.Trace.{form_unit, form_of}
 use Rattle.gc_refs.specs.Header.{spare_bits}
 use Rattle.gc_memory.specs.Words.{word}
-use Rattle.gc_memory.specs.Offsets.{array_length_offset}
 use Rattle.gc_heap.specs.References.{bit_offsets, word_offsets}
 
 -- bit 25 of the kind word: 1 where the object has been copied
@@ -45,23 +44,27 @@ IsExternal m p = word m p / spare_bits ≡ external_bits
 unfoldable pub bitmap_places : ℕ → List ℕ
 bitmap_places bits = bit_offsets 12 23 bits
 
+-- the offsets of the elements of an array, where they are references
+abbrev pub element_places : Bool → ℕ → List ℕ
+element_places true count = word_offsets 16 count
+element_places false count = []
+
 -- the offsets of the references of an object with so many elements, by the trace info of its type
-abbrev pub info_offsets : ℕ → Option TraceInfo → List ℕ
-info_offsets count None = []
-info_offsets count (Some (trace.Struct offsets)) = offsets
-info_offsets count (Some (trace.Array true)) = word_offsets (array_base Copying) count
-info_offsets count (Some (trace.Array false)) = []
+abbrev pub info_places : ℕ → Option TraceInfo → List ℕ
+info_places count None = []
+info_places count (Some (trace.Struct offsets)) = offsets
+info_places count (Some (trace.Array elements)) = element_places elements count
 
 -- the offsets of the references of an object: by its kind word, else by its type
 abbrev pub traced : List Declaration → ℕ → ℕ → ℕ → List ℕ
 traced types kind_word ty count =
     if form_of kind_word == 0 then bitmap_places (kind_word % form_unit) else
-    (if form_of kind_word == 1 then (if kind_word % 2 == 1 then word_offsets (array_base Copying) count else []) else
-    info_offsets count (trace_at Copying types ty))
+    (if form_of kind_word == 1 then element_places (kind_word % 2 == 1) count else
+    info_places count (trace_at Copying types ty))
 
 -- the same of the object at a place
 unfoldable pub offsets_at : List Declaration → List ℕ → ℕ → List ℕ
-offsets_at types m p = traced types (word m p) (word m (p + 4)) (word m (p + array_length_offset Copying))
+offsets_at types m p = traced types (word m p) (word m (p + 4)) (word m (p + 12))
 
 -- Offsets of words inside a range, one behind the other.
 abbrev pub Spaced : ℕ → ℕ → List ℕ → Type 0

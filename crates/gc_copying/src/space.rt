@@ -12,6 +12,9 @@ pub(crate) const COPIED: u32 = 0x0200_0000;
 /// Where the first field of a struct lies, counted from its first byte.
 pub(crate) const FIRST_FIELD: u32 = 12;
 
+/// Where the length of an array lies.
+pub(crate) const ARRAY_LENGTH: usize = 12;
+
 /// Where the elements of an array of references begin.
 pub(crate) const FIRST_ELEMENT: u32 = 16;
 

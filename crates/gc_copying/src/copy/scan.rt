@@ -3,12 +3,16 @@
 ghost use Rattle.std.specs.Prelude.{ℕ, ◌≡◌, ◌+◌, ◌<◌, ◌≤◌, List, length, ◌∷◌};
 ghost use Rattle.gc_refs.specs.Trace.{form_unit};
 ghost use Rattle.gc_heap.specs.References.{word_offsets};
-ghost use Rattle.gc_copying.specs.CopyWords.{bitmap_places};
+ghost use Rattle.gc_copying.specs.CopyWords.{bitmap_places, element_places, info_places, offsets_at};
+ghost use Rattle.gc_memory.specs.Words.{word};
+ghost use Rattle.gc_types.specs.Layouts.{trace_at};
 ghost use Rattle.gc_copying.specs.CopyStart.{From};
 ghost use Rattle.gc_copying.specs.CopySteps.{SameSides, Scanning, CanScan, CanScanAt, Scans, ScansAll};
 
-use crate::space::{FIRST_ELEMENT, FIRST_FIELD, Space};
+use crate::space::{ARRAY_LENGTH, FIRST_ELEMENT, FIRST_FIELD, Space};
+use gc_refs::InlineTraceInfo;
 use gc_steps::Steps;
+use gc_types::{Layouts, TraceInfo, Types, VMSharedTypeIndex};
 use std::sync::ledger::Ledger;
 
 impl Space {
@@ -70,6 +74,55 @@ impl Space {
     {
         for offset in offsets {
             self.scan_field(copy, *offset, steps);
+        }
+    }
+
+    /// Moves the elements of an array, where they are references.
+    fn scan_array<G: Ledger>(&mut self, copy: u32, elements: bool, steps: &mut Steps<G>)
+        requires { CanScan self.old copy (element_places elements (word self.old.memory (copy + 12))) }
+        ensures scanned { (s : From) (p u : ℕ) → Scanning s p copy u (element_places elements (word self.old.memory (copy + 12))) self.old → ScansAll s p copy self.old self.new }
+        ensures sides { SameSides self.old self.new }
+        ensures ticks { steps.new + self.old.objects ≡ steps.old + self.new.objects + length (element_places elements (word self.old.memory (copy + 12))) }
+        ensures rises { steps.old ≤ steps.new }
+    {
+        if elements {
+            let count = self.memory.read_u32(copy as usize + ARRAY_LENGTH);
+            self.scan_elements(copy, count, steps);
+        }
+    }
+
+    /// Moves the references that the type of the object tells.
+    fn scan_by_type<G: Ledger>(&mut self, copy: u32, ty: VMSharedTypeIndex, types: &Types, steps: &mut Steps<G>)
+        requires { CanScan self.old copy (info_places (word self.old.memory (copy + 12)) (trace_at Layouts.Copying types.now.declarations ty)) }
+        ensures scanned { (s : From) (p u : ℕ) → Scanning s p copy u (info_places (word self.old.memory (copy + 12)) (trace_at Layouts.Copying types.now.declarations ty)) self.old → ScansAll s p copy self.old self.new }
+        ensures sides { SameSides self.old self.new }
+        ensures ticks { steps.new + self.old.objects ≡ steps.old + self.new.objects + length (info_places (word self.old.memory (copy + 12)) (trace_at Layouts.Copying types.now.declarations ty)) }
+        ensures rises { steps.old ≤ steps.new }
+    {
+        match types.trace_info(Layouts::Copying, ty) {
+            Some(TraceInfo::Struct { gc_ref_offsets }) => {
+                self.scan_offsets(copy, gc_ref_offsets.as_slice(), steps)
+            }
+            Some(TraceInfo::Array { gc_ref_elems }) => self.scan_array(copy, *gc_ref_elems, steps),
+            None => (),
+        }
+    }
+
+    /// Moves the references of a copy, in the order of their offsets.
+    fn scan_references<G: Ledger>(&mut self, copy: u32, types: &Types, steps: &mut Steps<G>)
+        requires { CanScan self.old copy (offsets_at types.now.declarations self.old.memory copy) }
+        ensures scanned { (s : From) (p u : ℕ) → Scanning s p copy u (offsets_at types.now.declarations self.old.memory copy) self.old → ScansAll s p copy self.old self.new }
+        ensures sides { SameSides self.old self.new }
+        ensures ticks { steps.new + self.old.objects ≡ steps.old + self.new.objects + length (offsets_at types.now.declarations self.old.memory copy) }
+        ensures rises { steps.old ≤ steps.new }
+    {
+        let header = self.memory.read_header(copy as usize);
+        match InlineTraceInfo::decode(header.kind_word()) {
+            InlineTraceInfo::Bitmap(bits) => self.scan_bitmap(copy, bits, steps),
+            InlineTraceInfo::Array(elements) => self.scan_array(copy, elements, steps),
+            InlineTraceInfo::OutOfLine => {
+                self.scan_by_type(copy, header.type_index(), types, steps)
+            }
         }
     }
 }
