@@ -6,3 +6,4 @@ pub mod ForwardLemmas
 pub mod ScanLemmas
 pub mod OffsetLemmas
 pub mod TraceLemmas
+pub mod WorkLemmas

@@ -22,13 +22,19 @@ use Rattle.gc_copying.specs.CopySteps.{Scanning, CanScan, ScansAll}
 use Rattle.gc_copying.proofs.MidLemmas.{Spaced-in, Spaced-outside, lies, new_lies}
 use Rattle.gc_copying.proofs.ScanLemmas.{scanned_all}
 
-traced_at : (types : List Declaration) (m : List ℕ) (p : ℕ) → offsets_at types m p ≡ traced types (word m p) (word m (p + 4)) (word m (p + 12))
+pub traced_at : (types : List Declaration) (m : List ℕ) (p : ℕ) → offsets_at types m p ≡ traced types (word m p) (word m (p + 4)) (word m (p + 12))
 unfolding offsets_at
 traced_at types m p = refl
 
-by_form : (types : List Declaration) (kind_word ty count form : ℕ) → form_of kind_word ≡ form → traced types kind_word ty count
+pub by_form : (types : List Declaration) (kind_word ty count form : ℕ) → form_of kind_word ≡ form → traced types kind_word ty count
     ≡ (if nat_eq form 0 then bitmap_places (kind_word % form_unit) else (if nat_eq form 1 then element_places (kind_word % 2 == 1) count else info_places count (trace_at Copying types ty)))
 by_form types kind_word ty count form e = ap (λ (f : ℕ). if nat_eq f 0 then bitmap_places (kind_word % form_unit) else (if nat_eq f 1 then element_places (kind_word % 2 == 1) count else info_places count (trace_at Copying types ty))) e
+
+pub by_neither : (types : List Declaration) (kind_word ty count : ℕ) → (form_of kind_word ≡ 0 → ⊥) → (form_of kind_word ≡ 1 → ⊥)
+    → traced types kind_word ty count ≡ info_places count (trace_at Copying types ty)
+by_neither types kind_word ty count not_bitmap not_array =
+    ap (λ b. if b then bitmap_places (kind_word % form_unit) else (if nat_eq (form_of kind_word) 1 then element_places (kind_word % 2 == 1) count else info_places count (trace_at Copying types ty))) (ne_eqb (form_of kind_word) 0 not_bitmap)
+    ∙ ap (λ b. if b then element_places (kind_word % 2 == 1) count else info_places count (trace_at Copying types ty)) (ne_eqb (form_of kind_word) 1 not_array)
 
 -- an object with a bitmap
 pub places_by_bitmap : (types : List Declaration) (m : List ℕ) (p kind_word bits : ℕ) → kind_word ≡ u32_at m p → MeansTrace kind_word (Bitmap bits)

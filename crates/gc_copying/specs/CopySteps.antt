@@ -3,11 +3,13 @@ use Rattle.std.specs.Prelude.{◌≡◌, ℕ, ◌+◌, ◌<◌, ◌≤◌, ◌^�
 use Rattle.gc_model.specs.Bytes.{SameBytes}
 use Rattle.gc_memory.specs.Words.{word}
 use Rattle.gc_memory.specs.Changes.{SameAcross}
-use Rattle.gc_memory.specs.Lists.{In}
+use Rattle.gc_types.specs.Declarations.{Declaration}
+use Rattle.gc_memory.specs.Lists.{In, sum_over}
+use Rattle.gc_memory.specs.Chains.{Chain}
 use Rattle.gc_heap.specs.Heap.{half_of}
 use Rattle.gc_copying.specs.declared.space.Space.{Space}
 use Rattle.gc_copying.specs.Spaces.{half_start, half_end, half_first}
-use Rattle.gc_copying.specs.CopyWords.{flag, size_at, forwarding, copied_unit, IsPlaceWord, Spaced}
+use Rattle.gc_copying.specs.CopyWords.{flag, size_at, forwarding, copied_unit, IsPlaceWord, Spaced, offsets_at}
 use Rattle.gc_copying.specs.CopyStart.{From, refs, Reached}
 use Rattle.gc_copying.specs.CopyMiddle.{Mid, Leads, Moves, Later}
 
@@ -91,3 +93,30 @@ pub record CanScanAt (h : Space) (q offset : ℕ) : Type 0 where
 pub record ScansAll (s : From) (p q : ℕ) (old new : Space) : Type 0 where
   pub mid : Midway s (q + size_at s.memory p) new
   pub later : Later s old.memory new.memory
+
+-- The copies before `scan` were scanned: so many, with so many references.
+pub record WorkAt (s : From) (h : Space) (scan n fields : ℕ) : Type 0 where
+  pub mid : Midway s scan h
+  pub front : List ℕ
+  pub chain : Chain (size_at h.memory) (half_first (length h.memory) h.upper) scan front
+  pub scanned : length front ≡ n
+  pub looked_at : sum_over (λ q. length (offsets_at s.types h.memory q)) front ≡ fields
+
+-- More copies were scanned.
+pub record Works (s : From) (old new : Space) (scan n fields : ℕ) : Type 0 where
+  pub work : WorkAt s new scan n fields
+  pub later : Later s old.memory new.memory
+
+-- So many more were, and each reference was counted, as was each object that was copied.
+pub record WorksOn (s : From) (old new : Space) (scan more n fields counted count : ℕ) : Type 0 where
+  pub references : ℕ
+  pub works : Works s old new scan (n + more) (fields + references)
+  pub ticks : count + old.objects ≡ counted + new.objects + references
+
+-- Copies may be scanned from there on.
+pub record CanWork (types : List Declaration) (h : Space) (scan : ℕ) : Type 0 where
+  pub start : From
+  pub n : ℕ
+  pub fields : ℕ
+  pub work : WorkAt start h scan n fields
+  pub types_are : start.types ≡ types

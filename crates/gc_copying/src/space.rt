@@ -18,6 +18,9 @@ pub(crate) const ARRAY_LENGTH: usize = 12;
 /// Where the elements of an array of references begin.
 pub(crate) const FIRST_ELEMENT: u32 = 16;
 
+/// The greatest number of copies that one increment scans.
+pub(crate) const OBJECTS_PER_INCREMENT: u32 = 16_384;
+
 /// The bytes at the start of the active half that hold no object, so that no object lies at 0.
 pub(crate) const SKIPPED: u32 = 16;
 

@@ -1,15 +1,17 @@
 //! Scanning one copy: each of its references is moved.
 
-ghost use Rattle.std.specs.Prelude.{ℕ, ◌≡◌, ◌+◌, ◌<◌, ◌≤◌, List, length, ◌∷◌};
+ghost use Rattle.std.specs.Prelude.{ℕ, ◌≡◌, ◌+◌, ◌<◌, ◌≤◌, List, length, ◌∷◌, IfSome, IfNone};
 ghost use Rattle.gc_refs.specs.Trace.{form_unit};
 ghost use Rattle.gc_heap.specs.References.{word_offsets};
 ghost use Rattle.gc_copying.specs.CopyWords.{bitmap_places, element_places, info_places, offsets_at};
 ghost use Rattle.gc_memory.specs.Words.{word};
 ghost use Rattle.gc_types.specs.Layouts.{trace_at};
 ghost use Rattle.gc_copying.specs.CopyStart.{From};
-ghost use Rattle.gc_copying.specs.CopySteps.{SameSides, Scanning, CanScan, CanScanAt, Scans, ScansAll};
+ghost use Rattle.gc_copying.specs.CopySteps.{SameSides, Scanning, CanScan, CanScanAt, Scans, ScansAll, CanWork, WorkAt, Works, WorksOn};
+ghost use Rattle.gc_heap.specs.Collection.{objects_per_increment};
 
-use crate::space::{ARRAY_LENGTH, FIRST_ELEMENT, FIRST_FIELD, Space};
+use crate::space::{ARRAY_LENGTH, FIRST_ELEMENT, FIRST_FIELD, OBJECTS_PER_INCREMENT, Space};
+use gc_memory::offsets::COPYING_SIZE;
 use gc_refs::InlineTraceInfo;
 use gc_steps::Steps;
 use gc_types::{Layouts, TraceInfo, Types, VMSharedTypeIndex};
@@ -124,5 +126,43 @@ impl Space {
                 self.scan_by_type(copy, header.type_index(), types, steps)
             }
         }
+    }
+
+    /// Scans the copy at a place, and says where the next one is.
+    fn scan_object<G: Ledger>(&mut self, copy: u32, types: &Types, steps: &mut Steps<G>) -> u32
+        requires work { CanWork types.now.declarations self.old copy }
+        requires less { copy < self.old.bump }
+        ensures scanned { (s : From) (n fields : ℕ) → s.types ≡ types.now.declarations → WorkAt s self.old copy n fields
+            → Works s self.old self.new result (n + 1) (fields + length (offsets_at types.now.declarations self.old.memory copy)) }
+        ensures behind { copy < result }
+        ensures sides { SameSides self.old self.new }
+        ensures ticks { steps.new + self.old.objects ≡ steps.old + self.new.objects + length (offsets_at types.now.declarations self.old.memory copy) }
+        ensures rises { steps.old ≤ steps.new }
+    {
+        let size = self.memory.read_u32(copy as usize + COPYING_SIZE as usize);
+        self.scan_references(copy, types, steps);
+        copy + size
+    }
+
+    /// Scans the copies from a place on, at most as many as one increment may. Says where the next one
+    /// would be; None where all have been scanned, which it finds only when it looks for one more.
+    pub(crate) fn scan_some<G: Ledger>(&mut self, first: u32, types: &Types, steps: &mut Steps<G>) -> Option<u32>
+        requires { CanWork types.now.declarations self.old first }
+        ensures more { IfSome result (λ next. (s : From) (n fields : ℕ) → s.types ≡ types.now.declarations → WorkAt s self.old first n fields
+            → WorksOn s self.old self.new next objects_per_increment n fields steps.old steps.new) }
+        ensures behind { IfSome result (λ next. first < next) }
+        ensures empty { IfNone result ((done : ℕ) × ((done < objects_per_increment) × ((s : From) (n fields : ℕ) → s.types ≡ types.now.declarations → WorkAt s self.old first n fields
+            → WorksOn s self.old self.new self.new.bump done n fields steps.old steps.new))) }
+        ensures sides { SameSides self.old self.new }
+        ensures rises { steps.old ≤ steps.new }
+    {
+        let mut scan = first;
+        for _done in 0..OBJECTS_PER_INCREMENT {
+            if scan == self.bump {
+                return None;
+            }
+            scan = self.scan_object(scan, types, steps);
+        }
+        Some(scan)
     }
 }
