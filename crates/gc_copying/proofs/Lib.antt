@@ -7,3 +7,4 @@ pub mod ScanLemmas
 pub mod OffsetLemmas
 pub mod TraceLemmas
 pub mod WorkLemmas
+pub mod RootLemmas

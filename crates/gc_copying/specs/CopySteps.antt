@@ -6,6 +6,7 @@ use Rattle.gc_memory.specs.Changes.{SameAcross}
 use Rattle.gc_types.specs.Declarations.{Declaration}
 use Rattle.gc_memory.specs.Lists.{In, sum_over}
 use Rattle.gc_memory.specs.Chains.{Chain}
+use Rattle.gc_roots.specs.Roots.{Root, root_at}
 use Rattle.gc_heap.specs.Heap.{half_of}
 use Rattle.gc_copying.specs.declared.space.Space.{Space}
 use Rattle.gc_copying.specs.Spaces.{half_start, half_end, half_first}
@@ -120,3 +121,32 @@ pub record CanWork (types : List Declaration) (h : Space) (scan : ℕ) : Type 0 
   pub fields : ℕ
   pub work : WorkAt start h scan n fields
   pub types_are : start.types ≡ types
+
+-- A root became another: its word moved.
+pub record IsMovedRoot (s : From) (m : List ℕ) (old new : Root) : Type 0 where
+  pub place : new.place ≡ old.place
+  pub on_stack : new.on_stack ≡ old.on_stack
+  pub word : Moves s m old.word new.word
+
+-- All roots did.
+pub record RootsMoved (s : From) (m : List ℕ) (old new : List Root) : Type 0 where
+  pub same_length : length new ≡ length old
+  pub moved : (i : ℕ) → i < length old → IsMovedRoot s m (root_at old i) (root_at new i)
+
+-- the words of roots
+abbrev pub words_of : List Root → List ℕ
+words_of [] = []
+words_of (r ∷ rs) = r.word ∷ words_of rs
+
+-- The roots of a collection may be moved.
+pub record CanForwardRoots (h : Space) (roots : List Root) : Type 0 where
+  pub start : From
+  pub frontier : ℕ
+  pub mid : Midway start frontier h
+  pub roots_are : start.roots ≡ words_of roots
+
+-- The roots were moved, and what they name was copied where it had not been.
+pub record ForwardsRoots (s : From) (t : ℕ) (old new : Space) (roots roots' : List Root) : Type 0 where
+  pub mid : Midway s t new
+  pub later : Later s old.memory new.memory
+  pub moved : RootsMoved s new.memory roots roots'

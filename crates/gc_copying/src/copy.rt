@@ -6,4 +6,5 @@
 //! others. At the end the host values of the external objects that were not copied are freed.
 
 pub(crate) mod forward;
+pub(crate) mod roots;
 pub(crate) mod scan;
