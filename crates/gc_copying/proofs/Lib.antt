@@ -8,3 +8,5 @@ pub mod OffsetLemmas
 pub mod TraceLemmas
 pub mod WorkLemmas
 pub mod RootLemmas
+pub mod BeginLemmas
+pub mod EndLemmas

@@ -3,3 +3,4 @@ pub mod CopyWords
 pub mod CopyStart
 pub mod CopyMiddle
 pub mod CopySteps
+pub mod CopyEnd

@@ -5,6 +5,7 @@
 //! reference is moved to where its object went, and an object that had not been copied is copied behind the
 //! others. At the end the host values of the external objects that were not copied are freed.
 
+pub(crate) mod collect;
 pub(crate) mod forward;
 pub(crate) mod roots;
 pub(crate) mod scan;

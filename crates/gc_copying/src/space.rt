@@ -2,7 +2,7 @@
 
 ghost use Rattle.std.specs.Prelude.{◌≡◌, ◌+◌, ◌≤◌, length};
 ghost use Rattle.gc_heap.specs.Heap.{half_of};
-ghost use Rattle.gc_copying.specs.Spaces.{half_start, half_end};
+ghost use Rattle.gc_copying.specs.Spaces.{half_start, half_first, half_end};
 
 use gc_memory::HeapMemory;
 
@@ -53,6 +53,20 @@ impl Space {
         ensures { result ≡ half_start (length self.now.memory) self.now.upper }
     {
         if self.upper { self.half() } else { 0 }
+    }
+
+    /// Where the first object of the active half begins.
+    pub(crate) fn first(&self) -> u32
+        ensures { result ≡ half_first (length self.now.memory) self.now.upper }
+    {
+        let half = self.half();
+        if half == 0 {
+            0
+        } else if self.upper {
+            half + SKIPPED
+        } else {
+            SKIPPED
+        }
     }
 
     /// Where the active half ends.
