@@ -15,7 +15,7 @@ use Rattle.gc_model.specs.Views.{HeapObject, detached_in}
 use Rattle.gc_heap.specs.Objects.{size_with, held_size, first_offset, data_offset}
 use Rattle.gc_heap.specs.Content.{total, block_size, LiesAtPlace, IsHeap}
 use Rattle.gc_heap.specs.Totals.{total-empty}
-use Rattle.gc_heap.specs.Heap.{half_of}
+use Rattle.gc_heap.specs.Content.{half_of}
 use Rattle.gc_copying.specs.Spaces.{half_start, half_end}
 use Rattle.gc_copying.specs.Layout.{skipped, first_place, size_at, places_in, kind_at, data_at, object_at}
 use Rattle.gc_copying.specs.Content.{objects_at, space_view, IsWhole, IsSpace}

@@ -3,6 +3,7 @@
 #![tactic(auto)]
 
 mod alloc;
+pub(crate) mod copy;
 mod growth;
 pub mod heap;
 pub mod layout;

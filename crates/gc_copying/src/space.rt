@@ -1,13 +1,25 @@
 //! The memory of a copying heap, and what the heap knows of it.
 
 ghost use Rattle.std.specs.Prelude.{◌≡◌, ◌+◌, ◌≤◌, length};
-ghost use Rattle.gc_heap.specs.Heap.{half_of};
-ghost use Rattle.gc_copying.specs.Spaces.{half_start, half_end};
+ghost use Rattle.gc_heap.specs.Content.{half_of};
+ghost use Rattle.gc_copying.specs.Spaces.{half_start, half_first, half_end};
 
 use gc_memory::HeapMemory;
 
 /// Bit 25 of a kind word: the object has been copied, and its forwarding word says where it is.
 pub(crate) const COPIED: u32 = 0x0200_0000;
+
+/// Where the first field of a struct lies, counted from its first byte.
+pub(crate) const FIRST_FIELD: u32 = 12;
+
+/// Where the length of an array lies.
+pub(crate) const ARRAY_LENGTH: usize = 12;
+
+/// Where the elements of an array of references begin.
+pub(crate) const FIRST_ELEMENT: u32 = 16;
+
+/// The greatest number of copies that one increment scans.
+pub(crate) const OBJECTS_PER_INCREMENT: u32 = 16_384;
 
 /// The bytes at the start of the active half that hold no object, so that no object lies at 0.
 pub(crate) const SKIPPED: u32 = 16;
@@ -41,6 +53,20 @@ impl Space {
         ensures { result ≡ half_start (length self.now.memory) self.now.upper }
     {
         if self.upper { self.half() } else { 0 }
+    }
+
+    /// Where the first object of the active half begins.
+    pub(crate) fn first(&self) -> u32
+        ensures { result ≡ half_first (length self.now.memory) self.now.upper }
+    {
+        let half = self.half();
+        if half == 0 {
+            0
+        } else if self.upper {
+            half + SKIPPED
+        } else {
+            SKIPPED
+        }
     }
 
     /// Where the active half ends.

@@ -51,7 +51,7 @@ made c =
     makes_array s c.place-array.new.self (record c.place-array.new.self { memory = c.write_u32.new.self }) c.write_u32.new.self c.new_unchecked.result c.in-Fits.block
     (array_size c.args.layout.now c.args.length) c.args.ty c.args.length c.header_with.result c.args.layout.now.elems_are_gc_refs c.requires.sound
     found c.place-array.ensures.block c.place-array.ensures.moved refl
-    (c.write_u32.ensures ∙ ap (λ p. put_u32 c.place-array.new.self.memory p c.args.length) at)
+    (c.write_u32.ensures.bytes ∙ ap (λ p. put_u32 c.place-array.new.self.memory p c.args.length) at)
     (c.new_unchecked.ensures ∙ c.place-array.ensures.place)
     c.header_with.ensures.kind c.header_with.ensures.ty (c.header_with.ensures.spare ∙ c.encode-trace.ensures.word)
     (omega (arith, c.ranges.length.fits)) (least c.args.layout.now c.args.length c.requires.size)

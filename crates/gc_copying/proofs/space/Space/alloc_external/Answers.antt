@@ -38,7 +38,7 @@ write_u32-requires-in-Fits c =
     let len = c.place-object.ensures.block.around.same_length in
     let here : c.as_raw_u32-place.result + c.host_id.result + 4 ≤ length c.place-object.new.self.memory =
     omega (arith, can.room, len, c.as_raw_u32-place.ensures.value, c.place-object.ensures.place, c.host_id.ensures) in
-    let len2 = ap length c.write_u32.ensures ∙ length-put_u32 c.place-object.new.self.memory (c.as_raw_u32-place.result + c.host_id.result) c.into_raw.result here in
+    let len2 = ap length c.write_u32.ensures.bytes ∙ length-put_u32 c.place-object.new.self.memory (c.as_raw_u32-place.result + c.host_id.result) c.into_raw.result here in
     omega (arith, can.room, len, len2, c.as_raw_u32-place.ensures.value, c.place-object.ensures.place)
 
 made : (c : After-new_unchecked)
@@ -52,8 +52,8 @@ made c =
     makes_external s mid (record mid { memory = c.write_u32-in-Fits.new.self; externals = c.as_raw_u32-place.result }) c.write_u32.new.self c.write_u32-in-Fits.new.self
     c.as_raw_u32-place.result c.in-Fits.block c.args.host_data c.requires.sound found
     (subst (λ h. WritesBlock s.memory mid.memory s.bump h c.in-Fits.block) c.externref.ensures c.place-object.ensures.block) c.place-object.ensures.moved refl
-    (c.write_u32.ensures ∙ ap₂ (λ p v. put_u32 mid.memory p v) (ap₂ (λ a b. a + b) place c.host_id.ensures) c.into_raw.ensures.value)
-    (c.write_u32-in-Fits.ensures ∙ ap₂ (λ p v. put_u32 c.write_u32.new.self p v) (ap (λ a. a + 20) place) head)
+    (c.write_u32.ensures.bytes ∙ ap₂ (λ p v. put_u32 mid.memory p v) (ap₂ (λ a b. a + b) place c.host_id.ensures) c.into_raw.ensures.value)
+    (c.write_u32-in-Fits.ensures.bytes ∙ ap₂ (λ p v. put_u32 c.write_u32.new.self p v) (ap (λ a. a + 20) place) head)
     place (subst (λ n. n ≤ max_entries) c.into_raw.ensures.value c.into_raw.ensures.bound)
 
 pub returns-in-Fits-clause-sound : goal.returns-in-Fits-clause-sound

@@ -16,7 +16,7 @@ written c =
     let s = c.args.self.now in
     let w = writable_at s.memory s.upper s.bump s.externals s.objects 0 c.args.gc_ref.now c.args.offset (length c.args.bytes.now) c.requires.sound c.requires.inside in
     writes_data s.memory c.write_bytes.new.self s.upper s.bump s.externals s.objects c.args.gc_ref.now c.args.offset c.args.bytes.now c.requires.sound w
-    (c.write_bytes.ensures ∙ ap (λ p. put_bytes s.memory (p + c.args.offset) c.args.bytes.now) c.as_raw_u32.ensures.value)
+    (c.write_bytes.ensures.bytes ∙ ap (λ p. put_bytes s.memory (p + c.args.offset) c.args.bytes.now) c.as_raw_u32.ensures.value)
 
 pub returns-clause-sound : goal.returns-clause-sound
 returns-clause-sound c = (written c).space
