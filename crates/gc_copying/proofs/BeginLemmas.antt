@@ -96,7 +96,7 @@ mid_begun s first end base limit start first_is fits f =
       aligned = f.aligned;
       low = f.low;
       inside = f.inside;
-      apart = elim f.apart [ | inl h ↦ inl (omega arith) | inr h ↦ inr (omega arith) ];
+      apart = elim f.apart [ inl h ↦ inl (omega arith) | inr h ↦ inr (omega arith) ];
       from = omega arith;
       frontier = omega arith;
       room = omega (arith, all, sum, f.equal);
@@ -121,12 +121,12 @@ begun s old new is memory upper bump objects =
     let flipped : Flipped (half_first (length s.memory) old.upper) (half_end (length s.memory) old.upper) (half_first (length s.memory) (not old.upper)) (half_end (length s.memory) (not old.upper)) (length s.memory) = flipped_half (length s.memory) old.upper in
     let base : ℕ = half_first (length s.memory) (not old.upper) in
     let mid : Mid s s.memory base base (half_end (length s.memory) (not old.upper)) 0 base =
-        mid_begun s (half_first (length s.memory) old.upper) (half_end (length s.memory) old.upper) base (half_end (length s.memory) (not old.upper)) is.start
-        (is.first ∙ ap (λ (n : ℕ). half_first n old.upper) (sym len)) (subst (λ (n : ℕ). s.end ≤ half_end n old.upper) (sym len) (subst (λ (n : ℕ). n ≤ half_end (length old.memory) old.upper) (sym is.end) is.room)) flipped in
+    mid_begun s (half_first (length s.memory) old.upper) (half_end (length s.memory) old.upper) base (half_end (length s.memory) (not old.upper)) is.start
+    (is.first ∙ ap (λ (n : ℕ). half_first n old.upper) (sym len)) (subst (λ (n : ℕ). s.end ≤ half_end n old.upper) (sym len) (subst (λ (n : ℕ). n ≤ half_end (length old.memory) old.upper) (sym is.end) is.room)) flipped in
     let on_upper : Mid s s.memory (half_first (length s.memory) new.upper) (half_first (length s.memory) new.upper) (half_end (length s.memory) new.upper) 0 (half_first (length s.memory) new.upper) =
-        subst (λ u. Mid s s.memory (half_first (length s.memory) u) (half_first (length s.memory) u) (half_end (length s.memory) u) 0 (half_first (length s.memory) u)) (sym upper) mid in
+    subst (λ u. Mid s s.memory (half_first (length s.memory) u) (half_first (length s.memory) u) (half_end (length s.memory) u) 0 (half_first (length s.memory) u)) (sym upper) mid in
     let on_memory : Mid s new.memory (half_first (length new.memory) new.upper) (half_first (length new.memory) new.upper) (half_end (length new.memory) new.upper) 0 (half_first (length new.memory) new.upper) =
-        subst (λ l. Mid s l (half_first (length l) new.upper) (half_first (length l) new.upper) (half_end (length l) new.upper) 0 (half_first (length l) new.upper)) (sym m) on_upper in
+    subst (λ l. Mid s l (half_first (length l) new.upper) (half_first (length l) new.upper) (half_end (length l) new.upper) 0 (half_first (length l) new.upper)) (sym m) on_upper in
     record {
       mid = subst (λ (x : ℕ). Mid s new.memory (half_first (length new.memory) new.upper) x (half_end (length new.memory) new.upper) new.objects x) (sym b)
           (subst (λ (x : ℕ). Mid s new.memory (half_first (length new.memory) new.upper) (half_first (length new.memory) new.upper) (half_end (length new.memory) new.upper) x (half_first (length new.memory) new.upper)) (sym objects) on_memory);

@@ -90,11 +90,11 @@ form_is h q all kind_word can read three =
     let mid = can.scanning.mid in
     let leads = can.scanning.leads in
     let first : word h.memory (q + 0) ≡ word can.start.memory (can.place + 0) =
-        head_word can.start h.memory (q + can.from) can.place q 0 (mid.copied can.place q leads).copy (mid.start.spaced can.place leads.place) (lies mid can.place leads.place).least (omega arith) in
+    head_word can.start h.memory (q + can.from) can.place q 0 (mid.copied can.place q leads).copy (mid.start.spaced can.place leads.place) (lies mid can.place leads.place).least (omega arith) in
     let zero_q : q + 0 ≡ q = omega arith in
     let zero_p : can.place + 0 ≡ can.place = omega arith in
     let kind : kind_word ≡ word can.start.memory can.place =
-        read ∙ sym (word-is h.memory q) ∙ sym (ap (word h.memory) zero_q) ∙ first ∙ ap (word can.start.memory) zero_p in
+    read ∙ sym (word-is h.memory q) ∙ sym (ap (word h.memory) zero_q) ∙ first ∙ ap (word can.start.memory) zero_p in
     mid.start.form can.place leads.place (sym (ap form_of kind) ∙ three)
 
 -- what may be scanned, where the references are known in another form

@@ -22,8 +22,8 @@ pub midway : (s : From) (t : ℕ) (old new : Space) (bump count : ℕ)
 midway s t old new bump count mid len upper b n =
     subst (λ l. Mid s new.memory (half_first l new.upper) new.bump (half_end l new.upper) new.objects t) (sym len)
     (subst (λ u. Mid s new.memory (half_first (length old.memory) u) new.bump (half_end (length old.memory) u) new.objects t) (sym upper)
-      (subst (λ (x : ℕ). Mid s new.memory (half_first (length old.memory) old.upper) x (half_end (length old.memory) old.upper) new.objects t) (sym b)
-        (subst (λ (x : ℕ). Mid s new.memory (half_first (length old.memory) old.upper) bump (half_end (length old.memory) old.upper) x t) (sym n) mid)))
+    (subst (λ (x : ℕ). Mid s new.memory (half_first (length old.memory) old.upper) x (half_end (length old.memory) old.upper) new.objects t) (sym b)
+    (subst (λ (x : ℕ). Mid s new.memory (half_first (length old.memory) old.upper) bump (half_end (length old.memory) old.upper) x t) (sym n) mid)))
 
 -- an old object that isn't copied may be copied
 pub can_copy : {s : From} {m : List ℕ} {base bump limit count t : ℕ} → Mid s m base bump limit count t → (p : ℕ) → In p s.places → flag m p ≡ 0

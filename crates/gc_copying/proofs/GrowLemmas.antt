@@ -44,7 +44,7 @@ empty_space bytes bound pages =
     let are : places_in bytes false (skipped n) ≡ [] = Chain-places (size_at bytes) (first_place n false) (skipped n) [] chain in
     let minus : skipped n - 0 ≡ skipped n = omega arith in
     record {
-      space = space_of bytes false (skipped n) 0 0 [] bound chain (skipped_within n pages) (λ p i. elim i [ ]) refl
+      space = space_of bytes false (skipped n) 0 0 [] pages bound chain (skipped_within n pages) (λ p i. elim i [ ]) refl
           (record { list = []; linked = last; only = λ p i. elim i [ ]; each = λ p i e. elim i [ ]; once = λ p. omega arith });
       seen = λ scopes i. record {
         attached = true;
@@ -78,8 +78,8 @@ pub record Grows (a b : List ℕ) (upper : Bool) (bump head objects n : ℕ) : T
   pub seen : (scopes : ℕ) → space_view b upper (bump_in_more bump (length b)) scopes ≡ grown Copying (space_view a upper bump scopes) n
 
 -- a memory with objects, whose lower half is active
-grows_more : (a : List ℕ) (bump head objects n : ℕ) → IsSpace a false bump head objects → 0 < length a → length a + n ≤ page * max_pages → Grows a (a ++ replicate n 0) false bump head objects n
-grows_more a bump head objects n s some bound =
+grows_more : (a : List ℕ) (bump head objects n : ℕ) → IsSpace a false bump head objects → 0 < length a → length (a ++ replicate n 0) % page ≡ 0 → length a + n ≤ page * max_pages → Grows a (a ++ replicate n 0) false bump head objects n
+grows_more a bump head objects n s some whole bound =
     let b : List ℕ = a ++ replicate n 0 in
     let ps : List ℕ = places_in a false bump in
     let len : length b ≡ length a + n = length-append a (replicate n 0) ∙ ap (λ m. length a + m) (length-replicate {A = ℕ} n 0) in
@@ -99,7 +99,7 @@ grows_more a bump head objects n s some bound =
     let are : places_in b false bump ≡ ps = Chain-places (size_at b) (first_place (length b) false) bump ps chain in
     let inside = s.inside in
     let space : IsSpace b false bump head objects =
-    space_of b false bump head objects ps (omega arith) chain (omega arith)
+    space_of b false bump head objects ps whole (omega arith) chain (omega arith)
     (λ p i. whole_in_same a b p (s.whole p i) (words p) (words (p + 8)) (subst (IsSpare Copying) (sym (object p i)) (s.whole p i).spare) (λ e. words (p + 16)))
     s.count
     (externals_kept a b head ps s.externals (λ p i. kind_in_same a b p (words p)) (λ p i e. words (p + 20))) in
@@ -232,7 +232,7 @@ grows a b upper bump head objects n s is (inr low) bound pages =
       | inl e ↦ grows_first a upper bump head objects n s e low (omega arith) (omega arith)
       | inr ne ↦
           subst (λ u. Grows a (a ++ replicate n 0) u bump head objects n) (sym low)
-          (grows_more a bump head objects n (subst (λ u. IsSpace a u bump head objects) low s) (positive (length a) ne) (omega arith))
+          (grows_more a bump head objects n (subst (λ u. IsSpace a u bump head objects) low s) (positive (length a) ne) (subst (λ (x : List ℕ). length x % page ≡ 0) is pages) (omega arith))
     ])
   where
     positive : (m : ℕ) → (m ≡ 0 → ⊥) → 0 < m

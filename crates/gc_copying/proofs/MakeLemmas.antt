@@ -327,6 +327,7 @@ makes a b upper bump head head' objects size block object s positive found puts 
         small = (found scopes).0;
         room = (found scopes).1.0;
         fresh = record { aligned = aligned; not_null = can.begun; free = added.fresh };
+        lies = omega arith;
         added = λ i. record {
           attached = true;
           content = added.content i;

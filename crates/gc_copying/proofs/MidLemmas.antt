@@ -51,10 +51,10 @@ new_lies {m = m} {base = base} {bump = bump} mid q i = Chain-lies (size_at m) ba
 -- two ranges, one inside the old objects and one inside the half of the copies, are apart
 pub halves_apart : {s : From} {m : List ℕ} {base bump limit count t : ℕ} → Mid s m base bump limit count t → (a b c d : ℕ)
     → s.first ≤ a → b ≤ s.end → base ≤ c → d ≤ limit → (b ≤ c) ⊎ (d ≤ a)
-halves_apart mid a b c d h k l n = elim mid.apart [ | inl e ↦ inl (omega arith) | inr e ↦ inr (omega arith) ]
+halves_apart mid a b c d h k l n = elim mid.apart [ inl e ↦ inl (omega arith) | inr e ↦ inr (omega arith) ]
 
 pub less_by_ne : (a b : ℕ) → a ≤ b → (a ≡ b → ⊥) → a < b
-less_by_ne a b h ne = elim (cases_lt a b) [ | inl l ↦ l | inr l ↦ absurd (ne (omega arith)) ]
+less_by_ne a b h ne = elim (cases_lt a b) [ inl l ↦ l | inr l ↦ absurd (ne (omega arith)) ]
 
 pub no_both : {n : ℕ} → n ≡ 0 → n ≡ 1 → ⊥
 no_both a b = omega arith

@@ -119,6 +119,7 @@ data_of m upper bump q o h =
       header = header_of m upper bump q o (u32_at part 0) (u32_at part 4) h
           (u32_at-part m q (size_at m q) 0 (omega (arith, h.lies.least)) inside ∙ ap (u32_at m) zero ∙ sym (word-is m q))
           (u32_at-part m q (size_at m q) 4 (omega (arith, h.lies.least)) inside ∙ sym (word-is m (q + 4)));
+      size_word = u32_at-part m q (size_at m q) 8 (omega (arith, h.lies.least)) inside ∙ sym (word-is m (q + 8)) ∙ sym (size_of m upper bump q o h);
       data_is = subst (λ (x : HeapObject). take (length x.bytes) (drop (data_offset Copying x.kind) part) ≡ x.bytes) (sym h.is)
           (data_read m q (kind_at m q) h.whole.object_kind h.whole.least (λ e. (h.whole.external e).size) inside);
     }

@@ -73,7 +73,7 @@ this_root : (s : From) (t : ℕ) (old now next : Space) (roots now_roots next_ro
 this_root s t old now next roots now_roots next_roots index word w' so_far less is f set =
     let old_is : root_at now_roots index ≡ root_at roots index = so_far.rest index (omega arith) in
     let new_is : root_at next_roots index ≡ with_word (root_at now_roots index) w' =
-          ap (λ l. root_at l index) set ∙ get_or-set_same now_roots index (with_word (root_at now_roots index) w') no_root less in
+    ap (λ l. root_at l index) set ∙ get_or-set_same now_roots index (with_word (root_at now_roots index) w') no_root less in
     record {
       place = ap (λ r. r.place) new_is ∙ ap (λ r. r.place) old_is;
       on_stack = ap (λ r. r.on_stack) new_is ∙ ap (λ r. r.on_stack) old_is;

@@ -135,7 +135,7 @@ none_in x i = elim i [ ]
 pub scanned_all : (s : From) (p q u : ℕ) (h : Space) → Scanning s p q u [] h → Midway s (q + size_at s.memory p) h
 scanned_all s p q u h scan =
     mid_advanced s h.memory _ h.bump _ h.objects p q u (size_at s.memory p) scan.mid scan.leads scan.to (omega arith)
-    (λ o i. elim (scan.done o i) [ | inl l ↦ inl l | inr j ↦ absurd (none_in o j) ])
+    (λ o i. elim (scan.done o i) [ inl l ↦ inl l | inr j ↦ absurd (none_in o j) ])
 
 -- all references were moved
 pub going_end : (old now : Space) (q : ℕ) (all : List ℕ) (counted count : ℕ) → Going old now q all [] counted count

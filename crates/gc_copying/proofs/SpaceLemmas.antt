@@ -112,12 +112,13 @@ objects_same a b [] same = refl
 objects_same a b (p ∷ ps) same = ap₂ (λ m o. finite.insert m p o) (objects_same a b ps (λ q i. same q (there i))) (same p here)
 
 -- a chain of whole objects in half of a memory is a space
-pub space_of : (bytes : List ℕ) (upper : Bool) (bump head objects : ℕ) (ps : List ℕ) → length bytes ≤ page * max_pages
+pub space_of : (bytes : List ℕ) (upper : Bool) (bump head objects : ℕ) (ps : List ℕ) → length bytes % page ≡ 0 → length bytes ≤ page * max_pages
     → Chain (size_at bytes) (first_place (length bytes) upper) bump ps → bump ≤ half_end (length bytes) upper
     → ((p : ℕ) → In p ps → IsWhole bytes p) → objects ≡ length ps → ExternalsLinked bytes head ps → IsSpace bytes upper bump head objects
-space_of bytes upper bump head objects ps bound chain inside whole count externals =
+space_of bytes upper bump head objects ps pages bound chain inside whole count externals =
     let are : places_in bytes upper bump ≡ ps = Chain-places (size_at bytes) (first_place (length bytes) upper) bump ps chain in
     record {
+      pages = pages;
       bound = bound;
       chain = subst (Chain (size_at bytes) (first_place (length bytes) upper) bump) (sym are) chain;
       inside = inside;
@@ -199,6 +200,7 @@ adds a b upper bump size head head' objects object s puts least units inside pos
     let fresh : finite.get (objects_at a ps) bump ≡ None = held_none a bump ps (not_at_bump a upper bump head objects s) in
     record {
       space = space_of b upper (bump + size) head' (objects + 1) qs
+          (subst (λ n. n % page ≡ 0) (sym len) s.pages)
           (subst (λ n. n ≤ page * max_pages) (sym len) s.bound)
           chain
           (subst (λ n. bump + size ≤ half_end n upper) (sym len) inside)

@@ -233,7 +233,7 @@ writes_data a b upper bump head objects q offset ws s w written =
     let chain : Chain (size_at b) (first_place (length b) upper) bump ps = subst (λ n. Chain (size_at b) (first_place n upper) bump ps) (sym len) chain_a in
     let are : places_in b upper bump ≡ ps = Chain-places (size_at b) (first_place (length b) upper) bump ps chain in
     record {
-      space = space_of b upper bump head objects ps (subst (λ n. n ≤ page * max_pages) (sym len) s.bound) chain
+      space = space_of b upper bump head objects ps (subst (λ n. n % page ≡ 0) (sym len) s.pages) (subst (λ n. n ≤ page * max_pages) (sym len) s.bound) chain
           (subst (λ n. bump ≤ half_end n upper) (sym len) s.inside) (λ p i. (keeps p i).whole) s.count
           (externals_kept a b head ps s.externals (λ p i. (keeps p i).kind) (λ p i. (keeps p i).next));
       seen = λ scopes o held.

@@ -1,5 +1,5 @@
 -- The objects of a copying heap, and what is always true of them outside a collection.
-use Rattle.std.specs.Prelude.{◌≡◌, ℕ, ◌*◌, ◌+◌, ◌-◌, ◌<◌, ◌≤◌, Bool, true, List, [], ◌∷◌, length, map}
+use Rattle.std.specs.Prelude.{◌≡◌, ℕ, ◌*◌, ◌+◌, ◌-◌, ◌%◌, ◌<◌, ◌≤◌, Bool, true, List, [], ◌∷◌, length, map}
 use Rattle.std.specs.Ordering.{nat_cmp}
 use Rattle.std.specs.FinMap as finite
 use Rattle.gc_types.specs.declared.kind.Layouts.TheVariants.{Copying}
@@ -60,6 +60,7 @@ pub record ExternalsLinked (bytes : List ℕ) (head : ℕ) (ps : List ℕ) : Typ
 -- The objects of the active half follow each other from its first place up to the bump place, so many
 -- of them, and the external ones are linked.
 pub record IsSpace (bytes : List ℕ) (upper : Bool) (bump head objects : ℕ) : Type 0 where
+  pub pages : length bytes % page ≡ 0
   pub bound : length bytes ≤ page * max_pages
   pub chain : Chain (size_at bytes) (first_place (length bytes) upper) bump (places_in bytes upper bump)
   pub inside : bump ≤ half_end (length bytes) upper

@@ -13,7 +13,7 @@ use Rattle.gc_memory.proofs.ChainLemmas.{Chain-lies, Chain-sum, Chain-apart}
 use Rattle.gc_memory.proofs.ListLemmas.{sum_over-same}
 use Rattle.gc_model.specs.Views.{HeapObject, detached_in}
 use Rattle.gc_heap.specs.Objects.{size_with, held_size, first_offset, data_offset}
-use Rattle.gc_heap.specs.Content.{total, block_size, LiesAtPlace, IsHeap}
+use Rattle.gc_heap.specs.Content.{total, block_size, LiesAtPlace, LiesInHalf, IsHeap}
 use Rattle.gc_heap.specs.Totals.{total-empty}
 use Rattle.gc_heap.specs.Content.{half_of}
 use Rattle.gc_copying.specs.Spaces.{half_start, half_end}
@@ -140,6 +140,35 @@ allocated_by n bump sum upper e h = elim (skips n upper) [
   | sixteen more s ↦ rw (ne_eqb n 0 (λ z. omega arith)) (omega arith)
 ]
 
+-- the first object lies behind the bytes that are skipped, as any object shows that there is a half
+first_behind : (n : ℕ) (upper : Bool) (p size bump : ℕ) → first_place n upper ≤ p → p + size ≤ bump → 16 ≤ size → bump ≤ half_end n upper → half_start n upper + 16 ≤ p
+first_behind n upper p size bump from to least inside = elim (skips n upper) [
+  | nothing e s start half ↦ absurd (omega arith)
+  | sixteen more s ↦ omega arith
+]
+
+-- The objects of a sound space lie in its active half.
+in_half : (bytes : List ℕ) (upper : Bool) (bump head objects scopes : ℕ) → IsSpace bytes upper bump head objects → LiesInHalf (space_view bytes upper bump scopes)
+in_half bytes upper bump head objects scopes s =
+    let ps : List ℕ = places_in bytes upper bump in
+    let lies = λ (p : ℕ) (i : In p ps). lies_in_space bytes upper bump head objects p s i in
+    let held = λ (p : ℕ) (o : HeapObject) (e : finite.get (objects_at bytes ps) p ≡ Some o).
+    let f = held_only bytes p o ps e in
+    ap (held_size Copying) f.is ∙ held_size-at bytes p (s.whole p f.among) (lies p f.among).inside in
+    record {
+      counts = refl;
+      half = omega (arith, s.inside);
+      from = λ p o e.
+          let l = lies p (held_only bytes p o ps e).among in
+          first_behind (length bytes) upper p (size_at bytes p) bump l.from l.to l.least s.inside;
+      below = λ p o e.
+          let l = lies p (held_only bytes p o ps e).among in
+          omega (arith, held p o e, l.to, first_behind (length bytes) upper p (size_at bytes p) bump l.from l.to l.least s.inside);
+      whole = λ p o e.
+          let l = lies p (held_only bytes p o ps e).among in
+          ap (λ n. n % 16) (held p o e) ∙ l.units;
+    }
+
 -- A sound space is a heap.
 pub space_is_heap : (bytes : List ℕ) (upper : Bool) (bump head objects scopes : ℕ) → IsSpace bytes upper bump head objects → scopes < 2 ^ 64
     → IsHeap Copying (space_view bytes upper bump scopes)
@@ -158,9 +187,11 @@ space_is_heap bytes upper bump head objects scopes s below =
           let held = ap (held_size Copying) f.is ∙ held_size-at bytes p (s.whole p f.among) (lies p f.among).inside in
           subst (λ n. p + n ≤ q) (sym held) (Chain-apart (size_at bytes) first bump p q ps s.chain f.among g.among before);
       fits = let sizes = sizes_are bytes upper bump head objects s in omega (arith, s.inside, h.to);
+      pages = s.pages;
       bound = s.bound;
+      within = omega (arith, s.inside, h.to);
       allocated = allocated_by (length bytes) bump _ upper (blocks_are bytes upper bump head objects s) s.inside;
-      by_kind = refl;
+      by_kind = in_half bytes upper bump head objects scopes s;
       detached = λ e. absurd (cc);
       scopes = below;
     }
@@ -171,9 +202,17 @@ detached_is_heap scopes below = record {
   objects = λ p o e. absurd (none p o e);
   apart = λ p q o o' e e' before. absurd (none p o e);
   fits = omega (arith, total-empty (held_size Copying));
+  pages = refl;
   bound = omega arith;
+  within = omega arith;
   allocated = refl;
-  by_kind = refl;
+  by_kind = record {
+    counts = refl;
+    half = omega arith;
+    from = λ p o e. absurd (none p o e);
+    below = λ p o e. absurd (none p o e);
+    whole = λ p o e. absurd (none p o e);
+  };
   detached = λ e. refl;
   scopes = below;
 }
