@@ -10,3 +10,5 @@ pub mod WorkLemmas
 pub mod RootLemmas
 pub mod BeginLemmas
 pub mod EndLemmas
+pub mod HostLemmas
+pub mod SweepLemmas

@@ -3,4 +3,5 @@ pub mod CopyWords
 pub mod CopyStart
 pub mod CopyMiddle
 pub mod CopySteps
+pub mod CopySweep
 pub mod CopyEnd
