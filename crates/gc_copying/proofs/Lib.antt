@@ -5,6 +5,7 @@ pub mod EndLemmas
 pub mod FormLemmas
 pub mod ForwardLemmas
 pub mod GrowLemmas
+pub mod HostLemmas
 pub mod MakeLemmas
 pub mod MidLemmas
 pub mod MoreBytes
@@ -14,6 +15,7 @@ pub mod RootLemmas
 pub mod ScanKeeps
 pub mod ScanLemmas
 pub mod SpaceLemmas
+pub mod SweepLemmas
 pub mod TraceLemmas
 pub mod WorkLemmas
 pub mod WriteLemmas

@@ -3,6 +3,7 @@ pub mod CopyEnd
 pub mod CopyMiddle
 pub mod CopyStart
 pub mod CopySteps
+pub mod CopySweep
 pub mod CopyWords
 pub mod CopyingHeapLaw
 pub mod Growth

@@ -9,3 +9,4 @@ pub(crate) mod collect;
 pub(crate) mod forward;
 pub(crate) mod roots;
 pub(crate) mod scan;
+pub(crate) mod sweep;
