@@ -11,6 +11,7 @@ pub mod MidLemmas
 pub mod MoreBytes
 pub mod OffsetLemmas
 pub mod ReadLemmas
+pub mod ReferenceLemmas
 pub mod RootLemmas
 pub mod ScanKeeps
 pub mod ScanLemmas
