@@ -16,6 +16,7 @@ pub mod RootLemmas
 pub mod ScanKeeps
 pub mod ScanLemmas
 pub mod SpaceLemmas
+pub mod StartLemmas
 pub mod SweepLemmas
 pub mod TraceLemmas
 pub mod WorkLemmas

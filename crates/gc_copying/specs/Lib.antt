@@ -1,4 +1,5 @@
 pub mod Content
+pub mod CopyBetween
 pub mod CopyEnd
 pub mod CopyMiddle
 pub mod CopyStart
