@@ -9,6 +9,7 @@ pub mod HostLemmas
 pub mod MakeLemmas
 pub mod MidLemmas
 pub mod MoreBytes
+pub mod MovedLemmas
 pub mod OffsetLemmas
 pub mod ReadLemmas
 pub mod ReferenceLemmas

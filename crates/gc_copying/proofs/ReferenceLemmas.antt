@@ -97,7 +97,7 @@ field_word m p o ExnRef h from to inside =
     let at : p + 12 + (o - 12) ≡ p + o = omega arith in
     u32_at-part m (p + 12) (size_at m p - 12) (o - 12) (omega arith) (omega arith) ∙ ap (u32_at m) at ∙ sym (word-is m (p + o))
 
-content_by_form : (types : List Declaration) (o : HeapObject) (form : ℕ) → form_of o.spare ≡ form → traced_offsets types o
+pub content_by_form : (types : List Declaration) (o : HeapObject) (form : ℕ) → form_of o.spare ≡ form → traced_offsets types o
     ≡ (if nat_eq form 0 then bitmap_offsets o.spare else (if nat_eq form 1 then (if o.spare % 2 == 1 then element_offsets Copying o else []) else typed_offsets Copying types o o.kind))
 content_by_form types o form e =
     ap (λ (f : ℕ). if nat_eq f 0 then bitmap_offsets o.spare else (if nat_eq f 1 then (if o.spare % 2 == 1 then element_offsets Copying o else []) else typed_offsets Copying types o o.kind)) e
@@ -319,3 +319,14 @@ refs_spaced types o t typed = elim (form_is o o.kind t) [
       let f = held_fits types o o.kind t form (typed form) in
       subst (Spaced 12 (held_size Copying o)) (sym (content_by_form types o 2 form ∙ typed_is types o o.kind fields ∙ ap (info_offsets Copying o) f.is)) f.spaced
 ]
+
+-- those of an array lie behind its length
+pub array_spaced : (types : List Declaration) (o : HeapObject) → o.kind ≡ ArrayRef → TracesInside o o.kind → Spaced 16 (held_size Copying o) (reference_offsets Copying types o)
+array_spaced types o is t =
+    let traces : TracesInside o ArrayRef = subst (TracesInside o) is t in
+    subst (Spaced 16 (held_size Copying o)) (sym (content_by_form types o 1 traces.0))
+    (elim (cases_eq (o.spare % 2) 1) [
+      | inl odd ↦ subst (λ b. Spaced 16 (held_size Copying o) (if b then element_offsets Copying o else [])) (sym (eq-eqb (o.spare % 2) 1 odd))
+          (spaced_words (array_length o) 16 (held_size Copying o) (traces.1 odd))
+      | inr even ↦ subst (λ b. Spaced 16 (held_size Copying o) (if b then element_offsets Copying o else [])) (sym (ne_eqb (o.spare % 2) 1 even)) tt
+    ])

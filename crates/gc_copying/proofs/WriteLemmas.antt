@@ -40,7 +40,7 @@ array_word bytes p least inside =
     let at : p + 12 + 0 ≡ p + 12 = omega arith in
     u32_at-part bytes (p + 12) (size_at bytes p - 12) 0 (omega arith) (omega arith) ∙ ap (u32_at bytes) at ∙ sym (word-is bytes (p + 12))
 
-traces_same : (o o' : HeapObject) (k : VMGcKind) → o'.spare ≡ o.spare → held_size Copying o' ≡ held_size Copying o → (k ≡ ArrayRef → array_length o' ≡ array_length o) → TracesInside o k → TracesInside o' k
+pub traces_same : (o o' : HeapObject) (k : VMGcKind) → o'.spare ≡ o.spare → held_size Copying o' ≡ held_size Copying o → (k ≡ ArrayRef → array_length o' ≡ array_length o) → TracesInside o k → TracesInside o' k
 traces_same o o' ExternRef spare size count t = spare ∙ t
 traces_same o o' AnyRef spare size count t = t
 traces_same o o' EqRef spare size count t = t
