@@ -1,5 +1,6 @@
 pub mod BackingLemmas
 pub mod BeginLemmas
+pub mod CollectedLemmas
 pub mod CopyKeeps
 pub mod EndLemmas
 pub mod FormLemmas
