@@ -12,3 +12,4 @@ pub mod BeginLemmas
 pub mod EndLemmas
 pub mod HostLemmas
 pub mod SweepLemmas
+pub mod FewLemmas

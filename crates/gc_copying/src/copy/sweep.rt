@@ -2,7 +2,9 @@
 
 ghost use Rattle.std.specs.Prelude.{ℕ, ◌≡◌, ◌+◌, ◌<◌, ◌≤◌, length};
 ghost use Rattle.gc_copying.specs.CopyWords.{flag, host_word};
-ghost use Rattle.gc_copying.specs.CopySweep.{FreesHost, CanSweepOne, ListsCopy, SameCounts};
+ghost use Rattle.gc_copying.specs.CopySweep.{FreesHost, CanSweepOne, ListsCopy, SameCounts, CanSweep, Sweeps};
+ghost use Rattle.gc_copying.specs.CopyStart.{From};
+ghost use Rattle.gc_copying.specs.CopySteps.{Midway};
 
 use crate::space::{COPIED, HOST_WORD, Space};
 use gc_memory::offsets::{COPYING_FORWARDING, COPYING_NEXT_EXTERNAL};
@@ -36,6 +38,23 @@ impl Space {
             self.externals = copy;
         } else {
             free_host(hosts, self.memory.read_u32(at + HOST_WORD));
+        }
+    }
+
+    /// Sweeps the list of external objects that begins at a place: those that were copied are listed anew,
+    /// and the host values of the others are freed.
+    pub(crate) fn sweep<D: Drop>(&mut self, first: u32, hosts: &mut ExternRefHostDataTable<D>)
+        requires { CanSweep self.old first }
+        ensures swept { (s : From) → Midway s self.old.bump self.old → first ≡ s.externals → Sweeps s D self.old self.new hosts.old.entries hosts.new.entries }
+        ensures counts { SameCounts self.old self.new }
+    {
+        let mut place = first;
+        while place != 0 {
+            let next = self
+                .memory
+                .read_u32(place as usize + COPYING_NEXT_EXTERNAL as usize);
+            self.sweep_one(place, hosts);
+            place = next;
         }
     }
 }
