@@ -13,3 +13,4 @@ pub mod EndLemmas
 pub mod HostLemmas
 pub mod SweepLemmas
 pub mod FewLemmas
+pub mod FinishLemmas
