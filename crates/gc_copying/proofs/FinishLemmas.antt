@@ -80,7 +80,7 @@ module _ (s : From) (m : List ℕ) (base bump limit count : ℕ) (mid : Mid s m 
       }
 
   -- a reference of a copy is moved
-  all_moved : (p q o : ℕ) → Leads s m p q → In o (refs s p) → Moves s m (word s.memory (p + o)) (word m (q + o))
+  pub all_moved : (p q o : ℕ) → Leads s m p q → In o (refs s p) → Moves s m (word s.memory (p + o)) (word m (q + o))
   all_moved p q o leads i =
       let is = mid.copied p q leads in
       let at = new_lies mid q is.inside in
@@ -110,12 +110,12 @@ module _ (s : From) (m : List ℕ) (base bump limit count : ℕ) (mid : Mid s m 
   sources [] from = []
   sources (q ∷ qs) from = (from q here).0 ∷ sources qs (λ x i. from x (there i))
 
-  sources_length : (qs : List ℕ) (from : (q : ℕ) → In q qs → (p : ℕ) × Leads s m p q) → length (sources qs from) ≡ length qs
+  pub sources_length : (qs : List ℕ) (from : (q : ℕ) → In q qs → (p : ℕ) × Leads s m p q) → length (sources qs from) ≡ length qs
   unfolding sources
   sources_length [] from = refl
   sources_length (q ∷ qs) from = omega (arith, sources_length qs (λ x i. from x (there i)))
 
-  sources_only : (qs : List ℕ) (from : (q : ℕ) → In q qs → (p : ℕ) × Leads s m p q) (p : ℕ) → In p (sources qs from) → (q : ℕ) × (In q qs × Leads s m p q)
+  pub sources_only : (qs : List ℕ) (from : (q : ℕ) → In q qs → (p : ℕ) × Leads s m p q) (p : ℕ) → In p (sources qs from) → (q : ℕ) × (In q qs × Leads s m p q)
   unfolding sources
   sources_only [] from p i = elim i [ ]
   sources_only (q ∷ qs) from _ here = (q, (here, (from q here).1))
@@ -123,14 +123,14 @@ module _ (s : From) (m : List ℕ) (base bump limit count : ℕ) (mid : Mid s m 
       let b = sources_only qs (λ x j. from x (there j)) p i in
       (b.0, (there b.1.0, b.1.1))
 
-  sources_all : (qs : List ℕ) (from : (q : ℕ) → In q qs → (p : ℕ) × Leads s m p q) (p q : ℕ) → In q qs → Leads s m p q → In p (sources qs from)
+  pub sources_all : (qs : List ℕ) (from : (q : ℕ) → In q qs → (p : ℕ) × Leads s m p q) (p q : ℕ) → In q qs → Leads s m p q → In p (sources qs from)
   unfolding sources
   sources_all [] from p q i leads = elim i [ ]
   sources_all (_ ∷ qs) from p q here leads =
       subst (λ (x : ℕ). In x (sources (q ∷ qs) from)) (mid.once (from q here).0 p q (from q here).1 leads) here
   sources_all (x ∷ qs) from p q (there i) leads = there (sources_all qs (λ y j. from y (there j)) p q i leads)
 
-  sources_once : (qs : List ℕ) (from : (q : ℕ) → In q qs → (p : ℕ) × Leads s m p q) → ((q : ℕ) → occ q qs ≤ 1) → (p : ℕ) → occ p (sources qs from) ≤ 1
+  pub sources_once : (qs : List ℕ) (from : (q : ℕ) → In q qs → (p : ℕ) × Leads s m p q) → ((q : ℕ) → occ q qs ≤ 1) → (p : ℕ) → occ p (sources qs from) ≤ 1
   unfolding sources
   sources_once [] from once p = omega arith
   sources_once (q ∷ qs) from once p =
@@ -149,7 +149,7 @@ module _ (s : From) (m : List ℕ) (base bump limit count : ℕ) (mid : Mid s m 
         | inr ne ↦ omega (arith, occ-other p first rest ne, later)
       ]
 
-  sources_refs : (qs : List ℕ) (from : (q : ℕ) → In q qs → (p : ℕ) × Leads s m p q)
+  pub sources_refs : (qs : List ℕ) (from : (q : ℕ) → In q qs → (p : ℕ) × Leads s m p q)
       → sum_over (λ p. length (refs s p)) (sources qs from) ≡ sum_over (λ q. length (offsets_at s.types m q)) qs
   unfolding sources
   sources_refs [] from = refl

@@ -14,3 +14,5 @@ pub mod HostLemmas
 pub mod SweepLemmas
 pub mod FewLemmas
 pub mod FinishLemmas
+pub mod LastLemmas
+pub mod PhaseLemmas

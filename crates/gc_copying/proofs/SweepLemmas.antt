@@ -59,7 +59,7 @@ flag_zero w ne = omega arith
 pub flag_cases : (m : List ℕ) (p : ℕ) → (flag m p ≡ 1) ⊎ (flag m p ≡ 0)
 flag_cases m p = elim (cases_eq (flag m p) 1) [ | inl e ↦ inl e | inr ne ↦ inr (flag_zero (word m p) ne) ]
 
-not_in_nil : (x : ℕ) → In x [] → ⊥
+pub not_in_nil : (x : ℕ) → In x [] → ⊥
 not_in_nil x i = elim i [ ]
 
 -- one of a linked list is the first, or of the rest

@@ -5,3 +5,4 @@ pub mod CopyMiddle
 pub mod CopySteps
 pub mod CopySweep
 pub mod CopyEnd
+pub mod CopyPhases
