@@ -105,6 +105,8 @@ module _ (s : From) (m : List ℕ) (base bump limit count : ℕ) (mid : Mid s m 
   pub sound : (p q : ℕ) → Leads s m p q → Reached s p
   sound p q leads = (mid.copied p q leads).reached
 
+module _ (s : From) (m : List ℕ) (base bump limit count t : ℕ) (mid : Mid s m base bump limit count t) where
+
   -- the objects of these copies
   pub sources : (qs : List ℕ) → ((q : ℕ) → In q qs → (p : ℕ) × Leads s m p q) → List ℕ
   sources [] from = []

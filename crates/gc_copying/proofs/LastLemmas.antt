@@ -127,11 +127,11 @@ finished s D rs roots old new before after k counted at sweeps counts =
     let base = half_first (length old.memory) old.upper in
     let limit = half_end (length old.memory) old.upper in
     let done = λ (p : ℕ) (r : Reached s p). complete s old.memory base old.bump limit old.objects mid rs roots at.roots_are at.roots_moved p r in
-    let from = sources s old.memory base old.bump limit old.objects mid mid.news mid.back in
+    let from = sources s old.memory base old.bump limit old.objects old.bump mid mid.news mid.back in
     let front_is : at.work.front ≡ mid.news = Chain-unique (size_at old.memory) base old.bump at.work.front mid.news at.work.chain mid.chain in
-    let length_is : length from ≡ old.objects = sources_length s old.memory base old.bump limit old.objects mid mid.news mid.back ∙ mid.counted in
+    let length_is : length from ≡ old.objects = sources_length s old.memory base old.bump limit old.objects old.bump mid mid.news mid.back ∙ mid.counted in
     let refs_is : sum_over (λ p. length (refs s p)) from ≡ at.fields =
-          sources_refs s old.memory base old.bump limit old.objects mid mid.news mid.back
+          sources_refs s old.memory base old.bump limit old.objects old.bump mid mid.news mid.back
           ∙ sym (ap (sum_over (λ q. length (offsets_at s.types old.memory q))) front_is) ∙ at.work.looked_at in
     let chain = Chain-resized (size_at old.memory) (size_at new.memory) base old.bump mid.news mid.chain (new_size s D old new before after mid sweeps) in
     record {
@@ -163,13 +163,13 @@ finished s D rs roots old new before after k counted at sweeps counts =
       externals = lists_externals s D old new before after mid sweeps;
       reached = from;
       lists_reached = record {
-        once = sources_once s old.memory base old.bump limit old.objects mid mid.news mid.back (news_once s D old new before after mid sweeps);
+        once = sources_once s old.memory base old.bump limit old.objects old.bump mid mid.news mid.back (news_once s D old new before after mid sweeps);
         only = λ p i.
-            let b = sources_only s old.memory base old.bump limit old.objects mid mid.news mid.back p i in
+            let b = sources_only s old.memory base old.bump limit old.objects old.bump mid mid.news mid.back p i in
             (mid.copied p b.0 b.1.1).reached;
         all = λ p r.
             let l = done p r in
-            sources_all s old.memory base old.bump limit old.objects mid mid.news mid.back p (forwarding old.memory p) (mid.copied p (forwarding old.memory p) l).inside l;
+            sources_all s old.memory base old.bump limit old.objects old.bump mid mid.news mid.back p (forwarding old.memory p) (mid.copied p (forwarding old.memory p) l).inside l;
       };
       increments = omega (arith, at.increments, ap (λ (n : ℕ). n / objects_per_increment) length_is);
       steps = omega (arith, at.counted_is, length_is, refs_is);
