@@ -1,20 +1,18 @@
 -- A collection begins: the halves change sides, and nothing is copied yet.
-use Rattle.std.proofs.Common.{◌≡◌, ℕ, ◌+◌, ◌*◌, ◌-◌, ◌/◌, ◌%◌, ◌<◌, ◌≤◌, ◌^◌, ◌==◌, not, Bool, true, false, if◌then◌else◌, nat_eq, List, [], ◌∷◌, length, refl, sym, ap, subst, ◌∙◌, inl, inr, arith}
+use Rattle.std.proofs.Common.{◌≡◌, ℕ, ◌+◌, ◌%◌, ◌<◌, ◌≤◌, not, Bool, true, false, if◌then◌else◌, List, [], length, refl, sym, ap, subst, ◌∙◌, inl, inr, arith}
 use Rattle.std.proofs.Math.Logic.{◌⊎◌}
 use Rattle.std.proofs.lemmas.Bool.{cases_eq, eq-eqb, ne_eqb}
 use Rattle.gc_model.specs.Bytes.{SameBytes}
-use Rattle.gc_memory.specs.Words.{word}
-use Rattle.gc_memory.specs.Lists.{In, here, there, sum_over}
 use Rattle.gc_memory.specs.Chains.{Chain, done}
 use Rattle.gc_memory.proofs.ListLemmas.{sum_over-same}
-use Rattle.gc_memory.proofs.ChainLemmas.{LiesInChain, Chain-lies, Chain-sum}
+use Rattle.gc_memory.proofs.ChainLemmas.{Chain-sum}
 use Rattle.gc_heap.specs.Heap.{half_of}
 use Rattle.gc_copying.specs.declared.space.Space.{Space}
-use Rattle.gc_copying.specs.Spaces.{half_start, half_first, half_end, skipped}
-use Rattle.gc_copying.specs.CopyWords.{flag, size_at}
-use Rattle.gc_copying.specs.CopyStart.{From, IsFrom, refs}
+use Rattle.gc_copying.specs.Spaces.{half_first, half_end, skipped}
+use Rattle.gc_copying.specs.CopyWords.{size_at}
+use Rattle.gc_copying.specs.CopyStart.{From, IsFrom}
 use Rattle.gc_copying.specs.CopyMiddle.{Leads, left_at, Mid}
-use Rattle.gc_copying.specs.CopySteps.{Midway, WorkAt}
+use Rattle.gc_copying.specs.CopySteps.{WorkAt}
 use Rattle.gc_copying.specs.CopyEnd.{IsBegun}
 use Rattle.gc_copying.proofs.MidLemmas.{no_both}
 use Rattle.gc_copying.proofs.CopyKeeps.{left_fresh}
@@ -96,7 +94,7 @@ mid_begun s first end base limit start first_is fits f =
       aligned = f.aligned;
       low = f.low;
       inside = f.inside;
-      apart = elim f.apart [ | inl h ↦ inl (omega arith) | inr h ↦ inr (omega arith) ];
+      apart = elim f.apart [ inl h ↦ inl (omega arith) | inr h ↦ inr (omega arith) ];
       from = omega arith;
       frontier = omega arith;
       room = omega (arith, all, sum, f.equal);
@@ -121,12 +119,12 @@ begun s old new is memory upper bump objects =
     let flipped : Flipped (half_first (length s.memory) old.upper) (half_end (length s.memory) old.upper) (half_first (length s.memory) (not old.upper)) (half_end (length s.memory) (not old.upper)) (length s.memory) = flipped_half (length s.memory) old.upper in
     let base : ℕ = half_first (length s.memory) (not old.upper) in
     let mid : Mid s s.memory base base (half_end (length s.memory) (not old.upper)) 0 base =
-        mid_begun s (half_first (length s.memory) old.upper) (half_end (length s.memory) old.upper) base (half_end (length s.memory) (not old.upper)) is.start
-        (is.first ∙ ap (λ (n : ℕ). half_first n old.upper) (sym len)) (subst (λ (n : ℕ). s.end ≤ half_end n old.upper) (sym len) (subst (λ (n : ℕ). n ≤ half_end (length old.memory) old.upper) (sym is.end) is.room)) flipped in
+    mid_begun s (half_first (length s.memory) old.upper) (half_end (length s.memory) old.upper) base (half_end (length s.memory) (not old.upper)) is.start
+    (is.first ∙ ap (λ (n : ℕ). half_first n old.upper) (sym len)) (subst (λ (n : ℕ). s.end ≤ half_end n old.upper) (sym len) (subst (λ (n : ℕ). n ≤ half_end (length old.memory) old.upper) (sym is.end) is.room)) flipped in
     let on_upper : Mid s s.memory (half_first (length s.memory) new.upper) (half_first (length s.memory) new.upper) (half_end (length s.memory) new.upper) 0 (half_first (length s.memory) new.upper) =
-        subst (λ u. Mid s s.memory (half_first (length s.memory) u) (half_first (length s.memory) u) (half_end (length s.memory) u) 0 (half_first (length s.memory) u)) (sym upper) mid in
+    subst (λ u. Mid s s.memory (half_first (length s.memory) u) (half_first (length s.memory) u) (half_end (length s.memory) u) 0 (half_first (length s.memory) u)) (sym upper) mid in
     let on_memory : Mid s new.memory (half_first (length new.memory) new.upper) (half_first (length new.memory) new.upper) (half_end (length new.memory) new.upper) 0 (half_first (length new.memory) new.upper) =
-        subst (λ l. Mid s l (half_first (length l) new.upper) (half_first (length l) new.upper) (half_end (length l) new.upper) 0 (half_first (length l) new.upper)) (sym m) on_upper in
+    subst (λ l. Mid s l (half_first (length l) new.upper) (half_first (length l) new.upper) (half_end (length l) new.upper) 0 (half_first (length l) new.upper)) (sym m) on_upper in
     record {
       mid = subst (λ (x : ℕ). Mid s new.memory (half_first (length new.memory) new.upper) x (half_end (length new.memory) new.upper) new.objects x) (sym b)
           (subst (λ (x : ℕ). Mid s new.memory (half_first (length new.memory) new.upper) (half_first (length new.memory) new.upper) (half_end (length new.memory) new.upper) x (half_first (length new.memory) new.upper)) (sym objects) on_memory);

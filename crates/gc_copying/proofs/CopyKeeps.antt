@@ -1,5 +1,5 @@
 -- The middle of a collection is kept where one more object is copied.
-use Rattle.std.proofs.Common.{◌≡◌, ℕ, ◌+◌, ◌*◌, ◌-◌, ◌/◌, ◌%◌, ◌<◌, ◌≤◌, ◌^◌, cond, nat_eq, true, false, List, [], ◌∷◌, ◌++◌, length, get_or, refl, sym, ap, subst, ◌∙◌, inl, inr, arith, length-append}
+use Rattle.std.proofs.Common.{◌≡◌, ℕ, ◌+◌, ◌/◌, ◌%◌, ◌≤◌, cond, nat_eq, List, [], ◌∷◌, ◌++◌, sym, ap, subst, ◌∙◌, inl, inr, arith, length-append}
 use Rattle.std.proofs.Math.Logic.{◌⊎◌}
 use Rattle.std.proofs.lemmas.Bool.{cases_eq}
 use Rattle.gc_model.specs.Bytes.{SameBytes}
@@ -9,10 +9,10 @@ use Rattle.gc_memory.specs.Lists.{In, here, there, sum_over}
 use Rattle.gc_memory.specs.Chains.{Chain}
 use Rattle.gc_memory.proofs.WordLemmas.{word_in_same, word_across}
 use Rattle.gc_memory.proofs.ListLemmas.{In-left, In-right, In-split, In-one}
-use Rattle.gc_memory.proofs.ChainLemmas.{LiesInChain, Chain-push, Chain-resized, Chain-changed}
-use Rattle.gc_copying.specs.CopyWords.{flag, size_at, forwarding, copied_unit, Spaced}
-use Rattle.gc_copying.specs.CopyStart.{From, IsFrom, refs, Reached}
-use Rattle.gc_copying.specs.CopyMiddle.{Leads, Moves, IsOutside, CopyOf, left_at, IsCopied, Mid, Later}
+use Rattle.gc_memory.proofs.ChainLemmas.{Chain-push, Chain-resized, Chain-changed}
+use Rattle.gc_copying.specs.CopyWords.{flag, size_at, forwarding, copied_unit}
+use Rattle.gc_copying.specs.CopyStart.{From, refs, Reached}
+use Rattle.gc_copying.specs.CopyMiddle.{Leads, CopyOf, left_at, IsCopied, Mid, Later}
 use Rattle.gc_copying.specs.CopySteps.{Copies}
 use Rattle.gc_copying.proofs.MoreBytes.{flag_set}
 use Rattle.gc_copying.proofs.MidLemmas.{Spaced-in, lies, new_lies, halves_apart, old_apart, no_both, copy_size, copy_kept}
@@ -64,7 +64,6 @@ swap (inr h) = inl h
 
 module _ (s : From) (m m' : List ℕ) (base bump limit count t p : ℕ) (mid : Mid s m base bump limit count t) (i : In p s.places)
     (fresh : flag m p ≡ 0) (reached : Reached s p) (copies : Copies m m' p bump (size_at s.memory p)) where
-
   fits : bump + size_at s.memory p ≤ limit
   fits = omega (arith, sum_over-member (left_at s m) s.places p i, left_fresh s m p fresh, mid.room)
 
@@ -131,7 +130,7 @@ module _ (s : From) (m m' : List ℕ) (base bump limit count t p : ℕ) (mid : M
     | inl e ↦
         subst (λ (x : ℕ). IsCopied s m' (mid.news ++ (bump ∷ [])) t x q1) (sym e.0)
         (subst (λ (x : ℕ). IsCopied s m' (mid.news ++ (bump ∷ [])) t p x) (sym e.1)
-          (record { inside = In-right bump mid.news (bump ∷ []) here; copy = copy_is; reached = reached }))
+        (record { inside = In-right bump mid.news (bump ∷ []) here; copy = copy_is; reached = reached }))
     | inr before ↦
         let is = mid.copied p1 q1 before in
         let same : SameBytes m m' q1 (q1 + size_at s.memory p1) = subst (λ (n : ℕ). SameBytes m m' q1 (q1 + n)) (copy_range mid p1 q1 before) (new_same q1 is.inside) in
@@ -158,8 +157,8 @@ module _ (s : From) (m m' : List ℕ) (base bump limit count t p : ℕ) (mid : M
   room_after : sum_over (left_at s m') s.places + size_at s.memory p ≡ sum_over (left_at s m) s.places
   room_after =
       let changed = Chain-changed (size_at s.memory) s.first s.end p s.places (left_at s m) (left_at s m') mid.start.chain i (λ q j ne.
-            let at = lies mid q j in
-            left_same s m m' q (flag_same m m' q (q + size_at s.memory q) (other_same q j ne) (omega (arith, at.least)))) in
+      let at = lies mid q j in
+      left_same s m m' q (flag_same m m' q (q + size_at s.memory q) (other_same q j ne) (omega (arith, at.least)))) in
       omega (arith, changed, left_fresh s m p fresh, left_copied s m' p flagged)
 
   size_of_copy : size_at m' bump ≡ size_at s.memory p
@@ -174,7 +173,7 @@ module _ (s : From) (m m' : List ℕ) (base bump limit count t p : ℕ) (mid : M
   chain_after =
       let at = lies mid p i in
       let pushed = Chain-push (size_at m') base bump mid.news (Chain-resized (size_at m) (size_at m') base bump mid.news mid.chain size_before)
-            (subst (λ (n : ℕ). 16 ≤ n) (sym size_of_copy) at.least) (subst (λ (n : ℕ). n % 16 ≡ 0) (sym size_of_copy) at.whole) in
+      (subst (λ (n : ℕ). 16 ≤ n) (sym size_of_copy) at.least) (subst (λ (n : ℕ). n % 16 ≡ 0) (sym size_of_copy) at.whole) in
       subst (λ (n : ℕ). Chain (size_at m') base (bump + n) (mid.news ++ (bump ∷ []))) size_of_copy pushed
 
   sizes_after : (p1 : ℕ) → In p1 s.places → size_at m' p1 ≡ size_at s.memory p1

@@ -1,9 +1,8 @@
 -- A list without repetition of numbers of another list isn't longer.
-use Rattle.std.proofs.Common.{◌≡◌, ℕ, zero, suc, ◌+◌, ◌*◌, ◌<◌, ◌≤◌, cond, nat_eq, true, false, List, [], ◌∷◌, ◌++◌, length, refl, sym, ap, subst, ◌∙◌, inl, inr, arith}
-use Rattle.std.proofs.Math.Logic.{◌⊎◌}
+use Rattle.std.proofs.Common.{◌≡◌, ℕ, zero, suc, ◌+◌, ◌≤◌, cond, nat_eq, false, List, [], ◌∷◌, length, refl, sym, ap, subst, ◌∙◌, inl, inr, arith}
 use Rattle.std.proofs.lemmas.Bool.{cases_eq, eq-eqb, ne_eqb}
 use Rattle.gc_memory.specs.Lists.{In, here, there, sum_over, occ}
-use Rattle.gc_memory.proofs.ListLemmas.{occ-none, occ-same, occ-other, In-occ, sum_over-le}
+use Rattle.gc_memory.proofs.ListLemmas.{occ-same, occ-other, sum_over-le}
 use Rattle.gc_copying.specs.CopyWords.{next_external}
 use Rattle.gc_copying.specs.CopyStart.{Linked, none, link}
 
@@ -70,5 +69,4 @@ linked_count (suc n) m [] _ none h = refl
 linked_count zero m (_ ∷ ps) e (link some l) h = absurd (omega arith)
 linked_count (suc n) m (_ ∷ ps) e (link some l) h =
     let ne : nat_eq e 0 ≡ false = ne_eqb e 0 (λ z. omega arith) in
-    ap (λ b. cond b 0 (1 + count_links n m (next_external m e))) ne ∙ one_more (linked_count n m ps (next_external m e) l (omega arith)) 
-
+    ap (λ b. cond b 0 (1 + count_links n m (next_external m e))) ne ∙ one_more (linked_count n m ps (next_external m e) l (omega arith))

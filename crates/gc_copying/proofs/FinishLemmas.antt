@@ -1,33 +1,19 @@
 -- At the end exactly what is reached is copied, each with its references moved.
-use Rattle.std.proofs.Common.{◌≡◌, ℕ, zero, suc, ◌+◌, ◌*◌, ◌-◌, ◌/◌, ◌%◌, ◌<◌, ◌≤◌, ◌^◌, ◌==◌, ◌&&◌, not, Bool, true, false, if◌then◌else◌, nat_eq, List, [], ◌∷◌, ◌++◌, length, get_or, Option, Some, None, refl, sym, ap, subst, ◌∙◌, inl, inr, arith}
+use Rattle.std.proofs.Common.{◌≡◌, ℕ, suc, ◌+◌, ◌%◌, ◌<◌, ◌≤◌, ◌==◌, ◌&&◌, not, if◌then◌else◌, List, [], ◌∷◌, length, refl, sym, ap, subst, ◌∙◌, inl, inr, arith}
 use Rattle.std.proofs.Math.Logic.{◌⊎◌}
-use Rattle.std.proofs.lemmas.Bool.{cases_eq, cases_lt, eq-eqb, ne_eqb}
-use Rattle.std.specs.FinMap as finite
-use Rattle.std.specs.Ordering.{nat_cmp}
-use Rattle.gc_refs.specs.Header.{spare_bits}
+use Rattle.std.proofs.lemmas.Bool.{cases_eq, eq-eqb, ne_eqb}
 use Rattle.gc_memory.specs.Words.{word}
 use Rattle.gc_memory.specs.Lists.{In, here, there, sum_over, occ}
-use Rattle.gc_memory.specs.Chains.{Chain}
-use Rattle.gc_memory.proofs.ListLemmas.{occ-same, occ-other, In-occ, occ-In, occ-none}
-use Rattle.gc_memory.proofs.ChainLemmas.{LiesInChain, Chain-resized, Chain-unique, Chain-once}
-use Rattle.gc_memory.proofs.WordLemmas.{word_by_bytes}
+use Rattle.gc_memory.proofs.ListLemmas.{occ-same, occ-other, In-occ, occ-none}
 use Rattle.gc_roots.specs.Roots.{Root, root_at}
-use Rattle.gc_heap.specs.Collection.{moved, present_words, objects_per_increment}
-use Rattle.gc_copying.specs.declared.space.Space.{Space}
-use Rattle.gc_copying.specs.Spaces.{half_first, half_end}
-use Rattle.gc_copying.specs.CopyWords.{flag, size_at, forwarding, host_word, IsExternal, IsPlaceWord, copied_unit, offsets_at, Spaced}
-use Rattle.gc_copying.specs.CopyStart.{From, IsFrom, refs, Reached, by_root, by_field, ListsExternals}
-use Rattle.gc_copying.specs.CopyMiddle.{Leads, Moves, IsOutside, CopyOf, IsCopied, Mid}
-use Rattle.gc_copying.specs.CopySteps.{Midway, WorkAt, IsMovedRoot, RootsMoved, words_of}
-use Rattle.gc_copying.specs.CopySweep.{Sweeps, SameCounts}
-use Rattle.gc_copying.specs.CopyEnd.{AtSweep, IsLink, IsRenamed, IsRenamedRoot, HostsSwept, ListsReached, IsFinished}
-use Rattle.gc_copying.proofs.MidLemmas.{lies, new_lies, no_both, Spaced-in}
+use Rattle.gc_heap.specs.Collection.{moved}
+use Rattle.gc_copying.specs.CopyWords.{size_at, forwarding, IsPlaceWord, offsets_at}
+use Rattle.gc_copying.specs.CopyStart.{From, refs, Reached, by_root, by_field}
+use Rattle.gc_copying.specs.CopyMiddle.{Leads, Moves, Mid}
+use Rattle.gc_copying.specs.CopySteps.{RootsMoved, words_of}
+use Rattle.gc_copying.proofs.MidLemmas.{lies, new_lies, Spaced-in}
 use Rattle.gc_copying.proofs.CopyKeeps.{copy_range}
-use Rattle.gc_copying.proofs.ScanKeeps.{new_apart}
-use Rattle.gc_copying.proofs.TraceLemmas.{head_word}
 use Rattle.gc_copying.proofs.WorkLemmas.{copy_refs}
-use Rattle.gc_copying.proofs.SweepLemmas.{flag_cases}
-use Rattle.gc_copying.proofs.FewLemmas.{few}
 
 moved_other : (to : ℕ → ℕ) (w : ℕ) → (w ≡ 0) ⊎ (w % 2 ≡ 0 → ⊥) → moved to w ≡ w
 moved_other to w (inl e) =
@@ -68,7 +54,6 @@ once_in_rest q x qs h = elim (cases_eq x q) [
 ]
 
 module _ (s : From) (m : List ℕ) (base bump limit count : ℕ) (mid : Mid s m base bump limit count bump) where
-
   -- an object's place is no null and no 31-bit number
   place_word_of : (p : ℕ) → In p s.places → IsPlaceWord p
   place_word_of p i =
@@ -106,7 +91,6 @@ module _ (s : From) (m : List ℕ) (base bump limit count : ℕ) (mid : Mid s m 
   sound p q leads = (mid.copied p q leads).reached
 
 module _ (s : From) (m : List ℕ) (base bump limit count t : ℕ) (mid : Mid s m base bump limit count t) where
-
   -- the objects of these copies
   pub sources : (qs : List ℕ) → ((q : ℕ) → In q qs → (p : ℕ) × Leads s m p q) → List ℕ
   sources [] from = []
@@ -142,10 +126,10 @@ module _ (s : From) (m : List ℕ) (base bump limit count t : ℕ) (mid : Mid s 
       elim (cases_eq p first) [
         | inl e ↦
             let not_later = occ-none p rest (λ i.
-                  let b = sources_only qs (λ x j. from x (there j)) p i in
-                  let same : b.0 ≡ q = sym b.1.1.to ∙ ap (forwarding m) e ∙ (from q here).1.to in
-                  let again : In q qs = subst (λ (x : ℕ). In x qs) same b.1.0 in
-                  omega (arith, once q, occ-same q qs, In-occ q qs again)) in
+            let b = sources_only qs (λ x j. from x (there j)) p i in
+            let same : b.0 ≡ q = sym b.1.1.to ∙ ap (forwarding m) e ∙ (from q here).1.to in
+            let again : In q qs = subst (λ (x : ℕ). In x qs) same b.1.0 in
+            omega (arith, once q, occ-same q qs, In-occ q qs again)) in
             let one : occ p (first ∷ rest) ≡ 1 + occ p rest = subst (λ (x : ℕ). occ p (x ∷ rest) ≡ 1 + occ p rest) e (occ-same p rest) in
             omega (arith, one, not_later)
         | inr ne ↦ omega (arith, occ-other p first rest ne, later)
@@ -159,4 +143,3 @@ module _ (s : From) (m : List ℕ) (base bump limit count t : ℕ) (mid : Mid s 
       let b = from q here in
       let same : length (offsets_at s.types m q) ≡ length (refs s b.0) = ap (λ (l : List ℕ). length l) (copy_refs mid b.0 q b.1) in
       omega (arith, same, sources_refs qs (λ x i. from x (there i)))
-

@@ -1,6 +1,5 @@
 -- A collection is complete after its sweep.
-use Rattle.std.proofs.Common.{◌≡◌, ℕ, ◌+◌, ◌*◌, ◌-◌, ◌/◌, ◌%◌, ◌<◌, ◌≤◌, ◌^◌, List, [], ◌∷◌, length, get_or, Option, Some, None, refl, sym, ap, subst, ◌∙◌, inl, inr, arith}
-use Rattle.std.proofs.Math.Logic.{◌⊎◌}
+use Rattle.std.proofs.Common.{◌≡◌, ℕ, ◌+◌, ◌/◌, ◌%◌, ◌<◌, ◌≤◌, List, length, get_or, refl, sym, ap, subst, ◌∙◌, inl, inr, arith}
 use Rattle.std.proofs.lemmas.Bool.{cases_eq, cases_lt}
 use Rattle.std.specs.FinMap as finite
 use Rattle.std.specs.Ordering.{nat_cmp}
@@ -9,27 +8,26 @@ use Rattle.gc_memory.specs.Words.{word}
 use Rattle.gc_memory.specs.Lists.{In, sum_over, occ}
 use Rattle.gc_memory.specs.Chains.{Chain}
 use Rattle.gc_memory.proofs.ListLemmas.{occ-In}
-use Rattle.gc_memory.proofs.ChainLemmas.{LiesInChain, Chain-resized, Chain-unique, Chain-once}
+use Rattle.gc_memory.proofs.ChainLemmas.{Chain-resized, Chain-unique, Chain-once}
 use Rattle.gc_memory.proofs.WordLemmas.{word_by_bytes}
 use Rattle.gc_roots.specs.Roots.{Root, root_at}
-use Rattle.gc_heap.specs.Collection.{moved, present_words, objects_per_increment}
+use Rattle.gc_heap.specs.Collection.{objects_per_increment}
 use Rattle.gc_copying.specs.declared.space.Space.{Space}
 use Rattle.gc_copying.specs.Spaces.{half_first, half_end}
-use Rattle.gc_copying.specs.CopyWords.{flag, size_at, forwarding, host_word, IsExternal, copied_unit, offsets_at}
-use Rattle.gc_copying.specs.CopyStart.{From, IsFrom, refs, Reached, ListsExternals}
-use Rattle.gc_copying.specs.CopyMiddle.{Leads, Moves, IsOutside, CopyOf, IsCopied, Mid}
-use Rattle.gc_copying.specs.CopySteps.{Midway, WorkAt, IsMovedRoot, RootsMoved, words_of}
+use Rattle.gc_copying.specs.CopyWords.{flag, size_at, forwarding, IsExternal, copied_unit, offsets_at}
+use Rattle.gc_copying.specs.CopyStart.{From, refs, Reached, ListsExternals}
+use Rattle.gc_copying.specs.CopyMiddle.{Leads}
+use Rattle.gc_copying.specs.CopySteps.{Midway}
 use Rattle.gc_copying.specs.CopySweep.{Sweeps, SameCounts}
-use Rattle.gc_copying.specs.CopyEnd.{AtSweep, IsLink, IsRenamed, IsRenamedRoot, HostsSwept, ListsReached, IsFinished}
-use Rattle.gc_copying.proofs.MidLemmas.{lies, new_lies, no_both, Spaced-in}
+use Rattle.gc_copying.specs.CopyEnd.{AtSweep, IsLink, IsRenamed, HostsSwept, IsFinished}
+use Rattle.gc_copying.proofs.MidLemmas.{lies, no_both, Spaced-in}
 use Rattle.gc_copying.proofs.CopyKeeps.{copy_range}
 use Rattle.gc_copying.proofs.ScanKeeps.{new_apart}
 use Rattle.gc_copying.proofs.TraceLemmas.{head_word}
 use Rattle.gc_copying.proofs.SweepLemmas.{flag_cases, not_in_nil}
-use Rattle.gc_copying.proofs.FinishLemmas.{moves_is_moved, complete, sound, all_moved, sources, sources_length, sources_only, sources_all, sources_once, sources_refs}
+use Rattle.gc_copying.proofs.FinishLemmas.{moves_is_moved, complete, all_moved, sources, sources_length, sources_only, sources_all, sources_once, sources_refs}
 
 module _ (s : From) (D : Type 0) (old new : Space) (before after : finite.FinMap nat_cmp D) (mid : Midway s old.bump old) (sweeps : Sweeps s D old new before after) where
-
   -- a byte of a copy is as before the sweep, unless it is of a link
   kept_byte : (p q j d : ℕ) → Leads s old.memory p q → j < size_at s.memory p → (IsLink s p j → ⊥) → get_or new.memory (q + j) d ≡ get_or old.memory (q + j) d
   kept_byte p q j d leads inside no_link = sweeps.rest (q + j) d (λ x i.
@@ -82,10 +80,10 @@ module _ (s : From) (D : Type 0) (old new : Space) (before after : finite.FinMap
         refers = λ o i.
             let inside = Spaced-in 12 (size_at s.memory p) (refs s p) o (mid.start.spaced p leads.place) i in
             let none = λ (k : ℕ) (l : k < 4) (is : IsLink s p (o + k)).
-                  not_in_nil o (subst (λ l. In o l) (mid.start.external_refs p leads.place is.external) i) in
+            not_in_nil o (subst (λ l. In o l) (mid.start.external_refs p leads.place is.external) i) in
             kept_word p q o leads inside.1 none
             ∙ moves_is_moved s old.memory (word s.memory (p + o)) (word old.memory (q + o))
-              (all_moved s old.memory (half_first (length old.memory) old.upper) old.bump (half_end (length old.memory) old.upper) old.objects mid p q o leads i);
+            (all_moved s old.memory (half_first (length old.memory) old.upper) old.bump (half_end (length old.memory) old.upper) old.objects mid p q o leads i);
       }
 
   new_size : (q : ℕ) → In q mid.news → size_at new.memory q ≡ size_at old.memory q
@@ -131,20 +129,20 @@ finished s D rs roots old new before after k counted at sweeps counts =
     let front_is : at.work.front ≡ mid.news = Chain-unique (size_at old.memory) base old.bump at.work.front mid.news at.work.chain mid.chain in
     let length_is : length from ≡ old.objects = sources_length s old.memory base old.bump limit old.objects old.bump mid mid.news mid.back ∙ mid.counted in
     let refs_is : sum_over (λ p. length (refs s p)) from ≡ at.fields =
-          sources_refs s old.memory base old.bump limit old.objects old.bump mid mid.news mid.back
-          ∙ sym (ap (sum_over (λ q. length (offsets_at s.types old.memory q))) front_is) ∙ at.work.looked_at in
+    sources_refs s old.memory base old.bump limit old.objects old.bump mid mid.news mid.back
+    ∙ sym (ap (sum_over (λ q. length (offsets_at s.types old.memory q))) front_is) ∙ at.work.looked_at in
     let chain = Chain-resized (size_at old.memory) (size_at new.memory) base old.bump mid.news mid.chain (new_size s D old new before after mid sweeps) in
     record {
       same_length = sweeps.same_length ∙ mid.same_length;
       news = mid.news;
       chain = subst (λ (x : ℕ). Chain (size_at new.memory) (half_first (length new.memory) new.upper) x mid.news) (sym counts.bump)
           (subst (λ u. Chain (size_at new.memory) (half_first (length new.memory) u) old.bump mid.news) (sym counts.upper)
-            (subst (λ (n : ℕ). Chain (size_at new.memory) (half_first n old.upper) old.bump mid.news) (sym sweeps.same_length) chain));
+          (subst (λ (n : ℕ). Chain (size_at new.memory) (half_first n old.upper) old.bump mid.news) (sym sweeps.same_length) chain));
       room =
           let fits : old.bump ≤ limit = omega (arith, mid.room) in
           subst (λ (x : ℕ). x ≤ half_end (length new.memory) new.upper) (sym counts.bump)
           (subst (λ u. old.bump ≤ half_end (length new.memory) u) (sym counts.upper)
-            (subst (λ (n : ℕ). old.bump ≤ half_end n old.upper) (sym sweeps.same_length) fits));
+          (subst (λ (n : ℕ). old.bump ≤ half_end n old.upper) (sym sweeps.same_length) fits));
       counted_objects = mid.counted ∙ sym counts.objects;
       fresh = new_fresh s D old new before after mid sweeps;
       to = forwarding old.memory;

@@ -1,5 +1,5 @@
 -- What copying one object does to the bytes.
-use Rattle.std.proofs.Common.{◌≡◌, ℕ, ◌+◌, ◌*◌, ◌/◌, ◌%◌, ◌<◌, ◌≤◌, ◌^◌, List, length, take, drop, refl, sym, ap, subst, ◌∙◌, inl, inr, arith}
+use Rattle.std.proofs.Common.{◌≡◌, ℕ, ◌+◌, ◌/◌, ◌%◌, ◌<◌, ◌≤◌, ◌^◌, List, length, take, drop, sym, ap, subst, ◌∙◌, inl, inr, arith}
 use Rattle.std.proofs.Math.Logic.{◌⊎◌}
 use Rattle.gc_model.specs.Views.{u32_at, put_u32}
 use Rattle.gc_model.specs.Bytes.{put_bytes, SameBytes}
@@ -88,11 +88,11 @@ copies m m1 m2 m3 p q n kind_word can size kind small e1 e2 e3 =
     let is : n ≡ size_at m p = size ∙ sym (word-is m (p + 8)) in
     subst (λ (k : ℕ). Copies m m3 p q k) is
     (copies_by m m1 m2 m3 p q n kind_word
-      (subst (λ (k : ℕ). p + k ≤ length m) (sym is) can.source)
-      (subst (λ (k : ℕ). q + k ≤ length m) (sym is) can.destination)
-      (subst (λ (k : ℕ). 16 ≤ k) (sym is) can.least)
-      (subst (λ (k : ℕ). (p + k ≤ q) ⊎ (q + k ≤ p)) (sym is) can.apart)
-      can.fresh can.small kind small e1 e2 e3)
+    (subst (λ (k : ℕ). p + k ≤ length m) (sym is) can.source)
+    (subst (λ (k : ℕ). q + k ≤ length m) (sym is) can.destination)
+    (subst (λ (k : ℕ). 16 ≤ k) (sym is) can.least)
+    (subst (λ (k : ℕ). (p + k ≤ q) ⊎ (q + k ≤ p)) (sym is) can.apart)
+    can.fresh can.small kind small e1 e2 e3)
 
 -- the size that was read
 pub size_read : (m : List ℕ) (p n : ℕ) → n ≡ u32_at m (p + 8) → n ≡ size_at m p

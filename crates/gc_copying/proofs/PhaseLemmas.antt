@@ -1,27 +1,26 @@
 -- The increments of a collection.
-use Rattle.std.proofs.Common.{◌≡◌, ℕ, ◌+◌, ◌*◌, ◌-◌, ◌/◌, ◌%◌, ◌<◌, ◌≤◌, ◌^◌, List, [], ◌∷◌, length, Option, Some, None, refl, sym, ap, subst, ◌∙◌, inl, inr, arith}
-use Rattle.std.proofs.Math.Logic.{◌⊎◌}
+use Rattle.std.proofs.Common.{◌≡◌, ℕ, ◌+◌, ◌*◌, ◌<◌, ◌≤◌, List, [], ◌∷◌, length, sym, ap, subst, ◌∙◌, inl, inr, arith}
 use Rattle.std.specs.FinMap as finite
 use Rattle.std.specs.Ordering.{nat_cmp}
 use Rattle.gc_types.specs.Declarations.{Declaration}
-use Rattle.gc_memory.specs.Lists.{In, sum_over, occ}
+use Rattle.gc_memory.specs.Lists.{occ}
 use Rattle.gc_memory.specs.Chains.{Chain, done, next}
-use Rattle.gc_memory.proofs.ListLemmas.{In-occ, occ-In, occ-none}
+use Rattle.gc_memory.proofs.ListLemmas.{In-occ, occ-In}
 use Rattle.gc_memory.proofs.ChainLemmas.{Chain-unique, Chain-once, Chain-end}
 use Rattle.gc_roots.specs.Roots.{Root, root_at}
-use Rattle.gc_heap.specs.Collection.{present_words, objects_per_increment}
+use Rattle.gc_heap.specs.Collection.{objects_per_increment}
 use Rattle.gc_copying.specs.declared.space.Space.{Space}
 use Rattle.gc_copying.specs.Spaces.{half_first, half_end}
-use Rattle.gc_copying.specs.CopyWords.{size_at, offsets_at}
-use Rattle.gc_copying.specs.CopyStart.{From, IsFrom, refs, Reached}
-use Rattle.gc_copying.specs.CopyMiddle.{Leads, Moves, Mid, Later}
-use Rattle.gc_copying.specs.CopySteps.{Midway, SameSides, WorkAt, Works, WorksOn, CanWork, IsMovedRoot, RootsMoved, words_of}
+use Rattle.gc_copying.specs.CopyWords.{size_at}
+use Rattle.gc_copying.specs.CopyStart.{From}
+use Rattle.gc_copying.specs.CopyMiddle.{Mid, Later}
+use Rattle.gc_copying.specs.CopySteps.{Midway, SameSides, WorkAt, WorksOn, RootsMoved, words_of}
 use Rattle.gc_copying.specs.CopyEnd.{IsBegun, AtWork, AtSweep, ListsReached, IsFinished, HostsSwept}
 use Rattle.gc_copying.specs.declared.copy.collect.Phase.{Phase}
 use Rattle.gc_copying.specs.declared.copy.collect.Phase.TheVariants as phase
 use Rattle.gc_copying.specs.CopyPhases.{Progress, BeforeRoots, AtScan, BeforeSweep, InPhase, UnderWay, one_more, GoesOn, IsComplete, Scanned}
 use Rattle.gc_copying.proofs.LastLemmas.{finished, hosts_swept}
-use Rattle.gc_copying.specs.CopySweep.{CanSweep, Sweeps, SameCounts}
+use Rattle.gc_copying.specs.CopySweep.{Sweeps, SameCounts}
 use Rattle.std.proofs.lemmas.Bool.{cases_lt}
 use Rattle.gc_copying.proofs.MidLemmas.{moves_later}
 use Rattle.gc_copying.proofs.FewLemmas.{few}
@@ -82,14 +81,14 @@ prefix_length size a b e (_ ∷ ps) (_ ∷ qs) (next l w c) (next m v d) h = ome
 reached_at_least : (s : From) (m : List ℕ) (base bump limit count t : ℕ) (mid : Mid s m base bump limit count t) → (reached : List ℕ) → ListsReached s reached → count ≤ length reached
 reached_at_least s m base bump limit count t mid reached lists =
     let once_here : (q : ℕ) → occ q mid.news ≤ 1 = λ q. elim (cases_lt 0 (occ q mid.news)) [
-          | inl some ↦ (let one = Chain-once (size_at m) base bump q mid.news mid.chain (occ-In q mid.news some) in omega arith)
-          | inr no_one ↦ omega arith
-        ] in
+      | inl some ↦ (let one = Chain-once (size_at m) base bump q mid.news mid.chain (occ-In q mid.news some) in omega arith)
+      | inr no_one ↦ omega arith
+    ] in
     let from = sources s m base bump limit count t mid mid.news mid.back in
     let all = few from reached (λ p i.
-          let b = sources_only s m base bump limit count t mid mid.news mid.back p i in
-          let r = (mid.copied p b.0 b.1.1).reached in
-          omega (arith, lists.once p, In-occ p reached (lists.all p r))) (sources_once s m base bump limit count t mid mid.news mid.back once_here) in
+    let b = sources_only s m base bump limit count t mid mid.news mid.back p i in
+    let r = (mid.copied p b.0 b.1.1).reached in
+    omega (arith, lists.once p, In-occ p reached (lists.all p r))) (sources_once s m base bump limit count t mid mid.news mid.back once_here) in
     omega (arith, all, sources_length s m base bump limit count t mid mid.news mid.back, mid.counted)
 
 -- so many were scanned at least
@@ -149,7 +148,7 @@ complete_after_sweep D c old new at roots types hosts hosts' externals more befo
     record {
       finished = subst (λ (n : ℕ). IsFinished c.start c.began_with roots new n (c.counted + more)) increments
           (subst (λ (n : ℕ). IsFinished c.start c.began_with roots new (in_phase.scans + 2) n) counted
-            (finished c.start D c.began_with roots old new hosts hosts' in_phase.scans c.counted in_phase.sweep swept counts));
+          (finished c.start D c.began_with roots old new hosts hosts' in_phase.scans c.counted in_phase.sweep swept counts));
       hosts_swept = subst (λ h. HostsSwept c.start D h hosts') under.hosts_are
           (hosts_swept c.start D c.began_with roots old new hosts hosts' in_phase.scans c.counted in_phase.sweep swept);
     }

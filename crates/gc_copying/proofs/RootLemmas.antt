@@ -1,18 +1,15 @@
 -- The roots are moved one by one.
-use Rattle.std.proofs.Common.{◌≡◌, ℕ, zero, suc, ◌+◌, ◌*◌, ◌-◌, ◌/◌, ◌%◌, ◌<◌, ◌≤◌, ◌^◌, ◌==◌, not, true, false, if◌then◌else◌, nat_eq, List, [], ◌∷◌, ◌++◌, length, drop, filter, get_or, slice_set, refl, sym, ap, subst, ◌∙◌, inl, inr, arith}
-use Rattle.std.proofs.Math.Logic.{◌⊎◌}
+use Rattle.std.proofs.Common.{◌≡◌, ℕ, zero, suc, ◌+◌, ◌%◌, ◌<◌, ◌≤◌, not, false, if◌then◌else◌, nat_eq, List, [], ◌∷◌, length, drop, refl, sym, ap, subst, ◌∙◌, inl, inr, arith}
 use Rattle.std.proofs.Math.Seq.{drop-cons, drop-length}
-use Rattle.std.proofs.lemmas.Bool.{cases_eq, cases_lt, ne_eqb}
+use Rattle.std.proofs.lemmas.Bool.{cases_eq, ne_eqb}
 use Rattle.std.proofs.lemmas.List.{get_or-set_same, get_or-set_other, length-set}
 use Rattle.gc_memory.specs.Lists.{In, here, there}
 use Rattle.gc_roots.specs.Roots.{Root, root_at, no_root, with_word, with_word_at}
 use Rattle.gc_heap.specs.Collection.{present_words}
 use Rattle.gc_copying.specs.declared.space.Space.{Space}
-use Rattle.gc_copying.specs.Spaces.{half_first, half_end}
-use Rattle.gc_copying.specs.CopyWords.{size_at, IsPlaceWord}
-use Rattle.gc_copying.specs.CopyStart.{From, IsFrom, IsWord, refs, Reached, by_root}
-use Rattle.gc_copying.specs.CopyMiddle.{Leads, Moves, Mid, Later}
-use Rattle.gc_copying.specs.CopySteps.{Midway, Known, SameSides, CanForward, Forwards, IsMovedRoot, RootsMoved, words_of, CanForwardRoots, ForwardsRoots}
+use Rattle.gc_copying.specs.CopyStart.{From, by_root}
+use Rattle.gc_copying.specs.CopyMiddle.{Moves, Later}
+use Rattle.gc_copying.specs.CopySteps.{Midway, Known, CanForward, Forwards, IsMovedRoot, words_of, CanForwardRoots, ForwardsRoots}
 use Rattle.gc_copying.proofs.MidLemmas.{new_lies, moves_later}
 use Rattle.gc_copying.proofs.ScanLemmas.{place_of_word}
 
@@ -73,7 +70,7 @@ this_root : (s : From) (t : ℕ) (old now next : Space) (roots now_roots next_ro
 this_root s t old now next roots now_roots next_roots index word w' so_far less is f set =
     let old_is : root_at now_roots index ≡ root_at roots index = so_far.rest index (omega arith) in
     let new_is : root_at next_roots index ≡ with_word (root_at now_roots index) w' =
-          ap (λ l. root_at l index) set ∙ get_or-set_same now_roots index (with_word (root_at now_roots index) w') no_root less in
+    ap (λ l. root_at l index) set ∙ get_or-set_same now_roots index (with_word (root_at now_roots index) w') no_root less in
     record {
       place = ap (λ r. r.place) new_is ∙ ap (λ r. r.place) old_is;
       on_stack = ap (λ r. r.on_stack) new_is ∙ ap (λ r. r.on_stack) old_is;

@@ -1,20 +1,19 @@
 -- The middle of a collection is kept where a reference of a copy is moved, and where the frontier advances.
-use Rattle.std.proofs.Common.{◌≡◌, ℕ, ◌+◌, ◌*◌, ◌-◌, ◌/◌, ◌%◌, ◌<◌, ◌≤◌, ◌^◌, List, [], ◌∷◌, ◌++◌, length, refl, sym, ap, subst, ◌∙◌, inl, inr, arith}
+use Rattle.std.proofs.Common.{◌≡◌, ℕ, ◌+◌, ◌<◌, ◌≤◌, List, sym, subst, ◌∙◌, inl, inr, arith}
 use Rattle.std.proofs.Math.Logic.{◌⊎◌}
 use Rattle.std.proofs.lemmas.Bool.{cases_eq, cases_lt}
 use Rattle.gc_model.specs.Bytes.{SameBytes}
 use Rattle.gc_model.proofs.ByteLemmas.{SameBytes-then, SameBytes-part}
 use Rattle.gc_memory.specs.Words.{word}
 use Rattle.gc_memory.specs.Changes.{Wrote}
-use Rattle.gc_memory.specs.Lists.{In, here, there, sum_over}
-use Rattle.gc_memory.specs.Chains.{Chain}
+use Rattle.gc_memory.specs.Lists.{In}
 use Rattle.gc_memory.proofs.ChangeLemmas.{Wrote-apart}
 use Rattle.gc_memory.proofs.WordLemmas.{word_in_same, word_apart}
 use Rattle.gc_memory.proofs.ListLemmas.{sum_over-same}
 use Rattle.gc_memory.proofs.ChainLemmas.{LiesInChain, Chain-apart, Chain-resized}
-use Rattle.gc_copying.specs.CopyWords.{flag, size_at, Spaced}
-use Rattle.gc_copying.specs.CopyStart.{From, IsFrom, refs, Reached}
-use Rattle.gc_copying.specs.CopyMiddle.{Leads, Moves, IsOutside, CopyOf, left_at, IsCopied, Mid, Later}
+use Rattle.gc_copying.specs.CopyWords.{size_at}
+use Rattle.gc_copying.specs.CopyStart.{From, refs}
+use Rattle.gc_copying.specs.CopyMiddle.{Leads, Moves, CopyOf, left_at, IsCopied, Mid, Later}
 use Rattle.gc_copying.proofs.MidLemmas.{Spaced-in, Spaced-apart, lies, new_lies, halves_apart, less_by_ne, copy_kept, moves_later}
 use Rattle.gc_copying.proofs.CopyKeeps.{flag_same, left_same, leads_in_same, leads_before, copy_range}
 
@@ -30,7 +29,7 @@ new_apart {m = m} {base = base} {bump = bump} mid q q1 i j ne = elim (cases_lt q
 copy_frontier : (s : From) (m : List ℕ) (t t' p q : ℕ) → ((o : ℕ) → In o (refs s p) → (q + o < t) ⊎ (t' ≤ q + o)) → t ≤ t' → CopyOf s m t p q → CopyOf s m t' p q
 copy_frontier s m t t' p q between le copy = record {
   rest = copy.rest;
-  moved = λ o i l. elim (between o i) [ | inl h ↦ copy.moved o i h | inr h ↦ absurd (omega arith) ];
+  moved = λ o i l. elim (between o i) [ inl h ↦ copy.moved o i h | inr h ↦ absurd (omega arith) ];
   to_do = λ o i l. copy.to_do o i (omega arith);
 }
 
@@ -53,7 +52,7 @@ between : (s : From) (m : List ℕ) (base bump limit count p q u u' : ℕ) → (
 between s m base bump limit count p q u u' mid leads to none p1 q1 leads1 o i = elim (cases_eq q1 q) [
   | inl e ↦
       let one : p1 ≡ p = mid.once p1 p q (subst (λ (x : ℕ). Leads s m p1 x) e leads1) leads in
-      elim (none o (subst (λ (x : ℕ). In o (refs s x)) one i)) [ | inl h ↦ inl (omega arith) | inr h ↦ inr (omega arith) ]
+      elim (none o (subst (λ (x : ℕ). In o (refs s x)) one i)) [ inl h ↦ inl (omega arith) | inr h ↦ inr (omega arith) ]
   | inr ne ↦ apart_frontier mid p q p1 q1 (q + u') leads leads1 ne (omega arith) (omega arith) o i
 ]
 
@@ -92,7 +91,6 @@ mid_advanced s m base bump limit count p q u u' mid leads le to none =
 module _ (s : From) (m m' : List ℕ) (base bump limit count p q u o w' : ℕ) (mid : Mid s m base bump limit count (q + u)) (leads : Leads s m p q)
     (i : In o (refs s p)) (le : u ≤ o) (done : (o1 : ℕ) → In o1 (refs s p) → (o1 + 4 ≤ u) ⊎ (o ≤ o1))
     (wrote : Wrote m m' (q + o) 4) (is : word m' (q + o) ≡ w') (moves : Moves s m (word s.memory (p + o)) w') where
-
   in_object : (12 ≤ o) × (o + 4 ≤ size_at s.memory p)
   in_object = Spaced-in 12 (size_at s.memory p) (refs s p) o (mid.start.spaced p leads.place) i
 
@@ -105,7 +103,7 @@ module _ (s : From) (m m' : List ℕ) (base bump limit count p q u o w' : ℕ) (
       let at = lies mid p1 j in
       Wrote-apart wrote p1 (p1 + size_at s.memory p1)
       (halves_apart mid p1 (p1 + size_at s.memory p1) (q + o) (q + o + 4) at.from at.to (omega (arith, here_now.from))
-        (omega (arith, in_object.1, here_now.to, copy_range mid p q leads, mid.room)))
+      (omega (arith, in_object.1, here_now.to, copy_range mid p q leads, mid.room)))
 
   pub write_later : Later s m m'
   write_later p1 q1 l = leads_in_same s m m' p1 q1 (p1 + size_at s.memory p1) (old_same p1 l.place) (omega (arith, (lies mid p1 l.place).least)) l
@@ -193,7 +191,7 @@ module _ (s : From) (m m' : List ℕ) (base bump limit count p q u o w' : ℕ) (
     frontier = omega (arith, in_object.1, here_now.to, copy_range mid p q leads);
     room =
         let same = sum_over-same (left_at s m) (left_at s m') s.places (λ p1 j.
-              left_same s m m' p1 (flag_same m m' p1 (p1 + size_at s.memory p1) (old_same p1 j) (omega (arith, (lies mid p1 j).least)))) in
+        left_same s m m' p1 (flag_same m m' p1 (p1 + size_at s.memory p1) (old_same p1 j) (omega (arith, (lies mid p1 j).least)))) in
         omega (arith, same, mid.room);
     news = mid.news;
     chain = Chain-resized (size_at m) (size_at m') base bump mid.news mid.chain size_same;

@@ -1,9 +1,8 @@
 -- The references of a copy are those of its object, by each form of its kind word.
-use Rattle.std.proofs.Common.{◌≡◌, ℕ, ◌+◌, ◌*◌, ◌-◌, ◌/◌, ◌%◌, ◌<◌, ◌≤◌, ◌^◌, ◌==◌, nat_eq, true, false, Bool, IsTrue, if◌then◌else◌, List, [], ◌∷◌, length, refl, sym, ap, subst, ◌∙◌, inl, inr, arith}
-use Rattle.std.proofs.Math.Logic.{◌⊎◌, ◌↔◌}
+use Rattle.std.proofs.Common.{◌≡◌, ℕ, ◌+◌, ◌%◌, ◌≤◌, ◌==◌, nat_eq, true, false, Bool, IsTrue, if◌then◌else◌, List, [], length, refl, sym, ap, subst, ◌∙◌, arith}
+use Rattle.std.proofs.Math.Logic.{◌↔◌}
 use Rattle.std.proofs.lemmas.Bool.{eq-eqb, ne_eqb}
 use Rattle.gc_types.specs.declared.kind.Layouts.TheVariants.{Copying}
-use Rattle.gc_types.specs.declared.layout.TraceInfo.TheVariants as trace
 use Rattle.gc_types.specs.Declarations.{Declaration}
 use Rattle.gc_types.specs.Layouts.{trace_at}
 use Rattle.gc_refs.specs.Trace.{form_unit, form_of, MeansTrace}
@@ -11,15 +10,13 @@ use Rattle.gc_refs.specs.declared.trace.InlineTraceInfo.TheVariants.{Bitmap, Arr
 use Rattle.gc_model.specs.Views.{u32_at}
 use Rattle.gc_memory.specs.Words.{word}
 use Rattle.gc_memory.specs.Changes.{SameAcross}
-use Rattle.gc_memory.specs.Lists.{In}
 use Rattle.gc_memory.proofs.WordLemmas.{word-is, word_across}
-use Rattle.gc_heap.specs.References.{word_offsets}
 use Rattle.gc_copying.specs.declared.space.Space.{Space}
 use Rattle.gc_copying.specs.CopyWords.{size_at, Spaced, bitmap_places, element_places, info_places, traced, offsets_at}
-use Rattle.gc_copying.specs.CopyStart.{From, IsFrom, refs}
-use Rattle.gc_copying.specs.CopyMiddle.{CopyOf, Mid}
+use Rattle.gc_copying.specs.CopyStart.{From, refs}
+use Rattle.gc_copying.specs.CopyMiddle.{CopyOf}
 use Rattle.gc_copying.specs.CopySteps.{Scanning, CanScan, ScansAll}
-use Rattle.gc_copying.proofs.MidLemmas.{Spaced-in, Spaced-outside, lies, new_lies}
+use Rattle.gc_copying.proofs.MidLemmas.{Spaced-outside, lies, new_lies}
 use Rattle.gc_copying.proofs.ScanLemmas.{scanned_all}
 
 pub traced_at : (types : List Declaration) (m : List ℕ) (p : ℕ) → offsets_at types m p ≡ traced types (word m p) (word m (p + 4)) (word m (p + 12))
@@ -90,11 +87,11 @@ form_is h q all kind_word can read three =
     let mid = can.scanning.mid in
     let leads = can.scanning.leads in
     let first : word h.memory (q + 0) ≡ word can.start.memory (can.place + 0) =
-        head_word can.start h.memory (q + can.from) can.place q 0 (mid.copied can.place q leads).copy (mid.start.spaced can.place leads.place) (lies mid can.place leads.place).least (omega arith) in
+    head_word can.start h.memory (q + can.from) can.place q 0 (mid.copied can.place q leads).copy (mid.start.spaced can.place leads.place) (lies mid can.place leads.place).least (omega arith) in
     let zero_q : q + 0 ≡ q = omega arith in
     let zero_p : can.place + 0 ≡ can.place = omega arith in
     let kind : kind_word ≡ word can.start.memory can.place =
-        read ∙ sym (word-is h.memory q) ∙ sym (ap (word h.memory) zero_q) ∙ first ∙ ap (word can.start.memory) zero_p in
+    read ∙ sym (word-is h.memory q) ∙ sym (ap (word h.memory) zero_q) ∙ first ∙ ap (word can.start.memory) zero_p in
     mid.start.form can.place leads.place (sym (ap form_of kind) ∙ three)
 
 -- what may be scanned, where the references are known in another form

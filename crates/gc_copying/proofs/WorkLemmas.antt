@@ -1,6 +1,5 @@
 -- The copies are scanned one behind the other.
-use Rattle.std.proofs.Common.{◌≡◌, ℕ, zero, suc, ◌+◌, ◌*◌, ◌-◌, ◌/◌, ◌%◌, ◌<◌, ◌≤◌, ◌^◌, ◌==◌, Bool, true, false, Option, Some, None, List, [], ◌∷◌, ◌++◌, length, refl, sym, ap, subst, ◌∙◌, inl, inr, arith, length-append}
-use Rattle.std.proofs.Math.Logic.{◌⊎◌}
+use Rattle.std.proofs.Common.{◌≡◌, ℕ, zero, suc, ◌+◌, ◌%◌, ◌<◌, ◌≤◌, ◌^◌, ◌==◌, Bool, true, false, Option, Some, None, List, [], ◌∷◌, ◌++◌, length, refl, sym, ap, subst, ◌∙◌, inl, inr, arith, length-append}
 use Rattle.std.proofs.lemmas.Bool.{cases_eq}
 use Rattle.gc_types.specs.declared.kind.Layouts.TheVariants.{Copying}
 use Rattle.gc_types.specs.declared.layout.TraceInfo.{TraceInfo}
@@ -12,18 +11,18 @@ use Rattle.gc_heap.specs.References.{word_offsets}
 use Rattle.gc_model.specs.Views.{u32_at}
 use Rattle.gc_memory.specs.Words.{word}
 use Rattle.gc_memory.specs.Changes.{SameAcross}
-use Rattle.gc_memory.specs.Lists.{In, here, there, sum_over}
+use Rattle.gc_memory.specs.Lists.{In, here, there}
 use Rattle.gc_memory.specs.Chains.{Chain, done, next}
 use Rattle.gc_memory.proofs.WordLemmas.{word-is, word_across}
 use Rattle.gc_memory.proofs.ListLemmas.{sum_over-same, sum_over-append}
-use Rattle.gc_memory.proofs.ChainLemmas.{LiesInChain, Chain-end, Chain-first, Chain-push, Chain-resized}
+use Rattle.gc_memory.proofs.ChainLemmas.{Chain-end, Chain-first, Chain-push, Chain-resized}
 use Rattle.gc_copying.specs.declared.space.Space.{Space}
-use Rattle.gc_copying.specs.Spaces.{half_first, half_end}
+use Rattle.gc_copying.specs.Spaces.{half_first}
 use Rattle.gc_copying.specs.CopyWords.{size_at, Spaced, offsets_at, traced, element_places, info_places}
-use Rattle.gc_copying.specs.CopyStart.{From, IsFrom, refs}
+use Rattle.gc_copying.specs.CopyStart.{From, refs}
 use Rattle.gc_copying.specs.CopyMiddle.{Leads, CopyOf, Mid, Later}
 use Rattle.gc_copying.specs.CopySteps.{Midway, SameSides, Scanning, CanScan, ScansAll, WorkAt, Works, WorksOn, CanWork}
-use Rattle.gc_copying.proofs.MidLemmas.{Spaced-in, Spaced-outside, lies, new_lies, less_by_ne}
+use Rattle.gc_copying.proofs.MidLemmas.{lies, new_lies, less_by_ne}
 use Rattle.gc_copying.proofs.CopyKeeps.{copy_range}
 use Rattle.gc_copying.proofs.TraceLemmas.{traced_at, head_word, by_form, by_neither}
 
@@ -103,7 +102,7 @@ copy_refs {s = s} {m = m} {t = t} mid p q leads =
     ∙ ap (λ (k : ℕ). traced s.types k (word m (q + 4)) (word m (q + 12))) kind
     ∙ ap (λ (k : ℕ). traced s.types (word s.memory p) k (word m (q + 12))) ty
     ∙ traced_count s.types (word s.memory p) (word s.memory (p + 4)) (word s.memory (p + 12)) (word m (q + 12)) (λ behind.
-        length_word s m t p q copy least (λ o i. behind o (subst (λ l. In o l) (traced_at s.types s.memory p) i)))
+    length_word s m t p q copy least (λ o i. behind o (subst (λ l. In o l) (traced_at s.types s.memory p) i)))
     ∙ sym (traced_at s.types s.memory p)
 
 -- the frontier is at the end of the copies or at one of them
@@ -117,15 +116,17 @@ scanning_start s h q n fields work less =
     let b = work.mid.back q (at_copy s h q n fields work less) in
     let p = b.0 in
     let same : offsets_at s.types h.memory q ≡ refs s p = copy_refs work.mid p q b.1 in
-    let at : q ≡ q + 0 = omega arith in
-    (p, record {
-      mid = subst (λ (t : ℕ). Midway s t h) at work.mid;
-      leads = b.1;
-      to = omega arith;
-      spaced = subst (λ l. Spaced 0 (size_at s.memory p) l) (sym same) (spaced_from 12 0 (size_at s.memory p) (refs s p) (omega arith) (work.mid.start.spaced p b.1.place));
-      part = λ o i. subst (λ l. In o l) same i;
-      done = λ o i. inr (subst (λ l. In o l) (sym same) i);
-    })
+    let at : q ≡ q + 0 = omega arith in (
+      p,
+      record {
+        mid = subst (λ (t : ℕ). Midway s t h) at work.mid;
+        leads = b.1;
+        to = omega arith;
+        spaced = subst (λ l. Spaced 0 (size_at s.memory p) l) (sym same) (spaced_from 12 0 (size_at s.memory p) (refs s p) (omega arith) (work.mid.start.spaced p b.1.place));
+        part = λ o i. subst (λ l. In o l) same i;
+        done = λ o i. inr (subst (λ l. In o l) (sym same) i);
+      },
+    )
 
 pub can_scan : (types : List Declaration) (h : Space) (q : ℕ) → CanWork types h q → q < h.bump → CanScan h q (offsets_at types h.memory q)
 can_scan types h q can less =
@@ -174,21 +175,21 @@ next_copy s old new q n fields size work less read scans sides =
     let at = lies work.mid p leads.place in
     let base = half_first (length old.memory) old.upper in
     let front_chain = Chain-resized (size_at old.memory) (size_at new.memory) base q work.front work.chain
-          (front_size s old new q n fields (q + size_at s.memory p) work le all.mid all.later) in
+    (front_size s old new q n fields (q + size_at s.memory p) work le all.mid all.later) in
     let pushed = Chain-push (size_at new.memory) base q work.front front_chain
-          (subst (λ (k : ℕ). 16 ≤ k) (sym (size_new ∙ size_is)) at.least) (subst (λ (k : ℕ). k % 16 ≡ 0) (sym (size_new ∙ size_is)) at.whole) in
+    (subst (λ (k : ℕ). 16 ≤ k) (sym (size_new ∙ size_is)) at.least) (subst (λ (k : ℕ). k % 16 ≡ 0) (sym (size_new ∙ size_is)) at.whole) in
     let refs_new : length (offsets_at s.types new.memory q) ≡ length (offsets_at s.types old.memory q) =
-          ap (λ (l : List ℕ). length l) (copy_refs all.mid p q leads' ∙ sym (copy_refs work.mid p q leads)) in
+    ap (λ (l : List ℕ). length l) (copy_refs all.mid p q leads' ∙ sym (copy_refs work.mid p q leads)) in
     let looked = sum_over-append (λ x. length (offsets_at s.types new.memory x)) work.front (q ∷ []) in
     let front_looked = sum_over-same (λ x. length (offsets_at s.types old.memory x)) (λ x. length (offsets_at s.types new.memory x)) work.front
-          (front_refs s old new q n fields (q + size_at s.memory p) work le all.mid all.later) in
+    (front_refs s old new q n fields (q + size_at s.memory p) work le all.mid all.later) in
     record {
       work = record {
         mid = subst (λ (k : ℕ). Midway s (q + k) new) (sym size_is) all.mid;
         front = work.front ++ (q ∷ []);
         chain = subst (λ u. Chain (size_at new.memory) (half_first (length new.memory) u) (q + size) (work.front ++ (q ∷ []))) (sym sides.upper)
             (subst (λ l. Chain (size_at new.memory) (half_first l old.upper) (q + size) (work.front ++ (q ∷ []))) (sym len)
-              (subst (λ (k : ℕ). Chain (size_at new.memory) base (q + k) (work.front ++ (q ∷ []))) size_new pushed));
+            (subst (λ (k : ℕ). Chain (size_at new.memory) base (q + k) (work.front ++ (q ∷ []))) size_new pushed));
         scanned = length-append work.front (q ∷ []) ∙ ap (λ (k : ℕ). k + 1) work.scanned;
         looked_at = omega (arith, looked, front_looked, refs_new, work.looked_at);
       };
@@ -202,7 +203,7 @@ pub next_copy_by : (types : List Declaration) (s : From) (old new : Space) (q n 
 next_copy_by types s old new q n fields size e work less read scans sides =
     subst (λ t. Works s old new (q + size) (n + 1) (fields + length (offsets_at t old.memory q))) e
     (next_copy s old new q n fields size work less read
-      (subst (λ t. (p u : ℕ) → Scanning s p q u (offsets_at t old.memory q) old → ScansAll s p q old new) (sym e) scans) sides)
+    (subst (λ t. (p u : ℕ) → Scanning s p q u (offsets_at t old.memory q) old → ScansAll s p q old new) (sym e) scans) sides)
 
 -- no copy was scanned so far
 pub works_start : (s : From) (h : Space) (scan n fields count : ℕ) → WorkAt s h scan n fields → WorksOn s h h scan 0 n fields count count

@@ -29,7 +29,8 @@ impl Space {
         let size = self.memory.read_u32(from + COPYING_SIZE as usize);
         self.memory.move_bytes(from, to as usize, size as usize);
         self.memory.write_u32(from, kind_word + COPIED);
-        self.memory.write_u32(from + COPYING_FORWARDING as usize, to);
+        self.memory
+            .write_u32(from + COPYING_FORWARDING as usize, to);
         self.bump = to + size;
         self.objects += 1;
         to

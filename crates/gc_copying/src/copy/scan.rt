@@ -94,7 +94,13 @@ impl Space {
     }
 
     /// Moves the references that the type of the object tells.
-    fn scan_by_type<G: Ledger>(&mut self, copy: u32, ty: VMSharedTypeIndex, types: &Types, steps: &mut Steps<G>)
+    fn scan_by_type<G: Ledger>(
+        &mut self,
+        copy: u32,
+        ty: VMSharedTypeIndex,
+        types: &Types,
+        steps: &mut Steps<G>,
+    )
         requires { CanScan self.old copy (info_places (word self.old.memory (copy + 12)) (trace_at Layouts.Copying types.now.declarations ty)) }
         ensures scanned { (s : From) (p u : ℕ) → Scanning s p copy u (info_places (word self.old.memory (copy + 12)) (trace_at Layouts.Copying types.now.declarations ty)) self.old → ScansAll s p copy self.old self.new }
         ensures sides { SameSides self.old self.new }
@@ -146,7 +152,12 @@ impl Space {
 
     /// Scans the copies from a place on, at most as many as one increment may. Says where the next one
     /// would be; None where all have been scanned, which it finds only when it looks for one more.
-    pub(crate) fn scan_some<G: Ledger>(&mut self, first: u32, types: &Types, steps: &mut Steps<G>) -> Option<u32>
+    pub(crate) fn scan_some<G: Ledger>(
+        &mut self,
+        first: u32,
+        types: &Types,
+        steps: &mut Steps<G>,
+    ) -> Option<u32>
         requires { CanWork types.now.declarations self.old first }
         ensures more { IfSome result (λ next. (s : From) (n fields : ℕ) → s.types ≡ types.now.declarations → WorkAt s self.old first n fields
             → WorksOn s self.old self.new next objects_per_increment n fields steps.old steps.new) }

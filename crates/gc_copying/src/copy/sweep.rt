@@ -34,7 +34,10 @@ impl Space {
         let at = place as usize;
         if self.memory.read_u32(at) / COPIED % 2 == 1 {
             let copy = self.memory.read_u32(at + COPYING_FORWARDING as usize);
-            self.memory.write_u32(copy as usize + COPYING_NEXT_EXTERNAL as usize, self.externals);
+            self.memory.write_u32(
+                copy as usize + COPYING_NEXT_EXTERNAL as usize,
+                self.externals,
+            );
             self.externals = copy;
         } else {
             free_host(hosts, self.memory.read_u32(at + HOST_WORD));

@@ -1,4 +1,3 @@
-use Rattle.std.proofs.Common.{ℕ, ◌≡◌, ◌+◌}
 use Rattle.gc_copying.proofs.PhaseLemmas.{goes_on_after_roots, goes_on_scanning, at_sweep, complete_after_sweep}
 use Rattle.gc_copying.proofs.space.Space.collect_some.Goals as goal
 

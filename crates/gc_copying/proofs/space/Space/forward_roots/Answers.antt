@@ -1,5 +1,5 @@
-use Rattle.std.proofs.Common.{ℕ, ◌≡◌, ◌+◌, ◌<◌, ◌≤◌, length, refl, sym, subst, ◌∙◌, arith}
-use Rattle.gc_copying.proofs.RootLemmas.{can_forward_root, roots_more, roots_length, present_more, present_none, roots_end}
+use Rattle.std.proofs.Common.{◌<◌, length, ◌∙◌, arith}
+use Rattle.gc_copying.proofs.RootLemmas.{can_forward_root, roots_more, roots_length, present_more, roots_end}
 use Rattle.gc_copying.proofs.space.Space.forward_roots.Goals as goal
 
 pub forward_root-moved-requires : goal.forward_root-moved-requires
@@ -18,7 +18,7 @@ loop-index-preserved g c =
       same_length = roots_length c.loop-index.roots.roots c.set_word_at.new.self.roots c.loop-index.index c.forward_root-moved.result c.set_word_at.ensures.roots ∙ c.loop-index.invariant.same_length;
       ticks =
           let more = present_more c.args.self.now c.loop-index.self c.args.roots.now.roots c.loop-index.roots.roots c.loop-index.index c.word_at.result
-                c.loop-index.invariant.along c.requires less c.word_at.ensures c.forward_root-moved.ensures.not_null in
+          c.loop-index.invariant.along c.requires less c.word_at.ensures c.forward_root-moved.ensures.not_null in
           omega (arith, more, c.loop-index.invariant.ticks, c.forward_root-moved.ensures.ticks);
       sides = record {
         upper = c.forward_root-moved.ensures.sides.upper ∙ c.loop-index.invariant.sides.upper;

@@ -1,5 +1,4 @@
-use Rattle.std.proofs.Common.{ℕ, ◌+◌, ◌<◌, ◌≤◌, ◌^◌, ◌∷◌, length, refl, sym, ◌∙◌, arith}
-use Rattle.gc_copying.specs.CopySteps.{Scanning}
+use Rattle.std.proofs.Common.{◌+◌, refl, arith}
 use Rattle.gc_copying.proofs.ScanLemmas.{field_inside, known_field, scans_field}
 use Rattle.gc_copying.proofs.space.Space.scan_field.Goals as goal
 
@@ -24,7 +23,7 @@ forward-moved-requires g c = record {
 pub write_u32-requires : goal.write_u32-requires
 write_u32-requires g c =
     let known = known_field c.requires.start c.requires.place c.args.copy c.requires.from c.args.offset c.requires.left c.args.self.now c.read_u32-reference.result
-          c.requires.scanning c.read_u32-reference.ensures in
+    c.requires.scanning c.read_u32-reference.ensures in
     let after = c.forward-moved.ensures.moved c.requires.start (c.args.copy + c.requires.from) c.requires.scanning.mid known in
     let inside = field_inside c.requires.start c.requires.place c.args.copy c.requires.from c.args.offset c.requires.left c.args.self.now c.requires.scanning in
     omega (arith, inside.3, after.mid.same_length, c.requires.scanning.mid.same_length)

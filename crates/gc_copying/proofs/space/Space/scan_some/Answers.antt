@@ -1,4 +1,4 @@
-use Rattle.std.proofs.Common.{ℕ, ◌≡◌, ◌+◌, ◌<◌, ◌≤◌, refl, sym, subst, ◌∙◌, arith}
+use Rattle.std.proofs.Common.{ℕ, ◌≡◌, ◌+◌, refl, subst, ◌∙◌, arith}
 use Rattle.gc_heap.specs.Collection.{objects_per_increment}
 use Rattle.gc_copying.specs.CopySteps.{WorksOn}
 use Rattle.gc_copying.proofs.WorkLemmas.{works_start, works_step, can_go_on, frontier_less}
@@ -13,10 +13,15 @@ loop-done-init g c = record {
 }
 
 pub returns-then-scan-self-clause-empty : goal.returns-then-scan-self-clause-empty
-returns-then-scan-self-clause-empty g c =
-    (c.loop-done._done, (c.loop-done-test.true, λ s n fields types work.
-      subst (λ (x : ℕ). WorksOn s c.args.self.now c.loop-done.self x c.loop-done._done n fields c.args.steps.now c.loop-done.steps) c.if-scan-self.true
-      (c.loop-done.invariant.along s n fields types work)))
+returns-then-scan-self-clause-empty g c = (
+  c.loop-done._done,
+  (
+    c.loop-done-test.true,
+    λ s n fields types work.
+        subst (λ (x : ℕ). WorksOn s c.args.self.now c.loop-done.self x c.loop-done._done n fields c.args.steps.now c.loop-done.steps) c.if-scan-self.true
+        (c.loop-done.invariant.along s n fields types work),
+  ),
+)
 
 pub returns-then-scan-self-clause-sides : goal.returns-then-scan-self-clause-sides
 returns-then-scan-self-clause-sides g c = c.loop-done.invariant.sides
@@ -32,7 +37,7 @@ scan_object-scan-requires-clause-work g c =
 pub scan_object-scan-requires-clause-less : goal.scan_object-scan-requires-clause-less
 scan_object-scan-requires-clause-less g c =
     let can = can_go_on c.args.types.now.declarations c.args.self.now c.loop-done.self c.args.first c.loop-done.scan c.loop-done._done c.args.steps.now c.loop-done.steps
-          c.loop-done.invariant.along c.requires in
+    c.loop-done.invariant.along c.requires in
     frontier_less c.args.types.now.declarations c.loop-done.self c.loop-done.scan can c.if-scan-self.false
 
 pub loop-done-preserved : goal.loop-done-preserved

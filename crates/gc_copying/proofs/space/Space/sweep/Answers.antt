@@ -1,4 +1,4 @@
-use Rattle.std.proofs.Common.{ℕ, ◌≡◌, ◌+◌, ◌<◌, ◌≤◌, refl, ◌∙◌, arith}
+use Rattle.std.proofs.Common.{refl, ◌∙◌, arith}
 use Rattle.gc_copying.proofs.SweepLemmas.{swept_to_start, swept_next, swept_less, swept_can, sweeps}
 use Rattle.gc_copying.proofs.space.Space.sweep.Goals as goal
 

@@ -1,4 +1,4 @@
-use Rattle.std.proofs.Common.{◌≡◌, ℕ, List, length}
+use Rattle.std.proofs.Common.{◌≡◌, length}
 use Rattle.gc_copying.specs.CopyStart.{From}
 use Rattle.gc_copying.specs.CopySteps.{Midway}
 use Rattle.gc_copying.specs.CopySweep.{SameCounts}

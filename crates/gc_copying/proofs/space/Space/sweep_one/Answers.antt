@@ -1,7 +1,7 @@
-use Rattle.std.proofs.Common.{ℕ, ◌≡◌, ◌+◌, ◌/◌, ◌%◌, ◌≤◌, List, refl, sym, ap, subst, ◌∙◌, arith}
+use Rattle.std.proofs.Common.{ℕ, ◌≡◌, ◌+◌, refl, sym, ap, subst, ◌∙◌, arith}
 use Rattle.gc_model.specs.Views.{put_u32}
 use Rattle.gc_memory.proofs.WordLemmas.{word-is}
-use Rattle.gc_copying.specs.CopyWords.{flag, forwarding, host_word}
+use Rattle.gc_copying.specs.CopyWords.{forwarding, host_word}
 use Rattle.gc_copying.specs.CopySweep.{FreesHost}
 use Rattle.gc_copying.proofs.MidLemmas.{no_both}
 use Rattle.gc_copying.proofs.ForwardLemmas.{flag_read}
@@ -15,11 +15,13 @@ write_u32-requires g c =
 
 pub returns-then-read_u32-eq1-clause-listed : goal.returns-then-read_u32-eq1-clause-listed
 returns-then-read_u32-eq1-clause-listed g c _ =
-    let to : forwarding c.args.self.now.memory c.args.place ≡ c.read_u32-copy.result = word-is c.args.self.now.memory (c.args.place + 12) ∙ sym c.read_u32-copy.ensures in
-    (record {
-      memory = c.write_u32.ensures ∙ ap (λ (q : ℕ). put_u32 c.args.self.now.memory (q + 20) c.args.self.now.externals) (sym to);
-      head = sym to;
-    }, refl)
+    let to : forwarding c.args.self.now.memory c.args.place ≡ c.read_u32-copy.result = word-is c.args.self.now.memory (c.args.place + 12) ∙ sym c.read_u32-copy.ensures in (
+      record {
+        memory = c.write_u32.ensures ∙ ap (λ (q : ℕ). put_u32 c.args.self.now.memory (q + 20) c.args.self.now.externals) (sym to);
+        head = sym to;
+      },
+      refl,
+    )
 
 pub returns-then-read_u32-eq1-clause-freed : goal.returns-then-read_u32-eq1-clause-freed
 returns-then-read_u32-eq1-clause-freed g c clear =
@@ -33,5 +35,5 @@ returns-else-read_u32-eq1-clause-listed g c one =
 pub returns-else-read_u32-eq1-clause-freed : goal.returns-else-read_u32-eq1-clause-freed
 returns-else-read_u32-eq1-clause-freed g c _ =
     let at : c.read_u32-else-read_u32-eq1.result ≡ host_word c.args.self.now.memory c.args.place =
-        c.read_u32-else-read_u32-eq1.ensures ∙ sym (word-is c.args.self.now.memory (c.args.place + 16)) in
+    c.read_u32-else-read_u32-eq1.ensures ∙ sym (word-is c.args.self.now.memory (c.args.place + 16)) in
     (subst (λ (w : ℕ). FreesHost _ c.args.hosts.now.entries c.free_host.new.hosts.entries w) at c.free_host.ensures, (refl, refl))
