@@ -1,7 +1,8 @@
 -- A collection that is finished in bytes is complete in objects.
 use Rattle.std.proofs.Common.{◌≡◌, ℕ, zero, suc, ◌+◌, ◌-◌, ◌*◌, ◌/◌, ◌%◌, ◌<◌, ◌≤◌, ◌^◌, Bool, true, false, not, nat_eq, List, [], ◌∷◌, length, map, sum, Some, None, refl, sym, ap, ap₂, subst, ◌∙◌, inl, inr, arith, Contains}
 use Rattle.std.specs.Prelude.{is_some, ◌↔◌}
-use Rattle.std.specs.List.{IsDistinct, AllByRecursion}
+use Rattle.std.specs.List.{IsDistinct, AllByRecursion, sum_by}
+use Rattle.std.proofs.lemmas.List.Sums.{sum-map, sum_by-cons}
 use Rattle.std.specs.FinMap as finite
 use Rattle.std.specs.Ordering.{nat_cmp}
 use Rattle.std.proofs.lemmas.Bool.{cases_eq, ne_eqb}
@@ -59,6 +60,7 @@ all_other x (y ∷ ys) none = (ne_eqb x y (λ e. none (subst (λ z. In x (z ∷ 
 
 -- numbers that stand once in a list are distinct
 distinct_so : (xs : List ℕ) → ((p : ℕ) → occ p xs ≤ 1) → IsDistinct nat_eq xs
+unfolding IsDistinct
 distinct_so [] once = tt
 distinct_so (x ∷ xs) once = (
   all_other x xs (λ i. let a = once x in let c = In-occ x xs i in omega (arith, occ-same x xs)),
@@ -67,7 +69,7 @@ distinct_so (x ∷ xs) once = (
 
 module _ (s : Start) (m : List ℕ) (upper : Bool) (bump head objects scopes : ℕ) (b : BeginsIn s m upper bump head objects scopes) where
 
-  abbrev from : From
+  abbrev pub from : From
   from = start_of s m upper bump head
 
   -- what is reached, as lists
@@ -91,10 +93,16 @@ module _ (s : Start) (m : List ℕ) (upper : Bool) (bump head objects scopes : �
   count_of : (p : ℕ) → In p (places_in m upper bump) → reference_count Copying s.types (finite.get s.heap.content p) ≡ length (refs from p)
   count_of p i = ap (reference_count Copying s.types) (held s m upper bump head objects scopes b p i) ∙ ap (λ os. length os) (refs_so s m upper bump head objects scopes b p i)
 
+  abbrev count : ℕ → ℕ
+  count place = reference_count Copying s.types (finite.get s.heap.content place)
+
+  counts_by : (places : List ℕ) → ((p : ℕ) → In p places → In p (places_in m upper bump)) → sum_by count places ≡ sum_over (λ p. length (refs from p)) places
+  counts_by [] inside = refl
+  counts_by (p ∷ ps) inside = sum_by-cons count p ps ∙ ap₂ (λ x y. x + y) (count_of p (inside p here)) (counts_by ps (λ q i. inside q (there i)))
+
   counts_of : (places : List ℕ) → ((p : ℕ) → In p places → In p (places_in m upper bump))
       → sum (map (λ (place : ℕ). reference_count Copying s.types (finite.get s.heap.content place)) places) ≡ sum_over (λ p. length (refs from p)) places
-  counts_of [] inside = refl
-  counts_of (p ∷ ps) inside = ap₂ (λ x y. x + y) (count_of p (inside p here)) (counts_of ps (λ q i. inside q (there i)))
+  counts_of places inside = sum-map count places ∙ counts_by places inside
 
   -- the number of an external object's host value
   host_so : (p : ℕ) (o : HeapObject) → content.IsExternal s.heap p o → (In p (places_in m upper bump) × IsExternal m p) × (host_word m p - 1 ≡ host_id o)

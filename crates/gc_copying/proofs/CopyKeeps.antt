@@ -1,5 +1,5 @@
 -- The middle of a collection is kept where one more object is copied.
-use Rattle.std.proofs.Common.{◌≡◌, ℕ, ◌+◌, ◌*◌, ◌-◌, ◌/◌, ◌%◌, ◌<◌, ◌≤◌, ◌^◌, cond, nat_eq, true, false, List, [], ◌∷◌, ◌++◌, length, get_or, refl, sym, ap, subst, ◌∙◌, inl, inr, arith, length-append}
+use Rattle.std.proofs.Common.{◌≡◌, ℕ, ◌+◌, ◌/◌, ◌%◌, ◌≤◌, cond, nat_eq, List, [], ◌∷◌, ◌++◌, sym, ap, subst, ◌∙◌, inl, inr, arith, length-append}
 use Rattle.std.proofs.Math.Logic.{◌⊎◌}
 use Rattle.std.proofs.lemmas.Bool.{cases_eq}
 use Rattle.gc_model.specs.Bytes.{SameBytes}
@@ -9,10 +9,10 @@ use Rattle.gc_memory.specs.Lists.{In, here, there, sum_over}
 use Rattle.gc_memory.specs.Chains.{Chain}
 use Rattle.gc_memory.proofs.WordLemmas.{word_in_same, word_across}
 use Rattle.gc_memory.proofs.ListLemmas.{In-left, In-right, In-split, In-one}
-use Rattle.gc_memory.proofs.ChainLemmas.{LiesInChain, Chain-push, Chain-resized, Chain-changed}
-use Rattle.gc_copying.specs.CopyWords.{flag, size_at, forwarding, copied_unit, Spaced}
-use Rattle.gc_copying.specs.CopyStart.{From, IsFrom, refs, Reached}
-use Rattle.gc_copying.specs.CopyMiddle.{Leads, Moves, IsOutside, CopyOf, left_at, IsCopied, Mid, Later}
+use Rattle.gc_memory.proofs.ChainLemmas.{Chain-push, Chain-resized, Chain-changed}
+use Rattle.gc_copying.specs.CopyWords.{flag, size_at, forwarding, copied_unit}
+use Rattle.gc_copying.specs.CopyStart.{From, refs, Reached}
+use Rattle.gc_copying.specs.CopyMiddle.{Leads, CopyOf, left_at, IsCopied, Mid, Later}
 use Rattle.gc_copying.specs.CopySteps.{Copies}
 use Rattle.gc_copying.proofs.MoreBytes.{flag_set}
 use Rattle.gc_copying.proofs.MidLemmas.{Spaced-in, lies, new_lies, halves_apart, old_apart, no_both, copy_size, copy_kept}

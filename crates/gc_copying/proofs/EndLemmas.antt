@@ -1,22 +1,17 @@
 -- What stands between the increments of a collection.
-use Rattle.std.proofs.Common.{◌≡◌, ℕ, ◌+◌, ◌*◌, ◌-◌, ◌/◌, ◌%◌, ◌<◌, ◌≤◌, ◌^◌, ◌==◌, List, [], ◌∷◌, ◌++◌, length, refl, sym, ap, subst, ◌∙◌, inl, inr, arith, not}
-use Rattle.std.proofs.Math.Logic.{◌⊎◌}
-use Rattle.gc_memory.specs.Words.{word}
-use Rattle.gc_memory.specs.Lists.{In, here, there, sum_over}
+use Rattle.std.proofs.Common.{◌≡◌, ℕ, ◌+◌, ◌≤◌, List, length, sym, subst, ◌∙◌, arith, not}
 use Rattle.gc_memory.specs.Chains.{Chain}
 use Rattle.gc_memory.proofs.ListLemmas.{sum_over-same}
-use Rattle.gc_memory.proofs.ChainLemmas.{Chain-resized, Chain-unique}
-use Rattle.gc_roots.specs.Roots.{Root, root_at}
-use Rattle.gc_heap.specs.Collection.{present_words, objects_per_increment}
+use Rattle.gc_memory.proofs.ChainLemmas.{Chain-resized}
+use Rattle.gc_roots.specs.Roots.{Root}
+use Rattle.gc_heap.specs.Collection.{present_words}
 use Rattle.gc_copying.specs.declared.space.Space.{Space}
-use Rattle.gc_copying.specs.Spaces.{half_first, half_end}
-use Rattle.gc_copying.specs.CopyWords.{size_at, offsets_at, IsPlaceWord}
-use Rattle.gc_copying.specs.CopyStart.{From, IsFrom, refs, Reached, by_root, by_field}
-use Rattle.gc_copying.specs.CopyMiddle.{Leads, Moves, Mid, Later}
-use Rattle.gc_copying.specs.CopySteps.{Midway, SameSides, WorkAt, Works, WorksOn, CanWork, IsMovedRoot, RootsMoved, words_of, ForwardsRoots, CanForwardRoots}
-use Rattle.gc_copying.specs.CopyEnd.{IsBegun, CanBegin, AtWork, AtSweep}
-use Rattle.gc_copying.proofs.MidLemmas.{lies, new_lies, moves_later, Spaced-in}
-use Rattle.gc_copying.proofs.CopyKeeps.{copy_range}
+use Rattle.gc_copying.specs.Spaces.{half_first}
+use Rattle.gc_copying.specs.CopyWords.{size_at, offsets_at}
+use Rattle.gc_copying.specs.CopyStart.{From}
+use Rattle.gc_copying.specs.CopyMiddle.{Later}
+use Rattle.gc_copying.specs.CopySteps.{Midway, SameSides, WorkAt, words_of, ForwardsRoots, CanForwardRoots}
+use Rattle.gc_copying.specs.CopyEnd.{IsBegun, CanBegin, AtWork}
 use Rattle.gc_copying.proofs.WorkLemmas.{front_size, front_refs}
 use Rattle.gc_copying.proofs.BeginLemmas.{begun}
 

@@ -1,17 +1,16 @@
 -- A word is moved.
-use Rattle.std.proofs.Common.{◌≡◌, ℕ, ◌+◌, ◌*◌, ◌-◌, ◌/◌, ◌%◌, ◌<◌, ◌≤◌, ◌^◌, List, length, refl, sym, ap, subst, ◌∙◌, inl, inr, arith}
+use Rattle.std.proofs.Common.{◌≡◌, ℕ, ◌+◌, ◌-◌, ◌/◌, ◌%◌, ◌<◌, ◌≤◌, ◌^◌, List, length, refl, sym, ap, subst, ◌∙◌, inl, inr, arith}
 use Rattle.std.proofs.Math.Logic.{◌⊎◌}
 use Rattle.gc_model.specs.Views.{u32_at}
-use Rattle.gc_memory.specs.Words.{word}
-use Rattle.gc_memory.specs.Lists.{In, sum_over}
+use Rattle.gc_memory.specs.Lists.{In}
 use Rattle.gc_memory.proofs.WordLemmas.{word-is}
 use Rattle.gc_memory.proofs.ChainLemmas.{Chain-length}
 use Rattle.gc_copying.specs.declared.space.Space.{Space}
 use Rattle.gc_copying.specs.Spaces.{half_first, half_end}
-use Rattle.gc_copying.specs.CopyWords.{flag, size_at, forwarding, copied_unit, IsPlaceWord}
-use Rattle.gc_copying.specs.CopyStart.{From, IsFrom, refs, Reached}
-use Rattle.gc_copying.specs.CopyMiddle.{Leads, Moves, left_at, Mid, Later}
-use Rattle.gc_copying.specs.CopySteps.{CanCopy, Copies, Midway, Known, SameSides, CanForward, Forwards}
+use Rattle.gc_copying.specs.CopyWords.{flag, size_at, copied_unit, IsPlaceWord}
+use Rattle.gc_copying.specs.CopyStart.{From}
+use Rattle.gc_copying.specs.CopyMiddle.{Leads, left_at, Mid}
+use Rattle.gc_copying.specs.CopySteps.{CanCopy, Copies, Midway, Known, SameSides, Forwards}
 use Rattle.gc_copying.proofs.MidLemmas.{lies, halves_apart}
 use Rattle.gc_copying.proofs.CopyKeeps.{sum_over-member, left_fresh, mid_copied, copy_later, copy_leads}
 

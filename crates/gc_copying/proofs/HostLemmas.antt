@@ -1,16 +1,14 @@
 -- A host value is taken out of its table.
-use Rattle.std.proofs.Common.{◌≡◌, ℕ, ◌+◌, ◌-◌, ◌<◌, ◌≤◌, ◌/◌, ◌%◌, Bool, true, false, cond, List, Option, Some, None, refl, sym, ap, subst, ◌∙◌, inl, inr, arith}
+use Rattle.std.proofs.Common.{◌≡◌, ℕ, ◌+◌, ◌-◌, ◌<◌, Bool, cond, None, refl, sym, ap, ◌∙◌, inl, inr, arith}
 use Rattle.std.proofs.Math.Logic.{◌⊎◌}
 use Rattle.std.proofs.lemmas.Bool.{cases_eq, eq-eqb, ne_eqb}
 use Rattle.std.proofs.lemmas.Option.{none-some}
-use Rattle.std.specs.Ordering.{nat_cmp, eq_by_cmp}
+use Rattle.std.specs.Ordering.{nat_cmp}
 use Rattle.std.specs.Cmp.{nat_cmp_total, unsigned_tied}
 use Rattle.std.specs.FinMap as finite
 use Rattle.gc_tables.specs.SideTables.{max_entries}
 use Rattle.gc_tables.specs.declared.host_data.HostFault.{HostFault}
 use Rattle.gc_tables.specs.declared.host_data.HostFault.TheVariants.{BadHostDataId}
-use Rattle.gc_heap.specs.Collection.{IsPartOf}
-use Rattle.gc_copying.specs.CopyStart.{IsHostWord}
 use Rattle.gc_copying.specs.CopySweep.{FreesHost}
 
 module _ {D : Type 0} (old : finite.FinMap nat_cmp D) (id : ℕ) where
@@ -46,7 +44,7 @@ frees_none D old new id raw is same none = record {
 -- a number that stands for no id
 pub frees_no_id : (D : Type 0) (old : finite.FinMap nat_cmp D) (raw : ℕ) → (raw ≡ 0) ⊎ (max_entries < raw) → FreesHost D old old raw
 frees_no_id D old raw none = record {
-  lost = λ is. absurd (elim none [ | inl e ↦ (let h = is.0 in omega arith) | inr h ↦ (let k = is.1 in omega arith) ]);
+  lost = λ is. absurd (elim none [ inl e ↦ (let h = is.0 in omega arith) | inr h ↦ (let k = is.1 in omega arith) ]);
   others = λ q other. refl;
   part = λ q value found. found;
 }

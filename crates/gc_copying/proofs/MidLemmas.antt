@@ -1,22 +1,17 @@
 -- The middle of a collection is kept by a copy, by a moved reference, and by a frontier that advances.
-use Rattle.std.proofs.Common.{◌≡◌, ℕ, ◌+◌, ◌*◌, ◌-◌, ◌/◌, ◌%◌, ◌<◌, ◌≤◌, ◌^◌, cond, nat_eq, true, false, List, [], ◌∷◌, ◌++◌, length, get_or, refl, sym, ap, subst, ◌∙◌, inl, inr, arith, length-append}
+use Rattle.std.proofs.Common.{◌≡◌, ℕ, ◌+◌, ◌<◌, ◌≤◌, List, [], ◌∷◌, refl, sym, subst, ◌∙◌, inl, inr, arith}
 use Rattle.std.proofs.Math.Logic.{◌⊎◌}
-use Rattle.std.proofs.lemmas.Bool.{cases_eq, cases_lt, eq-eqb, ne_eqb}
+use Rattle.std.proofs.lemmas.Bool.{cases_lt}
 use Rattle.gc_model.specs.Bytes.{SameBytes}
-use Rattle.gc_model.proofs.ByteLemmas.{SameBytes-then, SameBytes-part}
+use Rattle.gc_model.proofs.ByteLemmas.{SameBytes-part}
 use Rattle.gc_memory.specs.Words.{word}
-use Rattle.gc_memory.specs.Changes.{Wrote, SameAcross}
-use Rattle.gc_memory.specs.Lists.{In, here, there, sum_over}
-use Rattle.gc_memory.specs.Chains.{Chain}
-use Rattle.gc_memory.proofs.ChangeLemmas.{Wrote-apart, SameAcross-from, SameAcross-same}
-use Rattle.gc_memory.proofs.WordLemmas.{word_in_same, word_apart, word_across}
-use Rattle.gc_memory.proofs.ListLemmas.{In-left, In-right, In-split, In-one}
-use Rattle.gc_memory.proofs.ChainLemmas.{LiesInChain, Chain-lies, Chain-apart, Chain-push, Chain-resized, Chain-changed, Chain-length}
-use Rattle.gc_copying.specs.CopyWords.{flag, size_at, forwarding, copied_unit, IsPlaceWord, Spaced}
-use Rattle.gc_copying.specs.CopyStart.{From, IsFrom, refs, Reached}
-use Rattle.gc_copying.specs.CopyMiddle.{Leads, Moves, IsOutside, CopyOf, left_at, IsCopied, Mid, Later}
-use Rattle.gc_copying.specs.CopySteps.{Copies}
-use Rattle.gc_copying.proofs.MoreBytes.{flag_set}
+use Rattle.gc_memory.specs.Changes.{SameAcross}
+use Rattle.gc_memory.specs.Lists.{In, here, there}
+use Rattle.gc_memory.proofs.WordLemmas.{word_in_same, word_across}
+use Rattle.gc_memory.proofs.ChainLemmas.{LiesInChain, Chain-lies, Chain-apart}
+use Rattle.gc_copying.specs.CopyWords.{size_at, Spaced}
+use Rattle.gc_copying.specs.CopyStart.{From, refs}
+use Rattle.gc_copying.specs.CopyMiddle.{Moves, IsOutside, CopyOf, Mid, Later}
 
 -- offsets that are spaced lie in their range
 pub Spaced-in : (lo hi : ℕ) (os : List ℕ) (o : ℕ) → Spaced lo hi os → In o os → (lo ≤ o) × (o + 4 ≤ hi)

@@ -1,18 +1,15 @@
 -- The roots are moved one by one.
-use Rattle.std.proofs.Common.{◌≡◌, ℕ, zero, suc, ◌+◌, ◌*◌, ◌-◌, ◌/◌, ◌%◌, ◌<◌, ◌≤◌, ◌^◌, ◌==◌, not, true, false, if◌then◌else◌, nat_eq, List, [], ◌∷◌, ◌++◌, length, drop, filter, get_or, slice_set, refl, sym, ap, subst, ◌∙◌, inl, inr, arith}
-use Rattle.std.proofs.Math.Logic.{◌⊎◌}
+use Rattle.std.proofs.Common.{◌≡◌, ℕ, zero, suc, ◌+◌, ◌%◌, ◌<◌, ◌≤◌, not, false, if◌then◌else◌, nat_eq, List, [], ◌∷◌, length, drop, refl, sym, ap, subst, ◌∙◌, inl, inr, arith}
 use Rattle.std.proofs.Math.Seq.{drop-cons, drop-length}
-use Rattle.std.proofs.lemmas.Bool.{cases_eq, cases_lt, ne_eqb}
+use Rattle.std.proofs.lemmas.Bool.{cases_eq, ne_eqb}
 use Rattle.std.proofs.lemmas.List.{get_or-set_same, get_or-set_other, length-set}
 use Rattle.gc_memory.specs.Lists.{In, here, there}
 use Rattle.gc_roots.specs.Roots.{Root, root_at, no_root, with_word, with_word_at}
 use Rattle.gc_heap.specs.Collection.{present_words}
 use Rattle.gc_copying.specs.declared.space.Space.{Space}
-use Rattle.gc_copying.specs.Spaces.{half_first, half_end}
-use Rattle.gc_copying.specs.CopyWords.{size_at, IsPlaceWord}
-use Rattle.gc_copying.specs.CopyStart.{From, IsFrom, IsWord, refs, Reached, by_root}
-use Rattle.gc_copying.specs.CopyMiddle.{Leads, Moves, Mid, Later}
-use Rattle.gc_copying.specs.CopySteps.{Midway, Known, SameSides, CanForward, Forwards, IsMovedRoot, RootsMoved, words_of, CanForwardRoots, ForwardsRoots}
+use Rattle.gc_copying.specs.CopyStart.{From, by_root}
+use Rattle.gc_copying.specs.CopyMiddle.{Moves, Later}
+use Rattle.gc_copying.specs.CopySteps.{Midway, Known, CanForward, Forwards, IsMovedRoot, words_of, CanForwardRoots, ForwardsRoots}
 use Rattle.gc_copying.proofs.MidLemmas.{new_lies, moves_later}
 use Rattle.gc_copying.proofs.ScanLemmas.{place_of_word}
 

@@ -1,20 +1,19 @@
 -- The middle of a collection is kept where a reference of a copy is moved, and where the frontier advances.
-use Rattle.std.proofs.Common.{◌≡◌, ℕ, ◌+◌, ◌*◌, ◌-◌, ◌/◌, ◌%◌, ◌<◌, ◌≤◌, ◌^◌, List, [], ◌∷◌, ◌++◌, length, refl, sym, ap, subst, ◌∙◌, inl, inr, arith}
+use Rattle.std.proofs.Common.{◌≡◌, ℕ, ◌+◌, ◌<◌, ◌≤◌, List, sym, subst, ◌∙◌, inl, inr, arith}
 use Rattle.std.proofs.Math.Logic.{◌⊎◌}
 use Rattle.std.proofs.lemmas.Bool.{cases_eq, cases_lt}
 use Rattle.gc_model.specs.Bytes.{SameBytes}
 use Rattle.gc_model.proofs.ByteLemmas.{SameBytes-then, SameBytes-part}
 use Rattle.gc_memory.specs.Words.{word}
 use Rattle.gc_memory.specs.Changes.{Wrote}
-use Rattle.gc_memory.specs.Lists.{In, here, there, sum_over}
-use Rattle.gc_memory.specs.Chains.{Chain}
+use Rattle.gc_memory.specs.Lists.{In}
 use Rattle.gc_memory.proofs.ChangeLemmas.{Wrote-apart}
 use Rattle.gc_memory.proofs.WordLemmas.{word_in_same, word_apart}
 use Rattle.gc_memory.proofs.ListLemmas.{sum_over-same}
 use Rattle.gc_memory.proofs.ChainLemmas.{LiesInChain, Chain-apart, Chain-resized}
-use Rattle.gc_copying.specs.CopyWords.{flag, size_at, Spaced}
-use Rattle.gc_copying.specs.CopyStart.{From, IsFrom, refs, Reached}
-use Rattle.gc_copying.specs.CopyMiddle.{Leads, Moves, IsOutside, CopyOf, left_at, IsCopied, Mid, Later}
+use Rattle.gc_copying.specs.CopyWords.{size_at}
+use Rattle.gc_copying.specs.CopyStart.{From, refs}
+use Rattle.gc_copying.specs.CopyMiddle.{Leads, Moves, CopyOf, left_at, IsCopied, Mid, Later}
 use Rattle.gc_copying.proofs.MidLemmas.{Spaced-in, Spaced-apart, lies, new_lies, halves_apart, less_by_ne, copy_kept, moves_later}
 use Rattle.gc_copying.proofs.CopyKeeps.{flag_same, left_same, leads_in_same, leads_before, copy_range}
 

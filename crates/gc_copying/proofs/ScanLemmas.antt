@@ -1,20 +1,19 @@
 -- The references of a copy are moved one by one.
-use Rattle.std.proofs.Common.{◌≡◌, ℕ, zero, suc, ◌+◌, ◌*◌, ◌-◌, ◌/◌, ◌%◌, ◌<◌, ◌≤◌, ◌^◌, nat_eq, true, false, Bool, if◌then◌else◌, List, [], ◌∷◌, ◌++◌, length, drop, refl, sym, ap, subst, ◌∙◌, inl, inr, arith}
+use Rattle.std.proofs.Common.{◌≡◌, ℕ, ◌+◌, ◌<◌, ◌≤◌, ◌^◌, List, [], ◌∷◌, length, refl, sym, subst, ◌∙◌, inl, inr, arith}
 use Rattle.std.proofs.Math.Logic.{◌⊎◌}
 use Rattle.gc_model.specs.Views.{u32_at, put_u32}
 use Rattle.gc_memory.specs.Words.{word}
 use Rattle.gc_memory.specs.Changes.{Wrote}
 use Rattle.gc_memory.specs.Lists.{In, here, there}
 use Rattle.gc_memory.proofs.WordLemmas.{word-is}
-use Rattle.gc_heap.specs.References.{bit_offsets, if_bit, word_offsets}
 use Rattle.gc_copying.specs.declared.space.Space.{Space}
 use Rattle.gc_copying.specs.Spaces.{half_first, half_end}
 use Rattle.gc_copying.specs.CopyWords.{size_at, IsPlaceWord, Spaced}
-use Rattle.gc_copying.specs.CopyStart.{From, IsFrom, IsWord, refs, Reached, by_field}
-use Rattle.gc_copying.specs.CopyMiddle.{Leads, Moves, CopyOf, IsCopied, Mid, Later}
-use Rattle.gc_copying.specs.CopySteps.{Midway, Known, SameSides, CanForward, Forwards, Scanning, CanScan, CanScanAt, Scans, ScansAll}
+use Rattle.gc_copying.specs.CopyStart.{From, IsWord, refs, by_field}
+use Rattle.gc_copying.specs.CopyMiddle.{Leads, Moves}
+use Rattle.gc_copying.specs.CopySteps.{Midway, Known, SameSides, Forwards, Scanning, CanScan, CanScanAt, Scans, ScansAll}
 use Rattle.gc_copying.proofs.MoreBytes.{wrote_word, word_written}
-use Rattle.gc_copying.proofs.MidLemmas.{Spaced-in, lies, new_lies}
+use Rattle.gc_copying.proofs.MidLemmas.{Spaced-in, new_lies}
 use Rattle.gc_copying.proofs.CopyKeeps.{copy_range}
 use Rattle.gc_copying.proofs.ScanKeeps.{mid_written, write_later, mid_advanced}
 use Rattle.gc_copying.proofs.ForwardLemmas.{midway}

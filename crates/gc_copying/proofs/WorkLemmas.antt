@@ -1,6 +1,5 @@
 -- The copies are scanned one behind the other.
-use Rattle.std.proofs.Common.{◌≡◌, ℕ, zero, suc, ◌+◌, ◌*◌, ◌-◌, ◌/◌, ◌%◌, ◌<◌, ◌≤◌, ◌^◌, ◌==◌, Bool, true, false, Option, Some, None, List, [], ◌∷◌, ◌++◌, length, refl, sym, ap, subst, ◌∙◌, inl, inr, arith, length-append}
-use Rattle.std.proofs.Math.Logic.{◌⊎◌}
+use Rattle.std.proofs.Common.{◌≡◌, ℕ, zero, suc, ◌+◌, ◌%◌, ◌<◌, ◌≤◌, ◌^◌, ◌==◌, Bool, true, false, Option, Some, None, List, [], ◌∷◌, ◌++◌, length, refl, sym, ap, subst, ◌∙◌, inl, inr, arith, length-append}
 use Rattle.std.proofs.lemmas.Bool.{cases_eq}
 use Rattle.gc_types.specs.declared.kind.Layouts.TheVariants.{Copying}
 use Rattle.gc_types.specs.declared.layout.TraceInfo.{TraceInfo}
@@ -12,18 +11,18 @@ use Rattle.gc_heap.specs.References.{word_offsets}
 use Rattle.gc_model.specs.Views.{u32_at}
 use Rattle.gc_memory.specs.Words.{word}
 use Rattle.gc_memory.specs.Changes.{SameAcross}
-use Rattle.gc_memory.specs.Lists.{In, here, there, sum_over}
+use Rattle.gc_memory.specs.Lists.{In, here, there}
 use Rattle.gc_memory.specs.Chains.{Chain, done, next}
 use Rattle.gc_memory.proofs.WordLemmas.{word-is, word_across}
 use Rattle.gc_memory.proofs.ListLemmas.{sum_over-same, sum_over-append}
-use Rattle.gc_memory.proofs.ChainLemmas.{LiesInChain, Chain-end, Chain-first, Chain-push, Chain-resized}
+use Rattle.gc_memory.proofs.ChainLemmas.{Chain-end, Chain-first, Chain-push, Chain-resized}
 use Rattle.gc_copying.specs.declared.space.Space.{Space}
-use Rattle.gc_copying.specs.Spaces.{half_first, half_end}
+use Rattle.gc_copying.specs.Spaces.{half_first}
 use Rattle.gc_copying.specs.CopyWords.{size_at, Spaced, offsets_at, traced, element_places, info_places}
-use Rattle.gc_copying.specs.CopyStart.{From, IsFrom, refs}
+use Rattle.gc_copying.specs.CopyStart.{From, refs}
 use Rattle.gc_copying.specs.CopyMiddle.{Leads, CopyOf, Mid, Later}
 use Rattle.gc_copying.specs.CopySteps.{Midway, SameSides, Scanning, CanScan, ScansAll, WorkAt, Works, WorksOn, CanWork}
-use Rattle.gc_copying.proofs.MidLemmas.{Spaced-in, Spaced-outside, lies, new_lies, less_by_ne}
+use Rattle.gc_copying.proofs.MidLemmas.{lies, new_lies, less_by_ne}
 use Rattle.gc_copying.proofs.CopyKeeps.{copy_range}
 use Rattle.gc_copying.proofs.FormLemmas.{traced_at, head_word, by_form, by_neither}
 

@@ -1,5 +1,5 @@
 -- The words of an object of a copying heap.
-use Rattle.std.specs.Prelude.{◌≡◌, ℕ, ◌+◌, ◌/◌, ◌%◌, ◌<◌, ◌≤◌, ◌⊎◌, ◌==◌, if◌then◌else◌, Bool, true, false, List, [], ◌∷◌, Option, Some, None}
+use Rattle.std.specs.Prelude.{◌≡◌, ℕ, ◌+◌, ◌/◌, ◌%◌, ◌<◌, ◌≤◌, ◌==◌, if◌then◌else◌, Bool, true, false, List, [], ◌∷◌, Option, Some, None}
 use Rattle.gc_types.specs.declared.kind.Layouts.TheVariants.{Copying}
 use Rattle.gc_types.specs.declared.layout.TraceInfo.{TraceInfo}
 use Rattle.gc_types.specs.declared.layout.TraceInfo.TheVariants as trace

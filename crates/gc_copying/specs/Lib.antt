@@ -2,6 +2,7 @@ pub mod Content
 pub mod CopyBetween
 pub mod CopyEnd
 pub mod CopyMiddle
+pub mod CopyPhases
 pub mod CopyStart
 pub mod CopySteps
 pub mod CopySweep

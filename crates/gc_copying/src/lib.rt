@@ -8,9 +8,11 @@ mod growth;
 pub mod heap;
 pub mod layout;
 mod place;
+pub mod scratch;
 mod read;
 pub(crate) mod space;
 mod trace;
 
 pub use heap::CopyingHeap;
 pub use layout::{CopyingCollector, round_down_heap_capacity};
+

@@ -1,4 +1,3 @@
-use Rattle.std.proofs.Common.{ℕ, ◌≡◌, ◌+◌}
 use Rattle.gc_copying.proofs.EndLemmas.{can_forward_roots, at_work}
 use Rattle.gc_copying.proofs.space.Space.begin_copying.Goals as goal
 

@@ -1,4 +1,4 @@
-use Rattle.std.proofs.Common.{ℕ, ◌≡◌, ◌+◌, ◌<◌, ◌≤◌, ◌^◌, ap, arith}
+use Rattle.std.proofs.Common.{ℕ, ◌+◌, ap, arith}
 use Rattle.gc_copying.proofs.MoreBytes.{copies, size_read}
 use Rattle.gc_copying.proofs.space.Space.copy.Goals as goal
 

@@ -1,6 +1,5 @@
-use Rattle.std.proofs.Common.{ℕ, ◌≡◌, ◌+◌, ◌<◌, ◌≤◌, ◌/◌, ◌%◌, sym, ◌∙◌, arith}
+use Rattle.std.proofs.Common.{sym, ◌∙◌, arith}
 use Rattle.gc_memory.proofs.WordLemmas.{word-is}
-use Rattle.gc_copying.specs.CopyWords.{IsPlaceWord, flag, copied_unit}
 use Rattle.gc_copying.proofs.ForwardLemmas.{place_word, can_copy, count_small, word_inside, flag_read, not_one, forwards_before, forwards_new}
 use Rattle.gc_copying.proofs.space.Space.forward.Goals as goal
 

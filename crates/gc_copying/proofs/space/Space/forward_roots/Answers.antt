@@ -1,5 +1,5 @@
-use Rattle.std.proofs.Common.{ℕ, ◌≡◌, ◌+◌, ◌<◌, ◌≤◌, length, refl, sym, subst, ◌∙◌, arith}
-use Rattle.gc_copying.proofs.RootLemmas.{can_forward_root, roots_more, roots_length, present_more, present_none, roots_end}
+use Rattle.std.proofs.Common.{◌<◌, length, ◌∙◌, arith}
+use Rattle.gc_copying.proofs.RootLemmas.{can_forward_root, roots_more, roots_length, present_more, roots_end}
 use Rattle.gc_copying.proofs.space.Space.forward_roots.Goals as goal
 
 pub forward_root-moved-requires : goal.forward_root-moved-requires

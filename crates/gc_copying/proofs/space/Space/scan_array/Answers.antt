@@ -1,4 +1,4 @@
-use Rattle.std.proofs.Common.{◌≡◌, ◌+◌, ◌≤◌, List, ℕ, true, false, sym, ap, ◌∙◌, arith}
+use Rattle.std.proofs.Common.{◌≡◌, ◌+◌, ℕ, sym, ap, ◌∙◌, arith}
 use Rattle.gc_memory.specs.Words.{word}
 use Rattle.gc_memory.proofs.WordLemmas.{word-is}
 use Rattle.gc_heap.specs.References.{word_offsets}

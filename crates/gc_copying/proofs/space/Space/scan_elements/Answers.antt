@@ -1,7 +1,6 @@
-use Rattle.std.proofs.Common.{◌≡◌, ◌+◌, ◌*◌, ◌<◌, ◌≤◌, ◌^◌, arith}
+use Rattle.std.proofs.Common.{◌+◌, ◌*◌, ◌<◌, ◌^◌, arith}
 use Rattle.gc_heap.specs.References.{word_offsets}
-use Rattle.gc_copying.specs.CopySteps.{CanScanAt}
-use Rattle.gc_copying.proofs.ScanLemmas.{going_can, going_step, going_end, field_inside}
+use Rattle.gc_copying.proofs.ScanLemmas.{going_can, going_step, going_end}
 use Rattle.gc_copying.proofs.OffsetLemmas.{elements_start, first_element, last_element, offset_fits}
 use Rattle.gc_copying.proofs.space.Space.scan_elements.Goals as goal
 

@@ -1,5 +1,4 @@
-use Rattle.std.proofs.Common.{ℕ, ◌+◌, ◌<◌, ◌≤◌, ◌^◌, ◌∷◌, length, refl, sym, ◌∙◌, arith}
-use Rattle.gc_copying.specs.CopySteps.{Scanning}
+use Rattle.std.proofs.Common.{◌+◌, refl, arith}
 use Rattle.gc_copying.proofs.ScanLemmas.{field_inside, known_field, scans_field}
 use Rattle.gc_copying.proofs.space.Space.scan_field.Goals as goal
 

@@ -1,5 +1,4 @@
-use Rattle.std.proofs.Common.{◌≡◌, ◌+◌, ◌<◌, ◌≤◌, sym, ◌∙◌, arith}
-use Rattle.gc_copying.specs.CopyWords.{size_at}
+use Rattle.std.proofs.Common.{arith}
 use Rattle.gc_copying.proofs.MoreBytes.{size_read}
 use Rattle.gc_copying.proofs.WorkLemmas.{can_scan, size_inside, next_copy_by}
 use Rattle.gc_copying.proofs.space.Space.scan_object.Goals as goal

@@ -1,5 +1,5 @@
 use Rattle.std.proofs.Common.{◌+◌, ◌∷◌, [], drop, get_or}
-use Rattle.gc_copying.proofs.ScanLemmas.{Going, going_as, going_step, going_end}
+use Rattle.gc_copying.proofs.ScanLemmas.{going_as, going_step, going_end}
 use Rattle.gc_copying.proofs.OffsetLemmas.{next_offset, no_offset}
 use Rattle.gc_copying.proofs.space.Space.scan_offsets.Goals as goal
 

@@ -1,4 +1,4 @@
-use Rattle.std.proofs.Common.{◌≡◌, ◌+◌, ◌≤◌, List, ℕ, sym, ap, ◌∙◌, arith}
+use Rattle.std.proofs.Common.{ap, ◌∙◌, arith}
 use Rattle.gc_copying.specs.CopyWords.{offsets_at}
 use Rattle.gc_copying.proofs.FormLemmas.{header_inside, form_is, can_as, scans_as, ticks_as, places_by_bitmap, places_by_array, places_by_type}
 use Rattle.gc_copying.proofs.space.Space.scan_references.Goals as goal

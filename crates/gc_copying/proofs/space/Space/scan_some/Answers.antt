@@ -1,4 +1,4 @@
-use Rattle.std.proofs.Common.{ℕ, ◌≡◌, ◌+◌, ◌<◌, ◌≤◌, refl, sym, subst, ◌∙◌, arith}
+use Rattle.std.proofs.Common.{ℕ, ◌≡◌, ◌+◌, refl, subst, ◌∙◌, arith}
 use Rattle.gc_heap.specs.Collection.{objects_per_increment}
 use Rattle.gc_copying.specs.CopySteps.{WorksOn}
 use Rattle.gc_copying.proofs.WorkLemmas.{works_start, works_step, can_go_on, frontier_less}

@@ -34,4 +34,4 @@ pub returns-else-read_u32-eq1-clause-freed : goal.returns-else-read_u32-eq1-clau
 returns-else-read_u32-eq1-clause-freed g c _ =
     let at : c.read_u32-else-read_u32-eq1.result ≡ host_word c.args.self.now.memory c.args.place =
         c.read_u32-else-read_u32-eq1.ensures ∙ sym (word-is c.args.self.now.memory (c.args.place + 16)) in
-    (subst (λ (w : ℕ). FreesHost _ c.args.hosts.now.entries c.free_host.new.hosts.entries w) at c.free_host.ensures, (refl, refl))
+    (subst (λ (w : ℕ). FreesHost _ c.args.hosts.now.entries c.free_host.new.hosts.entries w) at c.free_host.ensures.frees, (refl, refl))
