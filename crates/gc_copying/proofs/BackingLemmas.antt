@@ -116,3 +116,9 @@ puts_back m s memory scopes delta view bytes out grown_by low is bound pages =
     let g = grows bytes memory m.upper m.bump m.externals m.objects delta out.0 grown_by low bound pages in
     subst (λ (x : Space). PutsBack scopes x view delta) (sym is)
     (record { sound = g.space; seen = g.seen scopes ∙ ap (λ v. grown Copying v delta) (sym out.1) })
+
+-- nothing is counted
+pub nothing_counted : (scopes : ℕ) (b : Backing) (q n : ℕ) → finite.get (seen_of scopes b).counts.counted q ≡ Some n → ⊥
+nothing_counted scopes backing.Detached q n e = cc (finite.get-empty nat_cmp q)
+nothing_counted scopes (backing.Attached s) q n e = cc (finite.get-empty nat_cmp q)
+nothing_counted scopes (backing.Taken m) q n e = cc (finite.get-empty nat_cmp q)

@@ -1,5 +1,6 @@
 pub mod BackingLemmas
 pub mod BeginLemmas
+pub mod BetweenLemmas
 pub mod CollectedLemmas
 pub mod CopyKeeps
 pub mod EndLemmas
@@ -27,3 +28,4 @@ pub mod SweepLemmas
 pub mod TraceLemmas
 pub mod WorkLemmas
 pub mod WriteLemmas
+pub mod Walks

@@ -1,3 +1,4 @@
+pub mod CollectionLaw
 pub mod Content
 pub mod CopyBetween
 pub mod CopyEnd

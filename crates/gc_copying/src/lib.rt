@@ -3,16 +3,18 @@
 #![tactic(auto)]
 
 mod alloc;
+pub mod collection;
 pub(crate) mod copy;
 mod growth;
 pub mod heap;
 pub mod layout;
 mod place;
-pub mod scratch;
 mod read;
 pub(crate) mod space;
+pub(crate) mod ticks;
 mod trace;
 
+pub use collection::CopyingCollection;
 pub use heap::CopyingHeap;
 pub use layout::{CopyingCollector, round_down_heap_capacity};
 
