@@ -48,7 +48,6 @@ once_of (x ∷ xs) d p = elim (cases_eq p x) [
 ]
 
 module _ (s : Start) (n counted scopes : ℕ) (D : Type 0) (space : Space) (roots : List Root) (types : List Declaration) (old : finite.FinMap nat_cmp D) where
-
   -- how far it is, with these host values
   abbrev pub progress_of : From → Progress D
   progress_of from = record { start = from; began_with = s.roots; hosts = old; increments = n; counted = counted }
@@ -120,7 +119,6 @@ pub record IsDone (s : Start) (counted scopes : ℕ) (space : Space) (roots : Li
 
 module _ (s : Start) (n counted more scopes : ℕ) (D : Type 0) (space space' : Space) (roots roots' : List Root) (types : List Declaration) (old new : finite.FinMap nat_cmp D) (at at' : Phase)
     (b : BetweenIn s n counted scopes space at roots types (has_host old)) (side : space'.upper ≡ side_after at space.upper) where
-
   abbrev before : Progress D
   before = progress_of s n counted scopes D space roots types old (start_of s b.memory b.upper b.bump b.head)
 

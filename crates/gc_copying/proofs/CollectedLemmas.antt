@@ -68,7 +68,6 @@ distinct_so (x ∷ xs) once = (
 )
 
 module _ (s : Start) (m : List ℕ) (upper : Bool) (bump head objects scopes : ℕ) (b : BeginsIn s m upper bump head objects scopes) where
-
   abbrev pub from : From
   from = start_of s m upper bump head
 
@@ -116,7 +115,6 @@ module _ (s : Start) (m : List ℕ) (upper : Bool) (bump head objects scopes : �
   external_so p i e = record { held = held s m upper bump head objects scopes b p i; kind = kind_by_bits m p e }
 
   module _ (h : Space) (roots : List Root) (k counted : ℕ) (f : IsFinished from s.roots roots h k counted) where
-
     lies_new : (q : ℕ) → In q f.news → LiesInChain (size_at h.memory) (half_first (length h.memory) h.upper) h.bump q
     lies_new q i = Chain-lies (size_at h.memory) (half_first (length h.memory) h.upper) h.bump q f.news f.chain i
 
@@ -181,12 +179,14 @@ module _ (s : Start) (m : List ℕ) (upper : Bool) (bump head objects scopes : �
           let x = found s m upper bump head objects scopes b p o got in
           let r = so p kp in
           let y = renamed p r in
-          let among : In (f.to p) (places_in h.memory h.upper h.bump) = subst (In (f.to p)) (sym places_new) y.0 in
-          (object_at h.memory (f.to p), (
-            held_in h.memory (f.to p) (places_in h.memory h.upper h.bump) among,
-            subst (λ z. IsMoved Copying s.types f.to z (object_at h.memory (f.to p))) (sym x.is)
-            (is_moved s m upper bump head objects scopes b h.memory f.to p (f.to p) x.among y.1 (room_for p r)),
-          ));
+          let among : In (f.to p) (places_in h.memory h.upper h.bump) = subst (In (f.to p)) (sym places_new) y.0 in (
+            object_at h.memory (f.to p),
+            (
+              held_in h.memory (f.to p) (places_in h.memory h.upper h.bump) among,
+              subst (λ z. IsMoved Copying s.types f.to z (object_at h.memory (f.to p))) (sym x.is)
+                  (is_moved s m upper bump head objects scopes b h.memory f.to p (f.to p) x.among y.1 (room_for p r)),
+            ),
+          );
       only = λ q is.
           let among = (held_only h.memory q is.0 (places_in h.memory h.upper h.bump) is.1).among in
           let x = f.only q (subst (In q) places_new among) in
@@ -197,9 +197,9 @@ module _ (s : Start) (m : List ℕ) (upper : Bool) (bump head objects scopes : �
           ap (λ (id : ℕ). has_host new id) (sym x.1) ∙ ap is_some (swept.lost p x.0.0 x.0.1 (λ r. none (back p r)));
       hosts_kept = λ id all.
           ap is_some (swept.kept id (λ p i e w.
-            let ext = external_so p i e in
-            let x = host_so p (object_at m p) ext in
-            so p (all p (object_at m p) ext (let y = x.1 in omega arith))))
+          let ext = external_so p i e in
+          let x = host_so p (object_at m p) ext in
+          so p (all p (object_at m p) ext (let y = x.1 in omega arith))))
           ∙ ap (λ (g : ℕ → Bool). g id) hosts_are;
       attached = refl;
       capacity = f.same_length ∙ ap (λ (v : HeapView). v.capacity) b.heap_is;

@@ -103,7 +103,6 @@ data_byte m m' p q at d ExnRef ok size least ext inside inside' host same = byte
 
 module _ (s : Start) (m : List ℕ) (upper : Bool) (bump head objects scopes : ℕ) (b : BeginsIn s m upper bump head objects scopes)
     (m' : List ℕ) (to : ℕ → ℕ) (p q : ℕ) (i : In p (places_in m upper bump)) (r : IsRenamed (start_of s m upper bump head) m' to p q) where
-
   whole : IsWhole m p
   whole = b.space.whole p i
 
@@ -179,7 +178,6 @@ module _ (s : Start) (m : List ℕ) (upper : Bool) (bump head objects scopes : �
       record { size = same_size ∙ x.size; from = subst (λ n. 0 < n) (sym id) x.from; to = subst (λ n. n ≤ max_entries) (sym id) x.to }
 
   module _ (new_inside : q + size_at m p ≤ length m') where
-
     inside_so : q + size_at m' q ≤ length m'
     inside_so = subst (λ n. q + n ≤ length m') (sym same_size) new_inside
 

@@ -77,9 +77,9 @@ pub form_is : (o : HeapObject) (k : VMGcKind) → TracesInside o k → Form o k
 form_is o ExternRef t = outside refl t
 form_is o AnyRef t = absurd t
 form_is o EqRef t = absurd t
-form_is o StructRef t = elim t [ | inl bits ↦ by_bits tt bits.0 bits.1 | inr out ↦ by_type tt out ]
+form_is o StructRef t = elim t [ inl bits ↦ by_bits tt bits.0 bits.1 | inr out ↦ by_type tt out ]
 form_is o ArrayRef t = by_length refl t.0 t.1
-form_is o ExnRef t = elim t [ | inl bits ↦ by_bits tt bits.0 bits.1 | inr out ↦ by_type tt out ]
+form_is o ExnRef t = elim t [ inl bits ↦ by_bits tt bits.0 bits.1 | inr out ↦ by_type tt out ]
 
 -- a word of the data of an object with fields
 pub field_word : (m : List ℕ) (p o : ℕ) (k : VMGcKind) → HasFields k → 12 ≤ o → o + 4 ≤ size_at m p → p + size_at m p ≤ length m → u32_at (data_at m p k) (o - 12) ≡ word m (p + o)

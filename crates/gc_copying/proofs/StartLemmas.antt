@@ -99,7 +99,6 @@ whole_form m p whole three =
     ]
 
 module _ (s : Start) (m : List ℕ) (upper : Bool) (bump head objects scopes : ℕ) (b : BeginsIn s m upper bump head objects scopes) where
-
   abbrev pub from : From
   from = start_of s m upper bump head
 

@@ -208,11 +208,7 @@ impl GcHeap for CopyingHeap {
 
     fn drop_gc_ref(&mut self, gc_ref: VMGcRef) {}
 
-    fn write_gc_ref(
-        &mut self,
-        destination: &mut Option<VMGcRef>,
-        source: Option<&VMGcRef>,
-    ) {
+    fn write_gc_ref(&mut self, destination: &mut Option<VMGcRef>, source: Option<&VMGcRef>) {
         *destination = source.map(|word| word.unchecked_copy());
     }
 
@@ -266,10 +262,7 @@ impl GcHeap for CopyingHeap {
 
     fn dealloc_uninit_array(&mut self, array: VMArrayRef) {}
 
-    fn externref_host_data(
-        &self,
-        r: &VMExternRef,
-    ) -> Result<ExternRefHostDataId, RefFault> {
+    fn externref_host_data(&self, r: &VMExternRef) -> Result<ExternRefHostDataId, RefFault> {
         match &self.backing {
             Backing::Attached(space) => space.host_data(r),
             _ => Err(RefFault::BadRef),

@@ -17,4 +17,3 @@ mod trace;
 pub use collection::CopyingCollection;
 pub use heap::CopyingHeap;
 pub use layout::{CopyingCollector, round_down_heap_capacity};
-

@@ -15,11 +15,13 @@ write_u32-requires g c =
 
 pub returns-then-read_u32-eq1-clause-listed : goal.returns-then-read_u32-eq1-clause-listed
 returns-then-read_u32-eq1-clause-listed g c _ =
-    let to : forwarding c.args.self.now.memory c.args.place ≡ c.read_u32-copy.result = word-is c.args.self.now.memory (c.args.place + 12) ∙ sym c.read_u32-copy.ensures in
-    (record {
-      memory = c.write_u32.ensures.bytes ∙ ap (λ (q : ℕ). put_u32 c.args.self.now.memory (q + 20) c.args.self.now.externals) (sym to);
-      head = sym to;
-    }, refl)
+    let to : forwarding c.args.self.now.memory c.args.place ≡ c.read_u32-copy.result = word-is c.args.self.now.memory (c.args.place + 12) ∙ sym c.read_u32-copy.ensures in (
+      record {
+        memory = c.write_u32.ensures.bytes ∙ ap (λ (q : ℕ). put_u32 c.args.self.now.memory (q + 20) c.args.self.now.externals) (sym to);
+        head = sym to;
+      },
+      refl,
+    )
 
 pub returns-then-read_u32-eq1-clause-freed : goal.returns-then-read_u32-eq1-clause-freed
 returns-then-read_u32-eq1-clause-freed g c clear =
@@ -33,5 +35,5 @@ returns-else-read_u32-eq1-clause-listed g c one =
 pub returns-else-read_u32-eq1-clause-freed : goal.returns-else-read_u32-eq1-clause-freed
 returns-else-read_u32-eq1-clause-freed g c _ =
     let at : c.read_u32-else-read_u32-eq1.result ≡ host_word c.args.self.now.memory c.args.place =
-        c.read_u32-else-read_u32-eq1.ensures ∙ sym (word-is c.args.self.now.memory (c.args.place + 16)) in
+    c.read_u32-else-read_u32-eq1.ensures ∙ sym (word-is c.args.self.now.memory (c.args.place + 16)) in
     (subst (λ (w : ℕ). FreesHost _ c.args.hosts.now.entries c.free_host.new.hosts.entries w) at c.free_host.ensures.frees, (refl, refl))
