@@ -1,0 +1,22 @@
+use Rattle.std.proofs.Common.{◌+◌, ◌∙◌, sym, ap, subst}
+use Rattle.gc_types.specs.declared.kind.Layouts.TheVariants.{Copying}
+use Rattle.gc_memory.proofs.WordLemmas.{word-is}
+use Rattle.gc_model.specs.Views.{u32_at}
+use Rattle.gc_heap.specs.Objects.{IsHeaderOf}
+use Rattle.gc_copying.proofs.ReadLemmas.{held_at, header_of}
+use Rattle.gc_copying.proofs.space.Space.header.Goals as goal
+
+pub returns-in-Ok-clause-held : goal.returns-in-Ok-clause-held
+returns-in-Ok-clause-held c = λ object held.
+    let s = c.args.self.now in
+    let q = c.args.gc_ref.now in
+    let h = held_at s.memory s.upper s.bump s.externals s.objects q object c.requires held in
+    let start = c.in-Ok.ensures.range.start_is in
+    subst (IsHeaderOf Copying object) (sym c.read_header.ensures)
+    (header_of s.memory s.upper s.bump q object (u32_at s.memory c.in-Ok.range.start) (u32_at s.memory (c.in-Ok.range.start + 4)) h
+    (ap (u32_at s.memory) start ∙ sym (word-is s.memory q)) (ap (λ p. u32_at s.memory (p + 4)) start ∙ sym (word-is s.memory (q + 4))))
+
+pub returns-in-Err-clause-held : goal.returns-in-Err-clause-held
+returns-in-Err-clause-held c = λ object held.
+    let s = c.args.self.now in
+    c.in-Err.ensures.range (held_at s.memory s.upper s.bump s.externals s.objects c.args.gc_ref.now object c.requires held).among

@@ -1,0 +1,66 @@
+-- What stands in the middle of a collection of a copying heap, in bytes.
+use Rattle.std.specs.Prelude.{◌≡◌, ℕ, ◌+◌, ◌%◌, ◌<◌, ◌≤◌, ◌⊎◌, cond, nat_eq, List, length, slice_index_or}
+use Rattle.gc_model.specs.Bytes.{SameBytes}
+use Rattle.gc_memory.specs.Words.{word}
+use Rattle.gc_memory.specs.Lists.{In, sum_over}
+use Rattle.gc_memory.specs.Chains.{Chain}
+use Rattle.gc_copying.specs.CopyWords.{flag, size_at, forwarding, IsPlaceWord}
+use Rattle.gc_copying.specs.CopyStart.{From, IsFrom, refs, Reached}
+
+-- The object at p has been copied to q.
+pub record Leads (s : From) (m : List ℕ) (p q : ℕ) : Type 0 where
+  pub place : In p s.places
+  pub flagged : flag m p ≡ 1
+  pub to : forwarding m p ≡ q
+
+-- A word became another: the place of an object where that was copied to; another one stays.
+pub record Moves (s : From) (m : List ℕ) (w w' : ℕ) : Type 0 where
+  pub leads : IsPlaceWord w → Leads s m w w'
+  pub other : (IsPlaceWord w → ⊥) → w' ≡ w
+
+-- a byte lies in none of the words at these offsets
+abbrev pub IsOutside : List ℕ → ℕ → Type 0
+IsOutside offsets j = (o : ℕ) → In o offsets → (j < o) ⊎ (o + 4 ≤ j)
+
+-- What lies at q is a copy of the object that lay at p. Its references below the frontier t are moved,
+-- the others are as they were.
+pub record CopyOf (s : From) (m : List ℕ) (t p q : ℕ) : Type 0 where
+  pub rest : (j d : ℕ) → j < size_at s.memory p → IsOutside (refs s p) j → slice_index_or m (q + j) d ≡ slice_index_or s.memory (p + j) d
+  pub moved : (o : ℕ) → In o (refs s p) → q + o < t → Moves s m (word s.memory (p + o)) (word m (q + o))
+  pub to_do : (o : ℕ) → In o (refs s p) → t ≤ q + o → word m (q + o) ≡ word s.memory (p + o)
+
+-- the bytes of an object that isn't copied, which the copies will still take
+abbrev pub left_at : From → List ℕ → ℕ → ℕ
+left_at s m p = cond (nat_eq (flag m p) 0) (size_at s.memory p) 0
+
+-- An object that was copied: where it is, how it looks there, and that it was reached.
+pub record IsCopied (s : From) (m : List ℕ) (news : List ℕ) (t p q : ℕ) : Type 0 where
+  pub inside : In q news
+  pub copy : CopyOf s m t p q
+  pub reached : Reached s p
+
+-- The copies lie from base up to bump, in a half that ends at limit; there are `count` of them. The references
+-- below t are moved, those from there on are to be moved.
+pub record Mid (s : From) (m : List ℕ) (base bump limit count t : ℕ) : Type 0 where
+  pub start : IsFrom s
+  pub same_length : length m ≡ length s.memory
+  pub aligned : base % 16 ≡ 0
+  pub low : 0 < limit → 16 ≤ base
+  pub inside : limit ≤ length m
+  pub apart : (s.end ≤ base) ⊎ (limit ≤ s.first)
+  pub from : base ≤ t
+  pub frontier : t ≤ bump
+  pub room : bump + sum_over (left_at s m) s.places ≤ limit
+  pub news : List ℕ
+  pub chain : Chain (size_at m) base bump news
+  pub counted : length news ≡ count
+  pub sizes : (p : ℕ) → In p s.places → size_at m p ≡ size_at s.memory p
+  pub intact : (p : ℕ) → In p s.places → flag m p ≡ 0 → SameBytes s.memory m p (p + size_at s.memory p)
+  pub tail : (p : ℕ) → In p s.places → SameBytes s.memory m (p + 16) (p + size_at s.memory p)
+  pub copied : (p q : ℕ) → Leads s m p q → IsCopied s m news t p q
+  pub back : (q : ℕ) → In q news → (p : ℕ) × Leads s m p q
+  pub once : (p p' q : ℕ) → Leads s m p q → Leads s m p' q → p ≡ p'
+
+-- what has been copied stays where it is
+abbrev pub Later : From → List ℕ → List ℕ → Type 0
+Later s m m' = (p q : ℕ) → Leads s m p q → Leads s m' p q

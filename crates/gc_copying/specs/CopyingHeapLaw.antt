@@ -1,0 +1,17 @@
+-- A sound copying heap is what a heap always is.
+use Rattle.std.proofs.Common.{ℕ, ◌<◌, ◌^◌}
+use Rattle.gc_types.specs.declared.kind.Layouts.TheVariants.{Copying}
+use Rattle.gc_heap.specs.Content.{IsHeap}
+use Rattle.gc_copying.specs.HeapLaws.{space_is_heap, detached_is_heap}
+use Rattle.gc_copying.specs.States.{seen_of, copying_seen, IsBacked, IsCopyingSound}
+use Rattle.gc_copying.specs.declared.heap.CopyingHeap.{CopyingHeap}
+use Rattle.gc_copying.specs.declared.heap.Backing.{Backing}
+use Rattle.gc_copying.specs.declared.heap.Backing.TheVariants as backing
+
+backed_is_heap : (scopes : ℕ) (b : Backing) → IsBacked b → scopes < 2 ^ 64 → IsHeap Copying (seen_of scopes b)
+backed_is_heap scopes backing.Detached backed below = detached_is_heap scopes below
+backed_is_heap scopes (backing.Attached s) backed below = space_is_heap s.memory s.upper s.bump s.externals s.objects scopes backed below
+backed_is_heap scopes (backing.Taken m) backed below = absurd backed
+
+pub copying_is_heap : (h : CopyingHeap) → IsCopyingSound h → IsHeap Copying (copying_seen h)
+copying_is_heap h s = backed_is_heap h.scopes h.backing s.backed s.scopes

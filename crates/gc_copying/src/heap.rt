@@ -1,0 +1,376 @@
+//! The copying heap.
+//!
+//! ```text
+//! place   0      16                    bump            half            capacity
+//!         +------+--------+-----+------+---------------+----------------+
+//!         | skip | object | ... | obj. | free          | the other half |
+//!         +------+--------+-----+------+---------------+----------------+
+//! ```
+//!
+//! Objects lie in the active half one behind the other, and a new one goes to the bump place. A collection
+//! makes the other half active and copies there what the roots reach. External objects are linked with each
+//! other, so that a collection finds those that it leaves behind. References are not counted: the barriers
+//! do nothing.
+
+ghost use Rattle.std.specs.Prelude.{ℕ, ◌≡◌, ◌+◌, ◌<◌, ◌≤◌};
+ghost use Rattle.gc_types.specs.declared.kind.Layouts.TheVariants.{Copying};
+ghost use Rattle.gc_model.specs.Views.{detached_in};
+ghost use Rattle.gc_heap.specs.Collection.{Start, has_host, IsPartOf, Collected, Stepped, IsStepCount};
+ghost use Rattle.gc_copying.specs.States.{copying_seen, IsCopyingSound};
+ghost use Rattle.gc_copying.specs.CopyPhases.{left_of};
+ghost use Rattle.gc_copying.specs.CopyBetween.{Between};
+
+use crate::collection::CopyingCollection;
+use crate::copy::collect::Phase;
+use crate::growth::Marks;
+use crate::space::Space;
+use crate::ticks::Ticks;
+use gc_heap::{GcHeap, GcProgress, GcStoreTraceState, HeapFault, HeapKind, HeapMemory};
+use gc_refs::{RefFault, VMArrayRef, VMExternRef, VMGcHeader, VMGcObjectData, VMGcRef};
+use gc_roots::GcRootsList;
+use gc_steps::Steps;
+use gc_tables::ExternRefHostDataId;
+use gc_types::{GcArrayLayout, GcStructLayout, Layouts, VMSharedTypeIndex};
+use std::alloc::Global;
+use std::marker::Brand;
+use std::mem;
+use std::ops::Range;
+use std::sync::ledger::{Blank, Ledger};
+
+/// Where a heap has its memory.
+#[derive(Drop)]
+pub(crate) enum Backing {
+    Detached,
+    Attached(Space),
+    /// The memory is out, so that it can grow.
+    Taken(Marks),
+}
+
+/// A heap whose collection copies what is reached.
+#[derive(Drop)]
+pub struct CopyingHeap {
+    backing: Backing,
+    scopes: u64,
+}
+
+impl CopyingHeap {
+    /// A heap with no memory. It takes none until one is attached.
+    pub fn new(_alloc: Global) -> CopyingHeap
+        ensures sound { IsCopyingSound result }
+        ensures seen { copying_seen result ≡ detached_in 0 }
+    {
+        CopyingHeap {
+            backing: Backing::Detached,
+            scopes: 0,
+        }
+    }
+
+    /// Does one increment of a collection, and counts its steps.
+    fn collect_more<D: Drop, G: Ledger>(
+        &mut self,
+        phase: &mut Phase,
+        roots: &mut GcRootsList,
+        trace: &mut GcStoreTraceState<'_, D>,
+        steps: &mut Steps<G>,
+    ) -> GcProgress
+        requires { (s : Start) × ((n : ℕ) × ((counted : ℕ) × Between s n counted self.old.scopes self.old.backing phase.old roots.old.roots trace.old.types.now.declarations (has_host trace.old.host_data_table.now.entries))) }
+        ensures stepped { (s : Start) (n counted more : ℕ) → Between s n counted self.old.scopes self.old.backing phase.old roots.old.roots trace.old.types.now.declarations (has_host trace.old.host_data_table.now.entries) → steps.new ≡ steps.old + more
+            → Stepped Copying s (n + 1) result (Between s (n + 1) (counted + more) self.new.scopes self.new.backing phase.new roots.new.roots trace.old.types.now.declarations (has_host trace.new.host_data_table.now.entries))
+            (IsCopyingSound self.new × IsStepCount Copying s (counted + more) × Collected Copying s (copying_seen self.new) roots.new.roots (has_host trace.new.host_data_table.now.entries)) }
+        ensures less { result ≡ GcProgress.Continue → left_of phase.new < left_of phase.old }
+        ensures rises { steps.old ≤ steps.new }
+        ensures spare { roots.new.spare ≡ roots.old.spare }
+        ensures host_spare { trace.old.host_data_table.now.spare ≤ trace.new.host_data_table.now.spare }
+        ensures values { IsPartOf trace.new.host_data_table.now.entries trace.old.host_data_table.now.entries }
+        ensures hosts { trace.new.host_data_table.ghost_name ≡ trace.old.host_data_table.ghost_name }
+        ensures types { trace.new.types ≡ trace.old.types }
+    {
+        match &mut self.backing {
+            Backing::Attached(space) => space.collect_some(
+                phase,
+                roots,
+                &mut *trace.host_data_table,
+                trace.types,
+                steps,
+            ),
+            _ => unreachable!(),
+        }
+    }
+
+    /// Does one increment of a collection, and counts its steps by a counter of its own.
+    fn collect_alone<D: Drop, L: Ledger>(
+        &mut self,
+        phase: &mut Phase,
+        roots: &mut GcRootsList,
+        trace: &mut GcStoreTraceState<'_, D>,
+        blank: Blank,
+    ) -> GcProgress
+        requires name { blank.name ≡ L.name }
+        requires parts { blank.parts ≡ L.parts }
+        requires some { 0 < blank.parts }
+        requires between { (s : Start) × ((n : ℕ) × ((counted : ℕ) × Between s n counted self.old.scopes self.old.backing phase.old roots.old.roots trace.old.types.now.declarations (has_host trace.old.host_data_table.now.entries))) }
+        ensures stepped { (s : Start) (n counted : ℕ) → Between s n counted self.old.scopes self.old.backing phase.old roots.old.roots trace.old.types.now.declarations (has_host trace.old.host_data_table.now.entries)
+            → (more : ℕ) × Stepped Copying s (n + 1) result (Between s (n + 1) (counted + more) self.new.scopes self.new.backing phase.new roots.new.roots trace.old.types.now.declarations (has_host trace.new.host_data_table.now.entries))
+            (IsCopyingSound self.new × IsStepCount Copying s (counted + more) × Collected Copying s (copying_seen self.new) roots.new.roots (has_host trace.new.host_data_table.now.entries)) }
+        ensures less { result ≡ GcProgress.Continue → left_of phase.new < left_of phase.old }
+        ensures spare { roots.new.spare ≡ roots.old.spare }
+        ensures host_spare { trace.old.host_data_table.now.spare ≤ trace.new.host_data_table.now.spare }
+        ensures values { IsPartOf trace.new.host_data_table.now.entries trace.old.host_data_table.now.entries }
+        ensures hosts { trace.new.host_data_table.ghost_name ≡ trace.old.host_data_table.ghost_name }
+        ensures types { trace.new.types ≡ trace.old.types }
+    {
+        let mut steps = Steps::<L>::new(blank);
+        self.collect_more(phase, roots, trace, &mut steps)
+    }
+}
+
+impl GcHeap for CopyingHeap {
+    ghost use Rattle.std.specs.Prelude.{ℕ};
+    ghost use Rattle.gc_types.specs.declared.kind.Layouts.TheVariants.{Copying};
+    ghost use Rattle.gc_copying.specs.States.{copying_seen, IsCopyingSound, IsCopyingTaken};
+    ghost use Rattle.gc_copying.specs.CopyPhases.{left_of};
+    ghost use Rattle.gc_copying.specs.CopyBetween.{IsCopyingUnderWay};
+    ghost use Rattle.gc_copying.specs.CopyingHeapLaw.{copying_is_heap};
+    ghost use Rattle.gc_copying.specs.CollectionLaw.{IsFresh, copying_starts};
+
+    type State = CopyingCollection;
+
+    ghost seen = { copying_seen };
+
+    ghost sound = { IsCopyingSound };
+
+    ghost taken = { IsCopyingTaken };
+
+    ghost begun = { IsFresh };
+
+    ghost ticks = { λ state. state.ticks.count };
+
+    ghost under_way = { λ s n c heap state roots types hosts. IsCopyingUnderWay s n c heap state.phase state.ticks.count roots types hosts };
+
+    ghost left = { λ _ state. left_of state.phase };
+
+    ghost KIND = { Copying };
+
+    ghost is_heap = { copying_is_heap };
+
+    ghost starts = { copying_starts };
+
+    const KIND: HeapKind = Layouts::Copying;
+
+    fn is_attached(&self) -> bool {
+        matches!(self.backing, Backing::Attached(_))
+    }
+
+    fn attach(&mut self, memory: HeapMemory) -> Result<(), HeapMemory> {
+        self.backing = Backing::Attached(Space::new(memory));
+        Ok(())
+    }
+
+    fn detach(&mut self) -> HeapMemory {
+        self.scopes = 0;
+        match mem::replace(&mut self.backing, Backing::Detached) {
+            Backing::Attached(space) => space.memory,
+            _ => unreachable!(),
+        }
+    }
+
+    fn take_memory(&mut self) -> HeapMemory {
+        match mem::replace(&mut self.backing, Backing::Detached) {
+            Backing::Attached(space) => {
+                let (memory, marks) = space.into_memory();
+                self.backing = Backing::Taken(marks);
+                memory
+            }
+            _ => unreachable!(),
+        }
+    }
+
+    fn replace_memory(&mut self, memory: HeapMemory, delta_bytes_grown: u64) {
+        match self.backing {
+            Backing::Taken(marks) => {
+                self.backing = Backing::Attached(marks.with_memory(memory));
+            }
+            _ => unreachable!(),
+        }
+    }
+
+    fn enter_no_gc_scope(&mut self) {
+        self.scopes += 1;
+    }
+
+    fn exit_no_gc_scope(&mut self) {
+        self.scopes -= 1;
+    }
+
+    fn clone_gc_ref(&mut self, gc_ref: &VMGcRef) -> VMGcRef {
+        gc_ref.unchecked_copy()
+    }
+
+    fn drop_gc_ref(&mut self, gc_ref: VMGcRef) {}
+
+    fn write_gc_ref(&mut self, destination: &mut Option<VMGcRef>, source: Option<&VMGcRef>) {
+        *destination = source.map(|word| word.unchecked_copy());
+    }
+
+    fn expose_gc_ref_to_wasm(&mut self, gc_ref: VMGcRef) {}
+
+    fn alloc_raw(
+        &mut self,
+        header: VMGcHeader,
+        size: u32,
+    ) -> Result<Result<VMGcRef, u64>, HeapFault> {
+        match &mut self.backing {
+            Backing::Attached(space) => space.alloc_raw(header, size),
+            _ => unreachable!(),
+        }
+    }
+
+    fn alloc_externref(
+        &mut self,
+        host_data: ExternRefHostDataId,
+    ) -> Result<Result<VMExternRef, u64>, HeapFault> {
+        match &mut self.backing {
+            Backing::Attached(space) => space.alloc_external(host_data),
+            _ => unreachable!(),
+        }
+    }
+
+    fn alloc_uninit_struct_or_exn(
+        &mut self,
+        ty: VMSharedTypeIndex,
+        layout: &GcStructLayout,
+    ) -> Result<Result<VMGcRef, u64>, HeapFault> {
+        match &mut self.backing {
+            Backing::Attached(space) => space.alloc_struct_or_exn(ty, layout),
+            _ => unreachable!(),
+        }
+    }
+
+    fn alloc_uninit_array(
+        &mut self,
+        ty: VMSharedTypeIndex,
+        length: u32,
+        layout: &GcArrayLayout,
+    ) -> Result<Result<VMArrayRef, u64>, HeapFault> {
+        match &mut self.backing {
+            Backing::Attached(space) => space.alloc_array(ty, length, layout),
+            _ => unreachable!(),
+        }
+    }
+
+    fn dealloc_uninit_struct_or_exn(&mut self, gc_ref: VMGcRef) {}
+
+    fn dealloc_uninit_array(&mut self, array: VMArrayRef) {}
+
+    fn externref_host_data(&self, r: &VMExternRef) -> Result<ExternRefHostDataId, RefFault> {
+        match &self.backing {
+            Backing::Attached(space) => space.host_data(r),
+            _ => Err(RefFault::BadRef),
+        }
+    }
+
+    fn header(&self, r: &VMGcRef) -> Result<VMGcHeader, RefFault> {
+        match &self.backing {
+            Backing::Attached(space) => space.header(r),
+            _ => Err(RefFault::BadRef),
+        }
+    }
+
+    fn set_header(&mut self, r: &VMGcRef, header: VMGcHeader) -> Result<(), RefFault> {
+        if r.is_i31() {
+            Err(RefFault::BadRef)
+        } else {
+            Ok(())
+        }
+    }
+
+    fn object_size(&self, r: &VMGcRef) -> Result<usize, RefFault> {
+        match &self.backing {
+            Backing::Attached(space) => space.object_size(r),
+            _ => Err(RefFault::BadRef),
+        }
+    }
+
+    fn object_range(&self, r: &VMGcRef) -> Result<Range<usize>, RefFault> {
+        match &self.backing {
+            Backing::Attached(space) => space.range(r),
+            _ => Err(RefFault::BadRef),
+        }
+    }
+
+    fn array_len(&self, r: &VMArrayRef) -> Result<u32, RefFault> {
+        match &self.backing {
+            Backing::Attached(space) => space.array_len(r),
+            _ => Err(RefFault::BadRef),
+        }
+    }
+
+    fn gc_object_data(&self, r: &VMGcRef) -> Result<VMGcObjectData<'_>, RefFault> {
+        match &self.backing {
+            Backing::Attached(space) => space.object_data(r),
+            _ => Err(RefFault::BadRef),
+        }
+    }
+
+    fn write_object_data(&mut self, r: &VMGcRef, offset: u32, bytes: &[u8]) {
+        match &mut self.backing {
+            Backing::Attached(space) => space.write_data(r, offset, bytes),
+            _ => unreachable!(),
+        }
+    }
+
+    fn heap_slice(&self) -> &[u8] {
+        match &self.backing {
+            Backing::Attached(space) => space.memory.bytes(),
+            _ => &[],
+        }
+    }
+
+    fn object_count(&self) -> u64 {
+        match &self.backing {
+            Backing::Attached(space) => space.objects,
+            _ => 0,
+        }
+    }
+
+    fn allocated_bytes(&self) -> usize {
+        match &self.backing {
+            Backing::Attached(space) => (space.bump - space.start()) as usize,
+            _ => 0,
+        }
+    }
+
+    fn needs_gc_before_next_growth(&self) -> bool {
+        match &self.backing {
+            Backing::Attached(space) => space.upper,
+            _ => false,
+        }
+    }
+
+    fn begin(&self) -> CopyingCollection {
+        CopyingCollection::new()
+    }
+
+    fn step<D: Drop>(
+        &mut self,
+        state: &mut CopyingCollection,
+        roots: &mut GcRootsList,
+        trace: &mut GcStoreTraceState<'_, D>,
+    ) -> GcProgress {
+        self.collect_alone::<D, Brand>(&mut state.phase, roots, trace, Blank::new(1))
+    }
+
+    fn step_counted<D: Drop, G: Ledger>(
+        &mut self,
+        state: &mut CopyingCollection,
+        roots: &mut GcRootsList,
+        trace: &mut GcStoreTraceState<'_, D>,
+        steps: &mut Steps<G>,
+    ) -> GcProgress {
+        let before = Ticks::of(steps);
+        let progress = self.collect_more(&mut state.phase, roots, trace, steps);
+        let now = Ticks::of(steps);
+        state.ticks = state.ticks.after(&before, &now);
+        progress
+    }
+}

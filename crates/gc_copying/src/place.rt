@@ -1,0 +1,102 @@
+//! Room for new objects, and what is written for each.
+//!
+//! ```text
+//! offset   0           4           8      12              the next multiple of 16
+//!          +-----------+-----------+------+---------------+
+//!          | kind word | type word | size | data, zeroed  |
+//!          +-----------+-----------+------+---------------+
+//! ```
+
+ghost use Rattle.std.specs.Prelude.{ℕ, ◌≡◌, ◌+◌, ◌-◌, ◌*◌, ◌/◌, ◌≤◌, ◌<◌, ◌^◌, length, IfSome, IfNone};
+ghost use Rattle.gc_types.specs.declared.kind.Layouts.TheVariants.{Copying};
+ghost use Rattle.gc_types.specs.Layouts.{round_up};
+ghost use Rattle.gc_model.specs.Sizes.{alignment};
+ghost use Rattle.gc_heap.specs.Heap.{IsTooLarge};
+ghost use Rattle.gc_copying.specs.States.{IsSound, seen_in};
+ghost use Rattle.gc_copying.specs.Placing.{CanPlace, WritesBlock, FindsRoom};
+
+use crate::space::Space;
+use gc_heap::HeapMemory;
+use gc_memory::offsets::{ALIGNMENT, COPYING_FORWARDING, COPYING_SIZE};
+use gc_refs::{VMGcHeader, VMGcRef};
+
+/// Whether a new object fits behind the last one.
+#[derive(Clone, Copy, Debug, PartialEq, Eq)]
+pub(crate) enum Room {
+    /// It fits, and takes this many bytes.
+    Fits(u32),
+    /// The memory would have to grow by this many bytes.
+    Lacks(u64),
+    /// No heap can hold it.
+    TooLarge,
+}
+
+/// The greatest size that, rounded up to a multiple of 16, is a number of 32 bits.
+const MAX_SIZE: u64 = 0xFFFF_FFF0;
+
+/// The bytes that an object of `size` bytes takes: the next multiple of 16. None exactly where no heap can
+/// hold them.
+fn block_size(size: u64) -> Option<u32>
+    ensures some { IfSome result (λ block. (block ≡ round_up size alignment) × (IsTooLarge Copying size → ⊥)) }
+    ensures none { IfNone result (IsTooLarge Copying size) }
+{
+    if size > MAX_SIZE {
+        return None;
+    }
+    let alignment = u64::from(ALIGNMENT);
+    Some(((size + (alignment - 1)) / alignment * alignment) as u32)
+}
+
+/// Writes the header, the size and the zeroed data of a new object of `size` bytes at a place.
+fn write_block(memory: &mut HeapMemory, place: u32, header: VMGcHeader, size: u32)
+    requires least { 16 ≤ size }
+    requires room { place + size ≤ length memory.old }
+    ensures { WritesBlock memory.old memory.new place header size }
+{
+    let at = place as usize;
+    memory.write_header(at, header);
+    memory.write_u32(at + COPYING_SIZE as usize, size);
+    memory.fill_zero(
+        at + COPYING_FORWARDING as usize,
+        (size - COPYING_FORWARDING) as usize,
+    );
+}
+
+impl Space {
+    /// Whether an object of `size` bytes fits behind the last one. A half grows by half of what the memory
+    /// grows by, so what is lacking is twice the object's bytes, and 32 for
+    /// the bytes that are skipped.
+    pub(crate) fn room(&self, size: u64) -> Room
+        requires sound { IsSound self.now }
+        requires positive { 0 < size }
+        ensures { (scopes : ℕ) → FindsRoom (seen_in scopes self.now) size result }
+    {
+        match block_size(size) {
+            None => Room::TooLarge,
+            Some(block) => {
+                if u64::from(self.bump) + u64::from(block) <= u64::from(self.limit()) {
+                    Room::Fits(block)
+                } else {
+                    Room::Lacks(2 * u64::from(block) + 2 * u64::from(ALIGNMENT))
+                }
+            }
+        }
+    }
+
+    /// Writes a new object of `size` bytes behind the last one, and answers its place.
+    pub(crate) fn place(&mut self, header: VMGcHeader, size: u32) -> VMGcRef
+        requires { CanPlace self.old.memory self.old.bump self.old.objects size }
+        ensures place { result ≡ self.old.bump }
+        ensures moved { self.new ≡ record self.old { memory = self.new.memory; bump = self.old.bump + size; objects = self.old.objects + 1 } }
+        ensures block { WritesBlock self.old.memory self.new.memory self.old.bump header size }
+    {
+        let place = self.bump;
+        write_block(&mut self.memory, place, header, size);
+        self.bump = place + size;
+        self.objects += 1;
+        match VMGcRef::from_raw_u32(place) {
+            Some(gc_ref) => gc_ref,
+            None => unreachable!(),
+        }
+    }
+}
