@@ -10,6 +10,7 @@ pub mod heap;
 pub mod layout;
 mod place;
 mod read;
+#[cfg(test)]
 pub(crate) mod space;
 pub(crate) mod ticks;
 mod trace;
