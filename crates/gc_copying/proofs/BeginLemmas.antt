@@ -1,20 +1,18 @@
 -- A collection begins: the halves change sides, and nothing is copied yet.
-use Rattle.std.proofs.Common.{◌≡◌, ℕ, ◌+◌, ◌*◌, ◌-◌, ◌/◌, ◌%◌, ◌<◌, ◌≤◌, ◌^◌, ◌==◌, not, Bool, true, false, if◌then◌else◌, nat_eq, List, [], ◌∷◌, length, refl, sym, ap, subst, ◌∙◌, inl, inr, arith}
+use Rattle.std.proofs.Common.{◌≡◌, ℕ, ◌+◌, ◌%◌, ◌<◌, ◌≤◌, not, Bool, true, false, if◌then◌else◌, List, [], length, refl, sym, ap, subst, ◌∙◌, inl, inr, arith}
 use Rattle.std.proofs.Math.Logic.{◌⊎◌}
 use Rattle.std.proofs.lemmas.Bool.{cases_eq, eq-eqb, ne_eqb}
 use Rattle.gc_model.specs.Bytes.{SameBytes}
-use Rattle.gc_memory.specs.Words.{word}
-use Rattle.gc_memory.specs.Lists.{In, here, there, sum_over}
 use Rattle.gc_memory.specs.Chains.{Chain, done}
 use Rattle.gc_memory.proofs.ListLemmas.{sum_over-same}
-use Rattle.gc_memory.proofs.ChainLemmas.{LiesInChain, Chain-lies, Chain-sum}
+use Rattle.gc_memory.proofs.ChainLemmas.{Chain-sum}
 use Rattle.gc_heap.specs.Content.{half_of}
 use Rattle.gc_copying.specs.declared.space.Space.{Space}
-use Rattle.gc_copying.specs.Spaces.{half_start, half_first, half_end, skipped}
-use Rattle.gc_copying.specs.CopyWords.{flag, size_at}
-use Rattle.gc_copying.specs.CopyStart.{From, IsFrom, refs}
+use Rattle.gc_copying.specs.Spaces.{half_first, half_end, skipped}
+use Rattle.gc_copying.specs.CopyWords.{size_at}
+use Rattle.gc_copying.specs.CopyStart.{From, IsFrom}
 use Rattle.gc_copying.specs.CopyMiddle.{Leads, left_at, Mid}
-use Rattle.gc_copying.specs.CopySteps.{Midway, WorkAt}
+use Rattle.gc_copying.specs.CopySteps.{WorkAt}
 use Rattle.gc_copying.specs.CopyEnd.{IsBegun}
 use Rattle.gc_copying.proofs.MidLemmas.{no_both}
 use Rattle.gc_copying.proofs.CopyKeeps.{left_fresh}

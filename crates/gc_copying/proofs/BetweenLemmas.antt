@@ -1,5 +1,5 @@
 -- One increment of a collection of a copying heap.
-use Rattle.std.proofs.Common.{◌≡◌, ℕ, zero, suc, ◌+◌, ◌-◌, ◌*◌, ◌/◌, ◌%◌, ◌<◌, ◌≤◌, ◌^◌, Bool, true, false, not, nat_eq, List, [], ◌∷◌, length, refl, sym, ap, subst, ◌∙◌, inl, inr, arith}
+use Rattle.std.proofs.Common.{◌≡◌, ℕ, ◌+◌, ◌<◌, ◌≤◌, ◌^◌, Bool, true, false, not, nat_eq, List, [], ◌∷◌, length, refl, sym, ap, subst, ◌∙◌, inl, inr, arith}
 use Rattle.std.specs.List.{IsDistinct, AllByRecursion}
 use Rattle.std.specs.FinMap as finite
 use Rattle.std.specs.Ordering.{nat_cmp}
@@ -24,9 +24,9 @@ use Rattle.gc_copying.specs.Spaces.{half_first, half_end}
 use Rattle.gc_copying.specs.States.{IsSound, seen_in, seen_of, copying_seen, IsBacked, IsCopyingSound}
 use Rattle.gc_copying.specs.CopyStart.{From}
 use Rattle.gc_copying.specs.CopySteps.{words_of}
-use Rattle.gc_copying.specs.CopyEnd.{IsBegun, ListsReached}
+use Rattle.gc_copying.specs.CopyEnd.{IsBegun}
 use Rattle.gc_copying.specs.CopyPhases.{Progress, InPhase, UnderWay, one_more, GoesOn, IsComplete, Stepped, side_after}
-use Rattle.gc_copying.specs.CopyBetween.{start_of, BeginsIn, IsUntouched, so_far, StandsAt, BetweenIn, Between}
+use Rattle.gc_copying.specs.CopyBetween.{start_of, BeginsIn, IsUntouched, StandsAt, BetweenIn, Between}
 use Rattle.gc_copying.proofs.StartLemmas.{first_same, is_from}
 use Rattle.gc_copying.proofs.CollectedLemmas.{lists_reached, space_new, increments_so, steps_so, collected_so}
 

@@ -1,13 +1,12 @@
 -- A collection that is finished in bytes is complete in objects.
-use Rattle.std.proofs.Common.{◌≡◌, ℕ, zero, suc, ◌+◌, ◌-◌, ◌*◌, ◌/◌, ◌%◌, ◌<◌, ◌≤◌, ◌^◌, Bool, true, false, not, nat_eq, List, [], ◌∷◌, length, map, sum, Some, None, refl, sym, ap, ap₂, subst, ◌∙◌, inl, inr, arith, Contains}
-use Rattle.std.specs.Prelude.{is_some, ◌↔◌}
+use Rattle.std.proofs.Common.{◌≡◌, ℕ, suc, ◌+◌, ◌-◌, ◌*◌, ◌%◌, ◌<◌, ◌≤◌, Bool, false, not, nat_eq, List, [], ◌∷◌, length, map, sum, refl, sym, ap, ap₂, subst, ◌∙◌, arith}
+use Rattle.std.specs.Prelude.{is_some}
 use Rattle.std.specs.List.{IsDistinct, AllByRecursion, sum_by}
 use Rattle.std.proofs.lemmas.List.Sums.{sum-map, sum_by-cons}
 use Rattle.std.specs.FinMap as finite
 use Rattle.std.specs.Ordering.{nat_cmp}
-use Rattle.std.proofs.lemmas.Bool.{cases_eq, ne_eqb}
+use Rattle.std.proofs.lemmas.Bool.{ne_eqb}
 use Rattle.gc_types.specs.declared.kind.Layouts.TheVariants.{Copying}
-use Rattle.gc_types.specs.declared.kind.VMGcKind.TheVariants.{ExternRef}
 use Rattle.gc_roots.specs.Roots.{Root, root_at}
 use Rattle.gc_memory.specs.Words.{word}
 use Rattle.gc_memory.specs.Lists.{In, here, there, sum_over, occ}
@@ -17,17 +16,15 @@ use Rattle.gc_memory.proofs.ListLemmas.{occ-same, In-occ}
 use Rattle.gc_model.specs.Allocation.{page, max_pages}
 use Rattle.gc_model.specs.Views.{HeapObject, HeapView}
 use Rattle.gc_heap.specs.Objects.{host_id}
-use Rattle.gc_heap.specs.References.{reference_offsets}
-use Rattle.gc_heap.specs.Content.{IsHeld}
 use Rattle.gc_heap.specs.Collection.{Start, has_host, IsPartOf, moved, moved_root, IsMoved, Collected, AreReached, IsIncrements, IsStepCount, reference_count, present_words}
 use Rattle.gc_heap.specs.Collection as content
 use Rattle.gc_copying.specs.declared.space.Space.{Space}
-use Rattle.gc_copying.specs.Spaces.{half_first, half_end}
-use Rattle.gc_copying.specs.Layout.{first_place, size_at, places_in, kind_at, object_at}
-use Rattle.gc_copying.specs.Content.{Linked, last, link, space_view, IsWhole, ExternalsLinked, IsSpace}
+use Rattle.gc_copying.specs.Spaces.{half_first}
+use Rattle.gc_copying.specs.Layout.{first_place, size_at, places_in, object_at}
+use Rattle.gc_copying.specs.Content.{Linked, last, link, space_view, IsWhole, IsSpace}
 use Rattle.gc_copying.specs.ObjectLaws.{held_in, held_only}
 use Rattle.gc_copying.specs.HeapLaws.{half_lies}
-use Rattle.gc_copying.specs.CopyWords.{offsets_at, host_word, IsExternal}
+use Rattle.gc_copying.specs.CopyWords.{host_word, IsExternal}
 use Rattle.gc_copying.specs.CopyStart.{From, refs, ListsExternals}
 use Rattle.gc_copying.specs.CopyStart as start
 use Rattle.gc_copying.specs.CopyEnd.{IsRenamed, IsRenamedRoot, HostsSwept, ListsReached, IsFinished}
@@ -35,7 +32,7 @@ use Rattle.gc_copying.specs.CopyBetween.{start_of, BeginsIn}
 use Rattle.gc_copying.proofs.SpaceLemmas.{space_of}
 use Rattle.gc_copying.proofs.ReadLemmas.{HeldAt, host_of}
 use Rattle.gc_copying.proofs.ReferenceLemmas.{contains_in, in_contains}
-use Rattle.gc_copying.proofs.StartLemmas.{lies_so, held, found, is_held, refs_so, first_same, external_bits_are, kind_by_bits, reached_so, reached_in, reached_back}
+use Rattle.gc_copying.proofs.StartLemmas.{lies_so, held, found, refs_so, first_same, external_bits_are, kind_by_bits, reached_so, reached_in, reached_back}
 use Rattle.gc_copying.proofs.MovedLemmas.{same_size, moved_whole, is_moved}
 
 linked_back : (m : List ℕ) (head : ℕ) (ps : List ℕ) → start.Linked m head ps → Linked m head ps

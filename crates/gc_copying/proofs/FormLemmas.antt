@@ -1,9 +1,8 @@
 -- The references of a copy are those of its object, by each form of its kind word.
-use Rattle.std.proofs.Common.{◌≡◌, ℕ, ◌+◌, ◌*◌, ◌-◌, ◌/◌, ◌%◌, ◌<◌, ◌≤◌, ◌^◌, ◌==◌, nat_eq, true, false, Bool, IsTrue, if◌then◌else◌, List, [], ◌∷◌, length, refl, sym, ap, subst, ◌∙◌, inl, inr, arith}
-use Rattle.std.proofs.Math.Logic.{◌⊎◌, ◌↔◌}
+use Rattle.std.proofs.Common.{◌≡◌, ℕ, ◌+◌, ◌%◌, ◌≤◌, ◌==◌, nat_eq, true, false, Bool, IsTrue, if◌then◌else◌, List, [], length, refl, sym, ap, subst, ◌∙◌, arith}
+use Rattle.std.proofs.Math.Logic.{◌↔◌}
 use Rattle.std.proofs.lemmas.Bool.{eq-eqb, ne_eqb}
 use Rattle.gc_types.specs.declared.kind.Layouts.TheVariants.{Copying}
-use Rattle.gc_types.specs.declared.layout.TraceInfo.TheVariants as trace
 use Rattle.gc_types.specs.Declarations.{Declaration}
 use Rattle.gc_types.specs.Layouts.{trace_at}
 use Rattle.gc_refs.specs.Trace.{form_unit, form_of, MeansTrace}
@@ -11,15 +10,13 @@ use Rattle.gc_refs.specs.declared.trace.InlineTraceInfo.TheVariants.{Bitmap, Arr
 use Rattle.gc_model.specs.Views.{u32_at}
 use Rattle.gc_memory.specs.Words.{word}
 use Rattle.gc_memory.specs.Changes.{SameAcross}
-use Rattle.gc_memory.specs.Lists.{In}
 use Rattle.gc_memory.proofs.WordLemmas.{word-is, word_across}
-use Rattle.gc_heap.specs.References.{word_offsets}
 use Rattle.gc_copying.specs.declared.space.Space.{Space}
 use Rattle.gc_copying.specs.CopyWords.{size_at, Spaced, bitmap_places, element_places, info_places, traced, offsets_at}
-use Rattle.gc_copying.specs.CopyStart.{From, IsFrom, refs}
-use Rattle.gc_copying.specs.CopyMiddle.{CopyOf, Mid}
+use Rattle.gc_copying.specs.CopyStart.{From, refs}
+use Rattle.gc_copying.specs.CopyMiddle.{CopyOf}
 use Rattle.gc_copying.specs.CopySteps.{Scanning, CanScan, ScansAll}
-use Rattle.gc_copying.proofs.MidLemmas.{Spaced-in, Spaced-outside, lies, new_lies}
+use Rattle.gc_copying.proofs.MidLemmas.{Spaced-outside, lies, new_lies}
 use Rattle.gc_copying.proofs.ScanLemmas.{scanned_all}
 
 pub traced_at : (types : List Declaration) (m : List ℕ) (p : ℕ) → offsets_at types m p ≡ traced types (word m p) (word m (p + 4)) (word m (p + 12))

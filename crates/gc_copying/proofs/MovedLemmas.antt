@@ -1,29 +1,26 @@
 -- An object that was renamed in bytes has moved.
-use Rattle.std.proofs.Common.{◌≡◌, ℕ, zero, suc, ◌+◌, ◌-◌, ◌*◌, ◌/◌, ◌%◌, ◌<◌, ◌≤◌, ◌^◌, Bool, true, false, List, [], ◌∷◌, take, drop, length, get_or, refl, sym, ap, subst, ◌∙◌, inl, inr, arith, Contains}
-use Rattle.std.proofs.Math.Logic.{◌⊎◌}
+use Rattle.std.proofs.Common.{◌≡◌, ℕ, ◌+◌, ◌-◌, ◌%◌, ◌<◌, ◌≤◌, ◌^◌, Bool, List, [], take, drop, length, get_or, refl, sym, ap, subst, ◌∙◌, inl, inr, arith}
 use Rattle.std.proofs.lemmas.Bool.{cases_lt}
 use Rattle.std.proofs.lemmas.List.{get_or_past, get_or-take, get_or-drop, length-take-le, length-drop}
 use Rattle.gc_types.specs.declared.kind.Layouts.TheVariants.{Copying}
 use Rattle.gc_types.specs.declared.kind.VMGcKind.{VMGcKind}
 use Rattle.gc_types.specs.declared.kind.VMGcKind.TheVariants.{ExternRef, AnyRef, EqRef, StructRef, ArrayRef, ExnRef}
 use Rattle.gc_types.specs.Kinds.{kind_bits}
-use Rattle.gc_types.specs.Declarations.{Declaration}
 use Rattle.gc_refs.specs.Header.{spare_bits, kind_part}
 use Rattle.gc_tables.specs.SideTables.{max_entries}
 use Rattle.gc_memory.specs.Words.{word}
 use Rattle.gc_memory.specs.Lists.{In}
 use Rattle.gc_memory.proofs.WordLemmas.{word_by_bytes}
-use Rattle.gc_model.specs.Views.{HeapObject}
 use Rattle.gc_heap.specs.Objects.{held_size, first_offset, array_length, HasFields, IsObjectKind}
-use Rattle.gc_heap.specs.References.{reference_offsets, word_in}
+use Rattle.gc_heap.specs.References.{reference_offsets}
 use Rattle.gc_heap.specs.Content.{IsSpare, TracesInside}
-use Rattle.gc_heap.specs.Collection.{Start, moved, IsNoReference, IsMoved}
+use Rattle.gc_heap.specs.Collection.{Start, moved, IsMoved}
 use Rattle.gc_copying.specs.Layout.{size_at, places_in, kind_of, kind_at, data_at, object_at}
 use Rattle.gc_copying.specs.Content.{IsWhole, IsExternalAt}
 use Rattle.gc_copying.specs.ObjectLaws.{held_size-at, length-data_at, length-external}
-use Rattle.gc_copying.specs.CopyWords.{offsets_at, IsExternal, Spaced}
+use Rattle.gc_copying.specs.CopyWords.{offsets_at, Spaced}
 use Rattle.gc_copying.specs.CopyMiddle.{IsOutside}
-use Rattle.gc_copying.specs.CopyEnd.{IsLink, IsRenamed}
+use Rattle.gc_copying.specs.CopyEnd.{IsRenamed}
 use Rattle.gc_copying.specs.CopyBetween.{start_of, BeginsIn}
 use Rattle.gc_copying.proofs.MidLemmas.{Spaced-in, Spaced-outside}
 use Rattle.gc_copying.proofs.WriteLemmas.{traces_same}

@@ -1,8 +1,8 @@
 -- The references of an object by its content are those by its words.
-use Rattle.std.proofs.Common.{◌≡◌, ℕ, zero, suc, ◌+◌, ◌-◌, ◌*◌, ◌/◌, ◌%◌, ◌<◌, ◌≤◌, ◌^◌, Bool, true, false, cond, nat_eq, List, [], ◌∷◌, ◌++◌, length, map, filter, Option, Some, None, slice_index_or, if◌then◌else◌, refl, sym, ap, ap₂, subst, ◌∙◌, inl, inr, arith, Contains}
+use Rattle.std.proofs.Common.{◌≡◌, ℕ, zero, suc, ◌+◌, ◌-◌, ◌*◌, ◌/◌, ◌%◌, ◌<◌, ◌≤◌, ◌^◌, Bool, true, false, nat_eq, List, [], ◌∷◌, length, map, Option, Some, None, slice_index_or, if◌then◌else◌, refl, sym, ap, subst, ◌∙◌, inl, inr, arith, Contains}
 use Rattle.std.specs.Prelude.{All, ◌==◌, slice_get}
 use Rattle.std.proofs.Math.Logic.{◌⊎◌}
-use Rattle.std.proofs.lemmas.Bool.{cases_eq, cases_lt, eq-eqb, ne_eqb}
+use Rattle.std.proofs.lemmas.Bool.{cases_eq, eq-eqb, ne_eqb}
 use Rattle.std.proofs.lemmas.Option.{none-some}
 use Rattle.std.proofs.lemmas.List.Elements.{Contains-append_cases, Contains-append_right, All-contains}
 use Rattle.gc_types.specs.declared.kind.Layouts.TheVariants.{Copying}
@@ -17,7 +17,7 @@ use Rattle.gc_types.specs.declared.layout.TraceInfo.{TraceInfo}
 use Rattle.gc_types.specs.declared.layout.TraceInfo.TheVariants as trace
 use Rattle.gc_types.specs.declared.layout.GcStructLayout.{GcStructLayout}
 use Rattle.gc_types.specs.Declarations.{Declaration, Shape, struct_of, array_of, exn_of, func_of, constant_field}
-use Rattle.gc_types.specs.Layouts.{trace_at, layout_at, ref_offsets, field_layouts, fields_end, field_offset, is_gc_storage, storage_width, shape_layout, shape_trace, declaration_layout, declaration_trace}
+use Rattle.gc_types.specs.Layouts.{trace_at, ref_offsets, field_layouts, fields_end, field_offset, is_gc_storage, storage_width, shape_layout, shape_trace, declaration_layout, declaration_trace}
 use Rattle.gc_refs.specs.Header.{spare_bits}
 use Rattle.gc_refs.specs.Trace.{form_unit, form_of}
 use Rattle.gc_memory.specs.Words.{word}
@@ -25,13 +25,12 @@ use Rattle.gc_memory.specs.Lists.{In, here, there}
 use Rattle.gc_memory.proofs.WordLemmas.{word-is}
 use Rattle.gc_model.specs.Views.{HeapObject, u32_at}
 use Rattle.gc_model.proofs.ByteLemmas.{u32_at-part}
-use Rattle.gc_heap.specs.Objects.{held_size, array_length, IsObjectKind, HasFields}
+use Rattle.gc_heap.specs.Objects.{held_size, array_length, HasFields}
 use Rattle.gc_heap.specs.References.{word_offsets, bit_offsets, bitmap_offsets, element_offsets, info_offsets, typed_offsets, traced_offsets, reference_offsets, IsTyped, HoldsType}
 use Rattle.gc_heap.specs.Content.{TracesInside}
 use Rattle.gc_copying.specs.Layout.{size_at, kind_at, data_at, object_at}
 use Rattle.gc_copying.specs.Content.{IsWhole}
-use Rattle.gc_copying.specs.ObjectLaws.{held_size-at}
-use Rattle.gc_copying.specs.CopyWords.{flag, offsets_at, bitmap_places, element_places, info_places, traced, Spaced}
+use Rattle.gc_copying.specs.CopyWords.{offsets_at, bitmap_places, element_places, info_places, Spaced}
 use Rattle.gc_copying.proofs.TraceLemmas.{refs-skip, refs-take}
 use Rattle.gc_copying.proofs.FormLemmas.{traced_at, by_form}
 use Rattle.gc_copying.proofs.OffsetLemmas.{no_bits, bit_set, bit_clear, bit_is_0}

@@ -1,11 +1,9 @@
 -- Where a collection begins in objects, it begins in bytes.
-use Rattle.std.proofs.Common.{◌≡◌, ℕ, zero, suc, ◌+◌, ◌-◌, ◌*◌, ◌/◌, ◌%◌, ◌<◌, ◌≤◌, ◌^◌, Bool, true, false, cond, List, [], ◌∷◌, length, map, Some, slice_index_or, refl, sym, ap, subst, ◌∙◌, inl, inr, arith, Contains}
-use Rattle.std.proofs.Math.Logic.{◌⊎◌}
+use Rattle.std.proofs.Common.{◌≡◌, ℕ, zero, suc, ◌+◌, ◌*◌, ◌/◌, ◌%◌, ◌<◌, ◌≤◌, ◌^◌, Bool, cond, List, [], ◌∷◌, length, Some, slice_index_or, refl, sym, ap, subst, ◌∙◌, inl, inr, arith, Contains}
 use Rattle.std.specs.FinMap as finite
 use Rattle.std.proofs.lemmas.Bool.{cases_eq, eq-eqb, ne_eqb}
 use Rattle.std.proofs.lemmas.List.Elements.{Contains-append_cases, Contains-append_right}
 use Rattle.gc_types.specs.declared.kind.Layouts.TheVariants.{Copying}
-use Rattle.gc_types.specs.declared.kind.VMGcKind.{VMGcKind}
 use Rattle.gc_types.specs.declared.kind.VMGcKind.TheVariants.{ExternRef}
 use Rattle.gc_types.specs.Kinds.{kind_bits}
 use Rattle.gc_refs.specs.Header.{spare_bits, kind_part}
@@ -15,17 +13,17 @@ use Rattle.gc_memory.specs.Words.{word}
 use Rattle.gc_memory.specs.Lists.{In, here, there}
 use Rattle.gc_model.specs.Allocation.{page}
 use Rattle.gc_model.specs.Views.{HeapObject, HeapView}
-use Rattle.gc_heap.specs.Objects.{held_size, HasFields, host_id}
+use Rattle.gc_heap.specs.Objects.{held_size, HasFields}
 use Rattle.gc_heap.specs.References.{reference_offsets, references, word_in}
 use Rattle.gc_heap.specs.Content.{IsHeld, half_of}
 use Rattle.gc_heap.specs.Collection.{Start, IsWordOf, CanCollect}
 use Rattle.gc_heap.specs.Collection as content
 use Rattle.gc_copying.specs.Spaces.{half_start, half_end, half_first}
 use Rattle.gc_copying.specs.Layout.{first_place, size_at, places_in, kind_of, kind_at, object_at}
-use Rattle.gc_copying.specs.Content.{Linked, last, link, space_view, IsWhole, ExternalsLinked, IsSpace}
+use Rattle.gc_copying.specs.Content.{Linked, last, link, IsWhole}
 use Rattle.gc_copying.specs.ObjectLaws.{held_size-at, held_in, held_only, FoundAt}
 use Rattle.gc_copying.specs.HeapLaws.{nothing, sixteen, skips, half_lies, first_aligned, LiesInSpace, lies_in_space}
-use Rattle.gc_copying.specs.CopyWords.{flag, offsets_at, IsExternal, Spaced}
+use Rattle.gc_copying.specs.CopyWords.{offsets_at, IsExternal, Spaced}
 use Rattle.gc_copying.specs.CopyStart.{From, IsFrom, IsWord, ListsExternals}
 use Rattle.gc_copying.specs.CopyStart as start
 use Rattle.gc_copying.specs.CopySteps.{words_of}

@@ -1,5 +1,5 @@
 -- A collection of a copying heap, from its start in objects to its increments in bytes.
-use Rattle.std.specs.Prelude.{◌≡◌, ℕ, ◌+◌, Bool, true, not, List, length}
+use Rattle.std.specs.Prelude.{◌≡◌, ℕ, Bool, true, not, List, length}
 use Rattle.std.specs.FinMap as finite
 use Rattle.gc_types.specs.declared.kind.Layouts.TheVariants.{Copying}
 use Rattle.gc_types.specs.Declarations.{Declaration}

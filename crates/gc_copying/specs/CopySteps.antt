@@ -1,5 +1,5 @@
 -- What the steps of a collection of a copying heap do to its memory.
-use Rattle.std.specs.Prelude.{◌≡◌, ℕ, ◌+◌, ◌<◌, ◌≤◌, ◌^◌, ◌⊎◌, ◌==◌, if◌then◌else◌, Bool, List, [], ◌∷◌, length}
+use Rattle.std.specs.Prelude.{◌≡◌, ℕ, ◌+◌, ◌<◌, ◌≤◌, ◌^◌, ◌⊎◌, List, [], ◌∷◌, length}
 use Rattle.gc_model.specs.Bytes.{SameBytes}
 use Rattle.gc_memory.specs.Words.{word}
 use Rattle.gc_memory.specs.Changes.{SameAcross}
@@ -7,9 +7,8 @@ use Rattle.gc_types.specs.Declarations.{Declaration}
 use Rattle.gc_memory.specs.Lists.{In, sum_over}
 use Rattle.gc_memory.specs.Chains.{Chain}
 use Rattle.gc_roots.specs.Roots.{Root, root_at}
-use Rattle.gc_heap.specs.Content.{half_of}
 use Rattle.gc_copying.specs.declared.space.Space.{Space}
-use Rattle.gc_copying.specs.Spaces.{half_start, half_end, half_first}
+use Rattle.gc_copying.specs.Spaces.{half_end, half_first}
 use Rattle.gc_copying.specs.CopyWords.{flag, size_at, forwarding, copied_unit, IsPlaceWord, Spaced, offsets_at}
 use Rattle.gc_copying.specs.CopyStart.{From, refs, Reached}
 use Rattle.gc_copying.specs.CopyMiddle.{Mid, Leads, Moves, Later}

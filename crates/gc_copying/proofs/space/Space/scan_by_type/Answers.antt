@@ -1,7 +1,7 @@
-use Rattle.std.proofs.Common.{◌≡◌, ◌+◌, List, ℕ, Some, None, sym, ap, ◌∙◌, arith}
+use Rattle.std.proofs.Common.{◌+◌, Some, sym, ap, ◌∙◌}
 use Rattle.gc_memory.specs.Words.{word}
 use Rattle.gc_copying.specs.CopyWords.{info_places}
-use Rattle.gc_copying.proofs.FormLemmas.{can_as, scans_as, ticks_as, scans_none}
+use Rattle.gc_copying.proofs.FormLemmas.{scans_as, scans_none}
 use Rattle.gc_copying.proofs.space.Space.scan_by_type.Goals as goal
 
 pub returns-in-Some-Struct-clause-scanned : goal.returns-in-Some-Struct-clause-scanned

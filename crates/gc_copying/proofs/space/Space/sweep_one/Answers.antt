@@ -1,7 +1,7 @@
-use Rattle.std.proofs.Common.{ℕ, ◌≡◌, ◌+◌, ◌/◌, ◌%◌, ◌≤◌, List, refl, sym, ap, subst, ◌∙◌, arith}
+use Rattle.std.proofs.Common.{ℕ, ◌≡◌, ◌+◌, refl, sym, ap, subst, ◌∙◌, arith}
 use Rattle.gc_model.specs.Views.{put_u32}
 use Rattle.gc_memory.proofs.WordLemmas.{word-is}
-use Rattle.gc_copying.specs.CopyWords.{flag, forwarding, host_word}
+use Rattle.gc_copying.specs.CopyWords.{forwarding, host_word}
 use Rattle.gc_copying.specs.CopySweep.{FreesHost}
 use Rattle.gc_copying.proofs.MidLemmas.{no_both}
 use Rattle.gc_copying.proofs.ForwardLemmas.{flag_read}
