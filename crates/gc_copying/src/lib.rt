@@ -12,6 +12,8 @@
 #![tactic(auto)]
 
 mod alloc;
+#[cfg(test)]
+mod client_tests;
 pub mod collection;
 pub(crate) mod copy;
 mod growth;
@@ -19,6 +21,8 @@ pub mod heap;
 pub mod layout;
 mod place;
 mod read;
+#[cfg(test)]
+mod room_tests;
 pub(crate) mod space;
 pub(crate) mod ticks;
 mod trace;
