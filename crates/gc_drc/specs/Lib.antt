@@ -1,2 +1,5 @@
 pub mod Layout
 pub mod View
+pub mod Content
+pub mod PlaceLaws
+pub mod SpaceLaws
