@@ -3,3 +3,4 @@ pub mod View
 pub mod Content
 pub mod PlaceLaws
 pub mod SpaceLaws
+pub mod Operations
