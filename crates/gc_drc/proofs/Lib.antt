@@ -1,1 +1,2 @@
 pub mod TendLemmas
+pub mod BarrierLemmas

@@ -2,4 +2,5 @@
 //! nothing names.
 #![tactic(auto)]
 
+mod counting;
 pub(crate) mod space;
