@@ -1,2 +1,3 @@
 pub mod TendLemmas
 pub mod BarrierLemmas
+pub mod SeenLemmas
