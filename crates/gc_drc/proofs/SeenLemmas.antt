@@ -1,7 +1,7 @@
 -- What is seen of a space after its words were raised, lowered or shown.
 use Rattle.std.proofs.Common.{◌≡◌, ℕ, ◌+◌, ◌-◌, ◌%◌, ◌<◌, ◌≤◌, ◌^◌, Bool, true, false, cond, List, [], ◌∷◌, Some, None, refl, sym, ap, ap₂, subst, ◌∙◌, inl, inr, arith}
 use Rattle.std.proofs.Math.Logic.{◌⊎◌}
-use Rattle.std.specs.Prelude.{nat_eq, not, ◌&&◌, ◌||◌, ◌==◌}
+use Rattle.std.specs.Prelude.{◌↔◌, nat_eq, not, ◌&&◌, ◌||◌, ◌==◌}
 use Rattle.std.specs.Ordering.{nat_cmp, eq_by_cmp}
 use Rattle.std.specs.Cmp.{unsigned_tied, nat_cmp_total}
 use Rattle.std.specs.FinMap as finite
@@ -11,7 +11,7 @@ use Rattle.gc_memory.specs.Lists.{In, occ, sum_over}
 use Rattle.gc_memory.proofs.ListLemmas.{occ-In, In-occ}
 use Rattle.gc_model.specs.Views.{HeapView, Counts}
 use Rattle.gc_heap.specs.Content.{IsHeld}
-use Rattle.gc_heap.specs.Barriers.{IsNamed, is_alone, raise, lower, show, cloned, dropped, exposed}
+use Rattle.gc_heap.specs.Barriers.{IsNamed, is_alone, raise, lower, show, cloned, dropped, exposed, CanName, CanUnname}
 use Rattle.gc_drc.specs.declared.space.CountedSpace.{CountedSpace}
 use Rattle.gc_drc.specs.Layout.{block_of, object_at}
 use Rattle.gc_drc.specs.View.{View, count_of, Holds}
@@ -205,3 +205,66 @@ pub count_below : (v : View) (s : CountedSpace) (x : ℕ) → Holds v s → In x
 count_below v s x h i below =
     let a = h.shown_part.once x in
     let b = h.queue_part.once x in omega arith
+
+-- a word may be named: its object can be raised
+pub can_raise : (s : CountedSpace) (scopes x : ℕ) → IsSoundSpace s → CanName (seen_in scopes s) x → (x % 2 ≡ 1 → ⊥) → operation.CanRaise s x
+can_raise s scopes x sound can even =
+    let v = sound.view in
+    let h = sound.holds in
+    let i = held_place v s scopes x h (even_held s scopes x can.named even) in
+    record { view = v; holds = h; place = i; below = count_below v s x h i (can.below (v.counted x) (seen_count v s x h i)) }
+
+-- a word may be given up: its object can be lowered
+pub can_lower : (s : CountedSpace) (scopes x : ℕ) → IsSoundSpace s → CanUnname (seen_in scopes s) x → (x % 2 ≡ 1 → ⊥) → operation.CanLower s x
+can_lower s scopes x sound can even =
+    let v = sound.view in
+    let h = sound.holds in
+    let i = held_place v s scopes x h (even_held s scopes x can.named even) in
+    record { view = v; holds = h; place = i; named = can.counted (v.counted x) (seen_count v s x h i) }
+
+-- a sound space, in which a word stands now as another view says
+pub recounts : (v w : View) (s t : CountedSpace) (x : ℕ) → Holds v s → In x v.places → Holds w t → Tends s.memory t.memory x → t.free ≡ s.free → w.places ≡ v.places → w.sizes ≡ v.sizes → Recounts v w s t x
+recounts v w s t x h i after tends free places sizes = record { before = h; place = i; after = after; tends = tends; free = free; places = places; sizes = sizes }
+
+pub record Seen (old new : CountedSpace) (change : HeapView → HeapView) : Type 0 where
+  pub sound : IsSoundSpace new
+  pub seen : (scopes : ℕ) → seen_in scopes new ≡ change (seen_in scopes old)
+
+pub names : (s t : CountedSpace) (scopes x : ℕ) → IsSoundSpace s → CanName (seen_in scopes s) x → (x % 2 ≡ 1 → ⊥)
+    → ((v : View) → Holds v s → In x v.places → Holds (operation.raised v x) t) → Tends s.memory t.memory x → t.free ≡ s.free → Seen s t (λ h. cloned h x)
+names s t scopes x sound can even holds tends free =
+    let v = sound.view in
+    let h = sound.holds in
+    let i = held_place v s scopes x h (even_held s scopes x can.named even) in
+    let r = recounts v (operation.raised v x) s t x h i (holds v h i) tends free refl refl in
+    record { sound = sound_after v (operation.raised v x) s t x sound.unmarked refl r; seen = λ n. seen_raised v s t x n r }
+
+pub unnames : (s t : CountedSpace) (scopes x : ℕ) → IsSoundSpace s → CanUnname (seen_in scopes s) x → (x % 2 ≡ 1 → ⊥)
+    → ((v : View) → Holds v s → In x v.places → 0 < v.counted x → Holds (operation.lowered v x) t) → Tends s.memory t.memory x → t.free ≡ s.free → Seen s t (λ h. dropped h x)
+unnames s t scopes x sound can even holds tends free =
+    let v = sound.view in
+    let h = sound.holds in
+    let i = held_place v s scopes x h (even_held s scopes x can.named even) in
+    let named = can.counted (v.counted x) (seen_count v s x h i) in
+    let r = recounts v (operation.lowered v x) s t x h i (holds v h i named) tends free refl refl in
+    record { sound = sound_after v (operation.lowered v x) s t x sound.unmarked refl r; seen = λ n. seen_lowered v s t x n named r }
+
+pub shows : (s t : CountedSpace) (scopes x : ℕ) → IsSoundSpace s → CanUnname (seen_in scopes s) x → (x % 2 ≡ 1 → ⊥)
+    → ((v : View) → Holds v s → In x v.places → 0 < v.counted x → Holds (operation.exposed v x) t) → Tends s.memory t.memory x → t.free ≡ s.free → Seen s t (λ h. exposed h x)
+shows s t scopes x sound can even holds tends free =
+    let v = sound.view in
+    let h = sound.holds in
+    let i = held_place v s scopes x h (even_held s scopes x can.named even) in
+    let named = can.counted (v.counted x) (seen_count v s x h i) in
+    let r = recounts v (operation.exposed v x) s t x h i (holds v h i named) tends free refl refl in
+    record { sound = sound_after v (operation.exposed v x) s t x sound.unmarked refl r; seen = λ n. seen_exposed v s t x n r }
+
+-- what a test for a 31-bit number answers
+pub is_number : (b : Bool) (x : ℕ) → ((b ≡ true) ↔ (x % 2 ≡ 1)) → b ≡ true → x % 2 ≡ 1
+is_number b x told e = told.0 e
+
+pub is_place : (b : Bool) (x : ℕ) → ((b ≡ true) ↔ (x % 2 ≡ 1)) → b ≡ false → x % 2 ≡ 1 → ⊥
+is_place b x told e odd = let t = told.1 odd in true_false (sym t ∙ e)
+  where
+    true_false : true ≡ false → ⊥
+    true_false e = cc

@@ -2,5 +2,6 @@
 //! nothing names.
 #![tactic(auto)]
 
+mod barriers;
 mod counting;
 pub(crate) mod space;
