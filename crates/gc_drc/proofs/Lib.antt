@@ -1,3 +1,4 @@
 pub mod TendLemmas
 pub mod BarrierLemmas
 pub mod SeenLemmas
+pub mod ReadLemmas

@@ -4,3 +4,5 @@ pub mod Content
 pub mod PlaceLaws
 pub mod SpaceLaws
 pub mod Operations
+pub mod Reading
+pub mod Placing

@@ -4,4 +4,6 @@
 
 mod barriers;
 mod counting;
+mod place;
+mod read;
 pub(crate) mod space;
