@@ -2,3 +2,4 @@ pub mod TendLemmas
 pub mod BarrierLemmas
 pub mod SeenLemmas
 pub mod ReadLemmas
+pub mod PlacingLemmas
