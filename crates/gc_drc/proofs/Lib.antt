@@ -3,3 +3,4 @@ pub mod BarrierLemmas
 pub mod SeenLemmas
 pub mod ReadLemmas
 pub mod PlacingLemmas
+pub mod MakeLemmas

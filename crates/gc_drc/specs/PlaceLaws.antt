@@ -111,6 +111,19 @@ spread-sum sizes low high (p ∷ ps) l up =
     let b : p + block_of (sizes p) ≤ high = up.2 in
     let rest = spread-sum sizes (p + block_of (sizes p)) high ps b up.3 in omega (arith, rest)
 
+-- so the blocks take no more than ends there, and there are no more of them
+pub spread-total : (sizes : ℕ → ℕ) (low high : ℕ) (ps : List ℕ) → IsSpread low high (map (block_at sizes) ps) → sum_over (λ p. block_of (sizes p)) ps ≤ high
+spread-total sizes low high [] up = omega arith
+spread-total sizes low high (p ∷ ps) up =
+    let b : p + block_of (sizes p) ≤ high = up.2 in
+    let rest = spread-sum sizes (p + block_of (sizes p)) high ps b up.3 in omega arith
+
+pub spread-length : (sizes : ℕ → ℕ) (low high : ℕ) (ps : List ℕ) → IsSpread low high (map (block_at sizes) ps) → length ps ≤ sum_over (λ p. block_of (sizes p)) ps
+spread-length sizes low high [] up = omega arith
+spread-length sizes low high (p ∷ ps) up =
+    let some : 0 < block_of (sizes p) = up.1 in
+    let rest = spread-length sizes (p + block_of (sizes p)) high ps up.3 in omega arith
+
 -- a sum over the objects is a sum over their places
 pub total-at : (g : HeapObject → ℕ) (f : ℕ → HeapObject) (sizes : ℕ → ℕ) (low high : ℕ) (ps : List ℕ) → IsSpread low high (map (block_at sizes) ps)
     → total g (at_places f ps) ≡ sum_over (λ p. g (f p)) ps

@@ -27,7 +27,7 @@ use Rattle.gc_drc.specs.PlaceLaws.{get_in, found_in, at_places-same, places-bloc
 pub blocks_apart : (v : View) (s : CountedSpace) → Holds v s → IsSpread 16 (places_end s.free.space.capacity) (map (block_at v.sizes) v.places)
 blocks_apart v s h = subst (IsSpread 16 (places_end s.free.space.capacity)) h.blocks h.sound.blocks
 
-aligned_at : (sizes : ℕ → ℕ) (p : ℕ) (ps : List ℕ) → AllAligned (map (block_at sizes) ps) → In p ps → p % 16 ≡ 0
+pub aligned_at : (sizes : ℕ → ℕ) (p : ℕ) (ps : List ℕ) → AllAligned (map (block_at sizes) ps) → In p ps → p % 16 ≡ 0
 aligned_at sizes p [] all i = elim i [ ]
 aligned_at sizes _ (p ∷ ps) all here = all.0.0
 aligned_at sizes q (p ∷ ps) all (there i) = aligned_at sizes q ps all.1 i
