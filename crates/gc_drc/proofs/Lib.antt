@@ -4,3 +4,4 @@ pub mod SeenLemmas
 pub mod ReadLemmas
 pub mod PlacingLemmas
 pub mod MakeLemmas
+pub mod ObjectLemmas

@@ -29,7 +29,7 @@ use Rattle.gc_drc.specs.View.{View, count_of, flags_of, block_at, Holds, ShowsOb
 use Rattle.gc_drc.specs.Content.{at_places, places_of, counts_at, counts_of, seen_in, IsSoundSpace}
 use Rattle.gc_drc.specs.PlaceLaws.{found_in, get_in, get_none, LiesAt, spread-lies, spread-apart, spread-total, spread-length}
 use Rattle.gc_drc.specs.SpaceLaws.{Lies, lies, aligned_at, blocks_apart, places_are, counts_are, held_size-in}
-use Rattle.gc_drc.specs.Placing.{insert_place, with_place, TakesBlock, KeepsBlocks, IsFull, PutsObject, CanPlace}
+use Rattle.gc_drc.specs.Placing.{insert_place, with_place, placed_space, TakesBlock, KeepsBlocks, IsFull, PutsObject, CanPlace}
 use Rattle.gc_drc.proofs.TendLemmas.{SameObject, object_in_same, linked_in_same}
 use Rattle.gc_drc.proofs.SeenLemmas.{same_view}
 use Rattle.gc_drc.proofs.PlacingLemmas.{In-insert, insert-new, insert-old, sum-insert, length-insert, blocks-insert, fresh_place, at_places-added}
@@ -90,10 +90,6 @@ new_place v s u p size h taken least =
         fresh = fresh_place v.sizes p (block_of size) 16 (places_end s.free.space.capacity) v.places (block_positive size least)
             (subst (λ c. IsSpread 16 (places_end c) (insert_run (run p (block_of size)) (map (block_at v.sizes) v.places))) taken.capacity
             (subst (IsSpread 16 (places_end u.free.space.capacity)) (taken.held ∙ ap (insert_run (run p (block_of size))) h.blocks) taken.sound.blocks))
-
--- the space in which an object was put at a place that was taken
-abbrev pub placed_space : CountedSpace → CountedSpace → List ℕ → ℕ → CountedSpace
-placed_space s u m size = record s { memory = m; free = u.free; objects = s.objects + 1; allocated = s.allocated + block_of size }
 
 old_bytes : (v : View) (s u : CountedSpace) (m : List ℕ) (p size q : ℕ) → NewPlace v s u p size → Wrote s.memory m p size → In q v.places → SameBytes s.memory m q (q + v.sizes q)
 old_bytes v s u m p size q new w i = Wrote-apart w q (q + v.sizes q) (sides (new.apart q i))

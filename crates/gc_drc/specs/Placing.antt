@@ -78,3 +78,21 @@ pub record PutsObject (before after : List ℕ) (place : ℕ) (object : HeapObje
   pub flags_are : flags_at after place ≡ 0
   pub whole : IsWhole after place
   pub object_is : object_at after place ≡ object
+
+-- the space in which an object was put at a block that was taken
+abbrev pub placed_space : CountedSpace → CountedSpace → List ℕ → ℕ → CountedSpace
+placed_space s taken bytes size = record s { memory = bytes; free = taken.free; objects = s.objects + 1; allocated = s.allocated + block_of size }
+
+-- a block was taken, and a header and zeros were written to it
+pub record IsPlaced (before after : CountedSpace) (header : Header) (size place : ℕ) : Type 0 where
+  pub between : CountedSpace
+  pub taken : TakesBlock before between place size
+  pub block : WritesBlock before.memory after.memory place header size
+  pub is : after ≡ placed_space before between after.memory size
+
+-- what making an object of a header and a size answers and does
+abbrev pub PlacesObject : CountedSpace → CountedSpace → Header → ℕ → Result (Result ℕ ℕ) HeapFault → Type 0
+PlacesObject before after header size (Ok (Ok place)) = (IsTooLarge Counting size → ⊥) × IsPlaced before after header size place
+PlacesObject before after header size (Ok (Err need)) = (IsTooLarge Counting size → ⊥) × (IsFull before size × ((need ≡ need_of Counting size) × KeepsBlocks before after))
+PlacesObject before after header size (Err fault.TooLarge) = IsTooLarge Counting size × KeepsBlocks before after
+PlacesObject before after header size (Err fault.Memory) = KeepsBlocks before after

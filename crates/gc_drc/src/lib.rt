@@ -2,6 +2,7 @@
 //! nothing names.
 #![tactic(auto)]
 
+mod alloc;
 mod barriers;
 mod counting;
 mod place;

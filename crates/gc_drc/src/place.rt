@@ -2,7 +2,8 @@
 
 ghost use Rattle.std.specs.Prelude.{◌≡◌, ◌+◌, ◌≤◌, ◌<◌, length};
 ghost use Rattle.gc_drc.specs.Layout.{block_of};
-ghost use Rattle.gc_drc.specs.Placing.{CanPlace, WritesBlock, FindsBlock};
+ghost use Rattle.gc_drc.specs.Placing.{CanPlace, WritesBlock, FindsBlock, PlacesObject};
+ghost use Rattle.gc_drc.specs.Content.{IsSoundSpace};
 
 use crate::space::CountedSpace;
 use gc_free::FreeList;
@@ -63,6 +64,24 @@ impl CountedSpace {
             })),
             Ok(None) => Ok(Err(u64::from(block) + u64::from(ALIGNMENT))),
             Err(_) => Err(HeapFault::Memory),
+        }
+    }
+
+    /// Makes an object of `size` bytes with that header, whose data is 0 and which one word names. The
+    /// inner Err is the number of bytes that the memory would have to grow by.
+    pub(crate) fn make(
+        &mut self,
+        header: VMGcHeader,
+        size: u64,
+    ) -> Result<Result<VMGcRef, u64>, HeapFault>
+        requires sound { IsSoundSpace self.old }
+        requires least { 28 ≤ size }
+        ensures { PlacesObject self.old self.new header size result }
+    {
+        match self.take_block(size) {
+            Ok(Ok(block)) => Ok(Ok(self.place(header, block))),
+            Ok(Err(need)) => Ok(Err(need)),
+            Err(fault) => Err(fault),
         }
     }
 
