@@ -5,3 +5,5 @@ pub mod ReadLemmas
 pub mod PlacingLemmas
 pub mod MakeLemmas
 pub mod ObjectLemmas
+pub mod GiveLemmas
+pub mod WriteLemmas

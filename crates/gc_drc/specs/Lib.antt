@@ -6,3 +6,5 @@ pub mod SpaceLaws
 pub mod Operations
 pub mod Reading
 pub mod Placing
+pub mod Giving
+pub mod Writing

@@ -5,6 +5,7 @@
 mod alloc;
 mod barriers;
 mod counting;
+mod give;
 mod place;
 mod read;
 pub(crate) mod space;

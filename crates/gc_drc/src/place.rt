@@ -19,7 +19,7 @@ pub(crate) struct NewBlock {
 }
 
 /// The bytes of the block of an object of that size: the next multiple of 16.
-fn block_of(size: u32) -> u64
+pub(crate) fn block_of(size: u32) -> u64
     ensures { result ≡ block_of size }
 {
     let alignment = u64::from(ALIGNMENT);
