@@ -7,4 +7,3 @@ pub mod Operations
 pub mod Reading
 pub mod Placing
 pub mod Giving
-pub mod Writing

@@ -9,3 +9,4 @@ mod give;
 mod place;
 mod read;
 pub(crate) mod space;
+mod write;
