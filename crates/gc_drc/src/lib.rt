@@ -1,0 +1,12 @@
+//! The counting heap: each object counts the words that name it, and a collection frees those that
+//! nothing names.
+#![tactic(auto)]
+
+mod alloc;
+mod barriers;
+mod counting;
+mod give;
+mod place;
+mod read;
+pub(crate) mod space;
+mod write;
