@@ -1,0 +1,2 @@
+pub mod OccLemmas
+pub mod CascadeLemmas

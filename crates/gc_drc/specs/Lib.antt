@@ -1,0 +1,5 @@
+pub mod View
+pub mod Graph
+pub mod Unheld
+pub mod CollectOps
+pub mod CollectStates

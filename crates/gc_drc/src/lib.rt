@@ -1,0 +1,2 @@
+//! The counting heap.
+#![tactic(auto)]
