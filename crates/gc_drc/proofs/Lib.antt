@@ -1,2 +1,4 @@
 pub mod OccLemmas
 pub mod CascadeLemmas
+pub mod SweepLemmas
+pub mod TraceLemmas
