@@ -2,3 +2,4 @@ pub mod OccLemmas
 pub mod CascadeLemmas
 pub mod SweepLemmas
 pub mod TraceLemmas
+pub mod RewriteLemmas

@@ -1,7 +1,7 @@
 -- What the steps of a collection do to a view.
 use Rattle.std.specs.Prelude.{ℕ, ◌+◌, ◌-◌, cond, nat_eq, List, [], ◌∷◌}
-use Rattle.gc_memory.specs.Lists.{occ}
 use Rattle.gc_drc.specs.View.{View}
+pub use Rattle.gc_drc.specs.View.{count_of}
 
 -- 1 where two numbers are the same
 abbrev pub same : ℕ → ℕ → ℕ
@@ -11,10 +11,6 @@ same x y = cond (nat_eq x y) 1 0
 abbrev pub without_one : ℕ → List ℕ → List ℕ
 without_one x [] = []
 without_one x (y ∷ ys) = cond (nat_eq x y) ys (y ∷ without_one x ys)
-
--- the count word of an object: its names, and one more where it is shown and where it is queued
-abbrev pub count_of : View → ℕ → ℕ
-count_of v x = v.counted x + occ x v.shown + occ x v.queue
 
 -- One name less. An object whose count word would come to 0 is queued, so that the word stays.
 abbrev pub lowered : View → ℕ → View

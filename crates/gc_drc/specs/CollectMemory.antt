@@ -1,0 +1,87 @@
+-- A collection in the memory of a counting heap: where it begins, and what it leaves as it was.
+use Rattle.std.specs.Prelude.{◌≡◌, ℕ, ◌+◌, ◌/◌, ◌%◌, ◌<◌, ◌≤◌, ◌⊎◌, List, [], ◌∷◌, map, length, Option, Some, None, true, false}
+use Rattle.gc_types.specs.declared.kind.Layouts.TheVariants.{Counting}
+use Rattle.gc_types.specs.declared.kind.VMGcKind.{VMGcKind}
+use Rattle.gc_types.specs.declared.kind.VMGcKind.TheVariants.{ExternRef, AnyRef, EqRef, StructRef, ArrayRef, ExnRef}
+use Rattle.gc_types.specs.declared.layout.TraceInfo.{TraceInfo}
+use Rattle.gc_types.specs.declared.layout.TraceInfo.TheVariants as trace
+use Rattle.gc_types.specs.Declarations.{Declaration}
+use Rattle.gc_types.specs.Layouts.{trace_at}
+use Rattle.gc_model.specs.Bytes.{SameBytes}
+use Rattle.gc_memory.specs.Words.{word}
+use Rattle.gc_memory.specs.Lists.{In, occ}
+use Rattle.gc_heap.specs.References.{word_offsets}
+use Rattle.gc_drc.specs.declared.space.CountedSpace.{CountedSpace}
+use Rattle.gc_drc.specs.Layout.{size_at, kind_at}
+use Rattle.gc_drc.specs.View.{View, Holds}
+use Rattle.gc_drc.specs.Graph.{Graph}
+
+-- the offsets of the references of an object of that trace info whose data begins with a number
+abbrev pub traced_offsets : Option TraceInfo → ℕ → List ℕ
+traced_offsets None count = []
+traced_offsets (Some (trace.Struct offsets)) count = offsets
+traced_offsets (Some (trace.Array true)) count = word_offsets 32 count
+traced_offsets (Some (trace.Array false)) count = []
+
+abbrev pub offsets_of : VMGcKind → Option TraceInfo → ℕ → List ℕ
+offsets_of ExternRef info count = []
+offsets_of AnyRef info count = []
+offsets_of EqRef info count = []
+offsets_of StructRef info count = traced_offsets info count
+offsets_of ArrayRef info count = traced_offsets info count
+offsets_of ExnRef info count = traced_offsets info count
+
+-- the offsets of the references of the object at a place
+abbrev pub offsets_at : List Declaration → List ℕ → ℕ → List ℕ
+offsets_at types bytes p = offsets_of (kind_at bytes p) (trace_at Counting types (word bytes (p + 4))) (word bytes (p + 28))
+
+-- the words at some offsets of what lies at a place
+abbrev pub words_at : List ℕ → ℕ → List ℕ → List ℕ
+words_at bytes p offsets = map (λ (o : ℕ). word bytes (p + o)) offsets
+
+-- Where a collection begins: what names what, the memory, and the types.
+pub record Context : Type 0 where
+  pub graph : Graph
+  pub memory : List ℕ
+  pub types : List Declaration
+
+-- a word of a root or a field: null, a 31-bit number, or the place of an object
+abbrev pub IsWord : Context → ℕ → Type 0
+IsWord c w = (w ≡ 0) ⊎ ((w % 2 ≡ 1) ⊎ In w c.graph.places)
+
+-- an object lies whole in the memory
+pub record LiesAt (bytes : List ℕ) (p : ℕ) : Type 0 where
+  pub aligned : p % 16 ≡ 0
+  pub not_null : 0 < p
+  pub least : 28 ≤ size_at bytes p
+  pub inside : p + size_at bytes p ≤ length bytes
+
+-- A collection may begin there.
+pub record IsContext (c : Context) : Type 0 where
+  pub lies : (p : ℕ) → In p c.graph.places → LiesAt c.memory p
+  pub apart : (p q : ℕ) → In p c.graph.places → In q c.graph.places → p < q → p + size_at c.memory p ≤ q
+  pub words : (p : ℕ) → In p c.graph.places → c.graph.words p ≡ words_at c.memory p (offsets_at c.types c.memory p)
+  pub offsets : (p o : ℕ) → In p c.graph.places → In o (offsets_at c.types c.memory p) → (28 ≤ o) × (o + 4 ≤ size_at c.memory p)
+  pub arrays : (p : ℕ) → In p c.graph.places → kind_at c.memory p ≡ ArrayRef → 32 ≤ size_at c.memory p
+  pub fields : (p w : ℕ) → In p c.graph.places → In w (c.graph.words p) → IsWord c w
+  pub roots : (w : ℕ) → In w c.graph.roots → IsWord c w
+  pub frames : (w : ℕ) → In w c.graph.frames → IsWord c w
+
+-- An object is as it was but for its flags, its count and its links.
+pub record SameObject (before after : List ℕ) (p : ℕ) : Type 0 where
+  pub kind : word after p / 8 ≡ word before p / 8
+  pub ty : word after (p + 4) ≡ word before (p + 4)
+  pub size : size_at after p ≡ size_at before p
+  pub bytes : SameBytes before after (p + 28) (p + size_at before p)
+
+-- Each object of the start is so, also where it was freed.
+pub record Intact (c : Context) (after : List ℕ) : Type 0 where
+  pub same_length : length after ≡ length c.memory
+  pub objects : (p : ℕ) → In p c.graph.places → SameObject c.memory after p
+
+-- The heap shows a view in the middle of a collection that began there.
+pub record At (c : Context) (v : View) (s : CountedSpace) : Type 0 where
+  pub start : IsContext c
+  pub holds : Holds v s
+  pub intact : Intact c s.memory
+  pub from : (p : ℕ) → In p v.places → In p c.graph.places
