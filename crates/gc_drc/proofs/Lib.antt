@@ -3,3 +3,5 @@ pub mod CascadeLemmas
 pub mod SweepLemmas
 pub mod TraceLemmas
 pub mod RewriteLemmas
+pub mod HoldsLemmas
+pub mod MarkLemmas

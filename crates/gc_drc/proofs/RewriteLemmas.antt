@@ -165,7 +165,7 @@ pub whole_same : (m m' : List ℕ) (p : ℕ) → SameObject m m' p → IsWhole m
 whole_same m m' p s w =
     let kind_is : kind_at m p ≡ kind_at m' p = sym (kind_at_same m m' p s.kind) in
     let part : kind_part (word m p) ≡ kind_part (word m' p) = let e = s.kind in omega arith in
-    let external = λ (e : kind_at m' p ≡ ExternRef).
+    let external : kind_at m' p ≡ ExternRef → IsExternalAt m' p = λ e.
         let x = w.external (kind_is ∙ e) in
         let size = s.size in
         let is_32 = x.size in

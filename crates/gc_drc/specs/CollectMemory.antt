@@ -13,7 +13,7 @@ use Rattle.gc_memory.specs.Lists.{In, occ}
 use Rattle.gc_heap.specs.References.{word_offsets}
 use Rattle.gc_drc.specs.declared.space.CountedSpace.{CountedSpace}
 use Rattle.gc_drc.specs.Layout.{size_at, kind_at}
-use Rattle.gc_drc.specs.View.{View, Holds}
+use Rattle.gc_drc.specs.View.{View, Holds, count_of}
 use Rattle.gc_drc.specs.Graph.{Graph}
 
 -- the offsets of the references of an object of that trace info whose data begins with a number
@@ -85,3 +85,35 @@ pub record At (c : Context) (v : View) (s : CountedSpace) : Type 0 where
   pub holds : Holds v s
   pub intact : Intact c s.memory
   pub from : (p : ℕ) → In p v.places → In p c.graph.places
+
+-- an object may be marked
+pub record CanMark (s : CountedSpace) (x : ℕ) : Type 0 where
+  pub context : Context
+  pub view : View
+  pub at : At context view s
+  pub held : In x view.places
+  pub fresh : occ x view.marked ≡ 0
+
+-- its mark may be cleared
+pub record CanUnmark (s : CountedSpace) (x : ℕ) : Type 0 where
+  pub context : Context
+  pub view : View
+  pub at : At context view s
+  pub is_marked : 0 < occ x view.marked
+
+-- a name may be taken off it
+pub record CanLowerAt (s : CountedSpace) (x : ℕ) : Type 0 where
+  pub context : Context
+  pub view : View
+  pub at : At context view s
+  pub held : In x view.places
+  pub named : 0 < view.counted x
+
+-- a name may be taken off it that isn't its last
+pub record CanUncountAt (s : CountedSpace) (x : ℕ) : Type 0 where
+  pub context : Context
+  pub view : View
+  pub at : At context view s
+  pub held : In x view.places
+  pub named : 0 < view.counted x
+  pub more : 1 < count_of view x

@@ -2,4 +2,5 @@
 //! nothing names.
 #![tactic(auto)]
 
+pub(crate) mod collect;
 pub(crate) mod space;
