@@ -1,3 +1,4 @@
+pub mod TendLemmas
 pub mod OccLemmas
 pub mod CascadeLemmas
 pub mod SweepLemmas

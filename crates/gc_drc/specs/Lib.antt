@@ -1,5 +1,9 @@
 pub mod Layout
 pub mod View
+pub mod Content
+pub mod PlaceLaws
+pub mod SpaceLaws
+pub mod Operations
 pub mod Graph
 pub mod Unheld
 pub mod CollectOps

@@ -20,7 +20,7 @@ impl CountedSpace {
 
     /// Takes a name off an object. Where the count word would come to 0, it stays, and the object is
     /// queued.
-    pub(crate) fn lower(&mut self, place: u32)
+    pub(crate) fn take_name(&mut self, place: u32)
         requires { CanLowerAt self.old place }
         ensures { (c : Context) (v : View) → At c v self.old → In place v.places → 0 < v.counted place → At c (lowered v place) self.new }
     {

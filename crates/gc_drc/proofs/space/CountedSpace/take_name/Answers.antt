@@ -1,6 +1,6 @@
 use Rattle.std.proofs.Common.{rules, ℕ, ◌≡◌, ◌<◌, List, ◌+◌, ◌-◌, ◌*◌, ◌≤◌, ◌^◌, length, sym, ap, ◌∙◌, refl, arith}
 use Rattle.gc_drc.proofs.MarkLemmas.{lower_at_more, lower_at_writes}
-use Rattle.gc_drc.proofs.space.CountedSpace.lower.Goals as goal
+use Rattle.gc_drc.proofs.space.CountedSpace.take_name.Goals as goal
 
 pub returns-then-count-eq1 : goal.returns-then-count-eq1
 returns-then-count-eq1 c o v at i named =
