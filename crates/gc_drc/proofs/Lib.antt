@@ -6,3 +6,5 @@ pub mod TraceLemmas
 pub mod RewriteLemmas
 pub mod HoldsLemmas
 pub mod MarkLemmas
+pub mod LinkLemmas
+pub mod ReleaseLemmas

@@ -9,3 +9,4 @@ pub mod Unheld
 pub mod CollectOps
 pub mod CollectStates
 pub mod CollectMemory
+pub mod CollectLists
