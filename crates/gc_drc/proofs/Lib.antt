@@ -8,3 +8,4 @@ pub mod HoldsLemmas
 pub mod MarkLemmas
 pub mod LinkLemmas
 pub mod ReleaseLemmas
+pub mod ListChanges

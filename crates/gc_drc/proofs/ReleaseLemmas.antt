@@ -1,5 +1,5 @@
 -- An object's block is given back.
-use Rattle.std.proofs.Common.{◌≡◌, ℕ, ◌+◌, ◌-◌, ◌*◌, ◌/◌, ◌%◌, ◌<◌, ◌≤◌, ◌^◌, cond, nat_eq, not, true, false, Bool, List, [], ◌∷◌, length, map, filter, refl, sym, ap, subst, ◌∙◌, inl, inr, arith}
+use Rattle.std.proofs.Common.{◌≡◌, ℕ, suc, ◌+◌, ◌-◌, ◌*◌, ◌/◌, ◌%◌, ◌<◌, ◌≤◌, ◌^◌, cond, nat_eq, not, true, false, Bool, List, [], ◌∷◌, length, map, filter, refl, sym, ap, subst, ◌∙◌, inl, inr, arith}
 use Rattle.std.proofs.Math.Logic.{◌⊎◌}
 use Rattle.std.specs.Prelude.{Contains}
 use Rattle.std.proofs.lemmas.Bool.{cases_eq, eq-eqb, ne_eqb}
@@ -15,23 +15,15 @@ use Rattle.gc_drc.specs.View.{View, Holds, ShowsObject, IsPart, Linked, last, li
 use Rattle.gc_drc.specs.SpaceLaws.{Lies, lies, blocks_apart}
 use Rattle.gc_drc.specs.PlaceLaws.{spread-not_behind}
 use Rattle.gc_drc.specs.CollectOps.{same, without_one, unqueued, freed}
-use Rattle.gc_drc.specs.CollectMemory.{Context, IsContext, Intact, At}
+use Rattle.gc_drc.specs.CollectMemory.{Context, IsContext, Intact, At, CanRelease, CanFreeQueued, Releases}
+use Rattle.gc_drc.proofs.LinkLemmas.{linked_rest, without_first}
+use Rattle.gc_drc.proofs.MarkLemmas.{part_without}
 use Rattle.gc_drc.proofs.OccLemmas.{same-is, same-not, occ-without, occ-cases, sum_over-without}
 use Rattle.gc_drc.proofs.HoldsLemmas.{Loose, loose, linked_at}
 
 -- the block of an object that is given back
 abbrev pub block_in : List ℕ → ℕ → Run
 block_in m x = run x (block_of (size_at m x))
-
--- The block of an object was given back, and nothing else changed.
-pub record Releases (s s' : CountedSpace) (x : ℕ) : Type 0 where
-  pub memory : s'.memory ≡ s.memory
-  pub space : s'.free.space ≡ give (block_in s.memory x) s.free.space
-  pub sound : IsSound s'.free.space
-  pub objects : s'.objects + 1 ≡ s.objects
-  pub allocated : s'.allocated + block_of (size_at s.memory x) ≡ s.allocated
-  pub shown : s'.shown ≡ s.shown
-  pub queued : s'.queued ≡ s.queued
 
 -- blocks of which none begins there
 none_begins : (sizes : ℕ → ℕ) (x : ℕ) (ps : List ℕ) → occ x ps ≡ 0 → without (begins_at x) (map (block_at sizes) ps) ≡ map (block_at sizes) ps
@@ -153,3 +145,117 @@ at_released c v s s' x queue at i memory space sound objects allocated shown not
       intact = subst (λ (m : List ℕ). Intact c m) (sym memory) at.intact;
       from = λ p j. at.from p (inside_freed p j);
     }
+
+-- what is needed to give a block back
+pub record Releasable (s : CountedSpace) (x : ℕ) : Type 0 where
+  pub room : x + 28 ≤ length s.memory
+  pub not_null : 0 < x
+  pub whole : x + block_of (size_at s.memory x) < 2 ^ 32
+  pub rounds : size_at s.memory x + 15 < 2 ^ 32
+  pub held : Contains s.free.space.held (block_in s.memory x)
+  pub some : 0 < s.objects
+  pub enough : block_of (size_at s.memory x) ≤ s.allocated
+
+pub releasable : (s : CountedSpace) (x : ℕ) → CanRelease s x → Releasable s x
+releasable s x can =
+    let v = can.view in
+    let h = can.at.holds in
+    let l = lies v s x h can.held in
+    let size : size_at s.memory x ≡ v.sizes x = (h.objects x can.held).size_is in
+    let block : block_of (size_at s.memory x) ≡ block_of (v.sizes x) = ap block_of size in
+    let sum = sum_over-without (λ p. block_of (v.sizes p)) x v.places (In-occ x v.places can.held) in
+    let len = length_without x v.places (In-occ x v.places can.held) in
+    let count = h.count in
+    let total = h.allocated in
+    let inside = l.block in
+    let fits = l.fits in
+    let not_null = l.not_null in
+    let least = l.least in
+    let whole = l.inside in
+    record {
+      room = omega arith;
+      not_null = omega arith;
+      whole = omega arith;
+      rounds = omega arith;
+      held = subst (λ rs. Contains rs (block_in s.memory x)) (sym h.blocks) (subst (λ (r : Run). Contains (map (block_at v.sizes) v.places) r) (ap (λ (n : ℕ). run x n) (sym block)) (block_held v.sizes x v.places can.held));
+      some = omega arith;
+      enough = omega arith;
+    }
+  where
+    block_held : (sizes : ℕ → ℕ) (y : ℕ) (ps : List ℕ) → In y ps → Contains (map (block_at sizes) ps) (block_at sizes y)
+    block_held sizes y [] i = elim i [ ]
+    block_held sizes _ (y ∷ ps) here = (0, omega arith, refl)
+    block_held sizes y (p ∷ ps) (there i) = let r = block_held sizes y ps i in (suc r.0, omega (arith, r.1), r.2)
+
+-- what was taken off the free list
+pub releases : (s s' : CountedSpace) (x size : ℕ) → CanRelease s x → size ≡ size_at s.memory x → s'.memory ≡ s.memory
+    → s'.free.space ≡ give (run x ((size + 15) / 16 * 16)) s.free.space → IsSound s'.free.space → s'.objects ≡ s.objects - 1
+    → s'.allocated ≡ s.allocated - (size + 15) / 16 * 16 → s'.shown ≡ s.shown → s'.queued ≡ s.queued → Releases s s' x
+releases s s' x size can read memory space sound objects allocated shown queued =
+    let r = releasable s x can in
+    let block : (size + 15) / 16 * 16 ≡ block_of (size_at s.memory x) = ap block_of read in
+    let some = r.some in
+    let enough = r.enough in
+    record {
+      memory = memory;
+      space = space ∙ ap (λ (n : ℕ). give (run x n) s.free.space) block;
+      sound = sound;
+      objects = omega arith;
+      allocated = omega arith;
+      shown = shown;
+      queued = queued;
+    }
+
+-- an object that is on no list is freed
+pub freed_at : (c : Context) (v : View) (s s' : CountedSpace) (x : ℕ) → Releases s s' x → At c v s → In x v.places → occ x v.shown ≡ 0 → occ x v.queue ≡ 0 → occ x v.marked ≡ 0
+    → At c (freed v x) s'
+freed_at c v s s' x r at i not_shown not_queued not_marked =
+    let h = at.holds in
+    at_released c v s s' x v.queue at i r.memory r.space r.sound r.objects r.allocated r.shown not_shown not_marked not_queued (λ p ne. refl) h.queue_part
+      (subst (λ (n : ℕ). Linked s'.memory 24 n v.queue) (sym r.queued) (subst (λ (m : List ℕ). Linked m 24 s.queued v.queue) (sym r.memory) h.queue_linked))
+
+-- the first of the queue is freed
+pub freed_first : (c : Context) (v : View) (s s1 : CountedSpace) (x q : ℕ) (rest : List ℕ) → Releases s s1 x → q ≡ word s1.memory (x + 24) → At c v s → v.queue ≡ x ∷ rest
+    → count_of v x ≡ 1 → occ x v.marked ≡ 0 → At c (freed (unqueued v x) x) (record s1 { queued = q })
+freed_first c v s s1 x q rest r read at is alone not_marked =
+    let h = at.holds in
+    let times : occ x v.queue ≡ occ x (x ∷ rest) = ap (λ (xs : List ℕ). occ x xs) is in
+    let one = occ-same x rest in
+    let queued : 0 < occ x v.queue = omega arith in
+    let i = h.queue_part.inside x (occ-In x v.queue queued) in
+    let w = occ-without x x v.queue queued in
+    let itself : same x x ≡ 1 = same-is x x refl in
+    let once = h.queue_part.once x in
+    let alone_is : v.counted x + occ x v.shown + occ x v.queue ≡ 1 = alone in
+    let without_is : without_one x v.queue ≡ rest = ap (without_one x) is ∙ without_first x rest in
+    let linked : Linked s.memory 24 s.queued (x ∷ rest) = subst (λ (xs : List ℕ). Linked s.memory 24 s.queued xs) is h.queue_linked in
+    let behind : Linked s.memory 24 (word s.memory (x + 24)) rest = (linked_rest s.memory 24 s.queued x rest linked).2 in
+    let next : word s.memory (x + 24) ≡ q = ap (λ (m : List ℕ). word m (x + 24)) (sym r.memory) ∙ sym read in
+    let now : Linked s1.memory 24 q (without_one x v.queue) =
+        subst (λ (xs : List ℕ). Linked s1.memory 24 q xs) (sym without_is)
+          (subst (λ (m : List ℕ). Linked m 24 q rest) (sym r.memory) (subst (λ (n : ℕ). Linked s.memory 24 n rest) next behind)) in
+    at_released c v s (record s1 { queued = q }) x (without_one x v.queue) at i r.memory r.space r.sound r.objects r.allocated r.shown (omega arith) not_marked (omega arith)
+      (λ p ne. let wp = occ-without x p v.queue queued in let other : same p x ≡ 0 = same-not p x ne in omega arith)
+      (part_without v.places v.queue x h.queue_part queued) now
+
+-- the first of a queue is held
+pub can_release_queued : (s : CountedSpace) (x : ℕ) → CanFreeQueued s x → CanRelease s x
+can_release_queued s x can = record {
+  context = can.context;
+  view = can.view;
+  at = can.at;
+  held = can.at.holds.queue_part.inside x (occ-In x can.view.queue can.queued);
+}
+
+pub room_released : (s s1 : CountedSpace) (x : ℕ) → CanFreeQueued s x → Releases s s1 x → x + 28 ≤ length s1.memory
+room_released s s1 x can r =
+    let room = (releasable s x (can_release_queued s x can)).room in
+    let same_length : length s1.memory ≡ length s.memory = ap (λ (m : List ℕ). length m) r.memory in
+    omega arith
+
+-- the block that is given back, by what was read
+pub release_held : (s : CountedSpace) (x size i : ℕ) → CanRelease s x → size ≡ size_at s.memory x → i ≡ x → Contains s.free.space.held (run i ((size + 15) / 16 * 16))
+release_held s x size i can read e =
+    let block : block_of (size_at s.memory x) ≡ (size + 15) / 16 * 16 = sym (ap block_of read) in
+    subst (λ (j : ℕ). Contains s.free.space.held (run j ((size + 15) / 16 * 16))) (sym e)
+      (subst (λ (n : ℕ). Contains s.free.space.held (run x n)) block (releasable s x can).held)

@@ -12,7 +12,11 @@ use Rattle.gc_memory.specs.Words.{word}
 use Rattle.gc_memory.specs.Lists.{In, occ}
 use Rattle.gc_heap.specs.References.{word_offsets}
 use Rattle.gc_drc.specs.declared.space.CountedSpace.{CountedSpace}
-use Rattle.gc_drc.specs.Layout.{size_at, kind_at}
+use Rattle.gc_free.specs.Runs.{run}
+use Rattle.gc_free.specs.Space.{IsSound, give}
+use Rattle.gc_model.specs.Views.{put_u32}
+use Rattle.gc_drc.specs.Layout.{size_at, block_of, kind_at}
+use Rattle.gc_drc.specs.CollectLists.{onto, front}
 use Rattle.gc_drc.specs.View.{View, Holds, count_of}
 use Rattle.gc_drc.specs.Graph.{Graph}
 
@@ -117,3 +121,54 @@ pub record CanUncountAt (s : CountedSpace) (x : ℕ) : Type 0 where
   pub held : In x view.places
   pub named : 0 < view.counted x
   pub more : 1 < count_of view x
+
+-- its block may be given back
+pub record CanRelease (s : CountedSpace) (x : ℕ) : Type 0 where
+  pub context : Context
+  pub view : View
+  pub at : At context view s
+  pub held : In x view.places
+
+-- The block of an object was given back, and nothing else changed.
+pub record Releases (s s' : CountedSpace) (x : ℕ) : Type 0 where
+  pub memory : s'.memory ≡ s.memory
+  pub space : s'.free.space ≡ give (run x (block_of (size_at s.memory x))) s.free.space
+  pub sound : IsSound s'.free.space
+  pub objects : s'.objects + 1 ≡ s.objects
+  pub allocated : s'.allocated + block_of (size_at s.memory x) ≡ s.allocated
+  pub shown : s'.shown ≡ s.shown
+  pub queued : s'.queued ≡ s.queued
+
+-- it may be freed as the first of the queue
+pub record CanFreeQueued (s : CountedSpace) (x : ℕ) : Type 0 where
+  pub context : Context
+  pub view : View
+  pub at : At context view s
+  pub queued : 0 < occ x view.queue
+
+-- it may leave the queue as its first
+pub record CanLeave (s : CountedSpace) (x : ℕ) : Type 0 where
+  pub context : Context
+  pub view : View
+  pub at : At context view s
+  pub queued : 0 < occ x view.queue
+  pub more : 1 < count_of view x
+
+-- the word that leads from an object or from the head of the list may be written
+pub record CanRelink (s : CountedSpace) (before : ℕ) : Type 0 where
+  pub room : (before ≡ 0) ⊎ (before + 28 ≤ length s.memory)
+
+-- the list of shown words goes on there, from its head or from an object
+pub record Relinks (s s' : CountedSpace) (before next : ℕ) : Type 0 where
+  pub head : before ≡ 0 → s' ≡ record s { shown = next }
+  pub word_is : (before ≡ 0 → ⊥) → s' ≡ record s { memory = put_u32 s.memory (before + 16) next }
+
+-- an object may be taken off the list of shown words, where another one stands before it
+pub record CanHide (s : CountedSpace) (before x : ℕ) : Type 0 where
+  pub context : Context
+  pub view : View
+  pub kept : List ℕ
+  pub left : List ℕ
+  pub at : At context view s
+  pub list : view.shown ≡ onto kept (x ∷ left)
+  pub is_before : front kept ≡ before

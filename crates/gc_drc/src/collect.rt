@@ -5,4 +5,6 @@
 //! third frees the cycles that are left: it marks what the roots reach, and frees the rest.
 
 pub(crate) mod counts;
+pub(crate) mod lists;
 pub(crate) mod marks;
+pub(crate) mod release;
