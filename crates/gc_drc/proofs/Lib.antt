@@ -9,3 +9,6 @@ pub mod MarkLemmas
 pub mod LinkLemmas
 pub mod ReleaseLemmas
 pub mod ListChanges
+pub mod VisitLemmas
+pub mod DrainLemmas
+pub mod HostLemmas

@@ -1,5 +1,5 @@
 -- A collection in the memory of a counting heap: where it begins, and what it leaves as it was.
-use Rattle.std.specs.Prelude.{◌≡◌, ℕ, ◌+◌, ◌/◌, ◌%◌, ◌<◌, ◌≤◌, ◌⊎◌, List, [], ◌∷◌, map, length, Option, Some, None, true, false}
+use Rattle.std.specs.Prelude.{◌≡◌, ℕ, ◌+◌, ◌/◌, ◌%◌, ◌<◌, ◌≤◌, ◌⊎◌, ◌^◌, List, [], ◌∷◌, map, length, Option, Some, None, Bool, true, false}
 use Rattle.gc_types.specs.declared.kind.Layouts.TheVariants.{Counting}
 use Rattle.gc_types.specs.declared.kind.VMGcKind.{VMGcKind}
 use Rattle.gc_types.specs.declared.kind.VMGcKind.TheVariants.{ExternRef, AnyRef, EqRef, StructRef, ArrayRef, ExnRef}
@@ -7,6 +7,7 @@ use Rattle.gc_types.specs.declared.layout.TraceInfo.{TraceInfo}
 use Rattle.gc_types.specs.declared.layout.TraceInfo.TheVariants as trace
 use Rattle.gc_types.specs.Declarations.{Declaration}
 use Rattle.gc_types.specs.Layouts.{trace_at}
+use Rattle.gc_refs.specs.Header.{IsOfKind}
 use Rattle.gc_model.specs.Bytes.{SameBytes}
 use Rattle.gc_memory.specs.Words.{word}
 use Rattle.gc_memory.specs.Lists.{In, occ}
@@ -15,7 +16,7 @@ use Rattle.gc_drc.specs.declared.space.CountedSpace.{CountedSpace}
 use Rattle.gc_free.specs.Runs.{run}
 use Rattle.gc_free.specs.Space.{IsSound, give}
 use Rattle.gc_model.specs.Views.{put_u32}
-use Rattle.gc_drc.specs.Layout.{size_at, block_of, kind_at}
+use Rattle.gc_drc.specs.Layout.{size_at, block_of, kind_at, IsExternalAt}
 use Rattle.gc_drc.specs.CollectLists.{onto, front}
 use Rattle.gc_drc.specs.View.{View, Holds, count_of}
 use Rattle.gc_drc.specs.Graph.{Graph}
@@ -27,17 +28,21 @@ traced_offsets (Some (trace.Struct offsets)) count = offsets
 traced_offsets (Some (trace.Array true)) count = word_offsets 32 count
 traced_offsets (Some (trace.Array false)) count = []
 
-abbrev pub offsets_of : VMGcKind → Option TraceInfo → ℕ → List ℕ
-offsets_of ExternRef info count = []
-offsets_of AnyRef info count = []
-offsets_of EqRef info count = []
-offsets_of StructRef info count = traced_offsets info count
-offsets_of ArrayRef info count = traced_offsets info count
-offsets_of ExnRef info count = traced_offsets info count
+-- the trace info of an object of that kind and of a type with that info; an external object has none
+abbrev pub info_of : VMGcKind → Option TraceInfo → Option TraceInfo
+info_of ExternRef info = None
+info_of AnyRef info = None
+info_of EqRef info = None
+info_of StructRef info = info
+info_of ArrayRef info = info
+info_of ExnRef info = info
+
+abbrev pub info_at : List Declaration → List ℕ → ℕ → Option TraceInfo
+info_at types bytes p = info_of (kind_at bytes p) (trace_at Counting types (word bytes (p + 4)))
 
 -- the offsets of the references of the object at a place
 abbrev pub offsets_at : List Declaration → List ℕ → ℕ → List ℕ
-offsets_at types bytes p = offsets_of (kind_at bytes p) (trace_at Counting types (word bytes (p + 4))) (word bytes (p + 28))
+offsets_at types bytes p = traced_offsets (info_at types bytes p) (word bytes (p + 28))
 
 -- the words at some offsets of what lies at a place
 abbrev pub words_at : List ℕ → ℕ → List ℕ → List ℕ
@@ -62,11 +67,14 @@ pub record LiesAt (bytes : List ℕ) (p : ℕ) : Type 0 where
 
 -- A collection may begin there.
 pub record IsContext (c : Context) : Type 0 where
+  pub small : length c.memory < 2 ^ 32
   pub lies : (p : ℕ) → In p c.graph.places → LiesAt c.memory p
+  pub kinds : (p : ℕ) → In p c.graph.places → IsOfKind (kind_at c.memory p) (word c.memory p)
   pub apart : (p q : ℕ) → In p c.graph.places → In q c.graph.places → p < q → p + size_at c.memory p ≤ q
   pub words : (p : ℕ) → In p c.graph.places → c.graph.words p ≡ words_at c.memory p (offsets_at c.types c.memory p)
   pub offsets : (p o : ℕ) → In p c.graph.places → In o (offsets_at c.types c.memory p) → (28 ≤ o) × (o + 4 ≤ size_at c.memory p)
-  pub arrays : (p : ℕ) → In p c.graph.places → kind_at c.memory p ≡ ArrayRef → 32 ≤ size_at c.memory p
+  pub arrays : (p : ℕ) (elements : Bool) → In p c.graph.places → info_at c.types c.memory p ≡ Some (trace.Array elements) → 32 ≤ size_at c.memory p
+  pub externals : (p : ℕ) → In p c.graph.places → kind_at c.memory p ≡ ExternRef → IsExternalAt c.memory p
   pub fields : (p w : ℕ) → In p c.graph.places → In w (c.graph.words p) → IsWord c w
   pub roots : (w : ℕ) → In w c.graph.roots → IsWord c w
   pub frames : (w : ℕ) → In w c.graph.frames → IsWord c w

@@ -10,3 +10,6 @@ pub mod CollectOps
 pub mod CollectStates
 pub mod CollectMemory
 pub mod CollectLists
+pub mod CollectVisits
+pub mod CollectHosts
+pub mod CollectDrain

@@ -4,7 +4,10 @@
 //! shown words and lowers them, and frees what nothing counts any more, with what that frees in turn. The
 //! third frees the cycles that are left: it marks what the roots reach, and frees the rest.
 
+pub(crate) mod cascade;
 pub(crate) mod counts;
+pub(crate) mod hosts;
 pub(crate) mod lists;
 pub(crate) mod marks;
 pub(crate) mod release;
+pub(crate) mod visit;
