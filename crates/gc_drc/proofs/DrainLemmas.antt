@@ -1,5 +1,5 @@
 -- The cascade in memory.
-use Rattle.std.proofs.Common.{◌≡◌, ℕ, zero, suc, ◌+◌, ◌-◌, ◌*◌, ◌/◌, ◌%◌, ◌<◌, ◌≤◌, ◌^◌, List, [], ◌∷◌, length, refl, sym, ap, subst, ◌∙◌, inl, inr, arith}
+use Rattle.std.proofs.Common.{◌≡◌, ℕ, zero, suc, ◌+◌, ◌-◌, ◌*◌, ◌/◌, ◌%◌, ◌<◌, ◌≤◌, ◌^◌, Bool, true, false, List, [], ◌∷◌, length, refl, sym, ap, subst, ◌∙◌, inl, inr, arith}
 use Rattle.std.proofs.Math.Logic.{◌⊎◌}
 use Rattle.std.proofs.Math.Nat.{mul-suc, suc-mul}
 use Rattle.std.proofs.lemmas.Bool.{cases_eq}
@@ -19,6 +19,9 @@ use Rattle.gc_drc.specs.Graph.{Graph}
 use Rattle.gc_drc.specs.CollectOps.{same, without_one, lowered, unqueued, freed}
 use Rattle.gc_drc.specs.CollectStates.{Draining}
 use Rattle.gc_drc.specs.CollectMemory.{Context, IsContext, IsWord, Intact, At, CanLowerAt, CanFreeQueued, CanLeave}
+use Rattle.gc_refs.specs.Header.{IsOfKind}
+use Rattle.gc_drc.specs.CollectVisits.{CanVisitObject}
+use Rattle.gc_drc.proofs.RewriteLemmas.{kind_at_same}
 use Rattle.gc_drc.specs.CollectHosts.{FreesHostOf, HostsLeft}
 use Rattle.gc_drc.specs.CollectDrain.{IsPlaceWord, Lowering, Drain, CanDrain, drain_left}
 use Rattle.gc_drc.proofs.OccLemmas.{same-is, same-not, occ-without, occ-cases}
@@ -28,6 +31,11 @@ use Rattle.gc_drc.proofs.ReleaseLemmas.{places_once, length_without}
 use Rattle.gc_drc.proofs.MarkLemmas.{flags_in, count_in}
 use Rattle.gc_drc.proofs.VisitLemmas.{kind_part_same, object_room}
 use Rattle.gc_drc.proofs.HostLemmas.{hosts_after}
+
+-- a test doesn't answer both
+pub not_both : (b : Bool) → b ≡ false → b ≡ true → ⊥
+not_both true e f = absurd (cc)
+not_both false e f = absurd (cc)
 
 -- WORDS
 
@@ -219,3 +227,92 @@ less_left c v s s' x at at' queued i =
     let some = In-occ x v.places i in
     let fewer = sum_without x v.queue v.places queued (omega arith) in
     omega (arith, left_is c v s at, left_is c (unqueued v x) s' at', fewer)
+
+-- STEPS
+
+-- an object was freed, and what it names was lowered
+pub free_steps : (D : Type 0) (c : Context) (types : List Declaration) (before old new : finite.FinMap nat_cmp D) (s s1 s2 : CountedSpace) (n : ℕ) → 0 < s.queued → n ≡ word64 s.memory (s.queued + 8) → n ≡ 1
+    → FreesHostOf D s.memory old new s.queued
+    → ((o : Context) (w : View) (rest : List ℕ) → At o w s → w.queue ≡ s.queued ∷ rest → count_of w s.queued ≡ 1 → occ s.queued w.marked ≡ 0 → At o (freed (unqueued w s.queued) s.queued) s1)
+    → ((o : Context) (places : List ℕ) → o.types ≡ types → In s.queued o.graph.places → Lowering o places s1 (o.graph.words s.queued) → Lowering o places s2 [])
+    → c.types ≡ types → Drain D c before s old → Drain D c before s2 new × (drain_left s2 < drain_left s)
+free_steps D c types before old new s s1 s2 n some read one frees_host frees visits typed d =
+    let f = first_queued c d.view s d.at some in
+    let alone : count_of d.view s.queued ≡ 1 = sym (first_count c d.view s n d.at some read) ∙ one in
+    let first = freed_lowering D c before old new s s1 s.queued d.view d.at d.draining d.hosts f alone frees_host frees in
+    let l = visits c (without_one s.queued d.view.places) typed f.place_in first.0 in
+    (lowered_drain D c before new (without_one s.queued d.view.places) s2 l first.1, less_freed c d.view l.view s s2 s.queued d.at l.at f.held l.places_are)
+
+-- the words that it names may be lowered
+pub free_can_visit : (D : Type 0) (types : List Declaration) (old new : finite.FinMap nat_cmp D) (s s1 : CountedSpace) (n : ℕ) → 0 < s.queued → n ≡ word64 s.memory (s.queued + 8) → n ≡ 1
+    → FreesHostOf D s.memory old new s.queued
+    → ((o : Context) (w : View) (rest : List ℕ) → At o w s → w.queue ≡ s.queued ∷ rest → count_of w s.queued ≡ 1 → occ s.queued w.marked ≡ 0 → At o (freed (unqueued w s.queued) s.queued) s1)
+    → CanDrain D types s old → CanVisitObject (λ o places words. Lowering o places s1 words) types s.queued
+free_can_visit D types old new s s1 n some read one frees_host frees can =
+    let c = can.context in
+    let d = can.drain in
+    let f = first_queued c d.view s d.at some in
+    let alone : count_of d.view s.queued ≡ 1 = sym (first_count c d.view s n d.at some read) ∙ one in
+    record {
+      context = c;
+      places = without_one s.queued d.view.places;
+      typed = can.typed;
+      place_in = f.place_in;
+      is = (freed_lowering D c can.before old new s s1 s.queued d.view d.at d.draining d.hosts f alone frees_host frees).0;
+    }
+
+-- what is asked of the first of the queue
+pub first_kind : (D : Type 0) (types : List Declaration) (s : CountedSpace) (now : finite.FinMap nat_cmp D) → CanDrain D types s now → 0 < s.queued → IsOfKind (kind_at s.memory s.queued) (word s.memory s.queued)
+first_kind D types s now can some =
+    let d = can.drain in
+    let f = first_queued can.context d.view s d.at some in
+    kind_part_same can.context s.memory s.queued d.at.start d.at.intact f.place_in
+
+pub external_room : (c : Context) (m : List ℕ) (x : ℕ) → IsContext c → Intact c m → In x c.graph.places → kind_at m x ≡ ExternRef → x + 32 ≤ length m
+external_room c m x start intact i is =
+    let o = intact.objects x i in
+    let kind : kind_at c.memory x ≡ ExternRef = sym (kind_at_same c.memory m x o.kind) ∙ is in
+    let size = (start.externals x i kind).size in
+    let inside = (start.lies x i).inside in
+    let len = intact.same_length in
+    omega arith
+
+pub first_external : (D : Type 0) (types : List Declaration) (s : CountedSpace) (now : finite.FinMap nat_cmp D) → CanDrain D types s now → 0 < s.queued → kind_at s.memory s.queued ≡ ExternRef → s.queued + 32 ≤ length s.memory
+first_external D types s now can some is =
+    let d = can.drain in
+    let f = first_queued can.context d.view s d.at some in
+    external_room can.context s.memory s.queued d.at.start d.at.intact f.place_in is
+
+pub first_can_free : (D : Type 0) (types : List Declaration) (s : CountedSpace) (now : finite.FinMap nat_cmp D) → CanDrain D types s now → 0 < s.queued → CanFreeQueued s s.queued
+first_can_free D types s now can some =
+    let d = can.drain in
+    record { context = can.context; view = d.view; at = d.at; queued = (first_queued can.context d.view s d.at some).queued }
+
+pub first_can_leave : (D : Type 0) (types : List Declaration) (s : CountedSpace) (now : finite.FinMap nat_cmp D) (n : ℕ) → CanDrain D types s now → 0 < s.queued → n ≡ word64 s.memory (s.queued + 8) → (n ≡ 1 → ⊥) → CanLeave s s.queued
+first_can_leave D types s now n can some read isnt =
+    let d = can.drain in
+    record {
+      context = can.context;
+      view = d.view;
+      at = d.at;
+      queued = (first_queued can.context d.view s d.at some).queued;
+      more = first_more can.context d.view s n d.at some read isnt;
+    }
+
+pub leave_less : (D : Type 0) (types : List Declaration) (s s' : CountedSpace) (now : finite.FinMap nat_cmp D) (n : ℕ) → CanDrain D types s now → 0 < s.queued → n ≡ word64 s.memory (s.queued + 8) → (n ≡ 1 → ⊥)
+    → ((o : Context) (w : View) (rest : List ℕ) → At o w s → w.queue ≡ s.queued ∷ rest → 1 < count_of w s.queued → At o (unqueued w s.queued) s') → drain_left s' < drain_left s
+leave_less D types s s' now n can some read isnt leaves =
+    let c = can.context in
+    let d = can.drain in
+    let f = first_queued c d.view s d.at some in
+    let more = first_more c d.view s n d.at some read isnt in
+    less_left c d.view s s' s.queued d.at (leaves c d.view f.rest d.at f.is more) f.queued f.held
+
+-- THE LOOP
+
+-- a drain that began there has come to here
+abbrev pub Drains : {D : Type 0} → List Declaration → CountedSpace → finite.FinMap nat_cmp D → CountedSpace → finite.FinMap nat_cmp D → Type 0
+Drains {D} types s old s' now = (c : Context) (before : finite.FinMap nat_cmp D) → c.types ≡ types → Drain D c before s old → Drain D c before s' now
+
+pub drains_can : (D : Type 0) (types : List Declaration) (s s' : CountedSpace) (old now : finite.FinMap nat_cmp D) → Drains types s old s' now → CanDrain D types s old → CanDrain D types s' now
+drains_can D types s s' old now drains can = record { context = can.context; before = can.before; typed = can.typed; drain = drains can.context can.before can.typed can.drain }

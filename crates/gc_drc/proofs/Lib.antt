@@ -12,3 +12,4 @@ pub mod ListChanges
 pub mod VisitLemmas
 pub mod DrainLemmas
 pub mod HostLemmas
+pub mod SweepMemory

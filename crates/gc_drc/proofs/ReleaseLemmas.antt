@@ -48,7 +48,7 @@ blocks_without sizes x (p ∷ ps) once = elim (cases_eq p x) [
       ∙ sym (ap (λ b. map (block_at sizes) (cond b ps (p ∷ without_one x ps))) (ne_eqb x p (λ e. ne (sym e))))
 ]
 
-length_without : (x : ℕ) (xs : List ℕ) → 0 < occ x xs → length (without_one x xs) + 1 ≡ length xs
+pub length_without : (x : ℕ) (xs : List ℕ) → 0 < occ x xs → length (without_one x xs) + 1 ≡ length xs
 length_without x [] h = absurd (omega arith)
 length_without x (y ∷ ys) h = elim (cases_eq x y) [
   | inl e ↦ let first : length (without_one x (y ∷ ys)) ≡ length ys = ap (λ b. length (cond b ys (y ∷ without_one x ys))) (eq-eqb x y e) in omega arith

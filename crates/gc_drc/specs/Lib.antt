@@ -13,3 +13,4 @@ pub mod CollectLists
 pub mod CollectVisits
 pub mod CollectHosts
 pub mod CollectDrain
+pub mod CollectSweep

@@ -10,4 +10,5 @@ pub(crate) mod hosts;
 pub(crate) mod lists;
 pub(crate) mod marks;
 pub(crate) mod release;
+pub(crate) mod sweep;
 pub(crate) mod visit;

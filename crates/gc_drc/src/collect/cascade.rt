@@ -15,10 +15,11 @@ use gc_types::Types;
 pub(crate) fn is_place(word: u32) -> bool
     ensures { IsTrue result ↔ IsPlaceWord word }
 {
-    word != 0 && word.is_multiple_of(2)
+    word != 0 && word % 2 == 0
 }
 
 /// Takes a name off the object that a word names.
+#[derive(Drop)]
 pub(crate) struct Lower;
 
 impl Visitor for Lower {

@@ -13,7 +13,7 @@ use gc_tables::{ExternRefHostDataId, ExternRefHostDataTable, HostFault};
 use gc_types::VMGcKind;
 
 /// Where an external object keeps the number that stands for its host value.
-const HOST_WORD: u32 = 28;
+const HOST_WORD: usize = 28;
 
 /// Takes the value out of the table whose id that number stands for.
 fn free_host<D: Drop>(hosts: &mut ExternRefHostDataTable<D>, raw: u32)
@@ -43,7 +43,7 @@ impl CountedSpace {
         ensures { FreesHostOf D self.now.memory hosts.old.entries hosts.new.entries place }
     {
         if is_external(self.kind(place)) {
-            let raw = self.memory.read_u32((place + HOST_WORD) as usize);
+            let raw = self.memory.read_u32(place as usize + HOST_WORD);
             free_host(hosts, raw);
         }
     }
