@@ -13,3 +13,5 @@ pub mod VisitLemmas
 pub mod DrainLemmas
 pub mod HostLemmas
 pub mod SweepMemory
+pub mod TraceMemory
+pub mod WalkMemory

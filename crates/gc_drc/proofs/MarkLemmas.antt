@@ -7,7 +7,7 @@ use Rattle.gc_memory.specs.Words.{word, word64, put_u64}
 use Rattle.gc_memory.specs.Changes.{Wrote}
 use Rattle.gc_memory.specs.Lists.{In, here, there, occ}
 use Rattle.gc_memory.proofs.ListLemmas.{In-occ, occ-In, occ-none, occ-same, occ-other}
-use Rattle.gc_memory.proofs.ChangeLemmas.{Wrote-put_u32}
+use Rattle.gc_memory.proofs.ChangeLemmas.{Wrote-put_u32, Wrote-put_u64}
 use Rattle.gc_memory.proofs.WordLemmas.{word_apart}
 use Rattle.gc_drc.specs.declared.space.CountedSpace.{CountedSpace}
 use Rattle.gc_drc.specs.Layout.{count_at, size_at, flags_at, IsWhole}
@@ -235,3 +235,19 @@ lower_at_writes c v s s1 s2 x n k read one read_k small fits e1 e2 at i named =
         e2 ∙ ap linked_on e1 in
     lower_at_last c v s (record s2 { queued = x }) x n k read one read_k small fits (ap (λ t. t.memory) both) (ap (λ t. t.free) both) (ap (λ t. t.shown) both) refl
       (ap (λ t. t.objects) both) (ap (λ t. t.allocated) both) at i named
+
+-- a count that is written leaves the kind words of all objects
+pub uncount_kinds : (c : Context) (v : View) (s s' : CountedSpace) (x n : ℕ) → s' ≡ record s { memory = put_u64 s.memory (x + 8) n } → At c v s → In x v.places
+    → (p : ℕ) → In p c.graph.places → word s'.memory p ≡ word s.memory p
+uncount_kinds c v s s' x n is at i p j =
+    let room = room_at c v s x at i in
+    let w = Wrote-put_u64 s.memory (x + 8) n (omega arith) in
+    ap (λ (t : CountedSpace). word t.memory p) is ∙ elim (cases_eq p x) [
+      | inl e ↦ word_apart w p (inl (omega arith))
+      | inr ne ↦
+          let least = (at.start.lies p j).least in
+          elim (apart_at c x p at.start (at.from x i) j ne) [
+            | inl h ↦ word_apart w p (inl (omega arith))
+            | inr h ↦ word_apart w p (inr (omega arith))
+          ]
+    ]

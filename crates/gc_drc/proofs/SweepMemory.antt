@@ -19,7 +19,7 @@ use Rattle.gc_drc.specs.CollectLists.{onto, front}
 use Rattle.gc_drc.specs.CollectStates.{IsView, Cascading, MarkingFrames, SweepingShown}
 use Rattle.gc_drc.specs.CollectMemory.{Context, IsContext, IsWord, Intact, At, CanMark, CanUnmark, CanHide, CanLowerAt}
 use Rattle.gc_drc.specs.CollectDrain.{IsPlaceWord}
-use Rattle.gc_drc.specs.CollectSweep.{FrameMarks, CanMarkFrame, CanMarkFrames, Sweep, CanSweepOne, SweptOne, sweep_left}
+use Rattle.gc_drc.specs.CollectSweep.{FrameMarks, CanMarkFrame, Sweep, CanSweepOne, SweptOne, sweep_left}
 use Rattle.gc_drc.proofs.OccLemmas.{same-is, same-not, occ-without, occ-cases}
 use Rattle.gc_drc.proofs.CascadeLemmas.{CanLower}
 use Rattle.gc_drc.proofs.SweepLemmas.{marked_is_view, frame_marked, frame_passed, sweep_begins, sweep_keeps, sweep_can_lower, sweep_lowers}
@@ -100,11 +100,11 @@ frame_marks c s s' w left b m is read fresh marks =
     }
 
 pub frame_passes : (c : Context) (s : CountedSpace) (w : ℕ) (left : List ℕ) (b : Bool) → FrameMarks c s (w ∷ left) → IsPlaceWord w → b ≡ nat_eq (word s.memory w % 2) 1 → b ≡ true → FrameMarks c s left
-frame_passes c s w left b m is read yes =
+frame_passes c s w left b m is read on =
     let held = marks_held c s w left m is in
     record {
       view = m.view; at = m.at; is_view = m.is_view; cascading = m.cascading;
-      marking = frame_passed c.graph m.view w left m.marking (inr (marked_read c m.view s w b m.at held read yes));
+      marking = frame_passed c.graph m.view w left m.marking (inr (marked_read c m.view s w b m.at held read on));
       part = λ q i. m.part q (there i);
     }
 
@@ -147,9 +147,9 @@ pub sweep_room : (s : CountedSpace) (before x : ℕ) → CanSweepOne s before x 
 sweep_room s before x can = room_at can.context can.sweep.view s x can.sweep.at (sweep_held can.context s x can.kept can.left can.sweep)
 
 pub sweep_can_unmark : (s : CountedSpace) (before x : ℕ) (b : Bool) → CanSweepOne s before x → b ≡ nat_eq (word s.memory x % 2) 1 → b ≡ true → CanUnmark s x
-sweep_can_unmark s before x b can read yes =
+sweep_can_unmark s before x b can read on =
     let w = can.sweep in
-    record { context = can.context; view = w.view; at = w.at; is_marked = marked_read can.context w.view s x b w.at (sweep_held can.context s x can.kept can.left w) read yes }
+    record { context = can.context; view = w.view; at = w.at; is_marked = marked_read can.context w.view s x b w.at (sweep_held can.context s x can.kept can.left w) read on }
 
 -- an object behind those that are kept
 onto_more : (x : ℕ) (kept left : List ℕ) → onto kept (x ∷ left) ≡ onto (x ∷ kept) left
@@ -157,9 +157,9 @@ onto_more x kept left = refl
 
 pub swept_kept : (c : Context) (s s' : CountedSpace) (x : ℕ) (kept left : List ℕ) (b : Bool) → Sweep c s kept (x ∷ left) → b ≡ nat_eq (word s.memory x % 2) 1 → b ≡ true
     → ((o : Context) (v : View) → At o v s → 0 < occ x v.marked → At o (unmarked v x) s') → SweptOne c s' left x
-swept_kept c s s' x kept left b w read yes clears =
+swept_kept c s s' x kept left b w read on clears =
     let held = sweep_held c s x kept left w in
-    let is_marked = marked_read c w.view s x b w.at held read yes in
+    let is_marked = marked_read c w.view s x b w.at held read on in
     record {
       kept = x ∷ kept;
       sweep = record { view = unmarked w.view x; at = clears c w.view w.at is_marked; sweeping = sweep_keeps c.graph w.view x kept left w.sweeping is_marked; list = w.list };
@@ -244,12 +244,12 @@ once_in c v s x at i = let once = places_once v s at.holds x in let some = In-oc
 
 pub less_kept : (s s' : CountedSpace) (before x : ℕ) (b : Bool) → CanSweepOne s before x → b ≡ nat_eq (word s.memory x % 2) 1 → b ≡ true
     → ((o : Context) (v : View) → At o v s → 0 < occ x v.marked → At o (unmarked v x) s') → sweep_left s' < sweep_left s
-less_kept s s' before x b can read yes clears =
+less_kept s s' before x b can read on clears =
     let c = can.context in
     let w = can.sweep in
     let v = w.view in
     let held = sweep_held c s x can.kept can.left w in
-    let is_marked = marked_read c v s x b w.at held read yes in
+    let is_marked = marked_read c v s x b w.at held read on in
     let at' = clears c v w.at is_marked in
     let e = sum_changed (λ p. occ p v.marked + 2 * occ p v.shown) (λ p. occ p (without_one x v.marked) + 2 * occ p v.shown) x v.places (once_in c v s x w.at held)
       (λ p i ne. let wp = occ-without x p v.marked is_marked in let other : same p x ≡ 0 = same-not p x ne in omega arith) in
@@ -325,3 +325,9 @@ pub sweeps_end : (s s' : CountedSpace) (before place : ℕ) → Sweeps s s' befo
 sweeps_end s s' before place sweeps e c m =
     let t = sweeps c m in
     (t.kept, subst (λ (xs : List ℕ). Sweep c s' t.kept xs) (none_null c s' t.kept t.left t.sweep (t.is_place ∙ e)) t.sweep)
+
+pub no_roots : (roots : List Root) (i : ℕ) → length roots ≤ i → stack_words (drop i roots) ≡ []
+no_roots [] zero h = refl
+no_roots [] (suc i) h = refl
+no_roots (r ∷ roots) zero h = absurd (omega arith)
+no_roots (r ∷ roots) (suc i) h = no_roots roots i (omega arith)

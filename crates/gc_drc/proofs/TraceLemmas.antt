@@ -203,7 +203,7 @@ freeing_skips g v x pending f none = record {
 }
 
 -- an unmarked object isn't shown
-unmarked_not_shown : (g : Graph) (v : View) (x : ℕ) (pending : List ℕ) → Freeing g v pending → 0 < occ x v.places → occ x v.marked ≡ 0 → occ x v.shown ≡ 0
+pub unmarked_not_shown : (g : Graph) (v : View) (x : ℕ) (pending : List ℕ) → Freeing g v pending → 0 < occ x v.places → occ x v.marked ≡ 0 → occ x v.shown ≡ 0
 unmarked_not_shown g v x pending f held none = elim (occ-cases x v.shown) [
   | inl z ↦ z
   | inr some ↦

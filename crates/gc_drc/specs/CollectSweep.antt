@@ -1,7 +1,5 @@
 -- The marks of frame slots, and the sweep of the list of shown words, in memory.
 use Rattle.std.specs.Prelude.{◌≡◌, ℕ, ◌+◌, ◌%◌, ◌<◌, List, [], ◌∷◌}
-use Rattle.gc_roots.specs.Roots.{Root}
-use Rattle.gc_heap.specs.Collection.{stack_words}
 use Rattle.gc_memory.specs.Words.{word}
 use Rattle.gc_memory.specs.Lists.{In, sum_over}
 use Rattle.gc_drc.specs.declared.space.CountedSpace.{CountedSpace}
@@ -25,11 +23,6 @@ pub record CanMarkFrame (s : CountedSpace) (w : ℕ) : Type 0 where
   pub context : Context
   pub left : List ℕ
   pub marks : FrameMarks context s (w ∷ left)
-
--- those of all roots
-pub record CanMarkFrames (s : CountedSpace) (roots : List Root) : Type 0 where
-  pub context : Context
-  pub marks : FrameMarks context s (stack_words roots)
 
 -- The list of shown words is being swept: these are kept, from the last one on, and those are left.
 pub record Sweep (c : Context) (s : CountedSpace) (kept left : List ℕ) : Type 0 where

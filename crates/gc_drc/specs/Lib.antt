@@ -14,3 +14,5 @@ pub mod CollectVisits
 pub mod CollectHosts
 pub mod CollectDrain
 pub mod CollectSweep
+pub mod CollectTrace
+pub mod CollectWalk

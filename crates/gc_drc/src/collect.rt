@@ -11,4 +11,6 @@ pub(crate) mod lists;
 pub(crate) mod marks;
 pub(crate) mod release;
 pub(crate) mod sweep;
+pub(crate) mod trace;
 pub(crate) mod visit;
+pub(crate) mod walk;

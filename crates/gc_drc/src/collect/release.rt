@@ -38,7 +38,8 @@ impl CountedSpace {
     /// Frees an object that is on no list.
     pub(crate) fn free_unlisted(&mut self, place: u32)
         requires { CanRelease self.old place }
-        ensures { (c : Context) (v : View) → At c v self.old → In place v.places → occ place v.shown ≡ 0 → occ place v.queue ≡ 0 → occ place v.marked ≡ 0
+        ensures memory { self.new.memory ≡ self.old.memory }
+        ensures freed { (c : Context) (v : View) → At c v self.old → In place v.places → occ place v.shown ≡ 0 → occ place v.queue ≡ 0 → occ place v.marked ≡ 0
             → At c (freed v place) self.new }
     {
         self.release(place);

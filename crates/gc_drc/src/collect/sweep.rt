@@ -1,10 +1,10 @@
 //! The objects that frame slots hold are marked, and the list of shown words is swept.
 
-ghost use Rattle.std.specs.Prelude.{ℕ, ◌≡◌, ◌<◌, List, ◌∷◌, []};
+ghost use Rattle.std.specs.Prelude.{ℕ, ◌≡◌, ◌+◌, ◌<◌, List, ◌∷◌, [], length, drop};
 ghost use Rattle.gc_heap.specs.Collection.{stack_words};
 ghost use Rattle.gc_drc.specs.CollectLists.{front};
 ghost use Rattle.gc_drc.specs.CollectMemory.{Context};
-ghost use Rattle.gc_drc.specs.CollectSweep.{FrameMarks, CanMarkFrame, CanMarkFrames, Sweep, CanSweepOne, SweptOne, sweep_left};
+ghost use Rattle.gc_drc.specs.CollectSweep.{FrameMarks, CanMarkFrame, Sweep, CanSweepOne, SweptOne, sweep_left};
 
 use crate::collect::cascade::is_place;
 use crate::space::CountedSpace;
@@ -17,21 +17,32 @@ impl CountedSpace {
         ensures { (c : Context) (left : List ℕ) → FrameMarks c self.old (word ∷ left) → FrameMarks c self.new left }
     {
         if is_place(word) {
-            if !self.is_marked(word) {
-                self.mark(word);
+            if self.is_marked(word) {
+                return;
             }
+            self.mark(word);
+        }
+    }
+
+    /// Marks the object that a root names, if the root is a frame slot.
+    fn mark_root(&mut self, roots: &GcRootsList, index: usize)
+        requires index { index < length roots.now.roots }
+        requires marks { (c : Context) × FrameMarks c self.old (stack_words (drop index roots.now.roots)) }
+        ensures { (c : Context) → FrameMarks c self.old (stack_words (drop index roots.now.roots)) → FrameMarks c self.new (stack_words (drop (index + 1) roots.now.roots)) }
+    {
+        if roots.is_on_wasm_stack_at(index) {
+            let word = roots.word_at(index).as_raw_u32();
+            self.mark_frame(word);
         }
     }
 
     /// Marks the objects that frame slots hold.
     pub(crate) fn mark_frames(&mut self, roots: &GcRootsList)
-        requires { CanMarkFrames self.old roots.now.roots }
+        requires { (c : Context) × FrameMarks c self.old (stack_words roots.now.roots) }
         ensures { (c : Context) → FrameMarks c self.old (stack_words roots.now.roots) → FrameMarks c self.new [] }
     {
         for index in 0..roots.len() {
-            if roots.is_on_wasm_stack_at(index) {
-                self.mark_frame(roots.word_at(index).as_raw_u32());
-            }
+            self.mark_root(roots, index);
         }
     }
 
