@@ -7,3 +7,15 @@ pub mod Operations
 pub mod Reading
 pub mod Placing
 pub mod Giving
+pub mod Graph
+pub mod Unheld
+pub mod CollectOps
+pub mod CollectStates
+pub mod CollectMemory
+pub mod CollectLists
+pub mod CollectVisits
+pub mod CollectHosts
+pub mod CollectDrain
+pub mod CollectSweep
+pub mod CollectTrace
+pub mod CollectWalk

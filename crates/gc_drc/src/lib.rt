@@ -8,5 +8,6 @@ mod counting;
 mod give;
 mod place;
 mod read;
+pub(crate) mod collect;
 pub(crate) mod space;
 mod write;
