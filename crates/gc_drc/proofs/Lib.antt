@@ -7,3 +7,5 @@ pub mod MakeLemmas
 pub mod ObjectLemmas
 pub mod GiveLemmas
 pub mod WriteLemmas
+pub mod GrowLemmas
+pub mod BackingLemmas

@@ -7,3 +7,6 @@ pub mod Operations
 pub mod Reading
 pub mod Placing
 pub mod Giving
+pub mod Growth
+pub mod States
+pub mod DrcHeapLaw
