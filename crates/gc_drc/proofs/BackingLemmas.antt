@@ -124,3 +124,9 @@ unname_slot h x (Some y) can = unname_after h x y can
 pub slot_after : (h : HeapView) (source slot : Option ℕ) → CanUnnameSlot h slot → CanUnnameSlot (copied h source) slot
 slot_after h None slot can = can
 slot_after h (Some x) slot can = unname_slot h x slot can
+
+-- a memory that is out was taken
+pub is_taken : (scopes : ℕ) (b : Backing) (view : HeapView) (bytes : List ℕ) → IsOut scopes b view bytes → ((m : Marks) → b ≡ backing.Taken m → ⊥) → ⊥
+is_taken scopes backing.Detached view bytes out never = out
+is_taken scopes (backing.Attached s) view bytes out never = out
+is_taken scopes (backing.Taken m) view bytes out never = never m refl

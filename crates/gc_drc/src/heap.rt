@@ -101,8 +101,9 @@ impl DrcHeap {
         ensures sound { IsDrcSound self.new }
         ensures seen { drc_seen self.new ≡ copied (drc_seen self.old) (option_copied source.entry) }
     {
-        if let Some(word) = source {
-            self.name(word);
+        match source {
+            Some(word) => self.name(word),
+            None => {}
         }
     }
 
@@ -113,8 +114,9 @@ impl DrcHeap {
         ensures sound { IsDrcSound self.new }
         ensures seen { drc_seen self.new ≡ emptied (drc_seen self.old) destination.now }
     {
-        if let Some(word) = destination {
-            self.unname(word);
+        match destination {
+            Some(word) => self.unname(word),
+            None => {}
         }
     }
 

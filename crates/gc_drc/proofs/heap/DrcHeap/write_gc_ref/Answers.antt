@@ -16,6 +16,11 @@ use Rattle.gc_drc.specs.DrcHeapLaw.{drc_is_heap}
 use Rattle.gc_drc.proofs.ReadLemmas.{held_at, size_of, data_of, match_ok}
 use Rattle.gc_drc.proofs.BackingLemmas.{not_attached, nothing_held, scopes_of, unchanged_cloned, unchanged_dropped, unchanged_exposed, held_even, count_of, count_detached, allocated_detached, needs_none, puts_back, slot_after}
 use Rattle.gc_drc.proofs.heap.DrcHeap.write_gc_ref.Goals as goal
+use Rattle.gc_heap.specs.Barriers.{CanUnnameSlot, emptied}
 
 pub unname_slot-requires-clause-named : goal.unname_slot-requires-clause-named
-unname_slot-requires-clause-named c = ?
+unname_slot-requires-clause-named c =
+    subst (λ h. CanUnnameSlot h c.args.destination.now) (sym c.name_slot.ensures.seen) (slot_after (drc_seen c.args.self.now) _ c.args.destination.now c.requires.destination)
+
+pub returns-clause-seen : goal.returns-clause-seen
+returns-clause-seen c = c.unname_slot.ensures.seen ∙ ap (λ h. emptied h c.args.destination.now) c.name_slot.ensures.seen
