@@ -23,3 +23,5 @@ pub mod HostLemmas
 pub mod SweepMemory
 pub mod TraceMemory
 pub mod WalkMemory
+pub mod GrowLemmas
+pub mod BackingLemmas

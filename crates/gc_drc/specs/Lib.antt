@@ -19,3 +19,6 @@ pub mod CollectDrain
 pub mod CollectSweep
 pub mod CollectTrace
 pub mod CollectWalk
+pub mod Growth
+pub mod States
+pub mod DrcHeapLaw

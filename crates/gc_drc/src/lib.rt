@@ -6,8 +6,12 @@ mod alloc;
 mod barriers;
 mod counting;
 mod give;
+mod growth;
+pub mod heap;
 mod place;
 mod read;
 pub(crate) mod collect;
 pub(crate) mod space;
 mod write;
+
+pub use heap::DrcHeap;
