@@ -15,3 +15,4 @@ pub mod HostLemmas
 pub mod SweepMemory
 pub mod TraceMemory
 pub mod WalkMemory
+pub mod SweptMemory

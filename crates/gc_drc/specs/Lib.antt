@@ -16,3 +16,4 @@ pub mod CollectDrain
 pub mod CollectSweep
 pub mod CollectTrace
 pub mod CollectWalk
+pub mod CollectSwept
