@@ -25,3 +25,4 @@ pub mod TraceMemory
 pub mod WalkMemory
 pub mod GrowLemmas
 pub mod BackingLemmas
+pub mod SweptMemory

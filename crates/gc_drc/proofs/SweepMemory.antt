@@ -97,6 +97,7 @@ frame_marks c s s' w left b m is read fresh marks =
       cascading = record { counts = m.cascading.counts; from = m.cascading.from; gone = m.cascading.gone; shown = m.cascading.shown; freed = m.cascading.freed };
       marking = frame_marked c.graph m.view w left m.marking (In-occ w c.graph.frames (m.part w here));
       part = λ q i. m.part q (there i);
+      all_held = m.all_held;
     }
 
 pub frame_passes : (c : Context) (s : CountedSpace) (w : ℕ) (left : List ℕ) (b : Bool) → FrameMarks c s (w ∷ left) → IsPlaceWord w → b ≡ nat_eq (word s.memory w % 2) 1 → b ≡ true → FrameMarks c s left
@@ -106,6 +107,7 @@ frame_passes c s w left b m is read on =
       view = m.view; at = m.at; is_view = m.is_view; cascading = m.cascading;
       marking = frame_passed c.graph m.view w left m.marking (inr (marked_read c m.view s w b m.at held read on));
       part = λ q i. m.part q (there i);
+      all_held = m.all_held;
     }
 
 pub frame_skips : (c : Context) (s : CountedSpace) (w : ℕ) (left : List ℕ) → FrameMarks c s (w ∷ left) → (IsPlaceWord w → ⊥) → FrameMarks c s left
@@ -113,6 +115,7 @@ frame_skips c s w left m isnt = record {
   view = m.view; at = m.at; is_view = m.is_view; cascading = m.cascading;
   marking = frame_passed c.graph m.view w left m.marking (inl (no_place c w m.at.start isnt));
   part = λ q i. m.part q (there i);
+      all_held = m.all_held;
 }
 
 -- the roots one by one
@@ -135,7 +138,7 @@ MarksFrames s roots s' left = (c : Context) → FrameMarks c s (stack_words root
 -- THE SWEEP
 
 pub sweep_start : (c : Context) (s : CountedSpace) (m : FrameMarks c s []) → Sweep c s [] m.view.shown
-sweep_start c s m = record { view = m.view; at = m.at; sweeping = sweep_begins c.graph m.view m.is_view m.cascading m.marking; list = refl }
+sweep_start c s m = record { view = m.view; at = m.at; sweeping = sweep_begins c.graph m.view m.is_view m.cascading m.marking; list = refl; all_held = m.all_held }
 
 sweep_held : (c : Context) (s : CountedSpace) (x : ℕ) (kept left : List ℕ) (w : Sweep c s kept (x ∷ left)) → In x w.view.places
 sweep_held c s x kept left w =
@@ -162,7 +165,7 @@ swept_kept c s s' x kept left b w read on clears =
     let is_marked = marked_read c w.view s x b w.at held read on in
     record {
       kept = x ∷ kept;
-      sweep = record { view = unmarked w.view x; at = clears c w.view w.at is_marked; sweeping = sweep_keeps c.graph w.view x kept left w.sweeping is_marked; list = w.list };
+      sweep = record { view = unmarked w.view x; at = clears c w.view w.at is_marked; sweeping = sweep_keeps c.graph w.view x kept left w.sweeping is_marked; list = w.list; all_held = w.all_held };
       is_before = refl;
     }
 
@@ -199,6 +202,7 @@ swept_off c s s1 s2 before x kept left b w is_before read fresh hides takes =
         at = takes c (hidden w.view x) (hides c w.view kept left w.at w.list is_before) held lower.named;
         sweeping = sweep_lowers c.graph w.view x kept left w.sweeping none;
         list = ap (without_one x) w.list ∙ without_onto x kept left (omega arith);
+        all_held = w.all_held;
       };
       is_before = is_before;
     }

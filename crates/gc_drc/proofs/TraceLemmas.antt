@@ -13,17 +13,17 @@ use Rattle.gc_drc.proofs.SweepLemmas.{reached_kept}
 
 -- MARKING
 
--- the words of the roots are to be looked at
-pub trace_begins : (g : Graph) (v : View) → ((x : ℕ) → occ x v.marked ≡ 0) → Tracing g v (g.roots ++ g.frames) []
-trace_begins g v none = record {
+-- the words of the roots are to be looked at, in any order
+pub trace_begins : (g : Graph) (v : View) (pending : List ℕ) → ((x : ℕ) → occ x pending ≡ occ x g.roots + occ x g.frames) → ((x : ℕ) → occ x v.marked ≡ 0) → Tracing g v pending []
+trace_begins g v pending all none = record {
   marked_reached = λ x h. absurd (let z = none x in omega arith);
   pending_reached = λ x p h. elim (occ-cases x g.roots) [
     | inr root ↦ by_root (occ-In x g.places p) (occ-In x g.roots root)
-    | inl no_root ↦ by_frame (occ-In x g.places p) (occ-In x g.frames (let a = occ-append x g.roots g.frames in omega arith))
+    | inl no_root ↦ by_frame (occ-In x g.places p) (occ-In x g.frames (let a = all x in omega arith))
   ];
   waiting = λ x. omega arith;
-  roots = λ x p h. inr (let a = occ-append x g.roots g.frames in omega arith);
-  frames = λ x p h. inr (let a = occ-append x g.roots g.frames in omega arith);
+  roots = λ x p h. inr (let a = all x in omega arith);
+  frames = λ x p h. inr (let a = all x in omega arith);
   fields = λ p x h. absurd (let z = none p in omega arith);
 }
 

@@ -1,8 +1,10 @@
 -- What the roots reach is marked, in memory.
-use Rattle.std.proofs.Common.{◌≡◌, ℕ, zero, suc, ◌+◌, ◌-◌, ◌*◌, ◌/◌, ◌%◌, ◌<◌, ◌≤◌, ◌^◌, Bool, true, false, cond, nat_eq, if◌then◌else◌, List, [], ◌∷◌, length, refl, sym, ap, subst, ◌∙◌, inl, inr, arith}
+use Rattle.std.proofs.Common.{◌≡◌, ℕ, zero, suc, ◌+◌, ◌-◌, ◌*◌, ◌/◌, ◌%◌, ◌<◌, ◌≤◌, ◌^◌, Bool, true, false, cond, nat_eq, if◌then◌else◌, List, [], ◌∷◌, length, drop, refl, sym, ap, subst, ◌∙◌, inl, inr, arith}
 use Rattle.std.proofs.Math.Logic.{◌⊎◌}
 use Rattle.std.proofs.lemmas.Bool.{cases_eq, eq-eqb, ne_eqb}
 use Rattle.gc_types.specs.Declarations.{Declaration}
+use Rattle.std.proofs.lemmas.List.{drop_more}
+use Rattle.gc_roots.specs.Roots.{Root, root_at, no_root}
 use Rattle.gc_model.specs.Views.{put_u32}
 use Rattle.gc_memory.specs.Words.{word, word64}
 use Rattle.gc_memory.specs.Lists.{In, here, there, occ, sum_over}
@@ -17,7 +19,7 @@ use Rattle.gc_drc.specs.CollectStates.{IsView, Cascading, Tracing}
 use Rattle.gc_drc.specs.CollectMemory.{Context, IsContext, IsWord, Intact, At, CanMark}
 use Rattle.gc_drc.specs.CollectVisits.{CanVisitObject}
 use Rattle.gc_drc.specs.CollectDrain.{IsPlaceWord}
-use Rattle.gc_drc.specs.CollectTrace.{Settled, Traces, CanScan, chain_length, trace_left}
+use Rattle.gc_drc.specs.CollectTrace.{Settled, Traces, CanScan, root_words, chain_length, trace_left}
 use Rattle.gc_drc.proofs.OccLemmas.{same-is, same-not, occ-without, occ-cases}
 use Rattle.gc_drc.proofs.SweepLemmas.{marked_is_view}
 use Rattle.gc_drc.proofs.TraceLemmas.{trace_marks, trace_passes, trace_scans}
@@ -270,3 +272,14 @@ pub marked_room : (c : Context) (unscanned : List ℕ) (s s1 : CountedSpace) (he
 marked_room c unscanned s s1 head w rest b t is read fresh marks =
     let held = word_held c unscanned s head w rest t is in
     room_at c (marked_also t.view w) s1 w (marks c t.view t.at held (fresh_read c t.view s w b t.at held read fresh)) held
+
+-- ROOTS
+
+pub words_step : (roots : List Root) (i : ℕ) → i < length roots → root_words (drop i roots) ≡ (root_at roots i).word ∷ root_words (drop (i + 1) roots)
+words_step roots i h = ap root_words (drop_more roots i no_root h)
+
+pub words_end : (roots : List Root) (i : ℕ) → length roots ≤ i → root_words (drop i roots) ≡ []
+words_end [] zero h = refl
+words_end [] (suc i) h = refl
+words_end (r ∷ roots) zero h = absurd (omega arith)
+words_end (r ∷ roots) (suc i) h = words_end roots i (omega arith)

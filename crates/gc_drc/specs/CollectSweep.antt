@@ -17,6 +17,7 @@ pub record FrameMarks (c : Context) (s : CountedSpace) (left : List ℕ) : Type 
   pub cascading : Cascading c.graph view []
   pub marking : MarkingFrames c.graph view left
   pub part : (w : ℕ) → In w left → In w c.graph.frames
+  pub all_held : view.places ≡ c.graph.places
 
 -- the word of a frame slot may be looked at
 pub record CanMarkFrame (s : CountedSpace) (w : ℕ) : Type 0 where
@@ -30,6 +31,7 @@ pub record Sweep (c : Context) (s : CountedSpace) (kept left : List ℕ) : Type 
   pub at : At c view s
   pub sweeping : SweepingShown c.graph view kept left
   pub list : view.shown ≡ onto kept left
+  pub all_held : view.places ≡ c.graph.places
 
 pub record CanSweepOne (s : CountedSpace) (before x : ℕ) : Type 0 where
   pub context : Context

@@ -1,6 +1,7 @@
 -- What the roots reach is marked, in memory.
-use Rattle.std.specs.Prelude.{◌≡◌, ℕ, zero, suc, ◌+◌, ◌-◌, ◌%◌, ◌<◌, ◌==◌, if◌then◌else◌, List, [], ◌∷◌, length}
+use Rattle.std.specs.Prelude.{◌≡◌, ℕ, zero, suc, ◌+◌, ◌-◌, ◌%◌, ◌<◌, ◌==◌, if◌then◌else◌, List, [], ◌∷◌, length, map}
 use Rattle.gc_types.specs.Declarations.{Declaration}
+use Rattle.gc_roots.specs.Roots.{Root}
 use Rattle.gc_memory.specs.Words.{word}
 use Rattle.gc_memory.specs.Lists.{In, occ, sum_over}
 use Rattle.gc_drc.specs.declared.space.CountedSpace.{CountedSpace}
@@ -45,3 +46,11 @@ pub record CanScan (types : List Declaration) (s : CountedSpace) (head : ℕ) : 
   pub unscanned : List ℕ
   pub typed : context.types ≡ types
   pub traces : Traces context unscanned s head []
+
+-- the words of some roots
+abbrev pub root_words : List Root → List ℕ
+root_words roots = map (λ (r : Root). r.word) roots
+
+-- the words of roots were looked at, of which these are left
+abbrev pub TracesRoots : CountedSpace → ℕ → List Root → CountedSpace → ℕ → List Root → Type 0
+TracesRoots s head roots s' head' left = (c : Context) (unscanned : List ℕ) → Traces c unscanned s head (root_words roots) → Traces c unscanned s' head' (root_words left)

@@ -22,3 +22,4 @@ pub mod CollectWalk
 pub mod Growth
 pub mod States
 pub mod DrcHeapLaw
+pub mod CollectSwept

@@ -7,6 +7,7 @@
 pub(crate) mod cascade;
 pub(crate) mod counts;
 pub(crate) mod hosts;
+pub(crate) mod increments;
 pub(crate) mod lists;
 pub(crate) mod marks;
 pub(crate) mod release;

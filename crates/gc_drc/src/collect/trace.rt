@@ -3,11 +3,12 @@
 
 ghost use Rattle.std.specs.Prelude.{ℕ, ◌≡◌, ◌+◌, ◌<◌, List, ◌∷◌, [], length, drop};
 ghost use Rattle.gc_drc.specs.CollectMemory.{Context};
-ghost use Rattle.gc_drc.specs.CollectTrace.{Traces, CanScan, trace_left};
+ghost use Rattle.gc_drc.specs.CollectTrace.{Traces, TracesRoots, CanScan, root_words, trace_left};
 
 use crate::collect::cascade::is_place;
 use crate::collect::visit::Visitor;
 use crate::space::CountedSpace;
+use gc_roots::GcRootsList;
 use gc_types::Types;
 
 /// Marks the objects that words name. Those that were not marked are still to be scanned.
@@ -37,6 +38,17 @@ impl Visitor for MarkReached {
 }
 
 impl CountedSpace {
+    /// Marks the objects that the words of all roots name.
+    pub(crate) fn mark_roots(&mut self, roots: &GcRootsList, reached: &mut MarkReached)
+        requires { (c : Context) × ((unscanned : List ℕ) × Traces c unscanned self.old reached.old.head (root_words roots.now.roots)) }
+        ensures { TracesRoots self.old reached.old.head roots.now.roots self.new reached.new.head [] }
+    {
+        for index in 0..roots.len() {
+            let word = roots.word_at(index).as_raw_u32();
+            reached.visit(self, word);
+        }
+    }
+
     /// Scans the first object that is still to be scanned.
     fn scan_next(&mut self, types: &Types, reached: &mut MarkReached)
         requires can { CanScan types.now.declarations self.old reached.old.head }
