@@ -40,6 +40,12 @@ nothing_empty q o e = cc (finite.get-empty nat_cmp q)
 pub nothing_held : (scopes : ℕ) (b : Backing) (q : ℕ) (o : HeapObject) → ((s : CountedSpace) → b ≡ backing.Attached s → ⊥) → finite.get (seen_of scopes b).content q ≡ Some o → ⊥
 nothing_held scopes b q o never held = nothing_empty q o (sym (ap (λ (h : HeapView). finite.get h.content q) (not_attached scopes b never)) ∙ held)
 
+pub nothing_counted : (scopes : ℕ) (b : Backing) (q n : ℕ) → ((s : CountedSpace) → b ≡ backing.Attached s → ⊥) → finite.get (seen_of scopes b).counts.counted q ≡ Some n → ⊥
+nothing_counted scopes b q n never held = no_count q n (sym (ap (λ (h : HeapView). finite.get h.counts.counted q) (not_attached scopes b never)) ∙ held)
+  where
+    no_count : (q n : ℕ) → finite.get (finite.empty {X = ℕ} {R = nat_cmp}) q ≡ Some n → ⊥
+    no_count q n e = cc (finite.get-empty nat_cmp q)
+
 pub scopes_of : (scopes : ℕ) (b : Backing) → (seen_of scopes b).scopes ≡ scopes
 scopes_of scopes backing.Detached = refl
 scopes_of scopes (backing.Attached s) = refl
@@ -87,10 +93,10 @@ needs_none scopes (backing.Taken m) = refl
 -- what a heap is after its memory was put back
 pub puts_back : (m : Marks) (t : CountedSpace) (memory : List ℕ) (scopes delta : ℕ) (view : HeapView) (bytes : List ℕ) → IsOut scopes (backing.Taken m) view bytes
     → memory ≡ bytes ++ replicate delta 0 → t ≡ record { memory = memory; free = t.free; shown = m.shown; queued = m.queued; objects = m.objects; allocated = m.allocated }
-    → t.free.space ≡ grow delta m.free.space → IsSound t.free.space → length memory ≤ page * max_pages
+    → t.free.space ≡ grow delta m.free.space → IsSound t.free.space → length memory % page ≡ 0 → length memory ≤ page * max_pages
     → IsSoundSpace t × (seen_in scopes t ≡ grown Counting view delta)
-puts_back m t memory scopes delta view bytes out grown_by is list sound bound =
-    let g = grows (with_bytes m bytes) t memory delta out.0 grown_by bound is list sound in
+puts_back m t memory scopes delta view bytes out grown_by is list sound pages bound =
+    let g = grows (with_bytes m bytes) t memory delta out.0 grown_by pages bound is list sound in
     (g.sound, g.seen scopes ∙ ap (λ v. grown Counting v delta) (sym out.1))
 
 -- a slot that may lose what it holds may still do so after another word was copied

@@ -163,6 +163,7 @@ gives s t x can is given sound =
     let u : CountedSpace = record s { free = t.free; objects = s.objects - 1; allocated = s.allocated - block_of (size_at s.memory x) } in
     let w : View = record v { places = without_place x v.places } in
     let after : Holds w u = record {
+      pages = h.pages;
       bound = h.bound;
       capacity = ap (λ (f : Space). f.capacity) given ∙ h.capacity;
       sound = sound;

@@ -34,11 +34,12 @@ use Rattle.gc_drc.proofs.SeenLemmas.{same_view}
 empty_view : View
 empty_view = record { places = []; shown = []; queue = []; marked = []; counted = λ _. 0; sizes = λ _. 0 }
 
-pub empty_sound : (s : CountedSpace) → s.free.space ≡ new_space (length s.memory) → IsSound s.free.space → length s.memory ≤ page * max_pages → s.shown ≡ 0 → s.queued ≡ 0 → s.objects ≡ 0 → s.allocated ≡ 0
+pub empty_sound : (s : CountedSpace) → s.free.space ≡ new_space (length s.memory) → IsSound s.free.space → length s.memory % page ≡ 0 → length s.memory ≤ page * max_pages → s.shown ≡ 0 → s.queued ≡ 0 → s.objects ≡ 0 → s.allocated ≡ 0
     → IsSoundSpace s
-empty_sound s made sound bound shown queued objects allocated = record {
+empty_sound s made sound pages bound shown queued objects allocated = record {
   view = record { places = []; shown = []; queue = []; marked = []; counted = λ _. 0; sizes = λ _. 0 };
   holds = record {
+    pages = pages;
     bound = bound;
     capacity = ap (λ (f : Space). f.capacity) made;
     sound = sound;
@@ -107,9 +108,9 @@ pub record Grows (s t : CountedSpace) (n : ℕ) : Type 0 where
   pub sound : IsSoundSpace t
   pub seen : (scopes : ℕ) → seen_in scopes t ≡ grown Counting (seen_in scopes s) n
 
-pub grows : (s t : CountedSpace) (memory : List ℕ) (n : ℕ) → IsSoundSpace s → memory ≡ s.memory ++ replicate n 0 → length memory ≤ page * max_pages
+pub grows : (s t : CountedSpace) (memory : List ℕ) (n : ℕ) → IsSoundSpace s → memory ≡ s.memory ++ replicate n 0 → length memory % page ≡ 0 → length memory ≤ page * max_pages
     → t ≡ record s { memory = memory; free = t.free } → t.free.space ≡ grow n s.free.space → IsSound t.free.space → Grows s t n
-grows s t memory n sound grown_by bound is made list_sound =
+grows s t memory n sound grown_by pages bound is made list_sound =
     let v = sound.view in
     let h = sound.holds in
     let m : List ℕ = s.memory ++ replicate n 0 in
@@ -125,6 +126,7 @@ grows s t memory n sound grown_by bound is made list_sound =
     let size = (h.objects p i).size_is in
     grown_object s.memory p n (h.objects p i).whole (omega arith) in
     let after : Holds v u = record {
+      pages = ap (λ n. n % page) (sym len_memory) ∙ pages;
       bound = omega arith;
       capacity = omega arith;
       sound = list_sound;

@@ -31,6 +31,7 @@ pub record Loose (c : Context) (v : View) (s : CountedSpace) : Type 0 where
   pub start : IsContext c
   pub intact : Intact c s.memory
   pub from : (p : ℕ) → In p v.places → In p c.graph.places
+  pub pages : length s.memory % page ≡ 0
   pub bound : length s.memory ≤ page * max_pages
   pub capacity : s.free.space.capacity ≡ length s.memory
   pub sound : IsSound s.free.space
@@ -47,6 +48,7 @@ loose c v s at = record {
   start = at.start;
   intact = at.intact;
   from = at.from;
+  pages = at.holds.pages;
   bound = at.holds.bound;
   capacity = at.holds.capacity;
   sound = at.holds.sound;
@@ -63,6 +65,7 @@ pub linked_at : (c : Context) (v : View) (s : CountedSpace) → Loose c v s → 
 linked_at c v s l shown queue = record {
   start = l.start;
   holds = record {
+    pages = l.pages;
     bound = l.bound;
     capacity = l.capacity;
     sound = l.sound;
@@ -185,6 +188,7 @@ loose_written c v shown queue marked counted s s' x l r free objects allocated s
       start = l.start;
       intact = intact_written c s.memory s'.memory x l.start l.intact (l.from x r.held) r.sets;
       from = l.from;
+      pages = ap (λ n. n % page) len ∙ l.pages;
       bound = omega arith;
       capacity = ap (λ f. f.space.capacity) free ∙ l.capacity ∙ sym len;
       sound = subst (λ f. IsSound f.space) (sym free) l.sound;

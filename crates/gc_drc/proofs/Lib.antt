@@ -3,6 +3,7 @@ pub mod BarrierLemmas
 pub mod SeenLemmas
 pub mod ReadLemmas
 pub mod PlacingLemmas
+pub mod FrontLemmas
 pub mod MakeLemmas
 pub mod ObjectLemmas
 pub mod GiveLemmas

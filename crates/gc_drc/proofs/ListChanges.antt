@@ -213,7 +213,7 @@ hidden_first c v s s1 s2 x next k left read is1 read_k small is2 at is =
     let m1 : s1.memory ≡ s.memory = ap (λ (t : CountedSpace). t.memory) is1 in
     let lax = loose c v s at in
     let l : Loose c v s1 = subst (λ (t : CountedSpace). Loose c v t) (sym is1) (record {
-      start = lax.start; intact = lax.intact; from = lax.from; bound = lax.bound; capacity = lax.capacity; sound = lax.sound; blocks = lax.blocks; objects = lax.objects;
+      start = lax.start; intact = lax.intact; from = lax.from; pages = lax.pages; bound = lax.bound; capacity = lax.capacity; sound = lax.sound; blocks = lax.blocks; objects = lax.objects;
       shown_part = lax.shown_part; queue_part = lax.queue_part; marked_part = lax.marked_part; count = lax.count; allocated = lax.allocated;
     }) in
     let u = unflags c v s1 s2 x k l i on_list read_k small is2 in
@@ -341,7 +341,7 @@ after_relink s s1 before next x k can r fits read =
       | inl e ↦ (
           let lax = loose c v s can.at in
           subst (λ (t : CountedSpace). Loose c v t) (sym (r.head e)) (record {
-            start = lax.start; intact = lax.intact; from = lax.from; bound = lax.bound; capacity = lax.capacity; sound = lax.sound; blocks = lax.blocks; objects = lax.objects;
+            start = lax.start; intact = lax.intact; from = lax.from; pages = lax.pages; bound = lax.bound; capacity = lax.capacity; sound = lax.sound; blocks = lax.blocks; objects = lax.objects;
             shown_part = lax.shown_part; queue_part = lax.queue_part; marked_part = lax.marked_part; count = lax.count; allocated = lax.allocated;
           }))
       | inr ne ↦ elim (front_held c v s before x can.kept can.left can.at can.list can.is_before) [

@@ -20,9 +20,12 @@ use Rattle.gc_model.specs.Views.{HeapObject, HeapView, Counts}
 use Rattle.gc_free.specs.declared.run.Run.{Run}
 use Rattle.gc_free.specs.Runs.{run, insert_run, IsSpread, gap, gaps, end_of}
 use Rattle.gc_free.specs.Space.{IsSound, places_end, free_runs, AllAligned}
+use Rattle.gc_types.specs.Layouts.{round_up}
+use Rattle.gc_model.specs.Sizes.{alignment}
 use Rattle.gc_heap.specs.Content.{block_size}
 use Rattle.gc_heap.specs.Objects.{held_size}
-use Rattle.gc_heap.specs.Heap.{AddsObject, LacksRoom, HasRoom, IsFree, IsTooLarge, need_of, with_object}
+use Rattle.gc_heap.specs.Heap.{AddsObject, LacksRoom, HasRoom, IsFree, EndsAt, IsTooLarge, need_of, with_object}
+use Rattle.gc_model.specs.Allocation.{page}
 use Rattle.gc_drc.specs.declared.space.CountedSpace.{CountedSpace}
 use Rattle.gc_drc.specs.Layout.{count_at, size_at, flags_at, block_of, object_at, IsWhole}
 use Rattle.gc_drc.specs.View.{View, count_of, flags_of, block_at, Holds, ShowsObject, IsPart, Linked}
@@ -32,6 +35,7 @@ use Rattle.gc_drc.specs.SpaceLaws.{Lies, lies, aligned_at, blocks_apart, places_
 use Rattle.gc_drc.specs.Placing.{insert_place, with_place, placed_space, TakesBlock, KeepsBlocks, IsFull, PutsObject, CanPlace}
 use Rattle.gc_drc.proofs.TendLemmas.{SameObject, object_in_same, linked_in_same}
 use Rattle.gc_drc.proofs.SeenLemmas.{same_view}
+use Rattle.gc_drc.proofs.FrontLemmas.{Begins, taken_begins}
 use Rattle.gc_drc.proofs.PlacingLemmas.{In-insert, insert-new, insert-old, sum-insert, length-insert, blocks-insert, fresh_place, at_places-added}
 
 own_size : (v : View) (p size : ℕ) → cond (nat_eq p p) size (v.sizes p) ≡ size
@@ -126,6 +130,7 @@ placed_holds v s u m p size object h taken least puts =
     let capacity = h.capacity in
     let taken_capacity = taken.capacity in
     record {
+      pages = ap (λ n. n % page) len ∙ h.pages;
       bound = omega arith;
       capacity = omega arith;
       sound = taken.sound;
@@ -188,10 +193,9 @@ placed_holds v s u m p size object h taken least puts =
         let one = ap block_of (own_size v p size) in
         let were = h.allocated in omega arith
 
--- there is room at a place that was taken
-has_room : (v : View) (s u : CountedSpace) (p size scopes : ℕ) → Holds v s → NewPlace v s u p size → HasRoom Counting (seen_in scopes s) size
-has_room v s u p size scopes h new = (
-  p,
+-- nothing lies at a place that was taken
+free_at : (v : View) (s u : CountedSpace) (p size scopes : ℕ) → Holds v s → NewPlace v s u p size → IsFree (seen_in scopes s) p (round_up size alignment)
+free_at v s u p size scopes h new =
   record {
     aligned = new.aligned;
     not_null = let from = new.not_null in omega arith;
@@ -201,8 +205,17 @@ has_room v s u p size scopes h new = (
         let i = subst (In q) (places_are v s h) f.0 in
         let size_is : block_size Counting o ≡ block_of (v.sizes q) = ap block_of (ap (held_size Counting) f.1 ∙ held_size-in v s q h i) in
         subst (λ n. (q + n ≤ p) ⊎ (p + block_of size ≤ q)) (sym size_is) (new.apart q i);
-  },
-)
+  }
+
+-- it is 16, or an object ends there
+lies_for : (v : View) (s : CountedSpace) (p scopes : ℕ) → Holds v s → Begins v.sizes 16 v.places p → (p ≡ 16) ⊎ EndsAt (seen_in scopes s) p
+lies_for v s p scopes h (inl e) = inl e
+lies_for v s p scopes h (inr b) = inr (record {
+  before = b.0;
+  object = object_at s.memory b.0;
+  held = get_in (object_at s.memory) b.0 (places_of s.free.space.held) (subst (In b.0) (sym (places_are v s h)) b.1.0);
+  ends = ap (λ n. b.0 + block_of n) (held_size-in v s b.0 h b.1.0) ∙ b.1.1;
+})
 
 -- What an allocation does to a space.
 pub record Makes (s t : CountedSpace) (p size : ℕ) (object : HeapObject) : Type 0 where
@@ -235,8 +248,9 @@ makes s u t m p size object sound small taken least puts is =
       sound = record { view = w; holds = after; unmarked = sound.unmarked };
       adds_object = λ scopes. record {
         small = small;
-        room = has_room v s u p size scopes h new;
+        room = (p, free_at v s u p size scopes h new);
         fresh = record { aligned = new.aligned; not_null = let from = new.not_null in omega arith; free = fresh };
+        lies = (free_at v s u p size scopes h new, lies_for v s p scopes h (taken_begins v.sizes v.places (block_of size) s.free.space p h.blocks h.sound taken.given));
         added = same_view _ _ refl content puts.around.same_length refl refl refl counts;
       };
     })
@@ -308,6 +322,7 @@ kept_sound s u sound kept =
     subst IsSoundSpace (sym kept.rest) (record {
       view = sound.view;
       holds = record {
+        pages = h.pages;
         bound = h.bound;
         capacity = kept.capacity ∙ h.capacity;
         sound = kept.sound;

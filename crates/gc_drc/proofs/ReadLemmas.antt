@@ -1,7 +1,8 @@
 -- What the words of a held object tell.
-use Rattle.std.proofs.Common.{◌≡◌, ℕ, ◌+◌, ◌-◌, ◌/◌, ◌*◌, ◌%◌, ◌<◌, ◌≤◌, Bool, true, false, List, take, drop, length, get_or, Some, None, Ok, Err, refl, sym, ap, subst, ◌∙◌, arith}
+use Rattle.std.proofs.Common.{◌≡◌, ℕ, ◌+◌, ◌-◌, ◌/◌, ◌*◌, ◌%◌, ◌<◌, ◌≤◌, Bool, true, false, cond, List, [], take, drop, length, get_or, Some, None, Ok, Err, refl, sym, ap, subst, ◌∙◌, inl, inr, arith}
 use Rattle.std.specs.Prelude.{Result, IsOkAnd, MatchResult}
 use Rattle.std.specs.FinMap as finite
+use Rattle.std.specs.FinSet as finset
 use Rattle.std.proofs.lemmas.List.{same_lists, get_or-take, get_or-drop, length-take-le, length-drop}
 use Rattle.gc_types.specs.declared.kind.Layouts.TheVariants.{Counting}
 use Rattle.gc_types.specs.declared.kind.VMGcKind.{VMGcKind}
@@ -9,17 +10,19 @@ use Rattle.gc_types.specs.declared.kind.VMGcKind.TheVariants.{ExternRef, AnyRef,
 use Rattle.gc_types.specs.Kinds.{kind_bits}
 use Rattle.gc_refs.specs.Header.{Header, kind_part, spare_bits}
 use Rattle.gc_memory.specs.Words.{word}
-use Rattle.gc_memory.specs.Lists.{In}
-use Rattle.gc_memory.proofs.WordLemmas.{word-is}
+use Rattle.gc_memory.specs.Lists.{In, occ}
+use Rattle.gc_memory.proofs.ListLemmas.{In-occ, occ-none}
+use Rattle.gc_memory.proofs.WordLemmas.{word-is, word64-is}
 use Rattle.gc_model.proofs.ByteLemmas.{u32_at-part}
-use Rattle.gc_model.specs.Views.{HeapObject, u32_at}
+use Rattle.gc_model.specs.Views.{HeapObject, Counts, u32_at}
 use Rattle.gc_heap.specs.Objects.{held_size, data_offset, first_offset, array_length, IsHeaderOf, IsObjectData}
+use Rattle.gc_heap.specs.Barriers.{ShowsCount, one_in}
 use Rattle.gc_drc.specs.declared.space.CountedSpace.{CountedSpace}
 use Rattle.gc_drc.specs.Layout.{size_at, kind_at, data_at, object_at, IsWhole, IsExternalAt}
 use Rattle.gc_drc.specs.View.{View, Holds}
-use Rattle.gc_drc.specs.Content.{places_of, seen_in, IsSoundSpace}
-use Rattle.gc_drc.specs.PlaceLaws.{found_in}
-use Rattle.gc_drc.specs.SpaceLaws.{lies, places_are, held_size-at, length-data_at}
+use Rattle.gc_drc.specs.Content.{places_of, counts_of, seen_in, IsSoundSpace}
+use Rattle.gc_drc.specs.PlaceLaws.{found_in, in_or_not, contains_in, contains_not}
+use Rattle.gc_drc.specs.SpaceLaws.{lies, places_are, counts_are, held_size-at, length-data_at}
 
 -- What is known of the place of a held object.
 pub record HeldAt (s : CountedSpace) (q : ℕ) (o : HeapObject) : Type 0 where
@@ -140,9 +143,43 @@ data_of s q o h =
       header = header_of s q o (u32_at part 0) (u32_at part 4) h
           (u32_at-part m q (size_at m q) 0 (omega arith) inside ∙ ap (u32_at m) zero ∙ sym (word-is m q))
           (u32_at-part m q (size_at m q) 4 (omega arith) inside ∙ sym (word-is m (q + 4)));
+      size_word = u32_at-part m q (size_at m q) 20 (omega arith) inside ∙ sym (word-is m (q + 20)) ∙ sym (size_of s q o h);
       data_is = subst (λ (x : HeapObject). take (length x.bytes) (drop (data_offset Counting x.kind) part) ≡ x.bytes) (sym h.is)
           (data_read m q (kind_at m q) least inside);
     }
+
+-- COUNTS
+
+-- how often a place is in a set of places that stand once
+one_is : (q : ℕ) (xs : List ℕ) → occ q xs ≤ 1 → one_in (finset.from_list xs) q ≡ occ q xs
+one_is q xs once = elim (in_or_not q xs) [
+  | inl i ↦ ap (λ b. cond b 1 0) (contains_in q xs i) ∙ (let some = In-occ q xs i in omega arith)
+  | inr none ↦ ap (λ b. cond b 1 0) (contains_not q xs none) ∙ sym (occ-none q xs none)
+]
+
+shows_view : (v : View) (s : CountedSpace) (scopes q n : ℕ) → Holds v s → v.marked ≡ [] → finite.get (counts_of v).counted q ≡ Some n
+    → ShowsCount (record (seen_in scopes s) { counts = counts_of v }) s.memory q n
+shows_view v s scopes q n h unmarked held =
+    let f = found_in v.counted q n v.places held in
+    let o = h.objects q f.0 in
+    let is = f.1 in
+    let shown = one_is q v.shown (h.shown_part.once q) in
+    let queued = one_is q v.queue (h.queue_part.once q) in
+    let marked : occ q v.marked ≡ 0 = ap (occ q) unmarked in
+    let positive = o.positive in
+    let count = o.count_is in
+    let flags = o.flags_are in
+    record {
+      word = sym (word64-is s.memory (q + 8)) ∙ (omega arith);
+      positive = omega arith;
+      flags = ap (λ w. w % 8) (sym (word-is s.memory q)) ∙ (omega arith);
+    }
+
+-- the bytes show each count
+pub shows_count : (s : CountedSpace) (scopes q n : ℕ) → IsSoundSpace s → finite.get (seen_in scopes s).counts.counted q ≡ Some n → ShowsCount (seen_in scopes s) s.memory q n
+shows_count s scopes q n sound =
+    subst (λ (c : Counts). finite.get c.counted q ≡ Some n → ShowsCount (record (seen_in scopes s) { counts = c }) s.memory q n) (sym (counts_are sound.view s sound.holds))
+    (shows_view sound.view s scopes q n sound.holds sound.unmarked)
 
 -- an answer that is right where it is one, and is one
 pub match_ok : {A E : Type 0} (r : Result A E) (P R : A → Type 0) (N : E → Type 0) → MatchResult r P N → ((x : A) → P x → R x) → ((e : E) → N e → ⊥) → IsOkAnd r R

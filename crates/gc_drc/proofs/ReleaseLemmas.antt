@@ -9,6 +9,7 @@ use Rattle.gc_memory.proofs.ListLemmas.{In-occ, occ-In, occ-same, occ-other}
 use Rattle.gc_free.specs.declared.run.Run.{Run}
 use Rattle.gc_free.specs.Runs.{run, without, begins_at, IsSpread}
 use Rattle.gc_free.specs.Space.{Space, IsSound, give, places_end}
+use Rattle.gc_model.specs.Allocation.{page}
 use Rattle.gc_drc.specs.declared.space.CountedSpace.{CountedSpace}
 use Rattle.gc_drc.specs.Layout.{count_at, size_at, block_of, flags_at, IsWhole}
 use Rattle.gc_drc.specs.View.{View, Holds, ShowsObject, IsPart, Linked, last, link, block_at, count_of, flags_of}
@@ -128,6 +129,7 @@ at_released c v s s' x queue at i memory space sound objects allocated shown not
     record {
       start = at.start;
       holds = record {
+        pages = ap (λ n. n % page) length_is ∙ h.pages;
         bound = omega arith;
         capacity = ap (λ (z : Space). z.capacity) space ∙ h.capacity ∙ sym length_is;
         sound = sound;

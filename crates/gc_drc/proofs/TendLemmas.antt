@@ -14,6 +14,7 @@ use Rattle.gc_memory.proofs.WordLemmas.{word_in_same, word64_in_same, word_befor
 use Rattle.gc_model.specs.Bytes.{SameBytes}
 use Rattle.gc_model.proofs.ByteLemmas.{SameBytes-part, part_in_same}
 use Rattle.gc_model.specs.Views.{HeapObject, put_u32}
+use Rattle.gc_model.specs.Allocation.{page}
 use Rattle.gc_drc.specs.declared.space.CountedSpace.{CountedSpace}
 use Rattle.gc_drc.specs.Layout.{count_at, size_at, block_of, flags_at, kind_of, kind_at, data_at, object_at, IsWhole}
 use Rattle.gc_drc.specs.View.{View, count_of, flags_of, Holds, ShowsObject, IsPart, Linked, last, link}
@@ -232,6 +233,7 @@ holds_tended v s m hs hq x counted shown queue marked h j t count positive flags
     let capacity = h.capacity in
     let bound = h.bound in
     record {
+      pages = ap (λ n. n % page) len ∙ h.pages;
       bound = omega arith;
       capacity = omega arith;
       sound = h.sound;

@@ -19,6 +19,7 @@ use Rattle.gc_model.proofs.ByteLemmas.{SameBytes-part, part_in_same, part-put_by
 use Rattle.gc_model.specs.Views.{HeapObject, HeapView, put_u32}
 use Rattle.gc_heap.specs.Objects.{first_offset, writable_offset, held_size, IsObjectKind}
 use Rattle.gc_heap.specs.Heap.{IsWritable, IsSameHeader, with_data, with_spare_of, put_object}
+use Rattle.gc_model.specs.Allocation.{page}
 use Rattle.gc_drc.specs.declared.space.CountedSpace.{CountedSpace}
 use Rattle.gc_drc.specs.Layout.{count_at, size_at, block_of, flags_at, kind_of, kind_at, data_at, object_at, IsWhole, IsExternalAt}
 use Rattle.gc_drc.specs.View.{View, count_of, flags_of, Holds, ShowsObject, IsPart, Linked}
@@ -64,6 +65,7 @@ holds_kept v s m x h j k =
     let bound = h.bound in
     let capacity = h.capacity in
     record {
+      pages = ap (λ n. n % page) len ∙ h.pages;
       bound = omega arith;
       capacity = omega arith;
       sound = h.sound;

@@ -7,6 +7,7 @@ use Rattle.gc_memory.specs.Changes.{Wrote}
 use Rattle.gc_model.specs.Views.{HeapObject}
 use Rattle.gc_free.specs.Runs.{run, insert_run}
 use Rattle.gc_free.specs.Space.{IsSound, free_runs}
+use Rattle.gc_free.specs.Space as free_list
 use Rattle.gc_heap.specs.Heap.{IsTooLarge, need_of}
 use Rattle.gc_heap.specs.declared.heap.HeapFault.{HeapFault}
 use Rattle.gc_heap.specs.declared.heap.HeapFault.TheVariants as fault
@@ -28,9 +29,10 @@ with_place v p size = record v {
   sizes = λ y. cond (nat_eq y p) size (v.sizes y);
 }
 
--- the free list holds one block more, at a place
+-- the free list holds one block more, at the place that it gives
 pub record TakesBlock (before after : CountedSpace) (place size : ℕ) : Type 0 where
   pub rest : after ≡ record before { free = after.free }
+  pub given : (free_list.take (block_of size) before.free.space).place ≡ Some place
   pub held : after.free.space.held ≡ insert_run (run place (block_of size)) before.free.space.held
   pub capacity : after.free.space.capacity ≡ before.free.space.capacity
   pub sound : IsSound after.free.space

@@ -21,7 +21,7 @@ use Rattle.gc_drc.specs.declared.space.CountedSpace.{CountedSpace}
 use Rattle.gc_drc.specs.Layout.{size_at, block_of, kind_at, data_at, object_at, IsWhole}
 use Rattle.gc_drc.specs.View.{View, block_at, Holds, IsPart}
 use Rattle.gc_drc.specs.Content.{at_places, places_of, shown_at, queued_at, counted_at, counts_at, counts_of, seen_in, IsSoundSpace}
-use Rattle.gc_drc.specs.PlaceLaws.{get_in, found_in, at_places-same, places-blocks, spread-lies, spread-apart, spread-sum, total-at, same_members, in_contains, filter_in, in_filter}
+use Rattle.gc_drc.specs.PlaceLaws.{get_in, found_in, at_places-same, places-blocks, spread-lies, spread-apart, spread-sum, spread-total, total-at, same_members, in_contains, filter_in, in_filter}
 
 -- the blocks of a view lie apart
 pub blocks_apart : (v : View) (s : CountedSpace) → Holds v s → IsSpread 16 (places_end s.free.space.capacity) (map (block_at v.sizes) v.places)
@@ -80,21 +80,21 @@ apart v s p q h i j before = spread-apart v.sizes 16 (places_end s.free.space.ca
 
 -- FLAGS AND COUNTS
 
-shown_is : (v : View) (s : CountedSpace) (p : ℕ) → Holds v s → In p v.places → shown_at s.memory p ≡ occ p v.shown
+pub shown_is : (v : View) (s : CountedSpace) (p : ℕ) → Holds v s → In p v.places → shown_at s.memory p ≡ occ p v.shown
 shown_is v s p h i =
     let f = (h.objects p i).flags_are in
     let a = h.shown_part.once p in
     let b = h.queue_part.once p in
     let c = h.marked_part.once p in omega arith
 
-queued_is : (v : View) (s : CountedSpace) (p : ℕ) → Holds v s → In p v.places → queued_at s.memory p ≡ occ p v.queue
+pub queued_is : (v : View) (s : CountedSpace) (p : ℕ) → Holds v s → In p v.places → queued_at s.memory p ≡ occ p v.queue
 queued_is v s p h i =
     let f = (h.objects p i).flags_are in
     let a = h.shown_part.once p in
     let b = h.queue_part.once p in
     let c = h.marked_part.once p in omega arith
 
-counted_is : (v : View) (s : CountedSpace) (p : ℕ) → Holds v s → In p v.places → counted_at s.memory p ≡ v.counted p
+pub counted_is : (v : View) (s : CountedSpace) (p : ℕ) → Holds v s → In p v.places → counted_at s.memory p ≡ v.counted p
 counted_is v s p h i =
     let c = (h.objects p i).count_is in
     let a = shown_is v s p h i in
@@ -234,6 +234,13 @@ sums v s h =
         none [] up small = refl
         none (p ∷ ps) up small = absurd (let a : 16 ≤ p = up.0 in let b : p + block_of (v.sizes p) ≤ places_end s.free.space.capacity = up.2 in omega arith)
 
+-- the allocated bytes lie in the memory
+within_memory : (v : View) (s : CountedSpace) → Holds v s → s.allocated ≤ length s.memory
+within_memory v s h =
+    let all = spread-total v.sizes 16 (places_end s.free.space.capacity) v.places (blocks_apart v s h) in
+    let capacity = h.capacity in
+    let allocated = h.allocated in omega arith
+
 -- A sound space is a heap.
 pub space_is_heap : (s : CountedSpace) (scopes : ℕ) → IsSoundSpace s → scopes < 2 ^ 64 → IsHeap Counting (seen_in scopes s)
 space_is_heap s scopes sound below =
@@ -253,7 +260,9 @@ space_is_heap s scopes sound below =
           let held = ap (held_size Counting) f.1 ∙ held_size-in v s p h i in
           subst (λ n. p + n ≤ q) (sym held) (omega arith);
       fits = sum.0;
+      pages = h.pages;
       bound = h.bound;
+      within = within_memory v s h;
       allocated = sum.1;
       by_kind = (tells_counts v s scopes h, refl);
       detached = λ e. absurd (cc);
@@ -266,7 +275,9 @@ detached_is_heap scopes below = record {
   objects = λ p o e. absurd (none p o e);
   apart = λ p q o o' e e' before. absurd (none p o e);
   fits = omega (arith, total-empty (held_size Counting));
+  pages = refl;
   bound = omega arith;
+  within = omega arith;
   allocated = sym (total-empty (block_size Counting));
   by_kind = (
     record {

@@ -1,5 +1,5 @@
 -- A counting heap by lists, and what its memory shows of it.
-use Rattle.std.specs.Prelude.{◌≡◌, ℕ, ◌+◌, ◌*◌, ◌<◌, ◌≤◌, List, [], ◌∷◌, map, length}
+use Rattle.std.specs.Prelude.{◌≡◌, ℕ, ◌+◌, ◌*◌, ◌%◌, ◌<◌, ◌≤◌, List, [], ◌∷◌, map, length}
 use Rattle.gc_memory.specs.Words.{word}
 use Rattle.gc_memory.specs.Lists.{In, occ, sum_over}
 use Rattle.gc_model.specs.Allocation.{page, max_pages}
@@ -53,6 +53,7 @@ pub record ShowsObject (bytes : List ℕ) (place size count flags : ℕ) : Type 
 -- The heap shows this view: the blocks of its free list are those of the objects, its words are theirs,
 -- and the two lists are linked from their heads on.
 pub record Holds (v : View) (s : CountedSpace) : Type 0 where
+  pub pages : length s.memory % page ≡ 0
   pub bound : length s.memory ≤ page * max_pages
   pub capacity : s.free.space.capacity ≡ length s.memory
   pub sound : IsSound s.free.space

@@ -1,6 +1,6 @@
 //! A memory that a counting heap gets, gives away, or gets back with more bytes.
 
-ghost use Rattle.std.specs.Prelude.{ℕ, ◌≡◌, ◌*◌, ◌≤◌, length, IfOk, IfErr};
+ghost use Rattle.std.specs.Prelude.{ℕ, ◌≡◌, ◌*◌, ◌%◌, ◌≤◌, length, IfOk, IfErr};
 ghost use Rattle.gc_heap.specs.Heap.{empty_heap};
 ghost use Rattle.gc_types.specs.declared.kind.Layouts.TheVariants.{Counting};
 ghost use Rattle.gc_model.specs.Allocation.{page, max_pages};
@@ -64,6 +64,7 @@ impl Marks {
         ensures space { result ≡ record { memory = memory; free = result.free; shown = self.shown; queued = self.queued; objects = self.objects; allocated = self.allocated } }
         ensures grown { result.free.space ≡ grow grown self.free.space }
         ensures sound { IsSound result.free.space }
+        ensures pages { length memory % page ≡ 0 }
         ensures bound { length memory ≤ page * max_pages }
     {
         let _pages = memory.pages();

@@ -25,7 +25,7 @@ ghost use Rattle.gc_heap.specs.Objects.{held_size, first_offset, array_length, e
 ghost use Rattle.gc_heap.specs.References.{LayoutTraces, ArrayTraces};
 ghost use Rattle.gc_heap.specs.Content.{IsHeap};
 ghost use Rattle.gc_heap.specs.Heap.{empty_heap, grown, Allocated, layout_kind, new_struct, new_array, array_size, given_back, IsWritable, with_data, put_object, with_spare_of, CanAllocate, CanGiveBack, IsStructOrExn, IsArray, IsSameHeader};
-ghost use Rattle.gc_heap.specs.Barriers.{CanName, CanUnname, CanNameSlot, CanUnnameSlot, IsNamed, cloned, dropped, exposed, copied, emptied, overwritten};
+ghost use Rattle.gc_heap.specs.Barriers.{CanName, CanUnname, CanNameSlot, CanUnnameSlot, IsNamed, ShowsCount, cloned, dropped, exposed, copied, emptied, overwritten};
 ghost use Rattle.gc_drc.specs.States.{drc_seen, IsDrcSound, IsDrcTaken};
 
 use crate::growth::Marks;
@@ -483,6 +483,7 @@ impl DrcHeap {
         requires { IsDrcSound self.now }
         ensures size { length result.now ≡ (drc_seen self.now).capacity }
         ensures objects { (place : ℕ) (object : HeapObject) → finite.get (drc_seen self.now).content place ≡ Some object → IsObjectData Counting object (take (held_size Counting object) (drop place result.now)) }
+        ensures counts { (place n : ℕ) → finite.get (drc_seen self.now).counts.counted place ≡ Some n → ShowsCount (drc_seen self.now) result.now place n }
     {
         match &self.backing {
             Backing::Attached(space) => space.memory.bytes(),

@@ -37,7 +37,7 @@ returns-in-Taken-clause-sound c =
     let out = subst (λ b. IsOut h.scopes b view bytes) is t.0.out in
     let w = c.with_memory.ensures in
     record {
-      backed = (puts_back c.in-Taken.marks c.with_memory.result c.args.memory h.scopes c.args.delta_bytes_grown view bytes out t.1 w.space w.grown w.sound w.bound).0;
+      backed = (puts_back c.in-Taken.marks c.with_memory.result c.args.memory h.scopes c.args.delta_bytes_grown view bytes out t.1 w.space w.grown w.sound w.pages w.bound).0;
       scopes = t.0.scopes;
     }
 
@@ -47,4 +47,4 @@ returns-in-Taken-clause-seen c = λ view bytes taken grown_by.
     let is = sym c.replace.ensures.value ∙ c.in-Taken.is in
     let out = subst (λ b. IsOut h.scopes b view bytes) is taken.out in
     let w = c.with_memory.ensures in
-    (puts_back c.in-Taken.marks c.with_memory.result c.args.memory h.scopes c.args.delta_bytes_grown view bytes out grown_by w.space w.grown w.sound w.bound).1
+    (puts_back c.in-Taken.marks c.with_memory.result c.args.memory h.scopes c.args.delta_bytes_grown view bytes out grown_by w.space w.grown w.sound w.pages w.bound).1

@@ -1,4 +1,4 @@
-use Rattle.std.proofs.Common.{◌≡◌, ℕ, ◌+◌, ◌*◌, ◌≤◌, length, refl, sym, ap, subst, ◌∙◌, arith}
+use Rattle.std.proofs.Common.{◌≡◌, ℕ, ◌+◌, ◌*◌, ◌%◌, ◌≤◌, length, refl, sym, ap, subst, ◌∙◌, arith}
 use Rattle.gc_model.specs.Allocation.{page, max_pages}
 use Rattle.gc_free.specs.Space.{Space, new_space}
 use Rattle.gc_drc.proofs.GrowLemmas.{empty_sound, empty_seen}
@@ -8,8 +8,9 @@ pub returns-in-Ok-clause-sound : goal.returns-in-Ok-clause-sound
 returns-in-Ok-clause-sound c =
     let size = c.pages-pages.ensures.size in
     let few = c.pages-pages.ensures.bound in
+    let pages : length c.args.memory % page ≡ 0 = omega arith in
     let bound : length c.args.memory ≤ page * max_pages = omega arith in
-    empty_sound _ (c.in-Ok.ensures.made ∙ ap new_space c.byte_size.ensures) c.in-Ok.ensures.sound bound refl refl refl refl
+    empty_sound _ (c.in-Ok.ensures.made ∙ ap new_space c.byte_size.ensures) c.in-Ok.ensures.sound pages bound refl refl refl refl
 
 pub returns-in-Ok-clause-seen : goal.returns-in-Ok-clause-seen
 returns-in-Ok-clause-seen c = λ scopes. empty_seen (record { memory = c.args.memory; free = c.in-Ok.free; shown = 0; queued = 0; objects = 0; allocated = 0 }) scopes (c.in-Ok.ensures.made ∙ ap new_space c.byte_size.ensures) refl
