@@ -27,8 +27,8 @@ unreachable-requires c =
     let t = c.requires.taken.1.1 in
     is_taken h.scopes h.backing c.requires.taken.0 c.requires.taken.1.0 t.0.out (λ m e. c.in_default.not-Taken m (c.replace.ensures.value ∙ e))
 
-pub returns-in-Taken-clause-sound : goal.returns-in-Taken-clause-sound
-returns-in-Taken-clause-sound c =
+pub returns-clause-sound : goal.returns-clause-sound
+returns-clause-sound c =
     let h = c.args.self.now in
     let view = c.requires.taken.0 in
     let bytes = c.requires.taken.1.0 in
@@ -41,8 +41,8 @@ returns-in-Taken-clause-sound c =
       scopes = t.0.scopes;
     }
 
-pub returns-in-Taken-clause-seen : goal.returns-in-Taken-clause-seen
-returns-in-Taken-clause-seen c = λ view bytes taken grown_by.
+pub returns-clause-seen : goal.returns-clause-seen
+returns-clause-seen c = λ view bytes taken grown_by.
     let h = c.args.self.now in
     let is = sym c.replace.ensures.value ∙ c.in-Taken.is in
     let out = subst (λ b. IsOut h.scopes b view bytes) is taken.out in
