@@ -25,7 +25,10 @@ use Rattle.gc_drc.specs.Operations.{Tends, Sets}
 pub sets_nothing : (m : List ℕ) (x : ℕ) → Sets m m x (word m x) (count_at m x) (word m (x + 16)) (word m (x + 24))
 sets_nothing m x = record {
   tends = record { around = Wrote-nothing m x 28; kind = refl; ty = refl; size = refl };
-  kind_is = refl; count_is = refl; list_is = refl; link_is = refl;
+  kind_is = refl;
+  count_is = refl;
+  list_is = refl;
+  link_is = refl;
 }
 
 pub sets_count : (a b : List ℕ) (x k c l q n : ℕ) → Sets a b x k c l q → x + 28 ≤ length a → n < 2 ^ 64 → Sets a (put_u64 b (x + 8) n) x k n l q
@@ -122,7 +125,7 @@ object_by_words a b p w kw ty size same =
     let kind : kind_of (kind_part (word b p)) ≡ kind_of (kind_part (word a p)) = ap kind_of part in
     let bytes : SameBytes a b (p + 28) (p + size_at a p) = same least in
     let data_same : data_at b p ≡ data_at a p =
-        ap (λ n. take (n - 28) (drop (p + 28) b)) size ∙ part_in_same a b (p + 28) (size_at a p - 28) (SameBytes-part bytes (p + 28) (p + 28 + (size_at a p - 28)) (omega arith) (omega arith)) in
+    ap (λ n. take (n - 28) (drop (p + 28) b)) size ∙ part_in_same a b (p + 28) (size_at a p - 28) (SameBytes-part bytes (p + 28) (p + 28 + (size_at a p - 28)) (omega arith) (omega arith)) in
     record {
       size = size;
       object = same_object _ _ kind ty (omega arith) data_same;
@@ -141,10 +144,10 @@ object_by_words a b p w kw ty size same =
 pub object_in_same : (a b : List ℕ) (p : ℕ) → IsWhole a p → 28 ≤ size_at a p → SameBytes a b p (p + size_at a p) → SameObject a b p
 object_in_same a b p w least s =
     object_by_words a b p w
-      (ap (λ n. n / 8) (word_in_same a b p (SameBytes-part s p (p + 4) (omega arith) (omega arith))))
-      (word_in_same a b (p + 4) (SameBytes-part s (p + 4) (p + 4 + 4) (omega arith) (omega arith)))
-      (word_in_same a b (p + 20) (SameBytes-part s (p + 20) (p + 20 + 4) (omega arith) (omega arith)))
-      (λ _. SameBytes-part s (p + 28) (p + size_at a p) (omega arith) (omega arith))
+    (ap (λ n. n / 8) (word_in_same a b p (SameBytes-part s p (p + 4) (omega arith) (omega arith))))
+    (word_in_same a b (p + 4) (SameBytes-part s (p + 4) (p + 4 + 4) (omega arith) (omega arith)))
+    (word_in_same a b (p + 20) (SameBytes-part s (p + 20) (p + 20 + 4) (omega arith) (omega arith)))
+    (λ _. SameBytes-part s (p + 28) (p + size_at a p) (omega arith) (omega arith))
 
 -- another object lies on either side
 pub apart_from : (v : View) (s : CountedSpace) (p x : ℕ) → Holds v s → In p v.places → In x v.places → (p ≡ x → ⊥) → (p + block_of (v.sizes p) ≤ x) ⊎ (x + block_of (v.sizes x) ≤ p)
@@ -172,10 +175,10 @@ own_words_fit n l = omega arith
 pub tended_object : (v : View) (s : CountedSpace) (m : List ℕ) (p x : ℕ) → Holds v s → In p v.places → In x v.places → Tends s.memory m x → SameObject s.memory m p
 tended_object v s m p x h i j t = elim (cases_eq p x) [
   | inl e ↦
-    let w : Tends s.memory m p = subst (Tends s.memory m) (sym e) t in
-    object_by_words s.memory m p o.whole w.kind w.ty w.size (λ _. Wrote-behind w.around (p + 28) (p + size_at s.memory p) (omega arith))
+      let w : Tends s.memory m p = subst (Tends s.memory m) (sym e) t in
+      object_by_words s.memory m p o.whole w.kind w.ty w.size (λ _. Wrote-behind w.around (p + 28) (p + size_at s.memory p) (omega arith))
   | inr ne ↦
-    object_in_same s.memory m p o.whole (omega (arith, l.least, o.size_is))
+      object_in_same s.memory m p o.whole (omega (arith, l.least, o.size_is))
       (subst (λ n. SameBytes s.memory m p (p + n)) (sym o.size_is) (other_bytes v s m p x 28 h i j ne t.around (own_words_fit (v.sizes x) (lies v s x h j).least)))
 ]
   where
@@ -198,8 +201,8 @@ tended_links v s m x offset head list h j t small part linked own =
     linked_in_same s.memory m offset head list linked (λ p i. elim (cases_eq p x) [
       | inl e ↦ subst (λ q. word m (q + offset) ≡ word s.memory (q + offset)) (sym e) (own (subst (λ q. In q list) e i))
       | inr ne ↦
-        let l = (lies v s p h (part.inside p i)).least in
-        word_in_same s.memory m (p + offset) (SameBytes-part (other_bytes v s m p x 28 h (part.inside p i) j ne t.around (own_words_fit (v.sizes x) (lies v s x h j).least))
+          let l = (lies v s p h (part.inside p i)).least in
+          word_in_same s.memory m (p + offset) (SameBytes-part (other_bytes v s m p x 28 h (part.inside p i) j ne t.around (own_words_fit (v.sizes x) (lies v s x h j).least))
           (p + offset) (p + offset + 4) (omega arith) (omega arith))
     ])
 
@@ -208,9 +211,10 @@ pub other_words : (v : View) (s : CountedSpace) (m : List ℕ) (p x n : ℕ) →
     → (count_at m p ≡ count_at s.memory p) × (flags_at m p ≡ flags_at s.memory p)
 other_words v s m p x n h i j ne w small =
     let same = other_bytes v s m p x n h i j ne w small in
-    let l = (lies v s p h i).least in
-    (word64_in_same s.memory m (p + 8) (SameBytes-part same (p + 8) (p + 8 + 8) (omega arith) (omega arith)),
-     ap (λ n. n % 8) (word_in_same s.memory m p (SameBytes-part same p (p + 4) (omega arith) (omega arith))))
+    let l = (lies v s p h i).least in (
+      word64_in_same s.memory m (p + 8) (SameBytes-part same (p + 8) (p + 8 + 8) (omega arith) (omega arith)),
+      ap (λ n. n % 8) (word_in_same s.memory m p (SameBytes-part same p (p + 4) (omega arith) (omega arith))),
+    )
 
 -- what a view has after a change of one object
 pub changed : View → (ℕ → ℕ) → List ℕ → List ℕ → List ℕ → View
@@ -243,13 +247,13 @@ holds_tended v s m hs hq x counted shown queue marked h j t count positive flags
     }
   where
     object : (p : ℕ) → In p v.places → (p ≡ x) ⊎ (p ≡ x → ⊥)
-      → ShowsObject m p (v.sizes p) (counted p + occ p shown + occ p queue) (occ p marked + 2 * occ p shown + 4 * occ p queue)
+        → ShowsObject m p (v.sizes p) (counted p + occ p shown + occ p queue) (occ p marked + 2 * occ p shown + 4 * occ p queue)
     object p i (inl e) =
         let o = tended_object v s m p x h i j t in
         let was = h.objects p i in
         subst (λ q. IsWhole m q → size_at m q ≡ v.sizes q → ShowsObject m q (v.sizes q) (counted q + occ q shown + occ q queue) (occ q marked + 2 * occ q shown + 4 * occ q queue)) (sym e)
-          (λ w size. record { whole = w; size_is = size; count_is = count; positive = positive; flags_are = flags })
-          o.whole (o.size ∙ was.size_is)
+        (λ w size. record { whole = w; size_is = size; count_is = count; positive = positive; flags_are = flags })
+        o.whole (o.size ∙ was.size_is)
     object p i (inr ne) =
         let o = tended_object v s m p x h i j t in
         let was = h.objects p i in

@@ -69,7 +69,8 @@ uncounts_takes c places s s' w rest b u is read on takes kinds =
 
 uncounts_over : (c : Context) (places : List ℕ) (s : CountedSpace) (w : ℕ) (rest : List ℕ) → (u : Uncounts c places s (w ∷ rest)) → occ w u.view.marked ≡ 0 → Uncounts c places s rest
 uncounts_over c places s w rest u none = record {
-  view = u.view; at = u.at;
+  view = u.view;
+  at = u.at;
   freeing = freeing_skips c.graph u.view w rest u.freeing none;
   places_are = u.places_are;
   known = λ q i. u.known q (there i);
@@ -131,15 +132,20 @@ freed_uncounts D c before old new places s s1 x q i fresh frees_host memory free
     let f = garbage_fresh D c before old places s x q i fresh in
     let held = In-occ x q.view.places f.0 in
     let none = f.1.1 in
-    let once : occ x places ≤ 1 = subst (λ (ps : List ℕ). occ x ps ≤ 1) q.places_are (q.freeing.is_view.once x) in
-    (f.1.0, (record {
-      view = freed q.view x;
-      at = frees c q.view q.at f.0 (unmarked_not_shown c.graph q.view x [] q.freeing held none) (q.freeing.none_queued x) none;
-      freeing = freeing_frees c.graph q.view x q.freeing held none;
-      places_are = ap (without_one x) q.places_are;
-      known = λ w j. q.at.start.fields x w f.1.0 j;
-      bits = λ p j. ap (λ (m : List ℕ). word m p % 2) memory ∙ q.bits p j;
-    }, hosts_after D c s.memory places before old new x once (In-occ x places i) f.1.0 q.at.start q.at.intact q.hosts frees_host))
+    let once : occ x places ≤ 1 = subst (λ (ps : List ℕ). occ x ps ≤ 1) q.places_are (q.freeing.is_view.once x) in (
+      f.1.0,
+      (
+        record {
+          view = freed q.view x;
+          at = frees c q.view q.at f.0 (unmarked_not_shown c.graph q.view x [] q.freeing held none) (q.freeing.none_queued x) none;
+          freeing = freeing_frees c.graph q.view x q.freeing held none;
+          places_are = ap (without_one x) q.places_are;
+          known = λ w j. q.at.start.fields x w f.1.0 j;
+          bits = λ p j. ap (λ (m : List ℕ). word m p % 2) memory ∙ q.bits p j;
+        },
+        hosts_after D c s.memory places before old new x once (In-occ x places i) f.1.0 q.at.start q.at.intact q.hosts frees_host,
+      ),
+    )
 
 pub garbage_can_visit : (D : Type 0) (types : List Declaration) (old new : finite.FinMap nat_cmp D) (s s1 : CountedSpace) (x : ℕ) → CanFreeGarbage D types s old x → FreesHostOf D s.memory old new x → s1.memory ≡ s.memory
     → ((o : Context) (v : View) → At o v s → In x v.places → occ x v.shown ≡ 0 → occ x v.queue ≡ 0 → occ x v.marked ≡ 0 → At o (freed v x) s1)
@@ -195,8 +201,8 @@ next_first : (sizes : ℕ → ℕ) (low end : ℕ) (ps : List ℕ) → low ≤ e
 next_first sizes low end [] h up = elim (cases_lt low end) [
   | inl some ↦
       let found : run_at low (gap low end) ≡ Some (end - low) =
-          ap (λ b. run_at low (cond b (run low (end - low) ∷ []) [])) (lt-ltb low end some)
-          ∙ ap (λ b. option_map (λ (r : Run). r.length) (cond b (Some (run low (end - low))) None)) (eq-eqb low low refl) in
+      ap (λ b. run_at low (cond b (run low (end - low) ∷ []) [])) (lt-ltb low end some)
+      ∙ ap (λ b. option_map (λ (r : Run). r.length) (cond b (Some (run low (end - low))) None)) (eq-eqb low low refl) in
       let to : past (run_at low (gap low end)) low ≡ end = ap (λ o. past o low) found ∙ omega arith in
       record { is = inl to; from_on = omega arith; inside = omega arith; skips = λ p i. elim i [ ] }
   | inr none ↦
@@ -213,13 +219,13 @@ next_first sizes low end (q ∷ ps) h up =
     let to : past (run_at low all) low ≡ q = elim (cases_lt low q) [
       | inl some ↦
           let found : run_at low all ≡ Some (q - low) =
-              ap (λ b. run_at low (cond b (run low (q - low) ∷ []) [] ++ rest)) (lt-ltb low q some)
-              ∙ ap (λ b. option_map (λ (r : Run). r.length) (cond b (Some (run low (q - low))) (find (begins_at low) rest))) (eq-eqb low low refl) in
+          ap (λ b. run_at low (cond b (run low (q - low) ∷ []) [] ++ rest)) (lt-ltb low q some)
+          ∙ ap (λ b. option_map (λ (r : Run). r.length) (cond b (Some (run low (q - low))) (find (begins_at low) rest))) (eq-eqb low low refl) in
           ap (λ o. past o low) found ∙ omega arith
       | inr none ↦
           let found : run_at low all ≡ None =
-              ap (λ b. run_at low (cond b (run low (q - low) ∷ []) [] ++ rest)) (le-ltb low q none)
-              ∙ ap (option_map (λ (r : Run). r.length)) (none_above sizes low (q + block_of (sizes q)) end ps (omega arith) up.3) in
+          ap (λ b. run_at low (cond b (run low (q - low) ∷ []) [] ++ rest)) (le-ltb low q none)
+          ∙ ap (option_map (λ (r : Run). r.length)) (none_above sizes low (q + block_of (sizes q)) end ps (omega arith) up.3) in
           ap (λ o. past o low) found ∙ omega arith
     ] in
     record {
@@ -289,20 +295,20 @@ next_at c v s from some at (inl e) =
     let up = blocks_apart v s at.holds in
     let n = next_first v.sizes 16 (places_end s.free.space.capacity) v.places (omega arith) up in
     let free : run_at 16 (gaps 16 (places_end s.free.space.capacity) (map (block_at v.sizes) v.places)) ≡ run_length_at from s.free.space =
-        ap (λ rs. run_at 16 (gaps 16 (places_end s.free.space.capacity) rs)) (sym at.holds.blocks) ∙ ap (λ (p : ℕ). run_length_at p s.free.space) (sym e) in
+    ap (λ rs. run_at 16 (gaps 16 (places_end s.free.space.capacity) rs)) (sym at.holds.blocks) ∙ ap (λ (p : ℕ). run_length_at p s.free.space) (sym e) in
     subst (λ (z : ℕ). IsNext v.places z from (past (run_length_at from s.free.space) from)) end
-      (subst (λ (p : ℕ). IsNext v.places (places_end s.free.space.capacity) p (past (run_length_at from s.free.space) p)) (sym e)
-        (subst (λ o. IsNext v.places (places_end s.free.space.capacity) 16 (past o 16)) free n))
+    (subst (λ (p : ℕ). IsNext v.places (places_end s.free.space.capacity) p (past (run_length_at from s.free.space) p)) (sym e)
+    (subst (λ o. IsNext v.places (places_end s.free.space.capacity) 16 (past o 16)) free n))
 next_at c v s from some at (inr (q, (i, e))) =
     let end = end_is v s at.holds in
     let up = blocks_apart v s at.holds in
     let behind = q + block_of (v.sizes q) in
     let n = next_behind v.sizes 16 (places_end s.free.space.capacity) q v.places (omega arith) up i in
     let free : run_at behind (gaps 16 (places_end s.free.space.capacity) (map (block_at v.sizes) v.places)) ≡ run_length_at from s.free.space =
-        ap (λ rs. run_at behind (gaps 16 (places_end s.free.space.capacity) rs)) (sym at.holds.blocks) ∙ ap (λ (p : ℕ). run_length_at p s.free.space) (sym e) in
+    ap (λ rs. run_at behind (gaps 16 (places_end s.free.space.capacity) rs)) (sym at.holds.blocks) ∙ ap (λ (p : ℕ). run_length_at p s.free.space) (sym e) in
     subst (λ (z : ℕ). IsNext v.places z from (past (run_length_at from s.free.space) from)) end
-      (subst (λ (p : ℕ). IsNext v.places (places_end s.free.space.capacity) p (past (run_length_at from s.free.space) p)) (sym e)
-        (subst (λ o. IsNext v.places (places_end s.free.space.capacity) behind (past o behind)) free n))
+    (subst (λ (p : ℕ). IsNext v.places (places_end s.free.space.capacity) p (past (run_length_at from s.free.space) p)) (sym e)
+    (subst (λ o. IsNext v.places (places_end s.free.space.capacity) behind (past o behind)) free n))
 
 -- it fits 32 bits
 pub walk_small : (c : Context) (v : View) (s : CountedSpace) → At c v s → walk_end s < 2 ^ 32
@@ -330,7 +336,12 @@ bit_off n b read off = unmarked_read (n % 2) (sym read ∙ off) (omega arith)
 pub garbage_can_free : (D : Type 0) (types : List Declaration) (s : CountedSpace) (now : finite.FinMap nat_cmp D) (x : ℕ) (b : Bool) → CanSweepGarbage D types s now x → b ≡ nat_eq (word s.memory x % 2) 1 → b ≡ false
     → CanFreeGarbage D types s now x
 garbage_can_free D types s now x b can read off = record {
-  context = can.context; before = can.before; places = can.places; typed = can.typed; garbage = can.garbage; held = can.held;
+  context = can.context;
+  before = can.before;
+  places = can.places;
+  typed = can.typed;
+  garbage = can.garbage;
+  held = can.held;
   fresh = bit_off (word s.memory x) b read off;
 }
 
@@ -413,7 +424,11 @@ pub walk_can_sweep : (D : Type 0) (types : List Declaration) (s s' : CountedSpac
 walk_can_sweep D types s s' old now end place walks h can =
     let w = walks can.context can.before can.places can.typed can.garbage in
     record {
-      context = can.context; before = can.before; places = w.places; typed = can.typed; garbage = w.garbage;
+      context = can.context;
+      before = can.before;
+      places = w.places;
+      typed = can.typed;
+      garbage = w.garbage;
       held = walk_held D can.context can.before now s' end place w h;
     }
 

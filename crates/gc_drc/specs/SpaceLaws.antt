@@ -104,8 +104,8 @@ counted_is v s p h i =
 by_flag : (flag : ℕ → ℕ) (places list : List ℕ) → IsPart places list → ((p : ℕ) → In p places → flag p ≡ occ p list)
     → finset.from_list {R = nat_cmp} (filter (λ (p : ℕ). nat_eq (flag p) 1) places) ≡ finset.from_list list
 by_flag flag places list part is = same_members _ _
-  (λ q i. let r = in_filter (λ (p : ℕ). nat_eq (flag p) 1) q places i in to q r.0 r.1)
-  (λ q i. let p = part.inside q i in filter_in (λ (p : ℕ). nat_eq (flag p) 1) q places p (eq-eqb (flag q) 1 (let once = part.once q in let some = In-occ q list i in let e = is q p in omega arith)))
+    (λ q i. let r = in_filter (λ (p : ℕ). nat_eq (flag p) 1) q places i in to q r.0 r.1)
+    (λ q i. let p = part.inside q i in filter_in (λ (p : ℕ). nat_eq (flag p) 1) q places p (eq-eqb (flag q) 1 (let once = part.once q in let some = In-occ q list i in let e = is q p in omega arith)))
   where
     to : (q : ℕ) → In q places → nat_eq (flag q) 1 ≡ true → In q list
     to q i e = elim (cases_eq (flag q) 1) [
@@ -197,8 +197,10 @@ tells_counts v s scopes h =
     let ps : List ℕ = places_of s.free.space.held in
     let are = places_are v s h in
     record {
-      counted = λ q. (λ held. some_get _ (counted_at s.memory q) (get_in (counted_at s.memory) q ps (found_in (object_at s.memory) q held.0 ps held.1).0),
-        λ some. held_some (object_at s.memory) (counted_at s.memory) ps q some);
+      counted = λ q. (
+        λ held. some_get _ (counted_at s.memory q) (get_in (counted_at s.memory) q ps (found_in (object_at s.memory) q held.0 ps held.1).0),
+        λ some. held_some (object_at s.memory) (counted_at s.memory) ps q some,
+      );
       shown = λ q e. held_in q ps (in_filter _ q ps (in_contains q _ e)).0;
       queued = λ q e. held_in q ps (in_filter _ q ps (in_contains q _ e)).0;
     }
@@ -213,16 +215,16 @@ sums v s h =
     let up = blocks_apart v s h in
     let high : ℕ = places_end s.free.space.capacity in
     let sizes = total-at (held_size Counting) (object_at s.memory) v.sizes 16 high v.places up
-      ∙ sum_over-same v.sizes (λ p. held_size Counting (object_at s.memory p)) v.places (λ p i. held_size-in v s p h i) in
+    ∙ sum_over-same v.sizes (λ p. held_size Counting (object_at s.memory p)) v.places (λ p i. held_size-in v s p h i) in
     let blocks = total-at (block_size Counting) (object_at s.memory) v.sizes 16 high v.places up
-      ∙ sum_over-same (λ p. block_of (v.sizes p)) (λ p. block_size Counting (object_at s.memory p)) v.places (λ p i. ap block_of (held_size-in v s p h i)) in
+    ∙ sum_over-same (λ p. block_of (v.sizes p)) (λ p. block_size Counting (object_at s.memory p)) v.places (λ p i. ap block_of (held_size-in v s p h i)) in
     let less = sum_over-le (λ p. block_of (v.sizes p)) v.sizes v.places (λ p i. omega arith) in
     (fits up sizes less, h.allocated ∙ sym blocks)
   where
     fits : IsSpread 16 (places_end s.free.space.capacity) (map (block_at v.sizes) v.places)
-      → total (held_size Counting) (at_places (object_at s.memory) v.places) ≡ sum_over v.sizes v.places
-      → sum_over v.sizes v.places ≤ sum_over (λ p. block_of (v.sizes p)) v.places
-      → total (held_size Counting) (at_places (object_at s.memory) v.places) ≤ length s.memory
+        → total (held_size Counting) (at_places (object_at s.memory) v.places) ≡ sum_over v.sizes v.places
+        → sum_over v.sizes v.places ≤ sum_over (λ p. block_of (v.sizes p)) v.places
+        → total (held_size Counting) (at_places (object_at s.memory) v.places) ≤ length s.memory
     fits up e less = elim (cases_lt (places_end s.free.space.capacity) 16) [
       | inl small ↦ subst (λ n. n ≤ length s.memory) (sym (e ∙ none v.places up small)) (omega arith)
       | inr large ↦ let sum = spread-sum v.sizes 16 (places_end s.free.space.capacity) v.places large up in let c = h.capacity in omega arith
@@ -240,7 +242,7 @@ space_is_heap s scopes sound below =
     let are = places_are v s h in
     let sum = subst (λ ps. (total (held_size Counting) (at_places (object_at s.memory) ps) ≤ length s.memory) × (s.allocated ≡ total (block_size Counting) (at_places (object_at s.memory) ps))) (sym are) (sums v s h) in
     let place = λ (p : ℕ) (o : HeapObject) (e : finite.get (at_places (object_at s.memory) (places_of s.free.space.held)) p ≡ Some o).
-        found_in (object_at s.memory) p o (places_of s.free.space.held) e in
+    found_in (object_at s.memory) p o (places_of s.free.space.held) e in
     record {
       objects = λ p o e. let f = place p o e in subst (LiesAtPlace Counting (length s.memory) p) (sym f.1) (lies_at_place v s p h (subst (In p) are f.0));
       apart = λ p q o o' e e' before.
@@ -266,11 +268,14 @@ detached_is_heap scopes below = record {
   fits = omega (arith, total-empty (held_size Counting));
   bound = omega arith;
   allocated = sym (total-empty (block_size Counting));
-  by_kind = (record {
-    counted = λ q. (λ held. absurd (none q held.0 held.1), λ some. absurd (no_count q some));
-    shown = λ q e. absurd (no_member q e);
-    queued = λ q e. absurd (no_member q e);
-  }, refl);
+  by_kind = (
+    record {
+      counted = λ q. (λ held. absurd (none q held.0 held.1), λ some. absurd (no_count q some));
+      shown = λ q e. absurd (no_member q e);
+      queued = λ q e. absurd (no_member q e);
+    },
+    refl,
+  );
   detached = λ e. refl;
   scopes = below;
 }

@@ -39,7 +39,12 @@ impl Visitor for Uncount {
 impl CountedSpace {
     /// Frees an object that isn't marked, with its host value, and takes its names off the counts of marked
     /// objects.
-    fn free_garbage<D: Drop>(&mut self, types: &Types, place: u32, hosts: &mut ExternRefHostDataTable<D>)
+    fn free_garbage<D: Drop>(
+        &mut self,
+        types: &Types,
+        place: u32,
+        hosts: &mut ExternRefHostDataTable<D>,
+    )
         requires { CanFreeGarbage D types.now.declarations self.old hosts.old.entries place }
         ensures { (c : Context) (before : finite.FinMap nat_cmp D) (places : List ℕ) → c.types ≡ types.now.declarations → In place places
             → Garbage D c before places self.old hosts.old.entries → Garbage D c before (without_one place places) self.new hosts.new.entries }
@@ -62,7 +67,12 @@ impl CountedSpace {
     }
 
     /// Frees an object if it isn't marked.
-    fn free_if_unmarked<D: Drop>(&mut self, types: &Types, place: u32, hosts: &mut ExternRefHostDataTable<D>)
+    fn free_if_unmarked<D: Drop>(
+        &mut self,
+        types: &Types,
+        place: u32,
+        hosts: &mut ExternRefHostDataTable<D>,
+    )
         requires { CanSweepGarbage D types.now.declarations self.old hosts.old.entries place }
         ensures { (c : Context) (before : finite.FinMap nat_cmp D) (places : List ℕ) → c.types ≡ types.now.declarations → In place places
             → Garbage D c before places self.old hosts.old.entries → SweepsGarbage D c before places place self.new hosts.new.entries }
@@ -76,13 +86,17 @@ impl CountedSpace {
     /// Where the block of an object ends.
     fn block_end(&self, place: u32) -> u32
         requires { CanRelease self.now place }
-        ensures end { result ≡ place + block_of (size_at self.now.memory place) }
+        ensures { result ≡ place + block_of (size_at self.now.memory place) }
     {
         place + (self.size(place) + 15) / 16 * 16
     }
 
     /// Frees each object that isn't marked, from the lowest place on.
-    pub(crate) fn free_unmarked<D: Drop>(&mut self, types: &Types, hosts: &mut ExternRefHostDataTable<D>)
+    pub(crate) fn free_unmarked<D: Drop>(
+        &mut self,
+        types: &Types,
+        hosts: &mut ExternRefHostDataTable<D>,
+    )
         requires { CanFreeUnmarked D types.now.declarations self.old hosts.old.entries }
         ensures { (c : Context) (before : finite.FinMap nat_cmp D) (places : List ℕ) → c.types ≡ types.now.declarations
             → Garbage D c before places self.old hosts.old.entries → FreedUnmarked D c before self.new hosts.new.entries }

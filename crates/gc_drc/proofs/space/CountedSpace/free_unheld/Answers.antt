@@ -11,4 +11,4 @@ pub returns : goal.returns
 returns g c o typed m =
     let r = c.sweep_shown.ensures o m in
     frees_unheld _ o c.drain.new.self c.args.hosts.now.entries c.drain.new.hosts.entries
-      (c.drain.ensures.drained o c.args.hosts.now.entries typed (swept_drain _ o c.sweep_shown.new.self c.args.hosts.now.entries r.0 r.1)) c.drain.ensures.empty
+    (c.drain.ensures.drained o c.args.hosts.now.entries typed (swept_drain _ o c.sweep_shown.new.self c.args.hosts.now.entries r.0 r.1)) c.drain.ensures.empty

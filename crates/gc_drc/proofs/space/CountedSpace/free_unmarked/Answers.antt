@@ -29,12 +29,12 @@ free_if_unmarked-requires g c =
 pub loop-place-preserved : goal.loop-place-preserved
 loop-place-preserved g c =
     walk_on _ c.args.types.now.declarations c.args.self.now c.loop-place.self c.free_if_unmarked.new.self c.args.hosts.now.entries c.loop-place.hosts.entries c.free_if_unmarked.new.hosts.entries
-      (c.capacity.result / 16 * 16) c.loop-place.place c.block_end.result c.next_place-next.result c.loop-place.invariant c.loop-place-test.true c.block_end.ensures c.next_place-next.ensures c.free_if_unmarked.ensures
+    (c.capacity.result / 16 * 16) c.loop-place.place c.block_end.result c.next_place-next.result c.loop-place.invariant c.loop-place-test.true c.block_end.ensures c.next_place-next.ensures c.free_if_unmarked.ensures
 
 pub loop-place-smaller : goal.loop-place-smaller
 loop-place-smaller g c =
     walk_less _ c.args.types.now.declarations c.args.self.now c.loop-place.self _ _ _ c.loop-place.place c.block_end.result c.next_place-next.result c.loop-place.invariant c.loop-place-test.true
-      c.block_end.ensures c.next_place-next.ensures c.requires
+    c.block_end.ensures c.next_place-next.ensures c.requires
 
 pub returns : goal.returns
 returns g c =
