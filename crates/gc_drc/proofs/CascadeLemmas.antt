@@ -29,7 +29,7 @@ queue_lowered v x y can =
       | inr ne ↦
           let no_same : same y x ≡ 0 = same-not y x ne in
           let nothing : cond (nat_eq (count_of v x) 1) (same y x) 0 ≡ 0 =
-              elim (nat_eq (count_of v x) 1) as (λ b. cond b (same y x) 0 ≡ 0) [ true ↦ no_same | false ↦ refl ] in
+          elim (nat_eq (count_of v x) 1) as (λ b. cond b (same y x) 0 ≡ 0) [ true ↦ no_same | false ↦ refl ] in
           (omega arith, λ (h : 0 < occ y v.places). let p : 0 < count_of v y = positive_y h in omega arith)
       | inl e ↦
           let one : same y x ≡ 1 = same-is y x e in
@@ -102,12 +102,12 @@ cascading_freed g v x c is held none not_shown =
     let place : 0 < occ x g.places = let f = c.from x in omega arith in
     let nothing : v.counted x ≡ names g v.places x + occ x g.roots + 0 = c.counts x place in
     let itself : Unheld g x = unheld (occ-In x g.places place)
-        (λ i. let some = In-occ x g.roots i in absurd (omega arith))
-        (λ i. let some = c.shown x place (In-occ x g.frames i) in absurd (omega arith))
-        (λ q i j. c.freed q (In-occ q g.places i) (elim (occ-cases q v.places) [
-          | inl gone ↦ gone
-          | inr some ↦ absurd (let some_name = In-occ x (g.words q) j in let at = names-at g v.places q x some in omega arith)
-        ])) in
+    (λ i. let some = In-occ x g.roots i in absurd (omega arith))
+    (λ i. let some = c.shown x place (In-occ x g.frames i) in absurd (omega arith))
+    (λ q i j. c.freed q (In-occ q g.places i) (elim (occ-cases q v.places) [
+      | inl gone ↦ gone
+      | inr some ↦ absurd (let some_name = In-occ x (g.words q) j in let at = names-at g v.places q x some in omega arith)
+    ])) in
     record {
       counts = λ y h.
           let e : v.counted y ≡ names g v.places y + occ y g.roots + 0 = c.counts y h in

@@ -123,14 +123,16 @@ pub freed_lowering : (D : Type 0) (c : Context) (before old new : finite.FinMap 
     → First c v s x → count_of v x ≡ 1 → FreesHostOf D s.memory old new x
     → ((o : Context) (w : View) (rest : List ℕ) → At o w s → w.queue ≡ x ∷ rest → count_of w x ≡ 1 → occ x w.marked ≡ 0 → At o (freed (unqueued w x) x) s1)
     → Lowering c (without_one x v.places) s1 (c.graph.words x) × HostsLeft D c (without_one x v.places) before new
-freed_lowering D c before old new s s1 x v at draining hosts f alone frees_host frees =
-    (record {
-      view = freed (unqueued v x) x;
-      at = frees c v f.rest at f.is alone (draining.none_marked x);
-      draining = drain_frees c.graph v x draining f.queued alone;
-      places_are = refl;
-      known = λ q i. at.start.fields x q f.place_in i;
-    }, hosts_after D c s.memory v.places before old new x (draining.is_view.once x) (In-occ x v.places f.held) f.place_in at.start at.intact hosts frees_host)
+freed_lowering D c before old new s s1 x v at draining hosts f alone frees_host frees = (
+  record {
+    view = freed (unqueued v x) x;
+    at = frees c v f.rest at f.is alone (draining.none_marked x);
+    draining = drain_frees c.graph v x draining f.queued alone;
+    places_are = refl;
+    known = λ q i. at.start.fields x q f.place_in i;
+  },
+  hosts_after D c s.memory v.places before old new x (draining.is_view.once x) (In-occ x v.places f.held) f.place_in at.start at.intact hosts frees_host,
+)
 
 pub lowered_drain : (D : Type 0) (c : Context) (before now : finite.FinMap nat_cmp D) (places : List ℕ) (s : CountedSpace) → Lowering c places s [] → HostsLeft D c places before now → Drain D c before s now
 lowered_drain D c before now places s l hosts = record {
@@ -192,12 +194,12 @@ left_is : (c : Context) (v : View) (s : CountedSpace) → At c v s → drain_lef
 left_is c v s at =
     let h = at.holds in
     let bits : sum_over (λ p. word s.memory p / 4 % 2) v.places ≡ sum_over (λ p. occ p v.queue) v.places =
-        sum_over-same (λ p. occ p v.queue) (λ p. word s.memory p / 4 % 2) v.places (λ p i.
-          let flags = flags_in c v s p at i in
-          let once = h.queue_part.once p in
-          let once_shown = h.shown_part.once p in
-          let once_marked = h.marked_part.once p in
-          omega arith) in
+    sum_over-same (λ p. occ p v.queue) (λ p. word s.memory p / 4 % 2) v.places (λ p i.
+    let flags = flags_in c v s p at i in
+    let once = h.queue_part.once p in
+    let once_shown = h.shown_part.once p in
+    let once_marked = h.marked_part.once p in
+    omega arith) in
     ap (λ (n : ℕ). n * n + sum_over (λ p. word s.memory p / 4 % 2) (places_of s.free.space.held)) h.count
     ∙ ap (λ (ps : List ℕ). length v.places * length v.places + sum_over (λ p. word s.memory p / 4 % 2) ps) (places_are v s h)
     ∙ ap (λ (n : ℕ). length v.places * length v.places + n) bits

@@ -206,8 +206,8 @@ pub at_written : (c : Context) (v : View) (shown queue marked : List ℕ) (count
     → Lists v (with_lists v shown queue marked counted) s' → At c (with_lists v shown queue marked counted) s'
 at_written c v shown queue marked counted s s' x at r free objects allocated lists =
     linked_at c (with_lists v shown queue marked counted) s'
-      (loose_written c v shown queue marked counted s s' x (loose c v s at) r free objects allocated lists.shown_part lists.queue_part lists.marked_part)
-      lists.shown_linked lists.queue_linked
+    (loose_written c v shown queue marked counted s s' x (loose c v s at) r free objects allocated lists.shown_part lists.queue_part lists.marked_part)
+    lists.shown_linked lists.queue_linked
 
 -- where the two lists' links stayed
 pub lists_kept : (c : Context) (v : View) (marked : List ℕ) (counted : ℕ → ℕ) (s s' : CountedSpace) (x : ℕ) → At c v s

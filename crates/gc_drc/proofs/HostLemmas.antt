@@ -57,7 +57,7 @@ frees_none D old new id raw is same_map none = record {
 -- a number that stands for no id
 pub frees_no_id : (D : Type 0) (old : finite.FinMap nat_cmp D) (raw : ℕ) → (raw ≡ 0) ⊎ (max_entries < raw) → FreesHost D old old raw
 frees_no_id D old raw none = record {
-  lost = λ is. absurd (elim none [ | inl e ↦ (let h = is.0 in omega arith) | inr h ↦ (let k = is.1 in omega arith) ]);
+  lost = λ is. absurd (elim none [ inl e ↦ (let h = is.0 in omega arith) | inr h ↦ (let k = is.1 in omega arith) ]);
   others = λ q other. refl;
   part = λ q value found. found;
 }
@@ -134,5 +134,5 @@ hosts_after D c m places before old new x once held i start intact left f =
           let size = ext.size in
           let word_is : word m (x + 28) ≡ word c.memory (x + 28) = word_in_same c.memory m (x + 28) (SameBytes-part o.bytes (x + 28) (x + 28 + 4) (omega arith) (omega arith)) in
           hosts_freed D c places before old new x once held left (ext.from, ext.to) i is
-            (subst (λ (w : ℕ). FreesHost D old new w) word_is (f.external (kind ∙ is))))
+          (subst (λ (w : ℕ). FreesHost D old new w) word_is (f.external (kind ∙ is))))
     ]

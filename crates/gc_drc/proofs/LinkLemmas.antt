@@ -68,7 +68,7 @@ without_onto x [] left none = without_first x left
 without_onto x (k ∷ ks) left none =
     let other : same x k ≡ 0 = omega arith in
     without_onto_at x ks (k ∷ x ∷ left) (k ∷ left) (omega arith)
-      (ap (λ b. cond b (x ∷ left) (k ∷ without_one x (x ∷ left))) (nat_not x k other) ∙ ap (λ ys. k ∷ ys) (without_first x left))
+    (ap (λ b. cond b (x ∷ left) (k ∷ without_one x (x ∷ left))) (nat_not x k other) ∙ ap (λ ys. k ∷ ys) (without_first x left))
   where
     nat_not : (a b : ℕ) → same a b ≡ 0 → nat_eq a b ≡ false
     nat_not a b e = elim (cases_eq a b) [
@@ -80,5 +80,5 @@ without_onto x (k ∷ ks) left none =
     without_onto_at y [] left1 left2 z e = e
     without_onto_at y (j ∷ js) left1 left2 z e =
         without_onto_at y js (j ∷ left1) (j ∷ left2) (omega arith)
-          (let other : same y j ≡ 0 = omega arith in
-           ap (λ b. cond b left1 (j ∷ without_one y left1)) (nat_not y j other) ∙ ap (λ ys. j ∷ ys) e)
+        (let other : same y j ≡ 0 = omega arith in
+        ap (λ b. cond b left1 (j ∷ without_one y left1)) (nat_not y j other) ∙ ap (λ ys. j ∷ ys) e)

@@ -95,13 +95,13 @@ left_queue c v s s1 s2 x n k q rest read small e1 read_k small_k e2 read_q at is
     let first = sets_count s.memory x (n - 1) room (omega arith) in
     let m1 : s1.memory ≡ put_u64 s.memory (x + 8) (n - 1) = ap (λ (t : CountedSpace). t.memory) e1 in
     let first_as : Sets s.memory s1.memory x (word s.memory x % 8) (n - 1) (word s.memory (x + 16)) (word s.memory (x + 24)) =
-        subst (λ (m : List ℕ). Sets s.memory m x (word s.memory x % 8) (n - 1) (word s.memory (x + 16)) (word s.memory (x + 24))) (sym m1) first in
+    subst (λ (m : List ℕ). Sets s.memory m x (word s.memory x % 8) (n - 1) (word s.memory (x + 16)) (word s.memory (x + 24))) (sym m1) first in
     let len1 = first_as.around.same_length in
     let flags1 = first_as.flags_are in
     let second = sets_kind s1.memory x (k - 4) (omega arith) (omega arith) (omega arith) in
     let m2 : s2.memory ≡ put_u32 s1.memory x (k - 4) = ap (λ (t : CountedSpace). t.memory) e2 in
     let second_as : Sets s1.memory s2.memory x ((k - 4) % 8) (word64 s1.memory (x + 8)) (word s1.memory (x + 16)) (word s1.memory (x + 24)) =
-        subst (λ (m : List ℕ). Sets s1.memory m x ((k - 4) % 8) (word64 s1.memory (x + 8)) (word s1.memory (x + 16)) (word s1.memory (x + 24))) (sym m2) second in
+    subst (λ (m : List ℕ). Sets s1.memory m x ((k - 4) % 8) (word64 s1.memory (x + 8)) (word s1.memory (x + 16)) (word s1.memory (x + 24))) (sym m2) second in
     let both = sets_then first_as second_as in
     let count1 = first_as.count_is in
     let now : CountedSpace = record s2 { queued = q } in
@@ -124,7 +124,7 @@ left_queue c v s s1 s2 x n k q rest read small e1 read_k small_k e2 read_q at is
     let behind : Linked s.memory 24 (word s.memory (x + 24)) rest = (linked_rest s.memory 24 s.queued x rest linked).2 in
     let next : word s.memory (x + 24) ≡ q = sym link_word ∙ sym read_q in
     let rest_linked : Linked s.memory 24 q (without_one x v.queue) =
-        subst (λ (xs : List ℕ). Linked s.memory 24 q xs) (sym without_is) (subst (λ (n : ℕ). Linked s.memory 24 n rest) next behind) in
+    subst (λ (xs : List ℕ). Linked s.memory 24 q xs) (sym without_is) (subst (λ (n : ℕ). Linked s.memory 24 n rest) next behind) in
     let part = part_without v.places v.queue x h.queue_part queued in
     at_written c v v.shown (without_one x v.queue) v.marked v.counted s now x at r free objects allocated (record {
       shown_part = h.shown_part;
@@ -148,16 +148,18 @@ relinked_loose c v s s1 before next at i small is =
     let m1 : s1.memory ≡ put_u32 s.memory (before + 16) next = ap (λ (t : CountedSpace). t.memory) is in
     let h = at.holds in
     let now : Sets s.memory s1.memory before (word s.memory before % 8) (word64 s.memory (before + 8)) next (word s.memory (before + 24)) =
-        subst (λ (m : List ℕ). Sets s.memory m before (word s.memory before % 8) (word64 s.memory (before + 8)) next (word s.memory (before + 24))) (sym m1) sets in
+    subst (λ (m : List ℕ). Sets s.memory m before (word s.memory before % 8) (word64 s.memory (before + 8)) next (word s.memory (before + 24))) (sym m1) sets in
     let r : Rewritten v (with_lists v v.shown v.queue v.marked v.counted) s s1.memory before = record {
       held = i;
       sets = sets_as now _ _ _ _ (flags_in c v s before at i) (count_in c v s before at i) (sym now.shown_is) (sym now.link_is);
       positive = (h.objects before i).positive;
       counts = λ p j ne. refl;
       flags = λ p j ne. refl;
-    } in
-    (r, loose_written c v v.shown v.queue v.marked v.counted s s1 before (loose c v s at) r (ap (λ (t : CountedSpace). t.free) is) (ap (λ (t : CountedSpace). t.objects) is)
-      (ap (λ (t : CountedSpace). t.allocated) is) h.shown_part h.queue_part h.marked_part)
+    } in (
+      r,
+      loose_written c v v.shown v.queue v.marked v.counted s s1 before (loose c v s at) r (ap (λ (t : CountedSpace). t.free) is) (ap (λ (t : CountedSpace). t.objects) is)
+          (ap (λ (t : CountedSpace). t.allocated) is) h.shown_part h.queue_part h.marked_part,
+    )
 
 -- the flag of an object was cleared that leaves the list
 record Unflags (c : Context) (v : View) (s1 s2 : CountedSpace) (x : ℕ) : Type 0 where
@@ -181,7 +183,7 @@ unflags c v s1 s2 x k l i on_list read small is =
     let sets = sets_kind s1.memory x (k - 2) room (omega arith) (omega arith) in
     let m2 : s2.memory ≡ put_u32 s1.memory x (k - 2) = ap (λ (t : CountedSpace). t.memory) is in
     let now : Sets s1.memory s2.memory x ((k - 2) % 8) (word64 s1.memory (x + 8)) (word s1.memory (x + 16)) (word s1.memory (x + 24)) =
-        subst (λ (m : List ℕ). Sets s1.memory m x ((k - 2) % 8) (word64 s1.memory (x + 8)) (word s1.memory (x + 16)) (word s1.memory (x + 24))) (sym m2) sets in
+    subst (λ (m : List ℕ). Sets s1.memory m x ((k - 2) % 8) (word64 s1.memory (x + 8)) (word s1.memory (x + 16)) (word s1.memory (x + 24))) (sym m2) sets in
     let r : Rewritten v (hidden v x) s1 s2.memory x = record {
       held = i;
       sets = sets_as now _ _ _ _ (omega arith) (omega arith) (sym now.shown_is) (sym now.link_is);
@@ -213,8 +215,20 @@ hidden_first c v s s1 s2 x next k left read is1 read_k small is2 at is =
     let m1 : s1.memory ≡ s.memory = ap (λ (t : CountedSpace). t.memory) is1 in
     let lax = loose c v s at in
     let l : Loose c v s1 = subst (λ (t : CountedSpace). Loose c v t) (sym is1) (record {
-      start = lax.start; intact = lax.intact; from = lax.from; pages = lax.pages; bound = lax.bound; capacity = lax.capacity; sound = lax.sound; blocks = lax.blocks; objects = lax.objects;
-      shown_part = lax.shown_part; queue_part = lax.queue_part; marked_part = lax.marked_part; count = lax.count; allocated = lax.allocated;
+      start = lax.start;
+      intact = lax.intact;
+      from = lax.from;
+      pages = lax.pages;
+      bound = lax.bound;
+      capacity = lax.capacity;
+      sound = lax.sound;
+      blocks = lax.blocks;
+      objects = lax.objects;
+      shown_part = lax.shown_part;
+      queue_part = lax.queue_part;
+      marked_part = lax.marked_part;
+      count = lax.count;
+      allocated = lax.allocated;
     }) in
     let u = unflags c v s1 s2 x k l i on_list read_k small is2 in
     let without_is : without_one x v.shown ≡ left = ap (without_one x) is ∙ without_first x left in
@@ -224,16 +238,16 @@ hidden_first c v s s1 s2 x next k left read is1 read_k small is2 at is =
     let queued : s2.queued ≡ s.queued = ap (λ (t : CountedSpace). t.queued) is2 ∙ ap (λ (t : CountedSpace). t.queued) is1 in
     let part = part_without v.places v.shown x h.shown_part on_list in
     let behind1 : Linked s1.memory 16 next (without_one x v.shown) =
-        subst (λ (m : List ℕ). Linked m 16 next (without_one x v.shown)) (sym m1)
-          (subst (λ (xs : List ℕ). Linked s.memory 16 next xs) (sym without_is) (subst (λ (n : ℕ). Linked s.memory 16 n left) (sym read) behind)) in
+    subst (λ (m : List ℕ). Linked m 16 next (without_one x v.shown)) (sym m1)
+    (subst (λ (xs : List ℕ). Linked s.memory 16 next xs) (sym without_is) (subst (λ (n : ℕ). Linked s.memory 16 n left) (sym read) behind)) in
     let queue1 : Linked s1.memory 24 s.queued v.queue = subst (λ (m : List ℕ). Linked m 24 s.queued v.queue) (sym m1) h.queue_linked in
     linked_at c (hidden v x) s2 u.loosely
-      (subst (λ (n : ℕ). Linked s2.memory 16 n (without_one x v.shown)) (sym head)
-        (linked_same s1.memory s2.memory 16 next (without_one x v.shown)
-          (loose_link_kept c v (hidden v x) s1 s2.memory x 16 l u.rewritten (omega arith) (without_one x v.shown) part.inside (λ _. u.shown_word)) behind1))
-      (subst (λ (n : ℕ). Linked s2.memory 24 n v.queue) (sym queued)
-        (linked_same s1.memory s2.memory 24 s.queued v.queue
-          (loose_link_kept c v (hidden v x) s1 s2.memory x 24 l u.rewritten (omega arith) v.queue h.queue_part.inside (λ _. u.link_word)) queue1))
+    (subst (λ (n : ℕ). Linked s2.memory 16 n (without_one x v.shown)) (sym head)
+    (linked_same s1.memory s2.memory 16 next (without_one x v.shown)
+    (loose_link_kept c v (hidden v x) s1 s2.memory x 16 l u.rewritten (omega arith) (without_one x v.shown) part.inside (λ _. u.shown_word)) behind1))
+    (subst (λ (n : ℕ). Linked s2.memory 24 n v.queue) (sym queued)
+    (linked_same s1.memory s2.memory 24 s.queued v.queue
+    (loose_link_kept c v (hidden v x) s1 s2.memory x 24 l u.rewritten (omega arith) v.queue h.queue_part.inside (λ _. u.link_word)) queue1))
 
 -- another one stands before it
 hidden_behind : (c : Context) (v : View) (s s1 s2 : CountedSpace) (x j next k : ℕ) (js left : List ℕ) → next ≡ word s.memory (x + 16) → next < 2 ^ 32
@@ -266,31 +280,31 @@ hidden_behind c v s s1 s2 x j next k js left read fits is1 read_k small is2 at i
     let part = part_without v.places v.shown x h.shown_part on_list in
     let same_view = with_lists v v.shown v.queue v.marked v.counted in
     let left_part = λ (p : ℕ) (q : In p left). h.shown_part.inside p (occ-In p v.shown
-        (let t : occ p v.shown ≡ occ p (j ∷ js) + occ p (x ∷ left) = ap (λ (xs : List ℕ). occ p xs) is ∙ occ-onto p (j ∷ js) (x ∷ left) in let some = In-occ p left q in omega arith)) in
+    (let t : occ p v.shown ≡ occ p (j ∷ js) + occ p (x ∷ left) = ap (λ (xs : List ℕ). occ p xs) is ∙ occ-onto p (j ∷ js) (x ∷ left) in let some = In-occ p left q in omega arith)) in
     let js_part = λ (p : ℕ) (q : In p js). h.shown_part.inside p (occ-In p v.shown
-        (let t : occ p v.shown ≡ occ p (j ∷ js) + occ p (x ∷ left) = ap (λ (xs : List ℕ). occ p xs) is ∙ occ-onto p (j ∷ js) (x ∷ left) in let some = In-occ p js q in omega arith)) in
+    (let t : occ p v.shown ≡ occ p (j ∷ js) + occ p (x ∷ left) = ap (λ (xs : List ℕ). occ p xs) is ∙ occ-onto p (j ∷ js) (x ∷ left) in let some = In-occ p js q in omega arith)) in
     let behind1 : Linked s1.memory 16 next left =
-        linked_same s.memory s1.memory 16 next left
-          (loose_link_kept c v same_view s s1.memory j 16 (loose c v s at) r1 (omega arith) left left_part
-            (λ (q : In j left). absurd (let some = In-occ j left q in omega arith)))
-          (subst (λ (n : ℕ). Linked s.memory 16 n left) (sym read) behind) in
+    linked_same s.memory s1.memory 16 next left
+    (loose_link_kept c v same_view s s1.memory j 16 (loose c v s at) r1 (omega arith) left left_part
+    (λ (q : In j left). absurd (let some = In-occ j left q in omega arith)))
+    (subst (λ (n : ℕ). Linked s.memory 16 n left) (sym read) behind) in
     let shown1 : Linked s1.memory 16 s.shown (without_one x v.shown) =
-        subst (λ (xs : List ℕ). Linked s1.memory 16 s.shown xs) (sym without_is)
-          (relinked s.memory s1.memory 16 s.shown j next js (x ∷ left) left linked behind1 word_j
-            (loose_link_kept c v same_view s s1.memory j 16 (loose c v s at) r1 (omega arith) js js_part
-              (λ (q : In j js). absurd (let some = In-occ j js q in omega arith)))) in
+    subst (λ (xs : List ℕ). Linked s1.memory 16 s.shown xs) (sym without_is)
+    (relinked s.memory s1.memory 16 s.shown j next js (x ∷ left) left linked behind1 word_j
+    (loose_link_kept c v same_view s s1.memory j 16 (loose c v s at) r1 (omega arith) js js_part
+    (λ (q : In j js). absurd (let some = In-occ j js q in omega arith)))) in
     let queue1 : Linked s1.memory 24 s.queued v.queue =
-        linked_same s.memory s1.memory 24 s.queued v.queue
-          (loose_link_kept c v same_view s s1.memory j 24 (loose c v s at) r1 (omega arith) v.queue h.queue_part.inside (λ _. link_j)) h.queue_linked in
+    linked_same s.memory s1.memory 24 s.queued v.queue
+    (loose_link_kept c v same_view s s1.memory j 24 (loose c v s at) r1 (omega arith) v.queue h.queue_part.inside (λ _. link_j)) h.queue_linked in
     let head : s2.shown ≡ s.shown = ap (λ (t : CountedSpace). t.shown) is2 ∙ ap (λ (t : CountedSpace). t.shown) is1 in
     let queued : s2.queued ≡ s.queued = ap (λ (t : CountedSpace). t.queued) is2 ∙ ap (λ (t : CountedSpace). t.queued) is1 in
     linked_at c (hidden v x) s2 u.loosely
-      (subst (λ (n : ℕ). Linked s2.memory 16 n (without_one x v.shown)) (sym head)
-        (linked_same s1.memory s2.memory 16 s.shown (without_one x v.shown)
-          (loose_link_kept c v (hidden v x) s1 s2.memory x 16 l u.rewritten (omega arith) (without_one x v.shown) part.inside (λ _. u.shown_word)) shown1))
-      (subst (λ (n : ℕ). Linked s2.memory 24 n v.queue) (sym queued)
-        (linked_same s1.memory s2.memory 24 s.queued v.queue
-          (loose_link_kept c v (hidden v x) s1 s2.memory x 24 l u.rewritten (omega arith) v.queue h.queue_part.inside (λ _. u.link_word)) queue1))
+    (subst (λ (n : ℕ). Linked s2.memory 16 n (without_one x v.shown)) (sym head)
+    (linked_same s1.memory s2.memory 16 s.shown (without_one x v.shown)
+    (loose_link_kept c v (hidden v x) s1 s2.memory x 16 l u.rewritten (omega arith) (without_one x v.shown) part.inside (λ _. u.shown_word)) shown1))
+    (subst (λ (n : ℕ). Linked s2.memory 24 n v.queue) (sym queued)
+    (linked_same s1.memory s2.memory 24 s.queued v.queue
+    (loose_link_kept c v (hidden v x) s1 s2.memory x 24 l u.rewritten (omega arith) v.queue h.queue_part.inside (λ _. u.link_word)) queue1))
 
 pub hidden_at : (c : Context) (v : View) (s s1 s2 : CountedSpace) (x before next k : ℕ) (kept left : List ℕ) → next ≡ word s.memory (x + 16) → next < 2 ^ 32 → Relinks s s1 before next
     → k ≡ word s1.memory x → k < 2 ^ 32 → s2 ≡ record s1 { memory = put_u32 s1.memory x (k - 2) } → At c v s → v.shown ≡ onto kept (x ∷ left) → front kept ≡ before
@@ -302,7 +316,7 @@ hidden_at c v s s1 s2 x before next k (j ∷ js) left read fits r read_k small i
     let positive = (linked_behind s.memory 16 s.shown j js (x ∷ left) linked).0 in
     let is1 : s1 ≡ record s { memory = put_u32 s.memory (before + 16) next } = r.word_is (λ (z : before ≡ 0). absurd (omega arith)) in
     let is1_j : s1 ≡ record s { memory = put_u32 s.memory (j + 16) next } =
-        subst (λ (b : ℕ). s1 ≡ record s { memory = put_u32 s.memory (b + 16) next }) (sym e) is1 in
+    subst (λ (b : ℕ). s1 ≡ record s { memory = put_u32 s.memory (b + 16) next }) (sym e) is1 in
     hidden_behind c v s s1 s2 x j next k js left read fits is1_j read_k small is2 at is
 
 -- what an object that may be taken off the list tells
@@ -341,8 +355,20 @@ after_relink s s1 before next x k can r fits read =
       | inl e ↦ (
           let lax = loose c v s can.at in
           subst (λ (t : CountedSpace). Loose c v t) (sym (r.head e)) (record {
-            start = lax.start; intact = lax.intact; from = lax.from; pages = lax.pages; bound = lax.bound; capacity = lax.capacity; sound = lax.sound; blocks = lax.blocks; objects = lax.objects;
-            shown_part = lax.shown_part; queue_part = lax.queue_part; marked_part = lax.marked_part; count = lax.count; allocated = lax.allocated;
+            start = lax.start;
+            intact = lax.intact;
+            from = lax.from;
+            pages = lax.pages;
+            bound = lax.bound;
+            capacity = lax.capacity;
+            sound = lax.sound;
+            blocks = lax.blocks;
+            objects = lax.objects;
+            shown_part = lax.shown_part;
+            queue_part = lax.queue_part;
+            marked_part = lax.marked_part;
+            count = lax.count;
+            allocated = lax.allocated;
           }))
       | inr ne ↦ elim (front_held c v s before x can.kept can.left can.at can.list can.is_before) [
         | inl e ↦ elim (ne e) [ ]

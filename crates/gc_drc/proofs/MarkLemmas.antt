@@ -69,24 +69,24 @@ mark_at c v s s' x k read small is at i fresh =
     let sets = sets_kind s.memory x (k + 1) (room_at c v s x at i) small (let flags = flags_in c v s x at i in omega arith) in
     let part = part_with v.places v.marked x at.holds.marked_part i fresh in
     subst (λ t. At c (marked_also v x) t) (sym is)
-      (at_written c v v.shown v.queue (x ∷ v.marked) v.counted s now x at r refl refl refl
-        (lists_kept c v (x ∷ v.marked) v.counted s now x at r part sets.shown_is sets.link_is refl refl))
+    (at_written c v v.shown v.queue (x ∷ v.marked) v.counted s now x at r refl refl refl
+    (lists_kept c v (x ∷ v.marked) v.counted s now x at r part sets.shown_is sets.link_is refl refl))
 
 pub mark_links : (c : Context) (v : View) (s s' : CountedSpace) (x k : ℕ) → k ≡ word s.memory x → k + 1 < 2 ^ 32 → s' ≡ record s { memory = put_u32 s.memory x (k + 1) }
     → At c v s → In x v.places → (head : ℕ) (list : List ℕ) → ((p : ℕ) → In p list → In p v.places) → Linked s.memory 24 head list → Linked s'.memory 24 head list
 mark_links c v s s' x k read small is at i head list part linked =
     let w = Wrote-put_u32 s.memory x (k + 1) (let room = room_at c v s x at i in omega arith) in
     subst (λ t. Linked t.memory 24 head list) (sym is)
-      (linked_same s.memory (put_u32 s.memory x (k + 1)) 24 head list (λ p j. elim (cases_eq p x) [
-        | inl e ↦ word_apart w (p + 24) (inr (omega arith))
-        | inr ne ↦
-            let size_was = (at.intact.objects p (at.from p (part p j))).size in
-            let least = (at.start.lies p (at.from p (part p j))).least in
-            elim (apart_at c x p at.start (at.from x i) (at.from p (part p j)) ne) [
-              | inl h ↦ word_apart w (p + 24) (inl (omega arith))
-              | inr h ↦ word_apart w (p + 24) (inr (omega arith))
-            ]
-      ]) linked)
+    (linked_same s.memory (put_u32 s.memory x (k + 1)) 24 head list (λ p j. elim (cases_eq p x) [
+      | inl e ↦ word_apart w (p + 24) (inr (omega arith))
+      | inr ne ↦
+          let size_was = (at.intact.objects p (at.from p (part p j))).size in
+          let least = (at.start.lies p (at.from p (part p j))).least in
+          elim (apart_at c x p at.start (at.from x i) (at.from p (part p j)) ne) [
+            | inl h ↦ word_apart w (p + 24) (inl (omega arith))
+            | inr h ↦ word_apart w (p + 24) (inr (omega arith))
+          ]
+    ]) linked)
 
 unmark_rewrites : (c : Context) (v : View) (s : CountedSpace) (x k : ℕ) → At c v s → In x v.places → 0 < occ x v.marked → k ≡ word s.memory x → k < 2 ^ 32
     → Rewritten v (unmarked v x) s (put_u32 s.memory x (k - 1)) x
@@ -115,8 +115,8 @@ unmark_at c v s s' x k read small is at h =
     let sets = sets_kind s.memory x (k - 1) (room_at c v s x at i) (omega arith) (omega arith) in
     let part = part_without v.places v.marked x at.holds.marked_part h in
     subst (λ t. At c (unmarked v x) t) (sym is)
-      (at_written c v v.shown v.queue (without_one x v.marked) v.counted s now x at r refl refl refl
-        (lists_kept c v (without_one x v.marked) v.counted s now x at r part sets.shown_is sets.link_is refl refl))
+    (at_written c v v.shown v.queue (without_one x v.marked) v.counted s now x at r refl refl refl
+    (lists_kept c v (without_one x v.marked) v.counted s now x at r part sets.shown_is sets.link_is refl refl))
 
 -- what a mark that may be cleared tells
 pub can_unmark : (s : CountedSpace) (x k : ℕ) → CanUnmark s x → k ≡ word s.memory x → (x + 28 ≤ length s.memory) × (1 ≤ k)
@@ -149,8 +149,8 @@ uncount_at c v s s' x n read small is at i named more =
     let now : CountedSpace = record s { memory = put_u64 s.memory (x + 8) (n - 1) } in
     let sets = sets_count s.memory x (n - 1) (room_at c v s x at i) (omega arith) in
     subst (λ t. At c (uncounted v x) t) (sym is)
-      (at_written c v v.shown v.queue v.marked (λ (y : ℕ). v.counted y - same y x) s now x at r refl refl refl
-        (lists_kept c v v.marked (λ (y : ℕ). v.counted y - same y x) s now x at r at.holds.marked_part sets.shown_is sets.link_is refl refl))
+    (at_written c v v.shown v.queue v.marked (λ (y : ℕ). v.counted y - same y x) s now x at r refl refl refl
+    (lists_kept c v v.marked (λ (y : ℕ). v.counted y - same y x) s now x at r at.holds.marked_part sets.shown_is sets.link_is refl refl))
 
 -- the count word as the count
 pub more_names : (c : Context) (v : View) (s : CountedSpace) (x n : ℕ) → At c v s → In x v.places → n ≡ word64 s.memory (x + 8) → 1 < count_of v x → 1 < n
@@ -163,9 +163,9 @@ lower_at_more c v s s' x n read small isnt is at i named =
     let counts = count_in c v s x at i in
     let more : 1 < n = elim (cases_eq n 1) [ inl e ↦ elim (isnt e) [ ] | inr ne ↦ omega arith ] in
     let queue_is : cond (nat_eq (count_of v x) 1) (x ∷ v.queue) v.queue ≡ v.queue =
-        ap (λ b. cond b (x ∷ v.queue) v.queue) (ne_eqb (count_of v x) 1 (λ (e : count_of v x ≡ 1). absurd (omega arith))) in
+    ap (λ b. cond b (x ∷ v.queue) v.queue) (ne_eqb (count_of v x) 1 (λ (e : count_of v x ≡ 1). absurd (omega arith))) in
     subst (λ (q : List ℕ). At c (with_lists v v.shown q v.marked (λ (y : ℕ). v.counted y - same y x)) s') (sym queue_is)
-      (uncount_at c v s s' x n read small is at i named more)
+    (uncount_at c v s s' x n read small is at i named more)
 
 -- the last name of an object is lowered, which is queued
 queue_rewrites : (c : Context) (v : View) (s : CountedSpace) (x k : ℕ) → At c v s → In x v.places → 0 < v.counted x → count_of v x ≡ 1 → k ≡ word s.memory x → k < 2 ^ 32 → s.queued < 2 ^ 32
@@ -212,18 +212,18 @@ lower_at_last c v s s' x n k read one_n read_k small fits memory free shown queu
     let lies = at.start.lies x (at.from x i) in
     let queue_is : x ∷ v.queue ≡ cond (nat_eq (count_of v x) 1) (x ∷ v.queue) v.queue = sym (ap (λ b. cond b (x ∷ v.queue) v.queue) (eq-eqb (count_of v x) 1 alone)) in
     let queue_rest : Linked s'.memory 24 s.queued v.queue =
-        linked_same s.memory s'.memory 24 s.queued v.queue
-          (link_kept c v after s s'.memory x 24 at r (omega arith) v.queue h.queue_part.inside (λ (j : In x v.queue). absurd (let some = In-occ x v.queue j in omega arith))) h.queue_linked in
+    linked_same s.memory s'.memory 24 s.queued v.queue
+    (link_kept c v after s s'.memory x 24 at r (omega arith) v.queue h.queue_part.inside (λ (j : In x v.queue). absurd (let some = In-occ x v.queue j in omega arith))) h.queue_linked in
     subst (λ (q : List ℕ). At c (with_lists v v.shown q v.marked counted') s') queue_is
-      (at_written c v v.shown (x ∷ v.queue) v.marked counted' s s' x at r free objects allocated (record {
-        shown_part = h.shown_part;
-        queue_part = part_with v.places v.queue x h.queue_part i none;
-        marked_part = h.marked_part;
-        shown_linked = subst (λ (n : ℕ). Linked s'.memory 16 n v.shown) (sym shown)
-            (linked_same s.memory s'.memory 16 s.shown v.shown (link_kept c v after s s'.memory x 16 at r (omega arith) v.shown h.shown_part.inside (λ _. shown_word)) h.shown_linked);
-        queue_linked = subst (λ (n : ℕ). Linked s'.memory 24 n (x ∷ v.queue)) (sym queued)
-            (link lies.not_null (subst (λ (n : ℕ). Linked s'.memory 24 n v.queue) (sym link_word) queue_rest));
-      }))
+    (at_written c v v.shown (x ∷ v.queue) v.marked counted' s s' x at r free objects allocated (record {
+      shown_part = h.shown_part;
+      queue_part = part_with v.places v.queue x h.queue_part i none;
+      marked_part = h.marked_part;
+      shown_linked = subst (λ (n : ℕ). Linked s'.memory 16 n v.shown) (sym shown)
+          (linked_same s.memory s'.memory 16 s.shown v.shown (link_kept c v after s s'.memory x 16 at r (omega arith) v.shown h.shown_part.inside (λ _. shown_word)) h.shown_linked);
+      queue_linked = subst (λ (n : ℕ). Linked s'.memory 24 n (x ∷ v.queue)) (sym queued)
+          (link lies.not_null (subst (λ (n : ℕ). Linked s'.memory 24 n v.queue) (sym link_word) queue_rest));
+    }))
 
 -- the same by the two writes
 pub lower_at_writes : (c : Context) (v : View) (s s1 s2 : CountedSpace) (x n k : ℕ) → n ≡ word64 s.memory (x + 8) → n ≡ 1 → k ≡ word s.memory x → k < 2 ^ 32 → s.queued < 2 ^ 32
@@ -232,9 +232,9 @@ pub lower_at_writes : (c : Context) (v : View) (s s1 s2 : CountedSpace) (x n k :
 lower_at_writes c v s s1 s2 x n k read one read_k small fits e1 e2 at i named =
     let linked_on : CountedSpace → CountedSpace = λ t. record t { memory = put_u32 t.memory (x + 24) t.queued } in
     let both : s2 ≡ record s { memory = put_u32 (put_u32 s.memory x (k + 4)) (x + 24) s.queued } =
-        e2 ∙ ap linked_on e1 in
+    e2 ∙ ap linked_on e1 in
     lower_at_last c v s (record s2 { queued = x }) x n k read one read_k small fits (ap (λ t. t.memory) both) (ap (λ t. t.free) both) (ap (λ t. t.shown) both) refl
-      (ap (λ t. t.objects) both) (ap (λ t. t.allocated) both) at i named
+    (ap (λ t. t.objects) both) (ap (λ t. t.allocated) both) at i named
 
 -- a count that is written leaves the kind words of all objects
 pub uncount_kinds : (c : Context) (v : View) (s s' : CountedSpace) (x n : ℕ) → s' ≡ record s { memory = put_u64 s.memory (x + 8) n } → At c v s → In x v.places

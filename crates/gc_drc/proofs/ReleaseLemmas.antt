@@ -119,13 +119,13 @@ at_released c v s s' x queue at i memory space sound objects allocated shown not
     let bound = h.bound in
     let length_is : length s'.memory ≡ length s.memory = ap (λ (m : List ℕ). length m) memory in
     let inside_freed = λ (p : ℕ) (j : In p (without_one x v.places)).
-        occ-In p v.places (let w = occ-without x p v.places held in let some = In-occ p (without_one x v.places) j in omega arith) in
+    occ-In p v.places (let w = occ-without x p v.places held in let some = In-occ p (without_one x v.places) j in omega arith) in
     let differs = λ (p : ℕ) (j : In p (without_one x v.places)) (e : p ≡ x).
-        (let w = occ-without x p v.places held in
-         let some = In-occ p (without_one x v.places) j in
-         let one : same p x ≡ 1 = same-is p x e in
-         let once = places_once v s h p in
-         absurd {A = ⊥} (omega arith)) in
+    (let w = occ-without x p v.places held in
+    let some = In-occ p (without_one x v.places) j in
+    let one : same p x ≡ 1 = same-is p x e in
+    let once = places_once v s h p in
+    absurd {A = ⊥} (omega arith)) in
     record {
       start = at.start;
       holds = record {
@@ -214,7 +214,7 @@ pub freed_at : (c : Context) (v : View) (s s' : CountedSpace) (x : ℕ) → Rele
 freed_at c v s s' x r at i not_shown not_queued not_marked =
     let h = at.holds in
     at_released c v s s' x v.queue at i r.memory r.space r.sound r.objects r.allocated r.shown not_shown not_marked not_queued (λ p ne. refl) h.queue_part
-      (subst (λ (n : ℕ). Linked s'.memory 24 n v.queue) (sym r.queued) (subst (λ (m : List ℕ). Linked m 24 s.queued v.queue) (sym r.memory) h.queue_linked))
+    (subst (λ (n : ℕ). Linked s'.memory 24 n v.queue) (sym r.queued) (subst (λ (m : List ℕ). Linked m 24 s.queued v.queue) (sym r.memory) h.queue_linked))
 
 -- the first of the queue is freed
 pub freed_first : (c : Context) (v : View) (s s1 : CountedSpace) (x q : ℕ) (rest : List ℕ) → Releases s s1 x → q ≡ word s1.memory (x + 24) → At c v s → v.queue ≡ x ∷ rest
@@ -234,11 +234,11 @@ freed_first c v s s1 x q rest r read at is alone not_marked =
     let behind : Linked s.memory 24 (word s.memory (x + 24)) rest = (linked_rest s.memory 24 s.queued x rest linked).2 in
     let next : word s.memory (x + 24) ≡ q = ap (λ (m : List ℕ). word m (x + 24)) (sym r.memory) ∙ sym read in
     let now : Linked s1.memory 24 q (without_one x v.queue) =
-        subst (λ (xs : List ℕ). Linked s1.memory 24 q xs) (sym without_is)
-          (subst (λ (m : List ℕ). Linked m 24 q rest) (sym r.memory) (subst (λ (n : ℕ). Linked s.memory 24 n rest) next behind)) in
+    subst (λ (xs : List ℕ). Linked s1.memory 24 q xs) (sym without_is)
+    (subst (λ (m : List ℕ). Linked m 24 q rest) (sym r.memory) (subst (λ (n : ℕ). Linked s.memory 24 n rest) next behind)) in
     at_released c v s (record s1 { queued = q }) x (without_one x v.queue) at i r.memory r.space r.sound r.objects r.allocated r.shown (omega arith) not_marked (omega arith)
-      (λ p ne. let wp = occ-without x p v.queue queued in let other : same p x ≡ 0 = same-not p x ne in omega arith)
-      (part_without v.places v.queue x h.queue_part queued) now
+    (λ p ne. let wp = occ-without x p v.queue queued in let other : same p x ≡ 0 = same-not p x ne in omega arith)
+    (part_without v.places v.queue x h.queue_part queued) now
 
 -- the first of a queue is held
 pub can_release_queued : (s : CountedSpace) (x : ℕ) → CanFreeQueued s x → CanRelease s x
@@ -260,4 +260,4 @@ pub release_held : (s : CountedSpace) (x size i : ℕ) → CanRelease s x → si
 release_held s x size i can read e =
     let block : block_of (size_at s.memory x) ≡ (size + 15) / 16 * 16 = sym (ap block_of read) in
     subst (λ (j : ℕ). Contains s.free.space.held (run j ((size + 15) / 16 * 16))) (sym e)
-      (subst (λ (n : ℕ). Contains s.free.space.held (run x n)) block (releasable s x can).held)
+    (subst (λ (n : ℕ). Contains s.free.space.held (run x n)) block (releasable s x can).held)

@@ -166,13 +166,13 @@ whole_same m m' p s w =
     let kind_is : kind_at m p ≡ kind_at m' p = sym (kind_at_same m m' p s.kind) in
     let part : kind_part (word m p) ≡ kind_part (word m' p) = let e = s.kind in omega arith in
     let external : kind_at m' p ≡ ExternRef → IsExternalAt m' p = λ e.
-        let x = w.external (kind_is ∙ e) in
-        let size = s.size in
-        let is_32 = x.size in
-        let host : word m' (p + 28) ≡ word m (p + 28) = word_in_same m m' (p + 28) (SameBytes-part s.bytes (p + 28) (p + 28 + 4) (omega arith) (omega arith)) in
-        let from = x.from in
-        let to = x.to in
-        record { size = size ∙ is_32; from = omega arith; to = omega arith } in
+    let x = w.external (kind_is ∙ e) in
+    let size = s.size in
+    let is_32 = x.size in
+    let host : word m' (p + 28) ≡ word m (p + 28) = word_in_same m m' (p + 28) (SameBytes-part s.bytes (p + 28) (p + 28 + 4) (omega arith) (omega arith)) in
+    let from = x.from in
+    let to = x.to in
+    record { size = size ∙ is_32; from = omega arith; to = omega arith } in
     record {
       kind = subst (λ k. IsOfKind k (word m' p)) kind_is (w.kind ∙ part);
       object_kind = subst (λ k. IsObjectKind k) kind_is w.object_kind;

@@ -236,7 +236,7 @@ kept_not_unheld g v d p (unheld i no_root no_frame holders) held =
     let from = c.from held_name.at in
     let some = held_name.held in
     kept_not_unheld g v d held_name.at
-        (holders held_name.at (occ-In held_name.at g.places (omega arith)) (occ-In p (g.words held_name.at) held_name.names_it)) some
+    (holders held_name.at (occ-In held_name.at g.places (omega arith)) (occ-In p (g.words held_name.at) held_name.names_it)) some
 
 -- what the roots reach is kept
 pub reached_kept : (g : Graph) (v : View) → Drained g v → (p : ℕ) → Reached g p → 0 < occ p v.places

@@ -104,7 +104,10 @@ pub frame_passes : (c : Context) (s : CountedSpace) (w : ℕ) (left : List ℕ) 
 frame_passes c s w left b m is read on =
     let held = marks_held c s w left m is in
     record {
-      view = m.view; at = m.at; is_view = m.is_view; cascading = m.cascading;
+      view = m.view;
+      at = m.at;
+      is_view = m.is_view;
+      cascading = m.cascading;
       marking = frame_passed c.graph m.view w left m.marking (inr (marked_read c m.view s w b m.at held read on));
       part = λ q i. m.part q (there i);
       all_held = m.all_held;
@@ -112,10 +115,13 @@ frame_passes c s w left b m is read on =
 
 pub frame_skips : (c : Context) (s : CountedSpace) (w : ℕ) (left : List ℕ) → FrameMarks c s (w ∷ left) → (IsPlaceWord w → ⊥) → FrameMarks c s left
 frame_skips c s w left m isnt = record {
-  view = m.view; at = m.at; is_view = m.is_view; cascading = m.cascading;
+  view = m.view;
+  at = m.at;
+  is_view = m.is_view;
+  cascading = m.cascading;
   marking = frame_passed c.graph m.view w left m.marking (inl (no_place c w m.at.start isnt));
   part = λ q i. m.part q (there i);
-      all_held = m.all_held;
+  all_held = m.all_held;
 }
 
 -- the roots one by one
@@ -171,7 +177,13 @@ swept_kept c s s' x kept left b w read on clears =
 
 pub sweep_can_hide : (s : CountedSpace) (before x : ℕ) → CanSweepOne s before x → CanHide s before x
 sweep_can_hide s before x can = record {
-  context = can.context; view = can.sweep.view; kept = can.kept; left = can.left; at = can.sweep.at; list = can.sweep.list; is_before = can.is_before;
+  context = can.context;
+  view = can.sweep.view;
+  kept = can.kept;
+  left = can.left;
+  at = can.sweep.at;
+  list = can.sweep.list;
+  is_before = can.is_before;
 }
 
 -- what an object that was taken off the list is
@@ -237,11 +249,11 @@ sweep_left_is : (c : Context) (v : View) (s : CountedSpace) → At c v s → swe
 sweep_left_is c v s at =
     ap (λ (ps : List ℕ). sum_over (λ p. word s.memory p % 4) ps) (places_are v s at.holds)
     ∙ sum_over-same (λ p. occ p v.marked + 2 * occ p v.shown) (λ p. word s.memory p % 4) v.places (λ p i.
-        let flags = flags_in c v s p at i in
-        let once = at.holds.marked_part.once p in
-        let once_shown = at.holds.shown_part.once p in
-        let once_queue = at.holds.queue_part.once p in
-        omega arith)
+    let flags = flags_in c v s p at i in
+    let once = at.holds.marked_part.once p in
+    let once_shown = at.holds.shown_part.once p in
+    let once_queue = at.holds.queue_part.once p in
+    omega arith)
 
 once_in : (c : Context) (v : View) (s : CountedSpace) (x : ℕ) → At c v s → In x v.places → occ x v.places ≡ 1
 once_in c v s x at i = let once = places_once v s at.holds x in let some = In-occ x v.places i in omega arith
@@ -256,7 +268,7 @@ less_kept s s' before x b can read on clears =
     let is_marked = marked_read c v s x b w.at held read on in
     let at' = clears c v w.at is_marked in
     let e = sum_changed (λ p. occ p v.marked + 2 * occ p v.shown) (λ p. occ p (without_one x v.marked) + 2 * occ p v.shown) x v.places (once_in c v s x w.at held)
-      (λ p i ne. let wp = occ-without x p v.marked is_marked in let other : same p x ≡ 0 = same-not p x ne in omega arith) in
+    (λ p i ne. let wp = occ-without x p v.marked is_marked in let other : same p x ≡ 0 = same-not p x ne in omega arith) in
     let wx = occ-without x x v.marked is_marked in
     let one : same x x ≡ 1 = same-is x x refl in
     omega (arith, sweep_left_is c v s w.at, sweep_left_is c (unmarked v x) s' at', e)
@@ -276,7 +288,7 @@ less_off s s1 s2 before x b can read fresh hides takes =
     let one_left = occ-same x can.left in
     let on_list : 0 < occ x v.shown = omega arith in
     let e = sum_changed (λ p. occ p v.marked + 2 * occ p v.shown) (λ p. occ p v.marked + 2 * occ p (without_one x v.shown)) x v.places (once_in c v s x w.at held)
-      (λ p i ne. let wp = occ-without x p v.shown on_list in let other : same p x ≡ 0 = same-not p x ne in omega arith) in
+    (λ p i ne. let wp = occ-without x p v.shown on_list in let other : same p x ≡ 0 = same-not p x ne in omega arith) in
     let wx = occ-without x x v.shown on_list in
     let one : same x x ≡ 1 = same-is x x refl in
     omega (arith, sweep_left_is c v s w.at, sweep_left_is c (lowered (hidden v x) x) s2 at', e)

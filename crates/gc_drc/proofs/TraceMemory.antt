@@ -63,7 +63,7 @@ link_free c v s s' x n at i none small is =
     let sets = sets_link s.memory x n room small in
     let m' : s'.memory ≡ put_u32 s.memory (x + 24) n = ap (λ (t : CountedSpace). t.memory) is in
     let now : Sets s.memory s'.memory x (word s.memory x % 8) (word64 s.memory (x + 8)) (word s.memory (x + 16)) n =
-        subst (λ (m : List ℕ). Sets s.memory m x (word s.memory x % 8) (word64 s.memory (x + 8)) (word s.memory (x + 16)) n) (sym m') sets in
+    subst (λ (m : List ℕ). Sets s.memory m x (word s.memory x % 8) (word64 s.memory (x + 8)) (word s.memory (x + 16)) n) (sym m') sets in
     let same_view = with_lists v v.shown v.queue v.marked v.counted in
     let r : Rewritten v same_view s s'.memory x = record {
       held = i;
@@ -77,8 +77,8 @@ link_free c v s s' x n at i none small is =
     let no_queue : Linked s.memory 24 s.queued [] = subst (λ (xs : List ℕ). Linked s.memory 24 s.queued xs) none h.queue_linked in
     let zero_head : s'.queued ≡ 0 = queued ∙ linked_first s.memory 24 s.queued [] no_queue in
     let queue_now : Linked s'.memory 24 s'.queued v.queue =
-        subst (λ (xs : List ℕ). Linked s'.memory 24 s'.queued xs) (sym none) (subst (λ (q : ℕ). Linked s'.memory 24 q []) (sym zero_head) last) in
-    (at_written c v v.shown v.queue v.marked v.counted s s' x at r (ap (λ (t : CountedSpace). t.free) is) (ap (λ (t : CountedSpace). t.objects) is) (ap (λ (t : CountedSpace). t.allocated) is) (record {
+    subst (λ (xs : List ℕ). Linked s'.memory 24 s'.queued xs) (sym none) (subst (λ (q : ℕ). Linked s'.memory 24 q []) (sym zero_head) last) in (
+      at_written c v v.shown v.queue v.marked v.counted s s' x at r (ap (λ (t : CountedSpace). t.free) is) (ap (λ (t : CountedSpace). t.objects) is) (ap (λ (t : CountedSpace). t.allocated) is) (record {
         shown_part = h.shown_part;
         queue_part = h.queue_part;
         marked_part = h.marked_part;
@@ -86,8 +86,12 @@ link_free c v s s' x n at i none small is =
             (linked_same s.memory s'.memory 16 s.shown v.shown (link_kept c v same_view s s'.memory x 16 at r (omega arith) v.shown h.shown_part.inside (λ _. now.shown_is)) h.shown_linked);
         queue_linked = queue_now;
       }),
-     (now.link_is, λ ps part out head linked.
-        linked_same s.memory s'.memory 24 head ps (link_kept c v same_view s s'.memory x 24 at r (omega arith) ps part (λ j. absurd (out j))) linked))
+      (
+        now.link_is,
+        λ ps part out head linked.
+            linked_same s.memory s'.memory 24 head ps (link_kept c v same_view s s'.memory x 24 at r (omega arith) ps part (λ j. absurd (out j))) linked,
+      ),
+    )
 
 -- an object is marked, and is to be scanned
 pub traces_marks : (c : Context) (unscanned : List ℕ) (s s1 s2 : CountedSpace) (head w : ℕ) (rest : List ℕ) (b : Bool) → Traces c unscanned s head (w ∷ rest) → IsPlaceWord w
@@ -112,7 +116,7 @@ traces_marks c unscanned s s1 s2 head w rest b t is read fresh small marks links
     let once : occ w v.places ≡ 1 = omega arith in
     let one : same w w ≡ 1 = same-is w w refl in
     let sums = sum_changed (λ p. 1 - occ p v.marked) (λ p. 1 - occ p (w ∷ v.marked)) w v.places once
-      (λ p i ne. let other : same p w ≡ 0 = same-not p w ne in omega arith) in
+    (λ p i ne. let other : same p w ≡ 0 = same-not p w ne in omega arith) in
     let before = t.left_is in
     record {
       view = marked_also v w;
@@ -130,7 +134,10 @@ pub traces_passes : (c : Context) (unscanned : List ℕ) (s : CountedSpace) (hea
 traces_passes c unscanned s head w rest b t is read on =
     let held = word_held c unscanned s head w rest t is in
     record {
-      view = t.view; at = t.at; settled = t.settled; work = t.work;
+      view = t.view;
+      at = t.at;
+      settled = t.settled;
+      work = t.work;
       tracing = trace_passes c.graph t.view w rest t.work t.tracing (inr (marked_read c t.view s w b t.at held read on));
       linked = t.linked;
       known = λ q i. t.known q (there i);
@@ -139,7 +146,10 @@ traces_passes c unscanned s head w rest b t is read on =
 
 pub traces_skips : (c : Context) (unscanned : List ℕ) (s : CountedSpace) (head w : ℕ) (rest : List ℕ) → Traces c unscanned s head (w ∷ rest) → (IsPlaceWord w → ⊥) → Traces c unscanned s head rest
 traces_skips c unscanned s head w rest t isnt = record {
-  view = t.view; at = t.at; settled = t.settled; work = t.work;
+  view = t.view;
+  at = t.at;
+  settled = t.settled;
+  work = t.work;
   tracing = trace_passes c.graph t.view w rest t.work t.tracing (inl (no_place c w t.at.start isnt));
   linked = t.linked;
   known = λ q i. t.known q (there i);
@@ -173,7 +183,10 @@ popped c unscanned s head n some t read =
       place_in = i;
       left = tail_of unscanned;
       traces = record {
-        view = t.view; at = t.at; settled = t.settled; work = b.rest;
+        view = t.view;
+        at = t.at;
+        settled = t.settled;
+        work = b.rest;
         tracing = trace_scans c.graph t.view head b.rest tracing;
         linked = subst (λ (h : ℕ). Linked s.memory 24 h b.rest) (sym read) (rest_linked s.memory head b.rest linked);
         known = λ q j. t.at.start.fields head q i j;
@@ -218,8 +231,8 @@ trace_left_is c unscanned s head pending t =
     let v = t.view in
     let count = t.at.holds.count in
     let bits : sum_over (λ p. 1 - word s.memory p % 2) (places_of s.free.space.held) ≡ sum_over (λ p. 1 - occ p v.marked) v.places =
-        ap (λ (ps : List ℕ). sum_over (λ p. 1 - word s.memory p % 2) ps) (places_are v s t.at.holds)
-        ∙ sum_over-same (λ p. 1 - occ p v.marked) (λ p. 1 - word s.memory p % 2) v.places (λ p i. ap (λ (n : ℕ). 1 - n) (mark_read c v s p t.at i)) in
+    ap (λ (ps : List ℕ). sum_over (λ p. 1 - word s.memory p % 2) ps) (places_are v s t.at.holds)
+    ∙ sum_over-same (λ p. 1 - occ p v.marked) (λ p. 1 - word s.memory p % 2) v.places (λ p i. ap (λ (n : ℕ). 1 - n) (mark_read c v s p t.at i)) in
     let few = length_part t.work v.places (λ x. let w = t.tracing.waiting x in let m = t.settled.is_view.marked x in omega arith) in
     let chain = chain_is s.memory s.objects head t.work t.linked (omega arith) in
     let total = t.left_is in

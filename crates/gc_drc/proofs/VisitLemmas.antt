@@ -153,7 +153,7 @@ count_same : (c : Context) (m : List ℕ) (place count : ℕ) (elements : Bool) 
 count_same c m place count elements is start intact i array read =
     let same = intact.objects place i in
     let e : word m (place + 28) ≡ word c.memory (place + 28) =
-        word_in_same c.memory m (place + 28) (SameBytes-part same.bytes (place + 28) (place + 28 + 4) (omega arith) (omega arith)) in
+    word_in_same c.memory m (place + 28) (SameBytes-part same.bytes (place + 28) (place + 28 + 4) (omega arith) (omega arith)) in
     ap (λ b. array_offsets b c.memory place) is ∙ ap (word_offsets 32) (sym e ∙ word-is m (place + 28) ∙ sym read)
 
 pub array_can : (state : Context → List ℕ → List ℕ → Type 0) (m : List ℕ) (place count : ℕ) (elements : Bool) → Tells state m → elements ≡ true → count ≡ u32_at m (place + 28)
@@ -199,7 +199,7 @@ pub struct_can : (state : Context → List ℕ → List ℕ → Type 0) (m : Lis
 struct_can state m types place offsets tells info can =
     let t = tells can.context can.places _ can.is in
     let e : offsets_at can.context.types can.context.memory place ≡ offsets =
-        ap (λ x. traced_offsets x (word can.context.memory (place + 28))) (sym (info_same can.context m types place can.typed t.0 t.1 can.place_in) ∙ info) in
+    ap (λ x. traced_offsets x (word can.context.memory (place + 28))) (sym (info_same can.context m types place can.typed t.0 t.1 can.place_in) ∙ info) in
     record {
       context = can.context;
       places = can.places;
@@ -225,7 +225,7 @@ array_object_can state m types place elements tells info can =
     let t = tells can.context can.places _ can.is in
     let is : info_at can.context.types can.context.memory place ≡ Some (trace.Array elements) = sym (info_same can.context m types place can.typed t.0 t.1 can.place_in) ∙ info in
     let e : offsets_at can.context.types can.context.memory place ≡ array_offsets elements can.context.memory place =
-        ap (λ x. traced_offsets x (word can.context.memory (place + 28))) is ∙ info_array elements can.context.memory place in
+    ap (λ x. traced_offsets x (word can.context.memory (place + 28))) is ∙ info_array elements can.context.memory place in
     record {
       context = can.context;
       places = can.places;
@@ -240,7 +240,7 @@ array_object_visits old new m types place elements tells info visits c places ty
     let t = tells c places _ state in
     let is : info_at c.types c.memory place ≡ Some (trace.Array elements) = sym (info_same c m types place typed t.0 t.1 i) ∙ info in
     let e : offsets_at c.types c.memory place ≡ array_offsets elements c.memory place =
-        ap (λ x. traced_offsets x (word c.memory (place + 28))) is ∙ info_array elements c.memory place in
+    ap (λ x. traced_offsets x (word c.memory (place + 28))) is ∙ info_array elements c.memory place in
     visits c places (object_at_offsets c place _ t.0 i e) (t.0.arrays place elements i is) (subst (λ (ws : List ℕ). old c places ws) (words_as c place _ t.0 i e) state)
 
 -- an object with no references

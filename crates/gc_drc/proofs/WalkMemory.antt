@@ -18,15 +18,16 @@ use Rattle.gc_free.specs.Listed.{run_length_at}
 use Rattle.gc_drc.specs.declared.space.CountedSpace.{CountedSpace}
 use Rattle.gc_drc.specs.Layout.{size_at, kind_at, block_of}
 use Rattle.gc_drc.specs.View.{View, Holds, IsPart, block_at, count_of}
-use Rattle.gc_drc.specs.PlaceLaws.{spread-lies}
+use Rattle.gc_drc.specs.PlaceLaws.{spread-lies, spread-apart}
 use Rattle.gc_drc.specs.SpaceLaws.{blocks_apart}
+use Rattle.gc_drc.specs.Graph.{Reached}
 use Rattle.gc_drc.specs.CollectOps.{same, without_one, uncounted, freed}
 use Rattle.gc_drc.specs.CollectStates.{Freeing}
 use Rattle.gc_drc.specs.CollectMemory.{Context, IsContext, IsWord, Intact, At, CanUncountAt, CanRelease}
 use Rattle.gc_drc.specs.CollectVisits.{CanVisitObject}
 use Rattle.gc_drc.specs.CollectHosts.{FreesHostOf, HostsLeft}
 use Rattle.gc_drc.specs.CollectDrain.{IsPlaceWord}
-use Rattle.gc_drc.specs.CollectWalk.{BitsAre, Uncounts, Garbage, CanFreeGarbage, IsBorder, IsNext, CanWalk, walk_end}
+use Rattle.gc_drc.specs.CollectWalk.{BitsAre, Uncounts, Garbage, CanFreeGarbage, IsBorder, IsNext, CanWalk, CanSweepGarbage, SweepsGarbage, Walk, Walks, CanFreeUnmarked, FreedUnmarked, walk_end}
 use Rattle.gc_drc.proofs.OccLemmas.{same-is, same-not, occ-without, occ-cases}
 use Rattle.gc_drc.proofs.TraceLemmas.{freeing_can_uncount, freeing_uncounts, freeing_skips, freeing_frees, unmarked_not_shown}
 use Rattle.gc_drc.proofs.VisitLemmas.{kind_part_same, object_room}
@@ -68,7 +69,8 @@ uncounts_takes c places s s' w rest b u is read on takes kinds =
 
 uncounts_over : (c : Context) (places : List ℕ) (s : CountedSpace) (w : ℕ) (rest : List ℕ) → (u : Uncounts c places s (w ∷ rest)) → occ w u.view.marked ≡ 0 → Uncounts c places s rest
 uncounts_over c places s w rest u none = record {
-  view = u.view; at = u.at;
+  view = u.view;
+  at = u.at;
   freeing = freeing_skips c.graph u.view w rest u.freeing none;
   places_are = u.places_are;
   known = λ q i. u.known q (there i);
@@ -130,15 +132,20 @@ freed_uncounts D c before old new places s s1 x q i fresh frees_host memory free
     let f = garbage_fresh D c before old places s x q i fresh in
     let held = In-occ x q.view.places f.0 in
     let none = f.1.1 in
-    let once : occ x places ≤ 1 = subst (λ (ps : List ℕ). occ x ps ≤ 1) q.places_are (q.freeing.is_view.once x) in
-    (f.1.0, (record {
-      view = freed q.view x;
-      at = frees c q.view q.at f.0 (unmarked_not_shown c.graph q.view x [] q.freeing held none) (q.freeing.none_queued x) none;
-      freeing = freeing_frees c.graph q.view x q.freeing held none;
-      places_are = ap (without_one x) q.places_are;
-      known = λ w j. q.at.start.fields x w f.1.0 j;
-      bits = λ p j. ap (λ (m : List ℕ). word m p % 2) memory ∙ q.bits p j;
-    }, hosts_after D c s.memory places before old new x once (In-occ x places i) f.1.0 q.at.start q.at.intact q.hosts frees_host))
+    let once : occ x places ≤ 1 = subst (λ (ps : List ℕ). occ x ps ≤ 1) q.places_are (q.freeing.is_view.once x) in (
+      f.1.0,
+      (
+        record {
+          view = freed q.view x;
+          at = frees c q.view q.at f.0 (unmarked_not_shown c.graph q.view x [] q.freeing held none) (q.freeing.none_queued x) none;
+          freeing = freeing_frees c.graph q.view x q.freeing held none;
+          places_are = ap (without_one x) q.places_are;
+          known = λ w j. q.at.start.fields x w f.1.0 j;
+          bits = λ p j. ap (λ (m : List ℕ). word m p % 2) memory ∙ q.bits p j;
+        },
+        hosts_after D c s.memory places before old new x once (In-occ x places i) f.1.0 q.at.start q.at.intact q.hosts frees_host,
+      ),
+    )
 
 pub garbage_can_visit : (D : Type 0) (types : List Declaration) (old new : finite.FinMap nat_cmp D) (s s1 : CountedSpace) (x : ℕ) → CanFreeGarbage D types s old x → FreesHostOf D s.memory old new x → s1.memory ≡ s.memory
     → ((o : Context) (v : View) → At o v s → In x v.places → occ x v.shown ≡ 0 → occ x v.queue ≡ 0 → occ x v.marked ≡ 0 → At o (freed v x) s1)
@@ -194,8 +201,8 @@ next_first : (sizes : ℕ → ℕ) (low end : ℕ) (ps : List ℕ) → low ≤ e
 next_first sizes low end [] h up = elim (cases_lt low end) [
   | inl some ↦
       let found : run_at low (gap low end) ≡ Some (end - low) =
-          ap (λ b. run_at low (cond b (run low (end - low) ∷ []) [])) (lt-ltb low end some)
-          ∙ ap (λ b. option_map (λ (r : Run). r.length) (cond b (Some (run low (end - low))) None)) (eq-eqb low low refl) in
+      ap (λ b. run_at low (cond b (run low (end - low) ∷ []) [])) (lt-ltb low end some)
+      ∙ ap (λ b. option_map (λ (r : Run). r.length) (cond b (Some (run low (end - low))) None)) (eq-eqb low low refl) in
       let to : past (run_at low (gap low end)) low ≡ end = ap (λ o. past o low) found ∙ omega arith in
       record { is = inl to; from_on = omega arith; inside = omega arith; skips = λ p i. elim i [ ] }
   | inr none ↦
@@ -212,13 +219,13 @@ next_first sizes low end (q ∷ ps) h up =
     let to : past (run_at low all) low ≡ q = elim (cases_lt low q) [
       | inl some ↦
           let found : run_at low all ≡ Some (q - low) =
-              ap (λ b. run_at low (cond b (run low (q - low) ∷ []) [] ++ rest)) (lt-ltb low q some)
-              ∙ ap (λ b. option_map (λ (r : Run). r.length) (cond b (Some (run low (q - low))) (find (begins_at low) rest))) (eq-eqb low low refl) in
+          ap (λ b. run_at low (cond b (run low (q - low) ∷ []) [] ++ rest)) (lt-ltb low q some)
+          ∙ ap (λ b. option_map (λ (r : Run). r.length) (cond b (Some (run low (q - low))) (find (begins_at low) rest))) (eq-eqb low low refl) in
           ap (λ o. past o low) found ∙ omega arith
       | inr none ↦
           let found : run_at low all ≡ None =
-              ap (λ b. run_at low (cond b (run low (q - low) ∷ []) [] ++ rest)) (le-ltb low q none)
-              ∙ ap (option_map (λ (r : Run). r.length)) (none_above sizes low (q + block_of (sizes q)) end ps (omega arith) up.3) in
+          ap (λ b. run_at low (cond b (run low (q - low) ∷ []) [] ++ rest)) (le-ltb low q none)
+          ∙ ap (option_map (λ (r : Run). r.length)) (none_above sizes low (q + block_of (sizes q)) end ps (omega arith) up.3) in
           ap (λ o. past o low) found ∙ omega arith
     ] in
     record {
@@ -288,23 +295,239 @@ next_at c v s from some at (inl e) =
     let up = blocks_apart v s at.holds in
     let n = next_first v.sizes 16 (places_end s.free.space.capacity) v.places (omega arith) up in
     let free : run_at 16 (gaps 16 (places_end s.free.space.capacity) (map (block_at v.sizes) v.places)) ≡ run_length_at from s.free.space =
-        ap (λ rs. run_at 16 (gaps 16 (places_end s.free.space.capacity) rs)) (sym at.holds.blocks) ∙ ap (λ (p : ℕ). run_length_at p s.free.space) (sym e) in
+    ap (λ rs. run_at 16 (gaps 16 (places_end s.free.space.capacity) rs)) (sym at.holds.blocks) ∙ ap (λ (p : ℕ). run_length_at p s.free.space) (sym e) in
     subst (λ (z : ℕ). IsNext v.places z from (past (run_length_at from s.free.space) from)) end
-      (subst (λ (p : ℕ). IsNext v.places (places_end s.free.space.capacity) p (past (run_length_at from s.free.space) p)) (sym e)
-        (subst (λ o. IsNext v.places (places_end s.free.space.capacity) 16 (past o 16)) free n))
+    (subst (λ (p : ℕ). IsNext v.places (places_end s.free.space.capacity) p (past (run_length_at from s.free.space) p)) (sym e)
+    (subst (λ o. IsNext v.places (places_end s.free.space.capacity) 16 (past o 16)) free n))
 next_at c v s from some at (inr (q, (i, e))) =
     let end = end_is v s at.holds in
     let up = blocks_apart v s at.holds in
     let behind = q + block_of (v.sizes q) in
     let n = next_behind v.sizes 16 (places_end s.free.space.capacity) q v.places (omega arith) up i in
     let free : run_at behind (gaps 16 (places_end s.free.space.capacity) (map (block_at v.sizes) v.places)) ≡ run_length_at from s.free.space =
-        ap (λ rs. run_at behind (gaps 16 (places_end s.free.space.capacity) rs)) (sym at.holds.blocks) ∙ ap (λ (p : ℕ). run_length_at p s.free.space) (sym e) in
+    ap (λ rs. run_at behind (gaps 16 (places_end s.free.space.capacity) rs)) (sym at.holds.blocks) ∙ ap (λ (p : ℕ). run_length_at p s.free.space) (sym e) in
     subst (λ (z : ℕ). IsNext v.places z from (past (run_length_at from s.free.space) from)) end
-      (subst (λ (p : ℕ). IsNext v.places (places_end s.free.space.capacity) p (past (run_length_at from s.free.space) p)) (sym e)
-        (subst (λ o. IsNext v.places (places_end s.free.space.capacity) behind (past o behind)) free n))
+    (subst (λ (p : ℕ). IsNext v.places (places_end s.free.space.capacity) p (past (run_length_at from s.free.space) p)) (sym e)
+    (subst (λ o. IsNext v.places (places_end s.free.space.capacity) behind (past o behind)) free n))
 
 -- it fits 32 bits
 pub walk_small : (c : Context) (v : View) (s : CountedSpace) → At c v s → walk_end s < 2 ^ 32
 walk_small c v s at =
     let bound = at.holds.bound in
+    omega arith
+
+-- ONE OBJECT
+
+sweep_start : (D : Type 0) (c : Context) (before now : finite.FinMap nat_cmp D) (places : List ℕ) (s : CountedSpace) (x : ℕ) (q : Garbage D c before places s now) → In x places
+    → In x q.view.places × In x c.graph.places
+sweep_start D c before now places s x q i =
+    let held = subst (λ (ps : List ℕ). In x ps) (sym q.places_are) i in
+    (held, q.at.from x held)
+
+pub garbage_mark_room : (D : Type 0) (types : List Declaration) (s : CountedSpace) (now : finite.FinMap nat_cmp D) (x : ℕ) → CanSweepGarbage D types s now x → x + 28 ≤ length s.memory
+garbage_mark_room D types s now x can =
+    let q = can.garbage in
+    let f = sweep_start D can.context can.before now can.places s x q can.held in
+    (object_room can.context s.memory x q.at.start q.at.intact f.1).0
+
+bit_off : (n : ℕ) (b : Bool) → b ≡ nat_eq (n % 2) 1 → b ≡ false → n % 2 ≡ 0
+bit_off n b read off = unmarked_read (n % 2) (sym read ∙ off) (omega arith)
+
+pub garbage_can_free : (D : Type 0) (types : List Declaration) (s : CountedSpace) (now : finite.FinMap nat_cmp D) (x : ℕ) (b : Bool) → CanSweepGarbage D types s now x → b ≡ nat_eq (word s.memory x % 2) 1 → b ≡ false
+    → CanFreeGarbage D types s now x
+garbage_can_free D types s now x b can read off = record {
+  context = can.context;
+  before = can.before;
+  places = can.places;
+  typed = can.typed;
+  garbage = can.garbage;
+  held = can.held;
+  fresh = bit_off (word s.memory x) b read off;
+}
+
+pub garbage_keeps : (D : Type 0) (c : Context) (before now : finite.FinMap nat_cmp D) (places : List ℕ) (s : CountedSpace) (x : ℕ) (b : Bool) → b ≡ nat_eq (word s.memory x % 2) 1 → b ≡ true → In x places
+    → Garbage D c before places s now → SweepsGarbage D c before places x s now
+garbage_keeps D c before now places s x b read on i q =
+    let f = sweep_start D c before now places s x q i in
+    let bit = q.bits x f.1 in
+    let one = marked_true (word s.memory x % 2) (sym read ∙ on) in
+    record {
+      left = places;
+      garbage = q;
+      part = λ p j. j;
+      others = λ p j ne. j;
+      itself = λ j. q.freeing.is_marked.only x (omega arith);
+    }
+
+pub garbage_goes : (D : Type 0) (c : Context) (before old now : finite.FinMap nat_cmp D) (places : List ℕ) (s s' : CountedSpace) (x : ℕ) → In x places → Garbage D c before places s old
+    → Garbage D c before (without_one x places) s' now → SweepsGarbage D c before places x s' now
+garbage_goes D c before old now places s s' x i q q' =
+    let held = In-occ x places i in
+    let once : occ x places ≤ 1 = subst (λ (ps : List ℕ). occ x ps ≤ 1) q.places_are (q.freeing.is_view.once x) in
+    record {
+      left = without_one x places;
+      garbage = q';
+      part = λ p j. occ-In p places (let w = occ-without x p places held in let some = In-occ p (without_one x places) j in omega arith);
+      others = λ p j ne. occ-In p (without_one x places) (let w = occ-without x p places held in let other : same p x ≡ 0 = same-not p x ne in let some = In-occ p places j in omega arith);
+      itself = λ j. absurd (let w = occ-without x x places held in let one : same x x ≡ 1 = same-is x x refl in let some = In-occ x (without_one x places) j in omega arith);
+    }
+
+-- THE LOOP
+
+block_fits : (D : Type 0) (c : Context) (before now : finite.FinMap nat_cmp D) (places : List ℕ) (s : CountedSpace) (x : ℕ) (q : Garbage D c before places s now) → In x places → block_of (size_at s.memory x) ≡ block_of (q.view.sizes x)
+block_fits D c before now places s x q i = ap block_of (q.at.holds.objects x (subst (λ (ps : List ℕ). In x ps) (sym q.places_are) i)).size_is
+
+-- where the first object lies
+pub walk_begins : (D : Type 0) (types : List Declaration) (s : CountedSpace) (now : finite.FinMap nat_cmp D) (end place : ℕ) → end ≡ walk_end s
+    → ((c : Context) (v : View) → At c v s → IsBorder v 16 → IsNext v.places (walk_end s) 16 place) → Walks types s now s now end place
+walk_begins D types s now end place is next c before places typed q =
+    let n = next c q.view q.at (inl refl) in
+    record {
+      places = places;
+      garbage = q;
+      is_at = elim n.is [ inl e ↦ inl (e ∙ sym is) | inr i ↦ inr (subst (λ (ps : List ℕ). In place ps) q.places_are i) ];
+      walked = λ p i h.
+          let held = subst (λ (ps : List ℕ). In p ps) (sym q.places_are) i in
+          let l = spread-lies q.view.sizes 16 (places_end s.free.space.capacity) p q.view.places (blocks_apart q.view s q.at.holds) held in
+          let from = l.from in
+          elim (n.skips p held) [ inl low ↦ absurd (omega arith) | inr behind ↦ absurd (omega arith) ];
+      end_is = sym is;
+    }
+
+walk_held : (D : Type 0) (c : Context) (before now : finite.FinMap nat_cmp D) (s : CountedSpace) (end place : ℕ) (w : Walk D c before s now end place) → place < end → In place w.places
+walk_held D c before now s end place w h = elim w.is_at [ inl e ↦ absurd (omega arith) | inr i ↦ i ]
+
+pub walk_release : (D : Type 0) (types : List Declaration) (s s' : CountedSpace) (old now : finite.FinMap nat_cmp D) (end place : ℕ) → Walks types s old s' now end place → place < end → CanFreeUnmarked D types s old → CanRelease s' place
+walk_release D types s s' old now end place walks h can =
+    let w = walks can.context can.before can.places can.typed can.garbage in
+    let i = walk_held D can.context can.before now s' end place w h in
+    record { context = can.context; view = w.garbage.view; at = w.garbage.at; held = subst (λ (ps : List ℕ). In place ps) (sym w.garbage.places_are) i }
+
+pub walk_can : (D : Type 0) (types : List Declaration) (s s' : CountedSpace) (old now : finite.FinMap nat_cmp D) (end place from : ℕ) → Walks types s old s' now end place → place < end → 16 ≤ end
+    → from ≡ place + block_of (size_at s'.memory place) → CanFreeUnmarked D types s old → CanWalk s' from
+walk_can D types s s' old now end place from walks h some e can =
+    let w = walks can.context can.before can.places can.typed can.garbage in
+    let i = walk_held D can.context can.before now s' end place w h in
+    let held = subst (λ (ps : List ℕ). In place ps) (sym w.garbage.places_are) i in
+    let block = block_fits D can.context can.before now w.places s' place w.garbage i in
+    let end_is = w.end_is in
+    record {
+      context = can.context;
+      view = w.garbage.view;
+      at = w.garbage.at;
+      border = inr (place, (held, e ∙ ap (λ (n : ℕ). place + n) block));
+      some = omega arith;
+    }
+
+pub walk_can_sweep : (D : Type 0) (types : List Declaration) (s s' : CountedSpace) (old now : finite.FinMap nat_cmp D) (end place : ℕ) → Walks types s old s' now end place → place < end → CanFreeUnmarked D types s old
+    → CanSweepGarbage D types s' now place
+walk_can_sweep D types s s' old now end place walks h can =
+    let w = walks can.context can.before can.places can.typed can.garbage in
+    record {
+      context = can.context;
+      before = can.before;
+      places = w.places;
+      typed = can.typed;
+      garbage = w.garbage;
+      held = walk_held D can.context can.before now s' end place w h;
+    }
+
+-- the end of the walk stays
+end_stays : (D : Type 0) (c : Context) (before old now : finite.FinMap nat_cmp D) (places left : List ℕ) (s s' : CountedSpace) → Garbage D c before places s old → Garbage D c before left s' now → walk_end s' ≡ walk_end s
+end_stays D c before old now places left s s' q q' = ap (λ (n : ℕ). n / 16 * 16) (q'.at.intact.same_length ∙ sym q.at.intact.same_length)
+
+pub walk_on : (D : Type 0) (types : List Declaration) (s s1 s2 : CountedSpace) (old mid now : finite.FinMap nat_cmp D) (end place from next : ℕ) → Walks types s old s1 mid end place → place < end
+    → from ≡ place + block_of (size_at s1.memory place)
+    → ((c : Context) (v : View) → At c v s1 → IsBorder v from → IsNext v.places (walk_end s1) from next)
+    → ((c : Context) (before : finite.FinMap nat_cmp D) (places : List ℕ) → c.types ≡ types → In place places → Garbage D c before places s1 mid → SweepsGarbage D c before places place s2 now)
+    → Walks types s old s2 now end next
+walk_on D types s s1 s2 old mid now end place from next walks h e next_is sweeps c before places typed q0 =
+    let w = walks c before places typed q0 in
+    let i = walk_held D c before mid s1 end place w h in
+    let q = w.garbage in
+    let held = subst (λ (ps : List ℕ). In place ps) (sym q.places_are) i in
+    let block = block_fits D c before mid w.places s1 place q i in
+    let from_is : from ≡ place + block_of (q.view.sizes place) = e ∙ ap (λ (n : ℕ). place + n) block in
+    let n = next_is c q.view q.at (inr (place, (held, from_is))) in
+    let swept = sweeps c before w.places typed i q in
+    let end_is = w.end_is in
+    let apart = blocks_apart q.view s1 q.at.holds in
+    let l = spread-lies q.view.sizes 16 (places_end s1.free.space.capacity) place q.view.places apart held in
+    let some = l.some in
+    let from_on = n.from_on in
+    let new_end = end_stays D c before mid now w.places swept.left s1 s2 q swept.garbage in
+    record {
+      places = swept.left;
+      garbage = swept.garbage;
+      is_at = elim n.is [
+        | inl is_end ↦ inl (is_end ∙ end_is)
+        | inr j ↦ inr (swept.others next (subst (λ (ps : List ℕ). In next ps) q.places_are j) (λ (is_place : next ≡ place). absurd (omega arith)))
+      ];
+      walked = λ p j before_next.
+          let was = swept.part p j in
+          let held_p = subst (λ (ps : List ℕ). In p ps) (sym q.places_are) was in
+          elim (cases_eq p place) [
+            | inl is_place ↦ subst (λ (z : ℕ). Reached c.graph z) (sym is_place) (swept.itself (subst (λ (z : ℕ). In z swept.left) is_place j))
+            | inr ne ↦ elim (cases_lt p place) [
+              | inl low ↦ w.walked p was low
+              | inr high ↦ (
+                  let behind = spread-apart q.view.sizes 16 (places_end s1.free.space.capacity) place p q.view.places apart held held_p (omega arith) in
+                  elim (n.skips p held_p) [ inl under ↦ absurd (omega arith) | inr over ↦ absurd (omega arith) ])
+            ]
+          ];
+      end_is = new_end ∙ end_is;
+    }
+
+pub walk_ends : (D : Type 0) (types : List Declaration) (s s' : CountedSpace) (old now : finite.FinMap nat_cmp D) (end place : ℕ) → Walks types s old s' now end place → end ≤ place
+    → (c : Context) (before : finite.FinMap nat_cmp D) (places : List ℕ) → c.types ≡ types → Garbage D c before places s old → FreedUnmarked D c before s' now
+walk_ends D types s s' old now end place walks h c before places typed q0 =
+    let w = walks c before places typed q0 in
+    record {
+      places = w.places;
+      garbage = w.garbage;
+      all_reached = λ p i.
+          let held = subst (λ (ps : List ℕ). In p ps) (sym w.garbage.places_are) i in
+          let at = w.garbage.at in
+          let l = spread-lies w.garbage.view.sizes 16 (places_end s'.free.space.capacity) p w.garbage.view.places (blocks_apart w.garbage.view s' at.holds) held in
+          let to = l.to in
+          let some = l.some in
+          let end_is' = end_is w.garbage.view s' at.holds in
+          let end_w = w.end_is in
+          w.walked p i (omega arith);
+    }
+
+pub walk_nothing : (D : Type 0) (types : List Declaration) (s : CountedSpace) (now : finite.FinMap nat_cmp D) (end : ℕ) → end ≡ walk_end s → end < 16
+    → (c : Context) (before : finite.FinMap nat_cmp D) (places : List ℕ) → c.types ≡ types → Garbage D c before places s now → FreedUnmarked D c before s now
+walk_nothing D types s now end is h c before places typed q = record {
+  places = places;
+  garbage = q;
+  all_reached = λ p i.
+      let held = subst (λ (ps : List ℕ). In p ps) (sym q.places_are) i in
+      let l = spread-lies q.view.sizes 16 (places_end s.free.space.capacity) p q.view.places (blocks_apart q.view s q.at.holds) held in
+      let from = l.from in
+      let to = l.to in
+      let some = l.some in
+      let end_is' = end_is q.view s q.at.holds in
+      absurd (omega arith);
+}
+
+pub first_walk : (D : Type 0) (types : List Declaration) (s : CountedSpace) (now : finite.FinMap nat_cmp D) (end : ℕ) → end ≡ walk_end s → 16 ≤ end → CanFreeUnmarked D types s now → CanWalk s 16
+first_walk D types s now end is some can = record { context = can.context; view = can.garbage.view; at = can.garbage.at; border = inl refl; some = omega arith }
+
+-- each step of the walk goes on
+pub walk_less : (D : Type 0) (types : List Declaration) (s s1 : CountedSpace) (old mid : finite.FinMap nat_cmp D) (end place from next : ℕ) → Walks types s old s1 mid end place → place < end
+    → from ≡ place + block_of (size_at s1.memory place)
+    → ((c : Context) (v : View) → At c v s1 → IsBorder v from → IsNext v.places (walk_end s1) from next)
+    → CanFreeUnmarked D types s old → end - next < end - place
+walk_less D types s s1 old mid end place from next walks h e next_is can =
+    let w = walks can.context can.before can.places can.typed can.garbage in
+    let i = walk_held D can.context can.before mid s1 end place w h in
+    let q = w.garbage in
+    let held = subst (λ (ps : List ℕ). In place ps) (sym q.places_are) i in
+    let block = block_fits D can.context can.before mid w.places s1 place q i in
+    let from_is : from ≡ place + block_of (q.view.sizes place) = e ∙ ap (λ (n : ℕ). place + n) block in
+    let n = next_is can.context q.view q.at (inr (place, (held, from_is))) in
+    let l = spread-lies q.view.sizes 16 (places_end s1.free.space.capacity) place q.view.places (blocks_apart q.view s1 q.at.holds) held in
+    let some = l.some in
+    let from_on = n.from_on in
     omega arith

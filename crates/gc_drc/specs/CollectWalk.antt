@@ -7,6 +7,7 @@ use Rattle.gc_memory.specs.Words.{word}
 use Rattle.gc_memory.specs.Lists.{In, occ}
 use Rattle.gc_drc.specs.declared.space.CountedSpace.{CountedSpace}
 use Rattle.gc_drc.specs.Layout.{block_of}
+use Rattle.gc_drc.specs.Graph.{Reached}
 use Rattle.gc_drc.specs.View.{View}
 use Rattle.gc_drc.specs.CollectStates.{Freeing}
 use Rattle.gc_drc.specs.CollectMemory.{Context, IsWord, At}
@@ -65,3 +66,46 @@ pub record CanWalk (s : CountedSpace) (from : ℕ) : Type 0 where
   pub at : At context view s
   pub border : IsBorder view from
   pub some : 16 ≤ walk_end s
+
+-- an object is freed if it isn't marked
+pub record CanSweepGarbage (D : Type 0) (types : List Declaration) (s : CountedSpace) (now : finite.FinMap nat_cmp D) (x : ℕ) : Type 0 where
+  pub context : Context
+  pub before : finite.FinMap nat_cmp D
+  pub places : List ℕ
+  pub typed : context.types ≡ types
+  pub garbage : Garbage D context before places s now
+  pub held : In x places
+
+-- it was freed, or it is reached; the others stayed
+pub record SweepsGarbage (D : Type 0) (c : Context) (before : finite.FinMap nat_cmp D) (places : List ℕ) (x : ℕ) (s : CountedSpace) (now : finite.FinMap nat_cmp D) : Type 0 where
+  pub left : List ℕ
+  pub garbage : Garbage D c before left s now
+  pub part : (p : ℕ) → In p left → In p places
+  pub others : (p : ℕ) → In p places → (p ≡ x → ⊥) → In p left
+  pub itself : In x left → Reached c.graph x
+
+-- The walk has come to a place: what is held before it is reached.
+pub record Walk (D : Type 0) (c : Context) (before : finite.FinMap nat_cmp D) (s : CountedSpace) (now : finite.FinMap nat_cmp D) (end place : ℕ) : Type 0 where
+  pub places : List ℕ
+  pub garbage : Garbage D c before places s now
+  pub is_at : (place ≡ end) ⊎ In place places
+  pub walked : (p : ℕ) → In p places → p < place → Reached c.graph p
+  pub end_is : walk_end s ≡ end
+
+-- what isn't marked may be freed
+pub record CanFreeUnmarked (D : Type 0) (types : List Declaration) (s : CountedSpace) (now : finite.FinMap nat_cmp D) : Type 0 where
+  pub context : Context
+  pub before : finite.FinMap nat_cmp D
+  pub places : List ℕ
+  pub typed : context.types ≡ types
+  pub garbage : Garbage D context before places s now
+
+-- It was freed: what is held is reached.
+pub record FreedUnmarked (D : Type 0) (c : Context) (before : finite.FinMap nat_cmp D) (s : CountedSpace) (now : finite.FinMap nat_cmp D) : Type 0 where
+  pub places : List ℕ
+  pub garbage : Garbage D c before places s now
+  pub all_reached : (p : ℕ) → In p places → Reached c.graph p
+
+-- a walk that began there has come to here
+abbrev pub Walks : {D : Type 0} → List Declaration → CountedSpace → finite.FinMap nat_cmp D → CountedSpace → finite.FinMap nat_cmp D → ℕ → ℕ → Type 0
+Walks {D} types s old s' now end place = (c : Context) (before : finite.FinMap nat_cmp D) (places : List ℕ) → c.types ≡ types → Garbage D c before places s old → Walk D c before s' now end place

@@ -1,5 +1,5 @@
 -- What an allocation takes and writes.
-use Rattle.std.specs.Prelude.{◌≡◌, ℕ, ◌+◌, ◌-◌, ◌≤◌, ◌<◌, ◌^◌, cond, nat_lt, nat_eq, All, List, [], ◌∷◌, length, take, drop, replicate, Result, Ok, Err}
+use Rattle.std.specs.Prelude.{◌≡◌, ℕ, ◌+◌, ◌-◌, ◌≤◌, ◌<◌, ◌^◌, cond, nat_lt, nat_eq, All, List, [], ◌∷◌, length, take, drop, replicate, Some, Result, Ok, Err}
 use Rattle.gc_types.specs.declared.kind.Layouts.TheVariants.{Counting}
 use Rattle.gc_refs.specs.Header.{Header}
 use Rattle.gc_memory.specs.Words.{word}

@@ -12,9 +12,13 @@ use gc_types::Types;
 impl CountedSpace {
     /// The second increment, where the objects that frame slots hold are marked: frees exactly the objects
     /// that no root names and that only such objects name, with their host values.
-    pub(crate) fn free_unheld<D: Drop>(&mut self, types: &Types, hosts: &mut ExternRefHostDataTable<D>)
+    pub(crate) fn free_unheld<D: Drop>(
+        &mut self,
+        types: &Types,
+        hosts: &mut ExternRefHostDataTable<D>,
+    )
         requires { (c : Context) × ((c.types ≡ types.now.declarations) × FrameMarks c self.old []) }
-        ensures freed { (c : Context) → c.types ≡ types.now.declarations → FrameMarks c self.old [] → FreesUnheld D c self.new hosts.old.entries hosts.new.entries }
+        ensures { (c : Context) → c.types ≡ types.now.declarations → FrameMarks c self.old [] → FreesUnheld D c self.new hosts.old.entries hosts.new.entries }
     {
         self.sweep_shown();
         self.drain(types, hosts);

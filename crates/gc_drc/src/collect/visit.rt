@@ -108,7 +108,12 @@ impl CountedSpace {
     }
 
     /// Visits the words of all references of an object, which may be one that was just freed.
-    pub(crate) fn visit_references<V: Visitor>(&mut self, types: &Types, place: u32, visitor: &mut V)
+    pub(crate) fn visit_references<V: Visitor>(
+        &mut self,
+        types: &Types,
+        place: u32,
+        visitor: &mut V,
+    )
         requires { CanVisitObject (λ c places words. V.state c places self.old visitor.old words) types.now.declarations place }
         ensures { VisitsObject (λ c places words. V.state c places self.old visitor.old words) (λ c places words. V.state c places self.new visitor.new words) types.now.declarations place }
     {

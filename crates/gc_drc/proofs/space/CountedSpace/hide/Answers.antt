@@ -28,4 +28,4 @@ returns c o v kept left at is before =
     let fits : c.next_shown-next.result < 2 ^ 32 = search rules in
     let small : c.kind_word-kind_word.result < 2 ^ 32 = search rules in
     hidden_at o v c.args.self.now c.relink.new.self c.set_kind_word.new.self c.args.place c.args.before c.next_shown-next.result c.kind_word-kind_word.result kept left
-      c.next_shown-next.ensures fits c.relink.ensures c.kind_word-kind_word.ensures small c.set_kind_word.ensures at is before
+    c.next_shown-next.ensures fits c.relink.ensures c.kind_word-kind_word.ensures small c.set_kind_word.ensures at is before

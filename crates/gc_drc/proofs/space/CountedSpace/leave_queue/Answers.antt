@@ -31,11 +31,11 @@ link-self-requires c =
     let small : c.count-count.result - 1 < 2 ^ 64 = search rules in
     let small_k : c.kind_word-kind_word.result < 2 ^ 32 = search rules in
     room_left c.args.self.now c.set_count.new.self c.set_kind_word.new.self c.args.place (c.count-count.result - 1) c.kind_word-kind_word.result c.requires small c.set_count.ensures
-      c.kind_word-kind_word.ensures small_k c.set_kind_word.ensures
+    c.kind_word-kind_word.ensures small_k c.set_kind_word.ensures
 
 pub returns : goal.returns
 returns c o v rest at is more =
     let small : c.count-count.result < 2 ^ 64 = search rules in
     let small_k : c.kind_word-kind_word.result < 2 ^ 32 = search rules in
     left_queue o v c.args.self.now c.set_count.new.self c.set_kind_word.new.self c.args.place c.count-count.result c.kind_word-kind_word.result c.link-self.result rest
-      c.count-count.ensures small c.set_count.ensures c.kind_word-kind_word.ensures small_k c.set_kind_word.ensures c.link-self.ensures at is more
+    c.count-count.ensures small c.set_count.ensures c.kind_word-kind_word.ensures small_k c.set_kind_word.ensures c.link-self.ensures at is more

@@ -10,8 +10,8 @@ mark_frame-requires c =
     let roots = c.args.roots.now.roots in
     let i = c.args.index in
     let e : stack_words (drop i roots) ≡ c.as_raw_u32-word.result ∷ stack_words (drop (i + 1) roots) =
-        stack_step roots i c.requires.index (sym c.is_on_wasm_stack_at.ensures ∙ c.if-is_on_wasm_stack_at.true)
-        ∙ ap (λ (w : ℕ). w ∷ stack_words (drop (i + 1) roots)) (sym c.word_at.ensures ∙ sym c.as_raw_u32-word.ensures.value) in
+    stack_step roots i c.requires.index (sym c.is_on_wasm_stack_at.ensures ∙ c.if-is_on_wasm_stack_at.true)
+    ∙ ap (λ (w : ℕ). w ∷ stack_words (drop (i + 1) roots)) (sym c.word_at.ensures ∙ sym c.as_raw_u32-word.ensures.value) in
     record {
       context = c.requires.marks.0;
       left = stack_words (drop (i + 1) roots);
@@ -23,8 +23,8 @@ returns-then-is_on_wasm_stack_at c o m =
     let roots = c.args.roots.now.roots in
     let i = c.args.index in
     let e : stack_words (drop i roots) ≡ c.as_raw_u32-word.result ∷ stack_words (drop (i + 1) roots) =
-        stack_step roots i c.requires.index (sym c.is_on_wasm_stack_at.ensures ∙ c.if-is_on_wasm_stack_at.true)
-        ∙ ap (λ (w : ℕ). w ∷ stack_words (drop (i + 1) roots)) (sym c.word_at.ensures ∙ sym c.as_raw_u32-word.ensures.value) in
+    stack_step roots i c.requires.index (sym c.is_on_wasm_stack_at.ensures ∙ c.if-is_on_wasm_stack_at.true)
+    ∙ ap (λ (w : ℕ). w ∷ stack_words (drop (i + 1) roots)) (sym c.word_at.ensures ∙ sym c.as_raw_u32-word.ensures.value) in
     c.mark_frame.ensures o (stack_words (drop (i + 1) roots)) (subst (λ (ws : List ℕ). FrameMarks o c.args.self.now ws) e m)
 
 pub returns-else-is_on_wasm_stack_at : goal.returns-else-is_on_wasm_stack_at

@@ -20,5 +20,5 @@ pub returns : goal.returns
 returns c =
     let e : non_zero_u32_get c.in-Some.index ≡ c.args.place = c.in-Some.ensures in
     releases c.args.self.now _ c.args.place c.size-size.result c.requires c.size-size.ensures refl
-      (c.dealloc_fast.ensures.given ∙ ap (λ (j : ℕ). give (run j ((c.size-size.result + 15) / 16 * 16)) c.args.self.now.free.space) e)
-      c.dealloc_fast.ensures.sound refl refl refl refl
+    (c.dealloc_fast.ensures.given ∙ ap (λ (j : ℕ). give (run j ((c.size-size.result + 15) / 16 * 16)) c.args.self.now.free.space) e)
+    c.dealloc_fast.ensures.sound refl refl refl refl

@@ -10,9 +10,9 @@ visit_references-requires c = scan_can c.args.types.now.declarations c.args.self
 pub returns-clause-scanned : goal.returns-clause-scanned
 returns-clause-scanned c o unscanned typed t =
     scans o unscanned c.args.types.now.declarations c.args.self.now c.visit_references.new.self c.args.reached.now.head c.link-reached.result c.visit_references.new.visitor.head c.requires.some c.link-reached.ensures
-      c.visit_references.ensures typed t
+    c.visit_references.ensures typed t
 
 pub returns-clause-less : goal.returns-clause-less
 returns-clause-less c =
     scan_less c.args.types.now.declarations c.args.self.now c.visit_references.new.self c.args.reached.now.head c.link-reached.result c.visit_references.new.visitor.head c.requires.some c.link-reached.ensures
-      c.visit_references.ensures c.requires.can
+    c.visit_references.ensures c.requires.can

@@ -7,7 +7,7 @@ loop-place-init c = sweeps_start c.args.self.now
 pub next_shown-next-requires : goal.next_shown-next-requires
 next_shown-next-requires c =
     sweep_room c.loop-place.self c.loop-place.before c.loop-place.place
-      (sweeps_can c.args.self.now c.loop-place.self c.loop-place.before c.loop-place.place c.loop-place.invariant c.requires.0 c.requires.1 c.loop-place-test.true)
+    (sweeps_can c.args.self.now c.loop-place.self c.loop-place.before c.loop-place.place c.loop-place.invariant c.requires.0 c.requires.1 c.loop-place-test.true)
 
 pub sweep_one-before-requires : goal.sweep_one-before-requires
 sweep_one-before-requires c =
@@ -16,7 +16,7 @@ sweep_one-before-requires c =
 pub loop-place-preserved : goal.loop-place-preserved
 loop-place-preserved c =
     sweeps_step c.args.self.now c.loop-place.self c.sweep_one-before.new.self c.loop-place.before c.loop-place.place c.next_shown-next.result c.sweep_one-before.result c.loop-place.invariant c.loop-place-test.true
-      c.next_shown-next.ensures c.sweep_one-before.ensures.swept
+    c.next_shown-next.ensures c.sweep_one-before.ensures.swept
 
 pub returns : goal.returns
 returns c = sweeps_end c.args.self.now c.loop-place.self c.loop-place.before c.loop-place.place c.loop-place.invariant c.loop-place-test.false

@@ -8,7 +8,7 @@ returns-then-count-eq1 c o v at i named =
     let fits : c.args.self.now.queued < 2 ^ 32 = search rules in
     let one : c.count-count.result ≡ 1 = search rules in
     lower_at_writes o v c.args.self.now c.set_kind_word.new.self c.set_link.new.self c.args.place c.count-count.result c.kind_word-kind_word.result c.count-count.ensures one
-      c.kind_word-kind_word.ensures small fits c.set_kind_word.ensures c.set_link.ensures at i named
+    c.kind_word-kind_word.ensures small fits c.set_kind_word.ensures c.set_link.ensures at i named
 
 pub returns-else-count-eq1 : goal.returns-else-count-eq1
 returns-else-count-eq1 c o v at i named =

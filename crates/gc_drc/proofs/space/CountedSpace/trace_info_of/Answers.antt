@@ -14,6 +14,6 @@ returns-then-has_references c =
     let p = c.args.place in
     let types = c.args.types.now.declarations in
     let has : info_of c.kind.result (trace_at Counting types (word m (p + 4))) ≡ trace_at Counting types (word m (p + 4)) =
-        c.has_references.ensures (trace_at Counting types (word m (p + 4))) ∙ ap (λ b. if b then trace_at Counting types (word m (p + 4)) else None) c.if-has_references.true in
+    c.has_references.ensures (trace_at Counting types (word m (p + 4))) ∙ ap (λ b. if b then trace_at Counting types (word m (p + 4)) else None) c.if-has_references.true in
     let ty : c.type_index.result ≡ word m (p + 4) = c.type_index.ensures ∙ ap (λ h. h.type_word) c.read_header-header.ensures ∙ sym (word-is m (p + 4)) in
     c.trace_info.ensures ∙ ap (trace_at Counting types) ty ∙ sym has ∙ ap (λ k. info_of k (trace_at Counting types (word m (p + 4)))) c.kind.ensures

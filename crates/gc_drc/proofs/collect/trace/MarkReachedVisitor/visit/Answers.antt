@@ -27,7 +27,7 @@ pub returns-else-is_marked : goal.returns-else-is_marked
 returns-else-is_marked c o unscanned rest t =
     let small : c.args.self.now.head < 2 ^ 32 = search rules in
     traces_marks o unscanned c.args.space.now c.mark.new.self c.set_link.new.self c.args.self.now.head c.args.word rest c.is_marked.result t (c.is_place.ensures.0 c.if-is_place.true) c.is_marked.ensures c.if-is_marked.false
-      small c.mark.ensures.marked c.mark.ensures.links c.set_link.ensures
+    small c.mark.ensures.marked c.mark.ensures.links c.set_link.ensures
 
 pub returns-else-is_place : goal.returns-else-is_place
 returns-else-is_place c o unscanned rest t =

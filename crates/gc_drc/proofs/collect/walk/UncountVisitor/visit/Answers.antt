@@ -15,7 +15,7 @@ uncount-requires c =
 pub returns-then-is_marked : goal.returns-then-is_marked
 returns-then-is_marked c o places rest u =
     uncounts_takes o places c.args.space.now c.uncount.new.self c.args.word rest c.is_marked.result u (c.is_place.ensures.0 c.if-is_place.true) c.is_marked.ensures c.if-is_marked.true
-      c.uncount.ensures.counted c.uncount.ensures.kinds
+    c.uncount.ensures.counted c.uncount.ensures.kinds
 
 pub returns-else-is_marked : goal.returns-else-is_marked
 returns-else-is_marked c o places rest u =
