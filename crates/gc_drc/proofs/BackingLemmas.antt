@@ -1,30 +1,28 @@
 -- What is seen of a heap by where it has its memory.
-use Rattle.std.proofs.Common.{◌≡◌, ℕ, ◌+◌, ◌*◌, ◌%◌, ◌<◌, ◌≤◌, ◌^◌, ◌++◌, Bool, true, false, cond, List, [], ◌∷◌, length, replicate, Option, Some, None, refl, sym, ap, ap₂, subst, ◌∙◌, inl, inr, arith}
-use Rattle.std.proofs.Math.Logic.{◌⊎◌}
+use Rattle.std.proofs.Common.{◌≡◌, ℕ, ◌+◌, ◌*◌, ◌%◌, ◌<◌, ◌≤◌, ◌++◌, false, List, length, replicate, Option, Some, None, refl, sym, ap, subst, ◌∙◌, inl, inr, arith}
 use Rattle.std.specs.Ordering.{nat_cmp}
 use Rattle.std.specs.FinMap as finite
-use Rattle.std.proofs.lemmas.Bool.{cases_eq, ne_eqb, eq-eqb}
+use Rattle.std.proofs.lemmas.Bool.{cases_eq}
 use Rattle.gc_types.specs.declared.kind.Layouts.TheVariants.{Counting}
 use Rattle.gc_model.specs.Allocation.{page, max_pages}
-use Rattle.gc_model.specs.Views.{HeapObject, HeapView, Counts, detached_in}
+use Rattle.gc_model.specs.Views.{HeapObject, HeapView, detached_in}
 use Rattle.gc_free.specs.Space.{IsSound, grow}
-use Rattle.gc_heap.specs.Content.{IsHeap}
 use Rattle.gc_heap.specs.Heap.{grown}
-use Rattle.gc_heap.specs.Barriers.{raise, lower, show, cloned, dropped, exposed, copied, CanName, CanUnname, CanNameSlot, CanUnnameSlot, IsNamed}
+use Rattle.gc_heap.specs.Barriers.{raise, lower, show, cloned, dropped, exposed, copied, CanUnname, CanUnnameSlot, IsNamed}
 use Rattle.gc_drc.specs.declared.space.CountedSpace.{CountedSpace}
 use Rattle.gc_drc.specs.declared.growth.Marks.{Marks}
 use Rattle.gc_drc.specs.declared.heap.DrcHeap.{DrcHeap}
 use Rattle.gc_drc.specs.declared.heap.Backing.{Backing}
 use Rattle.gc_drc.specs.declared.heap.Backing.TheVariants as backing
 use Rattle.gc_drc.specs.Layout.{object_at}
-use Rattle.gc_drc.specs.Content.{at_places, places_of, seen_in, IsSoundSpace}
+use Rattle.gc_drc.specs.Content.{at_places, seen_in, IsSoundSpace}
 use Rattle.gc_drc.specs.Growth.{with_bytes}
-use Rattle.gc_drc.specs.PlaceLaws.{len-at, places-blocks}
+use Rattle.gc_drc.specs.PlaceLaws.{len-at}
 use Rattle.gc_drc.specs.SpaceLaws.{blocks_apart, places_are}
 use Rattle.gc_free.specs.Space.{places_end}
-use Rattle.gc_drc.specs.States.{seen_of, drc_seen, IsBacked, IsOut, IsDrcSound, IsDrcTaken}
+use Rattle.gc_drc.specs.States.{seen_of, drc_seen, IsOut, IsDrcSound}
 use Rattle.gc_drc.specs.DrcHeapLaw.{drc_is_heap}
-use Rattle.gc_drc.proofs.GrowLemmas.{Grows, grows}
+use Rattle.gc_drc.proofs.GrowLemmas.{grows}
 use Rattle.gc_drc.proofs.SeenLemmas.{get-insert-same, get-insert-other}
 
 -- where no memory is attached, what is seen is a heap without one

@@ -1,6 +1,5 @@
 -- The cascade in memory.
-use Rattle.std.proofs.Common.{◌≡◌, ℕ, zero, suc, ◌+◌, ◌-◌, ◌*◌, ◌/◌, ◌%◌, ◌<◌, ◌≤◌, ◌^◌, Bool, true, false, List, [], ◌∷◌, length, refl, sym, ap, subst, ◌∙◌, inl, inr, arith}
-use Rattle.std.proofs.Math.Logic.{◌⊎◌}
+use Rattle.std.proofs.Common.{◌≡◌, ℕ, suc, ◌+◌, ◌*◌, ◌/◌, ◌%◌, ◌<◌, ◌≤◌, Bool, true, false, List, [], ◌∷◌, length, refl, sym, ap, subst, ◌∙◌, inl, inr, arith}
 use Rattle.std.proofs.Math.Nat.{mul-suc, suc-mul}
 use Rattle.std.proofs.lemmas.Bool.{cases_eq}
 use Rattle.std.specs.FinMap as finite
@@ -11,11 +10,10 @@ use Rattle.gc_memory.specs.Words.{word, word64}
 use Rattle.gc_memory.specs.Lists.{In, here, there, occ, sum_over}
 use Rattle.gc_memory.proofs.ListLemmas.{In-occ, occ-In, occ-same, sum_over-same}
 use Rattle.gc_drc.specs.declared.space.CountedSpace.{CountedSpace}
-use Rattle.gc_drc.specs.Layout.{size_at, kind_at}
-use Rattle.gc_drc.specs.View.{View, Holds, IsPart, Linked, count_of}
+use Rattle.gc_drc.specs.Layout.{kind_at}
+use Rattle.gc_drc.specs.View.{View, count_of}
 use Rattle.gc_drc.specs.Content.{places_of}
 use Rattle.gc_drc.specs.SpaceLaws.{places_are}
-use Rattle.gc_drc.specs.Graph.{Graph}
 use Rattle.gc_drc.specs.CollectOps.{same, without_one, lowered, unqueued, freed}
 use Rattle.gc_drc.specs.CollectStates.{Draining}
 use Rattle.gc_drc.specs.CollectMemory.{Context, IsContext, IsWord, Intact, At, CanLowerAt, CanFreeQueued, CanLeave}
@@ -26,7 +24,7 @@ use Rattle.gc_drc.specs.CollectHosts.{FreesHostOf, HostsLeft}
 use Rattle.gc_drc.specs.CollectDrain.{IsPlaceWord, Lowering, Drain, CanDrain, drain_left}
 use Rattle.gc_drc.proofs.OccLemmas.{same-is, same-not, occ-without, occ-cases}
 use Rattle.gc_drc.proofs.SweepLemmas.{drain_leaves, drain_frees, drain_can_lower, drain_lowers, drain_skips}
-use Rattle.gc_drc.proofs.LinkLemmas.{linked_begins, without_first}
+use Rattle.gc_drc.proofs.LinkLemmas.{linked_begins}
 use Rattle.gc_drc.proofs.ReleaseLemmas.{places_once, length_without}
 use Rattle.gc_drc.proofs.MarkLemmas.{flags_in, count_in}
 use Rattle.gc_drc.proofs.VisitLemmas.{kind_part_same, object_room}

@@ -1,10 +1,10 @@
 -- Where the block that a free list gives begins.
-use Rattle.std.proofs.Common.{◌≡◌, ℕ, ◌+◌, ◌-◌, ◌<◌, ◌≤◌, Bool, true, false, cond, List, [], ◌∷◌, ◌++◌, map, Option, Some, None, refl, sym, ap, subst, ◌∙◌, inl, inr, arith}
+use Rattle.std.proofs.Common.{◌≡◌, ℕ, ◌+◌, ◌-◌, true, false, cond, List, [], ◌∷◌, ◌++◌, map, Option, Some, None, refl, sym, ap, subst, inl, inr}
 use Rattle.std.proofs.Math.Logic.{◌⊎◌}
 use Rattle.std.specs.Prelude.{nat_lt, nat_le, MatchOption}
 use Rattle.gc_memory.specs.Lists.{In, here, there}
 use Rattle.gc_free.specs.declared.run.Run.{Run}
-use Rattle.gc_free.specs.Runs.{run, gap, gaps, end_of}
+use Rattle.gc_free.specs.Runs.{run, gap, gaps}
 use Rattle.gc_free.specs.Orders.{shortest_fit}
 use Rattle.gc_free.specs.Space.{Space, IsSound, IsBetween, take, take_from, taken_from, take_shortest, rest_of, free_runs, places_end}
 use Rattle.gc_free.proofs.ByLength as runs

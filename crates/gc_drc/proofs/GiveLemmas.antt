@@ -1,8 +1,7 @@
 -- What giving an object back leaves of a space.
-use Rattle.std.proofs.Common.{◌≡◌, ℕ, ◌+◌, ◌-◌, ◌*◌, ◌/◌, ◌%◌, ◌<◌, ◌≤◌, ◌^◌, Bool, true, false, cond, List, [], ◌∷◌, length, map, Option, Some, None, refl, sym, ap, ap₂, subst, ◌∙◌, inl, inr, arith}
+use Rattle.std.proofs.Common.{◌≡◌, ℕ, ◌+◌, ◌-◌, ◌<◌, ◌≤◌, ◌^◌, true, false, cond, List, [], ◌∷◌, length, map, None, refl, sym, ap, subst, ◌∙◌, inl, inr, arith}
 use Rattle.std.proofs.Math.Logic.{◌⊎◌}
-use Rattle.std.specs.Prelude.{nat_eq, not, filter, suc, Contains, IsTrue}
-use Rattle.std.specs.Ordering.{nat_cmp}
+use Rattle.std.specs.Prelude.{nat_eq, not, suc, Contains}
 use Rattle.std.specs.Cmp.{unsigned_tied, nat_cmp_total}
 use Rattle.std.specs.FinMap as finite
 use Rattle.std.specs.FinSet as finset
@@ -10,20 +9,19 @@ use Rattle.std.proofs.lemmas.Bool.{cases_eq, ne_eqb, eq-eqb}
 use Rattle.gc_types.specs.declared.kind.Layouts.TheVariants.{Counting}
 use Rattle.gc_types.specs.declared.kind.VMGcKind.{VMGcKind}
 use Rattle.gc_memory.specs.Lists.{In, here, there, occ, sum_over}
-use Rattle.gc_memory.proofs.ListLemmas.{occ-In, In-occ, occ-none}
-use Rattle.gc_model.specs.Views.{HeapObject, HeapView, Counts}
-use Rattle.gc_free.specs.declared.run.Run.{Run}
+use Rattle.gc_memory.proofs.ListLemmas.{In-occ, occ-none}
+use Rattle.gc_model.specs.Views.{Counts}
 use Rattle.gc_free.specs.Runs.{run, IsSpread, without, begins_at}
 use Rattle.gc_free.specs.Space.{Space, IsSound, places_end, give}
 use Rattle.gc_heap.specs.Content.{block_size}
 use Rattle.gc_heap.specs.Objects.{held_size}
-use Rattle.gc_heap.specs.Heap.{given_back, CanGiveBack}
+use Rattle.gc_heap.specs.Heap.{CanGiveBack}
 use Rattle.gc_drc.specs.declared.space.CountedSpace.{CountedSpace}
 use Rattle.gc_drc.specs.Layout.{size_at, block_of, object_at}
 use Rattle.gc_drc.specs.View.{View, block_at, Holds, IsPart}
 use Rattle.gc_drc.specs.Content.{at_places, places_of, counts_at, counts_of, seen_in, IsSoundSpace}
 use Rattle.gc_drc.specs.PlaceLaws.{in_or_not, get_in, get_none, found_in, spread-not_behind, filter_in, in_filter, contains_in}
-use Rattle.gc_drc.specs.SpaceLaws.{Lies, lies, blocks_apart, places_are, counts_are, held_size-in}
+use Rattle.gc_drc.specs.SpaceLaws.{lies, blocks_apart, places_are, counts_are, held_size-in}
 use Rattle.gc_drc.specs.Giving.{without_place, CanGive, Gives}
 use Rattle.gc_drc.proofs.SeenLemmas.{same_view}
 

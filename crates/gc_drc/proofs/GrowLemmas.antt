@@ -1,29 +1,24 @@
 -- A memory that a counting heap gets, and one that grows.
-use Rattle.std.proofs.Common.{◌≡◌, ℕ, ◌+◌, ◌-◌, ◌*◌, ◌/◌, ◌%◌, ◌<◌, ◌≤◌, ◌^◌, Bool, true, false, cond, List, [], ◌∷◌, ◌++◌, take, drop, length, map, replicate, refl, sym, ap, ap₂, subst, ◌∙◌, inl, inr, arith}
+use Rattle.std.proofs.Common.{◌≡◌, ℕ, ◌+◌, ◌-◌, ◌*◌, ◌/◌, ◌%◌, ◌<◌, ◌≤◌, ◌^◌, List, [], ◌∷◌, ◌++◌, take, drop, length, replicate, refl, sym, ap, subst, ◌∙◌, arith}
 use Rattle.std.specs.Prelude.{min, max}
-use Rattle.std.specs.FinMap as finite
 use Rattle.std.proofs.lemmas.List.{drop-append-le, take-append-le, length-drop, length-append, length-replicate}
 use Rattle.gc_types.specs.declared.kind.Layouts.TheVariants.{Counting}
 use Rattle.gc_types.specs.Kinds.{kind_bits}
-use Rattle.gc_types.specs.declared.kind.VMGcKind.TheVariants.{ExternRef}
 use Rattle.gc_refs.specs.Header.{spare_bits, kind_part}
 use Rattle.gc_heap.specs.Objects.{first_offset, IsObjectKind}
 use Rattle.gc_heap.specs.Heap.{empty_heap, grown}
 use Rattle.gc_memory.specs.Words.{word}
-use Rattle.gc_memory.specs.Lists.{In, occ}
+use Rattle.gc_memory.specs.Lists.{In}
 use Rattle.gc_memory.proofs.WordLemmas.{word-grown, word64-grown}
 use Rattle.gc_model.specs.Allocation.{page, max_pages}
-use Rattle.gc_model.specs.Views.{HeapObject, HeapView}
 use Rattle.gc_free.specs.declared.run.Run.{Run}
 use Rattle.gc_free.specs.Runs.{gap}
-use Rattle.gc_free.specs.Space.{Space, IsSound, new_space, places_end, merge_all, merge, grow}
+use Rattle.gc_free.specs.Space.{Space, IsSound, new_space, places_end, merge_all, grow}
 use Rattle.gc_free.specs.declared.run.TheConstants.{ALIGN}
 use Rattle.gc_drc.specs.declared.space.CountedSpace.{CountedSpace}
-use Rattle.gc_drc.specs.declared.growth.Marks.{Marks}
-use Rattle.gc_drc.specs.Layout.{count_at, size_at, flags_at, kind_of, kind_at, data_at, object_at, IsWhole}
-use Rattle.gc_drc.specs.View.{View, Holds, ShowsObject, Linked, last, link}
-use Rattle.gc_drc.specs.Content.{at_places, places_of, counts_at, counts_of, seen_in, IsSoundSpace}
-use Rattle.gc_drc.specs.Growth.{with_bytes}
+use Rattle.gc_drc.specs.Layout.{size_at, kind_of, kind_at, data_at, object_at, IsWhole}
+use Rattle.gc_drc.specs.View.{View, Holds, Linked, last}
+use Rattle.gc_drc.specs.Content.{at_places, places_of, counts_at, seen_in, IsSoundSpace}
 use Rattle.gc_drc.specs.PlaceLaws.{at_places-same}
 use Rattle.gc_drc.specs.SpaceLaws.{lies, places_are, counts_are, least_size}
 use Rattle.gc_drc.proofs.TendLemmas.{same_object, linked_in_same}

@@ -1,22 +1,17 @@
 -- What a heap shows where the words in front of one object were written.
-use Rattle.std.proofs.Common.{◌≡◌, ℕ, ◌+◌, ◌-◌, ◌*◌, ◌/◌, ◌%◌, ◌<◌, ◌≤◌, ◌^◌, cond, nat_eq, true, false, Bool, List, [], ◌∷◌, length, map, refl, sym, ap, subst, ◌∙◌, inl, inr, arith}
+use Rattle.std.proofs.Common.{◌≡◌, ℕ, ◌+◌, ◌*◌, ◌%◌, ◌<◌, ◌≤◌, List, length, map, sym, ap, subst, ◌∙◌, inl, inr, arith}
 use Rattle.std.proofs.Math.Logic.{◌⊎◌}
-use Rattle.std.proofs.lemmas.Bool.{cases_eq, cases_lt, eq-eqb, ne_eqb}
-use Rattle.gc_model.specs.Views.{put_u32}
+use Rattle.std.proofs.lemmas.Bool.{cases_eq}
 use Rattle.gc_model.specs.Allocation.{page, max_pages}
-use Rattle.gc_memory.specs.Words.{word, word64, put_u64}
-use Rattle.gc_memory.specs.Changes.{Wrote}
-use Rattle.gc_memory.specs.Lists.{In, here, there, occ, sum_over}
-use Rattle.gc_memory.proofs.ListLemmas.{In-occ, occ-In, occ-none}
-use Rattle.gc_memory.proofs.WordLemmas.{word_apart, word64_apart, word-put_u32, word64-put_u64, word_in_same}
+use Rattle.gc_memory.specs.Words.{word}
+use Rattle.gc_memory.specs.Lists.{In, sum_over}
+use Rattle.gc_memory.proofs.WordLemmas.{word_apart, word64_apart}
 use Rattle.gc_free.specs.Space.{IsSound}
 use Rattle.gc_drc.specs.declared.space.CountedSpace.{CountedSpace}
-use Rattle.gc_drc.specs.Layout.{count_at, size_at, block_of, flags_at, IsWhole}
-use Rattle.gc_drc.specs.View.{View, Holds, ShowsObject, IsPart, Linked, last, link, block_at, count_of, flags_of}
-use Rattle.gc_drc.specs.CollectOps.{same, marked_also, unmarked, uncounted}
-use Rattle.gc_drc.specs.CollectMemory.{Context, IsContext, LiesAt, SameObject, Intact, At}
-use Rattle.gc_drc.proofs.OccLemmas.{same-is, same-not, occ-without, occ-cases}
-use Rattle.gc_drc.proofs.RewriteLemmas.{Sets, sets_kind, sets_count, sets_then, sets_as, same_written, same_apart, whole_same, apart_at, intact_written, linked_same}
+use Rattle.gc_drc.specs.Layout.{count_at, size_at, block_of}
+use Rattle.gc_drc.specs.View.{View, ShowsObject, IsPart, Linked, block_at, count_of, flags_of}
+use Rattle.gc_drc.specs.CollectMemory.{Context, IsContext, Intact, At}
+use Rattle.gc_drc.proofs.RewriteLemmas.{Sets, same_written, same_apart, whole_same, apart_at, intact_written, linked_same}
 
 -- the object that was written shows other numbers
 pub record Rewritten (v v' : View) (s : CountedSpace) (m' : List ℕ) (x : ℕ) : Type 0 where

@@ -1,5 +1,5 @@
 -- A host value is taken out of its table.
-use Rattle.std.proofs.Common.{◌≡◌, ℕ, ◌+◌, ◌-◌, ◌<◌, ◌≤◌, Bool, true, false, cond, List, Option, Some, None, refl, sym, ap, subst, ◌∙◌, inl, inr, arith}
+use Rattle.std.proofs.Common.{◌≡◌, ℕ, ◌+◌, ◌-◌, ◌<◌, ◌≤◌, Bool, cond, List, Option, Some, None, refl, sym, ap, subst, ◌∙◌, inl, inr, arith}
 use Rattle.std.proofs.Math.Logic.{◌⊎◌}
 use Rattle.std.proofs.lemmas.Bool.{cases_eq, eq-eqb, ne_eqb}
 use Rattle.std.proofs.lemmas.Option.{none-some}
@@ -17,7 +17,7 @@ use Rattle.gc_memory.proofs.ListLemmas.{In-occ, occ-In}
 use Rattle.gc_memory.proofs.WordLemmas.{word_in_same}
 use Rattle.gc_model.proofs.ByteLemmas.{SameBytes-part}
 use Rattle.gc_heap.specs.Collection.{IsPartOf}
-use Rattle.gc_drc.specs.Layout.{size_at, kind_at}
+use Rattle.gc_drc.specs.Layout.{kind_at}
 use Rattle.gc_drc.specs.CollectOps.{without_one, same}
 use Rattle.gc_drc.specs.CollectMemory.{Context, IsContext, Intact}
 use Rattle.gc_drc.specs.CollectHosts.{IsHostWord, FreesHost, FreesHostOf, HostsLeft, host_word}

@@ -1,14 +1,12 @@
 -- Lists that are linked through memory, in the middle.
-use Rattle.std.proofs.Common.{◌≡◌, ℕ, ◌+◌, ◌<◌, ◌≤◌, cond, nat_eq, true, false, List, [], ◌∷◌, length, refl, sym, ap, subst, ◌∙◌, inl, inr, arith}
-use Rattle.std.proofs.Math.Logic.{◌⊎◌}
+use Rattle.std.proofs.Common.{◌≡◌, ℕ, ◌+◌, ◌<◌, cond, nat_eq, false, List, [], ◌∷◌, refl, sym, ap, subst, ◌∙◌, inl, inr, arith}
 use Rattle.std.proofs.lemmas.Bool.{cases_eq, eq-eqb, ne_eqb}
 use Rattle.gc_memory.specs.Words.{word}
 use Rattle.gc_memory.specs.Lists.{In, here, there, occ}
-use Rattle.gc_memory.proofs.ListLemmas.{In-occ, occ-In, occ-same}
 use Rattle.gc_drc.specs.View.{Linked, last, link}
 use Rattle.gc_drc.specs.CollectOps.{same, without_one}
 use Rattle.gc_drc.specs.CollectLists.{onto, front}
-use Rattle.gc_drc.proofs.OccLemmas.{same-is, same-not}
+use Rattle.gc_drc.proofs.OccLemmas.{same-is}
 
 -- a linked list begins at its first
 pub linked_first : (m : List ℕ) (offset h : ℕ) (xs : List ℕ) → Linked m offset h xs → h ≡ front xs

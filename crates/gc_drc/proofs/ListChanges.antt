@@ -1,21 +1,21 @@
 -- An object leaves the queue, or the list of shown words.
-use Rattle.std.proofs.Common.{◌≡◌, ℕ, ◌+◌, ◌-◌, ◌*◌, ◌/◌, ◌%◌, ◌<◌, ◌≤◌, ◌^◌, cond, nat_eq, true, false, Bool, List, [], ◌∷◌, length, refl, sym, ap, subst, ◌∙◌, inl, inr, arith}
+use Rattle.std.proofs.Common.{◌≡◌, ℕ, ◌+◌, ◌-◌, ◌*◌, ◌/◌, ◌%◌, ◌<◌, ◌≤◌, ◌^◌, List, [], ◌∷◌, length, refl, sym, ap, subst, ◌∙◌, inl, inr, arith}
 use Rattle.std.proofs.Math.Logic.{◌⊎◌}
-use Rattle.std.proofs.lemmas.Bool.{cases_eq, eq-eqb, ne_eqb}
+use Rattle.std.proofs.lemmas.Bool.{cases_eq}
 use Rattle.gc_model.specs.Views.{put_u32}
 use Rattle.gc_memory.specs.Words.{word, word64, put_u64}
-use Rattle.gc_memory.specs.Lists.{In, here, there, occ, sum_over}
-use Rattle.gc_memory.proofs.ListLemmas.{In-occ, occ-In, occ-same, occ-other}
+use Rattle.gc_memory.specs.Lists.{In, occ}
+use Rattle.gc_memory.proofs.ListLemmas.{In-occ, occ-In, occ-same}
 use Rattle.gc_drc.specs.declared.space.CountedSpace.{CountedSpace}
-use Rattle.gc_drc.specs.View.{View, Holds, ShowsObject, IsPart, Linked, last, link, count_of, flags_of}
+use Rattle.gc_drc.specs.View.{View, Linked, count_of}
 use Rattle.gc_drc.specs.CollectOps.{same, without_one, unqueued, hidden}
 use Rattle.gc_drc.specs.CollectLists.{onto, front}
-use Rattle.gc_drc.specs.CollectMemory.{Context, IsContext, Intact, At, CanLeave, CanHide, CanRelink, Relinks}
-use Rattle.gc_drc.proofs.OccLemmas.{same-is, same-not, occ-without, occ-cases}
-use Rattle.gc_drc.proofs.RewriteLemmas.{Sets, sets_kind, sets_count, sets_shown, sets_link, sets_then, sets_as, linked_same}
-use Rattle.gc_drc.proofs.HoldsLemmas.{Loose, loose, linked_at, Rewritten, loose_room, room_at, link_kept, loose_link_kept, with_lists, Lists, loose_written, at_written, lists_kept}
-use Rattle.gc_drc.proofs.LinkLemmas.{linked_rest, linked_behind, leads_behind, relinked, without_first, without_onto, occ-onto}
-use Rattle.gc_drc.proofs.MarkLemmas.{flags_in, count_in, part_with, part_without}
+use Rattle.gc_drc.specs.CollectMemory.{Context, At, CanLeave, CanHide, Relinks}
+use Rattle.gc_drc.proofs.OccLemmas.{same-is, same-not, occ-without}
+use Rattle.gc_drc.proofs.RewriteLemmas.{Sets, sets_kind, sets_count, sets_shown, sets_then, sets_as, linked_same}
+use Rattle.gc_drc.proofs.HoldsLemmas.{Loose, loose, linked_at, Rewritten, loose_room, room_at, link_kept, loose_link_kept, with_lists, loose_written, at_written}
+use Rattle.gc_drc.proofs.LinkLemmas.{linked_rest, linked_behind, relinked, without_first, without_onto, occ-onto}
+use Rattle.gc_drc.proofs.MarkLemmas.{flags_in, count_in, part_without}
 
 -- THE QUEUE
 

@@ -1,37 +1,34 @@
 -- What an allocation makes of a space.
-use Rattle.std.proofs.Common.{◌≡◌, ℕ, ◌+◌, ◌-◌, ◌*◌, ◌/◌, ◌%◌, ◌<◌, ◌≤◌, ◌^◌, Bool, true, false, cond, List, [], ◌∷◌, ◌++◌, take, drop, length, map, replicate, get_or, Option, Some, None, refl, sym, ap, ap₂, subst, ◌∙◌, inl, inr, arith}
+use Rattle.std.proofs.Common.{◌≡◌, ℕ, ◌+◌, ◌-◌, ◌*◌, ◌%◌, ◌<◌, ◌≤◌, cond, List, [], ◌∷◌, ◌++◌, length, map, Some, None, refl, sym, ap, subst, ◌∙◌, inl, inr, arith}
 use Rattle.std.proofs.Math.Logic.{◌⊎◌}
-use Rattle.std.specs.Prelude.{nat_eq, nat_lt, All, suc}
-use Rattle.std.specs.Ordering.{nat_cmp}
+use Rattle.std.specs.Prelude.{nat_eq, All, suc}
 use Rattle.std.specs.FinMap as finite
-use Rattle.std.specs.FinSet as finset
 use Rattle.std.proofs.lemmas.Bool.{cases_eq, cases_lt, ne_eqb, eq-eqb}
-use borrow.Author.Tests.{lt-ltb, le-ltb}
+use borrow.Author.Tests.{lt-ltb}
 use Rattle.gc_types.specs.declared.kind.Layouts.TheVariants.{Counting}
-use Rattle.gc_memory.specs.Words.{word}
 use Rattle.gc_memory.specs.Changes.{Wrote}
 use Rattle.gc_memory.specs.Lists.{In, here, there, occ, sum_over}
-use Rattle.gc_memory.proofs.ListLemmas.{occ-none, occ-In, sum_over-same}
+use Rattle.gc_memory.proofs.ListLemmas.{occ-none, sum_over-same}
 use Rattle.gc_memory.proofs.ChangeLemmas.{Wrote-apart}
 use Rattle.gc_memory.proofs.WordLemmas.{word_in_same, word64_in_same}
 use Rattle.gc_model.specs.Bytes.{SameBytes}
 use Rattle.gc_model.proofs.ByteLemmas.{SameBytes-part}
-use Rattle.gc_model.specs.Views.{HeapObject, HeapView, Counts}
+use Rattle.gc_model.specs.Views.{HeapObject, Counts}
 use Rattle.gc_free.specs.declared.run.Run.{Run}
-use Rattle.gc_free.specs.Runs.{run, insert_run, IsSpread, gap, gaps, end_of}
-use Rattle.gc_free.specs.Space.{IsSound, places_end, free_runs, AllAligned}
+use Rattle.gc_free.specs.Runs.{run, insert_run, IsSpread, gap, gaps}
+use Rattle.gc_free.specs.Space.{places_end, AllAligned}
 use Rattle.gc_types.specs.Layouts.{round_up}
 use Rattle.gc_model.specs.Sizes.{alignment}
 use Rattle.gc_heap.specs.Content.{block_size}
 use Rattle.gc_heap.specs.Objects.{held_size}
-use Rattle.gc_heap.specs.Heap.{AddsObject, LacksRoom, HasRoom, IsFree, EndsAt, IsTooLarge, need_of, with_object}
+use Rattle.gc_heap.specs.Heap.{AddsObject, HasRoom, IsFree, EndsAt, IsTooLarge}
 use Rattle.gc_model.specs.Allocation.{page}
 use Rattle.gc_drc.specs.declared.space.CountedSpace.{CountedSpace}
-use Rattle.gc_drc.specs.Layout.{count_at, size_at, flags_at, block_of, object_at, IsWhole}
-use Rattle.gc_drc.specs.View.{View, count_of, flags_of, block_at, Holds, ShowsObject, IsPart, Linked}
-use Rattle.gc_drc.specs.Content.{at_places, places_of, counts_at, counts_of, seen_in, IsSoundSpace}
-use Rattle.gc_drc.specs.PlaceLaws.{found_in, get_in, get_none, LiesAt, spread-lies, spread-apart, spread-total, spread-length}
-use Rattle.gc_drc.specs.SpaceLaws.{Lies, lies, aligned_at, blocks_apart, places_are, counts_are, held_size-in}
+use Rattle.gc_drc.specs.Layout.{count_at, flags_at, block_of, object_at}
+use Rattle.gc_drc.specs.View.{View, block_at, Holds, ShowsObject, IsPart, Linked}
+use Rattle.gc_drc.specs.Content.{at_places, places_of, counts_at, seen_in, IsSoundSpace}
+use Rattle.gc_drc.specs.PlaceLaws.{found_in, get_in, get_none, spread-lies, spread-apart, spread-total, spread-length}
+use Rattle.gc_drc.specs.SpaceLaws.{lies, aligned_at, blocks_apart, places_are, counts_are, held_size-in}
 use Rattle.gc_drc.specs.Placing.{insert_place, with_place, placed_space, TakesBlock, KeepsBlocks, IsFull, PutsObject, CanPlace}
 use Rattle.gc_drc.proofs.TendLemmas.{SameObject, object_in_same, linked_in_same}
 use Rattle.gc_drc.proofs.SeenLemmas.{same_view}
@@ -196,16 +193,16 @@ placed_holds v s u m p size object h taken least puts =
 -- nothing lies at a place that was taken
 free_at : (v : View) (s u : CountedSpace) (p size scopes : ℕ) → Holds v s → NewPlace v s u p size → IsFree (seen_in scopes s) p (round_up size alignment)
 free_at v s u p size scopes h new =
-  record {
-    aligned = new.aligned;
-    not_null = let from = new.not_null in omega arith;
-    inside = new.inside;
-    free = λ q o e.
-        let f = found_in (object_at s.memory) q o (places_of s.free.space.held) e in
-        let i = subst (In q) (places_are v s h) f.0 in
-        let size_is : block_size Counting o ≡ block_of (v.sizes q) = ap block_of (ap (held_size Counting) f.1 ∙ held_size-in v s q h i) in
-        subst (λ n. (q + n ≤ p) ⊎ (p + block_of size ≤ q)) (sym size_is) (new.apart q i);
-  }
+    record {
+      aligned = new.aligned;
+      not_null = let from = new.not_null in omega arith;
+      inside = new.inside;
+      free = λ q o e.
+          let f = found_in (object_at s.memory) q o (places_of s.free.space.held) e in
+          let i = subst (In q) (places_are v s h) f.0 in
+          let size_is : block_size Counting o ≡ block_of (v.sizes q) = ap block_of (ap (held_size Counting) f.1 ∙ held_size-in v s q h i) in
+          subst (λ n. (q + n ≤ p) ⊎ (p + block_of size ≤ q)) (sym size_is) (new.apart q i);
+    }
 
 -- it is 16, or an object ends there
 lies_for : (v : View) (s : CountedSpace) (p scopes : ℕ) → Holds v s → Begins v.sizes 16 v.places p → (p ≡ 16) ⊎ EndsAt (seen_in scopes s) p

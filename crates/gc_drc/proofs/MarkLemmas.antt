@@ -1,22 +1,19 @@
 -- Marks and counts in memory.
-use Rattle.std.proofs.Common.{◌≡◌, ℕ, ◌+◌, ◌-◌, ◌*◌, ◌/◌, ◌%◌, ◌<◌, ◌≤◌, ◌^◌, cond, nat_eq, true, false, Bool, List, [], ◌∷◌, length, map, refl, sym, ap, subst, ◌∙◌, inl, inr, arith}
-use Rattle.std.proofs.Math.Logic.{◌⊎◌}
-use Rattle.std.proofs.lemmas.Bool.{cases_eq, cases_lt, eq-eqb, ne_eqb}
+use Rattle.std.proofs.Common.{◌≡◌, ℕ, ◌+◌, ◌-◌, ◌*◌, ◌%◌, ◌<◌, ◌≤◌, ◌^◌, cond, nat_eq, List, ◌∷◌, length, refl, sym, ap, subst, ◌∙◌, inl, inr, arith}
+use Rattle.std.proofs.lemmas.Bool.{cases_eq, eq-eqb, ne_eqb}
 use Rattle.gc_model.specs.Views.{put_u32}
 use Rattle.gc_memory.specs.Words.{word, word64, put_u64}
-use Rattle.gc_memory.specs.Changes.{Wrote}
 use Rattle.gc_memory.specs.Lists.{In, here, there, occ}
-use Rattle.gc_memory.proofs.ListLemmas.{In-occ, occ-In, occ-none, occ-same, occ-other}
+use Rattle.gc_memory.proofs.ListLemmas.{In-occ, occ-In, occ-same}
 use Rattle.gc_memory.proofs.ChangeLemmas.{Wrote-put_u32, Wrote-put_u64}
 use Rattle.gc_memory.proofs.WordLemmas.{word_apart}
 use Rattle.gc_drc.specs.declared.space.CountedSpace.{CountedSpace}
-use Rattle.gc_drc.specs.Layout.{count_at, size_at, flags_at, IsWhole}
-use Rattle.gc_drc.specs.View.{View, Holds, ShowsObject, IsPart, Linked, last, link, count_of, flags_of}
+use Rattle.gc_drc.specs.View.{View, IsPart, Linked, link, count_of}
 use Rattle.gc_drc.specs.CollectOps.{same, without_one, marked_also, unmarked, uncounted, lowered}
-use Rattle.gc_drc.specs.CollectMemory.{Context, IsContext, LiesAt, SameObject, Intact, At, CanMark, CanUnmark, CanLowerAt, CanUncountAt}
-use Rattle.gc_drc.proofs.OccLemmas.{same-is, same-not, occ-without, occ-cases, occ-cond}
-use Rattle.gc_drc.proofs.RewriteLemmas.{Sets, sets_kind, sets_count, sets_shown, sets_link, sets_then, sets_as, linked_same, apart_at}
-use Rattle.gc_drc.proofs.HoldsLemmas.{Rewritten, room_at, link_kept, with_lists, Lists, at_written, lists_kept}
+use Rattle.gc_drc.specs.CollectMemory.{Context, At, CanUnmark}
+use Rattle.gc_drc.proofs.OccLemmas.{same-is, same-not, occ-without}
+use Rattle.gc_drc.proofs.RewriteLemmas.{sets_kind, sets_count, sets_link, sets_then, sets_as, linked_same, apart_at}
+use Rattle.gc_drc.proofs.HoldsLemmas.{Rewritten, room_at, link_kept, with_lists, at_written, lists_kept}
 
 -- an object's flags in its kind word
 pub flags_in : (c : Context) (v : View) (s : CountedSpace) (x : ℕ) → At c v s → In x v.places → word s.memory x % 8 ≡ occ x v.marked + 2 * occ x v.shown + 4 * occ x v.queue

@@ -1,5 +1,5 @@
 -- The objects that allocations make.
-use Rattle.std.proofs.Common.{◌≡◌, ℕ, ◌+◌, ◌-◌, ◌*◌, ◌/◌, ◌%◌, ◌<◌, ◌≤◌, ◌^◌, List, [], ◌∷◌, ◌++◌, take, drop, length, replicate, Ok, Err, refl, sym, ap, ap₂, subst, ◌∙◌, arith}
+use Rattle.std.proofs.Common.{◌≡◌, ℕ, ◌+◌, ◌-◌, ◌*◌, ◌/◌, ◌%◌, ◌<◌, ◌≤◌, ◌^◌, List, [], ◌∷◌, ◌++◌, take, drop, length, replicate, Ok, Err, refl, sym, ap, subst, ◌∙◌, arith}
 use Rattle.std.specs.Int.{w32, to_le_bytes}
 use Rattle.std.specs.Prelude.{Result, Bool, true, false}
 use Rattle.std.proofs.lemmas.List.{drop-replicate}
@@ -14,20 +14,18 @@ use Rattle.gc_memory.specs.Changes.{Wrote}
 use Rattle.gc_memory.proofs.ChangeLemmas.{Wrote-within, Wrote-then, Wrote-put_u32}
 use Rattle.gc_memory.proofs.WordLemmas.{word_before, word64_before, word-put_u32}
 use Rattle.gc_model.specs.Bytes.{put_bytes}
-use Rattle.gc_model.proofs.ByteLemmas.{part-put_bytes, part-put_bytes_inside}
-use Rattle.gc_model.specs.Views.{HeapObject, HeapView, put_u32}
+use Rattle.gc_model.proofs.ByteLemmas.{part-put_bytes_inside}
+use Rattle.gc_model.specs.Views.{HeapObject, put_u32}
 use Rattle.gc_heap.specs.Objects.{first_offset, zeroed, zeroed_array, external, IsObjectKind, HasFields}
-use Rattle.gc_heap.specs.References.{SpareFits, array_spare}
-use Rattle.gc_heap.specs.Heap.{AddsObject, LacksRoom, Allocated, CanAllocate, IsTooLarge, need_of, exn_or_struct}
+use Rattle.gc_heap.specs.Heap.{LacksRoom, Allocated, CanAllocate, IsTooLarge, need_of, exn_or_struct}
 use Rattle.gc_heap.specs.declared.heap.HeapFault.{HeapFault}
 use Rattle.gc_heap.specs.declared.heap.HeapFault.TheVariants as fault
 use Rattle.gc_drc.specs.declared.space.CountedSpace.{CountedSpace}
-use Rattle.gc_drc.specs.Layout.{count_at, size_at, flags_at, block_of, kind_of, kind_at, data_at, object_at, IsWhole, IsExternalAt}
+use Rattle.gc_drc.specs.Layout.{count_at, size_at, kind_of, kind_at, data_at, object_at, IsWhole, IsExternalAt}
 use Rattle.gc_drc.specs.Content.{seen_in, IsSoundSpace}
-use Rattle.gc_drc.specs.SpaceLaws.{lies}
 use Rattle.gc_drc.specs.Placing.{placed_space, WritesBlock, PutsObject, IsPlaced, TakesBlock, KeepsBlocks, IsFull, PlacesObject}
 use Rattle.gc_drc.proofs.TendLemmas.{same_object}
-use Rattle.gc_drc.proofs.MakeLemmas.{NewPlace, new_place, Makes, makes, no_room, kept_seen, kept_sound}
+use Rattle.gc_drc.proofs.MakeLemmas.{new_place, Makes, makes, no_room, kept_seen, kept_sound}
 
 -- the bits of a kind tell it
 pub kind_of-kind_bits : (kind : VMGcKind) → kind_of (kind_bits kind) ≡ kind

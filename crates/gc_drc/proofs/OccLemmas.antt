@@ -1,9 +1,9 @@
 -- Lists of places as multisets, and the names of a graph.
-use Rattle.std.proofs.Common.{◌≡◌, ℕ, ◌+◌, ◌-◌, ◌<◌, ◌≤◌, cond, nat_eq, true, false, Bool, List, [], ◌∷◌, refl, sym, ap, subst, ◌∙◌, inl, inr, arith}
+use Rattle.std.proofs.Common.{◌≡◌, ℕ, ◌+◌, ◌<◌, ◌≤◌, cond, true, false, Bool, List, [], ◌∷◌, refl, sym, ap, inl, inr, arith}
 use Rattle.std.proofs.Math.Logic.{◌⊎◌}
 use Rattle.std.proofs.lemmas.Bool.{cases_eq, cases_lt, eq-eqb, ne_eqb}
-use Rattle.gc_memory.specs.Lists.{In, here, there, sum_over, occ}
-use Rattle.gc_memory.proofs.ListLemmas.{occ-same, occ-other, In-occ, occ-In}
+use Rattle.gc_memory.specs.Lists.{sum_over, occ}
+use Rattle.gc_memory.proofs.ListLemmas.{occ-same, occ-other}
 use Rattle.gc_drc.specs.Graph.{Graph, names}
 use Rattle.gc_drc.specs.CollectOps.{same, without_one}
 

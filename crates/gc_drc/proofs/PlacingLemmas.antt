@@ -1,38 +1,28 @@
 -- What an allocation takes and writes.
-use Rattle.std.proofs.Common.{◌≡◌, ℕ, ◌+◌, ◌-◌, ◌*◌, ◌/◌, ◌%◌, ◌<◌, ◌≤◌, ◌^◌, Bool, true, false, cond, List, [], ◌∷◌, ◌++◌, take, drop, length, map, replicate, get_or, Option, Some, None, refl, sym, ap, ap₂, subst, ◌∙◌, inl, inr, arith}
+use Rattle.std.proofs.Common.{◌≡◌, ℕ, ◌+◌, ◌-◌, ◌<◌, ◌≤◌, ◌^◌, true, false, cond, List, [], ◌∷◌, take, drop, length, map, replicate, Some, refl, sym, ap, ap₂, subst, ◌∙◌, inl, inr, arith}
 use Rattle.std.proofs.Math.Logic.{◌⊎◌}
-use Rattle.std.specs.Prelude.{nat_eq, nat_lt, All}
-use Rattle.std.specs.Ordering.{nat_cmp}
+use Rattle.std.specs.Prelude.{nat_eq, nat_lt}
 use Rattle.std.specs.Cmp.{nat_cmp_total}
 use Rattle.std.specs.FinMap as finite
 use Rattle.std.proofs.lemmas.Bool.{cases_eq, cases_lt, ne_eqb, eq-eqb}
 use borrow.Author.Tests.{lt-ltb, le-ltb}
 use Rattle.std.proofs.lemmas.List.{length-replicate, same_lists, get_or-take, get_or-drop, get_or-replicate, length-take-le, length-drop}
-use Rattle.gc_types.specs.declared.kind.Layouts.TheVariants.{Counting}
 use Rattle.gc_refs.specs.Header.{Header}
-use Rattle.gc_memory.specs.Words.{word, put_u64}
+use Rattle.gc_memory.specs.Words.{put_u64}
 use Rattle.gc_memory.specs.Changes.{Wrote}
-use Rattle.gc_memory.specs.Lists.{In, here, there, occ, sum_over}
-use Rattle.gc_memory.proofs.ListLemmas.{occ-none, occ-In}
-use Rattle.gc_memory.proofs.ChangeLemmas.{get_or-zeros, length-put_zeros, Wrote-within, Wrote-then, Wrote-zeros, Wrote-put_u32, Wrote-put_u64, Wrote-behind, Wrote-apart}
-use Rattle.gc_memory.proofs.WordLemmas.{word-is, word_before, word_behind, word_in_same, word64_before, word64_behind, word64_in_same, word-put_u32, word64-put_u64}
-use Rattle.gc_model.specs.Bytes.{put_bytes, SameBytes}
-use Rattle.gc_model.proofs.ByteLemmas.{SameBytes-part, part_in_same, part-put_bytes, part-put_bytes_inside}
-use Rattle.gc_model.specs.Views.{HeapObject, HeapView, Counts, u32_at, put_u32}
-use Rattle.gc_free.specs.declared.run.Run.{Run}
-use Rattle.gc_free.specs.Runs.{run, insert_run, IsSpread, gap, gaps, end_of}
-use Rattle.gc_free.specs.Space.{IsSound, places_end, free_runs, AllAligned}
-use Rattle.gc_heap.specs.Content.{block_size}
-use Rattle.gc_heap.specs.Heap.{AddsObject, HasRoom, IsFree, IsTooLarge, with_object}
-use Rattle.gc_drc.specs.declared.space.CountedSpace.{CountedSpace}
-use Rattle.gc_drc.specs.Layout.{count_at, size_at, flags_at, block_of, object_at, IsWhole}
-use Rattle.gc_drc.specs.View.{View, count_of, flags_of, block_at, Holds, ShowsObject, IsPart, Linked}
-use Rattle.gc_drc.specs.Content.{at_places, places_of, counts_at, counts_of, seen_in, IsSoundSpace}
-use Rattle.gc_drc.specs.PlaceLaws.{in_or_not, get_in, get_none, found_in, LiesAt, spread-lies, spread-apart}
-use Rattle.gc_drc.specs.SpaceLaws.{Lies, lies, blocks_apart, places_are, counts_are, held_size-in}
-use Rattle.gc_drc.specs.Placing.{insert_place, with_place, TakesBlock, IsFull, WritesBlock, PutsObject, CanPlace}
-use Rattle.gc_drc.proofs.TendLemmas.{SameObject, object_in_same, linked_in_same}
-use Rattle.gc_drc.proofs.SeenLemmas.{get-insert-same, get-insert-other, same_view}
+use Rattle.gc_memory.specs.Lists.{In, here, there, sum_over}
+use Rattle.gc_memory.proofs.ChangeLemmas.{get_or-zeros, length-put_zeros, Wrote-within, Wrote-then, Wrote-zeros, Wrote-put_u32, Wrote-put_u64, Wrote-behind}
+use Rattle.gc_memory.proofs.WordLemmas.{word-is, word_before, word64_before, word-put_u32, word64-put_u64}
+use Rattle.gc_model.specs.Bytes.{put_bytes}
+use Rattle.gc_model.proofs.ByteLemmas.{part_in_same}
+use Rattle.gc_model.specs.Views.{u32_at, put_u32}
+use Rattle.gc_free.specs.Runs.{run, insert_run, IsSpread}
+use Rattle.gc_drc.specs.Layout.{count_at, size_at, block_of}
+use Rattle.gc_drc.specs.View.{block_at}
+use Rattle.gc_drc.specs.Content.{at_places}
+use Rattle.gc_drc.specs.PlaceLaws.{in_or_not, get_in, get_none, spread-lies}
+use Rattle.gc_drc.specs.Placing.{insert_place, WritesBlock}
+use Rattle.gc_drc.proofs.SeenLemmas.{get-insert-same, get-insert-other}
 
 -- zeros, a header, a count and a size, written one after the other
 pub writes_block : (m a b d e : List ℕ) (p : ℕ) (h : Header) (size : ℕ) → 28 ≤ size → size < 2 ^ 32 → p + size ≤ length m → a ≡ put_bytes m (p + 8) (replicate (size - 8) 0) → Wrote a b p 8

@@ -1,5 +1,5 @@
 -- What the words of a held object tell.
-use Rattle.std.proofs.Common.{◌≡◌, ℕ, ◌+◌, ◌-◌, ◌/◌, ◌*◌, ◌%◌, ◌<◌, ◌≤◌, Bool, true, false, cond, List, [], take, drop, length, get_or, Some, None, Ok, Err, refl, sym, ap, subst, ◌∙◌, inl, inr, arith}
+use Rattle.std.proofs.Common.{◌≡◌, ℕ, ◌+◌, ◌-◌, ◌/◌, ◌*◌, ◌%◌, ◌<◌, ◌≤◌, cond, List, [], take, drop, length, get_or, Some, Ok, Err, refl, sym, ap, subst, ◌∙◌, inl, inr, arith}
 use Rattle.std.specs.Prelude.{Result, IsOkAnd, MatchResult}
 use Rattle.std.specs.FinMap as finite
 use Rattle.std.specs.FinSet as finset
@@ -8,7 +8,7 @@ use Rattle.gc_types.specs.declared.kind.Layouts.TheVariants.{Counting}
 use Rattle.gc_types.specs.declared.kind.VMGcKind.{VMGcKind}
 use Rattle.gc_types.specs.declared.kind.VMGcKind.TheVariants.{ExternRef, AnyRef, EqRef, StructRef, ArrayRef, ExnRef}
 use Rattle.gc_types.specs.Kinds.{kind_bits}
-use Rattle.gc_refs.specs.Header.{Header, kind_part, spare_bits}
+use Rattle.gc_refs.specs.Header.{kind_part, spare_bits}
 use Rattle.gc_memory.specs.Words.{word}
 use Rattle.gc_memory.specs.Lists.{In, occ}
 use Rattle.gc_memory.proofs.ListLemmas.{In-occ, occ-none}

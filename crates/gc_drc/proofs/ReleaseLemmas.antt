@@ -1,26 +1,24 @@
 -- An object's block is given back.
-use Rattle.std.proofs.Common.{◌≡◌, ℕ, suc, ◌+◌, ◌-◌, ◌*◌, ◌/◌, ◌%◌, ◌<◌, ◌≤◌, ◌^◌, cond, nat_eq, not, true, false, Bool, List, [], ◌∷◌, length, map, filter, refl, sym, ap, subst, ◌∙◌, inl, inr, arith}
-use Rattle.std.proofs.Math.Logic.{◌⊎◌}
+use Rattle.std.proofs.Common.{◌≡◌, ℕ, suc, ◌+◌, ◌-◌, ◌*◌, ◌/◌, ◌%◌, ◌<◌, ◌≤◌, ◌^◌, cond, not, List, [], ◌∷◌, length, map, refl, sym, ap, subst, ◌∙◌, inl, inr, arith}
 use Rattle.std.specs.Prelude.{Contains}
 use Rattle.std.proofs.lemmas.Bool.{cases_eq, eq-eqb, ne_eqb}
-use Rattle.gc_memory.specs.Words.{word, word64}
-use Rattle.gc_memory.specs.Lists.{In, here, there, occ, sum_over}
-use Rattle.gc_memory.proofs.ListLemmas.{In-occ, occ-In, occ-same, occ-other}
+use Rattle.gc_memory.specs.Words.{word}
+use Rattle.gc_memory.specs.Lists.{In, here, there, occ}
+use Rattle.gc_memory.proofs.ListLemmas.{In-occ, occ-In, occ-same}
 use Rattle.gc_free.specs.declared.run.Run.{Run}
 use Rattle.gc_free.specs.Runs.{run, without, begins_at, IsSpread}
 use Rattle.gc_free.specs.Space.{Space, IsSound, give, places_end}
 use Rattle.gc_model.specs.Allocation.{page}
 use Rattle.gc_drc.specs.declared.space.CountedSpace.{CountedSpace}
-use Rattle.gc_drc.specs.Layout.{count_at, size_at, block_of, flags_at, IsWhole}
-use Rattle.gc_drc.specs.View.{View, Holds, ShowsObject, IsPart, Linked, last, link, block_at, count_of, flags_of}
-use Rattle.gc_drc.specs.SpaceLaws.{Lies, lies, blocks_apart}
+use Rattle.gc_drc.specs.Layout.{size_at, block_of}
+use Rattle.gc_drc.specs.View.{View, Holds, ShowsObject, IsPart, Linked, block_at, count_of, flags_of}
+use Rattle.gc_drc.specs.SpaceLaws.{lies, blocks_apart}
 use Rattle.gc_drc.specs.PlaceLaws.{spread-not_behind}
 use Rattle.gc_drc.specs.CollectOps.{same, without_one, unqueued, freed}
-use Rattle.gc_drc.specs.CollectMemory.{Context, IsContext, Intact, At, CanRelease, CanFreeQueued, Releases}
+use Rattle.gc_drc.specs.CollectMemory.{Context, Intact, At, CanRelease, CanFreeQueued, Releases}
 use Rattle.gc_drc.proofs.LinkLemmas.{linked_rest, without_first}
 use Rattle.gc_drc.proofs.MarkLemmas.{part_without}
 use Rattle.gc_drc.proofs.OccLemmas.{same-is, same-not, occ-without, occ-cases, sum_over-without}
-use Rattle.gc_drc.proofs.HoldsLemmas.{Loose, loose, linked_at}
 
 -- the block of an object that is given back
 abbrev pub block_in : List ℕ → ℕ → Run

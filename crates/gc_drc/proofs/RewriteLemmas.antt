@@ -1,10 +1,9 @@
 -- Writes to the words that the heap keeps in front of an object's data.
-use Rattle.std.proofs.Common.{◌≡◌, ℕ, ◌+◌, ◌-◌, ◌*◌, ◌/◌, ◌%◌, ◌<◌, ◌≤◌, ◌^◌, cond, nat_eq, true, false, Bool, List, [], ◌∷◌, length, map, refl, sym, ap, subst, ◌∙◌, inl, inr, arith}
+use Rattle.std.proofs.Common.{◌≡◌, ℕ, ◌+◌, ◌/◌, ◌%◌, ◌<◌, ◌≤◌, ◌^◌, List, [], ◌∷◌, length, sym, ap, subst, ◌∙◌, inl, inr, arith}
 use Rattle.std.proofs.Math.Logic.{◌⊎◌}
-use Rattle.std.proofs.lemmas.Bool.{cases_eq, cases_lt, eq-eqb, ne_eqb}
-use Rattle.gc_types.specs.declared.kind.VMGcKind.{VMGcKind}
+use Rattle.std.proofs.lemmas.Bool.{cases_eq, cases_lt}
 use Rattle.gc_types.specs.declared.kind.VMGcKind.TheVariants.{ExternRef}
-use Rattle.gc_refs.specs.Header.{spare_bits, kind_part, IsOfKind}
+use Rattle.gc_refs.specs.Header.{kind_part, IsOfKind}
 use Rattle.gc_types.specs.declared.kind.Layouts.TheVariants.{Counting}
 use Rattle.gc_heap.specs.Objects.{first_offset, IsObjectKind}
 use Rattle.gc_model.specs.Views.{put_u32}
@@ -12,14 +11,12 @@ use Rattle.gc_model.specs.Bytes.{SameBytes}
 use Rattle.gc_model.proofs.ByteLemmas.{SameBytes-then, SameBytes-part}
 use Rattle.gc_memory.specs.Words.{word, word64, put_u64}
 use Rattle.gc_memory.specs.Changes.{Wrote}
-use Rattle.gc_memory.specs.Lists.{In, here, there, occ}
-use Rattle.gc_memory.proofs.ListLemmas.{In-occ, occ-In, occ-none}
-use Rattle.gc_memory.proofs.ChangeLemmas.{Wrote-put_u32, Wrote-put_u64, Wrote-within, Wrote-then, Wrote-apart, Wrote-behind, Wrote-before}
+use Rattle.gc_memory.specs.Lists.{In, here, there}
+use Rattle.gc_memory.proofs.ChangeLemmas.{Wrote-put_u32, Wrote-put_u64, Wrote-within, Wrote-then, Wrote-behind, Wrote-before}
 use Rattle.gc_memory.proofs.WordLemmas.{word_apart, word64_apart, word-put_u32, word64-put_u64, word_in_same}
-use Rattle.gc_drc.specs.declared.space.CountedSpace.{CountedSpace}
-use Rattle.gc_drc.specs.Layout.{count_at, size_at, flags_at, kind_at, kind_of, IsWhole, IsExternalAt}
-use Rattle.gc_drc.specs.View.{View, Holds, ShowsObject, IsPart, Linked, last, link, count_of, flags_of}
-use Rattle.gc_drc.specs.CollectMemory.{Context, IsContext, LiesAt, SameObject, Intact, At}
+use Rattle.gc_drc.specs.Layout.{size_at, kind_at, kind_of, IsWhole, IsExternalAt}
+use Rattle.gc_drc.specs.View.{Linked, last, link}
+use Rattle.gc_drc.specs.CollectMemory.{Context, IsContext, SameObject, Intact}
 
 -- The words in front of an object became these; its kind, its type and its size stayed.
 pub record Sets (m m' : List ℕ) (x flags count next_shown next : ℕ) : Type 0 where

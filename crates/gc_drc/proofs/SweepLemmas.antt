@@ -1,15 +1,15 @@
 -- Marking frame slots, sweeping the list of shown words, and freeing what is queued.
-use Rattle.std.proofs.Common.{◌≡◌, ℕ, ◌+◌, ◌-◌, ◌<◌, ◌≤◌, cond, nat_eq, true, false, Bool, List, [], ◌∷◌, refl, sym, ap, subst, ◌∙◌, inl, inr, arith}
+use Rattle.std.proofs.Common.{◌≡◌, ℕ, ◌+◌, ◌<◌, ◌≤◌, List, [], ◌∷◌, ap, inl, inr, arith}
 use Rattle.std.proofs.Math.Logic.{◌⊎◌}
-use Rattle.std.proofs.lemmas.Bool.{cases_eq, cases_lt, eq-eqb, ne_eqb}
-use Rattle.gc_memory.specs.Lists.{In, here, there, sum_over, occ}
-use Rattle.gc_memory.proofs.ListLemmas.{occ-same, occ-other, In-occ, occ-In}
+use Rattle.std.proofs.lemmas.Bool.{cases_eq}
+use Rattle.gc_memory.specs.Lists.{occ}
+use Rattle.gc_memory.proofs.ListLemmas.{occ-same, In-occ, occ-In}
 use Rattle.gc_drc.specs.View.{View}
-use Rattle.gc_drc.specs.Graph.{Graph, names, Reached, by_root, by_frame, by_field}
+use Rattle.gc_drc.specs.Graph.{Graph, Reached, by_root, by_frame, by_field}
 use Rattle.gc_drc.specs.Unheld.{Unheld, unheld}
-use Rattle.gc_drc.specs.CollectOps.{same, without_one, count_of, lowered, hidden, marked_also, unmarked, unqueued, freed}
+use Rattle.gc_drc.specs.CollectOps.{same, count_of, lowered, hidden, marked_also, unmarked, unqueued, freed}
 use Rattle.gc_drc.specs.CollectStates.{IsView, Cascading, MarkingFrames, SweepingShown, Draining, Drained}
-use Rattle.gc_drc.proofs.OccLemmas.{same-is, same-not, occ-cond, occ-cases, occ-without, names-at, names-without, Holder, holder}
+use Rattle.gc_drc.proofs.OccLemmas.{same-is, same-not, occ-cases, occ-without, names-at, holder}
 use Rattle.gc_drc.proofs.CascadeLemmas.{CanLower, lowered_is_view, cascading_can_lower, cascading_lowered, cascading_skipped, cascading_freed, unqueued_is_view, cascading_unqueued, freed_is_view, hidden_is_view, cascading_hidden}
 
 -- MARKING FRAME SLOTS

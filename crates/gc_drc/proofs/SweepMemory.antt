@@ -1,7 +1,6 @@
 -- Marks of frame slots, and the sweep of the list of shown words, in memory.
-use Rattle.std.proofs.Common.{◌≡◌, ℕ, zero, suc, ◌+◌, ◌-◌, ◌*◌, ◌/◌, ◌%◌, ◌<◌, ◌≤◌, Bool, true, false, cond, nat_eq, List, [], ◌∷◌, length, drop, get_or, map, refl, sym, ap, subst, ◌∙◌, inl, inr, arith}
+use Rattle.std.proofs.Common.{◌≡◌, ℕ, zero, suc, ◌+◌, ◌*◌, ◌%◌, ◌<◌, ◌≤◌, Bool, true, false, cond, nat_eq, List, [], ◌∷◌, length, drop, map, refl, sym, ap, subst, ◌∙◌, inl, inr, arith}
 use Rattle.std.specs.Prelude.{filter}
-use Rattle.std.proofs.Math.Logic.{◌⊎◌}
 use Rattle.std.proofs.lemmas.Bool.{cases_eq, eq-eqb, ne_eqb}
 use Rattle.std.proofs.lemmas.List.{drop_more}
 use Rattle.gc_roots.specs.Roots.{Root, root_at, no_root}
@@ -10,20 +9,17 @@ use Rattle.gc_memory.specs.Words.{word}
 use Rattle.gc_memory.specs.Lists.{In, here, there, occ, sum_over}
 use Rattle.gc_memory.proofs.ListLemmas.{In-occ, occ-In, occ-same, sum_over-same}
 use Rattle.gc_drc.specs.declared.space.CountedSpace.{CountedSpace}
-use Rattle.gc_drc.specs.View.{View, Holds, IsPart, Linked, count_of}
-use Rattle.gc_drc.specs.Content.{places_of}
+use Rattle.gc_drc.specs.View.{View, Linked}
 use Rattle.gc_drc.specs.SpaceLaws.{places_are}
-use Rattle.gc_drc.specs.Graph.{Graph}
 use Rattle.gc_drc.specs.CollectOps.{same, without_one, lowered, hidden, marked_also, unmarked}
 use Rattle.gc_drc.specs.CollectLists.{onto, front}
-use Rattle.gc_drc.specs.CollectStates.{IsView, Cascading, MarkingFrames, SweepingShown}
-use Rattle.gc_drc.specs.CollectMemory.{Context, IsContext, IsWord, Intact, At, CanMark, CanUnmark, CanHide, CanLowerAt}
+use Rattle.gc_drc.specs.CollectStates.{IsView, Cascading}
+use Rattle.gc_drc.specs.CollectMemory.{Context, At, CanMark, CanUnmark, CanHide, CanLowerAt}
 use Rattle.gc_drc.specs.CollectDrain.{IsPlaceWord}
 use Rattle.gc_drc.specs.CollectSweep.{FrameMarks, CanMarkFrame, Sweep, CanSweepOne, SweptOne, sweep_left}
-use Rattle.gc_drc.proofs.OccLemmas.{same-is, same-not, occ-without, occ-cases}
-use Rattle.gc_drc.proofs.CascadeLemmas.{CanLower}
+use Rattle.gc_drc.proofs.OccLemmas.{same-is, same-not, occ-without}
 use Rattle.gc_drc.proofs.SweepLemmas.{marked_is_view, frame_marked, frame_passed, sweep_begins, sweep_keeps, sweep_can_lower, sweep_lowers}
-use Rattle.gc_drc.proofs.LinkLemmas.{linked_first, linked_rest, linked_behind, leads_behind, without_onto, occ-onto}
+use Rattle.gc_drc.proofs.LinkLemmas.{linked_first, linked_behind, without_onto, occ-onto}
 use Rattle.gc_drc.proofs.ReleaseLemmas.{places_once}
 use Rattle.gc_drc.proofs.HoldsLemmas.{room_at}
 use Rattle.gc_drc.proofs.MarkLemmas.{flags_in}

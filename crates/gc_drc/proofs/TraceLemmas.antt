@@ -1,15 +1,14 @@
 -- Marking what the roots reach, and freeing the rest.
-use Rattle.std.proofs.Common.{◌≡◌, ℕ, ◌+◌, ◌-◌, ◌<◌, ◌≤◌, cond, nat_eq, true, false, Bool, List, [], ◌∷◌, ◌++◌, refl, sym, ap, subst, ◌∙◌, inl, inr, arith}
+use Rattle.std.proofs.Common.{◌≡◌, ℕ, ◌+◌, ◌<◌, ◌≤◌, List, [], ◌∷◌, sym, ap, subst, inl, inr, arith}
 use Rattle.std.proofs.Math.Logic.{◌⊎◌}
-use Rattle.std.proofs.lemmas.Bool.{cases_eq, cases_lt, eq-eqb, ne_eqb}
-use Rattle.gc_memory.specs.Lists.{In, here, there, sum_over, occ}
-use Rattle.gc_memory.proofs.ListLemmas.{occ-same, occ-other, In-occ, occ-In, occ-append}
+use Rattle.std.proofs.lemmas.Bool.{cases_eq}
+use Rattle.gc_memory.specs.Lists.{occ}
+use Rattle.gc_memory.proofs.ListLemmas.{occ-same, In-occ, occ-In}
 use Rattle.gc_drc.specs.View.{View}
 use Rattle.gc_drc.specs.Graph.{Graph, names, Reached, by_root, by_frame, by_field}
-use Rattle.gc_drc.specs.CollectOps.{same, without_one, count_of, uncounted, marked_also, unmarked, freed}
-use Rattle.gc_drc.specs.CollectStates.{IsView, Cascading, Draining, Drained, Tracing, Marked, Freeing, Done}
-use Rattle.gc_drc.proofs.OccLemmas.{same-is, same-not, occ-cases, occ-without, names-at, names-without, Holder, holder}
-use Rattle.gc_drc.proofs.SweepLemmas.{reached_kept}
+use Rattle.gc_drc.specs.CollectOps.{same, count_of, uncounted, marked_also, unmarked, freed}
+use Rattle.gc_drc.specs.CollectStates.{IsView, Cascading, Tracing, Marked, Freeing, Done}
+use Rattle.gc_drc.proofs.OccLemmas.{same-is, same-not, occ-cases, occ-without, names-at, names-without}
 
 -- MARKING
 

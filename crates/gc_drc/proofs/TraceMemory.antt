@@ -1,7 +1,6 @@
 -- What the roots reach is marked, in memory.
-use Rattle.std.proofs.Common.{◌≡◌, ℕ, zero, suc, ◌+◌, ◌-◌, ◌*◌, ◌/◌, ◌%◌, ◌<◌, ◌≤◌, ◌^◌, Bool, true, false, cond, nat_eq, if◌then◌else◌, List, [], ◌∷◌, length, drop, refl, sym, ap, subst, ◌∙◌, inl, inr, arith}
-use Rattle.std.proofs.Math.Logic.{◌⊎◌}
-use Rattle.std.proofs.lemmas.Bool.{cases_eq, eq-eqb, ne_eqb}
+use Rattle.std.proofs.Common.{◌≡◌, ℕ, zero, suc, ◌+◌, ◌-◌, ◌%◌, ◌<◌, ◌≤◌, ◌^◌, Bool, true, false, nat_eq, if◌then◌else◌, List, [], ◌∷◌, length, drop, refl, sym, ap, subst, ◌∙◌, inl, inr, arith}
+use Rattle.std.proofs.lemmas.Bool.{ne_eqb}
 use Rattle.gc_types.specs.Declarations.{Declaration}
 use Rattle.std.proofs.lemmas.List.{drop_more}
 use Rattle.gc_roots.specs.Roots.{Root, root_at, no_root}
@@ -10,21 +9,21 @@ use Rattle.gc_memory.specs.Words.{word, word64}
 use Rattle.gc_memory.specs.Lists.{In, here, there, occ, sum_over}
 use Rattle.gc_memory.proofs.ListLemmas.{In-occ, occ-In, occ-same, sum_over-same}
 use Rattle.gc_drc.specs.declared.space.CountedSpace.{CountedSpace}
-use Rattle.gc_drc.specs.View.{View, Holds, IsPart, Linked, last, link, count_of, flags_of}
+use Rattle.gc_drc.specs.View.{View, Linked, last, link}
 use Rattle.gc_drc.specs.Content.{places_of}
 use Rattle.gc_drc.specs.SpaceLaws.{places_are}
 use Rattle.gc_drc.specs.Graph.{Graph}
 use Rattle.gc_drc.specs.CollectOps.{same, without_one, marked_also}
-use Rattle.gc_drc.specs.CollectStates.{IsView, Cascading, Tracing}
-use Rattle.gc_drc.specs.CollectMemory.{Context, IsContext, IsWord, Intact, At, CanMark}
+use Rattle.gc_drc.specs.CollectStates.{Tracing}
+use Rattle.gc_drc.specs.CollectMemory.{Context, At, CanMark}
 use Rattle.gc_drc.specs.CollectVisits.{CanVisitObject}
 use Rattle.gc_drc.specs.CollectDrain.{IsPlaceWord}
 use Rattle.gc_drc.specs.CollectTrace.{Settled, Traces, CanScan, root_words, chain_length, trace_left}
-use Rattle.gc_drc.proofs.OccLemmas.{same-is, same-not, occ-without, occ-cases}
+use Rattle.gc_drc.proofs.OccLemmas.{same-is, same-not, occ-without}
 use Rattle.gc_drc.proofs.SweepLemmas.{marked_is_view}
 use Rattle.gc_drc.proofs.TraceLemmas.{trace_marks, trace_passes, trace_scans}
 use Rattle.gc_drc.proofs.RewriteLemmas.{Sets, sets_link, sets_as, linked_same}
-use Rattle.gc_drc.proofs.HoldsLemmas.{Rewritten, room_at, link_kept, with_lists, Lists, at_written}
+use Rattle.gc_drc.proofs.HoldsLemmas.{Rewritten, room_at, link_kept, with_lists, at_written}
 use Rattle.gc_drc.proofs.LinkLemmas.{linked_first, linked_begins, linked_rest}
 use Rattle.gc_drc.proofs.ReleaseLemmas.{places_once, length_without}
 use Rattle.gc_drc.proofs.MarkLemmas.{flags_in, count_in}

@@ -1,5 +1,5 @@
 -- The words of an object are visited one by one.
-use Rattle.std.proofs.Common.{◌≡◌, ℕ, zero, suc, ◌+◌, ◌-◌, ◌*◌, ◌<◌, ◌≤◌, ◌^◌, List, [], ◌∷◌, Bool, true, false, Some, None, length, drop, get_or, map, refl, sym, ap, subst, ◌∙◌, inl, inr, arith}
+use Rattle.std.proofs.Common.{◌≡◌, ℕ, zero, suc, ◌+◌, ◌-◌, ◌*◌, ◌<◌, ◌≤◌, ◌^◌, List, [], ◌∷◌, Bool, true, false, Some, None, length, drop, get_or, refl, sym, ap, subst, ◌∙◌, arith}
 use Rattle.std.proofs.lemmas.List.{drop_more}
 use Rattle.gc_model.specs.Views.{u32_at}
 use Rattle.gc_model.proofs.ByteLemmas.{SameBytes-part}
@@ -17,7 +17,7 @@ use Rattle.gc_types.specs.declared.kind.VMGcKind.TheVariants.{ExternRef, AnyRef,
 use Rattle.gc_refs.specs.Header.{IsOfKind, kind_part}
 use Rattle.gc_drc.proofs.RewriteLemmas.{kind_at_same}
 use Rattle.gc_drc.specs.Layout.{size_at, kind_at, kind_of}
-use Rattle.gc_drc.specs.CollectMemory.{Context, IsContext, LiesAt, SameObject, Intact, words_at, traced_offsets, info_of, info_at, offsets_at}
+use Rattle.gc_drc.specs.CollectMemory.{Context, IsContext, Intact, words_at, traced_offsets, info_of, info_at, offsets_at}
 use Rattle.gc_drc.specs.CollectVisits.{InObject, CanVisit, CanVisitAt, CanVisitArray, CanVisitObject, Visits, VisitsArray, VisitsObject, array_offsets}
 
 -- a word of an object that is as it was, and where it lies

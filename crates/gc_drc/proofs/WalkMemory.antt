@@ -1,5 +1,5 @@
 -- What isn't marked is freed, in memory.
-use Rattle.std.proofs.Common.{◌≡◌, ℕ, zero, suc, ◌+◌, ◌-◌, ◌*◌, ◌/◌, ◌%◌, ◌<◌, ◌≤◌, ◌^◌, Bool, true, false, cond, nat_eq, nat_lt, List, [], ◌∷◌, ◌++◌, Option, Some, None, length, map, refl, sym, ap, subst, ◌∙◌, inl, inr, arith}
+use Rattle.std.proofs.Common.{◌≡◌, ℕ, ◌+◌, ◌-◌, ◌*◌, ◌/◌, ◌%◌, ◌<◌, ◌≤◌, ◌^◌, Bool, true, false, cond, nat_eq, List, [], ◌∷◌, ◌++◌, Option, Some, None, length, map, refl, sym, ap, subst, ◌∙◌, inl, inr, arith}
 use Rattle.std.specs.Prelude.{find, option_map, min}
 use Rattle.std.proofs.Math.Logic.{◌⊎◌}
 use Rattle.std.proofs.lemmas.Bool.{cases_eq, cases_lt, eq-eqb, ne_eqb, lt-ltb, le-ltb}
@@ -10,25 +10,24 @@ use Rattle.gc_types.specs.declared.kind.VMGcKind.TheVariants.{ExternRef}
 use Rattle.gc_refs.specs.Header.{IsOfKind}
 use Rattle.gc_memory.specs.Words.{word}
 use Rattle.gc_memory.specs.Lists.{In, here, there, occ}
-use Rattle.gc_memory.proofs.ListLemmas.{In-occ, occ-In, occ-same}
+use Rattle.gc_memory.proofs.ListLemmas.{In-occ, occ-In}
 use Rattle.gc_free.specs.declared.run.Run.{Run}
 use Rattle.gc_free.specs.Runs.{run, gap, gaps, begins_at, IsSpread}
 use Rattle.gc_free.specs.Space.{places_end}
 use Rattle.gc_free.specs.Listed.{run_length_at}
 use Rattle.gc_drc.specs.declared.space.CountedSpace.{CountedSpace}
 use Rattle.gc_drc.specs.Layout.{size_at, kind_at, block_of}
-use Rattle.gc_drc.specs.View.{View, Holds, IsPart, block_at, count_of}
+use Rattle.gc_drc.specs.View.{View, Holds, block_at, count_of}
 use Rattle.gc_drc.specs.PlaceLaws.{spread-lies, spread-apart}
 use Rattle.gc_drc.specs.SpaceLaws.{blocks_apart}
 use Rattle.gc_drc.specs.Graph.{Reached}
 use Rattle.gc_drc.specs.CollectOps.{same, without_one, uncounted, freed}
-use Rattle.gc_drc.specs.CollectStates.{Freeing}
-use Rattle.gc_drc.specs.CollectMemory.{Context, IsContext, IsWord, Intact, At, CanUncountAt, CanRelease}
+use Rattle.gc_drc.specs.CollectMemory.{Context, At, CanUncountAt, CanRelease}
 use Rattle.gc_drc.specs.CollectVisits.{CanVisitObject}
 use Rattle.gc_drc.specs.CollectHosts.{FreesHostOf, HostsLeft}
 use Rattle.gc_drc.specs.CollectDrain.{IsPlaceWord}
-use Rattle.gc_drc.specs.CollectWalk.{BitsAre, Uncounts, Garbage, CanFreeGarbage, IsBorder, IsNext, CanWalk, CanSweepGarbage, SweepsGarbage, Walk, Walks, CanFreeUnmarked, FreedUnmarked, walk_end}
-use Rattle.gc_drc.proofs.OccLemmas.{same-is, same-not, occ-without, occ-cases}
+use Rattle.gc_drc.specs.CollectWalk.{Uncounts, Garbage, CanFreeGarbage, IsBorder, IsNext, CanWalk, CanSweepGarbage, SweepsGarbage, Walk, Walks, CanFreeUnmarked, FreedUnmarked, walk_end}
+use Rattle.gc_drc.proofs.OccLemmas.{same-is, same-not, occ-without}
 use Rattle.gc_drc.proofs.TraceLemmas.{freeing_can_uncount, freeing_uncounts, freeing_skips, freeing_frees, unmarked_not_shown}
 use Rattle.gc_drc.proofs.VisitLemmas.{kind_part_same, object_room}
 use Rattle.gc_drc.proofs.HostLemmas.{hosts_after}

@@ -1,31 +1,30 @@
 -- What a write to an object leaves of a space.
-use Rattle.std.proofs.Common.{◌≡◌, ℕ, ◌+◌, ◌-◌, ◌*◌, ◌/◌, ◌%◌, ◌<◌, ◌≤◌, ◌^◌, Bool, true, false, cond, List, [], ◌∷◌, ◌++◌, take, drop, length, Option, Some, None, refl, sym, ap, ap₂, subst, ◌∙◌, inl, inr, arith}
+use Rattle.std.proofs.Common.{◌≡◌, ℕ, ◌+◌, ◌-◌, ◌*◌, ◌/◌, ◌%◌, ◌<◌, ◌≤◌, ◌^◌, List, take, drop, length, refl, sym, ap, subst, ◌∙◌, inl, inr, arith}
 use Rattle.std.proofs.Math.Logic.{◌⊎◌}
-use Rattle.std.specs.Ordering.{nat_cmp}
 use Rattle.std.specs.FinMap as finite
-use Rattle.std.proofs.lemmas.Bool.{cases_eq, cases_lt}
+use Rattle.std.proofs.lemmas.Bool.{cases_eq}
 use Rattle.gc_types.specs.declared.kind.Layouts.TheVariants.{Counting}
 use Rattle.gc_types.specs.declared.kind.VMGcKind.{VMGcKind}
 use Rattle.gc_types.specs.declared.kind.VMGcKind.TheVariants.{ExternRef, AnyRef, EqRef, StructRef, ArrayRef, ExnRef}
 use Rattle.gc_types.specs.Kinds.{kind_bits}
-use Rattle.gc_refs.specs.Header.{Header, spare_bits, kind_part}
+use Rattle.gc_refs.specs.Header.{spare_bits, kind_part}
 use Rattle.gc_memory.specs.Words.{word}
 use Rattle.gc_memory.specs.Changes.{Wrote}
-use Rattle.gc_memory.specs.Lists.{In, occ}
+use Rattle.gc_memory.specs.Lists.{In}
 use Rattle.gc_memory.proofs.ChangeLemmas.{Wrote-within, Wrote-put_bytes, Wrote-put_u32, Wrote-behind}
-use Rattle.gc_memory.proofs.WordLemmas.{word_before, word64_before, word_behind, word64_behind, word_in_same, word64_in_same, word-put_u32}
+use Rattle.gc_memory.proofs.WordLemmas.{word_before, word64_before, word_behind, word64_behind, word_in_same, word-put_u32}
 use Rattle.gc_model.specs.Bytes.{put_bytes, SameBytes}
 use Rattle.gc_model.proofs.ByteLemmas.{SameBytes-part, part_in_same, part-put_bytes_inside}
-use Rattle.gc_model.specs.Views.{HeapObject, HeapView, put_u32}
-use Rattle.gc_heap.specs.Objects.{first_offset, writable_offset, held_size, IsObjectKind}
-use Rattle.gc_heap.specs.Heap.{IsWritable, IsSameHeader, with_data, with_spare_of, put_object}
+use Rattle.gc_model.specs.Views.{HeapObject, put_u32}
+use Rattle.gc_heap.specs.Objects.{first_offset, writable_offset, IsObjectKind}
+use Rattle.gc_heap.specs.Heap.{IsWritable, with_data, with_spare_of, put_object}
 use Rattle.gc_model.specs.Allocation.{page}
 use Rattle.gc_drc.specs.declared.space.CountedSpace.{CountedSpace}
-use Rattle.gc_drc.specs.Layout.{count_at, size_at, block_of, flags_at, kind_of, kind_at, data_at, object_at, IsWhole, IsExternalAt}
-use Rattle.gc_drc.specs.View.{View, count_of, flags_of, Holds, ShowsObject, IsPart, Linked}
-use Rattle.gc_drc.specs.Content.{at_places, places_of, counts_at, counts_of, seen_in, IsSoundSpace}
-use Rattle.gc_drc.specs.SpaceLaws.{Lies, lies, places_are, counts_are}
-use Rattle.gc_drc.proofs.TendLemmas.{SameObject, same_object, object_in_same, linked_in_same, other_bytes, other_words}
+use Rattle.gc_drc.specs.Layout.{count_at, size_at, block_of, flags_at, kind_of, kind_at, data_at, object_at, IsWhole}
+use Rattle.gc_drc.specs.View.{View, count_of, flags_of, Holds, ShowsObject}
+use Rattle.gc_drc.specs.Content.{at_places, places_of, seen_in, IsSoundSpace}
+use Rattle.gc_drc.specs.SpaceLaws.{lies, places_are, counts_are}
+use Rattle.gc_drc.proofs.TendLemmas.{same_object, object_in_same, linked_in_same, other_bytes, other_words}
 use Rattle.gc_drc.proofs.SeenLemmas.{same_view, at_places-put}
 use Rattle.gc_drc.proofs.ReadLemmas.{HeldAt, held_at, size_of}
 

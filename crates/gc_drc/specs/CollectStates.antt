@@ -1,6 +1,6 @@
 -- What stands in the middle of a collection.
-use Rattle.std.specs.Prelude.{ℕ, ◌≡◌, ◌+◌, ◌<◌, ◌≤◌, ◌⊎◌, List, [], ◌∷◌}
-use Rattle.gc_memory.specs.Lists.{In, occ}
+use Rattle.std.specs.Prelude.{ℕ, ◌≡◌, ◌+◌, ◌<◌, ◌≤◌, ◌⊎◌, List, []}
+use Rattle.gc_memory.specs.Lists.{occ}
 use Rattle.gc_drc.specs.View.{View}
 use Rattle.gc_drc.specs.Graph.{Graph, names, Reached}
 use Rattle.gc_drc.specs.Unheld.{Unheld}

@@ -1,12 +1,12 @@
 -- The marks of frame slots, and the sweep of the list of shown words, in memory.
-use Rattle.std.specs.Prelude.{◌≡◌, ℕ, ◌+◌, ◌%◌, ◌<◌, List, [], ◌∷◌}
+use Rattle.std.specs.Prelude.{◌≡◌, ℕ, ◌%◌, List, [], ◌∷◌}
 use Rattle.gc_memory.specs.Words.{word}
 use Rattle.gc_memory.specs.Lists.{In, sum_over}
 use Rattle.gc_drc.specs.declared.space.CountedSpace.{CountedSpace}
 use Rattle.gc_drc.specs.View.{View}
 use Rattle.gc_drc.specs.Content.{places_of}
 use Rattle.gc_drc.specs.CollectStates.{IsView, Cascading, MarkingFrames, SweepingShown}
-use Rattle.gc_drc.specs.CollectMemory.{Context, IsWord, At}
+use Rattle.gc_drc.specs.CollectMemory.{Context, At}
 use Rattle.gc_drc.specs.CollectLists.{onto, front}
 
 -- The objects that frame slots hold are being marked; these words of slots are left.

@@ -1,5 +1,5 @@
 -- What the first two increments of a collection leave.
-use Rattle.std.specs.Prelude.{ℕ, List}
+use Rattle.std.specs.Prelude.{ℕ}
 use Rattle.std.specs.FinMap as finite
 use Rattle.std.specs.Ordering.{nat_cmp}
 use Rattle.gc_memory.specs.Lists.{In}

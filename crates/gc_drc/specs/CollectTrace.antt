@@ -1,5 +1,5 @@
 -- What the roots reach is marked, in memory.
-use Rattle.std.specs.Prelude.{◌≡◌, ℕ, zero, suc, ◌+◌, ◌-◌, ◌%◌, ◌<◌, ◌==◌, if◌then◌else◌, List, [], ◌∷◌, length, map}
+use Rattle.std.specs.Prelude.{◌≡◌, ℕ, zero, suc, ◌+◌, ◌-◌, ◌%◌, ◌<◌, ◌==◌, if◌then◌else◌, List, [], length, map}
 use Rattle.gc_types.specs.Declarations.{Declaration}
 use Rattle.gc_roots.specs.Roots.{Root}
 use Rattle.gc_memory.specs.Words.{word}

@@ -1,5 +1,5 @@
 -- What names what, where a collection begins.
-use Rattle.std.specs.Prelude.{ℕ, ◌<◌, ◌%◌, ◌≡◌, ◌⊎◌, ◌+◌, List}
+use Rattle.std.specs.Prelude.{ℕ, List}
 use Rattle.gc_memory.specs.Lists.{In, occ, sum_over}
 
 -- The places of the objects; the words of the roots that are no frame slots, and of those that are; and the

@@ -2,8 +2,6 @@
 -- memory is out.
 use Rattle.std.specs.Prelude.{◌≡◌, ℕ, ◌<◌, ◌^◌, List}
 use Rattle.gc_model.specs.Views.{HeapView, detached_in}
-use Rattle.gc_drc.specs.declared.space.CountedSpace.{CountedSpace}
-use Rattle.gc_drc.specs.declared.growth.Marks.{Marks}
 use Rattle.gc_drc.specs.declared.heap.DrcHeap.{DrcHeap}
 use Rattle.gc_drc.specs.declared.heap.Backing.{Backing}
 use Rattle.gc_drc.specs.declared.heap.Backing.TheVariants as backing

@@ -4,13 +4,13 @@
 
 mod alloc;
 mod barriers;
+pub(crate) mod collect;
 mod counting;
 mod give;
 mod growth;
 pub mod heap;
 mod place;
 mod read;
-pub(crate) mod collect;
 pub(crate) mod space;
 mod write;
 

@@ -1,4 +1,4 @@
-use Rattle.std.proofs.Common.{◌<◌, ◌^◌, arith}
+use Rattle.std.proofs.Common.{arith}
 use Rattle.gc_drc.proofs.PlacingLemmas.{writes_block}
 use Rattle.gc_drc.proofs.place.write_block.Goals as goal
 

@@ -1,4 +1,4 @@
-use Rattle.std.proofs.Common.{ℕ, ◌≡◌, ◌+◌, Err, ap}
+use Rattle.std.proofs.Common.{Err, ap}
 use Rattle.gc_drc.proofs.HostLemmas.{frees_removed, frees_none, only_fault}
 use Rattle.gc_drc.proofs.collect.hosts.free_host.Goals.{in-Ok, in-Err-BadHostDataId}
 use Rattle.gc_drc.proofs.collect.hosts.free_host.Goals as goal

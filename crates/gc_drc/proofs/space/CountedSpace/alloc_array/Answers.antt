@@ -1,11 +1,10 @@
-use Rattle.std.proofs.Common.{◌≡◌, ℕ, ◌+◌, ◌*◌, ◌<◌, ◌≤◌, ◌^◌, Ok, Err, length, refl, sym, ap, ap₂, subst, ◌∙◌, arith}
+use Rattle.std.proofs.Common.{ℕ, ◌+◌, ◌≤◌, Ok, Err, refl, sym, ap, ap₂, subst, ◌∙◌, arith}
 use Rattle.gc_types.specs.declared.kind.VMGcKind.TheVariants.{ArrayRef}
 use Rattle.gc_types.specs.declared.kind.Layouts.TheVariants.{Counting}
 use Rattle.gc_types.specs.declared.layout.GcArrayLayout.{GcArrayLayout}
-use Rattle.gc_refs.specs.Header.{Header, header_of}
+use Rattle.gc_refs.specs.Header.{header_of}
 use Rattle.gc_model.specs.Views.{put_u32}
 use Rattle.gc_heap.specs.Heap.{new_array, array_size}
-use Rattle.gc_drc.specs.Content.{seen_in}
 use Rattle.gc_drc.specs.Placing.{PlacesObject}
 use Rattle.gc_drc.proofs.MakeLemmas.{Makes, kept_sound}
 use Rattle.gc_drc.proofs.ObjectLemmas.{alloc_array_of, front_room, lacks_room, not_made, not_made_sound}

@@ -1,6 +1,5 @@
-use Rattle.std.proofs.Common.{◌≡◌, ℕ, ◌≤◌, sym, subst}
+use Rattle.std.proofs.Common.{◌≤◌, sym, subst}
 use Rattle.gc_drc.specs.Placing.{PlacesObject}
-use Rattle.gc_drc.specs.Content.{IsSoundSpace, seen_in}
 use Rattle.gc_drc.proofs.ObjectLemmas.{least_first, allocates_raw}
 use Rattle.gc_drc.proofs.space.CountedSpace.alloc_raw.Goals as goal
 use Rattle.gc_drc.proofs.space.CountedSpace.alloc_raw.Goals.{After-make}

@@ -1,16 +1,11 @@
-use Rattle.std.proofs.Common.{◌≡◌, ℕ, ◌+◌, ◌-◌, ◌∙◌, ◌<◌, ◌≤◌, ◌%◌, true, false, refl, sym, ap, ap₂, subst, length, take, drop, Some, inl, inr, arith}
-use Rattle.gc_types.specs.declared.kind.Layouts.TheVariants.{Counting}
-use Rattle.gc_types.specs.declared.kind.VMGcKind.TheVariants.{ExternRef, ArrayRef}
-use Rattle.gc_types.specs.Kinds.{kind_bits}
-use Rattle.gc_refs.specs.Header.{Header, kind_part, IsOfKind}
+use Rattle.std.proofs.Common.{◌≡◌, ◌+◌, ◌∙◌, ◌≤◌, ap, ap₂, subst, arith}
+use Rattle.gc_types.specs.declared.kind.VMGcKind.TheVariants.{ArrayRef}
 use Rattle.gc_memory.specs.Words.{word}
 use Rattle.gc_memory.specs.Lists.{In}
-use Rattle.gc_memory.proofs.WordLemmas.{word-is}
-use Rattle.gc_model.specs.Views.{HeapObject, u32_at}
-use Rattle.gc_heap.specs.Objects.{IsHeaderOf, IsObjectData, array_length}
+use Rattle.gc_heap.specs.Objects.{array_length}
 use Rattle.gc_drc.specs.Layout.{size_at, kind_at}
 use Rattle.gc_drc.specs.Content.{places_of}
-use Rattle.gc_drc.proofs.ReadLemmas.{among_at, held_at, header_of, size_of, array_of, host_of, data_of, match_ok}
+use Rattle.gc_drc.proofs.ReadLemmas.{held_at, array_of, match_ok}
 use Rattle.gc_drc.proofs.space.CountedSpace.array_len.Goals as goal
 
 pub returns-clause-held : goal.returns-clause-held

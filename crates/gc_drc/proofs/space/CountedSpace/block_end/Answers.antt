@@ -1,4 +1,4 @@
-use Rattle.std.proofs.Common.{ℕ, ◌≡◌, ◌+◌, ◌*◌, ◌/◌, ◌<◌, ◌≤◌, ◌^◌, ap, arith}
+use Rattle.std.proofs.Common.{ℕ, ◌≡◌, ◌+◌, ◌*◌, ◌/◌, ap, arith}
 use Rattle.gc_drc.specs.Layout.{block_of}
 use Rattle.gc_drc.proofs.ReleaseLemmas.{releasable}
 use Rattle.gc_drc.proofs.space.CountedSpace.block_end.Goals as goal

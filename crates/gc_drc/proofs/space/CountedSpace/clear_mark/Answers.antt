@@ -1,4 +1,4 @@
-use Rattle.std.proofs.Common.{rules, ℕ, ◌≡◌, ◌<◌, List, ◌+◌, ◌-◌, ◌*◌, ◌≤◌, ◌^◌, length, sym, ap, ◌∙◌, refl, arith}
+use Rattle.std.proofs.Common.{rules, ◌<◌, ◌^◌, refl}
 use Rattle.gc_drc.proofs.MarkLemmas.{unmark_at, can_unmark}
 use Rattle.gc_drc.proofs.space.CountedSpace.clear_mark.Goals as goal
 

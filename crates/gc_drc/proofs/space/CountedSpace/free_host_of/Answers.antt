@@ -1,4 +1,4 @@
-use Rattle.std.proofs.Common.{ℕ, ◌≡◌, ◌+◌, ◌<◌, ◌≤◌, ◌^◌, sym, ◌∙◌, subst, arith}
+use Rattle.std.proofs.Common.{ℕ, ◌≡◌, ◌+◌, sym, ◌∙◌, subst}
 use Rattle.gc_types.specs.declared.kind.VMGcKind.TheVariants.{ExternRef}
 use Rattle.gc_memory.proofs.WordLemmas.{word-is}
 use Rattle.gc_drc.specs.Layout.{kind_at}

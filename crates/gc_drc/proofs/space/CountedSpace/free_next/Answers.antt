@@ -1,4 +1,3 @@
-use Rattle.std.proofs.Common.{ℕ, ◌≡◌, ◌<◌}
 use Rattle.gc_drc.proofs.DrainLemmas.{first_room, first_kind, first_external, first_can_free, first_can_leave, free_can_visit, free_steps, left_drain, leave_less}
 use Rattle.gc_drc.proofs.space.CountedSpace.free_next.Goals as goal
 

@@ -1,4 +1,3 @@
-use Rattle.std.proofs.Common.{rules, ℕ, ◌≡◌, ◌<◌, List, ◌+◌, ◌-◌, ◌*◌, ◌/◌, ◌%◌, ◌≤◌, ◌^◌, length, sym, ap, ◌∙◌, refl, arith}
 use Rattle.gc_drc.proofs.ReleaseLemmas.{can_release_queued, room_released, freed_first}
 use Rattle.gc_drc.proofs.space.CountedSpace.free_queued.Goals as goal
 

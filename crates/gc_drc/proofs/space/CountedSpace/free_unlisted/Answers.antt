@@ -1,4 +1,3 @@
-use Rattle.std.proofs.Common.{rules, ℕ, ◌≡◌, ◌<◌, List, ◌+◌, ◌-◌, ◌*◌, ◌/◌, ◌%◌, ◌≤◌, ◌^◌, length, sym, ap, ◌∙◌, refl, arith}
 use Rattle.gc_drc.proofs.ReleaseLemmas.{freed_at}
 use Rattle.gc_drc.proofs.space.CountedSpace.free_unlisted.Goals as goal
 

@@ -1,4 +1,4 @@
-use Rattle.std.proofs.Common.{ℕ, ◌≡◌, ◌+◌, ◌-◌, ◌*◌, ◌/◌, ◌<◌, ◌≤◌, ap, arith}
+use Rattle.std.proofs.Common.{ℕ, ◌*◌, ◌/◌, ap}
 use Rattle.gc_drc.proofs.WalkMemory.{first_walk, walk_begins, walk_release, walk_can, walk_can_sweep, walk_on, walk_ends, walk_nothing, walk_less}
 use Rattle.gc_drc.proofs.space.CountedSpace.free_unmarked.Goals as goal
 

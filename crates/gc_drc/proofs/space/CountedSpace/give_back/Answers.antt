@@ -1,9 +1,8 @@
-use Rattle.std.proofs.Common.{◌≡◌, ℕ, ◌+◌, ◌-◌, ◌<◌, ◌≤◌, ◌^◌, sym, ap, ap₂, subst, ◌∙◌, refl, arith}
+use Rattle.std.proofs.Common.{◌≡◌, ◌-◌, sym, ap, ap₂, subst, ◌∙◌, arith}
 use Rattle.std.specs.Prelude.{Contains}
 use Rattle.std.specs.Int.NonZero.{non_zero_u32_get}
 use Rattle.gc_free.specs.Runs.{run}
 use Rattle.gc_free.specs.Space.{give}
-use Rattle.gc_drc.specs.declared.space.CountedSpace.{CountedSpace}
 use Rattle.gc_drc.specs.Layout.{block_of, size_at}
 use Rattle.gc_drc.proofs.GiveLemmas.{block_at_place, gives}
 use Rattle.gc_drc.proofs.space.CountedSpace.give_back.Goals as goal

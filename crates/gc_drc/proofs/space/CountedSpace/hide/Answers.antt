@@ -1,4 +1,4 @@
-use Rattle.std.proofs.Common.{rules, ℕ, ◌≡◌, ◌<◌, List, ◌+◌, ◌-◌, ◌*◌, ◌/◌, ◌%◌, ◌≤◌, ◌^◌, length, sym, ap, ◌∙◌, refl, arith}
+use Rattle.std.proofs.Common.{rules, ◌<◌, ◌^◌, refl}
 use Rattle.gc_drc.proofs.ListChanges.{hideable, after_relink, hidden_at}
 use Rattle.gc_drc.proofs.space.CountedSpace.hide.Goals as goal
 

@@ -1,4 +1,4 @@
-use Rattle.std.proofs.Common.{rules, ℕ, ◌≡◌, ◌<◌, List, ◌+◌, ◌-◌, ◌*◌, ◌/◌, ◌%◌, ◌≤◌, ◌^◌, length, sym, ap, ◌∙◌, refl, arith}
+use Rattle.std.proofs.Common.{rules, ◌<◌, ◌-◌, ◌^◌, arith}
 use Rattle.gc_drc.proofs.ListChanges.{leavable, room_counted, flag_counted, room_left, left_queue}
 use Rattle.gc_drc.proofs.space.CountedSpace.leave_queue.Goals as goal
 

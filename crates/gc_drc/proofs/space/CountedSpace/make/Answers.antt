@@ -1,4 +1,4 @@
-use Rattle.std.proofs.Common.{◌≤◌, sym, subst}
+use Rattle.std.proofs.Common.{sym, subst}
 use Rattle.gc_drc.specs.Placing.{CanPlace}
 use Rattle.gc_drc.proofs.MakeLemmas.{can_place}
 use Rattle.gc_drc.proofs.space.CountedSpace.make.Goals as goal

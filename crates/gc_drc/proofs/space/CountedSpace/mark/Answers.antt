@@ -1,4 +1,4 @@
-use Rattle.std.proofs.Common.{rules, ℕ, ◌≡◌, ◌<◌, List, ◌+◌, ◌-◌, ◌*◌, ◌≤◌, ◌^◌, length, sym, ap, ◌∙◌, refl, arith}
+use Rattle.std.proofs.Common.{rules, ◌<◌, ◌+◌, ◌^◌, arith}
 use Rattle.gc_drc.proofs.MarkLemmas.{mark_at, mark_links, flags_in}
 use Rattle.gc_drc.proofs.space.CountedSpace.mark.Goals as goal
 

@@ -1,5 +1,4 @@
-use Rattle.std.proofs.Common.{ℕ, List, [], ◌≡◌, ◌≤◌, ◌<◌, drop, sym, ap, ◌∙◌, subst, arith}
-use Rattle.gc_heap.specs.Collection.{stack_words}
+use Rattle.std.proofs.Common.{ℕ, List, subst, arith}
 use Rattle.gc_drc.specs.CollectSweep.{FrameMarks}
 use Rattle.gc_drc.proofs.SweepMemory.{no_roots}
 use Rattle.gc_drc.proofs.space.CountedSpace.mark_frames.Goals as goal

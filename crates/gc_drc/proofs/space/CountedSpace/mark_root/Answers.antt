@@ -1,6 +1,5 @@
 use Rattle.std.proofs.Common.{ℕ, List, ◌∷◌, ◌+◌, ◌≡◌, drop, sym, ap, ◌∙◌, subst}
 use Rattle.gc_heap.specs.Collection.{stack_words}
-use Rattle.gc_drc.specs.CollectMemory.{Context}
 use Rattle.gc_drc.specs.CollectSweep.{FrameMarks}
 use Rattle.gc_drc.proofs.SweepMemory.{stack_step, stack_pass}
 use Rattle.gc_drc.proofs.space.CountedSpace.mark_root.Goals as goal

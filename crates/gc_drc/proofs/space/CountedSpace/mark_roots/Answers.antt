@@ -1,5 +1,4 @@
-use Rattle.std.proofs.Common.{ℕ, List, [], ◌∷◌, ◌≡◌, ◌+◌, ◌≤◌, ◌<◌, drop, length, sym, ap, ◌∙◌, subst, arith}
-use Rattle.gc_roots.specs.Roots.{Root, root_at, no_root}
+use Rattle.std.proofs.Common.{ℕ, List, ◌∷◌, ◌≡◌, ◌+◌, ◌<◌, drop, length, sym, ap, ◌∙◌, subst, arith}
 use Rattle.gc_drc.specs.CollectTrace.{Traces, root_words}
 use Rattle.gc_drc.proofs.TraceMemory.{words_step, words_end}
 use Rattle.gc_drc.proofs.space.CountedSpace.mark_roots.Goals as goal

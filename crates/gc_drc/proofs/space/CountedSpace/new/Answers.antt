@@ -1,6 +1,6 @@
-use Rattle.std.proofs.Common.{◌≡◌, ℕ, ◌+◌, ◌*◌, ◌%◌, ◌≤◌, length, refl, sym, ap, subst, ◌∙◌, arith}
+use Rattle.std.proofs.Common.{◌≡◌, ◌*◌, ◌%◌, ◌≤◌, length, refl, ap, ◌∙◌, arith}
 use Rattle.gc_model.specs.Allocation.{page, max_pages}
-use Rattle.gc_free.specs.Space.{Space, new_space}
+use Rattle.gc_free.specs.Space.{new_space}
 use Rattle.gc_drc.proofs.GrowLemmas.{empty_sound, empty_seen}
 use Rattle.gc_drc.proofs.space.CountedSpace.new.Goals as goal
 

@@ -1,4 +1,4 @@
-use Rattle.std.proofs.Common.{ℕ, ◌≡◌, ◌+◌, ◌<◌, ◌≤◌, ◌^◌, sym, ap, subst, ◌∙◌, arith}
+use Rattle.std.proofs.Common.{ℕ, ◌≡◌, ◌+◌, sym, ap, subst, ◌∙◌, arith}
 use Rattle.gc_free.specs.Listed.{run_length_at}
 use Rattle.gc_drc.specs.CollectWalk.{IsNext, walk_end}
 use Rattle.gc_drc.proofs.WalkMemory.{past, next_at, walk_small}

@@ -1,4 +1,4 @@
-use Rattle.std.proofs.Common.{ℕ, ◌≡◌, ◌+◌, ◌*◌, ◌/◌, ◌≤◌, ap, ◌∙◌, refl, arith}
+use Rattle.std.proofs.Common.{ℕ, ◌≡◌, ◌+◌, ◌*◌, ◌/◌, ap, ◌∙◌, refl, arith}
 use Rattle.std.specs.Int.NonZero.{non_zero_u32_get}
 use Rattle.gc_free.specs.Runs.{run}
 use Rattle.gc_free.specs.Space.{give}

@@ -1,13 +1,10 @@
-use Rattle.std.proofs.Common.{◌≡◌, ℕ, ◌+◌, ◌*◌, ◌/◌, ◌%◌, ◌<◌, ◌^◌, ◌≤◌, true, false, length, Some, refl, sym, ap, ap₂, subst, ◌∙◌, inl, inr, arith}
-use Rattle.std.specs.FinMap as finite
+use Rattle.std.proofs.Common.{◌≡◌, ◌+◌, ◌*◌, ◌/◌, ◌%◌, refl, sym, ap, ap₂, ◌∙◌, arith}
 use Rattle.gc_types.specs.declared.kind.Layouts.TheVariants.{Counting}
 use Rattle.gc_types.specs.Kinds.{kind_bits}
 use Rattle.gc_refs.specs.Header.{kind_part, spare_bits}
 use Rattle.gc_memory.specs.Words.{word}
 use Rattle.gc_model.specs.Views.{HeapObject, put_u32}
 use Rattle.gc_heap.specs.Heap.{with_spare_of, put_object}
-use Rattle.gc_drc.specs.declared.space.CountedSpace.{CountedSpace}
-use Rattle.gc_drc.specs.Layout.{object_at}
 use Rattle.gc_drc.specs.Content.{seen_in}
 use Rattle.gc_drc.proofs.ReadLemmas.{HeldAt, held_at}
 use Rattle.gc_drc.proofs.SeenLemmas.{even_held, is_place}

@@ -1,4 +1,4 @@
-use Rattle.std.proofs.Common.{◌≡◌, ℕ, ◌%◌, ◌<◌, sym, subst, ◌∙◌}
+use Rattle.std.proofs.Common.{◌<◌, sym, subst}
 use Rattle.gc_memory.specs.Lists.{In}
 use Rattle.gc_heap.specs.Barriers as barrier
 use Rattle.gc_drc.specs.View.{View, Holds}

@@ -1,4 +1,4 @@
-use Rattle.std.proofs.Common.{rules, ℕ, ◌≡◌, ◌<◌, List, ◌+◌, ◌-◌, ◌*◌, ◌≤◌, ◌^◌, length, sym, ap, ◌∙◌, refl, arith}
+use Rattle.std.proofs.Common.{rules, ◌≡◌, ◌<◌, ◌^◌}
 use Rattle.gc_drc.proofs.MarkLemmas.{lower_at_more, lower_at_writes}
 use Rattle.gc_drc.proofs.space.CountedSpace.take_name.Goals as goal
 

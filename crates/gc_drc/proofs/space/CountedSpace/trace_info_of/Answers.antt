@@ -1,11 +1,9 @@
-use Rattle.std.proofs.Common.{◌≡◌, ◌+◌, ℕ, true, false, Bool, if◌then◌else◌, Option, None, sym, ◌∙◌, ap}
+use Rattle.std.proofs.Common.{◌≡◌, ◌+◌, if◌then◌else◌, None, sym, ◌∙◌, ap}
 use Rattle.gc_types.specs.declared.kind.Layouts.TheVariants.{Counting}
-use Rattle.gc_types.specs.declared.layout.TraceInfo.{TraceInfo}
 use Rattle.gc_types.specs.Layouts.{trace_at}
 use Rattle.gc_memory.specs.Words.{word}
 use Rattle.gc_memory.proofs.WordLemmas.{word-is}
-use Rattle.gc_drc.specs.Layout.{kind_at}
-use Rattle.gc_drc.specs.CollectMemory.{info_of, info_at}
+use Rattle.gc_drc.specs.CollectMemory.{info_of}
 use Rattle.gc_drc.proofs.space.CountedSpace.trace_info_of.Goals as goal
 
 pub returns-then-has_references : goal.returns-then-has_references

@@ -1,4 +1,4 @@
-use Rattle.std.proofs.Common.{rules, ℕ, ◌≡◌, ◌<◌, List, ◌+◌, ◌-◌, ◌*◌, ◌≤◌, ◌^◌, length, sym, ap, ◌∙◌, refl, arith}
+use Rattle.std.proofs.Common.{rules, ◌<◌, ◌-◌, ◌^◌}
 use Rattle.gc_drc.proofs.MarkLemmas.{uncount_at, uncount_kinds, more_names}
 use Rattle.gc_drc.proofs.space.CountedSpace.uncount.Goals as goal
 

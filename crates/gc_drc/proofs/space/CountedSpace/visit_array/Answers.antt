@@ -1,5 +1,3 @@
-use Rattle.std.proofs.Common.{ℕ, List}
-use Rattle.gc_drc.specs.CollectMemory.{Context}
 use Rattle.gc_drc.proofs.VisitLemmas.{array_can, array_visits}
 use Rattle.gc_drc.proofs.space.CountedSpace.visit_array.Goals as goal
 

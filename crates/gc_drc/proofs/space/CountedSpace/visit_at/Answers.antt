@@ -1,8 +1,7 @@
-use Rattle.std.proofs.Common.{ℕ, ◌≡◌, List, ◌∷◌, ◌+◌, ◌<◌, ◌≤◌, ◌^◌, length, sym, ap, subst, ◌∙◌, arith}
+use Rattle.std.proofs.Common.{ℕ, ◌≡◌, ◌∷◌, ◌+◌, sym, subst, ◌∙◌, arith}
 use Rattle.gc_memory.specs.Words.{word}
-use Rattle.gc_drc.specs.CollectMemory.{Context, IsContext, Intact, words_at}
-use Rattle.gc_drc.specs.CollectVisits.{InObject, CanVisitAt}
-use Rattle.gc_drc.proofs.VisitLemmas.{WordAt, word_read}
+use Rattle.gc_drc.specs.CollectMemory.{words_at}
+use Rattle.gc_drc.proofs.VisitLemmas.{word_read}
 use Rattle.gc_drc.proofs.space.CountedSpace.visit_at.Goals as goal
 
 pub overflow_add-place : goal.overflow_add-place

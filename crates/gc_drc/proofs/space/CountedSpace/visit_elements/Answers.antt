@@ -1,8 +1,8 @@
-use Rattle.std.proofs.Common.{ℕ, ◌+◌, ◌-◌, ◌*◌, ◌<◌, ◌^◌, List, ◌∷◌, [], arith}
+use Rattle.std.proofs.Common.{ℕ, ◌+◌, ◌-◌, ◌*◌, ◌<◌, ◌^◌, List, [], arith}
 use Rattle.gc_heap.specs.References.{word_offsets}
 use Rattle.gc_drc.specs.CollectMemory.{Context}
 use Rattle.gc_drc.specs.CollectVisits.{CanVisitAt}
-use Rattle.gc_drc.proofs.VisitLemmas.{Going, going_as, going_step, going_can, next_element, no_element, element_fits}
+use Rattle.gc_drc.proofs.VisitLemmas.{going_as, going_step, going_can, next_element, no_element, element_fits}
 use Rattle.gc_drc.proofs.space.CountedSpace.visit_elements.Goals as goal
 
 pub overflow_mul-index : goal.overflow_mul-index

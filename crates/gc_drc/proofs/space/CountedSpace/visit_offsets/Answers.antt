@@ -1,7 +1,5 @@
-use Rattle.std.proofs.Common.{ℕ, ◌+◌, List, ◌∷◌, [], drop, get_or}
-use Rattle.gc_drc.specs.CollectMemory.{Context}
-use Rattle.gc_drc.specs.declared.space.CountedSpace.{CountedSpace}
-use Rattle.gc_drc.proofs.VisitLemmas.{Going, going_as, going_step, going_can, next_offset, no_offset}
+use Rattle.std.proofs.Common.{◌+◌, ◌∷◌, [], drop, get_or}
+use Rattle.gc_drc.proofs.VisitLemmas.{going_as, going_step, going_can, next_offset, no_offset}
 use Rattle.gc_drc.proofs.space.CountedSpace.visit_offsets.Goals as goal
 
 pub visit_at-requires : goal.visit_at-requires

@@ -1,8 +1,7 @@
-use Rattle.std.proofs.Common.{ℕ, List, ◌≡◌, Option, Some, None, subst, sym, ◌∙◌, ap}
-use Rattle.gc_types.specs.declared.layout.TraceInfo.{TraceInfo}
+use Rattle.std.proofs.Common.{ℕ, List, ◌≡◌, Some, None, subst, sym, ◌∙◌, ap}
 use Rattle.gc_types.specs.declared.layout.TraceInfo.TheVariants as trace
 use Rattle.gc_drc.specs.CollectMemory.{Context, info_at}
-use Rattle.gc_drc.specs.CollectVisits.{CanVisit, Visits}
+use Rattle.gc_drc.specs.CollectVisits.{CanVisit}
 use Rattle.gc_drc.proofs.VisitLemmas.{kind_part_same, object_room, struct_can, struct_visits, array_object_can, array_object_visits, none_visits}
 use Rattle.gc_drc.proofs.space.CountedSpace.visit_references.Goals as goal
 

@@ -1,14 +1,11 @@
-use Rattle.std.proofs.Common.{◌≡◌, ℕ, ◌+◌, ◌≤◌, length, Some, refl, sym, ap, subst, ◌∙◌, arith}
-use Rattle.std.specs.FinMap as finite
+use Rattle.std.proofs.Common.{◌≡◌, ◌+◌, length, refl, sym, ap, subst, ◌∙◌, arith}
 use Rattle.gc_types.specs.declared.kind.Layouts.TheVariants.{Counting}
 use Rattle.gc_model.specs.Bytes.{put_bytes}
-use Rattle.gc_model.specs.Views.{HeapObject}
 use Rattle.gc_heap.specs.Heap.{with_data, put_object}
-use Rattle.gc_drc.specs.declared.space.CountedSpace.{CountedSpace}
 use Rattle.gc_drc.specs.Layout.{object_at}
 use Rattle.gc_drc.specs.Content.{seen_in}
 use Rattle.gc_drc.proofs.ReadLemmas.{held_at}
-use Rattle.gc_drc.proofs.WriteLemmas.{Writable, writable, WritesData, writes_data, Rewrites, rewrites}
+use Rattle.gc_drc.proofs.WriteLemmas.{writable, writes_data, Rewrites, rewrites}
 use Rattle.gc_drc.proofs.space.CountedSpace.write_data.Goals as goal
 use Rattle.gc_drc.proofs.space.CountedSpace.write_data.Goals.{After-write_bytes}
 

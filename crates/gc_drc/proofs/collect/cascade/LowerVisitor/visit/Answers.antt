@@ -1,5 +1,3 @@
-use Rattle.std.proofs.Common.{ℕ, ◌≡◌, true, false}
-use Rattle.gc_drc.specs.CollectDrain.{IsPlaceWord}
 use Rattle.gc_drc.proofs.DrainLemmas.{lowering_can, lowering_lowers, lowering_skips, not_both}
 use Rattle.gc_drc.proofs.collect.cascade.LowerVisitor.visit.Goals as goal
 

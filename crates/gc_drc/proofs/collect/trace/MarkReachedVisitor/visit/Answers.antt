@@ -1,6 +1,5 @@
-use Rattle.std.proofs.Common.{rules, ℕ, ◌≡◌, ◌<◌, ◌≤◌, ◌+◌, ◌^◌, length, arith}
+use Rattle.std.proofs.Common.{rules, ◌<◌, ◌^◌}
 use Rattle.gc_drc.proofs.DrainLemmas.{not_both}
-use Rattle.gc_drc.proofs.HoldsLemmas.{room_at}
 use Rattle.gc_drc.proofs.TraceMemory.{word_room, word_can, marked_room, traces_marks, traces_passes, traces_skips}
 use Rattle.gc_drc.proofs.collect.trace.MarkReachedVisitor.visit.Goals as goal
 
