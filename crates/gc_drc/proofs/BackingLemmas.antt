@@ -1,0 +1,136 @@
+-- What is seen of a heap by where it has its memory.
+use Rattle.std.proofs.Common.{◌≡◌, ℕ, ◌+◌, ◌*◌, ◌%◌, ◌<◌, ◌≤◌, ◌++◌, false, List, length, replicate, Option, Some, None, refl, sym, ap, subst, ◌∙◌, inl, inr, arith}
+use Rattle.std.specs.Ordering.{nat_cmp}
+use Rattle.std.specs.FinMap as finite
+use Rattle.std.proofs.lemmas.Bool.{cases_eq}
+use Rattle.gc_types.specs.declared.kind.Layouts.TheVariants.{Counting}
+use Rattle.gc_model.specs.Allocation.{page, max_pages}
+use Rattle.gc_model.specs.Views.{HeapObject, HeapView, detached_in}
+use Rattle.gc_free.specs.Space.{IsSound, grow}
+use Rattle.gc_heap.specs.Heap.{grown}
+use Rattle.gc_heap.specs.Barriers.{raise, lower, show, cloned, dropped, exposed, copied, CanUnname, CanUnnameSlot, IsNamed}
+use Rattle.gc_drc.specs.declared.space.CountedSpace.{CountedSpace}
+use Rattle.gc_drc.specs.declared.growth.Marks.{Marks}
+use Rattle.gc_drc.specs.declared.heap.DrcHeap.{DrcHeap}
+use Rattle.gc_drc.specs.declared.heap.Backing.{Backing}
+use Rattle.gc_drc.specs.declared.heap.Backing.TheVariants as backing
+use Rattle.gc_drc.specs.Layout.{object_at}
+use Rattle.gc_drc.specs.Content.{at_places, seen_in, IsSoundSpace}
+use Rattle.gc_drc.specs.Growth.{with_bytes}
+use Rattle.gc_drc.specs.PlaceLaws.{len-at}
+use Rattle.gc_drc.specs.SpaceLaws.{blocks_apart, places_are}
+use Rattle.gc_free.specs.Space.{places_end}
+use Rattle.gc_drc.specs.States.{seen_of, drc_seen, IsOut, IsDrcSound}
+use Rattle.gc_drc.specs.DrcHeapLaw.{drc_is_heap}
+use Rattle.gc_drc.proofs.GrowLemmas.{grows}
+use Rattle.gc_drc.proofs.SeenLemmas.{get-insert-same, get-insert-other}
+
+-- where no memory is attached, what is seen is a heap without one
+pub not_attached : (scopes : ℕ) (b : Backing) → ((s : CountedSpace) → b ≡ backing.Attached s → ⊥) → seen_of scopes b ≡ detached_in scopes
+not_attached scopes backing.Detached never = refl
+not_attached scopes (backing.Attached s) never = absurd (never s refl)
+not_attached scopes (backing.Taken m) never = refl
+
+nothing_empty : (q : ℕ) (o : HeapObject) → finite.get (finite.empty {X = HeapObject} {R = nat_cmp}) q ≡ Some o → ⊥
+nothing_empty q o e = cc (finite.get-empty nat_cmp q)
+
+-- and it holds nothing
+pub nothing_held : (scopes : ℕ) (b : Backing) (q : ℕ) (o : HeapObject) → ((s : CountedSpace) → b ≡ backing.Attached s → ⊥) → finite.get (seen_of scopes b).content q ≡ Some o → ⊥
+nothing_held scopes b q o never held = nothing_empty q o (sym (ap (λ (h : HeapView). finite.get h.content q) (not_attached scopes b never)) ∙ held)
+
+pub nothing_counted : (scopes : ℕ) (b : Backing) (q n : ℕ) → ((s : CountedSpace) → b ≡ backing.Attached s → ⊥) → finite.get (seen_of scopes b).counts.counted q ≡ Some n → ⊥
+nothing_counted scopes b q n never held = no_count q n (sym (ap (λ (h : HeapView). finite.get h.counts.counted q) (not_attached scopes b never)) ∙ held)
+  where
+    no_count : (q n : ℕ) → finite.get (finite.empty {X = ℕ} {R = nat_cmp}) q ≡ Some n → ⊥
+    no_count q n e = cc (finite.get-empty nat_cmp q)
+
+pub scopes_of : (scopes : ℕ) (b : Backing) → (seen_of scopes b).scopes ≡ scopes
+scopes_of scopes backing.Detached = refl
+scopes_of scopes (backing.Attached s) = refl
+scopes_of scopes (backing.Taken m) = refl
+
+-- it counts nothing, so that a barrier leaves it as it is
+not_counted : (q : ℕ) → finite.get (finite.empty {X = ℕ} {R = nat_cmp}) q ≡ None
+not_counted q = finite.get-empty nat_cmp q
+
+pub unchanged_cloned : (scopes : ℕ) (b : Backing) (q : ℕ) → ((s : CountedSpace) → b ≡ backing.Attached s → ⊥) → seen_of scopes b ≡ cloned (seen_of scopes b) q
+unchanged_cloned scopes b q never = subst (λ h. h ≡ cloned h q) (sym (not_attached scopes b never))
+    (ap (λ n. record (detached_in scopes) { counts = raise n q (detached_in scopes).counts }) (sym (not_counted q)))
+
+pub unchanged_dropped : (scopes : ℕ) (b : Backing) (q : ℕ) → ((s : CountedSpace) → b ≡ backing.Attached s → ⊥) → seen_of scopes b ≡ dropped (seen_of scopes b) q
+unchanged_dropped scopes b q never = subst (λ h. h ≡ dropped h q) (sym (not_attached scopes b never))
+    (ap (λ n. record (detached_in scopes) { counts = lower n q (detached_in scopes).counts }) (sym (not_counted q)))
+
+pub unchanged_exposed : (scopes : ℕ) (b : Backing) (q : ℕ) → ((s : CountedSpace) → b ≡ backing.Attached s → ⊥) → seen_of scopes b ≡ exposed (seen_of scopes b) q
+unchanged_exposed scopes b q never = subst (λ h. h ≡ exposed h q) (sym (not_attached scopes b never))
+    (ap (λ n. record (detached_in scopes) { counts = show n q (detached_in scopes).counts }) (sym (not_counted q)))
+
+-- no object is named by a number
+pub held_even : (h : DrcHeap) (q : ℕ) (o : HeapObject) → IsDrcSound h → finite.get (drc_seen h).content q ≡ Some o → q % 2 ≡ 1 → ⊥
+held_even h q o s held odd = let l = (drc_is_heap h s).objects q o held in omega (arith, l.aligned)
+
+-- as many objects as are counted
+pub count_of : (scopes : ℕ) (s : CountedSpace) → IsSoundSpace s → s.objects ≡ finite.len (seen_in scopes s).content
+count_of scopes s sound =
+    let v = sound.view in
+    let h = sound.holds in
+    h.count ∙ sym (ap (λ ps. finite.len (at_places (object_at s.memory) ps)) (places_are v s h)
+    ∙ len-at (object_at s.memory) v.sizes 16 (places_end s.free.space.capacity) v.places (blocks_apart v s h))
+
+pub count_detached : (scopes : ℕ) (b : Backing) → ((s : CountedSpace) → b ≡ backing.Attached s → ⊥) → 0 ≡ finite.len (seen_of scopes b).content
+count_detached scopes b never = sym (ap (λ (h : HeapView). finite.len h.content) (not_attached scopes b never) ∙ finite.len-empty nat_cmp HeapObject)
+
+pub allocated_detached : (scopes : ℕ) (b : Backing) → ((s : CountedSpace) → b ≡ backing.Attached s → ⊥) → 0 ≡ (seen_of scopes b).allocated
+allocated_detached scopes b never = sym (ap (λ (h : HeapView). h.allocated) (not_attached scopes b never))
+
+pub needs_none : (scopes : ℕ) (b : Backing) → false ≡ (seen_of scopes b).needs_gc
+needs_none scopes backing.Detached = refl
+needs_none scopes (backing.Attached s) = refl
+needs_none scopes (backing.Taken m) = refl
+
+-- what a heap is after its memory was put back
+pub puts_back : (m : Marks) (t : CountedSpace) (memory : List ℕ) (scopes delta : ℕ) (view : HeapView) (bytes : List ℕ) → IsOut scopes (backing.Taken m) view bytes
+    → memory ≡ bytes ++ replicate delta 0 → t ≡ record { memory = memory; free = t.free; shown = m.shown; queued = m.queued; objects = m.objects; allocated = m.allocated }
+    → t.free.space ≡ grow delta m.free.space → IsSound t.free.space → length memory % page ≡ 0 → length memory ≤ page * max_pages
+    → IsSoundSpace t × (seen_in scopes t ≡ grown Counting view delta)
+puts_back m t memory scopes delta view bytes out grown_by is list sound pages bound =
+    let g = grows (with_bytes m bytes) t memory delta out.0 grown_by pages bound is list sound in
+    (g.sound, g.seen scopes ∙ ap (λ v. grown Counting v delta) (sym out.1))
+
+-- a slot that may lose what it holds may still do so after another word was copied
+unname_after : (h : HeapView) (x y : ℕ) → CanUnname h y → CanUnname (cloned h x) y
+unname_after h x y can = record { named = named can.named; counted = λ n e. after (finite.get h.counts.counted x) n refl e }
+  where
+    named : IsNamed h y → IsNamed (cloned h x) y
+    named (inl odd) = inl odd
+    named (inr held) = inr held
+
+    after : (o : Option ℕ) (n : ℕ) → o ≡ finite.get h.counts.counted x → finite.get (raise (finite.get h.counts.counted x) x h.counts).counted y ≡ Some n → 0 < n
+    after None n is e = can.counted n (subst (λ p. finite.get (raise p x h.counts).counted y ≡ Some n) (sym is) e)
+    after (Some k) n is e = elim (cases_eq y x) [
+      | inl same ↦ more (some_is (k + 1) n (sym (subst (λ q. finite.get (finite.insert h.counts.counted x (k + 1)) q ≡ Some (k + 1)) (sym same) (get-insert-same h.counts.counted x (k + 1))) ∙ found))
+      | inr ne ↦ can.counted n (sym (get-insert-other h.counts.counted x y (k + 1) ne) ∙ found)
+    ]
+      where
+        found : finite.get (finite.insert h.counts.counted x (k + 1)) y ≡ Some n
+        found = subst (λ p. finite.get (raise p x h.counts).counted y ≡ Some n) (sym is) e
+
+        some_is : (a b : ℕ) → Some a ≡ Some b → a ≡ b
+        some_is a b e = cc
+
+        more : k + 1 ≡ n → 0 < n
+        more e = omega arith
+
+unname_slot : (h : HeapView) (x : ℕ) (slot : Option ℕ) → CanUnnameSlot h slot → CanUnnameSlot (cloned h x) slot
+unname_slot h x None can = can
+unname_slot h x (Some y) can = unname_after h x y can
+
+pub slot_after : (h : HeapView) (source slot : Option ℕ) → CanUnnameSlot h slot → CanUnnameSlot (copied h source) slot
+slot_after h None slot can = can
+slot_after h (Some x) slot can = unname_slot h x slot can
+
+-- a memory that is out was taken
+pub is_taken : (scopes : ℕ) (b : Backing) (view : HeapView) (bytes : List ℕ) → IsOut scopes b view bytes → ((m : Marks) → b ≡ backing.Taken m → ⊥) → ⊥
+is_taken scopes backing.Detached view bytes out never = out
+is_taken scopes (backing.Attached s) view bytes out never = out
+is_taken scopes (backing.Taken m) view bytes out never = never m refl

@@ -1,0 +1,28 @@
+-- What giving an object back does.
+use Rattle.std.specs.Prelude.{◌≡◌, ℕ, nat_eq, not, List, [], Some, filter}
+use Rattle.std.specs.FinMap as finite
+use Rattle.gc_types.specs.declared.kind.Layouts.TheVariants.{Counting}
+use Rattle.gc_memory.specs.Lists.{In, occ}
+use Rattle.gc_model.specs.Views.{HeapObject}
+use Rattle.gc_heap.specs.Heap.{given_back}
+use Rattle.gc_drc.specs.declared.space.CountedSpace.{CountedSpace}
+use Rattle.gc_drc.specs.View.{View, Holds}
+use Rattle.gc_drc.specs.Content.{seen_in, IsSoundSpace}
+
+-- the others than a place
+abbrev pub without_place : ℕ → List ℕ → List ℕ
+without_place x ps = filter (λ (y : ℕ). not (nat_eq y x)) ps
+
+-- An object that is on no list stands at a place.
+pub record CanGive (s : CountedSpace) (x : ℕ) : Type 0 where
+  pub view : View
+  pub holds : Holds view s
+  pub unmarked : view.marked ≡ []
+  pub place : In x view.places
+  pub not_shown : occ x view.shown ≡ 0
+  pub not_queued : occ x view.queue ≡ 0
+
+-- the object at a place was given back
+pub record Gives (before after : CountedSpace) (x : ℕ) : Type 0 where
+  pub sound : IsSoundSpace after
+  pub seen : (scopes : ℕ) (o : HeapObject) → finite.get (seen_in scopes before).content x ≡ Some o → seen_in scopes after ≡ given_back Counting (seen_in scopes before) x o

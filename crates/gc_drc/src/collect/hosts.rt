@@ -1,0 +1,50 @@
+//! The host value of an external object, which is freed with it.
+
+ghost use Rattle.std.specs.Prelude.{ℕ, ◌≡◌, ◌+◌, ◌≤◌, ◌↔◌, IsTrue, length};
+ghost use Rattle.gc_types.specs.declared.kind.VMGcKind.{VMGcKind};
+ghost use Rattle.gc_types.specs.declared.kind.VMGcKind.TheVariants.{ExternRef};
+ghost use Rattle.gc_refs.specs.Header.{IsOfKind};
+ghost use Rattle.gc_memory.specs.Words.{word};
+ghost use Rattle.gc_drc.specs.Layout.{kind_at};
+ghost use Rattle.gc_drc.specs.CollectHosts.{FreesHost, FreesHostOf};
+
+use crate::space::CountedSpace;
+use gc_tables::{ExternRefHostDataId, ExternRefHostDataTable, HostFault};
+use gc_types::VMGcKind;
+
+/// Where an external object keeps the number that stands for its host value.
+const HOST_WORD: usize = 28;
+
+/// Takes the value out of the table whose id that number stands for.
+fn free_host<D: Drop>(hosts: &mut ExternRefHostDataTable<D>, raw: u32)
+    ensures { FreesHost D hosts.old.entries hosts.new.entries raw }
+{
+    if let Some(id) = ExternRefHostDataId::from_raw(raw) {
+        match hosts.dealloc(id) {
+            Ok(_) => (),
+            Err(HostFault::BadHostDataId) => (),
+        }
+    }
+}
+
+/// Whether that is the kind of external objects.
+fn is_external(kind: VMGcKind) -> bool
+    ensures { IsTrue result ↔ (kind ≡ ExternRef) }
+{
+    matches!(kind, VMGcKind::ExternRef)
+}
+
+impl CountedSpace {
+    /// Takes the host value of an object out of the table, if it is an external object.
+    pub(crate) fn free_host_of<D: Drop>(&self, place: u32, hosts: &mut ExternRefHostDataTable<D>)
+        requires room { place + 28 ≤ length self.now.memory }
+        requires kind { IsOfKind (kind_at self.now.memory place) (word self.now.memory place) }
+        requires external { kind_at self.now.memory place ≡ ExternRef → place + 32 ≤ length self.now.memory }
+        ensures { FreesHostOf D self.now.memory hosts.old.entries hosts.new.entries place }
+    {
+        if is_external(self.kind(place)) {
+            let raw = self.memory.read_u32(place as usize + HOST_WORD);
+            free_host(hosts, raw);
+        }
+    }
+}
