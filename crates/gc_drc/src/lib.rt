@@ -29,6 +29,8 @@ pub mod heap;
 mod place;
 mod read;
 pub(crate) mod space;
+#[cfg(test)]
+mod tests;
 mod write;
 
 pub use heap::DrcHeap;
