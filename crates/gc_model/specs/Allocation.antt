@@ -1,11 +1,12 @@
 -- When an allocation succeeds.
-use Rattle.std.specs.Prelude.{◌≡◌, ℕ, ◌+◌, ◌-◌, ◌*◌, ◌^◌, ◌<◌, ◌≤◌, min, max, nat_le, Bool, true, false, Option, Some, None, IfSome}
+use Rattle.std.specs.Prelude.{◌≡◌, ℕ, ◌+◌, ◌-◌, ◌*◌, ◌/◌, ◌^◌, ◌<◌, ◌≤◌, min, max, nat_le, Bool, true, false, List, Option, Some, None, IfSome, map, slice_get, sum}
 use Rattle.gc_types.specs.declared.kind.Layouts.{Layouts}
 use Rattle.gc_types.specs.declared.kind.Layouts.TheVariants.{Null, Counting, Copying}
 use Rattle.gc_types.specs.Layouts.{round_up}
 use Rattle.gc_model.specs.Values.{Object}
 use Rattle.gc_model.specs.Table.{Table, make, make_heap}
-use Rattle.gc_model.specs.Sizes.{object_size, next_place, alignment}
+use Rattle.gc_model.specs.Sizes.{object_size, rounded_size, next_place, alignment}
+use Rattle.gc_model.specs.Reach.{IsReached, AreAll}
 
 -- the bytes of a page
 abbrev pub page : ℕ
@@ -36,18 +37,32 @@ Rose before now = min (before + 1) (2 ^ 64 - 1) ≤ now
 abbrev pub Fits : {D : Type 0} → Table D → ℕ → Type 0
 Fits t size = round_up (next_place t) alignment + size ≤ page * t.pages
 
--- a heap of the kind has room for so many bytes; of the null kind alone so far, of the others nothing
--- is said
+-- the bytes of the object at a position as a copying heap takes them, in whole multiples of 16
+abbrev pub copied_size : {D : Type 0} → Table D → ℕ → ℕ
+copied_size t p = rounded_size t.types (slice_get t.objects p)
+
+-- the first 16 bytes of a half hold no object
+abbrev pub skipped : ℕ
+skipped = 16
+
+-- The reachable objects and so many bytes more have room in a half of a copying heap's memory.
+pub record HasRoom {D : Type 0} (t : Table D) (size : ℕ) : Type 0 where
+  pub reached : List ℕ
+  pub are_reached : AreAll (IsReached t) reached
+  pub room : skipped + sum (map (copied_size t) reached) + round_up size alignment ≤ page / 2 * t.pages
+
+-- A heap of the kind has room for so many bytes: the null heap behind its objects, the copying heap
+-- beside the reachable ones. Of the counting heap nothing is said yet.
 abbrev pub FitsIn : {D : Type 0} → Layouts → Table D → ℕ → Type 0
 FitsIn Null t size = Fits t size
 FitsIn Counting t size = Unit {0}
-FitsIn Copying t size = Unit {0}
+FitsIn Copying t size = HasRoom t size
 
--- it has none; of the null kind alone so far
+-- it has none
 abbrev pub LacksFit : {D : Type 0} → Layouts → Table D → ℕ → Type 0
 LacksFit Null t size = Fits t size → ⊥
 LacksFit Counting t size = Unit {0}
-LacksFit Copying t size = Unit {0}
+LacksFit Copying t size = HasRoom t size → ⊥
 
 -- The first pages may be had: the heap is made, or a limit that is told grants them.
 abbrev pub MayMakeHeap : {D : Type 0} → Option ℕ → Table D → Type 0

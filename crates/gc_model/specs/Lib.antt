@@ -1,5 +1,7 @@
 pub mod Values
+pub mod Fits
 pub mod Table
+pub mod Reach
 pub mod Live
 pub mod Sizes
 pub mod Allocation

@@ -30,6 +30,11 @@ stored_size Null size = size
 stored_size Counting size = size
 stored_size Copying size = round_up size alignment
 
+-- the bytes of an object as a copying heap takes them; 0 where there is none
+abbrev pub rounded_size : {D : Type 0} → List Declaration → Option (Object D) → ℕ
+rounded_size types None = 0
+rounded_size types (Some o) = round_up (object_size Copying types o) alignment
+
 -- where the null heap goes on after these objects, if it stood at n before them: each begins at the
 -- next multiple of 16
 abbrev pub next_after : {D : Type 0} → List Declaration → ℕ → List (Object D) → ℕ

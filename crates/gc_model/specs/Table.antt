@@ -1,10 +1,10 @@
 -- The object table and its changes.
-use Rattle.std.specs.Prelude.{ℕ, ◌+◌, Bool, true, false, List, [], ◌∷◌, ◌++◌, Option, None, length, replicate, if◌then◌else◌}
+use Rattle.std.specs.Prelude.{ℕ, zero, suc, ◌+◌, ◌-◌, ◌^◌, min, nat_lt, Bool, true, false, List, [], ◌∷◌, ◌++◌, Option, None, length, replicate, take, slice_set, if◌then◌else◌}
 use Rattle.gc_types.specs.declared.value.Func.{Func}
 use Rattle.gc_types.specs.Declarations.{Declaration}
 use Rattle.gc_model.specs.declared.GcClass.{GcClass}
 use Rattle.gc_model.specs.declared.GcClass.TheVariants.{Any}
-use Rattle.gc_model.specs.Values.{Reference, null, at, Object}
+use Rattle.gc_model.specs.Values.{Reference, null, at, Value, Object, struct, array, host, exception}
 
 -- a slot of a frame or a global
 pub record Slot : Type 0 where
@@ -109,3 +109,28 @@ make o t = push (at (length t.objects)) (add_object o t)
 -- the heap is made, with its first pages where it wasn't
 abbrev pub make_heap : {D : Type 0} → Table D → Table D
 make_heap t = record t { made = true; pages = (if t.made then t.pages else t.first) }
+
+-- The scope is left that began with so many scoped roots: those behind them go, and where some do, the
+-- scope ends that dropped a root are one more.
+abbrev pub leave : {D : Type 0} → ℕ → Table D → Table D
+leave mark t = record t {
+  scoped = take mark t.scoped;
+  drops = (if nat_lt mark (length t.scoped) then min (t.drops + 1) (2 ^ 64 - 1) else t.drops);
+}
+
+-- the object with another value at an index; a host object has none
+abbrev pub with_value : {D : Type 0} → ℕ → Value → Object D → Object D
+with_value index v (struct ty values) = struct ty (slice_set values index v)
+with_value index v (array ty values) = array ty (slice_set values index v)
+with_value index v (host value) = host value
+with_value index v (exception ty tag values) = exception ty tag (slice_set values index v)
+
+-- the list with one element changed
+abbrev pub change_at : {A : Type 0} → ℕ → (A → A) → List A → List A
+change_at n change [] = []
+change_at zero change (x ∷ xs) = change x ∷ xs
+change_at (suc n) change (x ∷ xs) = x ∷ change_at n change xs
+
+-- the object at a position has another value at an index
+abbrev pub write : {D : Type 0} → ℕ → ℕ → Value → Table D → Table D
+write position index v t = record t { objects = change_at position (with_value index v) t.objects }

@@ -4,7 +4,7 @@ use Rattle.std.specs.Ordering.{nat_cmp}
 use Rattle.std.specs.FinMap as map
 use Rattle.std.specs.FinSet as finset
 use Rattle.std.specs.FinSet.{FinSet}
-use Rattle.std.specs.Int.{w32, from_le_bytes, to_le_bytes}
+use Rattle.std.specs.Int.{w32, w64, from_le_bytes, to_le_bytes}
 use Rattle.gc_types.specs.declared.kind.VMGcKind.{VMGcKind}
 use Rattle.gc_types.specs.Declarations.{Declaration}
 use Rattle.gc_model.specs.declared.RootEntry.{RootEntry}
@@ -61,16 +61,22 @@ detached = detached_in 0
 abbrev pub u32_at : List ℕ → ℕ → ℕ
 u32_at bytes offset = from_le_bytes w32 (take 4 (drop offset bytes))
 
+-- the 64-bit number that lies at an offset
+abbrev pub u64_at : List ℕ → ℕ → ℕ
+u64_at bytes offset = from_le_bytes w64 (take 8 (drop offset bytes))
+
 -- the bytes with that 32-bit number at an offset
 abbrev pub put_u32 : List ℕ → ℕ → ℕ → List ℕ
 put_u32 bytes offset n = take offset bytes ++ (to_le_bytes w32 n ++ drop (offset + 4) bytes)
 
--- A store: its id, its types, its heap, its scoped roots, its generation and its configuration.
+-- A store: its id, its types, its heap, how many host values it has, its scoped roots, its generation
+-- and its configuration.
 pub record StoreView : Type 0 where
   pub engine : ℕ
   pub number : ℕ
   pub types : List Declaration
   pub heap : HeapView
+  pub hosts : ℕ
   pub scoped : List RootEntry
   pub generation : ℕ
   pub first : ℕ
@@ -85,6 +91,7 @@ empty_store engine number first max_scoped max_owned alloc_counter = record {
   number = number;
   types = [];
   heap = detached;
+  hosts = 0;
   scoped = [];
   generation = 0;
   first = first;

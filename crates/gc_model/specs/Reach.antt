@@ -1,0 +1,84 @@
+-- What the roots reach.
+use Rattle.std.specs.Prelude.{◌≡◌, ◌↔◌, ℕ, ◌<◌, List, [], ◌∷◌, ◌++◌, Option, Some, None, map, length, slice_get, nat_eq, nat_lt, if◌then◌else◌}
+use Rattle.std.specs.List.{Contains, IsDistinct, flat_map}
+use Rattle.gc_types.specs.declared.kind.Layouts.{Layouts}
+use Rattle.gc_types.specs.declared.kind.Layouts.TheVariants.{Null, Counting, Copying}
+use Rattle.gc_model.specs.Values.{Reference, at, Value, i32, i64, f32, f64, v128, function, reference, Object, struct, array, host, exception}
+use Rattle.gc_model.specs.Table.{Table, Scoped, Slot, Owned}
+
+-- the reference that a value is, where it is one
+abbrev pub value_references : Value → List Reference
+value_references (i32 n) = []
+value_references (i64 n) = []
+value_references (f32 n) = []
+value_references (f64 n) = []
+value_references (v128 n) = []
+value_references (function f) = []
+value_references (reference class r) = r ∷ []
+
+abbrev pub object_values : {D : Type 0} → Object D → List Value
+object_values (struct ty values) = values
+object_values (array ty values) = values
+object_values (host value) = []
+object_values (exception ty tag values) = values
+
+-- the references among the values of an object, in order
+abbrev pub references_in : {D : Type 0} → Object D → List Reference
+references_in o = flat_map value_references (object_values o)
+
+abbrev pub slot_references : List Slot → List Reference
+slot_references slots = map (λ (s : Slot). s.reference) slots
+
+-- an owned root counts as long as it has a handle
+abbrev pub owned_references : Owned → List Reference
+owned_references root = if nat_lt 0 root.handles then root.reference ∷ [] else []
+
+abbrev pub present : Option Reference → List Reference
+present None = []
+present (Some r) = r ∷ []
+
+-- what the roots name: scoped ones, frame slots, globals, owned ones, and the pending exception
+abbrev pub root_references : {D : Type 0} → Table D → List Reference
+root_references t =
+    map (λ (root : Scoped). root.reference) t.scoped
+    ++ (flat_map slot_references t.frames
+    ++ (slot_references t.globals
+    ++ (flat_map owned_references t.owned
+    ++ present t.pending)))
+
+-- the positions that some references reach through the objects' values
+pub data Reached {D : Type 0} (objects : List (Object D)) (roots : List Reference) : ℕ → Type 0 where
+  by_root : {p : ℕ} → Contains roots (at p) → Reached objects roots p
+  by_value : {p q : ℕ} → Reached objects roots q → (o : Object D) → slice_get objects q ≡ Some o
+      → Contains (references_in o) (at p) → Reached objects roots p
+
+-- the roots of the table reach the object at a position
+abbrev pub IsReached : {D : Type 0} → Table D → ℕ → Type 0
+IsReached t p = Reached t.objects (root_references t) p
+
+-- A collection keeps the object at a position: in a null heap every one, else what is reached.
+abbrev pub IsKept : {D : Type 0} → Layouts → Table D → ℕ → Type 0
+IsKept Null t p = p < length t.objects
+IsKept Counting t p = IsReached t p
+IsKept Copying t p = IsReached t p
+
+-- the positions in a set, each once
+pub record AreAll (IsIn : ℕ → Type 0) (positions : List ℕ) : Type 0 where
+  pub distinct : IsDistinct nat_eq positions
+  pub all : (p : ℕ) → Contains positions p ↔ IsIn p
+
+-- a set has so many positions
+abbrev pub HasNumber : (ℕ → Type 0) → ℕ → Type 0
+HasNumber IsIn n = (positions : List ℕ) × (AreAll IsIn positions × (n ≡ length positions))
+
+abbrev pub IsHost : {D : Type 0} → Option (Object D) → Type 0
+IsHost None = ⊥
+IsHost (Some (struct ty values)) = ⊥
+IsHost (Some (array ty values)) = ⊥
+IsHost (Some (host value)) = Unit {0}
+IsHost (Some (exception ty tag values)) = ⊥
+
+-- a collection keeps so many objects, so many host objects among them
+pub record KeepsNumber {D : Type 0} (layouts : Layouts) (t : Table D) (objects hosts : ℕ) : Type 0 where
+  pub objects_are : HasNumber (IsKept layouts t) objects
+  pub hosts_are : HasNumber (λ (p : ℕ). IsKept layouts t p × IsHost (slice_get t.objects p)) hosts
