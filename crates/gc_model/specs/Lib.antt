@@ -2,6 +2,7 @@ pub mod Values
 pub mod Fits
 pub mod Table
 pub mod Reach
+pub mod Reads
 pub mod Live
 pub mod Sizes
 pub mod Allocation

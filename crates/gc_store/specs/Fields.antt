@@ -1,69 +1,163 @@
--- Fields of an object in a heap.
-use Rattle.std.specs.Prelude.{◌≡◌, ℕ, ◌+◌, List, Some, length, All}
+-- Fields of structs in a heap.
+use Rattle.std.specs.Prelude.{◌≡◌, ℕ, ◌+◌, Bool, true, false, List, Option, Some, None, Ok, length, slice_get}
 use Rattle.std.specs.FinMap as finite
-use Rattle.std.specs.Int.{w32, w64}
+use Rattle.std.specs.Int.{w32, w64, cast_unsigned, to_le_bytes}
 use Rattle.gc_types.specs.declared.value.FieldType.{FieldType}
+use Rattle.gc_types.specs.declared.value.StorageType.{StorageType}
+use Rattle.gc_types.specs.declared.value.StorageType.TheVariants as storage
+use Rattle.gc_types.specs.declared.value.ValType.{ValType}
+use Rattle.gc_types.specs.declared.value.ValType.TheVariants as val
 use Rattle.gc_types.specs.declared.kind.Layouts.{Layouts}
-use Rattle.gc_types.specs.declared.kind.VMGcKind.TheVariants.{StructRef}
 use Rattle.gc_types.specs.declared.layout.FieldLayout.{FieldLayout}
-use Rattle.gc_types.specs.Declarations.{Declaration, struct_fields_at, IsMutableI32}
-use Rattle.gc_types.specs.Layouts.{struct_base, field_layouts, fields_end}
-use Rattle.gc_model.specs.Values.{Value, i32, i64, f32, f64, v128, function, reference, null, number_bits}
-use Rattle.gc_model.specs.Sizes.{stored_size}
-use Rattle.gc_model.specs.Views.{HeapView, HeapObject}
-use Rattle.gc_model.specs.Holds.{Placing, ValuesLie}
+use Rattle.gc_types.specs.Declarations.{Declaration, struct_fields_at}
+use Rattle.gc_types.specs.Layouts.{struct_base, field_layouts}
+use Rattle.gc_roots.specs.Roots.{Root}
+use Rattle.gc_model.specs.declared.GcClass.TheVariants.{Any}
+use Rattle.gc_model.specs.declared.RootEntry.{RootEntry}
+use Rattle.gc_model.specs.Values.{Reference, Value, i32, i64, reference}
+use Rattle.gc_model.specs.Views.{HeapView, HeapObject, u32_at, u64_at}
+use Rattle.gc_model.specs.Holds.{Placing, IsWord, ValuesLie}
+use Rattle.gc_heap.specs.Collection.{IsWordOf}
+use Rattle.gc_heap.specs.Heap.{put_object, with_data}
+use Rattle.gc_store.specs.declared.field.Stored.{Stored}
+use Rattle.gc_store.specs.declared.field.Stored.TheVariants as stored
+use Rattle.gc_store.specs.declared.root.GcRootIndex.{GcRootIndex}
 use Rattle.gc_store.specs.declared.root.RawValue.{RawValue}
 use Rattle.gc_store.specs.declared.root.RawValue.TheVariants as raw
+use Rattle.gc_store.specs.RootSets.{slot_word}
+use Rattle.gc_store.specs.Tracing.{IsCollectable}
+use Rattle.gc_store.specs.Values.{raw_fits}
 
--- the fields of a held object, whose bytes are as many as its layout says
-pub record HasFields (layouts : Layouts) (heap : HeapView) (types : List Declaration) (word : ℕ) : Type 0 where
-  pub object : HeapObject
-  pub held : finite.get heap.content word ≡ Some object
+-- the bytes that a field of an object has
+abbrev pub stored_bytes : Stored → List ℕ
+stored_bytes (stored.I32 n) = to_le_bytes w32 n
+stored_bytes (stored.I64 n) = to_le_bytes w64 n
+stored_bytes (stored.Ref word) = to_le_bytes w32 word
+
+-- what is stored is of the field's type; a reference is null, a 31-bit number or the place of an object
+abbrev pub StoredOfType : HeapView → ValType → Stored → Type 0
+StoredOfType h val.I32 (stored.I32 n) = Unit {0}
+StoredOfType h val.I64 (stored.I64 n) = Unit {0}
+StoredOfType h (val.Ref ty) (stored.Ref word) = IsWordOf h word
+StoredOfType h _ _ = ⊥
+
+abbrev pub StoredFits : HeapView → StorageType → Stored → Type 0
+StoredFits h storage.I8 x = ⊥
+StoredFits h storage.I16 x = ⊥
+StoredFits h (storage.ValType ty) x = StoredOfType h ty x
+
+-- a field of a struct lies at that offset
+pub record IsFieldOf (layouts : Layouts) (types : List Declaration) (object : HeapObject) (offset : ℕ) (st : StorageType) : Type 0 where
   pub fields : List FieldType
   pub declared : struct_fields_at types object.ty ≡ Some fields
-  pub kind : object.kind ≡ StructRef
-  pub size : struct_base layouts + length object.bytes ≡ stored_size layouts (fields_end (struct_base layouts) fields)
-  pub numbers : All IsMutableI32 fields
+  pub index : ℕ
+  pub field : FieldType
+  pub field_is : slice_get fields index ≡ Some field
+  pub layout : FieldLayout
+  pub layout_is : slice_get (field_layouts (struct_base layouts) fields) index ≡ Some layout
+  pub at : offset ≡ layout.offset
+  pub type_is : field.element_type ≡ st
 
--- The value of the table that a given number is. Functions and references are not stored so far.
-abbrev pub value_of : RawValue → Value
-value_of (raw.I32 n) = i32 (number_bits w32 n)
-value_of (raw.I64 n) = i64 (number_bits w64 n)
-value_of (raw.F32 n) = f32 n
-value_of (raw.F64 n) = f64 n
-value_of (raw.V128 n) = v128 n
-value_of (raw.Func f) = function f
-value_of (raw.Ref class r) = reference class null
+-- a field of a held struct may be written
+pub record CanWriteField (layouts : Layouts) (h : HeapView) (place offset : ℕ) (x : Stored) : Type 0 where
+  pub types : List Declaration
+  pub roots : List Root
+  pub hosts : ℕ → Bool
+  pub collectable : IsCollectable layouts types h roots hosts
+  pub object : HeapObject
+  pub held : finite.get h.content place ≡ Some object
+  pub st : StorageType
+  pub field : IsFieldOf layouts types object offset st
+  pub fits : StoredFits h st x
 
--- a 32-bit number, which is the one value that is stored so far
-abbrev pub IsNumber : RawValue → Type 0
-IsNumber (raw.I32 n) = Unit {0}
-IsNumber (raw.I64 n) = ⊥
-IsNumber (raw.F32 n) = ⊥
-IsNumber (raw.F64 n) = ⊥
-IsNumber (raw.V128 n) = ⊥
-IsNumber (raw.Func f) = ⊥
-IsNumber (raw.Ref class r) = ⊥
+-- a field of a held struct may be read
+pub record CanReadField (layouts : Layouts) (h : HeapView) (types : List Declaration) (place index : ℕ) : Type 0 where
+  pub roots : List Root
+  pub hosts : ℕ → Bool
+  pub collectable : IsCollectable layouts types h roots hosts
+  pub object : HeapObject
+  pub held : finite.get h.content place ≡ Some object
+  pub fields : List FieldType
+  pub declared : struct_fields_at types object.ty ≡ Some fields
+  pub field : FieldType
+  pub field_is : slice_get fields index ≡ Some field
+  pub built : Rattle.gc_model.specs.Fits.is_built_field field ≡ true
+
+-- what a field of a type keeps in these bytes
+abbrev pub StoredAt : ValType → List ℕ → ℕ → Stored → Type 0
+StoredAt val.I32 bytes offset x = x ≡ stored.I32 (u32_at bytes offset)
+StoredAt val.I64 bytes offset x = x ≡ stored.I64 (u64_at bytes offset)
+StoredAt (val.Ref ty) bytes offset x = x ≡ stored.Ref (u32_at bytes offset)
+StoredAt val.F32 bytes offset x = ⊥
+StoredAt val.F64 bytes offset x = ⊥
+StoredAt val.V128 bytes offset x = ⊥
+
+abbrev pub ReadsStored : StorageType → List ℕ → ℕ → Stored → Type 0
+ReadsStored storage.I8 bytes offset x = ⊥
+ReadsStored storage.I16 bytes offset x = ⊥
+ReadsStored (storage.ValType ty) bytes offset x = StoredAt ty bytes offset x
+
+-- how a value that is given to the store is kept in a field, by the words that the roots have
+abbrev pub KeptAs : List RootEntry → RawValue → Stored → Type 0
+KeptAs entries (raw.I32 n) x = x ≡ stored.I32 (cast_unsigned w32 n)
+KeptAs entries (raw.I64 n) x = x ≡ stored.I64 (cast_unsigned w64 n)
+KeptAs entries (raw.F32 n) x = ⊥
+KeptAs entries (raw.F64 n) x = ⊥
+KeptAs entries (raw.V128 n) x = ⊥
+KeptAs entries (raw.Func f) x = ⊥
+KeptAs entries (raw.Ref class None) x = x ≡ stored.Ref 0
+KeptAs entries (raw.Ref class (Some handle)) x = (word : ℕ) × ((slot_word entries handle.slot handle.generation ≡ Ok word) × (x ≡ stored.Ref word))
+
+-- a value has a form in which a field keeps it
+abbrev pub IsKept : List RootEntry → RawValue → Type 0
+IsKept entries r = (x : Stored) × KeptAs entries r x
+
+-- what a field keeps is a value of the table
+abbrev pub StoredStands : Placing → Stored → Value → Type 0
+StoredStands place (stored.I32 n) v = v ≡ i32 n
+StoredStands place (stored.I64 n) v = v ≡ i64 n
+StoredStands place (stored.Ref word) v = (r : Reference) × (IsWord place r word × (v ≡ reference Any r))
+
+-- a value that is given to the store is one of the table, by the words that the roots have
+abbrev pub KeptStands : Placing → List RootEntry → RawValue → Value → Type 0
+KeptStands place entries r v = (x : Stored) × (KeptAs entries r x × StoredStands place x v)
+
+pub record AllKept (place : Placing) (entries : List RootEntry) (raws : List RawValue) (values : List Value) : Type 0 where
+  pub same_count : length raws ≡ length values
+  pub each : (i : ℕ) (r : RawValue) (v : Value) → slice_get raws i ≡ Some r → slice_get values i ≡ Some v → KeptStands place entries r v
+
+-- values of these fields, which are all kept
+pub record AllFit (entries : List RootEntry) (fields : List FieldType) (raws : List RawValue) : Type 0 where
+  pub same_count : length raws ≡ length fields
+  pub each : (i : ℕ) (field : FieldType) (r : RawValue) → slice_get fields i ≡ Some field → slice_get raws i ≡ Some r
+      → (raw_fits field.element_type r ≡ true) × IsKept entries r
+
+-- the roots' words are roots of the collection that may begin
+abbrev pub AreRoots : List RootEntry → List Root → Type 0
+AreRoots entries roots = (e : RootEntry) → Rattle.std.specs.List.Contains entries e → Rattle.std.specs.List.Contains roots (Rattle.gc_store.specs.Tracing.root_of e.word)
+
+-- all fields of a held struct may be written
+pub record CanWriteValues (layouts : Layouts) (h : HeapView) (entries : List RootEntry) (place : ℕ) (places : List FieldLayout) (raws : List RawValue) : Type 0 where
+  pub types : List Declaration
+  pub roots : List Root
+  pub hosts : ℕ → Bool
+  pub collectable : IsCollectable layouts types h roots hosts
+  pub are_roots : AreRoots entries roots
+  pub object : HeapObject
+  pub held : finite.get h.content place ≡ Some object
+  pub fields : List FieldType
+  pub declared : struct_fields_at types object.ty ≡ Some fields
+  pub laid_out : places ≡ field_layouts (struct_base layouts) fields
+  pub fit : AllFit entries fields raws
 
 -- the object at a place has these values now, and every other object is as it was
-pub record WritesValues (base : ℕ) (layouts : List FieldLayout) (values : List Value) (old new : HeapView) (word : ℕ) (before : HeapObject) : Type 0 where
+pub record WritesValues (layouts : Layouts) (types : List Declaration) (roots : List Root) (hosts : ℕ → Bool) (entries : List RootEntry) (fields : List FieldType) (raws : List RawValue) (old new : HeapView) (place : ℕ) (before : HeapObject) : Type 0 where
   pub bytes : List ℕ
-  pub written : finite.get new.content word ≡ Some (record before { bytes = bytes })
-  pub others : (q : ℕ) → ¬ (q ≡ word) → finite.get new.content q ≡ finite.get old.content q
+  pub written : finite.get new.content place ≡ Some (record before { bytes = bytes })
+  pub others : (q : ℕ) → ¬ (q ≡ place) → finite.get new.content q ≡ finite.get old.content q
   pub attached : new.attached ≡ old.attached
   pub capacity : new.capacity ≡ old.capacity
   pub allocated : new.allocated ≡ old.allocated
   pub same_length : length bytes ≡ length before.bytes
-  pub lie : (place : Placing) → ValuesLie place base layouts values bytes
-
--- as many numbers as fields may be written into a held object
-pub record CanWrite (layouts : Layouts) (heap : HeapView) (word : ℕ) (places : List FieldLayout) (values : List RawValue) : Type 0 where
-  pub object : HeapObject
-  pub held : finite.get heap.content word ≡ Some object
-  pub fields : List FieldType
-  pub laid_out : places ≡ field_layouts (struct_base layouts) fields
-  pub kind : object.kind ≡ StructRef
-  pub size : struct_base layouts + length object.bytes ≡ stored_size layouts (fields_end (struct_base layouts) fields)
-  pub numbers : All IsMutableI32 fields
-  pub same_count : length values ≡ length fields
-  pub are_numbers : All IsNumber values
+  pub collectable : IsCollectable layouts types new roots hosts
+  pub lie : (placing : Placing) (values : List Value) → AllKept placing entries raws values → ValuesLie placing (struct_base layouts) fields values bytes

@@ -1,6 +1,13 @@
 pub mod Ids
 pub mod Limiters
+pub mod Tracing
+pub mod RootSets
 pub mod Stores
 pub mod Roots
+pub mod Handles
+pub mod Values
 pub mod Fields
 pub mod Places
+pub mod Reading
+pub mod Scopes
+pub mod Collects

@@ -15,8 +15,7 @@ use Rattle.gc_store.specs.declared.root.RootFault.{RootFault}
 use Rattle.gc_store.specs.declared.root.RootFault.TheVariants as fault
 use Rattle.gc_store.specs.declared.root.RootedObject.{RootedObject}
 use Rattle.gc_store.specs.declared.root.RootedObject.TheVariants as rooted_object
-use Rattle.gc_store.specs.declared.root.RawValue.{RawValue}
-use Rattle.gc_store.specs.declared.root.RawValue.TheVariants as raw
+use Rattle.gc_store.specs.RootSets.{slot_word}
 
 -- whether a handle carries the store's id
 abbrev pub is_of_store : StoreView → GcRootIndex → Bool
@@ -67,25 +66,6 @@ pub record HasField {D : Type 0} (s : StoreView) (t : Table D) (handle : GcRootI
   pub object : slice_get t.objects position ≡ Some (struct ty values)
   pub value_at : slice_get values index ≡ Some value
 
--- a value of the table as the store gives it; 32-bit numbers alone so far
-abbrev pub IsRaw : Value → RawValue → Type 0
-IsRaw (i32 n) answer = answer ≡ raw.I32 (cast_signed w32 n)
-IsRaw (i64 n) answer = ⊥
-IsRaw (f32 n) answer = ⊥
-IsRaw (f64 n) answer = ⊥
-IsRaw (v128 n) answer = ⊥
-IsRaw (function f) answer = ⊥
-IsRaw (reference class r) answer = ⊥
-
--- the word of an entry, where its generation is the handle's
-abbrev pub entry_word : Option RootEntry → ℕ → Result ℕ RootFault
-entry_word None generation = Err fault.Unrooted
-entry_word (Some entry) generation = if entry.generation == generation then Ok entry.word else Err fault.Unrooted
-
-abbrev pub slot_word : List RootEntry → RootSlot → ℕ → Result ℕ RootFault
-slot_word entries (slot.Scoped index) generation = entry_word (slice_get entries index) generation
-slot_word entries (slot.Owned id) generation = Err fault.Unrooted
-
 -- The word that a handle has in the store, or why it has none.
 abbrev pub word_of : StoreView → GcRootIndex → Result ℕ RootFault
 word_of s handle = if is_of_store s handle then slot_word s.scoped handle.slot handle.generation else Err fault.WrongStore
@@ -98,19 +78,6 @@ pub record IsRootWord (D : Type 0) (layouts : Layouts) (s : StoreView) (word : �
   pub root : Reference
   pub is_word : IsWord place root word
   pub not_null : 0 < word
-
--- the word is the place of a struct of some table that the store holds, with a 32-bit number there
-pub record HasNumber (D : Type 0) (layouts : Layouts) (s : StoreView) (word index : ℕ) : Type 0 where
-  pub table : Table D
-  pub place : Placing
-  pub holds : Holds layouts s table place
-  pub position : ℕ
-  pub placed : place position ≡ Some word
-  pub ty : ℕ
-  pub values : List Value
-  pub object : slice_get table.objects position ≡ Some (struct ty values)
-  pub n : ℕ
-  pub value_at : slice_get values index ≡ Some (i32 n)
 
 -- the handle is live and names a struct with a value at that index, in some table that the store holds
 pub record CanRead (D : Type 0) (layouts : Layouts) (s : StoreView) (handle : GcRootIndex) (index : ℕ) : Type 0 where
@@ -128,33 +95,3 @@ pub record FindsRoot (D : Type 0) (layouts : Layouts) (s : StoreView) (handle : 
   pub root : Reference
   pub live : rooted table serial ≡ Some root
   pub is : IsReference table root answer
-
--- how many values an object has, if it is a struct
-abbrev pub object_len : {D : Type 0} → Option (Object D) → Option ℕ
-object_len None = None
-object_len (Some (struct ty values)) = Some (length values)
-object_len (Some (array ty values)) = None
-object_len (Some (host value)) = None
-object_len (Some (exception ty tag values)) = None
-
--- the same of a reference; no scoped root is null
-abbrev pub CountsValues : {D : Type 0} → Table D → Reference → Option ℕ → Type 0
-CountsValues t null answer = ⊥
-CountsValues t (small n) answer = answer ≡ None
-CountsValues t (at p) answer = answer ≡ object_len (slice_get t.objects p)
-
--- What the store answers of a root: that it is gone, or how many values it has.
-abbrev pub TellsLength : {D : Type 0} → Table D → Option Reference → Result (Option ℕ) RootFault → Type 0
-TellsLength t None answer = answer ≡ Err fault.Unrooted
-TellsLength t (Some r) (Ok answer) = CountsValues t r answer
-TellsLength t (Some r) (Err e) = ⊥
-
--- the handle is live in some table that the store holds, and has so many values there
-pub record FindsLength (D : Type 0) (layouts : Layouts) (s : StoreView) (handle : GcRootIndex) (answer : Option ℕ) : Type 0 where
-  pub table : Table D
-  pub holds : HoldsTable layouts s table
-  pub serial : ℕ
-  pub names : Names s table handle serial
-  pub root : Reference
-  pub live : rooted table serial ≡ Some root
-  pub counts : CountsValues table root answer

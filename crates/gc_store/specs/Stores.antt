@@ -12,16 +12,18 @@ use Rattle.gc_model.specs.declared.RootEntry.{RootEntry}
 use Rattle.gc_model.specs.Table.{Table, start, declare}
 use Rattle.gc_model.specs.Views.{StoreView, HeapView}
 use Rattle.gc_model.specs.Holds.{HoldsTable}
+use Rattle.gc_store.specs.Tracing.{IsCollectable, roots_of}
 use Rattle.gc_store.specs.declared.engine.StoreId.{StoreId}
 use Rattle.gc_store.specs.declared.config.HeapConfig.{HeapConfig}
 
 -- what is seen of a store with these parts
-abbrev pub store_view : StoreId → HeapConfig → List Declaration → HeapView → List RootEntry → ℕ → StoreView
-store_view id config types heap scoped generation = record {
+abbrev pub store_view : StoreId → HeapConfig → List Declaration → HeapView → ℕ → List RootEntry → ℕ → StoreView
+store_view id config types heap hosts scoped generation = record {
   engine = id.engine;
   number = id.number;
   types = types;
   heap = heap;
+  hosts = hosts;
   scoped = scoped;
   generation = generation;
   first = config.first_pages;
@@ -34,11 +36,12 @@ store_view id config types heap scoped generation = record {
 abbrev pub configured : HeapConfig → StoreView → StoreView
 configured config s = record s { first = config.first_pages; max_scoped = config.max_scoped; max_owned = config.max_owned; alloc_counter = option_map non_zero_u32_get config.alloc_counter }
 
--- the heap is sound, the store holds some table, and its types carry its id
-pub record IsSound (D : Type 0) (layouts : Layouts) (heap_is_sound : Type 0) (types : TypeTable) (s : StoreView) : Type 0 where
+-- The heap is sound, a collection may begin, the store holds some table, and its types carry its id.
+pub record IsSound (D : Type 0) (layouts : Layouts) (heap_is_sound : Type 0) (types : TypeTable) (hosts : ℕ → Bool) (s : StoreView) : Type 0 where
   pub heap : heap_is_sound
   pub engine : types.engine ≡ s.engine
   pub number : types.number ≡ s.number
+  pub collectable : IsCollectable layouts s.types s.heap (roots_of s.scoped) hosts
   pub table : Table D
   pub holds : HoldsTable layouts s table
 

@@ -22,6 +22,7 @@ pub struct HeapConfig {
     /// Where it is n, each n-th allocation collects first.
     pub alloc_counter: Option<NonZeroU32>,
     ghost few_pages: { first_pages ≤ max_pages },
+    ghost few_roots: { max_scoped ≤ 2 ^ 31 },
 }
 
 impl HeapConfig {

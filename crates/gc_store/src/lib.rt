@@ -6,6 +6,8 @@
 //! the table's. No place and no byte of the heap shows.
 #![tactic(auto)]
 
+mod allocate;
+pub mod collect;
 pub mod config;
 pub mod engine;
 mod field;
@@ -13,9 +15,12 @@ pub mod limiter;
 pub mod place;
 pub mod read;
 pub mod root;
+mod root_set;
+pub mod scope;
 pub mod store;
 #[cfg(test)]
 mod tests;
+pub mod write;
 
 pub use config::HeapConfig;
 pub use engine::{Engine, StoreId};
@@ -23,3 +28,4 @@ pub use gc_model::GcClass;
 pub use limiter::{PageLimit, ResourceLimiter};
 pub use root::{GcRootIndex, RawValue, RootFault, RootSlot, RootedObject};
 pub use store::{GcHeapOutOfMemory, PlaceFault, Store};
+pub use write::WriteFault;

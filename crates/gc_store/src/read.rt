@@ -1,34 +1,33 @@
 //! What a handle names, and what lies in it.
 
-ghost use Rattle.std.specs.Prelude.{◌≡◌, ℕ, ◌<◌, true, false, Err, Some, List, slice_get, IfOk, IsOk};
+ghost use Rattle.std.specs.Prelude.{◌≡◌, ◌⊎◌, ℕ, ◌<◌, true, false, Err, Some, List, slice_get, IfOk, OnErr};
 ghost use Rattle.gc_model.specs.Table.{Table};
 ghost use Rattle.gc_model.specs.Live.{rooted};
-ghost use Rattle.gc_model.specs.Values.{Value, Reference, struct, i32};
+ghost use Rattle.gc_model.specs.Values.{Value, Reference, small};
 ghost use Rattle.gc_model.specs.Holds.{HoldsTable, Holds, Placing, IsWord};
-ghost use Rattle.gc_store.specs.Roots.{word_of, IsRootWord, IsReference, Names, TellsRoot, is_of_store, HasNumber, HasField, CanRead, FindsRoot, CountsValues, TellsLength, FindsLength, IsRaw};
+ghost use Rattle.gc_store.specs.Roots.{word_of, IsRootWord, IsReference, Names, TellsRoot, is_of_store, HasField, CanRead, FindsRoot};
+ghost use Rattle.gc_store.specs.Handles.{PushesRoot, TellsSame};
+ghost use Rattle.gc_store.specs.Values.{ReadsValue};
+ghost use Rattle.gc_store.specs.Reading.{ReadsStoredValue};
+ghost use Rattle.gc_store.specs.Stores.{IsSameStore};
 
-use crate::field::field_offset;
-use crate::root::{GcRootIndex, RawValue, RootFault, RootSlot, RootedObject};
+use crate::field::{Stored, read_field};
+use crate::place::push_root;
+use crate::root::{GcRootIndex, RawValue, RootFault, RootedObject};
 use crate::store::Store;
 use gc_heap::GcHeap;
-use gc_heap::access::read_u32;
-use gc_refs::VMGcRef;
+use gc_model::GcClass;
+use gc_refs::{I31, VMGcRef};
 
-impl<H: GcHeap, D> Store<H, D> {
+impl<H: GcHeap, D: Drop> Store<H, D> {
     /// The word that the handle's root has.
-    fn word_of(&self, handle: GcRootIndex) -> Result<u32, RootFault>
+    pub(crate) fn word_of(&self, handle: GcRootIndex) -> Result<u32, RootFault>
         ensures { result ≡ word_of self.now handle }
     {
         if handle.store_id != self.id {
             return Err(RootFault::WrongStore);
         }
-        let RootSlot::Scoped(index) = handle.slot else {
-            return Err(RootFault::Unrooted);
-        };
-        match self.scoped.get(index as usize) {
-            Some(entry) if entry.generation == handle.generation => Ok(entry.word),
-            _ => Err(RootFault::Unrooted),
-        }
+        self.roots.word(handle.slot, handle.generation)
     }
 
     /// What the reference with that word is.
@@ -37,8 +36,8 @@ impl<H: GcHeap, D> Store<H, D> {
         ensures { (t : Table D) (place : Placing) (r : Reference) → Holds H.KIND self.now t place → IsWord place r word → 0 < word → IsReference t r result }
     {
         let gc_ref = VMGcRef::from_raw_u32(word).unwrap();
-        if gc_ref.is_i31() {
-            return RootedObject::I31(word / 2);
+        if let Some(number) = gc_ref.as_i31() {
+            return RootedObject::I31(number);
         }
         match self.heap.header(&gc_ref) {
             Ok(header) => RootedObject::Struct(header.type_index()),
@@ -61,55 +60,80 @@ impl<H: GcHeap, D> Store<H, D> {
         }
     }
 
-    /// How many values the struct with that word has; None where the reference is no struct.
-    fn count_values(&self, word: u32) -> Option<usize>
-        requires { IsRootWord D H.KIND self.now word }
-        ensures { (t : Table D) (place : Placing) (r : Reference) → Holds H.KIND self.now t place → IsWord place r word → 0 < word → CountsValues t r result }
+    /// Whether two handles name the same reference: the same object, or the same 31-bit number.
+    /// `WrongStore` where one of them is another store's, then `Unrooted` where one isn't live.
+    pub fn index_eq(&self, a: GcRootIndex, b: GcRootIndex) -> Result<bool, RootFault>
+        ensures wrong_store { (is_of_store self.now a ≡ false) ⊎ (is_of_store self.now b ≡ false) → result ≡ Err RootFault.WrongStore }
+        ensures named { (t : Table D) (x y : ℕ) → HoldsTable H.KIND self.now t → Names self.now t a x → Names self.now t b y → TellsSame (rooted t x) (rooted t y) result }
+        ensures unnamed { is_of_store self.now a ≡ true → is_of_store self.now b ≡ true → (t : Table D) → HoldsTable H.KIND self.now t → ((x : ℕ) → ¬ Names self.now t a x) ⊎ ((y : ℕ) → ¬ Names self.now t b y) → result ≡ Err RootFault.Unrooted }
     {
-        let gc_ref = VMGcRef::from_raw_u32(word).unwrap();
-        if gc_ref.is_i31() {
-            return None;
+        if a.store_id != self.id || b.store_id != self.id {
+            return Err(RootFault::WrongStore);
         }
-        match self.heap.header(&gc_ref) {
-            Ok(header) => self.types.struct_len(header.type_index()),
+        let first = self.roots.word(a.slot, a.generation)?;
+        let second = self.roots.word(b.slot, b.generation)?;
+        Ok(first == second)
+    }
+
+    /// Pushes a scoped root for a copy of a word of the store.
+    fn push_clone(&mut self, gc_ref: &VMGcRef) -> Result<GcRootIndex, RootFault>
+        requires { IsRootWord D H.KIND self.old gc_ref.now }
+        ensures pushes { (t : Table D) (place : Placing) (r : Reference) → Holds H.KIND self.old t place → IsWord place r gc_ref.now → PushesRoot H.KIND t r result self.new }
+        ensures err { OnErr result (self.new ≡ self.old) }
+        ensures same { IsSameStore self.old self.new }
+    {
+        if self.roots_full() {
+            return Err(RootFault::RootsFull);
+        }
+        if self.roots.reserve().is_err() {
+            return Err(RootFault::Memory);
+        }
+        let word = self.heap.clone_gc_ref(gc_ref).as_raw_u32();
+        Ok(push_root(&mut self.roots, self.id, word))
+    }
+
+    /// Pushes a scoped root for a 31-bit number. `RootsFull` where no further one may be made.
+    pub fn push_i31(&mut self, value: I31) -> Result<GcRootIndex, RootFault>
+        ensures pushes { (t : Table D) → HoldsTable H.KIND self.old t → PushesRoot H.KIND t (small value) result self.new }
+        ensures err { OnErr result (self.new ≡ self.old) }
+        ensures same { IsSameStore self.old self.new }
+    {
+        let _heap = &self.heap;
+        self.push_clone(&VMGcRef::from_i31(value))
+    }
+
+    /// What a field of the struct keeps that the handle names.
+    fn stored_at(&self, handle: GcRootIndex, index: u32) -> Stored
+        requires { CanRead D H.KIND self.now handle index }
+        ensures { ReadsStoredValue D H.KIND self.now handle index result }
+    {
+        match self.word_of(handle) {
+            Ok(word) => {
+                let gc_ref = VMGcRef::from_raw_u32(word).unwrap();
+                read_field(&self.heap, &self.types, &gc_ref, index)
+            }
             Err(_) => unreachable!(),
         }
     }
 
-    /// How many values the struct has that the handle names; the inner None where it names no
-    /// struct. `WrongStore` and `Unrooted` as in `object`.
-    pub fn struct_len(&self, handle: GcRootIndex) -> Result<Option<usize>, RootFault>
-        ensures wrong_store { is_of_store self.now handle ≡ false → result ≡ Err RootFault.WrongStore }
-        ensures named { (t : Table D) (serial : ℕ) → HoldsTable H.KIND self.now t → Names self.now t handle serial → TellsLength t (rooted t serial) result }
-        ensures found { IfOk result (FindsLength D H.KIND self.now handle) }
-        ensures unnamed { is_of_store self.now handle ≡ true → (t : Table D) → HoldsTable H.KIND self.now t → ((serial : ℕ) → ¬ Names self.now t handle serial) → result ≡ Err RootFault.Unrooted }
-    {
-        let _heap = &self.heap;
-        match self.word_of(handle) {
-            Ok(word) => Ok(self.count_values(word)),
-            Err(fault) => Err(fault),
-        }
-    }
-
-    /// The 32-bit number in that field of the object with that word.
-    fn read_number(&self, word: u32, index: u32) -> u32
-        requires { HasNumber D H.KIND self.now word index }
-        ensures { (t : Table D) (place : Placing) (position : ℕ) (ty : ℕ) (values : List Value) (n : ℕ) → Holds H.KIND self.now t place → place position ≡ Some word → slice_get t.objects position ≡ Some (struct ty values) → slice_get values index ≡ Some (i32 n) → result ≡ n }
-    {
-        let gc_ref = VMGcRef::from_raw_u32(word).unwrap();
-        let offset = field_offset(&self.heap, &self.types, &gc_ref, index);
-        read_u32(&self.heap, &gc_ref, offset)
-    }
-
-    /// The value of that field of a struct. Numbers push no root.
+    /// The value of that field of the struct that the handle names. A reference that isn't null gets a
+    /// scoped root: `RootsFull` where no further one may be made.
     pub fn read_value(&mut self, handle: GcRootIndex, index: u32) -> Result<RawValue, RootFault>
         requires { CanRead D H.KIND self.old handle index }
-        ensures read { (t : Table D) (value : Value) → HoldsTable H.KIND self.old t → HasField self.old t handle index value → IfOk result (IsRaw value) × IsOk result }
-        ensures same { self.new ≡ self.old }
+        ensures reads { (t : Table D) (value : Value) → HoldsTable H.KIND self.old t → HasField self.old t handle index value → ReadsValue H.KIND t value result self.new }
+        ensures err { OnErr result (self.new ≡ self.old) }
+        ensures same { IsSameStore self.old self.new }
     {
-        match self.word_of(handle) {
-            Ok(word) => Ok(RawValue::I32(self.read_number(word, index).cast_signed())),
-            Err(fault) => Err(fault),
+        match self.stored_at(handle, index) {
+            Stored::I32(bits) => Ok(RawValue::I32(bits.cast_signed())),
+            Stored::I64(bits) => Ok(RawValue::I64(bits.cast_signed())),
+            Stored::Ref(word) => match VMGcRef::from_raw_u32(word) {
+                None => Ok(RawValue::Ref(GcClass::Any, None)),
+                Some(gc_ref) => match self.push_clone(&gc_ref) {
+                    Ok(found) => Ok(RawValue::Ref(GcClass::Any, Some(found))),
+                    Err(fault) => Err(fault),
+                },
+            },
         }
     }
 }

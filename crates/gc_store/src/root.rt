@@ -2,7 +2,7 @@
 
 use crate::engine::StoreId;
 use gc_model::GcClass;
-use gc_refs::V128;
+use gc_refs::{I31, V128};
 use gc_types::{Func, Tag, VMSharedTypeIndex};
 use thiserror::Error;
 
@@ -52,8 +52,7 @@ pub enum RawValue {
 /// What a reference is.
 #[derive(Clone, Copy, Debug)]
 pub enum RootedObject {
-    /// A 31-bit number.
-    I31(u32),
+    I31(I31),
     Struct(VMSharedTypeIndex),
     /// An array's type and its length.
     Array(VMSharedTypeIndex, u32),

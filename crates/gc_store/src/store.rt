@@ -1,9 +1,10 @@
 //! The store.
 
-ghost use Rattle.std.specs.Prelude.{◌≡◌, ◌↔◌, false, IfOk, OnOk, OnErr, All, IsTrue, None, MatchResult};
+ghost use Rattle.std.specs.Prelude.{◌≡◌, ◌↔◌, false, IfOk, OnOk, OnErr, All, IsTrue, None, MatchResult, true};
 ghost use Rattle.std.specs.Option.{option_map};
 ghost use Rattle.std.specs.Int.NonZero.{non_zero_u32_get};
-ghost use Rattle.gc_types.specs.Declarations.{IsMutableI32};
+ghost use Rattle.gc_types.specs.declared.value.FieldType.{FieldType};
+ghost use Rattle.gc_model.specs.Fits.{is_built_field};
 ghost use Rattle.gc_model.specs.Table.{Table};
 ghost use Rattle.gc_model.specs.Views.{detached, empty_store};
 ghost use Rattle.gc_model.specs.Holds.{HoldsTable};
@@ -11,11 +12,12 @@ ghost use Rattle.gc_store.specs.Stores.{HoldsStart, HoldsSome, ShowsNothing, Dec
 
 use crate::config::HeapConfig;
 use crate::engine::StoreId;
+use crate::root_set::RootSet;
 use gc_heap::GcHeap;
-use gc_model::RootEntry;
+use gc_tables::ExternRefHostDataTable;
 use gc_types::{FieldType, StructType, TypeFault, Types, VMSharedTypeIndex};
 use std::alloc::{AllocError, Global};
-use std::marker::{Model, PhantomData};
+use std::marker::Model;
 
 /// The heap has no room for an allocation, and got no more. It has what was to be stored.
 #[derive(Debug, Drop)]
@@ -41,18 +43,17 @@ pub enum PlaceFault {
 
 /// A heap with its types and its roots. `D` is the type of the embedder's host values.
 #[derive(Drop)]
-pub struct Store<H: GcHeap, D> {
+pub struct Store<H: GcHeap, D: Drop> {
     pub(crate) alloc: Global,
     pub(crate) id: StoreId,
     pub(crate) config: HeapConfig,
     pub(crate) heap: H,
+    pub(crate) hosts: ExternRefHostDataTable<D>,
     pub(crate) types: Types,
-    pub(crate) scoped: Vec<RootEntry>,
-    pub(crate) generation: u64,
-    pub(crate) hosts: PhantomData<D>,
+    pub(crate) roots: RootSet,
 }
 
-impl<H: GcHeap, D> Model for Store<H, D> {
+impl<H: GcHeap, D: Drop> Model for Store<H, D> {
     ghost use Rattle.std.specs.Prelude.{◌≡◌};
     ghost use Rattle.std.specs.Coded.{codes};
     ghost use Rattle.std.specs.FinMap as map;
@@ -62,14 +63,15 @@ impl<H: GcHeap, D> Model for Store<H, D> {
 
     ghost coded = { Prim.hlevel (codes, map.code) };
 
+    ghost use Rattle.gc_heap.specs.Collection.{has_host};
     ghost use Rattle.gc_store.specs.Stores.{store_view, IsSound};
 
-    ghost view = { λ s. store_view s.id s.config s.types.declarations (H.seen s.heap) s.scoped.items s.generation };
+    ghost view = { λ s. store_view s.id s.config s.types.declarations (H.seen s.heap) (map.len s.hosts.entries) s.roots.entries s.roots.generation };
 
-    ghost invariant = { λ s. IsSound D H.KIND (H.sound s.heap) s.types (store_view s.id s.config s.types.declarations (H.seen s.heap) s.scoped.items s.generation) };
+    ghost invariant = { λ s. IsSound D H.KIND (H.sound s.heap) s.types (has_host s.hosts.entries) (store_view s.id s.config s.types.declarations (H.seen s.heap) (map.len s.hosts.entries) s.roots.entries s.roots.generation) };
 }
 
-impl<H: GcHeap, D> Store<H, D> {
+impl<H: GcHeap, D: Drop> Store<H, D> {
     /// A store over that heap, which is not attached.
     pub fn new(
         alloc: Global,
@@ -87,10 +89,9 @@ impl<H: GcHeap, D> Store<H, D> {
             id,
             config,
             heap,
+            hosts: ExternRefHostDataTable::new(alloc),
             types: Types::new(alloc, id.engine, id.number),
-            scoped: Vec::new(alloc),
-            generation: 0,
-            hosts: PhantomData,
+            roots: RootSet::new(alloc),
         })
     }
 
@@ -106,8 +107,8 @@ impl<H: GcHeap, D> Store<H, D> {
         ensures parts { IsTrue result ↔ ShowsNothing self.now }
         ensures sound { HoldsSome D H.KIND self.now }
     {
-        self.scoped.is_empty()
-            && self.generation == 0
+        self.roots.len() == 0
+            && self.roots.generation() == 0
             && self.types.is_empty()
             && !self.heap.is_attached()
     }
@@ -137,7 +138,7 @@ impl<H: GcHeap, D> Store<H, D> {
     ) -> Result<StructType, TypeFault>
         requires no_supertype { supertype ≡ None }
         requires open { is_final ≡ false }
-        requires numbers { All IsMutableI32 fields.now }
+        requires built { All (λ (f : FieldType). is_built_field f ≡ true) fields.now }
         ensures step { (t : Table D) → HoldsTable H.KIND self.old t → DeclaresStruct H.KIND fields.now t result self.new }
         ensures err { OnErr result (self.new ≡ self.old) }
         ensures same { IsSameStore self.old self.new }

@@ -1,0 +1,45 @@
+-- Reading a value: a reference that isn't null gets a scoped root.
+use Rattle.std.specs.Prelude.{ℕ, Bool, true, false, ◌==◌}
+use Rattle.gc_model.specs.Values.{Reference, null, small, at, Value, i32, i64, f32, f64, v128, function, reference}
+use Rattle.gc_model.specs.Table.{Table, push}
+
+abbrev pub is_null : Reference → Bool
+is_null null = true
+is_null (small n) = false
+is_null (at p) = false
+
+-- whether reading the value makes a scoped root
+abbrev pub makes_root : Value → Bool
+makes_root (i32 n) = false
+makes_root (i64 n) = false
+makes_root (f32 n) = false
+makes_root (f64 n) = false
+makes_root (v128 n) = false
+makes_root (function f) = false
+makes_root (reference class null) = false
+makes_root (reference class (small n)) = true
+makes_root (reference class (at p)) = true
+
+-- the table after a value was read
+abbrev pub after_read : {D : Type 0} → Value → Table D → Table D
+after_read (i32 n) t = t
+after_read (i64 n) t = t
+after_read (f32 n) t = t
+after_read (f64 n) t = t
+after_read (v128 n) t = t
+after_read (function f) t = t
+after_read (reference class null) t = t
+after_read (reference class (small n)) t = push (small n) t
+after_read (reference class (at p)) t = push (at p) t
+
+-- whether two references are the same
+abbrev pub same_reference : Reference → Reference → Bool
+same_reference null null = true
+same_reference null (small n) = false
+same_reference null (at p) = false
+same_reference (small m) null = false
+same_reference (small m) (small n) = m == n
+same_reference (small m) (at p) = false
+same_reference (at q) null = false
+same_reference (at q) (small n) = false
+same_reference (at q) (at p) = q == p

@@ -1,0 +1,29 @@
+-- What calls on handles and roots answer and leave, for a table that the store held.
+use Rattle.std.specs.Prelude.{◌≡◌, ℕ, Bool, true, false, Option, Some, None, Result, Ok, Err, length}
+use Rattle.gc_types.specs.declared.kind.Layouts.{Layouts}
+use Rattle.gc_model.specs.Values.{Reference}
+use Rattle.gc_model.specs.Table.{Table, push}
+use Rattle.gc_model.specs.Live.{roots_full}
+use Rattle.gc_model.specs.Reads.{same_reference}
+use Rattle.gc_model.specs.Views.{StoreView}
+use Rattle.gc_model.specs.Holds.{HoldsTable}
+use Rattle.gc_store.specs.declared.root.GcRootIndex.{GcRootIndex}
+use Rattle.gc_store.specs.declared.root.RootFault.{RootFault}
+use Rattle.gc_store.specs.declared.root.RootFault.TheVariants as fault
+use Rattle.gc_store.specs.Roots.{handle_of}
+
+-- a new scoped root for a reference, whose handle is answered
+abbrev pub PushesRoot : {D : Type 0} → Layouts → Table D → Reference → Result GcRootIndex RootFault → StoreView → Type 0
+PushesRoot layouts t r (Ok handle) new =
+    (roots_full t ≡ false) × ((handle ≡ handle_of new (length t.scoped) t.drops) × HoldsTable layouts new (push r t))
+PushesRoot layouts t r (Err fault.WrongStore) new = ⊥
+PushesRoot layouts t r (Err fault.Unrooted) new = ⊥
+PushesRoot layouts t r (Err fault.RootsFull) new = (roots_full t ≡ true) × HoldsTable layouts new t
+PushesRoot layouts t r (Err fault.Memory) new = HoldsTable layouts new t
+
+-- whether two roots name the same reference, or that one is gone
+abbrev pub TellsSame : Option Reference → Option Reference → Result Bool RootFault → Type 0
+TellsSame (Some r) (Some q) answer = answer ≡ Ok (same_reference r q)
+TellsSame (Some r) None answer = answer ≡ Err fault.Unrooted
+TellsSame None (Some q) answer = answer ≡ Err fault.Unrooted
+TellsSame None None answer = answer ≡ Err fault.Unrooted

@@ -1,0 +1,122 @@
+-- The values that go in and out of a store.
+use Rattle.std.specs.Prelude.{◌≡◌, ℕ, ℤ, Bool, true, false, List, Option, Some, None, Result, Ok, Err, length, slice_get}
+use Rattle.std.specs.Int.{w32, w64}
+use Rattle.gc_types.specs.declared.value.FieldType.{FieldType}
+use Rattle.gc_types.specs.declared.value.StorageType.{StorageType}
+use Rattle.gc_types.specs.declared.value.StorageType.TheVariants as storage
+use Rattle.gc_types.specs.declared.value.ValType.{ValType}
+use Rattle.gc_types.specs.declared.value.ValType.TheVariants as val
+use Rattle.gc_types.specs.declared.kind.Layouts.{Layouts}
+use Rattle.gc_types.specs.Declarations.{struct_fields_at}
+use Rattle.gc_model.specs.declared.GcClass.{GcClass}
+use Rattle.gc_model.specs.Values.{Reference, null, small, at, Value, i32, i64, f32, f64, v128, function, reference, Object, struct, number_bits}
+use Rattle.gc_model.specs.Fits.{is_class_any}
+use Rattle.gc_model.specs.Table.{Table, write}
+use Rattle.gc_model.specs.Live.{rooted, roots_full}
+use Rattle.gc_model.specs.Reads.{makes_root, after_read}
+use Rattle.gc_model.specs.Views.{StoreView}
+use Rattle.gc_model.specs.Holds.{HoldsTable}
+use Rattle.gc_store.specs.declared.root.GcRootIndex.{GcRootIndex}
+use Rattle.gc_store.specs.declared.root.RawValue.{RawValue}
+use Rattle.gc_store.specs.declared.root.RawValue.TheVariants as raw
+use Rattle.gc_store.specs.declared.root.RootFault.{RootFault}
+use Rattle.gc_store.specs.declared.root.RootFault.TheVariants as fault
+use Rattle.gc_store.specs.Roots.{Names, handle_of, HasField}
+
+-- the handle is live, and the value is what its root names
+pub record RootStands {D : Type 0} (s : StoreView) (t : Table D) (class : GcClass) (handle : GcRootIndex) (v : Value) : Type 0 where
+  pub serial : ℕ
+  pub names : Names s t handle serial
+  pub root : Reference
+  pub live : rooted t serial ≡ Some root
+  pub is : v ≡ reference class root
+
+-- a value that is given to the store stands for one of the table
+abbrev pub RawStands : {D : Type 0} → StoreView → Table D → RawValue → Value → Type 0
+RawStands s t (raw.I32 n) v = v ≡ i32 (number_bits w32 n)
+RawStands s t (raw.I64 n) v = v ≡ i64 (number_bits w64 n)
+RawStands s t (raw.F32 n) v = v ≡ f32 n
+RawStands s t (raw.F64 n) v = v ≡ f64 n
+RawStands s t (raw.V128 n) v = v ≡ v128 n
+RawStands s t (raw.Func f) v = v ≡ function f
+RawStands s t (raw.Ref class None) v = v ≡ reference class null
+RawStands s t (raw.Ref class (Some handle)) v = RootStands s t class handle v
+
+-- the same of lists
+pub record AllStand {D : Type 0} (s : StoreView) (t : Table D) (raws : List RawValue) (values : List Value) : Type 0 where
+  pub same_count : length raws ≡ length values
+  pub each : (i : ℕ) (r : RawValue) (v : Value) → slice_get raws i ≡ Some r → slice_get values i ≡ Some v → RawStands s t r v
+
+-- the handle is live in a table that the store holds
+pub record IsLive (D : Type 0) (layouts : Layouts) (s : StoreView) (handle : GcRootIndex) : Type 0 where
+  pub table : Table D
+  pub holds : HoldsTable layouts s table
+  pub serial : ℕ
+  pub names : Names s table handle serial
+  pub root : Reference
+  pub live : rooted table serial ≡ Some root
+
+abbrev pub raw_fits_type : ValType → RawValue → Bool
+raw_fits_type val.I32 (raw.I32 n) = true
+raw_fits_type val.I64 (raw.I64 n) = true
+raw_fits_type (val.Ref ty) (raw.Ref class handle) = is_class_any class
+raw_fits_type _ _ = false
+
+-- whether a value fits a field of a type that is built
+abbrev pub raw_fits : StorageType → RawValue → Bool
+raw_fits storage.I8 r = false
+raw_fits storage.I16 r = false
+raw_fits (storage.ValType ty) r = raw_fits_type ty r
+
+abbrev pub NamesLive : (D : Type 0) → Layouts → StoreView → RawValue → Type 0
+NamesLive D layouts s (raw.I32 n) = Unit {0}
+NamesLive D layouts s (raw.I64 n) = Unit {0}
+NamesLive D layouts s (raw.F32 n) = Unit {0}
+NamesLive D layouts s (raw.F64 n) = Unit {0}
+NamesLive D layouts s (raw.V128 n) = Unit {0}
+NamesLive D layouts s (raw.Func f) = Unit {0}
+NamesLive D layouts s (raw.Ref class None) = Unit {0}
+NamesLive D layouts s (raw.Ref class (Some handle)) = IsLive D layouts s handle
+
+-- a value may be written into a field of that type: its handle is live, and it fits
+pub record CanStore (D : Type 0) (layouts : Layouts) (s : StoreView) (field : FieldType) (r : RawValue) : Type 0 where
+  pub live : NamesLive D layouts s r
+  pub fits : raw_fits field.element_type r ≡ true
+
+-- the value that a read answers, whose new root is the newest one
+abbrev pub IsReadAs : {D : Type 0} → StoreView → Table D → Value → RawValue → Type 0
+IsReadAs s t (i32 n) r = (z : ℤ) × ((r ≡ raw.I32 z) × (n ≡ number_bits w32 z))
+IsReadAs s t (i64 n) r = (z : ℤ) × ((r ≡ raw.I64 z) × (n ≡ number_bits w64 z))
+IsReadAs s t (f32 n) r = r ≡ raw.F32 n
+IsReadAs s t (f64 n) r = r ≡ raw.F64 n
+IsReadAs s t (v128 n) r = r ≡ raw.V128 n
+IsReadAs s t (function f) r = r ≡ raw.Func f
+IsReadAs s t (reference class null) r = r ≡ raw.Ref class None
+IsReadAs s t (reference class (small n)) r = r ≡ raw.Ref class (Some (handle_of s (length t.scoped) t.drops))
+IsReadAs s t (reference class (at p)) r = r ≡ raw.Ref class (Some (handle_of s (length t.scoped) t.drops))
+
+-- What reading that value of the table answers and leaves. Only a read that makes a root can be refused.
+abbrev pub ReadsValue : {D : Type 0} → Layouts → Table D → Value → Result RawValue RootFault → StoreView → Type 0
+ReadsValue layouts t v (Ok r) new =
+    (makes_root v ≡ true → roots_full t ≡ false) × (IsReadAs new t v r × HoldsTable layouts new (after_read v t))
+ReadsValue layouts t v (Err fault.WrongStore) new = ⊥
+ReadsValue layouts t v (Err fault.Unrooted) new = ⊥
+ReadsValue layouts t v (Err fault.RootsFull) new = (makes_root v ≡ true) × ((roots_full t ≡ true) × HoldsTable layouts new t)
+ReadsValue layouts t v (Err fault.Memory) new = (makes_root v ≡ true) × HoldsTable layouts new t
+
+-- a value may be written there: the handle is live and names a struct with a mutable field of that index
+pub record CanWrite (D : Type 0) (layouts : Layouts) (s : StoreView) (handle : GcRootIndex) (index : ℕ) (r : RawValue) : Type 0 where
+  pub table : Table D
+  pub holds : HoldsTable layouts s table
+  pub before : Value
+  pub has : HasField s table handle index before
+  pub fields : List FieldType
+  pub declared : struct_fields_at s.types has.ty ≡ Some fields
+  pub field : FieldType
+  pub field_is : slice_get fields index ≡ Some field
+  pub can_store : CanStore D layouts s field r
+
+-- the struct that the handle names in a table that the store held has the value there now
+abbrev pub WritesValue : {D : Type 0} → Layouts → StoreView → StoreView → Table D → GcRootIndex → ℕ → RawValue → Type 0
+WritesValue layouts old new t handle index r =
+    (before v : Value) (has : HasField old t handle index before) → RawStands old t r v → HoldsTable layouts new (write has.position index v t)

@@ -1,0 +1,50 @@
+//! Writing into objects.
+
+ghost use Rattle.std.specs.Prelude.{◌≡◌, IsOk};
+ghost use Rattle.gc_model.specs.Table.{Table};
+ghost use Rattle.gc_model.specs.Holds.{HoldsTable};
+ghost use Rattle.gc_store.specs.Values.{CanWrite, WritesValue};
+ghost use Rattle.gc_store.specs.Stores.{IsSameStore};
+
+use crate::field::{field_place, stored_value, write_field};
+use crate::root::{GcRootIndex, RawValue};
+use crate::store::Store;
+use gc_heap::GcHeap;
+use gc_refs::VMGcRef;
+use thiserror::Error;
+
+/// Why a value is not written.
+#[derive(Clone, Copy, Debug, PartialEq, Eq, Error)]
+pub enum WriteFault {
+    #[error("the function table is full")]
+    FuncTableFull,
+    #[error("out of memory")]
+    Memory,
+}
+
+impl<H: GcHeap, D: Drop> Store<H, D> {
+    /// Writes a value into that field of the struct that the handle names. It takes no memory, and no
+    /// function is among the values so far, so that it always succeeds.
+    pub fn write_value(
+        &mut self,
+        handle: GcRootIndex,
+        index: u32,
+        value: RawValue,
+    ) -> Result<(), WriteFault>
+        requires { CanWrite D H.KIND self.old handle index value }
+        ensures ok { IsOk result }
+        ensures writes { (t : Table D) → HoldsTable H.KIND self.old t → WritesValue H.KIND self.old self.new t handle index value }
+        ensures same { IsSameStore self.old self.new }
+    {
+        match self.word_of(handle) {
+            Ok(word) => {
+                let gc_ref = VMGcRef::from_raw_u32(word).unwrap();
+                let place = field_place(&self.heap, &self.types, &gc_ref, index);
+                let stored = stored_value(&self.roots, value);
+                write_field(&mut self.heap, &gc_ref, place.offset, stored);
+                Ok(())
+            }
+            Err(_) => unreachable!(),
+        }
+    }
+}
