@@ -1,9 +1,12 @@
 pub mod Content
 pub mod Lists
 pub mod Types
+pub mod Placings
+pub mod HoldsParts
 pub mod HoldsStart
 pub mod HoldsDeclare
 pub mod HoldsHeap
+pub mod HoldsPush
 pub mod HoldsMake
 pub mod Live
 pub mod Layouts

@@ -1,18 +1,16 @@
 -- A handle is live exactly where the entry at its index has its generation.
-use Rattle.std.proofs.Common.{inl, inr, ◌≡◌, ◌≢◌, ℕ, ◌+◌, ◌<◌, ◌≤◌, ◌⊎◌, List, [], ◌∷◌, Bool, true, false, cond, eqb, Option, Some, None, Result, Ok, Err, length, sym, ap, ◌∙◌, refl, subst, arith, zero, suc}
+use Rattle.std.proofs.Common.{inl, inr, ◌≡◌, ◌≢◌, ℕ, ◌+◌, ◌<◌, List, [], ◌∷◌, true, false, cond, eqb, Some, None, length, sym, ap, ◌∙◌, refl, subst, arith, zero, suc}
 use Rattle.std.specs.List.{slice_get}
 use Rattle.std.proofs.lemmas.Grind.{common_steps}
-use Rattle.std.proofs.lemmas.Option.{none-some, slice_get_within, slice_get_past, slice_get_cases}
+use Rattle.std.proofs.lemmas.Option.{none-some, slice_get_within, slice_get_cases}
 use Rattle.gc_types.specs.declared.kind.Layouts.{Layouts}
 use Rattle.gc_model.specs.declared.RootEntry.{RootEntry}
 use Rattle.gc_types.specs.declared.value.FieldType.{FieldType}
 use Rattle.gc_types.specs.Declarations.{Declaration, struct_fields_at}
-use Rattle.gc_types.specs.Layouts.{struct_base}
 use Rattle.gc_model.specs.Values.{Reference, at, Value, Object, struct}
 use Rattle.gc_model.specs.Table.{Table, Scoped, Push}
 use Rattle.gc_model.specs.Live.{rooted, rooted_among}
 use Rattle.gc_model.specs.Views.{StoreView, HeapObject}
-use Rattle.gc_model.proofs.Layouts.{length-field_layouts}
 use Rattle.gc_model.specs.Holds.{Placing, IsWord, Holds, EntryStands, Stands, StructStands}
 
 -- each root's serial is of a push whose index is the root's, counted from k
@@ -108,7 +106,7 @@ rooted_among-some serial (x ∷ roots) r e =
     ] e
 
 stands_fields : (layouts : Layouts) (types : List Declaration) (place : Placing) (ty : ℕ) (values : List Value) (h : HeapObject) → StructStands layouts types place ty values h → (fields : List FieldType) × ((struct_fields_at types ty ≡ Some fields) × (length values ≡ length fields))
-stands_fields layouts types place ty values h stands = (stands.fields, (stands.declared, stands.values_lie.same_count ∙ length-field_layouts (struct_base layouts) stands.fields))
+stands_fields layouts types place ty values h stands = (stands.fields, (stands.declared, stands.values_lie.same_count))
 
 -- a struct that a live root names has as many values as its type has fields
 pub rooted_struct : {D : Type 0} (layouts : Layouts) (s : StoreView) (t : Table D) (place : Placing) → Holds layouts s t place → (serial position ty : ℕ) (values : List Value) → rooted t serial ≡ Some (at position) → slice_get t.objects position ≡ Some (struct ty values) → (fields : List FieldType) × ((struct_fields_at t.types ty ≡ Some fields) × (length values ≡ length fields))
