@@ -8,6 +8,7 @@ pub mod HoldsDeclare
 pub mod HoldsHeap
 pub mod HoldsPush
 pub mod HoldsMake
+pub mod HoldsLeave
 pub mod Live
 pub mod Layouts
 pub mod ByteLemmas

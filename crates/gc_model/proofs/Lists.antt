@@ -1,5 +1,5 @@
 -- Elements of a list that had one more put at its end.
-use Rattle.std.proofs.Common.{◌≡◌, ℕ, ◌⊎◌, inl, inr, List, [], ◌∷◌, ◌++◌, length, Some, ap, refl, arith, suc, zero}
+use Rattle.std.proofs.Common.{◌≡◌, ℕ, ◌⊎◌, inl, inr, List, [], ◌∷◌, ◌++◌, length, take, Some, ap, refl, arith, suc, zero}
 use Rattle.std.specs.List.{slice_get}
 use Rattle.std.proofs.lemmas.Option.{none-some}
 
@@ -21,3 +21,10 @@ slice_get-push_cases [] y (suc i) x e = absurd (none-some x e)
 slice_get-push_cases (z ∷ xs) y zero x e = inl e
 slice_get-push_cases (z ∷ xs) y (suc i) x e =
     elim (slice_get-push_cases xs y i x e) [ inl old ↦ inl old | inr new ↦ inr (ap suc new.0, new.1) ]
+
+-- what stands in the front of a list stands in the list
+pub slice_get-take : {X : Type 0} (n : ℕ) (xs : List X) (i : ℕ) (x : X) → slice_get (take n xs) i ≡ Some x → slice_get xs i ≡ Some x
+slice_get-take zero xs i x e = absurd (none-some x e)
+slice_get-take (suc n) [] i x e = absurd (none-some x e)
+slice_get-take (suc n) (y ∷ xs) zero x e = e
+slice_get-take (suc n) (y ∷ xs) (suc i) x e = slice_get-take n xs i x e
