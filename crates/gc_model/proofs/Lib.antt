@@ -12,3 +12,5 @@ pub mod HoldsLeave
 pub mod Live
 pub mod Layouts
 pub mod ByteLemmas
+pub mod Encoding
+pub mod Lying
