@@ -14,3 +14,4 @@ pub mod Layouts
 pub mod ByteLemmas
 pub mod Encoding
 pub mod Lying
+pub mod FieldsLie
