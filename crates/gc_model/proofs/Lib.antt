@@ -9,6 +9,8 @@ pub mod HoldsHeap
 pub mod HoldsPush
 pub mod HoldsMake
 pub mod HoldsLeave
+pub mod Changes
+pub mod HoldsWrite
 pub mod Live
 pub mod Layouts
 pub mod ByteLemmas
