@@ -12,6 +12,8 @@ pub mod HoldsLeave
 pub mod Changes
 pub mod HoldsWrite
 pub mod Live
+pub mod Words
+pub mod HeldStructs
 pub mod Layouts
 pub mod ByteLemmas
 pub mod Encoding

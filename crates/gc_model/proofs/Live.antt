@@ -105,20 +105,14 @@ rooted_among-some serial (x ∷ roots) r e =
       | false ↦ λ h. let found = rooted_among-some serial roots r h in (suc found.0, (found.1.0, found.1.1))
     ] e
 
-stands_fields : (layouts : Layouts) (types : List Declaration) (place : Placing) (ty : ℕ) (values : List Value) (h : HeapObject) → StructStands layouts types place ty values h → (fields : List FieldType) × ((struct_fields_at types ty ≡ Some fields) × (length values ≡ length fields))
-stands_fields layouts types place ty values h stands = (stands.fields, (stands.declared, stands.values_lie.same_count))
-
--- a struct that a live root names has as many values as its type has fields
-pub rooted_struct : {D : Type 0} (layouts : Layouts) (s : StoreView) (t : Table D) (place : Placing) → Holds layouts s t place → (serial position ty : ℕ) (values : List Value) → rooted t serial ≡ Some (at position) → slice_get t.objects position ≡ Some (struct ty values) → (fields : List FieldType) × ((struct_fields_at t.types ty ≡ Some fields) × (length values ≡ length fields))
-rooted_struct {D} layouts s t place holds serial position ty values live object =
-    let found = rooted_among-some serial t.scoped (at position) live in
+-- what a live root names has a word, which is not null
+pub rooted_word : {D : Type 0} (layouts : Layouts) (s : StoreView) (t : Table D) (place : Placing) → Holds layouts s t place → (serial : ℕ) (r : Reference) → rooted t serial ≡ Some r → (word : ℕ) × (IsWord place r word × (0 < word))
+rooted_word layouts s t place holds serial r live =
+    let found = rooted_among-some serial t.scoped r live in
     let entry : (e : RootEntry) × (slice_get s.scoped found.0 ≡ Some e) =
     elim ((slice_get_cases s.scoped found.0).1) [
       | inl here ↦ (here.0, here.2)
       | inr past ↦ absurd (omega (arith, past.0, holds.scoped.same_count, slice_get_within t.scoped found.0 found.1.0 found.1.1.0))
     ] in
     let stands = holds.scoped.each found.0 entry.0 found.1.0 entry.1 found.1.1.0 in
-    let placed : place position ≡ Some entry.0.word = subst (λ (r : Reference). IsWord place r entry.0.word) found.1.1.1 stands.word in
-    let held = holds.objects.placed position entry.0.word placed in
-    let same : held.entry ≡ struct ty values = grind (arith, sym held.in_table ∙ object) in
-    stands_fields layouts t.types place ty values held.object (subst (λ (o : Object D). Stands layouts t.types place o held.object) same held.stands)
+    (entry.0.word, (subst (λ (q : Reference). IsWord place q entry.0.word) found.1.1.1 stands.word, stands.not_null))
