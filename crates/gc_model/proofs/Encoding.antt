@@ -1,21 +1,18 @@
 -- Values that are written lie where they were written, and others lie where they lay.
-use Rattle.std.proofs.Common.{◌≡◌, ℕ, ◌+◌, ◌<◌, ◌≤◌, ◌^◌, ◌⊎◌, inl, inr, List, length, take, drop, Bool, true, false, sym, ap, ◌∙◌, refl, subst, arith}
+use Rattle.std.proofs.Common.{◌≡◌, ℕ, ◌+◌, ◌<◌, ◌≤◌, ◌^◌, ◌⊎◌, inl, inr, List, length, take, drop, sym, ap, ◌∙◌, subst}
 use Rattle.std.specs.Int.{w32, w64, from_le_bytes, to_le_bytes}
 use Rattle.std.proofs.lemmas.Nat.{from_le_bytes-to_le_bytes_4, from_le_bytes-to_le_bytes_8}
 use Rattle.gc_types.specs.declared.value.StorageType.{StorageType}
 use Rattle.gc_types.specs.declared.value.StorageType.TheVariants as storage
-use Rattle.gc_types.specs.declared.value.ValType.{ValType}
 use Rattle.gc_types.specs.declared.value.ValType.TheVariants as val
 use Rattle.gc_types.specs.Layouts.{storage_width}
-use Rattle.gc_model.specs.declared.GcClass.{GcClass}
 use Rattle.gc_model.specs.declared.GcClass.TheVariants.{Any, Extern, Exn}
-use Rattle.gc_model.specs.Values.{Reference, Value, i32, i64, f32, f64, v128, function, reference}
+use Rattle.gc_model.specs.Values.{Value, i32, i64, f32, f64, v128, function, reference}
 use Rattle.gc_model.specs.Views.{u32_at, u64_at}
 use Rattle.gc_model.specs.Bytes.{put_bytes, SameBytes}
-use Rattle.gc_model.specs.Fits.{fits}
-use Rattle.gc_model.specs.Holds.{Placing, IsWord, Lies, LiesI32, LiesI64, LiesAny, LiesOfClass}
-use Rattle.gc_model.specs.Encoded.{IsEncoded, EncodesI32, EncodesI64, EncodesAny, EncodesOfClass}
-use Rattle.gc_model.proofs.ByteLemmas.{part_in_same, u32_in_same, part-put_bytes, put_bytes-below, put_bytes-above}
+use Rattle.gc_model.specs.Holds.{Placing, IsWord, Lies, LiesI32, LiesI64, LiesAny}
+use Rattle.gc_model.specs.Encoded.{IsEncoded, EncodesI32, EncodesI64, EncodesAny}
+use Rattle.gc_model.proofs.ByteLemmas.{part_in_same, part-put_bytes, put_bytes-below, put_bytes-above}
 
 -- two ranges have no place in common: one ends before the other begins
 abbrev pub IsApart : ℕ → ℕ → ℕ → ℕ → Type 0

@@ -1,20 +1,20 @@
 -- What a reader of a struct knows of its bytes, and what the table knows of its values.
-use Rattle.std.proofs.Common.{◌≡◌, ℕ, ◌+◌, ◌-◌, ◌<◌, ◌≤◌, inl, inr, List, length, Option, Some, None, Bool, true, sym, ap, ◌∙◌, refl, subst, arith}
+use Rattle.std.proofs.Common.{◌≡◌, ℕ, ◌+◌, ◌-◌, ◌≤◌, List, length, Some, true, sym, ◌∙◌, subst, arith}
 use Rattle.std.specs.List.{slice_get}
 use Rattle.std.specs.FinMap.{get}
 use Rattle.gc_types.specs.declared.value.FieldType.{FieldType}
 use Rattle.gc_types.specs.declared.kind.Layouts.{Layouts}
 use Rattle.gc_types.specs.declared.layout.FieldLayout.{FieldLayout}
 use Rattle.gc_types.specs.Declarations.{Declaration, struct_fields_at}
-use Rattle.gc_types.specs.Layouts.{struct_base, field_layouts, fields_end}
-use Rattle.gc_model.specs.Values.{Reference, at, Value, Object, struct, array, host, exception}
+use Rattle.gc_types.specs.Layouts.{struct_base, field_layouts, fields_end, storage_width}
+use Rattle.gc_model.specs.Values.{at, Value, Object, struct, array, host, exception}
 use Rattle.gc_model.specs.Table.{Table}
 use Rattle.gc_model.specs.Live.{rooted}
 use Rattle.gc_model.specs.Fits.{fits}
-use Rattle.gc_model.specs.Views.{StoreView, HeapView, HeapObject}
-use Rattle.gc_model.specs.Holds.{Placing, IsWord, Lies, Holds, HoldsTable, HeldAt, Stands, StructStands}
-use Rattle.gc_model.proofs.Layouts.{length-field_layouts}
-use Rattle.gc_model.proofs.FieldsLie.{IsField}
+use Rattle.gc_model.specs.Views.{StoreView, HeapObject}
+use Rattle.gc_model.specs.Holds.{Placing, Lies, Holds, HoldsTable, Stands, StructStands}
+use Rattle.gc_model.proofs.Layouts.{length-field_layouts, stored_size-le}
+use Rattle.gc_model.proofs.FieldsLie.{IsField, field_range}
 use Rattle.gc_model.proofs.Lists.{slice_get-same_length}
 use Rattle.gc_model.proofs.Live.{rooted_word}
 use Rattle.gc_model.proofs.Lying.{lies_fits}
@@ -50,6 +50,12 @@ read_lies layouts types place ty values h stands index value e =
 -- each field of a struct has a value
 pub field_value : (layouts : Layouts) (types : List Declaration) (place : Placing) (ty : ℕ) (values : List Value) (h : HeapObject) (stands : StructStands layouts types place ty values h) → (index : ℕ) (field : FieldType) → slice_get stands.fields index ≡ Some field → (value : Value) × (slice_get values index ≡ Some value)
 field_value layouts types place ty values h stands index field e = slice_get-same_length stands.fields values index field (sym stands.values_lie.same_count) e
+
+-- a field's bytes lie inside the struct's data
+pub field_inside : (layouts : Layouts) (types : List Declaration) (place : Placing) (ty : ℕ) (values : List Value) (h : HeapObject) (stands : StructStands layouts types place ty values h) → (index : ℕ) (field : FieldType) (layout : FieldLayout) → IsField (struct_base layouts) stands.fields index field layout → layout.offset - struct_base layouts + storage_width field.element_type ≤ length h.bytes
+field_inside layouts types place ty values h stands index field layout is =
+    let range = field_range (struct_base layouts) stands.fields index field layout is in
+    omega (arith, range.low, range.high, stands.size, stored_size-le layouts (fields_end (struct_base layouts) stands.fields))
 
 -- What the table has at a position: a struct of a declared type, each of whose values fits its field.
 pub record IsTypedStruct {D : Type 0} (t : Table D) (position : ℕ) : Type 0 where

@@ -1,16 +1,13 @@
 -- A store that holds a table holds it after a scope was left.
-use Rattle.std.proofs.Common.{◌≡◌, ℕ, ◌+◌, ◌-◌, ◌^◌, ◌<◌, ◌≤◌, ◌⊎◌, inl, inr, List, [], ◌∷◌, Bool, true, false, cond, Option, Some, None, length, take, min, sym, ap, ◌∙◌, refl, subst, arith, zero, suc}
+use Rattle.std.proofs.Common.{◌≡◌, ℕ, ◌+◌, ◌-◌, ◌^◌, ◌<◌, ◌≤◌, ◌⊎◌, inl, inr, true, false, cond, Some, length, take, min, sym, ap, ◌∙◌, refl, subst, arith}
 use Rattle.std.specs.Prelude.{nat_lt}
 use Rattle.std.specs.List.{slice_get}
 use Rattle.std.proofs.lemmas.Bool.Decides.{nat_tests}
-use Rattle.std.proofs.lemmas.Grind.{common_steps}
-use Rattle.std.proofs.lemmas.Option.{none-some}
 use Rattle.std.proofs.lemmas.List.{length-take}
 use Rattle.gc_types.specs.declared.kind.Layouts.{Layouts}
-use Rattle.gc_model.specs.declared.RootEntry.{RootEntry}
-use Rattle.gc_model.specs.Table.{Table, Scoped, Push, leave}
+use Rattle.gc_model.specs.Table.{Table, Push, leave}
 use Rattle.gc_model.specs.Views.{StoreView, HeapView}
-use Rattle.gc_model.specs.Holds.{Placing, Holds, EntryStands, IsPast, ScopedHold}
+use Rattle.gc_model.specs.Holds.{Placing, Holds, IsPast, ScopedHold}
 use Rattle.gc_model.proofs.Lists.{slice_get-take}
 use Rattle.gc_model.proofs.HoldsParts.{SameHeld, objects-same, kind-same, objects-rooted, kind-rooted, nothing-kept}
 

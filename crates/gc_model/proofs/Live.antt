@@ -1,17 +1,15 @@
 -- A handle is live exactly where the entry at its index has its generation.
-use Rattle.std.proofs.Common.{inl, inr, ◌≡◌, ◌≢◌, ℕ, ◌+◌, ◌<◌, List, [], ◌∷◌, true, false, cond, eqb, Some, None, length, sym, ap, ◌∙◌, refl, subst, arith, zero, suc}
+use Rattle.std.proofs.Common.{inl, inr, ◌≡◌, ◌≢◌, ℕ, ◌+◌, ◌<◌, List, [], ◌∷◌, true, false, cond, eqb, Some, None, sym, ap, ◌∙◌, refl, subst, arith, zero, suc}
 use Rattle.std.specs.List.{slice_get}
 use Rattle.std.proofs.lemmas.Grind.{common_steps}
 use Rattle.std.proofs.lemmas.Option.{none-some, slice_get_within, slice_get_cases}
 use Rattle.gc_types.specs.declared.kind.Layouts.{Layouts}
 use Rattle.gc_model.specs.declared.RootEntry.{RootEntry}
-use Rattle.gc_types.specs.declared.value.FieldType.{FieldType}
-use Rattle.gc_types.specs.Declarations.{Declaration, struct_fields_at}
-use Rattle.gc_model.specs.Values.{Reference, at, Value, Object, struct}
+use Rattle.gc_model.specs.Values.{Reference}
 use Rattle.gc_model.specs.Table.{Table, Scoped, Push}
 use Rattle.gc_model.specs.Live.{rooted, rooted_among}
-use Rattle.gc_model.specs.Views.{StoreView, HeapObject}
-use Rattle.gc_model.specs.Holds.{Placing, IsWord, Holds, EntryStands, Stands, StructStands}
+use Rattle.gc_model.specs.Views.{StoreView}
+use Rattle.gc_model.specs.Holds.{Placing, IsWord, Holds, EntryStands}
 
 -- each root's serial is of a push whose index is the root's, counted from k
 abbrev pub AreIndexed : List Push → ℕ → List Scoped → Type 0

@@ -1,8 +1,7 @@
 -- A value lies in equal bytes, and fits its field's type.
-use Rattle.std.proofs.Common.{◌≡◌, ℕ, ◌+◌, ◌≤◌, List, length, Bool, true, false, sym, ap, ◌∙◌, refl, subst}
+use Rattle.std.proofs.Common.{◌≡◌, ℕ, ◌+◌, ◌≤◌, List, length, true, sym, ◌∙◌, refl, subst}
 use Rattle.gc_types.specs.declared.value.StorageType.{StorageType}
 use Rattle.gc_types.specs.declared.value.StorageType.TheVariants as storage
-use Rattle.gc_types.specs.declared.value.ValType.{ValType}
 use Rattle.gc_types.specs.declared.value.ValType.TheVariants as val
 use Rattle.gc_types.specs.Layouts.{storage_width}
 use Rattle.gc_model.specs.declared.GcClass.TheVariants.{Any, Extern, Exn}
