@@ -1,8 +1,7 @@
 -- A heap's content after an object was put at a place.
-use Rattle.std.proofs.Common.{◌≡◌, ◌≢◌, ℕ, ◌+◌, ◌<◌, Option, Some, None, Bool, true, false, cond, sym, ap, ◌∙◌, refl, arith}
-use Rattle.std.specs.Ordering.{nat_cmp, eq_by_cmp, is_eq}
-use Rattle.std.specs.FinMap.{gets, FinMap, get, insert, get-insert, nat_cmp-IsAntisymmetric}
-use Rattle.std.specs.Cmp.{nat_cmp_total}
+use Rattle.std.proofs.Common.{◌≡◌, ◌≢◌, ℕ, Some, arith}
+use Rattle.std.specs.Ordering.{nat_cmp}
+use Rattle.std.specs.FinMap.{gets, FinMap, get, insert}
 use Rattle.std.proofs.lemmas.Grind.{common_steps}
 use Rattle.gc_model.specs.Views.{HeapObject}
 

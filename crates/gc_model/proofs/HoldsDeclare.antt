@@ -1,18 +1,16 @@
 -- A store that holds a table holds it with one more type.
-use Rattle.std.proofs.Common.{◌≡◌, ℕ, ◌+◌, ◌<◌, ◌≤◌, List, [], ◌∷◌, ◌++◌, Option, Some, None, sym, ap, ◌∙◌, refl, subst, arith}
-use Rattle.std.specs.Prelude.{All}
+use Rattle.std.proofs.Common.{◌≡◌, ℕ, List, [], ◌∷◌, ◌++◌, Some, sym, ap, ◌∙◌, subst, arith}
 use Rattle.std.specs.List.{slice_get}
 use Rattle.std.proofs.lemmas.Option.{slice_get_within}
-use Rattle.gc_types.specs.declared.value.FieldType.{FieldType}
 use Rattle.gc_types.specs.declared.kind.Layouts.{Layouts}
 use Rattle.gc_types.specs.declared.kind.Layouts.TheVariants.{Null, Counting, Copying}
-use Rattle.gc_types.specs.Declarations.{Declaration, plain_struct, IsMutableI32, struct_fields_at}
-use Rattle.gc_model.specs.Values.{Value, Object, struct, array, host, exception}
+use Rattle.gc_types.specs.Declarations.{Declaration}
+use Rattle.gc_model.specs.Values.{Object, struct, array, host, exception}
 use Rattle.gc_model.specs.Table.{Table, declare}
-use Rattle.gc_model.specs.Sizes.{next_place, next_after}
 use Rattle.gc_model.specs.Views.{StoreView, HeapView, HeapObject}
-use Rattle.gc_model.specs.Holds.{Placing, Holds, KindHolds, NullHolds, HeldAt, Stands, StructStands, EntryStands, ObjectsHold}
-use Rattle.gc_model.proofs.Types.{struct_fields_at-push, IsTyped, next_after-push_type, OnlyNumbers-push}
+use Rattle.gc_model.specs.Holds.{Placing, Holds, KindHolds, NullHolds, Stands, ObjectsHold}
+use Rattle.gc_model.proofs.Types.{struct_fields_at-push, IsTyped, next_after-push_type, IsBuiltDeclaration, OnlyBuilt-push}
+use Rattle.gc_model.proofs.HoldsParts.{scoped-kept, pushes-kept, nothing-kept}
 
 -- the store with one more type
 abbrev pub with_type : Declaration → StoreView → StoreView
@@ -55,48 +53,43 @@ declare_by_kind Null d t place heap objects null = record {
 declare_by_kind Counting d t place heap objects kind = tt
 declare_by_kind Copying d t place heap objects kind = tt
 
-pub holds_declare : {D : Type 0} (layouts : Layouts) (s : StoreView) (t : Table D) (place : Placing) (fields : List FieldType) → All IsMutableI32 fields → Holds layouts s t place → Holds layouts (with_type (plain_struct fields) s) (declare (plain_struct fields) t) place
-holds_declare layouts s t place fields numbers holds =
-    let d : Declaration = plain_struct fields in
-    record {
-      types = ap (λ types. types ++ d ∷ []) holds.types;
-      numbers = record {
-        generation = holds.numbers.generation;
-        first = holds.numbers.first;
-        max_scoped = holds.numbers.max_scoped;
-        max_owned = holds.numbers.max_owned;
-        made = holds.numbers.made;
-        capacity = holds.numbers.capacity;
-        no_pages = holds.numbers.no_pages;
-        no_objects = holds.numbers.no_objects;
-        first_fits = holds.numbers.first_fits;
-      };
-      objects = record {
-        placed = λ position word e. let held = holds.objects.placed position word e in record {
-          object = held.object;
-          entry = held.entry;
-          in_heap = held.in_heap;
-          in_table = held.in_table;
-          stands = stands-push_type layouts t.types d place held.entry held.object held.stands;
-        };
-        only = holds.objects.only;
-        injective = holds.objects.injective;
-        even = holds.objects.even;
-      };
-      by_kind = declare_by_kind layouts d t place s.heap holds.objects holds.by_kind;
-      scoped = record {
-        same_count = holds.scoped.same_count;
-        each = λ i entry root e f. let stands = holds.scoped.each i entry root e f in record { pushed = stands.pushed; word = stands.word; not_null = stands.not_null };
-      };
-      pushes = record { past = holds.pushes.past; apart = holds.pushes.apart };
-      nothing_else = record {
-        owns = holds.nothing_else.owns;
-        frames = holds.nothing_else.frames;
-        globals = holds.nothing_else.globals;
-        owned = holds.nothing_else.owned;
-        pending = holds.nothing_else.pending;
-        funcs = holds.nothing_else.funcs;
-        blocks = holds.nothing_else.blocks;
-      };
-      only_numbers = OnlyNumbers-push t.types fields holds.only_numbers numbers;
-    }
+-- a declaration keeps that each object stands for the table's
+objects-declared : {D : Type 0} (layouts : Layouts) (d : Declaration) (t : Table D) (place : Placing) (heap : HeapView) → ObjectsHold layouts t place heap → ObjectsHold layouts (declare d t) place heap
+objects-declared layouts d t place heap objects = record {
+  placed = λ position word e. let held = objects.placed position word e in record {
+    object = held.object;
+    entry = held.entry;
+    in_heap = held.in_heap;
+    in_table = held.in_table;
+    stands = stands-push_type layouts t.types d place held.entry held.object held.stands;
+  };
+  only = objects.only;
+  injective = objects.injective;
+  even = objects.even;
+}
+
+pub holds_declare : {D : Type 0} (layouts : Layouts) (s : StoreView) (t : Table D) (place : Placing) (d : Declaration) → IsBuiltDeclaration d → Holds layouts s t place → Holds layouts (with_type d s) (declare d t) place
+holds_declare layouts s t place d built holds = record {
+  types = ap (λ types. types ++ d ∷ []) holds.types;
+  numbers = record {
+    generation = holds.numbers.generation;
+    first = holds.numbers.first;
+    max_scoped = holds.numbers.max_scoped;
+    max_owned = holds.numbers.max_owned;
+    made = holds.numbers.made;
+    capacity = holds.numbers.capacity;
+    no_pages = holds.numbers.no_pages;
+    no_objects = holds.numbers.no_objects;
+    first_fits = holds.numbers.first_fits;
+    few_roots = holds.numbers.few_roots;
+    scoped_within = holds.numbers.scoped_within;
+    drops_within = holds.numbers.drops_within;
+  };
+  objects = objects-declared layouts d t place s.heap holds.objects;
+  by_kind = declare_by_kind layouts d t place s.heap holds.objects holds.by_kind;
+  scoped = scoped-kept t place place s.scoped _ _ _ _ (λ position word e. e) holds.scoped;
+  pushes = pushes-kept t place _ _ _ _ holds.pushes;
+  no_hosts = holds.no_hosts;
+  nothing_else = nothing-kept t place _ _ _ _ _ _ _ holds.nothing_else;
+  only_built = OnlyBuilt-push t.types d holds.only_built built;
+}

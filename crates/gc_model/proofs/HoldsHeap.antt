@@ -1,17 +1,17 @@
 -- A store whose heap is made holds the table whose heap is made.
-use Rattle.std.proofs.Common.{◌≡◌, ℕ, ◌+◌, ◌*◌, ◌<◌, ◌≤◌, List, [], Bool, true, false, cond, Option, Some, None, length, sym, ap, ◌∙◌, refl, subst, arith}
+use Rattle.std.proofs.Common.{◌≡◌, ℕ, ◌+◌, ◌*◌, [], Bool, true, false, cond, Some, length, sym, ap, ◌∙◌, refl, arith}
 use Rattle.std.specs.List.{slice_get}
 use Rattle.std.specs.Ordering.{nat_cmp}
 use Rattle.std.specs.FinMap.{empty, get-empty}
 use Rattle.std.proofs.lemmas.Option.{none-some}
 use Rattle.gc_types.specs.declared.kind.Layouts.{Layouts}
 use Rattle.gc_types.specs.declared.kind.Layouts.TheVariants.{Null, Counting, Copying}
-use Rattle.gc_model.specs.Values.{Object}
 use Rattle.gc_model.specs.Table.{Table, make_heap}
 use Rattle.gc_model.specs.Allocation.{page}
 use Rattle.gc_model.specs.Sizes.{next_after}
-use Rattle.gc_model.specs.Views.{StoreView, HeapView, HeapObject}
-use Rattle.gc_model.specs.Holds.{Placing, Holds, KindHolds, NullHolds, HeldAt, ObjectsHold}
+use Rattle.gc_model.specs.Views.{StoreView, HeapView}
+use Rattle.gc_model.specs.Holds.{Placing, Holds, KindHolds, ObjectsHold}
+use Rattle.gc_model.proofs.HoldsParts.{scoped-kept, pushes-kept, nothing-kept}
 
 -- a heap that was just made with so many pages
 pub record IsMadeHeap (layouts : Layouts) (heap : HeapView) (pages : ℕ) : Type 0 where
@@ -54,6 +54,9 @@ holds_heap layouts s t place heap unmade made holds =
         no_pages = λ h. absurd (cc);
         no_objects = λ h. none;
         first_fits = holds.numbers.first_fits;
+        few_roots = holds.numbers.few_roots;
+        scoped_within = holds.numbers.scoped_within;
+        drops_within = holds.numbers.drops_within;
       };
       objects = record {
         placed = λ position word e. absurd (nowhere position word e);
@@ -62,19 +65,9 @@ holds_heap layouts s t place heap unmade made holds =
         even = λ word object e. absurd (none-some object (sym (get-empty nat_cmp word) ∙ ap (λ (m : _). Rattle.std.specs.FinMap.get m word) (sym made.content) ∙ e));
       };
       by_kind = made_by_kind layouts t place heap t.first none made;
-      scoped = record {
-        same_count = holds.scoped.same_count;
-        each = λ i entry root e f. let stands = holds.scoped.each i entry root e f in record { pushed = stands.pushed; word = stands.word; not_null = stands.not_null };
-      };
-      pushes = record { past = holds.pushes.past; apart = holds.pushes.apart };
-      nothing_else = record {
-        owns = holds.nothing_else.owns;
-        frames = holds.nothing_else.frames;
-        globals = holds.nothing_else.globals;
-        owned = holds.nothing_else.owned;
-        pending = holds.nothing_else.pending;
-        funcs = holds.nothing_else.funcs;
-        blocks = holds.nothing_else.blocks;
-      };
-      only_numbers = holds.only_numbers;
+      scoped = scoped-kept t place place s.scoped _ _ _ _ (λ position word e. e) holds.scoped;
+      pushes = pushes-kept t place _ _ _ _ holds.pushes;
+      no_hosts = holds.no_hosts;
+      nothing_else = nothing-kept t place _ _ _ _ _ _ _ holds.nothing_else;
+      only_built = holds.only_built;
     }

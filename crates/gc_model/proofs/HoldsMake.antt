@@ -1,24 +1,23 @@
 -- A store that holds a table holds it with one more struct, named by a new scoped root.
-use Rattle.std.proofs.Common.{◌≡◌, ◌≢◌, ℕ, ◌+◌, ◌-◌, ◌*◌, ◌%◌, ◌<◌, ◌≤◌, ◌^◌, ◌⊎◌, inl, inr, List, [], ◌∷◌, ◌++◌, Bool, true, false, cond, nat_eq, eqb, Option, Some, None, length, sym, ap, ◌∙◌, refl, subst, arith, suc}
-use Rattle.std.specs.List.{slice_get}
-use Rattle.std.specs.Ordering.{nat_cmp}
-use Rattle.std.specs.FinMap.{FinMap, get, insert}
+use Rattle.std.proofs.Common.{◌≡◌, ◌≢◌, ℕ, ◌+◌, ◌%◌, ◌<◌, ◌⊎◌, inl, inr, true, false, cond, nat_eq, eqb, Some, None, length, sym, ap, ◌∙◌, refl, subst, arith}
+use Rattle.std.specs.FinMap.{get}
 use Rattle.std.proofs.lemmas.Grind.{common_steps}
-use Rattle.std.proofs.lemmas.Option.{none-some, slice_get_within, slice_get_past}
+use Rattle.std.proofs.lemmas.Option.{none-some, slice_get_within}
 use Rattle.std.proofs.lemmas.List.{length_push}
 use Rattle.gc_types.specs.declared.kind.Layouts.{Layouts}
 use Rattle.gc_types.specs.declared.kind.Layouts.TheVariants.{Null, Counting, Copying}
-use Rattle.gc_types.specs.Declarations.{Declaration}
 use Rattle.gc_types.specs.Layouts.{round_up}
-use Rattle.gc_model.specs.declared.RootEntry.{RootEntry}
-use Rattle.gc_model.specs.Values.{Reference, null, small, at, Value, i32, i64, f32, f64, v128, function, reference, Object, struct, array, host, exception}
-use Rattle.gc_model.specs.Table.{Table, Scoped, Push, make, add_object}
-use Rattle.gc_model.specs.Sizes.{next_after, object_size, alignment}
+use Rattle.gc_model.specs.Values.{at, Object}
+use Rattle.gc_model.specs.Table.{Table, make, add_object}
+use Rattle.gc_model.specs.Live.{roots_full}
+use Rattle.gc_model.specs.Sizes.{object_size, alignment}
 use Rattle.gc_model.specs.Views.{StoreView, HeapView, HeapObject}
-use Rattle.gc_model.specs.Holds.{Placing, IsWord, Lies, Holds, KindHolds, NullHolds, HeldAt, Stands, StructStands, ValuesLie, EntryStands, ObjectsHold, IsPast, PushesDiffer, ScopedHold}
-use Rattle.gc_model.proofs.Content.{get-put_same, get-put_other}
-use Rattle.gc_model.proofs.Lists.{slice_get-push_old, slice_get-push_new, slice_get-push_cases}
+use Rattle.gc_model.specs.Holds.{Placing, Holds, KindHolds, HeldAt, Stands}
+use Rattle.gc_model.proofs.Lists.{slice_get-push_old, slice_get-push_new}
 use Rattle.gc_model.proofs.Types.{next_after-push}
+use Rattle.gc_model.proofs.Placings.{IsWithin, stands-more}
+use Rattle.gc_model.proofs.HoldsParts.{same_held-itself, scoped-kept, pushes-kept, nothing-kept}
+use Rattle.gc_model.proofs.HoldsPush.{with_root, holds_push}
 
 -- the placing with one more position
 abbrev pub placed_at : Placing → ℕ → ℕ → Placing
@@ -33,40 +32,6 @@ placed_at-old place n word position ne = grind (arith, common_steps)
 placed_at-cases : (place : Placing) (n word position w : ℕ) → placed_at place n word position ≡ Some w → ((position ≡ n) × (word ≡ w)) ⊎ ((position ≢ n) × (place position ≡ Some w))
 placed_at-cases place n word position w e = grind (arith, common_steps)
 
--- each position that is placed before is placed alike after
-abbrev pub IsWithin : Placing → Placing → Type 0
-IsWithin place place' = (position word : ℕ) → place position ≡ Some word → place' position ≡ Some word
-
-is_word-more : (place place' : Placing) (r : Reference) (word : ℕ) → IsWithin place place' → IsWord place r word → IsWord place' r word
-is_word-more place place' null word within is = is
-is_word-more place place' (small n) word within is = is
-is_word-more place place' (at p) word within is = within p word is
-
-lies-more : (place place' : Placing) (v : Value) (bytes : List ℕ) (offset : ℕ) → IsWithin place place' → Lies place v bytes offset → Lies place' v bytes offset
-lies-more place place' (i32 n) bytes offset within lies = lies
-lies-more place place' (i64 n) bytes offset within lies = lies
-lies-more place place' (f32 n) bytes offset within lies = lies
-lies-more place place' (f64 n) bytes offset within lies = lies
-lies-more place place' (v128 n) bytes offset within lies = lies
-lies-more place place' (function f) bytes offset within lies = lies
-lies-more place place' (reference class r) bytes offset within lies = lies
-
-stands-more : {D : Type 0} (layouts : Layouts) (types : List Declaration) (place place' : Placing) (entry : Object D) (h : HeapObject) → IsWithin place place' → Stands layouts types place entry h → Stands layouts types place' entry h
-stands-more layouts types place place' (struct ty values) h within stands = record {
-  fields = stands.fields;
-  declared = stands.declared;
-  kind = stands.kind;
-  same_type = stands.same_type;
-  size = stands.size;
-  values_lie = record {
-    same_count = stands.values_lie.same_count;
-    each = λ i layout value e f. lies-more place place' value h.bytes _ within (stands.values_lie.each i layout value e f);
-  };
-}
-stands-more layouts types place place' (array ty values) h within stands = stands
-stands-more layouts types place place' (host value) h within stands = stands
-stands-more layouts types place place' (exception ty tag values) h within stands = stands
-
 -- What an allocation and its writes left: one more object, which stands for the new one.
 pub record IsMadeObject {D : Type 0} (layouts : Layouts) (t : Table D) (place : Placing) (o : Object D) (old new : HeapView) (word : ℕ) : Type 0 where
   pub object : HeapObject
@@ -80,14 +45,7 @@ pub record IsMadeObject {D : Type 0} (layouts : Layouts) (t : Table D) (place : 
   pub capacity : new.capacity ≡ old.capacity
   pub allocated : layouts ≡ Null → new.allocated + 1 ≡ round_up (old.allocated + 1) alignment + object_size Null t.types o
 
--- the store with another heap and one more scoped root
-abbrev pub with_root : HeapView → ℕ → StoreView → StoreView
-with_root heap word s = record s { heap = heap; scoped = s.scoped ++ (record { generation = s.generation; word = word }) ∷ [] }
-
 module _ {D : Type 0} (layouts : Layouts) (s : StoreView) (t : Table D) (place : Placing) (o : Object D) (heap : HeapView) (word : ℕ) (holds : Holds layouts s t place) (made : IsMadeObject layouts t place o s.heap heap word) where
-  n : ℕ
-  n = length t.objects
-
   abbrev place' : Placing
   place' = placed_at place (length t.objects) word
 
@@ -102,7 +60,7 @@ module _ {D : Type 0} (layouts : Layouts) (s : StoreView) (t : Table D) (place :
       placed_at-old place (length t.objects) word position ne ∙ e
 
   -- an object that was held is held where it was
-  held_old : (position w : ℕ) → place position ≡ Some w → HeldAt layouts (make o t) place' heap.content position w
+  held_old : (position w : ℕ) → place position ≡ Some w → HeldAt layouts (add_object o t) place' heap.content position w
   held_old position w e =
       let held = holds.objects.placed position w e in
       let ne : w ≢ word = λ same. none-some held.object (sym made.free ∙ ap (get s.heap.content) (sym same) ∙ held.in_heap) in
@@ -114,7 +72,7 @@ module _ {D : Type 0} (layouts : Layouts) (s : StoreView) (t : Table D) (place :
         stands = stands-more layouts t.types place place' held.entry held.object within held.stands;
       }
 
-  held_new : HeldAt layouts (make o t) place' heap.content (length t.objects) word
+  held_new : HeldAt layouts (add_object o t) place' heap.content (length t.objects) word
   held_new = record {
     object = made.object;
     entry = o;
@@ -123,10 +81,10 @@ module _ {D : Type 0} (layouts : Layouts) (s : StoreView) (t : Table D) (place :
     stands = stands-more layouts t.types place place' o made.object within made.stands;
   }
 
-  held : (position w : ℕ) → place' position ≡ Some w → HeldAt layouts (make o t) place' heap.content position w
+  held : (position w : ℕ) → place' position ≡ Some w → HeldAt layouts (add_object o t) place' heap.content position w
   held position w e =
       elim (placed_at-cases place (length t.objects) word position w e) [
-        | inl new ↦ subst (λ (p : ℕ). HeldAt layouts (make o t) place' heap.content p w) (sym new.0) (subst (λ (q : ℕ). HeldAt layouts (make o t) place' heap.content (length t.objects) q) new.1 held_new)
+        | inl new ↦ subst (λ (p : ℕ). HeldAt layouts (add_object o t) place' heap.content p w) (sym new.0) (subst (λ (q : ℕ). HeldAt layouts (add_object o t) place' heap.content (length t.objects) q) new.1 held_new)
         | inr old ↦ held_old position w old.1
       ]
 
@@ -170,70 +128,7 @@ module _ {D : Type 0} (layouts : Layouts) (s : StoreView) (t : Table D) (place :
         ]
       ]
 
-  -- the scoped roots, the new one behind the others
-  scoped : ScopedHold (make o t) place' (with_root heap word s).scoped
-  scoped = record {
-    same_count = length_push s.scoped _ ∙ ap (λ k. k + 1) holds.scoped.same_count ∙ sym (length_push t.scoped _);
-    each = λ i entry root e f.
-        elim (slice_get-push_cases s.scoped (record { generation = s.generation; word = word }) i entry e) [
-          | inl old ↦
-              elim (slice_get-push_cases t.scoped (record { serial = length t.pushes; reference = at (length t.objects) }) i root f) [
-                | inl old' ↦ let stands = holds.scoped.each i entry root old old' in record {
-                  pushed = slice_get-push_old t.pushes _ root.serial _ stands.pushed;
-                  word = is_word-more place place' root.reference entry.word within stands.word;
-                  not_null = stands.not_null;
-                }
-                | inr new' ↦ absurd (omega (arith, slice_get_within s.scoped i entry old, holds.scoped.same_count, new'.0))
-              ]
-          | inr new ↦
-              elim (slice_get-push_cases t.scoped (record { serial = length t.pushes; reference = at (length t.objects) }) i root f) [
-                | inl old' ↦ absurd (omega (arith, slice_get_within t.scoped i root old', holds.scoped.same_count, new.0))
-                | inr new' ↦
-                    let stands : EntryStands (make o t) place' (length t.scoped) (record { generation = s.generation; word = word }) (record { serial = length t.pushes; reference = at (length t.objects) }) = record {
-                      pushed = subst (λ (g : ℕ). slice_get (t.pushes ++ (record { index = length t.scoped; generation = t.drops }) ∷ []) (length t.pushes) ≡ Some (record { index = length t.scoped; generation = g })) (sym holds.numbers.generation) (slice_get-push_new t.pushes _);
-                      word = placed_at-new place (length t.objects) word;
-                      not_null = made.not_null;
-                    } in
-                    subst (λ (j : ℕ). EntryStands (make o t) place' j entry root) (sym new'.0)
-                    (subst (λ (x : Scoped). EntryStands (make o t) place' (length t.scoped) entry x) new'.1
-                    (subst (λ (y : RootEntry). EntryStands (make o t) place' (length t.scoped) y (record { serial = length t.pushes; reference = at (length t.objects) })) new.1 stands))
-              ]
-        ];
-  }
-
-  past_after : (p : Push) → IsPast t p → IsPast (make o t) p
-  past_after p (inl earlier) = inl earlier
-  past_after p (inr now) = inr (now.0, omega (arith, now.1, length_push t.scoped (record { serial = length t.pushes; reference = at (length t.objects) })))
-
-  -- a push that was made before is not the new one
-  is_not_new : (serial : ℕ) (p : Push) → slice_get t.pushes serial ≡ Some p → (record { index = length t.scoped; generation = t.drops }) ≡ p → ⊥
-  is_not_new serial p e same =
-      elim (holds.pushes.past serial p e) [
-        | inl earlier ↦ omega (arith, earlier, ap (λ (q : Push). q.generation) same)
-        | inr now ↦ omega (arith, now.1, ap (λ (q : Push). q.index) same)
-      ]
-
-  pushes : PushesDiffer (make o t)
-  pushes = record {
-    past = λ serial p e.
-        elim (slice_get-push_cases t.pushes _ serial p e) [
-          | inl old ↦ past_after p (holds.pushes.past serial p old)
-          | inr new ↦ subst (IsPast (make o t)) new.1 (inr (refl, omega (arith, length_push t.scoped (record { serial = length t.pushes; reference = at (length t.objects) }))))
-        ];
-    apart = λ a b p e f.
-        elim (slice_get-push_cases t.pushes _ a p e) [
-          | inl old ↦ elim (slice_get-push_cases t.pushes _ b p f) [
-            | inl old' ↦ holds.pushes.apart a b p old old'
-            | inr new' ↦ absurd (is_not_new a p old new'.1)
-          ]
-          | inr new ↦ elim (slice_get-push_cases t.pushes _ b p f) [
-            | inl old' ↦ absurd (is_not_new b p old' new.1)
-            | inr new' ↦ new.0 ∙ sym new'.0
-          ]
-        ];
-  }
-
-  made_by_kind : (k : Layouts) → layouts ≡ k → KindHolds k t place s.heap → KindHolds k (make o t) place' heap
+  made_by_kind : (k : Layouts) → layouts ≡ k → KindHolds k t place s.heap → KindHolds k (add_object o t) place' heap
   made_by_kind Null is kind = record {
     all_held = λ position below.
         elim (eqb position (length t.objects)) as (λ b. eqb position (length t.objects) ≡ b → (w : ℕ) × (place' position ≡ Some w)) [
@@ -248,9 +143,9 @@ module _ {D : Type 0} (layouts : Layouts) (s : StoreView) (t : Table D) (place :
   made_by_kind Counting is kind = tt
   made_by_kind Copying is kind = tt
 
-  -- the store holds the table with the object
-  pub holds_make : t.made ≡ true → Holds layouts (with_root heap word s) (make o t) place'
-  holds_make is_made = record {
+  -- the store holds the table with the object, which no root names yet
+  pub holds_add : t.made ≡ true → Holds layouts (record s { heap = heap }) (add_object o t) place'
+  holds_add is_made = record {
     types = holds.types;
     numbers = record {
       generation = holds.numbers.generation;
@@ -262,19 +157,21 @@ module _ {D : Type 0} (layouts : Layouts) (s : StoreView) (t : Table D) (place :
       no_pages = holds.numbers.no_pages;
       no_objects = λ unmade. absurd (cc (sym is_made ∙ unmade));
       first_fits = holds.numbers.first_fits;
+      few_roots = holds.numbers.few_roots;
+      scoped_within = holds.numbers.scoped_within;
+      drops_within = holds.numbers.drops_within;
     };
     objects = record { placed = held; only = only; injective = injective; even = even };
     by_kind = made_by_kind layouts refl holds.by_kind;
-    scoped = scoped;
-    pushes = pushes;
-    nothing_else = record {
-      owns = holds.nothing_else.owns;
-      frames = holds.nothing_else.frames;
-      globals = holds.nothing_else.globals;
-      owned = holds.nothing_else.owned;
-      pending = holds.nothing_else.pending;
-      funcs = holds.nothing_else.funcs;
-      blocks = holds.nothing_else.blocks;
-    };
-    only_numbers = holds.only_numbers;
+    scoped = scoped-kept t place place' s.scoped _ _ _ _ within holds.scoped;
+    pushes = pushes-kept t place _ _ _ _ holds.pushes;
+    no_hosts = holds.no_hosts;
+    nothing_else = nothing-kept t place _ _ _ _ _ _ _ holds.nothing_else;
+    only_built = holds.only_built;
   }
+
+  -- the store holds the table with the object, and a new root that names it
+  pub holds_make : t.made ≡ true → roots_full t ≡ false → Holds layouts (with_root heap word s) (make o t) place'
+  holds_make is_made room =
+      holds_push layouts (record s { heap = heap }) (add_object o t) place' (at (length t.objects)) heap word (holds_add is_made) room
+      (same_held-itself heap) (placed_at-new place (length t.objects) word) made.not_null

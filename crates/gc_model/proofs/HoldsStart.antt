@@ -1,6 +1,5 @@
 -- A store with nothing in it holds the empty table.
-use Rattle.std.proofs.Common.{◌≡◌, ℕ, ◌+◌, ◌*◌, ◌<◌, ◌≤◌, List, [], Option, Some, None, sym, ap, ◌∙◌, refl, arith, true, false, length, subst}
-use Rattle.std.specs.List.{slice_get}
+use Rattle.std.proofs.Common.{◌≡◌, ℕ, ◌+◌, ◌≤◌, ◌^◌, [], Option, Some, None, sym, ap, ◌∙◌, refl, arith, false, length, subst}
 use Rattle.std.specs.Ordering.{nat_cmp}
 use Rattle.std.specs.FinMap.{get, get-empty}
 use Rattle.std.proofs.lemmas.Option.{none-some}
@@ -10,8 +9,8 @@ use Rattle.gc_types.specs.declared.kind.Layouts.TheVariants.{Null, Counting, Cop
 use Rattle.gc_model.specs.Allocation.{max_pages}
 use Rattle.gc_model.specs.Sizes.{next_after}
 use Rattle.gc_model.specs.Table.{Table, start}
-use Rattle.gc_model.specs.Views.{StoreView, HeapView, HeapObject, detached, empty_store}
-use Rattle.gc_model.specs.Holds.{Placing, Holds, KindHolds, HeldAt}
+use Rattle.gc_model.specs.Views.{StoreView, HeapView, HeapObject, empty_store}
+use Rattle.gc_model.specs.Holds.{Placing, Holds, KindHolds}
 use Rattle.gc_model.proofs.HoldsHeap.{nothing_placed}
 
 -- no position is placed
@@ -28,6 +27,8 @@ pub record IsUntouched (layouts : Layouts) (s : StoreView) : Type 0 where
   pub no_object : (word : ℕ) (object : HeapObject) → get s.heap.content word ≡ Some object → ⊥
   pub allocated : layouts ≡ Null → s.heap.allocated ≡ 0
   pub first_fits : s.first ≤ max_pages
+  pub few_roots : s.max_scoped ≤ 2 ^ 31
+  pub no_hosts : s.hosts ≡ 0
 
 start_by_kind : (D : Type 0) (layouts k : Layouts) (s : StoreView) → layouts ≡ k → IsUntouched layouts s → KindHolds {D = D} k (start s.first s.max_scoped s.max_owned) nowhere s.heap
 start_by_kind D layouts Null s is untouched = record { all_held = λ position h. absurd (omega arith); allocated = ap (λ n. n + 1) (untouched.allocated is) }
@@ -48,6 +49,9 @@ holds_untouched D layouts s untouched = record {
     no_pages = λ _. refl;
     no_objects = λ _. refl;
     first_fits = untouched.first_fits;
+    few_roots = untouched.few_roots;
+    scoped_within = omega arith;
+    drops_within = omega arith;
   };
   objects = record {
     placed = λ position word e. absurd (none-some word e);
@@ -57,9 +61,10 @@ holds_untouched D layouts s untouched = record {
   };
   by_kind = start_by_kind D layouts layouts s refl untouched;
   scoped = record { same_count = ap length untouched.scoped; each = λ i entry root e f. absurd (none-some root f) };
-  pushes = record { past = λ serial p e. absurd (none-some p e); apart = λ a b p e f. absurd (none-some p e) };
+  pushes = record { past = λ serial p e. absurd (none-some p e); early = λ serial p e. absurd (none-some p e); apart = λ a b p e f. absurd (none-some p e) };
+  no_hosts = untouched.no_hosts;
   nothing_else = record { owns = refl; frames = refl; globals = refl; owned = refl; pending = refl; funcs = refl; blocks = refl };
-  only_numbers = λ ty fields e. absurd (none-some fields e);
+  only_built = λ ty fields e. absurd (none-some fields e);
 }
 
 untouched_allocated : {D : Type 0} (layouts : Layouts) (t : Table D) (place : Placing) (heap : HeapView) → t.objects ≡ [] → KindHolds layouts t place heap → layouts ≡ Null → heap.allocated ≡ 0
@@ -81,6 +86,8 @@ untouched_from_parts layouts s t place holds no_types no_roots first_generation 
       no_object = λ word object e. let p = holds.objects.only word object e in nothing_placed layouts t place s.heap holds.objects none p.0 word p.1;
       allocated = untouched_allocated layouts t place s.heap none holds.by_kind;
       first_fits = subst (λ n. n ≤ max_pages) (sym holds.numbers.first) holds.numbers.first_fits;
+      few_roots = subst (λ n. n ≤ 2 ^ 31) (sym holds.numbers.max_scoped) holds.numbers.few_roots;
+      no_hosts = holds.no_hosts;
     }
 
 -- a store that holds the empty table is untouched
@@ -89,8 +96,8 @@ untouched_from_start D layouts s place holds =
     untouched_from_parts layouts s (start s.first s.max_scoped s.max_owned) place holds holds.types (nil_from_length s.scoped holds.scoped.same_count) holds.numbers.generation holds.numbers.made
 
 -- what is seen of a new store is untouched
-pub untouched_new : (layouts : Layouts) (engine number first max_scoped max_owned : ℕ) (alloc_counter : Option ℕ) → first ≤ max_pages → IsUntouched layouts (empty_store engine number first max_scoped max_owned alloc_counter)
-untouched_new layouts engine number first max_scoped max_owned alloc_counter few = record {
+pub untouched_new : (layouts : Layouts) (engine number first max_scoped max_owned : ℕ) (alloc_counter : Option ℕ) → first ≤ max_pages → max_scoped ≤ 2 ^ 31 → IsUntouched layouts (empty_store engine number first max_scoped max_owned alloc_counter)
+untouched_new layouts engine number first max_scoped max_owned alloc_counter few few_roots = record {
   types = refl;
   scoped = refl;
   generation = refl;
@@ -99,4 +106,6 @@ untouched_new layouts engine number first max_scoped max_owned alloc_counter few
   no_object = λ word object e. none-some object (sym (get-empty nat_cmp word) ∙ e);
   allocated = λ _. refl;
   first_fits = few;
+  few_roots = few_roots;
+  no_hosts = refl;
 }

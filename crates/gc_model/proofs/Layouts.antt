@@ -1,9 +1,8 @@
 -- Fields lie one behind another, inside the object.
-use Rattle.std.proofs.Common.{inl, inr, ◌≡◌, ℕ, ◌+◌, ◌-◌, ◌*◌, ◌/◌, ◌<◌, ◌≤◌, List, [], ◌∷◌, Option, Some, None, length, sym, ap, ◌∙◌, refl, subst, arith, zero, suc}
+use Rattle.std.proofs.Common.{◌≡◌, ℕ, ◌+◌, ◌<◌, ◌≤◌, List, [], ◌∷◌, Some, length, ap, ◌∙◌, refl, subst, arith, zero, suc}
 use Rattle.std.specs.List.{slice_get}
 use Rattle.std.specs.Prelude.{All}
-use Rattle.std.proofs.lemmas.Grind.{common_steps}
-use Rattle.std.proofs.lemmas.Option.{none-some, slice_get_within, slice_get_cases}
+use Rattle.std.proofs.lemmas.Option.{none-some}
 use Rattle.gc_types.specs.declared.value.FieldType.{FieldType}
 use Rattle.gc_types.specs.declared.value.Mutability.TheVariants.{Var}
 use Rattle.gc_types.specs.declared.value.StorageType.{StorageType}

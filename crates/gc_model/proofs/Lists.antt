@@ -1,8 +1,7 @@
--- Elements of a list that had one more put at its end.
-use Rattle.std.proofs.Common.{◌≡◌, ◌≢◌, ℕ, ◌+◌, ◌<◌, ◌≤◌, ◌⊎◌, inl, inr, List, [], ◌∷◌, ◌++◌, length, Option, Some, None, sym, ap, ◌∙◌, refl, arith, rules, suc, zero}
+-- Elements of a list with one more at its end, of the front of a list, and of lists of one length.
+use Rattle.std.proofs.Common.{◌≡◌, ℕ, ◌⊎◌, inl, inr, List, [], ◌∷◌, ◌++◌, length, take, Some, ap, refl, arith, suc, zero}
 use Rattle.std.specs.List.{slice_get}
-use Rattle.std.proofs.lemmas.Grind.{common_steps}
-use Rattle.std.proofs.lemmas.Option.{gets, slice_get_within, none-some}
+use Rattle.std.proofs.lemmas.Option.{none-some, slice_get_within, slice_get_cases}
 
 -- what stood in the list stands there still
 pub slice_get-push_old : {X : Type 0} (xs : List X) (y : X) (i : ℕ) (x : X) → slice_get xs i ≡ Some x → slice_get (xs ++ y ∷ []) i ≡ Some x
@@ -22,3 +21,18 @@ slice_get-push_cases [] y (suc i) x e = absurd (none-some x e)
 slice_get-push_cases (z ∷ xs) y zero x e = inl e
 slice_get-push_cases (z ∷ xs) y (suc i) x e =
     elim (slice_get-push_cases xs y i x e) [ inl old ↦ inl old | inr new ↦ inr (ap suc new.0, new.1) ]
+
+-- what stands in the front of a list stands in the list
+pub slice_get-take : {X : Type 0} (n : ℕ) (xs : List X) (i : ℕ) (x : X) → slice_get (take n xs) i ≡ Some x → slice_get xs i ≡ Some x
+slice_get-take zero xs i x e = absurd (none-some x e)
+slice_get-take (suc n) [] i x e = absurd (none-some x e)
+slice_get-take (suc n) (y ∷ xs) zero x e = e
+slice_get-take (suc n) (y ∷ xs) (suc i) x e = slice_get-take n xs i x e
+
+-- in a list of the same length an element stands at the same index
+pub slice_get-same_length : {X Y : Type 0} (xs : List X) (ys : List Y) (i : ℕ) (x : X) → length xs ≡ length ys → slice_get xs i ≡ Some x → (y : Y) × (slice_get ys i ≡ Some y)
+slice_get-same_length xs ys i x same e =
+    elim ((slice_get_cases ys i).1) [
+      | inl found ↦ (found.0, found.2)
+      | inr past ↦ absurd (omega (arith, past.0, same, slice_get_within xs i x e))
+    ]

@@ -1,19 +1,15 @@
 -- A handle is live exactly where the entry at its index has its generation.
-use Rattle.std.proofs.Common.{inl, inr, ◌≡◌, ◌≢◌, ℕ, ◌+◌, ◌<◌, ◌≤◌, ◌⊎◌, List, [], ◌∷◌, Bool, true, false, cond, eqb, Option, Some, None, Result, Ok, Err, length, sym, ap, ◌∙◌, refl, subst, arith, zero, suc}
+use Rattle.std.proofs.Common.{inl, inr, ◌≡◌, ◌≢◌, ℕ, ◌+◌, ◌<◌, List, [], ◌∷◌, true, false, cond, eqb, Some, None, sym, ap, ◌∙◌, refl, subst, arith, zero, suc}
 use Rattle.std.specs.List.{slice_get}
 use Rattle.std.proofs.lemmas.Grind.{common_steps}
-use Rattle.std.proofs.lemmas.Option.{none-some, slice_get_within, slice_get_past, slice_get_cases}
+use Rattle.std.proofs.lemmas.Option.{none-some, slice_get_within, slice_get_cases}
 use Rattle.gc_types.specs.declared.kind.Layouts.{Layouts}
 use Rattle.gc_model.specs.declared.RootEntry.{RootEntry}
-use Rattle.gc_types.specs.declared.value.FieldType.{FieldType}
-use Rattle.gc_types.specs.Declarations.{Declaration, struct_fields_at}
-use Rattle.gc_types.specs.Layouts.{struct_base}
-use Rattle.gc_model.specs.Values.{Reference, at, Value, Object, struct}
+use Rattle.gc_model.specs.Values.{Reference}
 use Rattle.gc_model.specs.Table.{Table, Scoped, Push}
 use Rattle.gc_model.specs.Live.{rooted, rooted_among}
-use Rattle.gc_model.specs.Views.{StoreView, HeapObject}
-use Rattle.gc_model.proofs.Layouts.{length-field_layouts}
-use Rattle.gc_model.specs.Holds.{Placing, IsWord, Holds, EntryStands, Stands, StructStands}
+use Rattle.gc_model.specs.Views.{StoreView}
+use Rattle.gc_model.specs.Holds.{Placing, IsWord, Holds, EntryStands}
 
 -- each root's serial is of a push whose index is the root's, counted from k
 abbrev pub AreIndexed : List Push → ℕ → List Scoped → Type 0
@@ -107,20 +103,14 @@ rooted_among-some serial (x ∷ roots) r e =
       | false ↦ λ h. let found = rooted_among-some serial roots r h in (suc found.0, (found.1.0, found.1.1))
     ] e
 
-stands_fields : (layouts : Layouts) (types : List Declaration) (place : Placing) (ty : ℕ) (values : List Value) (h : HeapObject) → StructStands layouts types place ty values h → (fields : List FieldType) × ((struct_fields_at types ty ≡ Some fields) × (length values ≡ length fields))
-stands_fields layouts types place ty values h stands = (stands.fields, (stands.declared, stands.values_lie.same_count ∙ length-field_layouts (struct_base layouts) stands.fields))
-
--- a struct that a live root names has as many values as its type has fields
-pub rooted_struct : {D : Type 0} (layouts : Layouts) (s : StoreView) (t : Table D) (place : Placing) → Holds layouts s t place → (serial position ty : ℕ) (values : List Value) → rooted t serial ≡ Some (at position) → slice_get t.objects position ≡ Some (struct ty values) → (fields : List FieldType) × ((struct_fields_at t.types ty ≡ Some fields) × (length values ≡ length fields))
-rooted_struct {D} layouts s t place holds serial position ty values live object =
-    let found = rooted_among-some serial t.scoped (at position) live in
+-- what a live root names has a word, which is not null
+pub rooted_word : {D : Type 0} (layouts : Layouts) (s : StoreView) (t : Table D) (place : Placing) → Holds layouts s t place → (serial : ℕ) (r : Reference) → rooted t serial ≡ Some r → (word : ℕ) × (IsWord place r word × (0 < word))
+rooted_word layouts s t place holds serial r live =
+    let found = rooted_among-some serial t.scoped r live in
     let entry : (e : RootEntry) × (slice_get s.scoped found.0 ≡ Some e) =
     elim ((slice_get_cases s.scoped found.0).1) [
       | inl here ↦ (here.0, here.2)
       | inr past ↦ absurd (omega (arith, past.0, holds.scoped.same_count, slice_get_within t.scoped found.0 found.1.0 found.1.1.0))
     ] in
     let stands = holds.scoped.each found.0 entry.0 found.1.0 entry.1 found.1.1.0 in
-    let placed : place position ≡ Some entry.0.word = subst (λ (r : Reference). IsWord place r entry.0.word) found.1.1.1 stands.word in
-    let held = holds.objects.placed position entry.0.word placed in
-    let same : held.entry ≡ struct ty values = grind (arith, sym held.in_table ∙ object) in
-    stands_fields layouts t.types place ty values held.object (subst (λ (o : Object D). Stands layouts t.types place o held.object) same held.stands)
+    (entry.0.word, (subst (λ (q : Reference). IsWord place q entry.0.word) found.1.1.1 stands.word, stands.not_null))

@@ -1,17 +1,16 @@
 -- What a further declaration leaves of the types before it.
-use Rattle.std.proofs.Common.{◌≡◌, ℕ, ◌+◌, ◌<◌, ◌⊎◌, inl, inr, List, [], ◌∷◌, ◌++◌, length, Option, Some, None, sym, ap, ◌∙◌, refl, subst, arith, suc, zero}
+use Rattle.std.proofs.Common.{◌≡◌, ℕ, ◌+◌, ◌⊎◌, inl, inr, List, [], ◌∷◌, ◌++◌, length, true, Some, sym, ap, ◌∙◌, refl, subst, arith, suc, zero}
 use Rattle.std.specs.List.{slice_get}
 use Rattle.std.specs.Prelude.{All}
-use Rattle.std.proofs.lemmas.Option.{none-some, slice_get_within}
+use Rattle.std.proofs.lemmas.Option.{none-some}
 use Rattle.gc_types.specs.declared.value.FieldType.{FieldType}
 use Rattle.gc_types.specs.declared.kind.Layouts.TheVariants.{Null}
-use Rattle.gc_types.specs.Declarations.{Declaration, Shape, struct_of, array_of, exn_of, func_of, struct_fields_at, declaration_struct_fields, shape_struct_fields, plain_struct, IsMutableI32}
-use Rattle.gc_types.specs.Layouts.{fields_end, struct_base, round_up}
-use Rattle.gc_model.specs.Values.{Value, Object, struct, array, host, exception}
-use Rattle.gc_model.specs.Table.{Table}
+use Rattle.gc_types.specs.Declarations.{Declaration, struct_fields_at, shape_struct_fields, plain_struct, IsMutableI32}
+use Rattle.gc_types.specs.Layouts.{round_up}
+use Rattle.gc_model.specs.Values.{Object, struct, array, host, exception}
 use Rattle.gc_model.specs.Sizes.{object_size, next_after, fields_size, alignment}
-use Rattle.gc_model.specs.Holds.{OnlyNumbers}
-use Rattle.gc_model.proofs.Lists.{slice_get-push_old, slice_get-push_cases}
+use Rattle.gc_model.specs.Fits.{is_built_field}
+use Rattle.gc_model.specs.Holds.{OnlyBuilt}
 
 -- a struct type of the table is one of the longer table, with the same fields
 pub struct_fields_at-push : (types : List Declaration) (d : Declaration) (ty : ℕ) (fields : List FieldType) → struct_fields_at types ty ≡ Some fields → struct_fields_at (types ++ d ∷ []) ty ≡ Some fields
@@ -58,10 +57,22 @@ pub next_after-push : {D : Type 0} (types : List Declaration) (n : ℕ) (objects
 next_after-push types n [] o = refl
 next_after-push types n (x ∷ objects) o = next_after-push types (round_up n alignment + object_size Null types x) objects o
 
--- a struct of 32-bit numbers keeps that there are no other fields
-pub OnlyNumbers-push : (types : List Declaration) (fields : List FieldType) → OnlyNumbers types → All IsMutableI32 fields → OnlyNumbers (types ++ plain_struct fields ∷ [])
-OnlyNumbers-push types fields only numbers ty fs e =
-    elim (struct_fields_at-push_cases types (plain_struct fields) ty fs e) [
+-- the fields of a declaration, where it is a struct, are of types that are built
+abbrev pub IsBuiltDeclaration : Declaration → Type 0
+IsBuiltDeclaration d = (fields : List FieldType) → shape_struct_fields d.shape ≡ Some fields → All (λ (f : FieldType). is_built_field f ≡ true) fields
+
+-- a struct of such fields is one
+pub plain_is_built : (fields : List FieldType) → All (λ (f : FieldType). is_built_field f ≡ true) fields → IsBuiltDeclaration (plain_struct fields)
+plain_is_built fields built fs e = subst (All (λ (f : FieldType). is_built_field f ≡ true)) (grind (arith, e)) built
+
+-- a mutable 32-bit number is of a type that is built
+pub numbers_are_built : (fields : List FieldType) → All IsMutableI32 fields → All (λ (f : FieldType). is_built_field f ≡ true) fields
+numbers_are_built fields numbers k d within = ap is_built_field (numbers k d within)
+
+-- a declaration with such fields keeps that there are no others
+pub OnlyBuilt-push : (types : List Declaration) (d : Declaration) → OnlyBuilt types → IsBuiltDeclaration d → OnlyBuilt (types ++ d ∷ [])
+OnlyBuilt-push types d only built ty fs e =
+    elim (struct_fields_at-push_cases types d ty fs e) [
       | inl old ↦ only ty fs old
-      | inr new ↦ subst (All IsMutableI32) (grind (arith, new)) numbers
+      | inr new ↦ built fs new
     ]

@@ -8,4 +8,5 @@ pub mod Sizes
 pub mod Allocation
 pub mod Views
 pub mod Holds
+pub mod Encoded
 pub mod Bytes

@@ -1,0 +1,57 @@
+-- What lies under a placing lies under each placing with more positions.
+use Rattle.std.proofs.Common.{◌≡◌, ℕ, List, Some}
+use Rattle.gc_types.specs.declared.value.StorageType.{StorageType}
+use Rattle.gc_types.specs.declared.value.StorageType.TheVariants as storage
+use Rattle.gc_types.specs.declared.value.ValType.TheVariants as val
+use Rattle.gc_types.specs.declared.kind.Layouts.{Layouts}
+use Rattle.gc_types.specs.Declarations.{Declaration}
+use Rattle.gc_model.specs.declared.GcClass.TheVariants.{Any, Extern, Exn}
+use Rattle.gc_model.specs.Values.{Reference, null, small, at, Value, i32, i64, f32, f64, v128, function, reference, Object, struct, array, host, exception}
+use Rattle.gc_model.specs.Views.{HeapObject}
+use Rattle.gc_model.specs.Holds.{Placing, IsWord, Lies, LiesAny, Stands}
+
+-- each position that is placed before is placed alike after
+abbrev pub IsWithin : Placing → Placing → Type 0
+IsWithin place place' = (position word : ℕ) → place position ≡ Some word → place' position ≡ Some word
+
+pub is_word-more : (place place' : Placing) (r : Reference) (word : ℕ) → IsWithin place place' → IsWord place r word → IsWord place' r word
+is_word-more place place' null word within is = is
+is_word-more place place' (small n) word within is = is
+is_word-more place place' (at p) word within is = within p word is
+
+lies_any-more : (place place' : Placing) (v : Value) (bytes : List ℕ) (offset : ℕ) → IsWithin place place' → LiesAny place v bytes offset → LiesAny place' v bytes offset
+lies_any-more place place' (i32 n) bytes offset within lies = lies
+lies_any-more place place' (i64 n) bytes offset within lies = lies
+lies_any-more place place' (f32 n) bytes offset within lies = lies
+lies_any-more place place' (f64 n) bytes offset within lies = lies
+lies_any-more place place' (v128 n) bytes offset within lies = lies
+lies_any-more place place' (function f) bytes offset within lies = lies
+lies_any-more place place' (reference Any r) bytes offset within lies = is_word-more place place' r _ within lies
+lies_any-more place place' (reference Extern r) bytes offset within lies = lies
+lies_any-more place place' (reference Exn r) bytes offset within lies = lies
+
+pub lies-more : (place place' : Placing) (ty : StorageType) (v : Value) (bytes : List ℕ) (offset : ℕ) → IsWithin place place' → Lies place ty v bytes offset → Lies place' ty v bytes offset
+lies-more place place' storage.I8 v bytes offset within lies = lies
+lies-more place place' storage.I16 v bytes offset within lies = lies
+lies-more place place' (storage.ValType val.I32) v bytes offset within lies = lies
+lies-more place place' (storage.ValType val.I64) v bytes offset within lies = lies
+lies-more place place' (storage.ValType val.F32) v bytes offset within lies = lies
+lies-more place place' (storage.ValType val.F64) v bytes offset within lies = lies
+lies-more place place' (storage.ValType val.V128) v bytes offset within lies = lies
+lies-more place place' (storage.ValType (val.Ref ty)) v bytes offset within lies = lies_any-more place place' v bytes offset within lies
+
+pub stands-more : {D : Type 0} (layouts : Layouts) (types : List Declaration) (place place' : Placing) (entry : Object D) (h : HeapObject) → IsWithin place place' → Stands layouts types place entry h → Stands layouts types place' entry h
+stands-more layouts types place place' (struct ty values) h within stands = record {
+  fields = stands.fields;
+  declared = stands.declared;
+  kind = stands.kind;
+  same_type = stands.same_type;
+  size = stands.size;
+  values_lie = record {
+    same_count = stands.values_lie.same_count;
+    each = λ i field layout value e f g. lies-more place place' field.element_type value h.bytes _ within (stands.values_lie.each i field layout value e f g);
+  };
+}
+stands-more layouts types place place' (array ty values) h within stands = stands
+stands-more layouts types place place' (host value) h within stands = stands
+stands-more layouts types place place' (exception ty tag values) h within stands = stands
