@@ -1,5 +1,8 @@
 pub mod AccessLemmas
+pub mod AddedLemmas
+pub mod AgainLemmas
 pub mod ClientLemmas
+pub mod CountLemmas
 pub mod HeapLemmas
 pub mod KindLemmas
 pub mod NullHeapLemmas
@@ -7,3 +10,6 @@ pub mod NullMemoryLemmas
 pub mod NullStepLemmas
 pub mod NullWalkLemmas
 pub mod NumberLemmas
+pub mod ReferenceLemmas
+pub mod RootedLemmas
+pub mod SpacedLemmas
