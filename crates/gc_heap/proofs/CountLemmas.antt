@@ -85,7 +85,7 @@ stack_one q r is = ap (λ b. occurrences q (map (λ (r : Root). r.word) (cond (n
 abbrev pub CountsAre : Counts → (ℕ → ℕ) → Type 0
 CountsAre c names = (place n : ℕ) → get c.counted place ≡ Some n → n ≡ names place
 
-put_cases : (m : FinMap nat_cmp ℕ) (w k q n : ℕ) → get (insert m w k) q ≡ Some n → ((q ≡ w) × (n ≡ k)) ⊎ ((q ≢ w) × (get m q ≡ Some n))
+pub put_cases : (m : FinMap nat_cmp ℕ) (w k q n : ℕ) → get (insert m w k) q ≡ Some n → ((q ≡ w) × (n ≡ k)) ⊎ ((q ≢ w) × (get m q ≡ Some n))
 put_cases m w k q n is = grind (arith, common_steps, gets)
 
 -- one count that rises or falls with the names of its place

@@ -5,6 +5,7 @@ pub mod ClientLemmas
 pub mod CountLemmas
 pub mod HeapLemmas
 pub mod KindLemmas
+pub mod MadeLemmas
 pub mod NullHeapLemmas
 pub mod NullMemoryLemmas
 pub mod NullStepLemmas
@@ -13,3 +14,4 @@ pub mod NumberLemmas
 pub mod ReferenceLemmas
 pub mod RootedLemmas
 pub mod SpacedLemmas
+pub mod WrittenLemmas
