@@ -160,7 +160,8 @@ zeroed_null layouts types kind ty spare size word has =
 pub blank_traced : (types : List Declaration) (kind : VMGcKind) (ty spare size : ℕ) → (form_of spare ≡ 2 → ⊥) → IsBlank Copying types (zeroed Copying kind ty spare size)
 blank_traced types kind ty spare size form = record { null = λ w. zeroed_null Copying types kind ty spare size w; typed = λ out. absurd (form out) }
 
-stored-least : (layouts : Layouts) (size : ℕ) → size ≤ stored_size layouts size
+-- a heap stores no less than it was asked for
+pub stored-least : (layouts : Layouts) (size : ℕ) → size ≤ stored_size layouts size
 stored-least Null size = omega arith
 stored-least Counting size = omega arith
 stored-least Copying size = omega arith

@@ -14,4 +14,5 @@ pub mod NumberLemmas
 pub mod ReferenceLemmas
 pub mod RootedLemmas
 pub mod SpacedLemmas
+pub mod StoredLemmas
 pub mod WrittenLemmas

@@ -120,7 +120,7 @@ can_collect_made layouts types old new roots number place o size hosts added hea
     let adds = adds_of layouts old new place o size added in
     can_collect_rooted layouts types old new roots number place o hosts adds can blank owns (blank_none layouts types old new place o adds heap blank)
 
-uncounted : (layouts : Layouts) (types : List Declaration) (h : HeapView) (roots : List Root) → (layouts ≡ Counting → ⊥) → AreCounted layouts types h roots
+pub uncounted : (layouts : Layouts) (types : List Declaration) (h : HeapView) (roots : List Root) → (layouts ≡ Counting → ⊥) → AreCounted layouts types h roots
 uncounted Null types h roots other = tt
 uncounted Counting types h roots other = absurd (other refl)
 uncounted Copying types h roots other = tt

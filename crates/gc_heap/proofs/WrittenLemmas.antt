@@ -56,14 +56,20 @@ module _ (old new : HeapView) (place : ℕ) (o o' : HeapObject) (puts : Puts old
   word_after w (inr (inl number)) = inr (inl number)
   word_after w (inr (inr held)) = inr (inr (held_after w held))
 
-  put_cases : (q : ℕ) (x : HeapObject) → get new.content q ≡ Some x → ((q ≡ place) × (x ≡ o')) ⊎ (get old.content q ≡ Some x)
-  put_cases q x is = elim (at_or_else q) [
+  cases_put : (q : ℕ) (x : HeapObject) → get new.content q ≡ Some x → ((q ≡ place) × (x ≡ o')) ⊎ (get old.content q ≡ Some x)
+  cases_put q x is = elim (at_or_else q) [
     | inl at ↦ inl (at, (let both : Some x ≡ Some o' = sym is ∙ ap (get new.content) at ∙ held_put in cc))
     | inr else ↦ inr (sym (held_else q else) ∙ is)
   ]
 
+  pub held_before : (q : ℕ) → IsHeld new q → IsHeld old q
+  held_before q is = elim (cases_put q is.0 is.1) [
+    | inl at ↦ (o, ap (get old.content) at.0 ∙ puts.held)
+    | inr was ↦ (is.0, was)
+  ]
+
   external_before : HasFields o'.kind → (q : ℕ) (x : HeapObject) → IsExternal new q x → IsExternal old q x
-  external_before fields q x is = elim (put_cases q x is.held) [
+  external_before fields q x is = elim (cases_put q x is.held) [
     | inl at ↦ absurd (subst HasFields (sym (ap (λ (x : HeapObject). x.kind) at.1) ∙ is.kind) fields)
     | inr was ↦ record { held = was; kind = is.kind }
   ]
@@ -81,14 +87,14 @@ module _ (old new : HeapView) (place : ℕ) (o o' : HeapObject) (puts : Puts old
         attached = puts.attached ∙ can.attached;
         open_scopes = puts.scopes ∙ can.open_scopes;
         roots = λ r among. word_after r.word (can.roots r among);
-        fields = λ q x w is has. elim (put_cases q x is) [
+        fields = λ q x w is has. elim (cases_put q x is) [
           | inl at ↦
               let mine : Contains (map (word_in layouts o') (reference_offsets layouts types o')) w = subst (λ (x : HeapObject). Contains (references layouts types x) w) at.1 has in
               let found = in_map (word_in layouts o') offsets w (contains_in (map (word_in layouts o') offsets) w (subst (λ os. Contains (map (word_in layouts o') os) w) offsets_are mine)) in
               word_after w (subst (IsWordOf old) found.1.1 (words found.0 (in_contains offsets found.0 found.1.0)))
           | inr was ↦ word_after w (can.fields q x w was has)
         ];
-        typed = λ q x is. elim (put_cases q x is) [
+        typed = λ q x is. elim (cases_put q x is) [
           | inl at ↦ subst (IsTyped layouts types) (sym at.1) (typed_kept layouts types o o' same typed)
           | inr was ↦ can.typed q x was
         ];
@@ -106,7 +112,8 @@ size_fields layouts StructRef n h = refl
 size_fields layouts ArrayRef n h = refl
 size_fields layouts ExnRef n h = refl
 
-writable_from : (layouts : Layouts) (k : VMGcKind) → HasFields k → struct_base layouts ≤ writable_offset layouts k
+-- what a holder may write lies behind the first free offset of a struct
+pub writable_from : (layouts : Layouts) (k : VMGcKind) → HasFields k → struct_base layouts ≤ writable_offset layouts k
 writable_from layouts ExternRef h = absurd h
 writable_from layouts AnyRef h = absurd h
 writable_from layouts EqRef h = absurd h
