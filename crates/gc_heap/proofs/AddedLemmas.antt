@@ -23,7 +23,7 @@ use Rattle.gc_memory.specs.Offsets.{stored_size, external_size}
 use Rattle.gc_model.specs.Views.{HeapObject, HeapView, u32_at}
 use Rattle.gc_model.proofs.Content.{get-put_same, get-put_other}
 use Rattle.gc_heap.specs.Objects.{held_size, zeroed, zeroed_array, external, host_id, array_length}
-use Rattle.gc_heap.specs.References.{reference_offsets, typed_offsets, word_offsets, references, word_in, IsTyped, HoldsType, struct_spare, array_spare}
+use Rattle.gc_heap.specs.References.{reference_offsets, typed_offsets, traced_offsets, word_offsets, references, word_in, IsTyped, HoldsType, struct_spare, array_spare}
 use Rattle.gc_heap.specs.Content.{IsHeld}
 use Rattle.gc_heap.specs.Heap.{IsNewPlace, AddsObject, counts_with, layout_kind, exn_or_struct, new_struct, new_array, array_size}
 use Rattle.gc_heap.specs.Collection.{Start, CanCollect, AreCounted, IsWordOf, IsExternal}
@@ -228,18 +228,21 @@ elements_from : (o : HeapObject) (b : Bool) (x : ℕ) → In x (if b then word_o
 elements_from o true x i = words_from (array_length o) 16 x i
 elements_from o false x i = elim i [ ]
 
+array_form : (refs : Bool) → form_of (array_spare Copying refs) ≡ 1
+array_form true = refl
+array_form false = refl
+
+traced_from : (types : List Declaration) (o : HeapObject) (refs : Bool) → o.spare ≡ array_spare Copying refs → (x : ℕ) → In x (traced_offsets types o) → 16 ≤ x
+traced_from types o refs spare x i =
+    let form : form_of o.spare ≡ 1 = ap form_of spare ∙ array_form refs in
+    elements_from o (o.spare % 2 == 1) x (subst (In x) (content_by_form types o 1 form) i)
+
 -- the references of an array lie behind its length
 array_from : (layouts : Layouts) (types : List Declaration) (o : HeapObject) (refs : Bool) → o.kind ≡ ArrayRef → o.spare ≡ array_spare layouts refs → HoldsType layouts types o ArrayRef
     → (x : ℕ) → In x (reference_offsets layouts types o) → array_base layouts ≤ x
 array_from Null types o refs kind spare holds x i = (Spaced-in 12 (held_size Null o) _ x (typed_spaced Null types o ArrayRef holds) (subst (λ k. In x (typed_offsets Null types o k)) kind i)).0
 array_from Counting types o refs kind spare holds x i = (Spaced-in 32 (held_size Counting o) _ x (typed_spaced Counting types o ArrayRef holds) (subst (λ k. In x (typed_offsets Counting types o k)) kind i)).0
-array_from Copying types o refs kind spare holds x i =
-    let form : form_of o.spare ≡ 1 = ap form_of spare ∙ array_form refs in
-    elements_from o (o.spare % 2 == 1) x (subst (In x) (content_by_form types o 1 form) i)
-  where
-    array_form : (refs : Bool) → form_of (array_spare Copying refs) ≡ 1
-    array_form true = refl
-    array_form false = refl
+array_from Copying types o refs kind spare holds x i = traced_from types o refs spare x i
 
 -- a new array of a declared type
 pub blank_array : (layouts : Layouts) (types : List Declaration) (ty count : ℕ) (layout : GcArrayLayout) → count < 2 ^ 32 → array_layout_at layouts types ty ≡ Some layout → IsBlank layouts types (new_array layouts ty count layout)
@@ -253,6 +256,18 @@ blank_array layouts types ty count layout small declared =
       let bases = array_bases layouts in
       array_zero count zeros (x - struct_base layouts) (omega arith));
       typed = typed_where layouts types o holds;
+    }
+
+-- an array that a copying heap traces needs no declared type
+pub blank_traced_array : (types : List Declaration) (ty count : ℕ) (layout : GcArrayLayout) → IsBlank Copying types (new_array Copying ty count layout)
+blank_traced_array types ty count layout =
+    let o : HeapObject = new_array Copying ty count layout in
+    let zeros : ℕ = stored_size Copying (array_size layout count) - 16 in
+    record {
+      null = λ w. all_null (word_in Copying o) (reference_offsets Copying types o) w (λ x i.
+      let from = traced_from types o layout.elems_are_gc_refs refl x i in
+      array_zero count zeros (x - 12) (omega arith));
+      typed = λ out. let form = array_form layout.elems_are_gc_refs in absurd (omega arith);
     }
 
 no_offsets_external : (layouts : Layouts) (types : List Declaration) (id : ℕ) → reference_offsets layouts types (external id) ≡ []

@@ -16,11 +16,12 @@ use Rattle.gc_types.specs.declared.layout.GcArrayLayout.{GcArrayLayout}
 use Rattle.gc_types.specs.Declarations.{Declaration, Shape, struct_of, array_of, exn_of, func_of, constant_field, shape_elem, declaration_elem}
 use Rattle.gc_types.specs.Layouts.{struct_base, exception_base, array_base, round_up, trace_at, ref_offsets, field_layouts, fields_end, is_gc_storage, storage_width, array_layout, shape_layout, shape_trace, declaration_layout, declaration_trace, layout_at, array_layout_at}
 use Rattle.gc_refs.specs.Trace.{form_of}
+use Rattle.gc_memory.specs.Lists.{In}
 use Rattle.gc_model.specs.Views.{HeapObject}
 use Rattle.gc_heap.specs.Objects.{held_size, size_with, array_length, writable_offset, HasFields}
 use Rattle.gc_heap.specs.References.{bit_offsets, word_offsets, bitmap_offsets, element_offsets, info_offsets, typed_offsets, traced_offsets, reference_offsets, IsTyped, HoldsType, HoldsLayout, HoldsArrayLayout}
 use Rattle.gc_heap.specs.Content.{TracesInside, IsSpare}
-use Rattle.gc_heap.proofs.SpacedLemmas.{Spaced, spaced_wider, spaced_bits, spaced_words, spaced_fields, ref_width, no_bits, in_contains}
+use Rattle.gc_heap.proofs.SpacedLemmas.{Spaced, spaced_wider, spaced_bits, spaced_words, spaced_fields, ref_width, no_bits, in_contains, aligned_bits, aligned_words, aligned_fields}
 
 -- How an object of a copying heap is traced.
 pub data Form (o : HeapObject) (k : VMGcKind) : Type 0 where
@@ -246,3 +247,40 @@ pub typed_kept : (layouts : Layouts) (types : List Declaration) (o o' : HeapObje
 typed_kept Null types o o' same typed = holds_as Null types o o' same typed
 typed_kept Counting types o o' same typed = holds_as Counting types o o' same typed
 typed_kept Copying types o o' same typed = λ form. holds_as Copying types o o' same (typed (sym (ap form_of same.spare) ∙ form))
+
+aligned_info : (layouts : Layouts) (o : HeapObject) (d : Option Declaration) (x : ℕ) → In x (info_offsets layouts o (declaration_trace layouts d)) → x % 4 ≡ 0
+aligned_info layouts o None x i = elim i [ ]
+aligned_info layouts o (Some d) x i = by_shape d.shape i
+  where
+    elements : (layouts : Layouts) (b : Bool) → In x (info_offsets layouts o (Some (trace.Array b))) → x % 4 ≡ 0
+    elements Null true i = aligned_words (array_length o) 12 x refl i
+    elements Counting true i = aligned_words (array_length o) 32 x refl i
+    elements Copying true i = aligned_words (array_length o) 16 x refl i
+    elements layouts false i = elim i [ ]
+
+    by_shape : (shape : Shape) → In x (info_offsets layouts o (shape_trace layouts shape)) → x % 4 ≡ 0
+    by_shape (struct_of fields) i = aligned_fields (struct_base layouts) fields x i
+    by_shape (array_of elem) i = elements layouts (is_gc_storage elem.element_type) i
+    by_shape (exn_of params) i = aligned_fields (exception_base layouts) (map constant_field params) x i
+    by_shape (func_of params results) i = elim i [ ]
+
+aligned_typed : (layouts : Layouts) (types : List Declaration) (o : HeapObject) (k : VMGcKind) (x : ℕ) → In x (typed_offsets layouts types o k) → x % 4 ≡ 0
+aligned_typed layouts types o ExternRef x i = elim i [ ]
+aligned_typed layouts types o AnyRef x i = elim i [ ]
+aligned_typed layouts types o EqRef x i = elim i [ ]
+aligned_typed layouts types o StructRef x i = aligned_info layouts o (slice_get types o.ty) x i
+aligned_typed layouts types o ArrayRef x i = aligned_info layouts o (slice_get types o.ty) x i
+aligned_typed layouts types o ExnRef x i = aligned_info layouts o (slice_get types o.ty) x i
+
+aligned_traced : (types : List Declaration) (o : HeapObject) (bitmap array odd : Bool) (x : ℕ)
+    → In x (if bitmap then bitmap_offsets o.spare else (if array then (if odd then element_offsets Copying o else []) else typed_offsets Copying types o o.kind)) → x % 4 ≡ 0
+aligned_traced types o true array odd x i = aligned_bits 23 12 o.spare x refl i
+aligned_traced types o false true true x i = aligned_words (array_length o) 16 x refl i
+aligned_traced types o false true false x i = elim i [ ]
+aligned_traced types o false false odd x i = aligned_typed Copying types o o.kind x i
+
+-- references lie at multiples of 4
+pub references_aligned : (layouts : Layouts) (types : List Declaration) (o : HeapObject) (x : ℕ) → In x (reference_offsets layouts types o) → x % 4 ≡ 0
+references_aligned Null types o x i = aligned_typed Null types o o.kind x i
+references_aligned Counting types o x i = aligned_typed Counting types o o.kind x i
+references_aligned Copying types o x i = aligned_traced types o (form_of o.spare == 0) (form_of o.spare == 1) (o.spare % 2 == 1) x i

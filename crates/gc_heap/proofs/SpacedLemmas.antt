@@ -47,6 +47,11 @@ in_map f [] y i = elim i [ ]
 in_map f (x ∷ xs) _ here = (x, (here, refl))
 in_map f (x ∷ xs) y (there i) = let r = in_map f xs y i in (r.0, (there r.1.0, r.1.1))
 
+-- the first of a list, or a later one
+pub first_or_later : (y x : ℕ) (xs : List ℕ) → In x (y ∷ xs) → (x ≡ y) ⊎ In x xs
+first_or_later _ x xs here = inl refl
+first_or_later y x xs (there i) = inr i
+
 -- offsets that are spaced lie in their range
 pub Spaced-in : (lo hi : ℕ) (os : List ℕ) (o : ℕ) → Spaced lo hi os → In o os → (lo ≤ o) × (o + 4 ≤ hi)
 Spaced-in lo hi [] o s i = elim i [ ]
@@ -167,4 +172,38 @@ spaced_fields p (f ∷ fs) =
       | false ↦ λ is.
           subst (Spaced p hi) (sym (refs-skip _ (field_layouts (at + wide) fs) is))
           (spaced_wider (at + wide) p hi hi (ref_offsets (field_layouts (at + wide) fs)) (omega arith) (omega arith) rest)
+    ] refl
+
+-- offsets of references are multiples of 4
+pub aligned_bits : (n from bits x : ℕ) → from % 4 ≡ 0 → In x (bit_offsets from n bits) → x % 4 ≡ 0
+aligned_bits zero from bits x aligned i = elim i [ ]
+aligned_bits (suc n) from bits x aligned i = elim (cases_eq (bits % 2) 1) [
+  | inl one ↦ elim (first_or_later from x (bit_offsets (from + 4) n (bits / 2)) (subst (In x) (bit_set from n bits one) i)) [
+    | inl first ↦ ap (λ y. y % 4) first ∙ aligned
+    | inr later ↦ aligned_bits n (from + 4) (bits / 2) x (omega arith) later
+  ]
+  | inr ne ↦ aligned_bits n (from + 4) (bits / 2) x (omega arith) (subst (In x) (bit_clear from n bits (bit_is_0 bits ne)) i)
+]
+
+pub aligned_words : (n from x : ℕ) → from % 4 ≡ 0 → In x (word_offsets from n) → x % 4 ≡ 0
+aligned_words zero from x aligned i = elim i [ ]
+aligned_words (suc n) from x aligned i = elim (first_or_later from x (word_offsets (from + 4) n) i) [
+  | inl first ↦ ap (λ y. y % 4) first ∙ aligned
+  | inr later ↦ aligned_words n (from + 4) x (omega arith) later
+]
+
+pub aligned_fields : (p : ℕ) (fields : List FieldType) (x : ℕ) → In x (ref_offsets (field_layouts p fields)) → x % 4 ≡ 0
+aligned_fields p [] x i = elim i [ ]
+aligned_fields p (f ∷ fs) x i =
+    let at : ℕ = field_offset p f in
+    let wide : ℕ = storage_width f.element_type in
+    elim (is_gc_storage f.element_type) as (λ b. is_gc_storage f.element_type ≡ b → x % 4 ≡ 0) [
+      | true ↦ λ is. elim (first_or_later at x (ref_offsets (field_layouts (at + wide) fs)) (subst (In x) (refs-take _ (field_layouts (at + wide) fs) is) i)) [
+        | inl first ↦
+            let four : wide ≡ 4 = ref_width f.element_type is in
+            let here_at : at ≡ (p + (4 - 1)) / 4 * 4 = ap (λ w. (p + (w - 1)) / w * w) four in
+            omega arith
+        | inr later ↦ aligned_fields (at + wide) fs x later
+      ]
+      | false ↦ λ is. aligned_fields (at + wide) fs x (subst (In x) (refs-skip _ (field_layouts (at + wide) fs) is) i)
     ] refl

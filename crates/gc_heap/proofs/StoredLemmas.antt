@@ -3,7 +3,7 @@ use Rattle.std.proofs.Common.{◌≡◌, ◌≢◌, ℕ, ◌+◌, ◌-◌, ◌%�
 use Rattle.std.specs.Int.{w32, to_le_bytes}
 use Rattle.std.specs.FinMap.{get, insert}
 use Rattle.std.specs.FinSet as finset
-use Rattle.std.proofs.lemmas.Bool.{cases_eq}
+use Rattle.std.proofs.lemmas.Bool.{cases_eq, cases_lt}
 use Rattle.gc_types.specs.declared.kind.Layouts.{Layouts}
 use Rattle.gc_types.specs.declared.kind.Layouts.TheVariants.{Null, Counting, Copying}
 use Rattle.gc_types.specs.Declarations.{Declaration}
@@ -19,7 +19,7 @@ use Rattle.gc_heap.specs.Heap.{with_data, put_object}
 use Rattle.gc_heap.specs.Collection.{CanCollect, CountsExact, AreCounted, IsWordOf, names_of, occurrences, held_words, stack_words}
 use Rattle.gc_heap.specs.Totals.{total-replace, total-least}
 use Rattle.gc_heap.proofs.SpacedLemmas.{Spaced, Spaced-in, Spaced-apart, spaced_wider, contains_in, in_contains, map_in}
-use Rattle.gc_heap.proofs.ReferenceLemmas.{HasSameShape, references_spaced, same_offsets}
+use Rattle.gc_heap.proofs.ReferenceLemmas.{references_spaced, same_offsets, references_aligned}
 use Rattle.gc_heap.proofs.AddedLemmas.{start}
 use Rattle.gc_heap.proofs.CountLemmas.{CountsAre, raise_are, lower_are, raise_shown, lower_shown, put_cases, occurrences-append, never}
 use Rattle.gc_heap.proofs.MadeLemmas.{counted_place, uncounted}
@@ -313,13 +313,26 @@ module _ (layouts : Layouts) (types : List Declaration) (h : HeapView) (place : 
       subst (λ now. Changed q (references layouts types o) (references layouts types stored) (word_in layouts o offset) now) stored_word
       (subst (λ words. Changed q (references layouts types o) words (word_in layouts o offset) (word_in layouts stored offset)) (sym (references_written layouts types h place o offset ws write roots hosts can)) change)
 
-  -- A collection may begin after a reference was written that is null, a number, or names a held object; of
-  -- a heap that doesn't count.
-  pub can_collect_stored_uncounted : (layouts ≡ Counting → ⊥) → IsWordOf h word → CanCollect layouts (start (put_object h place stored) roots types hosts)
-  can_collect_stored_uncounted other is =
-      let ws : List ℕ = to_le_bytes w32 word in
-      can_collect_words layouts types h place o offset ws write roots hosts can (put_object h place stored) (put_in layouts types h place o offset ws write roots hosts can None None)
-      (stored_words is) (uncounted layouts types (put_object h place stored) roots other)
+-- Two words at multiples of 4 are one, or apart.
+apart_words : (x offset : ℕ) → x % 4 ≡ 0 → offset % 4 ≡ 0 → x ≢ offset → (x + 4 ≤ offset) ⊎ (offset + 4 ≤ x)
+apart_words x offset aligned aligned' ne = elim (cases_lt x offset) [ inl before ↦ inl (omega arith) | inr behind ↦ inr (let other : (x ≡ offset → ⊥) = ne in grind arith) ]
+
+-- In a heap that doesn't count, a collection may begin after a word was written that is null, a number, or
+-- names a held object, whether a reference lies there or not.
+pub can_collect_word : (layouts : Layouts) (types : List Declaration) (h : HeapView) (place : ℕ) (o : HeapObject) (offset word : ℕ) (roots : List Root) (hosts : ℕ → Bool) → (layouts ≡ Counting → ⊥)
+    → IsWrite layouts h place o offset (to_le_bytes w32 word) → word < 2 ^ 32 → offset % 4 ≡ 0 → IsWordOf h word → CanCollect layouts (start h roots types hosts)
+    → CanCollect layouts (start (put_object h place (with_data layouts o offset (to_le_bytes w32 word))) roots types hosts)
+can_collect_word layouts types h place o offset word roots hosts other write small aligned is can =
+    let ws : List ℕ = to_le_bytes w32 word in
+    let new : HeapObject = with_data layouts o offset ws in
+    can_collect_words layouts types h place o offset ws write roots hosts can (put_object h place new) (put_in layouts types h place o offset ws write roots hosts can None None)
+    (λ x i. elim (cases_eq x offset) [
+      | inl at ↦ subst (IsWordOf h) (sym (ap (word_in layouts new) at ∙ word_written layouts o offset word write.fits small)) is
+      | inr ne ↦ subst (IsWordOf h)
+          (sym (word_apart layouts o offset ws write.fits x (offset_above layouts types h place o offset ws write roots hosts can x i) (apart_words x offset (references_aligned layouts types o x i) aligned ne)))
+          (old_word layouts types h place o offset ws write roots hosts can x i)
+    ])
+    (uncounted layouts types (put_object h place new) roots other)
 
 stored_counted : (layouts : Layouts) (types : List Declaration) (h : HeapView) (roots : List Root) (place : ℕ) (o o' : HeapObject) (was now : ℕ) (destination source : Option ℕ) → IsHeap layouts h
     → Puts h (put_object (overwritten h destination source) place o') place o o' → ((q : ℕ) → Changed q (references layouts types o) (references layouts types o') was now)
