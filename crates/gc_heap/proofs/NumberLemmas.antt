@@ -27,13 +27,9 @@ use Rattle.gc_heap.specs.Heap.{AddsObject, IsWritable, with_data, put_object, la
 use Rattle.gc_heap.specs.Collection.{Collected, IsMoved}
 use Rattle.gc_heap.specs.Access.{IsReadable, data_part}
 use Rattle.gc_heap.specs.Client.{IsNumberStruct, MakesNumber}
-use Rattle.gc_heap.proofs.ClientLemmas.{start, held_new, kept_by_root, same_bytes, moved-place, last_moved}
-
--- a heap stores no less than it was asked for
-stored-least : (layouts : Layouts) (size : ℕ) → size ≤ stored_size layouts size
-stored-least Null size = omega arith
-stored-least Counting size = omega arith
-stored-least Copying size = omega arith
+use Rattle.gc_heap.proofs.AddedLemmas.{start, held_new, stored-least}
+use Rattle.gc_heap.proofs.AgainLemmas.{kept_by_root, moved-place}
+use Rattle.gc_heap.proofs.ClientLemmas.{adds, same_bytes, last_moved}
 
 struct_kind : (layout : GcStructLayout) → layout.is_exception ≡ false → layout_kind layout ≡ StructRef
 struct_kind layout plain = ap exn_or_struct plain
@@ -121,7 +117,7 @@ pub number_kept : (layouts : Layouts) (types : List Declaration) (layout : GcStr
     → (word index : ℕ) → index ≡ length roots → word ≡ (root_at moved_roots index).word → HoldsNumber layouts new word offset number
 number_kept layouts types layout offset number before old new place made from to roots moved_roots hosts hosts' done word index last read =
     let r : Root = root 0 false place in
-    let held = held_new layouts types layout before old place made.object made.adds in
+    let held = held_new layouts before old place made.object (adds layouts types layout before old place made.object made.adds) in
     let among : Contains (roots ++ r ∷ []) r = Contains-append_right roots (r ∷ []) r (0, omega arith, refl) in
     let kept = kept_by_root layouts (start old (roots ++ r ∷ []) types hosts) place r (made.object, held) among refl in
     let after = done.kept place made.object kept held in
