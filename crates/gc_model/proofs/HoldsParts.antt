@@ -8,16 +8,10 @@ use Rattle.gc_types.specs.Declarations.{Declaration}
 use Rattle.gc_model.specs.declared.RootEntry.{RootEntry}
 use Rattle.gc_model.specs.Values.{Object}
 use Rattle.gc_model.specs.Table.{Table, Scoped, Push}
+pub use Rattle.gc_model.specs.Views.{SameHeld}
 use Rattle.gc_model.specs.Views.{StoreView, HeapView, HeapObject}
 use Rattle.gc_model.specs.Holds.{Placing, Holds, KindHolds, HeldAt, ObjectsHold, ScopedHold, PushesDiffer, NothingElse}
 use Rattle.gc_model.proofs.Placings.{IsWithin, is_word-more}
-
--- two heaps hold the same: what else they tell, as counts, may differ
-pub record SameHeld (old new : HeapView) : Type 0 where
-  pub content : new.content ≡ old.content
-  pub attached : new.attached ≡ old.attached
-  pub capacity : new.capacity ≡ old.capacity
-  pub allocated : new.allocated ≡ old.allocated
 
 pub same_held-itself : (heap : HeapView) → SameHeld heap heap
 same_held-itself heap = record { content = refl; attached = refl; capacity = refl; allocated = refl }

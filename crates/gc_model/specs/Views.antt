@@ -41,6 +41,13 @@ pub record HeapView : Type 0 where
   pub scopes : ℕ
   pub counts : Counts
 
+-- a heap holds the same objects in the same memory
+pub record SameHeld (old new : HeapView) : Type 0 where
+  pub content : new.content ≡ old.content
+  pub attached : new.attached ≡ old.attached
+  pub capacity : new.capacity ≡ old.capacity
+  pub allocated : new.allocated ≡ old.allocated
+
 -- a heap with no memory, in which so many scopes stand that forbid a collection
 abbrev pub detached_in : ℕ → HeapView
 detached_in scopes = record {

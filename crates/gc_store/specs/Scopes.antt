@@ -1,17 +1,10 @@
 -- Leaving a scope.
-use Rattle.std.specs.Prelude.{◌≡◌, ℕ, Bool, List}
+use Rattle.std.specs.Prelude.{ℕ, Bool, List}
 use Rattle.gc_types.specs.declared.kind.Layouts.{Layouts}
 use Rattle.gc_types.specs.Declarations.{Declaration}
 use Rattle.gc_model.specs.declared.RootEntry.{RootEntry}
 use Rattle.gc_model.specs.Views.{HeapView}
 use Rattle.gc_store.specs.Tracing.{IsCollectable, roots_of}
-
--- a heap holds the same objects in the same memory
-pub record SameHeld (old new : HeapView) : Type 0 where
-  pub content : new.content ≡ old.content
-  pub attached : new.attached ≡ old.attached
-  pub capacity : new.capacity ≡ old.capacity
-  pub allocated : new.allocated ≡ old.allocated
 
 -- the roots may be dropped
 pub record CanDrop (layouts : Layouts) (h : HeapView) (entries : List RootEntry) : Type 0 where

@@ -3,9 +3,10 @@
 ghost use Rattle.std.specs.Prelude.{◌≡◌, ◌≤◌, ◌<◌, ℕ, Bool, List, length, take};
 ghost use Rattle.gc_types.specs.Declarations.{Declaration};
 ghost use Rattle.gc_model.specs.Table.{Table, leave};
+ghost use Rattle.gc_model.specs.Views.{SameHeld};
 ghost use Rattle.gc_model.specs.Holds.{HoldsTable};
 ghost use Rattle.gc_store.specs.Tracing.{IsCollectable, roots_of};
-ghost use Rattle.gc_store.specs.Scopes.{SameHeld, CanDrop};
+ghost use Rattle.gc_store.specs.Scopes.{CanDrop};
 ghost use Rattle.gc_store.specs.Stores.{IsSameStore};
 
 use crate::root_set::RootSet;
