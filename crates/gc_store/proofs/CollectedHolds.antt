@@ -1,0 +1,8 @@
+-- A store that held a table holds it after a collection, and no other object than the collection keeps.
+--
+-- collected_holds : {D : Type 0} (layouts : Layouts) (s : StoreView) (t : Table D) (place : Placing)
+--     (heap : HeapView) (entries : List RootEntry) (hosts hosts' : ℕ → Bool)
+--     → Holds layouts s t place → IsCollectable layouts s.types s.heap (roots_of s.scoped) hosts
+--     → IsHeap layouts s.heap → IsHeap layouts heap → s.heap.attached ≡ true
+--     → IsCollected layouts s.types s.heap heap s.scoped entries hosts hosts'
+--     → HoldsKept layouts (record s { heap = heap; scoped = entries }) t
