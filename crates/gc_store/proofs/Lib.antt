@@ -1,0 +1,2 @@
+pub mod CollectedOffsets
+pub mod CollectedHolds
