@@ -182,14 +182,14 @@ ref_field p (f ∷ fields) x i = elim (is_gc_storage f.element_type) as (λ b. i
 
 -- each reference field's offset is one of references
 pub field_referenced : (p : ℕ) (fields : List FieldType) (index : ℕ) (field : FieldType) (layout : FieldLayout) → IsField p fields index field layout → is_gc_storage field.element_type ≡ true → In layout.offset (ref_offsets (field_layouts p fields))
-field_referenced p [] index field layout is reference = absurd (none-some field is.type_is)
-field_referenced p (f ∷ fields) zero field layout is reference =
+field_referenced p [] index field layout is followed = absurd (none-some field is.type_is)
+field_referenced p (f ∷ fields) zero field layout is followed =
     let same : f ≡ field = grind (arith, is.type_is) in
-    let e : is_gc_storage f.element_type ≡ true = ap (λ (x : FieldType). is_gc_storage x.element_type) same ∙ reference in
+    let e : is_gc_storage f.element_type ≡ true = ap (λ (x : FieldType). is_gc_storage x.element_type) same ∙ followed in
     let at : field_offset p f ≡ layout.offset = grind (arith, is.layout_is) in
     subst (λ x. In x (ref_offsets (field_layouts p (f ∷ fields)))) at (subst (In (field_offset p f)) (sym (refs-take (first_layout p f) (field_layouts (behind p f) fields) e)) here)
-field_referenced p (f ∷ fields) (suc index) field layout is reference =
-    let later = field_referenced (behind p f) fields index field layout (record { type_is = is.type_is; layout_is = is.layout_is }) reference in
+field_referenced p (f ∷ fields) (suc index) field layout is followed =
+    let later = field_referenced (behind p f) fields index field layout (record { type_is = is.type_is; layout_is = is.layout_is }) followed in
     elim (is_gc_storage f.element_type) as (λ b. is_gc_storage f.element_type ≡ b → In layout.offset (ref_offsets (field_layouts p (f ∷ fields)))) [
       | true ↦ λ e. subst (In layout.offset) (sym (refs-take (first_layout p f) (field_layouts (behind p f) fields) e)) (there later)
       | false ↦ λ e. subst (In layout.offset) (sym (refs-skip (first_layout p f) (field_layouts (behind p f) fields) e)) later

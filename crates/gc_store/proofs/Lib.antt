@@ -1,2 +1,4 @@
 pub mod CollectedOffsets
+pub mod CollectedValues
+pub mod CollectedPlacing
 pub mod CollectedHolds
