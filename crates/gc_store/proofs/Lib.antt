@@ -1,4 +1,7 @@
 pub mod CollectedOffsets
 pub mod CollectedValues
 pub mod CollectedPlacing
+pub mod CollectedLists
+pub mod CollectedReach
+pub mod CollectedKept
 pub mod CollectedHolds
