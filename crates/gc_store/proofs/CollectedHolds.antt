@@ -10,14 +10,15 @@ use Rattle.gc_types.specs.declared.kind.Layouts.TheVariants.{Null, Counting, Cop
 use Rattle.gc_types.specs.Declarations.{Declaration}
 use Rattle.gc_roots.specs.Roots.{Root}
 use Rattle.gc_model.specs.declared.RootEntry.{RootEntry}
-use Rattle.gc_model.specs.Values.{Reference, at}
+use Rattle.gc_model.specs.Values.{Reference, null, small, at, struct}
 use Rattle.gc_model.specs.Table.{Table, Scoped}
+use Rattle.gc_model.specs.Reach.{IsKept}
 use Rattle.gc_model.specs.Views.{StoreView, HeapObject, HeapView}
 use Rattle.gc_model.specs.Holds.{Placing, IsWord, EntryStands, HeldAt, ObjectsHold, KindHolds, ScopedHold, Holds, HoldsKept}
 use Rattle.gc_model.proofs.Live.{entry_stands}
 use Rattle.gc_heap.specs.References.{references}
 use Rattle.gc_heap.specs.Content.{IsHeld, IsHeap}
-use Rattle.gc_heap.specs.Collection.{Start, CanCollect, Kept, moved, moved_root, Collected}
+use Rattle.gc_heap.specs.Collection.{Start, CanCollect, Kept, moved, moved_root, IsMoved, Collected}
 use Rattle.gc_heap.proofs.AgainLemmas.{kept_by_root, kept_by_field, kept_held, moved-place}
 use Rattle.gc_store.specs.RootSets.{IsCollected}
 use Rattle.gc_store.specs.Tracing.{IsCollectable, AreTraced, roots_of, root_of, start_from}
@@ -83,11 +84,11 @@ module _ {D : Type 0} (layouts : Layouts) (s : StoreView) (t : Table D) (place :
       let now = done.kept word there.object kept there.in_heap in
       let is : MovedStruct layouts t.types done.to there.object now.0 = record {
         traced = traced_struct layouts s t place c.holds c.collectable.traced hosts p word there;
-        is_moved = subst (λ types. Rattle.gc_heap.specs.Collection.IsMoved layouts types done.to there.object now.0) c.holds.types now.1.1;
+        is_moved = subst (λ types. IsMoved layouts types done.to there.object now.0) c.holds.types now.1.1;
       } in
       record {
         object = now.0;
-        entry = Rattle.gc_model.specs.Values.struct there.ty there.values;
+        entry = struct there.ty there.values;
         in_heap = now.1.0;
         in_table = there.in_table;
         stands = stands_moved layouts t.types done.to there.object now.0 is place after
@@ -114,6 +115,11 @@ module _ {D : Type 0} (layouts : Layouts) (s : StoreView) (t : Table D) (place :
     even = λ word o e. let lies = c.is_heap.objects word o e in (let aligned = lies.aligned in omega arith, lies.not_null);
   }
 
+  not_null_after : (r : Reference) (w : ℕ) → 0 < w → IsWord place r w → IsWord after r (moved done.to w) → 0 < moved done.to w
+  not_null_after null w above is is' = absurd (omega (arith, is))
+  not_null_after (small n) w above is is' = omega (arith, is')
+  not_null_after (at p) w above is is' = let held = objects_after.placed p (moved done.to w) is' in (objects_after.even (moved done.to w) held.object held.in_heap).1
+
   entry_after : (i : ℕ) (entry : RootEntry) (root : Scoped) → slice_get entries i ≡ Some entry → slice_get t.scoped i ≡ Some root → EntryStands t after i entry root
   entry_after i entry root e f =
       let before = entry_was done.to s.scoped entries done.roots_moved c.is_collected.generations i entry e in
@@ -124,11 +130,63 @@ module _ {D : Type 0} (layouts : Layouts) (s : StoreView) (t : Table D) (place :
       record {
         pushed = stands.pushed ∙ ap (λ g. Some (record { index = i; generation = g })) (sym before.generation);
         word = subst (λ w. IsWord after root.reference w) (sym before.word) word;
-        not_null = ?;
+        not_null = subst (λ w. 0 < w) (sym before.word) (not_null_after root.reference before.was.word stands.not_null stands.word word);
       }
 
   scoped_after : ScopedHold t after entries
   scoped_after = record {
-    same_count = sym (length-map (λ (e : RootEntry). e.generation) entries) ∙ ap (λ (gs : List ℕ). length gs) c.is_collected.generations ∙ length-map (λ (e : RootEntry). e.generation) s.scoped ∙ c.holds.scoped.same_count;
+    same_count = sym (length-map entries (λ (e : RootEntry). e.generation)) ∙ ap (λ (gs : List ℕ). length gs) c.is_collected.generations ∙ length-map s.scoped (λ (e : RootEntry). e.generation) ∙ c.holds.scoped.same_count;
     each = entry_after;
   }
+
+  holds_after : KindHolds layouts t after heap → Holds layouts (record s { heap = heap; scoped = entries }) t after
+  holds_after kind = record {
+    types = c.holds.types;
+    numbers = record {
+      generation = c.holds.numbers.generation;
+      first = c.holds.numbers.first;
+      max_scoped = c.holds.numbers.max_scoped;
+      max_owned = c.holds.numbers.max_owned;
+      made = done.attached ∙ sym c.attached ∙ c.holds.numbers.made;
+      capacity = done.capacity ∙ c.holds.numbers.capacity;
+      no_pages = c.holds.numbers.no_pages;
+      no_objects = c.holds.numbers.no_objects;
+      first_fits = c.holds.numbers.first_fits;
+      few_roots = c.holds.numbers.few_roots;
+      scoped_within = c.holds.numbers.scoped_within;
+      drops_within = c.holds.numbers.drops_within;
+    };
+    objects = objects_after;
+    by_kind = kind;
+    scoped = scoped_after;
+    pushes = c.holds.pushes;
+    no_hosts = c.holds.no_hosts;
+    nothing_else = c.holds.nothing_else;
+    only_built = c.holds.only_built;
+  }
+
+  kept_after : (p word : ℕ) → after p ≡ Some word → IsKept layouts t p
+  kept_after p word e =
+      let was = placed_before layouts begin heap (roots_of entries) hosts' done place p word e in
+      kept_position s t place layouts c.holds c.collectable.traced hosts was.word was.kept p was.placed
+
+-- what one kind of heap owes alone
+kind_after : {D : Type 0} (layouts : Layouts) (s : StoreView) (t : Table D) (place : Placing) (heap : HeapView) (entries : List RootEntry) (hosts hosts' : ℕ → Bool) (c : Collects layouts s t place heap entries hosts hosts')
+    → KindHolds layouts t (after layouts s t place heap entries hosts hosts' c) heap
+kind_after Null s t place heap entries hosts hosts' c = record {
+  all_held = λ p below.
+      let was = c.holds.by_kind.all_held p below in
+      let kept = held_of Null s t place heap entries hosts hosts' c p was.0 was.1 in
+      (c.is_collected.collected.to was.0, placed_after Null (begin Null s t place heap entries hosts hosts' c) heap (roots_of entries) hosts' c.is_collected.collected place p was.0 was.1 kept);
+  allocated = ap (λ (h : HeapView). h.allocated + 1) c.is_collected.collected.by_kind.0 ∙ c.holds.by_kind.allocated;
+}
+kind_after Counting s t place heap entries hosts hosts' c = tt
+kind_after Copying s t place heap entries hosts hosts' c = tt
+
+-- The store holds the table after a collection, and its heap holds what the collection keeps.
+pub collected_holds : {D : Type 0} (layouts : Layouts) (s : StoreView) (t : Table D) (place : Placing) (heap : HeapView) (entries : List RootEntry) (hosts hosts' : ℕ → Bool)
+    → Collects layouts s t place heap entries hosts hosts' → HoldsKept layouts (record s { heap = heap; scoped = entries }) t
+collected_holds layouts s t place heap entries hosts hosts' c = (
+  after layouts s t place heap entries hosts hosts' c,
+  (holds_after layouts s t place heap entries hosts hosts' c (kind_after layouts s t place heap entries hosts hosts' c), kept_after layouts s t place heap entries hosts hosts' c),
+)
