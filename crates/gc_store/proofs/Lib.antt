@@ -5,3 +5,5 @@ pub mod CollectedLists
 pub mod CollectedReach
 pub mod CollectedKept
 pub mod CollectedHolds
+pub mod HeldEntries
+pub mod HeldNumber
