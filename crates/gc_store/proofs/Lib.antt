@@ -7,3 +7,4 @@ pub mod CollectedKept
 pub mod CollectedHolds
 pub mod HeldEntries
 pub mod HeldNumber
+pub mod CollectedStore
