@@ -7,4 +7,5 @@ pub mod CollectedKept
 pub mod CollectedHolds
 pub mod HeldEntries
 pub mod HeldNumber
+pub mod HeldPaths
 pub mod CollectedStore
