@@ -8,4 +8,6 @@ pub mod CollectedHolds
 pub mod HeldEntries
 pub mod HeldNumber
 pub mod HeldPaths
+pub mod HeldSums
+pub mod CollectedRoom
 pub mod CollectedStore
