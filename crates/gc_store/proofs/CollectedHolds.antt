@@ -1,31 +1,26 @@
 -- A store that held a table holds it after a collection, and no other object than the collection keeps.
-use Rattle.std.proofs.Common.{◌≡◌, ℕ, ◌+◌, ◌*◌, ◌%◌, ◌<◌, ◌⊎◌, inl, inr, Bool, true, false, List, length, map, Option, Some, None, Contains, refl, sym, ap, ◌∙◌, subst, arith}
+use Rattle.std.proofs.Common.{◌≡◌, ℕ, ◌+◌, ◌<◌, Bool, true, List, length, map, Some, Contains, refl, sym, ap, ◌∙◌, subst, arith}
 use Rattle.std.specs.List.{slice_get}
-use Rattle.std.specs.FinMap.{get}
-use Rattle.std.proofs.lemmas.Bool.Decides.{nat_tests}
 use Rattle.std.proofs.lemmas.List.{length-map}
-use Rattle.std.proofs.lemmas.Option.{none-some}
 use Rattle.gc_types.specs.declared.kind.Layouts.{Layouts}
 use Rattle.gc_types.specs.declared.kind.Layouts.TheVariants.{Null, Counting, Copying}
-use Rattle.gc_types.specs.Declarations.{Declaration}
 use Rattle.gc_roots.specs.Roots.{Root}
 use Rattle.gc_model.specs.declared.RootEntry.{RootEntry}
 use Rattle.gc_model.specs.Values.{Reference, null, small, at, struct}
 use Rattle.gc_model.specs.Table.{Table, Scoped}
 use Rattle.gc_model.specs.Reach.{IsKept}
-use Rattle.gc_model.specs.Views.{StoreView, HeapObject, HeapView}
+use Rattle.gc_model.specs.Views.{StoreView, HeapView}
 use Rattle.gc_model.specs.Holds.{Placing, IsWord, EntryStands, HeldAt, ObjectsHold, KindHolds, ScopedHold, Holds, HoldsKept}
-use Rattle.gc_model.proofs.Live.{entry_stands}
 use Rattle.gc_heap.specs.References.{references}
 use Rattle.gc_heap.specs.Content.{IsHeld, IsHeap}
-use Rattle.gc_heap.specs.Collection.{Start, CanCollect, Kept, moved, moved_root, IsMoved, Collected}
-use Rattle.gc_heap.proofs.AgainLemmas.{kept_by_root, kept_by_field, kept_held, moved-place}
+use Rattle.gc_heap.specs.Collection.{Start, Kept, moved, moved_root, IsMoved, Collected}
+use Rattle.gc_heap.proofs.AgainLemmas.{kept_by_root, kept_by_field, kept_held}
 use Rattle.gc_store.specs.RootSets.{IsCollected}
-use Rattle.gc_store.specs.Tracing.{IsCollectable, AreTraced, roots_of, root_of, start_from}
+use Rattle.gc_store.specs.Tracing.{IsCollectable, roots_of, root_of, start_from}
 use Rattle.gc_store.proofs.CollectedLists.{get_contains, map_get, map_source}
 use Rattle.gc_store.proofs.CollectedValues.{MovedStruct, stands_moved}
 use Rattle.gc_store.proofs.CollectedPlacing.{place_after, placed_after, placed_before, word_carried}
-use Rattle.gc_store.proofs.CollectedKept.{PlacedStruct, placed_struct, traced_struct, kept_position}
+use Rattle.gc_store.proofs.CollectedKept.{placed_struct, traced_struct, kept_position}
 
 -- A collection of a store's heap, which has a memory.
 pub record Collects {D : Type 0} (layouts : Layouts) (s : StoreView) (t : Table D) (place : Placing) (heap : HeapView) (entries : List RootEntry) (hosts hosts' : ℕ → Bool) : Type 0 where
@@ -93,7 +88,7 @@ module _ {D : Type 0} (layouts : Layouts) (s : StoreView) (t : Table D) (place :
         in_table = there.in_table;
         stands = stands_moved layouts t.types done.to there.object now.0 is place after
             (λ r w among is_word. carried r w
-              (λ q placed. kept_by_field layouts begin w word there.object (held_of q w placed) kept there.in_heap (subst (λ types. Contains (references layouts types there.object) w) (sym c.holds.types) among)) is_word)
+            (λ q placed. kept_by_field layouts begin w word there.object (held_of q w placed) kept there.in_heap (subst (λ types. Contains (references layouts types there.object) w) (sym c.holds.types) among)) is_word)
             there.ty there.values there.stands (c.holds.only_built there.object.ty is.traced.fields is.traced.declared);
       }
 

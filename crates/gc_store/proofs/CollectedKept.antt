@@ -1,18 +1,17 @@
 -- What a collection of the heap keeps are the objects that the roots of the table reach.
-use Rattle.std.proofs.Common.{◌≡◌, ℕ, ◌<◌, Bool, List, [], ◌∷◌, length, map, Option, Some, Contains, refl, sym, ap, ◌∙◌, subst, arith}
+use Rattle.std.proofs.Common.{◌≡◌, ℕ, Bool, List, Some, Contains, sym, ap, ◌∙◌, subst, arith}
 use Rattle.std.specs.List.{slice_get, flat_map}
 use Rattle.std.specs.FinMap.{get}
 use Rattle.std.proofs.lemmas.Option.{slice_get_within}
 use Rattle.gc_types.specs.declared.kind.Layouts.{Layouts}
 use Rattle.gc_types.specs.declared.kind.Layouts.TheVariants.{Null, Counting, Copying}
 use Rattle.gc_roots.specs.Roots.{Root}
-use Rattle.gc_memory.specs.Lists.{In}
 use Rattle.gc_model.specs.declared.RootEntry.{RootEntry}
 use Rattle.gc_model.specs.Values.{Reference, at, Value, Object, struct, array, host, exception}
 use Rattle.gc_model.specs.Table.{Table, Scoped}
 use Rattle.gc_model.specs.Reach as reach
 use Rattle.gc_model.specs.Reach.{value_references, references_in, IsReached, IsKept}
-use Rattle.gc_model.specs.Views.{StoreView, HeapObject, HeapView}
+use Rattle.gc_model.specs.Views.{StoreView, HeapObject}
 use Rattle.gc_model.specs.Holds.{Placing, IsWord, Stands, StructStands, Holds}
 use Rattle.gc_model.proofs.Lists.{slice_get-same_length}
 use Rattle.gc_model.proofs.Live.{entry_stands}
@@ -79,7 +78,7 @@ module _ {D : Type 0} (layouts : Layouts) (s : StoreView) (t : Table D) (place :
         let there = placed_struct before.0 from before.1 in
         let same : there.object ≡ o = (let both : Some there.object ≡ Some o = sym there.in_heap ∙ got in grind (arith, both)) in
         let found = in_map (word_in layouts there.object) (reference_offsets layouts t.types there.object) word
-            (contains_in (references layouts t.types there.object) word (subst (λ x. Contains (references layouts t.types x) word) (sym same) (subst (λ types. Contains (references layouts types o) word) holds.types among))) in
+        (contains_in (references layouts t.types there.object) word (subst (λ x. Contains (references layouts t.types x) word) (sym same) (subst (λ types. Contains (references layouts types o) word) holds.types among))) in
         let named = reference_of_word layouts t.types place there.ty there.values there.object there.stands (traced_struct before.0 from there) found.0 found.1.0 in
         let names : named.reference_is ≡ at p = word_names layouts t place s.heap holds.objects named.reference_is (at p) word (subst (IsWord place named.reference_is) found.1.1 named.is_word) e in
         value_reached before.0 there.ty there.values (reached_position from reached before.0 before.1) there.in_table named.reference_is p names named.among

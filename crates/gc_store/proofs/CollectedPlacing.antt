@@ -1,5 +1,5 @@
 -- Where the objects of a table lie after a collection: each that was kept at its new place, and no other.
-use Rattle.std.proofs.Common.{◌≡◌, ℕ, ◌%◌, ◌<◌, Bool, true, false, cond, if◌then◌else◌, nat_eq, List, Option, Some, None, inl, inr, refl, sym, ap, ◌∙◌, subst, arith}
+use Rattle.std.proofs.Common.{◌≡◌, ℕ, ◌%◌, Bool, cond, if◌then◌else◌, nat_eq, List, Option, Some, None, inl, inr, refl, sym, ap, ◌∙◌, subst, arith}
 use Rattle.std.specs.FinMap.{get}
 use Rattle.std.proofs.lemmas.Bool.{cases_eq, eq-eqb, ne_eqb}
 use Rattle.std.proofs.lemmas.Bool.Decides.{nat_tests}
@@ -9,7 +9,7 @@ use Rattle.gc_roots.specs.Roots.{Root}
 use Rattle.gc_model.specs.Values.{Reference, null, small, at}
 use Rattle.gc_model.specs.Views.{HeapObject, HeapView}
 use Rattle.gc_model.specs.Holds.{Placing, IsWord}
-use Rattle.gc_heap.specs.Content.{IsHeld, IsHeap}
+use Rattle.gc_heap.specs.Content.{IsHeap}
 use Rattle.gc_heap.specs.Collection.{Start, Kept, moved, Collected}
 use Rattle.gc_heap.proofs.AgainLemmas.{kept_held, moved-place}
 

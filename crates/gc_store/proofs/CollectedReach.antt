@@ -1,36 +1,27 @@
 -- What the roots and the values of a table name, and the words in the heap that stand for it.
-use Rattle.std.proofs.Common.{◌≡◌, ℕ, zero, suc, ◌+◌, ◌-◌, ◌<◌, ◌≤◌, ◌⊎◌, inl, inr, Bool, true, false, List, [], ◌∷◌, ◌++◌, length, map, replicate, Option, Some, None, Contains, refl, sym, ap, ◌∙◌, subst, arith}
+use Rattle.std.proofs.Common.{◌≡◌, ℕ, zero, suc, ◌-◌, inl, inr, true, List, [], ◌∷◌, ◌++◌, map, replicate, Some, Contains, refl, sym, ap, ◌∙◌, subst, arith}
 use Rattle.std.specs.List.{slice_get, flat_map}
-use Rattle.std.specs.Prelude.{All}
-use Rattle.std.specs.FinMap.{get}
 use Rattle.std.proofs.lemmas.List.Elements.{Contains-append_cases, Contains-append_left}
-use Rattle.std.proofs.lemmas.Option.{slice_get_within, get_or_from_slice_get}
-use Rattle.gc_types.specs.declared.value.FieldType.{FieldType}
 use Rattle.gc_types.specs.declared.value.StorageType.{StorageType}
 use Rattle.gc_types.specs.declared.value.StorageType.TheVariants as storage
 use Rattle.gc_types.specs.declared.value.ValType.TheVariants as val
-use Rattle.gc_types.specs.declared.value.RefType.{RefType}
 use Rattle.gc_types.specs.declared.kind.Layouts.{Layouts}
 use Rattle.gc_types.specs.Declarations.{Declaration, struct_fields_at}
 use Rattle.gc_types.specs.Layouts.{struct_base, field_layouts, is_gc_storage, ref_offsets}
 use Rattle.gc_memory.specs.Lists.{In}
 use Rattle.gc_model.specs.declared.GcClass.{GcClass}
 use Rattle.gc_model.specs.declared.GcClass.TheVariants.{Any, Extern, Exn}
-use Rattle.gc_model.specs.declared.RootEntry.{RootEntry}
-use Rattle.gc_model.specs.Values.{Reference, null, small, at, Value, i32, i64, f32, f64, v128, function, reference, Object, struct, array, host, exception}
-use Rattle.gc_model.specs.Table.{Table, Scoped, Slot, empty_slot, global_count}
-use Rattle.gc_model.specs.Reach.{root_references, slot_references, owned_references, present, references_in, value_references, Reached, by_root, by_value, IsReached}
-use Rattle.gc_model.specs.Fits.{is_built_storage, is_built_field}
-use Rattle.gc_model.specs.Views.{StoreView, HeapObject, u32_at}
-use Rattle.gc_model.specs.Holds.{Placing, IsWord, Lies, LiesAny, StructStands, EntryStands, NothingElse, Holds}
+use Rattle.gc_model.specs.Values.{Reference, null, at, Value, i32, i64, f32, f64, v128, function, reference}
+use Rattle.gc_model.specs.Table.{Table, Scoped, empty_slot, global_count}
+use Rattle.gc_model.specs.Reach.{root_references, slot_references, owned_references, present, value_references}
+use Rattle.gc_model.specs.Views.{HeapObject, u32_at}
+use Rattle.gc_model.specs.Holds.{Placing, IsWord, Lies, LiesAny, StructStands, NothingElse}
 use Rattle.gc_model.proofs.HeldStructs.{read_lies, field_value, FieldHolds}
-use Rattle.gc_model.proofs.Lists.{slice_get-same_length}
 use Rattle.gc_heap.specs.References.{reference_offsets, word_in}
 use Rattle.gc_heap.proofs.SpacedLemmas.{only_item}
 use Rattle.gc_store.specs.Tracing.{IsTracedStruct}
 use Rattle.gc_store.proofs.CollectedLists.{get_contains, contains_one, contains_map, contains_flat, flat_contains, map_get}
-use Rattle.gc_store.proofs.CollectedOffsets.{SameElements, ref_field, field_referenced, traced_offsets_are}
-use Rattle.gc_store.proofs.CollectedValues.{built_is_followed}
+use Rattle.gc_store.proofs.CollectedOffsets.{SameElements, ref_field, traced_offsets_are}
 
 -- empty slots name no object
 empty_slots : (n p : ℕ) → Contains (slot_references (replicate n empty_slot)) (at p) → ⊥
@@ -67,15 +58,15 @@ pub scoped_names : {D : Type 0} (t : Table D) → NothingElse t → (p : ℕ) �
 scoped_names t nothing p c = elim (Contains-append_cases (map (λ (root : Scoped). root.reference) t.scoped) (frames t ++ (globals t ++ (owned t ++ present t.pending))) (at p) c) [
   | inl scoped ↦ let found = contains_map (λ (root : Scoped). root.reference) t.scoped (at p) scoped in record { index = found.index; root = found.element; there = found.there; is = found.is }
   | inr behind ↦ elim (Contains-append_cases (frames t) (globals t ++ (owned t ++ present t.pending)) (at p) behind) [
-      | inl slot ↦ absurd (none_contained (at p) (subst (λ fs. Contains (flat_map slot_references fs) (at p)) nothing.frames slot))
-      | inr rest ↦ elim (Contains-append_cases (globals t) (owned t ++ present t.pending) (at p) rest) [
-          | inl slot ↦ absurd (empty_slots global_count p (subst (λ gs. Contains (slot_references gs) (at p)) nothing.globals slot))
-          | inr last ↦ elim (Contains-append_cases (owned t) (present t.pending) (at p) last) [
-              | inl one ↦ absurd (none_contained (at p) (subst (λ os. Contains (flat_map owned_references os) (at p)) nothing.owned one))
-              | inr one ↦ absurd (none_contained (at p) (subst (λ x. Contains (present x) (at p)) nothing.pending one))
-            ]
-        ]
+    | inl slot ↦ absurd (none_contained (at p) (subst (λ fs. Contains (flat_map slot_references fs) (at p)) nothing.frames slot))
+    | inr rest ↦ elim (Contains-append_cases (globals t) (owned t ++ present t.pending) (at p) rest) [
+      | inl slot ↦ absurd (empty_slots global_count p (subst (λ gs. Contains (slot_references gs) (at p)) nothing.globals slot))
+      | inr last ↦ elim (Contains-append_cases (owned t) (present t.pending) (at p) last) [
+        | inl one ↦ absurd (none_contained (at p) (subst (λ os. Contains (flat_map owned_references os) (at p)) nothing.owned one))
+        | inr one ↦ absurd (none_contained (at p) (subst (λ x. Contains (present x) (at p)) nothing.pending one))
+      ]
     ]
+  ]
 ]
 
 -- a scoped root is a root
@@ -173,5 +164,5 @@ module _ (layouts : Layouts) (types : List Declaration) (place : Placing) (ty : 
       let value = field_value layouts types place ty values h stands r.index r.field r.is_field.type_is in
       let word : ℕ = u32_at h.bytes (r.layout.offset - base) in
       let lies : AnyLies place value.0 word = followed_lies place r.field.element_type value.0 h.bytes (r.layout.offset - base) r.is_reference
-          (stands.values_lie.each r.index r.field r.layout value.0 r.is_field.type_is r.is_field.layout_is value.1) in
+      (stands.values_lie.each r.index r.field r.layout value.0 r.is_field.type_is r.is_field.layout_is value.1) in
       subst (λ x. ReferenceOfWord place values (word_in layouts h x)) r.at (word_of_value place values r.index value.0 word value.1 lies)

@@ -1,6 +1,6 @@
 -- Room in a copying heap: beside all its objects, and beside those that the roots of the table reach.
-use Rattle.std.proofs.Common.{◌≡◌, ℕ, ◌+◌, ◌-◌, ◌*◌, ◌/◌, ◌≤◌, Bool, List, length, filter, sum, Some, Contains, sym, ap, ◌∙◌, subst, arith}
-use Rattle.std.specs.List.{slice_get, sum_by}
+use Rattle.std.proofs.Common.{◌≡◌, ℕ, ◌+◌, List, length, filter, Some, sym, ap, ◌∙◌, arith}
+use Rattle.std.specs.List.{sum_by}
 use Rattle.std.specs.FinMap.{get, entries}
 use Rattle.std.proofs.lemmas.List.Sums.{sum-map}
 use Rattle.gc_types.specs.declared.kind.Layouts.{Layouts}

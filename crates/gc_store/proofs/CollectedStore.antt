@@ -1,5 +1,5 @@
 -- A store after a collection of its heap, and one that has no heap to collect.
-use Rattle.std.proofs.Common.{◌≡◌, ℕ, ◌<◌, Bool, true, false, List, [], ◌∷◌, length, Option, Some, None, refl, sym, ap, ◌∙◌, subst, arith}
+use Rattle.std.proofs.Common.{◌≡◌, ℕ, Bool, true, false, List, [], ◌∷◌, length, Some, refl, sym, ap, ◌∙◌, subst, arith}
 use Rattle.std.specs.Ordering.{nat_cmp}
 use Rattle.std.specs.List.{slice_get}
 use Rattle.std.specs.FinMap.{FinMap, get, len, entries, len-entries, get-entries, find}
@@ -7,15 +7,14 @@ use Rattle.std.proofs.lemmas.Option.{none-some}
 use Rattle.gc_types.specs.declared.kind.Layouts.{Layouts}
 use Rattle.gc_model.specs.declared.RootEntry.{RootEntry}
 use Rattle.gc_model.specs.Table.{Table}
-use Rattle.gc_model.specs.Reach.{IsKept}
 use Rattle.gc_model.specs.Views.{StoreView, HeapView}
 use Rattle.gc_model.specs.Values.{Object}
-use Rattle.gc_model.specs.Holds.{Placing, Holds, HoldsTable, HoldsKept}
+use Rattle.gc_model.specs.Holds.{HoldsTable, HoldsKept}
 use Rattle.gc_heap.specs.Content.{IsHeap}
-use Rattle.gc_heap.specs.Collection.{has_host, IsPartOf}
+use Rattle.gc_heap.specs.Collection.{IsPartOf}
 use Rattle.gc_store.specs.RootSets.{IsCollected}
 use Rattle.gc_store.specs.Tracing.{IsCollectable, roots_of}
-use Rattle.gc_store.proofs.CollectedHolds.{Collects, collected_holds}
+use Rattle.gc_store.proofs.CollectedHolds.{collected_holds}
 use Rattle.gc_store.proofs.HeldEntries.{held_entry}
 
 -- a part of a table of host values that has none has none
@@ -34,10 +33,16 @@ part_has_none {D} part whole within none = len-entries part ∙ by (entries part
 
 -- a store whose heap has no memory holds no object
 pub unmade_kept : {D : Type 0} (layouts : Layouts) (s : StoreView) (t : Table D) → s.heap.attached ≡ false → HoldsTable layouts s t → HoldsKept layouts s t
-unmade_kept {D} layouts s t detached holds = (holds.0, (holds.1, λ p word e.
-    let held = holds.1.objects.placed p word e in
-    let none : t.objects ≡ [] = holds.1.numbers.no_objects (sym holds.1.numbers.made ∙ detached) in
-    absurd (none-some held.entry (ap (λ (os : List (Object D)). slice_get os p) (sym none) ∙ held.in_table))))
+unmade_kept {D} layouts s t detached holds = (
+  holds.0,
+  (
+    holds.1,
+    λ p word e.
+        let held = holds.1.objects.placed p word e in
+        let none : t.objects ≡ [] = holds.1.numbers.no_objects (sym holds.1.numbers.made ∙ detached) in
+        absurd (none-some held.entry (ap (λ (os : List (Object D)). slice_get os p) (sym none) ∙ held.in_table)),
+  ),
+)
 
 -- The store after a collection, whose host values are some of those before.
 pub collected_store : {D : Type 0} (layouts : Layouts) (s : StoreView) (t : Table D) (heap : HeapView) (entries : List RootEntry) (n : ℕ) (hosts hosts' : ℕ → Bool)

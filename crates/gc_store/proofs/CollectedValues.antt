@@ -1,13 +1,11 @@
 -- The values of a struct lie in it after its references were moved.
-use Rattle.std.proofs.Common.{◌≡◌, ◌≢◌, ℕ, ◌+◌, ◌-◌, ◌%◌, ◌<◌, ◌≤◌, ◌⊎◌, inl, inr, Bool, true, false, cond, List, length, Some, Contains, refl, sym, ap, ◌∙◌, subst, arith}
+use Rattle.std.proofs.Common.{◌≡◌, ◌≢◌, ℕ, ◌+◌, ◌-◌, ◌<◌, ◌≤◌, inl, inr, Bool, true, false, cond, List, Some, Contains, refl, sym, ap, ◌∙◌, subst, arith}
 use Rattle.std.specs.List.{slice_get}
-use Rattle.std.proofs.lemmas.Bool.{cases_eq}
 use Rattle.std.proofs.lemmas.Option.{slice_get_within, get_or_from_slice_get}
 use Rattle.std.specs.Prelude.{All}
 use Rattle.gc_types.specs.declared.value.FieldType.{FieldType}
 use Rattle.gc_types.specs.declared.value.StorageType.{StorageType}
 use Rattle.gc_types.specs.declared.value.StorageType.TheVariants as storage
-use Rattle.gc_types.specs.declared.value.ValType.{ValType}
 use Rattle.gc_types.specs.declared.value.ValType.TheVariants as val
 use Rattle.gc_types.specs.declared.value.RefType.{RefType}
 use Rattle.gc_types.specs.declared.value.HeapType.{HeapType}
@@ -15,13 +13,13 @@ use Rattle.gc_types.specs.declared.value.HeapType.TheVariants as heap
 use Rattle.gc_types.specs.declared.kind.Layouts.{Layouts}
 use Rattle.gc_types.specs.declared.layout.FieldLayout.{FieldLayout}
 use Rattle.gc_types.specs.Declarations.{Declaration, struct_fields_at}
-use Rattle.gc_types.specs.Layouts.{struct_base, field_layouts, storage_width, is_gc_storage, is_gc_heap_type, ref_offsets}
+use Rattle.gc_types.specs.Layouts.{struct_base, storage_width, is_gc_storage, is_gc_heap_type}
 use Rattle.gc_memory.specs.Lists.{In}
 use Rattle.gc_model.specs.declared.GcClass.TheVariants.{Any, Extern, Exn}
 use Rattle.gc_model.specs.Values.{Reference, Value, i32, i64, f32, f64, v128, function, reference}
 use Rattle.gc_model.specs.Bytes.{SameBytes}
 use Rattle.gc_model.specs.Fits.{is_any, is_built_value, is_built_storage, is_built_field}
-use Rattle.gc_model.specs.Views.{HeapObject, u32_at}
+use Rattle.gc_model.specs.Views.{HeapObject}
 use Rattle.gc_model.specs.Holds.{Placing, IsWord, Lies, LiesAny, ValuesLie, StructStands}
 use Rattle.gc_model.proofs.FieldsLie.{IsField, fields_apart}
 use Rattle.gc_model.proofs.Layouts.{layout_low}
@@ -30,7 +28,7 @@ use Rattle.gc_heap.specs.References.{reference_offsets, references, word_in}
 use Rattle.gc_heap.specs.Collection.{moved, IsNoReference, IsMoved}
 use Rattle.gc_heap.proofs.SpacedLemmas.{contains_in, in_contains, map_in, ref_width}
 use Rattle.gc_store.specs.Tracing.{IsTracedStruct}
-use Rattle.gc_store.proofs.CollectedOffsets.{SameElements, RefField, ref_field, field_referenced, traced_offsets_are}
+use Rattle.gc_store.proofs.CollectedOffsets.{RefField, ref_field, field_referenced, traced_offsets_are}
 
 any_is_followed : (ty : HeapType) → is_any ty ≡ true → is_gc_heap_type ty ≡ true
 any_is_followed heap.Any e = refl

@@ -1,7 +1,7 @@
 -- The entries of a finite map over numbers: what is found in it, and images of its keys that differ.
-use Rattle.std.proofs.Common.{◌≡◌, ◌≢◌, ℕ, zero, suc, ◌+◌, ◌<◌, ◌&&◌, Bool, true, false, cond, T, nat_eq, List, [], ◌∷◌, length, map, Option, Some, None, Contains, inl, inr, refl, sym, ap, ap₂, ◌∙◌, subst, arith, eq-eqb, ne_eqb}
+use Rattle.std.proofs.Common.{◌≡◌, ◌≢◌, ℕ, zero, suc, ◌<◌, ◌&&◌, Bool, true, false, cond, T, nat_eq, List, [], ◌∷◌, map, Some, Contains, inl, inr, refl, sym, ap, ap₂, ◌∙◌, subst, arith, eq-eqb, ne_eqb}
 use Rattle.std.specs.List.{slice_get, IsDistinct, AllByRecursion}
-use Rattle.std.specs.Ordering.{nat_cmp, eq_by_cmp, is_lt}
+use Rattle.std.specs.Ordering.{nat_cmp, is_lt}
 use Rattle.std.specs.declared.cmp.Ordering.{Ordering}
 use Rattle.std.specs.declared.cmp.Ordering.TheVariants.{Less, Equal, Greater}
 use Rattle.std.specs.Cmp.{unsigned_tied}
@@ -10,7 +10,7 @@ use Rattle.std.specs.FinMap.Entries.{below_all}
 use Rattle.std.proofs.lemmas.Bool.{cases_eq}
 use Rattle.std.proofs.lemmas.Cmp.{ranked}
 use Rattle.std.proofs.lemmas.Option.{none-some}
-use Rattle.gc_store.proofs.CollectedLists.{get_contains, contains_one, contains_map}
+use Rattle.gc_store.proofs.CollectedLists.{get_contains, contains_map}
 use Rattle.std.proofs.lemmas.List.Elements.{Contains-append_right}
 
 first : (a b : Bool) → T (a && b) → T a
@@ -78,10 +78,10 @@ module _ {X : Type 0} (f : ℕ → ℕ) where
   images_differ [] sorted injective = tt
   images_differ (x ∷ es) sorted injective = (
     all_others (f x.0) (map (λ (e : ℕ × X). f e.0) es) (λ y c same.
-      let found = contains_map (λ (e : ℕ × X). f e.0) es y c in
-      let rise = below_key x.0 es (first (below_all nat_cmp x.0 es) (is_sorted nat_cmp es) sorted) found.index found.element found.there in
-      let equal = injective 0 (suc found.index) x found.element refl found.there (same ∙ sym found.is) in
-      omega (arith, rise, equal)),
+        let found = contains_map (λ (e : ℕ × X). f e.0) es y c in
+        let rise = below_key x.0 es (first (below_all nat_cmp x.0 es) (is_sorted nat_cmp es) sorted) found.index found.element found.there in
+        let equal = injective 0 (suc found.index) x found.element refl found.there (same ∙ sym found.is) in
+        omega (arith, rise, equal)),
     images_differ es (second (below_all nat_cmp x.0 es) (is_sorted nat_cmp es) sorted) (λ i j. injective (suc i) (suc j)),
   )
 

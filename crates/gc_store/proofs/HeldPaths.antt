@@ -1,5 +1,5 @@
 -- Whether the roots of a table reach a position can be decided, by paths over more and more positions.
-use Rattle.std.proofs.Common.{◌≡◌, ◌↔◌, ℕ, zero, suc, ◌+◌, ◌<◌, ◌⊎◌, inl, inr, Bool, true, false, ◌&&◌, ◌||◌, nat_eq, List, [], ◌∷◌, ◌++◌, length, Option, Some, None, Contains, refl, sym, ap, ◌∙◌, subst, arith, eq-eqb, ne_eqb}
+use Rattle.std.proofs.Common.{◌≡◌, ℕ, zero, suc, ◌<◌, ◌⊎◌, inl, inr, Bool, true, false, ◌&&◌, ◌||◌, nat_eq, List, [], ◌∷◌, length, Option, Some, None, Contains, refl, sym, ap, ◌∙◌, subst, arith, eq-eqb, ne_eqb}
 use Rattle.std.specs.List.{slice_get}
 use Rattle.std.proofs.lemmas.Bool.{cases_eq}
 use Rattle.std.proofs.lemmas.List.Elements.{Contains-append_cases, Contains-append_right}
@@ -8,7 +8,6 @@ use Rattle.gc_memory.specs.Lists.{In, here, there}
 use Rattle.gc_model.specs.Values.{Reference, null, small, at, Object}
 use Rattle.gc_model.specs.Reach.{references_in, Reached, by_root, by_value}
 use Rattle.gc_heap.proofs.SpacedLemmas.{only_item}
-use Rattle.gc_store.proofs.CollectedLists.{contains_one}
 
 or_cases : (a b : Bool) → (a || b) ≡ true → (a ≡ true) ⊎ (b ≡ true)
 or_cases true b e = inl refl
@@ -71,9 +70,9 @@ module _ (edge : ℕ → ℕ → Bool) where
   path_joins (x ∷ xs) b (there i) a c e f =
       elim (or_cases (has_path xs a b) (has_path xs a x && has_path xs x b) e) [
         | inl one ↦ elim (or_cases (has_path xs b c) (has_path xs b x && has_path xs x c) f) [
-            | inl other ↦ or_left (has_path xs a c) (has_path xs a x && has_path xs x c) (path_joins xs b i a c one other)
-            | inr over ↦ let both = and_cases (has_path xs b x) (has_path xs x c) over in over_first x xs a c (path_joins xs b i a x one both.0) both.1
-          ]
+          | inl other ↦ or_left (has_path xs a c) (has_path xs a x && has_path xs x c) (path_joins xs b i a c one other)
+          | inr over ↦ let both = and_cases (has_path xs b x) (has_path xs x c) over in over_first x xs a c (path_joins xs b i a x one both.0) both.1
+        ]
         | inr one ↦
             let first = and_cases (has_path xs a x) (has_path xs x b) one in
             elim (or_cases (has_path xs b c) (has_path xs b x && has_path xs x c) f) [

@@ -1,5 +1,5 @@
 -- Sums over some elements of a list, and the elements that pass a test.
-use Rattle.std.proofs.Common.{◌≡◌, ◌≢◌, ℕ, zero, suc, ◌+◌, ◌≤◌, Bool, true, false, cond, nat_eq, List, [], ◌∷◌, map, filter, Some, Contains, inl, inr, refl, sym, ap, ap₂, ◌∙◌, subst, arith, eq-eqb, ne_eqb}
+use Rattle.std.proofs.Common.{◌≡◌, ◌≢◌, ℕ, suc, ◌+◌, ◌≤◌, Bool, true, false, cond, nat_eq, List, [], ◌∷◌, map, filter, Some, Contains, inl, inr, refl, sym, ap, ap₂, ◌∙◌, subst, arith, eq-eqb, ne_eqb}
 use Rattle.std.specs.List.{slice_get, IsDistinct, AllByRecursion, sum_by}
 use Rattle.std.proofs.lemmas.Bool.{cases_eq}
 use Rattle.std.proofs.lemmas.List.Sums.{sum_by-cons}
@@ -36,9 +36,9 @@ contains_without x z [] differ c = c
 contains_without x z (y ∷ ys) differ c = elim (cases_eq x y) [
   | inl same ↦ subst (λ l. Contains l z) (sym (ap (λ b. cond b ys (y ∷ without x ys)) (eq-eqb x y same))) (contains_later y ys z (λ e. differ (e ∙ sym same)) c)
   | inr other ↦ subst (λ l. Contains l z) (sym (ap (λ b. cond b ys (y ∷ without x ys)) (ne_eqb x y other))) (elim (Contains-append_cases (y ∷ []) ys z c) [
-      | inl one ↦ get_contains (y ∷ without x ys) 0 z (ap (λ n. Some n) (only_item y z one))
-      | inr later ↦ Contains-append_right (y ∷ []) (without x ys) z (contains_without x z ys differ later)
-    ])
+    | inl one ↦ get_contains (y ∷ without x ys) 0 z (ap (λ n. Some n) (only_item y z one))
+    | inr later ↦ Contains-append_right (y ∷ []) (without x ys) z (contains_without x z ys differ later)
+  ])
 ]
 
 -- a number that differs from all of a list is none of it
@@ -67,9 +67,9 @@ pub passing : (test : ℕ → Bool) (xs : List ℕ) (z : ℕ) → Contains (filt
 passing test [] z c = absurd (omega (arith, c.1))
 passing test (x ∷ xs) z c = elim (test x) as (λ b. test x ≡ b → Contains (cond b (x ∷ filter test xs) (filter test xs)) z → Contains (x ∷ xs) z × (test z ≡ true)) [
   | true ↦ λ is c. elim (Contains-append_cases (x ∷ []) (filter test xs) z c) [
-      | inl one ↦ (get_contains (x ∷ xs) 0 z (ap (λ n. Some n) (only_item x z one)), ap test (sym (only_item x z one)) ∙ is)
-      | inr later ↦ let rest = passing test xs z later in (Contains-append_right (x ∷ []) xs z rest.0, rest.1)
-    ]
+    | inl one ↦ (get_contains (x ∷ xs) 0 z (ap (λ n. Some n) (only_item x z one)), ap test (sym (only_item x z one)) ∙ is)
+    | inr later ↦ let rest = passing test xs z later in (Contains-append_right (x ∷ []) xs z rest.0, rest.1)
+  ]
   | false ↦ λ is c. let rest = passing test xs z c in (Contains-append_right (x ∷ []) xs z rest.0, rest.1)
 ] refl c
 
@@ -78,9 +78,9 @@ passes test [] z c is = c
 passes test (x ∷ xs) z c is = elim (Contains-append_cases (x ∷ []) xs z c) [
   | inl one ↦ subst (λ b. Contains (cond b (x ∷ filter test xs) (filter test xs)) z) (sym (ap test (only_item x z one) ∙ is)) (get_contains (x ∷ filter test xs) 0 z (ap (λ n. Some n) (only_item x z one)))
   | inr later ↦ elim (test x) as (λ b. Contains (cond b (x ∷ filter test xs) (filter test xs)) z) [
-      | true ↦ Contains-append_right (x ∷ []) (filter test xs) z (passes test xs z later is)
-      | false ↦ passes test xs z later is
-    ]
+    | true ↦ Contains-append_right (x ∷ []) (filter test xs) z (passes test xs z later is)
+    | false ↦ passes test xs z later is
+  ]
 ]
 
 pub distinct_passing : (test : ℕ → Bool) (xs : List ℕ) → IsDistinct nat_eq xs → IsDistinct nat_eq (filter test xs)
