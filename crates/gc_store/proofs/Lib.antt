@@ -1,0 +1,2 @@
+pub mod RootSetLemmas
+pub mod HeapTraced
