@@ -1,2 +1,4 @@
 pub mod RootSetLemmas
 pub mod HeapTraced
+pub mod HeapBarriers
+pub mod CollectedOffsets

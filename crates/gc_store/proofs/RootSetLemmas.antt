@@ -1,6 +1,6 @@
 -- The scoped roots as a list of a collection, and the words that they take from it.
-use Rattle.std.proofs.Common.{◌≡◌, ◌≢◌, ℕ, zero, suc, ◌+◌, ◌<◌, ◌≤◌, ◌⊎◌, inl, inr, List, [], ◌∷◌, ◌++◌, length, map, take, drop, slice_index_or, slice_set, Option, Some, refl, sym, ap, ◌∙◌, subst, arith}
-use Rattle.std.specs.Option.{SomeIff}
+use Rattle.std.proofs.Common.{◌≡◌, ◌≢◌, ℕ, zero, suc, ◌+◌, ◌<◌, ◌≤◌, ◌⊎◌, inl, inr, List, [], ◌∷◌, ◌++◌, length, map, take, drop, slice_index_or, slice_set, Option, Some, None, refl, sym, ap, ◌∙◌, subst, arith}
+use Rattle.std.specs.Option.{SomeIff, IsSome}
 use Rattle.std.proofs.lemmas.List.{take_more, map-append, same_lists, get_or-map, length-map, get_or-set_same, get_or-set_other}
 use Rattle.std.proofs.lemmas.Bool.{cases_eq}
 use Rattle.std.proofs.lemmas.Simd.{map-map}
@@ -28,6 +28,10 @@ pub some_is : (made : Option ℕ) (Holds : Type 0) (number value : ℕ) → Some
 some_is made Holds number value gives is =
     let at : SomeIff (Some value) Holds number = subst (λ o. SomeIff o Holds number) is gives in
     at.1
+
+pub is_made : (made : Option ℕ) (Holds : Type 0) (number : ℕ) → SomeIff made Holds number → Holds → IsSome made
+is_made None Holds number gives holds = absurd (gives holds)
+is_made (Some value) Holds number gives holds = refl
 
 -- one more root stands in the list
 pub roots_more : (entries : List RootEntry) (index word : ℕ) (roots : List Root) → index < length entries → roots ≡ roots_of (take index entries) → word ≡ (entry_at entries index).word
