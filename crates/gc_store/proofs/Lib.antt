@@ -2,3 +2,4 @@ pub mod RootSetLemmas
 pub mod HeapTraced
 pub mod HeapBarriers
 pub mod CollectedOffsets
+pub mod HeapFields

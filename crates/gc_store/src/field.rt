@@ -1,6 +1,6 @@
 //! Fields of a struct, read and written through its layout.
 
-ghost use Rattle.std.specs.Prelude.{◌≡◌, ◌-◌, ℕ, Bool, Some, List, slice_get};
+ghost use Rattle.std.specs.Prelude.{◌≡◌, ◌-◌, ℕ, All, Bool, Some, true, List, slice_get};
 ghost use Rattle.std.specs.FinMap as finite;
 ghost use Rattle.gc_types.specs.declared.value.FieldType.{FieldType};
 ghost use Rattle.gc_types.specs.declared.value.StorageType.{StorageType};
@@ -8,6 +8,7 @@ ghost use Rattle.gc_types.specs.declared.layout.FieldLayout.{FieldLayout};
 ghost use Rattle.gc_types.specs.Declarations.{Declaration, struct_fields_at};
 ghost use Rattle.gc_types.specs.Layouts.{struct_base, field_layouts};
 ghost use Rattle.gc_roots.specs.Roots.{Root};
+ghost use Rattle.gc_model.specs.Fits.{is_built_field};
 ghost use Rattle.gc_model.specs.Views.{HeapObject};
 ghost use Rattle.gc_heap.specs.Heap.{put_object, with_data};
 ghost use Rattle.gc_store.specs.declared.field.Stored as FieldValue;
@@ -95,7 +96,7 @@ pub(crate) fn write_values<H: GcHeap>(
     ensures sound { H.sound heap.new }
     ensures written { (types : List Declaration) (known : List Root) (hosts : ℕ → Bool) (object : HeapObject) (fields : List FieldType)
         → IsCollectable H.KIND types (H.seen heap.old) known hosts → AreRoots roots.now.entries known → finite.get (H.seen heap.old).content gc_ref.now ≡ Some object
-        → struct_fields_at types object.ty ≡ Some fields → layouts.now ≡ field_layouts (struct_base H.KIND) fields → AllFit roots.now.entries fields values.now
+        → struct_fields_at types object.ty ≡ Some fields → layouts.now ≡ field_layouts (struct_base H.KIND) fields → AllFit roots.now.entries fields values.now → All (λ (f : FieldType). is_built_field f ≡ true) fields
         → WritesValues H.KIND types known hosts roots.now.entries fields values.now (H.seen heap.old) (H.seen heap.new) gc_ref.now object }
 {
     for (index, value) in values.iter().enumerate() {
