@@ -3,3 +3,4 @@ pub mod HeapTraced
 pub mod HeapBarriers
 pub mod CollectedOffsets
 pub mod HeapFields
+pub mod HeapLayouts

@@ -145,11 +145,14 @@ pub(crate) fn read_field<H: GcHeap>(heap: &H, types: &Types, gc_ref: &VMGcRef, i
         → slice_get fields index ≡ Some field → slice_get (field_layouts (struct_base H.KIND) fields) index ≡ Some layout
         → ReadsStored field.element_type object.bytes (layout.offset - struct_base H.KIND) result }
 {
-    let place = field_place(heap, types, gc_ref, index);
-    match place.storage {
-        StorageType::ValType(ValType::I32) => Stored::I32(read_u32(heap, gc_ref, place.offset)),
-        StorageType::ValType(ValType::I64) => Stored::I64(read_u64(heap, gc_ref, place.offset)),
-        StorageType::ValType(ValType::Ref(_)) => Stored::Ref(read_u32(heap, gc_ref, place.offset)),
+    let FieldPlace { offset, storage } = field_place(heap, types, gc_ref, index);
+    let StorageType::ValType(ty) = storage else {
+        unreachable!()
+    };
+    match ty {
+        ValType::I32 => Stored::I32(read_u32(heap, gc_ref, offset)),
+        ValType::I64 => Stored::I64(read_u64(heap, gc_ref, offset)),
+        ValType::Ref(_) => Stored::Ref(read_u32(heap, gc_ref, offset)),
         _ => unreachable!(),
     }
 }
