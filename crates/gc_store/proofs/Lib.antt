@@ -4,3 +4,4 @@ pub mod HeapBarriers
 pub mod CollectedOffsets
 pub mod HeapFields
 pub mod HeapLayouts
+pub mod HeapValues

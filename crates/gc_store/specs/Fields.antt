@@ -1,5 +1,5 @@
 -- Fields of structs in a heap.
-use Rattle.std.specs.Prelude.{◌≡◌, ℕ, ◌+◌, ◌^◌, ◌≤◌, All, Bool, true, false, List, Option, Some, None, Ok, length, slice_get}
+use Rattle.std.specs.Prelude.{◌≡◌, ℕ, ◌+◌, ◌^◌, ◌<◌, ◌≤◌, All, Bool, true, false, List, Option, Some, None, Ok, length, slice_get}
 use Rattle.std.specs.FinMap as finite
 use Rattle.std.specs.Int.{w32, w64, cast_unsigned, to_le_bytes}
 use Rattle.gc_types.specs.declared.value.FieldType.{FieldType}
@@ -34,6 +34,12 @@ abbrev pub stored_bytes : Stored → List ℕ
 stored_bytes (stored.I32 n) = to_le_bytes w32 n
 stored_bytes (stored.I64 n) = to_le_bytes w64 n
 stored_bytes (stored.Ref word) = to_le_bytes w32 word
+
+-- what is stored fits its bytes
+abbrev pub FitsBytes : Stored → Type 0
+FitsBytes (stored.I32 n) = n < 2 ^ 32
+FitsBytes (stored.I64 n) = n < 2 ^ 64
+FitsBytes (stored.Ref word) = word < 2 ^ 32
 
 -- what is stored is of the field's type; a reference is null, a 31-bit number or the place of an object
 abbrev pub StoredOfType : HeapView → ValType → Stored → Type 0

@@ -13,7 +13,7 @@ ghost use Rattle.gc_model.specs.Views.{HeapObject};
 ghost use Rattle.gc_heap.specs.Heap.{put_object, with_data};
 ghost use Rattle.gc_store.specs.declared.field.Stored as FieldValue;
 ghost use Rattle.gc_store.specs.Tracing.{IsCollectable};
-ghost use Rattle.gc_store.specs.Fields.{stored_bytes, StoredFits, IsFieldOf, CanWriteField, CanReadField, ReadsStored, KeptAs, IsKept, AreRoots, AllFit, CanWriteValues, WritesValues};
+ghost use Rattle.gc_store.specs.Fields.{stored_bytes, FitsBytes, StoredFits, IsFieldOf, CanWriteField, CanReadField, ReadsStored, KeptAs, IsKept, AreRoots, AllFit, CanWriteValues, WritesValues};
 
 use crate::root::RawValue;
 use crate::root_set::RootSet;
@@ -34,7 +34,8 @@ pub(crate) enum Stored {
 /// How a field keeps a value; a reference by the word that its root has now.
 pub(crate) fn stored_value(roots: &RootSet, value: RawValue) -> Stored
     requires { IsKept roots.now.entries value }
-    ensures { (x : FieldValue.Stored) → KeptAs roots.now.entries value x → result ≡ x }
+    ensures kept { (x : FieldValue.Stored) → KeptAs roots.now.entries value x → result ≡ x }
+    ensures small { FitsBytes result }
 {
     match value {
         RawValue::I32(number) => Stored::I32(number.cast_unsigned()),
