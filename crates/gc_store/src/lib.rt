@@ -11,6 +11,7 @@ pub mod collect;
 pub mod config;
 pub mod engine;
 mod field;
+pub mod laws;
 pub mod limiter;
 pub mod place;
 pub mod read;
