@@ -1,3 +1,4 @@
 pub mod Sound
 pub mod TypesKept
 pub mod Declare
+pub mod Roots
