@@ -2,3 +2,5 @@ pub mod Sound
 pub mod TypesKept
 pub mod Declare
 pub mod Roots
+pub mod SameRoots
+pub mod Counted

@@ -180,3 +180,7 @@ SomeIff-value P (Some y) v x h e = grind (arith, h.1, e)
 pub is_even : (o : Option ℕ) (word : ℕ) → MatchOption o (IsHeapWord word) (λ n. word ≡ i31_word n) → ((n : ℕ) → o ≡ Some n → ⊥) → word % 2 ≡ 1 → ⊥
 is_even None word even other odd = omega (arith, even, odd)
 is_even (Some n) word number other odd = other n refl
+
+-- the word of one of the store's own handles
+pub own_word : (s : StoreView) (handle : GcRootIndex) → is_of_store s handle ≡ true → word_of s handle ≡ slot_word s.scoped handle.slot handle.generation
+own_word s handle own = ap (λ b. cond b (slot_word s.scoped handle.slot handle.generation) (Err fault.WrongStore)) own
