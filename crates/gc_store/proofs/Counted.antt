@@ -7,7 +7,7 @@ use Rattle.std.specs.FinMap.{FinMap, get, entries, get-empty}
 use Rattle.std.specs.Ordering.{nat_cmp}
 use Rattle.std.proofs.lemmas.Option.{none-some}
 use Rattle.std.proofs.lemmas.List.{length-map}
-use Rattle.std.proofs.lemmas.List.Sums.{sum_by-cons}
+use Rattle.std.proofs.lemmas.List.Sums.{sum-map, sum_by-cons}
 use Rattle.std.proofs.lemmas.List.Filters.{length-filter_both}
 use Rattle.gc_types.specs.declared.kind.Layouts.{Layouts}
 use Rattle.gc_types.specs.declared.kind.Layouts.TheVariants.{Null, Counting, Copying}
@@ -19,7 +19,7 @@ use Rattle.gc_heap.specs.Barriers.{IsCountedBelow, count_limit}
 use Rattle.gc_heap.specs.Content.{IsHeap, total}
 use Rattle.gc_heap.specs.Objects.{held_size, writable_offset}
 use Rattle.gc_heap.specs.References.{references, reference_offsets, word_in}
-use Rattle.gc_heap.specs.Totals.{sum_of, total-entries, total-same}
+use Rattle.gc_heap.specs.Totals.{total-same}
 use Rattle.gc_heap.specs.Collection.{occurrences, held_words, names_of}
 use Rattle.gc_heap.proofs.SpacedLemmas.{Spaced}
 use Rattle.gc_heap.proofs.ReferenceLemmas.{references_spaced}
@@ -35,7 +35,7 @@ occurrences_less q words = filter_less (nat_eq q) words
 held_less : (q : ℕ) (roots : List Root) → occurrences q (held_words roots) ≤ length roots
 held_less q roots =
     let among = occurrences_less q (held_words roots) in
-    let words = length-map (λ (r : Root). r.word) (filter (λ (r : Root). not r.on_stack) roots) in
+    let words = length-map (filter (λ (r : Root). not r.on_stack) roots) (λ (r : Root). r.word) in
     omega (arith, among, words, filter_less (λ (r : Root). not r.on_stack) roots)
 
 -- offsets of words in a range are fewer than its bytes
@@ -47,7 +47,7 @@ spaced_less : (lo hi : ℕ) (os : List ℕ) → Spaced lo hi os → length os �
 spaced_less lo hi [] spaced = omega arith
 spaced_less lo hi (o ∷ os) spaced = let rest = spaced_few (o + 4) hi os spaced.2 spaced.1 in omega (arith, rest)
 
-least : (f g : HeapObject → ℕ) (es : List (ℕ × HeapObject)) → sum_of (λ o. min (f o) (g o)) es ≤ sum_of g es
+least : (f g : HeapObject → ℕ) (es : List (ℕ × HeapObject)) → sum_by (λ (e : ℕ × HeapObject). min (f e.1) (g e.1)) es ≤ sum_by (λ (e : ℕ × HeapObject). g e.1) es
 least f g [] = omega arith
 least f g (e ∷ es) =
     let rest = least f g es in
@@ -63,8 +63,8 @@ lesser f g (Some x) less = let at = less x refl in ap Some (omega (arith, at))
 pub total_less : (f g : HeapObject → ℕ) (m : FinMap nat_cmp HeapObject) → ((q : ℕ) (o : HeapObject) → get m q ≡ Some o → f o ≤ g o) → total f m ≤ total g m
 total_less f g m less =
     let same = total-same f (λ o. min (f o) (g o)) m m (λ q. lesser f g (get m q) (less q)) in
-    let left = total-entries (λ o. min (f o) (g o)) m in
-    let right = total-entries g m in
+    let left = sum-map (λ (e : ℕ × HeapObject). min (f e.1) (g e.1)) (entries m) in
+    let right = sum-map (λ (e : ℕ × HeapObject). g e.1) (entries m) in
     omega (arith, same, left, right, least f g (entries m))
 
 module _ (types : List Declaration) (h : HeapView) (roots : List Root) (hosts : ℕ → Bool) (heap : IsHeap Counting h) (can : IsCollectable Counting types h roots hosts) where
@@ -72,7 +72,7 @@ module _ (types : List Declaration) (h : HeapView) (roots : List Root) (hosts : 
   few_references q place o held =
       let spaced = references_spaced Counting types o (heap.objects place o held).spare (can.collects.typed place o held) in
       let few = spaced_less (writable_offset Counting o.kind) (held_size Counting o) (reference_offsets Counting types o) spaced in
-      let words = length-map (word_in Counting o) (reference_offsets Counting types o) in
+      let words = length-map (reference_offsets Counting types o) (word_in Counting o) in
       omega (arith, few, words, occurrences_less q (references Counting types o))
 
   pub few_names : (q : ℕ) → names_of Counting types h roots q ≤ page * max_pages + length roots

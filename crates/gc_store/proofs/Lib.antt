@@ -4,3 +4,4 @@ pub mod Declare
 pub mod Roots
 pub mod SameRoots
 pub mod Counted
+pub mod Pushing
