@@ -5,3 +5,4 @@ pub mod Roots
 pub mod SameRoots
 pub mod Counted
 pub mod Pushing
+pub mod FieldReads

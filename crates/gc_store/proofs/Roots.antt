@@ -1,5 +1,5 @@
 -- What a handle's word tells of the table.
-use Rattle.std.proofs.Common.{◌≡◌, ◌≢◌, ℕ, ◌/◌, ◌%◌, ◌<◌, List, Bool, true, false, cond, Option, Some, None, Result, Ok, Err, sym, ap, ◌∙◌, refl, subst, arith}
+use Rattle.std.proofs.Common.{◌≡◌, ◌≢◌, ℕ, ◌/◌, ◌%◌, ◌<◌, List, Bool, true, false, cond, Option, Some, None, IsSome, Result, Ok, Err, sym, ap, ◌∙◌, refl, subst, arith}
 use Rattle.std.specs.List.{slice_get}
 use Rattle.std.specs.Option.{SomeIff, MatchOption}
 use Rattle.std.proofs.lemmas.Grind.{common_steps}
@@ -184,3 +184,7 @@ is_even (Some n) word number other odd = other n refl
 -- the word of one of the store's own handles
 pub own_word : (s : StoreView) (handle : GcRootIndex) → is_of_store s handle ≡ true → word_of s handle ≡ slot_word s.scoped handle.slot handle.generation
 own_word s handle own = ap (λ b. cond b (slot_word s.scoped handle.slot handle.generation) (Err fault.WrongStore)) own
+
+pub SomeIff-some : (P : Type 0) (o : Option ℕ) (v : ℕ) → SomeIff o P v → P → IsSome o
+SomeIff-some P None v h p = absurd (h p)
+SomeIff-some P (Some y) v h p = refl

@@ -3,7 +3,7 @@ use Rattle.std.specs.FinMap.{len}
 use Rattle.gc_model.specs.declared.RootEntry.{RootEntry}
 use Rattle.gc_model.specs.Views.{StoreView, HeapView, SameHeld}
 use Rattle.gc_model.specs.Holds.{Holds}
-use Rattle.gc_heap.specs.Barriers.{cloned}
+use Rattle.gc_heap.specs.Collection.{has_host}
 use Rattle.gc_store.specs.declared.root.RootSlot.TheVariants as slot
 use Rattle.gc_store.specs.Roots.{IsRootWord}
 use Rattle.gc_store.specs.Stores.{store_view, is_full}
@@ -43,13 +43,13 @@ pub invariant_of-self-2 : goal.invariant_of-self-2
 invariant_of-self-2 g c =
     let at = (goal.at.invariant_of-self-2 g c).After-push_root in
     let before = (goal.at.After-push_root g at).After-is_err in
-    sound_cloned _ g.H.GcHeap.KIND _ _ c.self.inside.types _ (view g before) _ _ _ c.args.gc_ref.now c.self.invariant c.clone_gc_ref.ensures.sound (root_word g before) c.clone_gc_ref.ensures.seen (entries_are g at) (generation_is g at) (room g before)
+    sound_cloned g.row.D.Denot g.H.GcHeap.KIND (g.H.GcHeap.sound c.self.inside.heap) (g.H.GcHeap.sound c.clone_gc_ref.new.self) c.self.inside.types (has_host c.self.inside.hosts.entries) (view g before) (g.H.GcHeap.seen c.clone_gc_ref.new.self) c.push_root.new.roots.entries c.push_root.new.roots.generation c.args.gc_ref.now c.self.invariant c.clone_gc_ref.ensures.sound (root_word g before) c.clone_gc_ref.ensures.seen (entries_are g at) (generation_is g at) (room g before)
 
 pub returns-clause-pushes : goal.returns-clause-pushes
 returns-clause-pushes g c t place r holds is =
     let at = (goal.at.returns-clause-pushes g c).After-push_root in
     let before = (goal.at.After-push_root g at).After-is_err in
     let held : SameHeld (g.H.GcHeap.seen c.self.inside.heap) (g.H.GcHeap.seen c.clone_gc_ref.new.self) = subst (λ (h : HeapView). SameHeld (g.H.GcHeap.seen c.self.inside.heap) h) (sym c.clone_gc_ref.ensures.seen) (record { content = refl; attached = refl; capacity = refl; allocated = refl }) in
-    pushes_root g.H.GcHeap.KIND (view g before) _ _ _ c.args.gc_ref.now held (entries_are g at) (generation_is g at) (root_word g before).not_null (room g before) c.push_root.result
+    pushes_root g.H.GcHeap.KIND (view g before) (g.H.GcHeap.seen c.clone_gc_ref.new.self) c.push_root.new.roots.entries c.push_root.new.roots.generation c.args.gc_ref.now held (entries_are g at) (generation_is g at) (root_word g before).not_null (room g before) c.push_root.result
     (c.push_root.ensures.handle ∙ (λ i. record { store_id = c.self.inside.id; generation = c.reserve.ensures.generation i; slot = slot.Scoped (length (c.reserve.ensures.entries i)) }))
     t place r (subst (λ (s : StoreView). Holds g.H.GcHeap.KIND s t place) (sym c.self.view_is) holds) is
