@@ -35,12 +35,13 @@ use Rattle.gc_store.specs.Roots.{HasField, word_of}
 use Rattle.gc_store.proofs.Roots.{named_live, named_dead}
 
 -- where a value of the table lies in the heap
-pub record FieldAt (layouts : Layouts) (s : StoreView) (place : Placing) (word position index : ℕ) (value : Value) : Type 0 where
+pub record FieldAt (layouts : Layouts) (s : StoreView) (place : Placing) (word position ty index : ℕ) (value : Value) : Type 0 where
   pub placed : place position ≡ Some word
   pub positive : 0 < word
   pub object : HeapObject
   pub held : finite.get s.heap.content word ≡ Some object
   pub fields : List FieldType
+  pub of_type : object.ty ≡ ty
   pub declared : struct_fields_at s.types object.ty ≡ Some fields
   pub holds : FieldHolds layouts place fields index value object.bytes
   pub built : is_built_field holds.field ≡ true
@@ -62,7 +63,7 @@ module _ {D : Type 0} (layouts : Layouts) (s : StoreView) (t : Table D) (place :
       let same : live.0 ≡ at has.position = grind (arith, sym live.1.0 ∙ has.live) in
       (subst (λ (r : Reference). IsWord place r word) same live.1.1, live.1.2)
 
-  pub field_at : (word : ℕ) → word_of s handle ≡ Ok word → FieldAt layouts s place word has.position index value
+  pub field_at : (word : ℕ) → word_of s handle ≡ Ok word → FieldAt layouts s place word has.position has.ty index value
   field_at word e =
       let placed = placed_word word e in
       let held = holds.objects.placed has.position word placed.0 in
@@ -74,6 +75,7 @@ module _ {D : Type 0} (layouts : Layouts) (s : StoreView) (t : Table D) (place :
         object = held.object;
         held = held.in_heap;
         fields = stands.fields;
+        of_type = stands.same_type;
         declared = ap (λ (ts : List Declaration). struct_fields_at ts held.object.ty) holds.types ∙ ap (struct_fields_at t.types) stands.same_type ∙ stands.declared;
         holds = lies;
         built = all_at (λ (f : FieldType). is_built_field f ≡ true) stands.fields index lies.field (holds.only_built has.ty stands.fields stands.declared) lies.is_field.type_is;

@@ -6,3 +6,5 @@ pub mod SameRoots
 pub mod Counted
 pub mod Pushing
 pub mod FieldReads
+pub mod ReadValues
+pub mod FieldWrites

@@ -188,3 +188,12 @@ own_word s handle own = ap (λ b. cond b (slot_word s.scoped handle.slot handle.
 pub SomeIff-some : (P : Type 0) (o : Option ℕ) (v : ℕ) → SomeIff o P v → P → IsSome o
 SomeIff-some P None v h p = absurd (h p)
 SomeIff-some P (Some y) v h p = refl
+
+-- the same of a number that is above 0
+pub SomeIff-positive : (o : Option ℕ) (v x : ℕ) → SomeIff o (0 < v) v → o ≡ Some x → 0 < v
+SomeIff-positive None v x h e = absurd (cc)
+SomeIff-positive (Some y) v x h e = h.0
+
+pub SomeIff-zero : (o : Option ℕ) (v : ℕ) → SomeIff o (0 < v) v → o ≡ None → v ≡ 0
+SomeIff-zero None v h e = omega (arith, h)
+SomeIff-zero (Some y) v h e = absurd (cc)
