@@ -12,7 +12,7 @@ use Rattle.gc_types.specs.declared.value.ValType.{ValType}
 use Rattle.gc_types.specs.declared.value.ValType.TheVariants as val
 use Rattle.gc_types.specs.declared.value.RefType.{RefType}
 use Rattle.gc_types.specs.declared.kind.Layouts.{Layouts}
-use Rattle.gc_types.specs.Declarations.{Declaration, struct_fields_at}
+use Rattle.gc_types.specs.Declarations.{Declaration, TypeTable, struct_fields_at}
 use Rattle.gc_types.specs.Layouts.{struct_base}
 use Rattle.gc_model.specs.declared.GcClass.{GcClass}
 use Rattle.gc_model.specs.declared.GcClass.TheVariants.{Any, Extern, Exn}
@@ -32,10 +32,12 @@ use Rattle.gc_store.specs.declared.root.GcRootIndex.{GcRootIndex}
 use Rattle.gc_store.specs.declared.root.RootFault.{RootFault}
 use Rattle.gc_store.specs.declared.root.RawValue.{RawValue}
 use Rattle.gc_store.specs.declared.root.RawValue.TheVariants as raw
-use Rattle.gc_store.specs.Fields.{KeptAs, StoredFits, stored_bytes}
+use Rattle.gc_store.specs.Fields.{KeptAs, StoredFits, IsFieldOf, stored_bytes}
 use Rattle.gc_store.specs.RootSets.{slot_word}
 use Rattle.gc_store.specs.Roots.{HasField, word_of, Names, is_of_store}
-use Rattle.gc_store.specs.Values.{raw_fits, NamesLive, IsLive, RawStands, RootStands}
+use Rattle.gc_store.specs.Values.{raw_fits, NamesLive, IsLive, RawStands, RootStands, CanWrite, WritesValue}
+use Rattle.gc_store.specs.Stores.{IsSound}
+use Rattle.gc_store.specs.Tracing.{IsCollectable, roots_of}
 use Rattle.gc_store.proofs.Roots.{named_live, named_dead, names-store, names-entry, own_word, word_of-ok, root_word}
 use Rattle.gc_store.proofs.Pushing.{root_named, named_word}
 use Rattle.gc_store.proofs.FieldReads.{FieldAt, field_at}
@@ -193,3 +195,57 @@ same_field layouts s place word position ty index value a object fields field he
     let same : a.object ≡ object = grind (arith, sym a.held ∙ held) in
     let fields_same : a.fields ≡ fields = grind (arith, sym a.declared ∙ ap (λ (o : HeapObject). struct_fields_at s.types o.ty) same ∙ declared) in
     grind (arith, sym a.holds.is_field.type_is ∙ ap (λ (fs : List FieldType). slice_get fs index) fields_same ∙ field_is)
+
+module _ (D : Type 0) (layouts : Layouts) (s : StoreView) (handle : GcRootIndex) (index : ℕ) (r : RawValue) (can : CanWrite D layouts s handle index r) (word : ℕ) (e : word_of s handle ≡ Ok word) where
+  -- where the value goes, in some table that the store holds
+  abbrev pub spot : FieldAt layouts s can.holds.0 word can.has.position can.has.ty index can.before
+  spot = field_at layouts s can.table can.holds.0 can.holds.1 handle index can.before can.has word e
+
+  -- whichever table it is, the value is of the field's type
+  pub spot_fits : (place : Placing) (position ty : ℕ) (before : Value) (a : FieldAt layouts s place word position ty index before) → Fitting a.holds.field.element_type r
+  spot_fits place position ty before a =
+      let same = same_field layouts s place word position ty index before a spot.object can.fields can.field spot.held (ap (struct_fields_at s.types) spot.of_type ∙ can.declared) can.field_is in
+      fitting a.holds.field.element_type r (ap (λ (f : FieldType). raw_fits f.element_type r) same ∙ can.can_store.fits)
+
+  pub spot_kept : (x : Stored) × KeptAs s.scoped r x
+  spot_kept = is_kept D layouts s spot.holds.field.element_type r (spot_fits can.holds.0 can.has.position can.has.ty can.before spot) can.can_store.live
+
+  pub spot_stored : StoredFits s.heap spot.holds.field.element_type spot_kept.0
+  spot_stored = stored_fits D layouts s can.table can.holds.0 can.holds.1 spot.holds.field.element_type r spot_kept.0 (spot_fits can.holds.0 can.has.position can.has.ty can.before spot) can.can_store.live spot_kept.1
+
+  pub spot_field : (offset : ℕ) → offset ≡ spot.holds.layout.offset → IsFieldOf layouts s.types spot.object offset spot.holds.field.element_type
+  spot_field offset at = record {
+    fields = spot.fields;
+    declared = spot.declared;
+    index = index;
+    field = spot.holds.field;
+    field_is = spot.holds.is_field.type_is;
+    layout = spot.holds.layout;
+    layout_is = spot.holds.is_field.layout_is;
+    at = at;
+    type_is = refl;
+  }
+
+  module _ (heap : HeapView) (small : FitsStored spot_kept.0)
+      (written : (place : Placing) (position ty : ℕ) (before : Value) (a : FieldAt layouts s place word position ty index before) → heap ≡ record (put_object s.heap word (with_data layouts a.object a.holds.layout.offset (stored_bytes spot_kept.0))) { counts = heap.counts }) where
+    -- each table that the store held is held with the value
+    pub writes_value : (t : Table D) → HoldsTable layouts s t → WritesValue layouts s (record s { heap = heap }) t handle index r
+    writes_value t holds before v has stands =
+        let at = field_at layouts s t holds.0 holds.1 handle index before has word e in (
+          holds.0,
+          holds_written layouts s t holds.0 holds.1 handle index before has word e heap r spot_kept.0 v (spot_fits holds.0 has.position has.ty before at) can.can_store.live spot_kept.1 stands small
+              (written holds.0 has.position has.ty before at),
+        )
+
+    -- so the store is sound
+    pub sound_written : (old_sound new_sound : Type 0) (types : TypeTable) (hosts : ℕ → Bool) → IsSound D layouts old_sound types hosts s → new_sound → IsCollectable layouts s.types heap (roots_of s.scoped) hosts → IsSound D layouts new_sound types hosts (record s { heap = heap })
+    sound_written old_sound new_sound types hosts sound now collectable =
+        let v = value_of D layouts s can.table can.holds.0 can.holds.1 spot.holds.field.element_type r (spot_fits can.holds.0 can.has.position can.has.ty can.before spot) can.can_store.live in
+        record {
+          heap = now;
+          engine = sound.engine;
+          number = sound.number;
+          collectable = collectable;
+          table = write can.has.position index v.0 can.table;
+          holds = writes_value can.table can.holds can.before v.0 can.has v.1;
+        }

@@ -43,7 +43,7 @@ root_named layouts s t place null word holds is positive = absurd (omega (arith,
 root_named layouts s t place (small n) word holds is positive = inl (omega (arith, is))
 root_named layouts s t place (at p) word holds is positive = let held = holds.objects.placed p word is in inr (held.object, held.in_heap)
 
-named_word : (h : HeapView) (word : ℕ) → IsNamed h word → IsWordOf h word
+pub named_word : (h : HeapView) (word : ℕ) → IsNamed h word → IsWordOf h word
 named_word h word (inl odd) = inr (inl odd)
 named_word h word (inr held) = inr (inr held)
 
