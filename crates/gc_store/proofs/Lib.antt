@@ -17,3 +17,13 @@ pub mod HeapBarriers
 pub mod HeapFields
 pub mod HeapLayouts
 pub mod HeapValues
+pub mod Sound
+pub mod TypesKept
+pub mod Declare
+pub mod Roots
+pub mod SameRoots
+pub mod Counted
+pub mod Pushing
+pub mod FieldReads
+pub mod ReadValues
+pub mod FieldWrites
