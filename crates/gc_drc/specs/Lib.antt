@@ -23,3 +23,4 @@ pub mod Growth
 pub mod States
 pub mod DrcHeapLaw
 pub mod CollectSwept
+pub mod CollectSpan
