@@ -27,3 +27,6 @@ pub mod WalkMemory
 pub mod GrowLemmas
 pub mod BackingLemmas
 pub mod SweptMemory
+pub mod ClearMemory
+pub mod UnreachedMemory
+pub mod PhaseLemmas

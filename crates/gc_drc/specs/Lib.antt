@@ -23,4 +23,7 @@ pub mod Growth
 pub mod States
 pub mod DrcHeapLaw
 pub mod CollectSwept
+pub mod CollectClear
 pub mod CollectSpan
+pub mod CollectUnreached
+pub mod CollectPhases
