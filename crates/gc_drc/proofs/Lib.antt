@@ -27,3 +27,7 @@ pub mod WalkMemory
 pub mod GrowLemmas
 pub mod BackingLemmas
 pub mod SweptMemory
+pub mod ObjectsRoots
+pub mod ObjectsOffsets
+pub mod ObjectsBegin
+pub mod ObjectsEnd

@@ -24,3 +24,4 @@ pub mod States
 pub mod DrcHeapLaw
 pub mod CollectSwept
 pub mod CollectSpan
+pub mod Objects
