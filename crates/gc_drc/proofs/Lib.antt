@@ -30,3 +30,7 @@ pub mod SweptMemory
 pub mod ClearMemory
 pub mod UnreachedMemory
 pub mod PhaseLemmas
+pub mod ObjectsRoots
+pub mod ObjectsOffsets
+pub mod ObjectsBegin
+pub mod ObjectsEnd

@@ -27,3 +27,4 @@ pub mod CollectClear
 pub mod CollectSpan
 pub mod CollectUnreached
 pub mod CollectPhases
+pub mod Objects
