@@ -34,3 +34,4 @@ pub mod ObjectsRoots
 pub mod ObjectsOffsets
 pub mod ObjectsBegin
 pub mod ObjectsEnd
+pub mod ObjectsSteps

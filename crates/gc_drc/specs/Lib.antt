@@ -28,3 +28,5 @@ pub mod CollectSpan
 pub mod CollectUnreached
 pub mod CollectPhases
 pub mod Objects
+pub mod ObjectsBetween
+pub mod DrcCollectionLaw
