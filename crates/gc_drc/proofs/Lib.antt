@@ -35,3 +35,4 @@ pub mod ObjectsOffsets
 pub mod ObjectsBegin
 pub mod ObjectsEnd
 pub mod ObjectsSteps
+pub mod RunLemmas

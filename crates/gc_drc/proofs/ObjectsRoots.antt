@@ -7,7 +7,8 @@ use Rattle.gc_roots.specs.Roots.{Root}
 use Rattle.gc_memory.specs.Lists.{In, here, there, occ}
 use Rattle.gc_heap.specs.Collection.{occurrences, held_words, stack_words, moved, moved_root}
 
-only_item : {A : Type 0} (x y : A) → Contains (x ∷ []) y → x ≡ y
+-- the one item of a list of one
+pub only_item : {A : Type 0} (x y : A) → Contains (x ∷ []) y → x ≡ y
 only_item {A} x y h = at h.0 h.1 h.2
   where
     at : (k : ℕ) → k < 1 → slice_index_or (x ∷ []) k y ≡ y → x ≡ y

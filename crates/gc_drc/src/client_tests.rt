@@ -14,7 +14,7 @@ use std::alloc::Global;
 use std::test::Fail;
 
 /// Gives a new heap a page.
-fn attach_first<H: GcHeap>(heap: &mut H, alloc: Global) -> Result<(), Fail>
+pub(crate) fn attach_first<H: GcHeap>(heap: &mut H, alloc: Global) -> Result<(), Fail>
     requires counting { H.KIND ≡ Layouts.Counting }
     requires sound { H.sound heap.old }
     requires detached { H.seen heap.old ≡ detached_in 0 }

@@ -25,6 +25,8 @@ mod barriers;
 mod client_tests;
 pub(crate) mod collect;
 pub mod collection;
+#[cfg(test)]
+mod collection_tests;
 mod counting;
 mod give;
 mod growth;
