@@ -36,3 +36,4 @@ pub mod ObjectsBegin
 pub mod ObjectsEnd
 pub mod ObjectsSteps
 pub mod RunLemmas
+pub mod IncrementLemmas
