@@ -27,3 +27,13 @@ pub mod WalkMemory
 pub mod GrowLemmas
 pub mod BackingLemmas
 pub mod SweptMemory
+pub mod ClearMemory
+pub mod UnreachedMemory
+pub mod PhaseLemmas
+pub mod ObjectsRoots
+pub mod ObjectsOffsets
+pub mod ObjectsBegin
+pub mod ObjectsEnd
+pub mod ObjectsSteps
+pub mod RunLemmas
+pub mod IncrementLemmas

@@ -281,7 +281,7 @@ next_behind sizes low end q (h ∷ ps) le up (there i) =
     subst (λ o. IsNext (h ∷ ps) end from (past o from)) (sym skip) (more_next h ps end from (past (run_at from rest) from) (omega arith) n)
 
 -- the end of the managed places
-end_is : (v : View) (s : CountedSpace) → Holds v s → places_end s.free.space.capacity ≡ walk_end s
+pub end_is : (v : View) (s : CountedSpace) → Holds v s → places_end s.free.space.capacity ≡ walk_end s
 end_is v s h =
     let bound = h.bound in
     let capacity = h.capacity in

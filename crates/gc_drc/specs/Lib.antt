@@ -23,3 +23,10 @@ pub mod Growth
 pub mod States
 pub mod DrcHeapLaw
 pub mod CollectSwept
+pub mod CollectClear
+pub mod CollectSpan
+pub mod CollectUnreached
+pub mod CollectPhases
+pub mod Objects
+pub mod ObjectsBetween
+pub mod DrcCollectionLaw

@@ -5,11 +5,13 @@
 //! third frees the cycles that are left: it marks what the roots reach, and frees the rest.
 
 pub(crate) mod cascade;
+pub(crate) mod clear;
 pub(crate) mod counts;
 pub(crate) mod hosts;
 pub(crate) mod increments;
 pub(crate) mod lists;
 pub(crate) mod marks;
+pub(crate) mod phase;
 pub(crate) mod release;
 pub(crate) mod sweep;
 pub(crate) mod trace;

@@ -11,17 +11,22 @@
 //! - `give`, `read`, `write`: an object is given back, read and written.
 //! - `growth`: the memory comes, goes, and grows.
 //! - `collect`: the increments of a collection over a space.
-//! - `heap`: `DrcHeap`, with or without a memory, and the calls of a heap that is not collected.
+//! - `collection`: what a collection knows between two increments.
+//! - `heap`: `DrcHeap`, a space or none, behind `GcHeap`.
 //!
-//! Missing: the state of a collection between its increments, and with it the impl of `GcHeap`; so no
-//! store takes this heap yet. Of a collection there are marking from frame slots, the sweep of the list
-//! of shown words, the cascade, the trace from the roots and the walk that frees what isn't marked, each
-//! with its own clause; no clause joins them to one collection.
+//! A collection has three increments and moves nothing. Its proof has two levels: in memory, where a
+//! `Context` is what it began with and each increment leads from one phase to the next, and in objects,
+//! where it began at a `Start` and what it leaves is `Collected`.
 #![tactic(auto)]
 
 mod alloc;
 mod barriers;
+#[cfg(test)]
+mod client_tests;
 pub(crate) mod collect;
+pub mod collection;
+#[cfg(test)]
+mod collection_tests;
 mod counting;
 mod give;
 mod growth;
@@ -33,4 +38,5 @@ pub(crate) mod space;
 mod tests;
 mod write;
 
+pub use collection::{DrcCollection, DrcCollector};
 pub use heap::DrcHeap;

@@ -4,7 +4,7 @@ ghost use Rattle.std.specs.Prelude.{◌≡◌, ◌≤◌, ◌<◌};
 ghost use Rattle.gc_drc.specs.States.{IsDrcSound};
 
 use crate::DrcHeap;
-use gc_heap::{HeapFault, HeapMemory};
+use gc_heap::{GcHeap, HeapFault, HeapMemory};
 use gc_refs::{VMArrayRef, VMExternRef, VMGcHeader, VMGcRef};
 use gc_tables::ExternRefHostDataId;
 use gc_types::{FieldLayouts, GcArrayLayout, GcStructLayout, VMGcKind, VMSharedTypeIndex};

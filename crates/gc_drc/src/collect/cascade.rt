@@ -1,6 +1,6 @@
 //! Freeing what is queued, and what that frees in turn.
 
-ghost use Rattle.std.specs.Prelude.{ℕ, ◌≡◌, ◌<◌, ◌↔◌, ◌≢◌, List, IsTrue};
+ghost use Rattle.std.specs.Prelude.{ℕ, ◌≡◌, ◌<◌, ◌≤◌, ◌↔◌, ◌≢◌, List, IsTrue};
 ghost use Rattle.std.specs.FinMap as finite;
 ghost use Rattle.std.specs.Ordering.{nat_cmp};
 ghost use Rattle.gc_drc.specs.CollectMemory.{Context};
@@ -44,6 +44,7 @@ impl CountedSpace {
         requires queued { 0 < self.old.queued }
         ensures drained { (c : Context) (before : finite.FinMap nat_cmp D) → c.types ≡ types.now.declarations → Drain D c before self.old hosts.old.entries → Drain D c before self.new hosts.new.entries }
         ensures less { drain_left self.new < drain_left self.old }
+        ensures spare { hosts.old.spare ≤ hosts.new.spare }
     {
         let place = self.queued;
         if self.count(place) == 1 {
@@ -60,6 +61,7 @@ impl CountedSpace {
         requires { CanDrain D types.now.declarations self.old hosts.old.entries }
         ensures drained { (c : Context) (before : finite.FinMap nat_cmp D) → c.types ≡ types.now.declarations → Drain D c before self.old hosts.old.entries → Drain D c before self.new hosts.new.entries }
         ensures empty { self.new.queued ≡ 0 }
+        ensures spare { hosts.old.spare ≤ hosts.new.spare }
     {
         while self.queued != 0 {
             self.free_next(types, hosts);

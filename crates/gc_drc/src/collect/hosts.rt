@@ -17,7 +17,8 @@ const HOST_WORD: usize = 28;
 
 /// Takes the value out of the table whose id that number stands for.
 fn free_host<D: Drop>(hosts: &mut ExternRefHostDataTable<D>, raw: u32)
-    ensures { FreesHost D hosts.old.entries hosts.new.entries raw }
+    ensures frees { FreesHost D hosts.old.entries hosts.new.entries raw }
+    ensures spare { hosts.old.spare ≤ hosts.new.spare }
 {
     if let Some(id) = ExternRefHostDataId::from_raw(raw) {
         match hosts.dealloc(id) {
@@ -40,7 +41,8 @@ impl CountedSpace {
         requires room { place + 28 ≤ length self.now.memory }
         requires kind { IsOfKind (kind_at self.now.memory place) (word self.now.memory place) }
         requires external { kind_at self.now.memory place ≡ ExternRef → place + 32 ≤ length self.now.memory }
-        ensures { FreesHostOf D self.now.memory hosts.old.entries hosts.new.entries place }
+        ensures frees { FreesHostOf D self.now.memory hosts.old.entries hosts.new.entries place }
+        ensures spare { hosts.old.spare ≤ hosts.new.spare }
     {
         if is_external(self.kind(place)) {
             let raw = self.memory.read_u32(place as usize + HOST_WORD);

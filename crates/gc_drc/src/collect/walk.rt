@@ -1,6 +1,6 @@
 //! The walk over held blocks, which frees what isn't marked.
 
-ghost use Rattle.std.specs.Prelude.{ℕ, ◌≡◌, ◌+◌, ◌%◌, ◌<◌, List, ◌∷◌};
+ghost use Rattle.std.specs.Prelude.{ℕ, ◌≡◌, ◌+◌, ◌%◌, ◌<◌, ◌≤◌, List, ◌∷◌};
 ghost use Rattle.std.specs.FinMap as finite;
 ghost use Rattle.std.specs.Ordering.{nat_cmp};
 ghost use Rattle.gc_memory.specs.Lists.{In};
@@ -46,8 +46,9 @@ impl CountedSpace {
         hosts: &mut ExternRefHostDataTable<D>,
     )
         requires { CanFreeGarbage D types.now.declarations self.old hosts.old.entries place }
-        ensures { (c : Context) (before : finite.FinMap nat_cmp D) (places : List ℕ) → c.types ≡ types.now.declarations → In place places
+        ensures freed { (c : Context) (before : finite.FinMap nat_cmp D) (places : List ℕ) → c.types ≡ types.now.declarations → In place places
             → Garbage D c before places self.old hosts.old.entries → Garbage D c before (without_one place places) self.new hosts.new.entries }
+        ensures spare { hosts.old.spare ≤ hosts.new.spare }
     {
         self.free_host_of(place, hosts);
         self.free_unlisted(place);
@@ -56,7 +57,7 @@ impl CountedSpace {
 
     /// The first held block from a place on, or the end of the managed places where there is none. Blocks
     /// may begin at that place.
-    fn next_place(&self, from: u32) -> u32
+    pub(crate) fn next_place(&self, from: u32) -> u32
         requires { CanWalk self.now from }
         ensures { (c : Context) (v : View) → At c v self.now → IsBorder v from → IsNext v.places (walk_end self.now) from result }
     {
@@ -74,8 +75,9 @@ impl CountedSpace {
         hosts: &mut ExternRefHostDataTable<D>,
     )
         requires { CanSweepGarbage D types.now.declarations self.old hosts.old.entries place }
-        ensures { (c : Context) (before : finite.FinMap nat_cmp D) (places : List ℕ) → c.types ≡ types.now.declarations → In place places
+        ensures swept { (c : Context) (before : finite.FinMap nat_cmp D) (places : List ℕ) → c.types ≡ types.now.declarations → In place places
             → Garbage D c before places self.old hosts.old.entries → SweepsGarbage D c before places place self.new hosts.new.entries }
+        ensures spare { hosts.old.spare ≤ hosts.new.spare }
     {
         if self.is_marked(place) {
             return;
@@ -84,7 +86,7 @@ impl CountedSpace {
     }
 
     /// Where the block of an object ends.
-    fn block_end(&self, place: u32) -> u32
+    pub(crate) fn block_end(&self, place: u32) -> u32
         requires { CanRelease self.now place }
         ensures { result ≡ place + block_of (size_at self.now.memory place) }
     {
@@ -98,8 +100,9 @@ impl CountedSpace {
         hosts: &mut ExternRefHostDataTable<D>,
     )
         requires { CanFreeUnmarked D types.now.declarations self.old hosts.old.entries }
-        ensures { (c : Context) (before : finite.FinMap nat_cmp D) (places : List ℕ) → c.types ≡ types.now.declarations
+        ensures freed { (c : Context) (before : finite.FinMap nat_cmp D) (places : List ℕ) → c.types ≡ types.now.declarations
             → Garbage D c before places self.old hosts.old.entries → FreedUnmarked D c before self.new hosts.new.entries }
+        ensures spare { hosts.old.spare ≤ hosts.new.spare }
     {
         let end = self.memory.capacity() / 16 * 16;
         if end < 16 {

@@ -16,9 +16,9 @@ free_unlisted-requires g c = garbage_release _ _ c.args.self.now _ c.args.place 
 pub visit_references-requires : goal.visit_references-requires
 visit_references-requires g c =
     garbage_can_visit _ c.args.types.now.declarations c.args.hosts.now.entries c.free_host_of.new.hosts.entries c.args.self.now c.free_unlisted.new.self c.args.place c.requires
-    c.free_host_of.ensures c.free_unlisted.ensures.memory c.free_unlisted.ensures.freed
+    c.free_host_of.ensures.frees c.free_unlisted.ensures.memory c.free_unlisted.ensures.freed
 
-pub returns : goal.returns
-returns g c o before places typed i q =
+pub returns-clause-freed : goal.returns-clause-freed
+returns-clause-freed g c o before places typed i q =
     garbage_freed _ o c.args.types.now.declarations before c.args.hosts.now.entries c.free_host_of.new.hosts.entries places c.args.self.now c.free_unlisted.new.self c.visit_references.new.self c.args.place
-    c.requires.fresh c.free_host_of.ensures c.free_unlisted.ensures.memory c.free_unlisted.ensures.freed c.visit_references.ensures typed i q
+    c.requires.fresh c.free_host_of.ensures.frees c.free_unlisted.ensures.memory c.free_unlisted.ensures.freed c.visit_references.ensures typed i q

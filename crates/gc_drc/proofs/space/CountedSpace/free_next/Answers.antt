@@ -19,18 +19,18 @@ free_queued-requires g c = first_can_free _ _ c.args.self.now _ c.requires.can c
 pub visit_references-requires : goal.visit_references-requires
 visit_references-requires g c =
     free_can_visit _ c.args.types.now.declarations c.args.hosts.now.entries c.free_host_of.new.hosts.entries c.args.self.now c.free_queued.new.self c.count.result c.requires.queued c.count.ensures c.if-count-eq1.true
-    c.free_host_of.ensures c.free_queued.ensures c.requires.can
+    c.free_host_of.ensures.frees c.free_queued.ensures c.requires.can
 
 pub returns-then-count-eq1-clause-drained : goal.returns-then-count-eq1-clause-drained
 returns-then-count-eq1-clause-drained g c o before typed d =
     (free_steps _ o c.args.types.now.declarations before c.args.hosts.now.entries c.free_host_of.new.hosts.entries c.args.self.now c.free_queued.new.self c.visit_references.new.self c.count.result c.requires.queued
-    c.count.ensures c.if-count-eq1.true c.free_host_of.ensures c.free_queued.ensures c.visit_references.ensures typed d).0
+    c.count.ensures c.if-count-eq1.true c.free_host_of.ensures.frees c.free_queued.ensures c.visit_references.ensures typed d).0
 
 pub returns-then-count-eq1-clause-less : goal.returns-then-count-eq1-clause-less
 returns-then-count-eq1-clause-less g c =
     let can = c.requires.can in
     (free_steps _ can.context c.args.types.now.declarations can.before c.args.hosts.now.entries c.free_host_of.new.hosts.entries c.args.self.now c.free_queued.new.self c.visit_references.new.self c.count.result c.requires.queued
-    c.count.ensures c.if-count-eq1.true c.free_host_of.ensures c.free_queued.ensures c.visit_references.ensures can.typed can.drain).1
+    c.count.ensures c.if-count-eq1.true c.free_host_of.ensures.frees c.free_queued.ensures c.visit_references.ensures can.typed can.drain).1
 
 pub leave_queue-requires : goal.leave_queue-requires
 leave_queue-requires g c = first_can_leave _ _ c.args.self.now _ c.count.result c.requires.can c.requires.queued c.count.ensures c.if-count-eq1.false

@@ -7,8 +7,8 @@ sweep_shown-requires g c = (c.requires.0, c.requires.1.1)
 pub drain-requires : goal.drain-requires
 drain-requires g c = swept_can_drain _ c.args.types.now.declarations c.args.self.now c.sweep_shown.new.self c.args.hosts.now.entries c.requires.0 c.requires.1.0 c.requires.1.1 c.sweep_shown.ensures
 
-pub returns : goal.returns
-returns g c o typed m =
+pub returns-clause-frees : goal.returns-clause-frees
+returns-clause-frees g c o typed m =
     let r = c.sweep_shown.ensures o m in
     frees_unheld _ o c.drain.new.self c.args.hosts.now.entries c.drain.new.hosts.entries
     (c.drain.ensures.drained o c.args.hosts.now.entries typed (swept_drain _ o c.sweep_shown.new.self c.args.hosts.now.entries r.0 r.1)) c.drain.ensures.empty

@@ -1,0 +1,7 @@
+use Rattle.gc_drc.proofs.heap.DrcHeapGcHeap.step.Goals as goal
+
+pub collect_more-requires : goal.collect_more-requires
+collect_more-requires g c = let r = c.requires in (r.0, (r.1.0, r.1.1.1))
+
+pub returns-clause-step : goal.returns-clause-step
+returns-clause-step g c s n k between = c.collect_more.ensures.stepped s n between
