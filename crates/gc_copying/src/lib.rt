@@ -16,6 +16,10 @@ mod alloc;
 mod client_tests;
 pub mod collection;
 pub(crate) mod copy;
+#[cfg(test)]
+mod graph;
+#[cfg(test)]
+mod graph_runs;
 mod growth;
 pub mod heap;
 pub mod layout;
