@@ -122,6 +122,37 @@ pub(crate) fn add_array<H: GcHeap>(
     }
 }
 
+/// Adds a struct of a declared type, all references null.
+pub(crate) fn add_declared<H: GcHeap>(
+    heap: &mut H,
+    around: &mut Around,
+    ty: VMSharedTypeIndex,
+) -> Result<(), Fail>
+    requires copying { H.KIND ≡ Layouts.Copying }
+    requires sound { H.sound heap.old }
+    requires can { CanCollect H.KIND (start_at (H.seen heap.old) around.old.roots.roots around.old.types.declarations around.old.hosts.entries) }
+    ensures sound { H.sound heap.new }
+    ensures can { OnOk result (CanCollect H.KIND (start_at (H.seen heap.new) around.new.roots.roots around.new.types.declarations around.new.hosts.entries)) }
+{
+    around.roots.reserve(1)?;
+    let layout = match around.types.struct_layout(Layouts::Copying, ty) {
+        Some(layout) => layout,
+        None => return Err("no such type")?,
+    };
+    if layout.is_exception {
+        return Err("no struct")?;
+    }
+    match heap.alloc_uninit_struct_or_exn(ty, layout)? {
+        Ok(object) => {
+            around
+                .roots
+                .add_vmgcref_root(RootPlace { number: 0 }, object);
+            Ok(())
+        }
+        Err(_) => Err("no room")?,
+    }
+}
+
 /// Adds an external object with that host value.
 pub(crate) fn add_host<H: GcHeap>(heap: &mut H, around: &mut Around, value: u8) -> Result<(), Fail>
     requires copying { H.KIND ≡ Layouts.Copying }
@@ -261,6 +292,31 @@ pub(crate) fn put_number<H: GcHeap>(
     };
     let word = VMGcRef::from_i31(I31::wrapping_u32(number));
     write_word(heap, around, &holder, offset, &word)
+}
+
+/// Writes a plain number behind the reference of a struct that has its one reference first.
+pub(crate) fn put_plain<H: GcHeap>(
+    heap: &mut H,
+    around: &Around,
+    from: usize,
+    number: u32,
+) -> Result<(), Fail>
+    requires copying { H.KIND ≡ Layouts.Copying }
+    requires sound { H.sound heap.old }
+    requires can { CanCollect H.KIND (start_at (H.seen heap.old) around.now.roots.roots around.now.types.declarations around.now.hosts.entries) }
+    ensures sound { H.sound heap.new }
+    ensures can { OnOk result (CanCollect H.KIND (start_at (H.seen heap.new) around.now.roots.roots around.now.types.declarations around.now.hosts.entries)) }
+{
+    let Some(holder) = holder_at(heap, around, from) else {
+        return Err("no holder")?;
+    };
+    let header = heap.header(&holder)?;
+    let size = heap.object_size(&holder)?;
+    if !holder.is_structref(heap) || header.reserved_u26() != 1 || size < 20 {
+        return Err("another struct")?;
+    }
+    write_u32(heap, &holder, 16, number);
+    Ok(())
 }
 
 /// Lets a root hold a number in place of its object.

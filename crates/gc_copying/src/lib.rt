@@ -20,6 +20,8 @@ pub(crate) mod copy;
 mod graph;
 #[cfg(test)]
 mod graph_runs;
+#[cfg(test)]
+mod graph_tests;
 mod growth;
 pub mod heap;
 pub mod layout;
