@@ -9,7 +9,9 @@ ghost use Rattle.gc_heap.specs.Collection.{Start, CanCollect, Collected, has_hos
 ghost use Rattle.gc_heap.specs.Run.{start_at};
 
 use crate::alloc::header_with;
-use crate::graph::{Around, Node, add, add_array, attach_pages, forget, holder_at, link, put_number, write_word};
+use crate::graph::{
+    Around, Node, add, add_array, attach_pages, forget, holder_at, link, put_number, write_word,
+};
 use gc_heap::{GcHeap, GcProgress, GcStoreTraceState};
 use gc_roots::GcRootsList;
 use gc_tables::ExternRefHostDataTable;
