@@ -8,6 +8,7 @@ pub mod FewLemmas
 pub mod FinishLemmas
 pub mod FormLemmas
 pub mod ForwardLemmas
+pub mod GraphLemmas
 pub mod GrowLemmas
 pub mod HostLemmas
 pub mod LastLemmas

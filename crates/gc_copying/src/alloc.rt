@@ -21,7 +21,7 @@ use gc_tables::ExternRefHostDataId;
 use gc_types::{GcArrayLayout, GcStructLayout, Layouts, VMGcKind, VMSharedTypeIndex};
 
 /// The header of an object of that kind and type with these spare bits.
-fn header_with(kind: VMGcKind, ty: VMSharedTypeIndex, spare: u32) -> VMGcHeader
+pub(crate) fn header_with(kind: VMGcKind, ty: VMSharedTypeIndex, spare: u32) -> VMGcHeader
     requires { spare < spare_bits }
     ensures kind { IsOfKind kind result.kind_word }
     ensures ty { result.type_word ≡ ty }

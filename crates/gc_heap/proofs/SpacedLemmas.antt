@@ -141,7 +141,8 @@ widths storage.I8 = inl refl
 widths storage.I16 = inr (inl refl)
 widths (storage.ValType ty) = value_widths ty
 
-fields_from : (p : ℕ) (fields : List FieldType) → p ≤ fields_end p fields
+-- the end of fields lies behind their beginning
+pub fields_from : (p : ℕ) (fields : List FieldType) → p ≤ fields_end p fields
 fields_from p [] = omega arith
 fields_from p (f ∷ fs) =
     let first : p ≤ field_offset p f = round_above p (storage_width f.element_type) (widths f.element_type) in

@@ -1,0 +1,361 @@
+//! Graphs of objects that tests make in a heap that copies. After each step a collection may begin.
+
+ghost use Rattle.std.specs.Prelude.{◌≡◌, ◌≤◌, ◌<◌, ◌*◌, ◌^◌, ◌+◌, OnOk, All, IfSome, Some};
+ghost use Rattle.std.specs.FinMap as finite;
+ghost use Rattle.gc_types.specs.declared.kind.Layouts.TheVariants.{Copying};
+ghost use Rattle.gc_refs.specs.Trace.{form_unit};
+ghost use Rattle.gc_model.specs.Allocation.{page, max_pages};
+ghost use Rattle.gc_model.specs.Views.{HeapObject, detached_in};
+ghost use Rattle.gc_heap.specs.Objects.{HasFields, writable_offset};
+ghost use Rattle.gc_heap.specs.References.{bitmap_offsets};
+ghost use Rattle.gc_heap.specs.Content.{IsHeld};
+ghost use Rattle.gc_heap.specs.Heap.{empty_heap};
+ghost use Rattle.gc_heap.specs.Collection.{CanCollect, IsWordOf};
+ghost use Rattle.gc_heap.specs.Run.{start_at};
+
+use crate::alloc::header_with;
+use gc_heap::access::write_u32;
+use gc_heap::{GcHeap, HeapMemory, RefKinds};
+use gc_refs::{I31, VMGcRef};
+use gc_roots::{GcRootsList, RootPlace};
+use gc_tables::ExternRefHostDataTable;
+use gc_types::{GcArrayLayout, Layouts, Types, VMGcKind, VMSharedTypeIndex};
+use std::alloc::Global;
+use std::test::Fail;
+
+/// What stands around a heap: a root for each object that was made, in the order of making, the
+/// declared types and the host values.
+#[derive(Drop)]
+pub(crate) struct Around {
+    pub(crate) roots: GcRootsList,
+    pub(crate) types: Types,
+    pub(crate) hosts: ExternRefHostDataTable<u8>,
+}
+
+/// An object of a graph. Only the types of objects that are traced by them are declared.
+#[derive(Clone, Copy, Debug)]
+pub(crate) enum Node {
+    /// A struct of one reference.
+    One,
+    /// A struct of a reference and a number.
+    Numbered,
+    /// A struct of two references.
+    Two,
+    /// An array of so many references.
+    Array(u32),
+    /// An external object with that host value.
+    Host(u8),
+}
+
+const REFERENCES: GcArrayLayout = GcArrayLayout {
+    base_size: 16,
+    elem_size: 4,
+    elems_are_gc_refs: true,
+};
+
+/// Gives a new heap so many pages.
+pub(crate) fn attach_pages<H: GcHeap>(heap: &mut H, alloc: Global, pages: u32) -> Result<(), Fail>
+    requires copying { H.KIND ≡ Layouts.Copying }
+    requires sound { H.sound heap.old }
+    requires detached { H.seen heap.old ≡ detached_in 0 }
+    requires few { pages ≤ max_pages }
+    ensures sound { H.sound heap.new }
+    ensures empty { OnOk result (H.seen heap.new ≡ empty_heap Layouts.Copying (page * pages) 0) }
+{
+    let memory = HeapMemory::new(alloc, pages)?;
+    match heap.attach(memory) {
+        Ok(()) => Ok(()),
+        Err(_) => Err("not attached")?,
+    }
+}
+
+/// Adds a struct of undeclared type whose references the bitmap names, all null.
+pub(crate) fn add_struct<H: GcHeap>(
+    heap: &mut H,
+    around: &mut Around,
+    size: u32,
+    bitmap: u32,
+) -> Result<(), Fail>
+    requires copying { H.KIND ≡ Layouts.Copying }
+    requires sound { H.sound heap.old }
+    requires can { CanCollect H.KIND (start_at (H.seen heap.old) around.old.roots.roots around.old.types.declarations around.old.hosts.entries) }
+    requires least { 12 ≤ size }
+    requires bits { bitmap < form_unit }
+    requires inside { All (λ offset. offset + 4 ≤ size) (bitmap_offsets bitmap) }
+    ensures sound { H.sound heap.new }
+    ensures can { OnOk result (CanCollect H.KIND (start_at (H.seen heap.new) around.new.roots.roots around.new.types.declarations around.new.hosts.entries)) }
+{
+    around.roots.reserve(1)?;
+    let header = header_with(VMGcKind::StructRef, VMSharedTypeIndex::new(7), bitmap);
+    match heap.alloc_raw(header, size)? {
+        Ok(object) => {
+            around
+                .roots
+                .add_vmgcref_root(RootPlace { number: 0 }, object);
+            Ok(())
+        }
+        Err(_) => Err("no room")?,
+    }
+}
+
+/// Adds an array of so many references, all null.
+pub(crate) fn add_array<H: GcHeap>(
+    heap: &mut H,
+    around: &mut Around,
+    length: u32,
+) -> Result<(), Fail>
+    requires copying { H.KIND ≡ Layouts.Copying }
+    requires sound { H.sound heap.old }
+    requires can { CanCollect H.KIND (start_at (H.seen heap.old) around.old.roots.roots around.old.types.declarations around.old.hosts.entries) }
+    ensures sound { H.sound heap.new }
+    ensures can { OnOk result (CanCollect H.KIND (start_at (H.seen heap.new) around.new.roots.roots around.new.types.declarations around.new.hosts.entries)) }
+{
+    around.roots.reserve(1)?;
+    match heap.alloc_uninit_array(VMSharedTypeIndex::new(8), length, &REFERENCES)? {
+        Ok(array) => {
+            around
+                .roots
+                .add_vmgcref_root(RootPlace { number: 0 }, VMGcRef::from(array));
+            Ok(())
+        }
+        Err(_) => Err("no room")?,
+    }
+}
+
+/// Adds a struct of a declared type, all references null.
+pub(crate) fn add_declared<H: GcHeap>(
+    heap: &mut H,
+    around: &mut Around,
+    ty: VMSharedTypeIndex,
+) -> Result<(), Fail>
+    requires copying { H.KIND ≡ Layouts.Copying }
+    requires sound { H.sound heap.old }
+    requires can { CanCollect H.KIND (start_at (H.seen heap.old) around.old.roots.roots around.old.types.declarations around.old.hosts.entries) }
+    ensures sound { H.sound heap.new }
+    ensures can { OnOk result (CanCollect H.KIND (start_at (H.seen heap.new) around.new.roots.roots around.new.types.declarations around.new.hosts.entries)) }
+{
+    around.roots.reserve(1)?;
+    let layout = match around.types.struct_layout(Layouts::Copying, ty) {
+        Some(layout) => layout,
+        None => return Err("no such type")?,
+    };
+    if layout.is_exception {
+        return Err("no struct")?;
+    }
+    match heap.alloc_uninit_struct_or_exn(ty, layout)? {
+        Ok(object) => {
+            around
+                .roots
+                .add_vmgcref_root(RootPlace { number: 0 }, object);
+            Ok(())
+        }
+        Err(_) => Err("no room")?,
+    }
+}
+
+/// Adds an external object with that host value.
+pub(crate) fn add_host<H: GcHeap>(heap: &mut H, around: &mut Around, value: u8) -> Result<(), Fail>
+    requires copying { H.KIND ≡ Layouts.Copying }
+    requires sound { H.sound heap.old }
+    requires can { CanCollect H.KIND (start_at (H.seen heap.old) around.old.roots.roots around.old.types.declarations around.old.hosts.entries) }
+    ensures sound { H.sound heap.new }
+    ensures can { OnOk result (CanCollect H.KIND (start_at (H.seen heap.new) around.new.roots.roots around.new.types.declarations around.new.hosts.entries)) }
+{
+    around.roots.reserve(1)?;
+    let id = match around.hosts.alloc(value) {
+        Ok(id) => id,
+        Err(_) => return Err("no host value")?,
+    };
+    let _bounded = id.into_raw();
+    match heap.alloc_externref(id)? {
+        Ok(external) => {
+            around
+                .roots
+                .add_vmgcref_root(RootPlace { number: 0 }, VMGcRef::from(external));
+            Ok(())
+        }
+        Err(_) => Err("no room")?,
+    }
+}
+
+/// Adds an object of a graph.
+pub(crate) fn add<H: GcHeap>(heap: &mut H, around: &mut Around, node: Node) -> Result<(), Fail>
+    requires copying { H.KIND ≡ Layouts.Copying }
+    requires sound { H.sound heap.old }
+    requires can { CanCollect H.KIND (start_at (H.seen heap.old) around.old.roots.roots around.old.types.declarations around.old.hosts.entries) }
+    ensures sound { H.sound heap.new }
+    ensures can { OnOk result (CanCollect H.KIND (start_at (H.seen heap.new) around.new.roots.roots around.new.types.declarations around.new.hosts.entries)) }
+{
+    match node {
+        Node::One => add_struct(heap, around, 16, 0b1),
+        Node::Numbered => add_struct(heap, around, 32, 0b1),
+        Node::Two => add_struct(heap, around, 20, 0b11),
+        Node::Array(length) => add_array(heap, around, length),
+        Node::Host(value) => add_host(heap, around, value),
+    }
+}
+
+/// The first offset of a struct or an array that its holder may write.
+fn first_offset<H: GcHeap>(heap: &H, holder: &VMGcRef) -> Option<u32>
+    requires copying { H.KIND ≡ Layouts.Copying }
+    requires sound { H.sound heap.now }
+    ensures { IfSome result (λ n. (o : HeapObject) → finite.get (H.seen heap.now).content holder.now ≡ Some o → HasFields o.kind × (writable_offset Copying o.kind ≡ n)) }
+{
+    if holder.is_structref(heap) {
+        return Some(12);
+    }
+    if holder.is_arrayref(heap) {
+        return Some(16);
+    }
+    None
+}
+
+/// Writes a word at an offset of a held struct or array.
+pub(crate) fn write_word<H: GcHeap>(
+    heap: &mut H,
+    around: &Around,
+    holder: &VMGcRef,
+    offset: u32,
+    word: &VMGcRef,
+) -> Result<(), Fail>
+    requires copying { H.KIND ≡ Layouts.Copying }
+    requires sound { H.sound heap.old }
+    requires can { CanCollect H.KIND (start_at (H.seen heap.old) around.now.roots.roots around.now.types.declarations around.now.hosts.entries) }
+    requires held { IsHeld (H.seen heap.old) holder.now }
+    requires word { IsWordOf (H.seen heap.old) word.now }
+    ensures sound { H.sound heap.new }
+    ensures can { OnOk result (CanCollect H.KIND (start_at (H.seen heap.new) around.now.roots.roots around.now.types.declarations around.now.hosts.entries)) }
+{
+    let Some(first) = first_offset(heap, holder) else {
+        return Err("no fields")?;
+    };
+    let size = heap.object_size(holder)?;
+    if offset % 4 != 0 || offset < first || size < offset as usize + 4 {
+        return Err("no such offset")?;
+    }
+    write_u32(heap, holder, offset, word.as_raw_u32());
+    Ok(())
+}
+
+/// The word of a root, where it names an object.
+pub(crate) fn holder_at<H: GcHeap>(heap: &H, around: &Around, index: usize) -> Option<VMGcRef>
+    requires can { CanCollect H.KIND (start_at (H.seen heap.now) around.now.roots.roots around.now.types.declarations around.now.hosts.entries) }
+    ensures { IfSome result (IsHeld (H.seen heap.now)) }
+{
+    if index >= around.roots.len() {
+        return None;
+    }
+    let word = around.roots.word_at(index);
+    let _not_null = word.as_raw_u32();
+    if word.is_i31() { None } else { Some(word) }
+}
+
+/// Writes the word of an object into another one.
+pub(crate) fn link<H: GcHeap>(
+    heap: &mut H,
+    around: &Around,
+    from: usize,
+    offset: u32,
+    to: usize,
+) -> Result<(), Fail>
+    requires copying { H.KIND ≡ Layouts.Copying }
+    requires sound { H.sound heap.old }
+    requires can { CanCollect H.KIND (start_at (H.seen heap.old) around.now.roots.roots around.now.types.declarations around.now.hosts.entries) }
+    ensures sound { H.sound heap.new }
+    ensures can { OnOk result (CanCollect H.KIND (start_at (H.seen heap.new) around.now.roots.roots around.now.types.declarations around.now.hosts.entries)) }
+{
+    let Some(holder) = holder_at(heap, around, from) else {
+        return Err("no holder")?;
+    };
+    let Some(word) = holder_at(heap, around, to) else {
+        return Err("no object")?;
+    };
+    write_word(heap, around, &holder, offset, &word)
+}
+
+/// Writes a 31-bit number into an object.
+pub(crate) fn put_number<H: GcHeap>(
+    heap: &mut H,
+    around: &Around,
+    from: usize,
+    offset: u32,
+    number: u32,
+) -> Result<(), Fail>
+    requires copying { H.KIND ≡ Layouts.Copying }
+    requires sound { H.sound heap.old }
+    requires can { CanCollect H.KIND (start_at (H.seen heap.old) around.now.roots.roots around.now.types.declarations around.now.hosts.entries) }
+    ensures sound { H.sound heap.new }
+    ensures can { OnOk result (CanCollect H.KIND (start_at (H.seen heap.new) around.now.roots.roots around.now.types.declarations around.now.hosts.entries)) }
+{
+    let Some(holder) = holder_at(heap, around, from) else {
+        return Err("no holder")?;
+    };
+    let word = VMGcRef::from_i31(I31::wrapping_u32(number));
+    write_word(heap, around, &holder, offset, &word)
+}
+
+/// Writes a plain number behind the reference of a struct that has its one reference first.
+pub(crate) fn put_plain<H: GcHeap>(
+    heap: &mut H,
+    around: &Around,
+    from: usize,
+    number: u32,
+) -> Result<(), Fail>
+    requires copying { H.KIND ≡ Layouts.Copying }
+    requires sound { H.sound heap.old }
+    requires can { CanCollect H.KIND (start_at (H.seen heap.old) around.now.roots.roots around.now.types.declarations around.now.hosts.entries) }
+    ensures sound { H.sound heap.new }
+    ensures can { OnOk result (CanCollect H.KIND (start_at (H.seen heap.new) around.now.roots.roots around.now.types.declarations around.now.hosts.entries)) }
+{
+    let Some(holder) = holder_at(heap, around, from) else {
+        return Err("no holder")?;
+    };
+    let header = heap.header(&holder)?;
+    let size = heap.object_size(&holder)?;
+    if !holder.is_structref(heap) || header.reserved_u26() != 1 || size < 20 {
+        return Err("another struct")?;
+    }
+    write_u32(heap, &holder, 16, number);
+    Ok(())
+}
+
+/// Lets a root hold a number in place of its object.
+pub(crate) fn forget<H: GcHeap>(heap: &H, around: &mut Around, index: usize) -> Result<(), Fail>
+    requires copying { H.KIND ≡ Layouts.Copying }
+    requires can { CanCollect H.KIND (start_at (H.seen heap.now) around.old.roots.roots around.old.types.declarations around.old.hosts.entries) }
+    ensures can { OnOk result (CanCollect H.KIND (start_at (H.seen heap.now) around.new.roots.roots around.new.types.declarations around.new.hosts.entries)) }
+{
+    if index >= around.roots.len() {
+        return Err("no root")?;
+    }
+    let number = VMGcRef::from_i31(I31::wrapping_u32(0));
+    around.roots.set_word_at(index, number);
+    Ok(())
+}
+
+/// The word at an offset of an object, where it isn't null.
+pub(crate) fn reference_at<H: GcHeap>(heap: &H, holder: &VMGcRef, offset: u32) -> Option<VMGcRef>
+    requires { H.sound heap.now }
+{
+    let data = heap.gc_object_data(holder).ok()?;
+    VMGcRef::from_raw_u32(data.read_u32(offset).ok()?)
+}
+
+/// The word that a walk from a root leads to, by offsets of references.
+pub(crate) fn follow<H: GcHeap>(
+    heap: &H,
+    around: &Around,
+    index: usize,
+    offsets: &[u32],
+) -> Option<VMGcRef>
+    requires { H.sound heap.now }
+{
+    if index >= around.roots.len() {
+        return None;
+    }
+    let mut word = around.roots.word_at(index);
+    for offset in offsets {
+        word = reference_at(heap, &word, *offset)?;
+    }
+    Some(word)
+}
