@@ -1,5 +1,5 @@
 -- No two commands have one spelling.
-use Rattle.std.proofs.Common.{◌≡◌, ℕ, List, [], ◌∷◌, ◌++◌, ◌<◌, ◌^◌, map, codes, Bool, true, false, Option, None, Some, IfSome, refl, sym, ap, ◌∙◌, arith}
+use Rattle.std.proofs.Common.{◌≡◌, ℕ, List, [], ◌∷◌, ◌++◌, ◌<◌, ◌^◌, map, codes, Bool, true, false, Option, None, Some, IfSome, refl, sym, ap, ◌∙◌, get_or, arith}
 use Rattle.std.specs.Fmt.{decimal, signed_decimal}
 use Rattle.std.specs.List.{AllByRecursion}
 use Rattle.std.proofs.lemmas.Fmt.{decimal_injective, signed_decimal_injective}
@@ -17,10 +17,6 @@ use Rattle.gc_commands.specs.Spelling.{IsBuilt, IsBuiltField, IsBuiltOperand, Is
 use Rattle.gc_commands.specs.Words.{field_text, heap_text, mutability_text, null_mark, operand_text, storage_text, value_text}
 use Rattle.gc_commands.proofs.LineLemmas.{words_of_spelled}
 
--- a reference that is built is spelled `any`
-no_reference : (h : HeapWord) (n : Bool) (text : List ℕ) → IsBuiltValue (value.Ref h n) → (codes "any" ≡ text → ⊥) → value_text (value.Ref h n) ≡ text → ⊥
-no_reference h n text built other e = other (sym (ap (λ g. heap_text g ++ null_mark n) built.0 ∙ ap (λ m. codes "any" ++ null_mark m) built.1) ∙ e)
-
 one_list : {A : Type 0} (Fits : A → Type 0) (text : A → List ℕ) → ((x y : A) → Fits x → Fits y → text x ≡ text y → x ≡ y)
     → (xs ys : List A) → AllByRecursion Fits xs → AllByRecursion Fits ys → map text xs ≡ map text ys → xs ≡ ys
 one_list Fits text one [] [] xs_fit ys_fit e = refl
@@ -31,17 +27,23 @@ one_list Fits text one (x ∷ xs) (y ∷ ys) xs_fit ys_fit e =
     let tail = one_list Fits text one xs ys xs_fit.1 ys_fit.1 cc in
     cc
 
--- the value types that are built have three spellings
+-- texts whose first two letters differ
+differ_early : {A : Type 0} (s t : List ℕ) → (get_or s 0 0 ≡ get_or t 0 0 → get_or s 1 0 ≡ get_or t 1 0 → ⊥) → s ≡ t → A
+differ_early s t differ e = absurd (differ (ap (λ w. get_or w 0 0) e) (ap (λ w. get_or w 1 0) e))
+
+-- a reference that is built is spelled `any`
+reference_text : (h : HeapWord) (n : Bool) → IsBuiltValue (value.Ref h n) → value_text (value.Ref h n) ≡ codes "any"
+reference_text h n built = ap (λ g. heap_text g ++ null_mark n) built.0 ∙ ap (λ m. codes "any" ++ null_mark m) built.1
+
 one_value : (x y : ValueWord) → IsBuiltValue x → IsBuiltValue y → value_text x ≡ value_text y → x ≡ y
 one_value value.I32 value.I32 x_built y_built e = refl
 one_value value.I64 value.I64 x_built y_built e = refl
 one_value (value.Ref h n) (value.Ref g m) x_built y_built e = cc
-one_value (value.Ref h n) value.I32 x_built y_built e = absurd (no_reference h n (codes "i32") x_built (λ same. cc) e)
-one_value (value.Ref h n) value.I64 x_built y_built e = absurd (no_reference h n (codes "i64") x_built (λ same. cc) e)
-one_value value.I32 (value.Ref h n) x_built y_built e = absurd (no_reference h n (codes "i32") y_built (λ same. cc) (sym e))
-one_value value.I64 (value.Ref h n) x_built y_built e = absurd (no_reference h n (codes "i64") y_built (λ same. cc) (sym e))
-one_value value.I32 y x_built y_built e = cc
-one_value value.I64 y x_built y_built e = cc
+one_value value.I32 (value.Ref h n) x_built y_built e = differ_early _ _ (λ a b. omega arith) (e ∙ reference_text h n y_built)
+one_value value.I64 (value.Ref h n) x_built y_built e = differ_early _ _ (λ a b. omega arith) (e ∙ reference_text h n y_built)
+one_value (value.Ref h n) y x_built y_built e = differ_early _ _ (λ a b. omega arith) (sym (reference_text h n x_built) ∙ e)
+one_value value.I32 y x_built y_built e = differ_early _ _ (λ a b. omega arith) e
+one_value value.I64 y x_built y_built e = differ_early _ _ (λ a b. omega arith) e
 one_value x y x_built y_built e = absurd x_built
 
 one_storage : (x y : StorageWord) → IsBuiltStorage x → IsBuiltStorage y → storage_text x ≡ storage_text y → x ≡ y
@@ -53,15 +55,16 @@ one_field_by : (m n : Bool) (x y : StorageWord) → IsBuiltStorage x → IsBuilt
     → (m ≡ n) × (x ≡ y)
 one_field_by true true x y x_built y_built e = (refl, one_storage x y x_built y_built cc)
 one_field_by false false x y x_built y_built e = (refl, one_storage x y x_built y_built cc)
-one_field_by true false x y x_built y_built e = cc
-one_field_by false true x y x_built y_built e = cc
+one_field_by true false x y x_built y_built e = differ_early _ _ (λ a b. omega arith) e
+one_field_by false true x y x_built y_built e = differ_early _ _ (λ a b. omega arith) e
+
+abbrev field_of : Bool → StorageWord → FieldWord
+field_of mutable storage = record { mutable = mutable; storage = storage }
 
 one_field : (x y : FieldWord) → IsBuiltField x → IsBuiltField y → field_text x ≡ field_text y → x ≡ y
 one_field x y x_built y_built e =
     let same = one_field_by x.mutable y.mutable x.storage y.storage x_built y_built e in
-    let m = same.0 in
-    let s = same.1 in
-    cc
+    ap (λ m. field_of m x.storage) same.0 ∙ ap (field_of y.mutable) same.1
 
 one_operand : (x y : Operand) → IsBuiltOperand x → IsBuiltOperand y → operand_text x ≡ operand_text y → x ≡ y
 one_operand (operand.I32 m) (operand.I32 n) m_fits n_fits e =
@@ -74,22 +77,10 @@ one_operand operand.AnyNull operand.AnyNull x_fits y_fits e = refl
 one_operand (operand.Register r) (operand.Register s) r_small s_small e =
     let same : decimal r ≡ decimal s = cc in
     ap operand.Register (decimal_injective r s (omega arith) (omega arith) same)
-one_operand (operand.I32 m) (operand.I64 n) x_fits y_fits e = cc
-one_operand (operand.I32 m) operand.AnyNull x_fits y_fits e = cc
-one_operand (operand.I32 m) (operand.Register s) x_fits y_fits e = cc
-one_operand (operand.I64 m) (operand.I32 n) x_fits y_fits e = cc
-one_operand (operand.I64 m) operand.AnyNull x_fits y_fits e = cc
-one_operand (operand.I64 m) (operand.Register s) x_fits y_fits e = cc
-one_operand operand.AnyNull (operand.I32 n) x_fits y_fits e = cc
-one_operand operand.AnyNull (operand.I64 n) x_fits y_fits e = cc
-one_operand operand.AnyNull (operand.Register s) x_fits y_fits e = cc
-one_operand (operand.Register r) (operand.I32 n) x_fits y_fits e = cc
-one_operand (operand.Register r) (operand.I64 n) x_fits y_fits e = cc
-one_operand (operand.Register r) operand.AnyNull x_fits y_fits e = cc
-one_operand (operand.I32 m) y x_fits none e = absurd none
-one_operand (operand.I64 m) y x_fits none e = absurd none
-one_operand operand.AnyNull y x_fits none e = absurd none
-one_operand (operand.Register r) y x_fits none e = absurd none
+one_operand (operand.I32 m) y x_fits y_fits e = differ_early _ _ (λ a b. omega arith) e
+one_operand (operand.I64 m) y x_fits y_fits e = differ_early _ _ (λ a b. omega arith) e
+one_operand operand.AnyNull y x_fits y_fits e = differ_early _ _ (λ a b. omega arith) e
+one_operand (operand.Register r) y x_fits y_fits e = differ_early _ _ (λ a b. omega arith) e
 one_operand x y none y_fits e = absurd none
 
 one_into : (a b : Option ℕ) → IfSome a (λ d. d < 2 ^ 16) → IfSome b (λ d. d < 2 ^ 16) → into_words a ≡ into_words b → a ≡ b
@@ -159,8 +150,13 @@ one_command (Eq p q) (Eq r s) built other_built same =
 one_command (Grow m) (Grow n) built other_built same =
     let numbers : m ≡ n = decimal_injective m n built other_built cc in
     cc
+one_command Enter Enter built other_built e = refl
+one_command Leave Leave built other_built e = refl
+one_command Gc Gc built other_built e = refl
+one_command Cap Cap built other_built e = refl
 one_command one Bad built other_built e = absurd other_built
-one_command one other built other_built e = cc
+one_command one other built other_built e =
+    differ_early (get_or (words_of one) 0 []) (get_or (words_of other) 0 []) (λ a b. omega arith) (ap (λ words. get_or words 0 []) e)
 
 pub one_spelling : (line : List ℕ) (one other : Command) → Spells line one → Spells line other → one ≡ other
 one_spelling line one other this that =

@@ -76,7 +76,10 @@ pub(crate) fn read_end(words: &mut Words) -> Option<()>
 }
 
 /// The fields that all words spell.
-pub(crate) fn read_fields(alloc: Global, words: &mut Words) -> Result<Option<Vec<FieldWord>>, AllocError>
+pub(crate) fn read_fields(
+    alloc: Global,
+    words: &mut Words,
+) -> Result<Option<Vec<FieldWord>>, AllocError>
     ensures { IfOk result (λ fields. Reads (AllByRecursion IsBuiltField) (map field_text) words.old (option_map (λ fs. fs.items) fields)) }
 {
     let mut fields = Vec::new(alloc);
@@ -90,7 +93,10 @@ pub(crate) fn read_fields(alloc: Global, words: &mut Words) -> Result<Option<Vec
 }
 
 /// The operands that all words spell.
-pub(crate) fn read_operands(alloc: Global, words: &mut Words) -> Result<Option<Vec<Operand>>, AllocError>
+pub(crate) fn read_operands(
+    alloc: Global,
+    words: &mut Words,
+) -> Result<Option<Vec<Operand>>, AllocError>
     ensures { IfOk result (λ values. Reads (AllByRecursion IsBuiltOperand) (map operand_text) words.old (option_map (λ vs. vs.items) values)) }
 {
     let mut values = Vec::new(alloc);

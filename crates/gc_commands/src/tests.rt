@@ -8,8 +8,11 @@ use gc_refs::V128;
 use std::test::Fail;
 
 /// The fields of a declaration as `Debug` shows them.
-const NUMBERS: &str = "FieldWord { mutable: true, storage: Value(I32) }, FieldWord { mutable: false, storage: Value(I32) }, FieldWord { mutable: true, storage: Value(I64) }, FieldWord { mutable: false, storage: Value(I64) }";
-const REFERENCES: &str = "FieldWord { mutable: true, storage: Value(Ref { heap: Any, nullable: true }) }, FieldWord { mutable: false, storage: Value(Ref { heap: Any, nullable: true }) }";
+const NUMBERS: &str =
+    "FieldWord { mutable: true, storage: Value(I32) }, FieldWord { mutable: false, storage: Value(I32) }, FieldWord { mutable: true, storage: Value(I64) }, FieldWord { mutable: false, storage: Value(I64) }";
+
+const REFERENCES: &str =
+    "FieldWord { mutable: true, storage: Value(Ref { heap: Any, nullable: true }) }, FieldWord { mutable: false, storage: Value(Ref { heap: Any, nullable: true }) }";
 
 #[test]
 fn a_declaration_has_the_fields_that_its_line_spells(rt: HostRuntime) -> Result<(), Fail> {
@@ -29,8 +32,13 @@ fn a_declaration_has_the_fields_that_its_line_spells(rt: HostRuntime) -> Result<
     ];
     for (line, fields) in structs {
         let command = parse_line(rt.alloc(), line.as_bytes())?;
-        let want = format!(in rt.alloc(); "Struct {{ is_final: false, supertype: None, fields: FieldWords {{ fields: [{fields}] }} }}")?;
-        assert_eq!(rt; format!(in rt.alloc(); "{command:?}")?.as_str(), want.as_str());
+        let want = format!(in rt.alloc();
+            "Struct {{ is_final: false, supertype: None, fields: FieldWords {{ fields: [{fields}] }} }}"
+        )?;
+        assert_eq!(rt;
+            format!(in rt.alloc(); "{command:?}")?.as_str(),
+            want.as_str()
+        );
     }
     Ok(())
 }
@@ -38,22 +46,52 @@ fn a_declaration_has_the_fields_that_its_line_spells(rt: HostRuntime) -> Result<
 #[test]
 fn a_line_that_spells_a_command_is_that_command(rt: HostRuntime) -> Result<(), Fail> {
     let lines = [
-        ("new 0 0", "New { d: 0, t: 0, values: Operands { values: [] } }"),
-        ("new 1 0 i32:5", "New { d: 1, t: 0, values: Operands { values: [I32(5)] } }"),
-        ("new 65535 4294967294 i32:-2147483648", "New { d: 65535, t: 4294967294, values: Operands { values: [I32(-2147483648)] } }"),
-        ("new 10 20 i32:0 i32:2147483647 i32:-1", "New { d: 10, t: 20, values: Operands { values: [I32(0), I32(2147483647), I32(-1)] } }"),
-        ("new 0 1 i64:0 i64:-1 i64:2147483648", "New { d: 0, t: 1, values: Operands { values: [I64(0), I64(-1), I64(2147483648)] } }"),
-        ("new 0 1 i64:-9223372036854775808 i64:9223372036854775807", "New { d: 0, t: 1, values: Operands { values: [I64(-9223372036854775808), I64(9223372036854775807)] } }"),
-        ("new 0 1 any:null r0 r65535", "New { d: 0, t: 1, values: Operands { values: [AnyNull, Register(0), Register(65535)] } }"),
+        (
+            "new 0 0",
+            "New { d: 0, t: 0, values: Operands { values: [] } }",
+        ),
+        (
+            "new 1 0 i32:5",
+            "New { d: 1, t: 0, values: Operands { values: [I32(5)] } }",
+        ),
+        (
+            "new 65535 4294967294 i32:-2147483648",
+            "New { d: 65535, t: 4294967294, values: Operands { values: [I32(-2147483648)] } }",
+        ),
+        (
+            "new 10 20 i32:0 i32:2147483647 i32:-1",
+            "New { d: 10, t: 20, values: Operands { values: [I32(0), I32(2147483647), I32(-1)] } }",
+        ),
+        (
+            "new 0 1 i64:0 i64:-1 i64:2147483648",
+            "New { d: 0, t: 1, values: Operands { values: [I64(0), I64(-1), I64(2147483648)] } }",
+        ),
+        (
+            "new 0 1 i64:-9223372036854775808 i64:9223372036854775807",
+            "New { d: 0, t: 1, values: Operands { values: [I64(-9223372036854775808), I64(9223372036854775807)] } }",
+        ),
+        (
+            "new 0 1 any:null r0 r65535",
+            "New { d: 0, t: 1, values: Operands { values: [AnyNull, Register(0), Register(65535)] } }",
+        ),
         ("i31 0 0", "I31 { d: 0, n: 0 }"),
         ("i31 65535 4294967295", "I31 { d: 65535, n: 4294967295 }"),
         ("field 1 0", "Field { r: 1, i: 0, into: None }"),
-        ("field 65535 4294967295", "Field { r: 65535, i: 4294967295, into: None }"),
+        (
+            "field 65535 4294967295",
+            "Field { r: 65535, i: 4294967295, into: None }",
+        ),
         ("field 1 0 0", "Field { r: 1, i: 0, into: Some(0) }"),
         ("field 1 2 65535", "Field { r: 1, i: 2, into: Some(65535) }"),
         ("setf 1 0 i32:-5", "SetField { r: 1, i: 0, value: I32(-5) }"),
-        ("setf 65535 4294967295 i64:7", "SetField { r: 65535, i: 4294967295, value: I64(7) }"),
-        ("setf 0 1 any:null", "SetField { r: 0, i: 1, value: AnyNull }"),
+        (
+            "setf 65535 4294967295 i64:7",
+            "SetField { r: 65535, i: 4294967295, value: I64(7) }",
+        ),
+        (
+            "setf 0 1 any:null",
+            "SetField { r: 0, i: 1, value: AnyNull }",
+        ),
         ("setf 0 1 r2", "SetField { r: 0, i: 1, value: Register(2) }"),
         ("eq 0 65535", "Eq { r: 0, s: 65535 }"),
         ("enter", "Enter"),
@@ -61,7 +99,10 @@ fn a_line_that_spells_a_command_is_that_command(rt: HostRuntime) -> Result<(), F
         ("gc", "Gc"),
         ("grow 0", "Grow { n: 0 }"),
         ("grow 4294967296", "Grow { n: 4294967296 }"),
-        ("grow 18446744073709551615", "Grow { n: 18446744073709551615 }"),
+        (
+            "grow 18446744073709551615",
+            "Grow { n: 18446744073709551615 }",
+        ),
         ("cap", "Cap"),
     ];
     for (line, want) in lines {
