@@ -1,13 +1,14 @@
 -- Plain decimals: which texts they are, and what `parse` makes of them.
-use Rattle.std.proofs.Common.{◌≡◌, ◌≢◌, ℕ, ℤ, pos, negsuc, suc, ◌<◌, ◌≤◌, ◌^◌, List, ◌∷◌, length, get_or, Result, Ok, Err, FitsSigned, sym, ap, ◌∙◌, inl, inr, ⊎_elim, arith}
+use Rattle.std.proofs.Common.{◌≡◌, ◌≢◌, ℕ, ℤ, pos, negsuc, suc, ◌<◌, ◌≤◌, ◌^◌, List, ◌∷◌, length, get_or, Result, Ok, Err, FitsSigned, of_z, to_z, to_z-of_z, rules, sym, ap, subst, ◌∙◌, inl, inr, ⊎_elim, arith}
 use Rattle.std.specs.Fmt.{decimal, signed_decimal}
-use Rattle.std.specs.Int.{IsInRange, w32}
+use Rattle.std.specs.Int.{IsInRange, w32, w64}
+use Rattle.std.specs.Result.{OkIff, result_ok}
 use Rattle.std.specs.Str.Parse.{AllDigits, ParsesUnsigned, digits_value}
 use Rattle.std.proofs.lemmas.Bool.{cases_lt}
-use Rattle.std.proofs.lemmas.Fmt.{decimal_digit, decimal_injective, decimal_nonempty, decimal-digits_value, digits_decimal, first_decimal, parse-decimal}
+use Rattle.std.proofs.lemmas.Fmt.{decimal_digit, decimal_injective, decimal_nonempty, decimal-digits_value, digits_decimal, first_decimal, parse-decimal, signed_decimal_injective}
 use Rattle.std.proofs.lemmas.Result.{OkIff-at_ok}
 use Rattle.std.proofs.lemmas.Str.Parse.{IsNumeralModel, digit_at, numerals_by_value, parse_plain, tells_digits}
-use Rattle.gc_commands.specs.Reading.{IsPlain}
+use Rattle.gc_commands.specs.Reading.{IsPlain, Reads}
 
 pub own : IsNumeralModel (AllDigits 10) (digits_value 10)
 own = numerals_by_value (AllDigits 10) tells_digits
@@ -40,17 +41,17 @@ pub no_dash : (n : ℕ) (rest : List ℕ) → n < 2 ^ 64 → decimal n ≡ 45 �
 no_dash n rest small e = let first = first_digit n small in let dash : get_or (decimal n) 0 0 ≡ 45 = ap (λ t. get_or t 0 0) e in omega arith
 
 -- where a word without a dash spells no number, it spells no signed one
-pub no_signed : (word : List ℕ) → ((n : ℕ) → n ≤ 2147483647 → word ≡ decimal n → ⊥) → ((rest : List ℕ) → word ≡ 45 ∷ rest → ⊥) → (z : ℤ) → FitsSigned w32 z → word ≡ signed_decimal z → ⊥
+pub no_signed : (word : List ℕ) → ((n : ℕ) → n ≤ 9223372036854775807 → word ≡ decimal n → ⊥) → ((rest : List ℕ) → word ≡ 45 ∷ rest → ⊥) → (z : ℤ) → FitsSigned w64 z → word ≡ signed_decimal z → ⊥
 no_signed word none dash (pos n) fits e = none n (let small = fits.sfits in omega arith) e
 no_signed word none dash (negsuc n) fits e = dash (decimal (suc n)) e
 
 -- nor does one with a dash behind which no number stands
-pub no_negative : (word digits : List ℕ) → word ≡ 45 ∷ digits → ((n : ℕ) → n ≤ 2147483648 → digits ≡ decimal n → ⊥) → (z : ℤ) → FitsSigned w32 z → word ≡ signed_decimal z → ⊥
+pub no_negative : (word digits : List ℕ) → word ≡ 45 ∷ digits → ((n : ℕ) → n ≤ 9223372036854775808 → digits ≡ decimal n → ⊥) → (z : ℤ) → FitsSigned w64 z → word ≡ signed_decimal z → ⊥
 no_negative word digits dash none (pos n) fits e = no_dash n digits (let small = fits.sfits in omega arith) (sym e ∙ dash)
 no_negative word digits dash none (negsuc n) fits e = none (suc n) (let small = fits.sfits in omega arith) (let same : 45 ∷ digits ≡ 45 ∷ decimal (suc n) = sym dash ∙ e in cc)
 
 -- nor does a dash and 0
-pub no_minus_zero : (word digits : List ℕ) → word ≡ 45 ∷ digits → digits ≡ decimal 0 → (z : ℤ) → FitsSigned w32 z → word ≡ signed_decimal z → ⊥
+pub no_minus_zero : (word digits : List ℕ) → word ≡ 45 ∷ digits → digits ≡ decimal 0 → (z : ℤ) → FitsSigned w64 z → word ≡ signed_decimal z → ⊥
 no_minus_zero word digits dash zero (pos n) fits e = no_dash n digits (let small = fits.sfits in omega arith) (sym e ∙ dash)
 no_minus_zero word digits dash zero (negsuc n) fits e =
     let same : 45 ∷ digits ≡ 45 ∷ decimal (suc n) = sym dash ∙ e in
@@ -58,3 +59,15 @@ no_minus_zero word digits dash zero (negsuc n) fits e =
     let small = fits.sfits in
     let equal = decimal_injective 0 (suc n) (omega arith) (omega arith) both in
     omega arith
+
+pub same_value : (n : ℤ) → FitsSigned w64 n → to_z w64 (of_z w64 n) ≡ n
+same_value n fits = search (rules, to_z-of_z)
+
+-- a signed number of 64 bits as one of 32 bits, where it fits
+pub small_read : (word : List ℕ) (n : ℤ) {E : Type 0} (r : Result ℤ E) → FitsSigned w64 n → word ≡ signed_decimal n → OkIff r (FitsSigned w32 n) n
+    → Reads (FitsSigned w32) signed_decimal word (result_ok r)
+small_read word n (Ok m) fits spelled read = (subst (FitsSigned w32) (sym read.1) read.0, spelled ∙ ap signed_decimal (sym read.1))
+small_read word n (Err e) fits spelled none = λ z z_fits same.
+    let n_small = fits.sfits in
+    let z_small = z_fits.sfits in
+    none (subst (FitsSigned w32) (signed_decimal_injective z n (omega arith) (omega arith) (sym same ∙ spelled)) z_fits)

@@ -22,6 +22,11 @@ pub enum Command {
         t: u32,
         values: Operands,
     },
+    /// `i31 D N`: puts the low 31 bits of `n`, as a reference to a small integer, into register `d`.
+    I31 {
+        d: u16,
+        n: u32,
+    },
     /// `field R I [D]`: reads field `i` of the struct in register `r`, and where `into` is present
     /// puts the value into that register.
     Field {
@@ -29,6 +34,29 @@ pub enum Command {
         i: u32,
         into: Option<u16>,
     },
+    /// `setf R I V`: writes field `i` of the struct in register `r`.
+    SetField {
+        r: u16,
+        i: u32,
+        value: Operand,
+    },
+    /// `eq R S`: whether registers `r` and `s` hold the same reference.
+    Eq {
+        r: u16,
+        s: u16,
+    },
+    /// `enter`: opens a scope of roots.
+    Enter,
+    /// `leave`: closes the scope that was opened last.
+    Leave,
+    /// `gc`: collects.
+    Gc,
+    /// `grow N`: grows the heap, at least by `n` bytes; by nothing where `n` is 0.
+    Grow {
+        n: u64,
+    },
+    /// `cap`: asks for the heap's capacity.
+    Cap,
 }
 
 /// A value type as a script spells it.

@@ -8,6 +8,7 @@
 pub mod command;
 mod numbers;
 pub mod parse;
+mod parts;
 pub mod reply;
 #[cfg(test)]
 mod tests;

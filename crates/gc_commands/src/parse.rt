@@ -1,20 +1,18 @@
 //! Reads a line of a script.
 //!
 //! A line is cut into words, its first word says which form of command it is, and each form has a
-//! function that reads the words behind it. A reader takes words off the front and answers `None`
-//! exactly where they spell nothing that it reads.
+//! function that reads the words behind it.
 
-ghost use Rattle.std.specs.Prelude.{◌≡◌, ℕ, ◌<◌, ◌^◌, List, ◌∷◌, IfOk, codes, map};
-ghost use Rattle.std.specs.Fmt.{decimal};
-ghost use Rattle.std.specs.List.{AllByRecursion};
-ghost use Rattle.std.specs.Option.{option_map};
+ghost use Rattle.std.specs.Prelude.{◌≡◌, ℕ, List, [], ◌∷◌, IfOk, codes};
 ghost use Rattle.gc_commands.specs.declared.command.Command.{Command};
-ghost use Rattle.gc_commands.specs.Reading.{Reads, ReadsFirst};
-ghost use Rattle.gc_commands.specs.Spelling.{IsBuilt, IsBuiltField, IsBuiltOperand, IsCommandOf, Spells, words_of};
-ghost use Rattle.gc_commands.specs.Words.{field_text, operand_text};
+ghost use Rattle.gc_commands.specs.Reading.{Reads};
+ghost use Rattle.gc_commands.specs.Spelling.{IsBuilt, IsCommandOf, Spells, words_of};
 
-use crate::command::{Command, FieldWord, FieldWords, Operand, Operands, StorageWord, ValueWord};
-use crate::numbers::{number, signed_number};
+use crate::command::{Command, FieldWords, Operands};
+use crate::parts::{
+    read_end, read_fields, read_into, read_operand, read_operands, read_register, read_type,
+    read_u32, read_u64,
+};
 use crate::words::Words;
 use std::alloc::{AllocError, Global};
 
@@ -47,7 +45,15 @@ fn read_command(alloc: Global, words: &mut Words) -> Result<Option<Command>, All
     match words.next() {
         Some("struct") => read_struct(alloc, words),
         Some("new") => read_new(alloc, words),
+        Some("i31") => Ok(read_i31(words)),
         Some("field") => Ok(read_field(words)),
+        Some("setf") => Ok(read_set_field(words)),
+        Some("eq") => Ok(read_eq(words)),
+        Some("enter") => Ok(read_alone(words, Command::Enter)),
+        Some("leave") => Ok(read_alone(words, Command::Leave)),
+        Some("gc") => Ok(read_alone(words, Command::Gc)),
+        Some("grow") => Ok(read_grow(words)),
+        Some("cap") => Ok(read_alone(words, Command::Cap)),
         _ => Ok(None),
     }
 }
@@ -86,89 +92,62 @@ fn read_new(alloc: Global, words: &mut Words) -> Result<Option<Command>, AllocEr
     }))
 }
 
-/// The words behind `field`: a register and an index.
+/// The words behind `i31`: a register and a number.
+fn read_i31(words: &mut Words) -> Option<Command>
+    ensures { Reads IsBuilt words_of (codes "i31" ∷ words.old) result }
+{
+    let d = read_register(words)?;
+    let n = read_u32(words)?;
+    read_end(words)?;
+    Some(Command::I31 { d, n })
+}
+
+/// The words behind `field`: a register and an index, and a register where one more word stands.
 fn read_field(words: &mut Words) -> Option<Command>
     ensures { Reads IsBuilt words_of (codes "field" ∷ words.old) result }
 {
     let r = read_register(words)?;
-    let i = read_index(words)?;
-    match words.next() {
-        None => Some(Command::Field { r, i, into: None }),
-        Some(_) => None,
-    }
+    let i = read_u32(words)?;
+    let into = read_into(words)?;
+    Some(Command::Field { r, i, into })
 }
 
-/// The fields that all words spell.
-fn read_fields(alloc: Global, words: &mut Words) -> Result<Option<Vec<FieldWord>>, AllocError>
-    ensures { IfOk result (λ fields. Reads (AllByRecursion IsBuiltField) (map field_text) words.old (option_map (λ fs. fs.items) fields)) }
+/// The words behind `setf`: a register, an index and an operand.
+fn read_set_field(words: &mut Words) -> Option<Command>
+    ensures { Reads IsBuilt words_of (codes "setf" ∷ words.old) result }
 {
-    let mut fields = Vec::new(alloc);
-    while let Some(word) = words.next() {
-        let Some(field) = field_of(word) else {
-            return Ok(None);
-        };
-        fields.push(field)?;
-    }
-    Ok(Some(fields))
+    let r = read_register(words)?;
+    let i = read_u32(words)?;
+    let value = read_operand(words)?;
+    read_end(words)?;
+    Some(Command::SetField { r, i, value })
 }
 
-/// The operands that all words spell.
-fn read_operands(alloc: Global, words: &mut Words) -> Result<Option<Vec<Operand>>, AllocError>
-    ensures { IfOk result (λ values. Reads (AllByRecursion IsBuiltOperand) (map operand_text) words.old (option_map (λ vs. vs.items) values)) }
+/// The words behind `eq`: two registers.
+fn read_eq(words: &mut Words) -> Option<Command>
+    ensures { Reads IsBuilt words_of (codes "eq" ∷ words.old) result }
 {
-    let mut values = Vec::new(alloc);
-    while let Some(word) = words.next() {
-        let Some(value) = operand_of(word) else {
-            return Ok(None);
-        };
-        values.push(value)?;
-    }
-    Ok(Some(values))
+    let r = read_register(words)?;
+    let s = read_register(words)?;
+    read_end(words)?;
+    Some(Command::Eq { r, s })
 }
 
-/// The field that a word spells.
-fn field_of(word: &str) -> Option<FieldWord>
-    ensures { Reads IsBuiltField field_text word.now result }
+/// The words behind `grow`: a number.
+fn read_grow(words: &mut Words) -> Option<Command>
+    ensures { Reads IsBuilt words_of (codes "grow" ∷ words.old) result }
 {
-    match word {
-        "m:i32" => Some(FieldWord {
-            mutable: true,
-            storage: StorageWord::Value(ValueWord::I32),
-        }),
-        _ => None,
-    }
+    let n = read_u64(words)?;
+    read_end(words)?;
+    Some(Command::Grow { n })
 }
 
-/// The operand that a word spells.
-fn operand_of(word: &str) -> Option<Operand>
-    ensures { Reads IsBuiltOperand operand_text word.now result }
+/// A command behind whose name no word stands.
+fn read_alone(words: &mut Words, command: Command) -> Option<Command>
+    ensures { Reads (λ c. c ≡ command) (λ c. []) words.old result }
 {
-    let number = signed_number(word.strip_prefix("i32:")?)?;
-    Some(Operand::I32(number))
-}
-
-/// A register, from 0 to 65535.
-fn read_register(words: &mut Words) -> Option<u16>
-    ensures { ReadsFirst (λ r. r < 2 ^ 16) decimal words.old result words.new }
-{
-    let r = number(words.next()?, u64::from(u16::MAX))?;
-    Some(r as u16)
-}
-
-/// The index of a type, from 0 to 4294967294.
-fn read_type(words: &mut Words) -> Option<u32>
-    ensures { ReadsFirst (λ t. t < 4294967295) decimal words.old result words.new }
-{
-    let t = number(words.next()?, u64::from(u32::MAX) - 1)?;
-    Some(t as u32)
-}
-
-/// The index of a field, from 0 to 4294967295.
-fn read_index(words: &mut Words) -> Option<u32>
-    ensures { ReadsFirst (λ i. i < 2 ^ 32) decimal words.old result words.new }
-{
-    let i = number(words.next()?, u64::from(u32::MAX))?;
-    Some(i as u32)
+    read_end(words)?;
+    Some(command)
 }
 
 /// No two commands have one spelling.

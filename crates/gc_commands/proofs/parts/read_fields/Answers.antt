@@ -1,7 +1,7 @@
 use Rattle.gc_commands.specs.Spelling.{IsBuiltField}
 use Rattle.gc_commands.specs.Words.{field_text}
 use Rattle.gc_commands.proofs.ReadingLemmas.{words_none}
-use Rattle.gc_commands.proofs.parse.read_fields.Goals as goal
+use Rattle.gc_commands.proofs.parts.read_fields.Goals as goal
 
 pub returns-in_default-field_of : goal.returns-in_default-field_of
 returns-in_default-field_of c =

@@ -1,7 +1,7 @@
 use Rattle.gc_commands.specs.Spelling.{IsBuiltOperand}
 use Rattle.gc_commands.specs.Words.{operand_text}
 use Rattle.gc_commands.proofs.ReadingLemmas.{words_none}
-use Rattle.gc_commands.proofs.parse.read_operands.Goals as goal
+use Rattle.gc_commands.proofs.parts.read_operands.Goals as goal
 
 pub returns-in_default-operand_of : goal.returns-in_default-operand_of
 returns-in_default-operand_of c =

@@ -1,13 +1,13 @@
 use Rattle.std.proofs.Common.{◌≡◌, ◌++◌, length, map}
 use Rattle.std.specs.List.{AllByRecursion}
-use Rattle.gc_commands.specs.Spelling.{IsBuiltOperand}
-use Rattle.gc_commands.specs.Words.{operand_text}
-use Rattle.gc_commands.proofs.parse.read_operands.Given as goal
+use Rattle.gc_commands.specs.Spelling.{IsBuiltField}
+use Rattle.gc_commands.specs.Words.{field_text}
+use Rattle.gc_commands.proofs.parts.read_fields.Given as goal
 
 abbrev pub invariant-loop-word : goal.invariant-loop-word
 invariant-loop-word l = record {
-  built : AllByRecursion IsBuiltOperand l.values.items;
-  read : l.fn.words ≡ map operand_text l.values.items ++ l.words;
+  built : AllByRecursion IsBuiltField l.fields.items;
+  read : l.fn.words ≡ map field_text l.fields.items ++ l.words;
 }
 
 abbrev pub decreases-loop-word : goal.decreases-loop-word
