@@ -5,3 +5,4 @@ pub mod CollectedOffsets
 pub mod HeapFields
 pub mod HeapLayouts
 pub mod HeapValues
+pub mod HeapMade
