@@ -140,7 +140,7 @@ struct_traces Copying fields = traceable fields
 pub layout_traces : (layouts : Layouts) (fields : List FieldType) (layout : GcStructLayout) → layout ≡ struct_layout layouts fields → LayoutTraces layouts layout (first_offset layouts (layout_kind layout))
 layout_traces layouts fields layout is = subst (λ (l : GcStructLayout). LayoutTraces layouts l (first_offset layouts (layout_kind l))) (sym is) (struct_traces layouts fields)
 
-new_size : (layouts : Layouts) (fields : List FieldType) → struct_base layouts + length (replicate {A = ℕ} (stored_size layouts (fields_end (struct_base layouts) fields) - struct_base layouts) 0) ≡ stored_size layouts (fields_end (struct_base layouts) fields)
+pub new_size : (layouts : Layouts) (fields : List FieldType) → struct_base layouts + length (replicate {A = ℕ} (stored_size layouts (fields_end (struct_base layouts) fields) - struct_base layouts) 0) ≡ stored_size layouts (fields_end (struct_base layouts) fields)
 new_size layouts fields =
     let size : ℕ = stored_size layouts (fields_end (struct_base layouts) fields) in
     let least = stored_size-le layouts (fields_end (struct_base layouts) fields) in

@@ -6,3 +6,4 @@ pub mod HeapFields
 pub mod HeapLayouts
 pub mod HeapValues
 pub mod HeapMade
+pub mod HeapCreated
