@@ -27,3 +27,5 @@ pub mod Pushing
 pub mod FieldReads
 pub mod ReadValues
 pub mod FieldWrites
+pub mod HeapMade
+pub mod HeapCreated
