@@ -8,3 +8,16 @@ pub mod Pushing
 pub mod FieldReads
 pub mod ReadValues
 pub mod FieldWrites
+pub mod CollectedOffsets
+pub mod CollectedValues
+pub mod CollectedPlacing
+pub mod CollectedLists
+pub mod CollectedReach
+pub mod CollectedKept
+pub mod CollectedHolds
+pub mod HeldEntries
+pub mod HeldNumber
+pub mod HeldPaths
+pub mod HeldSums
+pub mod CollectedRoom
+pub mod CollectedStore
