@@ -21,3 +21,9 @@ pub mod HeldPaths
 pub mod HeldSums
 pub mod CollectedRoom
 pub mod CollectedStore
+pub mod RootSetLemmas
+pub mod HeapTraced
+pub mod HeapBarriers
+pub mod HeapFields
+pub mod HeapLayouts
+pub mod HeapValues

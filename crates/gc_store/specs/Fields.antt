@@ -1,5 +1,5 @@
 -- Fields of structs in a heap.
-use Rattle.std.specs.Prelude.{◌≡◌, ℕ, ◌+◌, Bool, true, false, List, Option, Some, None, Ok, length, slice_get}
+use Rattle.std.specs.Prelude.{◌≡◌, ℕ, ◌+◌, ◌^◌, ◌<◌, ◌≤◌, All, Bool, true, false, List, Option, Some, None, Ok, length, slice_get}
 use Rattle.std.specs.FinMap as finite
 use Rattle.std.specs.Int.{w32, w64, cast_unsigned, to_le_bytes}
 use Rattle.gc_types.specs.declared.value.FieldType.{FieldType}
@@ -14,6 +14,7 @@ use Rattle.gc_types.specs.Layouts.{struct_base, field_layouts}
 use Rattle.gc_roots.specs.Roots.{Root}
 use Rattle.gc_model.specs.declared.GcClass.TheVariants.{Any}
 use Rattle.gc_model.specs.declared.RootEntry.{RootEntry}
+use Rattle.gc_model.specs.Fits.{is_built_field}
 use Rattle.gc_model.specs.Values.{Reference, Value, i32, i64, reference}
 use Rattle.gc_model.specs.Views.{HeapView, HeapObject, u32_at, u64_at}
 use Rattle.gc_model.specs.Holds.{Placing, IsWord, ValuesLie}
@@ -34,6 +35,12 @@ stored_bytes (stored.I32 n) = to_le_bytes w32 n
 stored_bytes (stored.I64 n) = to_le_bytes w64 n
 stored_bytes (stored.Ref word) = to_le_bytes w32 word
 
+-- what is stored fits its bytes
+abbrev pub FitsBytes : Stored → Type 0
+FitsBytes (stored.I32 n) = n < 2 ^ 32
+FitsBytes (stored.I64 n) = n < 2 ^ 64
+FitsBytes (stored.Ref word) = word < 2 ^ 32
+
 -- what is stored is of the field's type; a reference is null, a 31-bit number or the place of an object
 abbrev pub StoredOfType : HeapView → ValType → Stored → Type 0
 StoredOfType h val.I32 (stored.I32 n) = Unit {0}
@@ -46,7 +53,7 @@ StoredFits h storage.I8 x = ⊥
 StoredFits h storage.I16 x = ⊥
 StoredFits h (storage.ValType ty) x = StoredOfType h ty x
 
--- a field of a struct lies at that offset
+-- a field of a struct lies at that offset, of a type that is built
 pub record IsFieldOf (layouts : Layouts) (types : List Declaration) (object : HeapObject) (offset : ℕ) (st : StorageType) : Type 0 where
   pub fields : List FieldType
   pub declared : struct_fields_at types object.ty ≡ Some fields
@@ -57,6 +64,7 @@ pub record IsFieldOf (layouts : Layouts) (types : List Declaration) (object : He
   pub layout_is : slice_get (field_layouts (struct_base layouts) fields) index ≡ Some layout
   pub at : offset ≡ layout.offset
   pub type_is : field.element_type ≡ st
+  pub built : is_built_field field ≡ true
 
 -- a field of a held struct may be written
 pub record CanWriteField (layouts : Layouts) (h : HeapView) (place offset : ℕ) (x : Stored) : Type 0 where
@@ -69,6 +77,7 @@ pub record CanWriteField (layouts : Layouts) (h : HeapView) (place offset : ℕ)
   pub st : StorageType
   pub field : IsFieldOf layouts types object offset st
   pub fits : StoredFits h st x
+  pub few : length roots ≤ 2 ^ 32
 
 -- a field of a held struct may be read
 pub record CanReadField (layouts : Layouts) (h : HeapView) (types : List Declaration) (place index : ℕ) : Type 0 where
@@ -81,7 +90,7 @@ pub record CanReadField (layouts : Layouts) (h : HeapView) (types : List Declara
   pub declared : struct_fields_at types object.ty ≡ Some fields
   pub field : FieldType
   pub field_is : slice_get fields index ≡ Some field
-  pub built : Rattle.gc_model.specs.Fits.is_built_field field ≡ true
+  pub built : is_built_field field ≡ true
 
 -- what a field of a type keeps in these bytes
 abbrev pub StoredAt : ValType → List ℕ → ℕ → Stored → Type 0
@@ -149,6 +158,8 @@ pub record CanWriteValues (layouts : Layouts) (h : HeapView) (entries : List Roo
   pub declared : struct_fields_at types object.ty ≡ Some fields
   pub laid_out : places ≡ field_layouts (struct_base layouts) fields
   pub fit : AllFit entries fields raws
+  pub built : All (λ (f : FieldType). is_built_field f ≡ true) fields
+  pub few : length roots ≤ 2 ^ 32
 
 -- the object at a place has these values now, and every other object is as it was
 pub record WritesValues (layouts : Layouts) (types : List Declaration) (roots : List Root) (hosts : ℕ → Bool) (entries : List RootEntry) (fields : List FieldType) (raws : List RawValue) (old new : HeapView) (place : ℕ) (before : HeapObject) : Type 0 where

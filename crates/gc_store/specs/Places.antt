@@ -1,5 +1,5 @@
 -- What placing an object answers and leaves.
-use Rattle.std.specs.Prelude.{◌≡◌, ℕ, ◌+◌, ◌*◌, ◌<◌, ◌≤◌, ◌⊎◌, Bool, true, false, List, ◌∷◌, Option, Some, None, Result, Ok, Err, length, slice_get, IfSome, All}
+use Rattle.std.specs.Prelude.{◌≡◌, ℕ, ◌+◌, ◌*◌, ◌^◌, ◌<◌, ◌≤◌, ◌⊎◌, Bool, true, false, List, ◌∷◌, Option, Some, None, Result, Ok, Err, length, slice_get, IfSome, All}
 use Rattle.std.specs.FinMap as finite
 use Rattle.gc_types.specs.declared.value.FieldType.{FieldType}
 use Rattle.gc_types.specs.declared.kind.Layouts.{Layouts}
@@ -115,6 +115,7 @@ pub record CanCreate (layouts : Layouts) (types : List Declaration) (ty : ℕ) (
   pub declared : struct_fields_at types ty ≡ Some fields
   pub built : All (λ (f : FieldType). is_built_field f ≡ true) fields
   pub fit : AllFit entries fields raws
+  pub few : length entries < 2 ^ 32
 
 -- what making a struct in a heap answers and leaves
 abbrev pub CreatesStruct : Layouts → List Declaration → List FieldType → ℕ → List RawValue → HeapView → HeapView → List RootEntry → List RootEntry → (ℕ → Bool) → (ℕ → Bool) → Result ℕ PlaceFault → Type 0

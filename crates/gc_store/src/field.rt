@@ -1,6 +1,6 @@
 //! Fields of a struct, read and written through its layout.
 
-ghost use Rattle.std.specs.Prelude.{◌≡◌, ◌-◌, ℕ, Bool, Some, List, slice_get};
+ghost use Rattle.std.specs.Prelude.{◌≡◌, ◌-◌, ℕ, All, Bool, Some, true, List, slice_get};
 ghost use Rattle.std.specs.FinMap as finite;
 ghost use Rattle.gc_types.specs.declared.value.FieldType.{FieldType};
 ghost use Rattle.gc_types.specs.declared.value.StorageType.{StorageType};
@@ -8,11 +8,12 @@ ghost use Rattle.gc_types.specs.declared.layout.FieldLayout.{FieldLayout};
 ghost use Rattle.gc_types.specs.Declarations.{Declaration, struct_fields_at};
 ghost use Rattle.gc_types.specs.Layouts.{struct_base, field_layouts};
 ghost use Rattle.gc_roots.specs.Roots.{Root};
+ghost use Rattle.gc_model.specs.Fits.{is_built_field};
 ghost use Rattle.gc_model.specs.Views.{HeapObject};
 ghost use Rattle.gc_heap.specs.Heap.{put_object, with_data};
 ghost use Rattle.gc_store.specs.declared.field.Stored as FieldValue;
 ghost use Rattle.gc_store.specs.Tracing.{IsCollectable};
-ghost use Rattle.gc_store.specs.Fields.{stored_bytes, StoredFits, IsFieldOf, CanWriteField, CanReadField, ReadsStored, KeptAs, IsKept, AreRoots, AllFit, CanWriteValues, WritesValues};
+ghost use Rattle.gc_store.specs.Fields.{stored_bytes, FitsBytes, StoredFits, IsFieldOf, CanWriteField, CanReadField, ReadsStored, KeptAs, IsKept, AreRoots, AllFit, CanWriteValues, WritesValues};
 
 use crate::root::RawValue;
 use crate::root_set::RootSet;
@@ -33,7 +34,8 @@ pub(crate) enum Stored {
 /// How a field keeps a value; a reference by the word that its root has now.
 pub(crate) fn stored_value(roots: &RootSet, value: RawValue) -> Stored
     requires { IsKept roots.now.entries value }
-    ensures { (x : FieldValue.Stored) → KeptAs roots.now.entries value x → result ≡ x }
+    ensures kept { (x : FieldValue.Stored) → KeptAs roots.now.entries value x → result ≡ x }
+    ensures small { FitsBytes result }
 {
     match value {
         RawValue::I32(number) => Stored::I32(number.cast_unsigned()),
@@ -95,7 +97,7 @@ pub(crate) fn write_values<H: GcHeap>(
     ensures sound { H.sound heap.new }
     ensures written { (types : List Declaration) (known : List Root) (hosts : ℕ → Bool) (object : HeapObject) (fields : List FieldType)
         → IsCollectable H.KIND types (H.seen heap.old) known hosts → AreRoots roots.now.entries known → finite.get (H.seen heap.old).content gc_ref.now ≡ Some object
-        → struct_fields_at types object.ty ≡ Some fields → layouts.now ≡ field_layouts (struct_base H.KIND) fields → AllFit roots.now.entries fields values.now
+        → struct_fields_at types object.ty ≡ Some fields → layouts.now ≡ field_layouts (struct_base H.KIND) fields → AllFit roots.now.entries fields values.now → All (λ (f : FieldType). is_built_field f ≡ true) fields
         → WritesValues H.KIND types known hosts roots.now.entries fields values.now (H.seen heap.old) (H.seen heap.new) gc_ref.now object }
 {
     for (index, value) in values.iter().enumerate() {
@@ -144,11 +146,14 @@ pub(crate) fn read_field<H: GcHeap>(heap: &H, types: &Types, gc_ref: &VMGcRef, i
         → slice_get fields index ≡ Some field → slice_get (field_layouts (struct_base H.KIND) fields) index ≡ Some layout
         → ReadsStored field.element_type object.bytes (layout.offset - struct_base H.KIND) result }
 {
-    let place = field_place(heap, types, gc_ref, index);
-    match place.storage {
-        StorageType::ValType(ValType::I32) => Stored::I32(read_u32(heap, gc_ref, place.offset)),
-        StorageType::ValType(ValType::I64) => Stored::I64(read_u64(heap, gc_ref, place.offset)),
-        StorageType::ValType(ValType::Ref(_)) => Stored::Ref(read_u32(heap, gc_ref, place.offset)),
+    let FieldPlace { offset, storage } = field_place(heap, types, gc_ref, index);
+    let StorageType::ValType(ty) = storage else {
+        unreachable!()
+    };
+    match ty {
+        ValType::I32 => Stored::I32(read_u32(heap, gc_ref, offset)),
+        ValType::I64 => Stored::I64(read_u64(heap, gc_ref, offset)),
+        ValType::Ref(_) => Stored::Ref(read_u32(heap, gc_ref, offset)),
         _ => unreachable!(),
     }
 }

@@ -1,6 +1,6 @@
 //! The scoped roots of a store, and the room that a collection takes for them.
 
-ghost use Rattle.std.specs.Prelude.{◌≡◌, ◌+◌, ◌-◌, ◌<◌, ◌≤◌, ◌^◌, ◌++◌, ◌∷◌, [], All, length, map, min, OnOk, true};
+ghost use Rattle.std.specs.Prelude.{◌≡◌, ◌+◌, ◌-◌, ◌<◌, ◌≤◌, ◌^◌, ◌++◌, ◌∷◌, [], All, length, map, min, IfSome, OnOk, true};
 ghost use Rattle.gc_roots.specs.Roots.{Root};
 ghost use Rattle.gc_model.specs.declared.RootEntry.{RootEntry};
 ghost use Rattle.gc_heap.specs.Collection.{has_host, IsPartOf};
@@ -148,6 +148,7 @@ impl RootSet {
     /// Drops the newest root, if there are more than so many, and answers its word.
     pub(crate) fn pop_past(&mut self, mark: usize) -> Option<u32>
         ensures popped { PopsPast self.old.entries self.new.entries mark result }
+        ensures present { IfSome result (λ word. 0 < word) }
         ensures generation { self.new.generation ≡ self.old.generation }
     {
         if self.entries.len() <= mark {
