@@ -5,6 +5,7 @@ pub mod Roots
 pub mod SameRoots
 pub mod Counted
 pub mod Pushing
+pub mod Leaving
 pub mod FieldReads
 pub mod ReadValues
 pub mod FieldWrites
