@@ -32,7 +32,7 @@ use Rattle.gc_store.specs.declared.root.GcRootIndex.{GcRootIndex}
 use Rattle.gc_store.specs.declared.root.RootFault.{RootFault}
 use Rattle.gc_store.specs.declared.root.RawValue.{RawValue}
 use Rattle.gc_store.specs.declared.root.RawValue.TheVariants as raw
-use Rattle.gc_store.specs.Fields.{KeptAs, StoredFits, IsFieldOf, stored_bytes}
+use Rattle.gc_store.specs.Fields.{KeptAs, StoredFits, IsFieldOf, FitsBytes, stored_bytes}
 use Rattle.gc_store.specs.RootSets.{slot_word}
 use Rattle.gc_store.specs.Roots.{HasField, word_of, Names, is_of_store}
 use Rattle.gc_store.specs.Values.{raw_fits, NamesLive, IsLive, RawStands, RootStands, CanWrite, WritesValue}
@@ -79,17 +79,6 @@ fitting (storage.ValType (val.Ref ty)) (raw.Ref Any None) fits = is_null ty
 fitting (storage.ValType (val.Ref ty)) (raw.Ref Any (Some handle)) fits = is_handle ty handle
 fitting (storage.ValType (val.Ref ty)) (raw.Ref Extern h) fits = absurd (cc fits)
 fitting (storage.ValType (val.Ref ty)) (raw.Ref Exn h) fits = absurd (cc fits)
-
--- what is stored has no more bits than it may
-abbrev pub FitsStored : Stored → Type 0
-FitsStored (stored.I32 n) = n < 2 ^ 32
-FitsStored (stored.I64 n) = n < 2 ^ 64
-FitsStored (stored.Ref word) = word < 2 ^ 32
-
-pub fits_stored : (x : Stored) → ((n : ℕ) → x ≡ stored.I32 n → n < 2 ^ 32) → ((n : ℕ) → x ≡ stored.I64 n → n < 2 ^ 64) → ((n : ℕ) → x ≡ stored.Ref n → n < 2 ^ 32) → FitsStored x
-fits_stored (stored.I32 n) a b c = a n refl
-fits_stored (stored.I64 n) a b c = b n refl
-fits_stored (stored.Ref n) a b c = c n refl
 
 word_cases : (r : Result ℕ RootFault) → ((word : ℕ) × (r ≡ Ok word)) ⊎ ((f : RootFault) × (r ≡ Err f))
 word_cases (Ok word) = inl (word, refl)
@@ -142,15 +131,15 @@ module _ (D : Type 0) (layouts : Layouts) (s : StoreView) where
         (reference Any root.0, record { serial = named.0; names = named.1; root = root.0; live = root.1.0; is = refl })
 
     -- whose bytes these are
-    pub encodes : (st : StorageType) (r : RawValue) (x : Stored) (v : Value) → Fitting st r → NamesLive D layouts s r → KeptAs s.scoped r x → RawStands s t r v → FitsStored x → IsEncoded place st v (stored_bytes x)
+    pub encodes : (st : StorageType) (r : RawValue) (x : Stored) (v : Value) → Fitting st r → NamesLive D layouts s r → KeptAs s.scoped r x → RawStands s t r v → FitsBytes x → IsEncoded place st v (stored_bytes x)
     encodes _ _ x v (is_i32 z) live kept stands fits =
         let n = cast_unsigned w32 z in
-        let small : n < 2 ^ 32 = subst FitsStored kept fits in
+        let small : n < 2 ^ 32 = subst FitsBytes kept fits in
         subst (λ (x : Stored). IsEncoded place (storage.ValType val.I32) v (stored_bytes x)) (sym kept)
         (subst (λ (v : Value). IsEncoded place (storage.ValType val.I32) v (to_le_bytes w32 n)) (sym (stands ∙ ap i32 (of_z-to_z w32 n small))) (small, refl))
     encodes _ _ x v (is_i64 z) live kept stands fits =
         let n = cast_unsigned w64 z in
-        let small : n < 2 ^ 64 = subst FitsStored kept fits in
+        let small : n < 2 ^ 64 = subst FitsBytes kept fits in
         subst (λ (x : Stored). IsEncoded place (storage.ValType val.I64) v (stored_bytes x)) (sym kept)
         (subst (λ (v : Value). IsEncoded place (storage.ValType val.I64) v (to_le_bytes w64 n)) (sym (stands ∙ ap i64 (of_z-to_z w64 n small))) (small, refl))
     encodes _ _ x v (is_null ty) live kept stands fits =
@@ -161,7 +150,7 @@ module _ (D : Type 0) (layouts : Layouts) (s : StoreView) where
         let same : live.0 ≡ stands.root = grind (arith, sym live.1.0 ∙ stands.live) in
         subst (λ (x : Stored). IsEncoded place (storage.ValType (val.Ref ty)) v (stored_bytes x)) (sym kept.1.1)
         (subst (λ (v : Value). IsEncoded place (storage.ValType (val.Ref ty)) v (to_le_bytes w32 kept.0)) (sym (stands.is ∙ ap (reference Any) (sym same)))
-        (record { word = kept.0; small = subst FitsStored kept.1.1 fits; is_word = live.1.1; encoded = refl }))
+        (record { word = kept.0; small = subst FitsBytes kept.1.1 fits; is_word = live.1.1; encoded = refl }))
 
 -- a heap with other bytes in an object
 pub written_object : (layouts : Layouts) (old new : HeapView) (word offset : ℕ) (object : HeapObject) (ws : List ℕ) → get old.content word ≡ Some object → new ≡ record (put_object old word (with_data layouts object offset ws)) { counts = new.counts } → IsWrittenObject old new word (offset - struct_base layouts) ws
@@ -180,7 +169,7 @@ module _ {D : Type 0} (layouts : Layouts) (s : StoreView) (t : Table D) (place :
   lies = field_at layouts s t place holds handle index before has word e
 
   -- the store holds the table with the value
-  pub holds_written : (heap : HeapView) (r : RawValue) (x : Stored) (v : Value) → Fitting lies.holds.field.element_type r → NamesLive D layouts s r → KeptAs s.scoped r x → RawStands s t r v → FitsStored x
+  pub holds_written : (heap : HeapView) (r : RawValue) (x : Stored) (v : Value) → Fitting lies.holds.field.element_type r → NamesLive D layouts s r → KeptAs s.scoped r x → RawStands s t r v → FitsBytes x
       → heap ≡ record (put_object s.heap word (with_data layouts lies.object lies.holds.layout.offset (stored_bytes x))) { counts = heap.counts } → Holds layouts (record s { heap = heap }) (write has.position index v t) place
   holds_written heap r x v fits live kept stands small is =
       holds_write layouts s t place heap word has.position index v has.ty has.values lies.fields lies.holds.field lies.holds.layout (stored_bytes x) holds lies.placed has.object
@@ -224,9 +213,10 @@ module _ (D : Type 0) (layouts : Layouts) (s : StoreView) (handle : GcRootIndex)
     layout_is = spot.holds.is_field.layout_is;
     at = at;
     type_is = refl;
+    built = spot.built;
   }
 
-  module _ (heap : HeapView) (small : FitsStored spot_kept.0)
+  module _ (heap : HeapView) (small : FitsBytes spot_kept.0)
       (written : (place : Placing) (position ty : ℕ) (before : Value) (a : FieldAt layouts s place word position ty index before) → heap ≡ record (put_object s.heap word (with_data layouts a.object a.holds.layout.offset (stored_bytes spot_kept.0))) { counts = heap.counts }) where
     -- each table that the store held is held with the value
     pub writes_value : (t : Table D) → HoldsTable layouts s t → WritesValue layouts s (record s { heap = heap }) t handle index r
