@@ -30,3 +30,4 @@ pub mod HeapLayouts
 pub mod HeapValues
 pub mod HeapMade
 pub mod HeapCreated
+pub mod GoneRoots
