@@ -28,3 +28,5 @@ pub mod HeapBarriers
 pub mod HeapFields
 pub mod HeapLayouts
 pub mod HeapValues
+pub mod HeapMade
+pub mod HeapCreated
