@@ -31,3 +31,4 @@ pub mod HeapValues
 pub mod HeapMade
 pub mod HeapCreated
 pub mod GoneRoots
+pub mod OtherHalves
