@@ -1,5 +1,5 @@
 -- In every kind of heap a collection follows the reference fields of a struct that is traced by its type.
-use Rattle.std.proofs.Common.{◌≡◌, ℕ, zero, suc, ◌+◌, ◌-◌, ◌*◌, ◌/◌, ◌%◌, ◌<◌, ◌≤◌, ◌^◌, max, Bool, true, false, cond, List, [], ◌∷◌, Some, None, Option, inl, inr, refl, sym, ap, ap₂, ◌∙◌, subst, arith}
+use Rattle.std.proofs.Common.{◌≡◌, ℕ, zero, suc, ◌+◌, ◌-◌, ◌*◌, ◌/◌, ◌%◌, ◌<◌, ◌≤◌, ◌^◌, Bool, true, false, cond, List, [], ◌∷◌, Some, None, Option, inl, inr, refl, sym, ap, ap₂, ◌∙◌, subst, arith}
 use Rattle.std.specs.Prelude.{bit_or}
 use Rattle.std.specs.Int.{bit_at}
 use Rattle.std.specs.List.{slice_get}
@@ -11,17 +11,16 @@ use Rattle.std.proofs.Math.Nat.{pow-le-pow_right}
 use Rattle.gc_types.specs.declared.value.FieldType.{FieldType}
 use Rattle.gc_types.specs.declared.kind.Layouts.{Layouts}
 use Rattle.gc_types.specs.declared.kind.Layouts.TheVariants.{Null, Counting, Copying}
-use Rattle.gc_types.specs.declared.kind.VMGcKind.TheVariants.{StructRef}
 use Rattle.gc_types.specs.declared.layout.FieldLayout.{FieldLayout}
 use Rattle.gc_types.specs.declared.layout.TraceInfo.TheVariants as trace
-use Rattle.gc_types.specs.Declarations.{Shape, struct_of, array_of, exn_of, func_of, Declaration, shape_struct_fields, declaration_struct_fields, struct_fields_at}
-use Rattle.gc_types.specs.Layouts.{struct_base, field_layouts, field_offset, storage_width, is_gc_storage, ref_offsets, shape_trace, declaration_trace, trace_at}
+use Rattle.gc_types.specs.Declarations.{Shape, struct_of, array_of, exn_of, func_of, Declaration, shape_struct_fields, declaration_struct_fields}
+use Rattle.gc_types.specs.Layouts.{struct_base, field_layouts, field_offset, storage_width, is_gc_storage, ref_offsets, shape_trace, declaration_trace}
 use Rattle.gc_refs.specs.Trace.{form_unit, form_of}
 use Rattle.gc_memory.specs.Lists.{In, here, there}
 use Rattle.gc_model.specs.Views.{HeapObject}
 use Rattle.gc_model.proofs.FieldsLie.{IsField}
 use Rattle.gc_model.proofs.Layouts.{layout_low}
-use Rattle.gc_heap.specs.References.{bit_offsets, bitmap_of, bitmap_offsets, is_past_bitmap, struct_spare, info_offsets, typed_offsets, traced_offsets, reference_offsets}
+use Rattle.gc_heap.specs.References.{bit_offsets, bitmap_of, bitmap_offsets, is_past_bitmap, info_offsets, typed_offsets, traced_offsets, reference_offsets}
 use Rattle.gc_heap.proofs.SpacedLemmas.{bit_set, bit_clear, bit_is_0, first_or_later, refs-take, refs-skip, aligned_fields}
 use Rattle.gc_heap.proofs.ReferenceLemmas.{content_by_form}
 use Rattle.gc_store.specs.Tracing.{IsTracedStruct}
@@ -45,9 +44,9 @@ named : (n from bits x : ℕ) → In x (bit_offsets from n bits) → Names from 
 named zero from bits x i = elim i [ ]
 named (suc n) from bits x i = elim (cases_eq (bits % 2) 1) [
   | inl odd ↦ elim (first_or_later from x (bit_offsets (from + 4) n (bits / 2)) (subst (In x) (bit_set from n bits odd) i)) [
-      | inl first ↦ record { bit = 0; below = omega arith; at = omega (arith, first); is_set = bit_at_lowest bits ∙ odd }
-      | inr later ↦ later_bit from n bits x (named n (from + 4) (bits / 2) x later)
-    ]
+    | inl first ↦ record { bit = 0; below = omega arith; at = omega (arith, first); is_set = bit_at_lowest bits ∙ odd }
+    | inr later ↦ later_bit from n bits x (named n (from + 4) (bits / 2) x later)
+  ]
   | inr even ↦ later_bit from n bits x (named n (from + 4) (bits / 2) x (subst (In x) (bit_clear from n bits (bit_is_0 bits even)) i))
 ]
 
@@ -174,22 +173,22 @@ pub ref_field : (p : ℕ) (fields : List FieldType) (x : ℕ) → In x (ref_offs
 ref_field p [] x i = elim i [ ]
 ref_field p (f ∷ fields) x i = elim (is_gc_storage f.element_type) as (λ b. is_gc_storage f.element_type ≡ b → RefField p (f ∷ fields) x) [
   | true ↦ λ e. elim (first_or_later (field_offset p f) x (ref_offsets (field_layouts (behind p f) fields)) (subst (In x) (refs-take (first_layout p f) (field_layouts (behind p f) fields) e) i)) [
-      | inl first ↦ record { index = 0; field = f; layout = first_layout p f; is_field = record { type_is = refl; layout_is = refl }; is_reference = e; at = sym first }
-      | inr later ↦ next_field p fields f x (ref_field (behind p f) fields x later)
-    ]
+    | inl first ↦ record { index = 0; field = f; layout = first_layout p f; is_field = record { type_is = refl; layout_is = refl }; is_reference = e; at = sym first }
+    | inr later ↦ next_field p fields f x (ref_field (behind p f) fields x later)
+  ]
   | false ↦ λ e. next_field p fields f x (ref_field (behind p f) fields x (subst (In x) (refs-skip (first_layout p f) (field_layouts (behind p f) fields) e) i))
 ] refl
 
 -- each reference field's offset is one of references
 pub field_referenced : (p : ℕ) (fields : List FieldType) (index : ℕ) (field : FieldType) (layout : FieldLayout) → IsField p fields index field layout → is_gc_storage field.element_type ≡ true → In layout.offset (ref_offsets (field_layouts p fields))
-field_referenced p [] index field layout is reference = absurd (none-some field is.type_is)
-field_referenced p (f ∷ fields) zero field layout is reference =
+field_referenced p [] index field layout is followed = absurd (none-some field is.type_is)
+field_referenced p (f ∷ fields) zero field layout is followed =
     let same : f ≡ field = grind (arith, is.type_is) in
-    let e : is_gc_storage f.element_type ≡ true = ap (λ (x : FieldType). is_gc_storage x.element_type) same ∙ reference in
+    let e : is_gc_storage f.element_type ≡ true = ap (λ (x : FieldType). is_gc_storage x.element_type) same ∙ followed in
     let at : field_offset p f ≡ layout.offset = grind (arith, is.layout_is) in
     subst (λ x. In x (ref_offsets (field_layouts p (f ∷ fields)))) at (subst (In (field_offset p f)) (sym (refs-take (first_layout p f) (field_layouts (behind p f) fields) e)) here)
-field_referenced p (f ∷ fields) (suc index) field layout is reference =
-    let later = field_referenced (behind p f) fields index field layout (record { type_is = is.type_is; layout_is = is.layout_is }) reference in
+field_referenced p (f ∷ fields) (suc index) field layout is followed =
+    let later = field_referenced (behind p f) fields index field layout (record { type_is = is.type_is; layout_is = is.layout_is }) followed in
     elim (is_gc_storage f.element_type) as (λ b. is_gc_storage f.element_type ≡ b → In layout.offset (ref_offsets (field_layouts p (f ∷ fields)))) [
       | true ↦ λ e. subst (In layout.offset) (sym (refs-take (first_layout p f) (field_layouts (behind p f) fields) e)) (there later)
       | false ↦ λ e. subst (In layout.offset) (sym (refs-skip (first_layout p f) (field_layouts (behind p f) fields) e)) later

@@ -48,7 +48,12 @@ impl<H: GcHeap, D: Drop> Store<H, D> {
         if !self.heap.is_attached() {
             return;
         }
-        collect_in(&mut self.heap, &mut self.roots, &mut self.hosts, &self.types);
+        collect_in(
+            &mut self.heap,
+            &mut self.roots,
+            &mut self.hosts,
+            &self.types,
+        );
     }
 
     /// How many objects the heap holds now, garbage among them.
