@@ -1,0 +1,168 @@
+-- What the roots and the values of a table name, and the words in the heap that stand for it.
+use Rattle.std.proofs.Common.{◌≡◌, ℕ, zero, suc, ◌-◌, inl, inr, true, List, [], ◌∷◌, ◌++◌, map, replicate, Some, Contains, refl, sym, ap, ◌∙◌, subst, arith}
+use Rattle.std.specs.List.{slice_get, flat_map}
+use Rattle.std.proofs.lemmas.List.Elements.{Contains-append_cases, Contains-append_left}
+use Rattle.gc_types.specs.declared.value.StorageType.{StorageType}
+use Rattle.gc_types.specs.declared.value.StorageType.TheVariants as storage
+use Rattle.gc_types.specs.declared.value.ValType.TheVariants as val
+use Rattle.gc_types.specs.declared.kind.Layouts.{Layouts}
+use Rattle.gc_types.specs.Declarations.{Declaration, struct_fields_at}
+use Rattle.gc_types.specs.Layouts.{struct_base, field_layouts, is_gc_storage, ref_offsets}
+use Rattle.gc_memory.specs.Lists.{In}
+use Rattle.gc_model.specs.declared.GcClass.{GcClass}
+use Rattle.gc_model.specs.declared.GcClass.TheVariants.{Any, Extern, Exn}
+use Rattle.gc_model.specs.Values.{Reference, null, at, Value, i32, i64, f32, f64, v128, function, reference}
+use Rattle.gc_model.specs.Table.{Table, Scoped, empty_slot, global_count}
+use Rattle.gc_model.specs.Reach.{root_references, slot_references, owned_references, present, value_references}
+use Rattle.gc_model.specs.Views.{HeapObject, u32_at}
+use Rattle.gc_model.specs.Holds.{Placing, IsWord, Lies, LiesAny, StructStands, NothingElse}
+use Rattle.gc_model.proofs.HeldStructs.{read_lies, field_value, FieldHolds}
+use Rattle.gc_heap.specs.References.{reference_offsets, word_in}
+use Rattle.gc_heap.proofs.SpacedLemmas.{only_item}
+use Rattle.gc_store.specs.Tracing.{IsTracedStruct}
+use Rattle.gc_store.proofs.CollectedLists.{get_contains, contains_one, contains_map, contains_flat, flat_contains, map_get}
+use Rattle.gc_store.proofs.CollectedOffsets.{SameElements, ref_field, traced_offsets_are}
+
+-- empty slots name no object
+empty_slots : (n p : ℕ) → Contains (slot_references (replicate n empty_slot)) (at p) → ⊥
+empty_slots zero p c = omega (arith, c.1)
+empty_slots (suc n) p c = elim (Contains-append_cases (null ∷ []) (slot_references (replicate n empty_slot)) (at p) c) [
+  | inl first ↦ differ (only_item null (at p) first)
+  | inr later ↦ empty_slots n p later
+]
+  where
+    differ : null ≡ at p → ⊥
+    differ e = cc
+
+none_contained : {X : Type 0} (x : X) → Contains [] x → ⊥
+none_contained x c = omega (arith, c.1)
+
+-- A scoped root names the object.
+pub record RootNames {D : Type 0} (t : Table D) (p : ℕ) : Type 0 where
+  pub index : ℕ
+  pub root : Scoped
+  pub there : slice_get t.scoped index ≡ Some root
+  pub is : root.reference ≡ at p
+
+abbrev frames : {D : Type 0} → Table D → List Reference
+frames t = flat_map slot_references t.frames
+
+abbrev globals : {D : Type 0} → Table D → List Reference
+globals t = slot_references t.globals
+
+abbrev owned : {D : Type 0} → Table D → List Reference
+owned t = flat_map owned_references t.owned
+
+-- only scoped roots name objects
+pub scoped_names : {D : Type 0} (t : Table D) → NothingElse t → (p : ℕ) → Contains (root_references t) (at p) → RootNames t p
+scoped_names t nothing p c = elim (Contains-append_cases (map (λ (root : Scoped). root.reference) t.scoped) (frames t ++ (globals t ++ (owned t ++ present t.pending))) (at p) c) [
+  | inl scoped ↦ let found = contains_map (λ (root : Scoped). root.reference) t.scoped (at p) scoped in record { index = found.index; root = found.element; there = found.there; is = found.is }
+  | inr behind ↦ elim (Contains-append_cases (frames t) (globals t ++ (owned t ++ present t.pending)) (at p) behind) [
+    | inl slot ↦ absurd (none_contained (at p) (subst (λ fs. Contains (flat_map slot_references fs) (at p)) nothing.frames slot))
+    | inr rest ↦ elim (Contains-append_cases (globals t) (owned t ++ present t.pending) (at p) rest) [
+      | inl slot ↦ absurd (empty_slots global_count p (subst (λ gs. Contains (slot_references gs) (at p)) nothing.globals slot))
+      | inr last ↦ elim (Contains-append_cases (owned t) (present t.pending) (at p) last) [
+        | inl one ↦ absurd (none_contained (at p) (subst (λ os. Contains (flat_map owned_references os) (at p)) nothing.owned one))
+        | inr one ↦ absurd (none_contained (at p) (subst (λ x. Contains (present x) (at p)) nothing.pending one))
+      ]
+    ]
+  ]
+]
+
+-- a scoped root is a root
+pub root_named : {D : Type 0} (t : Table D) (i : ℕ) (root : Scoped) → slice_get t.scoped i ≡ Some root → Contains (root_references t) root.reference
+root_named t i root e =
+    Contains-append_left (map (λ (root : Scoped). root.reference) t.scoped) (frames t ++ (globals t ++ (owned t ++ present t.pending))) root.reference
+    (get_contains (map (λ (root : Scoped). root.reference) t.scoped) i root.reference (map_get (λ (root : Scoped). root.reference) t.scoped i root e))
+
+-- A reference of class Any, with its word.
+pub record AnyLies (place : Placing) (v : Value) (word : ℕ) : Type 0 where
+  pub reference_is : Reference
+  pub value_is : v ≡ reference Any reference_is
+  pub is_word : IsWord place reference_is word
+
+any_lies : (place : Placing) (v : Value) (bytes : List ℕ) (offset : ℕ) → LiesAny place v bytes offset → AnyLies place v (u32_at bytes offset)
+any_lies place (i32 n) bytes offset lies = absurd lies
+any_lies place (i64 n) bytes offset lies = absurd lies
+any_lies place (f32 n) bytes offset lies = absurd lies
+any_lies place (f64 n) bytes offset lies = absurd lies
+any_lies place (v128 n) bytes offset lies = absurd lies
+any_lies place (function f) bytes offset lies = absurd lies
+any_lies place (reference Any r) bytes offset lies = record { reference_is = r; value_is = refl; is_word = lies }
+any_lies place (reference Extern r) bytes offset lies = absurd lies
+any_lies place (reference Exn r) bytes offset lies = absurd lies
+
+-- what lies in a field that a collection follows is a reference
+followed_lies : (place : Placing) (ty : StorageType) (v : Value) (bytes : List ℕ) (offset : ℕ) → is_gc_storage ty ≡ true → Lies place ty v bytes offset → AnyLies place v (u32_at bytes offset)
+followed_lies place storage.I8 v bytes offset followed lies = absurd lies
+followed_lies place storage.I16 v bytes offset followed lies = absurd lies
+followed_lies place (storage.ValType val.I32) v bytes offset followed lies = absurd (cc)
+followed_lies place (storage.ValType val.I64) v bytes offset followed lies = absurd (cc)
+followed_lies place (storage.ValType val.F32) v bytes offset followed lies = absurd lies
+followed_lies place (storage.ValType val.F64) v bytes offset followed lies = absurd lies
+followed_lies place (storage.ValType val.V128) v bytes offset followed lies = absurd lies
+followed_lies place (storage.ValType (val.Ref ty)) v bytes offset followed lies = any_lies place v bytes offset lies
+
+-- a reference lies in a field as its word
+reference_lies : (place : Placing) (ty : StorageType) (class : GcClass) (r : Reference) (bytes : List ℕ) (offset : ℕ) → Lies place ty (reference class r) bytes offset → IsWord place r (u32_at bytes offset)
+reference_lies place storage.I8 class r bytes offset lies = absurd lies
+reference_lies place storage.I16 class r bytes offset lies = absurd lies
+reference_lies place (storage.ValType val.I32) class r bytes offset lies = absurd lies
+reference_lies place (storage.ValType val.I64) class r bytes offset lies = absurd lies
+reference_lies place (storage.ValType val.F32) class r bytes offset lies = absurd lies
+reference_lies place (storage.ValType val.F64) class r bytes offset lies = absurd lies
+reference_lies place (storage.ValType val.V128) class r bytes offset lies = absurd lies
+reference_lies place (storage.ValType (val.Ref ty)) Any r bytes offset lies = lies
+reference_lies place (storage.ValType (val.Ref ty)) Extern r bytes offset lies = absurd lies
+reference_lies place (storage.ValType (val.Ref ty)) Exn r bytes offset lies = absurd lies
+
+class_of : (v : Value) (r : Reference) → Contains (value_references v) r → (class : GcClass) × (v ≡ reference class r)
+class_of (i32 n) r c = absurd (none_contained r c)
+class_of (i64 n) r c = absurd (none_contained r c)
+class_of (f32 n) r c = absurd (none_contained r c)
+class_of (f64 n) r c = absurd (none_contained r c)
+class_of (v128 n) r c = absurd (none_contained r c)
+class_of (function f) r c = absurd (none_contained r c)
+class_of (reference class q) r c = (class, ap (reference class) (only_item q r c))
+
+-- a reference among the values of a struct has a word
+pub reference_word : (layouts : Layouts) (types : List Declaration) (place : Placing) (ty : ℕ) (values : List Value) (h : HeapObject) → StructStands layouts types place ty values h
+    → (r : Reference) → Contains (flat_map value_references values) r → (word : ℕ) × IsWord place r word
+reference_word layouts types place ty values h stands r among =
+    let from = contains_flat value_references values r among in
+    let class = class_of from.element r from.among in
+    let holds : FieldHolds layouts place stands.fields from.index (reference class.0 r) h.bytes =
+    read_lies layouts types place ty values h stands from.index (reference class.0 r) (from.there ∙ ap (λ v. Some v) class.1) in
+    (u32_at h.bytes (holds.layout.offset - struct_base layouts), reference_lies place holds.field.element_type class.0 r h.bytes (holds.layout.offset - struct_base layouts) holds.lies)
+
+-- A word among the references of an object of the heap, as a reference of the table's object.
+pub record ReferenceOfWord (place : Placing) (values : List Value) (word : ℕ) : Type 0 where
+  pub reference_is : Reference
+  pub among : Contains (flat_map value_references values) reference_is
+  pub is_word : IsWord place reference_is word
+
+word_of_value : (place : Placing) (values : List Value) (index : ℕ) (value : Value) (word : ℕ) → slice_get values index ≡ Some value → AnyLies place value word → ReferenceOfWord place values word
+word_of_value place values index value word e lies = record {
+  reference_is = lies.reference_is;
+  among = flat_contains value_references values index value lies.reference_is e (subst (λ v. Contains (value_references v) lies.reference_is) (sym lies.value_is) (contains_one lies.reference_is));
+  is_word = lies.is_word;
+}
+
+module _ (layouts : Layouts) (types : List Declaration) (place : Placing) (ty : ℕ) (values : List Value) (h : HeapObject) (stands : StructStands layouts types place ty values h) (traced : IsTracedStruct layouts types h) where
+  abbrev base : ℕ
+  base = struct_base layouts
+
+  same_fields : traced.fields ≡ stands.fields
+  same_fields = let both : Some traced.fields ≡ Some stands.fields = sym traced.declared ∙ ap (struct_fields_at types) stands.same_type ∙ stands.declared in grind (arith, both)
+
+  offsets_are : SameElements (reference_offsets layouts types h) (ref_offsets (field_layouts base stands.fields))
+  offsets_are = subst (λ fs. SameElements (reference_offsets layouts types h) (ref_offsets (field_layouts base fs))) same_fields (traced_offsets_are layouts types h traced)
+
+  pub reference_of_word : (offset : ℕ) → In offset (reference_offsets layouts types h) → ReferenceOfWord place values (word_in layouts h offset)
+  reference_of_word offset i =
+      let r = ref_field base stands.fields offset (offsets_are.there offset i) in
+      let value = field_value layouts types place ty values h stands r.index r.field r.is_field.type_is in
+      let word : ℕ = u32_at h.bytes (r.layout.offset - base) in
+      let lies : AnyLies place value.0 word = followed_lies place r.field.element_type value.0 h.bytes (r.layout.offset - base) r.is_reference
+      (stands.values_lie.each r.index r.field r.layout value.0 r.is_field.type_is r.is_field.layout_is value.1) in
+      subst (λ x. ReferenceOfWord place values (word_in layouts h x)) r.at (word_of_value place values r.index value.0 word value.1 lies)

@@ -1,0 +1,126 @@
+-- What a field of the struct that a handle names keeps.
+use Rattle.std.proofs.Common.{inl, inr, ◌≡◌, ℕ, ◌+◌, ◌-◌, ◌*◌, ◌%◌, ◌^◌, ◌<◌, ◌≤◌, Bool, true, false, List, [], ◌∷◌, zero, suc, Option, Some, None, Result, Ok, Err, length, slice_index_or, get_or, sym, ap, ◌∙◌, refl, subst, arith, ℤ}
+use Rattle.std.specs.Prelude.{All}
+use Rattle.std.specs.List.{slice_get}
+use Rattle.std.specs.FinMap as finite
+use Rattle.std.specs.Int.{w32, w64, cast_signed, cast_unsigned}
+use Rattle.std.proofs.lemmas.Int.{of_z-to_z}
+use Rattle.std.proofs.lemmas.Grind.{common_steps}
+use Rattle.std.proofs.lemmas.Option.{none-some, slice_get_within}
+use Rattle.gc_types.specs.declared.value.FieldType.{FieldType}
+use Rattle.gc_types.specs.declared.value.StorageType.{StorageType}
+use Rattle.gc_types.specs.declared.value.StorageType.TheVariants as storage
+use Rattle.gc_types.specs.declared.value.ValType.{ValType}
+use Rattle.gc_types.specs.declared.value.ValType.TheVariants as val
+use Rattle.gc_types.specs.declared.kind.Layouts.{Layouts}
+use Rattle.gc_types.specs.declared.layout.FieldLayout.{FieldLayout}
+use Rattle.gc_types.specs.Declarations.{Declaration, struct_fields_at}
+use Rattle.gc_types.specs.Layouts.{struct_base, field_layouts}
+use Rattle.gc_model.specs.declared.GcClass.{GcClass}
+use Rattle.gc_model.specs.declared.GcClass.TheVariants.{Any, Extern, Exn}
+use Rattle.gc_model.specs.Values.{Reference, null, small, at, Value, i32, i64, f32, f64, v128, function, reference, Object, struct, number_bits}
+use Rattle.gc_model.specs.Fits.{is_built_field}
+use Rattle.gc_model.specs.Table.{Table}
+use Rattle.gc_model.specs.Live.{rooted}
+use Rattle.gc_model.specs.Views.{StoreView, HeapObject, u32_at, u64_at}
+use Rattle.gc_model.specs.Holds.{Placing, IsWord, Holds, HoldsTable, Lies, LiesI32, LiesI64, LiesAny}
+use Rattle.gc_model.proofs.FieldsLie.{IsField}
+use Rattle.gc_model.proofs.HeldStructs.{FieldHolds, struct_stands, read_lies}
+use Rattle.gc_store.specs.declared.field.Stored.{Stored}
+use Rattle.gc_store.specs.declared.field.Stored.TheVariants as stored
+use Rattle.gc_store.specs.declared.root.GcRootIndex.{GcRootIndex}
+use Rattle.gc_store.specs.declared.root.RootFault.{RootFault}
+use Rattle.gc_store.specs.Fields.{ReadsStored, StoredStands}
+use Rattle.gc_store.specs.Roots.{HasField, word_of}
+use Rattle.gc_store.proofs.Roots.{named_live, named_dead}
+
+-- where a value of the table lies in the heap
+pub record FieldAt (layouts : Layouts) (s : StoreView) (place : Placing) (word position ty index : ℕ) (value : Value) : Type 0 where
+  pub placed : place position ≡ Some word
+  pub positive : 0 < word
+  pub object : HeapObject
+  pub held : finite.get s.heap.content word ≡ Some object
+  pub fields : List FieldType
+  pub of_type : object.ty ≡ ty
+  pub declared : struct_fields_at s.types object.ty ≡ Some fields
+  pub holds : FieldHolds layouts place fields index value object.bytes
+  pub built : is_built_field holds.field ≡ true
+
+got : {A : Type 0} (xs : List A) (i : ℕ) (x : A) → slice_get xs i ≡ Some x → get_or xs i x ≡ x
+got [] i x e = absurd (none-some x e)
+got (y ∷ xs) zero x e = grind (arith, e)
+got (y ∷ xs) (suc i) x e = got xs i x e
+
+-- a property of all elements at one of them
+pub all_at : (P : FieldType → Type 0) (fields : List FieldType) (index : ℕ) (field : FieldType) → All P fields → slice_get fields index ≡ Some field → P field
+all_at P fields index field all e = subst P (got fields index field e) (all index field (slice_get_within fields index field e))
+
+module _ {D : Type 0} (layouts : Layouts) (s : StoreView) (t : Table D) (place : Placing) (holds : Holds layouts s t place) (handle : GcRootIndex) (index : ℕ) (value : Value) (has : HasField s t handle index value) where
+  -- the handle's word is the place of the struct
+  placed_word : (word : ℕ) → word_of s handle ≡ Ok word → (place has.position ≡ Some word) × (0 < word)
+  placed_word word e =
+      let live = named_live layouts s t place holds handle has.serial word has.names e in
+      let same : live.0 ≡ at has.position = grind (arith, sym live.1.0 ∙ has.live) in
+      (subst (λ (r : Reference). IsWord place r word) same live.1.1, live.1.2)
+
+  pub field_at : (word : ℕ) → word_of s handle ≡ Ok word → FieldAt layouts s place word has.position has.ty index value
+  field_at word e =
+      let placed = placed_word word e in
+      let held = holds.objects.placed has.position word placed.0 in
+      let stands = struct_stands layouts s t place holds has.position word has.ty has.values held.object placed.0 held.in_heap has.object in
+      let lies = read_lies layouts t.types place has.ty has.values held.object stands index value has.value_at in
+      record {
+        placed = placed.0;
+        positive = placed.1;
+        object = held.object;
+        held = held.in_heap;
+        fields = stands.fields;
+        of_type = stands.same_type;
+        declared = ap (λ (ts : List Declaration). struct_fields_at ts held.object.ty) holds.types ∙ ap (struct_fields_at t.types) stands.same_type ∙ stands.declared;
+        holds = lies;
+        built = all_at (λ (f : FieldType). is_built_field f ≡ true) stands.fields index lies.field (holds.only_built has.ty stands.fields stands.declared) lies.is_field.type_is;
+      }
+
+  -- so it is live, and has a word
+  pub never_dead : (f : RootFault) → word_of s handle ≡ Err f → ⊥
+  never_dead f e = absurd (cc (sym has.live ∙ (named_dead layouts s t place holds handle has.serial f has.names e).0))
+
+i32_stands : (place : Placing) (v : Value) (bytes : List ℕ) (offset : ℕ) → LiesI32 v bytes offset → v ≡ i32 (u32_at bytes offset)
+i32_stands place (i32 n) bytes offset lies = ap i32 (sym lies)
+i32_stands place (i64 n) bytes offset lies = absurd lies
+i32_stands place (f32 n) bytes offset lies = absurd lies
+i32_stands place (f64 n) bytes offset lies = absurd lies
+i32_stands place (v128 n) bytes offset lies = absurd lies
+i32_stands place (function f) bytes offset lies = absurd lies
+i32_stands place (reference class r) bytes offset lies = absurd lies
+
+i64_stands : (place : Placing) (v : Value) (bytes : List ℕ) (offset : ℕ) → LiesI64 v bytes offset → v ≡ i64 (u64_at bytes offset)
+i64_stands place (i32 n) bytes offset lies = absurd lies
+i64_stands place (i64 n) bytes offset lies = ap i64 (sym lies)
+i64_stands place (f32 n) bytes offset lies = absurd lies
+i64_stands place (f64 n) bytes offset lies = absurd lies
+i64_stands place (v128 n) bytes offset lies = absurd lies
+i64_stands place (function f) bytes offset lies = absurd lies
+i64_stands place (reference class r) bytes offset lies = absurd lies
+
+any_stands : (place : Placing) (v : Value) (bytes : List ℕ) (offset : ℕ) → LiesAny place v bytes offset → StoredStands place (stored.Ref (u32_at bytes offset)) v
+any_stands place (i32 n) bytes offset lies = absurd lies
+any_stands place (i64 n) bytes offset lies = absurd lies
+any_stands place (f32 n) bytes offset lies = absurd lies
+any_stands place (f64 n) bytes offset lies = absurd lies
+any_stands place (v128 n) bytes offset lies = absurd lies
+any_stands place (function f) bytes offset lies = absurd lies
+any_stands place (reference Any r) bytes offset lies = (r, (lies, refl))
+any_stands place (reference Extern r) bytes offset lies = absurd lies
+any_stands place (reference Exn r) bytes offset lies = absurd lies
+
+-- what was read of a value that lies there stands for the value
+pub stored_stands : (place : Placing) (ty : StorageType) (v : Value) (bytes : List ℕ) (offset : ℕ) (x : Stored) → Lies place ty v bytes offset → ReadsStored ty bytes offset x → StoredStands place x v
+stored_stands place storage.I8 v bytes offset x lies reads = absurd lies
+stored_stands place storage.I16 v bytes offset x lies reads = absurd lies
+stored_stands place (storage.ValType val.I32) v bytes offset x lies reads = subst (λ (x : Stored). StoredStands place x v) (sym reads) (i32_stands place v bytes offset lies)
+stored_stands place (storage.ValType val.I64) v bytes offset x lies reads = subst (λ (x : Stored). StoredStands place x v) (sym reads) (i64_stands place v bytes offset lies)
+stored_stands place (storage.ValType val.F32) v bytes offset x lies reads = absurd lies
+stored_stands place (storage.ValType val.F64) v bytes offset x lies reads = absurd lies
+stored_stands place (storage.ValType val.V128) v bytes offset x lies reads = absurd lies
+stored_stands place (storage.ValType (val.Ref ty)) v bytes offset x lies reads = subst (λ (x : Stored). StoredStands place x v) (sym reads) (any_stands place v bytes offset lies)

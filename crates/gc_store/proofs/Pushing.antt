@@ -1,0 +1,113 @@
+-- What a new scoped root leaves of a store.
+use Rattle.std.proofs.Common.{◌≡◌, ℕ, ◌+◌, ◌%◌, ◌-◌, ◌^◌, ◌<◌, ◌≤◌, ◌⊎◌, inl, inr, Bool, true, false, List, [], ◌∷◌, ◌++◌, Some, Result, Ok, Err, length, map, nat_le, ◌||◌, ◌==◌, refl, sym, ap, ◌∙◌, subst, arith}
+use Rattle.std.specs.FinMap as finite
+use Rattle.std.proofs.lemmas.List.{length-map, map-append, append-nil}
+use Rattle.gc_types.specs.declared.kind.Layouts.{Layouts}
+use Rattle.gc_types.specs.Declarations.{Declaration, TypeTable}
+use Rattle.gc_roots.specs.Roots.{Root}
+use Rattle.gc_model.specs.declared.RootEntry.{RootEntry}
+use Rattle.gc_model.specs.Values.{Reference, null, small, at}
+use Rattle.gc_model.specs.Table.{Table, push}
+use Rattle.gc_model.specs.Live.{roots_full}
+use Rattle.gc_model.specs.Views.{StoreView, HeapView, SameHeld}
+use Rattle.gc_model.specs.Holds.{Placing, IsWord, Holds, HoldsTable}
+use Rattle.gc_model.proofs.HoldsPush.{with_root, holds_push}
+use Rattle.gc_heap.specs.Barriers.{IsNamed, CanName, cloned}
+use Rattle.gc_heap.specs.Content.{IsHeap}
+use Rattle.gc_heap.specs.Collection.{IsWordOf, CanCollect}
+use Rattle.gc_heap.proofs.AddedLemmas.{start}
+use Rattle.gc_heap.proofs.RootedLemmas.{can_collect_cloned}
+use Rattle.gc_store.specs.declared.root.GcRootIndex.{GcRootIndex}
+use Rattle.gc_store.specs.declared.root.RootSlot.TheVariants as slot
+use Rattle.gc_store.specs.Roots.{IsRootWord, handle_of}
+use Rattle.gc_store.specs.Handles.{PushesRoot}
+use Rattle.gc_store.specs.Stores.{is_full, IsSound}
+use Rattle.gc_store.specs.Tracing.{IsCollectable, roots_of, root_of, start_from}
+use Rattle.gc_store.proofs.Counted.{counts_below}
+use Rattle.gc_store.proofs.Roots.{held_object}
+
+-- the entry of a new root
+abbrev pub entry_of : ℕ → ℕ → RootEntry
+entry_of generation word = record { generation = generation; word = word }
+
+-- the store may push a root exactly where the table may
+pub full_is : {D : Type 0} (layouts : Layouts) (s : StoreView) (t : Table D) (place : Placing) → Holds layouts s t place → is_full s ≡ roots_full t
+full_is layouts s t place holds i = nat_le (holds.numbers.max_scoped i) (holds.scoped.same_count i) || (holds.numbers.generation i == 2 ^ 64 - 1)
+
+pub roots_of-push : (entries : List RootEntry) (generation word : ℕ) → roots_of (entries ++ entry_of generation word ∷ []) ≡ roots_of entries ++ root_of word ∷ []
+roots_of-push entries generation word = map-append (λ (e : RootEntry). root_of e.word) entries (entry_of generation word ∷ [])
+
+-- the word of a root names something in the heap
+pub root_named : {D : Type 0} (layouts : Layouts) (s : StoreView) (t : Table D) (place : Placing) (r : Reference) (word : ℕ) → Holds layouts s t place → IsWord place r word → 0 < word → IsNamed s.heap word
+root_named layouts s t place null word holds is positive = absurd (omega (arith, is, positive))
+root_named layouts s t place (small n) word holds is positive = inl (omega (arith, is))
+root_named layouts s t place (at p) word holds is positive = let held = holds.objects.placed p word is in inr (held.object, held.in_heap)
+
+pub named_word : (h : HeapView) (word : ℕ) → IsNamed h word → IsWordOf h word
+named_word h word (inl odd) = inr (inl odd)
+named_word h word (inr held) = inr (inr held)
+
+-- there are few scoped roots
+pub few_roots : {D : Type 0} (layouts : Layouts) (s : StoreView) (t : Table D) (place : Placing) → Holds layouts s t place → length (roots_of s.scoped) ≤ 2 ^ 31
+few_roots layouts s t place holds =
+    omega (arith, length-map s.scoped (λ (e : RootEntry). root_of e.word), holds.scoped.same_count, holds.numbers.scoped_within, holds.numbers.few_roots)
+
+-- a word of the store may be cloned
+pub can_name : {D : Type 0} (layouts : Layouts) (s : StoreView) (t : Table D) (place : Placing) (r : Reference) (word : ℕ) (hosts : ℕ → Bool) → Holds layouts s t place → IsHeap layouts s.heap → IsCollectable layouts s.types s.heap (roots_of s.scoped) hosts → IsWord place r word → 0 < word → CanName s.heap word
+can_name layouts s t place r word hosts holds heap can is positive = record {
+  named = root_named layouts s t place r word holds is positive;
+  below = counts_below layouts s.types s.heap (roots_of s.scoped) hosts heap can (let few = few_roots layouts s t place holds in omega (arith, few)) word;
+}
+
+-- a collection may begin with a root more whose word was cloned
+pub collectable_cloned : (layouts : Layouts) (types : List Declaration) (h : HeapView) (entries : List RootEntry) (generation word : ℕ) (hosts : ℕ → Bool) → IsCollectable layouts types h (roots_of entries) hosts → IsNamed h word → IsCollectable layouts types (cloned h word) (roots_of (entries ++ entry_of generation word ∷ [])) hosts
+collectable_cloned layouts types h entries generation word hosts can named = record {
+  traced = can.traced;
+  collects = subst (λ (roots : List Root). CanCollect layouts (start_from types (cloned h word) roots hosts)) (sym (roots_of-push entries generation word))
+      (can_collect_cloned layouts types (record h { attached = true }) (roots_of entries) (root_of word) [] hosts
+      (subst (λ (roots : List Root). CanCollect layouts (start (record h { attached = true }) roots types hosts)) (sym (append-nil (roots_of entries))) can.collects)
+      refl (named_word h word named));
+}
+
+-- the store after a push, of which its parts tell
+abbrev pub pushed_view : StoreView → HeapView → List RootEntry → ℕ → StoreView
+pushed_view s heap entries generation = record s { heap = heap; scoped = entries; generation = generation }
+
+module _ {D : Type 0} (layouts : Layouts) (s : StoreView) (heap : HeapView) (entries : List RootEntry) (generation word : ℕ) (same : SameHeld s.heap heap) (entries_are : entries ≡ s.scoped ++ entry_of s.generation word ∷ []) (generation_is : generation ≡ s.generation)
+    (positive : 0 < word) (room : is_full s ≡ false) where
+  table_room : (t : Table D) (place : Placing) → Holds layouts s t place → roots_full t ≡ false
+  table_room t place holds = sym (full_is layouts s t place holds) ∙ room
+
+  -- the store holds the table with the root
+  pub holds_pushed : (t : Table D) (place : Placing) (r : Reference) → Holds layouts s t place → IsWord place r word → Holds layouts (pushed_view s heap entries generation) (push r t) place
+  holds_pushed t place r holds is =
+      subst (λ (g : ℕ). Holds layouts (pushed_view s heap entries g) (push r t) place) (sym generation_is)
+      (subst (λ (es : List RootEntry). Holds layouts (pushed_view s heap es s.generation) (push r t) place) (sym entries_are)
+      (holds_push layouts s t place r heap word holds (table_room t place holds) same is positive))
+
+  -- and the handle is that of its push
+  pub pushes_root : (handle : GcRootIndex) → handle ≡ record { store_id = record { engine = s.engine; number = s.number }; generation = s.generation; slot = slot.Scoped (length s.scoped) }
+      → (t : Table D) (place : Placing) (r : Reference) → Holds layouts s t place → IsWord place r word → PushesRoot layouts t r (Ok handle) (pushed_view s heap entries generation)
+  pushes_root handle handle_is t place r holds is = (
+    table_room t place holds,
+    (
+      handle_is ∙ (λ i. record { store_id = record { engine = s.engine; number = s.number }; generation = (holds.numbers.generation i); slot = slot.Scoped (holds.scoped.same_count i) }),
+      (place, holds_pushed t place r holds is),
+    ),
+  )
+
+-- the store is sound after a push of a word that was cloned
+pub sound_cloned : (D : Type 0) (layouts : Layouts) (old_sound new_sound : Type 0) (types : TypeTable) (hosts : ℕ → Bool) (s : StoreView) (heap : HeapView) (entries : List RootEntry) (generation word : ℕ) → IsSound D layouts old_sound types hosts s → new_sound
+    → IsRootWord D layouts s word → heap ≡ cloned s.heap word → entries ≡ s.scoped ++ entry_of s.generation word ∷ [] → generation ≡ s.generation → is_full s ≡ false → IsSound D layouts new_sound types hosts (pushed_view s heap entries generation)
+sound_cloned D layouts old_sound new_sound types hosts s heap entries generation word sound now is heap_is entries_are generation_is room =
+    let held : SameHeld s.heap heap = subst (λ (h : HeapView). SameHeld s.heap h) (sym heap_is) (record { content = refl; attached = refl; capacity = refl; allocated = refl }) in
+    record {
+      heap = now;
+      engine = sound.engine;
+      number = sound.number;
+      collectable = subst (λ (h : HeapView). IsCollectable layouts s.types h (roots_of entries) hosts) (sym heap_is)
+          (subst (λ (es : List RootEntry). IsCollectable layouts s.types (cloned s.heap word) (roots_of es) hosts) (sym entries_are)
+          (collectable_cloned layouts s.types s.heap s.scoped s.generation word hosts sound.collectable (root_named layouts s is.table is.place is.root word is.holds is.is_word is.not_null)));
+      table = push is.root is.table;
+      holds = (is.place, holds_pushed layouts s heap entries generation word held entries_are generation_is is.not_null room is.table is.place is.root is.holds is.is_word);
+    }

@@ -1,0 +1,55 @@
+use Rattle.std.proofs.Common.{◌≡◌, ◌<◌, ℕ, ◌++◌, ◌∷◌, [], false, List, length, ap, sym, ◌∙◌, subst, refl}
+use Rattle.std.specs.FinMap.{len}
+use Rattle.gc_model.specs.declared.RootEntry.{RootEntry}
+use Rattle.gc_model.specs.Views.{StoreView, HeapView, SameHeld}
+use Rattle.gc_model.specs.Holds.{Holds}
+use Rattle.gc_heap.specs.Collection.{has_host}
+use Rattle.gc_store.specs.declared.root.RootSlot.TheVariants as slot
+use Rattle.gc_store.specs.Roots.{IsRootWord}
+use Rattle.gc_store.specs.Stores.{store_view, is_full}
+use Rattle.gc_store.proofs.Pushing.{can_name, sound_cloned, pushes_root, entry_of}
+use Rattle.gc_store.proofs.store.Store.push_clone.Given as given
+use Rattle.gc_store.proofs.store.Store.push_clone.Goals as goal
+use Rattle.gc_store.proofs.store.Store.push_clone.Goals.{After-is_err, After-push_root}
+
+-- the store's view, by its parts
+abbrev view : (g : given.Over) (c : After-is_err g) → StoreView
+view g c = store_view c.self.inside.id c.self.inside.config c.self.inside.types.declarations (g.H.GcHeap.seen c.self.inside.heap) (len c.self.inside.hosts.entries) c.self.inside.roots.entries c.self.inside.roots.generation
+
+root_word : (g : given.Over) (c : After-is_err g) → IsRootWord g.row.D.Denot g.H.GcHeap.KIND (view g c) c.args.gc_ref.now
+root_word g c = subst (λ (s : StoreView). IsRootWord g.row.D.Denot g.H.GcHeap.KIND s c.args.gc_ref.now) (sym c.self.view_is) c.requires
+
+pub clone_gc_ref-requires-clause-named : goal.clone_gc_ref-requires-clause-named
+clone_gc_ref-requires-clause-named g c =
+    let is = root_word g (goal.at.clone_gc_ref-requires-clause-named g c).After-is_err in
+    can_name g.H.GcHeap.KIND _ is.table is.place is.root c.args.gc_ref.now _ is.holds (g.met.H.GcHeap.is_heap c.self.inside.heap c.self.invariant.heap) c.self.invariant.collectable is.is_word is.not_null
+
+-- the word that is pushed
+word_is : (g : given.Over) (c : After-push_root g) → c.as_raw_u32-word.result ≡ c.args.gc_ref.now
+word_is g c = c.as_raw_u32-word.ensures.value ∙ c.clone_gc_ref.ensures.value
+
+entries_are : (g : given.Over) (c : After-push_root g) → c.push_root.new.roots.entries ≡ c.self.inside.roots.entries ++ entry_of c.self.inside.roots.generation c.args.gc_ref.now ∷ []
+entries_are g c =
+    c.push_root.ensures.entries
+    ∙ (λ i. c.reserve.ensures.entries i ++ entry_of (c.reserve.ensures.generation i) (word_is g c i) ∷ [])
+
+generation_is : (g : given.Over) (c : After-push_root g) → c.push_root.new.roots.generation ≡ c.self.inside.roots.generation
+generation_is g c = c.push_root.ensures.generation ∙ c.reserve.ensures.generation
+
+room : (g : given.Over) (c : After-is_err g) → is_full (view g c) ≡ false
+room g c = ap is_full c.self.view_is ∙ sym c.roots_full.ensures ∙ c.if-roots_full.false
+
+pub invariant_of-self-2 : goal.invariant_of-self-2
+invariant_of-self-2 g c =
+    let at = (goal.at.invariant_of-self-2 g c).After-push_root in
+    let before = (goal.at.After-push_root g at).After-is_err in
+    sound_cloned g.row.D.Denot g.H.GcHeap.KIND (g.H.GcHeap.sound c.self.inside.heap) (g.H.GcHeap.sound c.clone_gc_ref.new.self) c.self.inside.types (has_host c.self.inside.hosts.entries) (view g before) (g.H.GcHeap.seen c.clone_gc_ref.new.self) c.push_root.new.roots.entries c.push_root.new.roots.generation c.args.gc_ref.now c.self.invariant c.clone_gc_ref.ensures.sound (root_word g before) c.clone_gc_ref.ensures.seen (entries_are g at) (generation_is g at) (room g before)
+
+pub returns-clause-pushes : goal.returns-clause-pushes
+returns-clause-pushes g c t place r holds is =
+    let at = (goal.at.returns-clause-pushes g c).After-push_root in
+    let before = (goal.at.After-push_root g at).After-is_err in
+    let held : SameHeld (g.H.GcHeap.seen c.self.inside.heap) (g.H.GcHeap.seen c.clone_gc_ref.new.self) = subst (λ (h : HeapView). SameHeld (g.H.GcHeap.seen c.self.inside.heap) h) (sym c.clone_gc_ref.ensures.seen) (record { content = refl; attached = refl; capacity = refl; allocated = refl }) in
+    pushes_root g.H.GcHeap.KIND (view g before) (g.H.GcHeap.seen c.clone_gc_ref.new.self) c.push_root.new.roots.entries c.push_root.new.roots.generation c.args.gc_ref.now held (entries_are g at) (generation_is g at) (root_word g before).not_null (room g before) c.push_root.result
+    (c.push_root.ensures.handle ∙ (λ i. record { store_id = c.self.inside.id; generation = c.reserve.ensures.generation i; slot = slot.Scoped (length (c.reserve.ensures.entries i)) }))
+    t place r (subst (λ (s : StoreView). Holds g.H.GcHeap.KIND s t place) (sym c.self.view_is) holds) is
