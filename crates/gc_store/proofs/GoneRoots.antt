@@ -10,7 +10,7 @@ use Rattle.gc_model.specs.Live.{rooted, rooted_among}
 use Rattle.gc_model.specs.Views.{StoreView}
 use Rattle.gc_model.specs.Holds.{HoldsTable}
 
-index_or : Option Push → ℕ
+abbrev index_or : Option Push → ℕ
 index_or None = 0
 index_or (Some p) = p.index
 
@@ -63,6 +63,5 @@ left_gone layouts s t mark i root holds past here =
     none_take root.serial mark t.scoped (λ j r below e.
     not_same r.serial root.serial (λ same.
     let other = stands j r e in
-    let equal : Some (record { index = j; generation = other.0 }) ≡ Some (record { index = i; generation = mine.0 }) = sym other.1 ∙ ap (λ k. slice_get t.pushes k) same ∙ mine.1 in
-    let index : j ≡ i = ap (λ (p : Option Push). index_or p) equal in
+    let index : j ≡ i = sym (ap index_or other.1) ∙ ap (λ k. index_or (slice_get t.pushes k)) same ∙ ap index_or mine.1 in
     omega (arith, index, below, past)))
