@@ -30,3 +30,6 @@ pub mod HeapLayouts
 pub mod HeapValues
 pub mod HeapMade
 pub mod HeapCreated
+pub mod MadeHeaps
+pub mod PlacedValues
+pub mod Placing
