@@ -1,8 +1,8 @@
 -- A struct that was allocated, and gets its values.
-use Rattle.std.proofs.Common.{◌≡◌, ◌≢◌, ℕ, ◌+◌, ◌-◌, ◌<◌, ◌≤◌, ◌^◌, ◌⊎◌, inl, inr, Bool, true, false, cond, nat_eq, List, [], ◌∷◌, length, map, Option, Some, None, Result, Ok, Err, Contains, slice_index_or, option_map, refl, sym, ap, ◌∙◌, subst, arith}
+use Rattle.std.proofs.Common.{◌≡◌, ℕ, ◌+◌, ◌<◌, ◌^◌, inl, inr, Bool, true, false, cond, nat_eq, List, [], ◌∷◌, length, Option, Some, None, Result, Ok, Err, option_map, refl, sym, ap, ◌∙◌, arith}
 use Rattle.std.specs.Prelude.{All}
 use Rattle.std.specs.List.{slice_get}
-use Rattle.std.specs.FinMap.{get, insert}
+use Rattle.std.specs.FinMap.{get}
 use Rattle.std.proofs.lemmas.Option.{slice_get-map, same_Some}
 use Rattle.std.proofs.lemmas.List.{length-map, get_or-map}
 use Rattle.std.proofs.lemmas.List.Elements.{Contains-append_right}
@@ -11,15 +11,13 @@ use Rattle.gc_types.specs.declared.kind.Layouts.{Layouts}
 use Rattle.gc_types.specs.declared.layout.FieldLayout.{FieldLayout}
 use Rattle.gc_types.specs.Declarations.{Declaration, struct_fields_at}
 use Rattle.gc_types.specs.Layouts.{struct_base, struct_layout, field_layouts, fields_end}
-use Rattle.gc_roots.specs.Roots.{Root}
 use Rattle.gc_model.specs.declared.RootEntry.{RootEntry}
 use Rattle.gc_model.specs.Fits.{is_built_field}
 use Rattle.gc_model.specs.Allocation.{Limits}
 use Rattle.gc_model.specs.Views.{HeapObject, HeapView}
-use Rattle.gc_model.proofs.Content.{get-put_same, get-put_other}
-use Rattle.gc_heap.specs.Heap.{AddsObject, new_struct}
+use Rattle.gc_model.proofs.Content.{get-put_other}
+use Rattle.gc_heap.specs.Heap.{new_struct}
 use Rattle.gc_heap.proofs.NumberLemmas.{held_added}
-use Rattle.gc_store.specs.declared.root.GcRootIndex.{GcRootIndex}
 use Rattle.gc_store.specs.declared.root.RawValue.{RawValue}
 use Rattle.gc_store.specs.declared.root.RawValue.TheVariants as raw
 use Rattle.gc_store.specs.declared.root.RootSlot.{RootSlot}
@@ -83,11 +81,10 @@ fit_again entries entries' fields raws same fit = record {
 -- the roots are among those that a collection would begin from
 are_roots : (entries : List RootEntry) (word : ℕ) → AreRoots entries (root_of word ∷ roots_of entries)
 are_roots entries word e among =
-    Contains-append_right (root_of word ∷ []) (roots_of entries) (root_of e.word)
-    (
+    Contains-append_right (root_of word ∷ []) (roots_of entries) (root_of e.word) (
       among.0,
       (let count = length-map entries (λ (x : RootEntry). root_of x.word) in let below = among.1 in omega arith),
-      get_or-map (λ (x : RootEntry). root_of x.word) entries among.0 e (root_of e.word) among.1 ∙ ap (λ (x : RootEntry). root_of x.word) among.2
+      get_or-map (λ (x : RootEntry). root_of x.word) entries among.0 e (root_of e.word) among.1 ∙ ap (λ (x : RootEntry). root_of x.word) among.2,
     )
 
 module _ (layouts : Layouts) (types : List Declaration) (fields : List FieldType) (ty : ℕ) (raws : List RawValue) (old new : HeapView) (entries entries' : List RootEntry) (hosts hosts' : ℕ → Bool) (word : ℕ)

@@ -1,5 +1,5 @@
 -- A heap that got its first pages, and a struct that was made: what they leave of the condition of a collection.
-use Rattle.std.proofs.Common.{◌≡◌, ◌≢◌, ℕ, ◌+◌, ◌-◌, ◌%◌, ◌<◌, ◌≤◌, ◌⊎◌, inl, inr, Bool, true, false, List, [], ◌∷◌, ◌++◌, length, map, filter, replicate, Option, Some, None, Result, Ok, Err, Contains, slice_index_or, refl, sym, ap, ◌∙◌, subst, arith}
+use Rattle.std.proofs.Common.{◌≡◌, ℕ, ◌+◌, ◌-◌, ◌≤◌, ◌⊎◌, inl, inr, Bool, true, false, List, [], ◌∷◌, ◌++◌, length, replicate, Option, Some, None, Result, Ok, Err, Contains, slice_index_or, refl, sym, ap, ◌∙◌, subst, arith}
 use Rattle.std.specs.Prelude.{All, OnOk, OnErr}
 use Rattle.std.specs.List.{slice_get}
 use Rattle.std.specs.FinMap.{get, insert}
@@ -10,12 +10,11 @@ use Rattle.std.proofs.lemmas.List.Elements.{Contains-append_cases, Contains-appe
 use Rattle.gc_types.specs.declared.value.FieldType.{FieldType}
 use Rattle.gc_types.specs.declared.kind.Layouts.{Layouts}
 use Rattle.gc_types.specs.declared.kind.Layouts.TheVariants.{Null, Counting, Copying}
-use Rattle.gc_types.specs.declared.kind.VMGcKind.{VMGcKind}
-use Rattle.gc_types.specs.declared.kind.VMGcKind.TheVariants.{StructRef, ExternRef}
+use Rattle.gc_types.specs.declared.kind.VMGcKind.TheVariants.{ExternRef}
 use Rattle.gc_types.specs.declared.layout.GcStructLayout.{GcStructLayout}
 use Rattle.gc_types.specs.Declarations.{Shape, struct_of, array_of, exn_of, func_of, Declaration, struct_fields_at, shape_struct_fields, declaration_struct_fields}
-use Rattle.gc_types.specs.Layouts.{struct_base, struct_layout, field_layouts, fields_end, ref_offsets, shape_layout, declaration_layout, layout_at}
-use Rattle.gc_roots.specs.Roots.{Root, root}
+use Rattle.gc_types.specs.Layouts.{struct_base, struct_layout, field_layouts, fields_end, ref_offsets, shape_layout, declaration_layout}
+use Rattle.gc_roots.specs.Roots.{Root}
 use Rattle.gc_model.specs.declared.RootEntry.{RootEntry}
 use Rattle.gc_model.specs.Sizes.{stored_size}
 use Rattle.gc_model.specs.Views.{HeapObject, HeapView, detached_in}
@@ -23,16 +22,17 @@ use Rattle.gc_model.proofs.Content.{get-put_same, get-put_other}
 use Rattle.gc_model.proofs.Layouts.{stored_size-le, fields_end-le}
 use Rattle.gc_heap.specs.Objects.{first_offset}
 use Rattle.gc_heap.specs.References.{IsTraceable, LayoutTraces}
-use Rattle.gc_heap.specs.Content.{IsHeap, IsHeld}
+use Rattle.gc_heap.specs.Content.{IsHeap}
 use Rattle.gc_heap.specs.Heap.{AddsObject, LacksRoom, Allocated, empty_heap, new_struct, layout_kind}
-use Rattle.gc_heap.specs.Collection.{CanCollect, CountsExact, AreCounted, IsExternal, IsWordOf, stack_words, held_words}
+use Rattle.gc_heap.specs.Collection.{CanCollect, AreCounted, stack_words}
 use Rattle.gc_heap.proofs.SpacedLemmas.{contains_in, spaced_fields, aligned_fields, Spaced-in}
 use Rattle.gc_heap.proofs.AddedLemmas.{start, blank_struct, owns_none}
 use Rattle.gc_heap.proofs.MadeLemmas.{can_collect_made}
 use Rattle.gc_heap.proofs.CountLemmas.{held-append, words-append}
 use Rattle.gc_store.specs.Places.{MayCollect, CanAllocate, Allocates}
-use Rattle.gc_store.specs.Tracing.{root_of, roots_of, start_from, IsTracedStruct, AreTraced, IsCollectable}
+use Rattle.gc_store.specs.Tracing.{root_of, roots_of, IsTracedStruct, AreTraced, IsCollectable}
 use Rattle.gc_store.proofs.HeapTraced.{with_memory, memory_same}
+use Rattle.gc_store.proofs.HeapBarriers.{last_root}
 
 -- The first pages
 
@@ -106,6 +106,12 @@ rotated layouts types h xs ys hosts can = record {
     counts = rotated_counts layouts types (with_memory h) xs ys can.collects.counts;
   };
 }
+
+-- the newest word is among the roots, once it was pushed
+pub pushed_kept : (layouts : Layouts) (types : List Declaration) (h : HeapView) (entries : List RootEntry) (e : RootEntry) (hosts : ℕ → Bool) → IsCollectable layouts types h (root_of e.word ∷ roots_of entries) hosts
+    → IsCollectable layouts types h (roots_of (entries ++ e ∷ [])) hosts
+pushed_kept layouts types h entries e hosts can =
+    subst (λ rs. IsCollectable layouts types h rs hosts) (sym (last_root entries e)) (rotated layouts types h (root_of e.word ∷ []) (roots_of entries) hosts can)
 
 -- A new struct
 
@@ -194,7 +200,7 @@ allocates_new layouts types fields ty layout old mid new entries entries' hosts 
     let laid : layout ≡ struct_layout layouts fields = can.laid_out ∙ ap (struct_layout layouts) same in
     let adds : AddsObject layouts mid new word (new_struct layouts ty layout) layout.size = subst (λ (r : Result ℕ ℕ). Allocated layouts mid new (new_struct layouts ty layout) layout.size (Ok r)) is allocated in
     let adds' : AddsObject layouts mid new word (new_struct layouts ty (struct_layout layouts fields)) (fields_end (struct_base layouts) fields) =
-        subst (λ (l : GcStructLayout). AddsObject layouts mid new word (new_struct layouts ty l) l.size) laid adds in
+    subst (λ (l : GcStructLayout). AddsObject layouts mid new word (new_struct layouts ty l) l.size) laid adds in
     record {
       mid = mid;
       may_collect = may;

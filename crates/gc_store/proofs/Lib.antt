@@ -33,3 +33,4 @@ pub mod HeapCreated
 pub mod MadeHeaps
 pub mod PlacedValues
 pub mod Placing
+pub mod GoneRoots

@@ -1,5 +1,5 @@
 -- Fields of structs in a heap.
-use Rattle.std.specs.Prelude.{◌≡◌, ℕ, ◌+◌, ◌^◌, ◌<◌, ◌≤◌, All, Bool, true, false, List, Option, Some, None, Ok, length, slice_get}
+use Rattle.std.specs.Prelude.{◌≡◌, ℕ, ◌^◌, ◌<◌, ◌≤◌, All, Bool, true, List, Some, None, Ok, length, slice_get}
 use Rattle.std.specs.FinMap as finite
 use Rattle.std.specs.Int.{w32, w64, cast_unsigned, to_le_bytes}
 use Rattle.gc_types.specs.declared.value.FieldType.{FieldType}
@@ -19,10 +19,8 @@ use Rattle.gc_model.specs.Values.{Reference, Value, i32, i64, reference}
 use Rattle.gc_model.specs.Views.{HeapView, HeapObject, u32_at, u64_at}
 use Rattle.gc_model.specs.Holds.{Placing, IsWord, ValuesLie}
 use Rattle.gc_heap.specs.Collection.{IsWordOf}
-use Rattle.gc_heap.specs.Heap.{put_object, with_data}
 use Rattle.gc_store.specs.declared.field.Stored.{Stored}
 use Rattle.gc_store.specs.declared.field.Stored.TheVariants as stored
-use Rattle.gc_store.specs.declared.root.GcRootIndex.{GcRootIndex}
 use Rattle.gc_store.specs.declared.root.RawValue.{RawValue}
 use Rattle.gc_store.specs.declared.root.RawValue.TheVariants as raw
 use Rattle.gc_store.specs.RootSets.{slot_word}

@@ -27,7 +27,7 @@ pub returns-in-Ok-Ok-alloc_uninit_struct_or_exn-clause-allocated : goal.returns-
 returns-in-Ok-Ok-alloc_uninit_struct_or_exn-clause-allocated g c = λ fields declared.
     let same = lacks_same g.H.GcHeap.KIND (g.H.GcHeap.seen c.args.heap.now) (g.H.GcHeap.seen c.alloc_uninit_struct_or_exn.new.self) _ _ c.in-Ok-Err.field-0-0 c.in-Ok-Err.field-0 c.in-Ok-Err.field-0-is c.in-Ok-Err.ensures.allocated in
     let collected = subst (λ (h : HeapView). IsCollected g.H.GcHeap.KIND c.args.trace.now.types.now.declarations h (g.H.GcHeap.seen c.collect.new.heap) c.args.roots.now.entries c.collect.new.self.entries
-        (has_host c.args.trace.now.host_data_table.now.entries) (has_host c.collect.new.trace.host_data_table.now.entries)) same c.collect.ensures.collected in
+    (has_host c.args.trace.now.host_data_table.now.entries) (has_host c.collect.new.trace.host_data_table.now.entries)) same c.collect.ensures.collected in
     allocates_new g.H.GcHeap.KIND c.args.trace.now.types.now.declarations fields c.args.ty c.args.layout.now (g.H.GcHeap.seen c.args.heap.now) (g.H.GcHeap.seen c.collect.new.heap) (g.H.GcHeap.seen c.alloc_uninit_struct_or_exn-2.new.self)
     c.args.roots.now.entries c.collect.new.self.entries (has_host c.args.trace.now.host_data_table.now.entries) (has_host c.collect.new.trace.host_data_table.now.entries) c.in-Ok-Ok-alloc_uninit_struct_or_exn.gc_ref c.in-Ok-Ok-alloc_uninit_struct_or_exn.field-0
     c.requires.layout declared (inr collected) (g.met.H.GcHeap.is_heap c.collect.new.heap c.collect.ensures.sound) collected.collected.attached collected.collectable

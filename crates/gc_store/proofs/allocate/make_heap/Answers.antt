@@ -1,4 +1,4 @@
-use Rattle.std.proofs.Common.{◌≡◌, false, sym, ◌∙◌}
+use Rattle.std.proofs.Common.{sym, ◌∙◌}
 use Rattle.gc_model.specs.Views.{HeapView}
 use Rattle.gc_store.proofs.HeapMade.{on_either, attached_kept}
 use Rattle.gc_store.proofs.allocate.make_heap.Goals as goal

@@ -1,0 +1,24 @@
+//! Laws of handles.
+
+ghost use Rattle.std.specs.Prelude.{◌≡◌, ◌<◌, ℕ, None, length};
+ghost use Rattle.gc_model.specs.Values.{Reference, Object};
+ghost use Rattle.gc_model.specs.Table.{Table, push, make, leave};
+ghost use Rattle.gc_model.specs.Live.{rooted};
+ghost use Rattle.gc_model.specs.Holds.{HoldsTable};
+ghost use Rattle.gc_store.specs.Roots.{Names};
+ghost use Rattle.gc_store.specs.declared.root.GcRootIndex.{GcRootIndex};
+
+use crate::store::Store;
+use gc_heap::GcHeap;
+
+/// A handle names one push for ever: no two pushes of a store have the same index and generation.
+pub fn handles_name_one_root<H: GcHeap, D: Drop>(store: &Store<H, D>)
+    ensures { (t : Table D) (handle : GcRootIndex) (x y : ℕ) → HoldsTable H.KIND store.now t → Names store.now t handle x → Names store.now t handle y → x ≡ y }
+{}
+
+/// A root that is gone is gone for ever: no later push, and no scope that is left, makes it live again.
+pub fn roots_stay_gone()
+    ensures push { (t : Table ℕ) (x : ℕ) (r : Reference) → x < length t.pushes → rooted t x ≡ None → rooted (push r t) x ≡ None }
+    ensures make { (t : Table ℕ) (x : ℕ) (o : Object ℕ) → x < length t.pushes → rooted t x ≡ None → rooted (make o t) x ≡ None }
+    ensures leave { (t : Table ℕ) (x mark : ℕ) → rooted t x ≡ None → rooted (leave mark t) x ≡ None }
+{}
