@@ -86,7 +86,7 @@ word_cases (Err f) = inr (f, refl)
 
 module _ (D : Type 0) (layouts : Layouts) (s : StoreView) where
   -- a live handle has a word
-  live_word : (handle : GcRootIndex) → IsLive D layouts s handle → (word : ℕ) × (word_of s handle ≡ Ok word)
+  pub live_word : (handle : GcRootIndex) → IsLive D layouts s handle → (word : ℕ) × (word_of s handle ≡ Ok word)
   live_word handle live = elim (word_cases (word_of s handle)) [
     | inl is ↦ is
     | inr none ↦ absurd (cc (sym live.live ∙ (named_dead layouts s live.table live.holds.0 live.holds.1 handle live.serial none.0 live.names none.1).0))
@@ -94,6 +94,9 @@ module _ (D : Type 0) (layouts : Layouts) (s : StoreView) where
 
   live_own : (handle : GcRootIndex) → IsLive D layouts s handle → is_of_store s handle ≡ true
   live_own handle live = names-store s live.table handle live.serial live.names
+
+  pub live_slot_of : (handle : GcRootIndex) (word : ℕ) → IsLive D layouts s handle → word_of s handle ≡ Ok word → slot_word s.scoped handle.slot handle.generation ≡ Ok word
+  live_slot_of handle word live e = sym (own_word s handle (live_own handle live)) ∙ e
 
   live_slot : (handle : GcRootIndex) (word : ℕ) → IsLive D layouts s handle → slot_word s.scoped handle.slot handle.generation ≡ Ok word → word_of s handle ≡ Ok word
   live_slot handle word live e = own_word s handle (live_own handle live) ∙ e

@@ -203,7 +203,8 @@ module _ (layouts : Layouts) (types : List Declaration) (roots : List Root) (hos
           lie = λ placing values all.
               let v = slice_get-same_length raws values k r all.same_count r_is in
               let kept = all.each k r v.0 r_is v.1 in
-              let stands = subst (λ y. StoredStands placing y v.0) (sym (is kept.0 kept.1.0)) kept.1.1 in
+              let same = is kept.0 kept.1.0 in
+              let stands = subst (λ y. StoredStands placing y v.0) (sym same) (kept.1.1 (subst FitsBytes same small)) in
               lie_to-step placing base fields values w.bytes k field_at.0 (layout_at places k) v.0 ws (w.lie placing values all) is_field v.1
               (stored_encoded placing new field_at.0.element_type x v.0 fit small stands)
               (room layouts types new roots hosts place now (layout_at places k).offset field_at.0.element_type held_field);

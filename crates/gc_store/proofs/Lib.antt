@@ -30,5 +30,8 @@ pub mod HeapLayouts
 pub mod HeapValues
 pub mod HeapMade
 pub mod HeapCreated
+pub mod MadeHeaps
+pub mod PlacedValues
+pub mod Placing
 pub mod GoneRoots
 pub mod OtherHalves

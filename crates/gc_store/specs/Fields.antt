@@ -125,9 +125,10 @@ StoredStands place (stored.I32 n) v = v ≡ i32 n
 StoredStands place (stored.I64 n) v = v ≡ i64 n
 StoredStands place (stored.Ref word) v = (r : Reference) × (IsWord place r word × (v ≡ reference Any r))
 
--- a value that is given to the store is one of the table, by the words that the roots have
+-- A value that is given to the store is one of the table, by the words that the roots have, where its bits
+-- are no more than a field's, as those of every number are.
 abbrev pub KeptStands : Placing → List RootEntry → RawValue → Value → Type 0
-KeptStands place entries r v = (x : Stored) × (KeptAs entries r x × StoredStands place x v)
+KeptStands place entries r v = (x : Stored) × (KeptAs entries r x × (FitsBytes x → StoredStands place x v))
 
 pub record AllKept (place : Placing) (entries : List RootEntry) (raws : List RawValue) (values : List Value) : Type 0 where
   pub same_count : length raws ≡ length values
