@@ -1,6 +1,7 @@
 -- A store that held a table holds it after a collection, and no other object than the collection keeps.
-use Rattle.std.proofs.Common.{◌≡◌, ℕ, ◌+◌, ◌<◌, Bool, true, List, length, map, Some, Contains, refl, sym, ap, ◌∙◌, subst, arith}
+use Rattle.std.proofs.Common.{◌≡◌, ℕ, ◌+◌, ◌%◌, ◌<◌, Bool, true, List, length, map, Some, Contains, refl, sym, ap, ◌∙◌, subst, arith}
 use Rattle.std.specs.List.{slice_get}
+use Rattle.std.specs.FinMap.{get}
 use Rattle.std.proofs.lemmas.List.{length-map}
 use Rattle.gc_types.specs.declared.kind.Layouts.{Layouts}
 use Rattle.gc_types.specs.declared.kind.Layouts.TheVariants.{Null, Counting, Copying}
@@ -9,7 +10,7 @@ use Rattle.gc_model.specs.declared.RootEntry.{RootEntry}
 use Rattle.gc_model.specs.Values.{Reference, null, small, at, struct}
 use Rattle.gc_model.specs.Table.{Table, Scoped}
 use Rattle.gc_model.specs.Reach.{IsKept}
-use Rattle.gc_model.specs.Views.{StoreView, HeapView}
+use Rattle.gc_model.specs.Views.{StoreView, HeapView, HeapObject}
 use Rattle.gc_model.specs.Holds.{Placing, IsWord, EntryStands, HeldAt, ObjectsHold, KindHolds, ScopedHold, Holds, HoldsKept}
 use Rattle.gc_heap.specs.References.{references}
 use Rattle.gc_heap.specs.Content.{IsHeld, IsHeap}
@@ -27,7 +28,7 @@ pub record Collects {D : Type 0} (layouts : Layouts) (s : StoreView) (t : Table 
   pub holds : Holds layouts s t place
   pub collectable : IsCollectable layouts s.types s.heap (roots_of s.scoped) hosts
   pub was_heap : IsHeap layouts s.heap
-  pub is_heap : IsHeap layouts heap
+  pub even : (word : ℕ) (o : HeapObject) → get heap.content word ≡ Some o → (word % 2 ≡ 0) × (0 < word)
   pub attached : s.heap.attached ≡ true
   pub is_collected : IsCollected layouts s.types s.heap heap s.scoped entries hosts hosts'
 
@@ -107,7 +108,7 @@ module _ {D : Type 0} (layouts : Layouts) (s : StoreView) (t : Table D) (place :
         let other = placed_before layouts begin heap (roots_of entries) hosts' done place q word f in
         let same : one.word ≡ other.word = done.injective one.word other.word one.kept other.kept (one.moves ∙ sym other.moves) in
         c.holds.objects.injective p q one.word one.placed (other.placed ∙ ap (λ w. Some w) (sym same));
-    even = λ word o e. let lies = c.is_heap.objects word o e in (let aligned = lies.aligned in omega arith, lies.not_null);
+    even = c.even;
   }
 
   not_null_after : (r : Reference) (w : ℕ) → 0 < w → IsWord place r w → IsWord after r (moved done.to w) → 0 < moved done.to w

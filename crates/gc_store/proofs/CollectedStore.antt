@@ -1,5 +1,5 @@
 -- A store after a collection of its heap, and one that has no heap to collect.
-use Rattle.std.proofs.Common.{◌≡◌, ℕ, Bool, true, false, List, [], ◌∷◌, length, Some, refl, sym, ap, ◌∙◌, subst, arith}
+use Rattle.std.proofs.Common.{◌≡◌, ℕ, ◌%◌, ◌<◌, Bool, true, false, List, [], ◌∷◌, length, Some, refl, sym, ap, ◌∙◌, subst, arith}
 use Rattle.std.specs.Ordering.{nat_cmp}
 use Rattle.std.specs.List.{slice_get}
 use Rattle.std.specs.FinMap.{FinMap, get, len, entries, len-entries, get-entries, find}
@@ -7,7 +7,7 @@ use Rattle.std.proofs.lemmas.Option.{none-some}
 use Rattle.gc_types.specs.declared.kind.Layouts.{Layouts}
 use Rattle.gc_model.specs.declared.RootEntry.{RootEntry}
 use Rattle.gc_model.specs.Table.{Table}
-use Rattle.gc_model.specs.Views.{StoreView, HeapView}
+use Rattle.gc_model.specs.Views.{StoreView, HeapView, HeapObject}
 use Rattle.gc_model.specs.Values.{Object}
 use Rattle.gc_model.specs.Holds.{HoldsTable, HoldsKept}
 use Rattle.gc_heap.specs.Content.{IsHeap}
@@ -44,11 +44,23 @@ unmade_kept {D} layouts s t detached holds = (
   ),
 )
 
+-- an object's place is even, and not 0
+pub heap_even : (layouts : Layouts) (h : HeapView) → IsHeap layouts h → (word : ℕ) (o : HeapObject) → get h.content word ≡ Some o → (word % 2 ≡ 0) × (0 < word)
+heap_even layouts h heap word o e = let lies = heap.objects word o e in (let aligned = lies.aligned in omega arith, lies.not_null)
+
 -- The store after a collection, whose host values are some of those before.
+pub collected_even : {D : Type 0} (layouts : Layouts) (s : StoreView) (t : Table D) (heap : HeapView) (entries : List RootEntry) (n : ℕ) (hosts hosts' : ℕ → Bool)
+    → IsCollectable layouts s.types s.heap (roots_of s.scoped) hosts → IsHeap layouts s.heap → ((word : ℕ) (o : HeapObject) → get heap.content word ≡ Some o → (word % 2 ≡ 0) × (0 < word)) → s.heap.attached ≡ true
+    → IsCollected layouts s.types s.heap heap s.scoped entries hosts hosts' → (s.hosts ≡ 0 → n ≡ 0)
+    → HoldsTable layouts s t → HoldsKept layouts (record s { heap = heap; scoped = entries; hosts = n }) t
+collected_even layouts s t heap entries n hosts hosts' collectable was_heap even attached is_collected none holds =
+    let kept = collected_holds layouts s t holds.0 heap entries hosts hosts' (record { holds = holds.1; collectable = collectable; was_heap = was_heap; even = even; attached = attached; is_collected = is_collected }) in
+    subst (λ k. HoldsKept layouts (record s { heap = heap; scoped = entries; hosts = k }) t) (holds.1.no_hosts ∙ sym (none holds.1.no_hosts)) kept
+
+-- the same, where the heap is at hand
 pub collected_store : {D : Type 0} (layouts : Layouts) (s : StoreView) (t : Table D) (heap : HeapView) (entries : List RootEntry) (n : ℕ) (hosts hosts' : ℕ → Bool)
     → IsCollectable layouts s.types s.heap (roots_of s.scoped) hosts → IsHeap layouts s.heap → IsHeap layouts heap → s.heap.attached ≡ true
     → IsCollected layouts s.types s.heap heap s.scoped entries hosts hosts' → (s.hosts ≡ 0 → n ≡ 0)
     → HoldsTable layouts s t → HoldsKept layouts (record s { heap = heap; scoped = entries; hosts = n }) t
 collected_store layouts s t heap entries n hosts hosts' collectable was_heap is_heap attached is_collected none holds =
-    let kept = collected_holds layouts s t holds.0 heap entries hosts hosts' (record { holds = holds.1; collectable = collectable; was_heap = was_heap; is_heap = is_heap; attached = attached; is_collected = is_collected }) in
-    subst (λ k. HoldsKept layouts (record s { heap = heap; scoped = entries; hosts = k }) t) (holds.1.no_hosts ∙ sym (none holds.1.no_hosts)) kept
+    collected_even layouts s t heap entries n hosts hosts' collectable was_heap (heap_even layouts heap is_heap) attached is_collected none holds

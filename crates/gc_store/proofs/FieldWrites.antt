@@ -32,7 +32,7 @@ use Rattle.gc_store.specs.declared.root.GcRootIndex.{GcRootIndex}
 use Rattle.gc_store.specs.declared.root.RootFault.{RootFault}
 use Rattle.gc_store.specs.declared.root.RawValue.{RawValue}
 use Rattle.gc_store.specs.declared.root.RawValue.TheVariants as raw
-use Rattle.gc_store.specs.Fields.{KeptAs, StoredFits, IsFieldOf, stored_bytes}
+use Rattle.gc_store.specs.Fields.{KeptAs, StoredFits, IsFieldOf, FitsBytes, stored_bytes}
 use Rattle.gc_store.specs.RootSets.{slot_word}
 use Rattle.gc_store.specs.Roots.{HasField, word_of, Names, is_of_store}
 use Rattle.gc_store.specs.Values.{raw_fits, NamesLive, IsLive, RawStands, RootStands, CanWrite, WritesValue}
@@ -80,24 +80,13 @@ fitting (storage.ValType (val.Ref ty)) (raw.Ref Any (Some handle)) fits = is_han
 fitting (storage.ValType (val.Ref ty)) (raw.Ref Extern h) fits = absurd (cc fits)
 fitting (storage.ValType (val.Ref ty)) (raw.Ref Exn h) fits = absurd (cc fits)
 
--- what is stored has no more bits than it may
-abbrev pub FitsStored : Stored → Type 0
-FitsStored (stored.I32 n) = n < 2 ^ 32
-FitsStored (stored.I64 n) = n < 2 ^ 64
-FitsStored (stored.Ref word) = word < 2 ^ 32
-
-pub fits_stored : (x : Stored) → ((n : ℕ) → x ≡ stored.I32 n → n < 2 ^ 32) → ((n : ℕ) → x ≡ stored.I64 n → n < 2 ^ 64) → ((n : ℕ) → x ≡ stored.Ref n → n < 2 ^ 32) → FitsStored x
-fits_stored (stored.I32 n) a b c = a n refl
-fits_stored (stored.I64 n) a b c = b n refl
-fits_stored (stored.Ref n) a b c = c n refl
-
 word_cases : (r : Result ℕ RootFault) → ((word : ℕ) × (r ≡ Ok word)) ⊎ ((f : RootFault) × (r ≡ Err f))
 word_cases (Ok word) = inl (word, refl)
 word_cases (Err f) = inr (f, refl)
 
 module _ (D : Type 0) (layouts : Layouts) (s : StoreView) where
   -- a live handle has a word
-  live_word : (handle : GcRootIndex) → IsLive D layouts s handle → (word : ℕ) × (word_of s handle ≡ Ok word)
+  pub live_word : (handle : GcRootIndex) → IsLive D layouts s handle → (word : ℕ) × (word_of s handle ≡ Ok word)
   live_word handle live = elim (word_cases (word_of s handle)) [
     | inl is ↦ is
     | inr none ↦ absurd (cc (sym live.live ∙ (named_dead layouts s live.table live.holds.0 live.holds.1 handle live.serial none.0 live.names none.1).0))
@@ -105,6 +94,9 @@ module _ (D : Type 0) (layouts : Layouts) (s : StoreView) where
 
   live_own : (handle : GcRootIndex) → IsLive D layouts s handle → is_of_store s handle ≡ true
   live_own handle live = names-store s live.table handle live.serial live.names
+
+  pub live_slot_of : (handle : GcRootIndex) (word : ℕ) → IsLive D layouts s handle → word_of s handle ≡ Ok word → slot_word s.scoped handle.slot handle.generation ≡ Ok word
+  live_slot_of handle word live e = sym (own_word s handle (live_own handle live)) ∙ e
 
   live_slot : (handle : GcRootIndex) (word : ℕ) → IsLive D layouts s handle → slot_word s.scoped handle.slot handle.generation ≡ Ok word → word_of s handle ≡ Ok word
   live_slot handle word live e = own_word s handle (live_own handle live) ∙ e
@@ -142,15 +134,15 @@ module _ (D : Type 0) (layouts : Layouts) (s : StoreView) where
         (reference Any root.0, record { serial = named.0; names = named.1; root = root.0; live = root.1.0; is = refl })
 
     -- whose bytes these are
-    pub encodes : (st : StorageType) (r : RawValue) (x : Stored) (v : Value) → Fitting st r → NamesLive D layouts s r → KeptAs s.scoped r x → RawStands s t r v → FitsStored x → IsEncoded place st v (stored_bytes x)
+    pub encodes : (st : StorageType) (r : RawValue) (x : Stored) (v : Value) → Fitting st r → NamesLive D layouts s r → KeptAs s.scoped r x → RawStands s t r v → FitsBytes x → IsEncoded place st v (stored_bytes x)
     encodes _ _ x v (is_i32 z) live kept stands fits =
         let n = cast_unsigned w32 z in
-        let small : n < 2 ^ 32 = subst FitsStored kept fits in
+        let small : n < 2 ^ 32 = subst FitsBytes kept fits in
         subst (λ (x : Stored). IsEncoded place (storage.ValType val.I32) v (stored_bytes x)) (sym kept)
         (subst (λ (v : Value). IsEncoded place (storage.ValType val.I32) v (to_le_bytes w32 n)) (sym (stands ∙ ap i32 (of_z-to_z w32 n small))) (small, refl))
     encodes _ _ x v (is_i64 z) live kept stands fits =
         let n = cast_unsigned w64 z in
-        let small : n < 2 ^ 64 = subst FitsStored kept fits in
+        let small : n < 2 ^ 64 = subst FitsBytes kept fits in
         subst (λ (x : Stored). IsEncoded place (storage.ValType val.I64) v (stored_bytes x)) (sym kept)
         (subst (λ (v : Value). IsEncoded place (storage.ValType val.I64) v (to_le_bytes w64 n)) (sym (stands ∙ ap i64 (of_z-to_z w64 n small))) (small, refl))
     encodes _ _ x v (is_null ty) live kept stands fits =
@@ -161,7 +153,7 @@ module _ (D : Type 0) (layouts : Layouts) (s : StoreView) where
         let same : live.0 ≡ stands.root = grind (arith, sym live.1.0 ∙ stands.live) in
         subst (λ (x : Stored). IsEncoded place (storage.ValType (val.Ref ty)) v (stored_bytes x)) (sym kept.1.1)
         (subst (λ (v : Value). IsEncoded place (storage.ValType (val.Ref ty)) v (to_le_bytes w32 kept.0)) (sym (stands.is ∙ ap (reference Any) (sym same)))
-        (record { word = kept.0; small = subst FitsStored kept.1.1 fits; is_word = live.1.1; encoded = refl }))
+        (record { word = kept.0; small = subst FitsBytes kept.1.1 fits; is_word = live.1.1; encoded = refl }))
 
 -- a heap with other bytes in an object
 pub written_object : (layouts : Layouts) (old new : HeapView) (word offset : ℕ) (object : HeapObject) (ws : List ℕ) → get old.content word ≡ Some object → new ≡ record (put_object old word (with_data layouts object offset ws)) { counts = new.counts } → IsWrittenObject old new word (offset - struct_base layouts) ws
@@ -180,7 +172,7 @@ module _ {D : Type 0} (layouts : Layouts) (s : StoreView) (t : Table D) (place :
   lies = field_at layouts s t place holds handle index before has word e
 
   -- the store holds the table with the value
-  pub holds_written : (heap : HeapView) (r : RawValue) (x : Stored) (v : Value) → Fitting lies.holds.field.element_type r → NamesLive D layouts s r → KeptAs s.scoped r x → RawStands s t r v → FitsStored x
+  pub holds_written : (heap : HeapView) (r : RawValue) (x : Stored) (v : Value) → Fitting lies.holds.field.element_type r → NamesLive D layouts s r → KeptAs s.scoped r x → RawStands s t r v → FitsBytes x
       → heap ≡ record (put_object s.heap word (with_data layouts lies.object lies.holds.layout.offset (stored_bytes x))) { counts = heap.counts } → Holds layouts (record s { heap = heap }) (write has.position index v t) place
   holds_written heap r x v fits live kept stands small is =
       holds_write layouts s t place heap word has.position index v has.ty has.values lies.fields lies.holds.field lies.holds.layout (stored_bytes x) holds lies.placed has.object
@@ -224,9 +216,10 @@ module _ (D : Type 0) (layouts : Layouts) (s : StoreView) (handle : GcRootIndex)
     layout_is = spot.holds.is_field.layout_is;
     at = at;
     type_is = refl;
+    built = spot.built;
   }
 
-  module _ (heap : HeapView) (small : FitsStored spot_kept.0)
+  module _ (heap : HeapView) (small : FitsBytes spot_kept.0)
       (written : (place : Placing) (position ty : ℕ) (before : Value) (a : FieldAt layouts s place word position ty index before) → heap ≡ record (put_object s.heap word (with_data layouts a.object a.holds.layout.offset (stored_bytes spot_kept.0))) { counts = heap.counts }) where
     -- each table that the store held is held with the value
     pub writes_value : (t : Table D) → HoldsTable layouts s t → WritesValue layouts s (record s { heap = heap }) t handle index r

@@ -1,8 +1,8 @@
 -- Barriers of roots: their conditions, and what they leave of the condition of a collection.
-use Rattle.std.proofs.Common.{◌≡◌, ◌≢◌, ℕ, ◌+◌, ◌-◌, ◌*◌, ◌%◌, ◌<◌, ◌≤◌, ◌^◌, ◌⊎◌, inl, inr, Bool, true, false, not, cond, nat_eq, min, List, [], ◌∷◌, ◌++◌, length, map, filter, sum, Option, Some, None, Contains, option_map, refl, sym, ap, ◌∙◌, subst, arith}
+use Rattle.std.proofs.Common.{◌≡◌, ℕ, ◌+◌, ◌-◌, ◌<◌, ◌≤◌, ◌^◌, inl, inr, Bool, true, false, not, cond, nat_eq, min, List, [], ◌∷◌, ◌++◌, length, map, filter, Option, Some, None, option_map, refl, sym, ap, ◌∙◌, subst, arith}
 use Rattle.std.specs.Prelude.{sum_by}
 use Rattle.std.specs.Ordering.{nat_cmp}
-use Rattle.std.specs.FinMap.{FinMap, entries, get, empty, get-empty}
+use Rattle.std.specs.FinMap.{FinMap, entries, get, get-empty}
 use Rattle.std.proofs.lemmas.Option.{none-some}
 use Rattle.std.proofs.lemmas.List.{length-map, map-append, append-nil}
 use Rattle.std.proofs.lemmas.List.Sums.{sum-map, sum_by-cons}
@@ -11,13 +11,15 @@ use Rattle.gc_types.specs.declared.kind.Layouts.TheVariants.{Null, Counting, Cop
 use Rattle.gc_types.specs.Declarations.{Declaration}
 use Rattle.gc_roots.specs.Roots.{Root}
 use Rattle.gc_model.specs.declared.RootEntry.{RootEntry}
-use Rattle.gc_model.specs.Views.{HeapObject, HeapView, Counts, no_counts}
+use Rattle.gc_model.specs.Table.{Table}
+use Rattle.gc_model.specs.Views.{HeapObject, HeapView, StoreView, Counts, no_counts}
+use Rattle.gc_model.specs.Holds.{Holds, Placing}
 use Rattle.gc_heap.specs.Objects.{held_size}
 use Rattle.gc_heap.specs.References.{references, reference_offsets, word_in}
-use Rattle.gc_heap.specs.Content.{IsHeap, IsHeld, total}
+use Rattle.gc_heap.specs.Content.{IsHeap, total}
 use Rattle.gc_heap.specs.Totals.{total-same}
-use Rattle.gc_heap.specs.Barriers.{CanName, CanUnname, IsNamed, dropped, count_limit}
-use Rattle.gc_heap.specs.Collection.{Start, CanCollect, AreCounted, IsWordOf, names_of, occurrences, held_words}
+use Rattle.gc_heap.specs.Barriers.{CanName, CanUnname, IsNamed, dropped}
+use Rattle.gc_heap.specs.Collection.{CanCollect, AreCounted, IsWordOf, names_of, occurrences, held_words}
 use Rattle.gc_heap.proofs.SpacedLemmas.{Spaced}
 use Rattle.gc_heap.proofs.ReferenceLemmas.{references_spaced}
 use Rattle.gc_heap.proofs.AddedLemmas.{start}
@@ -126,7 +128,7 @@ can_unname layouts types h before r behind hosts heap can held present = record 
       omega arith;
 }
 
-last_root : (entries : List RootEntry) (e : RootEntry) → roots_of (entries ++ e ∷ []) ≡ roots_of entries ++ root_of e.word ∷ []
+pub last_root : (entries : List RootEntry) (e : RootEntry) → roots_of (entries ++ e ∷ []) ≡ roots_of entries ++ root_of e.word ∷ []
 last_root entries e = map-append (λ (e : RootEntry). root_of e.word) entries (e ∷ [])
 
 -- the newest root's word may be dropped
@@ -145,3 +147,12 @@ dropped_last layouts types h old entries e hosts is can = record {
       (can_collect_dropped layouts types (with_memory h) (roots_of entries) (root_of e.word) [] hosts
       (subst (λ rs. CanCollect layouts (start_from types h rs hosts)) (ap roots_of is ∙ last_root entries e) can.collects) refl);
 }
+
+-- a store that holds a table has few roots
+pub few_roots : {D : Type 0} (layouts : Layouts) (s : StoreView) (t : Table D) (place : Placing) → Holds layouts s t place → length (roots_of s.scoped) ≤ 2 ^ 31
+few_roots layouts s t place holds =
+    let count = length-map s.scoped (λ (e : RootEntry). root_of e.word) in
+    let same = holds.scoped.same_count in
+    let within = holds.numbers.scoped_within in
+    let few = holds.numbers.few_roots in
+    omega arith

@@ -1,12 +1,11 @@
 -- A field of a held struct: where it lies, and what a write to it leaves of the condition of a collection.
-use Rattle.std.proofs.Common.{◌≡◌, ◌≢◌, ℕ, zero, suc, ◌+◌, ◌-◌, ◌%◌, ◌<◌, ◌≤◌, ◌^◌, ◌⊎◌, inl, inr, Bool, true, false, cond, List, [], ◌∷◌, length, map, Option, Some, None, Contains, refl, sym, ap, ◌∙◌, subst, arith}
+use Rattle.std.proofs.Common.{◌≡◌, ℕ, ◌+◌, ◌<◌, ◌≤◌, ◌^◌, ◌⊎◌, inl, inr, Bool, true, false, cond, List, [], ◌∷◌, length, Option, Some, None, Contains, refl, sym, ap, ◌∙◌, subst, arith}
 use Rattle.std.specs.Int.{w32, to_le_bytes}
 use Rattle.std.specs.Option.{SomeIff}
 use Rattle.std.specs.List.{slice_get}
 use Rattle.std.specs.FinMap.{get, insert}
 use Rattle.std.proofs.lemmas.Bool.{cases_eq}
 use Rattle.std.proofs.lemmas.Option.{same_Some}
-use Rattle.std.proofs.lemmas.List.{length-map}
 use Rattle.gc_types.specs.declared.value.FieldType.{FieldType}
 use Rattle.gc_types.specs.declared.value.HeapType.{HeapType}
 use Rattle.gc_types.specs.declared.value.HeapType.TheVariants as heap_type
@@ -15,8 +14,6 @@ use Rattle.gc_types.specs.declared.value.StorageType.{StorageType}
 use Rattle.gc_types.specs.declared.value.StorageType.TheVariants as storage
 use Rattle.gc_types.specs.declared.value.ValType.TheVariants as val
 use Rattle.gc_types.specs.declared.kind.Layouts.{Layouts}
-use Rattle.gc_types.specs.declared.kind.VMGcKind.{VMGcKind}
-use Rattle.gc_types.specs.declared.kind.VMGcKind.TheVariants.{StructRef}
 use Rattle.gc_types.specs.Declarations.{Declaration, struct_fields_at}
 use Rattle.gc_types.specs.Layouts.{struct_base, field_layouts, fields_end, storage_width, ref_offsets, is_gc_storage, is_gc_heap_type}
 use Rattle.gc_roots.specs.Roots.{Root}
@@ -30,17 +27,17 @@ use Rattle.gc_heap.specs.Objects.{held_size, size_with, writable_offset, HasFiel
 use Rattle.gc_heap.specs.Heap.{IsWritable, with_data, put_object}
 use Rattle.gc_heap.specs.Access.{IsReadable}
 use Rattle.gc_heap.specs.References.{reference_offsets, references, word_in}
-use Rattle.gc_heap.specs.Content.{IsHeap, IsHeld, total}
+use Rattle.gc_heap.specs.Content.{IsHeap, total}
 use Rattle.gc_heap.specs.Totals.{total-least}
 use Rattle.gc_heap.specs.Barriers.{CanName, CanUnname, CanNameSlot, CanUnnameSlot, overwritten}
-use Rattle.gc_heap.specs.Collection.{CanCollect, IsWordOf, names_of, occurrences, held_words}
+use Rattle.gc_heap.specs.Collection.{CanCollect, IsWordOf, occurrences}
 use Rattle.gc_heap.proofs.SpacedLemmas.{ref_width, contains_in, in_contains, map_in}
 use Rattle.gc_heap.proofs.AddedLemmas.{start}
 use Rattle.gc_heap.proofs.CountLemmas.{occurrences-append, once}
 use Rattle.gc_heap.proofs.ReferenceLemmas.{HasSameShape}
 use Rattle.gc_heap.proofs.WrittenLemmas.{FitsData, fits_data, written_shape}
 use Rattle.gc_heap.proofs.StoredLemmas.{IsWrite, IsSlotOf, can_collect_number, can_collect_stored}
-use Rattle.gc_store.specs.Tracing.{start_from, IsTracedStruct, AreTraced, IsCollectable}
+use Rattle.gc_store.specs.Tracing.{IsTracedStruct, AreTraced, IsCollectable}
 use Rattle.gc_store.specs.declared.field.Stored.TheVariants as stored
 use Rattle.gc_store.specs.Fields.{IsFieldOf, StoredFits}
 use Rattle.gc_store.proofs.CollectedOffsets.{SameElements, RefField, ref_field, field_referenced, traced_offsets_are}

@@ -1,7 +1,6 @@
 -- What a collection and a dropped root leave of the condition of the next collection.
-use Rattle.std.proofs.Common.{◌≡◌, ℕ, ◌+◌, ◌%◌, ◌<◌, ◌⊎◌, inl, inr, Bool, true, false, List, [], ◌∷◌, ◌++◌, length, map, slice_index_or, Some, Contains, refl, sym, ap, ◌∙◌, subst, arith}
+use Rattle.std.proofs.Common.{◌≡◌, ℕ, ◌+◌, ◌%◌, ◌<◌, inl, inr, Bool, true, List, length, map, Contains, refl, sym, ap, ◌∙◌, subst, arith}
 use Rattle.std.specs.Prelude.{All}
-use Rattle.std.specs.FinMap.{get}
 use Rattle.std.proofs.lemmas.List.{length-map, get_or-map}
 use Rattle.std.proofs.lemmas.Bool.Decides.{nat_tests}
 use Rattle.gc_types.specs.declared.kind.Layouts.{Layouts}
@@ -11,11 +10,11 @@ use Rattle.gc_types.specs.Layouts.{struct_base}
 use Rattle.gc_roots.specs.Roots.{Root}
 use Rattle.gc_model.specs.declared.RootEntry.{RootEntry}
 use Rattle.gc_model.specs.Views.{HeapObject, HeapView}
-use Rattle.gc_heap.specs.Content.{IsHeap, IsHeld, AllocatedIs, KindIs}
-use Rattle.gc_heap.specs.Collection.{Start, CanCollect, Collected, IsMoved, IsWordOf, moved}
+use Rattle.gc_heap.specs.Content.{IsHeap, AllocatedIs, KindIs}
+use Rattle.gc_heap.specs.Collection.{Start, CanCollect, Collected, IsMoved, moved}
 use Rattle.gc_heap.proofs.AddedLemmas.{start}
 use Rattle.gc_heap.proofs.AgainLemmas.{origin, can_collect_again, kept_by_root, moved-place}
-use Rattle.gc_store.specs.Tracing.{root_of, roots_of, start_from, IsTracedStruct, AreTraced, IsCollectable}
+use Rattle.gc_store.specs.Tracing.{root_of, roots_of, IsTracedStruct, IsCollectable}
 use Rattle.gc_store.specs.RootSets.{IsCollected}
 use Rattle.gc_store.proofs.RootSetLemmas.{words_of, generations_of, entry_at, no_entry, roots_moved, words_moved, word_moved_at}
 

@@ -1,5 +1,5 @@
 -- The values of a struct, written field by field.
-use Rattle.std.proofs.Common.{◌≡◌, ◌≢◌, ℕ, ◌+◌, ◌-◌, ◌<◌, ◌≤◌, ◌^◌, inl, inr, Bool, true, false, cond, nat_eq, List, length, Option, Some, None, Result, Ok, Err, Contains, slice_index_or, refl, sym, ap, ◌∙◌, subst, arith}
+use Rattle.std.proofs.Common.{◌≡◌, ℕ, ◌+◌, ◌-◌, ◌≤◌, ◌^◌, inl, Bool, true, false, cond, nat_eq, List, length, Option, Some, None, Ok, Err, Contains, slice_index_or, refl, sym, ap, ◌∙◌, subst, arith}
 use Rattle.std.specs.Prelude.{All}
 use Rattle.std.specs.Int.{w32, w64, to_le_bytes}
 use Rattle.std.specs.List.{slice_get}
@@ -12,14 +12,12 @@ use Rattle.gc_types.specs.declared.value.ValType.TheVariants as val
 use Rattle.gc_types.specs.declared.kind.Layouts.{Layouts}
 use Rattle.gc_types.specs.declared.layout.FieldLayout.{FieldLayout}
 use Rattle.gc_types.specs.Declarations.{Declaration, struct_fields_at}
-use Rattle.gc_types.specs.Layouts.{struct_base, field_layouts, fields_end, storage_width}
+use Rattle.gc_types.specs.Layouts.{struct_base, field_layouts, storage_width}
 use Rattle.gc_roots.specs.Roots.{Root}
-use Rattle.gc_model.specs.declared.GcClass.TheVariants.{Any}
 use Rattle.gc_model.specs.declared.RootEntry.{RootEntry}
-use Rattle.gc_model.specs.Values.{Value, i32, i64, reference}
+use Rattle.gc_model.specs.Values.{Value}
 use Rattle.gc_model.specs.Fits.{is_built_field}
 use Rattle.gc_model.specs.Views.{HeapObject, HeapView}
-use Rattle.gc_model.specs.Bytes.{put_bytes}
 use Rattle.gc_model.specs.Holds.{Placing}
 use Rattle.gc_model.specs.Encoded.{IsEncoded, EncodesI32, EncodesI64, EncodesAny}
 use Rattle.gc_model.proofs.Content.{get-put_same, get-put_other}
@@ -36,7 +34,6 @@ use Rattle.gc_store.specs.declared.root.RawValue.{RawValue}
 use Rattle.gc_store.specs.declared.root.RawValue.TheVariants as raw
 use Rattle.gc_store.specs.declared.root.RootSlot.{RootSlot}
 use Rattle.gc_store.specs.declared.root.RootSlot.TheVariants as slot
-use Rattle.gc_store.specs.declared.root.RootFault.{RootFault}
 use Rattle.gc_store.specs.declared.root.RootFault.TheVariants as fault
 use Rattle.gc_store.specs.RootSets.{entry_word, slot_word}
 use Rattle.gc_store.specs.Tracing.{IsCollectable, root_of}
@@ -206,7 +203,8 @@ module _ (layouts : Layouts) (types : List Declaration) (roots : List Root) (hos
           lie = λ placing values all.
               let v = slice_get-same_length raws values k r all.same_count r_is in
               let kept = all.each k r v.0 r_is v.1 in
-              let stands = subst (λ y. StoredStands placing y v.0) (sym (is kept.0 kept.1.0)) kept.1.1 in
+              let same = is kept.0 kept.1.0 in
+              let stands = subst (λ y. StoredStands placing y v.0) (sym same) (kept.1.1 (subst FitsBytes same small)) in
               lie_to-step placing base fields values w.bytes k field_at.0 (layout_at places k) v.0 ws (w.lie placing values all) is_field v.1
               (stored_encoded placing new field_at.0.element_type x v.0 fit small stands)
               (room layouts types new roots hosts place now (layout_at places k).offset field_at.0.element_type held_field);

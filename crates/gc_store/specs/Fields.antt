@@ -1,5 +1,5 @@
 -- Fields of structs in a heap.
-use Rattle.std.specs.Prelude.{◌≡◌, ℕ, ◌+◌, ◌^◌, ◌<◌, ◌≤◌, All, Bool, true, false, List, Option, Some, None, Ok, length, slice_get}
+use Rattle.std.specs.Prelude.{◌≡◌, ℕ, ◌^◌, ◌<◌, ◌≤◌, All, Bool, true, List, Some, None, Ok, length, slice_get}
 use Rattle.std.specs.FinMap as finite
 use Rattle.std.specs.Int.{w32, w64, cast_unsigned, to_le_bytes}
 use Rattle.gc_types.specs.declared.value.FieldType.{FieldType}
@@ -19,10 +19,8 @@ use Rattle.gc_model.specs.Values.{Reference, Value, i32, i64, reference}
 use Rattle.gc_model.specs.Views.{HeapView, HeapObject, u32_at, u64_at}
 use Rattle.gc_model.specs.Holds.{Placing, IsWord, ValuesLie}
 use Rattle.gc_heap.specs.Collection.{IsWordOf}
-use Rattle.gc_heap.specs.Heap.{put_object, with_data}
 use Rattle.gc_store.specs.declared.field.Stored.{Stored}
 use Rattle.gc_store.specs.declared.field.Stored.TheVariants as stored
-use Rattle.gc_store.specs.declared.root.GcRootIndex.{GcRootIndex}
 use Rattle.gc_store.specs.declared.root.RawValue.{RawValue}
 use Rattle.gc_store.specs.declared.root.RawValue.TheVariants as raw
 use Rattle.gc_store.specs.RootSets.{slot_word}
@@ -127,9 +125,10 @@ StoredStands place (stored.I32 n) v = v ≡ i32 n
 StoredStands place (stored.I64 n) v = v ≡ i64 n
 StoredStands place (stored.Ref word) v = (r : Reference) × (IsWord place r word × (v ≡ reference Any r))
 
--- a value that is given to the store is one of the table, by the words that the roots have
+-- A value that is given to the store is one of the table, by the words that the roots have, where its bits
+-- are no more than a field's, as those of every number are.
 abbrev pub KeptStands : Placing → List RootEntry → RawValue → Value → Type 0
-KeptStands place entries r v = (x : Stored) × (KeptAs entries r x × StoredStands place x v)
+KeptStands place entries r v = (x : Stored) × (KeptAs entries r x × (FitsBytes x → StoredStands place x v))
 
 pub record AllKept (place : Placing) (entries : List RootEntry) (raws : List RawValue) (values : List Value) : Type 0 where
   pub same_count : length raws ≡ length values

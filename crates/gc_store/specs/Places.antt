@@ -1,5 +1,5 @@
 -- What placing an object answers and leaves.
-use Rattle.std.specs.Prelude.{◌≡◌, ℕ, ◌+◌, ◌*◌, ◌^◌, ◌<◌, ◌≤◌, ◌⊎◌, Bool, true, false, List, ◌∷◌, Option, Some, None, Result, Ok, Err, length, slice_get, IfSome, All}
+use Rattle.std.specs.Prelude.{◌≡◌, ℕ, ◌+◌, ◌*◌, ◌^◌, ◌<◌, ◌≤◌, ◌⊎◌, Bool, true, false, List, ◌∷◌, Option, Some, Result, Ok, Err, length, slice_get, IfSome, All}
 use Rattle.std.specs.FinMap as finite
 use Rattle.gc_types.specs.declared.value.FieldType.{FieldType}
 use Rattle.gc_types.specs.declared.kind.Layouts.{Layouts}

@@ -1,13 +1,13 @@
 //! Collections, and what the heap holds.
 
-ghost use Rattle.std.specs.Prelude.{◌≡◌, true};
+ghost use Rattle.std.specs.Prelude.{◌≡◌, true, false};
 ghost use Rattle.gc_heap.specs.Collection.{has_host, IsPartOf};
 ghost use Rattle.gc_model.specs.Table.{Table};
 ghost use Rattle.gc_model.specs.Reach.{HasNumber, IsKept};
 ghost use Rattle.gc_model.specs.Holds.{HoldsTable, HoldsKept};
 ghost use Rattle.gc_store.specs.Tracing.{IsCollectable, roots_of};
 ghost use Rattle.gc_store.specs.RootSets.{IsCollected};
-ghost use Rattle.gc_store.specs.Collects.{HoldsNumber};
+ghost use Rattle.gc_store.specs.Collects.{HoldsNumber, OtherHalf};
 ghost use Rattle.gc_store.specs.Stores.{IsSameStore};
 
 use crate::root_set::RootSet;
@@ -43,6 +43,8 @@ impl<H: GcHeap, D: Drop> Store<H, D> {
     /// it does nothing. It takes no memory, and its time is linear in the roots and what they reach.
     pub fn gc(&mut self)
         ensures kept { (t : Table D) → HoldsTable H.KIND self.old t → HoldsKept H.KIND self.new t }
+        ensures half { self.old.heap.attached ≡ true → OtherHalf H.KIND self.old.heap self.new.heap }
+        ensures unmade { self.old.heap.attached ≡ false → self.new ≡ self.old }
         ensures same { IsSameStore self.old self.new }
     {
         if !self.heap.is_attached() {

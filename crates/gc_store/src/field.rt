@@ -101,7 +101,12 @@ pub(crate) fn write_values<H: GcHeap>(
         → WritesValues H.KIND types known hosts roots.now.entries fields values.now (H.seen heap.old) (H.seen heap.new) gc_ref.now object }
 {
     for (index, value) in values.iter().enumerate() {
-        write_field(heap, gc_ref, layouts[index].offset, stored_value(roots, *value));
+        write_field(
+            heap,
+            gc_ref,
+            layouts[index].offset,
+            stored_value(roots, *value),
+        );
     }
 }
 

@@ -1,8 +1,9 @@
 //! Laws of handles.
 
-ghost use Rattle.std.specs.Prelude.{◌≡◌, ◌<◌, ℕ, None, length};
-ghost use Rattle.gc_model.specs.Values.{Reference, Object};
-ghost use Rattle.gc_model.specs.Table.{Table, push, make, leave};
+ghost use Rattle.std.specs.Prelude.{◌≡◌, ◌<◌, ◌≤◌, ℕ, None, Some, length, slice_get};
+ghost use Rattle.gc_model.specs.Values.{Reference, Object, Value};
+ghost use Rattle.gc_model.specs.Reach.{object_values};
+ghost use Rattle.gc_model.specs.Table.{Table, Scoped, push, make, leave, with_value};
 ghost use Rattle.gc_model.specs.Live.{rooted};
 ghost use Rattle.gc_model.specs.Holds.{HoldsTable};
 ghost use Rattle.gc_store.specs.Roots.{Names};
@@ -14,6 +15,17 @@ use gc_heap::GcHeap;
 /// A handle names one push for ever: no two pushes of a store have the same index and generation.
 pub fn handles_name_one_root<H: GcHeap, D: Drop>(store: &Store<H, D>)
     ensures { (t : Table D) (handle : GcRootIndex) (x y : ℕ) → HoldsTable H.KIND store.now t → Names store.now t handle x → Names store.now t handle y → x ≡ y }
+{}
+
+/// When a scope is left, each root that was made in it is gone.
+pub fn left_roots_are_gone<H: GcHeap, D: Drop>(store: &Store<H, D>)
+    ensures { (t : Table D) (mark i : ℕ) (root : Scoped) → HoldsTable H.KIND store.now t → mark ≤ i → slice_get t.scoped i ≡ Some root → rooted (leave mark t) root.serial ≡ None }
+{}
+
+/// A value that was written into an object is read back, and every other value is as it was.
+pub fn written_is_read()
+    ensures written { (o : Object ℕ) (index : ℕ) (v : Value) → index < length (object_values o) → slice_get (object_values (with_value index v o)) index ≡ Some v }
+    ensures others { (o : Object ℕ) (index other : ℕ) (v : Value) → ¬ (other ≡ index) → slice_get (object_values (with_value index v o)) other ≡ slice_get (object_values o) other }
 {}
 
 /// A root that is gone is gone for ever: no later push, and no scope that is left, makes it live again.

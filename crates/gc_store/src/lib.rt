@@ -17,6 +17,7 @@ pub mod place;
 pub mod read;
 pub mod root;
 mod root_set;
+pub mod rooted;
 pub mod scope;
 pub mod store;
 #[cfg(test)]
@@ -28,5 +29,6 @@ pub use engine::{Engine, StoreId};
 pub use gc_model::GcClass;
 pub use limiter::{PageLimit, ResourceLimiter};
 pub use root::{GcRootIndex, RawValue, RootFault, RootSlot, RootedObject};
+pub use rooted::{GcRef, Rooted, RootedGcRef, ref_eq};
 pub use store::{GcHeapOutOfMemory, PlaceFault, Store};
 pub use write::WriteFault;

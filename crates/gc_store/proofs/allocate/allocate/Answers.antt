@@ -1,39 +1,34 @@
-use Rattle.std.proofs.Common.{rules, ◌≡◌, ◌≤◌, ◌⊎◌, ℕ, Bool, true, List, Some, IsOk, ◌+◌, ◌-◌, ◌*◌, ◌<◌, length, ◌/◌, ◌%◌, false, nat_eq, nat_lt, [], ◌∷◌, ◌++◌, slice_index_or, slice_set, bit_and, bit_or, Fits, w8, w32, w64, Bor, MutBor}
-use Rattle.gc_types.specs.declared.value.FieldType.{FieldType}
-use Rattle.gc_types.specs.Declarations.{Declaration, struct_fields_at}
-use Rattle.gc_roots.specs.Roots.{Root}
-use Rattle.gc_model.specs.Allocation.{max_pages}
-use Rattle.gc_heap.specs.Collection.{has_host, IsPartOf}
-use Rattle.gc_heap.specs.Heap.{need_of}
-use Rattle.gc_store.specs.Tracing.{IsCollectable, roots_of}
-use Rattle.gc_store.specs.Places.{MakesHeap, CanAllocate, AllocatesStruct, CanCreate, CreatesStruct, PlacesIn}
+use Rattle.std.proofs.Common.{inl, inr, refl, subst}
+use Rattle.gc_model.specs.Views.{HeapView}
+use Rattle.gc_heap.specs.Collection.{has_host}
+use Rattle.gc_store.specs.RootSets.{IsCollected}
+use Rattle.gc_store.proofs.HeapMade.{lacks_same, layout_size, layout_traces, allocates_new}
 use Rattle.gc_store.proofs.allocate.allocate.Goals as goal
 
--- src/allocate.rt:105:11
-pub alloc_uninit_struct_or_exn-requires-clause-size :
-    goal.alloc_uninit_struct_or_exn-requires-clause-size
-alloc_uninit_struct_or_exn-requires-clause-size g c = ?
+pub alloc_uninit_struct_or_exn-requires-clause-size : goal.alloc_uninit_struct_or_exn-requires-clause-size
+alloc_uninit_struct_or_exn-requires-clause-size g c = layout_size g.H.GcHeap.KIND c.requires.layout.fields c.args.layout.now c.requires.layout.laid_out
 
--- src/allocate.rt:105:11
-pub alloc_uninit_struct_or_exn-requires-clause-traces :
-    goal.alloc_uninit_struct_or_exn-requires-clause-traces
-alloc_uninit_struct_or_exn-requires-clause-traces g c = ?
+pub alloc_uninit_struct_or_exn-requires-clause-traces : goal.alloc_uninit_struct_or_exn-requires-clause-traces
+alloc_uninit_struct_or_exn-requires-clause-traces g c = layout_traces g.H.GcHeap.KIND c.requires.layout.fields c.args.layout.now c.requires.layout.laid_out
 
--- src/allocate.rt:106:27
 pub returns-in-Ok-Ok-clause-allocated : goal.returns-in-Ok-Ok-clause-allocated
-returns-in-Ok-Ok-clause-allocated g c = ?
+returns-in-Ok-Ok-clause-allocated g c = λ fields declared.
+    allocates_new g.H.GcHeap.KIND c.args.trace.now.types.now.declarations fields c.args.ty c.args.layout.now (g.H.GcHeap.seen c.args.heap.now) (g.H.GcHeap.seen c.args.heap.now) (g.H.GcHeap.seen c.alloc_uninit_struct_or_exn.new.self)
+    c.args.roots.now.entries c.args.roots.now.entries (has_host c.args.trace.now.host_data_table.now.entries) (has_host c.args.trace.now.host_data_table.now.entries) c.in-Ok-Ok.gc_ref c.in-Ok-Ok.field-0
+    c.requires.layout declared (inl (refl, (refl, refl))) (g.met.H.GcHeap.is_heap c.args.heap.now c.requires.sound) c.requires.attached c.requires.collectable c.in-Ok-Ok.field-0-is c.in-Ok-Ok.ensures.allocated
 
--- src/allocate.rt:112:11
-pub alloc_uninit_struct_or_exn-requires-2-clause-size :
-    goal.alloc_uninit_struct_or_exn-requires-2-clause-size
-alloc_uninit_struct_or_exn-requires-2-clause-size g c = ?
+pub alloc_uninit_struct_or_exn-requires-2-clause-size : goal.alloc_uninit_struct_or_exn-requires-2-clause-size
+alloc_uninit_struct_or_exn-requires-2-clause-size g c = layout_size g.H.GcHeap.KIND c.requires.layout.fields c.args.layout.now c.requires.layout.laid_out
 
--- src/allocate.rt:112:11
-pub alloc_uninit_struct_or_exn-requires-2-clause-traces :
-    goal.alloc_uninit_struct_or_exn-requires-2-clause-traces
-alloc_uninit_struct_or_exn-requires-2-clause-traces g c = ?
+pub alloc_uninit_struct_or_exn-requires-2-clause-traces : goal.alloc_uninit_struct_or_exn-requires-2-clause-traces
+alloc_uninit_struct_or_exn-requires-2-clause-traces g c = layout_traces g.H.GcHeap.KIND c.requires.layout.fields c.args.layout.now c.requires.layout.laid_out
 
--- src/allocate.rt:84:1
-pub returns-in-Ok-Ok-alloc_uninit_struct_or_exn-clause-allocated :
-    goal.returns-in-Ok-Ok-alloc_uninit_struct_or_exn-clause-allocated
-returns-in-Ok-Ok-alloc_uninit_struct_or_exn-clause-allocated g c = ?
+pub returns-in-Ok-Ok-alloc_uninit_struct_or_exn-clause-allocated : goal.returns-in-Ok-Ok-alloc_uninit_struct_or_exn-clause-allocated
+returns-in-Ok-Ok-alloc_uninit_struct_or_exn-clause-allocated g c = λ fields declared.
+    let same = lacks_same g.H.GcHeap.KIND (g.H.GcHeap.seen c.args.heap.now) (g.H.GcHeap.seen c.alloc_uninit_struct_or_exn.new.self) _ _ c.in-Ok-Err.field-0-0 c.in-Ok-Err.field-0 c.in-Ok-Err.field-0-is c.in-Ok-Err.ensures.allocated in
+    let collected = subst (λ (h : HeapView). IsCollected g.H.GcHeap.KIND c.args.trace.now.types.now.declarations h (g.H.GcHeap.seen c.collect.new.heap) c.args.roots.now.entries c.collect.new.self.entries
+    (has_host c.args.trace.now.host_data_table.now.entries) (has_host c.collect.new.trace.host_data_table.now.entries)) same c.collect.ensures.collected in
+    allocates_new g.H.GcHeap.KIND c.args.trace.now.types.now.declarations fields c.args.ty c.args.layout.now (g.H.GcHeap.seen c.args.heap.now) (g.H.GcHeap.seen c.collect.new.heap) (g.H.GcHeap.seen c.alloc_uninit_struct_or_exn-2.new.self)
+    c.args.roots.now.entries c.collect.new.self.entries (has_host c.args.trace.now.host_data_table.now.entries) (has_host c.collect.new.trace.host_data_table.now.entries) c.in-Ok-Ok-alloc_uninit_struct_or_exn.gc_ref c.in-Ok-Ok-alloc_uninit_struct_or_exn.field-0
+    c.requires.layout declared (inr collected) (g.met.H.GcHeap.is_heap c.collect.new.heap c.collect.ensures.sound) collected.collected.attached collected.collectable
+    c.in-Ok-Ok-alloc_uninit_struct_or_exn.field-0-is c.in-Ok-Ok-alloc_uninit_struct_or_exn.ensures.allocated

@@ -1,4 +1,4 @@
-use Rattle.std.proofs.Common.{◌≡◌, ◌<◌, List, Some, length, false, sym, ap, ◌∙◌, subst, refl, arith}
+use Rattle.std.proofs.Common.{◌≡◌, List, Some, length, false, sym, ap, ◌∙◌, arith}
 use Rattle.std.specs.List.{slice_get}
 use Rattle.std.specs.Option.{option_copied, option_map}
 use Rattle.std.specs.FinMap as finite
@@ -58,8 +58,7 @@ pub returns : goal.returns
 returns g c object fields field layout held declared is place =
     let all = places g (goal.at.returns g c).After-as_slice object fields held declared in
     let here : slice_get c.as_slice.result.now c.args.index ≡ Some layout = ap (λ (xs : List FieldLayout). slice_get xs c.args.index) all ∙ place in
-    let same = same_Some c.unwrap.result field (sym c.unwrap.ensures ∙ type_at g (goal.at.returns g c).After-field object fields field held declared is) in
-    (
+    let same = same_Some c.unwrap.result field (sym c.unwrap.ensures ∙ type_at g (goal.at.returns g c).After-field object fields field held declared is) in (
       ap (λ (l : FieldLayout). l.offset) (get_or_from_slice_get c.as_slice.result.now c.args.index layout (record { offset = 0; is_gc_ref = false }) here),
-      ap (λ (f : FieldType). f.element_type) same
+      ap (λ (f : FieldType). f.element_type) same,
     )

@@ -1,12 +1,10 @@
-use Rattle.std.proofs.Common.{◌≡◌, ℕ, Some, refl, sym, ap, ◌∙◌, subst, arith}
+use Rattle.std.proofs.Common.{sym, ap, subst}
 use Rattle.std.specs.Int.{w32, w64, to_le_bytes}
-use Rattle.gc_types.specs.declared.value.StorageType.{StorageType}
 use Rattle.gc_types.specs.Layouts.{storage_width, is_gc_storage}
 use Rattle.gc_model.specs.Views.{HeapView}
-use Rattle.gc_store.specs.declared.field.Stored.{Stored}
 use Rattle.gc_store.specs.Tracing.{IsCollectable}
 use Rattle.gc_store.specs.Fields.{StoredFits}
-use Rattle.gc_store.proofs.HeapFields.{HeldField, i32_is, i64_is, writable, number_kept}
+use Rattle.gc_store.proofs.HeapFields.{i32_is, i64_is, writable, number_kept}
 use Rattle.gc_store.proofs.field.write_field.Goals as goal
 
 pub write_u32-requires-clause-inside : goal.write_u32-requires-clause-inside

@@ -1,4 +1,4 @@
-use Rattle.std.proofs.Common.{◌≡◌, ℕ, ◌<◌, ◌^◌, Some, refl, sym, ap, ◌∙◌, subst, arith}
+use Rattle.std.proofs.Common.{◌<◌, ◌^◌, sym, ap, ◌∙◌, subst, arith}
 use Rattle.std.specs.Int.{w32, to_le_bytes}
 use Rattle.gc_types.specs.Layouts.{storage_width}
 use Rattle.gc_model.specs.Views.{HeapView}
@@ -59,7 +59,7 @@ returns-clause-keeps g c = λ types roots hosts object st can held field fits.
     let is = reference_is h st c.args.word fits in
     let f : HeldField g.H.GcHeap.KIND types h roots hosts c.args.gc_ref.now object c.args.offset st = record { heap = g.met.H.GcHeap.is_heap c.args.heap.now c.requires.sound; can = can; held = held; field = field } in
     let was : IsSlotOf c.from_raw_u32-slot.result (word_in g.H.GcHeap.KIND object c.args.offset) =
-        subst (IsSlotOf c.from_raw_u32-slot.result) (c.read_u32.ensures object held) (slot_of c.from_raw_u32-slot.result c.read_u32.result c.from_raw_u32-slot.ensures) in
+    subst (IsSlotOf c.from_raw_u32-slot.result) (c.read_u32.ensures object held) (slot_of c.from_raw_u32-slot.result c.read_u32.result c.from_raw_u32-slot.ensures) in
     let now = subst (λ slot. IsSlotOf slot c.args.word) (sym c.as_ref.ensures.value) (slot_of c.from_raw_u32-source.result c.args.word c.from_raw_u32-source.ensures) in
     let small : c.args.word < 2 ^ 32 = omega arith in
     let written = c.write_u32.ensures.written object (overwritten_held h (g.H.GcHeap.seen c.write_gc_ref.new.self) _ _ c.args.gc_ref.now object c.write_gc_ref.ensures.seen held) in

@@ -1,13 +1,10 @@
-use Rattle.std.proofs.Common.{◌≡◌, ℕ, ◌<◌, Bool, Some, List, length, refl, sym, ap, ◌∙◌, subst, arith}
+use Rattle.std.proofs.Common.{◌≡◌, ℕ, Some, length, refl, arith}
 use Rattle.std.specs.List.{slice_get}
 use Rattle.std.proofs.lemmas.Option.{slice_get_read}
-use Rattle.gc_types.specs.declared.value.FieldType.{FieldType}
-use Rattle.gc_types.specs.Declarations.{Declaration}
-use Rattle.gc_roots.specs.Roots.{Root}
 use Rattle.gc_model.specs.Views.{HeapObject, HeapView}
 use Rattle.gc_model.proofs.Lists.{slice_get-same_length}
 use Rattle.gc_store.specs.declared.root.RawValue.{RawValue}
-use Rattle.gc_store.proofs.HeapValues.{Begins, WritesTo, writes_none, places_count, field_at, field_of, stored_fits, can_write, writes_more, writes_all}
+use Rattle.gc_store.proofs.HeapValues.{Begins, writes_none, places_count, field_at, field_of, stored_fits, can_write, writes_more, writes_all}
 use Rattle.gc_store.proofs.field.write_values.Given.{Over}
 use Rattle.gc_store.proofs.field.write_values.Goals.{Start, After-index-values-index, After-stored_value}
 use Rattle.gc_store.proofs.field.write_values.Goals as goal
@@ -81,7 +78,7 @@ returns-clause-sound g c = c.loop-index.invariant.sound
 pub returns-clause-written : goal.returns-clause-written
 returns-clause-written g c = λ types known hosts object fields can are_roots held declared laid_out fit built.
     let b : Begins g.H.GcHeap.KIND types known hosts c.args.roots.now.entries fields c.args.values.now c.args.layouts.now (g.H.GcHeap.seen c.args.heap.now) c.args.gc_ref.now object =
-        record { collectable = can; are_roots = are_roots; held = held; declared = declared; laid_out = laid_out; fit = fit; built = built } in
+    record { collectable = can; are_roots = are_roots; held = held; declared = declared; laid_out = laid_out; fit = fit; built = built } in
     let all : c.loop-index.index ≡ length fields = omega (arith, fit.same_count, c.loop-index-test.false, c.loop-index.auto.index-end) in
     writes_all g.H.GcHeap.KIND types known hosts c.args.roots.now.entries fields c.args.values.now (g.H.GcHeap.seen c.args.heap.now) (g.H.GcHeap.seen c.loop-index.heap) c.args.gc_ref.now object c.loop-index.index all
     (c.loop-index.invariant.written types known hosts object fields b)

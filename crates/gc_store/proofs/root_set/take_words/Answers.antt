@@ -1,4 +1,4 @@
-use Rattle.std.proofs.Common.{◌≡◌, ◌<◌, refl, sym, ap, ◌∙◌, arith}
+use Rattle.std.proofs.Common.{refl, ◌∙◌, arith}
 use Rattle.gc_store.proofs.RootSetLemmas.{words_more, words_all, generation_stays}
 use Rattle.gc_store.proofs.root_set.take_words.Goals as goal
 

@@ -4,7 +4,6 @@ use Rattle.gc_model.specs.declared.RootEntry.{RootEntry}
 use Rattle.gc_model.specs.Views.{HeapView}
 use Rattle.gc_heap.specs.Barriers.{CanUnname, dropped}
 use Rattle.gc_store.specs.Tracing.{IsCollectable, roots_of}
-use Rattle.gc_store.specs.Scopes.{CanDrop}
 use Rattle.gc_store.proofs.RootSetLemmas.{some_is, is_made}
 use Rattle.gc_store.proofs.HeapBarriers.{can_drop_last, dropped_last}
 use Rattle.gc_store.proofs.scope.drop_roots.Given.{Over}
@@ -43,7 +42,7 @@ loop-word-smaller g c =
     let popped = c.in-Some.ensures.popped in
     let last : RootEntry = popped.1.0 in
     let more : length c.loop-word.roots.entries ≡ length c.pop_past.new.self.entries + 1 =
-        ap (λ (es : List RootEntry). length es) popped.1.1.0 ∙ length-append c.pop_past.new.self.entries (last ∷ []) in
+    ap (λ (es : List RootEntry). length es) popped.1.1.0 ∙ length-append c.pop_past.new.self.entries (last ∷ []) in
     omega arith
 
 -- the heap and the roots after one root more was dropped
@@ -65,7 +64,7 @@ loop-word-preserved g c =
     let can = c.loop-word.invariant.can in
     let held = c.loop-word.invariant.held in
     let count : length c.loop-word.roots.entries ≡ length c.pop_past.new.self.entries + 1 =
-        ap (λ (es : List RootEntry). length es) popped.1.1.0 ∙ length-append c.pop_past.new.self.entries (last ∷ []) in
+    ap (λ (es : List RootEntry). length es) popped.1.1.0 ∙ length-append c.pop_past.new.self.entries (last ∷ []) in
     let above : c.args.mark ≤ length c.pop_past.new.self.entries = omega (arith, popped.0) in
     record {
       sound = c.drop_gc_ref.ensures.sound;

@@ -1,4 +1,4 @@
-use Rattle.std.proofs.Common.{◌≡◌, ◌≤◌, List, length, map, sym, ap, ◌∙◌, subst, arith}
+use Rattle.std.proofs.Common.{◌≡◌, List, length, sym, ap, ◌∙◌, subst, arith}
 use Rattle.std.specs.Prelude.{All, ◌<◌}
 use Rattle.std.proofs.lemmas.List.{length-map}
 use Rattle.gc_roots.specs.Roots.{Root}
@@ -7,7 +7,7 @@ use Rattle.gc_heap.specs.Collection.{Collected, has_host}
 use Rattle.gc_heap.proofs.AddedLemmas.{start}
 use Rattle.gc_store.specs.Tracing.{roots_of}
 use Rattle.gc_store.specs.RootSets.{IsCollected}
-use Rattle.gc_store.proofs.RootSetLemmas.{refilled, words_of, generations_of}
+use Rattle.gc_store.proofs.RootSetLemmas.{refilled, generations_of}
 use Rattle.gc_store.proofs.HeapTraced.{is_collected, present_again}
 use Rattle.gc_store.proofs.root_set.RootSet.collect.Given.{Over}
 use Rattle.gc_store.proofs.root_set.RootSet.collect.Goals.{After-clear}
@@ -27,10 +27,10 @@ list_count g c =
 
 collects : (g : Over) (c : After-clear g)
     → Collected g.H.GcHeap.KIND (start (g.H.GcHeap.seen c.args.heap.now) (roots_of c.args.self.now.entries) c.args.trace.now.types.now.declarations (has_host c.args.trace.now.host_data_table.now.entries))
-        (g.H.GcHeap.seen c.run.new.heap) c.run.new.roots.roots (has_host c.run.new.trace.host_data_table.now.entries)
+    (g.H.GcHeap.seen c.run.new.heap) c.run.new.roots.roots (has_host c.run.new.trace.host_data_table.now.entries)
 collects g c =
     subst (λ (rs : List Root). Collected g.H.GcHeap.KIND (start (g.H.GcHeap.seen c.args.heap.now) rs c.args.trace.now.types.now.declarations (has_host c.args.trace.now.host_data_table.now.entries))
-        (g.H.GcHeap.seen c.run.new.heap) c.run.new.roots.roots (has_host c.run.new.trace.host_data_table.now.entries))
+    (g.H.GcHeap.seen c.run.new.heap) c.run.new.roots.roots (has_host c.run.new.trace.host_data_table.now.entries))
     (c.add_roots.ensures.roots ∙ ap roots_of (c.as_slice.ensures.value ∙ sym (entries_are g c)))
     c.run.ensures.collected
 
@@ -38,20 +38,19 @@ pub invariant_of-self : goal.invariant_of-self
 invariant_of-self g c =
     let old : All (λ (e : RootEntry). 0 < e.word) c.args.self.now.entries = subst (λ es. All (λ (e : RootEntry). 0 < e.word) es) (sym (entries_are g c)) c.self.invariant.2 in
     let new : All (λ (e : RootEntry). 0 < e.word) c.take_words.new.entries =
-        present_again g.H.GcHeap.KIND c.args.trace.now.types.now.declarations (g.H.GcHeap.seen c.args.heap.now) (g.H.GcHeap.seen c.run.new.heap) c.args.self.now.entries c.take_words.new.entries c.run.new.roots.roots
-        (has_host c.args.trace.now.host_data_table.now.entries) (has_host c.run.new.trace.host_data_table.now.entries)
-        (g.met.H.GcHeap.is_heap c.args.heap.now c.requires.sound) c.requires.attached c.requires.collectable (collects g c) c.take_words.ensures.words
-        (g.met.H.GcHeap.is_heap c.run.new.heap c.run.ensures.sound) old in
-    (
+    present_again g.H.GcHeap.KIND c.args.trace.now.types.now.declarations (g.H.GcHeap.seen c.args.heap.now) (g.H.GcHeap.seen c.run.new.heap) c.args.self.now.entries c.take_words.new.entries c.run.new.roots.roots
+    (has_host c.args.trace.now.host_data_table.now.entries) (has_host c.run.new.trace.host_data_table.now.entries)
+    (g.met.H.GcHeap.is_heap c.args.heap.now c.requires.sound) c.requires.attached c.requires.collectable (collects g c) c.take_words.ensures.words
+    (g.met.H.GcHeap.is_heap c.run.new.heap c.run.ensures.sound) old in (
       c.clear.ensures.roots,
       omega (arith, c.self.invariant.1, c.clear.ensures.spare, c.run.ensures.spare, c.add_roots.ensures.spare, list_count g c, new_count g c, c.as_slice.ensures.len),
-      subst (λ es. All (λ (e : RootEntry). 0 < e.word) es) (sym (refilled c.take_words.new.entries c.self.inside.entries.items c.self.inside.entries.len (new_count g c))) new
+      subst (λ es. All (λ (e : RootEntry). 0 < e.word) es) (sym (refilled c.take_words.new.entries c.self.inside.entries.items c.self.inside.entries.len (new_count g c))) new,
     )
 
 pub returns-clause-collected : goal.returns-clause-collected
 returns-clause-collected g c =
     subst (λ es. IsCollected g.H.GcHeap.KIND c.args.trace.now.types.now.declarations (g.H.GcHeap.seen c.args.heap.now) (g.H.GcHeap.seen c.run.new.heap) c.args.self.now.entries es
-        (has_host c.args.trace.now.host_data_table.now.entries) (has_host c.run.new.trace.host_data_table.now.entries))
+    (has_host c.args.trace.now.host_data_table.now.entries) (has_host c.run.new.trace.host_data_table.now.entries))
     (sym (refilled c.take_words.new.entries c.self.inside.entries.items c.self.inside.entries.len (new_count g c)))
     (is_collected g.H.GcHeap.KIND c.args.trace.now.types.now.declarations (g.H.GcHeap.seen c.args.heap.now) (g.H.GcHeap.seen c.run.new.heap) c.args.self.now.entries c.take_words.new.entries c.run.new.roots.roots
     (has_host c.args.trace.now.host_data_table.now.entries) (has_host c.run.new.trace.host_data_table.now.entries)

@@ -6,6 +6,8 @@ use Rattle.gc_model.specs.Views.{StoreView}
 use Rattle.gc_model.specs.Holds.{HoldsTable, HoldsKept}
 use Rattle.gc_store.specs.Stores.{store_view}
 use Rattle.gc_store.proofs.CollectedStore.{collected_store, unmade_kept, part_has_none}
+use Rattle.gc_store.specs.Collects.{OtherHalf}
+use Rattle.gc_store.proofs.OtherHalves.{other_half}
 use Rattle.gc_store.proofs.store.Store.gc.Given.{Over}
 use Rattle.gc_store.proofs.store.Store.gc.Goals as goal
 use Rattle.gc_store.proofs.store.Store.gc.Goals.{After-collect_in}
@@ -47,3 +49,8 @@ invariant_of-self g c =
 -- src/collect.rt:44:5
 pub returns-clause-kept : goal.returns-clause-kept
 returns-clause-kept g c = λ t holds. kept g c t (subst (λ (s : StoreView). HoldsTable g.H.GcHeap.KIND s t) (sym c.self.view_is) holds)
+
+pub returns-clause-half : goal.returns-clause-half
+returns-clause-half g c = λ attached.
+    subst (λ (s : StoreView). OtherHalf g.H.GcHeap.KIND s.heap (g.H.GcHeap.seen c.collect_in.new.heap)) c.self.view_is
+    (other_half g.H.GcHeap.KIND c.self.inside.types.declarations (g.H.GcHeap.seen c.self.inside.heap) (g.H.GcHeap.seen c.collect_in.new.heap) _ _ _ _ c.collect_in.ensures.collected)

@@ -1,4 +1,4 @@
-use Rattle.std.proofs.Common.{rules, ◌≡◌, ◌<◌, ◌^◌, ◌-◌, ℕ, true, Ok, Some, List, sym, ap, ◌∙◌, subst}
+use Rattle.std.proofs.Common.{arith, ◌≡◌, ◌<◌, ◌^◌, ◌-◌, ℕ, true, Ok, Some, List, sym, ap, ◌∙◌, subst}
 use Rattle.std.specs.FinMap as finite
 use Rattle.std.specs.List.{slice_get}
 use Rattle.gc_types.specs.declared.value.FieldType.{FieldType}
@@ -12,13 +12,14 @@ use Rattle.gc_heap.specs.Heap.{put_object, with_data}
 use Rattle.gc_heap.specs.Collection.{has_host}
 use Rattle.gc_store.specs.declared.field.Stored.{Stored}
 use Rattle.gc_store.specs.declared.field.Stored.TheVariants as stored
-use Rattle.gc_store.specs.Fields.{KeptAs, IsFieldOf, StoredFits, stored_bytes}
+use Rattle.gc_store.specs.Fields.{KeptAs, IsFieldOf, StoredFits, FitsBytes, stored_bytes}
 use Rattle.gc_store.specs.Roots.{HasField, word_of}
 use Rattle.gc_store.specs.Values.{CanWrite, WritesValue}
 use Rattle.gc_store.specs.Stores.{store_view}
 use Rattle.gc_store.proofs.Roots.{SomeIff-value, SomeIff-some}
+use Rattle.gc_store.proofs.Pushing.{few_roots}
 use Rattle.gc_store.proofs.FieldReads.{FieldAt, field_at, never_dead}
-use Rattle.gc_store.proofs.FieldWrites.{Fitting, FitsStored, fitting, fits_stored, spot, spot_kept, spot_stored, spot_field, writes_value, sound_written}
+use Rattle.gc_store.proofs.FieldWrites.{spot, spot_kept, spot_stored, spot_field, writes_value, sound_written}
 use Rattle.gc_store.proofs.store.Store.write_value.Given as given
 use Rattle.gc_store.proofs.store.Store.write_value.Goals as goal
 use Rattle.gc_store.proofs.store.Store.write_value.Goals.{In-Ok, After-unwrap-gc_ref, After-field_place-place, After-stored_value-stored, After-write_field}
@@ -85,14 +86,10 @@ stored_is : (g : given.Over) (c : After-stored_value-stored g) → c.stored_valu
 stored_is g c =
     let at = (goal.at.After-stored_value-stored g c).In-Ok in
     let kept = spot_kept _ _ (view g at) c.args.handle c.args.index c.args.value (can g at) c.in-Ok.word (word_at g at) in
-    c.stored_value-stored.ensures kept.0 kept.1
+    c.stored_value-stored.ensures.kept kept.0 kept.1
 
-small : (g : given.Over) (c : After-stored_value-stored g) → FitsStored c.stored_value-stored.result
-small g c =
-    let as_i32 : (n : ℕ) → c.stored_value-stored.result ≡ stored.I32 n → n < 2 ^ 32 = search rules in
-    let as_i64 : (n : ℕ) → c.stored_value-stored.result ≡ stored.I64 n → n < 2 ^ 64 = search rules in
-    let as_ref : (n : ℕ) → c.stored_value-stored.result ≡ stored.Ref n → n < 2 ^ 32 = search rules in
-    fits_stored c.stored_value-stored.result as_i32 as_i64 as_ref
+small : (g : given.Over) (c : After-stored_value-stored g) → FitsBytes c.stored_value-stored.result
+small g c = c.stored_value-stored.ensures.small
 
 pub write_field-requires-clause-can : goal.write_field-requires-clause-can
 write_field-requires-clause-can g c =
@@ -110,6 +107,7 @@ write_field-requires-clause-can g c =
       st = lies.holds.field.element_type;
       field = spot_field _ _ (view g at) c.args.handle c.args.index c.args.value (can g at) c.in-Ok.word (word_at g at) _ (offset_is g placed _ _ _ _ lies);
       fits = subst (λ (x : Stored). StoredFits (g.H.GcHeap.seen c.self.inside.heap) lies.holds.field.element_type x) (sym (stored_is g after)) (spot_stored _ _ (view g at) c.args.handle c.args.index c.args.value (can g at) c.in-Ok.word (word_at g at));
+      few = let few = few_roots g.H.GcHeap.KIND (view g at) (can g at).table (can g at).holds.0 (can g at).holds.1 in omega (arith, few);
     }
 
 -- the heap has the new bytes
@@ -131,7 +129,7 @@ invariant_of-self g c =
     let lies = spot _ _ (view g at) c.args.handle c.args.index c.args.value (can g at) c.in-Ok.word (word_at g at) in
     let field = spot_field _ _ (view g at) c.args.handle c.args.index c.args.value (can g at) c.in-Ok.word (word_at g at) c.field_place-place.result.offset (offset_is g placed _ _ _ _ lies) in
     let fits = subst (λ (x : Stored). StoredFits (g.H.GcHeap.seen c.self.inside.heap) lies.holds.field.element_type x) (sym (stored_is g after)) (spot_stored _ _ (view g at) c.args.handle c.args.index c.args.value (can g at) c.in-Ok.word (word_at g at)) in
-    sound_written g.row.D.Denot g.H.GcHeap.KIND (view g at) c.args.handle c.args.index c.args.value (can g at) c.in-Ok.word (word_at g at) (g.H.GcHeap.seen c.write_field.new.heap) (subst FitsStored (stored_is g after) (small g after)) (written g write)
+    sound_written g.row.D.Denot g.H.GcHeap.KIND (view g at) c.args.handle c.args.index c.args.value (can g at) c.in-Ok.word (word_at g at) (g.H.GcHeap.seen c.write_field.new.heap) (subst FitsBytes (stored_is g after) (small g after)) (written g write)
     (g.H.GcHeap.sound c.self.inside.heap) (g.H.GcHeap.sound c.write_field.new.heap) c.self.inside.types (has_host c.self.inside.hosts.entries) c.self.invariant c.write_field.ensures.sound
     (c.write_field.ensures.keeps _ _ _ lies.object lies.holds.field.element_type c.self.invariant.collectable (held_in g (goal.at.After-field_place-place g placed).After-unwrap-gc_ref lies.object lies.held) field fits)
 
@@ -142,5 +140,5 @@ returns-clause-writes g c t holds before v has stands =
     let at = (goal.at.After-write_field g write).In-Ok in
     let writes : (s : StoreView) → view g at ≡ s → (t : Table g.row.D.Denot) → HoldsTable g.H.GcHeap.KIND s t → WritesValue g.H.GcHeap.KIND s (record (view g at) { heap = g.H.GcHeap.seen c.write_field.new.heap }) t c.args.handle c.args.index c.args.value =
         λ s e. subst (λ (s : StoreView). (t : Table g.row.D.Denot) → HoldsTable g.H.GcHeap.KIND s t → WritesValue g.H.GcHeap.KIND s (record (view g at) { heap = g.H.GcHeap.seen c.write_field.new.heap }) t c.args.handle c.args.index c.args.value) e
-            (writes_value g.row.D.Denot g.H.GcHeap.KIND (view g at) c.args.handle c.args.index c.args.value (can g at) c.in-Ok.word (word_at g at) (g.H.GcHeap.seen c.write_field.new.heap) (subst FitsStored (stored_is g after) (small g after)) (written g write)) in
+            (writes_value g.row.D.Denot g.H.GcHeap.KIND (view g at) c.args.handle c.args.index c.args.value (can g at) c.in-Ok.word (word_at g at) (g.H.GcHeap.seen c.write_field.new.heap) (subst FitsBytes (stored_is g after) (small g after)) (written g write)) in
     writes c.args.self.now c.self.view_is t holds before v has stands
