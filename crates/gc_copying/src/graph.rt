@@ -47,6 +47,9 @@ pub(crate) enum Node {
     Host(u8),
 }
 
+/// The root of an object, and offsets of references to follow from it, up to a 0.
+pub(crate) type Path = (usize, u32, u32, u32);
+
 const REFERENCES: GcArrayLayout = GcArrayLayout {
     base_size: 16,
     elem_size: 4,
@@ -341,20 +344,19 @@ pub(crate) fn reference_at<H: GcHeap>(heap: &H, holder: &VMGcRef, offset: u32) -
     VMGcRef::from_raw_u32(data.read_u32(offset).ok()?)
 }
 
-/// The word that a walk from a root leads to, by offsets of references.
-pub(crate) fn follow<H: GcHeap>(
-    heap: &H,
-    around: &Around,
-    index: usize,
-    offsets: &[u32],
-) -> Option<VMGcRef>
+/// The word that a path leads to.
+pub(crate) fn follow<H: GcHeap>(heap: &H, around: &Around, path: Path) -> Option<VMGcRef>
     requires { H.sound heap.now }
 {
-    if index >= around.roots.len() {
+    let (root, first, second, third) = path;
+    if root >= around.roots.len() {
         return None;
     }
-    let mut word = around.roots.word_at(index);
-    for offset in offsets {
+    let mut word = around.roots.word_at(root);
+    for offset in &[first, second, third] {
+        if *offset == 0 {
+            return Some(word);
+        }
         word = reference_at(heap, &word, *offset)?;
     }
     Some(word)

@@ -26,13 +26,8 @@ pub(crate) enum Target {
     Number(u32),
 }
 
-/// A word of an object of a graph.
-#[derive(Clone, Copy, Debug)]
-pub(crate) struct Edge {
-    pub(crate) from: usize,
-    pub(crate) offset: u32,
-    pub(crate) to: Target,
-}
+/// A word of an object of a graph: the object, the offset, and what is written there.
+pub(crate) type Edge = (usize, u32, Target);
 
 /// Gives a heap so many pages; around it stands nothing.
 pub(crate) fn begin<H: GcHeap>(
@@ -64,9 +59,10 @@ fn draw<H: GcHeap>(heap: &mut H, around: &Around, edge: Edge) -> Result<(), Fail
     ensures sound { H.sound heap.new }
     ensures can { OnOk result (CanCollect H.KIND (start_at (H.seen heap.new) around.now.roots.roots around.now.types.declarations around.now.hosts.entries)) }
 {
-    match edge.to {
-        Target::Node(to) => link(heap, around, edge.from, edge.offset, to),
-        Target::Number(number) => put_number(heap, around, edge.from, edge.offset, number),
+    let (from, offset, target) = edge;
+    match target {
+        Target::Node(to) => link(heap, around, from, offset, to),
+        Target::Number(number) => put_number(heap, around, from, offset, number),
     }
 }
 

@@ -6,7 +6,7 @@ ghost use Rattle.gc_model.specs.Views.{detached_in};
 
 use crate::CopyingHeap;
 use crate::graph::{
-    Around, Node, add_declared, add_struct, follow, forget, link, put_plain, reference_at,
+    Around, Node, Path, add_declared, add_struct, follow, forget, link, put_plain, reference_at,
 };
 use crate::graph_runs::{Edge, Target, begin, collect, draw_edges, fill, forget_nodes, make_nodes};
 use gc_heap::GcHeap;
@@ -15,20 +15,17 @@ use gc_types::{FieldType, HeapType, Layouts, Mutability, RefType, StorageType, T
 use std::alloc::Global;
 use std::test::Fail;
 
-/// The root of an object, and offsets of references to follow from it.
-type Path<'a> = (usize, &'a [u32]);
-
 /// What is read after a collection.
 #[derive(Clone, Copy, Debug)]
-enum Check<'a> {
+enum Check {
     /// Both paths lead to one object.
-    Same(Path<'a>, Path<'a>),
+    Same(Path, Path),
     /// The path leads to that 31-bit number.
-    Number(Path<'a>, u32),
+    Number(Path, u32),
     /// The path leads to an external object with that host value.
-    Host(Path<'a>, u8),
+    Host(Path, u8),
     /// The path leads to an array of so many elements.
-    Length(Path<'a>, u32),
+    Length(Path, u32),
 }
 
 /// A graph, and what a collection keeps of it. The roots of the lost objects are taken away first.
@@ -40,45 +37,27 @@ struct Graph<'a> {
     lost: &'a [usize],
     objects: u64,
     hosts: u64,
-    checks: &'a [Check<'a>],
-}
-
-/// An edge to an object.
-const fn to(from: usize, offset: u32, to: usize) -> Edge {
-    Edge {
-        from,
-        offset,
-        to: Target::Node(to),
-    }
-}
-
-/// An edge to a number.
-const fn number(from: usize, offset: u32, number: u32) -> Edge {
-    Edge {
-        from,
-        offset,
-        to: Target::Number(number),
-    }
+    checks: &'a [Check],
 }
 
 /// Whether a check is met.
-fn is_met<H: GcHeap>(heap: &H, around: &Around, check: &Check<'_>) -> bool
+fn is_met<H: GcHeap>(heap: &H, around: &Around, check: &Check) -> bool
     requires { H.sound heap.now }
 {
     match *check {
-        Check::Same((a, left), (b, right)) => {
-            let word = follow(heap, around, a, left);
-            word.is_some() && word == follow(heap, around, b, right)
+        Check::Same(left, right) => {
+            let word = follow(heap, around, left);
+            word.is_some() && word == follow(heap, around, right)
         }
-        Check::Number((root, path), number) => match follow(heap, around, root, path) {
+        Check::Number(path, number) => match follow(heap, around, path) {
             Some(word) => word.as_i31().map(|i31| i31.get_u32()) == Some(number),
             None => false,
         },
-        Check::Host((root, path), value) => match follow(heap, around, root, path) {
+        Check::Host(path, value) => match follow(heap, around, path) {
             Some(word) => host_value(heap, around, word) == Some(value),
             None => false,
         },
-        Check::Length((root, path), length) => match follow(heap, around, root, path) {
+        Check::Length(path, length) => match follow(heap, around, path) {
             Some(word) => heap.array_len(&VMArrayRef::new_unchecked(word)) == Ok(length),
             None => false,
         },
@@ -96,7 +75,7 @@ fn host_value<H: GcHeap>(heap: &H, around: &Around, word: VMGcRef) -> Option<u8>
 }
 
 /// The index of the first check that isn't met.
-fn first_wrong<H: GcHeap>(heap: &H, around: &Around, checks: &[Check<'_>]) -> Option<usize>
+fn first_wrong<H: GcHeap>(heap: &H, around: &Around, checks: &[Check]) -> Option<usize>
     requires { H.sound heap.now }
 {
     for (index, check) in checks.iter().enumerate() {
@@ -141,38 +120,52 @@ fn a_collection_keeps_what_the_roots_reach(rt: HostRuntime) -> Result<(), Fail> 
         Graph {
             name: "two ways to one object",
             nodes: &[Node::Two, Node::One, Node::One, Node::Numbered, Node::One],
-            edges: &[to(0, 12, 1), to(0, 16, 2), to(1, 12, 3), to(2, 12, 3)],
+            edges: &[
+                (0, 12, Target::Node(1)),
+                (0, 16, Target::Node(2)),
+                (1, 12, Target::Node(3)),
+                (2, 12, Target::Node(3)),
+            ],
             lost: &[1, 2, 3, 4],
             objects: 4,
             hosts: 0,
-            checks: &[Check::Same((0, &[12, 12]), (0, &[16, 12]))],
+            checks: &[Check::Same((0, 12, 12, 0), (0, 16, 12, 0))],
         },
         Graph {
             name: "an object that names itself",
             nodes: &[Node::One, Node::One],
-            edges: &[to(0, 12, 0), to(1, 12, 1)],
+            edges: &[(0, 12, Target::Node(0)), (1, 12, Target::Node(1))],
             lost: &[1],
             objects: 1,
             hosts: 0,
-            checks: &[Check::Same((0, &[]), (0, &[12]))],
+            checks: &[Check::Same((0, 0, 0, 0), (0, 12, 0, 0))],
         },
         Graph {
             name: "a circle through an array",
             nodes: &[Node::Array(3), Node::One, Node::Two],
-            edges: &[to(0, 16, 1), to(1, 12, 2), to(2, 16, 0), number(0, 24, 5)],
+            edges: &[
+                (0, 16, Target::Node(1)),
+                (1, 12, Target::Node(2)),
+                (2, 16, Target::Node(0)),
+                (0, 24, Target::Number(5)),
+            ],
             lost: &[1, 2],
             objects: 3,
             hosts: 0,
             checks: &[
-                Check::Same((0, &[]), (0, &[16, 12, 16])),
-                Check::Number((0, &[24]), 5),
-                Check::Length((0, &[]), 3),
+                Check::Same((0, 0, 0, 0), (0, 16, 12, 16)),
+                Check::Number((0, 24, 0, 0), 5),
+                Check::Length((0, 0, 0, 0), 3),
             ],
         },
         Graph {
             name: "a lost circle",
             nodes: &[Node::One, Node::Array(1), Node::Numbered],
-            edges: &[to(0, 12, 1), to(1, 16, 0), to(0, 12, 2)],
+            edges: &[
+                (0, 12, Target::Node(1)),
+                (1, 16, Target::Node(0)),
+                (0, 12, Target::Node(2)),
+            ],
             lost: &[0, 1],
             objects: 1,
             hosts: 0,
@@ -181,31 +174,34 @@ fn a_collection_keeps_what_the_roots_reach(rt: HostRuntime) -> Result<(), Fail> 
         Graph {
             name: "31-bit numbers in fields",
             nodes: &[Node::Two],
-            edges: &[number(0, 12, 0), number(0, 16, 0x7FFF_FFFF)],
+            edges: &[
+                (0, 12, Target::Number(0)),
+                (0, 16, Target::Number(0x7FFF_FFFF)),
+            ],
             lost: &[],
             objects: 1,
             hosts: 0,
             checks: &[
-                Check::Number((0, &[12]), 0),
-                Check::Number((0, &[16]), 0x7FFF_FFFF),
+                Check::Number((0, 12, 0, 0), 0),
+                Check::Number((0, 16, 0, 0), 0x7FFF_FFFF),
             ],
         },
         Graph {
             name: "an external object with two holders, and a lost one",
             nodes: &[Node::One, Node::Array(2), Node::Host(7), Node::Host(8)],
-            edges: &[to(0, 12, 2), to(1, 20, 2)],
+            edges: &[(0, 12, Target::Node(2)), (1, 20, Target::Node(2))],
             lost: &[2, 3],
             objects: 3,
             hosts: 1,
             checks: &[
-                Check::Same((0, &[12]), (1, &[20])),
-                Check::Host((0, &[12]), 7),
+                Check::Same((0, 12, 0, 0), (1, 20, 0, 0)),
+                Check::Host((0, 12, 0, 0), 7),
             ],
         },
         Graph {
             name: "nothing is reached",
             nodes: &[Node::Host(1), Node::One, Node::Array(0), Node::Host(2)],
-            edges: &[to(1, 12, 0)],
+            edges: &[(1, 12, Target::Node(0))],
             lost: &[0, 1, 2, 3],
             objects: 0,
             hosts: 0,
@@ -239,7 +235,7 @@ fn keep_two_of_three<H: GcHeap>(
     put_plain(heap, &around, 1, number)?;
     forget_nodes(heap, &mut around, &[1, 2])?;
     collect(heap, &mut around);
-    let Some(second) = follow(heap, &around, 0, &[12]) else {
+    let Some(second) = follow(heap, &around, (0, 12, 0, 0)) else {
         return Ok(None);
     };
     Ok(reference_at(heap, &second, 16).map(|word| word.as_raw_u32()))
@@ -282,7 +278,7 @@ fn keep_by_type<H: GcHeap>(heap: &mut H, alloc: Global) -> Result<bool, Fail>
     link(heap, &around, 0, 128, 1)?;
     forget(heap, &mut around, 1)?;
     collect(heap, &mut around);
-    Ok(follow(heap, &around, 0, &[128]).is_some())
+    Ok(follow(heap, &around, (0, 128, 0, 0)).is_some())
 }
 
 #[test]
