@@ -1,13 +1,40 @@
--- Operands as the store takes them.
-use Rattle.std.proofs.Common.{◌≡◌, ◌≢◌, ℕ, ◌+◌, ◌<◌, ◌≤◌, List, [], ◌∷◌, ◌++◌, map, take, length, Bool, true, false, cond, get_or, sym, ap, ◌∙◌, refl, subst, arith, zero, suc}
+-- What the operands of a command hold.
+use Rattle.std.proofs.Common.{◌≡◌, ℕ, ◌+◌, ◌<◌, ◌≤◌, List, [], ◌∷◌, ◌++◌, take, drop, length, get_or, Option, Some, None, Bool, true, false, sym, ap, ◌∙◌, refl, subst, arith, zero, suc}
 use Rattle.std.specs.Prelude.{All}
-use Rattle.std.specs.List.{list_all}
-use Rattle.gc_commands.specs.declared.command.Operand.{Operand}
+use Rattle.std.specs.List.{AllZip, list_any}
+use Rattle.std.proofs.lemmas.List.{take_more, take_all}
+use Rattle.std.proofs.lemmas.List.Folds.{list_any_at}
+use Rattle.gc_model.specs.Table.{Table}
+use Rattle.gc_model.specs.Views.{StoreView}
 use Rattle.gc_store.specs.declared.root.RawValue.{RawValue}
-use Rattle.gc_store.specs.Fields.{value_of, IsNumber}
-use Rattle.gc_script.specs.Steps.{operand_value, is_built_operand}
+use Rattle.gc_commands.specs.declared.command.Operand.{Operand}
+use Rattle.gc_script.specs.State.{State, Held, number, reference, Stands}
+use Rattle.gc_script.specs.Given.{held_operand, given, given_held, is_unset}
+use Rattle.gc_script.specs.Steps.{any_unset}
+use Rattle.gc_script.specs.Values.{HoldsOperand, HoldsOperands, HasUnset}
 
--- the operands so far were taken
-pub record TakenSoFar (operands : List Operand) (raw : List RawValue) (count : ℕ) : Type 0 where
-  pub values : map value_of raw ≡ map operand_value (take count operands)
-  pub numbers : All IsNumber raw
+all_zip_push : {A B : Type 0} (R : A → B → Type 0) (xs : List A) (ys : List B) (x : A) (y : B) → AllZip R xs ys → R x y → AllZip R (xs ++ x ∷ []) (ys ++ y ∷ [])
+all_zip_push R [] [] x y all r = (r, tt)
+all_zip_push R [] (b ∷ ys) x y all r = absurd all
+all_zip_push R (a ∷ xs) [] x y all r = absurd all
+all_zip_push R (a ∷ xs) (b ∷ ys) x y all r = (all.0, all_zip_push R xs ys x y all.1 r)
+
+-- one more operand was read
+pub holds_more : (slots : List (Option RawValue)) (vs : List Operand) (raws : List RawValue) (i : ℕ) (v : Operand) (r : RawValue) → i < length vs → v ≡ get_or vs i v → HoldsOperands slots (take i vs) raws → HoldsOperand slots v (Some r) → HoldsOperands slots (take (i + 1) vs) (raws ++ r ∷ [])
+holds_more slots vs raws i v r lt is all more store s are =
+    subst (λ (xs : List Operand). AllZip (λ (v : Operand) (r : RawValue). Stands store s.table (Some r) (held_operand s v)) xs (raws ++ r ∷ []))
+    (ap (λ (z : Operand). take i vs ++ z ∷ []) is ∙ sym (take_more vs i v lt))
+    (all_zip_push (λ (v : Operand) (r : RawValue). Stands store s.table (Some r) (held_operand s v)) (take i vs) raws v r (all store s are) (more store s are))
+
+-- nothing stands for a register that is set
+unset_given : (store : StoreView) (t : Table ℕ) (held : Option Held) → Stands store t None held → is_unset (given_held t held) ≡ true
+unset_given store t None stands = refl
+unset_given store t (Some (number v)) stands = absurd stands
+unset_given store t (Some (reference c None)) stands = absurd stands
+unset_given store t (Some (reference c (Some serial))) stands = absurd stands
+
+-- one operand that is unset settles it
+pub has_unset : (slots : List (Option RawValue)) (vs : List Operand) (i : ℕ) (v : Operand) → i < length vs → v ≡ get_or vs i v → HoldsOperand slots v None → HasUnset slots vs
+has_unset slots vs i v lt is none store s are =
+    list_any_at (λ (v : Operand). is_unset (given s v)) vs i v lt
+    (subst (λ (x : Operand). is_unset (given s x) ≡ true) is (unset_given store s.table (held_operand s v) (none store s are)))

@@ -1,158 +1,161 @@
--- What the registers and the table say of a field that is read.
-use Rattle.std.proofs.Common.{inl, inr, ◌≡◌, ◌≢◌, ℕ, ◌+◌, ◌<◌, ◌≤◌, List, [], ◌∷◌, length, Option, Some, None, Result, Ok, Err, Bool, true, false, cond, sym, ap, ◌∙◌, refl, subst, arith, zero, suc}
-use Rattle.std.specs.Prelude.{nat_le, IfOk, IsOk}
+-- Values that are read: their new roots, and the registers that they go into.
+use Rattle.std.proofs.Common.{inl, inr, ◌≡◌, ◌≢◌, ℕ, ◌==◌, ◌<◌, zero, suc, List, [], ◌∷◌, ◌++◌, length, Option, Some, None, Bool, true, false, cond, eqb, sym, ap, ◌∙◌, refl, subst, arith}
 use Rattle.std.specs.List.{slice_get}
-use Rattle.std.specs.Option.{option_map}
 use Rattle.std.proofs.lemmas.Grind.{common_steps}
-use Rattle.std.proofs.lemmas.Bool.Decides.{nat_tests}
 use Rattle.std.proofs.lemmas.Option.{none-some, slice_get_within, slice_get_cases}
 use Rattle.gc_types.specs.declared.kind.Layouts.{Layouts}
-use Rattle.gc_model.specs.Values.{Reference, null, small, at, Value, Object, struct, array, host, exception}
-use Rattle.gc_model.specs.Table.{Table}
-use Rattle.gc_model.specs.Live.{rooted}
+use Rattle.gc_types.specs.declared.value.StorageType.{StorageType}
+use Rattle.gc_types.specs.declared.value.StorageType.TheVariants as storage
+use Rattle.gc_types.specs.declared.value.ValType.TheVariants as val
+use Rattle.gc_types.specs.declared.value.Func.{Func}
+use Rattle.gc_types.specs.declared.value.ValType.{ValType}
+use Rattle.gc_model.specs.declared.GcClass.{GcClass}
+use Rattle.gc_model.specs.declared.RootEntry.{RootEntry}
+use Rattle.gc_model.specs.Values.{Reference, null, small, at, Value, i32, i64, f32, f64, v128, function}
+use Rattle.gc_model.specs.Values as values
+use Rattle.gc_model.specs.Table.{Table, Scoped, push}
+use Rattle.gc_model.specs.Live.{rooted, rooted_among}
+use Rattle.gc_model.specs.Fits.{fits, fits_type}
+use Rattle.gc_model.specs.Reads.{after_read}
 use Rattle.gc_model.specs.Views.{StoreView}
 use Rattle.gc_model.specs.Holds.{HoldsTable}
+use Rattle.gc_model.proofs.Lists.{slice_get-push_new, slice_get-same_length}
 use Rattle.gc_store.specs.declared.root.GcRootIndex.{GcRootIndex}
-use Rattle.gc_store.specs.declared.root.RootFault.{RootFault}
-use Rattle.gc_store.specs.Roots.{Names, HasField, CanRead, FindsLength, CountsValues, TellsLength, object_len}
-use Rattle.gc_script.specs.State.{State, Held, number, reference, Stands}
-use Rattle.gc_commands.specs.declared.command.Command.TheVariants.{Field}
-use Rattle.gc_commands.specs.declared.reply.Reply.TheVariants as reply
-use Rattle.gc_commands.specs.declared.reply.ReplyValue.{ReplyValue}
-use Rattle.gc_commands.specs.declared.reply.Refusal.{Refusal}
-use Rattle.gc_commands.specs.declared.reply.Refusal.TheVariants as refusal
-use Rattle.gc_script.specs.Steps.{Target, unset, gone, other, fields, root_target, object_target, register_target, target, target_values, is_unset, is_gone, is_other, first_failing, field_tests, shown, Answers}
-use Rattle.gc_script.proofs.StepLemmas.{answers_by}
-use Rattle.gc_script.specs.declared.registers.Register.{Register}
-use Rattle.gc_script.specs.declared.registers.Register.TheVariants as register
-use Rattle.gc_model.specs.declared.GcClass.{GcClass}
+use Rattle.gc_store.specs.declared.root.RawValue.{RawValue}
+use Rattle.gc_store.specs.declared.root.RawValue.TheVariants as raw
+use Rattle.gc_store.specs.Roots.{Names, HasField, handle_of}
+use Rattle.gc_store.specs.Values.{RawStands, RootStands, IsReadAs}
+use Rattle.gc_script.specs.Slots.{RunnerView, register_at}
+use Rattle.gc_script.specs.State.{State, Held, number, reference, Stands, HoldsState, with_table, put_into}
+use Rattle.gc_script.specs.Steps.{shown, held_value}
+use Rattle.gc_script.specs.Named.{register_with}
+use Rattle.gc_script.proofs.StandLemmas.{Keeps, keeps_pushed, keeps_same}
+use Rattle.gc_script.proofs.TargetLemmas.{typed_struct}
 
--- an object that has so many values is a struct with so many
-pub record IsStructOf {D : Type 0} (t : Table D) (r : Reference) (count : ℕ) : Type 0 where
-  pub position : ℕ
-  pub root : r ≡ at position
-  pub ty : ℕ
-  pub values : List Value
-  pub object : slice_get t.objects position ≡ Some (struct ty values)
-  pub many : length values ≡ count
+-- a root at the end is found by its serial, where no other has it
+rooted_at_end : (serial : ℕ) (roots : List Scoped) (r : Reference) → ((i : ℕ) (root : Scoped) → slice_get roots i ≡ Some root → root.serial ≢ serial) → rooted_among serial (roots ++ record { serial = serial; reference = r } ∷ []) ≡ Some r
+rooted_at_end serial [] r differ =
+    let test : eqb serial serial ≡ true = grind (arith, common_steps) in
+    ap (λ b. cond b (Some r) (rooted_among serial [])) test
+rooted_at_end serial (x ∷ roots) r differ =
+    let ne : x.serial ≢ serial = differ 0 x refl in
+    let test : eqb x.serial serial ≡ false = grind (arith, common_steps) in
+    ap (λ b. cond b (Some x.reference) (rooted_among serial (roots ++ record { serial = serial; reference = r } ∷ []))) test
+    ∙ rooted_at_end serial roots r (λ i. differ (suc i))
 
-struct_of : {D : Type 0} (o : Option (Object D)) (count : ℕ) → Some count ≡ object_len o → (ty : ℕ) × ((values : List Value) × ((o ≡ Some (struct ty values)) × (length values ≡ count)))
-struct_of None count e = absurd (none-some count (sym e))
-struct_of (Some (struct ty values)) count e = (ty, (values, (refl, grind (arith, e))))
-struct_of (Some (array ty values)) count e = absurd (none-some count (sym e))
-struct_of (Some (host value)) count e = absurd (none-some count (sym e))
-struct_of (Some (exception ty tag values)) count e = absurd (none-some count (sym e))
+module _ (layouts : Layouts) (s : StoreView) (t : Table ℕ) (holds : HoldsTable layouts s t) where
+  -- the roots that stand are of pushes that were made
+  serial_before : (i : ℕ) (root : Scoped) → slice_get t.scoped i ≡ Some root → root.serial < length t.pushes
+  serial_before i root e =
+      let entry : (entry : RootEntry) × (slice_get s.scoped i ≡ Some entry) =
+      elim ((slice_get_cases s.scoped i).1) [
+        | inl found ↦ (found.0, found.2)
+        | inr past ↦ absurd (omega (arith, past.0, holds.1.scoped.same_count, slice_get_within t.scoped i root e))
+      ] in
+      slice_get_within t.pushes root.serial _ ((holds.1.scoped.each i entry.0 root entry.1 e).pushed)
 
-pub counts_struct : {D : Type 0} (t : Table D) (r : Reference) (count : ℕ) → CountsValues t r (Some count) → IsStructOf t r count
-counts_struct t null count counts = absurd counts
-counts_struct t (small n) count counts = absurd (none-some count (sym counts))
-counts_struct t (at p) count counts =
-    let found = struct_of (slice_get t.objects p) count counts in
-    record { position = p; root = refl; ty = found.0; values = found.1.0; object = found.1.1.0; many = found.1.1.1 }
+  -- a new root is live and names what it was pushed for
+  rooted_push : (r : Reference) → rooted (push r t) (length t.pushes) ≡ Some r
+  rooted_push r = rooted_at_end (length t.pushes) t.scoped r (λ i root e is. let before = serial_before i root e in omega (arith, before, is))
 
--- the value at an index below the number of values
-value_at : (values : List Value) (count i : ℕ) → length values ≡ count → i < count → (v : Value) × (slice_get values i ≡ Some v)
-value_at values count i many below =
-    elim ((slice_get_cases values i).1) [
-      | inl here ↦ (here.0, here.2)
-      | inr past ↦ absurd (omega (arith, past.0, many, below))
-    ]
+  -- the handle of a new root names it
+  names_pushed : (new : StoreView) (r : Reference) → Names new (push r t) (handle_of new (length t.scoped) t.drops) (length t.pushes)
+  names_pushed new r = record {
+    push = record { index = length t.scoped; generation = t.drops };
+    pushed = slice_get-push_new t.pushes (record { index = length t.scoped; generation = t.drops });
+    is = refl;
+  }
 
--- a handle that has so many values may be read at each index below
-pub can_read : (layouts : Layouts) (s : StoreView) (handle : GcRootIndex) (count i : ℕ) → i < count → FindsLength ℕ layouts s handle (Some count) → CanRead ℕ layouts s handle i
-can_read layouts s handle count i below found =
-    let is = counts_struct found.table found.root count found.counts in
-    let value = value_at is.values count i is.many below in
-    record {
-      table = found.table;
-      holds = found.holds;
-      value = value.0;
-      field = record {
-        serial = found.serial;
-        names = found.names;
-        position = is.position;
-        live = found.live ∙ ap Some is.root;
-        ty = is.ty;
-        values = is.values;
-        object = is.object;
-        value_at = value.1;
-      };
-    }
+  -- and stands for what it was pushed for
+  root_pushed : (new : StoreView) (class : GcClass) (r : Reference) → RootStands new (push r t) class (handle_of new (length t.scoped) t.drops) (values.reference class r)
+  root_pushed new class r = record {
+    serial = length t.pushes;
+    names = names_pushed new r;
+    root = r;
+    live = rooted_push r;
+    is = refl;
+  }
 
--- the same for any table that names the handle
-pub record ReadsField {D : Type 0} (s : StoreView) (t : Table D) (handle : GcRootIndex) (i : ℕ) : Type 0 where
-  pub value : Value
-  pub field : HasField s t handle i value
-  pub values : List Value
-  pub value_at : slice_get values i ≡ Some value
+  -- what is read stands for the value in the table after
+  pub read_stands : (new : StoreView) (v : Value) (r : RawValue) → IsReadAs new t v r → RawStands new (after_read v t) r v
+  read_stands new (i32 n) r is = subst (λ (x : RawValue). RawStands new t x (i32 n)) (sym is.1.0) (ap i32 is.1.1)
+  read_stands new (i64 n) r is = subst (λ (x : RawValue). RawStands new t x (i64 n)) (sym is.1.0) (ap i64 is.1.1)
+  read_stands new (f32 n) r is = subst (λ (x : RawValue). RawStands new t x (f32 n)) (sym is) refl
+  read_stands new (f64 n) r is = subst (λ (x : RawValue). RawStands new t x (f64 n)) (sym is) refl
+  read_stands new (v128 n) r is = subst (λ (x : RawValue). RawStands new t x (v128 n)) (sym is) refl
+  read_stands new (function f) r is = subst (λ (x : RawValue). RawStands new t x (function f)) (sym is) refl
+  read_stands new (values.reference c null) r is = subst (λ (x : RawValue). RawStands new t x (values.reference c null)) (sym is) refl
+  read_stands new (values.reference c (small n)) r is = subst (λ (x : RawValue). RawStands new (push (small n) t) x (values.reference c (small n))) (sym is) (root_pushed new c (small n))
+  read_stands new (values.reference c (at p)) r is = subst (λ (x : RawValue). RawStands new (push (at p) t) x (values.reference c (at p))) (sym is) (root_pushed new c (at p))
 
--- what a root with so many values is
-pub live_struct : {D : Type 0} (t : Table D) (found : Option Reference) (count : ℕ) → TellsLength t found (Ok (Some count)) → (r : Reference) × ((found ≡ Some r) × IsStructOf t r count)
-live_struct t None count tells = absurd (cc)
-live_struct t (Some r) count tells = (r, (refl, counts_struct t r count tells))
+  -- what a register holds of it
+  pub register_stands : (new : StoreView) (v : Value) (r : RawValue) → ((f : Option Func) → ¬ (v ≡ function f)) → IsReadAs new t v r → Stands new (after_read v t) (Some r) (Some (held_value t v))
+  register_stands new (i32 n) r other is = subst (λ (x : RawValue). Stands new t (Some x) (Some (number (i32 n)))) (sym is.1.0) (ap i32 is.1.1)
+  register_stands new (i64 n) r other is = subst (λ (x : RawValue). Stands new t (Some x) (Some (number (i64 n)))) (sym is.1.0) (ap i64 is.1.1)
+  register_stands new (f32 n) r other is = subst (λ (x : RawValue). Stands new t (Some x) (Some (number (f32 n)))) (sym is) refl
+  register_stands new (f64 n) r other is = subst (λ (x : RawValue). Stands new t (Some x) (Some (number (f64 n)))) (sym is) refl
+  register_stands new (v128 n) r other is = subst (λ (x : RawValue). Stands new t (Some x) (Some (number (v128 n)))) (sym is) refl
+  register_stands new (function f) r other is = absurd (other f refl)
+  register_stands new (values.reference c null) r other is = subst (λ (x : RawValue). Stands new t (Some x) (Some (reference c None))) (sym is) refl
+  register_stands new (values.reference c (small n)) r other is = subst (λ (x : RawValue). Stands new (push (small n) t) (Some x) (Some (reference c (Some (length t.pushes))))) (sym is) (refl, names_pushed new (small n))
+  register_stands new (values.reference c (at p)) r other is = subst (λ (x : RawValue). Stands new (push (at p) t) (Some x) (Some (reference c (Some (length t.pushes))))) (sym is) (refl, names_pushed new (at p))
 
--- the target of a root that is a struct
-root_target_struct : (t : Table ℕ) (found : Option Reference) (r : Reference) (count : ℕ) → found ≡ Some r → (is : IsStructOf t r count) → root_target t found ≡ fields is.values
-root_target_struct t found r count e is =
-    ap (root_target t) (e ∙ ap Some is.root) ∙ ap object_target is.object
+-- a value shows the same before it was read
+pub shown_after : (t : Table ℕ) (v : Value) → shown (after_read v t) v ≡ shown t v
+shown_after t (i32 n) = refl
+shown_after t (i64 n) = refl
+shown_after t (f32 n) = refl
+shown_after t (f64 n) = refl
+shown_after t (v128 n) = refl
+shown_after t (function f) = refl
+shown_after t (values.reference c null) = refl
+shown_after t (values.reference c (small n)) = refl
+shown_after t (values.reference c (at p)) = refl
 
--- a register that holds a handle holds a serial of the table
-pub held_handle : (s : StoreView) (t : Table ℕ) (class : GcClass) (handle : GcRootIndex) (slot : Option Register) (held : Option Held) → slot ≡ Some (register.Reference class (Some handle)) → Stands s t slot held → (class' : GcClass) × ((serial : ℕ) × ((held ≡ Some (reference class' (Some serial))) × Names s t handle serial))
-held_handle s t class handle slot held e stands = named (subst (λ (o : Option Register). Stands s t o held) e stands)
-  where
-    named : {h : Option Held} → Stands s t (Some (register.Reference class (Some handle))) h → (class' : GcClass) × ((serial : ℕ) × ((h ≡ Some (reference class' (Some serial))) × Names s t handle serial))
-    named {h = None} stands = absurd stands
-    named {h = Some (number v)} stands = absurd stands
-    named {h = Some (reference class' None)} stands = absurd stands
-    named {h = Some (reference class' (Some serial))} stands = (class', (serial, (refl, stands.1)))
+-- a read keeps the pushes
+pub keeps_read : (t : Table ℕ) (v : Value) → Keeps t.pushes (after_read v t).pushes
+keeps_read t (i32 n) = keeps_same t.pushes t.pushes refl
+keeps_read t (i64 n) = keeps_same t.pushes t.pushes refl
+keeps_read t (f32 n) = keeps_same t.pushes t.pushes refl
+keeps_read t (f64 n) = keeps_same t.pushes t.pushes refl
+keeps_read t (v128 n) = keeps_same t.pushes t.pushes refl
+keeps_read t (function f) = keeps_same t.pushes t.pushes refl
+keeps_read t (values.reference c null) = keeps_same t.pushes t.pushes refl
+keeps_read t (values.reference c (small n)) = keeps_pushed t.pushes (push (small n) t).pushes (record { index = length t.scoped; generation = t.drops }) refl
+keeps_read t (values.reference c (at p)) = keeps_pushed t.pushes (push (at p) t).pushes (record { index = length t.scoped; generation = t.drops }) refl
 
--- what is known of a field that is read: its value is the one that the table has
-pub record FieldRead (s : StoreView) (t : Table ℕ) (held : Option Held) (handle : GcRootIndex) (i : ℕ) : Type 0 where
-  pub values : List Value
-  pub target : register_target t held ≡ fields values
-  pub below : i < length values
-  pub value : Value
-  pub value_is : slice_get values i ≡ Some value
-  pub field : HasField s t handle i value
+no_function_fits : (ty : ValType) (v : Value) → fits_type ty v ≡ true → (f : Option Func) → ¬ (v ≡ function f)
+no_function_fits val.I32 v e f is = cc (sym (ap (fits_type val.I32) is) ∙ e)
+no_function_fits val.I64 v e f is = cc (sym (ap (fits_type val.I64) is) ∙ e)
+no_function_fits val.F32 v e f is = cc e
+no_function_fits val.F64 v e f is = cc e
+no_function_fits val.V128 v e f is = cc e
+no_function_fits (val.Ref ty) v e f is = cc (sym (ap (fits_type (val.Ref ty)) is) ∙ e)
 
-pub field_read : (s : StoreView) (t : Table ℕ) (slot : Option Register) (held : Option Held) (class : GcClass) (handle : GcRootIndex) (count i : ℕ) → i < count → slot ≡ Some (register.Reference class (Some handle)) → Stands s t slot held → ((serial : ℕ) → Names s t handle serial → TellsLength t (rooted t serial) (Ok (Some count))) → FieldRead s t held handle i
-field_read s t slot held class handle count i below is stands tells =
-    let named = held_handle s t class handle slot held is stands in
-    let live = live_struct t (rooted t named.1.0) count (tells named.1.0 named.1.1.1) in
-    let value = value_at live.1.1.values count i live.1.1.many below in
-    record {
-      values = live.1.1.values;
-      target = ap (register_target t) named.1.1.0 ∙ root_target_struct t (rooted t named.1.0) live.0 count live.1.0 live.1.1;
-      below = omega (arith, below, live.1.1.many);
-      value = value.0;
-      value_is = value.1;
-      field = record {
-        serial = named.1.0;
-        names = named.1.1.1;
-        position = live.1.1.position;
-        live = live.1.0 ∙ ap Some live.1.1.root;
-        ty = live.1.1.ty;
-        values = live.1.1.values;
-        object = live.1.1.object;
-        value_at = value.1;
-      };
-    }
+no_function : (ty : StorageType) (v : Value) → fits ty v ≡ true → (f : Option Func) → ¬ (v ≡ function f)
+no_function storage.I8 v e f is = cc e
+no_function storage.I16 v e f is = cc e
+no_function (storage.ValType ty) v e f is = no_function_fits ty v e f is
 
--- the tests of `field`, by what the register names
-abbrev field_refusal : Target → ℕ → Option Refusal
-field_refusal x i = first_failing (
-    (is_unset x, refusal.NoSuchName)
-    ∷ (is_gone x, refusal.Unrooted)
-    ∷ (is_other x, refusal.WrongKind)
-    ∷ (nat_le (length (target_values x)) i, refusal.OutOfBounds)
-    ∷ [])
+-- no field of a struct holds a function
+pub field_no_function : (layouts : Layouts) (s : StoreView) (t : Table ℕ) → HoldsTable layouts s t → (root : GcRootIndex) (index : ℕ) (v : Value) → HasField s t root index v → (f : Option Func) → ¬ (v ≡ function f)
+field_no_function layouts s t holds root index v has =
+    let typed = typed_struct layouts s t holds has.serial has.position has.ty has.values has.live has.object in
+    let field = slice_get-same_length has.values typed.fields index v typed.same_count has.value_at in
+    no_function field.0.element_type v (typed.fit index field.0 v field.1 has.value_at)
 
-not_past : (values : List Value) (i : ℕ) → i < length values → nat_le (length values) i ≡ false
-not_past values i below = grind (arith, nat_tests)
+-- what a register holds once a value was put into one, where the others hold the same
+pub register_with-same : (into : Option ℕ) (r : RawValue) (slots slots' : List (Option RawValue)) → ((d : ℕ) → register_at slots d ≡ register_at slots' d) → (d : ℕ) → register_with into r slots d ≡ register_with into r slots' d
+register_with-same None r slots slots' same d = same d
+register_with-same (Some k) r slots slots' same d = ap (cond (d == k) (Some r)) (same d)
 
--- a field that is there is read
-pub answers_field : (layouts : Layouts) (s : State) (r i : ℕ) (values : List Value) (value : Value) (answer : ReplyValue) → target s r ≡ fields values → i < length values → slice_get values i ≡ Some value → answer ≡ shown value → Answers layouts None s (Field r i None) (first_failing (field_tests s r i)) (reply.Value answer) s
-answers_field layouts s r i values value answer is below value_is shown_is =
-    answers_by layouts None s (Field r i None) (field_refusal (target s r) i) None (reply.Value answer) s
-    (ap (λ (x : Target). field_refusal x i) is ∙ ap (λ (b : Bool). cond b (Some refusal.OutOfBounds) None) (not_past values i below))
-    (ap (λ (x : Target). option_map (λ v. reply.Value (shown v)) (slice_get (target_values x) i)) is ∙ ap (option_map (λ v. reply.Value (shown v))) value_is ∙ ap (λ a. Some (reply.Value a)) (sym shown_is), refl)
+-- registers stand once a value was put into one
+pub put_stands : (new : StoreView) (t : Table ℕ) (slots : List (Option RawValue)) (s : State) (into : Option ℕ) (r : RawValue) (held : Held) → ((d : ℕ) → Stands new t (register_at slots d) (s.registers d)) → Stands new t (Some r) (Some held) → (d : ℕ) → Stands new t (register_with into r slots d) ((put_into into held s).registers d)
+put_stands new t slots s None r held stand stands d = stand d
+put_stands new t slots s (Some k) r held stand stands d =
+    elim (d == k) as (λ b. Stands new t (cond b (Some r) (register_at slots d)) (cond b (Some held) (s.registers d))) [ true ↦ stands | false ↦ stand d ]
+
+-- the state with a value in a register
+pub put_holds : (layouts : Layouts) (new : StoreView) (runner : RunnerView) (s : State) (t : Table ℕ) (into : Option ℕ) (held : Held) → HoldsTable layouts new t → ((d : ℕ) → Stands new t (register_at runner.registers d) ((put_into into held (with_table t s)).registers d)) → ((o : ℕ) → s.owned_registers o ≡ None) → runner.marks ≡ s.marks → HoldsState layouts new runner (put_into into held (with_table t s))
+put_holds layouts new runner s t None held table stand no_owned marks = record { table = table; registers = stand; no_owned = no_owned; marks = marks }
+put_holds layouts new runner s t (Some d) held table stand no_owned marks = record { table = table; registers = stand; no_owned = no_owned; marks = marks }

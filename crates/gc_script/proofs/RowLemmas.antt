@@ -7,12 +7,12 @@ use Rattle.std.proofs.lemmas.Fmt.{decimal_digit}
 use Rattle.gc_types.specs.declared.kind.Layouts.TheVariants.{Null}
 use Rattle.gc_types.specs.Declarable.{Declarable}
 use Rattle.gc_model.specs.declared.GcClass.TheVariants as class
-use Rattle.gc_model.specs.Values.{Object}
+use Rattle.gc_model.specs.Values.{Value, i32, Object, struct}
 use Rattle.gc_model.specs.Table.{Table, start, usual_roots, declare, make, make_heap}
 use Rattle.gc_model.specs.Allocation.{Allocates, LacksMemory, no_heap, no_room, FitsIn}
 use Rattle.gc_model.specs.Sizes.{object_size}
 use Rattle.gc_commands.specs.declared.command.Command.{Command}
-use Rattle.gc_commands.specs.declared.command.Command.TheVariants.{Bad, Struct, New, Field}
+use Rattle.gc_commands.specs.declared.command.Command.TheVariants.{Bad, Struct, New, I31, Field, SetField, Eq, Enter, Leave, Gc, Grow, Cap}
 use Rattle.gc_commands.specs.declared.command.FieldWord.{FieldWord}
 use Rattle.gc_commands.specs.declared.command.Operand.{Operand}
 use Rattle.gc_commands.specs.declared.command.Operand.TheVariants as operand
@@ -24,7 +24,8 @@ use Rattle.gc_commands.specs.declared.reply.ReplyValue.TheVariants as reply_valu
 use Rattle.gc_commands.specs.Spelling.{IsCommandOf, Spells}
 use Rattle.gc_commands.proofs.UniqueLemmas.{one_spelling}
 use Rattle.gc_script.specs.State.{State, reference, begin, with_table, set_register}
-use Rattle.gc_script.specs.Steps.{Step, Declares, declared, bad, built_struct, new_struct, MakesNew, made, lacks}
+use Rattle.gc_script.specs.Built.{built_struct}
+use Rattle.gc_script.specs.Steps.{Step, Declares, declared, bad, MakesNew, made, lacks, ReadsField, shown}
 use Rattle.gc_script.specs.Run.{Run}
 use Rattle.gc_script.specs.Session.{AreCommandsOf, Session, reply_line}
 use Rattle.gc_script.specs.Rows.{one_struct, one_struct_replies}
@@ -56,7 +57,7 @@ replies_text : one_struct_replies ≡ flat_map reply_line (reply.Declared 0 ∷ 
 replies_text = λ i. ((codes "type " ++ digit_zero i) ++ 10 ∷ []) ++ ((codes "ok" ++ 10 ∷ []) ++ (((codes "i32 " ++ digit_five i) ++ 10 ∷ []) ++ []))
 
 spells_declares : Spells (codes "struct m:i32") declares
-spells_declares = record { built = (refl, refl, (refl, tt)); short = omega arith; spelled = refl }
+spells_declares = record { built = (refl, refl, (tt, tt)); short = omega arith; spelled = refl }
 
 spells_makes : Spells (codes "new 1 0 i32:5") makes
 spells_makes = record {
@@ -67,7 +68,7 @@ spells_makes = record {
 
 spells_reads : Spells (codes "field 1 0") reads
 spells_reads = record {
-  built = (omega arith, omega arith, refl);
+  built = (omega arith, omega arith, tt);
   short = omega arith;
   spelled = λ i. join_with_byte 32 (codes "field" ∷ digit_one i ∷ digit_zero i ∷ []);
 }
@@ -77,22 +78,34 @@ command_is : (line : List ℕ) (known c : Command) → Spells line known → IsC
 command_is line known Bad spells is = absurd (is known spells)
 command_is line known (Struct f s xs) spells is = one_spelling line (Struct f s xs) known is spells
 command_is line known (New d t vs) spells is = one_spelling line (New d t vs) known is spells
+command_is line known (I31 d n) spells is = one_spelling line (I31 d n) known is spells
 command_is line known (Field r i into) spells is = one_spelling line (Field r i into) known is spells
+command_is line known (SetField r i v) spells is = one_spelling line (SetField r i v) known is spells
+command_is line known (Eq r q) spells is = one_spelling line (Eq r q) known is spells
+command_is line known Enter spells is = one_spelling line Enter known is spells
+command_is line known Leave spells is = one_spelling line Leave known is spells
+command_is line known Gc spells is = one_spelling line Gc known is spells
+command_is line known (Grow n) spells is = one_spelling line (Grow n) known is spells
+command_is line known Cap spells is = one_spelling line Cap known is spells
 
 -- the states between the commands
 abbrev nothing : State
 nothing = begin (start 1 usual_roots usual_roots)
 
 abbrev declared_one : State
-declared_one = with_table (declare (built_struct 1) nothing.table) nothing
+declared_one = with_table (declare (built_struct (number_field ∷ [])) nothing.table) nothing
+
+-- the struct of the second one
+abbrev one_made : Object ℕ
+one_made = struct 0 (i32 5 ∷ [])
 
 abbrev made_one : State
-made_one = set_register 1 (reference class.Any (Some 0)) (with_table (make (new_struct 0 (operand.I32 (pos 5) ∷ [])) (make_heap declared_one.table)) declared_one)
+made_one = set_register 1 (reference class.Any (Some 0)) (with_table (make one_made (make_heap declared_one.table)) declared_one)
 
-may_declare : Declarable [] (built_struct 1)
+may_declare : Declarable [] (built_struct (number_field ∷ []))
 may_declare = record { few_fields = omega arith; few_types = omega arith; known = search rules; extends = tt }
 
-fits : FitsIn Null (make_heap declared_one.table) (object_size Null declared_one.table.types (new_struct 0 (operand.I32 (pos 5) ∷ [])))
+fits : FitsIn Null (make_heap declared_one.table) (object_size Null declared_one.table.types one_made)
 fits = omega arith
 
 step_declares : Step Null (Some 64) nothing declares (reply.Declared 0) declared_one
@@ -102,7 +115,7 @@ step_makes : Step Null (Some 64) declared_one makes reply.Done made_one
 step_makes = made _ (record { may = λ unmade. omega arith; fits = fits; made = refl }) refl refl
 
 step_reads : Step Null (Some 64) made_one reads (reply.Value (reply_value.I32 (pos 5))) made_one
-step_reads = (refl, refl)
+step_reads = record { value = i32 5; found = refl; shows = refl; after = refl }
 
 pub is_session : (t : Table ℕ) × Session Null 1 64 one_struct one_struct_replies t
 is_session = (
@@ -130,8 +143,14 @@ makes_once answer s' (made t allocates is after) = (is, after ∙ ap (λ (x : Ta
 makes_once answer s' (lacks t (no_heap refused same) is after) = absurd (let above = refused.above in omega arith)
 makes_once answer s' (lacks t (no_room may full same) is after) = absurd (full fits)
 
+-- what a value that is known shows
+shows_five : (found : Option Value) (value : Value) (answer : Reply) → found ≡ Some (i32 5) → found ≡ Some value → answer ≡ reply.Value (shown made_one.table value) → answer ≡ reply.Value (reply_value.I32 (pos 5))
+shows_five found value answer known is shows =
+    let same : value ≡ i32 5 = cc (known, is) in
+    shows ∙ ap (λ (v : Value). reply.Value (shown made_one.table v)) same
+
 reads_once : (answer : Reply) (s' : State) → Step Null (Some 64) made_one reads answer s' → answer ≡ reply.Value (reply_value.I32 (pos 5))
-reads_once answer s' did = cc (did.0)
+reads_once answer s' did = shows_five (Some (i32 5)) did.value answer refl did.found did.shows
 
 -- the replies of a run of the three commands
 replies_once : (rs : List Reply) (s' : State) → Run Null (Some 64) nothing (declares ∷ makes ∷ reads ∷ []) rs s' → rs ≡ reply.Declared 0 ∷ reply.Done ∷ reply.Value (reply_value.I32 (pos 5)) ∷ []

@@ -5,12 +5,16 @@ use Rattle.gc_model.specs.Allocation.{Limits, MayMakeHeap}
 use Rattle.gc_model.specs.Views.{StoreView}
 use Rattle.gc_commands.specs.declared.command.Command.{Command}
 use Rattle.gc_commands.specs.declared.reply.Reply.{Reply}
-use Rattle.gc_script.specs.declared.registers.Register.{Register}
+use Rattle.gc_script.specs.Slots.{RunnerView}
 use Rattle.gc_script.specs.State.{State, HoldsState}
 use Rattle.gc_script.specs.Steps.{Step}
 use Rattle.gc_script.specs.Run.{Run, Ran, Counts, refused_pages, nothing_else, WantsMemory}
 use Rattle.gc_script.specs.Script.{AddsRefused, RefusedIn, RanScript, RanNext, EndedScript, StoppedScript}
-use Rattle.gc_script.proofs.RunLemmas.{limit_stays}
+
+-- the limit is that of before, whatever was counted
+limit_stays : (limits limits' : Limits) (first : ℕ) (answer : Reply) (after : State) → Counts limits limits' first answer after → limits'.limit ≡ limits.limit
+limit_stays limits limits' first answer after (refused_pages said refuses) = ap (λ (l : Limits). l.limit) refuses
+limit_stays limits limits' first answer after (nothing_else not_said same) = ap (λ (l : Limits). l.limit) same
 
 -- a run, and how many of its replies say that the heap's first pages were refused
 pub record CountedRun (layouts : Layouts) (limit : Option ℕ) (s : State) (cs : List Command) (rs : List Reply) (s' : State) (n : ℕ) : Type 0 where
@@ -24,17 +28,17 @@ pub record CountedSo (limits now : Limits) (refused : ℕ) : Type 0 where
 
 -- The first commands were run from s: whatever run some commands are from here, the commands done and those
 -- are that run from s.
-pub record Along (layouts : Layouts) (limits now : Limits) (s : State) (done : List Command) (replies : List Reply) (store : StoreView) (slots : List (Option Register)) : Type 0 where
+pub record Along (layouts : Layouts) (limits now : Limits) (s : State) (done : List Command) (replies : List Reply) (store : StoreView) (runner : RunnerView) : Type 0 where
   pub mid : State
   pub refused : ℕ
   pub goes_on : (cs : List Command) (rs : List Reply) (after : State) (n : ℕ) → CountedRun layouts limits.limit mid cs rs after n → CountedRun layouts limits.limit s (done ++ cs) (replies ++ rs) after (refused + n)
-  pub holds : HoldsState layouts store slots mid
+  pub holds : HoldsState layouts store runner mid
   pub counted : CountedSo limits now refused
   pub same_limit : now.limit ≡ limits.limit
 
 -- nothing was run yet
-pub along_start : (layouts : Layouts) (limits : Limits) (s : State) (done : List Command) (replies : List Reply) (store : StoreView) (slots : List (Option Register)) → done ≡ [] → replies ≡ [] → HoldsState layouts store slots s → Along layouts limits limits s done replies store slots
-along_start layouts limits s done replies store slots none none_yet holds = record {
+pub along_start : (layouts : Layouts) (limits : Limits) (s : State) (done : List Command) (replies : List Reply) (store : StoreView) (runner : RunnerView) → done ≡ [] → replies ≡ [] → HoldsState layouts store runner s → Along layouts limits limits s done replies store runner
+along_start layouts limits s done replies store runner none none_yet holds = record {
   mid = s;
   refused = 0;
   goes_on = λ cs rs after n counted.
@@ -83,8 +87,8 @@ adds_by limits now next first refused r mid so_far (nothing_else not_said same) 
     }
 
 -- one more command was run
-pub along_more : (layouts : Layouts) (limits now next : Limits) (s : State) (done : List Command) (c : Command) (replies replies' : List Reply) (store store' : StoreView) (slots slots' : List (Option Register)) → (so_far : Along layouts limits now s done replies store slots) → RanNext layouts now next so_far.mid c replies replies' store' slots' → Along layouts limits next s (done ++ c ∷ []) replies' store' slots'
-along_more layouts limits now next s done c replies replies' store store' slots slots' so_far did =
+pub along_more : (layouts : Layouts) (limits now next : Limits) (s : State) (done : List Command) (c : Command) (replies replies' : List Reply) (store store' : StoreView) (runner runner' : RunnerView) → (so_far : Along layouts limits now s done replies store runner) → RanNext layouts now next so_far.mid c replies replies' store' runner' → Along layouts limits next s (done ++ c ∷ []) replies' store' runner'
+along_more layouts limits now next s done c replies replies' store store' runner runner' so_far did =
     let more : Adds did.answer did.ran.after limits next so_far.refused = adds_by limits now next so_far.mid.table.first so_far.refused did.answer did.ran.after so_far.counted did.ran.counts in
     let step : Step layouts limits.limit so_far.mid c did.answer did.ran.after = subst (λ (l : Option ℕ). Step layouts l so_far.mid c did.answer did.ran.after) so_far.same_limit did.ran.step in
     record {
@@ -101,8 +105,8 @@ along_more layouts limits now next s done c replies replies' store store' slots 
     }
 
 -- the commands done are a run by themselves
-ran_so_far : (layouts : Layouts) (limits now : Limits) (s : State) (done : List Command) (replies : List Reply) (store : StoreView) (slots : List (Option Register)) → (so_far : Along layouts limits now s done replies store slots) → RanScript layouts limits now s done replies so_far.mid
-ran_so_far layouts limits now s done replies store slots so_far =
+ran_so_far : (layouts : Layouts) (limits now : Limits) (s : State) (done : List Command) (replies : List Reply) (store : StoreView) (runner : RunnerView) → (so_far : Along layouts limits now s done replies store runner) → RanScript layouts limits now s done replies so_far.mid
+ran_so_far layouts limits now s done replies store runner so_far =
     let whole : CountedRun layouts limits.limit s done replies so_far.mid (so_far.refused + 0) =
     subst (λ (xs : List Command). CountedRun layouts limits.limit s xs replies so_far.mid (so_far.refused + 0)) (append-nil done)
     (subst (λ (ys : List Reply). CountedRun layouts limits.limit s (done ++ []) ys so_far.mid (so_far.refused + 0)) (append-nil replies)
@@ -117,32 +121,32 @@ ran_so_far layouts limits now s done replies store slots so_far =
     }
 
 -- all commands were run
-pub along_end : (layouts : Layouts) (limits now : Limits) (s : State) (done commands : List Command) (replies : List Reply) (store : StoreView) (slots : List (Option Register)) → Along layouts limits now s done replies store slots → done ≡ commands → EndedScript layouts limits now s commands replies store
-along_end layouts limits now s done commands replies store slots so_far all = record {
+pub along_end : (layouts : Layouts) (limits now : Limits) (s : State) (done commands : List Command) (replies : List Reply) (store : StoreView) (runner : RunnerView) → Along layouts limits now s done replies store runner → done ≡ commands → EndedScript layouts limits now s commands replies store
+along_end layouts limits now s done commands replies store runner so_far all = record {
   after = so_far.mid;
-  ran = subst (λ (xs : List Command). RanScript layouts limits now s xs replies so_far.mid) all (ran_so_far layouts limits now s done replies store slots so_far);
+  ran = subst (λ (xs : List Command). RanScript layouts limits now s xs replies so_far.mid) all (ran_so_far layouts limits now s done replies store runner so_far);
   holds = so_far.holds.table;
 }
 
 -- the next command wanted memory
-pub along_stopped : (layouts : Layouts) (limits now next : Limits) (s : State) (done : List Command) (c : Command) (rest commands : List Command) (replies : List Reply) (store store' : StoreView) (slots slots' : List (Option Register)) → (so_far : Along layouts limits now s done replies store slots) → commands ≡ done ++ c ∷ rest → WantsMemory layouts now.limit so_far.mid store' slots' × (next ≡ now) → StoppedScript layouts limits next s commands store'
-along_stopped layouts limits now next s done c rest commands replies store store' slots slots' so_far cut (inl same, still) = record {
+pub along_stopped : (layouts : Layouts) (limits now next : Limits) (s : State) (done : List Command) (c : Command) (rest commands : List Command) (replies : List Reply) (store store' : StoreView) (runner runner' : RunnerView) → (so_far : Along layouts limits now s done replies store runner) → commands ≡ done ++ c ∷ rest → WantsMemory layouts now.limit so_far.mid store' runner' × (next ≡ now) → StoppedScript layouts limits next s commands store'
+along_stopped layouts limits now next s done c rest commands replies store store' runner runner' so_far cut (inl same, still) = record {
   done = done;
   wanting = c;
   rest = rest;
   cut = cut;
   replies = replies;
   after = so_far.mid;
-  ran = subst (λ (l : Limits). RanScript layouts limits l s done replies so_far.mid) (sym still) (ran_so_far layouts limits now s done replies store slots so_far);
+  ran = subst (λ (l : Limits). RanScript layouts limits l s done replies so_far.mid) (sym still) (ran_so_far layouts limits now s done replies store runner so_far);
   holds = inl same.table;
 }
-along_stopped layouts limits now next s done c rest commands replies store store' slots slots' so_far cut (inr has, still) = record {
+along_stopped layouts limits now next s done c rest commands replies store store' runner runner' so_far cut (inr has, still) = record {
   done = done;
   wanting = c;
   rest = rest;
   cut = cut;
   replies = replies;
   after = so_far.mid;
-  ran = subst (λ (l : Limits). RanScript layouts limits l s done replies so_far.mid) (sym still) (ran_so_far layouts limits now s done replies store slots so_far);
+  ran = subst (λ (l : Limits). RanScript layouts limits l s done replies so_far.mid) (sym still) (ran_so_far layouts limits now s done replies store runner so_far);
   holds = inr (subst (λ (l : Option ℕ). MayMakeHeap l so_far.mid.table) so_far.same_limit has.0, has.1.table);
 }

@@ -2,16 +2,16 @@
 use Rattle.std.proofs.Common.{◌≡◌, ◌≢◌, ℕ, ◌+◌, ◌-◌, ◌<◌, ◌≤◌, List, [], ◌∷◌, ◌++◌, length, Option, Some, None, Bool, true, is_ok, cond, sym, ap, ◌∙◌, refl, subst, arith, zero, suc}
 use Rattle.std.specs.List.{slice_get}
 use Rattle.gc_script.specs.Slots.{register_at, option_join}
-use Rattle.gc_script.specs.declared.registers.Register.{Register}
+use Rattle.gc_store.specs.declared.root.RawValue.{RawValue}
 
 -- an unset register at the end changes none
-pub register_at-push : (slots : List (Option Register)) (d : ℕ) → register_at (slots ++ None ∷ []) d ≡ register_at slots d
+pub register_at-push : (slots : List (Option RawValue)) (d : ℕ) → register_at (slots ++ None ∷ []) d ≡ register_at slots d
 register_at-push [] zero = refl
 register_at-push [] (suc d) = refl
 register_at-push (x ∷ slots) zero = refl
 register_at-push (x ∷ slots) (suc d) = register_at-push slots d
 
 -- the registers so far are those of before, and there are so many
-pub record ExtendedTo (before now : List (Option Register)) (present count : ℕ) : Type 0 where
+pub record ExtendedTo (before now : List (Option RawValue)) (present count : ℕ) : Type 0 where
   pub same : (d : ℕ) → register_at now d ≡ register_at before d
   pub many : count ≤ length now

@@ -1,6 +1,10 @@
 pub mod Slots
 pub mod State
+pub mod Built
+pub mod Given
 pub mod Steps
+pub mod Named
+pub mod Values
 pub mod Run
 pub mod Lines
 pub mod Session

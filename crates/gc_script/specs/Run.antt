@@ -1,9 +1,7 @@
 -- A run of commands.
-use Rattle.std.specs.Prelude.{◌≡◌, ℕ, ◌⊎◌, List, [], ◌∷◌, Option, Some, None, Result, Ok, Err, false}
+use Rattle.std.specs.Prelude.{◌≡◌, ℕ, ◌⊎◌, List, [], ◌∷◌, Option, Some, None, Result, Ok, Err, Bool, false}
 use Rattle.gc_types.specs.declared.kind.Layouts.{Layouts}
-use Rattle.gc_types.specs.Declarable.{Declarable}
-use Rattle.gc_model.specs.Holds.{HoldsTable}
-use Rattle.gc_model.specs.Table.{Table, declare, make_heap}
+use Rattle.gc_model.specs.Table.{make_heap}
 use Rattle.gc_model.specs.Allocation.{Limits, MayMakeHeap}
 use Rattle.gc_model.specs.Views.{StoreView}
 use Rattle.gc_store.specs.Limiters.{Refuses}
@@ -11,15 +9,10 @@ use Rattle.gc_commands.specs.declared.command.Command.{Command}
 use Rattle.gc_commands.specs.declared.reply.Reply.{Reply}
 use Rattle.gc_commands.specs.declared.reply.Reply.TheVariants as reply
 use Rattle.gc_commands.specs.declared.reply.Refusal.TheVariants as refusal
-use Rattle.gc_script.specs.declared.registers.Register.{Register}
+use Rattle.gc_script.specs.Slots.{RunnerView}
 use Rattle.gc_script.specs.State.{State, HoldsState, with_table}
-use Rattle.std.specs.Prelude.{length, true}
-use Rattle.std.specs.List.{list_all}
-use Rattle.gc_types.specs.declared.value.FieldType.{FieldType}
-use Rattle.gc_types.specs.Declarations.{struct_fields_at}
-use Rattle.gc_commands.specs.declared.command.Command.TheVariants.{New}
-use Rattle.gc_commands.specs.declared.command.Operand.{Operand}
-use Rattle.gc_script.specs.Steps.{Step, Answers, first_failing, heap_tests, is_built_operand, built_struct}
+use Rattle.gc_commands.specs.declared.reply.Refusal.{Refusal}
+use Rattle.gc_script.specs.Steps.{Step, Answers, first_failing}
 use Rattle.gc_script.specs.declared.runner.RunError.{RunError}
 
 -- as many replies as commands, each command a step from the state that the one before it left
@@ -39,45 +32,41 @@ pub data Counts (limits limits' : Limits) (first : ℕ) (answer : Reply) (after 
   nothing_else : ¬ IsRefusedPages answer after → limits' ≡ limits → Counts limits limits' first answer after
 
 -- A command was a step of the state, and the limiter counted what it refused.
-pub record Ran (layouts : Layouts) (limits limits' : Limits) (s : State) (c : Command) (answer : Reply) (new : StoreView) (slots : List (Option Register)) : Type 0 where
+pub record Ran (layouts : Layouts) (limits limits' : Limits) (s : State) (c : Command) (answer : Reply) (new : StoreView) (runner : RunnerView) : Type 0 where
   pub after : State
   pub step : Step layouts limits.limit s c answer after
-  pub holds : HoldsState layouts new slots after
+  pub holds : HoldsState layouts new runner after
   pub counts : Counts limits limits' s.table.first answer after
 
 -- want of memory leaves the state, but the heap may have got its first pages, where the limit grants them
-abbrev pub WantsMemory : Layouts → Option ℕ → State → StoreView → List (Option Register) → Type 0
-WantsMemory layouts limit s new slots =
-    HoldsState layouts new slots s
-    ⊎ (MayMakeHeap limit s.table × HoldsState layouts new slots (with_table (make_heap s.table) s))
+abbrev pub WantsMemory : Layouts → Option ℕ → State → StoreView → RunnerView → Type 0
+WantsMemory layouts limit s new runner =
+    HoldsState layouts new runner s
+    ⊎ (MayMakeHeap limit s.table × HoldsState layouts new runner (with_table (make_heap s.table) s))
 
 -- what running one command answers and leaves
-abbrev pub RunsOne : Layouts → Limits → Limits → State → Command → Result Reply RunError → StoreView → List (Option Register) → Type 0
-RunsOne layouts limits limits' s c (Ok answer) new slots = Ran layouts limits limits' s c answer new slots
-RunsOne layouts limits limits' s c (Err e) new slots = WantsMemory layouts limits.limit s new slots × (limits' ≡ limits)
+abbrev pub RunsOne : Layouts → Limits → Limits → State → Command → Result Reply RunError → StoreView → RunnerView → Type 0
+RunsOne layouts limits limits' s c (Ok answer) new runner = Ran layouts limits limits' s c answer new runner
+RunsOne layouts limits limits' s c (Err e) new runner = WantsMemory layouts limits.limit s new runner × (limits' ≡ limits)
 
--- What placing the object of `new` answers and leaves, once the tests on names and numbers passed:
--- those on the heap are left.
-pub record PlacesNew (layouts : Layouts) (limits limits' : Limits) (s : State) (d t : ℕ) (vs : List Operand) (answer : Reply) (new : StoreView) (slots : List (Option Register)) : Type 0 where
+-- What a command answers and leaves, once the tests up to these passed.
+pub record RunsRest (layouts : Layouts) (limits limits' : Limits) (s : State) (c : Command) (tests : List (Bool × Refusal)) (answer : Reply) (new : StoreView) (runner : RunnerView) : Type 0 where
   pub after : State
-  pub answers : Answers layouts limits.limit s (New d t vs) (first_failing (heap_tests layouts s t vs)) answer after
-  pub holds : HoldsState layouts new slots after
+  pub answers : Answers layouts limits.limit s c (first_failing tests) answer after
+  pub holds : HoldsState layouts new runner after
   pub counts : Counts limits limits' s.table.first answer after
 
-abbrev pub RunsNew : Layouts → Limits → Limits → State → ℕ → ℕ → List Operand → Result Reply RunError → StoreView → List (Option Register) → Type 0
-RunsNew layouts limits limits' s d t vs (Ok answer) new slots = PlacesNew layouts limits limits' s d t vs answer new slots
-RunsNew layouts limits limits' s d t vs (Err e) new slots = WantsMemory layouts limits.limit s new slots × (limits' ≡ limits)
+-- the same, or memory is wanting
+abbrev pub RunsOn : Layouts → Limits → Limits → State → Command → List (Bool × Refusal) → Result Reply RunError → StoreView → RunnerView → Type 0
+RunsOn layouts limits limits' s c tests (Ok answer) new runner = RunsRest layouts limits limits' s c tests answer new runner
+RunsOn layouts limits limits' s c tests (Err e) new runner = WantsMemory layouts limits.limit s new runner × (limits' ≡ limits)
 
--- values for a struct of a declared type, as many as it has fields, all of them built
-pub record CanMakeNew (store : StoreView) (t : ℕ) (vs : List Operand) : Type 0 where
-  pub fields : List FieldType
-  pub declared : struct_fields_at store.types t ≡ Some fields
-  pub same_count : length vs ≡ length fields
-  pub built : list_all is_built_operand vs ≡ true
+-- the same of a command that asks no limiter and leaves it as it is
+pub record Goes (layouts : Layouts) (s : State) (c : Command) (tests : List (Bool × Refusal)) (answer : Reply) (new : StoreView) (runner : RunnerView) : Type 0 where
+  pub after : State
+  pub answers : Answers layouts None s c (first_failing tests) answer after
+  pub holds : HoldsState layouts new runner after
 
--- what declaring a struct of so many built fields answers and leaves
-abbrev pub DeclaresBuilt : Layouts → ℕ → Table ℕ → Result Reply RunError → StoreView → Type 0
-DeclaresBuilt layouts count t (Ok answer) new =
-    (Declarable t.types (built_struct count) × (answer ≡ reply.Declared (length t.types)) × HoldsTable layouts new (declare (built_struct count) t))
-    ⊎ ((¬ Declarable t.types (built_struct count)) × (answer ≡ reply.Refused refusal.BadType) × HoldsTable layouts new t)
-DeclaresBuilt layouts count t (Err e) new = HoldsTable layouts new t
+abbrev pub GoesOn : Layouts → State → Command → List (Bool × Refusal) → Result Reply RunError → StoreView → RunnerView → Type 0
+GoesOn layouts s c tests (Ok answer) new runner = Goes layouts s c tests answer new runner
+GoesOn layouts s c tests (Err e) new runner = HoldsState layouts new runner s

@@ -7,7 +7,7 @@ use Rattle.gc_model.specs.Views.{StoreView}
 use Rattle.gc_model.specs.Holds.{HoldsTable}
 use Rattle.gc_commands.specs.declared.command.Command.{Command}
 use Rattle.gc_commands.specs.declared.reply.Reply.{Reply}
-use Rattle.gc_script.specs.declared.registers.Register.{Register}
+use Rattle.gc_script.specs.Slots.{RunnerView}
 use Rattle.gc_script.specs.State.{State}
 use Rattle.gc_script.specs.Run.{Run, Ran, IsRefusedPages}
 
@@ -51,7 +51,7 @@ pub record StoppedScript (layouts : Layouts) (limits limits' : Limits) (s : Stat
   pub holds : HoldsTable layouts new after.table ⊎ (MayMakeHeap limits.limit after.table × HoldsTable layouts new (make_heap after.table))
 
 -- one more command ran, whose reply stands behind the others
-pub record RanNext (layouts : Layouts) (limits limits' : Limits) (s : State) (c : Command) (before now : List Reply) (new : StoreView) (slots : List (Option Register)) : Type 0 where
+pub record RanNext (layouts : Layouts) (limits limits' : Limits) (s : State) (c : Command) (before now : List Reply) (new : StoreView) (runner : RunnerView) : Type 0 where
   pub answer : Reply
-  pub ran : Ran layouts limits limits' s c answer new slots
+  pub ran : Ran layouts limits limits' s c answer new runner
   pub appended : now ≡ before ++ answer ∷ []

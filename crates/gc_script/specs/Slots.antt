@@ -1,6 +1,15 @@
--- The registers of a runner.
-use Rattle.std.specs.Prelude.{ℕ, List, Option, Some, None, slice_get}
-use Rattle.gc_script.specs.declared.registers.Register.{Register}
+-- The registers and the scope marks of a runner.
+use Rattle.std.specs.Prelude.{ℕ, List, [], Option, Some, None, slice_get}
+use Rattle.gc_store.specs.declared.root.RawValue.{RawValue}
+
+-- what a runner has: its registers, and the numbers of roots with which its open scopes were entered, the
+-- oldest first
+pub record RunnerView : Type 0 where
+  pub registers : List (Option RawValue)
+  pub marks : List ℕ
+
+abbrev pub new_runner : RunnerView
+new_runner = record { registers = []; marks = [] }
 
 -- an option of an option
 abbrev pub option_join : {X : Type 0} → Option (Option X) → Option X
@@ -8,5 +17,5 @@ option_join None = None
 option_join (Some x) = x
 
 -- what a register holds; those past the end are unset
-abbrev pub register_at : List (Option Register) → ℕ → Option Register
+abbrev pub register_at : List (Option RawValue) → ℕ → Option RawValue
 register_at slots d = option_join (slice_get slots d)

@@ -1,16 +1,16 @@
--- The state of a session: an object table and registers.
-use Rattle.std.specs.Prelude.{◌≡◌, ℕ, ◌==◌, Bool, true, false, List, [], Option, Some, None, Result, Ok, Err, slice_get, if◌then◌else◌}
+-- The state of a session: an object table, registers and scope marks.
+use Rattle.std.specs.Prelude.{◌≡◌, ℕ, ◌==◌, List, [], Option, Some, None, if◌then◌else◌}
+use Rattle.std.specs.Int.{w32, w64}
 use Rattle.gc_types.specs.declared.kind.Layouts.{Layouts}
 use Rattle.gc_model.specs.declared.GcClass.{GcClass}
-use Rattle.gc_model.specs.Values.{Value}
-use Rattle.gc_model.specs.Table.{Table, start}
+use Rattle.gc_model.specs.Values.{Value, i32, i64, f32, f64, v128, number_bits}
+use Rattle.gc_model.specs.Table.{Table}
 use Rattle.gc_model.specs.Views.{StoreView}
 use Rattle.gc_model.specs.Holds.{HoldsTable}
-use Rattle.gc_store.specs.declared.root.GcRootIndex.{GcRootIndex}
 use Rattle.gc_store.specs.Roots.{Names}
-use Rattle.gc_script.specs.declared.registers.Register.{Register}
-use Rattle.gc_script.specs.Slots.{register_at}
-use Rattle.gc_script.specs.declared.registers.Register.TheVariants as register
+use Rattle.gc_store.specs.declared.root.RawValue.{RawValue}
+use Rattle.gc_store.specs.declared.root.RawValue.TheVariants as raw
+use Rattle.gc_script.specs.Slots.{register_at, RunnerView}
 
 -- what a register of the table holds: a number, or a class with null or the serial of a root
 pub data Held : Type 0 where
@@ -22,8 +22,8 @@ pub data HeldOwned : Type 0 where
   owned : GcClass → ℕ → HeldOwned
   unrooted : HeldOwned
 
--- A table, what each register and each owned register holds that was set, and the scope marks. No
--- command that is built sets an owned register or a mark.
+-- A table, what each register and each owned register holds that was set, and the scope marks, the oldest
+-- first. No command that is built sets an owned register.
 pub record State : Type 0 where
   pub table : Table ℕ
   pub registers : ℕ → Option Held
@@ -42,21 +42,34 @@ begin t = record { table = t; registers = no_registers; owned_registers = λ o. 
 abbrev pub with_table : Table ℕ → State → State
 with_table t s = record s { table = t }
 
+-- the state with these scope marks
+abbrev pub with_marks : List ℕ → State → State
+with_marks marks s = record s { marks = marks }
+
 -- the state with a register set
 abbrev pub set_register : ℕ → Held → State → State
 set_register d held s = record s { registers = λ k. if k == d then Some held else s.registers k }
 
--- A register of the runner stands for one of the table: its handle is that of the serial.
-abbrev pub Stands : StoreView → Table ℕ → Option Register → Option Held → Type 0
+-- the state with a value in a register, where one is named
+abbrev pub put_into : Option ℕ → Held → State → State
+put_into None held s = s
+put_into (Some d) held s = set_register d held s
+
+-- What a register of the runner holds is what one of the table holds: a handle is that of the serial.
+abbrev pub Stands : StoreView → Table ℕ → Option RawValue → Option Held → Type 0
 Stands s t None None = Unit {0}
-Stands s t (Some (register.Reference class (Some handle))) (Some (reference class' (Some serial))) = (class ≡ class') × Names s t handle serial
-Stands s t (Some (register.Reference class None)) (Some (reference class' None)) = class ≡ class'
-Stands s t (Some (register.Number raw)) (Some (number v)) = ⊥
+Stands s t (Some (raw.I32 n)) (Some (number v)) = v ≡ i32 (number_bits w32 n)
+Stands s t (Some (raw.I64 n)) (Some (number v)) = v ≡ i64 (number_bits w64 n)
+Stands s t (Some (raw.F32 n)) (Some (number v)) = v ≡ f32 n
+Stands s t (Some (raw.F64 n)) (Some (number v)) = v ≡ f64 n
+Stands s t (Some (raw.V128 n)) (Some (number v)) = v ≡ v128 n
+Stands s t (Some (raw.Ref class (Some handle))) (Some (reference class' (Some serial))) = (class ≡ class') × Names s t handle serial
+Stands s t (Some (raw.Ref class None)) (Some (reference class' None)) = class ≡ class'
 Stands s t _ _ = ⊥
 
--- the store and the runner's registers are in that state
-pub record HoldsState (layouts : Layouts) (s : StoreView) (slots : List (Option Register)) (state : State) : Type 0 where
+-- the store and the runner are in that state
+pub record HoldsState (layouts : Layouts) (s : StoreView) (runner : RunnerView) (state : State) : Type 0 where
   pub table : HoldsTable layouts s state.table
-  pub registers : (d : ℕ) → Stands s state.table (register_at slots d) (state.registers d)
+  pub registers : (d : ℕ) → Stands s state.table (register_at runner.registers d) (state.registers d)
   pub no_owned : (o : ℕ) → state.owned_registers o ≡ None
-  pub no_marks : state.marks ≡ []
+  pub marks : runner.marks ≡ state.marks

@@ -5,16 +5,22 @@
 //! step is: `Steps` has the tests of each command in their order and what it does, `Run` a whole run.
 #![tactic(auto)]
 
+mod built;
+mod fields;
 pub mod laws;
-pub mod registers;
+mod make;
+mod registers;
 pub mod runner;
+mod scopes;
 pub mod script;
+mod shown;
+mod targets;
+mod values;
 
 pub use gc_commands::{
     ByteText, Command, FieldWord, FieldWords, HeapWord, Operand, Operands, Refusal, Reply,
     ReplyValue, StorageWord, ValueWord, parse_line, push_reply, reply_text,
 };
 pub use laws::one_struct_session;
-pub use registers::{Number, Register};
 pub use runner::{RunError, Runner};
 pub use script::run_script;

@@ -3,45 +3,28 @@
 ghost use Rattle.std.specs.Prelude.{◌≡◌, ◌≢◌, ◌<◌, ◌≤◌, ℕ, length, Some, None, OnOk, [], slice_set};
 ghost use Rattle.gc_script.specs.Slots.{register_at};
 
-use gc_refs::V128;
-use gc_store::{GcClass, GcRootIndex};
+use gc_store::RawValue;
 use std::alloc::{AllocError, Global};
 use std::marker::Model;
 
-/// A number with its width. Floating-point numbers are their bits.
-#[derive(Clone, Copy, Debug)]
-pub enum Number {
-    I32(i32),
-    I64(i64),
-    F32(u32),
-    F64(u64),
-    V128(V128),
-}
-
-/// What a register holds: a number, or a class with a handle or null.
-#[derive(Clone, Copy, Debug)]
-pub enum Register {
-    Number(Number),
-    Reference(GcClass, Option<GcRootIndex>),
-}
-
-/// The registers that were set, by their numbers.
+/// The registers that were set, by their numbers. A register holds a number, or a class with a handle or
+/// null.
 #[derive(Drop)]
 pub(crate) struct Registers {
-    slots: Vec<Option<Register>>,
+    slots: Vec<Option<RawValue>>,
 }
 
 impl Model for Registers {
     ghost use Rattle.std.specs.Prelude.{List, Option};
-    ghost use Rattle.gc_script.specs.declared.registers.Register.{Register};
+    ghost use Rattle.gc_store.specs.declared.root.RawValue.{RawValue};
 
-    ghost Value = { List (Option Register) };
+    ghost Value = { List (Option RawValue) };
 
     ghost view = { λ r. r.slots.items };
 }
 
 /// Adds unset registers until there are so many.
-fn extend_to(slots: &mut Vec<Option<Register>>, wanted: usize) -> Result<(), AllocError>
+fn extend_to(slots: &mut Vec<Option<RawValue>>, wanted: usize) -> Result<(), AllocError>
     ensures room { OnOk result (wanted ≤ length slots.new.items) }
     ensures same { (d : ℕ) → register_at slots.new.items d ≡ register_at slots.old.items d }
 {
@@ -63,7 +46,7 @@ impl Registers {
     }
 
     /// What the register holds, if it was set.
-    pub(crate) fn get(&self, number: u16) -> Option<Register>
+    pub(crate) fn get(&self, number: u16) -> Option<RawValue>
         ensures { result ≡ register_at self.now number }
     {
         match self.slots.get(number as usize) {
@@ -81,7 +64,7 @@ impl Registers {
     }
 
     /// Sets the register, for which there is room.
-    pub(crate) fn set(&mut self, number: u16, register: Register)
+    pub(crate) fn set(&mut self, number: u16, register: RawValue)
         requires { number < length self.old }
         ensures set { register_at self.new number ≡ Some register }
         ensures others { (d : ℕ) → d ≢ number → register_at self.new d ≡ register_at self.old d }

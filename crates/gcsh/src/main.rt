@@ -9,16 +9,25 @@ use std::{env, io};
 const HELP: &str = "\
 gcsh runs a script of heap commands, one reply a line.
 
-Usage: gcsh null FIRST MOST < SCRIPT
+Usage: gcsh COLLECTOR FIRST MOST < SCRIPT
        gcsh --help | --version
 
-null is a heap that never frees. It begins with FIRST pages of 65536 bytes when
-the first object is made, and may have MOST of them: FIRST <= MOST <= 65535.
+COLLECTOR is copying, a heap that frees what no root reaches, or null, which
+never frees. A heap begins with FIRST pages of 65536 bytes when the first object
+is made, and may have MOST of them: FIRST <= MOST <= 65535.
 
-Commands, one a line:
-  struct [m:i32]..    declare a struct type of 32-bit fields; replies its number
-  new D T [i32:N]..   make a struct of type T, and put it into register D
-  field R I           reply the value of field I of the struct in register R
+Commands, one a line; D, R and S are registers, from 0 to 65535:
+  struct [F]..        declare a struct type; replies its number. F is m: or c:,
+                      mutable or constant, and i32, i64 or any
+  new D T [V]..       make a struct of type T, and put it into register D
+  i31 D N             put the low 31 bits of N into register D
+  field R I [D]       reply the value of field I of the struct in register R,
+                      and put it into register D
+  setf R I V          write field I of the struct in register R
+  eq R S              whether registers R and S name the same object
+  enter, leave        enter a scope of roots, leave it
+  gc                  collect; replies how many objects and host objects are held
+V is i32:N, i64:N, any:null, or r and a register.
 
 Every line has a reply, and one that is no command has BadLine.
 

@@ -6,7 +6,7 @@ use Rattle.std.proofs.KnownBytes.{Appends-nil, Appends-trans}
 use Rattle.gc_types.specs.declared.kind.Layouts.{Layouts}
 use Rattle.gc_model.specs.Allocation.{Limits}
 use Rattle.gc_model.specs.Views.{StoreView}
-use Rattle.gc_script.specs.declared.registers.Register.{Register}
+use Rattle.gc_script.specs.Slots.{RunnerView}
 use Rattle.gc_script.specs.State.{State, HoldsState}
 use Rattle.gc_script.specs.Steps.{Step}
 use Rattle.gc_script.specs.Session.{SessionFrom, reply_line}
@@ -14,21 +14,25 @@ use Rattle.gc_script.proofs.RunLemmas.{limit_stays}
 use Rattle.gc_store.specs.Stores.{IsSameStore}
 use Rattle.gcsh_top.specs.Ends.{TookPart}
 use Rattle.gc_script.specs.Lines.{lines}
-use Rattle.gcsh_top.specs.Runs.{BrokeOff, RanLine, RanLines, StoppedLines}
+use Rattle.gc_model.specs.Holds.{HoldsKept}
+use Rattle.gc_commands.specs.declared.command.Command.TheVariants.{Gc}
+use Rattle.gcsh_top.specs.Runs.{BrokeOff, RanLine, RanLines, StoppedLines, EndsInGc}
+use Rattle.gcsh_top.proofs.GcLemmas.{is_gc_line, last_line, no_lines}
 
 -- The lines before the rest were run from s: whatever session some lines are from here, the lines done and
 -- those are that session from s.
-pub record Along (layouts : Layouts) (limit now : Option ℕ) (s : State) (input rest : List ℕ) (store : StoreView) (slots : List (Option Register)) (held held' : Option (List ℕ)) : Type 0 where
+pub record Along (layouts : Layouts) (limit now : Option ℕ) (s : State) (input rest : List ℕ) (store : StoreView) (slots : RunnerView) (held held' : Option (List ℕ)) : Type 0 where
   pub done : List (List ℕ)
   pub cut : lines input ≡ done ++ lines rest
   pub output : List ℕ
   pub mid : State
   pub goes_on : (ls : List (List ℕ)) (more : List ℕ) (after : State) → SessionFrom layouts limit mid ls more after → SessionFrom layouts limit s (done ++ ls) (output ++ more) after
   pub holds : HoldsState layouts store slots mid
+  pub kept : EndsInGc done → HoldsKept layouts store mid.table
   pub replied : Appends held held' output
   pub same_limit : now ≡ limit
 
-pub along_start : (layouts : Layouts) (limit : Option ℕ) (s : State) (input : List ℕ) (store : StoreView) (slots : List (Option Register)) (held : Option (List ℕ)) → HoldsState layouts store slots s → Along layouts limit limit s input input store slots held held
+pub along_start : (layouts : Layouts) (limit : Option ℕ) (s : State) (input : List ℕ) (store : StoreView) (slots : RunnerView) (held : Option (List ℕ)) → HoldsState layouts store slots s → Along layouts limit limit s input input store slots held held
 along_start layouts limit s input store slots held holds = record {
   done = [];
   cut = refl;
@@ -36,12 +40,13 @@ along_start layouts limit s input store slots held holds = record {
   mid = s;
   goes_on = λ ls more after session. session;
   holds = holds;
+  kept = λ ends. absurd (no_lines ends.0 ends.1);
   replied = Appends-nil held;
   same_limit = refl;
 }
 
 -- a session that begins with one more line
-one_more : (layouts : Layouts) (limits limits' : Limits) (limit : Option ℕ) (s : State) (line : List ℕ) (store : StoreView) (slots : List (Option Register)) (held held' : Option (List ℕ)) (did : RanLine layouts limits limits' s line store slots held held') → limits.limit ≡ limit → (ls : List (List ℕ)) (more : List ℕ) (after : State) → SessionFrom layouts limit did.ran.after ls more after → SessionFrom layouts limit s (line ∷ ls) (reply_line did.answer ++ more) after
+one_more : (layouts : Layouts) (limits limits' : Limits) (limit : Option ℕ) (s : State) (line : List ℕ) (store : StoreView) (slots : RunnerView) (held held' : Option (List ℕ)) (did : RanLine layouts limits limits' s line store slots held held') → limits.limit ≡ limit → (ls : List (List ℕ)) (more : List ℕ) (after : State) → SessionFrom layouts limit did.ran.after ls more after → SessionFrom layouts limit s (line ∷ ls) (reply_line did.answer ++ more) after
 one_more layouts limits limits' limit s line store slots held held' did is ls more after session = record {
   commands = did.command ∷ session.commands;
   replies = did.answer ∷ session.replies;
@@ -55,7 +60,7 @@ session_of : (layouts : Layouts) (limit : Option ℕ) (s after : State) (ls ls' 
 session_of layouts limit s after ls ls' bytes bytes' same_lines same_bytes session =
     subst (λ (xs : List (List ℕ)). SessionFrom layouts limit s xs bytes' after) same_lines (subst (λ (bs : List ℕ). SessionFrom layouts limit s ls bs after) same_bytes session)
 
-pub along_more : (layouts : Layouts) (limits limits' : Limits) (limit : Option ℕ) (s : State) (input rest line behind : List ℕ) (store store' : StoreView) (slots slots' : List (Option Register)) (a b c : Option (List ℕ)) → (so_far : Along layouts limit limits.limit s input rest store slots a b) → lines rest ≡ line ∷ lines behind → RanLine layouts limits limits' so_far.mid line store' slots' b c → Along layouts limit limits'.limit s input behind store' slots' a c
+pub along_more : (layouts : Layouts) (limits limits' : Limits) (limit : Option ℕ) (s : State) (input rest line behind : List ℕ) (store store' : StoreView) (slots slots' : RunnerView) (a b c : Option (List ℕ)) → (so_far : Along layouts limit limits.limit s input rest store slots a b) → lines rest ≡ line ∷ lines behind → RanLine layouts limits limits' so_far.mid line store' slots' b c → Along layouts limit limits'.limit s input behind store' slots' a c
 along_more layouts limits limits' limit s input rest line behind store store' slots slots' a b c so_far cut did = record {
   done = so_far.done ++ line ∷ [];
   cut = so_far.cut ∙ ap (λ (ls : List (List ℕ)). so_far.done ++ ls) cut ∙ sym (append_assoc so_far.done (line ∷ []) (lines behind));
@@ -66,17 +71,18 @@ along_more layouts limits limits' limit s input rest line behind store store' sl
       (sym (append_assoc so_far.done (line ∷ []) ls)) (sym (append_assoc so_far.output (reply_line did.answer) more))
       (so_far.goes_on (line ∷ ls) (reply_line did.answer ++ more) after (one_more layouts limits limits' limit so_far.mid line store' slots' b c did so_far.same_limit ls more after session));
   holds = did.ran.holds;
+  kept = λ ends. did.kept (is_gc_line line did.command did.is_command (last_line so_far.done line ends));
   replied = Appends-trans a b c so_far.output (reply_line did.answer) so_far.replied did.replied;
   same_limit = limit_stays limits limits' so_far.mid.table.first did.answer did.ran.after did.ran.counts ∙ so_far.same_limit;
 }
 
 -- the lines done are a session by themselves
-session_so_far : (layouts : Layouts) (limit now : Option ℕ) (s : State) (input rest : List ℕ) (store : StoreView) (slots : List (Option Register)) (a b : Option (List ℕ)) → (so_far : Along layouts limit now s input rest store slots a b) → SessionFrom layouts limit s so_far.done so_far.output so_far.mid
+session_so_far : (layouts : Layouts) (limit now : Option ℕ) (s : State) (input rest : List ℕ) (store : StoreView) (slots : RunnerView) (a b : Option (List ℕ)) → (so_far : Along layouts limit now s input rest store slots a b) → SessionFrom layouts limit s so_far.done so_far.output so_far.mid
 session_so_far layouts limit now s input rest store slots a b so_far =
     session_of layouts limit s so_far.mid (so_far.done ++ []) so_far.done (so_far.output ++ []) so_far.output (append-nil so_far.done) (append-nil so_far.output)
     (so_far.goes_on [] [] so_far.mid (record { commands = []; replies = []; are_commands = tt; run = refl; output_is = refl }))
 
-pub along_end : (layouts : Layouts) (limit now : Option ℕ) (s : State) (input rest : List ℕ) (store : StoreView) (slots : List (Option Register)) (a b : Option (List ℕ)) → Along layouts limit now s input rest store slots a b → rest ≡ [] → RanLines layouts limit s input store slots a b
+pub along_end : (layouts : Layouts) (limit now : Option ℕ) (s : State) (input rest : List ℕ) (store : StoreView) (slots : RunnerView) (a b : Option (List ℕ)) → Along layouts limit now s input rest store slots a b → rest ≡ [] → RanLines layouts limit s input store slots a b
 along_end layouts limit now s input rest store slots a b so_far none = record {
   output = so_far.output;
   after = so_far.mid;
@@ -84,11 +90,12 @@ along_end layouts limit now s input rest store slots a b so_far none = record {
       (sym (so_far.cut ∙ ap (λ (bs : List ℕ). so_far.done ++ lines bs) none ∙ append-nil so_far.done)) refl
       (session_so_far layouts limit now s input rest store slots a b so_far);
   holds = so_far.holds;
+  kept = λ ends. so_far.kept (subst EndsInGc (so_far.cut ∙ ap (λ (bs : List ℕ). so_far.done ++ lines bs) none ∙ append-nil so_far.done) ends);
   replied = so_far.replied;
 }
 
 -- the next line broke off
-pub along_broken : (layouts : Layouts) (limit now : Option ℕ) (s : State) (input rest line behind : List ℕ) (store store' : StoreView) (slots slots' : List (Option Register)) (a b c : Option (List ℕ)) → (so_far : Along layouts limit now s input rest store slots a b) → lines rest ≡ line ∷ lines behind → BrokeOff layouts now so_far.mid line store' slots' b c → StoppedLines layouts limit s input store' slots' a c
+pub along_broken : (layouts : Layouts) (limit now : Option ℕ) (s : State) (input rest line behind : List ℕ) (store store' : StoreView) (slots slots' : RunnerView) (a b c : Option (List ℕ)) → (so_far : Along layouts limit now s input rest store slots a b) → lines rest ≡ line ∷ lines behind → BrokeOff layouts now so_far.mid line store' slots' b c → StoppedLines layouts limit s input store' slots' a c
 along_broken layouts limit now s input rest line behind store store' slots slots' a b c so_far cut broke = record {
   done = so_far.done;
   line = line;
@@ -107,7 +114,7 @@ pub took_none : (held : Option (List ℕ)) (bytes : List ℕ) (b : ℕ) → Took
 took_none held bytes b = (0, omega (arith, length-append bytes (b ∷ [])), Appends-nil held)
 
 -- what the loop over the lines keeps
-pub record RanSoFar (layouts : Layouts) (limit now : Option ℕ) (input rest : List ℕ) (store store' : StoreView) (slots slots' : List (Option Register)) (held held' : Option (List ℕ)) (faults faults' : ℕ) : Type 0 where
+pub record RanSoFar (layouts : Layouts) (limit now : Option ℕ) (input rest : List ℕ) (store store' : StoreView) (slots slots' : RunnerView) (held held' : Option (List ℕ)) (faults faults' : ℕ) : Type 0 where
   pub along : (s : State) → HoldsState layouts store slots s → Along layouts limit now s input rest store' slots' held held'
   pub no_fewer_faults : faults ≤ faults'
   pub same : IsSameStore store store'

@@ -3,4 +3,5 @@ pub mod Ends
 pub mod Memory
 pub mod Input
 pub mod Words
+pub mod Chosen
 pub mod Runs

@@ -1,6 +1,8 @@
 -- The words of the program.
 use Rattle.std.specs.Prelude.{◌≡◌, ℕ, ◌≤◌, List, [], ◌∷◌, codes}
 use Rattle.std.specs.Fmt.{decimal}
+use Rattle.gc_types.specs.declared.kind.Layouts.{Layouts}
+use Rattle.gc_types.specs.declared.kind.Layouts.TheVariants as layouts
 use Rattle.gc_model.specs.Allocation.{max_pages}
 use Rattle.gcsh_top.specs.declared.words.Collector.{Collector}
 use Rattle.gcsh_top.specs.declared.words.Collector.TheVariants.{Copying, Counting, Null}
@@ -12,11 +14,17 @@ collector_word Copying = codes "copying"
 collector_word Counting = codes "counting"
 collector_word Null = codes "null"
 
--- the null heap is the one collector that is built
+-- the collectors that are built
 abbrev pub IsBuilt : Collector → Type 0
-IsBuilt Copying = ⊥
+IsBuilt Copying = Unit {0}
 IsBuilt Counting = ⊥
 IsBuilt Null = Unit {0}
+
+-- the kind of heap of a collector
+abbrev pub layouts_of : Collector → Layouts
+layouts_of Copying = layouts.Copying
+layouts_of Counting = layouts.Counting
+layouts_of Null = layouts.Null
 
 -- the words of a form: a collector, the pages that a heap begins with, the most that it may have
 abbrev pub words_of : Form → List (List ℕ)

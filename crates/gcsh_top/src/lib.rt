@@ -16,6 +16,8 @@ pub mod read;
 mod run;
 #[cfg(test)]
 mod run_tests;
+#[cfg(test)]
+mod session_tests;
 pub mod sink;
 pub mod source;
 pub mod standard;

@@ -10,7 +10,7 @@ use std::test::Fail;
 /// What a run has: its words, its input, and the room of its sink with the numbers of the reads and
 /// writes that fail.
 #[derive(Clone, Copy, Drop)]
-struct Run<'a> {
+pub(crate) struct Run<'a> {
     words: &'a str,
     input: &'a str,
     failing_reads: &'a [u64],
@@ -19,7 +19,7 @@ struct Run<'a> {
 }
 
 /// A run with ends that never fail.
-fn run_of<'a>(words: &'a str, input: &'a str) -> Run<'a> {
+pub(crate) fn run_of<'a>(words: &'a str, input: &'a str) -> Run<'a> {
     Run {
         words,
         input,
@@ -39,7 +39,7 @@ fn words_of(alloc: Global, text: &str) -> Result<Vec<String>, AllocError> {
 }
 
 /// Runs the program, and gives its status and the sink with what was written.
-fn top(alloc: Global, run: &Run<'_>) -> Result<(u8, MemSink), AllocError> {
+pub(crate) fn top(alloc: Global, run: &Run<'_>) -> Result<(u8, MemSink), AllocError> {
     let words = words_of(alloc, run.words)?;
     let input = run.input.as_bytes().to_vec(alloc)?;
     let mut source = MemSource::new(input, run.failing_reads.to_vec(alloc)?);
@@ -77,13 +77,13 @@ fn runs_print_their_replies(rt: HostRuntime) -> Result<(), Fail> {
         (
             "null 1 64",
             "new 1 0 i64:1\nnew 1 0 i32:1\nstruct m:i32\nnew 1 0 i64:1\nnew 1 0\nnew 1 0 i32:1 i32:2\nnew 1 4294967294 i32:1\nfield 1 0\nfield 1 0 2\n",
-            "BadLine\nNoSuchName\ntype 0\nBadLine\nFieldCount\nFieldCount\nNoSuchName\nNoSuchName\nBadLine\n",
+            "NoSuchName\nNoSuchName\ntype 0\nTypeMismatch\nFieldCount\nFieldCount\nNoSuchName\nNoSuchName\nNoSuchName\n",
         ),
         // Forms that are not built, and numbers that are none.
         (
             "null 1 64",
             "struct c:i32\nstruct final\nstruct sub:0 m:i32\nstruct m:i64\ngc\ncap\nstruct m:i32\nnew 01 0 i32:1\nnew 1 0 i32:+1\nnew 1 0 i32:-0\nnew 65536 0 i32:1\nnew 1 0 i32:2147483648\nfield 1 4294967296\nfield  1 0\nfield 1 0 \n",
-            "BadLine\nBadLine\nBadLine\nBadLine\nBadLine\nBadLine\ntype 0\nBadLine\nBadLine\nBadLine\nBadLine\nBadLine\nBadLine\nBadLine\nBadLine\n",
+            "type 0\nBadLine\nBadLine\ntype 1\nheld 0 0\nBadLine\ntype 2\nBadLine\nBadLine\nBadLine\nBadLine\nBadLine\nBadLine\nBadLine\nBadLine\n",
         ),
         // A register that is set again names the new object, and the old one keeps its field.
         (
@@ -120,7 +120,7 @@ fn words_of_no_form_are_status_1(rt: HostRuntime) -> Result<(), Fail> {
         "null 1",
         "null 1 64 64",
         "fast 1 64",
-        "copying 1 64",
+        "copying 1",
         "counting 1 64",
         "null 2 1",
         "null 01 64",
@@ -169,7 +169,7 @@ fn ends_that_fail_have_their_status(rt: HostRuntime) -> Result<(), Fail> {
 }
 
 /// So many times the text.
-fn times(alloc: Global, text: &str, count: usize) -> Result<String, AllocError> {
+pub(crate) fn times(alloc: Global, text: &str, count: usize) -> Result<String, AllocError> {
     let mut whole = String::new(alloc);
     for _turn in 0..count {
         whole.push_str(text)?;

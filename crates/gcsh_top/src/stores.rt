@@ -1,9 +1,9 @@
 //! The stores of the program.
 
-ghost use Rattle.std.specs.Prelude.{IfOk, ℕ};
-ghost use Rattle.gc_types.specs.declared.kind.Layouts.TheVariants.{Null};
-ghost use Rattle.gc_store.specs.Stores.{HoldsStart};
+ghost use Rattle.std.specs.Prelude.{IfOk, ◌≡◌};
+ghost use Rattle.gcsh_top.specs.Chosen.{AreNew};
 
+use gc_copying::CopyingHeap;
 use gc_heap::NullHeap;
 use gc_store::{Engine, HeapConfig, Store};
 use std::alloc::{AllocError, Global};
@@ -11,19 +11,27 @@ use std::alloc::{AllocError, Global};
 /// A store for each collector that is built, of which a run uses one.
 #[derive(Drop)]
 pub struct Stores {
+    pub copying: Store<CopyingHeap, u64>,
     pub null: Store<NullHeap, u64>,
 }
 
 impl Stores {
-    /// Stores with nothing in them.
+    /// Stores with nothing in them, each with an id of its own.
     pub fn new(alloc: Global) -> Result<Stores, AllocError>
-        ensures { IfOk result (λ stores. HoldsStart ℕ Null stores.null) }
+        ensures new { IfOk result AreNew }
+        ensures apart { IfOk result (λ stores. ¬ (stores.copying.number ≡ stores.null.number)) }
     {
         let mut engine = Engine::new(0);
-        let (Some(id), Some(config)) = (engine.next_store_id(), HeapConfig::with_pages(0)) else {
+        let (Some(first), Some(second), Some(config)) = (
+            engine.next_store_id(),
+            engine.next_store_id(),
+            HeapConfig::with_pages(0),
+        ) else {
             unreachable!()
         };
-        let null = Store::new(alloc, id, NullHeap::new(alloc), config)?;
-        Ok(Stores { null })
+        Ok(Stores {
+            copying: Store::new(alloc, first, CopyingHeap::new(alloc), config)?,
+            null: Store::new(alloc, second, NullHeap::new(alloc), config)?,
+        })
     }
 }

@@ -27,8 +27,8 @@ pub struct Form {
 }
 
 /// The form that the words of the program, without its own name, are: `COLLECTOR FIRST MOST` with
-/// `FIRST <= MOST <= MAX_PAGES`, plain decimals without leading zeros. Of the collectors `null` is
-/// built so far. None where they are of no such form.
+/// `FIRST <= MOST <= MAX_PAGES`, plain decimals without leading zeros. Of the collectors
+/// `copying` and `null` are built so far. None where they are of no such form.
 pub fn parse_words(words: &[String]) -> Option<Form>
     ensures { MatchOption result ((form : Form) → ¬ IsForm (map string_bytes words.now) form) (IsForm (map string_bytes words.now)) }
 {
@@ -50,6 +50,7 @@ fn parse_collector(word: &str) -> Option<Collector>
     ensures { Reads IsBuilt collector_word word.now result }
 {
     match word {
+        "copying" => Some(Collector::Copying),
         "null" => Some(Collector::Null),
         _ => None,
     }

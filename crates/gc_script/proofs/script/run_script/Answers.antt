@@ -4,7 +4,7 @@ use Rattle.gc_commands.specs.declared.command.Command.{Command}
 use Rattle.gc_store.specs.Stores.{IsSameStore}
 use Rattle.gc_script.specs.State.{begin, HoldsState}
 use Rattle.gc_script.proofs.ResultLemmas.{on_any_err}
-use Rattle.gc_script.proofs.PlaceLemmas.{same_twice, begins}
+use Rattle.gc_script.proofs.StandLemmas.{same_twice, begins}
 use Rattle.gc_script.proofs.ScriptLemmas.{Along, along_start, along_more, along_end, along_stopped}
 use Rattle.gc_script.proofs.script.run_script.Goals as goal
 

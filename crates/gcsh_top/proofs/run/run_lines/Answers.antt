@@ -1,5 +1,5 @@
 use Rattle.std.proofs.Common.{◌≤◌, ℕ, refl, sym, ap, subst, arith, ◌∙◌}
-use Rattle.gc_script.proofs.PlaceLemmas.{same_twice}
+use Rattle.gc_script.proofs.StandLemmas.{same_twice}
 use Rattle.gc_script.proofs.ResultLemmas.{on_any_err}
 use Rattle.gcsh_top.proofs.RunLemmas.{along_start, along_more, along_end, along_broken}
 use Rattle.gcsh_top.proofs.run.run_lines.Goals as goal

@@ -1,35 +1,47 @@
-use Rattle.std.proofs.Common.{◌≡◌, ℕ, List, Option, Some, sym, ap, ◌∙◌, refl}
-use Rattle.gc_script.specs.Slots.{register_at}
-use Rattle.gc_script.specs.State.{State, HoldsState}
-use Rattle.gc_script.specs.declared.registers.Register.{Register}
-use Rattle.gc_script.specs.declared.registers.Register.TheVariants as register
-use Rattle.gc_store.specs.Roots.{CanRead}
-use Rattle.gc_script.proofs.ReadLemmas.{can_read, field_read, answers_field}
+use Rattle.std.proofs.Common.{◌≡◌, ℕ, true, false, Option, Some, None, sym, ap, ◌∙◌, refl, subst}
+use Rattle.gc_store.specs.declared.root.RawValue.{RawValue}
+use Rattle.gc_script.specs.Slots.{RunnerView, register_at}
+use Rattle.gc_script.specs.State.{State, HoldsState, Stands}
+use Rattle.gc_script.specs.Given.{given_register, is_unset}
+use Rattle.gc_script.proofs.WriteLemmas.{is_set}
+use Rattle.gc_script.proofs.ReadLemmas.{register_with-same}
+use Rattle.gc_script.proofs.FieldLemmas.{names_no_field, full, read}
 use Rattle.gc_script.proofs.runner.Runner.read_field.Given as given
 use Rattle.gc_script.proofs.runner.Runner.read_field.Goals as goal
-use Rattle.gc_script.proofs.runner.Runner.read_field.Goals.{Else-i-count}
-
--- the field may be read
-readable : (g : given.Over) (c : Else-i-count g) → CanRead ℕ g.H.GcHeap.KIND c.args.store.now c.in-Some-Reference-default-Some.handle c.args.i
-readable g c = can_read _ _ _ c.in-Ok-Some.count c.args.i c.if-i-count.false ((rw c.in-Ok-Some.field-0-is at c.in-Ok-Some.ensures).found)
-
-pub read_value-requires : goal.read_value-requires
-read_value-requires g c = readable g (goal.at.read_value-requires g c).Else-i-count
-
-pub unreachable-requires : goal.unreachable-requires
-unreachable-requires g c =
-    let can = readable g (goal.at.unreachable-requires g c).Else-i-count in
-    cc ((c.in-Err-read_value.ensures.read can.table can.value can.holds can.field).1)
+use Rattle.gc_script.proofs.runner.Runner.read_field.Goals.{After-find_field}
 
 -- what the register holds
-slot_is : (g : given.Over) (c : Else-i-count g) → register_at c.args.self.now c.args.r ≡ Some (register.Reference c.in-Some-Reference-default-Some.field-0-0 (Some c.in-Some-Reference-default-Some.handle))
-slot_is g c =
-    sym (ap (λ (xs : List (Option Register)). register_at xs c.args.r) c.self.view_is) ∙ sym c.get.ensures ∙ c.in-Some-Reference-default-Some.is
-    ∙ ap Some (c.in-Some-Reference-default-Some.field-0-is ∙ ap (register.Reference c.in-Some-Reference-default-Some.field-0-0) c.in-Some-Reference-default-Some.field-0-1-is)
+target_stands : (g : given.Over) (c : After-find_field g) (s : State) → HoldsState g.H.GcHeap.KIND c.args.store.now c.args.self.now s → Stands c.args.store.now s.table (Some c.in-Some.value) (s.registers c.args.r)
+target_stands g c s holds =
+    let slot : register_at c.args.self.now.registers c.args.r ≡ Some c.in-Some.value = ap (λ (x : RunnerView). register_at x.registers c.args.r) (sym c.self.view_is) ∙ sym c.in-Some.ensures in
+    subst (λ (o : Option RawValue). Stands c.args.store.now s.table o (s.registers c.args.r)) slot (holds.registers c.args.r)
 
-pub returns-in-Ok-clause-reads : goal.returns-in-Ok-clause-reads
-returns-in-Ok-clause-reads g c s holds =
-    let read = field_read c.args.store.now s.table _ (s.registers c.args.r) _ c.in-Some-Reference-default-Some.handle c.in-Ok-Some.count c.args.i c.if-i-count.false (slot_is g (goal.at.returns-in-Ok-clause-reads g c).Else-i-count) (holds.registers c.args.r)
-    (λ serial names. (rw c.in-Ok-Some.field-0-is at c.in-Ok-Some.ensures).named s.table serial holds.table names) in
-    answers_field g.H.GcHeap.KIND s c.args.r c.args.i read.values read.value c.shown.result read.target read.below read.value_is
-    (c.shown.ensures read.value (c.in-Ok.ensures.read s.table read.value holds.table read.field).0)
+target_set : (g : given.Over) (c : After-find_field g) (s : State) → HoldsState g.H.GcHeap.KIND c.args.store.now c.args.self.now s → is_unset (given_register s c.args.r) ≡ false
+target_set g c s holds = is_set c.args.store.now s.table c.in-Some.value (s.registers c.args.r) (target_stands g c s holds)
+
+pub returns-in-Err-clause-goes : goal.returns-in-Err-clause-goes
+returns-in-Err-clause-goes g c s holds =
+    let at = (goal.at.returns-in-Err-clause-goes g c).After-find_field in
+    names_no_field g.H.GcHeap.KIND c.args.store.now c.args.self.now s c.args.r c.args.i c.args.into holds (target_set g at s holds)
+    c.in-Err.why (c.in-Err.ensures.finds s c.args.r holds.table (target_stands g at s holds))
+
+pub returns-in-Err-RootsFull-clause-goes : goal.returns-in-Err-RootsFull-clause-goes
+returns-in-Err-RootsFull-clause-goes g c s holds =
+    let at = (goal.at.returns-in-Err-RootsFull-clause-goes g c).After-find_field in
+    let found = c.in-Ok.ensures.finds s c.args.r holds.table (target_stands g at s holds) in
+    let told = (rw c.in-Err-RootsFull.field-0-is at c.in-Err-RootsFull.ensures).reads s.table found.value holds.table found.has in
+    full g.H.GcHeap.KIND c.args.store.now c.args.self.now s c.args.r c.args.i c.args.into holds (target_set g at s holds) c.in-Ok.place found c.read_value.new.self _ c.read_value.ensures.same
+    (ap (λ (x : RunnerView). x.marks) c.self.view_is)
+    (λ d. c.make_room.ensures.same d ∙ ap (λ (x : RunnerView). register_at x.registers d) c.self.view_is)
+    told.0 told.1.0 told.1.1
+
+pub returns-in-Ok-read_value-clause-goes : goal.returns-in-Ok-read_value-clause-goes
+returns-in-Ok-read_value-clause-goes g c s holds =
+    let at = (goal.at.returns-in-Ok-read_value-clause-goes g c).After-find_field in
+    let found = c.in-Ok.ensures.finds s c.args.r holds.table (target_stands g at s holds) in
+    let told = c.in-Ok-read_value.ensures.reads s.table found.value holds.table found.has in
+    read g.H.GcHeap.KIND c.args.store.now c.args.self.now s c.args.r c.args.i c.args.into holds (target_set g at s holds) c.in-Ok.place found c.read_value.new.self _ c.read_value.ensures.same
+    (ap (λ (x : RunnerView). x.marks) c.self.view_is)
+    c.in-Ok-read_value.value c.shown-reply.result
+    (λ d. c.put_into.ensures d ∙ register_with-same c.args.into c.in-Ok-read_value.value c.make_room.new.registers c.args.self.now.registers (λ k. c.make_room.ensures.same k ∙ ap (λ (x : RunnerView). register_at x.registers k) c.self.view_is) d)
+    told.0 told.1.0 told.1.1 (λ stands. c.shown-reply.ensures _ found.value told.1.1 stands)

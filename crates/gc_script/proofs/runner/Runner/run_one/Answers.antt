@@ -1,24 +1,42 @@
-use Rattle.std.proofs.Common.{◌≡◌, ap, ◌∙◌, sym, refl, subst, true, false, length, ℕ, Option, None}
-use Rattle.std.specs.Prelude.{is_some, Ok}
-use Rattle.std.specs.List.{list_all}
-use Rattle.gc_commands.specs.declared.command.Command.{Command}
-use Rattle.gc_script.specs.Steps.{is_built_field}
-use Rattle.gc_script.specs.Run.{RunsOne, DeclaresBuilt}
-use Rattle.gc_script.proofs.RunLemmas.{struct_runs, field_runs}
+use Rattle.std.proofs.Common.{◌≡◌, refl, sym, subst, List}
+use Rattle.std.specs.Prelude.{Ok}
+use Rattle.gc_commands.specs.declared.command.Command.TheVariants as command
+use Rattle.gc_commands.specs.declared.command.FieldWord.{FieldWord}
+use Rattle.gc_script.specs.Steps.{tests}
+use Rattle.gc_script.specs.Run.{GoesOn}
+use Rattle.gc_script.proofs.GoesLemmas.{runs_as}
 use Rattle.gc_script.proofs.runner.Runner.run_one.Goals as goal
 
-pub returns-else-not-are_built_fields-clause-runs : goal.returns-else-not-are_built_fields-clause-runs
-returns-else-not-are_built_fields-clause-runs g c s holds =
-    let not_final : c.in-Struct.is_final ≡ false = search in
-    let plain : is_some c.in-Struct.supertype ≡ false = sym c.is_some.ensures ∙ c.if-is_some.false in
-    let built : list_all is_built_field c.in-Struct.fields ≡ true = search in
-    let declares : DeclaresBuilt g.H.GcHeap.KIND (length c.in-Struct.fields) s.table c.declare_built.result c.declare_built.new.store =
-    subst (λ (n : ℕ). DeclaresBuilt g.H.GcHeap.KIND n s.table c.declare_built.result c.declare_built.new.store) (ap length c.as_slice-in-Struct.ensures) (c.declare_built.ensures.declares s.table holds.table) in
-    subst (λ (x : Command). RunsOne g.H.GcHeap.KIND (g.L.ResourceLimiter.limits c.args.limiter.now) (g.L.ResourceLimiter.limits c.args.limiter.now) s x c.declare_built.result c.declare_built.new.store c.args.self.now) (sym c.in-Struct.is)
-    (struct_runs g.H.GcHeap.KIND (g.L.ResourceLimiter.limits c.args.limiter.now) c.args.store.now s c.in-Struct.is_final c.in-Struct.supertype c.in-Struct.fields c.declare_built.result c.declare_built.new.store c.args.self.now not_final plain built c.declare_built.ensures.same holds declares)
+pub returns-in-Struct-clause-runs : goal.returns-in-Struct-clause-runs
+returns-in-Struct-clause-runs g c s holds =
+    let goes = c.declare_struct.ensures.goes s holds in
+    runs_as g.H.GcHeap.KIND (g.L.ResourceLimiter.limits c.args.limiter.now) s c.args.command.now (command.Struct c.in-Struct.is_final c.in-Struct.supertype c.in-Struct.fields) c.declare_struct.result c.declare_struct.new.store c.args.self.now c.in-Struct.is tt
+    (subst (λ (fs : List FieldWord). GoesOn g.H.GcHeap.KIND s (command.Struct c.in-Struct.is_final c.in-Struct.supertype fs) (tests g.H.GcHeap.KIND s (command.Struct c.in-Struct.is_final c.in-Struct.supertype fs)) c.declare_struct.result c.declare_struct.new.store c.args.self.now) c.as_slice.ensures goes)
 
-pub returns-else-is_some-2-clause-runs : goal.returns-else-is_some-2-clause-runs
-returns-else-is_some-2-clause-runs g c s holds =
-    let plain : is_some c.in-Field.into ≡ false = sym c.is_some-in-Field.ensures ∙ c.if-is_some-2.false in
-    subst (λ (x : Command). RunsOne g.H.GcHeap.KIND (g.L.ResourceLimiter.limits c.args.limiter.now) (g.L.ResourceLimiter.limits c.args.limiter.now) s x (Ok c.read_field.result) c.read_field.new.store c.args.self.now) (sym c.in-Field.is)
-    (rw c.read_field.ensures.same (field_runs g.H.GcHeap.KIND (g.L.ResourceLimiter.limits c.args.limiter.now) c.args.store.now s c.in-Field.r c.in-Field.i c.in-Field.into c.read_field.result c.args.self.now plain holds (c.read_field.ensures.reads s holds)))
+pub returns-in-I31-clause-runs : goal.returns-in-I31-clause-runs
+returns-in-I31-clause-runs g c s holds =
+    runs_as g.H.GcHeap.KIND (g.L.ResourceLimiter.limits c.args.limiter.now) s c.args.command.now (command.I31 c.in-I31.d c.in-I31.n) c.make_i31.result c.make_i31.new.store c.make_i31.new.self c.in-I31.is tt (c.make_i31.ensures.goes s holds)
+
+pub returns-in-Field-clause-runs : goal.returns-in-Field-clause-runs
+returns-in-Field-clause-runs g c s holds =
+    runs_as g.H.GcHeap.KIND (g.L.ResourceLimiter.limits c.args.limiter.now) s c.args.command.now (command.Field c.in-Field.r c.in-Field.i c.in-Field.into) c.read_field.result c.read_field.new.store c.read_field.new.self c.in-Field.is tt (c.read_field.ensures.goes s holds)
+
+pub returns-in-SetField-clause-runs : goal.returns-in-SetField-clause-runs
+returns-in-SetField-clause-runs g c s holds =
+    runs_as g.H.GcHeap.KIND (g.L.ResourceLimiter.limits c.args.limiter.now) s c.args.command.now (command.SetField c.in-SetField.r c.in-SetField.i c.in-SetField.value) c.write_field.result c.write_field.new.store c.write_field.new.self c.in-SetField.is tt (c.write_field.ensures.goes s holds)
+
+pub returns-in-Eq-clause-runs : goal.returns-in-Eq-clause-runs
+returns-in-Eq-clause-runs g c s holds =
+    runs_as g.H.GcHeap.KIND (g.L.ResourceLimiter.limits c.args.limiter.now) s c.args.command.now (command.Eq c.in-Eq.r c.in-Eq.s) (Ok c.compare.result) c.args.store.now c.args.self.now c.in-Eq.is tt (c.compare.ensures.goes s holds)
+
+pub returns-in-Enter-clause-runs : goal.returns-in-Enter-clause-runs
+returns-in-Enter-clause-runs g c s holds =
+    runs_as g.H.GcHeap.KIND (g.L.ResourceLimiter.limits c.args.limiter.now) s c.args.command.now command.Enter c.enter.result c.args.store.now c.enter.new.self c.in-Enter.is tt (c.enter.ensures.goes s holds)
+
+pub returns-in-Leave-clause-runs : goal.returns-in-Leave-clause-runs
+returns-in-Leave-clause-runs g c s holds =
+    runs_as g.H.GcHeap.KIND (g.L.ResourceLimiter.limits c.args.limiter.now) s c.args.command.now command.Leave (Ok c.leave.result) c.leave.new.store c.leave.new.self c.in-Leave.is tt (c.leave.ensures.goes s holds)
+
+pub returns-in-Gc-clause-runs : goal.returns-in-Gc-clause-runs
+returns-in-Gc-clause-runs g c s holds =
+    runs_as g.H.GcHeap.KIND (g.L.ResourceLimiter.limits c.args.limiter.now) s c.args.command.now command.Gc (Ok c.collect.result) c.collect.new.store c.args.self.now c.in-Gc.is tt (c.collect.ensures.goes s holds)

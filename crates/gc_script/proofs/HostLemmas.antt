@@ -1,0 +1,133 @@
+-- No object that a collection keeps is a host object.
+use Rattle.std.proofs.Common.{inl, inr, ◌≡◌, ℕ, ◌<◌, List, [], ◌∷◌, ◌++◌, length, map, replicate, Option, Some, None, true, zero, suc, sym, ap, ◌∙◌, refl, subst, arith}
+use Rattle.std.specs.Prelude.{All, nat_eq}
+use Rattle.std.specs.List.{slice_get, flat_map, Contains, slice_index_or, IsDistinct}
+use Rattle.std.proofs.lemmas.Grind.{common_steps}
+use Rattle.std.proofs.lemmas.List.Concat.{flat_map-cons}
+use Rattle.std.proofs.lemmas.List.Elements.{All-nil, All-append, All-cons, All-map, All-replicate, All-contains}
+use Rattle.std.proofs.lemmas.Option.{none-some, slice_get_within, slice_get-get_or, slice_get_cases}
+use Rattle.gc_types.specs.declared.kind.Layouts.{Layouts}
+use Rattle.gc_types.specs.declared.kind.Layouts.TheVariants.{Null, Counting, Copying}
+use Rattle.gc_types.specs.declared.value.StorageType.{StorageType}
+use Rattle.gc_types.specs.declared.value.StorageType.TheVariants as storage
+use Rattle.gc_types.specs.declared.value.ValType.TheVariants as val
+use Rattle.gc_model.specs.declared.RootEntry.{RootEntry}
+use Rattle.gc_model.specs.declared.GcClass.TheVariants.{Any, Extern, Exn}
+use Rattle.gc_model.specs.Values.{Reference, null, small, at, Value, i32, i64, f32, f64, v128, function, reference, Object, struct, array, host, exception}
+use Rattle.gc_model.specs.Table.{Table, Scoped, Slot, Owned, empty_slot, global_count}
+use Rattle.gc_model.specs.Reach.{Reached, by_root, by_value, IsKept, IsHost, HasNumber, KeepsNumber, root_references, references_in, value_references, slot_references, owned_references, present}
+use Rattle.gc_model.specs.Views.{StoreView}
+use Rattle.gc_model.specs.Holds.{Placing, IsWord, Holds, HoldsTable, NothingElse, Stands, StructStands, Lies, LiesI32, LiesI64, LiesAny}
+use Rattle.gc_model.specs.Views.{HeapObject}
+use Rattle.gc_model.proofs.HeldStructs.{read_lies, placed_typed}
+
+-- a reference has a word
+abbrev HasWord : Placing → Reference → Type 0
+HasWord place r = (word : ℕ) × IsWord place r word
+
+All-flat_map : {X Y : Type 0} (P : Y → Type 0) (f : X → List Y) (xs : List X) → ((i : ℕ) (x : X) → slice_get xs i ≡ Some x → All P (f x)) → All P (flat_map f xs)
+All-flat_map P f [] all = All-nil P
+All-flat_map P f (x ∷ xs) all = subst (All P) (sym (flat_map-cons f x xs)) (All-append P (f x) (flat_map f xs) (all 0 x refl) (All-flat_map P f xs (λ i. all (suc i))))
+
+All-by_get : {X : Type 0} (P : X → Type 0) (xs : List X) → ((i : ℕ) (x : X) → slice_get xs i ≡ Some x → P x) → All P xs
+All-by_get P xs all k d below = all k (slice_index_or xs k d) (slice_get-get_or xs k d below)
+
+module _ {D : Type 0} (layouts : Layouts) (s : StoreView) (t : Table D) (place : Placing) (holds : Holds layouts s t place) where
+  -- scoped roots name what has a word
+  scoped_words : (i : ℕ) (root : Scoped) → slice_get t.scoped i ≡ Some root → HasWord place root.reference
+  scoped_words i root e =
+      let entry : (entry : RootEntry) × (slice_get s.scoped i ≡ Some entry) =
+      elim ((slice_get_cases s.scoped i).1) [
+        | inl found ↦ (found.0, found.2)
+        | inr past ↦ absurd (omega (arith, past.0, holds.scoped.same_count, slice_get_within t.scoped i root e))
+      ] in
+      (entry.0.word, (holds.scoped.each i entry.0 root entry.1 e).word)
+
+  -- and so does all that roots name
+  root_words : All (HasWord place) (root_references t)
+  root_words =
+      All-append (HasWord place) (map (λ (root : Scoped). root.reference) t.scoped) _ (All-map (HasWord place) (λ (root : Scoped). root.reference) t.scoped (All-by_get (λ (root : Scoped). HasWord place root.reference) t.scoped scoped_words))
+      (All-append (HasWord place) (flat_map slot_references t.frames) _ (subst (λ (fs : List (List Slot)). All (HasWord place) (flat_map slot_references fs)) (sym holds.nothing_else.frames) (All-nil (HasWord place)))
+      (All-append (HasWord place) (slot_references t.globals) _ (subst (λ (gs : List Slot). All (HasWord place) (slot_references gs)) (sym holds.nothing_else.globals) (All-map (HasWord place) (λ (slot : Slot). slot.reference) (replicate global_count empty_slot) (All-replicate (λ (slot : Slot). HasWord place slot.reference) global_count empty_slot (0, refl))))
+      (All-append (HasWord place) (flat_map owned_references t.owned) _ (subst (λ (os : List Owned). All (HasWord place) (flat_map owned_references os)) (sym holds.nothing_else.owned) (All-nil (HasWord place)))
+      (subst (λ (o : Option Reference). All (HasWord place) (present o)) (sym holds.nothing_else.pending) (All-nil (HasWord place))))))
+
+any_words : (place : Placing) (v : Value) (bytes : List ℕ) (offset : ℕ) → LiesAny place v bytes offset → All (HasWord place) (value_references v)
+any_words place (i32 n) bytes offset lies = absurd lies
+any_words place (i64 n) bytes offset lies = absurd lies
+any_words place (f32 n) bytes offset lies = absurd lies
+any_words place (f64 n) bytes offset lies = absurd lies
+any_words place (v128 n) bytes offset lies = absurd lies
+any_words place (function f) bytes offset lies = absurd lies
+any_words place (reference Any r) bytes offset lies = All-cons (HasWord place) r [] (_, lies) (All-nil (HasWord place))
+any_words place (reference Extern r) bytes offset lies = absurd lies
+any_words place (reference Exn r) bytes offset lies = absurd lies
+
+i32_words : (place : Placing) (v : Value) (bytes : List ℕ) (offset : ℕ) → LiesI32 v bytes offset → All (HasWord place) (value_references v)
+i32_words place (i32 n) bytes offset lies = All-nil (HasWord place)
+i32_words place (i64 n) bytes offset lies = absurd lies
+i32_words place (f32 n) bytes offset lies = absurd lies
+i32_words place (f64 n) bytes offset lies = absurd lies
+i32_words place (v128 n) bytes offset lies = absurd lies
+i32_words place (function f) bytes offset lies = absurd lies
+i32_words place (reference c r) bytes offset lies = absurd lies
+
+i64_words : (place : Placing) (v : Value) (bytes : List ℕ) (offset : ℕ) → LiesI64 v bytes offset → All (HasWord place) (value_references v)
+i64_words place (i32 n) bytes offset lies = absurd lies
+i64_words place (i64 n) bytes offset lies = All-nil (HasWord place)
+i64_words place (f32 n) bytes offset lies = absurd lies
+i64_words place (f64 n) bytes offset lies = absurd lies
+i64_words place (v128 n) bytes offset lies = absurd lies
+i64_words place (function f) bytes offset lies = absurd lies
+i64_words place (reference c r) bytes offset lies = absurd lies
+
+-- what lies in a field has a word where it is a reference
+value_words : (place : Placing) (ty : StorageType) (v : Value) (bytes : List ℕ) (offset : ℕ) → Lies place ty v bytes offset → All (HasWord place) (value_references v)
+value_words place storage.I8 v bytes offset lies = absurd lies
+value_words place storage.I16 v bytes offset lies = absurd lies
+value_words place (storage.ValType val.I32) v bytes offset lies = i32_words place v bytes offset lies
+value_words place (storage.ValType val.I64) v bytes offset lies = i64_words place v bytes offset lies
+value_words place (storage.ValType val.F32) v bytes offset lies = absurd lies
+value_words place (storage.ValType val.F64) v bytes offset lies = absurd lies
+value_words place (storage.ValType val.V128) v bytes offset lies = absurd lies
+value_words place (storage.ValType (val.Ref ty)) v bytes offset lies = any_words place v bytes offset lies
+
+-- the references of an object that stands in a heap have words
+entry_words : {D : Type 0} (layouts : Layouts) (t : Table D) (place : Placing) (o : Object D) (h : HeapObject) → Stands layouts t.types place o h → All (HasWord place) (references_in o)
+entry_words layouts t place (struct ty values) h stands =
+    All-flat_map (HasWord place) value_references values (λ i v e.
+    let held = read_lies layouts t.types place ty values h stands i v e in
+    value_words place held.field.element_type v h.bytes _ held.lies)
+entry_words layouts t place (array ty values) h stands = absurd stands
+entry_words layouts t place (host value) h stands = absurd stands
+entry_words layouts t place (exception ty tag values) h stands = absurd stands
+
+-- what is reached has a place
+reached_placed : {D : Type 0} (layouts : Layouts) (s : StoreView) (t : Table D) (place : Placing) → Holds layouts s t place → (p : ℕ) → Reached t.objects (root_references t) p → (word : ℕ) × (place p ≡ Some word)
+reached_placed layouts s t place holds p (by_root named) = All-contains (HasWord place) (root_references t) (at p) (root_words layouts s t place holds) named
+reached_placed {D} layouts s t place holds p (by_value {q = q} reached o in_table among) =
+    let from = reached_placed layouts s t place holds q reached in
+    let held = holds.objects.placed q from.0 from.1 in
+    let both : Some held.entry ≡ Some o = sym held.in_table ∙ in_table in
+    let same : held.entry ≡ o = grind (arith, both) in
+    All-contains (HasWord place) (references_in o) (at p) (entry_words layouts t place o held.object (subst (λ (e : Object D). Stands layouts t.types place e held.object) same held.stands)) among
+
+-- what is kept has a place
+kept_placed : {D : Type 0} (layouts : Layouts) (s : StoreView) (t : Table D) (place : Placing) → Holds layouts s t place → (p : ℕ) → IsKept layouts t p → (word : ℕ) × (place p ≡ Some word)
+kept_placed Null s t place holds p kept = holds.by_kind.all_held p kept
+kept_placed Counting s t place holds p kept = reached_placed Counting s t place holds p kept
+kept_placed Copying s t place holds p kept = reached_placed Copying s t place holds p kept
+
+none_distinct : IsDistinct nat_eq []
+unfolding IsDistinct
+none_distinct = tt
+
+-- so a collection keeps no host object
+pub no_hosts : {D : Type 0} (layouts : Layouts) (s : StoreView) (t : Table D) → HoldsTable layouts s t → HasNumber (λ (p : ℕ). IsKept layouts t p × IsHost (slice_get t.objects p)) 0
+no_hosts {D} layouts s t holds =
+    let none : (p : ℕ) → IsKept layouts t p → ¬ IsHost (slice_get t.objects p) =
+    λ p kept is_host.
+    let placed = kept_placed layouts s t holds.0 holds.1 p kept in
+    let typed = placed_typed layouts s t holds.0 holds.1 p placed.0 placed.1 in
+    subst (λ (o : Option (Object D)). IsHost o) typed.object is_host in
+    ([], (record { distinct = none_distinct; all = λ p. ((λ c. absurd (omega (arith, c.1))), (λ both. absurd (none p both.0 both.1))) }, refl))

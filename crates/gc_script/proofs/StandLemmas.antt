@@ -1,0 +1,114 @@
+-- Registers stand for those of the state in every later store: pushes are only added.
+use Rattle.std.proofs.Common.{◌≡◌, ℕ, List, [], ◌∷◌, ◌++◌, length, Option, Some, None, sym, ap, ◌∙◌, refl, subst}
+use Rattle.std.specs.List.{slice_get}
+use Rattle.gc_types.specs.declared.kind.Layouts.{Layouts}
+use Rattle.gc_model.specs.Table.{Table, Push}
+use Rattle.gc_model.specs.Views.{StoreView}
+use Rattle.gc_model.specs.Holds.{HoldsTable}
+use Rattle.gc_model.proofs.Lists.{slice_get-push_old, slice_get-push_new}
+use Rattle.gc_store.specs.declared.root.GcRootIndex.{GcRootIndex}
+use Rattle.gc_store.specs.declared.root.RootSlot.TheVariants as slot
+use Rattle.gc_store.specs.declared.root.RawValue.{RawValue}
+use Rattle.gc_store.specs.declared.root.RawValue.TheVariants as raw
+use Rattle.gc_store.specs.Roots.{Names}
+use Rattle.gc_store.specs.Stores.{IsSameStore}
+use Rattle.gc_script.specs.Slots.{register_at, RunnerView}
+use Rattle.gc_script.specs.State.{State, Held, number, reference, Stands, HoldsState, begin, with_table}
+
+-- pushes that were there are still there
+abbrev pub Keeps : List Push → List Push → Type 0
+Keeps before now = (i : ℕ) (p : Push) → slice_get before i ≡ Some p → slice_get now i ≡ Some p
+
+-- one more push keeps those before it
+pub keeps_pushed : (before now : List Push) (p : Push) → now ≡ before ++ p ∷ [] → Keeps before now
+keeps_pushed before now p is i q e = ap (λ (xs : List Push). slice_get xs i) is ∙ slice_get-push_old before p i q e
+
+-- the same pushes
+pub keeps_same : (before now : List Push) → now ≡ before → Keeps before now
+keeps_same before now is i q e = ap (λ (xs : List Push). slice_get xs i) is ∙ e
+
+abbrev handle_in : ℕ → ℕ → ℕ → ℕ → GcRootIndex
+handle_in engine store_number index generation = record {
+  store_id = record { engine = engine; number = store_number };
+  generation = generation;
+  slot = slot.Scoped index;
+}
+
+-- a handle names the same root in the store after
+pub names_kept : (s new : StoreView) (t t' : Table ℕ) (handle : GcRootIndex) (serial : ℕ) → IsSameStore s new → Keeps t.pushes t'.pushes → Names s t handle serial → Names new t' handle serial
+names_kept s new t t' handle serial same keeps names = record {
+  push = names.push;
+  pushed = keeps serial names.push names.pushed;
+  is = names.is
+      ∙ ap (λ e. handle_in e s.number names.push.index names.push.generation) (sym same.engine)
+      ∙ ap (λ n. handle_in new.engine n names.push.index names.push.generation) (sym same.number);
+}
+
+-- a store is the same as itself
+pub same_store : (s : StoreView) → IsSameStore s s
+same_store s = record { engine = refl; number = refl }
+
+-- a store that is the same as one that is the same as another
+pub same_twice : (a b c : StoreView) → IsSameStore a b → IsSameStore b c → IsSameStore a c
+same_twice a b c one two = record { engine = two.engine ∙ one.engine; number = two.number ∙ one.number }
+
+-- what a register holds stands in the store after
+pub stands_kept : (s new : StoreView) (t t' : Table ℕ) (found : Option RawValue) (held : Option Held) → IsSameStore s new → Keeps t.pushes t'.pushes → Stands s t found held → Stands new t' found held
+stands_kept s new t t' None None same keeps stands = tt
+stands_kept s new t t' None (Some (number v)) same keeps stands = absurd stands
+stands_kept s new t t' None (Some (reference c None)) same keeps stands = absurd stands
+stands_kept s new t t' None (Some (reference c (Some serial))) same keeps stands = absurd stands
+stands_kept s new t t' (Some (raw.I32 n)) None same keeps stands = absurd stands
+stands_kept s new t t' (Some (raw.I32 n)) (Some (number v)) same keeps stands = stands
+stands_kept s new t t' (Some (raw.I32 n)) (Some (reference c None)) same keeps stands = absurd stands
+stands_kept s new t t' (Some (raw.I32 n)) (Some (reference c (Some serial))) same keeps stands = absurd stands
+stands_kept s new t t' (Some (raw.I64 n)) None same keeps stands = absurd stands
+stands_kept s new t t' (Some (raw.I64 n)) (Some (number v)) same keeps stands = stands
+stands_kept s new t t' (Some (raw.I64 n)) (Some (reference c None)) same keeps stands = absurd stands
+stands_kept s new t t' (Some (raw.I64 n)) (Some (reference c (Some serial))) same keeps stands = absurd stands
+stands_kept s new t t' (Some (raw.F32 n)) None same keeps stands = absurd stands
+stands_kept s new t t' (Some (raw.F32 n)) (Some (number v)) same keeps stands = stands
+stands_kept s new t t' (Some (raw.F32 n)) (Some (reference c None)) same keeps stands = absurd stands
+stands_kept s new t t' (Some (raw.F32 n)) (Some (reference c (Some serial))) same keeps stands = absurd stands
+stands_kept s new t t' (Some (raw.F64 n)) None same keeps stands = absurd stands
+stands_kept s new t t' (Some (raw.F64 n)) (Some (number v)) same keeps stands = stands
+stands_kept s new t t' (Some (raw.F64 n)) (Some (reference c None)) same keeps stands = absurd stands
+stands_kept s new t t' (Some (raw.F64 n)) (Some (reference c (Some serial))) same keeps stands = absurd stands
+stands_kept s new t t' (Some (raw.V128 n)) None same keeps stands = absurd stands
+stands_kept s new t t' (Some (raw.V128 n)) (Some (number v)) same keeps stands = stands
+stands_kept s new t t' (Some (raw.V128 n)) (Some (reference c None)) same keeps stands = absurd stands
+stands_kept s new t t' (Some (raw.V128 n)) (Some (reference c (Some serial))) same keeps stands = absurd stands
+stands_kept s new t t' (Some (raw.Func n)) None same keeps stands = absurd stands
+stands_kept s new t t' (Some (raw.Func n)) (Some (number v)) same keeps stands = absurd stands
+stands_kept s new t t' (Some (raw.Func n)) (Some (reference c None)) same keeps stands = absurd stands
+stands_kept s new t t' (Some (raw.Func n)) (Some (reference c (Some serial))) same keeps stands = absurd stands
+stands_kept s new t t' (Some (raw.Ref c' None)) None same keeps stands = absurd stands
+stands_kept s new t t' (Some (raw.Ref c' None)) (Some (number v)) same keeps stands = absurd stands
+stands_kept s new t t' (Some (raw.Ref c' None)) (Some (reference c None)) same keeps stands = stands
+stands_kept s new t t' (Some (raw.Ref c' None)) (Some (reference c (Some serial))) same keeps stands = absurd stands
+stands_kept s new t t' (Some (raw.Ref c' (Some handle))) None same keeps stands = absurd stands
+stands_kept s new t t' (Some (raw.Ref c' (Some handle))) (Some (number v)) same keeps stands = absurd stands
+stands_kept s new t t' (Some (raw.Ref c' (Some handle))) (Some (reference c None)) same keeps stands = absurd stands
+stands_kept s new t t' (Some (raw.Ref c' (Some handle))) (Some (reference c (Some serial))) same keeps stands = (stands.0, names_kept s new t t' handle serial same keeps stands.1)
+
+-- the registers stand for the same ones in the store after
+pub holds_kept : (layouts : Layouts) (s new : StoreView) (runner runner' : RunnerView) (state : State) (t' : Table ℕ) → IsSameStore s new → Keeps state.table.pushes t'.pushes → ((d : ℕ) → register_at runner'.registers d ≡ register_at runner.registers d) → runner'.marks ≡ runner.marks → HoldsState layouts s runner state → HoldsTable layouts new t' → HoldsState layouts new runner' (with_table t' state)
+holds_kept layouts s new runner runner' state t' same keeps slots_are marks_are holds table = record {
+  table = table;
+  registers = λ d. subst (λ (o : Option RawValue). Stands new t' o (state.registers d)) (sym (slots_are d)) (stands_kept s new state.table t' (register_at runner.registers d) (state.registers d) same keeps (holds.registers d));
+  no_owned = holds.no_owned;
+  marks = marks_are ∙ holds.marks;
+}
+
+-- so where the table is the same
+pub holds_same : (layouts : Layouts) (s new : StoreView) (runner runner' : RunnerView) (state : State) → IsSameStore s new → ((d : ℕ) → register_at runner'.registers d ≡ register_at runner.registers d) → runner'.marks ≡ runner.marks → HoldsState layouts s runner state → HoldsTable layouts new state.table → HoldsState layouts new runner' state
+holds_same layouts s new runner runner' state same slots_are marks_are holds table = holds_kept layouts s new runner runner' state state.table same (λ i p e. e) slots_are marks_are holds table
+
+-- a store with a new runner is in the state at the beginning
+pub begins : (layouts : Layouts) (store : StoreView) (runner : RunnerView) (t : Table ℕ) → HoldsTable layouts store t → runner ≡ record { registers = []; marks = [] } → HoldsState layouts store runner (begin t)
+begins layouts store runner t holds none = record {
+  table = holds;
+  registers = λ d. subst (λ (r : RunnerView). Stands store t (register_at r.registers d) None) (sym none) tt;
+  no_owned = λ o. refl;
+  marks = ap (λ (r : RunnerView). r.marks) none;
+}

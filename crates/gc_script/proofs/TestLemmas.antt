@@ -1,0 +1,44 @@
+-- The first test that is true.
+use Rattle.std.proofs.Common.{◌≡◌, ℕ, List, [], ◌∷◌, ◌++◌, Option, Some, None, Bool, true, false, cond, sym, ap, ◌∙◌, refl, subst}
+use Rattle.gc_types.specs.declared.kind.Layouts.{Layouts}
+use Rattle.gc_model.specs.Views.{StoreView}
+use Rattle.gc_commands.specs.declared.command.Command.{Command}
+use Rattle.gc_commands.specs.declared.reply.Reply.{Reply}
+use Rattle.gc_commands.specs.declared.reply.Reply.TheVariants as reply
+use Rattle.gc_commands.specs.declared.reply.Refusal.{Refusal}
+use Rattle.gc_script.specs.Slots.{RunnerView}
+use Rattle.gc_script.specs.State.{State, HoldsState}
+use Rattle.gc_script.specs.Steps.{first_failing, tests, Answers}
+use Rattle.gc_script.specs.Run.{Goes}
+
+-- a test that is false is passed over
+pub passes : (t : Bool) (why : Refusal) (ts : List (Bool × Refusal)) → t ≡ false → first_failing ((t, why) ∷ ts) ≡ first_failing ts
+passes t why ts e = ap (λ b. cond b (Some why) (first_failing ts)) e
+
+-- one that is true refuses
+pub stops : (t : Bool) (why : Refusal) (ts : List (Bool × Refusal)) → t ≡ true → first_failing ((t, why) ∷ ts) ≡ Some why
+stops t why ts e = ap (λ b. cond b (Some why) (first_failing ts)) e
+
+-- tests that all pass are passed over
+pub passes_all : (ts us : List (Bool × Refusal)) → first_failing ts ≡ None → first_failing (ts ++ us) ≡ first_failing us
+passes_all [] us e = refl
+passes_all ((true, why) ∷ ts) us e = absurd (cc e)
+passes_all ((false, why) ∷ ts) us e = passes_all ts us e
+
+-- a refusal among tests is one of any list that begins with them
+pub stops_all : (ts us : List (Bool × Refusal)) (why : Refusal) → first_failing ts ≡ Some why → first_failing (ts ++ us) ≡ Some why
+stops_all [] us why e = absurd (cc e)
+stops_all ((true, w) ∷ ts) us why e = e
+stops_all ((false, w) ∷ ts) us why e = stops_all ts us why e
+
+-- what a command answers, by what its tests found
+pub answers_by : (layouts : Layouts) (limit : Option ℕ) (s : State) (c : Command) (found known : Option Refusal) (answer : Reply) (s' : State) → found ≡ known → Answers layouts limit s c known answer s' → Answers layouts limit s c found answer s'
+answers_by layouts limit s c found known answer s' e answers = subst (λ (o : Option Refusal). Answers layouts limit s c o answer s') (sym e) answers
+
+-- a command that is refused changes nothing
+pub refuses : (layouts : Layouts) (store : StoreView) (runner : RunnerView) (s : State) (c : Command) (why : Refusal) → HoldsState layouts store runner s → first_failing (tests layouts s c) ≡ Some why → Goes layouts s c (tests layouts s c) (reply.Refused why) store runner
+refuses layouts store runner s c why holds e = record {
+  after = s;
+  answers = answers_by layouts None s c (first_failing (tests layouts s c)) (Some why) (reply.Refused why) s e (refl, refl);
+  holds = holds;
+}

@@ -1,0 +1,65 @@
+-- What the values of a command's operands are found to be.
+use Rattle.std.specs.Prelude.{◌≡◌, ℕ, Bool, true, false, List, Option, Some, None, Result, Ok, Err}
+use Rattle.std.specs.List.{AllZip}
+use Rattle.gc_types.specs.declared.value.FieldType.{FieldType}
+use Rattle.gc_model.specs.Views.{StoreView}
+use Rattle.gc_model.specs.Table.{Table}
+use Rattle.gc_model.specs.Values.{Value}
+use Rattle.gc_commands.specs.declared.command.Operand.{Operand}
+use Rattle.gc_commands.specs.declared.reply.Refusal.{Refusal}
+use Rattle.gc_store.specs.declared.root.GcRootIndex.{GcRootIndex}
+use Rattle.gc_store.specs.declared.root.RawValue.{RawValue}
+use Rattle.gc_store.specs.declared.root.RawValue.TheVariants as raw
+use Rattle.gc_store.specs.Values.{RawStands, AllStand}
+use Rattle.gc_script.specs.Slots.{register_at}
+use Rattle.gc_script.specs.State.{State, Stands}
+use Rattle.gc_script.specs.Given.{held_operand, Given, gone, is, given, given_value, given_values}
+use Rattle.gc_script.specs.Steps.{any_unset, first_failing, value_tests, struct_value_tests}
+
+-- the registers are those of the state
+abbrev pub AreRegisters : StoreView → List (Option RawValue) → State → Type 0
+AreRegisters store slots s = (d : ℕ) → Stands store s.table (register_at slots d) (s.registers d)
+
+-- what an operand holds, in each state that has these registers
+abbrev pub HoldsOperand : List (Option RawValue) → Operand → Option RawValue → Type 0
+HoldsOperand slots operand found =
+    (store : StoreView) (s : State) → AreRegisters store slots s → Stands store s.table found (held_operand s operand)
+
+-- the values are what the operands hold
+abbrev pub AllHeld : StoreView → State → List Operand → List RawValue → Type 0
+AllHeld store s = AllZip (λ (v : Operand) (r : RawValue). Stands store s.table (Some r) (held_operand s v))
+
+-- so in each state that has these registers
+abbrev pub HoldsOperands : List (Option RawValue) → List Operand → List RawValue → Type 0
+HoldsOperands slots operands found = (store : StoreView) (s : State) → AreRegisters store slots s → AllHeld store s operands found
+
+-- some operand is a register that is unset, in each state that has these registers
+abbrev pub HasUnset : List (Option RawValue) → List Operand → Type 0
+HasUnset slots operands = (store : StoreView) (s : State) → AreRegisters store slots s → any_unset s operands ≡ true
+
+-- the handle that a value is, where it is one
+abbrev pub raw_handle : RawValue → Option GcRootIndex
+raw_handle (raw.I32 n) = None
+raw_handle (raw.I64 n) = None
+raw_handle (raw.F32 n) = None
+raw_handle (raw.F64 n) = None
+raw_handle (raw.V128 n) = None
+raw_handle (raw.Func f) = None
+raw_handle (raw.Ref class handle) = handle
+
+-- A value that is found live stands for what is given; else its root is gone.
+abbrev pub IsFound : StoreView → Table ℕ → RawValue → Given → Bool → Type 0
+IsFound store t r g true = (v : Value) × ((g ≡ is v) × RawStands store t r v)
+IsFound store t r g false = g ≡ gone
+
+-- A value may go into a field of that type, where the tests say so; else it is refused as they say.
+abbrev pub ChecksValue : StoreView → State → FieldType → Operand → RawValue → Result (Unit {0}) Refusal → Type 0
+ChecksValue store s field v r (Ok done) =
+    (first_failing (value_tests s (Some field) v) ≡ None) × RawStands store s.table r (given_value (given s v))
+ChecksValue store s field v r (Err why) = first_failing (value_tests s (Some field) v) ≡ Some why
+
+-- the same of the values of a struct of that type
+abbrev pub ChecksValues : StoreView → State → ℕ → List Operand → List RawValue → Result (Unit {0}) Refusal → Type 0
+ChecksValues store s ty vs raws (Ok done) =
+    (first_failing (struct_value_tests s ty vs) ≡ None) × AllStand store s.table raws (given_values s vs)
+ChecksValues store s ty vs raws (Err why) = first_failing (struct_value_tests s ty vs) ≡ Some why

@@ -1,0 +1,51 @@
+//! The commands that enter and leave scopes, and that collect.
+
+ghost use Rattle.std.specs.Prelude.{◌≡◌, ℕ, Ok};
+ghost use Rattle.gc_commands.specs.declared.command.Command.TheVariants as Command;
+ghost use Rattle.gc_script.specs.State.{State, HoldsState};
+ghost use Rattle.gc_script.specs.Steps.{tests};
+ghost use Rattle.gc_script.specs.Run.{GoesOn};
+ghost use Rattle.gc_store.specs.Stores.{IsSameStore};
+
+use crate::runner::{RunError, Runner};
+use gc_commands::{Refusal, Reply};
+use gc_heap::GcHeap;
+use gc_store::Store;
+
+impl Runner {
+    /// Enters a scope of roots.
+    pub(crate) fn enter<H: GcHeap>(&mut self, store: &Store<H, u64>) -> Result<Reply, RunError>
+        ensures goes { (s : State) → HoldsState H.KIND store.now self.old s → GoesOn H.KIND s Command.Enter (tests H.KIND s Command.Enter) result store.now self.new }
+    {
+        match self.marks.push(store.enter_gc_lifo_scope()) {
+            Ok(()) => Ok(Reply::Done),
+            Err(_) => Err(RunError::OutOfMemory),
+        }
+    }
+
+    /// Leaves the scope that was entered last.
+    pub(crate) fn leave<H: GcHeap>(&mut self, store: &mut Store<H, u64>) -> Reply
+        ensures goes { (s : State) → HoldsState H.KIND store.old self.old s → GoesOn H.KIND s Command.Leave (tests H.KIND s Command.Leave) (Ok result) store.new self.new }
+        ensures same { IsSameStore store.old store.new }
+    {
+        let Some(mark) = self.marks.pop() else {
+            return Reply::Refused(Refusal::NoSuchName);
+        };
+        // A scope that was left with more roots than stand has none to drop.
+        let scope = mark.min(store.enter_gc_lifo_scope());
+        store.exit_gc_lifo_scope(scope);
+        Reply::Done
+    }
+
+    /// Collects, and tells what the heap holds.
+    pub(crate) fn collect<H: GcHeap>(&self, store: &mut Store<H, u64>) -> Reply
+        ensures goes { (s : State) → HoldsState H.KIND store.old self.now s → GoesOn H.KIND s Command.Gc (tests H.KIND s Command.Gc) (Ok result) store.new self.now }
+        ensures same { IsSameStore store.old store.new }
+    {
+        store.gc();
+        Reply::Held {
+            objects: store.held_objects(),
+            hosts: store.held_host_values(),
+        }
+    }
+}
