@@ -21,3 +21,4 @@ pub mod ShownLemmas
 pub mod ReadLemmas
 pub mod FieldLemmas
 pub mod RowLemmas
+pub mod KeptLemmas

@@ -3,6 +3,9 @@ use Rattle.std.proofs.Common.{◌≡◌, ℕ, ◌+◌, ◌-◌, ◌^◌, ◌≤�
 use Rattle.gc_types.specs.declared.kind.Layouts.{Layouts}
 use Rattle.gc_model.specs.Allocation.{Limits, MayMakeHeap}
 use Rattle.gc_model.specs.Views.{StoreView}
+use Rattle.gc_model.specs.Holds.{HoldsKept}
+use Rattle.gc_commands.specs.declared.command.Command.TheVariants.{Gc}
+use Rattle.gc_script.proofs.KeptLemmas.{no_last, last_command}
 use Rattle.gc_commands.specs.declared.command.Command.{Command}
 use Rattle.gc_commands.specs.declared.reply.Reply.{Reply}
 use Rattle.gc_script.specs.Slots.{RunnerView}
@@ -12,7 +15,7 @@ use Rattle.gc_script.specs.Run.{Run, Ran, Counts, refused_pages, nothing_else, W
 use Rattle.gc_script.specs.Script.{AddsRefused, RefusedIn, RanScript, RanNext, EndedScript, StoppedScript}
 
 -- the limit is that of before, whatever was counted
-limit_stays : (limits limits' : Limits) (first : ℕ) (answer : Reply) (after : State) → Counts limits limits' first answer after → limits'.limit ≡ limits.limit
+pub limit_stays : (limits limits' : Limits) (first : ℕ) (answer : Reply) (after : State) → Counts limits limits' first answer after → limits'.limit ≡ limits.limit
 limit_stays limits limits' first answer after (refused_pages said refuses) = ap (λ (l : Limits). l.limit) refuses
 limit_stays limits limits' first answer after (nothing_else not_said same) = ap (λ (l : Limits). l.limit) same
 
@@ -33,6 +36,7 @@ pub record Along (layouts : Layouts) (limits now : Limits) (s : State) (done : L
   pub refused : ℕ
   pub goes_on : (cs : List Command) (rs : List Reply) (after : State) (n : ℕ) → CountedRun layouts limits.limit mid cs rs after n → CountedRun layouts limits.limit s (done ++ cs) (replies ++ rs) after (refused + n)
   pub holds : HoldsState layouts store runner mid
+  pub kept : (before : List Command) → done ≡ before ++ Gc ∷ [] → HoldsKept layouts store mid.table
   pub counted : CountedSo limits now refused
   pub same_limit : now.limit ≡ limits.limit
 
@@ -46,6 +50,7 @@ along_start layouts limits s done replies store runner none none_yet holds = rec
       (subst (λ (xs : List Command). CountedRun layouts limits.limit s (xs ++ cs) (replies ++ rs) after n) (sym none)
       (subst (λ (ys : List Reply). CountedRun layouts limits.limit s cs (ys ++ rs) after n) (sym none_yet) counted));
   holds = holds;
+  kept = λ before ends. absurd (no_last before (sym none ∙ ends));
   counted = record { none = λ _. refl; some = λ any. absurd (omega (arith, any)) };
   same_limit = refl;
 }
@@ -100,6 +105,7 @@ along_more layouts limits now next s done c replies replies' store store' runner
           (subst (λ (m : ℕ). CountedRun layouts limits.limit s (done ++ c ∷ cs) (replies ++ did.answer ∷ rs) after m) (omega arith)
           (so_far.goes_on (c ∷ cs) (did.answer ∷ rs) after (more.k + n) (one_more layouts limits.limit so_far.mid did.ran.after c did.answer step cs rs after n (more.k + n) (more.adds n) counted))));
       holds = did.ran.holds;
+      kept = λ before ends. did.kept (last_command done c before ends);
       counted = more.counted;
       same_limit = limit_stays now next so_far.mid.table.first did.answer did.ran.after did.ran.counts ∙ so_far.same_limit;
     }
@@ -126,6 +132,7 @@ along_end layouts limits now s done commands replies store runner so_far all = r
   after = so_far.mid;
   ran = subst (λ (xs : List Command). RanScript layouts limits now s xs replies so_far.mid) all (ran_so_far layouts limits now s done replies store runner so_far);
   holds = so_far.holds.table;
+  kept = λ before ends. so_far.kept before (all ∙ ends);
 }
 
 -- the next command wanted memory

@@ -4,8 +4,9 @@ use Rattle.gc_types.specs.declared.kind.Layouts.{Layouts}
 use Rattle.gc_model.specs.Table.{make_heap}
 use Rattle.gc_model.specs.Allocation.{Limits, MayMakeHeap}
 use Rattle.gc_model.specs.Views.{StoreView}
-use Rattle.gc_model.specs.Holds.{HoldsTable}
+use Rattle.gc_model.specs.Holds.{HoldsTable, HoldsKept}
 use Rattle.gc_commands.specs.declared.command.Command.{Command}
+use Rattle.gc_commands.specs.declared.command.Command.TheVariants.{Gc}
 use Rattle.gc_commands.specs.declared.reply.Reply.{Reply}
 use Rattle.gc_script.specs.Slots.{RunnerView}
 use Rattle.gc_script.specs.State.{State}
@@ -32,11 +33,12 @@ pub record RanScript (layouts : Layouts) (limits limits' : Limits) (s : State) (
   pub uncounted : refused ≡ 0 → limits' ≡ limits
   pub counted : 0 < refused → limits'.refusals ≡ min (limits.refusals + refused) (2 ^ 64 - 1)
 
--- the store holds the table at the end
+-- The store holds the table at the end; where the last command is `gc`, its heap holds the kept objects alone.
 pub record EndedScript (layouts : Layouts) (limits limits' : Limits) (s : State) (cs : List Command) (rs : List Reply) (new : StoreView) : Type 0 where
   pub after : State
   pub ran : RanScript layouts limits limits' s cs rs after
   pub holds : HoldsTable layouts new after.table
+  pub kept : (before : List Command) → cs ≡ before ++ Gc ∷ [] → HoldsKept layouts new after.table
 
 -- some command wanted memory: the store holds the table after those before it, but its heap may have got its
 -- first pages
@@ -54,4 +56,5 @@ pub record StoppedScript (layouts : Layouts) (limits limits' : Limits) (s : Stat
 pub record RanNext (layouts : Layouts) (limits limits' : Limits) (s : State) (c : Command) (before now : List Reply) (new : StoreView) (runner : RunnerView) : Type 0 where
   pub answer : Reply
   pub ran : Ran layouts limits limits' s c answer new runner
+  pub kept : c ≡ Gc → HoldsKept layouts new ran.after.table
   pub appended : now ≡ before ++ answer ∷ []

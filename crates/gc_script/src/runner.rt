@@ -1,6 +1,7 @@
 //! Running commands.
 
-ghost use Rattle.std.specs.Prelude.{◌≡◌};
+ghost use Rattle.std.specs.Prelude.{◌≡◌, OnOk};
+ghost use Rattle.gc_model.specs.Holds.{HoldsKept};
 ghost use Rattle.gc_script.specs.Slots.{new_runner};
 ghost use Rattle.gc_script.specs.State.{State, HoldsState};
 ghost use Rattle.gc_script.specs.Run.{RunsOne};
@@ -61,6 +62,7 @@ impl Runner {
         command: &Command,
     ) -> Result<Reply, RunError>
         ensures runs { (s : State) → HoldsState H.KIND store.old self.old s → RunsOne H.KIND (L.limits limiter.old) (L.limits limiter.new) s command.now result store.new self.new }
+        ensures kept { command.now ≡ Command.Gc → OnOk result ((s : State) → HoldsState H.KIND store.old self.old s → HoldsKept H.KIND store.new s.table) }
         ensures same { IsSameStore store.old store.new }
     {
         match command {

@@ -2,6 +2,7 @@
 
 ghost use Rattle.std.specs.Prelude.{◌≡◌, ℕ, Ok};
 ghost use Rattle.gc_commands.specs.declared.command.Command.TheVariants as Command;
+ghost use Rattle.gc_model.specs.Holds.{HoldsKept};
 ghost use Rattle.gc_script.specs.State.{State, HoldsState};
 ghost use Rattle.gc_script.specs.Steps.{tests};
 ghost use Rattle.gc_script.specs.Run.{GoesOn};
@@ -40,6 +41,7 @@ impl Runner {
     /// Collects, and tells what the heap holds.
     pub(crate) fn collect<H: GcHeap>(&self, store: &mut Store<H, u64>) -> Reply
         ensures goes { (s : State) → HoldsState H.KIND store.old self.now s → GoesOn H.KIND s Command.Gc (tests H.KIND s Command.Gc) (Ok result) store.new self.now }
+        ensures kept { (s : State) → HoldsState H.KIND store.old self.now s → HoldsKept H.KIND store.new s.table }
         ensures same { IsSameStore store.old store.new }
     {
         store.gc();

@@ -10,7 +10,7 @@ use Rattle.gc_script.specs.Slots.{RunnerView}
 use Rattle.gc_script.specs.State.{State, HoldsState}
 use Rattle.gc_script.specs.Steps.{Step}
 use Rattle.gc_script.specs.Session.{SessionFrom, reply_line}
-use Rattle.gc_script.proofs.RunLemmas.{limit_stays}
+use Rattle.gc_script.proofs.ScriptLemmas.{limit_stays}
 use Rattle.gc_store.specs.Stores.{IsSameStore}
 use Rattle.gcsh_top.specs.Ends.{TookPart}
 use Rattle.gc_script.specs.Lines.{lines}

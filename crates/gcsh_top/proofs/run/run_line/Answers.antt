@@ -2,7 +2,7 @@ use Rattle.std.proofs.Common.{refl}
 use Rattle.gcsh_top.specs.Runs.{not_run, not_written}
 use Rattle.gc_script.proofs.ResultLemmas.{on_ok, on_err}
 use Rattle.gcsh_top.proofs.RunLemmas.{keeps_same}
-use Rattle.gcsh_top.proofs.GcLemmas.{kept_after}
+use Rattle.gc_script.proofs.KeptLemmas.{kept_after}
 use Rattle.gcsh_top.proofs.run.run_line.Goals as goal
 
 pub returns-in-Ok-run_one-clause-ran : goal.returns-in-Ok-run_one-clause-ran
