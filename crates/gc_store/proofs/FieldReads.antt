@@ -6,7 +6,7 @@ use Rattle.std.specs.FinMap as finite
 use Rattle.std.specs.Int.{w32, w64, cast_signed, cast_unsigned}
 use Rattle.std.proofs.lemmas.Int.{of_z-to_z}
 use Rattle.std.proofs.lemmas.Grind.{common_steps}
-use Rattle.std.proofs.lemmas.Option.{none-some, slice_get_within}
+use Rattle.std.proofs.lemmas.Option.{slice_get_within, get_or_from_slice_get}
 use Rattle.gc_types.specs.declared.value.FieldType.{FieldType}
 use Rattle.gc_types.specs.declared.value.StorageType.{StorageType}
 use Rattle.gc_types.specs.declared.value.StorageType.TheVariants as storage
@@ -46,14 +46,9 @@ pub record FieldAt (layouts : Layouts) (s : StoreView) (place : Placing) (word p
   pub holds : FieldHolds layouts place fields index value object.bytes
   pub built : is_built_field holds.field ≡ true
 
-got : {A : Type 0} (xs : List A) (i : ℕ) (x : A) → slice_get xs i ≡ Some x → get_or xs i x ≡ x
-got [] i x e = absurd (none-some x e)
-got (y ∷ xs) zero x e = grind (arith, e)
-got (y ∷ xs) (suc i) x e = got xs i x e
-
 -- a property of all elements at one of them
 pub all_at : (P : FieldType → Type 0) (fields : List FieldType) (index : ℕ) (field : FieldType) → All P fields → slice_get fields index ≡ Some field → P field
-all_at P fields index field all e = subst P (got fields index field e) (all index field (slice_get_within fields index field e))
+all_at P fields index field all e = subst P (get_or_from_slice_get fields index field field e) (all index field (slice_get_within fields index field e))
 
 module _ {D : Type 0} (layouts : Layouts) (s : StoreView) (t : Table D) (place : Placing) (holds : Holds layouts s t place) (handle : GcRootIndex) (index : ℕ) (value : Value) (has : HasField s t handle index value) where
   -- the handle's word is the place of the struct

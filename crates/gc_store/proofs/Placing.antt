@@ -35,10 +35,10 @@ use Rattle.gc_store.specs.Tracing.{IsCollectable, roots_of, root_of}
 use Rattle.gc_store.specs.Values.{AllStand}
 use Rattle.gc_store.proofs.CollectedRoom.{fits_in, lacks_fit}
 use Rattle.gc_store.proofs.CollectedStore.{collected_even, heap_even}
-use Rattle.gc_store.proofs.HeapMade.{attached_kept, rotated}
+use Rattle.gc_store.proofs.HeapMade.{attached_kept, pushed_kept}
 use Rattle.gc_store.proofs.MadeHeaps.{made_heap}
 use Rattle.gc_store.proofs.PlacedValues.{all_kept}
-use Rattle.gc_store.proofs.Pushing.{full_is, entry_of, roots_of-push}
+use Rattle.gc_store.proofs.Pushing.{full_is, entry_of}
 
 -- a heap that is made stays as it is
 made_again : {D : Type 0} (t : Table D) → t.made ≡ true → make_heap t ≡ t
@@ -240,4 +240,4 @@ sound_places layouts o limits limits' t (Err fault.Memory) new (inr made, limits
 -- a collection may begin once the new object's word is a scoped root
 pub collectable_pushed : (layouts : Layouts) (types : List Declaration) (h : HeapView) (entries items : List RootEntry) (generation word : ℕ) (hosts : ℕ → Bool) → IsCollectable layouts types h (root_of word ∷ roots_of entries) hosts → items ≡ entries ++ entry_of generation word ∷ [] → IsCollectable layouts types h (roots_of items) hosts
 collectable_pushed layouts types h entries items generation word hosts can is =
-    subst (λ (roots : List Root). IsCollectable layouts types h roots hosts) (sym (ap roots_of is ∙ roots_of-push entries generation word)) (rotated layouts types h (root_of word ∷ []) (roots_of entries) hosts can)
+    subst (λ (es : List RootEntry). IsCollectable layouts types h (roots_of es) hosts) (sym is) (pushed_kept layouts types h entries (entry_of generation word) hosts can)

@@ -23,7 +23,7 @@ use Rattle.gc_store.specs.Roots.{IsRootWord, handle_of}
 use Rattle.gc_store.specs.Handles.{PushesRoot}
 use Rattle.gc_store.specs.Stores.{is_full, IsSound}
 use Rattle.gc_store.specs.Tracing.{IsCollectable, roots_of, root_of, start_from}
-use Rattle.gc_store.proofs.Counted.{counts_below}
+use Rattle.gc_store.proofs.HeapBarriers.{can_name, few_roots}
 use Rattle.gc_store.proofs.Roots.{held_object}
 
 -- the entry of a new root
@@ -47,17 +47,11 @@ pub named_word : (h : HeapView) (word : ℕ) → IsNamed h word → IsWordOf h w
 named_word h word (inl odd) = inr (inl odd)
 named_word h word (inr held) = inr (inr held)
 
--- there are few scoped roots
-pub few_roots : {D : Type 0} (layouts : Layouts) (s : StoreView) (t : Table D) (place : Placing) → Holds layouts s t place → length (roots_of s.scoped) ≤ 2 ^ 31
-few_roots layouts s t place holds =
-    omega (arith, length-map s.scoped (λ (e : RootEntry). root_of e.word), holds.scoped.same_count, holds.numbers.scoped_within, holds.numbers.few_roots)
-
 -- a word of the store may be cloned
-pub can_name : {D : Type 0} (layouts : Layouts) (s : StoreView) (t : Table D) (place : Placing) (r : Reference) (word : ℕ) (hosts : ℕ → Bool) → Holds layouts s t place → IsHeap layouts s.heap → IsCollectable layouts s.types s.heap (roots_of s.scoped) hosts → IsWord place r word → 0 < word → CanName s.heap word
-can_name layouts s t place r word hosts holds heap can is positive = record {
-  named = root_named layouts s t place r word holds is positive;
-  below = counts_below layouts s.types s.heap (roots_of s.scoped) hosts heap can (let few = few_roots layouts s t place holds in omega (arith, few)) word;
-}
+pub may_name : {D : Type 0} (layouts : Layouts) (s : StoreView) (t : Table D) (place : Placing) (r : Reference) (word : ℕ) (hosts : ℕ → Bool) → Holds layouts s t place → IsHeap layouts s.heap → IsCollectable layouts s.types s.heap (roots_of s.scoped) hosts → IsWord place r word → 0 < word → CanName s.heap word
+may_name layouts s t place r word hosts holds heap can is positive =
+    let few = few_roots layouts s t place holds in
+    can_name layouts s.types s.heap (roots_of s.scoped) hosts heap can.collects (omega arith) word (named_word s.heap word (root_named layouts s t place r word holds is positive)) positive
 
 -- a collection may begin with a root more whose word was cloned
 pub collectable_cloned : (layouts : Layouts) (types : List Declaration) (h : HeapView) (entries : List RootEntry) (generation word : ℕ) (hosts : ℕ → Bool) → IsCollectable layouts types h (roots_of entries) hosts → IsNamed h word → IsCollectable layouts types (cloned h word) (roots_of (entries ++ entry_of generation word ∷ [])) hosts

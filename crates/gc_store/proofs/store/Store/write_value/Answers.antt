@@ -17,7 +17,7 @@ use Rattle.gc_store.specs.Roots.{HasField, word_of}
 use Rattle.gc_store.specs.Values.{CanWrite, WritesValue}
 use Rattle.gc_store.specs.Stores.{store_view}
 use Rattle.gc_store.proofs.Roots.{SomeIff-value, SomeIff-some}
-use Rattle.gc_store.proofs.Pushing.{few_roots}
+use Rattle.gc_store.proofs.HeapBarriers.{few_roots}
 use Rattle.gc_store.proofs.FieldReads.{FieldAt, field_at, never_dead}
 use Rattle.gc_store.proofs.FieldWrites.{spot, spot_kept, spot_stored, spot_field, writes_value, sound_written}
 use Rattle.gc_store.proofs.store.Store.write_value.Given as given
