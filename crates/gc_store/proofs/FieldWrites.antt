@@ -1,30 +1,26 @@
 -- A value is written into a field of the struct that a handle names.
-use Rattle.std.proofs.Common.{inl, inr, ◌≡◌, ◌≢◌, ◌⊎◌, ℕ, ◌+◌, ◌-◌, ◌^◌, ◌<◌, Bool, true, false, List, Option, Some, None, Result, Ok, Err, sym, ap, ◌∙◌, refl, subst, arith, ℤ}
+use Rattle.std.proofs.Common.{inl, inr, ◌≡◌, ◌⊎◌, ℕ, ◌-◌, Bool, true, List, Some, None, Result, Ok, Err, sym, ap, ◌∙◌, refl, subst, arith, ℤ}
 use Rattle.std.specs.List.{slice_get}
-use Rattle.std.specs.FinMap.{get, insert, gets}
-use Rattle.std.specs.Int.{w32, w64, cast_signed, cast_unsigned, to_le_bytes}
+use Rattle.std.specs.FinMap.{get, gets}
+use Rattle.std.specs.Int.{w32, w64, cast_unsigned}
 use Rattle.std.proofs.lemmas.Int.{of_z-to_z}
 use Rattle.std.proofs.lemmas.Option.{same_Some}
 use Rattle.std.proofs.lemmas.Grind.{common_steps}
 use Rattle.gc_types.specs.declared.value.FieldType.{FieldType}
 use Rattle.gc_types.specs.declared.value.StorageType.{StorageType}
 use Rattle.gc_types.specs.declared.value.StorageType.TheVariants as storage
-use Rattle.gc_types.specs.declared.value.ValType.{ValType}
 use Rattle.gc_types.specs.declared.value.ValType.TheVariants as val
 use Rattle.gc_types.specs.declared.value.RefType.{RefType}
 use Rattle.gc_types.specs.declared.kind.Layouts.{Layouts}
 use Rattle.gc_types.specs.Declarations.{Declaration, TypeTable, struct_fields_at}
 use Rattle.gc_types.specs.Layouts.{struct_base}
-use Rattle.gc_model.specs.declared.GcClass.{GcClass}
-use Rattle.gc_model.specs.declared.GcClass.TheVariants.{Any, Extern, Exn}
+use Rattle.gc_model.specs.declared.GcClass.TheVariants.{Any}
 use Rattle.gc_model.specs.Values.{Reference, null, Value, i32, i64, reference, number_bits}
 use Rattle.gc_model.specs.Table.{Table, write}
 use Rattle.gc_model.specs.Views.{StoreView, HeapView, HeapObject}
 use Rattle.gc_model.specs.Encoded.{IsEncoded}
 use Rattle.gc_model.specs.Holds.{Placing, IsWord, Holds, HoldsTable}
-use Rattle.gc_model.specs.declared.RootEntry.{RootEntry}
 use Rattle.gc_model.proofs.HoldsWrite.{IsWrittenObject, holds_write}
-use Rattle.gc_model.proofs.Words.{word_alone}
 use Rattle.gc_heap.specs.Heap.{put_object, with_data}
 use Rattle.gc_heap.specs.Collection.{IsWordOf}
 use Rattle.gc_store.specs.declared.field.Stored.{Stored}
@@ -35,8 +31,8 @@ use Rattle.gc_store.specs.declared.root.RawValue.{RawValue}
 use Rattle.gc_store.specs.declared.root.RawValue.TheVariants as raw
 use Rattle.gc_store.specs.Fields.{KeptAs, StoredFits, StoredStands, IsFieldOf, FitsBytes, stored_bytes}
 use Rattle.gc_store.specs.RootSets.{slot_word}
-use Rattle.gc_store.specs.Roots.{HasField, word_of, Names, is_of_store}
-use Rattle.gc_store.specs.Values.{raw_fits, NamesLive, IsLive, RawStands, RootStands, CanWrite, WritesValue}
+use Rattle.gc_store.specs.Roots.{HasField, word_of, is_of_store}
+use Rattle.gc_store.specs.Values.{raw_fits, NamesLive, IsLive, RawStands, CanWrite, WritesValue}
 use Rattle.gc_store.specs.Stores.{IsSound}
 use Rattle.gc_store.specs.Tracing.{IsCollectable, roots_of}
 use Rattle.gc_store.proofs.Roots.{named_live, named_dead, names-store, names-entry, own_word, word_of-ok, root_word}

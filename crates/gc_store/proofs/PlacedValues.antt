@@ -1,9 +1,6 @@
 -- The values of a struct that is to be made.
-use Rattle.std.proofs.Common.{inl, inr, ◌≡◌, ℕ, zero, suc, ◌+◌, ◌^◌, ◌<◌, ◌≤◌, true, List, [], ◌∷◌, Option, Some, None, Result, Ok, Err, length, sym, ap, ◌∙◌, refl, subst, arith, ℤ}
-use Rattle.std.specs.Prelude.{All}
+use Rattle.std.proofs.Common.{◌≡◌, ℕ, zero, suc, List, [], ◌∷◌, Some, None, sym, ap, ◌∙◌, refl, subst, arith}
 use Rattle.std.specs.List.{slice_get}
-use Rattle.std.specs.Int.{w32, w64, cast_unsigned}
-use Rattle.std.proofs.lemmas.Int.{of_z-to_z}
 use Rattle.std.proofs.lemmas.List.{length-map}
 use Rattle.std.proofs.lemmas.Option.{none-some, same_Some}
 use Rattle.gc_types.specs.declared.value.FieldType.{FieldType}
@@ -11,22 +8,18 @@ use Rattle.gc_types.specs.declared.value.StorageType.{StorageType}
 use Rattle.gc_types.specs.declared.kind.Layouts.{Layouts}
 use Rattle.gc_types.specs.Declarations.{Declaration, struct_fields_at}
 use Rattle.gc_model.specs.declared.RootEntry.{RootEntry}
-use Rattle.gc_model.specs.Fits.{is_built_field}
-use Rattle.gc_model.specs.Values.{Reference, null, Value, i32, i64, reference}
+use Rattle.gc_model.specs.Values.{Value}
 use Rattle.gc_model.specs.Table.{Table, make_heap}
-use Rattle.gc_model.specs.Views.{StoreView, HeapView}
-use Rattle.gc_model.specs.Holds.{Placing, IsWord, Holds, HoldsTable}
+use Rattle.gc_model.specs.Views.{StoreView}
+use Rattle.gc_model.specs.Holds.{Placing, Holds}
 use Rattle.gc_model.proofs.Lists.{slice_get-same_length}
 use Rattle.gc_store.specs.declared.root.RawValue.{RawValue}
 use Rattle.gc_store.specs.declared.root.RawValue.TheVariants as raw
-use Rattle.gc_store.specs.declared.field.Stored.TheVariants as stored
 use Rattle.gc_store.specs.declared.root.RootSlot.TheVariants as slot
-use Rattle.gc_store.specs.Fields.{KeptStands, AllKept, AllFit}
+use Rattle.gc_store.specs.Fields.{KeptStands, AllKept}
 use Rattle.gc_store.specs.Places.{CanPlace, CanCreate}
-use Rattle.gc_store.specs.Roots.{Names}
 use Rattle.gc_store.specs.Tracing.{root_of}
-use Rattle.gc_store.specs.Values.{RawStands, AllStand, RootStands, NamesLive}
-use Rattle.gc_store.proofs.Roots.{named_live}
+use Rattle.gc_store.specs.Values.{RawStands, AllStand, NamesLive}
 use Rattle.gc_store.proofs.HeapBarriers.{few_roots}
 use Rattle.gc_store.proofs.FieldWrites.{Fitting, is_i32, is_i64, is_null, is_handle, fitting, is_kept, value_of, kept_stands}
 

@@ -1,7 +1,6 @@
 -- What a new scoped root leaves of a store.
-use Rattle.std.proofs.Common.{◌≡◌, ℕ, ◌+◌, ◌%◌, ◌-◌, ◌^◌, ◌<◌, ◌≤◌, ◌⊎◌, inl, inr, Bool, true, false, List, [], ◌∷◌, ◌++◌, Some, Result, Ok, Err, length, map, nat_le, ◌||◌, ◌==◌, refl, sym, ap, ◌∙◌, subst, arith}
-use Rattle.std.specs.FinMap as finite
-use Rattle.std.proofs.lemmas.List.{length-map, map-append, append-nil}
+use Rattle.std.proofs.Common.{◌≡◌, ℕ, ◌-◌, ◌^◌, ◌<◌, inl, inr, Bool, true, false, List, [], ◌∷◌, ◌++◌, Ok, length, nat_le, ◌||◌, ◌==◌, refl, sym, ◌∙◌, subst, arith}
+use Rattle.std.proofs.lemmas.List.{map-append, append-nil}
 use Rattle.gc_types.specs.declared.kind.Layouts.{Layouts}
 use Rattle.gc_types.specs.Declarations.{Declaration, TypeTable}
 use Rattle.gc_roots.specs.Roots.{Root}
@@ -10,8 +9,8 @@ use Rattle.gc_model.specs.Values.{Reference, null, small, at}
 use Rattle.gc_model.specs.Table.{Table, push}
 use Rattle.gc_model.specs.Live.{roots_full}
 use Rattle.gc_model.specs.Views.{StoreView, HeapView, SameHeld}
-use Rattle.gc_model.specs.Holds.{Placing, IsWord, Holds, HoldsTable}
-use Rattle.gc_model.proofs.HoldsPush.{with_root, holds_push}
+use Rattle.gc_model.specs.Holds.{Placing, IsWord, Holds}
+use Rattle.gc_model.proofs.HoldsPush.{holds_push}
 use Rattle.gc_heap.specs.Barriers.{IsNamed, CanName, cloned}
 use Rattle.gc_heap.specs.Content.{IsHeap}
 use Rattle.gc_heap.specs.Collection.{IsWordOf, CanCollect}
@@ -19,12 +18,11 @@ use Rattle.gc_heap.proofs.AddedLemmas.{start}
 use Rattle.gc_heap.proofs.RootedLemmas.{can_collect_cloned}
 use Rattle.gc_store.specs.declared.root.GcRootIndex.{GcRootIndex}
 use Rattle.gc_store.specs.declared.root.RootSlot.TheVariants as slot
-use Rattle.gc_store.specs.Roots.{IsRootWord, handle_of}
+use Rattle.gc_store.specs.Roots.{IsRootWord}
 use Rattle.gc_store.specs.Handles.{PushesRoot}
 use Rattle.gc_store.specs.Stores.{is_full, IsSound}
 use Rattle.gc_store.specs.Tracing.{IsCollectable, roots_of, root_of, start_from}
 use Rattle.gc_store.proofs.HeapBarriers.{can_name, few_roots}
-use Rattle.gc_store.proofs.Roots.{held_object}
 
 -- the entry of a new root
 abbrev pub entry_of : ℕ → ℕ → RootEntry

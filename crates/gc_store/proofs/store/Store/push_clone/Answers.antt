@@ -1,6 +1,5 @@
-use Rattle.std.proofs.Common.{◌≡◌, ◌<◌, ℕ, ◌++◌, ◌∷◌, [], false, List, length, ap, sym, ◌∙◌, subst, refl}
+use Rattle.std.proofs.Common.{◌≡◌, ◌++◌, ◌∷◌, [], false, length, ap, sym, ◌∙◌, subst, refl}
 use Rattle.std.specs.FinMap.{len}
-use Rattle.gc_model.specs.declared.RootEntry.{RootEntry}
 use Rattle.gc_model.specs.Views.{StoreView, HeapView, SameHeld}
 use Rattle.gc_model.specs.Holds.{Holds}
 use Rattle.gc_heap.specs.Collection.{has_host}
