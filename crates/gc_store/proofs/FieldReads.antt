@@ -1,30 +1,21 @@
 -- What a field of the struct that a handle names keeps.
-use Rattle.std.proofs.Common.{inl, inr, ◌≡◌, ℕ, ◌+◌, ◌-◌, ◌*◌, ◌%◌, ◌^◌, ◌<◌, ◌≤◌, Bool, true, false, List, [], ◌∷◌, zero, suc, Option, Some, None, Result, Ok, Err, length, slice_index_or, get_or, sym, ap, ◌∙◌, refl, subst, arith, ℤ}
+use Rattle.std.proofs.Common.{◌≡◌, ℕ, ◌<◌, true, List, Some, Ok, Err, sym, ap, ◌∙◌, refl, subst, arith}
 use Rattle.std.specs.Prelude.{All}
 use Rattle.std.specs.List.{slice_get}
 use Rattle.std.specs.FinMap as finite
-use Rattle.std.specs.Int.{w32, w64, cast_signed, cast_unsigned}
-use Rattle.std.proofs.lemmas.Int.{of_z-to_z}
-use Rattle.std.proofs.lemmas.Grind.{common_steps}
-use Rattle.std.proofs.lemmas.Option.{none-some, slice_get_within}
+use Rattle.std.proofs.lemmas.Option.{slice_get_within, get_or_from_slice_get}
 use Rattle.gc_types.specs.declared.value.FieldType.{FieldType}
 use Rattle.gc_types.specs.declared.value.StorageType.{StorageType}
 use Rattle.gc_types.specs.declared.value.StorageType.TheVariants as storage
-use Rattle.gc_types.specs.declared.value.ValType.{ValType}
 use Rattle.gc_types.specs.declared.value.ValType.TheVariants as val
 use Rattle.gc_types.specs.declared.kind.Layouts.{Layouts}
-use Rattle.gc_types.specs.declared.layout.FieldLayout.{FieldLayout}
 use Rattle.gc_types.specs.Declarations.{Declaration, struct_fields_at}
-use Rattle.gc_types.specs.Layouts.{struct_base, field_layouts}
-use Rattle.gc_model.specs.declared.GcClass.{GcClass}
 use Rattle.gc_model.specs.declared.GcClass.TheVariants.{Any, Extern, Exn}
-use Rattle.gc_model.specs.Values.{Reference, null, small, at, Value, i32, i64, f32, f64, v128, function, reference, Object, struct, number_bits}
+use Rattle.gc_model.specs.Values.{Reference, at, Value, i32, i64, f32, f64, v128, function, reference}
 use Rattle.gc_model.specs.Fits.{is_built_field}
 use Rattle.gc_model.specs.Table.{Table}
-use Rattle.gc_model.specs.Live.{rooted}
 use Rattle.gc_model.specs.Views.{StoreView, HeapObject, u32_at, u64_at}
-use Rattle.gc_model.specs.Holds.{Placing, IsWord, Holds, HoldsTable, Lies, LiesI32, LiesI64, LiesAny}
-use Rattle.gc_model.proofs.FieldsLie.{IsField}
+use Rattle.gc_model.specs.Holds.{Placing, IsWord, Holds, Lies, LiesI32, LiesI64, LiesAny}
 use Rattle.gc_model.proofs.HeldStructs.{FieldHolds, struct_stands, read_lies}
 use Rattle.gc_store.specs.declared.field.Stored.{Stored}
 use Rattle.gc_store.specs.declared.field.Stored.TheVariants as stored
@@ -46,14 +37,9 @@ pub record FieldAt (layouts : Layouts) (s : StoreView) (place : Placing) (word p
   pub holds : FieldHolds layouts place fields index value object.bytes
   pub built : is_built_field holds.field ≡ true
 
-got : {A : Type 0} (xs : List A) (i : ℕ) (x : A) → slice_get xs i ≡ Some x → get_or xs i x ≡ x
-got [] i x e = absurd (none-some x e)
-got (y ∷ xs) zero x e = grind (arith, e)
-got (y ∷ xs) (suc i) x e = got xs i x e
-
 -- a property of all elements at one of them
 pub all_at : (P : FieldType → Type 0) (fields : List FieldType) (index : ℕ) (field : FieldType) → All P fields → slice_get fields index ≡ Some field → P field
-all_at P fields index field all e = subst P (got fields index field e) (all index field (slice_get_within fields index field e))
+all_at P fields index field all e = subst P (get_or_from_slice_get fields index field field e) (all index field (slice_get_within fields index field e))
 
 module _ {D : Type 0} (layouts : Layouts) (s : StoreView) (t : Table D) (place : Placing) (holds : Holds layouts s t place) (handle : GcRootIndex) (index : ℕ) (value : Value) (has : HasField s t handle index value) where
   -- the handle's word is the place of the struct

@@ -1,29 +1,26 @@
 -- A value is written into a field of the struct that a handle names.
-use Rattle.std.proofs.Common.{inl, inr, ◌≡◌, ◌≢◌, ◌⊎◌, ℕ, ◌+◌, ◌-◌, ◌^◌, ◌<◌, Bool, true, false, List, Option, Some, None, Result, Ok, Err, sym, ap, ◌∙◌, refl, subst, arith, ℤ}
+use Rattle.std.proofs.Common.{inl, inr, ◌≡◌, ◌⊎◌, ℕ, ◌-◌, Bool, true, List, Some, None, Result, Ok, Err, sym, ap, ◌∙◌, refl, subst, arith, ℤ}
 use Rattle.std.specs.List.{slice_get}
-use Rattle.std.specs.FinMap.{get, insert, gets}
-use Rattle.std.specs.Int.{w32, w64, cast_signed, cast_unsigned, to_le_bytes}
+use Rattle.std.specs.FinMap.{get, gets}
+use Rattle.std.specs.Int.{w32, w64, cast_unsigned}
 use Rattle.std.proofs.lemmas.Int.{of_z-to_z}
+use Rattle.std.proofs.lemmas.Option.{same_Some}
 use Rattle.std.proofs.lemmas.Grind.{common_steps}
 use Rattle.gc_types.specs.declared.value.FieldType.{FieldType}
 use Rattle.gc_types.specs.declared.value.StorageType.{StorageType}
 use Rattle.gc_types.specs.declared.value.StorageType.TheVariants as storage
-use Rattle.gc_types.specs.declared.value.ValType.{ValType}
 use Rattle.gc_types.specs.declared.value.ValType.TheVariants as val
 use Rattle.gc_types.specs.declared.value.RefType.{RefType}
 use Rattle.gc_types.specs.declared.kind.Layouts.{Layouts}
 use Rattle.gc_types.specs.Declarations.{Declaration, TypeTable, struct_fields_at}
 use Rattle.gc_types.specs.Layouts.{struct_base}
-use Rattle.gc_model.specs.declared.GcClass.{GcClass}
-use Rattle.gc_model.specs.declared.GcClass.TheVariants.{Any, Extern, Exn}
+use Rattle.gc_model.specs.declared.GcClass.TheVariants.{Any}
 use Rattle.gc_model.specs.Values.{Reference, null, Value, i32, i64, reference, number_bits}
 use Rattle.gc_model.specs.Table.{Table, write}
 use Rattle.gc_model.specs.Views.{StoreView, HeapView, HeapObject}
 use Rattle.gc_model.specs.Encoded.{IsEncoded}
 use Rattle.gc_model.specs.Holds.{Placing, IsWord, Holds, HoldsTable}
-use Rattle.gc_model.specs.declared.RootEntry.{RootEntry}
 use Rattle.gc_model.proofs.HoldsWrite.{IsWrittenObject, holds_write}
-use Rattle.gc_model.proofs.Words.{word_alone}
 use Rattle.gc_heap.specs.Heap.{put_object, with_data}
 use Rattle.gc_heap.specs.Collection.{IsWordOf}
 use Rattle.gc_store.specs.declared.field.Stored.{Stored}
@@ -32,14 +29,15 @@ use Rattle.gc_store.specs.declared.root.GcRootIndex.{GcRootIndex}
 use Rattle.gc_store.specs.declared.root.RootFault.{RootFault}
 use Rattle.gc_store.specs.declared.root.RawValue.{RawValue}
 use Rattle.gc_store.specs.declared.root.RawValue.TheVariants as raw
-use Rattle.gc_store.specs.Fields.{KeptAs, StoredFits, IsFieldOf, FitsBytes, stored_bytes}
+use Rattle.gc_store.specs.Fields.{KeptAs, StoredFits, StoredStands, IsFieldOf, FitsBytes, stored_bytes}
 use Rattle.gc_store.specs.RootSets.{slot_word}
-use Rattle.gc_store.specs.Roots.{HasField, word_of, Names, is_of_store}
-use Rattle.gc_store.specs.Values.{raw_fits, NamesLive, IsLive, RawStands, RootStands, CanWrite, WritesValue}
+use Rattle.gc_store.specs.Roots.{HasField, word_of, is_of_store}
+use Rattle.gc_store.specs.Values.{raw_fits, NamesLive, IsLive, RawStands, CanWrite, WritesValue}
 use Rattle.gc_store.specs.Stores.{IsSound}
 use Rattle.gc_store.specs.Tracing.{IsCollectable, roots_of}
 use Rattle.gc_store.proofs.Roots.{named_live, named_dead, names-store, names-entry, own_word, word_of-ok, root_word}
 use Rattle.gc_store.proofs.Pushing.{root_named, named_word}
+use Rattle.gc_store.proofs.HeapValues.{stored_encoded}
 use Rattle.gc_store.proofs.FieldReads.{FieldAt, field_at}
 
 -- a value of a field's type
@@ -50,35 +48,11 @@ pub data Fitting : StorageType → RawValue → Type 0 where
   is_handle : (ty : RefType) (handle : GcRootIndex) → Fitting (storage.ValType (val.Ref ty)) (raw.Ref Any (Some handle))
 
 pub fitting : (st : StorageType) (r : RawValue) → raw_fits st r ≡ true → Fitting st r
-fitting storage.I8 r fits = absurd (cc fits)
-fitting storage.I16 r fits = absurd (cc fits)
 fitting (storage.ValType val.I32) (raw.I32 z) fits = is_i32 z
-fitting (storage.ValType val.I32) (raw.I64 z) fits = absurd (cc fits)
-fitting (storage.ValType val.I32) (raw.F32 n) fits = absurd (cc fits)
-fitting (storage.ValType val.I32) (raw.F64 n) fits = absurd (cc fits)
-fitting (storage.ValType val.I32) (raw.V128 n) fits = absurd (cc fits)
-fitting (storage.ValType val.I32) (raw.Func f) fits = absurd (cc fits)
-fitting (storage.ValType val.I32) (raw.Ref class h) fits = absurd (cc fits)
-fitting (storage.ValType val.I64) (raw.I32 z) fits = absurd (cc fits)
 fitting (storage.ValType val.I64) (raw.I64 z) fits = is_i64 z
-fitting (storage.ValType val.I64) (raw.F32 n) fits = absurd (cc fits)
-fitting (storage.ValType val.I64) (raw.F64 n) fits = absurd (cc fits)
-fitting (storage.ValType val.I64) (raw.V128 n) fits = absurd (cc fits)
-fitting (storage.ValType val.I64) (raw.Func f) fits = absurd (cc fits)
-fitting (storage.ValType val.I64) (raw.Ref class h) fits = absurd (cc fits)
-fitting (storage.ValType val.F32) r fits = absurd (cc fits)
-fitting (storage.ValType val.F64) r fits = absurd (cc fits)
-fitting (storage.ValType val.V128) r fits = absurd (cc fits)
-fitting (storage.ValType (val.Ref ty)) (raw.I32 z) fits = absurd (cc fits)
-fitting (storage.ValType (val.Ref ty)) (raw.I64 z) fits = absurd (cc fits)
-fitting (storage.ValType (val.Ref ty)) (raw.F32 n) fits = absurd (cc fits)
-fitting (storage.ValType (val.Ref ty)) (raw.F64 n) fits = absurd (cc fits)
-fitting (storage.ValType (val.Ref ty)) (raw.V128 n) fits = absurd (cc fits)
-fitting (storage.ValType (val.Ref ty)) (raw.Func f) fits = absurd (cc fits)
 fitting (storage.ValType (val.Ref ty)) (raw.Ref Any None) fits = is_null ty
 fitting (storage.ValType (val.Ref ty)) (raw.Ref Any (Some handle)) fits = is_handle ty handle
-fitting (storage.ValType (val.Ref ty)) (raw.Ref Extern h) fits = absurd (cc fits)
-fitting (storage.ValType (val.Ref ty)) (raw.Ref Exn h) fits = absurd (cc fits)
+fitting st r fits = absurd (cc)
 
 word_cases : (r : Result ℕ RootFault) → ((word : ℕ) × (r ≡ Ok word)) ⊎ ((f : RootFault) × (r ≡ Err f))
 word_cases (Ok word) = inl (word, refl)
@@ -86,7 +60,7 @@ word_cases (Err f) = inr (f, refl)
 
 module _ (D : Type 0) (layouts : Layouts) (s : StoreView) where
   -- a live handle has a word
-  pub live_word : (handle : GcRootIndex) → IsLive D layouts s handle → (word : ℕ) × (word_of s handle ≡ Ok word)
+  live_word : (handle : GcRootIndex) → IsLive D layouts s handle → (word : ℕ) × (word_of s handle ≡ Ok word)
   live_word handle live = elim (word_cases (word_of s handle)) [
     | inl is ↦ is
     | inr none ↦ absurd (cc (sym live.live ∙ (named_dead layouts s live.table live.holds.0 live.holds.1 handle live.serial none.0 live.names none.1).0))
@@ -94,9 +68,6 @@ module _ (D : Type 0) (layouts : Layouts) (s : StoreView) where
 
   live_own : (handle : GcRootIndex) → IsLive D layouts s handle → is_of_store s handle ≡ true
   live_own handle live = names-store s live.table handle live.serial live.names
-
-  pub live_slot_of : (handle : GcRootIndex) (word : ℕ) → IsLive D layouts s handle → word_of s handle ≡ Ok word → slot_word s.scoped handle.slot handle.generation ≡ Ok word
-  live_slot_of handle word live e = sym (own_word s handle (live_own handle live)) ∙ e
 
   live_slot : (handle : GcRootIndex) (word : ℕ) → IsLive D layouts s handle → slot_word s.scoped handle.slot handle.generation ≡ Ok word → word_of s handle ≡ Ok word
   live_slot handle word live e = own_word s handle (live_own handle live) ∙ e
@@ -133,27 +104,22 @@ module _ (D : Type 0) (layouts : Layouts) (s : StoreView) where
         let root = named_live layouts s t place holds handle named.0 word.0 named.1 word.1 in
         (reference Any root.0, record { serial = named.0; names = named.1; root = root.0; live = root.1.0; is = refl })
 
+    -- what is kept stands for that value
+    pub kept_stands : (st : StorageType) (r : RawValue) (x : Stored) (v : Value) → Fitting st r → NamesLive D layouts s r → KeptAs s.scoped r x → RawStands s t r v → FitsBytes x → StoredStands place x v
+    kept_stands _ _ x v (is_i32 z) live kept stands small =
+        subst (λ (x : Stored). StoredStands place x v) (sym kept) (stands ∙ ap i32 (of_z-to_z w32 (cast_unsigned w32 z) (subst FitsBytes kept small)))
+    kept_stands _ _ x v (is_i64 z) live kept stands small =
+        subst (λ (x : Stored). StoredStands place x v) (sym kept) (stands ∙ ap i64 (of_z-to_z w64 (cast_unsigned w64 z) (subst FitsBytes kept small)))
+    kept_stands _ _ x v (is_null ty) live kept stands small = subst (λ (x : Stored). StoredStands place x v) (sym kept) (null, (refl, stands))
+    kept_stands _ _ x v (is_handle ty handle) live kept stands small =
+        let named = named_live layouts s t place holds handle stands.serial kept.0 stands.names (live_slot handle kept.0 live kept.1.0) in
+        let same : named.0 ≡ stands.root = same_Some named.0 stands.root (sym named.1.0 ∙ stands.live) in
+        subst (λ (x : Stored). StoredStands place x v) (sym kept.1.1) (stands.root, (subst (λ (r : Reference). IsWord place r kept.0) same named.1.1, stands.is))
+
     -- whose bytes these are
-    pub encodes : (st : StorageType) (r : RawValue) (x : Stored) (v : Value) → Fitting st r → NamesLive D layouts s r → KeptAs s.scoped r x → RawStands s t r v → FitsBytes x → IsEncoded place st v (stored_bytes x)
-    encodes _ _ x v (is_i32 z) live kept stands fits =
-        let n = cast_unsigned w32 z in
-        let small : n < 2 ^ 32 = subst FitsBytes kept fits in
-        subst (λ (x : Stored). IsEncoded place (storage.ValType val.I32) v (stored_bytes x)) (sym kept)
-        (subst (λ (v : Value). IsEncoded place (storage.ValType val.I32) v (to_le_bytes w32 n)) (sym (stands ∙ ap i32 (of_z-to_z w32 n small))) (small, refl))
-    encodes _ _ x v (is_i64 z) live kept stands fits =
-        let n = cast_unsigned w64 z in
-        let small : n < 2 ^ 64 = subst FitsBytes kept fits in
-        subst (λ (x : Stored). IsEncoded place (storage.ValType val.I64) v (stored_bytes x)) (sym kept)
-        (subst (λ (v : Value). IsEncoded place (storage.ValType val.I64) v (to_le_bytes w64 n)) (sym (stands ∙ ap i64 (of_z-to_z w64 n small))) (small, refl))
-    encodes _ _ x v (is_null ty) live kept stands fits =
-        subst (λ (x : Stored). IsEncoded place (storage.ValType (val.Ref ty)) v (stored_bytes x)) (sym kept)
-        (subst (λ (v : Value). IsEncoded place (storage.ValType (val.Ref ty)) v (to_le_bytes w32 0)) (sym stands) (record { word = 0; small = omega arith; is_word = refl; encoded = refl }))
-    encodes _ _ x v (is_handle ty handle) live kept stands fits =
-        let live = named_live layouts s t place holds handle stands.serial kept.0 stands.names (live_slot handle kept.0 live kept.1.0) in
-        let same : live.0 ≡ stands.root = grind (arith, sym live.1.0 ∙ stands.live) in
-        subst (λ (x : Stored). IsEncoded place (storage.ValType (val.Ref ty)) v (stored_bytes x)) (sym kept.1.1)
-        (subst (λ (v : Value). IsEncoded place (storage.ValType (val.Ref ty)) v (to_le_bytes w32 kept.0)) (sym (stands.is ∙ ap (reference Any) (sym same)))
-        (record { word = kept.0; small = subst FitsBytes kept.1.1 fits; is_word = live.1.1; encoded = refl }))
+    encodes : (st : StorageType) (r : RawValue) (x : Stored) (v : Value) → Fitting st r → NamesLive D layouts s r → KeptAs s.scoped r x → RawStands s t r v → FitsBytes x → IsEncoded place st v (stored_bytes x)
+    encodes st r x v fits live kept stands small =
+        stored_encoded place s.heap st x v (stored_fits st r x fits live kept) small (kept_stands st r x v fits live kept stands small)
 
 -- a heap with other bytes in an object
 pub written_object : (layouts : Layouts) (old new : HeapView) (word offset : ℕ) (object : HeapObject) (ws : List ℕ) → get old.content word ≡ Some object → new ≡ record (put_object old word (with_data layouts object offset ws)) { counts = new.counts } → IsWrittenObject old new word (offset - struct_base layouts) ws

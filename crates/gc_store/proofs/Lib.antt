@@ -3,7 +3,6 @@ pub mod TypesKept
 pub mod Declare
 pub mod Roots
 pub mod SameRoots
-pub mod Counted
 pub mod Pushing
 pub mod Leaving
 pub mod FieldReads

@@ -1,16 +1,15 @@
 -- A heap that got its first pages is a heap.
-use Rattle.std.proofs.Common.{◌≡◌, ℕ, ◌+◌, ◌-◌, ◌*◌, ◌/◌, ◌%◌, ◌^◌, ◌<◌, ◌≤◌, ◌↔◌, ◌==◌, Bool, true, false, cond, nat_eq, Some, None, IsTrue, IsSome, refl, sym, ap, ◌∙◌, subst, arith}
+use Rattle.std.proofs.Common.{◌≡◌, ℕ, ◌+◌, ◌*◌, ◌%◌, ◌^◌, ◌<◌, ◌≤◌, ◌↔◌, ◌==◌, true, false, cond, Some, IsTrue, IsSome, refl, sym, ap, ◌∙◌, subst, arith}
 use Rattle.std.specs.FinMap.{get, empty, get-empty}
 use Rattle.std.specs.FinSet as finset
 use Rattle.std.specs.Ordering.{nat_cmp}
 use Rattle.std.proofs.lemmas.Option.{none-some}
-use Rattle.std.proofs.lemmas.Bool.{eqb-false, eqb-true}
+use Rattle.std.proofs.lemmas.Bool.{eqb-false}
 use Rattle.gc_types.specs.declared.kind.Layouts.{Layouts}
 use Rattle.gc_types.specs.declared.kind.Layouts.TheVariants.{Null, Counting, Copying}
 use Rattle.gc_model.specs.Allocation.{page, max_pages}
-use Rattle.gc_model.specs.Views.{HeapObject, HeapView}
 use Rattle.gc_heap.specs.Objects.{held_size}
-use Rattle.gc_heap.specs.Content.{IsHeap, IsHeld, AllocatedIs, KindIs, total, block_size, half_of}
+use Rattle.gc_heap.specs.Content.{IsHeap, IsHeld, AllocatedIs, KindIs, block_size, half_of}
 use Rattle.gc_heap.specs.Heap.{empty_heap, allocated_at_first}
 use Rattle.gc_heap.specs.Totals.{total-empty}
 

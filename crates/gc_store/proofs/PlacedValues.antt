@@ -1,9 +1,6 @@
 -- The values of a struct that is to be made.
-use Rattle.std.proofs.Common.{inl, inr, ◌≡◌, ℕ, zero, suc, ◌+◌, ◌^◌, ◌<◌, ◌≤◌, true, List, [], ◌∷◌, Option, Some, None, Result, Ok, Err, length, sym, ap, ◌∙◌, refl, subst, arith, ℤ}
-use Rattle.std.specs.Prelude.{All}
+use Rattle.std.proofs.Common.{◌≡◌, ℕ, zero, suc, List, [], ◌∷◌, Some, None, sym, ap, ◌∙◌, refl, subst, arith}
 use Rattle.std.specs.List.{slice_get}
-use Rattle.std.specs.Int.{w32, w64, cast_unsigned}
-use Rattle.std.proofs.lemmas.Int.{of_z-to_z}
 use Rattle.std.proofs.lemmas.List.{length-map}
 use Rattle.std.proofs.lemmas.Option.{none-some, same_Some}
 use Rattle.gc_types.specs.declared.value.FieldType.{FieldType}
@@ -11,24 +8,20 @@ use Rattle.gc_types.specs.declared.value.StorageType.{StorageType}
 use Rattle.gc_types.specs.declared.kind.Layouts.{Layouts}
 use Rattle.gc_types.specs.Declarations.{Declaration, struct_fields_at}
 use Rattle.gc_model.specs.declared.RootEntry.{RootEntry}
-use Rattle.gc_model.specs.Fits.{is_built_field}
-use Rattle.gc_model.specs.Values.{Reference, null, Value, i32, i64, reference}
+use Rattle.gc_model.specs.Values.{Value}
 use Rattle.gc_model.specs.Table.{Table, make_heap}
-use Rattle.gc_model.specs.Views.{StoreView, HeapView}
-use Rattle.gc_model.specs.Holds.{Placing, IsWord, Holds, HoldsTable}
+use Rattle.gc_model.specs.Views.{StoreView}
+use Rattle.gc_model.specs.Holds.{Placing, Holds}
 use Rattle.gc_model.proofs.Lists.{slice_get-same_length}
 use Rattle.gc_store.specs.declared.root.RawValue.{RawValue}
 use Rattle.gc_store.specs.declared.root.RawValue.TheVariants as raw
-use Rattle.gc_store.specs.declared.field.Stored.TheVariants as stored
 use Rattle.gc_store.specs.declared.root.RootSlot.TheVariants as slot
-use Rattle.gc_store.specs.Fields.{KeptStands, AllKept, AllFit}
+use Rattle.gc_store.specs.Fields.{KeptStands, AllKept}
 use Rattle.gc_store.specs.Places.{CanPlace, CanCreate}
-use Rattle.gc_store.specs.Roots.{Names}
 use Rattle.gc_store.specs.Tracing.{root_of}
-use Rattle.gc_store.specs.Values.{RawStands, AllStand, RootStands, IsLive}
-use Rattle.gc_store.proofs.Roots.{named_live}
-use Rattle.gc_store.proofs.Pushing.{few_roots}
-use Rattle.gc_store.proofs.FieldWrites.{Fitting, is_i32, is_i64, is_null, is_handle, fitting, is_kept, value_of, live_word, live_slot_of}
+use Rattle.gc_store.specs.Values.{RawStands, AllStand, NamesLive}
+use Rattle.gc_store.proofs.HeapBarriers.{few_roots}
+use Rattle.gc_store.proofs.FieldWrites.{Fitting, is_i32, is_i64, is_null, is_handle, fitting, is_kept, value_of, kept_stands}
 
 -- a list of values, one for each that is given
 values_with : {D : Type 0} (s : StoreView) (t : Table D) (raws : List RawValue) → ((i : ℕ) (r : RawValue) → slice_get raws i ≡ Some r → (v : Value) × RawStands s t r v) → (vs : List Value) × AllStand s t raws vs
@@ -92,16 +85,17 @@ module _ {D : Type 0} (layouts : Layouts) (s : StoreView) (ty : ℕ) (raws : Lis
 
     -- and are kept by the words that its roots have
     module _ (place : Placing) (holds : Holds layouts after (make_heap t) place) where
+      named_after : (st : StorageType) (r : RawValue) (v : Value) → Fitting st r → RawStands after (make_heap t) r v → NamesLive D layouts after r
+      named_after _ _ v (is_i32 z) stands = tt
+      named_after _ _ v (is_i64 z) stands = tt
+      named_after _ _ v (is_null ty) stands = tt
+      named_after _ _ v (is_handle ty handle) stands = record { table = make_heap t; holds = (place, holds); serial = stands.serial; names = stands.names; root = stands.root; live = stands.live }
+
       kept_after : (st : StorageType) (r : RawValue) (v : Value) → Fitting st r → RawStands after (make_heap t) r v → KeptStands place after.scoped r v
-      kept_after _ _ v (is_i32 z) stands = (stored.I32 (cast_unsigned w32 z), (refl, λ small. stands ∙ ap i32 (of_z-to_z w32 (cast_unsigned w32 z) small)))
-      kept_after _ _ v (is_i64 z) stands = (stored.I64 (cast_unsigned w64 z), (refl, λ small. stands ∙ ap i64 (of_z-to_z w64 (cast_unsigned w64 z) small)))
-      kept_after _ _ v (is_null ty) stands = (stored.Ref 0, (refl, λ _. (null, (refl, stands))))
-      kept_after _ _ v (is_handle ty handle) stands =
-          let live : IsLive D layouts after handle = record { table = make_heap t; holds = (place, holds); serial = stands.serial; names = stands.names; root = stands.root; live = stands.live } in
-          let word = live_word D layouts after handle live in
-          let named = named_live layouts after (make_heap t) place holds handle stands.serial word.0 stands.names word.1 in
-          let same : named.0 ≡ stands.root = same_Some named.0 stands.root (sym named.1.0 ∙ stands.live) in
-          (stored.Ref word.0, ((word.0, (live_slot_of D layouts after handle word.0 live word.1, refl)), λ _. (stands.root, (subst (λ (r : Reference). IsWord place r word.0) same named.1.1, stands.is))))
+      kept_after st r v fits stands =
+          let live = named_after st r v fits stands in
+          let kept = is_kept D layouts after st r fits live in
+          (kept.0, (kept.1, λ small. kept_stands D layouts after (make_heap t) place holds st r kept.0 v fits live kept.1 stands small))
 
       pub all_kept : (vs : List Value) → AllStand s t raws vs → AllKept place after.scoped raws vs
       all_kept vs all = record {

@@ -1,15 +1,13 @@
 -- A struct that was made in the heap is the table's.
-use Rattle.std.proofs.Common.{inl, inr, ◌≡◌, ℕ, ◌+◌, ◌-◌, ◌*◌, ◌%◌, ◌^◌, ◌<◌, ◌≤◌, ◌⊎◌, Bool, true, false, cond, List, [], ◌∷◌, ◌++◌, Some, Result, Ok, Err, length, sym, ap, ◌∙◌, refl, subst, arith, le-leb}
+use Rattle.std.proofs.Common.{inl, inr, ◌≡◌, ℕ, ◌+◌, ◌*◌, ◌%◌, ◌^◌, ◌<◌, ◌≤◌, Bool, true, false, cond, List, [], ◌∷◌, ◌++◌, Some, Result, Ok, Err, length, sym, ap, ◌∙◌, refl, subst, arith, le-leb}
 use Rattle.std.specs.Prelude.{IfSome}
 use Rattle.std.specs.FinMap.{get}
 use Rattle.std.proofs.lemmas.Bool.{cases_eq}
 use Rattle.std.proofs.lemmas.Option.{none-some}
-use Rattle.gc_types.specs.declared.value.FieldType.{FieldType}
 use Rattle.gc_types.specs.declared.kind.Layouts.{Layouts}
 use Rattle.gc_types.specs.declared.kind.Layouts.TheVariants.{Null, Counting, Copying}
-use Rattle.gc_types.specs.Declarations.{Declaration, TypeTable, struct_fields_at}
+use Rattle.gc_types.specs.Declarations.{Declaration, struct_fields_at}
 use Rattle.gc_types.specs.Layouts.{struct_base, fields_end, round_up}
-use Rattle.gc_roots.specs.Roots.{Root}
 use Rattle.gc_model.specs.declared.RootEntry.{RootEntry}
 use Rattle.gc_model.specs.Values.{Value, Object, struct}
 use Rattle.gc_model.specs.Table.{Table, make, make_heap}
@@ -17,12 +15,12 @@ use Rattle.gc_model.specs.Live.{roots_full}
 use Rattle.gc_model.specs.Sizes.{object_size, fields_size, alignment}
 use Rattle.gc_model.specs.Allocation.{Limits, page, max_pages, too_large, no_heap, no_room, MayMakeHeap, FitsIn, LacksFit}
 use Rattle.gc_model.specs.Views.{HeapView, HeapObject, StoreView}
-use Rattle.gc_model.specs.Holds.{Placing, Holds, HoldsTable, HoldsKept}
+use Rattle.gc_model.specs.Holds.{Placing, Holds, HoldsTable}
 use Rattle.gc_model.proofs.HoldsHeap.{IsMadeHeap, holds_heap}
 use Rattle.gc_model.proofs.HoldsMake.{IsMadeObject, holds_make, placed_at}
 use Rattle.gc_model.proofs.Layouts.{round_up-le}
 use Rattle.gc_heap.specs.Content.{IsHeap}
-use Rattle.gc_heap.specs.Heap.{HasRoom, IsTooLarge, allocated_at_first, allocated_after, need_of}
+use Rattle.gc_heap.specs.Heap.{IsTooLarge, allocated_at_first, allocated_after, need_of}
 use Rattle.gc_store.specs.declared.root.GcRootIndex.{GcRootIndex}
 use Rattle.gc_store.specs.declared.root.RawValue.{RawValue}
 use Rattle.gc_store.specs.declared.root.RootSlot.TheVariants as slot
@@ -30,15 +28,15 @@ use Rattle.gc_store.specs.declared.store.PlaceFault.{PlaceFault}
 use Rattle.gc_store.specs.declared.store.PlaceFault.TheVariants as fault
 use Rattle.gc_store.specs.Limiters.{Refuses}
 use Rattle.gc_store.specs.Places.{MakesHeap, MayCollect, Creates, CanPlace, PlacesIn, PlacesObject, Places, size_of}
-use Rattle.gc_store.specs.Stores.{is_full, IsSound}
+use Rattle.gc_store.specs.Stores.{is_full}
 use Rattle.gc_store.specs.Tracing.{IsCollectable, roots_of, root_of}
 use Rattle.gc_store.specs.Values.{AllStand}
 use Rattle.gc_store.proofs.CollectedRoom.{fits_in, lacks_fit}
 use Rattle.gc_store.proofs.CollectedStore.{collected_even, heap_even}
-use Rattle.gc_store.proofs.HeapMade.{attached_kept, rotated}
+use Rattle.gc_store.proofs.HeapMade.{attached_kept, pushed_kept}
 use Rattle.gc_store.proofs.MadeHeaps.{made_heap}
 use Rattle.gc_store.proofs.PlacedValues.{all_kept}
-use Rattle.gc_store.proofs.Pushing.{full_is, entry_of, roots_of-push}
+use Rattle.gc_store.proofs.Pushing.{full_is, entry_of}
 
 -- a heap that is made stays as it is
 made_again : {D : Type 0} (t : Table D) → t.made ≡ true → make_heap t ≡ t
@@ -240,4 +238,4 @@ sound_places layouts o limits limits' t (Err fault.Memory) new (inr made, limits
 -- a collection may begin once the new object's word is a scoped root
 pub collectable_pushed : (layouts : Layouts) (types : List Declaration) (h : HeapView) (entries items : List RootEntry) (generation word : ℕ) (hosts : ℕ → Bool) → IsCollectable layouts types h (root_of word ∷ roots_of entries) hosts → items ≡ entries ++ entry_of generation word ∷ [] → IsCollectable layouts types h (roots_of items) hosts
 collectable_pushed layouts types h entries items generation word hosts can is =
-    subst (λ (roots : List Root). IsCollectable layouts types h roots hosts) (sym (ap roots_of is ∙ roots_of-push entries generation word)) (rotated layouts types h (root_of word ∷ []) (roots_of entries) hosts can)
+    subst (λ (es : List RootEntry). IsCollectable layouts types h (roots_of es) hosts) (sym is) (pushed_kept layouts types h entries (entry_of generation word) hosts can)

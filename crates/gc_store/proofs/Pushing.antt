@@ -1,7 +1,6 @@
 -- What a new scoped root leaves of a store.
-use Rattle.std.proofs.Common.{◌≡◌, ℕ, ◌+◌, ◌%◌, ◌-◌, ◌^◌, ◌<◌, ◌≤◌, ◌⊎◌, inl, inr, Bool, true, false, List, [], ◌∷◌, ◌++◌, Some, Result, Ok, Err, length, map, nat_le, ◌||◌, ◌==◌, refl, sym, ap, ◌∙◌, subst, arith}
-use Rattle.std.specs.FinMap as finite
-use Rattle.std.proofs.lemmas.List.{length-map, map-append, append-nil}
+use Rattle.std.proofs.Common.{◌≡◌, ℕ, ◌-◌, ◌^◌, ◌<◌, inl, inr, Bool, true, false, List, [], ◌∷◌, ◌++◌, Ok, length, nat_le, ◌||◌, ◌==◌, refl, sym, ◌∙◌, subst, arith}
+use Rattle.std.proofs.lemmas.List.{map-append, append-nil}
 use Rattle.gc_types.specs.declared.kind.Layouts.{Layouts}
 use Rattle.gc_types.specs.Declarations.{Declaration, TypeTable}
 use Rattle.gc_roots.specs.Roots.{Root}
@@ -10,8 +9,8 @@ use Rattle.gc_model.specs.Values.{Reference, null, small, at}
 use Rattle.gc_model.specs.Table.{Table, push}
 use Rattle.gc_model.specs.Live.{roots_full}
 use Rattle.gc_model.specs.Views.{StoreView, HeapView, SameHeld}
-use Rattle.gc_model.specs.Holds.{Placing, IsWord, Holds, HoldsTable}
-use Rattle.gc_model.proofs.HoldsPush.{with_root, holds_push}
+use Rattle.gc_model.specs.Holds.{Placing, IsWord, Holds}
+use Rattle.gc_model.proofs.HoldsPush.{holds_push}
 use Rattle.gc_heap.specs.Barriers.{IsNamed, CanName, cloned}
 use Rattle.gc_heap.specs.Content.{IsHeap}
 use Rattle.gc_heap.specs.Collection.{IsWordOf, CanCollect}
@@ -19,12 +18,11 @@ use Rattle.gc_heap.proofs.AddedLemmas.{start}
 use Rattle.gc_heap.proofs.RootedLemmas.{can_collect_cloned}
 use Rattle.gc_store.specs.declared.root.GcRootIndex.{GcRootIndex}
 use Rattle.gc_store.specs.declared.root.RootSlot.TheVariants as slot
-use Rattle.gc_store.specs.Roots.{IsRootWord, handle_of}
+use Rattle.gc_store.specs.Roots.{IsRootWord}
 use Rattle.gc_store.specs.Handles.{PushesRoot}
 use Rattle.gc_store.specs.Stores.{is_full, IsSound}
 use Rattle.gc_store.specs.Tracing.{IsCollectable, roots_of, root_of, start_from}
-use Rattle.gc_store.proofs.Counted.{counts_below}
-use Rattle.gc_store.proofs.Roots.{held_object}
+use Rattle.gc_store.proofs.HeapBarriers.{can_name, few_roots}
 
 -- the entry of a new root
 abbrev pub entry_of : ℕ → ℕ → RootEntry
@@ -47,17 +45,11 @@ pub named_word : (h : HeapView) (word : ℕ) → IsNamed h word → IsWordOf h w
 named_word h word (inl odd) = inr (inl odd)
 named_word h word (inr held) = inr (inr held)
 
--- there are few scoped roots
-pub few_roots : {D : Type 0} (layouts : Layouts) (s : StoreView) (t : Table D) (place : Placing) → Holds layouts s t place → length (roots_of s.scoped) ≤ 2 ^ 31
-few_roots layouts s t place holds =
-    omega (arith, length-map s.scoped (λ (e : RootEntry). root_of e.word), holds.scoped.same_count, holds.numbers.scoped_within, holds.numbers.few_roots)
-
 -- a word of the store may be cloned
-pub can_name : {D : Type 0} (layouts : Layouts) (s : StoreView) (t : Table D) (place : Placing) (r : Reference) (word : ℕ) (hosts : ℕ → Bool) → Holds layouts s t place → IsHeap layouts s.heap → IsCollectable layouts s.types s.heap (roots_of s.scoped) hosts → IsWord place r word → 0 < word → CanName s.heap word
-can_name layouts s t place r word hosts holds heap can is positive = record {
-  named = root_named layouts s t place r word holds is positive;
-  below = counts_below layouts s.types s.heap (roots_of s.scoped) hosts heap can (let few = few_roots layouts s t place holds in omega (arith, few)) word;
-}
+pub may_name : {D : Type 0} (layouts : Layouts) (s : StoreView) (t : Table D) (place : Placing) (r : Reference) (word : ℕ) (hosts : ℕ → Bool) → Holds layouts s t place → IsHeap layouts s.heap → IsCollectable layouts s.types s.heap (roots_of s.scoped) hosts → IsWord place r word → 0 < word → CanName s.heap word
+may_name layouts s t place r word hosts holds heap can is positive =
+    let few = few_roots layouts s t place holds in
+    can_name layouts s.types s.heap (roots_of s.scoped) hosts heap can.collects (omega arith) word (named_word s.heap word (root_named layouts s t place r word holds is positive)) positive
 
 -- a collection may begin with a root more whose word was cloned
 pub collectable_cloned : (layouts : Layouts) (types : List Declaration) (h : HeapView) (entries : List RootEntry) (generation word : ℕ) (hosts : ℕ → Bool) → IsCollectable layouts types h (roots_of entries) hosts → IsNamed h word → IsCollectable layouts types (cloned h word) (roots_of (entries ++ entry_of generation word ∷ [])) hosts

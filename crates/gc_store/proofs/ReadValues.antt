@@ -1,24 +1,22 @@
 -- A value as a read answers it.
-use Rattle.std.proofs.Common.{inl, inr, ◌≡◌, ◌≢◌, ℕ, ◌+◌, ◌-◌, ◌*◌, ◌^◌, ◌<◌, Bool, true, false, Option, Some, None, Result, Ok, Err, sym, ap, ◌∙◌, refl, subst, arith, ℤ}
+use Rattle.std.proofs.Common.{◌≡◌, ℕ, ◌^◌, ◌<◌, true, Some, None, Ok, Err, sym, ap, ◌∙◌, refl, subst, arith, ℤ}
 use Rattle.std.specs.Int.{Width, w32, w64, cast_signed, cast_unsigned}
 use Rattle.std.proofs.lemmas.Int.{of_z-to_z}
 use Rattle.gc_types.specs.declared.kind.Layouts.{Layouts}
 use Rattle.gc_model.specs.declared.GcClass.TheVariants.{Any}
-use Rattle.gc_model.specs.Values.{Reference, null, small, at, Value, i32, i64, reference}
+use Rattle.gc_model.specs.Values.{Reference, null, small, at, Value, reference}
 use Rattle.gc_model.specs.Table.{Table}
 use Rattle.gc_model.specs.Reads.{makes_root}
 use Rattle.gc_model.specs.Views.{StoreView}
 use Rattle.gc_model.specs.Holds.{Placing, IsWord, Holds, HoldsTable}
 use Rattle.gc_model.proofs.Words.{place_even}
 use Rattle.gc_store.specs.declared.root.GcRootIndex.{GcRootIndex}
-use Rattle.gc_store.specs.declared.root.RawValue.{RawValue}
 use Rattle.gc_store.specs.declared.root.RawValue.TheVariants as raw
 use Rattle.gc_store.specs.declared.root.RootFault.{RootFault}
 use Rattle.gc_store.specs.declared.root.RootFault.TheVariants as fault
 use Rattle.gc_store.specs.declared.field.Stored.TheVariants as stored
 use Rattle.gc_store.specs.Fields.{StoredStands}
 use Rattle.gc_store.specs.Handles.{PushesRoot}
-use Rattle.gc_store.specs.Roots.{IsRootWord}
 use Rattle.gc_store.specs.Values.{ReadsValue}
 
 -- a signed number, and back

@@ -9,7 +9,7 @@ use Rattle.gc_model.specs.Reads.{same_reference}
 use Rattle.gc_model.specs.Table.{Table}
 use Rattle.gc_model.specs.Live.{rooted}
 use Rattle.gc_model.specs.Views.{StoreView}
-use Rattle.gc_model.specs.Holds.{Placing, IsWord, Holds}
+use Rattle.gc_model.specs.Holds.{Placing, Holds}
 use Rattle.gc_model.proofs.Words.{word_same}
 use Rattle.gc_store.specs.declared.root.GcRootIndex.{GcRootIndex}
 use Rattle.gc_store.specs.declared.root.RootFault.{RootFault}

@@ -1,5 +1,5 @@
 -- That a store is sound: it holds some table, and a collection may begin in it.
-use Rattle.std.proofs.Common.{◌≡◌, ℕ, Bool, List, [], true, Some, Contains, refl, sym, ap, ◌∙◌, subst, arith}
+use Rattle.std.proofs.Common.{◌≡◌, ℕ, Bool, List, [], true, Some, refl, sym, ap, ◌∙◌, subst, arith}
 use Rattle.std.specs.FinMap.{get, empty, get-empty}
 use Rattle.std.specs.Option.{option_map}
 use Rattle.std.specs.Int.NonZero.{non_zero_u32_get}
@@ -10,7 +10,7 @@ use Rattle.gc_types.specs.declared.kind.Layouts.TheVariants.{Null, Counting, Cop
 use Rattle.gc_types.specs.Declarations.{Declaration, TypeTable}
 use Rattle.gc_model.specs.declared.RootEntry.{RootEntry}
 use Rattle.gc_model.specs.Table.{start}
-use Rattle.gc_model.specs.Views.{StoreView, HeapView, HeapObject, detached, empty_store}
+use Rattle.gc_model.specs.Views.{StoreView, HeapView, detached, empty_store}
 use Rattle.gc_model.proofs.HoldsStart.{nowhere, IsUntouched, holds_untouched, untouched_new, untouched_from_start}
 use Rattle.gc_heap.specs.Collection.{AreCounted}
 use Rattle.gc_store.specs.declared.engine.StoreId.{StoreId}

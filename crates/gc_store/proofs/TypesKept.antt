@@ -18,7 +18,7 @@ use Rattle.gc_model.proofs.Types.{struct_fields_at-push}
 use Rattle.gc_heap.specs.References.{reference_offsets, typed_offsets, info_offsets, bitmap_offsets, element_offsets, references, word_in, IsTyped, HoldsType, HoldsLayout, HoldsArrayLayout}
 use Rattle.gc_heap.specs.Objects.{held_size, array_length}
 use Rattle.gc_heap.specs.Totals.{total-same}
-use Rattle.gc_heap.specs.Collection.{CanCollect, AreCounted, names_of, occurrences, held_words}
+use Rattle.gc_heap.specs.Collection.{AreCounted, names_of, occurrences, held_words}
 use Rattle.gc_store.specs.Tracing.{IsCollectable, IsTracedStruct}
 
 -- a declared type is the same in the longer table

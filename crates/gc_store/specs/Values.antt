@@ -1,5 +1,5 @@
 -- The values that go in and out of a store.
-use Rattle.std.specs.Prelude.{◌≡◌, ℕ, ℤ, Bool, true, false, List, Option, Some, None, Result, Ok, Err, length, slice_get}
+use Rattle.std.specs.Prelude.{◌≡◌, ℕ, ℤ, Bool, true, false, List, Some, None, Result, Ok, Err, length, slice_get}
 use Rattle.std.specs.Int.{w32, w64}
 use Rattle.gc_types.specs.declared.value.FieldType.{FieldType}
 use Rattle.gc_types.specs.declared.value.StorageType.{StorageType}
@@ -9,7 +9,7 @@ use Rattle.gc_types.specs.declared.value.ValType.TheVariants as val
 use Rattle.gc_types.specs.declared.kind.Layouts.{Layouts}
 use Rattle.gc_types.specs.Declarations.{struct_fields_at}
 use Rattle.gc_model.specs.declared.GcClass.{GcClass}
-use Rattle.gc_model.specs.Values.{Reference, null, small, at, Value, i32, i64, f32, f64, v128, function, reference, Object, struct, number_bits}
+use Rattle.gc_model.specs.Values.{Reference, null, small, at, Value, i32, i64, f32, f64, v128, function, reference, number_bits}
 use Rattle.gc_model.specs.Fits.{is_class_any}
 use Rattle.gc_model.specs.Table.{Table, write}
 use Rattle.gc_model.specs.Live.{rooted, roots_full}

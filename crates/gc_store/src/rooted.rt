@@ -18,6 +18,7 @@ use std::marker::PhantomData;
 /// widest type of.
 pub trait GcRef {
     const CLASS: GcClass;
+
     const KIND: VMGcKind;
 }
 

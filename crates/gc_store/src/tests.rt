@@ -89,7 +89,7 @@ fn handles_that_name_nothing_are_refused(rt: HostRuntime) -> Result<(), Fail> {
             slot,
         };
         assert_eq!(rt; store.object(handle).err(), Some(want));
-        assert_eq!(rt; store.struct_len(handle).err(), Some(want));
+        assert_eq!(rt; store.index_eq(handle, handle).err(), Some(want));
     }
     Ok(())
 }

@@ -1,4 +1,4 @@
-use Rattle.std.proofs.Common.{◌≡◌, true, false, ℕ, sym, ◌∙◌, ap, subst}
+use Rattle.std.proofs.Common.{ℕ, sym, ◌∙◌, ap, subst}
 use Rattle.std.specs.FinMap.{len}
 use Rattle.gc_heap.specs.Collection.{has_host}
 use Rattle.gc_model.specs.Table.{Table}

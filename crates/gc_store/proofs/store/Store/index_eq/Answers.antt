@@ -1,6 +1,4 @@
-use Rattle.std.proofs.Common.{◌≡◌, ℕ, true, Ok, Err, Result, ap, sym, ◌∙◌, subst}
-use Rattle.gc_store.specs.declared.root.GcRootIndex.{GcRootIndex}
-use Rattle.gc_store.specs.declared.root.RootFault.{RootFault}
+use Rattle.std.proofs.Common.{◌≡◌, true, ap, sym, ◌∙◌, subst}
 use Rattle.gc_model.specs.Views.{StoreView}
 use Rattle.gc_store.specs.Roots.{word_of, is_of_store}
 use Rattle.gc_store.specs.RootSets.{slot_word}

@@ -1,13 +1,13 @@
-use Rattle.std.proofs.Common.{inl, inr, ◌≡◌, ℕ, ◌⊎◌, List, ◌++◌, ◌∷◌, [], Some, Ok, Err, Result, IsOk, false, length, sym, ap, ◌∙◌, subst}
+use Rattle.std.proofs.Common.{inl, inr, ◌≡◌, ℕ, ◌⊎◌, List, ◌++◌, ◌∷◌, [], Err, Result, IsOk, false, length, sym, ap, ◌∙◌, subst}
 use Rattle.std.specs.FinMap.{len}
 use Rattle.gc_types.specs.declared.kind.Layouts.{Layouts}
 use Rattle.gc_types.specs.Declarations.{struct_fields_at}
 use Rattle.gc_model.specs.declared.RootEntry.{RootEntry}
-use Rattle.gc_model.specs.Allocation.{Limits, too_large}
+use Rattle.gc_model.specs.Allocation.{too_large}
 use Rattle.gc_model.specs.Sizes.{fields_size}
 use Rattle.gc_model.specs.Table.{Table}
 use Rattle.gc_model.specs.Values.{Value, struct}
-use Rattle.gc_model.specs.Views.{StoreView, HeapView}
+use Rattle.gc_model.specs.Views.{StoreView}
 use Rattle.gc_model.specs.Holds.{HoldsTable}
 use Rattle.gc_heap.specs.Collection.{has_host}
 use Rattle.gc_store.specs.declared.root.RootSlot.TheVariants as slot
@@ -74,7 +74,7 @@ items_are g c =
 -- what a struct that was made and pushed leaves
 made : (g : given.Over) (c : After-push_root g) (t : Table g.row.D.Denot) (vs : List Value) → HoldsTable g.H.GcHeap.KIND (view g (goal.at.After-push_root g c).After-is_err) t → AllStand (view g (goal.at.After-push_root g c).After-is_err) t c.args.values.now vs
     → PlacesObject g.H.GcHeap.KIND (struct c.args.ty vs) (g.L.ResourceLimiter.limits c.args.limiter.now) (g.L.ResourceLimiter.limits c.place_in.new.limiter) t c.push_root.result
-        (placed_view (view g (goal.at.After-push_root g c).After-is_err) (g.H.GcHeap.seen c.place_in.new.heap) (len c.place_in.new.hosts.entries) c.push_root.new.roots.entries c.push_root.new.roots.generation)
+    (placed_view (view g (goal.at.After-push_root g c).After-is_err) (g.H.GcHeap.seen c.place_in.new.heap) (len c.place_in.new.hosts.entries) c.push_root.new.roots.entries c.push_root.new.roots.generation)
 made g c t vs holds all =
     let before = (goal.at.After-push_root g c).After-is_err in
     let at = (goal.at.After-push_root g c).After-place_in in
@@ -89,7 +89,7 @@ made g c t vs holds all =
 -- what a struct that was not made leaves
 refused : (g : given.Over) (c : In-Err g) (t : Table g.row.D.Denot) (vs : List Value) → HoldsTable g.H.GcHeap.KIND (view g (goal.at.In-Err g c).After-is_err) t
     → Places g.H.GcHeap.KIND (struct c.args.ty vs) (g.L.ResourceLimiter.limits c.args.limiter.now) (g.L.ResourceLimiter.limits c.place_in.new.limiter) t (Err c.in-Err.fault)
-        (placed_view (view g (goal.at.In-Err g c).After-is_err) (g.H.GcHeap.seen c.place_in.new.heap) (len c.place_in.new.hosts.entries) c.place_in.new.roots.entries c.place_in.new.roots.generation)
+    (placed_view (view g (goal.at.In-Err g c).After-is_err) (g.H.GcHeap.seen c.place_in.new.heap) (len c.place_in.new.hosts.entries) c.place_in.new.roots.entries c.place_in.new.roots.generation)
 refused g c t vs holds =
     let before = (goal.at.In-Err g c).After-is_err in
     let at = (goal.at.In-Err g c).After-place_in in

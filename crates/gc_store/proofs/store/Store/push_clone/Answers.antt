@@ -1,13 +1,12 @@
-use Rattle.std.proofs.Common.{◌≡◌, ◌<◌, ℕ, ◌++◌, ◌∷◌, [], false, List, length, ap, sym, ◌∙◌, subst, refl}
+use Rattle.std.proofs.Common.{◌≡◌, ◌++◌, ◌∷◌, [], false, length, ap, sym, ◌∙◌, subst, refl}
 use Rattle.std.specs.FinMap.{len}
-use Rattle.gc_model.specs.declared.RootEntry.{RootEntry}
 use Rattle.gc_model.specs.Views.{StoreView, HeapView, SameHeld}
 use Rattle.gc_model.specs.Holds.{Holds}
 use Rattle.gc_heap.specs.Collection.{has_host}
 use Rattle.gc_store.specs.declared.root.RootSlot.TheVariants as slot
 use Rattle.gc_store.specs.Roots.{IsRootWord}
 use Rattle.gc_store.specs.Stores.{store_view, is_full}
-use Rattle.gc_store.proofs.Pushing.{can_name, sound_cloned, pushes_root, entry_of}
+use Rattle.gc_store.proofs.Pushing.{may_name, sound_cloned, pushes_root, entry_of}
 use Rattle.gc_store.proofs.store.Store.push_clone.Given as given
 use Rattle.gc_store.proofs.store.Store.push_clone.Goals as goal
 use Rattle.gc_store.proofs.store.Store.push_clone.Goals.{After-is_err, After-push_root}
@@ -22,7 +21,7 @@ root_word g c = subst (λ (s : StoreView). IsRootWord g.row.D.Denot g.H.GcHeap.K
 pub clone_gc_ref-requires-clause-named : goal.clone_gc_ref-requires-clause-named
 clone_gc_ref-requires-clause-named g c =
     let is = root_word g (goal.at.clone_gc_ref-requires-clause-named g c).After-is_err in
-    can_name g.H.GcHeap.KIND _ is.table is.place is.root c.args.gc_ref.now _ is.holds (g.met.H.GcHeap.is_heap c.self.inside.heap c.self.invariant.heap) c.self.invariant.collectable is.is_word is.not_null
+    may_name g.H.GcHeap.KIND _ is.table is.place is.root c.args.gc_ref.now _ is.holds (g.met.H.GcHeap.is_heap c.self.inside.heap c.self.invariant.heap) c.self.invariant.collectable is.is_word is.not_null
 
 -- the word that is pushed
 word_is : (g : given.Over) (c : After-push_root g) → c.as_raw_u32-word.result ≡ c.args.gc_ref.now

@@ -1,4 +1,4 @@
-use Rattle.std.proofs.Common.{sym, ap, ◌∙◌, subst, arith}
+use Rattle.std.proofs.Common.{subst, arith}
 use Rattle.gc_model.specs.Values.{small}
 use Rattle.gc_model.specs.Views.{StoreView}
 use Rattle.gc_store.specs.Roots.{IsRootWord}

@@ -1,11 +1,6 @@
-use Rattle.std.proofs.Common.{rules, w32, w64, ◌≡◌, ◌<◌, ◌^◌, ℕ, Some, sym, ap, subst}
+use Rattle.std.proofs.Common.{rules, w32, w64, ◌≡◌, ◌<◌, ◌^◌, sym, subst}
 use Rattle.std.proofs.lemmas.Int.{of_z-to_z}
-use Rattle.gc_model.specs.Values.{Value}
-use Rattle.gc_model.specs.Table.{Table}
-use Rattle.gc_model.specs.Holds.{Placing, Holds, IsWord}
-use Rattle.gc_store.specs.declared.field.Stored.TheVariants as stored
-use Rattle.gc_store.specs.Fields.{StoredStands}
-use Rattle.gc_store.specs.Roots.{HasField}
+use Rattle.gc_model.specs.Holds.{IsWord}
 use Rattle.gc_store.proofs.Roots.{SomeIff-value, SomeIff-positive, SomeIff-zero}
 use Rattle.gc_store.proofs.ReadValues.{signed_again, reads_i32, reads_i64, reads_null, reads_reference, reads_fault}
 use Rattle.gc_store.proofs.store.Store.read_value.Given as given

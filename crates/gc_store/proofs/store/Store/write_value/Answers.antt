@@ -1,24 +1,19 @@
-use Rattle.std.proofs.Common.{arith, ◌≡◌, ◌<◌, ◌^◌, ◌-◌, ℕ, true, Ok, Some, List, sym, ap, ◌∙◌, subst}
+use Rattle.std.proofs.Common.{arith, ◌≡◌, ℕ, Ok, Some, sym, ap, ◌∙◌, subst}
 use Rattle.std.specs.FinMap as finite
-use Rattle.std.specs.List.{slice_get}
-use Rattle.gc_types.specs.declared.value.FieldType.{FieldType}
-use Rattle.gc_types.specs.Declarations.{struct_fields_at}
-use Rattle.gc_types.specs.Layouts.{struct_base}
 use Rattle.gc_model.specs.Values.{Value}
 use Rattle.gc_model.specs.Table.{Table}
-use Rattle.gc_model.specs.Views.{StoreView, HeapView, HeapObject}
-use Rattle.gc_model.specs.Holds.{Holds, HoldsTable, Placing}
+use Rattle.gc_model.specs.Views.{StoreView, HeapObject}
+use Rattle.gc_model.specs.Holds.{HoldsTable, Placing}
 use Rattle.gc_heap.specs.Heap.{put_object, with_data}
 use Rattle.gc_heap.specs.Collection.{has_host}
 use Rattle.gc_store.specs.declared.field.Stored.{Stored}
-use Rattle.gc_store.specs.declared.field.Stored.TheVariants as stored
-use Rattle.gc_store.specs.Fields.{KeptAs, IsFieldOf, StoredFits, FitsBytes, stored_bytes}
-use Rattle.gc_store.specs.Roots.{HasField, word_of}
+use Rattle.gc_store.specs.Fields.{StoredFits, FitsBytes, stored_bytes}
+use Rattle.gc_store.specs.Roots.{word_of}
 use Rattle.gc_store.specs.Values.{CanWrite, WritesValue}
 use Rattle.gc_store.specs.Stores.{store_view}
 use Rattle.gc_store.proofs.Roots.{SomeIff-value, SomeIff-some}
-use Rattle.gc_store.proofs.Pushing.{few_roots}
-use Rattle.gc_store.proofs.FieldReads.{FieldAt, field_at, never_dead}
+use Rattle.gc_store.proofs.HeapBarriers.{few_roots}
+use Rattle.gc_store.proofs.FieldReads.{FieldAt, never_dead}
 use Rattle.gc_store.proofs.FieldWrites.{spot, spot_kept, spot_stored, spot_field, writes_value, sound_written}
 use Rattle.gc_store.proofs.store.Store.write_value.Given as given
 use Rattle.gc_store.proofs.store.Store.write_value.Goals as goal
@@ -139,6 +134,6 @@ returns-clause-writes g c t holds before v has stands =
     let after = (goal.at.After-write_field g write).After-stored_value-stored in
     let at = (goal.at.After-write_field g write).In-Ok in
     let writes : (s : StoreView) → view g at ≡ s → (t : Table g.row.D.Denot) → HoldsTable g.H.GcHeap.KIND s t → WritesValue g.H.GcHeap.KIND s (record (view g at) { heap = g.H.GcHeap.seen c.write_field.new.heap }) t c.args.handle c.args.index c.args.value =
-        λ s e. subst (λ (s : StoreView). (t : Table g.row.D.Denot) → HoldsTable g.H.GcHeap.KIND s t → WritesValue g.H.GcHeap.KIND s (record (view g at) { heap = g.H.GcHeap.seen c.write_field.new.heap }) t c.args.handle c.args.index c.args.value) e
-            (writes_value g.row.D.Denot g.H.GcHeap.KIND (view g at) c.args.handle c.args.index c.args.value (can g at) c.in-Ok.word (word_at g at) (g.H.GcHeap.seen c.write_field.new.heap) (subst FitsBytes (stored_is g after) (small g after)) (written g write)) in
+    λ s e. subst (λ (s : StoreView). (t : Table g.row.D.Denot) → HoldsTable g.H.GcHeap.KIND s t → WritesValue g.H.GcHeap.KIND s (record (view g at) { heap = g.H.GcHeap.seen c.write_field.new.heap }) t c.args.handle c.args.index c.args.value) e
+    (writes_value g.row.D.Denot g.H.GcHeap.KIND (view g at) c.args.handle c.args.index c.args.value (can g at) c.in-Ok.word (word_at g at) (g.H.GcHeap.seen c.write_field.new.heap) (subst FitsBytes (stored_is g after) (small g after)) (written g write)) in
     writes c.args.self.now c.self.view_is t holds before v has stands
