@@ -87,7 +87,7 @@ fn words_are_of_a_form_or_of_none(rt: HostRuntime) -> Result<(), Fail> {
         ("null 1 64 churn 3", None),
         ("fast 1 64", None),
         ("Null 1 64", None),
-        ("copying 1 64", None),
+        ("copying 1", None),
         ("counting 1 64", None),
         ("--help", None),
         ("--version", None),
