@@ -56,9 +56,9 @@ pub left_gone : {D : Type 0} (layouts : Layouts) (s : StoreView) (t : Table D) (
 left_gone layouts s t mark i root holds past here =
     let scoped = holds.1.scoped in
     let stands : (j : ℕ) (r : Scoped) → slice_get t.scoped j ≡ Some r → (g : ℕ) × (slice_get t.pushes r.serial ≡ Some (record { index = j; generation = g })) =
-        λ j r e.
-        let entry = entry_at s.scoped j (omega (arith, slice_get_within t.scoped j r e, scoped.same_count)) in
-        (entry.0.generation, (scoped.each j entry.0 r entry.1 e).pushed) in
+    λ j r e.
+    let entry = entry_at s.scoped j (omega (arith, slice_get_within t.scoped j r e, scoped.same_count)) in
+    (entry.0.generation, (scoped.each j entry.0 r entry.1 e).pushed) in
     let mine = stands i root here in
     none_take root.serial mark t.scoped (λ j r below e.
     not_same r.serial root.serial (λ same.
