@@ -1,7 +1,7 @@
 -- The values of a struct, checked one after the other.
-use Rattle.std.proofs.Common.{inl, inr, ◌≡◌, ℕ, ◌+◌, ◌<◌, ◌≤◌, List, [], ◌∷◌, ◌++◌, take, drop, length, map, get_or, Option, Some, None, Bool, true, false, cond, sym, ap, ◌∙◌, refl, subst, arith, zero, suc, add-one}
+use Rattle.std.proofs.Common.{inl, inr, ◌≡◌, ℕ, ◌<◌, ◌≤◌, List, [], ◌∷◌, ◌++◌, drop, length, Option, Some, None, sym, ap, ◌∙◌, refl, subst, arith, zero, suc}
 use Rattle.std.specs.Prelude.{◌⊎◌, Result, Ok, Err, IsErrAnd}
-use Rattle.std.specs.List.{AllZip, slice_get}
+use Rattle.std.specs.List.{slice_get}
 use Rattle.std.specs.Option.{option_map, option_and_then, unwrap_or}
 use Rattle.std.proofs.lemmas.Bool.{cases_lt}
 use Rattle.std.proofs.lemmas.List.{drop_all, length-map}
@@ -10,8 +10,6 @@ use Rattle.std.proofs.lemmas.Option.{none-some, slice_get-map, slice_get_cases, 
 use Rattle.gc_types.specs.declared.kind.Layouts.{Layouts}
 use Rattle.gc_types.specs.declared.value.FieldType.{FieldType}
 use Rattle.gc_types.specs.Declarations.{Declaration, Shape, struct_of, array_of, exn_of, func_of, declaration_fields, declaration_struct_fields, shape_fields, shape_struct_fields, fields_at, struct_fields_at}
-use Rattle.gc_model.specs.Values.{Value}
-use Rattle.gc_model.specs.Table.{Table}
 use Rattle.gc_model.specs.Views.{StoreView}
 use Rattle.gc_model.specs.Holds.{HoldsTable}
 use Rattle.gc_store.specs.declared.root.RawValue.{RawValue}

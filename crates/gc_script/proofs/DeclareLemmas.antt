@@ -1,19 +1,18 @@
 -- Declarations of structs whose fields are built.
-use Rattle.std.proofs.Common.{◌≡◌, ℕ, List, [], ◌∷◌, length, map, Option, Some, None, Bool, true, false, cond, sym, ap, ◌∙◌, refl, subst}
+use Rattle.std.proofs.Common.{◌≡◌, ℕ, List, [], ◌∷◌, map, Option, None, Bool, true, false, cond, ap, ◌∙◌, refl, subst}
 use Rattle.std.specs.Prelude.{All, Ok, Err, is_some, not, ◌&&◌}
 use Rattle.std.specs.List.{list_all}
 use Rattle.std.proofs.lemmas.List.Elements.{All-nil, All-cons}
 use Rattle.gc_types.specs.declared.kind.Layouts.{Layouts}
 use Rattle.gc_types.specs.declared.types.TypeFault.TheVariants as type_fault
 use Rattle.gc_types.specs.declared.value.FieldType.{FieldType}
-use Rattle.gc_types.specs.Declarations.{Declaration, TypeName}
+use Rattle.gc_types.specs.Declarations.{TypeName}
 use Rattle.gc_model.specs.Fits as model
 use Rattle.gc_model.specs.Table.{declare}
 use Rattle.gc_model.specs.Views.{StoreView}
 use Rattle.gc_store.specs.Stores.{IsSameStore, DeclaresStruct}
 use Rattle.gc_commands.specs.declared.command.Command.TheVariants.{Struct}
 use Rattle.gc_commands.specs.declared.command.FieldWord.{FieldWord}
-use Rattle.gc_commands.specs.declared.command.HeapWord.{HeapWord}
 use Rattle.gc_commands.specs.declared.command.StorageWord.{StorageWord}
 use Rattle.gc_commands.specs.declared.command.StorageWord.TheVariants as storage
 use Rattle.gc_commands.specs.declared.command.ValueWord.{ValueWord}

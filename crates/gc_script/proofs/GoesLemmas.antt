@@ -1,5 +1,5 @@
 -- A command that asks no limiter is a step under any limit.
-use Rattle.std.proofs.Common.{◌≡◌, ℕ, List, [], ◌∷◌, ◌++◌, length, Option, Some, None, Bool, true, false, cond, sym, ap, ◌∙◌, refl, subst, inl, inr}
+use Rattle.std.proofs.Common.{◌≡◌, ℕ, List, [], ◌∷◌, Option, Some, None, Bool, true, false, sym, refl, subst, inl}
 use Rattle.std.specs.Prelude.{Result, Ok, Err}
 use Rattle.gc_types.specs.declared.kind.Layouts.{Layouts}
 use Rattle.gc_model.specs.Allocation.{Limits}
@@ -12,9 +12,9 @@ use Rattle.gc_commands.specs.declared.reply.Refusal.{Refusal}
 use Rattle.gc_commands.specs.declared.reply.Refusal.TheVariants as refusal
 use Rattle.gc_script.specs.declared.runner.RunError.{RunError}
 use Rattle.gc_script.specs.Slots.{RunnerView}
-use Rattle.gc_script.specs.State.{State, HoldsState}
-use Rattle.gc_script.specs.Steps.{tests, first_failing, Answers, Does, Declares, declared, bad}
-use Rattle.gc_script.specs.Run.{Goes, GoesOn, Ran, RunsOne, Counts, refused_pages, nothing_else}
+use Rattle.gc_script.specs.State.{State}
+use Rattle.gc_script.specs.Steps.{tests, first_failing, Answers, Does, declared, bad}
+use Rattle.gc_script.specs.Run.{GoesOn, RunsOne, nothing_else}
 
 -- the reply is no refusal by the heap
 abbrev pub IsMild : Reply → Type 0

@@ -1,11 +1,10 @@
 -- No object that a collection keeps is a host object.
-use Rattle.std.proofs.Common.{inl, inr, ◌≡◌, ℕ, ◌<◌, List, [], ◌∷◌, ◌++◌, length, map, replicate, Option, Some, None, true, zero, suc, sym, ap, ◌∙◌, refl, subst, arith}
+use Rattle.std.proofs.Common.{inl, inr, ◌≡◌, ℕ, List, [], ◌∷◌, map, replicate, Option, Some, suc, sym, ◌∙◌, refl, subst, arith}
 use Rattle.std.specs.Prelude.{All, nat_eq}
-use Rattle.std.specs.List.{slice_get, flat_map, Contains, slice_index_or, IsDistinct}
-use Rattle.std.proofs.lemmas.Grind.{common_steps}
+use Rattle.std.specs.List.{slice_get, flat_map, slice_index_or, IsDistinct}
 use Rattle.std.proofs.lemmas.List.Concat.{flat_map-cons}
 use Rattle.std.proofs.lemmas.List.Elements.{All-nil, All-append, All-cons, All-map, All-replicate, All-contains}
-use Rattle.std.proofs.lemmas.Option.{none-some, slice_get_within, slice_get-get_or, slice_get_cases}
+use Rattle.std.proofs.lemmas.Option.{slice_get_within, slice_get-get_or, slice_get_cases}
 use Rattle.gc_types.specs.declared.kind.Layouts.{Layouts}
 use Rattle.gc_types.specs.declared.kind.Layouts.TheVariants.{Null, Counting, Copying}
 use Rattle.gc_types.specs.declared.value.StorageType.{StorageType}
@@ -13,11 +12,11 @@ use Rattle.gc_types.specs.declared.value.StorageType.TheVariants as storage
 use Rattle.gc_types.specs.declared.value.ValType.TheVariants as val
 use Rattle.gc_model.specs.declared.RootEntry.{RootEntry}
 use Rattle.gc_model.specs.declared.GcClass.TheVariants.{Any, Extern, Exn}
-use Rattle.gc_model.specs.Values.{Reference, null, small, at, Value, i32, i64, f32, f64, v128, function, reference, Object, struct, array, host, exception}
+use Rattle.gc_model.specs.Values.{Reference, at, Value, i32, i64, f32, f64, v128, function, reference, Object, struct, array, host, exception}
 use Rattle.gc_model.specs.Table.{Table, Scoped, Slot, Owned, empty_slot, global_count}
-use Rattle.gc_model.specs.Reach.{Reached, by_root, by_value, IsKept, IsHost, HasNumber, KeepsNumber, root_references, references_in, value_references, slot_references, owned_references, present}
+use Rattle.gc_model.specs.Reach.{Reached, by_root, by_value, IsKept, IsHost, HasNumber, root_references, references_in, value_references, slot_references, owned_references, present}
 use Rattle.gc_model.specs.Views.{StoreView}
-use Rattle.gc_model.specs.Holds.{Placing, IsWord, Holds, HoldsTable, NothingElse, Stands, StructStands, Lies, LiesI32, LiesI64, LiesAny}
+use Rattle.gc_model.specs.Holds.{Placing, IsWord, Holds, HoldsTable, Stands, Lies, LiesI32, LiesI64, LiesAny}
 use Rattle.gc_model.specs.Views.{HeapObject}
 use Rattle.gc_model.proofs.HeldStructs.{read_lies, placed_typed}
 

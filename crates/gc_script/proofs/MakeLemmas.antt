@@ -1,10 +1,10 @@
 -- What is made and put into a register.
-use Rattle.std.proofs.Common.{inl, inr, ◌≡◌, ◌≢◌, ℕ, ◌==◌, ◌%◌, ◌^◌, List, [], ◌∷◌, ◌++◌, length, Option, Some, None, Bool, true, false, cond, sym, ap, ◌∙◌, refl, subst, arith}
-use Rattle.std.specs.Prelude.{◌⊎◌, Result, Ok, Err}
+use Rattle.std.proofs.Common.{◌≡◌, ◌≢◌, ℕ, ◌%◌, ◌^◌, [], length, Some, None, refl, subst}
+use Rattle.std.specs.Prelude.{Ok, Err}
 use Rattle.gc_types.specs.declared.kind.Layouts.{Layouts}
 use Rattle.gc_model.specs.declared.GcClass.TheVariants as class
-use Rattle.gc_model.specs.Values.{Reference, small}
-use Rattle.gc_model.specs.Table.{Table, push}
+use Rattle.gc_model.specs.Values.{small}
+use Rattle.gc_model.specs.Table.{push}
 use Rattle.gc_model.specs.Live.{roots_full}
 use Rattle.gc_model.specs.Views.{StoreView}
 use Rattle.gc_model.specs.Holds.{HoldsTable}
@@ -16,11 +16,10 @@ use Rattle.gc_store.specs.Stores.{IsSameStore}
 use Rattle.gc_commands.specs.declared.command.Command.TheVariants.{I31}
 use Rattle.gc_commands.specs.declared.reply.Reply.TheVariants as reply
 use Rattle.gc_commands.specs.declared.reply.Refusal.TheVariants as refusal
-use Rattle.gc_script.specs.declared.runner.RunError.{RunError}
 use Rattle.gc_script.specs.Slots.{register_at, RunnerView}
-use Rattle.gc_script.specs.State.{State, Held, reference, HoldsState, with_table, set_register}
+use Rattle.gc_script.specs.State.{State, reference, HoldsState, with_table, set_register}
 use Rattle.gc_script.specs.Steps.{tests, first_failing}
-use Rattle.gc_script.specs.Run.{Goes, GoesOn}
+use Rattle.gc_script.specs.Run.{GoesOn}
 use Rattle.gc_script.proofs.StandLemmas.{holds_same}
 use Rattle.gc_script.proofs.TestLemmas.{passes, stops, answers_by}
 use Rattle.gc_script.proofs.SetLemmas.{holds_pushed}

@@ -1,6 +1,6 @@
 -- What registers name, for a value that was found.
-use Rattle.std.proofs.Common.{inl, inr, ◌≡◌, ℕ, ◌<◌, List, [], ◌∷◌, Option, Some, None, Bool, true, false, cond, sym, ap, ◌∙◌, refl, subst, arith}
-use Rattle.std.specs.Prelude.{is_none, Result, Ok, Err}
+use Rattle.std.proofs.Common.{◌≡◌, ℕ, [], ◌∷◌, Option, Some, None, Bool, true, sym, ap, ◌∙◌, refl, subst, arith}
+use Rattle.std.specs.Prelude.{is_none, Ok, Err}
 use Rattle.std.proofs.lemmas.Option.{none-some}
 use Rattle.gc_types.specs.declared.kind.Layouts.{Layouts}
 use Rattle.gc_model.specs.declared.GcClass.{GcClass}
@@ -25,12 +25,12 @@ use Rattle.gc_store.specs.Handles.{TellsSame}
 use Rattle.gc_store.specs.Values.{RawStands}
 use Rattle.gc_script.specs.Slots.{RunnerView}
 use Rattle.gc_script.specs.State.{State, Held, number, reference, Stands, HoldsState}
-use Rattle.gc_script.specs.Given.{Given, unset, gone, is, given_register, given_held, given_value, value_named, named, is_unset, is_gone}
-use Rattle.gc_script.specs.Steps.{first_failing, tests, Compares}
+use Rattle.gc_script.specs.Given.{Given, unset, is, given_register, given_held, given_value, value_named, named, is_unset, is_gone}
+use Rattle.gc_script.specs.Steps.{first_failing, tests}
 use Rattle.gc_script.specs.Run.{Goes}
 use Rattle.gc_script.specs.Values.{raw_handle, IsFound}
 use Rattle.gc_script.proofs.TestLemmas.{answers_by}
-use Rattle.gc_script.proofs.TargetLemmas.{NamesRoot, names_root}
+use Rattle.gc_script.proofs.TargetLemmas.{names_root}
 
 -- a register that is unset holds nothing
 pub unset_held : (s : StoreView) (t : Table ℕ) (held : Option Held) → Stands s t None held → given_held t held ≡ unset

@@ -1,16 +1,14 @@
 -- What the operands of a command hold.
-use Rattle.std.proofs.Common.{◌≡◌, ℕ, ◌+◌, ◌<◌, ◌≤◌, List, [], ◌∷◌, ◌++◌, take, drop, length, get_or, Option, Some, None, Bool, true, false, sym, ap, ◌∙◌, refl, subst, arith, zero, suc}
-use Rattle.std.specs.Prelude.{All}
-use Rattle.std.specs.List.{AllZip, list_any}
-use Rattle.std.proofs.lemmas.List.{take_more, take_all}
+use Rattle.std.proofs.Common.{◌≡◌, ℕ, ◌+◌, ◌<◌, List, [], ◌∷◌, ◌++◌, take, length, get_or, Option, Some, None, true, sym, ap, ◌∙◌, refl, subst}
+use Rattle.std.specs.List.{AllZip}
+use Rattle.std.proofs.lemmas.List.{take_more}
 use Rattle.std.proofs.lemmas.List.Folds.{list_any_at}
 use Rattle.gc_model.specs.Table.{Table}
 use Rattle.gc_model.specs.Views.{StoreView}
 use Rattle.gc_store.specs.declared.root.RawValue.{RawValue}
 use Rattle.gc_commands.specs.declared.command.Operand.{Operand}
-use Rattle.gc_script.specs.State.{State, Held, number, reference, Stands}
+use Rattle.gc_script.specs.State.{Held, number, reference, Stands}
 use Rattle.gc_script.specs.Given.{held_operand, given, given_held, is_unset}
-use Rattle.gc_script.specs.Steps.{any_unset}
 use Rattle.gc_script.specs.Values.{HoldsOperand, HoldsOperands, HasUnset}
 
 all_zip_push : {A B : Type 0} (R : A → B → Type 0) (xs : List A) (ys : List B) (x : A) (y : B) → AllZip R xs ys → R x y → AllZip R (xs ++ x ∷ []) (ys ++ y ∷ [])

@@ -1,10 +1,10 @@
 -- What a struct that is placed, or refused by the heap, leaves of the state.
-use Rattle.std.proofs.Common.{inl, inr, ◌≡◌, ◌≢◌, ℕ, ◌==◌, List, [], ◌∷◌, ◌++◌, length, Option, Some, None, Bool, true, false, cond, sym, ap, ◌∙◌, refl, subst, arith}
-use Rattle.std.specs.Prelude.{◌⊎◌, Result, Ok, Err}
+use Rattle.std.proofs.Common.{inl, inr, ◌≡◌, ◌≢◌, ℕ, List, [], ◌∷◌, ◌++◌, length, Option, Some, None, Bool, true, false, ap, ◌∙◌, refl}
+use Rattle.std.specs.Prelude.{◌⊎◌, Ok, Err}
 use Rattle.gc_types.specs.declared.kind.Layouts.{Layouts}
 use Rattle.gc_model.specs.declared.GcClass.TheVariants as class
 use Rattle.gc_model.specs.Values.{Object}
-use Rattle.gc_model.specs.Table.{Table, Push, make_heap}
+use Rattle.gc_model.specs.Table.{Table, make_heap}
 use Rattle.gc_model.specs.Allocation.{Limits, Allocates, LacksMemory, no_heap, no_room, too_large, MayMakeHeap}
 use Rattle.gc_model.specs.Live.{roots_full}
 use Rattle.gc_model.specs.Sizes.{object_size}
@@ -15,7 +15,7 @@ use Rattle.gc_store.specs.declared.root.RawValue.TheVariants as raw
 use Rattle.gc_store.specs.declared.store.PlaceFault.TheVariants as fault
 use Rattle.gc_store.specs.Stores.{IsSameStore}
 use Rattle.gc_store.specs.Limiters.{Refuses}
-use Rattle.gc_store.specs.Places.{Places, PlacesObject, LacksPlace}
+use Rattle.gc_store.specs.Places.{Places, LacksPlace}
 use Rattle.gc_commands.specs.declared.command.Command.TheVariants.{New}
 use Rattle.gc_commands.specs.declared.command.Operand.{Operand}
 use Rattle.gc_commands.specs.declared.reply.Reply.{Reply}
@@ -26,7 +26,7 @@ use Rattle.gc_script.specs.declared.runner.RunError.{RunError}
 use Rattle.gc_script.specs.Slots.{register_at, RunnerView}
 use Rattle.gc_script.specs.State.{State, reference, HoldsState, with_table, set_register}
 use Rattle.gc_script.specs.Steps.{first_failing, heap_tests, new_struct, made, lacks}
-use Rattle.gc_script.specs.Run.{RunsOn, RunsRest, WantsMemory, Counts, refused_pages, nothing_else}
+use Rattle.gc_script.specs.Run.{RunsOn, WantsMemory, Counts, refused_pages, nothing_else}
 use Rattle.gc_script.proofs.StandLemmas.{keeps_same, holds_kept, holds_same}
 use Rattle.gc_script.proofs.TestLemmas.{passes, stops, answers_by}
 use Rattle.gc_script.proofs.SetLemmas.{next_push, holds_pushed}

@@ -1,8 +1,8 @@
 -- Values that are read: their new roots, and the registers that they go into.
-use Rattle.std.proofs.Common.{inl, inr, ◌≡◌, ◌≢◌, ℕ, ◌==◌, ◌<◌, zero, suc, List, [], ◌∷◌, ◌++◌, length, Option, Some, None, Bool, true, false, cond, eqb, sym, ap, ◌∙◌, refl, subst, arith}
+use Rattle.std.proofs.Common.{inl, inr, ◌≡◌, ◌≢◌, ℕ, ◌==◌, ◌<◌, suc, List, [], ◌∷◌, ◌++◌, length, Option, Some, None, true, false, cond, eqb, sym, ap, ◌∙◌, refl, subst, arith}
 use Rattle.std.specs.List.{slice_get}
 use Rattle.std.proofs.lemmas.Grind.{common_steps}
-use Rattle.std.proofs.lemmas.Option.{none-some, slice_get_within, slice_get_cases}
+use Rattle.std.proofs.lemmas.Option.{slice_get_within, slice_get_cases}
 use Rattle.gc_types.specs.declared.kind.Layouts.{Layouts}
 use Rattle.gc_types.specs.declared.value.StorageType.{StorageType}
 use Rattle.gc_types.specs.declared.value.StorageType.TheVariants as storage
@@ -22,7 +22,6 @@ use Rattle.gc_model.specs.Holds.{HoldsTable}
 use Rattle.gc_model.proofs.Lists.{slice_get-push_new, slice_get-same_length}
 use Rattle.gc_store.specs.declared.root.GcRootIndex.{GcRootIndex}
 use Rattle.gc_store.specs.declared.root.RawValue.{RawValue}
-use Rattle.gc_store.specs.declared.root.RawValue.TheVariants as raw
 use Rattle.gc_store.specs.Roots.{Names, HasField, handle_of}
 use Rattle.gc_store.specs.Values.{RawStands, RootStands, IsReadAs}
 use Rattle.gc_script.specs.Slots.{RunnerView, register_at}

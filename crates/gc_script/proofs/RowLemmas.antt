@@ -1,6 +1,5 @@
 -- The session of three lines that make a struct and read its field.
-use Rattle.std.proofs.Common.{◌≡◌, ℕ, ◌+◌, ◌<◌, ◌≤◌, List, [], ◌∷◌, ◌++◌, length, codes, Option, Some, None, true, false, pos, refl, sym, ap, subst, ◌∙◌, arith, rules}
-use Rattle.std.specs.Prelude.{FitsSigned, Result, Ok, Err}
+use Rattle.std.proofs.Common.{◌≡◌, ℕ, List, [], ◌∷◌, ◌++◌, codes, Option, Some, None, true, false, pos, refl, sym, ap, subst, ◌∙◌, arith, rules}
 use Rattle.std.specs.List.{flat_map, join_with_byte}
 use Rattle.std.specs.Fmt.{decimal}
 use Rattle.std.proofs.lemmas.Fmt.{decimal_digit}
@@ -9,12 +8,11 @@ use Rattle.gc_types.specs.Declarable.{Declarable}
 use Rattle.gc_model.specs.declared.GcClass.TheVariants as class
 use Rattle.gc_model.specs.Values.{Value, i32, Object, struct}
 use Rattle.gc_model.specs.Table.{Table, start, usual_roots, declare, make, make_heap}
-use Rattle.gc_model.specs.Allocation.{Allocates, LacksMemory, no_heap, no_room, FitsIn}
+use Rattle.gc_model.specs.Allocation.{no_heap, no_room, FitsIn}
 use Rattle.gc_model.specs.Sizes.{object_size}
 use Rattle.gc_commands.specs.declared.command.Command.{Command}
 use Rattle.gc_commands.specs.declared.command.Command.TheVariants.{Bad, Struct, New, I31, Field, SetField, Eq, Enter, Leave, Gc, Grow, Cap}
 use Rattle.gc_commands.specs.declared.command.FieldWord.{FieldWord}
-use Rattle.gc_commands.specs.declared.command.Operand.{Operand}
 use Rattle.gc_commands.specs.declared.command.Operand.TheVariants as operand
 use Rattle.gc_commands.specs.declared.command.StorageWord.TheVariants as storage
 use Rattle.gc_commands.specs.declared.command.ValueWord.TheVariants as value
@@ -25,7 +23,7 @@ use Rattle.gc_commands.specs.Spelling.{IsCommandOf, Spells}
 use Rattle.gc_commands.proofs.UniqueLemmas.{one_spelling}
 use Rattle.gc_script.specs.State.{State, reference, begin, with_table, set_register}
 use Rattle.gc_script.specs.Built.{built_struct}
-use Rattle.gc_script.specs.Steps.{Step, Declares, declared, bad, MakesNew, made, lacks, ReadsField, shown}
+use Rattle.gc_script.specs.Steps.{Step, declared, bad, made, lacks, shown}
 use Rattle.gc_script.specs.Run.{Run}
 use Rattle.gc_script.specs.Session.{AreCommandsOf, Session, reply_line}
 use Rattle.gc_script.specs.Rows.{one_struct, one_struct_replies}

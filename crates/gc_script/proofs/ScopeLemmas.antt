@@ -1,7 +1,6 @@
 -- Scopes that are left.
-use Rattle.std.proofs.Common.{◌≡◌, ℕ, ◌+◌, ◌-◌, ◌^◌, ◌<◌, ◌≤◌, min, List, [], ◌∷◌, ◌++◌, length, take, Option, None, Bool, true, false, cond, sym, ap, ◌∙◌, refl, subst, arith, zero, suc}
-use Rattle.std.specs.Prelude.{nat_lt, nat_le}
-use Rattle.std.proofs.lemmas.Grind.{common_steps}
+use Rattle.std.proofs.Common.{◌≡◌, ℕ, ◌+◌, ◌-◌, ◌^◌, min, List, [], ◌∷◌, ◌++◌, length, take, None, Bool, false, cond, sym, ap, ◌∙◌, refl, subst, arith, zero, suc}
+use Rattle.std.specs.Prelude.{nat_lt}
 use Rattle.std.proofs.lemmas.Bool.Decides.{nat_tests}
 use Rattle.gc_types.specs.declared.kind.Layouts.{Layouts}
 use Rattle.gc_model.specs.Table.{Table, Scoped, leave}
@@ -12,7 +11,7 @@ use Rattle.gc_commands.specs.declared.command.Command.TheVariants as command
 use Rattle.gc_commands.specs.declared.reply.Reply.TheVariants as reply
 use Rattle.gc_commands.specs.declared.reply.Refusal.TheVariants as refusal
 use Rattle.gc_script.specs.Slots.{RunnerView, register_at}
-use Rattle.gc_script.specs.State.{State, HoldsState, with_table}
+use Rattle.gc_script.specs.State.{State, HoldsState}
 use Rattle.gc_script.specs.Steps.{tests, first_failing, is_empty_list}
 use Rattle.gc_script.specs.Run.{Goes}
 use Rattle.gc_script.proofs.StandLemmas.{holds_kept}

@@ -1,6 +1,6 @@
 -- A root as a reply shows it.
-use Rattle.std.proofs.Common.{◌≡◌, ℕ, Option, Some, None, sym, ap, ◌∙◌, refl, subst}
-use Rattle.std.specs.Prelude.{Result, Ok, Err}
+use Rattle.std.proofs.Common.{◌≡◌, ℕ, Option, Some, sym, ap, ◌∙◌, subst}
+use Rattle.std.specs.Prelude.{Result, Ok}
 use Rattle.gc_model.specs.declared.GcClass.{GcClass}
 use Rattle.gc_model.specs.Values.{Reference, Value, reference}
 use Rattle.gc_model.specs.Table.{Table}

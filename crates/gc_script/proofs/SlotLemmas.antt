@@ -1,7 +1,6 @@
 -- Registers after one more was added, unset.
-use Rattle.std.proofs.Common.{◌≡◌, ◌≢◌, ℕ, ◌+◌, ◌-◌, ◌<◌, ◌≤◌, List, [], ◌∷◌, ◌++◌, length, Option, Some, None, Bool, true, is_ok, cond, sym, ap, ◌∙◌, refl, subst, arith, zero, suc}
-use Rattle.std.specs.List.{slice_get}
-use Rattle.gc_script.specs.Slots.{register_at, option_join}
+use Rattle.std.proofs.Common.{◌≡◌, ℕ, ◌≤◌, List, [], ◌∷◌, ◌++◌, length, Option, None, refl, zero, suc}
+use Rattle.gc_script.specs.Slots.{register_at}
 use Rattle.gc_store.specs.declared.root.RawValue.{RawValue}
 
 -- an unset register at the end changes none

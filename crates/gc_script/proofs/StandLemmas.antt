@@ -1,11 +1,11 @@
 -- Registers stand for those of the state in every later store: pushes are only added.
-use Rattle.std.proofs.Common.{◌≡◌, ℕ, List, [], ◌∷◌, ◌++◌, length, Option, Some, None, sym, ap, ◌∙◌, refl, subst}
+use Rattle.std.proofs.Common.{◌≡◌, ℕ, List, [], ◌∷◌, ◌++◌, Option, Some, None, sym, ap, ◌∙◌, refl, subst}
 use Rattle.std.specs.List.{slice_get}
 use Rattle.gc_types.specs.declared.kind.Layouts.{Layouts}
 use Rattle.gc_model.specs.Table.{Table, Push}
 use Rattle.gc_model.specs.Views.{StoreView}
 use Rattle.gc_model.specs.Holds.{HoldsTable}
-use Rattle.gc_model.proofs.Lists.{slice_get-push_old, slice_get-push_new}
+use Rattle.gc_model.proofs.Lists.{slice_get-push_old}
 use Rattle.gc_store.specs.declared.root.GcRootIndex.{GcRootIndex}
 use Rattle.gc_store.specs.declared.root.RootSlot.TheVariants as slot
 use Rattle.gc_store.specs.declared.root.RawValue.{RawValue}

@@ -2,7 +2,6 @@
 use Rattle.std.proofs.Common.{inl, inr, ◌≡◌, ℕ, ◌<◌, ◌≤◌, List, [], ◌∷◌, length, Option, Some, None, Bool, true, false, cond, sym, ap, ◌∙◌, refl, subst, arith}
 use Rattle.std.specs.Prelude.{nat_le, is_none}
 use Rattle.std.specs.List.{slice_get}
-use Rattle.std.proofs.lemmas.Grind.{common_steps}
 use Rattle.std.proofs.lemmas.Bool.Decides.{nat_tests}
 use Rattle.std.proofs.lemmas.Option.{none-some, slice_get_within, slice_get_cases}
 use Rattle.gc_types.specs.declared.kind.Layouts.{Layouts}
@@ -24,9 +23,9 @@ use Rattle.gc_store.specs.declared.root.GcRootIndex.{GcRootIndex}
 use Rattle.gc_store.specs.declared.root.RawValue.{RawValue}
 use Rattle.gc_store.specs.declared.root.RawValue.TheVariants as raw
 use Rattle.gc_store.specs.Roots.{Names}
-use Rattle.gc_store.specs.Values.{RawStands, RootStands}
+use Rattle.gc_store.specs.Values.{RawStands}
 use Rattle.gc_script.specs.State.{State}
-use Rattle.gc_script.specs.Given.{Given, gone, is, given_register, given_held, given_value, value_named, named, Target, target, target_values, reference_target, object_target, field_of, list_field, is_gone}
+use Rattle.gc_script.specs.Given.{Given, is, given_register, given_value, value_named, Target, target, target_values, reference_target, object_target, field_of, list_field, is_gone}
 use Rattle.gc_script.specs.Steps.{first_failing, target_tests}
 use Rattle.gc_script.specs.Values.{raw_handle, IsFound}
 use Rattle.gc_script.specs.Named.{IsStructRoot, TellsStruct, IsFieldPlace, FoundField}

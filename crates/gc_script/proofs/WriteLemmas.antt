@@ -1,12 +1,12 @@
 -- Writing a field that a register names.
-use Rattle.std.proofs.Common.{inl, inr, ◌≡◌, ℕ, List, [], ◌∷◌, ◌++◌, Option, Some, None, Bool, true, false, cond, sym, ap, ◌∙◌, refl, subst}
+use Rattle.std.proofs.Common.{◌≡◌, ℕ, List, ◌∷◌, ◌++◌, Option, Some, None, Bool, true, false, ap, ◌∙◌, refl, subst}
 use Rattle.std.specs.Prelude.{not}
 use Rattle.gc_types.specs.declared.kind.Layouts.{Layouts}
 use Rattle.gc_types.specs.declared.value.FieldType.{FieldType}
 use Rattle.gc_types.specs.declared.value.Mutability.{Mutability}
 use Rattle.gc_types.specs.declared.value.Mutability.TheVariants.{Const, Var}
 use Rattle.gc_model.specs.declared.GcClass.{GcClass}
-use Rattle.gc_model.specs.Values.{Reference, Value}
+use Rattle.gc_model.specs.Values.{Reference}
 use Rattle.gc_model.specs.Table.{Table, write}
 use Rattle.gc_model.specs.Live.{rooted}
 use Rattle.gc_model.specs.Views.{StoreView}
@@ -24,7 +24,7 @@ use Rattle.gc_script.specs.declared.targets.FieldPlace.{FieldPlace}
 use Rattle.gc_script.specs.Slots.{RunnerView}
 use Rattle.gc_script.specs.State.{State, Held, number, reference, Stands, HoldsState, with_table}
 use Rattle.gc_script.specs.Built.{is_built_operand}
-use Rattle.gc_script.specs.Given.{Given, unset, gone, is, given, given_register, given_held, given_root, given_value, is_unset, target, field_of, is_const, is_constant}
+use Rattle.gc_script.specs.Given.{unset, given, given_register, given_held, given_root, given_value, is_unset, target, field_of, is_const, is_constant}
 use Rattle.gc_script.specs.Steps.{first_failing, tests, built_tests, target_tests, value_tests}
 use Rattle.gc_script.specs.Run.{Goes}
 use Rattle.gc_script.specs.Named.{IsFieldPlace, FoundField}

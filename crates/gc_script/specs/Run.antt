@@ -1,5 +1,5 @@
 -- A run of commands.
-use Rattle.std.specs.Prelude.{◌≡◌, ℕ, ◌⊎◌, List, [], ◌∷◌, Option, Some, None, Result, Ok, Err, Bool, false}
+use Rattle.std.specs.Prelude.{◌≡◌, ℕ, ◌⊎◌, List, [], ◌∷◌, Option, None, Result, Ok, Err, Bool, false}
 use Rattle.gc_types.specs.declared.kind.Layouts.{Layouts}
 use Rattle.gc_model.specs.Table.{make_heap}
 use Rattle.gc_model.specs.Allocation.{Limits, MayMakeHeap}

@@ -66,7 +66,9 @@ impl Runner {
         ensures same { IsSameStore store.old store.new }
     {
         match command {
-            Command::Bad | Command::Grow { .. } | Command::Cap => Ok(Reply::Refused(Refusal::BadLine)),
+            Command::Bad | Command::Grow { .. } | Command::Cap => Ok(Reply::Refused(
+                Refusal::BadLine,
+            )),
             Command::Struct {
                 is_final,
                 supertype,

@@ -1,8 +1,7 @@
-use Rattle.std.proofs.Common.{◌≡◌, ◌+◌, ◌++◌, ◌∷◌, [], List, length, take, drop, refl, sym, ap, subst, ◌∙◌, arith}
+use Rattle.std.proofs.Common.{◌+◌, ◌++◌, ◌∷◌, [], List, take, drop, refl, sym, ap, subst, ◌∙◌, arith}
 use Rattle.std.proofs.lemmas.List.{drop_more, take_all, take_more, take-append-drop}
 use Rattle.gc_commands.specs.declared.command.Command.{Command}
-use Rattle.gc_store.specs.Stores.{IsSameStore}
-use Rattle.gc_script.specs.State.{begin, HoldsState}
+use Rattle.gc_script.specs.State.{begin}
 use Rattle.gc_script.proofs.ResultLemmas.{on_any_err}
 use Rattle.gc_script.proofs.StandLemmas.{same_twice, begins}
 use Rattle.gc_script.proofs.ScriptLemmas.{Along, along_start, along_more, along_end, along_stopped}

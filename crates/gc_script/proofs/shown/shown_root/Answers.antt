@@ -1,6 +1,5 @@
-use Rattle.std.proofs.Common.{Some, ap, ◌∙◌, subst, Option}
+use Rattle.std.proofs.Common.{subst, Option}
 use Rattle.gc_store.specs.declared.root.GcRootIndex.{GcRootIndex}
-use Rattle.gc_store.specs.declared.root.RawValue.{RawValue}
 use Rattle.gc_store.specs.declared.root.RawValue.TheVariants as raw
 use Rattle.gc_store.specs.Values.{RawStands}
 use Rattle.gc_script.proofs.ShownLemmas.{root_shown}

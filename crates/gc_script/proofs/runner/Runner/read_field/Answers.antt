@@ -1,4 +1,4 @@
-use Rattle.std.proofs.Common.{◌≡◌, ℕ, true, false, Option, Some, None, sym, ap, ◌∙◌, refl, subst}
+use Rattle.std.proofs.Common.{◌≡◌, false, Option, Some, sym, ap, ◌∙◌, subst}
 use Rattle.gc_store.specs.declared.root.RawValue.{RawValue}
 use Rattle.gc_script.specs.Slots.{RunnerView, register_at}
 use Rattle.gc_script.specs.State.{State, HoldsState, Stands}

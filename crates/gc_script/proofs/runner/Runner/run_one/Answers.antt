@@ -1,4 +1,4 @@
-use Rattle.std.proofs.Common.{◌≡◌, refl, sym, subst, List}
+use Rattle.std.proofs.Common.{subst, List}
 use Rattle.std.specs.Prelude.{Ok}
 use Rattle.gc_commands.specs.declared.command.Command.TheVariants as command
 use Rattle.gc_commands.specs.declared.command.FieldWord.{FieldWord}

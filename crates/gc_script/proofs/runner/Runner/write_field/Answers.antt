@@ -1,12 +1,10 @@
-use Rattle.std.proofs.Common.{◌≡◌, ℕ, List, true, false, Option, Some, None, sym, ap, ◌∙◌, refl, subst}
-use Rattle.gc_types.specs.declared.value.Mutability.TheVariants.{Var}
+use Rattle.std.proofs.Common.{◌≡◌, true, false, Option, Some, sym, ◌∙◌, subst}
 use Rattle.gc_store.specs.declared.root.RawValue.{RawValue}
 use Rattle.gc_script.specs.Slots.{RunnerView, register_at}
 use Rattle.gc_script.specs.State.{State, HoldsState, Stands}
 use Rattle.gc_script.specs.Built.{is_built_operand}
 use Rattle.gc_script.specs.Given.{held_operand, given_register, is_unset}
 use Rattle.gc_script.specs.Values.{AreRegisters}
-use Rattle.gc_script.specs.Named.{FoundField}
 use Rattle.gc_script.proofs.NamedLemmas.{unset_held}
 use Rattle.gc_script.proofs.WriteLemmas.{is_set, const_not_var, no_value, no_field, immutable, no_fit, written, can_write}
 use Rattle.gc_script.proofs.runner.Runner.write_field.Given as given
