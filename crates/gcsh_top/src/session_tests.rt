@@ -15,7 +15,10 @@ use std::alloc::Global;
 #[test]
 fn both_heaps_give_the_same_replies(rt: HostRuntime) -> Result<(), Fail> {
     let sessions = [
-        ("struct m:i32\nnew 1 0 i32:5\nfield 1 0\n", "type 0\nok\ni32 5\n"),
+        (
+            "struct m:i32\nnew 1 0 i32:5\nfield 1 0\n",
+            "type 0\nok\ni32 5\n",
+        ),
         // A handle of a left scope is refused, also after its index is used again.
         (
             "struct m:i32\nenter\nnew 1 0 i32:5\nleave\nfield 1 0\nnew 2 0 i32:6\nfield 1 0\nfield 2 0\n",
@@ -54,7 +57,10 @@ fn both_heaps_give_the_same_replies(rt: HostRuntime) -> Result<(), Fail> {
     ];
     for (input, want) in sessions {
         assert!(rt; replies(rt.alloc(), "null 1 64", input, want)?, "{input}");
-        assert!(rt; replies(rt.alloc(), "copying 1 64", input, want)?, "{input}");
+        assert!(rt;
+            replies(rt.alloc(), "copying 1 64", input, want)?,
+            "{input}"
+        );
     }
     Ok(())
 }
@@ -64,9 +70,14 @@ fn a_copying_heap_frees_what_no_root_reaches(rt: HostRuntime) -> Result<(), Fail
     // A cycle that only a left scope named.
     let cycle = "struct m:any\nenter\nnew 1 0 any:null\nnew 2 0 r1\nsetf 1 0 r2\nleave\ngc\n";
     // A chain of which a root names the second object.
-    let chain = "struct m:any\nenter\nnew 1 0 any:null\nnew 2 0 r1\nnew 3 0 r2\nleave\nnew 4 0 any:null\nenter\nnew 5 0 any:null\nnew 6 0 r5\nsetf 4 0 r6\nleave\ngc\nfield 4 0 7\nfield 7 0 8\nfield 8 0\nsetf 4 0 any:null\ngc\n";
+    let chain =
+        "struct m:any\nenter\nnew 1 0 any:null\nnew 2 0 r1\nnew 3 0 r2\nleave\nnew 4 0 any:null\nenter\nnew 5 0 any:null\nnew 6 0 r5\nsetf 4 0 r6\nleave\ngc\nfield 4 0 7\nfield 7 0 8\nfield 8 0\nsetf 4 0 any:null\ngc\n";
     let sessions = [
-        ("copying 1 64", cycle, "type 0\nok\nok\nok\nok\nok\nheld 0 0\n"),
+        (
+            "copying 1 64",
+            cycle,
+            "type 0\nok\nok\nok\nok\nok\nheld 0 0\n",
+        ),
         ("null 1 64", cycle, "type 0\nok\nok\nok\nok\nok\nheld 2 0\n"),
         (
             "copying 1 64",
@@ -101,12 +112,21 @@ fn a_copying_heap_collects_where_it_has_no_room(rt: HostRuntime) -> Result<(), F
         }
     }
     let heaps = [
-        ("copying 1 64", "type 0\nok\nGcHeapOutOfMemory\nok\nGcHeapOutOfMemory\nGcHeapOutOfMemory\nNoSuchName\n"),
-        ("copying 2 64", "type 0\nok\nok\nok\nok\nGcHeapOutOfMemory\ni32 7\n"),
+        (
+            "copying 1 64",
+            "type 0\nok\nGcHeapOutOfMemory\nok\nGcHeapOutOfMemory\nGcHeapOutOfMemory\nNoSuchName\n",
+        ),
+        (
+            "copying 2 64",
+            "type 0\nok\nok\nok\nok\nGcHeapOutOfMemory\ni32 7\n",
+        ),
         ("null 2 64", "type 0\nok\nok\nok\nok\nok\ni32 7\n"),
     ];
     for (words, want) in heaps {
-        assert!(rt; replies(rt.alloc(), words, input.as_str(), want)?, "{words}");
+        assert!(rt;
+            replies(rt.alloc(), words, input.as_str(), want)?,
+            "{words}"
+        );
     }
     Ok(())
 }
