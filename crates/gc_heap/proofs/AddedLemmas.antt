@@ -252,9 +252,9 @@ blank_array layouts types ty count layout small declared =
     let holds = holds_array layouts types ty count (array_spare layouts layout.elems_are_gc_refs) layout small declared in
     record {
       null = λ w. all_null (word_in layouts o) (reference_offsets layouts types o) w (λ x i.
-      let from = array_from layouts types o layout.elems_are_gc_refs refl refl holds x i in
-      let bases = array_bases layouts in
-      array_zero count zeros (x - struct_base layouts) (omega arith));
+          let from = array_from layouts types o layout.elems_are_gc_refs refl refl holds x i in
+          let bases = array_bases layouts in
+          array_zero count zeros (x - struct_base layouts) (omega arith));
       typed = typed_where layouts types o holds;
     }
 
@@ -265,8 +265,8 @@ blank_traced_array types ty count layout =
     let zeros : ℕ = stored_size Copying (array_size layout count) - 16 in
     record {
       null = λ w. all_null (word_in Copying o) (reference_offsets Copying types o) w (λ x i.
-      let from = traced_from types o layout.elems_are_gc_refs refl x i in
-      array_zero count zeros (x - 12) (omega arith));
+          let from = traced_from types o layout.elems_are_gc_refs refl x i in
+          array_zero count zeros (x - 12) (omega arith));
       typed = λ out. let form = array_form layout.elems_are_gc_refs in absurd (omega arith);
     }
 
