@@ -17,7 +17,8 @@ use Rattle.gc_model.specs.Bytes.{put_bytes}
 use Rattle.gc_model.proofs.ByteLemmas.{part-put_bytes_inside}
 use Rattle.gc_model.specs.Views.{HeapObject, put_u32}
 use Rattle.gc_heap.specs.Objects.{first_offset, zeroed, zeroed_array, external, IsObjectKind, HasFields}
-use Rattle.gc_heap.specs.Heap.{LacksRoom, Allocated, CanAllocate, IsTooLarge, need_of, exn_or_struct}
+use Rattle.gc_heap.specs.Heap.{LacksRoom, Allocated, CanAllocate, IsTooLarge, exn_or_struct}
+use Rattle.gc_model.specs.Sizes.{need_of}
 use Rattle.gc_heap.specs.declared.heap.HeapFault.{HeapFault}
 use Rattle.gc_heap.specs.declared.heap.HeapFault.TheVariants as fault
 use Rattle.gc_drc.specs.declared.space.CountedSpace.{CountedSpace}

@@ -11,7 +11,7 @@ use Rattle.gc_types.specs.declared.layout.GcArrayLayout.{GcArrayLayout}
 use Rattle.gc_types.specs.Layouts.{struct_base, ref_offsets, round_up}
 use Rattle.gc_types.specs.Kinds.{kind_bits}
 use Rattle.gc_refs.specs.Header.{Header, spare_bits, kind_part, IsOfKind}
-use Rattle.gc_model.specs.Sizes.{alignment}
+use Rattle.gc_model.specs.Sizes.{alignment, need_of}
 use Rattle.gc_model.specs.Bytes.{put_bytes}
 use Rattle.gc_model.specs.Views.{HeapObject, HeapView, Counts, detached_in}
 use Rattle.gc_heap.specs.Objects.{held_size, first_offset, zeroed, zeroed_array, writable_offset, HasFields}
@@ -77,12 +77,6 @@ abbrev pub allocated_after : Layouts → ℕ → ℕ → ℕ
 allocated_after Null allocated size = round_up (allocated + 1) alignment + size - 1
 allocated_after Counting allocated size = allocated + round_up size alignment
 allocated_after Copying allocated size = allocated + round_up size alignment
-
--- the bytes that have to be added for an object of that size to fit
-abbrev pub need_of : Layouts → ℕ → ℕ
-need_of Null size = size + 16
-need_of Counting size = round_up size alignment + 16
-need_of Copying size = 2 * round_up size alignment + 32
 
 -- the counts after an object was made: its maker's word names it
 abbrev pub counts_with : Layouts → Counts → ℕ → Counts

@@ -6,12 +6,12 @@ use Rattle.std.specs.FinMap.{empty, get-empty}
 use Rattle.std.proofs.lemmas.Option.{none-some}
 use Rattle.gc_types.specs.declared.kind.Layouts.{Layouts}
 use Rattle.gc_types.specs.declared.kind.Layouts.TheVariants.{Null, Counting, Copying}
-use Rattle.gc_model.specs.Table.{Table, make_heap}
+use Rattle.gc_model.specs.Table.{Table, make_heap, with_pages}
 use Rattle.gc_model.specs.Allocation.{page}
 use Rattle.gc_model.specs.Sizes.{next_after}
 use Rattle.gc_model.specs.Views.{StoreView, HeapView}
 use Rattle.gc_model.specs.Holds.{Placing, Holds, KindHolds, ObjectsHold}
-use Rattle.gc_model.proofs.HoldsParts.{scoped-kept, pushes-kept, nothing-kept}
+use Rattle.gc_model.proofs.HoldsParts.{objects-same, scoped-kept, pushes-kept, nothing-kept}
 
 -- a heap that was just made with so many pages
 pub record IsMadeHeap (layouts : Layouts) (heap : HeapView) (pages : ℕ) : Type 0 where
@@ -65,6 +65,61 @@ holds_heap layouts s t place heap unmade made holds =
         even = λ word object e. absurd (none-some object (sym (get-empty nat_cmp word) ∙ ap (λ (m : _). Rattle.std.specs.FinMap.get m word) (sym made.content) ∙ e));
       };
       by_kind = made_by_kind layouts t place heap t.first none made;
+      scoped = scoped-kept t place place s.scoped _ _ _ _ (λ position word e. e) holds.scoped;
+      pushes = pushes-kept t place _ _ _ _ holds.pushes;
+      no_hosts = holds.no_hosts;
+      nothing_else = nothing-kept t place _ _ _ _ _ _ _ holds.nothing_else;
+      only_built = holds.only_built;
+    }
+
+-- a heap with the same objects and so many pages
+pub record IsGrownHeap (layouts : Layouts) (old new : HeapView) (pages : ℕ) : Type 0 where
+  pub attached : new.attached ≡ true
+  pub content : new.content ≡ old.content
+  pub capacity : new.capacity ≡ page * pages
+  pub allocated : layouts ≡ Null → new.allocated ≡ old.allocated
+
+grown_by_kind : {D : Type 0} (layouts : Layouts) (t : Table D) (place : Placing) (old new : HeapView) (pages : ℕ) → IsGrownHeap layouts old new pages → KindHolds layouts t place old → KindHolds layouts (with_pages pages t) place new
+grown_by_kind Null t place old new pages grown holds = record {
+  all_held = holds.all_held;
+  allocated = ap (λ n. n + 1) (grown.allocated refl) ∙ holds.allocated;
+}
+grown_by_kind Counting t place old new pages grown holds = tt
+grown_by_kind Copying t place old new pages grown holds = tt
+
+-- a store holds the table with other pages, once its heap has as many
+pub holds_pages : {D : Type 0} (layouts : Layouts) (s : StoreView) (t : Table D) (place : Placing) (heap : HeapView) (pages : ℕ) → IsGrownHeap layouts s.heap heap pages → Holds layouts s t place → Holds layouts (with_heap heap s) (with_pages pages t) place
+holds_pages layouts s t place heap pages grown holds =
+    let objects : ObjectsHold layouts t place heap = objects-same layouts t place s.heap heap grown.content holds.objects in
+    record {
+      types = holds.types;
+      numbers = record {
+        generation = holds.numbers.generation;
+        first = holds.numbers.first;
+        max_scoped = holds.numbers.max_scoped;
+        max_owned = holds.numbers.max_owned;
+        made = grown.attached;
+        capacity = grown.capacity;
+        no_pages = λ h. absurd (cc);
+        no_objects = λ h. absurd (cc);
+        first_fits = holds.numbers.first_fits;
+        few_roots = holds.numbers.few_roots;
+        scoped_within = holds.numbers.scoped_within;
+        drops_within = holds.numbers.drops_within;
+      };
+      objects = record {
+        placed = λ position word e. let held = objects.placed position word e in record {
+          object = held.object;
+          entry = held.entry;
+          in_heap = held.in_heap;
+          in_table = held.in_table;
+          stands = held.stands;
+        };
+        only = objects.only;
+        injective = objects.injective;
+        even = objects.even;
+      };
+      by_kind = grown_by_kind layouts t place s.heap heap pages grown holds.by_kind;
       scoped = scoped-kept t place place s.scoped _ _ _ _ (λ position word e. e) holds.scoped;
       pushes = pushes-kept t place _ _ _ _ holds.pushes;
       no_hosts = holds.no_hosts;

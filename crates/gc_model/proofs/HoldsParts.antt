@@ -14,7 +14,7 @@ use Rattle.gc_model.specs.Holds.{Placing, Holds, KindHolds, HeldAt, ObjectsHold,
 use Rattle.gc_model.proofs.Placings.{IsWithin, is_word-more}
 
 pub same_held-itself : (heap : HeapView) → SameHeld heap heap
-same_held-itself heap = record { content = refl; attached = refl; capacity = refl; allocated = refl }
+same_held-itself heap = record { content = refl; attached = refl; capacity = refl; allocated = refl; needs_gc = refl }
 
 -- the objects, in a heap with the same content
 pub objects-same : {D : Type 0} (layouts : Layouts) (t : Table D) (place : Placing) (old new : HeapView) → new.content ≡ old.content → ObjectsHold layouts t place old → ObjectsHold layouts t place new

@@ -1,11 +1,11 @@
 -- When an allocation succeeds.
-use Rattle.std.specs.Prelude.{◌≡◌, ℕ, ◌+◌, ◌-◌, ◌*◌, ◌/◌, ◌^◌, ◌<◌, ◌≤◌, min, max, nat_le, Bool, true, false, List, Option, Some, None, IfSome, map, slice_get, sum}
+use Rattle.std.specs.Prelude.{◌≡◌, ℕ, ◌+◌, ◌-◌, ◌*◌, ◌/◌, ◌^◌, ◌<◌, ◌≤◌, ◌⊎◌, min, max, nat_le, Bool, true, false, List, Option, Some, None, IfSome, map, slice_get, sum}
 use Rattle.gc_types.specs.declared.kind.Layouts.{Layouts}
 use Rattle.gc_types.specs.declared.kind.Layouts.TheVariants.{Null, Counting, Copying}
 use Rattle.gc_types.specs.Layouts.{round_up}
 use Rattle.gc_model.specs.Values.{Object}
-use Rattle.gc_model.specs.Table.{Table, make, make_heap}
-use Rattle.gc_model.specs.Sizes.{object_size, rounded_size, next_place, alignment}
+use Rattle.gc_model.specs.Table.{Table, make, make_heap, made_pages, with_pages}
+use Rattle.gc_model.specs.Sizes.{object_size, rounded_size, next_place, alignment, need_of}
 use Rattle.gc_model.specs.Reach.{IsReached, AreAll}
 
 -- the bytes of a page
@@ -64,23 +64,67 @@ LacksFit Null t size = Fits t size → ⊥
 LacksFit Counting t size = Unit {0}
 LacksFit Copying t size = HasRoom t size → ⊥
 
+-- the pages that hold so many bytes
+abbrev pub pages_for : ℕ → ℕ
+pages_for bytes = (bytes + (page - 1)) / page
+
+-- The pages that a growth by so many bytes asks for: as many as there are, as far as the greatest number
+-- allows, and no fewer than hold the bytes.
+abbrev pub asked : ℕ → ℕ → ℕ
+asked pages bytes = max (min pages (max_pages - pages)) (pages_for bytes)
+
+-- a limit grants so many pages, where it is told
+abbrev pub MayHave : Option ℕ → ℕ → Type 0
+MayHave limit pages = IfSome limit (λ most. pages ≤ most)
+
+-- a limit refuses so many pages, where it is told
+abbrev pub MayRefuse : Option ℕ → ℕ → Type 0
+MayRefuse limit pages = IfSome limit (λ most. most < pages)
+
 -- The first pages may be had: the heap is made, or a limit that is told grants them.
 abbrev pub MayMakeHeap : {D : Type 0} → Option ℕ → Table D → Type 0
-MayMakeHeap limit t = t.made ≡ false → IfSome limit (λ most. t.first ≤ most)
+MayMakeHeap limit t = t.made ≡ false → MayHave limit t.first
 
 -- The first pages were refused: some are wanted, and a limit that is told is below them.
 pub record IsRefusedHeap {D : Type 0} (limit : Option ℕ) (t : Table D) : Type 0 where
   pub unmade : t.made ≡ false
   pub wanted : 0 < t.first
-  pub above : IfSome limit (λ most. most < t.first)
+  pub above : MayRefuse limit t.first
 
--- An object was made, with the heap's first pages where it wasn't made.
+-- A growth by so many bytes may be had by a heap of so many pages.
+pub record MayGrow (limit : Option ℕ) (pages bytes : ℕ) : Type 0 where
+  pub within : pages + asked pages bytes ≤ max_pages
+  pub granted : MayHave limit (pages + asked pages bytes)
+
+-- A growth by so many bytes was refused of a heap of so many pages: it would pass the greatest number of
+-- pages, or a limit that is told is below.
+abbrev pub IsRefusedGrowth : Option ℕ → ℕ → ℕ → Type 0
+IsRefusedGrowth limit pages bytes = (max_pages < pages + asked pages bytes) ⊎ MayRefuse limit (pages + asked pages bytes)
+
+-- The pages of a heap that was made where it wasn't, and may have grown by so many bytes.
+pub data GetsPages {D : Type 0} (limit : Option ℕ) (t : Table D) (bytes : ℕ) : ℕ → Type 0 where
+  same : MayMakeHeap limit t → GetsPages limit t bytes (made_pages t)
+  more : MayMakeHeap limit t → MayGrow limit (made_pages t) bytes → GetsPages limit t bytes (made_pages t + asked (made_pages t) bytes)
+
+-- An object was made, with the heap's first pages where it wasn't made, and after a growth by the bytes that it
+-- needs or without one.
 pub record Allocates {D : Type 0} (layouts : Layouts) (limit : Option ℕ) (o : Object D) (t t' : Table D) : Type 0 where
-  pub may : MayMakeHeap limit t
-  pub fits : FitsIn layouts (make_heap t) (object_size layouts t.types o)
-  pub made : t' ≡ make o (make_heap t)
+  pub pages : ℕ
+  pub gets : GetsPages limit t (need_of layouts (object_size layouts t.types o)) pages
+  pub fits : FitsIn layouts (with_pages pages t) (object_size layouts t.types o)
+  pub made : t' ≡ make o (with_pages pages t)
 
--- An object was refused: its heap could not be made, or has no room for it.
+-- An object was refused: its heap could not be made, or has no room for it and was refused a growth.
 pub data LacksMemory {D : Type 0} (layouts : Layouts) (limit : Option ℕ) (o : Object D) (t t' : Table D) : Type 0 where
   no_heap : IsRefusedHeap limit t → t' ≡ t → LacksMemory layouts limit o t t'
-  no_room : MayMakeHeap limit t → LacksFit layouts (make_heap t) (object_size layouts t.types o) → t' ≡ make_heap t → LacksMemory layouts limit o t t'
+  no_room : MayMakeHeap limit t → IsRefusedGrowth limit (made_pages t) (need_of layouts (object_size layouts t.types o))
+      → LacksFit layouts (make_heap t) (object_size layouts t.types o) → t' ≡ make_heap t → LacksMemory layouts limit o t t'
+
+-- What a growth by so many bytes leaves of the table, and whether it was granted. One by none is always
+-- granted and does nothing.
+pub data Grows {D : Type 0} (limit : Option ℕ) (bytes : ℕ) (t : Table D) : Bool → Table D → Type 0 where
+  nothing : bytes ≡ 0 → Grows limit bytes t true t
+  granted : 0 < bytes → MayMakeHeap limit t → MayGrow limit (made_pages t) bytes
+      → Grows limit bytes t true (with_pages (made_pages t + asked (made_pages t) bytes) t)
+  no_heap : 0 < bytes → IsRefusedHeap limit t → Grows limit bytes t false t
+  refused : 0 < bytes → MayMakeHeap limit t → IsRefusedGrowth limit (made_pages t) bytes → Grows limit bytes t false (make_heap t)

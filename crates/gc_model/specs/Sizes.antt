@@ -44,3 +44,9 @@ next_after types n (o ∷ os) = next_after types (round_up n alignment + object_
 -- where the null heap goes on; it begins at 1
 abbrev pub next_place : {D : Type 0} → Table D → ℕ
 next_place t = next_after t.types 1 t.objects
+
+-- the bytes that a heap without room for an object of that size has to grow by, so that it fits
+abbrev pub need_of : Layouts → ℕ → ℕ
+need_of Null size = size + 16
+need_of Counting size = round_up size alignment + 16
+need_of Copying size = 2 * round_up size alignment + 32

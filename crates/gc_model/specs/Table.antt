@@ -106,6 +106,14 @@ add_object o t = record t { objects = t.objects ++ o ∷ [] }
 abbrev pub make : {D : Type 0} → Object D → Table D → Table D
 make o t = push (at (length t.objects)) (add_object o t)
 
+-- the pages of the heap, with its first pages where it isn't made
+abbrev pub made_pages : {D : Type 0} → Table D → ℕ
+made_pages t = if t.made then t.pages else t.first
+
+-- the heap is made, with so many pages
+abbrev pub with_pages : {D : Type 0} → ℕ → Table D → Table D
+with_pages pages t = record t { made = true; pages = pages }
+
 -- the heap is made, with its first pages where it wasn't
 abbrev pub make_heap : {D : Type 0} → Table D → Table D
 make_heap t = record t { made = true; pages = (if t.made then t.pages else t.first) }

@@ -47,6 +47,7 @@ pub record SameHeld (old new : HeapView) : Type 0 where
   pub attached : new.attached ≡ old.attached
   pub capacity : new.capacity ≡ old.capacity
   pub allocated : new.allocated ≡ old.allocated
+  pub needs_gc : new.needs_gc ≡ old.needs_gc
 
 -- a heap with no memory, in which so many scopes stand that forbid a collection
 abbrev pub detached_in : ℕ → HeapView
@@ -76,8 +77,9 @@ u64_at bytes offset = from_le_bytes w64 (take 8 (drop offset bytes))
 abbrev pub put_u32 : List ℕ → ℕ → ℕ → List ℕ
 put_u32 bytes offset n = take offset bytes ++ (to_le_bytes w32 n ++ drop (offset + 4) bytes)
 
--- A store: its id, its types, its heap, how many host values it has, its scoped roots, its generation
--- and its configuration.
+-- A store: its id, its types, its heap, how many host values it has, its scoped roots, its generation,
+-- the bytes that were allocated after its last collection, how many allocations it counted, and its
+-- configuration.
 pub record StoreView : Type 0 where
   pub engine : ℕ
   pub number : ℕ
@@ -86,6 +88,8 @@ pub record StoreView : Type 0 where
   pub hosts : ℕ
   pub scoped : List RootEntry
   pub generation : ℕ
+  pub last : ℕ
+  pub tries : ℕ
   pub first : ℕ
   pub max_scoped : ℕ
   pub max_owned : ℕ
@@ -101,6 +105,8 @@ empty_store engine number first max_scoped max_owned alloc_counter = record {
   hosts = 0;
   scoped = [];
   generation = 0;
+  last = 0;
+  tries = 0;
   first = first;
   max_scoped = max_scoped;
   max_owned = max_owned;

@@ -92,7 +92,7 @@ module _ {D : Type 0} (layouts : Layouts) (s : StoreView) (heap : HeapView) (ent
 pub sound_cloned : (D : Type 0) (layouts : Layouts) (old_sound new_sound : Type 0) (types : TypeTable) (hosts : ℕ → Bool) (s : StoreView) (heap : HeapView) (entries : List RootEntry) (generation word : ℕ) → IsSound D layouts old_sound types hosts s → new_sound
     → IsRootWord D layouts s word → heap ≡ cloned s.heap word → entries ≡ s.scoped ++ entry_of s.generation word ∷ [] → generation ≡ s.generation → is_full s ≡ false → IsSound D layouts new_sound types hosts (pushed_view s heap entries generation)
 sound_cloned D layouts old_sound new_sound types hosts s heap entries generation word sound now is heap_is entries_are generation_is room =
-    let held : SameHeld s.heap heap = subst (λ (h : HeapView). SameHeld s.heap h) (sym heap_is) (record { content = refl; attached = refl; capacity = refl; allocated = refl }) in
+    let held : SameHeld s.heap heap = subst (λ (h : HeapView). SameHeld s.heap h) (sym heap_is) (record { content = refl; attached = refl; capacity = refl; allocated = refl; needs_gc = refl }) in
     record {
       heap = now;
       engine = sound.engine;

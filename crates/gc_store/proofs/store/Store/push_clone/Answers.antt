@@ -48,7 +48,7 @@ pub returns-clause-pushes : goal.returns-clause-pushes
 returns-clause-pushes g c t place r holds is =
     let at = (goal.at.returns-clause-pushes g c).After-push_root in
     let before = (goal.at.After-push_root g at).After-is_err in
-    let held : SameHeld (g.H.GcHeap.seen c.self.inside.heap) (g.H.GcHeap.seen c.clone_gc_ref.new.self) = subst (λ (h : HeapView). SameHeld (g.H.GcHeap.seen c.self.inside.heap) h) (sym c.clone_gc_ref.ensures.seen) (record { content = refl; attached = refl; capacity = refl; allocated = refl }) in
+    let held : SameHeld (g.H.GcHeap.seen c.self.inside.heap) (g.H.GcHeap.seen c.clone_gc_ref.new.self) = subst (λ (h : HeapView). SameHeld (g.H.GcHeap.seen c.self.inside.heap) h) (sym c.clone_gc_ref.ensures.seen) (record { content = refl; attached = refl; capacity = refl; allocated = refl; needs_gc = refl }) in
     pushes_root g.H.GcHeap.KIND (view g before) (g.H.GcHeap.seen c.clone_gc_ref.new.self) c.push_root.new.roots.entries c.push_root.new.roots.generation c.args.gc_ref.now held (entries_are g at) (generation_is g at) (root_word g before).not_null (room g before) c.push_root.result
     (c.push_root.ensures.handle ∙ (λ i. record { store_id = c.self.inside.id; generation = c.reserve.ensures.generation i; slot = slot.Scoped (length (c.reserve.ensures.entries i)) }))
     t place r (subst (λ (s : StoreView). Holds g.H.GcHeap.KIND s t place) (sym c.self.view_is) holds) is
