@@ -1,10 +1,9 @@
--- What a store holds after a collection.
-use Rattle.std.specs.Prelude.{◌≡◌, ℕ, not, Some}
+-- What a heap holds.
+use Rattle.std.specs.Prelude.{◌≡◌, ℕ, Some}
 use Rattle.gc_types.specs.declared.kind.Layouts.{Layouts}
-use Rattle.gc_types.specs.declared.kind.Layouts.TheVariants.{Null, Counting, Copying}
 use Rattle.gc_model.specs.Table.{Table}
 use Rattle.gc_model.specs.Reach.{HasNumber}
-use Rattle.gc_model.specs.Views.{StoreView, HeapView}
+use Rattle.gc_model.specs.Views.{StoreView}
 use Rattle.gc_model.specs.Holds.{Holds, Placing}
 
 -- the heap holds the object of that position
@@ -14,9 +13,3 @@ IsPlaced place p = (word : ℕ) × (place p ≡ Some word)
 -- the heap holds so many objects, wherever they lie
 abbrev pub HoldsNumber : (D : Type 0) → Layouts → StoreView → ℕ → Type 0
 HoldsNumber D layouts s n = (t : Table D) (place : Placing) → Holds layouts s t place → HasNumber (IsPlaced place) n
-
--- a collection leaves the other half of a copying heap active
-abbrev pub OtherHalf : Layouts → HeapView → HeapView → Type 0
-OtherHalf Null old new = Unit {0}
-OtherHalf Counting old new = Unit {0}
-OtherHalf Copying old new = new.needs_gc ≡ not old.needs_gc

@@ -6,20 +6,20 @@ use Rattle.gc_model.specs.Table.{Table, push}
 use Rattle.gc_model.specs.Live.{roots_full}
 use Rattle.gc_model.specs.Reads.{same_reference}
 use Rattle.gc_model.specs.Views.{StoreView}
-use Rattle.gc_model.specs.Holds.{HoldsTable}
 use Rattle.gc_store.specs.declared.root.GcRootIndex.{GcRootIndex}
 use Rattle.gc_store.specs.declared.root.RootFault.{RootFault}
 use Rattle.gc_store.specs.declared.root.RootFault.TheVariants as fault
+use Rattle.gc_store.specs.Accounts.{Account, HoldsAccount}
 use Rattle.gc_store.specs.Roots.{handle_of}
 
 -- a new scoped root for a reference, whose handle is answered
-abbrev pub PushesRoot : {D : Type 0} → Layouts → Table D → Reference → Result GcRootIndex RootFault → StoreView → Type 0
-PushesRoot layouts t r (Ok handle) new =
-    (roots_full t ≡ false) × ((handle ≡ handle_of new (length t.scoped) t.drops) × HoldsTable layouts new (push r t))
-PushesRoot layouts t r (Err fault.WrongStore) new = ⊥
-PushesRoot layouts t r (Err fault.Unrooted) new = ⊥
-PushesRoot layouts t r (Err fault.RootsFull) new = (roots_full t ≡ true) × HoldsTable layouts new t
-PushesRoot layouts t r (Err fault.Memory) new = HoldsTable layouts new t
+abbrev pub PushesRoot : {D : Type 0} → Layouts → Table D → Account → Reference → Result GcRootIndex RootFault → StoreView → Type 0
+PushesRoot layouts t a r (Ok handle) new =
+    (roots_full t ≡ false) × ((handle ≡ handle_of new (length t.scoped) t.drops) × HoldsAccount layouts new (push r t) a)
+PushesRoot layouts t a r (Err fault.WrongStore) new = ⊥
+PushesRoot layouts t a r (Err fault.Unrooted) new = ⊥
+PushesRoot layouts t a r (Err fault.RootsFull) new = (roots_full t ≡ true) × HoldsAccount layouts new t a
+PushesRoot layouts t a r (Err fault.Memory) new = HoldsAccount layouts new t a
 
 -- whether two roots name the same reference, or that one is gone
 abbrev pub TellsSame : Option Reference → Option Reference → Result Bool RootFault → Type 0

@@ -1,5 +1,7 @@
 pub mod Ids
 pub mod Limiters
+pub mod Collects
+pub mod Accounts
 pub mod Tracing
 pub mod RootSets
 pub mod Stores
@@ -7,7 +9,10 @@ pub mod Roots
 pub mod Handles
 pub mod Values
 pub mod Fields
+pub mod Retry
+pub mod Growth
+pub mod Policy
 pub mod Places
+pub mod Expansion
 pub mod Reading
 pub mod Scopes
-pub mod Collects

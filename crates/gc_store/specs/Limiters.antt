@@ -1,5 +1,5 @@
 -- What a limiter's answers leave.
-use Rattle.std.specs.Prelude.{◌≡◌, ℕ, ◌+◌, ◌-◌, ◌^◌, min, Option, Some, None}
+use Rattle.std.specs.Prelude.{◌≡◌, ℕ, ◌+◌, ◌-◌, ◌^◌, min, Bool, true, List, [], ◌∷◌, Option, Some, None}
 use Rattle.gc_model.specs.Allocation.{Limits}
 
 -- a limiter that refused nothing yet
@@ -13,3 +13,18 @@ Refuses old new before after = new ≡ record {
   refusals = min (old.refusals + 1) (2 ^ 64 - 1);
   last_refused = Some (before, after);
 }
+
+-- a limiter that answers by a list, and what is told of it
+pub record ScriptedView : Type 0 where
+  pub answers : List Bool
+  pub limits : Limits
+
+-- the next answer of a list; true after the last
+abbrev pub next_answer : List Bool → Bool
+next_answer [] = true
+next_answer (answer ∷ answers) = answer
+
+-- the answers behind the next one
+abbrev pub rest_of : List Bool → List Bool
+rest_of [] = []
+rest_of (answer ∷ answers) = answers

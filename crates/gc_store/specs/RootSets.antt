@@ -11,11 +11,13 @@ use Rattle.gc_store.specs.declared.root.RootFault.{RootFault}
 use Rattle.gc_store.specs.declared.root.RootFault.TheVariants as fault
 use Rattle.gc_store.specs.Tracing.{roots_of, start_from, IsCollectable}
 
--- the roots in order, the generation of the next one, and for how many more there is room
+-- the roots in order, the generation of the next one, for how many more there is room, and how many bytes were
+-- allocated after the last collection from these roots
 pub record RootSetView : Type 0 where
   pub entries : List RootEntry
   pub generation : ℕ
   pub spare : ℕ
+  pub last : ℕ
 
 -- the word of an entry, where its generation is the handle's
 abbrev pub entry_word : Option RootEntry → ℕ → Result ℕ RootFault

@@ -8,24 +8,27 @@ use Rattle.gc_types.specs.declared.types.TypeFault.{TypeFault}
 use Rattle.gc_types.specs.declared.types.TypeFault.TheVariants as type_fault
 use Rattle.gc_types.specs.Declarable.{Declarable}
 use Rattle.gc_types.specs.Declarations.{Declaration, TypeTable, TypeName, plain_struct}
-use Rattle.gc_model.specs.declared.RootEntry.{RootEntry}
 use Rattle.gc_model.specs.Table.{Table, start, declare}
 use Rattle.gc_model.specs.Views.{StoreView, HeapView}
 use Rattle.gc_model.specs.Holds.{HoldsTable}
+use Rattle.gc_store.specs.Accounts.{Account, no_account, HoldsAccount}
+use Rattle.gc_store.specs.RootSets.{RootSetView}
 use Rattle.gc_store.specs.Tracing.{IsCollectable, roots_of}
 use Rattle.gc_store.specs.declared.engine.StoreId.{StoreId}
 use Rattle.gc_store.specs.declared.config.HeapConfig.{HeapConfig}
 
 -- what is seen of a store with these parts
-abbrev pub store_view : StoreId → HeapConfig → List Declaration → HeapView → ℕ → List RootEntry → ℕ → StoreView
-store_view id config types heap hosts scoped generation = record {
+abbrev pub store_view : StoreId → HeapConfig → List Declaration → HeapView → ℕ → RootSetView → ℕ → StoreView
+store_view id config types heap hosts roots tries = record {
   engine = id.engine;
   number = id.number;
   types = types;
   heap = heap;
   hosts = hosts;
-  scoped = scoped;
-  generation = generation;
+  scoped = roots.entries;
+  generation = roots.generation;
+  last = roots.last;
+  tries = tries;
   first = config.first_pages;
   max_scoped = config.max_scoped;
   max_owned = config.max_owned;
@@ -36,25 +39,29 @@ store_view id config types heap hosts scoped generation = record {
 abbrev pub configured : HeapConfig → StoreView → StoreView
 configured config s = record s { first = config.first_pages; max_scoped = config.max_scoped; max_owned = config.max_owned; alloc_counter = option_map non_zero_u32_get config.alloc_counter }
 
--- The heap is sound, a collection may begin, the store holds some table, and its types carry its id.
+-- The heap is sound, a collection may begin, none ran without a heap, the store holds some table with some account,
+-- and its types carry its id.
 pub record IsSound (D : Type 0) (layouts : Layouts) (heap_is_sound : Type 0) (types : TypeTable) (hosts : ℕ → Bool) (s : StoreView) : Type 0 where
   pub heap : heap_is_sound
   pub engine : types.engine ≡ s.engine
   pub number : types.number ≡ s.number
   pub collectable : IsCollectable layouts s.types s.heap (roots_of s.scoped) hosts
+  pub unused : s.heap.attached ≡ false → s.last ≡ 0
   pub table : Table D
-  pub holds : HoldsTable layouts s table
+  pub account : Account
+  pub holds : HoldsAccount layouts s table account
 
--- the store holds the empty table with the numbers of its configuration
+-- the store holds the empty table with the numbers of its configuration, and counted no allocation
 abbrev pub HoldsStart : (D : Type 0) → Layouts → StoreView → Type 0
-HoldsStart D layouts s = HoldsTable layouts s (start {D = D} s.first s.max_scoped s.max_owned)
+HoldsStart D layouts s = HoldsAccount layouts s (start {D = D} s.first s.max_scoped s.max_owned) no_account
 
 -- the store holds some table
 abbrev pub HoldsSome : (D : Type 0) → Layouts → StoreView → Type 0
 HoldsSome D layouts s = (t : Table D) × HoldsTable layouts s t
 
--- the store shows no type, root, scope end or memory
+-- the store shows no type, root, scope end, memory or allocation
 pub record ShowsNothing (s : StoreView) : Type 0 where
+  pub tries : s.tries ≡ 0
   pub types : s.types ≡ []
   pub scoped : s.scoped ≡ []
   pub generation : s.generation ≡ 0
@@ -70,10 +77,10 @@ abbrev pub is_full : StoreView → Bool
 is_full s = nat_le s.max_scoped (length s.scoped) || (s.generation == 2 ^ 64 - 1)
 
 -- what the declaration of a struct answers and leaves
-abbrev pub DeclaresStruct : {D : Type 0} → Layouts → List FieldType → Table D → Result TypeName TypeFault → StoreView → Type 0
-DeclaresStruct layouts fields t (Ok ty) new =
+abbrev pub DeclaresStruct : {D : Type 0} → Layouts → List FieldType → Table D → Account → Result TypeName TypeFault → StoreView → Type 0
+DeclaresStruct layouts fields t a (Ok ty) new =
     Declarable t.types (plain_struct fields)
     × (ty ≡ record { engine = new.engine; number = new.number; index = length t.types })
-    × HoldsTable layouts new (declare (plain_struct fields) t)
-DeclaresStruct layouts fields t (Err type_fault.BadType) new = (¬ Declarable t.types (plain_struct fields)) × HoldsTable layouts new t
-DeclaresStruct layouts fields t (Err type_fault.Memory) new = HoldsTable layouts new t
+    × HoldsAccount layouts new (declare (plain_struct fields) t) a
+DeclaresStruct layouts fields t a (Err type_fault.BadType) new = (¬ Declarable t.types (plain_struct fields)) × HoldsAccount layouts new t a
+DeclaresStruct layouts fields t a (Err type_fault.Memory) new = HoldsAccount layouts new t a

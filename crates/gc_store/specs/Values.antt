@@ -21,6 +21,7 @@ use Rattle.gc_store.specs.declared.root.RawValue.{RawValue}
 use Rattle.gc_store.specs.declared.root.RawValue.TheVariants as raw
 use Rattle.gc_store.specs.declared.root.RootFault.{RootFault}
 use Rattle.gc_store.specs.declared.root.RootFault.TheVariants as fault
+use Rattle.gc_store.specs.Accounts.{Account, HoldsAccount}
 use Rattle.gc_store.specs.Roots.{Names, handle_of, HasField}
 
 -- the handle is live, and the value is what its root names
@@ -96,13 +97,13 @@ IsReadAs s t (reference class (small n)) r = r ≡ raw.Ref class (Some (handle_o
 IsReadAs s t (reference class (at p)) r = r ≡ raw.Ref class (Some (handle_of s (length t.scoped) t.drops))
 
 -- What reading that value of the table answers and leaves. Only a read that makes a root can be refused.
-abbrev pub ReadsValue : {D : Type 0} → Layouts → Table D → Value → Result RawValue RootFault → StoreView → Type 0
-ReadsValue layouts t v (Ok r) new =
-    (makes_root v ≡ true → roots_full t ≡ false) × (IsReadAs new t v r × HoldsTable layouts new (after_read v t))
-ReadsValue layouts t v (Err fault.WrongStore) new = ⊥
-ReadsValue layouts t v (Err fault.Unrooted) new = ⊥
-ReadsValue layouts t v (Err fault.RootsFull) new = (makes_root v ≡ true) × ((roots_full t ≡ true) × HoldsTable layouts new t)
-ReadsValue layouts t v (Err fault.Memory) new = (makes_root v ≡ true) × HoldsTable layouts new t
+abbrev pub ReadsValue : {D : Type 0} → Layouts → Table D → Account → Value → Result RawValue RootFault → StoreView → Type 0
+ReadsValue layouts t a v (Ok r) new =
+    (makes_root v ≡ true → roots_full t ≡ false) × (IsReadAs new t v r × HoldsAccount layouts new (after_read v t) a)
+ReadsValue layouts t a v (Err fault.WrongStore) new = ⊥
+ReadsValue layouts t a v (Err fault.Unrooted) new = ⊥
+ReadsValue layouts t a v (Err fault.RootsFull) new = (makes_root v ≡ true) × ((roots_full t ≡ true) × HoldsAccount layouts new t a)
+ReadsValue layouts t a v (Err fault.Memory) new = (makes_root v ≡ true) × HoldsAccount layouts new t a
 
 -- a value may be written there: the handle is live and names a struct with a mutable field of that index
 pub record CanWrite (D : Type 0) (layouts : Layouts) (s : StoreView) (handle : GcRootIndex) (index : ℕ) (r : RawValue) : Type 0 where
@@ -117,6 +118,6 @@ pub record CanWrite (D : Type 0) (layouts : Layouts) (s : StoreView) (handle : G
   pub can_store : CanStore D layouts s field r
 
 -- the struct that the handle names in a table that the store held has the value there now
-abbrev pub WritesValue : {D : Type 0} → Layouts → StoreView → StoreView → Table D → GcRootIndex → ℕ → RawValue → Type 0
-WritesValue layouts old new t handle index r =
-    (before v : Value) (has : HasField old t handle index before) → RawStands old t r v → HoldsTable layouts new (write has.position index v t)
+abbrev pub WritesValue : {D : Type 0} → Layouts → StoreView → StoreView → Table D → Account → GcRootIndex → ℕ → RawValue → Type 0
+WritesValue layouts old new t a handle index r =
+    (before v : Value) (has : HasField old t handle index before) → RawStands old t r v → HoldsAccount layouts new (write has.position index v t) a

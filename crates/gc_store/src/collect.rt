@@ -2,12 +2,16 @@
 
 ghost use Rattle.std.specs.Prelude.{◌≡◌, true, false};
 ghost use Rattle.gc_heap.specs.Collection.{has_host, IsPartOf};
+ghost use Rattle.gc_model.specs.Allocation.{Limits};
 ghost use Rattle.gc_model.specs.Table.{Table};
 ghost use Rattle.gc_model.specs.Reach.{HasNumber, IsKept};
 ghost use Rattle.gc_model.specs.Holds.{HoldsTable, HoldsKept};
 ghost use Rattle.gc_store.specs.Tracing.{IsCollectable, roots_of};
 ghost use Rattle.gc_store.specs.RootSets.{IsCollected};
-ghost use Rattle.gc_store.specs.Collects.{HoldsNumber, OtherHalf};
+ghost use Rattle.gc_store.specs.Accounts.{Account, HoldsAccount};
+ghost use Rattle.gc_store.specs.Collects.{HoldsNumber};
+ghost use Rattle.gc_store.specs.Expansion.{CollectsStore};
+ghost use Rattle.gc_store.specs.Policy.{policy_state};
 ghost use Rattle.gc_store.specs.Stores.{IsSameStore};
 
 use crate::root_set::RootSet;
@@ -28,6 +32,7 @@ fn collect_in<H: GcHeap, D: Drop>(
     requires collectable { IsCollectable H.KIND types.now.declarations (H.seen heap.old) (roots_of roots.old.entries) (has_host hosts.old.entries) }
     ensures sound { H.sound heap.new }
     ensures collected { IsCollected H.KIND types.now.declarations (H.seen heap.old) (H.seen heap.new) roots.old.entries roots.new.entries (has_host hosts.old.entries) (has_host hosts.new.entries) }
+    ensures last { roots.new.last ≡ (H.seen heap.new).allocated }
     ensures generation { roots.new.generation ≡ roots.old.generation }
     ensures values { IsPartOf hosts.new.entries hosts.old.entries }
 {
@@ -43,7 +48,7 @@ impl<H: GcHeap, D: Drop> Store<H, D> {
     /// it does nothing. It takes no memory, and its time is linear in the roots and what they reach.
     pub fn gc(&mut self)
         ensures kept { (t : Table D) → HoldsTable H.KIND self.old t → HoldsKept H.KIND self.new t }
-        ensures half { self.old.heap.attached ≡ true → OtherHalf H.KIND self.old.heap self.new.heap }
+        ensures collects { (t : Table D) (a : Account) (limits : Limits) → self.old.heap.attached ≡ true → HoldsAccount H.KIND self.old t a → CollectsStore H.KIND (policy_state t a limits) self.new }
         ensures unmade { self.old.heap.attached ≡ false → self.new ≡ self.old }
         ensures same { IsSameStore self.old self.new }
     {

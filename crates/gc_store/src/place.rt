@@ -1,12 +1,13 @@
 //! Making objects of the table.
 
-ghost use Rattle.std.specs.Prelude.{◌≡◌, ◌<◌, ◌^◌, ◌++◌, ◌∷◌, [], List, length, IsSome};
+ghost use Rattle.std.specs.Prelude.{◌≡◌, ◌+◌, ◌-◌, ◌<◌, ◌^◌, min, ◌++◌, ◌∷◌, [], List, length, IsSome};
 ghost use Rattle.gc_types.specs.Declarations.{struct_fields_at};
 ghost use Rattle.gc_model.specs.Sizes.{fields_size};
 ghost use Rattle.gc_model.specs.Allocation.{too_large};
 ghost use Rattle.gc_model.specs.Table.{Table};
 ghost use Rattle.gc_model.specs.Values.{Value, struct};
-ghost use Rattle.gc_model.specs.Holds.{HoldsTable};
+ghost use Rattle.gc_store.specs.Accounts.{Account, HoldsAccount, is_due};
+ghost use Rattle.gc_store.specs.Policy.{policy_state};
 ghost use Rattle.gc_store.specs.Values.{AllStand};
 ghost use Rattle.gc_store.specs.Places.{CanPlace, Places};
 ghost use Rattle.gc_store.specs.Stores.{is_full, IsSameStore};
@@ -46,6 +47,7 @@ pub(crate) fn push_root(roots: &mut RootSet, store_id: StoreId, word: u32) -> Gc
     requires present { 0 < word }
     ensures entries { roots.new.entries ≡ roots.old.entries ++ (record { generation = roots.old.generation; word = word }) ∷ [] }
     ensures generation { roots.new.generation ≡ roots.old.generation }
+    ensures last { roots.new.last ≡ roots.old.last }
     ensures handle { result ≡ record { store_id = store_id; generation = roots.old.generation; slot = RootSlot.Scoped (length roots.old.entries) } }
 {
     let generation = roots.generation();
@@ -64,12 +66,28 @@ impl<H: GcHeap, D: Drop> Store<H, D> {
         self.roots.len() >= self.config.max_scoped as usize || self.roots.generation() == u64::MAX
     }
 
-    /// Places a struct of a declared type with these values, and pushes a scoped root for it. A heap
-    /// without room collects once, and is tried again.
-    /// Refused are, in this order: `TooLarge` where no heap of the kind can hold it; `RootsFull`
-    /// where no further scoped root may be made; `HeapOutOfMemory` where the limiter refused the
-    /// heap's first pages or the heap has no room. Its time is linear in the struct's size, beside
-    /// that of a collection.
+    /// Counts one more allocation, and tells whether it is due for a collection.
+    fn count_allocation(&mut self) -> bool
+        ensures counted { self.new ≡ record self.old { tries = min (self.old.tries + 1) (2 ^ 64 - 1) } }
+        ensures due { result ≡ is_due self.new.alloc_counter self.new.tries }
+    {
+        let _heap = &self.heap;
+        self.tries = self.tries.saturating_add(1);
+        match self.config.alloc_counter {
+            Some(counter) => self.tries % u64::from(counter.get()) == 0,
+            None => false,
+        }
+    }
+
+    /// Places a struct of a declared type with these values, and pushes a scoped root for it. Refused
+    /// are, in this order: `TooLarge` where no heap of the kind can hold it; `RootsFull` where no
+    /// further scoped root may be made; `HeapOutOfMemory` where the limiter refused the heap's first
+    /// pages, or where there is no room and it refused a growth.
+    ///
+    /// The allocation is counted, and each n-th one collects first where the configuration says so. A
+    /// heap without room collects or grows, by `should_collect_first`: it collects, tries again, and
+    /// then grows by what is needed; or it grows, and collects only where that was refused. Its time is
+    /// linear in the struct's size, beside that of a collection and of new memory.
     pub fn place_struct<L: ResourceLimiter>(
         &mut self,
         limiter: &mut L,
@@ -78,7 +96,8 @@ impl<H: GcHeap, D: Drop> Store<H, D> {
     ) -> Result<GcRootIndex, PlaceFault>
         requires { CanPlace D H.KIND self.old ty values.now }
         ensures same { IsSameStore self.old self.new }
-        ensures places { (t : Table D) (vs : List Value) → HoldsTable H.KIND self.old t → AllStand self.old t values.now vs → Places H.KIND (struct ty vs) (L.limits limiter.old) (L.limits limiter.new) t result self.new }
+        ensures places { (t : Table D) (a : Account) (vs : List Value) → HoldsAccount H.KIND self.old t a → AllStand self.old t values.now vs
+            → Places H.KIND self.old.alloc_counter (struct ty vs) (policy_state t a (L.limits limiter.old)) (L.limits limiter.new) result self.new }
     {
         let size = struct_size(&self.types, H::KIND, ty);
         if is_too_large(H::KIND, size) {
@@ -90,6 +109,7 @@ impl<H: GcHeap, D: Drop> Store<H, D> {
         if self.roots.reserve().is_err() {
             return Err(PlaceFault::Memory);
         }
+        let is_due = self.count_allocation();
         let first_pages = self.config.first_pages;
         let alloc = self.alloc;
         match place_in(
@@ -98,8 +118,9 @@ impl<H: GcHeap, D: Drop> Store<H, D> {
             &mut self.roots,
             &mut self.hosts,
             &self.types,
-            first_pages,
             limiter,
+            first_pages,
+            is_due,
             ty,
             values,
         ) {

@@ -5,6 +5,7 @@ ghost use Rattle.gc_model.specs.Table.{Table};
 ghost use Rattle.gc_model.specs.Live.{rooted};
 ghost use Rattle.gc_model.specs.Values.{Value, Reference, small};
 ghost use Rattle.gc_model.specs.Holds.{HoldsTable, Holds, Placing, IsWord};
+ghost use Rattle.gc_store.specs.Accounts.{Account, IsAccount, HoldsAccount};
 ghost use Rattle.gc_store.specs.Roots.{word_of, IsRootWord, IsReference, Names, TellsRoot, is_of_store, HasField, CanRead, FindsRoot};
 ghost use Rattle.gc_store.specs.Handles.{PushesRoot, TellsSame};
 ghost use Rattle.gc_store.specs.Values.{ReadsValue};
@@ -78,7 +79,7 @@ impl<H: GcHeap, D: Drop> Store<H, D> {
     /// Pushes a scoped root for a copy of a word of the store.
     fn push_clone(&mut self, gc_ref: &VMGcRef) -> Result<GcRootIndex, RootFault>
         requires { IsRootWord D H.KIND self.old gc_ref.now }
-        ensures pushes { (t : Table D) (place : Placing) (r : Reference) → Holds H.KIND self.old t place → IsWord place r gc_ref.now → PushesRoot H.KIND t r result self.new }
+        ensures pushes { (t : Table D) (place : Placing) (a : Account) (r : Reference) → Holds H.KIND self.old t place → IsAccount self.old place a → IsWord place r gc_ref.now → PushesRoot H.KIND t a r result self.new }
         ensures err { OnErr result (self.new ≡ self.old) }
         ensures same { IsSameStore self.old self.new }
     {
@@ -94,7 +95,7 @@ impl<H: GcHeap, D: Drop> Store<H, D> {
 
     /// Pushes a scoped root for a 31-bit number. `RootsFull` where no further one may be made.
     pub fn push_i31(&mut self, value: I31) -> Result<GcRootIndex, RootFault>
-        ensures pushes { (t : Table D) → HoldsTable H.KIND self.old t → PushesRoot H.KIND t (small value) result self.new }
+        ensures pushes { (t : Table D) (a : Account) → HoldsAccount H.KIND self.old t a → PushesRoot H.KIND t a (small value) result self.new }
         ensures err { OnErr result (self.new ≡ self.old) }
         ensures same { IsSameStore self.old self.new }
     {
@@ -120,7 +121,7 @@ impl<H: GcHeap, D: Drop> Store<H, D> {
     /// scoped root: `RootsFull` where no further one may be made.
     pub fn read_value(&mut self, handle: GcRootIndex, index: u32) -> Result<RawValue, RootFault>
         requires { CanRead D H.KIND self.old handle index }
-        ensures reads { (t : Table D) (value : Value) → HoldsTable H.KIND self.old t → HasField self.old t handle index value → ReadsValue H.KIND t value result self.new }
+        ensures reads { (t : Table D) (a : Account) (value : Value) → HoldsAccount H.KIND self.old t a → HasField self.old t handle index value → ReadsValue H.KIND t a value result self.new }
         ensures err { OnErr result (self.new ≡ self.old) }
         ensures same { IsSameStore self.old self.new }
     {

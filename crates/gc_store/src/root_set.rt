@@ -28,6 +28,8 @@ pub(crate) struct RootSet {
     generation: u64,
     /// The list that a collection is given; empty between collections.
     list: GcRootsList,
+    /// The bytes that were allocated after the last collection from these roots.
+    last: usize,
 }
 
 impl Model for RootSet {
@@ -40,6 +42,7 @@ impl Model for RootSet {
       entries = s.entries.items;
       generation = s.generation;
       spare = min (vec_capacity s.entries) s.list.spare - vec_len s.entries;
+      last = s.last;
     } };
 
     ghost use Rattle.std.specs.Prelude.{All};
@@ -77,11 +80,13 @@ impl RootSet {
     pub(crate) fn new(alloc: Global) -> RootSet
         ensures entries { result.entries ≡ [] }
         ensures generation { result.generation ≡ 0 }
+        ensures last { result.last ≡ 0 }
     {
         RootSet {
             entries: Vec::new(alloc),
             generation: 0,
             list: GcRootsList::new(alloc),
+            last: 0,
         }
     }
 
@@ -106,10 +111,18 @@ impl RootSet {
         self.generation
     }
 
+    /// The bytes that were allocated after the last collection; 0 before the first.
+    pub(crate) fn last(&self) -> usize
+        ensures { result ≡ self.now.last }
+    {
+        self.last
+    }
+
     /// Makes room for one more root, here and in the list of a collection.
     pub(crate) fn reserve(&mut self) -> Result<(), AllocError>
         ensures entries { self.new.entries ≡ self.old.entries }
         ensures generation { self.new.generation ≡ self.old.generation }
+        ensures last { self.new.last ≡ self.old.last }
         ensures room { OnOk result (0 < self.new.spare) }
     {
         let wanted = self.entries.len() + 1;
@@ -124,6 +137,7 @@ impl RootSet {
         requires present { 0 < word }
         ensures entries { self.new.entries ≡ self.old.entries ++ (record { generation = self.old.generation; word = word }) ∷ [] }
         ensures generation { self.new.generation ≡ self.old.generation }
+        ensures last { self.new.last ≡ self.old.last }
         ensures index { result ≡ length self.old.entries }
     {
         let index = self.entries.len() as u32;
@@ -150,6 +164,7 @@ impl RootSet {
         ensures popped { PopsPast self.old.entries self.new.entries mark result }
         ensures present { IfSome result (λ word. 0 < word) }
         ensures generation { self.new.generation ≡ self.old.generation }
+        ensures last { self.new.last ≡ self.old.last }
     {
         if self.entries.len() <= mark {
             return None;
@@ -165,6 +180,7 @@ impl RootSet {
     pub(crate) fn end_generation(&mut self)
         ensures entries { self.new.entries ≡ self.old.entries }
         ensures generation { self.new.generation ≡ min (self.old.generation + 1) (2 ^ 64 - 1) }
+        ensures last { self.new.last ≡ self.old.last }
     {
         self.generation = self.generation.saturating_add(1);
     }
@@ -180,6 +196,7 @@ impl RootSet {
         requires collectable { IsCollectable H.KIND trace.old.types.now.declarations (H.seen heap.old) (roots_of self.old.entries) (has_host trace.old.host_data_table.now.entries) }
         ensures sound { H.sound heap.new }
         ensures collected { IsCollected H.KIND trace.old.types.now.declarations (H.seen heap.old) (H.seen heap.new) self.old.entries self.new.entries (has_host trace.old.host_data_table.now.entries) (has_host trace.new.host_data_table.now.entries) }
+        ensures last { self.new.last ≡ (H.seen heap.new).allocated }
         ensures generation { self.new.generation ≡ self.old.generation }
         ensures spare { self.new.spare ≡ self.old.spare }
         ensures values { IsPartOf trace.new.host_data_table.now.entries trace.old.host_data_table.now.entries }
@@ -190,5 +207,6 @@ impl RootSet {
         run(heap, &mut self.list, trace);
         take_words(self.entries.as_mut_slice(), &self.list);
         self.list.clear();
+        self.last = heap.allocated_bytes();
     }
 }

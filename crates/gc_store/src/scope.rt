@@ -5,6 +5,7 @@ ghost use Rattle.gc_types.specs.Declarations.{Declaration};
 ghost use Rattle.gc_model.specs.Table.{Table, leave};
 ghost use Rattle.gc_model.specs.Views.{SameHeld};
 ghost use Rattle.gc_model.specs.Holds.{HoldsTable};
+ghost use Rattle.gc_store.specs.Accounts.{Account, HoldsAccount};
 ghost use Rattle.gc_store.specs.Tracing.{IsCollectable, roots_of};
 ghost use Rattle.gc_store.specs.Scopes.{CanDrop};
 ghost use Rattle.gc_store.specs.Stores.{IsSameStore};
@@ -23,6 +24,7 @@ fn drop_roots<H: GcHeap>(heap: &mut H, roots: &mut RootSet, mark: usize)
     ensures keeps { (types : List Declaration) (hosts : ℕ → Bool) → IsCollectable H.KIND types (H.seen heap.old) (roots_of roots.old.entries) hosts → IsCollectable H.KIND types (H.seen heap.new) (roots_of roots.new.entries) hosts }
     ensures entries { roots.new.entries ≡ take mark roots.old.entries }
     ensures generation { roots.new.generation ≡ roots.old.generation }
+    ensures last { roots.new.last ≡ roots.old.last }
 {
     while let Some(word) = roots.pop_past(mark) {
         heap.drop_gc_ref(VMGcRef::from_raw_u32(word).unwrap());
@@ -44,7 +46,7 @@ impl<H: GcHeap, D: Drop> Store<H, D> {
     /// roots that it drops.
     pub fn exit_gc_lifo_scope(&mut self, scope: usize)
         requires { scope ≤ length self.old.scoped }
-        ensures leaves { (t : Table D) → HoldsTable H.KIND self.old t → HoldsTable H.KIND self.new (leave scope t) }
+        ensures leaves { (t : Table D) (a : Account) → HoldsAccount H.KIND self.old t a → HoldsAccount H.KIND self.new (leave scope t) a }
         ensures same { IsSameStore self.old self.new }
     {
         if self.roots.len() <= scope {

@@ -7,7 +7,7 @@ ghost use Rattle.gc_types.specs.declared.value.FieldType.{FieldType};
 ghost use Rattle.gc_model.specs.Fits.{is_built_field};
 ghost use Rattle.gc_model.specs.Table.{Table};
 ghost use Rattle.gc_model.specs.Views.{detached, empty_store};
-ghost use Rattle.gc_model.specs.Holds.{HoldsTable};
+ghost use Rattle.gc_store.specs.Accounts.{Account, HoldsAccount};
 ghost use Rattle.gc_store.specs.Stores.{HoldsStart, HoldsSome, ShowsNothing, DeclaresStruct, IsSameStore, configured};
 
 use crate::config::HeapConfig;
@@ -17,6 +17,7 @@ use gc_heap::GcHeap;
 use gc_tables::ExternRefHostDataTable;
 use gc_types::{FieldType, StructType, TypeFault, Types, VMSharedTypeIndex};
 use std::alloc::{AllocError, Global};
+use std::fmt;
 use std::marker::Model;
 
 /// The heap has no room for an allocation, and got no more. It has what was to be stored.
@@ -24,6 +25,44 @@ use std::marker::Model;
 pub struct GcHeapOutOfMemory<T> {
     pub(crate) inner: T,
     pub(crate) bytes_needed: u64,
+}
+
+impl<T> GcHeapOutOfMemory<T> {
+    /// What was to be stored.
+    pub fn into_inner(self) -> T
+        ensures { result ≡ self.inner }
+    {
+        self.inner
+    }
+
+    /// What was to be stored, and the same fault without it.
+    pub fn take_inner(self) -> (T, GcHeapOutOfMemory<()>)
+        ensures inner { result.0 ≡ self.inner }
+        ensures fault { result.1 ≡ record { inner = tt; bytes_needed = self.bytes_needed } }
+    {
+        let fault = GcHeapOutOfMemory {
+            inner: (),
+            bytes_needed: self.bytes_needed,
+        };
+        (self.inner, fault)
+    }
+
+    /// The bytes that the heap would have to grow by.
+    pub fn bytes_needed(&self) -> u64
+        ensures { result ≡ self.now.bytes_needed }
+    {
+        self.bytes_needed
+    }
+}
+
+impl<T> fmt::Display for GcHeapOutOfMemory<T> {
+    fn fmt<W: fmt::Write>(&self, f: &mut fmt::Formatter<W>) -> fmt::Result {
+        write!(
+            f,
+            "GC heap out of memory: no capacity for allocation of {} bytes",
+            self.bytes_needed
+        )
+    }
 }
 
 /// Why an object is not placed.
@@ -37,7 +76,8 @@ pub enum PlaceFault {
     RootsFull,
     /// The heap has no room, and the limiter refused it more.
     HeapOutOfMemory(GcHeapOutOfMemory<()>),
-    /// Out of memory. Nothing changed, but the heap may have got its first pages.
+    /// Out of memory. The table is as it was; a collection may have run, and the heap may have got its
+    /// first pages and a growth.
     Memory,
 }
 
@@ -51,6 +91,8 @@ pub struct Store<H: GcHeap, D: Drop> {
     pub(crate) hosts: ExternRefHostDataTable<D>,
     pub(crate) types: Types,
     pub(crate) roots: RootSet,
+    /// How many allocations were counted, up to the greatest u64.
+    pub(crate) tries: u64,
 }
 
 impl<H: GcHeap, D: Drop> Model for Store<H, D> {
@@ -66,9 +108,9 @@ impl<H: GcHeap, D: Drop> Model for Store<H, D> {
     ghost use Rattle.gc_heap.specs.Collection.{has_host};
     ghost use Rattle.gc_store.specs.Stores.{store_view, IsSound};
 
-    ghost view = { λ s. store_view s.id s.config s.types.declarations (H.seen s.heap) (map.len s.hosts.entries) s.roots.entries s.roots.generation };
+    ghost view = { λ s. store_view s.id s.config s.types.declarations (H.seen s.heap) (map.len s.hosts.entries) s.roots s.tries };
 
-    ghost invariant = { λ s. IsSound D H.KIND (H.sound s.heap) s.types (has_host s.hosts.entries) (store_view s.id s.config s.types.declarations (H.seen s.heap) (map.len s.hosts.entries) s.roots.entries s.roots.generation) };
+    ghost invariant = { λ s. IsSound D H.KIND (H.sound s.heap) s.types (has_host s.hosts.entries) (store_view s.id s.config s.types.declarations (H.seen s.heap) (map.len s.hosts.entries) s.roots s.tries) };
 }
 
 impl<H: GcHeap, D: Drop> Store<H, D> {
@@ -92,17 +134,19 @@ impl<H: GcHeap, D: Drop> Store<H, D> {
             hosts: ExternRefHostDataTable::new(alloc),
             types: Types::new(alloc, id.engine, id.number),
             roots: RootSet::new(alloc),
+            tries: 0,
         })
     }
 
-    /// Whether nothing was done with the store yet, so that it may be configured.
+    /// Whether nothing was done with the store yet and no allocation was counted, so that it may be
+    /// configured.
     pub fn is_new(&self) -> bool
         ensures { IsTrue result ↔ HoldsStart D H.KIND self.now }
     {
         self.is_untouched()
     }
 
-    /// Whether there is no type, root, generation or memory.
+    /// Whether there is no type, root, generation, memory or allocation.
     fn is_untouched(&self) -> bool
         ensures parts { IsTrue result ↔ ShowsNothing self.now }
         ensures sound { HoldsSome D H.KIND self.now }
@@ -111,6 +155,7 @@ impl<H: GcHeap, D: Drop> Store<H, D> {
             && self.roots.generation() == 0
             && self.types.is_empty()
             && !self.heap.is_attached()
+            && self.tries == 0
     }
 
     /// Gives a new store another configuration.
@@ -139,7 +184,7 @@ impl<H: GcHeap, D: Drop> Store<H, D> {
         requires no_supertype { supertype ≡ None }
         requires open { is_final ≡ false }
         requires built { All (λ (f : FieldType). is_built_field f ≡ true) fields.now }
-        ensures step { (t : Table D) → HoldsTable H.KIND self.old t → DeclaresStruct H.KIND fields.now t result self.new }
+        ensures step { (t : Table D) (a : Account) → HoldsAccount H.KIND self.old t a → DeclaresStruct H.KIND fields.now t a result self.new }
         ensures err { OnErr result (self.new ≡ self.old) }
         ensures same { IsSameStore self.old self.new }
     {

@@ -2,7 +2,7 @@
 
 ghost use Rattle.std.specs.Prelude.{◌≡◌, IsOk};
 ghost use Rattle.gc_model.specs.Table.{Table};
-ghost use Rattle.gc_model.specs.Holds.{HoldsTable};
+ghost use Rattle.gc_store.specs.Accounts.{Account, HoldsAccount};
 ghost use Rattle.gc_store.specs.Values.{CanWrite, WritesValue};
 ghost use Rattle.gc_store.specs.Stores.{IsSameStore};
 
@@ -33,7 +33,7 @@ impl<H: GcHeap, D: Drop> Store<H, D> {
     ) -> Result<(), WriteFault>
         requires { CanWrite D H.KIND self.old handle index value }
         ensures ok { IsOk result }
-        ensures writes { (t : Table D) → HoldsTable H.KIND self.old t → WritesValue H.KIND self.old self.new t handle index value }
+        ensures writes { (t : Table D) (a : Account) → HoldsAccount H.KIND self.old t a → WritesValue H.KIND self.old self.new t a handle index value }
         ensures same { IsSameStore self.old self.new }
     {
         match self.word_of(handle) {

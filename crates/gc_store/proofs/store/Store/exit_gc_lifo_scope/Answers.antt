@@ -13,7 +13,7 @@ use Rattle.gc_store.proofs.store.Store.exit_gc_lifo_scope.Goals.{After-end_gener
 
 -- the store's view, by its parts
 abbrev view : (g : given.Over) (c : After-end_generation g) → StoreView
-view g c = store_view c.self.inside.id c.self.inside.config c.self.inside.types.declarations (g.H.GcHeap.seen c.self.inside.heap) (len c.self.inside.hosts.entries) c.self.inside.roots.entries c.self.inside.roots.generation
+view g c = store_view c.self.inside.id c.self.inside.config c.self.inside.types.declarations (g.H.GcHeap.seen c.self.inside.heap) (len c.self.inside.hosts.entries) c.self.inside.roots c.self.inside.tries
 
 entries_are : (g : given.Over) (c : After-end_generation g) → c.end_generation.new.self.entries ≡ take c.args.scope c.self.inside.roots.entries
 entries_are g c = c.end_generation.ensures.entries ∙ c.drop_roots.ensures.entries

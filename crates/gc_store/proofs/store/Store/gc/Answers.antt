@@ -15,7 +15,7 @@ use Rattle.gc_store.proofs.store.Store.gc.Goals.{After-collect_in}
 -- the store before and after the collection
 abbrev before : (g : Over) → After-collect_in g → StoreView
 before g c =
-    store_view c.self.inside.id c.self.inside.config c.self.inside.types.declarations (g.H.GcHeap.seen c.self.inside.heap) (len c.self.inside.hosts.entries) c.self.inside.roots.entries c.self.inside.roots.generation
+    store_view c.self.inside.id c.self.inside.config c.self.inside.types.declarations (g.H.GcHeap.seen c.self.inside.heap) (len c.self.inside.hosts.entries) c.self.inside.roots c.self.inside.tries
 
 abbrev now : (g : Over) → After-collect_in g → ℕ → StoreView
 now g c generation =

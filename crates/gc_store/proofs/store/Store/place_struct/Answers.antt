@@ -26,7 +26,7 @@ use Rattle.gc_store.proofs.store.Store.place_struct.Goals.{After-is_err, After-p
 
 -- the store's view, by its parts
 abbrev view : (g : given.Over) (c : After-is_err g) → StoreView
-view g c = store_view c.self.inside.id c.self.inside.config c.self.inside.types.declarations (g.H.GcHeap.seen c.self.inside.heap) (len c.self.inside.hosts.entries) c.self.inside.roots.entries c.self.inside.roots.generation
+view g c = store_view c.self.inside.id c.self.inside.config c.self.inside.types.declarations (g.H.GcHeap.seen c.self.inside.heap) (len c.self.inside.hosts.entries) c.self.inside.roots c.self.inside.tries
 
 can : (g : given.Over) (c : After-is_err g) → CanPlace g.row.D.Denot g.H.GcHeap.KIND (view g c) c.args.ty c.args.values.now
 can g c = subst (λ (s : StoreView). CanPlace g.row.D.Denot g.H.GcHeap.KIND s c.args.ty c.args.values.now) (sym c.self.view_is) c.requires

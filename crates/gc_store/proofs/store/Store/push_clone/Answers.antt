@@ -13,7 +13,7 @@ use Rattle.gc_store.proofs.store.Store.push_clone.Goals.{After-is_err, After-pus
 
 -- the store's view, by its parts
 abbrev view : (g : given.Over) (c : After-is_err g) → StoreView
-view g c = store_view c.self.inside.id c.self.inside.config c.self.inside.types.declarations (g.H.GcHeap.seen c.self.inside.heap) (len c.self.inside.hosts.entries) c.self.inside.roots.entries c.self.inside.roots.generation
+view g c = store_view c.self.inside.id c.self.inside.config c.self.inside.types.declarations (g.H.GcHeap.seen c.self.inside.heap) (len c.self.inside.hosts.entries) c.self.inside.roots c.self.inside.tries
 
 root_word : (g : given.Over) (c : After-is_err g) → IsRootWord g.row.D.Denot g.H.GcHeap.KIND (view g c) c.args.gc_ref.now
 root_word g c = subst (λ (s : StoreView). IsRootWord g.row.D.Denot g.H.GcHeap.KIND s c.args.gc_ref.now) (sym c.self.view_is) c.requires

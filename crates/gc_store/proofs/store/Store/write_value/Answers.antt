@@ -21,7 +21,7 @@ use Rattle.gc_store.proofs.store.Store.write_value.Goals.{In-Ok, After-unwrap-gc
 
 -- the store's view, by its parts
 abbrev view : (g : given.Over) (c : In-Ok g) → StoreView
-view g c = store_view c.self.inside.id c.self.inside.config c.self.inside.types.declarations (g.H.GcHeap.seen c.self.inside.heap) (finite.len c.self.inside.hosts.entries) c.self.inside.roots.entries c.self.inside.roots.generation
+view g c = store_view c.self.inside.id c.self.inside.config c.self.inside.types.declarations (g.H.GcHeap.seen c.self.inside.heap) (finite.len c.self.inside.hosts.entries) c.self.inside.roots c.self.inside.tries
 
 can : (g : given.Over) (c : In-Ok g) → CanWrite g.row.D.Denot g.H.GcHeap.KIND (view g c) c.args.handle c.args.index c.args.value
 can g c = subst (λ (s : StoreView). CanWrite g.row.D.Denot g.H.GcHeap.KIND s c.args.handle c.args.index c.args.value) (sym c.self.view_is) c.requires
