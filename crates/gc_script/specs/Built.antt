@@ -74,8 +74,8 @@ is_built (Eq r q) = true
 is_built Enter = true
 is_built Leave = true
 is_built Gc = true
-is_built (Grow n) = false
-is_built Cap = false
+is_built (Grow n) = true
+is_built Cap = true
 
 -- the type of a value that is built
 abbrev pub value_type : ValueWord → ValType

@@ -3,6 +3,7 @@ pub mod State
 pub mod Built
 pub mod Given
 pub mod Steps
+pub mod Policy
 pub mod Named
 pub mod Values
 pub mod Run

@@ -1,4 +1,4 @@
--- The state of a session: an object table, registers and scope marks.
+-- The state of a session: an object table, the account of its store, registers and scope marks.
 use Rattle.std.specs.Prelude.{◌≡◌, ℕ, ◌==◌, List, [], Option, Some, None, if◌then◌else◌}
 use Rattle.std.specs.Int.{w32, w64}
 use Rattle.gc_types.specs.declared.kind.Layouts.{Layouts}
@@ -6,7 +6,7 @@ use Rattle.gc_model.specs.declared.GcClass.{GcClass}
 use Rattle.gc_model.specs.Values.{Value, i32, i64, f32, f64, v128, number_bits}
 use Rattle.gc_model.specs.Table.{Table}
 use Rattle.gc_model.specs.Views.{StoreView}
-use Rattle.gc_model.specs.Holds.{HoldsTable}
+use Rattle.gc_store.specs.Accounts.{Account, HoldsAccount}
 use Rattle.gc_store.specs.Roots.{Names}
 use Rattle.gc_store.specs.declared.root.RawValue.{RawValue}
 use Rattle.gc_store.specs.declared.root.RawValue.TheVariants as raw
@@ -22,10 +22,12 @@ pub data HeldOwned : Type 0 where
   owned : GcClass → ℕ → HeldOwned
   unrooted : HeldOwned
 
--- A table, what each register and each owned register holds that was set, and the scope marks, the oldest
--- first. No command that is built sets an owned register.
+-- A table, the account of its store, what each register and each owned register holds that was set, and the
+-- scope marks, the oldest first. The account is what the policy of growth goes by: a step leaves open how an
+-- allocation, a collection or a growth changes it. No command that is built sets an owned register.
 pub record State : Type 0 where
   pub table : Table ℕ
+  pub account : Account
   pub registers : ℕ → Option Held
   pub owned_registers : ℕ → Option HeldOwned
   pub marks : List ℕ
@@ -34,13 +36,21 @@ pub record State : Type 0 where
 abbrev pub no_registers : ℕ → Option Held
 no_registers d = None
 
--- the state of a new session over that table
-abbrev pub begin : Table ℕ → State
-begin t = record { table = t; registers = no_registers; owned_registers = λ o. None; marks = [] }
+-- the state of a new session over that table, whose store has that account
+abbrev pub begin : Table ℕ → Account → State
+begin t a = record { table = t; account = a; registers = no_registers; owned_registers = λ o. None; marks = [] }
 
 -- the state with that table
 abbrev pub with_table : Table ℕ → State → State
 with_table t s = record s { table = t }
+
+-- the state with that account
+abbrev pub with_account : Account → State → State
+with_account a s = record s { account = a }
+
+-- the state with that table and that account
+abbrev pub with_heap : Table ℕ → Account → State → State
+with_heap t a s = record s { table = t; account = a }
 
 -- the state with these scope marks
 abbrev pub with_marks : List ℕ → State → State
@@ -69,7 +79,7 @@ Stands s t _ _ = ⊥
 
 -- the store and the runner are in that state
 pub record HoldsState (layouts : Layouts) (s : StoreView) (runner : RunnerView) (state : State) : Type 0 where
-  pub table : HoldsTable layouts s state.table
+  pub table : HoldsAccount layouts s state.table state.account
   pub registers : (d : ℕ) → Stands s state.table (register_at runner.registers d) (state.registers d)
   pub no_owned : (o : ℕ) → state.owned_registers o ≡ None
   pub marks : runner.marks ≡ state.marks

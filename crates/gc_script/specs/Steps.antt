@@ -1,5 +1,5 @@
 -- One step of a session.
-use Rattle.std.specs.Prelude.{◌≡◌, ℕ, ◌%◌, ◌^◌, ◌==◌, ◌&&◌, nat_le, Bool, true, false, not, List, [], ◌∷◌, ◌++◌, Option, Some, None, is_none, length, slice_get, if◌then◌else◌, unwrap_or, option_map}
+use Rattle.std.specs.Prelude.{◌≡◌, ℕ, ◌*◌, ◌%◌, ◌^◌, ◌==◌, ◌&&◌, nat_le, Bool, true, false, not, List, [], ◌∷◌, ◌++◌, Option, Some, None, is_none, length, slice_get, if◌then◌else◌, unwrap_or, option_map}
 use Rattle.std.specs.List.{list_any}
 use Rattle.std.specs.Int.{w32, w64, cast_signed}
 use Rattle.gc_types.specs.declared.value.FieldType.{FieldType}
@@ -14,7 +14,7 @@ use Rattle.gc_model.specs.Live.{roots_full}
 use Rattle.gc_model.specs.Reach.{KeepsNumber}
 use Rattle.gc_model.specs.Reads.{makes_root, after_read, same_reference}
 use Rattle.gc_model.specs.Sizes.{object_size}
-use Rattle.gc_model.specs.Allocation.{too_large, Allocates, LacksMemory}
+use Rattle.gc_model.specs.Allocation.{page, too_large, Allocates, LacksMemory, Grows}
 use Rattle.gc_commands.specs.declared.command.Command.{Command}
 use Rattle.gc_commands.specs.declared.command.Command.TheVariants.{Bad, Struct, New, I31, Field, SetField, Eq, Enter, Leave, Gc, Grow, Cap}
 use Rattle.gc_commands.specs.declared.command.Operand.{Operand}
@@ -24,7 +24,8 @@ use Rattle.gc_commands.specs.declared.reply.ReplyValue.{ReplyValue}
 use Rattle.gc_commands.specs.declared.reply.ReplyValue.TheVariants as reply_value
 use Rattle.gc_commands.specs.declared.reply.Refusal.{Refusal}
 use Rattle.gc_commands.specs.declared.reply.Refusal.TheVariants as refusal
-use Rattle.gc_script.specs.State.{State, Held, number, reference, with_table, with_marks, set_register, put_into}
+use Rattle.gc_store.specs.Accounts.{Account}
+use Rattle.gc_script.specs.State.{State, Held, number, reference, with_table, with_account, with_heap, with_marks, set_register, put_into}
 use Rattle.gc_script.specs.Built.{is_built, built_struct}
 use Rattle.gc_script.specs.Given.{given, given_register, given_value, given_values, is_unset, is_gone, named, target, target_values, Target, field_of, is_constant, fits_field}
 
@@ -183,12 +184,19 @@ pub data Declares (d : Declaration) (s : State) (answer : Reply) (s' : State) : 
 
 -- A struct was made and put into a register, or the heap had no room for it.
 pub data MakesNew (layouts : Layouts) (limit : Option ℕ) (d : ℕ) (o : Object ℕ) (s : State) (answer : Reply) (s' : State) : Type 0 where
-  made : (t : Table ℕ) → Allocates layouts limit o s.table t → answer ≡ reply.Done
-      → s' ≡ set_register d (reference class.Any (Some (length s.table.pushes))) (with_table t s)
+  made : (t : Table ℕ) (a : Account) → Allocates layouts limit o s.table t → answer ≡ reply.Done
+      → s' ≡ set_register d (reference class.Any (Some (length s.table.pushes))) (with_heap t a s)
       → MakesNew layouts limit d o s answer s'
-  lacks : (t : Table ℕ) → LacksMemory layouts limit o s.table t → answer ≡ reply.Refused refusal.GcHeapOutOfMemory
-      → s' ≡ with_table t s
+  lacks : (t : Table ℕ) (a : Account) → LacksMemory layouts limit o s.table t → answer ≡ reply.Refused refusal.GcHeapOutOfMemory
+      → s' ≡ with_heap t a s
       → MakesNew layouts limit d o s answer s'
+
+-- The heap grew by so many bytes, or was refused to.
+pub data GrowsHeap (limit : Option ℕ) (bytes : ℕ) (s : State) (answer : Reply) (s' : State) : Type 0 where
+  grown : (t : Table ℕ) (a : Account) → Grows limit bytes s.table true t → answer ≡ reply.Done → s' ≡ with_heap t a s
+      → GrowsHeap limit bytes s answer s'
+  refused : (t : Table ℕ) (a : Account) → Grows limit bytes s.table false t → answer ≡ reply.Refused refusal.GcHeapGrowthFailed → s' ≡ with_heap t a s
+      → GrowsHeap limit bytes s answer s'
 
 -- a 31-bit number was put into a register
 abbrev pub MakesSmall : ℕ → ℕ → State → State → Type 0
@@ -241,9 +249,9 @@ Does layouts limit s (SetField r i v) answer s' = (answer ≡ reply.Done) × Set
 Does layouts limit s (Eq r q) answer s' = Compares r q s answer × (s' ≡ s)
 Does layouts limit s Enter answer s' = (answer ≡ reply.Done) × (s' ≡ with_marks (s.marks ++ length s.table.scoped ∷ []) s)
 Does layouts limit s Leave answer s' = (answer ≡ reply.Done) × Leaves s s'
-Does layouts limit s Gc answer s' = Keeps layouts s answer × (s' ≡ s)
-Does layouts limit s (Grow n) answer s' = ⊥
-Does layouts limit s Cap answer s' = ⊥
+Does layouts limit s Gc answer s' = Keeps layouts s answer × ((a : Account) × (s' ≡ with_account a s))
+Does layouts limit s (Grow n) answer s' = GrowsHeap limit n s answer s'
+Does layouts limit s Cap answer s' = (answer ≡ reply.Capacity (page * s.table.pages)) × (s' ≡ s)
 
 -- a refused command replies its refusal and changes nothing; any other does what it says
 abbrev pub Answers : Layouts → Option ℕ → State → Command → Option Refusal → Reply → State → Type 0

@@ -7,6 +7,7 @@
 
 mod built;
 mod fields;
+mod growth;
 pub mod laws;
 mod make;
 mod registers;

@@ -55,7 +55,7 @@ impl Runner {
         values: &[RawValue],
     ) -> Result<Reply, RunError>
         requires { CanPlace ℕ H.KIND store.old ty values.now }
-        ensures runs { (s : State) (vs : List Operand) → HoldsState H.KIND store.old self.old s → AllStand store.old s.table values.now (given_values s vs) → RunsOn H.KIND (L.limits limiter.old) (L.limits limiter.new) s (Command.New d ty vs) (heap_tests H.KIND s ty vs) result store.new self.new }
+        ensures runs { (s : State) (vs : List Operand) → HoldsState H.KIND store.old self.old s → AllStand store.old s.table values.now (given_values s vs) → RunsOn H.KIND store.old.alloc_counter (L.limits limiter.old) (L.limits limiter.new) s (Command.New d ty vs) (heap_tests H.KIND s ty vs) result store.new self.new }
         ensures same { IsSameStore store.old store.new }
     {
         if self.registers.make_room(d).is_err() {
@@ -85,7 +85,7 @@ impl Runner {
         t: u32,
         operands: &[Operand],
     ) -> Result<Reply, RunError>
-        ensures runs { (s : State) → HoldsState H.KIND store.old self.old s → RunsOne H.KIND (L.limits limiter.old) (L.limits limiter.new) s (Command.New d t operands.now) result store.new self.new }
+        ensures runs { (s : State) → HoldsState H.KIND store.old self.old s → RunsOne H.KIND store.old.alloc_counter (L.limits limiter.old) (L.limits limiter.new) s (Command.New d t operands.now) result store.new self.new }
         ensures same { IsSameStore store.old store.new }
     {
         if !are_built_operands(operands) {

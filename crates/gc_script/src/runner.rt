@@ -52,23 +52,21 @@ impl Runner {
     }
 
     /// Runs one command. What it refuses is a reply; an error is want of memory, which leaves the
-    /// table as it was or with its heap's first pages.
+    /// table as it was, but that `new` and `grow` may have collected and got the heap pages.
     /// The time is linear in the command's length and in the number of the register that it sets, beside
-    /// that of a collection, and for `leave` in the roots that it drops.
+    /// that of a collection and of new memory, and for `leave` in the roots that it drops.
     pub fn run_one<H: GcHeap, L: ResourceLimiter>(
         &mut self,
         store: &mut Store<H, u64>,
         limiter: &mut L,
         command: &Command,
     ) -> Result<Reply, RunError>
-        ensures runs { (s : State) → HoldsState H.KIND store.old self.old s → RunsOne H.KIND (L.limits limiter.old) (L.limits limiter.new) s command.now result store.new self.new }
+        ensures runs { (s : State) → HoldsState H.KIND store.old self.old s → RunsOne H.KIND store.old.alloc_counter (L.limits limiter.old) (L.limits limiter.new) s command.now result store.new self.new }
         ensures kept { command.now ≡ Command.Gc → OnOk result ((s : State) → HoldsState H.KIND store.old self.old s → HoldsKept H.KIND store.new s.table) }
         ensures same { IsSameStore store.old store.new }
     {
         match command {
-            Command::Bad | Command::Grow { .. } | Command::Cap => Ok(Reply::Refused(
-                Refusal::BadLine,
-            )),
+            Command::Bad => Ok(Reply::Refused(Refusal::BadLine)),
             Command::Struct {
                 is_final,
                 supertype,
@@ -84,6 +82,8 @@ impl Runner {
             Command::Enter => self.enter(store),
             Command::Leave => Ok(self.leave(store)),
             Command::Gc => Ok(self.collect(store)),
+            Command::Grow { n } => self.grow(store, limiter, *n),
+            Command::Cap => Ok(self.capacity(store)),
         }
     }
 }

@@ -2,7 +2,7 @@
 
 ghost use Rattle.std.specs.Prelude.{◌≡◌, ℕ, List, IfOk, OnOk, OnErr};
 ghost use Rattle.gc_model.specs.Table.{Table};
-ghost use Rattle.gc_model.specs.Holds.{HoldsTable};
+ghost use Rattle.gc_store.specs.Accounts.{Account, HoldsAccount};
 ghost use Rattle.gc_store.specs.Stores.{IsSameStore};
 ghost use Rattle.gc_script.specs.State.{State, HoldsState, begin};
 ghost use Rattle.gc_script.specs.Run.{WantsMemory};
@@ -22,8 +22,8 @@ fn run_next<H: GcHeap, L: ResourceLimiter>(
     command: &Command,
     replies: &mut Vec<Reply>,
 ) -> Result<(), RunError>
-    ensures ran { OnOk result ((s : State) → HoldsState H.KIND store.old runner.old s → RanNext H.KIND (L.limits limiter.old) (L.limits limiter.new) s command.now replies.old.items replies.new.items store.new runner.new) }
-    ensures wants { OnErr result ((s : State) → HoldsState H.KIND store.old runner.old s → WantsMemory H.KIND (L.limits limiter.old).limit s store.new runner.new × (L.limits limiter.new ≡ L.limits limiter.old)) }
+    ensures ran { OnOk result ((s : State) → HoldsState H.KIND store.old runner.old s → RanNext H.KIND store.old.alloc_counter (L.limits limiter.old) (L.limits limiter.new) s command.now replies.old.items replies.new.items store.new runner.new) }
+    ensures wants { OnErr result ((s : State) → HoldsState H.KIND store.old runner.old s → WantsMemory H.KIND store.old.alloc_counter (L.limits limiter.old) (L.limits limiter.new) s command.now store.new runner.new) }
     ensures same { IsSameStore store.old store.new }
 {
     if replies.reserve(1).is_err() {
@@ -37,7 +37,8 @@ fn run_next<H: GcHeap, L: ResourceLimiter>(
 }
 
 /// Runs the commands one after the other, with empty registers, and answers their replies. After
-/// `OutOfMemory` the store stands as after the commands before, or with its heap's first pages.
+/// `OutOfMemory` the store stands as after the commands before, but that the one which wanted memory may
+/// have collected and got the heap pages.
 /// The time is that of its commands.
 pub fn run_script<H: GcHeap, L: ResourceLimiter>(
     alloc: Global,
@@ -45,8 +46,8 @@ pub fn run_script<H: GcHeap, L: ResourceLimiter>(
     limiter: &mut L,
     commands: &[Command],
 ) -> Result<Vec<Reply>, RunError>
-    ensures ended { IfOk result (λ replies. (t : Table ℕ) → HoldsTable H.KIND store.old t → EndedScript H.KIND (L.limits limiter.old) (L.limits limiter.new) (begin t) commands.now replies.items store.new) }
-    ensures stopped { OnErr result ((t : Table ℕ) → HoldsTable H.KIND store.old t → StoppedScript H.KIND (L.limits limiter.old) (L.limits limiter.new) (begin t) commands.now store.new) }
+    ensures ended { IfOk result (λ replies. (t : Table ℕ) (a : Account) → HoldsAccount H.KIND store.old t a → EndedScript H.KIND store.old.alloc_counter (L.limits limiter.old) (L.limits limiter.new) (begin t a) commands.now replies.items store.new) }
+    ensures stopped { OnErr result ((t : Table ℕ) (a : Account) → HoldsAccount H.KIND store.old t a → StoppedScript H.KIND store.old.alloc_counter (L.limits limiter.old) (L.limits limiter.new) (begin t a) commands.now store.new) }
     ensures same { IsSameStore store.old store.new }
 {
     let mut runner = Runner::new(alloc);

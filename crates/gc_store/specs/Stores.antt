@@ -67,10 +67,11 @@ pub record ShowsNothing (s : StoreView) : Type 0 where
   pub generation : s.generation ≡ 0
   pub attached : s.heap.attached ≡ false
 
--- the store has the same id
+-- the store has the same id, and collects at every so many allocations as before
 pub record IsSameStore (old new : StoreView) : Type 0 where
   pub engine : new.engine ≡ old.engine
   pub number : new.number ≡ old.number
+  pub counter : new.alloc_counter ≡ old.alloc_counter
 
 -- no further scoped root may be made
 abbrev pub is_full : StoreView → Bool
