@@ -24,7 +24,7 @@ policy_of s limits = policy_state s.table s.account limits
 pub record IsPolicyOf (p : PolicyState ℕ) (s : State) (limits : Limits) : Type 0 where
   pub table : s.table ≡ p.table
   pub account : s.account ≡ p.account
-  pub limits : limits ≡ p.limits
+  pub limits_are : limits ≡ p.limits
 
 -- what the policy goes by once an object was made
 abbrev pub with_made : Object ℕ → PolicyState ℕ → PolicyState ℕ
@@ -47,7 +47,7 @@ pub data GrowsBy (layouts : Layouts) (bytes : ℕ) (s : State) (limits : Limits)
 -- nothing was asked of the limiter, and the account is as before
 pub record AsksNothing (s : State) (limits : Limits) (s' : State) (limits' : Limits) : Type 0 where
   pub account : s'.account ≡ s.account
-  pub limits : limits' ≡ limits
+  pub same_limits : limits' ≡ limits
 
 -- a command whose tests all passed follows the policy
 abbrev pub FollowsDoing : Layouts → Option ℕ → State → Limits → Command → Reply → State → Limits → Type 0
