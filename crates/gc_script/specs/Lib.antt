@@ -11,3 +11,4 @@ pub mod Lines
 pub mod Session
 pub mod Script
 pub mod Rows
+pub mod Laws
