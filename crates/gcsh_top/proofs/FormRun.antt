@@ -4,52 +4,56 @@ use Rattle.std.specs.Prelude.{◌⊎◌}
 use Rattle.std.specs.Io.KnownBytes.{Appends, Keeps}
 use Rattle.std.proofs.KnownBytes.{Appends-kept}
 use Rattle.gc_types.specs.declared.kind.Layouts.{Layouts}
-use Rattle.gc_model.specs.Table.{Table, start, usual_roots}
+use Rattle.gc_model.specs.Table.{start, usual_roots}
 use Rattle.gc_model.specs.Views.{StoreView}
-use Rattle.gc_model.specs.Holds.{HoldsTable}
-use Rattle.gc_model.proofs.HoldsStart.{nowhere, holds_untouched}
+use Rattle.gc_model.specs.Allocation.{Limits}
 use Rattle.gc_store.specs.declared.config.HeapConfig.{HeapConfig}
-use Rattle.gc_store.specs.Stores.{HoldsStart, configured}
-use Rattle.gc_store.proofs.Sound.{untouched_configured}
+use Rattle.gc_store.specs.Accounts.{HoldsAccount, no_account}
+use Rattle.gc_store.specs.Limiters.{fresh_limits}
+use Rattle.gc_store.specs.Stores.{HoldsStart}
 use Rattle.gc_script.specs.Slots.{RunnerView, new_runner}
-use Rattle.gc_script.specs.State.{State, HoldsState, begin}
+use Rattle.gc_script.specs.State.{HoldsState, begin}
 use Rattle.gc_script.proofs.StandLemmas.{begins}
 use Rattle.gc_script.specs.Session.{SessionFrom}
 use Rattle.gcsh_top.specs.declared.words.Form.{Form}
 use Rattle.gc_script.specs.Lines.{lines}
-use Rattle.gcsh_top.specs.Runs.{RanLines, RanForm, StoppedLines, StoppedForm, in_lines, IsReady}
+use Rattle.gcsh_top.specs.Runs.{RanLines, RanForm, StoppedLines, StoppedForm, in_lines, IsReady, first_table}
 
 -- a store that was configured holds the empty table with the form's numbers
-pub started : (layouts : Layouts) (config : HeapConfig) (old new : StoreView) (form : Form) → HoldsStart ℕ layouts old → new ≡ configured config old → config.first_pages ≡ form.first → config.max_scoped ≡ usual_roots → config.max_owned ≡ usual_roots → IsReady layouts form new
-started layouts config old new form holds is firsts scopeds owneds =
-    let untouched = untouched_configured ℕ layouts config old holds in
-    let configured_start : HoldsTable {D = ℕ} layouts (configured config old) (start config.first_pages config.max_scoped config.max_owned) = (nowhere, holds_untouched ℕ layouts (configured config old) untouched) in
-    subst (λ (n : ℕ). HoldsTable {D = ℕ} layouts new (start form.first usual_roots n)) owneds
-    (subst (λ (n : ℕ). HoldsTable {D = ℕ} layouts new (start form.first n config.max_owned)) scopeds
-    (subst (λ (n : ℕ). HoldsTable {D = ℕ} layouts new (start n config.max_scoped config.max_owned)) firsts
-    (subst (λ (s : StoreView). HoldsTable {D = ℕ} layouts s (start config.first_pages config.max_scoped config.max_owned)) (sym is) configured_start)))
+pub started : (layouts : Layouts) (config : HeapConfig) (new : StoreView) (form : Form) → HoldsStart ℕ layouts new → new.first ≡ config.first_pages → new.max_scoped ≡ config.max_scoped → new.max_owned ≡ config.max_owned → new.alloc_counter ≡ None
+    → config.first_pages ≡ form.first → config.max_scoped ≡ usual_roots → config.max_owned ≡ usual_roots → IsReady layouts form new
+started layouts config new form holds is_first is_scoped is_owned none firsts scopeds owneds = record {
+  holds =
+      subst (λ (n : ℕ). HoldsAccount {D = ℕ} layouts new (start form.first usual_roots n) no_account) (is_owned ∙ owneds)
+      (subst (λ (n : ℕ). HoldsAccount {D = ℕ} layouts new (start form.first n new.max_owned) no_account) (is_scoped ∙ scopeds)
+      (subst (λ (n : ℕ). HoldsAccount {D = ℕ} layouts new (start n new.max_scoped new.max_owned) no_account) (is_first ∙ firsts) holds));
+  no_counter = none;
+}
 
 -- such a store, with no register set, is in the state at the beginning
-pub ready_state : (layouts : Layouts) (form : Form) (store : StoreView) (slots : RunnerView) → IsReady layouts form store → slots ≡ new_runner → HoldsState layouts store slots (begin (start form.first usual_roots usual_roots))
-ready_state layouts form store slots ready none = begins layouts store slots (start form.first usual_roots usual_roots) ready none
+pub ready_state : (layouts : Layouts) (form : Form) (store : StoreView) (slots : RunnerView) → IsReady layouts form store → slots ≡ new_runner → HoldsState layouts store slots (begin (first_table form) no_account)
+ready_state layouts form store slots ready none = begins layouts store slots (first_table form) no_account ready.holds none
 
 -- lines that stopped under the form's limit
-pub stopped_form : (layouts : Layouts) (form : Form) (limit : Option ℕ) (input : List ℕ) (store : StoreView) (slots : RunnerView) (a b : Option (List ℕ)) → limit ≡ Some form.most → StoppedLines layouts limit (begin (start form.first usual_roots usual_roots)) input store slots a b → StoppedForm layouts form input a b store
-stopped_form layouts form limit input store slots a b is stopped =
-    in_lines slots (subst (λ (l : Option ℕ). StoppedLines layouts l (begin (start form.first usual_roots usual_roots)) input store slots a b) is stopped)
+pub stopped_form : (layouts : Layouts) (form : Form) (counter : Option ℕ) (limits : Limits) (input : List ℕ) (store : StoreView) (slots : RunnerView) (a b : Option (List ℕ)) → counter ≡ None → limits ≡ fresh_limits (Some form.most) → StoppedLines layouts counter limits (begin (first_table form) no_account) input store slots a b → StoppedForm layouts form input a b store
+stopped_form layouts form counter limits input store slots a b none is stopped =
+    in_lines slots (subst (λ (c : Option ℕ). StoppedLines layouts c (fresh_limits (Some form.most)) (begin (first_table form) no_account) input store slots a b) none
+    (subst (λ (l : Limits). StoppedLines layouts counter l (begin (first_table form) no_account) input store slots a b) is stopped))
 
 -- what was run is the run of the form
-pub ran_form : (layouts : Layouts) (form : Form) (limit : Option ℕ) (input : List ℕ) (store : StoreView) (slots : RunnerView) (a b c : Option (List ℕ)) → limit ≡ Some form.most → RanLines layouts limit (begin (start form.first usual_roots usual_roots)) input store slots a b → Keeps b c → RanForm layouts form input a c store
-ran_form layouts form limit input store slots a b c is ran kept = record {
+pub ran_form : (layouts : Layouts) (form : Form) (counter : Option ℕ) (limits limits' : Limits) (input : List ℕ) (store : StoreView) (slots : RunnerView) (a b c : Option (List ℕ)) → counter ≡ None → limits ≡ fresh_limits (Some form.most) → RanLines layouts counter limits limits' (begin (first_table form) no_account) input store slots a b → Keeps b c → RanForm layouts form input a c store
+ran_form layouts form counter limits limits' input store slots a b c none is ran kept = record {
   output = ran.output;
   written = Appends-kept a b c ran.output ran.replied kept;
   table = ran.after.table;
   session = record {
     after = ran.after;
-    from_start = subst (λ (l : Option ℕ). SessionFrom layouts l (begin (start form.first usual_roots usual_roots)) (lines input) ran.output ran.after) is ran.session;
+    limits = limits';
+    from_start = subst (λ (x : Option ℕ). SessionFrom layouts x (fresh_limits (Some form.most)) (begin (first_table form) no_account) (lines input) ran.output ran.after limits') none
+        (subst (λ (l : Limits). SessionFrom layouts counter l (begin (first_table form) no_account) (lines input) ran.output ran.after limits') is ran.session);
     table_is = refl;
   };
-  holds = ran.holds.table;
+  holds = (ran.holds.table.place, ran.holds.table.holds);
   kept = ran.kept;
 }
 

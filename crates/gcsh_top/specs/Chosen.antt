@@ -2,7 +2,7 @@
 use Rattle.std.specs.Prelude.{◌≡◌, ℕ}
 use Rattle.gc_types.specs.declared.kind.Layouts.TheVariants.{Null, Copying}
 use Rattle.gc_model.specs.Views.{StoreView}
-use Rattle.gc_store.specs.Stores.{HoldsStart, IsSameStore}
+use Rattle.gc_store.specs.Stores.{HoldsStart}
 use Rattle.gcsh_top.specs.declared.words.Collector.{Collector}
 use Rattle.gcsh_top.specs.declared.words.Collector.TheVariants as collector
 use Rattle.gcsh_top.specs.declared.stores.Stores.{Stores}
@@ -24,7 +24,12 @@ OthersStay collector.Copying old new = new.null ≡ old.null
 OthersStay collector.Counting old new = new ≡ old
 OthersStay collector.Null old new = new.copying ≡ old.copying
 
+-- the store has its id still
+pub record HasSameId (old new : StoreView) : Type 0 where
+  pub engine : new.engine ≡ old.engine
+  pub number : new.number ≡ old.number
+
 -- each store has its id still
 pub record AreSameStores (old new : Stores) : Type 0 where
-  pub copying : IsSameStore old.copying new.copying
-  pub null : IsSameStore old.null new.null
+  pub copying : HasSameId old.copying new.copying
+  pub null : HasSameId old.null new.null

@@ -54,8 +54,8 @@ fn run_line<H: GcHeap, L: ResourceLimiter, K: Sink>(
     text: &mut String,
     sink: &mut K,
 ) -> Result<(), LineFault>
-    ensures ran { OnOk result ((s : State) → HoldsState H.KIND store.old runner.old s → RanLine H.KIND (L.limits limiter.old) (L.limits limiter.new) s line.now store.new runner.new (K.held sink.old) (K.held sink.new)) }
-    ensures broke_off { OnErr result ((s : State) → HoldsState H.KIND store.old runner.old s → BrokeOff H.KIND (L.limits limiter.old).limit s line.now store.new runner.new (K.held sink.old) (K.held sink.new)) }
+    ensures ran { OnOk result ((s : State) → HoldsState H.KIND store.old runner.old s → RanLine H.KIND store.old.alloc_counter (L.limits limiter.old) (L.limits limiter.new) s line.now store.new runner.new (K.held sink.old) (K.held sink.new)) }
+    ensures broke_off { OnErr result ((s : State) → HoldsState H.KIND store.old runner.old s → BrokeOff H.KIND store.old.alloc_counter (L.limits limiter.old) s line.now store.new runner.new (K.held sink.old) (K.held sink.new)) }
     ensures failed { IsErrOf result LineFault.Sink → Rose (K.faults sink.old) (K.faults sink.new) }
     ensures faults { K.faults sink.old ≤ K.faults sink.new }
     ensures same { IsSameStore store.old store.new }
@@ -78,8 +78,8 @@ pub(crate) fn run_lines<H: GcHeap, L: ResourceLimiter, K: Sink>(
     input: &[u8],
     sink: &mut K,
 ) -> Result<(), LineFault>
-    ensures ran { OnOk result ((s : State) → HoldsState H.KIND store.old runner.old s → RanLines H.KIND (L.limits limiter.old).limit s input.now store.new runner.new (K.held sink.old) (K.held sink.new)) }
-    ensures stopped { OnErr result ((s : State) → HoldsState H.KIND store.old runner.old s → StoppedLines H.KIND (L.limits limiter.old).limit s input.now store.new runner.new (K.held sink.old) (K.held sink.new)) }
+    ensures ran { OnOk result ((s : State) → HoldsState H.KIND store.old runner.old s → RanLines H.KIND store.old.alloc_counter (L.limits limiter.old) (L.limits limiter.new) s input.now store.new runner.new (K.held sink.old) (K.held sink.new)) }
+    ensures stopped { OnErr result ((s : State) → HoldsState H.KIND store.old runner.old s → StoppedLines H.KIND store.old.alloc_counter (L.limits limiter.old) s input.now store.new runner.new (K.held sink.old) (K.held sink.new)) }
     ensures failed { IsErrOf result LineFault.Sink → Rose (K.faults sink.old) (K.faults sink.new) }
     ensures faults { K.faults sink.old ≤ K.faults sink.new }
     ensures same { IsSameStore store.old store.new }

@@ -1,10 +1,10 @@
 //! The top call of the program.
 
 ghost use Rattle.std.specs.Prelude.{◌≡◌, ◌≤◌, ◌+◌, ◌↔◌, ◌⊎◌, ℕ, IsTrue, map, string_bytes};
-ghost use Rattle.gc_store.specs.Stores.{HoldsStart, IsSameStore};
+ghost use Rattle.gc_store.specs.Stores.{HoldsStart};
 ghost use Rattle.gcsh_top.specs.declared.words.Form.{Form};
 ghost use Rattle.gc_model.specs.Allocation.{max_pages, Rose};
-ghost use Rattle.gcsh_top.specs.Chosen.{AreNew, OthersStay, AreSameStores};
+ghost use Rattle.gcsh_top.specs.Chosen.{AreNew, OthersStay, HasSameId, AreSameStores};
 ghost use Rattle.gcsh_top.specs.Ends.{Gave};
 ghost use Rattle.gcsh_top.specs.Input.{max_input};
 ghost use Rattle.gcsh_top.specs.Runs.{BrokenForm, Completed, CompletedForm, IsReady, IsShort, RanForm, Stopped, StoppedForm, Unrun};
@@ -99,7 +99,7 @@ fn run_on<H: GcHeap, S: Source, K: Sink>(
     ensures unrun { (result ≡ 2) ⊎ (result ≡ 4) → IsReady H.KIND form store.new }
     ensures stopped { (result ≡ 3) ⊎ (result ≡ 5) → BrokenForm H.KIND form (S.left source.old) (S.left source.new) (K.held sink.old) (K.held sink.new) store.new }
     ensures unwritten { (result ≡ 2) ⊎ (result ≡ 4) → sink.new ≡ sink.old }
-    ensures same { IsSameStore store.old store.new }
+    ensures same { HasSameId store.old store.new }
 {
     configure(form, store);
     let input = match read_all(alloc, source) {
@@ -116,7 +116,7 @@ fn configure<H: GcHeap>(form: Form, store: &mut Store<H, u64>)
     requires first { form.first ≤ max_pages }
     requires start { HoldsStart ℕ H.KIND store.old }
     ensures ready { IsReady H.KIND form store.new }
-    ensures same { IsSameStore store.old store.new }
+    ensures same { HasSameId store.old store.new }
 {
     let Some(config) = HeapConfig::with_pages(form.first) else {
         unreachable!()
@@ -138,7 +138,7 @@ fn run_form<H: GcHeap, K: Sink>(
     ensures flushed { result ≡ 0 → IsTrue (K.flushed sink.new) }
     ensures stopped { (result ≡ 0 → ⊥) → StoppedForm H.KIND form input.now (K.held sink.old) (K.held sink.new) store.new }
     ensures write_fault { result ≡ 3 → Rose (K.faults sink.old) (K.faults sink.new) }
-    ensures same { IsSameStore store.old store.new }
+    ensures same { HasSameId store.old store.new }
 {
     let mut limiter = PageLimit::new(form.most);
     let mut runner = Runner::new(alloc);
