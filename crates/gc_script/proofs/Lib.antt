@@ -22,3 +22,4 @@ pub mod ReadLemmas
 pub mod FieldLemmas
 pub mod RowLemmas
 pub mod KeptLemmas
+pub mod LimitLaws

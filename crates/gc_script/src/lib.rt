@@ -9,6 +9,7 @@ mod built;
 mod fields;
 mod growth;
 pub mod laws;
+pub mod limit_laws;
 mod make;
 mod registers;
 pub mod runner;
