@@ -34,3 +34,5 @@ pub mod PlacedValues
 pub mod Placing
 pub mod GoneRoots
 pub mod OtherHalves
+pub mod HeldBlocks
+pub mod AccountLemmas
