@@ -143,6 +143,7 @@ impl<H: GcHeap, D: Drop> Store<H, D> {
     pub fn is_new(&self) -> bool
         ensures { IsTrue result ↔ HoldsStart D H.KIND self.now }
     {
+        let _heap = &self.heap;
         self.is_untouched()
     }
 
