@@ -33,4 +33,5 @@ pub mod MadeHeaps
 pub mod PlacedValues
 pub mod Placing
 pub mod GoneRoots
-pub mod OtherHalves
+pub mod HeldBlocks
+pub mod AccountLemmas

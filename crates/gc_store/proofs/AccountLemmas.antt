@@ -1,0 +1,142 @@
+-- What a collection leaves of a store's table and account, and room by the account.
+use Rattle.std.proofs.Common.{◌≡◌, ℕ, ◌+◌, Bool, true, not, if◌then◌else◌, ◌==◌, List, Some, refl, sym, ap, ◌∙◌, subst, arith}
+use Rattle.gc_types.specs.declared.kind.Layouts.{Layouts}
+use Rattle.gc_types.specs.declared.kind.Layouts.TheVariants.{Null, Counting, Copying}
+use Rattle.gc_types.specs.Declarations.{Declaration}
+use Rattle.gc_model.specs.declared.RootEntry.{RootEntry}
+use Rattle.gc_model.specs.Table.{Table}
+use Rattle.gc_model.specs.Reach.{AreAll, IsKept}
+use Rattle.gc_model.specs.Allocation.{Limits}
+use Rattle.gc_model.specs.Views.{StoreView, HeapView}
+use Rattle.gc_model.specs.Holds.{Placing, Holds, HoldsTable, HoldsKept}
+use Rattle.gc_heap.specs.Content.{IsHeap, total, block_size}
+use Rattle.gc_heap.specs.Heap.{HasRoom}
+use Rattle.gc_store.specs.Accounts.{Account, IsAccount, HoldsAccount}
+use Rattle.gc_store.specs.Collects.{IsPlaced}
+use Rattle.gc_store.specs.Policy.{PolicyState, policy_state, allocated_bytes, FitsNow, LacksNow, turned, CollectsTable}
+use Rattle.gc_store.specs.RootSets.{IsCollected}
+use Rattle.gc_store.specs.Tracing.{IsCollectable, roots_of}
+use Rattle.gc_store.proofs.CollectedStore.{collected_store}
+use Rattle.gc_store.proofs.HeldBlocks.{held_blocks, no_capacity}
+use Rattle.gc_store.proofs.HeldNumber.{positions, are_placed, are_kept}
+
+-- an account goes by the placing and by three numbers of the store
+pub account_kept : (s s' : StoreView) (place : Placing) (a : Account) → s'.last ≡ s.last → s'.tries ≡ s.tries → s'.heap.needs_gc ≡ s.heap.needs_gc → IsAccount s place a → IsAccount s' place a
+account_kept s s' place a last tries upper is = record { held = is.held; last = last ∙ is.last; tries = tries ∙ is.tries; upper = upper ∙ is.upper }
+
+-- a table goes by none of the numbers of an account
+pub holds_counted : {D : Type 0} (layouts : Layouts) (s : StoreView) (t : Table D) (place : Placing) (last tries : ℕ) → Holds layouts s t place → Holds layouts (record s { last = last; tries = tries }) t place
+holds_counted layouts s t place last tries holds = record {
+  types = holds.types;
+  numbers = record {
+    generation = holds.numbers.generation;
+    first = holds.numbers.first;
+    max_scoped = holds.numbers.max_scoped;
+    max_owned = holds.numbers.max_owned;
+    made = holds.numbers.made;
+    capacity = holds.numbers.capacity;
+    no_pages = holds.numbers.no_pages;
+    no_objects = holds.numbers.no_objects;
+    first_fits = holds.numbers.first_fits;
+    few_roots = holds.numbers.few_roots;
+    scoped_within = holds.numbers.scoped_within;
+    drops_within = holds.numbers.drops_within;
+  };
+  objects = holds.objects;
+  by_kind = holds.by_kind;
+  scoped = holds.scoped;
+  pushes = holds.pushes;
+  no_hosts = holds.no_hosts;
+  nothing_else = holds.nothing_else;
+  only_built = holds.only_built;
+}
+
+-- The bytes allocated in a heap are those of the positions it holds.
+pub allocated_is : {D : Type 0} (layouts : Layouts) (s : StoreView) (t : Table D) (place : Placing) (held : List ℕ) → Holds layouts s t place → AreAll (IsPlaced place) held → IsHeap layouts s.heap
+    → s.heap.allocated ≡ allocated_bytes layouts t held
+allocated_is Null s t place held holds all heap = let next = holds.by_kind.allocated in omega arith
+allocated_is Counting s t place held holds all heap = heap.allocated ∙ sym (held_blocks Counting s t place holds held all)
+allocated_is Copying s t place held holds all heap =
+    heap.allocated
+    ∙ ap (λ (b : Bool). if b then 0 else 16 + total (block_size Copying) s.heap.content) (no_capacity s.heap.capacity t.pages holds.numbers.capacity)
+    ∙ ap (λ (n : ℕ). if t.pages == 0 then 0 else 16 + n) (sym (held_blocks Copying s t place holds held all))
+
+-- room of the heap is room by the account
+pub fits_now : {D : Type 0} (layouts : Layouts) (s : StoreView) (t : Table D) (a : Account) (limits : Limits) (size : ℕ) → IsHeap layouts s.heap → HoldsAccount layouts s t a → HasRoom layouts s.heap size
+    → FitsNow layouts size (policy_state t a limits)
+fits_now Null s t a limits size heap holds room = let next = holds.holds.by_kind.allocated in let capacity = holds.holds.numbers.capacity in omega arith
+fits_now Counting s t a limits size heap holds room = tt
+fits_now Copying s t a limits size heap holds room =
+    let blocks = held_blocks Copying s t holds.place holds.holds a.held holds.account.held in
+    let capacity = holds.holds.numbers.capacity in
+    omega arith
+
+-- and so is its lack
+pub lacks_now : {D : Type 0} (layouts : Layouts) (s : StoreView) (t : Table D) (a : Account) (limits : Limits) (size : ℕ) → IsHeap layouts s.heap → HoldsAccount layouts s t a → (HasRoom layouts s.heap size → ⊥)
+    → LacksNow layouts size (policy_state t a limits)
+lacks_now Null s t a limits size heap holds none = λ fits. none (let next = holds.holds.by_kind.allocated in let capacity = holds.holds.numbers.capacity in omega arith)
+lacks_now Counting s t a limits size heap holds none = tt
+lacks_now Copying s t a limits size heap holds none = λ fits. none (
+    let blocks = held_blocks Copying s t holds.place holds.holds a.held holds.account.held in
+    let capacity = holds.holds.numbers.capacity in
+    omega arith)
+
+-- which half is active after a collection
+upper_after : (layouts : Layouts) (types : List Declaration) (old new : HeapView) (entries entries' : List RootEntry) (hosts hosts' : ℕ → Bool) (upper : Bool) → IsHeap layouts old
+    → IsCollected layouts types old new entries entries' hosts hosts' → old.needs_gc ≡ upper → new.needs_gc ≡ turned layouts upper
+upper_after Null types old new entries entries' hosts hosts' upper heap is e = ap (λ (h : HeapView). h.needs_gc) is.collected.by_kind.0 ∙ e
+upper_after Counting types old new entries entries' hosts hosts' upper heap is e = is.collected.by_kind.1.1 ∙ sym heap.by_kind.1 ∙ e
+upper_after Copying types old new entries entries' hosts hosts' upper heap is e = is.collected.by_kind ∙ ap (λ b. not b) e
+
+-- what a collection leaves of a store's table and account
+pub record AfterCollection {D : Type 0} (layouts : Layouts) (s : StoreView) (t : Table D) (a : Account) (limits : Limits) (heap : HeapView) (entries : List RootEntry) (n : ℕ) : Type 0 where
+  pub after : PolicyState D
+  pub collects : CollectsTable layouts (policy_state t a limits) after
+  pub holds : HoldsAccount layouts (record s { heap = heap; scoped = entries; hosts = n; last = heap.allocated }) after.table after.account
+  pub kept : (p word : ℕ) → holds.place p ≡ Some word → IsKept layouts t p
+
+pub collected_account : {D : Type 0} (layouts : Layouts) (s : StoreView) (t : Table D) (a : Account) (limits : Limits) (heap : HeapView) (entries : List RootEntry) (n : ℕ) (hosts hosts' : ℕ → Bool)
+    → IsCollectable layouts s.types s.heap (roots_of s.scoped) hosts → IsHeap layouts s.heap → IsHeap layouts heap → s.heap.attached ≡ true
+    → IsCollected layouts s.types s.heap heap s.scoped entries hosts hosts' → (s.hosts ≡ 0 → n ≡ 0) → HoldsAccount layouts s t a → AfterCollection layouts s t a limits heap entries n
+collected_account {D} layouts s t a limits heap entries n hosts hosts' collectable was_heap is_heap attached is_collected none holds =
+    let s' : StoreView = record s { heap = heap; scoped = entries; hosts = n } in
+    let kept : HoldsKept layouts s' t = collected_store layouts s t heap entries n hosts hosts' collectable was_heap is_heap attached is_collected none (holds.place, holds.holds) in
+    let held : List ℕ = positions layouts t kept.0 heap kept.1.0.objects in
+    let placed : AreAll (IsPlaced kept.0) held = are_placed layouts t kept.0 heap kept.1.0.objects in
+    let account : Account = record { held = held; last = heap.allocated; tries = a.tries; upper = heap.needs_gc } in
+    record {
+      after = policy_state t account limits;
+      collects = record {
+        held = are_kept layouts s' t kept.0 kept.1.0 kept.1.1;
+        last = allocated_is layouts s' t kept.0 held kept.1.0 placed is_heap;
+        tries = refl;
+        upper = upper_after layouts s.types s.heap heap s.scoped entries hosts hosts' a.upper was_heap is_collected holds.account.upper;
+        table = refl;
+        limits = refl;
+      };
+      holds = record {
+        place = kept.0;
+        holds = holds_counted layouts s' t kept.0 heap.allocated s.tries kept.1.0;
+        account = record { held = placed; last = refl; tries = holds.account.tries; upper = refl };
+      };
+      kept = kept.1.1;
+    }
+
+-- a store that holds a table has some account beside it
+pub own_account : {D : Type 0} (layouts : Layouts) (s : StoreView) (t : Table D) (place : Placing) → Holds layouts s t place → (a : Account) × IsAccount s place a
+own_account layouts s t place holds = (
+  record { held = positions layouts t place s.heap holds.objects; last = s.last; tries = s.tries; upper = s.heap.needs_gc },
+  record { held = are_placed layouts t place s.heap holds.objects; last = refl; tries = refl; upper = refl },
+)
+
+-- the same, whatever the placing is
+pub some_account : {D : Type 0} (layouts : Layouts) (s : StoreView) (t : Table D) → HoldsTable layouts s t → (a : Account) × HoldsAccount layouts s t a
+some_account layouts s t holds = let own = own_account layouts s t holds.0 holds.1 in (own.0, record { place = holds.0; holds = holds.1; account = own.1 })
+
+-- what is held after a collection is what it keeps
+pub kept_after : {D : Type 0} (layouts : Layouts) (s : StoreView) (t : Table D) (a : Account) (limits : Limits) (heap : HeapView) (entries : List RootEntry) (n : ℕ) → AfterCollection layouts s t a limits heap entries n
+    → HoldsKept layouts (record s { heap = heap; scoped = entries; hosts = n; last = heap.allocated }) t
+kept_after {D} layouts s t a limits heap entries n is = (
+  is.holds.place,
+  (subst (λ (u : Table D). Holds layouts (record s { heap = heap; scoped = entries; hosts = n; last = heap.allocated }) u is.holds.place) is.collects.table is.holds.holds, is.kept),
+)
