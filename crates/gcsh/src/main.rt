@@ -14,7 +14,8 @@ Usage: gcsh COLLECTOR FIRST MOST < SCRIPT
 
 COLLECTOR is copying, a heap that frees what no root reaches, or null, which
 never frees. A heap begins with FIRST pages of 65536 bytes when the first object
-is made, and may have MOST of them: FIRST <= MOST <= 65535.
+is made or it is grown, and gets more as it needs them, up to MOST:
+FIRST <= MOST <= 65535.
 
 Commands, one a line; D, R and S are registers, from 0 to 65535:
   struct [F]..        declare a struct type; replies its number. F is m: or c:,
@@ -27,6 +28,8 @@ Commands, one a line; D, R and S are registers, from 0 to 65535:
   eq R S              whether registers R and S name the same object
   enter, leave        enter a scope of roots, leave it
   gc                  collect; replies how many objects and host objects are held
+  grow N              let the heap grow by N bytes
+  cap                 reply the bytes of the heap's memory
 V is i32:N, i64:N, any:null, or r and a register.
 
 Every line has a reply, and one that is no command has BadLine.
