@@ -1,5 +1,5 @@
 -- An allocation by the rule of retry: what each way through it answers and leaves.
-use Rattle.std.proofs.Common.{◌≡◌, ℕ, ◌⊎◌, inl, inr, Bool, true, false, List, ◌∷◌, Some, Result, Ok, Err, refl, sym, ap, ◌∙◌, subst}
+use Rattle.std.proofs.Common.{◌≡◌, ℕ, ◌⊎◌, inl, inr, Bool, true, false, List, ◌∷◌, Some, Result, Ok, Err, refl, sym, ap, ap₂, ◌∙◌, subst}
 use Rattle.std.specs.Prelude.{IsOk}
 use Rattle.std.proofs.lemmas.Option.{same_Some}
 use Rattle.gc_types.specs.declared.value.FieldType.{FieldType}
@@ -9,16 +9,35 @@ use Rattle.gc_types.specs.Declarations.{Declaration, struct_fields_at}
 use Rattle.gc_types.specs.Layouts.{struct_layout}
 use Rattle.gc_roots.specs.Roots.{Root}
 use Rattle.gc_model.specs.Sizes.{need_of}
+use Rattle.gc_model.specs.Allocation.{Limits}
 use Rattle.gc_model.specs.Views.{HeapView}
 use Rattle.gc_heap.specs.Content.{IsHeap}
 use Rattle.gc_heap.specs.Heap.{HasRoom, AddsObject, LacksRoom, new_struct}
+use Rattle.gc_store.specs.declared.pages.PagesFault.{PagesFault}
+use Rattle.gc_store.specs.declared.pages.PagesFault.TheVariants as pages_fault
 use Rattle.gc_store.specs.declared.store.PlaceFault.{PlaceFault}
 use Rattle.gc_store.specs.declared.store.PlaceFault.TheVariants as fault
-use Rattle.gc_store.specs.Growth.{HeapState, heap_rules}
-use Rattle.gc_store.specs.Places.{size_of, CanAllocate, AllocatesStruct, EndsTrying}
+use Rattle.gc_store.specs.Growth.{HeapState, ReadiesHeap, GrowsMemory, GrowsBy, heap_rules}
+use Rattle.gc_store.specs.Places.{MakesHeap, Begins, size_of, CanAllocate, AllocatesStruct, EndsTrying}
 use Rattle.gc_store.specs.Retry.{Retry, Paused}
 use Rattle.gc_store.specs.Tracing.{roots_of, IsCollectable}
 use Rattle.gc_store.proofs.HeapMade.{made_kept}
+
+-- A growth, once the heap is ready
+
+pub grows_by : (layouts : Layouts) (types : List Declaration) (bytes : ℕ) (s ready : HeapState) (new : HeapView) (limits : Limits) (result : Result (Unit {0}) PagesFault) → ReadiesHeap layouts types s ready → IsHeap layouts new
+    → GrowsMemory layouts bytes ready.heap new ready.limits limits result → GrowsBy layouts types bytes s (record ready { heap = new; limits = limits }) result
+grows_by layouts types bytes s ready new limits (Ok done) readied is_heap grown =
+    record { ready = ready; readied = readied; asks = grown.0; after = ap (λ h. record ready { heap = h; limits = limits }) grown.1; is_heap = is_heap }
+grows_by layouts types bytes s ready new limits (Err pages_fault.Refused) readied is_heap grown =
+    record { ready = ready; readied = readied; asks = grown.0; after = ap (λ h. record ready { heap = h; limits = limits }) grown.1; is_heap = is_heap }
+grows_by layouts types bytes s ready new limits (Err pages_fault.Memory) readied is_heap grown =
+    subst (λ r. ReadiesHeap layouts types s r) (ap₂ (λ h l. record ready { heap = h; limits = l }) (sym grown.1) (sym grown.0)) readied
+
+-- a heap that was made has begun to grow
+pub made_only : (layouts : Layouts) (types : List Declaration) (first : ℕ) (s : HeapState) (made : HeapView) (limits : Limits) → MakesHeap layouts first s.heap made s.limits limits (Ok tt)
+    → Begins layouts types first false s (record s { heap = made; limits = limits })
+made_only layouts types first s made limits makes = record { made = made; limits = limits; makes = makes; dues = inr (refl, refl) }
 
 -- What is known where an allocation tries for the last time: how the rule ends, by whether there is room.
 pub record AtLastTry (layouts : Layouts) (types : List Declaration) (size : ℕ) (s m : HeapState) : Type 0 where
