@@ -1,7 +1,6 @@
 -- A heap that grew: what it keeps, and that there is room for what was asked.
-use Rattle.std.proofs.Common.{◌≡◌, ℕ, ◌+◌, ◌-◌, ◌*◌, ◌/◌, ◌%◌, ◌<◌, ◌≤◌, ◌↔◌, ◌==◌, inl, Bool, true, false, cond, List, length, ◌++◌, replicate, Option, Some, None, Result, Ok, Err, refl, sym, ap, ◌∙◌, subst, arith}
+use Rattle.std.proofs.Common.{◌≡◌, ℕ, ◌+◌, ◌*◌, ◌%◌, ◌<◌, ◌≤◌, ◌↔◌, ◌==◌, inl, Bool, true, false, cond, List, ◌++◌, replicate, Option, Some, None, Result, Ok, Err, refl, sym, ap, ◌∙◌, subst, arith}
 use Rattle.std.specs.Prelude.{IfSome, IsTrue, OnOk, OnErr}
-use Rattle.std.specs.FinMap.{get}
 use Rattle.std.proofs.lemmas.Bool.{eqb-false, eqb-true}
 use Rattle.gc_types.specs.declared.kind.Layouts.{Layouts}
 use Rattle.gc_types.specs.declared.kind.Layouts.TheVariants.{Null, Counting, Copying}
@@ -10,7 +9,7 @@ use Rattle.gc_types.specs.Layouts.{round_up}
 use Rattle.gc_roots.specs.Roots.{Root}
 use Rattle.gc_model.specs.Sizes.{alignment, need_of}
 use Rattle.gc_model.specs.Allocation.{Limits, page, max_pages, asked, MayHave, MayRefuse}
-use Rattle.gc_model.specs.Views.{HeapObject, HeapView}
+use Rattle.gc_model.specs.Views.{HeapView}
 use Rattle.gc_heap.specs.Objects.{held_size}
 use Rattle.gc_heap.specs.Content.{IsHeap, block_size, half_of, total}
 use Rattle.gc_heap.specs.Heap.{HasRoom, IsFree, grown, allocated_in_more}
@@ -97,21 +96,25 @@ copying_room capacity allocated sum rounded more whole whole' needed even half f
 new_free : (h : HeapView) (rounded more : ℕ) → IsHeap Counting h → rounded + 16 ≤ more → (place : ℕ) × IsFree (grown Counting h more) place rounded
 new_free h rounded more heap needed = elim (h.capacity == 0) as (λ b. (h.capacity == 0) ≡ b → (place : ℕ) × IsFree (grown Counting h more) place rounded) [
   | true ↦ λ test.
-      let none : h.capacity ≡ 0 = eqb-true h.capacity 0 test in
-      (16, record {
-        aligned = refl;
-        not_null = omega arith;
-        inside = omega (arith, needed);
-        free = λ q o held. let lies = heap.objects q o held in absurd (omega (arith, lies.inside, lies.not_null, none));
-      })
+      let none : h.capacity ≡ 0 = eqb-true h.capacity 0 test in (
+        16,
+        record {
+          aligned = refl;
+          not_null = omega arith;
+          inside = omega (arith, needed);
+          free = λ q o held. let lies = heap.objects q o held in absurd (omega (arith, lies.inside, lies.not_null, none));
+        },
+      )
   | false ↦ λ test.
-      let some : (h.capacity ≡ 0 → ⊥) = eqb-false h.capacity 0 test in
-      (h.capacity, record {
-        aligned = (let whole = heap.pages in omega arith);
-        not_null = omega (arith, some);
-        inside = omega (arith, needed);
-        free = λ q o held. let lies = heap.objects q o held in let whole = heap.pages in inl (omega (arith, lies.inside, lies.aligned, whole));
-      })
+      let some : (h.capacity ≡ 0 → ⊥) = eqb-false h.capacity 0 test in (
+        h.capacity,
+        record {
+          aligned = (let whole = heap.pages in omega arith);
+          not_null = omega (arith, some);
+          inside = omega (arith, needed);
+          free = λ q o held. let lies = heap.objects q o held in let whole = heap.pages in inl (omega (arith, lies.inside, lies.aligned, whole));
+        },
+      )
 ] refl
 
 -- a growth by the bytes that are needed makes room

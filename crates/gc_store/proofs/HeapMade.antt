@@ -23,13 +23,12 @@ use Rattle.gc_model.proofs.Layouts.{stored_size-le, fields_end-le}
 use Rattle.gc_heap.specs.Objects.{first_offset}
 use Rattle.gc_heap.specs.References.{IsTraceable, LayoutTraces}
 use Rattle.gc_heap.specs.Content.{IsHeap}
-use Rattle.gc_heap.specs.Heap.{AddsObject, LacksRoom, Allocated, empty_heap, new_struct, layout_kind}
+use Rattle.gc_heap.specs.Heap.{AddsObject, empty_heap, new_struct, layout_kind}
 use Rattle.gc_heap.specs.Collection.{CanCollect, AreCounted, stack_words}
 use Rattle.gc_heap.proofs.SpacedLemmas.{contains_in, spaced_fields, aligned_fields, Spaced-in}
 use Rattle.gc_heap.proofs.AddedLemmas.{start, blank_struct, owns_none}
 use Rattle.gc_heap.proofs.MadeLemmas.{can_collect_made}
 use Rattle.gc_heap.proofs.CountLemmas.{held-append, words-append}
-use Rattle.gc_store.specs.Places.{CanAllocate}
 use Rattle.gc_store.specs.Tracing.{root_of, roots_of, IsTracedStruct, AreTraced, IsCollectable}
 use Rattle.gc_store.proofs.HeapTraced.{with_memory, memory_same}
 use Rattle.gc_store.proofs.HeapBarriers.{last_root}

@@ -21,16 +21,15 @@ grown : (g : Over) (c : After-grow_by g) (hosts : FinMap nat_cmp g.row.D.Denot) 
     (heap_state (g.H.GcHeap.seen c.args.heap.now) c.args.roots.now (has_host c.args.hosts.now.entries) (g.L.ResourceLimiter.limits c.args.limiter.now)) b
     × GrowsBy g.H.GcHeap.KIND c.args.types.now.declarations c.args.bytes b (heap_state (g.H.GcHeap.seen c.grow_by.new.heap) c.grow_by.new.roots (has_host hosts) (g.L.ResourceLimiter.limits c.grow_by.new.limiter)) answer)
 grown g c hosts answer same is =
-    let b : HeapState = heap_state (g.H.GcHeap.seen c.make_heap.new.heap) c.args.roots.now (has_host c.args.hosts.now.entries) (g.L.ResourceLimiter.limits c.make_heap.new.limiter) in
-    (
+    let b : HeapState = heap_state (g.H.GcHeap.seen c.make_heap.new.heap) c.args.roots.now (has_host c.args.hosts.now.entries) (g.L.ResourceLimiter.limits c.make_heap.new.limiter) in (
       b,
       (
         made_only g.H.GcHeap.KIND c.args.types.now.declarations c.args.first_pages
-        (heap_state (g.H.GcHeap.seen c.args.heap.now) c.args.roots.now (has_host c.args.hosts.now.entries) (g.L.ResourceLimiter.limits c.args.limiter.now))
-        (g.H.GcHeap.seen c.make_heap.new.heap) (g.L.ResourceLimiter.limits c.make_heap.new.limiter) c.in-Ok.ensures.made,
+            (heap_state (g.H.GcHeap.seen c.args.heap.now) c.args.roots.now (has_host c.args.hosts.now.entries) (g.L.ResourceLimiter.limits c.args.limiter.now))
+            (g.H.GcHeap.seen c.make_heap.new.heap) (g.L.ResourceLimiter.limits c.make_heap.new.limiter) c.in-Ok.ensures.made,
         subst (λ (entries : FinMap nat_cmp g.row.D.Denot). GrowsBy g.H.GcHeap.KIND c.args.types.now.declarations c.args.bytes b (heap_state (g.H.GcHeap.seen c.grow_by.new.heap) c.grow_by.new.roots (has_host entries) (g.L.ResourceLimiter.limits c.grow_by.new.limiter)) answer) (sym same)
-        (subst (λ (r : Result (Unit {0}) PagesFault). GrowsBy g.H.GcHeap.KIND c.args.types.now.declarations c.args.bytes b
-        (heap_state (g.H.GcHeap.seen c.grow_by.new.heap) c.grow_by.new.roots (has_host c.grow_by.new.trace.host_data_table.now.entries) (g.L.ResourceLimiter.limits c.grow_by.new.limiter)) r) is c.grow_by.ensures.grows),
+            (subst (λ (r : Result (Unit {0}) PagesFault). GrowsBy g.H.GcHeap.KIND c.args.types.now.declarations c.args.bytes b
+            (heap_state (g.H.GcHeap.seen c.grow_by.new.heap) c.grow_by.new.roots (has_host c.grow_by.new.trace.host_data_table.now.entries) (g.L.ResourceLimiter.limits c.grow_by.new.limiter)) r) is c.grow_by.ensures.grows),
       ),
     )
 

@@ -6,18 +6,16 @@ use Rattle.gc_store.proofs.pages.grow_memory.Goals as goal
 
 pub returns-then-added-from-clause-grown : goal.returns-then-added-from-clause-grown
 returns-then-added-from-clause-grown g c =
-    let above : max_pages < c.pages-from.result + c.asked_pages-added.result = omega (arith, c.pages-from.ensures.few, c.from.ensures, c.if-added-from.true) in
-    (
+    let above : max_pages < c.pages-from.result + c.asked_pages-added.result = omega (arith, c.pages-from.ensures.few, c.from.ensures, c.if-added-from.true) in (
       asks_nobody (pages_of (g.H.GcHeap.seen c.args.heap.now)) c.args.bytes c.pages-from.result c.asked_pages-added.result (g.L.ResourceLimiter.limits c.args.limiter.now) c.pages-from.ensures.pages c.asked_pages-added.ensures above,
       refl,
     )
 
 pub returns-then-not-growing-clause-grown : goal.returns-then-not-growing-clause-grown
 returns-then-not-growing-clause-grown g c =
-    let within : c.pages-from.result + c.asked_pages-added.result ≤ max_pages = omega (arith, c.pages-from.ensures.few, c.from.ensures, c.if-added-from.false) in
-    (
+    let within : c.pages-from.result + c.asked_pages-added.result ≤ max_pages = omega (arith, c.pages-from.ensures.few, c.from.ensures, c.if-added-from.false) in (
       asks_refused (pages_of (g.H.GcHeap.seen c.args.heap.now)) c.args.bytes c.pages-from.result c.asked_pages-added.result (g.L.ResourceLimiter.limits c.args.limiter.now) (g.L.ResourceLimiter.limits c.growing.new.self)
-      c.pages-from.ensures.pages c.asked_pages-added.ensures within c.if-not-growing.ensures.by_limit c.if-not-growing.ensures.refused,
+          c.pages-from.ensures.pages c.asked_pages-added.ensures within c.if-not-growing.ensures.by_limit c.if-not-growing.ensures.refused,
       refl,
     )
 
