@@ -1,23 +1,27 @@
 //! What a limit decides that is told.
 
-ghost use Rattle.std.specs.Prelude.{◌≡◌, ◌↔◌, ◌+◌, ◌<◌, ◌≤◌, ℕ, Bool, false, List, Some};
+ghost use Rattle.std.specs.Prelude.{◌≡◌, ◌↔◌, max, ◌+◌, ◌<◌, ◌≤◌, ℕ, Bool, false, List, Some};
 ghost use Rattle.gc_types.specs.declared.kind.Layouts.{Layouts};
+ghost use Rattle.gc_types.specs.declared.kind.Layouts.TheVariants.{Counting};
 ghost use Rattle.gc_model.specs.Values.{Object};
 ghost use Rattle.gc_model.specs.Table.{Table, made_pages, make_heap};
 ghost use Rattle.gc_model.specs.Sizes.{object_size, need_of};
-ghost use Rattle.gc_model.specs.Allocation.{max_pages, asked, LacksFit, LacksMemory, Grows};
+ghost use Rattle.gc_model.specs.Allocation.{max_pages, asked, LacksFit, Allocates, LacksMemory, Grows};
 ghost use Rattle.gc_commands.specs.declared.command.Command.{Command};
 ghost use Rattle.gc_commands.specs.declared.reply.Reply.{Reply};
 ghost use Rattle.gc_script.specs.State.{State};
 ghost use Rattle.gc_script.specs.Run.{Run};
 
-/// Under a limit that grants the first pages, `GcHeapOutOfMemory` comes only where the pages that a growth
-/// asks for would pass the limit and there is no room; `GcHeapGrowthFailed` exactly where a growth by
-/// some bytes would pass it; and no heap ever has more pages than the limit.
+/// Under a limit that grants the first pages, `GcHeapOutOfMemory` comes exactly where the pages that a growth
+/// asks for would pass the limit and there is no room (of a counting heap's room nothing is said), and
+/// `GcHeapGrowthFailed` exactly where a growth by some bytes would pass it. No step takes a heap above the
+/// limit, or above the pages that it had.
 pub fn told_limits_decide()
     ensures out_of_memory { (layouts : Layouts) (most : ℕ) (o : Object ℕ) (t t' : Table ℕ) → most ≤ max_pages → t.first ≤ most → LacksMemory layouts (Some most) o t t'
         → (most < made_pages t + asked (made_pages t) (need_of layouts (object_size layouts t.types o))) × LacksFit layouts (make_heap t) (object_size layouts t.types o) }
+    ensures success { (layouts : Layouts) (most : ℕ) (o : Object ℕ) (t t' : Table ℕ) → ¬ (layouts ≡ Counting) → Allocates layouts (Some most) o t t'
+        → ¬ ((most < made_pages t + asked (made_pages t) (need_of layouts (object_size layouts t.types o))) × LacksFit layouts (make_heap t) (object_size layouts t.types o)) }
     ensures growth { (most bytes : ℕ) (t t' : Table ℕ) (granted : Bool) → most ≤ max_pages → t.first ≤ most → Grows (Some most) bytes t granted t'
         → (granted ≡ false) ↔ ((0 < bytes) × (most < made_pages t + asked (made_pages t) bytes)) }
-    ensures pages { (layouts : Layouts) (most : ℕ) (s s' : State) (cs : List Command) (rs : List Reply) → s.table.first ≤ most → s.table.pages ≤ most → Run layouts (Some most) s cs rs s' → s'.table.pages ≤ most }
+    ensures pages { (layouts : Layouts) (most : ℕ) (s s' : State) (cs : List Command) (rs : List Reply) → Run layouts (Some most) s cs rs s' → s'.table.pages ≤ max most s.table.pages }
 {}

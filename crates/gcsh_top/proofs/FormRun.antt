@@ -35,14 +35,14 @@ pub ready_state : (layouts : Layouts) (form : Form) (store : StoreView) (slots :
 ready_state layouts form store slots ready none = begins layouts store slots (first_table form) no_account ready.holds none
 
 -- lines that stopped under the form's limit
-pub stopped_form : (layouts : Layouts) (form : Form) (counter : Option ℕ) (limits : Limits) (input : List ℕ) (store : StoreView) (slots : RunnerView) (a b : Option (List ℕ)) → counter ≡ None → limits ≡ fresh_limits (Some form.most) → StoppedLines layouts counter limits (begin (first_table form) no_account) input store slots a b → StoppedForm layouts form input a b store
-stopped_form layouts form counter limits input store slots a b none is stopped =
-    in_lines slots (subst (λ (c : Option ℕ). StoppedLines layouts c (fresh_limits (Some form.most)) (begin (first_table form) no_account) input store slots a b) none
+pub stopped_form : (layouts : Layouts) (form : Form) (counter : Option ℕ) (limits : Limits) (input : List ℕ) (store : StoreView) (slots : RunnerView) (a b : Option (List ℕ)) → counter ≡ None → store.alloc_counter ≡ counter → limits ≡ fresh_limits (Some form.most) → StoppedLines layouts counter limits (begin (first_table form) no_account) input store slots a b → StoppedForm layouts form input a b store
+stopped_form layouts form counter limits input store slots a b none same is stopped =
+    in_lines slots (same ∙ none) (subst (λ (c : Option ℕ). StoppedLines layouts c (fresh_limits (Some form.most)) (begin (first_table form) no_account) input store slots a b) none
     (subst (λ (l : Limits). StoppedLines layouts counter l (begin (first_table form) no_account) input store slots a b) is stopped))
 
 -- what was run is the run of the form
-pub ran_form : (layouts : Layouts) (form : Form) (counter : Option ℕ) (limits limits' : Limits) (input : List ℕ) (store : StoreView) (slots : RunnerView) (a b c : Option (List ℕ)) → counter ≡ None → limits ≡ fresh_limits (Some form.most) → RanLines layouts counter limits limits' (begin (first_table form) no_account) input store slots a b → Keeps b c → RanForm layouts form input a c store
-ran_form layouts form counter limits limits' input store slots a b c none is ran kept = record {
+pub ran_form : (layouts : Layouts) (form : Form) (counter : Option ℕ) (limits limits' : Limits) (input : List ℕ) (store : StoreView) (slots : RunnerView) (a b c : Option (List ℕ)) → counter ≡ None → store.alloc_counter ≡ counter → limits ≡ fresh_limits (Some form.most) → RanLines layouts counter limits limits' (begin (first_table form) no_account) input store slots a b → Keeps b c → RanForm layouts form input a c store
+ran_form layouts form counter limits limits' input store slots a b c none same is ran kept = record {
   output = ran.output;
   written = Appends-kept a b c ran.output ran.replied kept;
   table = ran.after.table;
@@ -53,7 +53,8 @@ ran_form layouts form counter limits limits' input store slots a b c none is ran
         (subst (λ (l : Limits). SessionFrom layouts counter l (begin (first_table form) no_account) (lines input) ran.output ran.after limits') is ran.session);
     table_is = refl;
   };
-  holds = (ran.holds.table.place, ran.holds.table.holds);
+  holds = ran.holds.table;
+  no_counter = same ∙ none;
   kept = ran.kept;
 }
 

@@ -4,7 +4,7 @@ use Rattle.std.specs.Io.KnownBytes.{Appends, Consumes, IsAtEnd, Keeps}
 use Rattle.gc_types.specs.declared.kind.Layouts.{Layouts}
 use Rattle.gc_model.specs.Allocation.{Limits}
 use Rattle.gc_model.specs.Table.{Table, start, usual_roots}
-use Rattle.gc_model.specs.Holds.{HoldsTable, HoldsKept}
+use Rattle.gc_model.specs.Holds.{HoldsKept}
 use Rattle.gc_model.specs.Views.{StoreView}
 use Rattle.gc_commands.specs.declared.command.Command.{Command}
 use Rattle.gc_commands.specs.declared.command.Command.TheVariants.{Gc}
@@ -69,14 +69,15 @@ pub record StoppedLines (layouts : Layouts) (counter : Option ℕ) (limits : Lim
   pub written : Appends held between output
   pub broke_off : BrokeOff layouts counter mid_limits mid line store runner between held'
 
--- An input was run on a store whose heap is of that kind. Where its last line is `gc`, the heap holds the
--- kept objects and no others.
+-- An input was run on a store whose heap is of that kind: it holds the table and the account at the end. Where the last
+-- line is `gc`, the heap holds the kept objects and no others.
 pub record RanForm (layouts : Layouts) (form : Form) (input : List ℕ) (held held' : Option (List ℕ)) (store : StoreView) : Type 0 where
   pub output : List ℕ
   pub written : Appends held held' output
   pub table : Table ℕ
   pub session : Session layouts form.first form.most input output table
-  pub holds : HoldsTable layouts store table
+  pub holds : HoldsAccount layouts store table session.after.account
+  pub no_counter : store.alloc_counter ≡ None
   pub kept : EndsInGc (lines input) → HoldsKept layouts store table
 
 -- the empty table of a store that begins with the form's pages
@@ -91,7 +92,7 @@ pub record IsReady (layouts : Layouts) (form : Form) (store : StoreView) : Type 
 
 -- How the run of an input ended before its end: a line broke off, or all was written and not flushed.
 pub data StoppedForm (layouts : Layouts) (form : Form) (input : List ℕ) (held held' : Option (List ℕ)) (store : StoreView) : Type 0 where
-  in_lines : (runner : RunnerView) → StoppedLines layouts None (fresh_limits (Some form.most)) (begin (first_table form) no_account) input store runner held held' → StoppedForm layouts form input held held' store
+  in_lines : (runner : RunnerView) → store.alloc_counter ≡ None → StoppedLines layouts None (fresh_limits (Some form.most)) (begin (first_table form) no_account) input store runner held held' → StoppedForm layouts form input held held' store
   unflushed : RanForm layouts form input held held' store → StoppedForm layouts form input held held' store
 
 -- What a whole run on a store did: the input was read to its end; its lines are commands whose replies are a run
