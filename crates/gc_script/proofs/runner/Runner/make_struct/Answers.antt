@@ -13,6 +13,7 @@ use Rattle.gc_script.specs.Steps.{first_failing, struct_value_tests, heap_tests}
 use Rattle.gc_script.specs.Run.{RunsOn}
 use Rattle.gc_script.specs.Values.{AreRegisters, AllHeld, HoldsOperands, HasUnset}
 use Rattle.gc_script.proofs.StandLemmas.{holds_table}
+use Rattle.gc_script.proofs.GoesLemmas.{wants_nothing}
 use Rattle.gc_script.proofs.NewLemmas.{refused_unset, refused_count, refused_value, new_runs}
 use Rattle.gc_script.proofs.runner.Runner.make_struct.Given as given
 use Rattle.gc_script.proofs.runner.Runner.make_struct.Goals as goal
@@ -34,6 +35,9 @@ registers_are g c s holds d =
 
 operands_held : (g : given.Over) (c : In-Some-found g) → HoldsOperands c.self.inside.registers c.args.operands.now c.in-Some-found.values.items
 operands_held g c = rw c.in-Some-found.is at c.in-Ok.ensures.set
+
+pub returns-in_default-operand_values-clause-runs : goal.returns-in_default-operand_values-clause-runs
+returns-in_default-operand_values-clause-runs g c s holds = wants_nothing _ _ _ s _ _ _ holds
 
 pub returns-in_default-found-clause-runs : goal.returns-in_default-found-clause-runs
 returns-in_default-found-clause-runs g c s holds =

@@ -12,6 +12,8 @@ use Rattle.gc_script.specs.Slots.{RunnerView, register_at}
 use Rattle.gc_script.specs.State.{State, HoldsState}
 use Rattle.gc_script.specs.Steps.{new_struct}
 use Rattle.gc_script.specs.Policy.{policy_of}
+use Rattle.gc_script.proofs.StandLemmas.{same_store, holds_same}
+use Rattle.gc_script.proofs.GoesLemmas.{wants_nothing}
 use Rattle.gc_script.proofs.PlaceLemmas.{placed, refused_large, refused_full, lacked, unplaced}
 use Rattle.gc_script.proofs.runner.Runner.place_new.Given as given
 use Rattle.gc_script.proofs.runner.Runner.place_new.Goals as goal
@@ -26,6 +28,13 @@ places_as : (g : given.Over) (c : After-place_struct g) (s : State) (vs : List O
 places_as g c s vs result is holds stand =
     subst (λ (r : Result GcRootIndex PlaceFault). Places g.H.GcHeap.KIND c.args.store.now.alloc_counter (new_struct s c.args.ty vs) (policy_of s (g.L.ResourceLimiter.limits c.args.limiter.now)) (g.L.ResourceLimiter.limits c.place_struct.new.limiter) r c.place_struct.new.self) is
     (c.place_struct.ensures.places s.table s.account (given_values s vs) holds.table stand)
+
+pub returns-then-is_err-clause-runs : goal.returns-then-is_err-clause-runs
+returns-then-is_err-clause-runs g c s vs holds stand =
+    wants_nothing _ _ _ s _ _ _
+    (holds_same g.H.GcHeap.KIND c.args.store.now c.args.store.now c.args.self.now _ s (same_store c.args.store.now)
+    (λ k. c.make_room.ensures.same k ∙ ap (λ (r : RunnerView). register_at r.registers k) c.self.view_is)
+    (ap (λ (r : RunnerView). r.marks) c.self.view_is) holds holds.table)
 
 pub returns-in-Ok-clause-runs : goal.returns-in-Ok-clause-runs
 returns-in-Ok-clause-runs g c s vs holds stand =
