@@ -10,7 +10,7 @@ use Rattle.gc_commands.specs.declared.reply.Refusal.{Refusal}
 use Rattle.gc_commands.specs.declared.reply.Refusal.TheVariants as refusal
 use Rattle.gc_script.specs.State.{State}
 use Rattle.gc_script.specs.Steps.{first_failing}
-use Rattle.gc_script.specs.Run.{SaysRefused, IsAsked, Counts, told, overlooked, nothing, pages_asked, wanted_bytes}
+use Rattle.gc_script.specs.Run.{SaysRefused, Counts, told, overlooked, nothing, pages_asked, wanted_bytes}
 use Rattle.gc_script.proofs.AskLemmas.{AsksBy, unrefused, too_many, refused_pages, refused_first}
 
 -- whether a refusal says that the heap was refused pages

@@ -1,5 +1,5 @@
 -- A command that asks no limiter is a step under any limit, and follows the policy.
-use Rattle.std.proofs.Common.{inl, inr, ◌≡◌, ℕ, List, [], ◌∷◌, Option, Some, None, Bool, true, false, sym, ap, refl, subst}
+use Rattle.std.proofs.Common.{inl, ◌≡◌, ℕ, Option, Some, None, sym, refl, subst}
 use Rattle.std.specs.Prelude.{Result, Ok, Err}
 use Rattle.gc_types.specs.declared.kind.Layouts.{Layouts}
 use Rattle.gc_model.specs.Allocation.{Limits}
@@ -10,7 +10,6 @@ use Rattle.gc_commands.specs.declared.command.Command.TheVariants.{Bad, Struct, 
 use Rattle.gc_commands.specs.declared.reply.Reply.{Reply}
 use Rattle.gc_commands.specs.declared.reply.Reply.TheVariants as reply
 use Rattle.gc_commands.specs.declared.reply.Refusal.{Refusal}
-use Rattle.gc_commands.specs.declared.reply.Refusal.TheVariants as refusal
 use Rattle.gc_script.specs.declared.runner.RunError.{RunError}
 use Rattle.gc_script.specs.Slots.{RunnerView}
 use Rattle.gc_script.specs.State.{State, HoldsState}

@@ -1,5 +1,5 @@
 -- What a growth that a command asks for answers and leaves.
-use Rattle.std.proofs.Common.{inl, inr, ◌≡◌, ℕ, List, Option, Bool, true, false, sym, ap, refl, subst}
+use Rattle.std.proofs.Common.{inl, inr, ◌≡◌, ℕ, Option, Bool, true, false, sym, ap, refl, subst}
 use Rattle.std.specs.Prelude.{Ok, Err}
 use Rattle.gc_types.specs.declared.kind.Layouts.{Layouts}
 use Rattle.gc_model.specs.Table.{Table}

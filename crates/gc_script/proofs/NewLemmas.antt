@@ -1,5 +1,5 @@
 -- The tests of `new`, in their order.
-use Rattle.std.proofs.Common.{◌≡◌, ◌≢◌, ℕ, ◌==◌, List, [], ◌∷◌, ◌++◌, length, Option, Some, None, Bool, true, false, cond, sym, ap, ◌∙◌, refl, arith}
+use Rattle.std.proofs.Common.{◌≡◌, ◌≢◌, ℕ, ◌==◌, List, [], ◌∷◌, ◌++◌, length, Option, Some, None, Bool, true, false, sym, ap, ◌∙◌, refl, arith}
 use Rattle.std.specs.Prelude.{Result, Ok, Err, is_none, not, ◌||◌}
 use Rattle.std.specs.List.{list_all}
 use Rattle.std.specs.Option.{option_map, unwrap_or}
@@ -28,7 +28,7 @@ use Rattle.gc_script.specs.declared.runner.RunError.{RunError}
 use Rattle.gc_script.specs.Slots.{RunnerView}
 use Rattle.gc_script.specs.State.{State, Held, number, reference, Stands, HoldsState}
 use Rattle.gc_script.specs.Built.{is_built, is_built_operand}
-use Rattle.gc_script.specs.Given.{held_operand, given, given_held, given_root, given_value, is_unset, is_gone, fits_field}
+use Rattle.gc_script.specs.Given.{held_operand, given_held, given_root, is_unset}
 use Rattle.gc_script.specs.Steps.{tests, first_failing, any_unset, field_count, all_value_tests, struct_value_tests, heap_tests}
 use Rattle.gc_script.specs.Run.{RunsOn, RunsOne}
 use Rattle.gc_script.specs.Values.{AllHeld}

@@ -1,7 +1,6 @@
-use Rattle.std.proofs.Common.{ℕ, subst}
-use Rattle.std.specs.Prelude.{Result, Ok, Err}
+use Rattle.std.proofs.Common.{subst}
+use Rattle.std.specs.Prelude.{Err}
 use Rattle.gc_store.specs.declared.grow.GrowFault.{GrowFault}
-use Rattle.gc_store.specs.declared.grow.GrowFault.TheVariants as fault
 use Rattle.gc_store.specs.Expansion.{GrowsStore}
 use Rattle.gc_script.specs.declared.runner.RunError.TheVariants as error
 use Rattle.gc_script.specs.Policy.{policy_of}
