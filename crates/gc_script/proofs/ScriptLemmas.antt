@@ -23,6 +23,10 @@ limit_stays layouts limits limits' s c answer after (told is_asked refuses) = ap
 limit_stays layouts limits limits' s c answer after (overlooked done refuses) = ap (λ (l : Limits). l.limit) refuses
 limit_stays layouts limits limits' s c answer after (nothing not_asked same) = ap (λ (l : Limits). l.limit) same
 
+-- a reply stands behind the others, for which room was made before
+pub reply_behind : (before room now : List Reply) (r : Reply) → room ≡ before → now ≡ room ++ r ∷ [] → now ≡ before ++ r ∷ []
+reply_behind before room now r same appended = appended ∙ ap (λ (rs : List Reply). rs ++ r ∷ []) same
+
 -- a run under that limit that follows the policy, and how many of its replies say what a limiter refused
 pub record CountedRun (layouts : Layouts) (counter limit : Option ℕ) (limits limits' : Limits) (s : State) (cs : List Command) (rs : List Reply) (s' : State) (n : ℕ) : Type 0 where
   pub run : Run layouts limit s cs rs s'

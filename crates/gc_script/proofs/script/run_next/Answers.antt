@@ -1,8 +1,7 @@
-use Rattle.std.proofs.Common.{◌++◌, ◌∷◌, [], List, ap, ◌∙◌}
-use Rattle.gc_commands.specs.declared.reply.Reply.{Reply}
 use Rattle.gc_script.proofs.GoesLemmas.{wants_nothing}
 use Rattle.gc_script.proofs.KeptLemmas.{kept_after}
 use Rattle.gc_script.proofs.ResultLemmas.{on_any_err}
+use Rattle.gc_script.proofs.ScriptLemmas.{reply_behind}
 use Rattle.gc_script.proofs.script.run_next.Goals as goal
 
 pub returns-then-is_err-clause-wants : goal.returns-then-is_err-clause-wants
@@ -18,5 +17,5 @@ returns-clause-ran g c s holds =
       answer = c.in_ok-reply.reply;
       ran = ran;
       kept = λ is. kept_after _ _ _ _ s _ _ ran is (c.in_ok-reply.ensures.kept is s holds);
-      appended = c.in-Ok.ensures.items ∙ ap (λ (rs : List Reply). rs ++ c.in_ok-reply.reply ∷ []) c.reserve.ensures.items;
+      appended = reply_behind _ _ _ c.in_ok-reply.reply c.reserve.ensures.items c.in-Ok.ensures.items;
     }
