@@ -61,24 +61,26 @@ module _ (layouts : Layouts) (old new : StoreView) (runner : RunnerView) (s : St
   passes_form = passes (not (is_built (Struct is_final supertype fs))) refusal.BadLine [] (ap not is_form)
 
   -- a type was declared
-  pub struct_declared : (ty : TypeName) → DeclaresStruct layouts types s.table (Ok ty) new → GoesOn layouts s (Struct is_final supertype fs) (tests layouts s (Struct is_final supertype fs)) (Ok (reply.Declared ty.index)) new runner
+  pub struct_declared : (ty : TypeName) → DeclaresStruct layouts types s.table s.account (Ok ty) new → GoesOn layouts s (Struct is_final supertype fs) (tests layouts s (Struct is_final supertype fs)) (Ok (reply.Declared ty.index)) new runner
   struct_declared ty declares =
-      let did = subst (λ (ts : List FieldType). DeclaresStruct layouts ts s.table (Ok ty) new) types_are declares in
+      let did = subst (λ (ts : List FieldType). DeclaresStruct layouts ts s.table s.account (Ok ty) new) types_are declares in
       let after : State = with_table (declare (built_struct fs) s.table) s in
       record {
         after = after;
         answers = answers_by layouts None s (Struct is_final supertype fs) (first_failing (tests layouts s (Struct is_final supertype fs))) None (reply.Declared ty.index) after passes_form
             (declared did.0 (ap (λ (t : TypeName). reply.Declared t.index) did.1) refl);
-        holds = holds_kept layouts old new runner runner s (declare (built_struct fs) s.table) same (λ i p e. e) (λ k. refl) refl holds did.2;
+        account = refl;
+        holds = holds_kept layouts old new runner runner s (declare (built_struct fs) s.table) s.account same (λ i p e. e) (λ k. refl) refl holds did.2;
       }
 
   -- the type may not be declared
-  pub struct_refused : DeclaresStruct layouts types s.table (Err type_fault.BadType) new → GoesOn layouts s (Struct is_final supertype fs) (tests layouts s (Struct is_final supertype fs)) (Ok (reply.Refused refusal.BadType)) new runner
+  pub struct_refused : DeclaresStruct layouts types s.table s.account (Err type_fault.BadType) new → GoesOn layouts s (Struct is_final supertype fs) (tests layouts s (Struct is_final supertype fs)) (Ok (reply.Refused refusal.BadType)) new runner
   struct_refused declares =
-      let did = subst (λ (ts : List FieldType). DeclaresStruct layouts ts s.table (Err type_fault.BadType) new) types_are declares in
+      let did = subst (λ (ts : List FieldType). DeclaresStruct layouts ts s.table s.account (Err type_fault.BadType) new) types_are declares in
       record {
         after = s;
         answers = answers_by layouts None s (Struct is_final supertype fs) (first_failing (tests layouts s (Struct is_final supertype fs))) None (reply.Refused refusal.BadType) s passes_form
             (bad did.0 refl refl);
+        account = refl;
         holds = holds_same layouts old new runner runner s same (λ k. refl) refl holds did.1;
       }

@@ -1,5 +1,5 @@
 -- What a collection kept.
-use Rattle.std.proofs.Common.{◌≡◌, ℕ, List, [], ◌∷◌, ◌++◌, sym, subst}
+use Rattle.std.proofs.Common.{◌≡◌, ℕ, List, [], ◌∷◌, ◌++◌, Option, sym, subst}
 use Rattle.gc_types.specs.declared.kind.Layouts.{Layouts}
 use Rattle.gc_model.specs.Allocation.{Limits}
 use Rattle.gc_model.specs.Views.{StoreView}
@@ -12,11 +12,11 @@ use Rattle.gc_script.specs.State.{State}
 use Rattle.gc_script.specs.Steps.{Step}
 use Rattle.gc_script.specs.Run.{Ran}
 
--- a collection leaves the state, so what it kept is kept in the state behind it
-pub kept_after : (layouts : Layouts) (limits limits' : Limits) (s : State) (c : Command) (answer : Reply) {new : StoreView} {runner : RunnerView} (ran : Ran layouts limits limits' s c answer new runner) → c ≡ Gc → HoldsKept layouts new s.table → HoldsKept layouts new ran.after.table
-kept_after layouts limits limits' s c answer {new} {runner} ran is kept =
+-- a collection leaves the table, so what it kept is kept behind it
+pub kept_after : (layouts : Layouts) (counter : Option ℕ) (limits limits' : Limits) (s : State) (c : Command) (answer : Reply) {new : StoreView} {runner : RunnerView} (ran : Ran layouts counter limits limits' s c answer new runner) → c ≡ Gc → HoldsKept layouts new s.table → HoldsKept layouts new ran.after.table
+kept_after layouts counter limits limits' s c answer {new} {runner} ran is kept =
     let step : Step layouts limits.limit s Gc answer ran.after = subst (λ (c : Command). Step layouts limits.limit s c answer ran.after) is ran.step in
-    subst (λ (after : State). HoldsKept layouts new after.table) (sym step.1) kept
+    subst (λ (after : State). HoldsKept layouts new after.table) (sym step.1.1) kept
 
 -- no command is none
 pub no_last : (before : List Command) → [] ≡ before ++ Gc ∷ [] → ⊥

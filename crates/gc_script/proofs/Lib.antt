@@ -1,6 +1,10 @@
 pub mod SlotLemmas
 pub mod StandLemmas
 pub mod TestLemmas
+pub mod AskLemmas
+pub mod CountLemmas
+pub mod CollectionLemmas
+pub mod GrowthLemmas
 pub mod SetLemmas
 pub mod ScopeLemmas
 pub mod HostLemmas

@@ -29,6 +29,7 @@ use Rattle.gc_script.specs.Given.{Given, unset, is, given_register, given_held, 
 use Rattle.gc_script.specs.Steps.{first_failing, tests}
 use Rattle.gc_script.specs.Run.{Goes}
 use Rattle.gc_script.specs.Values.{raw_handle, IsFound}
+use Rattle.gc_script.proofs.StandLemmas.{holds_table}
 use Rattle.gc_script.proofs.TestLemmas.{answers_by}
 use Rattle.gc_script.proofs.TargetLemmas.{names_root}
 
@@ -104,8 +105,8 @@ eq_tests_by layouts s r q g h x y g_is h_is x_is y_is =
 -- two roots were compared
 pub compared : (layouts : Layouts) (store : StoreView) (runner : RunnerView) (s : State) (r q : ℕ) (first second : RawValue) (a b : GcRootIndex) (same : Bool) → HoldsState layouts store runner s → raw_handle first ≡ Some a → raw_handle second ≡ Some b → IsFound store s.table first (given_register s r) true → IsFound store s.table second (given_register s q) true → ((x y : ℕ) → Names store s.table a x → Names store s.table b y → TellsSame (rooted s.table x) (rooted s.table y) (Ok same)) → Goes layouts s (command.Eq r q) (tests layouts s (command.Eq r q)) (reply.Same same) store runner
 compared layouts store runner s r q first second a b same holds is_a is_b found_first found_second tells =
-    let x = named_root layouts store s r first a holds.table is_a found_first in
-    let y = named_root layouts store s q second b holds.table is_b found_second in
+    let x = named_root layouts store s r first a (holds_table holds.table) is_a found_first in
+    let y = named_root layouts store s q second b (holds_table holds.table) is_b found_second in
     let told : TellsSame (Some x.root) (Some y.root) (Ok same) =
     subst (λ (o : Option Reference). TellsSame (Some x.root) o (Ok same)) y.live
     (subst (λ (o : Option Reference). TellsSame o (rooted s.table y.serial) (Ok same)) x.live (tells x.serial y.serial x.names y.names)) in
@@ -115,6 +116,7 @@ compared layouts store runner s r q first second a b same holds is_a is_b found_
       answers = answers_by layouts None s (command.Eq r q) (first_failing (tests layouts s (command.Eq r q))) None (reply.Same same) s
           (eq_tests_by layouts s r q (is found_first.0) (is found_second.0) (Some x.root) (Some y.root) found_first.1.0 found_second.1.0 x.named_is y.named_is)
           (record { first = x.root; second = y.root; first_is = x.named_is; second_is = y.named_is; same = ap reply.Same is_same }, refl);
+      account = refl;
       holds = holds;
     }
 

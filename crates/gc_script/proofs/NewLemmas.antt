@@ -1,5 +1,5 @@
 -- The tests of `new`, in their order.
-use Rattle.std.proofs.Common.{◌≡◌, ◌≢◌, ℕ, ◌==◌, List, [], ◌∷◌, ◌++◌, length, Option, Some, None, Bool, true, false, cond, sym, ap, ◌∙◌, refl, arith}
+use Rattle.std.proofs.Common.{◌≡◌, ◌≢◌, ℕ, ◌==◌, List, [], ◌∷◌, ◌++◌, length, Option, Some, None, Bool, true, false, sym, ap, ◌∙◌, refl, arith}
 use Rattle.std.specs.Prelude.{Result, Ok, Err, is_none, not, ◌||◌}
 use Rattle.std.specs.List.{list_all}
 use Rattle.std.specs.Option.{option_map, unwrap_or}
@@ -28,12 +28,12 @@ use Rattle.gc_script.specs.declared.runner.RunError.{RunError}
 use Rattle.gc_script.specs.Slots.{RunnerView}
 use Rattle.gc_script.specs.State.{State, Held, number, reference, Stands, HoldsState}
 use Rattle.gc_script.specs.Built.{is_built, is_built_operand}
-use Rattle.gc_script.specs.Given.{held_operand, given, given_held, given_root, given_value, is_unset, is_gone, fits_field}
+use Rattle.gc_script.specs.Given.{held_operand, given_held, given_root, is_unset}
 use Rattle.gc_script.specs.Steps.{tests, first_failing, any_unset, field_count, all_value_tests, struct_value_tests, heap_tests}
 use Rattle.gc_script.specs.Run.{RunsOn, RunsOne}
 use Rattle.gc_script.specs.Values.{AllHeld}
-use Rattle.gc_script.proofs.TestLemmas.{passes, stops, passes_all, stops_all, answers_by}
-use Rattle.gc_script.proofs.PlaceLemmas.{counts_nothing}
+use Rattle.gc_script.proofs.TestLemmas.{passes, stops, passes_all, stops_all, answers_by, follows_by}
+use Rattle.gc_script.proofs.CountLemmas.{tells_pages, AllMild, mild_found, says_other, counts_nothing}
 
 root_given : (c : GcClass) (o : Option Reference) → is_unset (given_root c o) ≡ false
 root_given c None = refl
@@ -73,21 +73,13 @@ known_type layouts store s t count holds e =
     known_fields (struct_fields_at s.table.types t) count (ap (λ (ts : List Declaration). option_map length (struct_fields_at ts t)) (sym holds.1.types) ∙ e)
 
 -- no value is refused by the heap
-values_mild : (s : State) (fs : List FieldType) (vs : List Operand) (why : Refusal) → first_failing (all_value_tests s fs vs) ≡ Some why → ¬ (why ≡ refusal.GcHeapOutOfMemory)
-values_mild s [] [] why e is = none-some why e
-values_mild s [] (v ∷ vs) why e is = none-some why e
-values_mild s (f ∷ fs) [] why e is = none-some why e
-values_mild s (f ∷ fs) (v ∷ vs) why e is =
-    elim (is_gone (given s v)) as (λ b. cond b (Some refusal.Unrooted) (cond (not (fits_field (Some f) (given_value (given s v)))) (Some refusal.TypeMismatch) (first_failing (all_value_tests s fs vs))) ≡ Some why → ⊥) [
-      | true ↦ λ h. cc (h, is)
-      | false ↦ λ h.
-          elim (not (fits_field (Some f) (given_value (given s v)))) as (λ b. cond b (Some refusal.TypeMismatch) (first_failing (all_value_tests s fs vs)) ≡ Some why → ⊥) [
-            | true ↦ λ k. cc (k, is)
-            | false ↦ λ k. values_mild s fs vs why k is
-          ] h
-    ] e
+values_mild : (s : State) (fs : List FieldType) (vs : List Operand) → AllMild (all_value_tests s fs vs)
+values_mild s [] [] = tt
+values_mild s [] (v ∷ vs) = tt
+values_mild s (f ∷ fs) [] = tt
+values_mild s (f ∷ fs) (v ∷ vs) = (refl, (refl, values_mild s fs vs))
 
-module _ (layouts : Layouts) (limits : Limits) (store : StoreView) (s : State) (d t : ℕ) (vs : List Operand) (table : HoldsTable layouts store s.table) (built : list_all is_built_operand vs ≡ true) (count : ℕ) (counted : option_map length (struct_fields_at store.types t) ≡ Some count) where
+module _ (layouts : Layouts) (counter : Option ℕ) (limits : Limits) (store : StoreView) (s : State) (d t : ℕ) (vs : List Operand) (table : HoldsTable layouts store s.table) (built : list_all is_built_operand vs ≡ true) (count : ℕ) (counted : option_map length (struct_fields_at store.types t) ≡ Some count) where
   abbrev from_count : List (Bool × Refusal)
   from_count = (not (length vs == field_count s.table t), refusal.FieldCount) ∷ (struct_value_tests s t vs ++ heap_tests layouts s t vs)
 
@@ -98,18 +90,19 @@ module _ (layouts : Layouts) (limits : Limits) (store : StoreView) (s : State) (
       ∙ passes (is_none (struct_fields_at s.table.types t)) refusal.NoSuchName ((any_unset s vs, refusal.NoSuchName) ∷ from_count) (known_type layouts store s t count table counted).0
 
   -- a refusal leaves all
-  refused : (runner : RunnerView) (why : Refusal) → HoldsState layouts store runner s → ¬ (why ≡ refusal.GcHeapOutOfMemory) → first_failing (tests layouts s (New d t vs)) ≡ Some why → RunsOne layouts limits limits s (New d t vs) (Ok (reply.Refused why)) store runner
+  refused : (runner : RunnerView) (why : Refusal) → HoldsState layouts store runner s → tells_pages why ≡ false → first_failing (tests layouts s (New d t vs)) ≡ Some why → RunsOne layouts counter limits limits s (New d t vs) (Ok (reply.Refused why)) store runner
   refused runner why holds mild found = record {
     after = s;
     step = answers_by layouts limits.limit s (New d t vs) (first_failing (tests layouts s (New d t vs))) (Some why) (reply.Refused why) s found (refl, refl);
+    follows = follows_by layouts counter s limits (New d t vs) (first_failing (tests layouts s (New d t vs))) (Some why) (reply.Refused why) s limits found (record { account = refl; same_limits = refl });
+    counts = counts_nothing layouts limits limits s (New d t vs) (reply.Refused why) s (says_other (reply.Refused why) (reply.Refused why) refl mild) refl;
     holds = holds;
-    counts = counts_nothing limits limits s.table.first (reply.Refused why) s (λ e. mild (cc e)) refl;
   }
 
   -- some operand is unset
-  pub refused_unset : (runner : RunnerView) → HoldsState layouts store runner s → any_unset s vs ≡ true → RunsOne layouts limits limits s (New d t vs) (Ok (reply.Refused refusal.NoSuchName)) store runner
+  pub refused_unset : (runner : RunnerView) → HoldsState layouts store runner s → any_unset s vs ≡ true → RunsOne layouts counter limits limits s (New d t vs) (Ok (reply.Refused refusal.NoSuchName)) store runner
   refused_unset runner holds unset =
-      refused runner refusal.NoSuchName holds (λ e. cc e) (past_type ∙ stops (any_unset s vs) refusal.NoSuchName from_count unset)
+      refused runner refusal.NoSuchName holds refl (past_type ∙ stops (any_unset s vs) refusal.NoSuchName from_count unset)
 
   module _ (raws : List RawValue) (are : AllHeld store s vs raws) where
     past_names : first_failing (tests layouts s (New d t vs)) ≡ first_failing from_count
@@ -119,11 +112,11 @@ module _ (layouts : Layouts) (limits : Limits) (store : StoreView) (s : State) (
     many = AllZip-long (λ (v : Operand) (r : RawValue). Stands store s.table (Some r) (held_operand s v)) vs raws are
 
     -- there are not as many operands as fields
-    pub refused_count : (runner : RunnerView) → HoldsState layouts store runner s → length raws ≢ count → RunsOne layouts limits limits s (New d t vs) (Ok (reply.Refused refusal.FieldCount)) store runner
+    pub refused_count : (runner : RunnerView) → HoldsState layouts store runner s → length raws ≢ count → RunsOne layouts counter limits limits s (New d t vs) (Ok (reply.Refused refusal.FieldCount)) store runner
     refused_count runner holds differ =
         let is = (known_type layouts store s t count table counted).1 in
         let other : (length vs == field_count s.table t) ≡ false = grind (arith, nat_tests, is, many, differ) in
-        refused runner refusal.FieldCount holds (λ e. cc e)
+        refused runner refusal.FieldCount holds refl
         (past_names ∙ stops (not (length vs == field_count s.table t)) refusal.FieldCount (struct_value_tests s t vs ++ heap_tests layouts s t vs) (ap not other))
 
     module _ (same_count : length raws ≡ count) where
@@ -134,18 +127,20 @@ module _ (layouts : Layouts) (limits : Limits) (store : StoreView) (s : State) (
           past_names ∙ passes (not (length vs == field_count s.table t)) refusal.FieldCount (struct_value_tests s t vs ++ heap_tests layouts s t vs) (ap not equal)
 
       -- some value may not go into its field
-      pub refused_value : (runner : RunnerView) (why : Refusal) → HoldsState layouts store runner s → first_failing (struct_value_tests s t vs) ≡ Some why → RunsOne layouts limits limits s (New d t vs) (Ok (reply.Refused why)) store runner
+      pub refused_value : (runner : RunnerView) (why : Refusal) → HoldsState layouts store runner s → first_failing (struct_value_tests s t vs) ≡ Some why → RunsOne layouts counter limits limits s (New d t vs) (Ok (reply.Refused why)) store runner
       refused_value runner why holds found =
-          refused runner why holds (values_mild s (unwrap_or (struct_fields_at s.table.types t) []) vs why found)
+          refused runner why holds (mild_found (struct_value_tests s t vs) why (values_mild s (unwrap_or (struct_fields_at s.table.types t) []) vs) found)
           (past_count ∙ stops_all (struct_value_tests s t vs) (heap_tests layouts s t vs) why found)
 
       -- what is left is up to the heap
-      pub new_runs : (limits' : Limits) (result : Result Reply RunError) (new : StoreView) (runner : RunnerView) → first_failing (struct_value_tests s t vs) ≡ None → RunsOn layouts limits limits' s (New d t vs) (heap_tests layouts s t vs) result new runner → RunsOne layouts limits limits' s (New d t vs) result new runner
+      pub new_runs : (limits' : Limits) (result : Result Reply RunError) (new : StoreView) (runner : RunnerView) → first_failing (struct_value_tests s t vs) ≡ None → RunsOn layouts counter limits limits' s (New d t vs) (heap_tests layouts s t vs) result new runner → RunsOne layouts counter limits limits' s (New d t vs) result new runner
       new_runs limits' (Ok answer) new runner pass ran = record {
         after = ran.after;
         step = answers_by layouts limits.limit s (New d t vs) (first_failing (tests layouts s (New d t vs))) (first_failing (heap_tests layouts s t vs)) answer ran.after
             (past_count ∙ passes_all (struct_value_tests s t vs) (heap_tests layouts s t vs) pass) ran.answers;
-        holds = ran.holds;
+        follows = follows_by layouts counter s limits (New d t vs) (first_failing (tests layouts s (New d t vs))) (first_failing (heap_tests layouts s t vs)) answer ran.after limits'
+            (past_count ∙ passes_all (struct_value_tests s t vs) (heap_tests layouts s t vs) pass) ran.follows;
         counts = ran.counts;
+        holds = ran.holds;
       }
       new_runs limits' (Err e) new runner pass ran = ran

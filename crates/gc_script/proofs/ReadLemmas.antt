@@ -22,6 +22,7 @@ use Rattle.gc_model.specs.Holds.{HoldsTable}
 use Rattle.gc_model.proofs.Lists.{slice_get-push_new, slice_get-same_length}
 use Rattle.gc_store.specs.declared.root.GcRootIndex.{GcRootIndex}
 use Rattle.gc_store.specs.declared.root.RawValue.{RawValue}
+use Rattle.gc_store.specs.Accounts.{HoldsAccount}
 use Rattle.gc_store.specs.Roots.{Names, HasField, handle_of}
 use Rattle.gc_store.specs.Values.{RawStands, RootStands, IsReadAs}
 use Rattle.gc_script.specs.Slots.{RunnerView, register_at}
@@ -154,7 +155,12 @@ put_stands new t slots s None r held stand stands d = stand d
 put_stands new t slots s (Some k) r held stand stands d =
     elim (d == k) as (λ b. Stands new t (cond b (Some r) (register_at slots d)) (cond b (Some held) (s.registers d))) [ true ↦ stands | false ↦ stand d ]
 
+-- a value in a register leaves the account
+pub put_account : (into : Option ℕ) (held : Held) (s : State) → (put_into into held s).account ≡ s.account
+put_account None held s = refl
+put_account (Some d) held s = refl
+
 -- the state with a value in a register
-pub put_holds : (layouts : Layouts) (new : StoreView) (runner : RunnerView) (s : State) (t : Table ℕ) (into : Option ℕ) (held : Held) → HoldsTable layouts new t → ((d : ℕ) → Stands new t (register_at runner.registers d) ((put_into into held (with_table t s)).registers d)) → ((o : ℕ) → s.owned_registers o ≡ None) → runner.marks ≡ s.marks → HoldsState layouts new runner (put_into into held (with_table t s))
+pub put_holds : (layouts : Layouts) (new : StoreView) (runner : RunnerView) (s : State) (t : Table ℕ) (into : Option ℕ) (held : Held) → HoldsAccount layouts new t s.account → ((d : ℕ) → Stands new t (register_at runner.registers d) ((put_into into held (with_table t s)).registers d)) → ((o : ℕ) → s.owned_registers o ≡ None) → runner.marks ≡ s.marks → HoldsState layouts new runner (put_into into held (with_table t s))
 put_holds layouts new runner s t None held table stand no_owned marks = record { table = table; registers = stand; no_owned = no_owned; marks = marks }
 put_holds layouts new runner s t (Some d) held table stand no_owned marks = record { table = table; registers = stand; no_owned = no_owned; marks = marks }

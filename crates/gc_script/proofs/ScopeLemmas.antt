@@ -5,7 +5,7 @@ use Rattle.std.proofs.lemmas.Bool.Decides.{nat_tests}
 use Rattle.gc_types.specs.declared.kind.Layouts.{Layouts}
 use Rattle.gc_model.specs.Table.{Table, Scoped, leave}
 use Rattle.gc_model.specs.Views.{StoreView}
-use Rattle.gc_model.specs.Holds.{HoldsTable}
+use Rattle.gc_store.specs.Accounts.{HoldsAccount}
 use Rattle.gc_store.specs.Stores.{IsSameStore}
 use Rattle.gc_commands.specs.declared.command.Command.TheVariants as command
 use Rattle.gc_commands.specs.declared.reply.Reply.TheVariants as reply
@@ -36,16 +36,17 @@ not_empty [] mark = refl
 not_empty (m ∷ older) mark = refl
 
 -- the newest scope was left
-pub left : (layouts : Layouts) (old new : StoreView) (runner runner' : RunnerView) (s : State) (older : List ℕ) (mark scope : ℕ) → IsSameStore old new → HoldsState layouts old runner s → runner.marks ≡ older ++ mark ∷ [] → runner'.registers ≡ runner.registers → runner'.marks ≡ older → scope ≡ min mark (length s.table.scoped) → HoldsTable layouts new (leave scope s.table) → Goes layouts s command.Leave (tests layouts s command.Leave) reply.Done new runner'
+pub left : (layouts : Layouts) (old new : StoreView) (runner runner' : RunnerView) (s : State) (older : List ℕ) (mark scope : ℕ) → IsSameStore old new → HoldsState layouts old runner s → runner.marks ≡ older ++ mark ∷ [] → runner'.registers ≡ runner.registers → runner'.marks ≡ older → scope ≡ min mark (length s.table.scoped) → HoldsAccount layouts new (leave scope s.table) s.account → Goes layouts s command.Leave (tests layouts s command.Leave) reply.Done new runner'
 left layouts old new runner runner' s older mark scope same holds marks registers_are marks_are scope_is table =
     let before : s.marks ≡ older ++ mark ∷ [] = sym holds.marks ∙ marks in
     let is_left : leave scope s.table ≡ leave mark s.table = ap (λ n. leave n s.table) scope_is ∙ leave-min mark s.table in
-    let table_after : HoldsTable layouts new (leave mark s.table) = subst (HoldsTable layouts new) is_left table in
-    let kept = holds_kept layouts old new runner (record { registers = runner'.registers; marks = runner.marks }) s (leave mark s.table) same (λ i p e. e) (λ d. ap (λ slots. register_at slots d) registers_are) refl holds table_after in
+    let table_after : HoldsAccount layouts new (leave mark s.table) s.account = subst (λ (t : Table ℕ). HoldsAccount layouts new t s.account) is_left table in
+    let kept = holds_kept layouts old new runner (record { registers = runner'.registers; marks = runner.marks }) s (leave mark s.table) s.account same (λ i p e. e) (λ d. ap (λ slots. register_at slots d) registers_are) refl holds table_after in
     record {
       after = record s { table = leave mark s.table; marks = older };
       answers = answers_by layouts None s command.Leave (first_failing (tests layouts s command.Leave)) None reply.Done _
           (passes (is_empty_list s.marks) refusal.NoSuchName [] (ap is_empty_list before ∙ not_empty older mark))
           (refl, record { older = older; mark = mark; marks = before; after = refl });
+      account = refl;
       holds = record { table = table_after; registers = kept.registers; no_owned = holds.no_owned; marks = marks_are };
     }

@@ -6,15 +6,15 @@ use Rattle.gc_types.specs.declared.kind.Layouts.{Layouts}
 use Rattle.gc_model.specs.declared.GcClass.{GcClass}
 use Rattle.gc_model.specs.Table.{Table, Push}
 use Rattle.gc_model.specs.Views.{StoreView}
-use Rattle.gc_model.specs.Holds.{HoldsTable}
 use Rattle.gc_model.proofs.Lists.{slice_get-push_new}
 use Rattle.gc_store.specs.declared.root.GcRootIndex.{GcRootIndex}
 use Rattle.gc_store.specs.declared.root.RawValue.{RawValue}
 use Rattle.gc_store.specs.declared.root.RawValue.TheVariants as raw
 use Rattle.gc_store.specs.Roots.{Names, handle_of}
 use Rattle.gc_store.specs.Stores.{IsSameStore}
+use Rattle.gc_store.specs.Accounts.{Account, HoldsAccount}
 use Rattle.gc_script.specs.Slots.{register_at, RunnerView}
-use Rattle.gc_script.specs.State.{State, Held, reference, Stands, HoldsState, with_table, set_register}
+use Rattle.gc_script.specs.State.{State, Held, reference, Stands, HoldsState, with_heap, set_register}
 use Rattle.gc_script.proofs.StandLemmas.{Keeps, keeps_pushed, holds_kept}
 
 -- the push that a new scoped root is
@@ -41,9 +41,9 @@ set_stands new t' slots slots' registers d value held stands set others stand k 
     ] refl
 
 -- a register was set to what stands in the store after
-pub holds_set : (layouts : Layouts) (old new : StoreView) (runner runner' : RunnerView) (s : State) (t' : Table ℕ) (d : ℕ) (value : RawValue) (held : Held) → IsSameStore old new → Keeps s.table.pushes t'.pushes → HoldsState layouts old runner s → HoldsTable layouts new t' → Stands new t' (Some value) (Some held) → register_at runner'.registers d ≡ Some value → ((k : ℕ) → k ≢ d → register_at runner'.registers k ≡ register_at runner.registers k) → runner'.marks ≡ runner.marks → HoldsState layouts new runner' (set_register d held (with_table t' s))
-holds_set layouts old new runner runner' s t' d value held same keeps holds table stands set others marks =
-    let mid = holds_kept layouts old new runner runner s t' same keeps (λ k. refl) refl holds table in
+pub holds_set : (layouts : Layouts) (old new : StoreView) (runner runner' : RunnerView) (s : State) (t' : Table ℕ) (a : Account) (d : ℕ) (value : RawValue) (held : Held) → IsSameStore old new → Keeps s.table.pushes t'.pushes → HoldsState layouts old runner s → HoldsAccount layouts new t' a → Stands new t' (Some value) (Some held) → register_at runner'.registers d ≡ Some value → ((k : ℕ) → k ≢ d → register_at runner'.registers k ≡ register_at runner.registers k) → runner'.marks ≡ runner.marks → HoldsState layouts new runner' (set_register d held (with_heap t' a s))
+holds_set layouts old new runner runner' s t' a d value held same keeps holds table stands set others marks =
+    let mid = holds_kept layouts old new runner runner s t' a same keeps (λ k. refl) refl holds table in
     record {
       table = table;
       registers = set_stands new t' runner.registers runner'.registers s.registers d value held stands set others mid.registers;
@@ -52,8 +52,8 @@ holds_set layouts old new runner runner' s t' d value held same keeps holds tabl
     }
 
 -- so of the handle of a root that was just pushed
-pub holds_pushed : (layouts : Layouts) (old new : StoreView) (runner runner' : RunnerView) (s : State) (t' : Table ℕ) (d : ℕ) (class : GcClass) (handle : GcRootIndex) → IsSameStore old new → t'.pushes ≡ s.table.pushes ++ next_push s.table ∷ [] → HoldsState layouts old runner s → HoldsTable layouts new t' → handle ≡ handle_of new (length s.table.scoped) s.table.drops → register_at runner'.registers d ≡ Some (raw.Ref class (Some handle)) → ((k : ℕ) → k ≢ d → register_at runner'.registers k ≡ register_at runner.registers k) → runner'.marks ≡ runner.marks → HoldsState layouts new runner' (set_register d (reference class (Some (length s.table.pushes))) (with_table t' s))
-holds_pushed layouts old new runner runner' s t' d class handle same pushes holds table is set others marks =
-    holds_set layouts old new runner runner' s t' d (raw.Ref class (Some handle)) (reference class (Some (length s.table.pushes))) same
+pub holds_pushed : (layouts : Layouts) (old new : StoreView) (runner runner' : RunnerView) (s : State) (t' : Table ℕ) (a : Account) (d : ℕ) (class : GcClass) (handle : GcRootIndex) → IsSameStore old new → t'.pushes ≡ s.table.pushes ++ next_push s.table ∷ [] → HoldsState layouts old runner s → HoldsAccount layouts new t' a → handle ≡ handle_of new (length s.table.scoped) s.table.drops → register_at runner'.registers d ≡ Some (raw.Ref class (Some handle)) → ((k : ℕ) → k ≢ d → register_at runner'.registers k ≡ register_at runner.registers k) → runner'.marks ≡ runner.marks → HoldsState layouts new runner' (set_register d (reference class (Some (length s.table.pushes))) (with_heap t' a s))
+holds_pushed layouts old new runner runner' s t' a d class handle same pushes holds table is set others marks =
+    holds_set layouts old new runner runner' s t' a d (raw.Ref class (Some handle)) (reference class (Some (length s.table.pushes))) same
     (keeps_pushed s.table.pushes t'.pushes (next_push s.table) pushes) holds table
     (refl, pushed_names new s.table t' handle pushes is) set others marks

@@ -12,8 +12,13 @@ use Rattle.gc_store.specs.declared.root.RawValue.{RawValue}
 use Rattle.gc_store.specs.declared.root.RawValue.TheVariants as raw
 use Rattle.gc_store.specs.Roots.{Names}
 use Rattle.gc_store.specs.Stores.{IsSameStore}
+use Rattle.gc_store.specs.Accounts.{Account, HoldsAccount}
 use Rattle.gc_script.specs.Slots.{register_at, RunnerView}
-use Rattle.gc_script.specs.State.{State, Held, number, reference, Stands, HoldsState, begin, with_table}
+use Rattle.gc_script.specs.State.{State, Held, number, reference, Stands, HoldsState, begin, with_heap}
+
+-- a store holds the table, whatever its account is
+pub holds_table : {D : Type 0} {layouts : Layouts} {s : StoreView} {t : Table D} {a : Account} → HoldsAccount layouts s t a → HoldsTable layouts s t
+holds_table holds = (holds.place, holds.holds)
 
 -- pushes that were there are still there
 abbrev pub Keeps : List Push → List Push → Type 0
@@ -46,11 +51,11 @@ names_kept s new t t' handle serial same keeps names = record {
 
 -- a store is the same as itself
 pub same_store : (s : StoreView) → IsSameStore s s
-same_store s = record { engine = refl; number = refl }
+same_store s = record { engine = refl; number = refl; counter = refl }
 
 -- a store that is the same as one that is the same as another
 pub same_twice : (a b c : StoreView) → IsSameStore a b → IsSameStore b c → IsSameStore a c
-same_twice a b c one two = record { engine = two.engine ∙ one.engine; number = two.number ∙ one.number }
+same_twice a b c one two = record { engine = two.engine ∙ one.engine; number = two.number ∙ one.number; counter = two.counter ∙ one.counter }
 
 -- what a register holds stands in the store after
 pub stands_kept : (s new : StoreView) (t t' : Table ℕ) (found : Option RawValue) (held : Option Held) → IsSameStore s new → Keeps t.pushes t'.pushes → Stands s t found held → Stands new t' found held
@@ -92,21 +97,21 @@ stands_kept s new t t' (Some (raw.Ref c' (Some handle))) (Some (reference c None
 stands_kept s new t t' (Some (raw.Ref c' (Some handle))) (Some (reference c (Some serial))) same keeps stands = (stands.0, names_kept s new t t' handle serial same keeps stands.1)
 
 -- the registers stand for the same ones in the store after
-pub holds_kept : (layouts : Layouts) (s new : StoreView) (runner runner' : RunnerView) (state : State) (t' : Table ℕ) → IsSameStore s new → Keeps state.table.pushes t'.pushes → ((d : ℕ) → register_at runner'.registers d ≡ register_at runner.registers d) → runner'.marks ≡ runner.marks → HoldsState layouts s runner state → HoldsTable layouts new t' → HoldsState layouts new runner' (with_table t' state)
-holds_kept layouts s new runner runner' state t' same keeps slots_are marks_are holds table = record {
+pub holds_kept : (layouts : Layouts) (s new : StoreView) (runner runner' : RunnerView) (state : State) (t' : Table ℕ) (a : Account) → IsSameStore s new → Keeps state.table.pushes t'.pushes → ((d : ℕ) → register_at runner'.registers d ≡ register_at runner.registers d) → runner'.marks ≡ runner.marks → HoldsState layouts s runner state → HoldsAccount layouts new t' a → HoldsState layouts new runner' (with_heap t' a state)
+holds_kept layouts s new runner runner' state t' a same keeps slots_are marks_are holds table = record {
   table = table;
   registers = λ d. subst (λ (o : Option RawValue). Stands new t' o (state.registers d)) (sym (slots_are d)) (stands_kept s new state.table t' (register_at runner.registers d) (state.registers d) same keeps (holds.registers d));
   no_owned = holds.no_owned;
   marks = marks_are ∙ holds.marks;
 }
 
--- so where the table is the same
-pub holds_same : (layouts : Layouts) (s new : StoreView) (runner runner' : RunnerView) (state : State) → IsSameStore s new → ((d : ℕ) → register_at runner'.registers d ≡ register_at runner.registers d) → runner'.marks ≡ runner.marks → HoldsState layouts s runner state → HoldsTable layouts new state.table → HoldsState layouts new runner' state
-holds_same layouts s new runner runner' state same slots_are marks_are holds table = holds_kept layouts s new runner runner' state state.table same (λ i p e. e) slots_are marks_are holds table
+-- so where the table and the account are the same
+pub holds_same : (layouts : Layouts) (s new : StoreView) (runner runner' : RunnerView) (state : State) → IsSameStore s new → ((d : ℕ) → register_at runner'.registers d ≡ register_at runner.registers d) → runner'.marks ≡ runner.marks → HoldsState layouts s runner state → HoldsAccount layouts new state.table state.account → HoldsState layouts new runner' state
+holds_same layouts s new runner runner' state same slots_are marks_are holds table = holds_kept layouts s new runner runner' state state.table state.account same (λ i p e. e) slots_are marks_are holds table
 
 -- a store with a new runner is in the state at the beginning
-pub begins : (layouts : Layouts) (store : StoreView) (runner : RunnerView) (t : Table ℕ) → HoldsTable layouts store t → runner ≡ record { registers = []; marks = [] } → HoldsState layouts store runner (begin t)
-begins layouts store runner t holds none = record {
+pub begins : (layouts : Layouts) (store : StoreView) (runner : RunnerView) (t : Table ℕ) (a : Account) → HoldsAccount layouts store t a → runner ≡ record { registers = []; marks = [] } → HoldsState layouts store runner (begin t a)
+begins layouts store runner t a holds none = record {
   table = holds;
   registers = λ d. subst (λ (r : RunnerView). Stands store t (register_at r.registers d) None) (sym none) tt;
   no_owned = λ o. refl;

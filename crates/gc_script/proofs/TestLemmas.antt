@@ -1,6 +1,7 @@
 -- The first test that is true.
 use Rattle.std.proofs.Common.{◌≡◌, ℕ, List, [], ◌∷◌, ◌++◌, Option, Some, None, Bool, true, false, cond, sym, ap, refl, subst}
 use Rattle.gc_types.specs.declared.kind.Layouts.{Layouts}
+use Rattle.gc_model.specs.Allocation.{Limits}
 use Rattle.gc_model.specs.Views.{StoreView}
 use Rattle.gc_commands.specs.declared.command.Command.{Command}
 use Rattle.gc_commands.specs.declared.reply.Reply.{Reply}
@@ -9,6 +10,7 @@ use Rattle.gc_commands.specs.declared.reply.Refusal.{Refusal}
 use Rattle.gc_script.specs.Slots.{RunnerView}
 use Rattle.gc_script.specs.State.{State, HoldsState}
 use Rattle.gc_script.specs.Steps.{first_failing, tests, Answers}
+use Rattle.gc_script.specs.Policy.{FollowsTested}
 use Rattle.gc_script.specs.Run.{Goes}
 
 -- a test that is false is passed over
@@ -35,10 +37,15 @@ stops_all ((false, w) ∷ ts) us why e = stops_all ts us why e
 pub answers_by : (layouts : Layouts) (limit : Option ℕ) (s : State) (c : Command) (found known : Option Refusal) (answer : Reply) (s' : State) → found ≡ known → Answers layouts limit s c known answer s' → Answers layouts limit s c found answer s'
 answers_by layouts limit s c found known answer s' e answers = subst (λ (o : Option Refusal). Answers layouts limit s c o answer s') (sym e) answers
 
+-- how a command follows the policy, by what its tests found
+pub follows_by : (layouts : Layouts) (counter : Option ℕ) (s : State) (limits : Limits) (c : Command) (found known : Option Refusal) (answer : Reply) (s' : State) (limits' : Limits) → found ≡ known → FollowsTested layouts counter s limits c known answer s' limits' → FollowsTested layouts counter s limits c found answer s' limits'
+follows_by layouts counter s limits c found known answer s' limits' e follows = subst (λ (o : Option Refusal). FollowsTested layouts counter s limits c o answer s' limits') (sym e) follows
+
 -- a command that is refused changes nothing
 pub refuses : (layouts : Layouts) (store : StoreView) (runner : RunnerView) (s : State) (c : Command) (why : Refusal) → HoldsState layouts store runner s → first_failing (tests layouts s c) ≡ Some why → Goes layouts s c (tests layouts s c) (reply.Refused why) store runner
 refuses layouts store runner s c why holds e = record {
   after = s;
   answers = answers_by layouts None s c (first_failing (tests layouts s c)) (Some why) (reply.Refused why) s e (refl, refl);
+  account = refl;
   holds = holds;
 }

@@ -10,7 +10,6 @@ use Rattle.gc_model.specs.Values.{Reference}
 use Rattle.gc_model.specs.Table.{Table, write}
 use Rattle.gc_model.specs.Live.{rooted}
 use Rattle.gc_model.specs.Views.{StoreView}
-use Rattle.gc_model.specs.Holds.{HoldsTable}
 use Rattle.gc_commands.specs.declared.command.Operand.{Operand}
 use Rattle.gc_commands.specs.declared.command.Command.TheVariants as command
 use Rattle.gc_commands.specs.declared.reply.Reply.TheVariants as reply
@@ -18,6 +17,7 @@ use Rattle.gc_commands.specs.declared.reply.Refusal.{Refusal}
 use Rattle.gc_commands.specs.declared.reply.Refusal.TheVariants as refusal
 use Rattle.gc_store.specs.declared.root.RawValue.{RawValue}
 use Rattle.gc_store.specs.declared.root.RawValue.TheVariants as raw
+use Rattle.gc_store.specs.Accounts.{HoldsAccount}
 use Rattle.gc_store.specs.Stores.{IsSameStore}
 use Rattle.gc_store.specs.Values.{CanStore, CanWrite, RawStands, WritesValue}
 use Rattle.gc_script.specs.declared.targets.FieldPlace.{FieldPlace}
@@ -95,15 +95,16 @@ module _ (layouts : Layouts) (store : StoreView) (runner : RunnerView) (s : Stat
       no_fit var why e = refuses layouts store runner s (command.SetField r i v) why holds (to_check var ∙ e)
 
       -- the field was written
-      pub written : (new : StoreView) (value : RawValue) → place.field.mutability ≡ Var → first_failing (value_tests s (Some place.field) v) ≡ None → IsSameStore store new → RawStands store s.table value (given_value (given s v)) → WritesValue layouts store new s.table place.root i value → Goes layouts s (command.SetField r i v) (tests layouts s (command.SetField r i v)) reply.Done new runner
+      pub written : (new : StoreView) (value : RawValue) → place.field.mutability ≡ Var → first_failing (value_tests s (Some place.field) v) ≡ None → IsSameStore store new → RawStands store s.table value (given_value (given s v)) → WritesValue layouts store new s.table s.account place.root i value → Goes layouts s (command.SetField r i v) (tests layouts s (command.SetField r i v)) reply.Done new runner
       written new value var fits same stands writes =
-          let table : HoldsTable layouts new (write found.found.position i (given_value (given s v)) s.table) =
-          subst (λ (p : ℕ). HoldsTable layouts new (write p i (given_value (given s v)) s.table)) found.position (writes found.value (given_value (given s v)) found.has stands) in
+          let table : HoldsAccount layouts new (write found.found.position i (given_value (given s v)) s.table) s.account =
+          subst (λ (p : ℕ). HoldsAccount layouts new (write p i (given_value (given s v)) s.table) s.account) found.position (writes found.value (given_value (given s v)) found.has stands) in
           record {
             after = with_table (write found.found.position i (given_value (given s v)) s.table) s;
             answers = answers_by layouts None s (command.SetField r i v) (first_failing (tests layouts s (command.SetField r i v))) None reply.Done _ (to_check var ∙ fits)
                 (refl, record { found = found.found; is_target = found.is_target; after = refl });
-            holds = holds_kept layouts store new runner runner s (write found.found.position i (given_value (given s v)) s.table) same (λ j p e. e) (λ d. refl) refl holds table;
+            account = refl;
+            holds = holds_kept layouts store new runner runner s (write found.found.position i (given_value (given s v)) s.table) s.account same (λ j p e. e) (λ d. refl) refl holds table;
           }
 
 -- a value that goes into a field that was found may be written

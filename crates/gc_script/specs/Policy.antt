@@ -1,11 +1,11 @@
 -- How commands follow the policy of growth: what they do to the account and ask of the limiter.
-use Rattle.std.specs.Prelude.{◌≡◌, ℕ, Bool, true, false, List, [], ◌∷◌, Option, Some, None, length}
+use Rattle.std.specs.Prelude.{◌≡◌, ℕ, true, false, List, [], ◌∷◌, Option, Some, None, length}
 use Rattle.gc_types.specs.declared.kind.Layouts.{Layouts}
 use Rattle.gc_model.specs.Values.{Object}
-use Rattle.gc_model.specs.Table.{Table, make}
+use Rattle.gc_model.specs.Table.{make}
 use Rattle.gc_model.specs.Sizes.{object_size}
 use Rattle.gc_model.specs.Allocation.{Limits}
-use Rattle.gc_store.specs.Accounts.{Account, with_held}
+use Rattle.gc_store.specs.Accounts.{with_held}
 use Rattle.gc_store.specs.Policy.{PolicyState, policy_state, Prepares, Prepared, Expands, Expanded}
 use Rattle.gc_store.specs.Expansion.{MayCollectTable}
 use Rattle.gc_commands.specs.declared.command.Command.{Command}

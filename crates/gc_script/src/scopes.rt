@@ -2,10 +2,11 @@
 
 ghost use Rattle.std.specs.Prelude.{◌≡◌, ℕ, Ok};
 ghost use Rattle.gc_commands.specs.declared.command.Command.TheVariants as Command;
+ghost use Rattle.gc_model.specs.Allocation.{Limits};
 ghost use Rattle.gc_model.specs.Holds.{HoldsKept};
 ghost use Rattle.gc_script.specs.State.{State, HoldsState};
 ghost use Rattle.gc_script.specs.Steps.{tests};
-ghost use Rattle.gc_script.specs.Run.{GoesOn};
+ghost use Rattle.gc_script.specs.Run.{GoesOn, RunsOne};
 ghost use Rattle.gc_store.specs.Stores.{IsSameStore};
 
 use crate::runner::{RunError, Runner};
@@ -40,7 +41,7 @@ impl Runner {
 
     /// Collects, and tells what the heap holds.
     pub(crate) fn collect<H: GcHeap>(&self, store: &mut Store<H, u64>) -> Reply
-        ensures goes { (s : State) → HoldsState H.KIND store.old self.now s → GoesOn H.KIND s Command.Gc (tests H.KIND s Command.Gc) (Ok result) store.new self.now }
+        ensures runs { (limits : Limits) (s : State) → HoldsState H.KIND store.old self.now s → RunsOne H.KIND store.old.alloc_counter limits limits s Command.Gc (Ok result) store.new self.now }
         ensures kept { (s : State) → HoldsState H.KIND store.old self.now s → HoldsKept H.KIND store.new s.table }
         ensures same { IsSameStore store.old store.new }
     {

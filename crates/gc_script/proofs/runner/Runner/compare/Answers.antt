@@ -4,6 +4,7 @@ use Rattle.gc_script.specs.Slots.{RunnerView, register_at}
 use Rattle.gc_script.specs.State.{State, HoldsState, Stands}
 use Rattle.gc_script.specs.Given.{given_register}
 use Rattle.gc_script.specs.Values.{IsFound}
+use Rattle.gc_script.proofs.StandLemmas.{holds_table}
 use Rattle.gc_script.proofs.NamedLemmas.{compared, never_unrooted}
 use Rattle.gc_script.proofs.runner.Runner.compare.Given as given
 use Rattle.gc_script.proofs.runner.Runner.compare.Goals as goal
@@ -13,13 +14,13 @@ use Rattle.gc_script.proofs.runner.Runner.compare.Goals.{After-index_eq}
 first_found : (g : given.Over) (c : After-index_eq g) (s : State) → HoldsState g.H.GcHeap.KIND c.args.store.now c.args.self.now s → IsFound c.args.store.now s.table c.in-Some.value (given_register s c.args.r) true
 first_found g c s holds =
     let slot : register_at c.args.self.now.registers c.args.r ≡ Some c.in-Some.value = ap (λ (x : RunnerView). register_at x.registers c.args.r) (sym c.self.view_is) ∙ sym c.in-Some.ensures in
-    c.if-not-is_live.ensures.found s.table (s.registers c.args.r) holds.table (subst (λ (o : Option RawValue). Stands c.args.store.now s.table o (s.registers c.args.r)) slot (holds.registers c.args.r))
+    c.if-not-is_live.ensures.found s.table (s.registers c.args.r) (holds_table holds.table) (subst (λ (o : Option RawValue). Stands c.args.store.now s.table o (s.registers c.args.r)) slot (holds.registers c.args.r))
 
 -- and so is what the second one holds
 second_found : (g : given.Over) (c : After-index_eq g) (s : State) → HoldsState g.H.GcHeap.KIND c.args.store.now c.args.self.now s → IsFound c.args.store.now s.table c.in-Some-get.value (given_register s c.args.q) true
 second_found g c s holds =
     let slot : register_at c.args.self.now.registers c.args.q ≡ Some c.in-Some-get.value = ap (λ (x : RunnerView). register_at x.registers c.args.q) (sym c.self.view_is) ∙ sym c.in-Some-get.ensures in
-    c.if-not-is_live-2.ensures.found s.table (s.registers c.args.q) holds.table (subst (λ (o : Option RawValue). Stands c.args.store.now s.table o (s.registers c.args.q)) slot (holds.registers c.args.q))
+    c.if-not-is_live-2.ensures.found s.table (s.registers c.args.q) (holds_table holds.table) (subst (λ (o : Option RawValue). Stands c.args.store.now s.table o (s.registers c.args.q)) slot (holds.registers c.args.q))
 
 pub returns-in-Ok : goal.returns-in-Ok
 returns-in-Ok g c = record {
@@ -27,14 +28,14 @@ returns-in-Ok g c = record {
       let at = (goal.at.returns-in-Ok g c).After-index_eq in
       compared g.H.GcHeap.KIND c.args.store.now c.args.self.now s c.args.r c.args.q c.in-Some.value c.in-Some-get.value c.in-Some-handle_of.root c.in-Some-handle_of-2.root c.in-Ok.same holds
       (sym c.in-Some-handle_of.ensures) (sym c.in-Some-handle_of-2.ensures) (first_found g at s holds) (second_found g at s holds)
-      (λ x y. c.in-Ok.ensures.named s.table x y holds.table);
+      (λ x y. c.in-Ok.ensures.named s.table x y (holds_table holds.table));
 }
 
 pub returns-in-Err : goal.returns-in-Err
 returns-in-Err g c = record {
   goes = λ s holds.
       let at = (goal.at.returns-in-Err g c).After-index_eq in
-      absurd (never_unrooted g.H.GcHeap.KIND c.args.store.now s c.args.r c.args.q c.in-Some.value c.in-Some-get.value c.in-Some-handle_of.root c.in-Some-handle_of-2.root c.in-Err.field-0 holds.table
+      absurd (never_unrooted g.H.GcHeap.KIND c.args.store.now s c.args.r c.args.q c.in-Some.value c.in-Some-get.value c.in-Some-handle_of.root c.in-Some-handle_of-2.root c.in-Err.field-0 (holds_table holds.table)
       (sym c.in-Some-handle_of.ensures) (sym c.in-Some-handle_of-2.ensures) (first_found g at s holds) (second_found g at s holds)
-      (λ x y. c.in-Err.ensures.named s.table x y holds.table));
+      (λ x y. c.in-Err.ensures.named s.table x y (holds_table holds.table)));
 }

@@ -35,10 +35,10 @@ returns-in-Ok-declare_struct-clause-goes g c s holds =
     let at = (goal.at.returns-in-Ok-declare_struct-clause-goes g c).After-as_slice in
     subst (λ (n : ℕ). GoesOn g.H.GcHeap.KIND s (Struct c.args.is_final c.args.supertype c.args.fields.now) (tests g.H.GcHeap.KIND s (Struct c.args.is_final c.args.supertype c.args.fields.now)) (Ok (reply.Declared n)) c.declare_struct.new.self c.args.self.now) (sym (c.as_u32.ensures ∙ c.index.ensures))
     (struct_declared g.H.GcHeap.KIND c.args.store.now c.declare_struct.new.self c.args.self.now s c.args.is_final c.args.supertype c.args.fields.now c.as_slice.result.now (is_form g at) (types_are g at) c.declare_struct.ensures.same holds
-    c.in-Ok-declare_struct.ty (c.in-Ok-declare_struct.ensures.step s.table holds.table))
+    c.in-Ok-declare_struct.ty (c.in-Ok-declare_struct.ensures.step s.table s.account holds.table))
 
 pub returns-in-Err-BadType-clause-goes : goal.returns-in-Err-BadType-clause-goes
 returns-in-Err-BadType-clause-goes g c s holds =
     let at = (goal.at.returns-in-Err-BadType-clause-goes g c).After-as_slice in
     struct_refused g.H.GcHeap.KIND c.args.store.now c.declare_struct.new.self c.args.self.now s c.args.is_final c.args.supertype c.args.fields.now c.as_slice.result.now (is_form g at) (types_are g at) c.declare_struct.ensures.same holds
-    (subst (λ (e : TypeFault). DeclaresStruct g.H.GcHeap.KIND c.as_slice.result.now s.table (Err e) c.declare_struct.new.self) c.in-Err-BadType.field-0-is (c.in-Err-BadType.ensures.step s.table holds.table))
+    (subst (λ (e : TypeFault). DeclaresStruct g.H.GcHeap.KIND c.as_slice.result.now s.table s.account (Err e) c.declare_struct.new.self) c.in-Err-BadType.field-0-is (c.in-Err-BadType.ensures.step s.table s.account holds.table))

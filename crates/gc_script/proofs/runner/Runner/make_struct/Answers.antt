@@ -12,6 +12,8 @@ use Rattle.gc_script.specs.Built.{is_built_operand}
 use Rattle.gc_script.specs.Steps.{first_failing, struct_value_tests, heap_tests}
 use Rattle.gc_script.specs.Run.{RunsOn}
 use Rattle.gc_script.specs.Values.{AreRegisters, AllHeld, HoldsOperands, HasUnset}
+use Rattle.gc_script.proofs.StandLemmas.{holds_table}
+use Rattle.gc_script.proofs.GoesLemmas.{wants_nothing}
 use Rattle.gc_script.proofs.NewLemmas.{refused_unset, refused_count, refused_value, new_runs}
 use Rattle.gc_script.proofs.runner.Runner.make_struct.Given as given
 use Rattle.gc_script.proofs.runner.Runner.make_struct.Goals as goal
@@ -34,11 +36,14 @@ registers_are g c s holds d =
 operands_held : (g : given.Over) (c : In-Some-found g) → HoldsOperands c.self.inside.registers c.args.operands.now c.in-Some-found.values.items
 operands_held g c = rw c.in-Some-found.is at c.in-Ok.ensures.set
 
+pub returns-in_default-operand_values-clause-runs : goal.returns-in_default-operand_values-clause-runs
+returns-in_default-operand_values-clause-runs g c s holds = wants_nothing _ _ _ s _ _ _ holds
+
 pub returns-in_default-found-clause-runs : goal.returns-in_default-found-clause-runs
 returns-in_default-found-clause-runs g c s holds =
     let at = (goal.at.returns-in_default-found-clause-runs g c).In-Ok in
     let unset : HasUnset c.self.inside.registers c.args.operands.now = rw c.in_default-found.is at c.in-Ok.ensures.unset in
-    refused_unset g.H.GcHeap.KIND (g.L.ResourceLimiter.limits c.args.limiter.now) c.args.store.now s c.args.d c.args.t c.args.operands.now holds.table (built g at) c.in-Some.count (counted g at)
+    refused_unset g.H.GcHeap.KIND c.args.store.now.alloc_counter (g.L.ResourceLimiter.limits c.args.limiter.now) c.args.store.now s c.args.d c.args.t c.args.operands.now (holds_table holds.table) (built g at) c.in-Some.count (counted g at)
     c.args.self.now holds (unset c.args.store.now s (registers_are g at s holds))
 
 pub returns-then-len-count-clause-runs : goal.returns-then-len-count-clause-runs
@@ -46,7 +51,7 @@ returns-then-len-count-clause-runs g c s holds =
     let at = (goal.at.returns-then-len-count-clause-runs g c).In-Ok in
     let held = operands_held g (goal.at.returns-then-len-count-clause-runs g c).In-Some-found in
     let differ : length c.in-Some-found.values.items ≢ c.in-Some.count = λ e. c.if-len-count.true (c.len.ensures ∙ c.in-Some-found.values.ok.0 ∙ e) in
-    refused_count g.H.GcHeap.KIND (g.L.ResourceLimiter.limits c.args.limiter.now) c.args.store.now s c.args.d c.args.t c.args.operands.now holds.table (built g at) c.in-Some.count (counted g at)
+    refused_count g.H.GcHeap.KIND c.args.store.now.alloc_counter (g.L.ResourceLimiter.limits c.args.limiter.now) c.args.store.now s c.args.d c.args.t c.args.operands.now (holds_table holds.table) (built g at) c.in-Some.count (counted g at)
     c.in-Some-found.values.items (held c.args.store.now s (registers_are g at s holds))
     c.args.self.now holds differ
 
@@ -56,13 +61,13 @@ returns-in-Ok-check_values-clause-runs g c s holds =
     let held = operands_held g (goal.at.returns-in-Ok-check_values-clause-runs g c).In-Some-found c.args.store.now s (registers_are g at s holds) in
     let many : length c.in-Some-found.values.items ≡ c.in-Some.count = sym c.in-Some-found.values.ok.0 ∙ sym c.len.ensures ∙ c.if-len-count.false in
     let held_slice : AllHeld c.args.store.now s c.args.operands.now c.as_slice.result.now = subst (AllHeld c.args.store.now s c.args.operands.now) (sym c.as_slice.ensures.value) held in
-    let checks = c.in-Ok-check_values.ensures.checks s c.args.operands.now holds.table held_slice in
+    let checks = c.in-Ok-check_values.ensures.checks s c.args.operands.now (holds_table holds.table) held_slice in
     let passed : first_failing (struct_value_tests s c.args.t c.args.operands.now) ≡ None = subst (λ (ty : ℕ). first_failing (struct_value_tests s ty c.args.operands.now) ≡ None) c.new-ty.ensures checks.0 in
     let stand : AllStand c.args.store.now s.table c.as_slice-in-Ok-check_values.result.now (given_values s c.args.operands.now) =
     subst (λ (rs : List RawValue). AllStand c.args.store.now s.table rs (given_values s c.args.operands.now)) (c.as_slice.ensures.value ∙ sym c.as_slice-in-Ok-check_values.ensures.value) checks.1 in
-    new_runs g.H.GcHeap.KIND (g.L.ResourceLimiter.limits c.args.limiter.now) c.args.store.now s c.args.d c.args.t c.args.operands.now holds.table (built g at) c.in-Some.count (counted g at)
+    new_runs g.H.GcHeap.KIND c.args.store.now.alloc_counter (g.L.ResourceLimiter.limits c.args.limiter.now) c.args.store.now s c.args.d c.args.t c.args.operands.now (holds_table holds.table) (built g at) c.in-Some.count (counted g at)
     c.in-Some-found.values.items held many (g.L.ResourceLimiter.limits c.place_new.new.limiter) c.place_new.result c.place_new.new.store c.place_new.new.self passed
-    (subst (λ (ty : ℕ). RunsOn g.H.GcHeap.KIND (g.L.ResourceLimiter.limits c.args.limiter.now) (g.L.ResourceLimiter.limits c.place_new.new.limiter) s (New c.args.d ty c.args.operands.now) (heap_tests g.H.GcHeap.KIND s ty c.args.operands.now) c.place_new.result c.place_new.new.store c.place_new.new.self) c.new-ty.ensures
+    (subst (λ (ty : ℕ). RunsOn g.H.GcHeap.KIND c.args.store.now.alloc_counter (g.L.ResourceLimiter.limits c.args.limiter.now) (g.L.ResourceLimiter.limits c.place_new.new.limiter) s (New c.args.d ty c.args.operands.now) (heap_tests g.H.GcHeap.KIND s ty c.args.operands.now) c.place_new.result c.place_new.new.store c.place_new.new.self) c.new-ty.ensures
     (c.place_new.ensures.runs s c.args.operands.now holds stand))
 
 pub returns-clause-runs : goal.returns-clause-runs
@@ -71,7 +76,7 @@ returns-clause-runs g c s holds =
     let held = operands_held g (goal.at.returns-clause-runs g c).In-Some-found c.args.store.now s (registers_are g at s holds) in
     let many : length c.in-Some-found.values.items ≡ c.in-Some.count = sym c.in-Some-found.values.ok.0 ∙ sym c.len.ensures ∙ c.if-len-count.false in
     let held_slice : AllHeld c.args.store.now s c.args.operands.now c.as_slice.result.now = subst (AllHeld c.args.store.now s c.args.operands.now) (sym c.as_slice.ensures.value) held in
-    let checks = c.in-Err.ensures.checks s c.args.operands.now holds.table held_slice in
-    refused_value g.H.GcHeap.KIND (g.L.ResourceLimiter.limits c.args.limiter.now) c.args.store.now s c.args.d c.args.t c.args.operands.now holds.table (built g at) c.in-Some.count (counted g at)
+    let checks = c.in-Err.ensures.checks s c.args.operands.now (holds_table holds.table) held_slice in
+    refused_value g.H.GcHeap.KIND c.args.store.now.alloc_counter (g.L.ResourceLimiter.limits c.args.limiter.now) c.args.store.now s c.args.d c.args.t c.args.operands.now (holds_table holds.table) (built g at) c.in-Some.count (counted g at)
     c.in-Some-found.values.items held many c.args.self.now c.in-Err.refusal holds
     (subst (λ (ty : ℕ). first_failing (struct_value_tests s ty c.args.operands.now) ≡ Some c.in-Err.refusal) c.new-ty.ensures checks)

@@ -11,6 +11,9 @@ use Rattle.gc_script.specs.Given.{given_values}
 use Rattle.gc_script.specs.Slots.{RunnerView, register_at}
 use Rattle.gc_script.specs.State.{State, HoldsState}
 use Rattle.gc_script.specs.Steps.{new_struct}
+use Rattle.gc_script.specs.Policy.{policy_of}
+use Rattle.gc_script.proofs.StandLemmas.{same_store, holds_same}
+use Rattle.gc_script.proofs.GoesLemmas.{wants_nothing}
 use Rattle.gc_script.proofs.PlaceLemmas.{placed, refused_large, refused_full, lacked, unplaced}
 use Rattle.gc_script.proofs.runner.Runner.place_new.Given as given
 use Rattle.gc_script.proofs.runner.Runner.place_new.Goals as goal
@@ -21,15 +24,22 @@ slots_are : (g : given.Over) (c : After-place_struct g) (k : ℕ) → register_a
 slots_are g c k = c.make_room.ensures.same k ∙ ap (λ (r : RunnerView). register_at r.registers k) c.self.view_is
 
 -- what was placed, by a result that is known
-places_as : (g : given.Over) (c : After-place_struct g) (s : State) (vs : List Operand) (result : Result GcRootIndex PlaceFault) → c.place_struct.result ≡ result → HoldsState g.H.GcHeap.KIND c.args.store.now c.args.self.now s → AllStand c.args.store.now s.table c.args.values.now (given_values s vs) → Places g.H.GcHeap.KIND (new_struct s c.args.ty vs) (g.L.ResourceLimiter.limits c.args.limiter.now) (g.L.ResourceLimiter.limits c.place_struct.new.limiter) s.table result c.place_struct.new.self
+places_as : (g : given.Over) (c : After-place_struct g) (s : State) (vs : List Operand) (result : Result GcRootIndex PlaceFault) → c.place_struct.result ≡ result → HoldsState g.H.GcHeap.KIND c.args.store.now c.args.self.now s → AllStand c.args.store.now s.table c.args.values.now (given_values s vs) → Places g.H.GcHeap.KIND c.args.store.now.alloc_counter (new_struct s c.args.ty vs) (policy_of s (g.L.ResourceLimiter.limits c.args.limiter.now)) (g.L.ResourceLimiter.limits c.place_struct.new.limiter) result c.place_struct.new.self
 places_as g c s vs result is holds stand =
-    subst (λ (r : Result GcRootIndex PlaceFault). Places g.H.GcHeap.KIND (new_struct s c.args.ty vs) (g.L.ResourceLimiter.limits c.args.limiter.now) (g.L.ResourceLimiter.limits c.place_struct.new.limiter) s.table r c.place_struct.new.self) is
-    (c.place_struct.ensures.places s.table (given_values s vs) holds.table stand)
+    subst (λ (r : Result GcRootIndex PlaceFault). Places g.H.GcHeap.KIND c.args.store.now.alloc_counter (new_struct s c.args.ty vs) (policy_of s (g.L.ResourceLimiter.limits c.args.limiter.now)) (g.L.ResourceLimiter.limits c.place_struct.new.limiter) r c.place_struct.new.self) is
+    (c.place_struct.ensures.places s.table s.account (given_values s vs) holds.table stand)
+
+pub returns-then-is_err-clause-runs : goal.returns-then-is_err-clause-runs
+returns-then-is_err-clause-runs g c s vs holds stand =
+    wants_nothing _ _ _ s _ _ _
+    (holds_same g.H.GcHeap.KIND c.args.store.now c.args.store.now c.args.self.now _ s (same_store c.args.store.now)
+    (λ k. c.make_room.ensures.same k ∙ ap (λ (r : RunnerView). register_at r.registers k) c.self.view_is)
+    (ap (λ (r : RunnerView). r.marks) c.self.view_is) holds holds.table)
 
 pub returns-in-Ok-clause-runs : goal.returns-in-Ok-clause-runs
 returns-in-Ok-clause-runs g c s vs holds stand =
     let at = (goal.at.returns-in-Ok-clause-runs g c).After-place_struct in
-    placed _ _ _ c.args.store.now _ c.args.self.now _ s c.args.d c.args.ty vs c.place_struct.ensures.same holds (ap (λ (r : RunnerView). r.marks) c.self.view_is)
+    placed _ _ _ _ c.args.store.now _ c.args.self.now _ s c.args.d c.args.ty vs c.place_struct.ensures.same holds (ap (λ (r : RunnerView). r.marks) c.self.view_is)
     c.in-Ok.handle (places_as g at s vs (Ok c.in-Ok.handle) c.in-Ok.is holds stand)
     c.set.ensures.set
     (λ k other. c.set.ensures.others k other ∙ slots_are g at k)
@@ -37,19 +47,19 @@ returns-in-Ok-clause-runs g c s vs holds stand =
 pub returns-in-Err-TooLarge-clause-runs : goal.returns-in-Err-TooLarge-clause-runs
 returns-in-Err-TooLarge-clause-runs g c s vs holds stand =
     let at = (goal.at.returns-in-Err-TooLarge-clause-runs g c).After-place_struct in
-    refused_large _ _ _ c.args.store.now _ c.args.self.now _ s c.args.d c.args.ty vs c.place_struct.ensures.same holds (ap (λ (r : RunnerView). r.marks) c.self.view_is) (slots_are g at)
+    refused_large _ _ _ _ c.args.store.now _ c.args.self.now _ s c.args.d c.args.ty vs c.place_struct.ensures.same holds (ap (λ (r : RunnerView). r.marks) c.self.view_is) (slots_are g at)
     (places_as g at s vs (Err fault.TooLarge) (c.in-Err-TooLarge.is ∙ ap Err c.in-Err-TooLarge.field-0-is) holds stand)
 
 pub returns-in-Err-RootsFull-clause-runs : goal.returns-in-Err-RootsFull-clause-runs
 returns-in-Err-RootsFull-clause-runs g c s vs holds stand =
     let at = (goal.at.returns-in-Err-RootsFull-clause-runs g c).After-place_struct in
-    refused_full _ _ _ c.args.store.now _ c.args.self.now _ s c.args.d c.args.ty vs c.place_struct.ensures.same holds (ap (λ (r : RunnerView). r.marks) c.self.view_is) (slots_are g at)
+    refused_full _ _ _ _ c.args.store.now _ c.args.self.now _ s c.args.d c.args.ty vs c.place_struct.ensures.same holds (ap (λ (r : RunnerView). r.marks) c.self.view_is) (slots_are g at)
     (places_as g at s vs (Err fault.RootsFull) (c.in-Err-RootsFull.is ∙ ap Err c.in-Err-RootsFull.field-0-is) holds stand)
 
 pub returns-in-Err-HeapOutOfMemory-clause-runs : goal.returns-in-Err-HeapOutOfMemory-clause-runs
 returns-in-Err-HeapOutOfMemory-clause-runs g c s vs holds stand =
     let at = (goal.at.returns-in-Err-HeapOutOfMemory-clause-runs g c).After-place_struct in
-    lacked _ _ _ c.args.store.now _ c.args.self.now _ s c.args.d c.args.ty vs c.place_struct.ensures.same holds (ap (λ (r : RunnerView). r.marks) c.self.view_is) (slots_are g at)
+    lacked _ _ _ _ c.args.store.now _ c.args.self.now _ s c.args.d c.args.ty vs c.place_struct.ensures.same holds (ap (λ (r : RunnerView). r.marks) c.self.view_is) (slots_are g at)
     c.in-Err-HeapOutOfMemory.field-0-0.bytes_needed
     (places_as g at s vs (Err (fault.HeapOutOfMemory c.in-Err-HeapOutOfMemory.field-0-0)) (c.in-Err-HeapOutOfMemory.is ∙ ap Err c.in-Err-HeapOutOfMemory.field-0-is) holds stand)
 
@@ -60,5 +70,5 @@ returns-in-Err-FuncTableFull-clause-runs g c s vs holds stand =
 pub returns-in-Err-Memory-clause-runs : goal.returns-in-Err-Memory-clause-runs
 returns-in-Err-Memory-clause-runs g c s vs holds stand =
     let at = (goal.at.returns-in-Err-Memory-clause-runs g c).After-place_struct in
-    unplaced _ _ _ c.args.store.now _ c.args.self.now _ s c.args.d c.args.ty vs c.place_struct.ensures.same holds (ap (λ (r : RunnerView). r.marks) c.self.view_is) (slots_are g at) error.OutOfMemory
+    unplaced _ _ _ _ c.args.store.now _ c.args.self.now _ s c.args.d c.args.ty vs c.place_struct.ensures.same holds (ap (λ (r : RunnerView). r.marks) c.self.view_is) (slots_are g at) error.OutOfMemory
     (places_as g at s vs (Err fault.Memory) (c.in-Err-Memory.is ∙ ap Err c.in-Err-Memory.field-0-is) holds stand)

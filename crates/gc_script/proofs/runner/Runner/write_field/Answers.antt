@@ -6,6 +6,7 @@ use Rattle.gc_script.specs.Built.{is_built_operand}
 use Rattle.gc_script.specs.Given.{held_operand, given_register, is_unset}
 use Rattle.gc_script.specs.Values.{AreRegisters}
 use Rattle.gc_script.proofs.NamedLemmas.{unset_held}
+use Rattle.gc_script.proofs.StandLemmas.{holds_table}
 use Rattle.gc_script.proofs.WriteLemmas.{is_set, const_not_var, no_value, no_field, immutable, no_fit, written, can_write}
 use Rattle.gc_script.proofs.runner.Runner.write_field.Given as given
 use Rattle.gc_script.proofs.runner.Runner.write_field.Goals as goal
@@ -43,7 +44,7 @@ returns-in-Err-clause-goes g c s holds =
     let in_some = (goal.at.returns-in-Err-clause-goes g c).In-Some-operand_value in
     no_field g.H.GcHeap.KIND c.args.store.now c.args.self.now s c.args.r c.args.i c.args.operand.now holds (built g at) (target_set g at s holds)
     (is_set c.args.store.now s.table c.in-Some-operand_value.value (held_operand s c.args.operand.now) (value_stands g in_some s holds))
-    c.in-Err.why (c.in-Err.ensures.finds s c.args.r holds.table (target_stands g at s holds))
+    c.in-Err.why (c.in-Err.ensures.finds s c.args.r (holds_table holds.table) (target_stands g at s holds))
 
 pub returns-then-not-is_var-clause-goes : goal.returns-then-not-is_var-clause-goes
 returns-then-not-is_var-clause-goes g c s holds =
@@ -51,7 +52,7 @@ returns-then-not-is_var-clause-goes g c s holds =
     let in_some = (goal.at.returns-then-not-is_var-clause-goes g c).In-Some-operand_value in
     immutable g.H.GcHeap.KIND c.args.store.now c.args.self.now s c.args.r c.args.i c.args.operand.now holds (built g at) (target_set g at s holds)
     (is_set c.args.store.now s.table c.in-Some-operand_value.value (held_operand s c.args.operand.now) (value_stands g in_some s holds))
-    c.in-Ok.place (c.in-Ok.ensures.finds s c.args.r holds.table (target_stands g at s holds))
+    c.in-Ok.place (c.in-Ok.ensures.finds s c.args.r (holds_table holds.table) (target_stands g at s holds))
     (const_not_var c.in-Ok.place.field.mutability (λ is. cc (c.is_var.ensures.1 is, c.if-not-is_var.true)))
 
 pub returns-in-Err-check_value-clause-goes : goal.returns-in-Err-check_value-clause-goes
@@ -60,9 +61,9 @@ returns-in-Err-check_value-clause-goes g c s holds =
     let in_some = (goal.at.returns-in-Err-check_value-clause-goes g c).In-Some-operand_value in
     no_fit g.H.GcHeap.KIND c.args.store.now c.args.self.now s c.args.r c.args.i c.args.operand.now holds (built g at) (target_set g at s holds)
     (is_set c.args.store.now s.table c.in-Some-operand_value.value (held_operand s c.args.operand.now) (value_stands g in_some s holds))
-    c.in-Ok.place (c.in-Ok.ensures.finds s c.args.r holds.table (target_stands g at s holds))
+    c.in-Ok.place (c.in-Ok.ensures.finds s c.args.r (holds_table holds.table) (target_stands g at s holds))
     (c.is_var.ensures.0 c.if-not-is_var.false)
-    c.in-Err-check_value.why (c.in-Err-check_value.ensures.checks s c.args.operand.now holds.table (value_stands g in_some s holds))
+    c.in-Err-check_value.why (c.in-Err-check_value.ensures.checks s c.args.operand.now (holds_table holds.table) (value_stands g in_some s holds))
 
 pub write_value-requires : goal.write_value-requires
 write_value-requires g c =
@@ -72,10 +73,10 @@ pub returns-clause-goes : goal.returns-clause-goes
 returns-clause-goes g c s holds =
     let at = (goal.at.returns-clause-goes g c).After-operand_value in
     let in_some = (goal.at.returns-clause-goes g c).In-Some-operand_value in
-    let checked = c.in_default.ensures.checks s c.args.operand.now holds.table (value_stands g in_some s holds) in
+    let checked = c.in_default.ensures.checks s c.args.operand.now (holds_table holds.table) (value_stands g in_some s holds) in
     written g.H.GcHeap.KIND c.args.store.now c.args.self.now s c.args.r c.args.i c.args.operand.now holds (built g at) (target_set g at s holds)
     (is_set c.args.store.now s.table c.in-Some-operand_value.value (held_operand s c.args.operand.now) (value_stands g in_some s holds))
-    c.in-Ok.place (c.in-Ok.ensures.finds s c.args.r holds.table (target_stands g at s holds))
+    c.in-Ok.place (c.in-Ok.ensures.finds s c.args.r (holds_table holds.table) (target_stands g at s holds))
     c.write_value.new.self c.in-Some-operand_value.value
     (c.is_var.ensures.0 c.if-not-is_var.false)
-    checked.0 c.write_value.ensures.same checked.1 (c.write_value.ensures.writes s.table holds.table)
+    checked.0 c.write_value.ensures.same checked.1 (c.write_value.ensures.writes s.table s.account holds.table)
