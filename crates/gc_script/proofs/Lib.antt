@@ -22,3 +22,6 @@ pub mod ReadLemmas
 pub mod FieldLemmas
 pub mod RowLemmas
 pub mod KeptLemmas
+pub mod SumLemmas
+pub mod StepLaws
+pub mod RunLaws
