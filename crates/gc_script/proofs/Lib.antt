@@ -25,3 +25,5 @@ pub mod KeptLemmas
 pub mod SumLemmas
 pub mod StepLaws
 pub mod RunLaws
+pub mod RetryLaws
+pub mod GrowthLaws
