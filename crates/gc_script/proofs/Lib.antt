@@ -27,3 +27,4 @@ pub mod StepLaws
 pub mod RunLaws
 pub mod RetryLaws
 pub mod GrowthLaws
+pub mod PolicyLaws

@@ -17,7 +17,7 @@ use Rattle.gc_script.specs.State.{State, reference, with_heap, with_account, set
 use Rattle.gc_script.specs.Steps.{Step, Answers, Does, MakesNew, made, lacks, GrowsHeap, grown, refused, tests, first_failing, new_struct}
 use Rattle.gc_script.specs.Run.{Run, SaysRefused}
 use Rattle.gc_script.specs.Laws.{NoneRefused, SameReply, SameReplies}
-use Rattle.gc_script.proofs.StepLaws.{repaged, shifted, tests_same, new_struct_same, same_keeps, same_plain, same_refusals}
+use Rattle.gc_script.proofs.StepLaws.{repaged, shifted, tests_same, new_struct_same, same_keeps, same_plain, same_states}
 
 -- the states differ in their accounts, and in whether their heaps are made and the pages, alone
 abbrev IsShifted : State → State → Type 0
@@ -75,7 +75,7 @@ module _ (is_made : Bool) (pages : ℕ) (a : Account) (s : State) (layouts : Lay
   same_answers : (c : Command) (found : Option Refusal) (answer answer' : Reply) (s' t' : State) → Answers layouts limit s c found answer s' → Answers layouts limit other_state c found answer' t' → ¬ SaysRefused answer → ¬ SaysRefused answer' → SameReply c answer answer' × IsShifted s' t'
   same_answers c None answer answer' s' t' one other fine fine1 = same_doing c answer answer' s' t' one other fine fine1
   same_answers c (Some why) answer answer' s' t' one other fine fine1 =
-      let same = same_refusals is_made pages a s layouts limit why answer answer' s' t' one other in
+      let same = same_states is_made pages a s answer answer' s' t' (one.0 ∙ sym other.0) one.1 other.1 in
       (same_reply c answer answer' same.replies, (is_made, pages, a, same.alike))
 
   -- two steps of a command that weren't refused pages

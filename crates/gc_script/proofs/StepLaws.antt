@@ -279,6 +279,6 @@ module _ (made : Bool) (pages : ℕ) (a : Account) (s : State) (layouts : Layout
   same_plain (Grow n) answer answer' s' t' plain one other = absurd plain
   same_plain Cap answer answer' s' t' plain one other = absurd plain
 
-  -- two steps of a command that its tests refuse
-  pub same_refusals : (why : Refusal) (answer answer' : Reply) (s' t' : State) → (answer ≡ reply.Refused why) × (s' ≡ s) → (answer' ≡ reply.Refused why) × (t' ≡ shifted made pages a s) → SameStep made pages a s answer answer' s' t'
-  same_refusals why answer answer' s' t' one other = changed made pages a s (λ (x : State). x) (λ m k b x. refl) answer answer' s' t' (one.0 ∙ sym other.0) one.1 other.1
+-- two steps that change no state
+pub same_states : (made : Bool) (pages : ℕ) (a : Account) (s : State) (answer answer' : Reply) (s' t' : State) → answer ≡ answer' → s' ≡ s → t' ≡ shifted made pages a s → SameStep made pages a s answer answer' s' t'
+same_states made pages a s answer answer' s' t' replies one other = changed made pages a s (λ (x : State). x) (λ m k b x. refl) answer answer' s' t' replies one other
