@@ -1,23 +1,20 @@
 -- The policy of growth over a copying heap decides, under a limit that is told: from states whose stores' accounts are
 -- alike it leaves such states.
-use Rattle.std.proofs.Common.{◌≡◌, ℕ, ◌+◌, ◌*◌, ◌/◌, ◌<◌, ◌≤◌, ◌-◌, ◌^◌, min, Bool, true, false, not, cond, nat_eq, List, [], ◌∷◌, ◌++◌, Option, Some, None, map, sum, inl, inr, refl, sym, ap, ap₂, ◌∙◌, subst, arith}
+use Rattle.std.proofs.Common.{◌≡◌, ℕ, ◌+◌, ◌*◌, ◌/◌, ◌<◌, ◌≤◌, ◌-◌, ◌^◌, min, Bool, true, false, not, cond, nat_eq, Option, Some, map, sum, inl, inr, refl, sym, ap, ap₂, ◌∙◌, subst, arith}
 use Rattle.gc_types.specs.declared.kind.Layouts.TheVariants.{Copying}
 use Rattle.gc_types.specs.Layouts.{round_up}
-use Rattle.gc_model.specs.Table.{Table, make_heap}
+use Rattle.gc_model.specs.Table.{Table}
 use Rattle.gc_model.specs.Sizes.{alignment, need_of}
 use Rattle.gc_model.specs.Reach.{AreAll, IsKept}
-use Rattle.gc_model.specs.Allocation.{Limits, page, max_pages, asked, skipped, MayHave, MayRefuse}
-use Rattle.gc_store.specs.Accounts.{Account, counted, with_held, is_due}
+use Rattle.gc_model.specs.Allocation.{Limits, page, asked, skipped, MayHave, MayRefuse}
+use Rattle.gc_store.specs.Accounts.{Account, is_due}
 use Rattle.gc_store.specs.Growth as growth
 use Rattle.gc_store.specs.Growth.{AsksFirst, AsksPages}
 use Rattle.gc_store.specs.Policy.{PolicyState, FitsNow, LacksNow, CollectsTable, ReadiesTable, GrowsTable, MakesTable, Dues, Prepares, Expands, table_rules, table_after, table_made, block_at, allocated_bytes, turned, count_try, tried, nothing, grows}
 use Rattle.gc_store.specs.Policy as policy
 use Rattle.gc_store.specs.Expansion.{MayCollectTable}
 use Rattle.gc_script.proofs.SumLemmas.{same_sums}
-use Rattle.gc_script.proofs.RetryLaws.{Decides, retries_alike}
-
-differ : (b : Bool) → b ≡ true → b ≡ false → ⊥
-differ b one other = cc
+use Rattle.gc_script.proofs.RetryLaws.{differ, Decides, retries_alike}
 
 -- The accounts are the same but for the order of the positions that are held.
 pub record AlikeAccounts (a b : Account) : Type 0 where
@@ -130,15 +127,17 @@ module _ (most : ℕ) where
   grows_alike bytes p q p' q' granted granted' alike one other =
       let ready = readies_alike p q one.ready other.ready alike one.readied other.readied in
       let asks : AsksPages one.ready.table.pages bytes one.ready.limits granted' q'.limits =
-          subst (λ (n : ℕ). AsksPages n bytes one.ready.limits granted' q'.limits) (ap (λ (t : Table ℕ). t.pages) (sym ready.table))
-            (subst (λ (l : Limits). AsksPages other.ready.table.pages bytes l granted' q'.limits) (sym ready.limits) other.asks) in
-      let same = asks_pages one.ready.table.pages bytes most one.ready.limits p'.limits q'.limits granted granted' ready.told one.asks asks in
-      (same.0, record {
-        table = ap (λ (x : PolicyState ℕ). x.table) one.after ∙ ap₂ (λ (g : Bool) (t : Table ℕ). table_after g bytes t) same.0 ready.table ∙ sym (ap (λ (x : PolicyState ℕ). x.table) other.after);
-        account = alike_at one.ready.account p'.account other.ready.account q'.account (ap (λ (x : PolicyState ℕ). x.account) one.after) (ap (λ (x : PolicyState ℕ). x.account) other.after) ready.account;
-        limits = same.1;
-        told = pages_keep one.ready.table.pages bytes one.ready.limits p'.limits granted one.asks ∙ ready.told;
-      })
+      subst (λ (n : ℕ). AsksPages n bytes one.ready.limits granted' q'.limits) (ap (λ (t : Table ℕ). t.pages) (sym ready.table))
+      (subst (λ (l : Limits). AsksPages other.ready.table.pages bytes l granted' q'.limits) (sym ready.limits) other.asks) in
+      let same = asks_pages one.ready.table.pages bytes most one.ready.limits p'.limits q'.limits granted granted' ready.told one.asks asks in (
+        same.0,
+        record {
+          table = ap (λ (x : PolicyState ℕ). x.table) one.after ∙ ap₂ (λ (g : Bool) (t : Table ℕ). table_after g bytes t) same.0 ready.table ∙ sym (ap (λ (x : PolicyState ℕ). x.table) other.after);
+          account = alike_at one.ready.account p'.account other.ready.account q'.account (ap (λ (x : PolicyState ℕ). x.account) one.after) (ap (λ (x : PolicyState ℕ). x.account) other.after) ready.account;
+          limits = same.1;
+          told = pages_keep one.ready.table.pages bytes one.ready.limits p'.limits granted one.asks ∙ ready.told;
+        },
+      )
 
   first_alike : (size : ℕ) (p q : PolicyState ℕ) → AlikePolicies most p q → growth.collects_first (need_of Copying size) (page * p.table.pages) p.account.last ≡ growth.collects_first (need_of Copying size) (page * q.table.pages) q.account.last
   first_alike size p q alike = ap₂ (λ (t : Table ℕ) (last : ℕ). growth.collects_first (need_of Copying size) (page * t.pages) last) alike.table alike.account.last
@@ -155,15 +154,17 @@ module _ (most : ℕ) where
   makes_alike : (p q p' q' : PolicyState ℕ) (granted granted' : Bool) → AlikePolicies most p q → MakesTable p granted p' → MakesTable q granted' q' → (granted ≡ granted') × AlikePolicies most p' q'
   makes_alike p q p' q' granted granted' alike one other =
       let asks : AsksFirst p.table.made p.table.first p.limits granted' q'.limits =
-          subst (λ (t : Table ℕ). AsksFirst t.made t.first p.limits granted' q'.limits) (sym alike.table)
-            (subst (λ (l : Limits). AsksFirst q.table.made q.table.first l granted' q'.limits) (sym alike.limits) other.asks) in
-      let same = asks_first p.table.made p.table.first most p.limits p'.limits q'.limits granted granted' alike.told one.asks asks in
-      (same.0, record {
-        table = ap (λ (x : PolicyState ℕ). x.table) one.after ∙ ap₂ (λ (g : Bool) (t : Table ℕ). table_made g t) same.0 alike.table ∙ sym (ap (λ (x : PolicyState ℕ). x.table) other.after);
-        account = alike_at p.account p'.account q.account q'.account (ap (λ (x : PolicyState ℕ). x.account) one.after) (ap (λ (x : PolicyState ℕ). x.account) other.after) alike.account;
-        limits = same.1;
-        told = first_keeps p.table.made p.table.first p.limits p'.limits granted one.asks ∙ alike.told;
-      })
+      subst (λ (t : Table ℕ). AsksFirst t.made t.first p.limits granted' q'.limits) (sym alike.table)
+      (subst (λ (l : Limits). AsksFirst q.table.made q.table.first l granted' q'.limits) (sym alike.limits) other.asks) in
+      let same = asks_first p.table.made p.table.first most p.limits p'.limits q'.limits granted granted' alike.told one.asks asks in (
+        same.0,
+        record {
+          table = ap (λ (x : PolicyState ℕ). x.table) one.after ∙ ap₂ (λ (g : Bool) (t : Table ℕ). table_made g t) same.0 alike.table ∙ sym (ap (λ (x : PolicyState ℕ). x.table) other.after);
+          account = alike_at p.account p'.account q.account q'.account (ap (λ (x : PolicyState ℕ). x.account) one.after) (ap (λ (x : PolicyState ℕ). x.account) other.after) alike.account;
+          limits = same.1;
+          told = first_keeps p.table.made p.table.first p.limits p'.limits granted one.asks ∙ alike.told;
+        },
+      )
 
   dues_alike : (counter : Option ℕ) (p q p' q' : PolicyState ℕ) → AlikePolicies most p q → Dues Copying counter p p' → Dues Copying counter q q' → AlikePolicies most p' q'
   dues_alike counter p q p' q' alike (inl (due, one)) (inl (due', other)) = collects_alike p q p' q' alike one other

@@ -10,7 +10,8 @@ pub record Decides {S : Type 0} (rules : Rules S) (Alike : S → S → Type 0) :
   pub collects : (s t s' t' : S) → Alike s t → rules.Collects s s' → rules.Collects t t' → Alike s' t'
   pub grows : (s t s' t' : S) (granted granted' : Bool) → Alike s t → rules.Grows s granted s' → rules.Grows t granted' t' → (granted ≡ granted') × Alike s' t'
 
-differ : (b : Bool) → b ≡ true → b ≡ false → ⊥
+-- a truth value is not both
+pub differ : (b : Bool) → b ≡ true → b ≡ false → ⊥
 differ b one other = cc
 
 module _ {S : Type 0} (rules : Rules S) (Alike : S → S → Type 0) (decides : Decides rules Alike) where

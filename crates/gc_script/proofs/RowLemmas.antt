@@ -143,11 +143,17 @@ by_policy : RunByPolicy Null None nothing limits (declares ∷ makes ∷ reads �
 by_policy = (
   declared_one,
   limits,
-  (step_declares, (record { account = refl; same_limits = refl }, (
-    made_one,
-    limits,
-    (step_makes, (makes_by_policy, (made_one, limits, (step_reads, (record { account = refl; same_limits = refl }, (refl, refl)))))),
-  ))),
+  (
+    step_declares,
+    (
+      record { account = refl; same_limits = refl },
+      (
+        made_one,
+        limits,
+        (step_makes, (makes_by_policy, (made_one, limits, (step_reads, (record { account = refl; same_limits = refl }, (refl, refl)))))),
+      ),
+    ),
+  ),
 )
 
 pub is_session : (t : Table ℕ) × Session Null 1 64 one_struct one_struct_replies t

@@ -1,19 +1,17 @@
 -- Two runs of one script in which no heap was refused pages.
-use Rattle.std.proofs.Common.{◌≡◌, ℕ, ◌+◌, Bool, true, false, List, [], ◌∷◌, Option, Some, None, length, inl, inr, refl, sym, ap, ◌∙◌, subst}
+use Rattle.std.proofs.Common.{◌≡◌, ℕ, ◌+◌, Bool, true, List, [], ◌∷◌, Option, Some, None, length, inl, inr, refl, sym, ap, ◌∙◌, subst}
 use Rattle.gc_types.specs.declared.kind.Layouts.{Layouts}
 use Rattle.gc_model.specs.declared.GcClass.TheVariants as class
 use Rattle.gc_model.specs.Values.{Object}
-use Rattle.gc_model.specs.Table.{Table, make, make_heap, with_pages, made_pages}
+use Rattle.gc_model.specs.Table.{Table, make, with_pages, made_pages}
 use Rattle.gc_model.specs.Allocation as allocation
 use Rattle.gc_model.specs.Allocation.{Grows, asked, nothing, no_heap}
 use Rattle.gc_commands.specs.declared.command.Command.{Command}
-use Rattle.gc_commands.specs.declared.command.Command.TheVariants.{Bad, Struct, New, I31, Field, SetField, Eq, Enter, Leave, Gc, Grow, Cap}
-use Rattle.gc_commands.specs.declared.command.Operand.{Operand}
+use Rattle.gc_commands.specs.declared.command.Command.TheVariants.{New, Gc, Grow, Cap}
 use Rattle.gc_commands.specs.declared.reply.Reply.{Reply}
-use Rattle.gc_commands.specs.declared.reply.Reply.TheVariants as reply
 use Rattle.gc_commands.specs.declared.reply.Refusal.{Refusal}
 use Rattle.gc_store.specs.Accounts.{Account}
-use Rattle.gc_script.specs.State.{State, reference, with_heap, with_account, set_register}
+use Rattle.gc_script.specs.State.{State, reference, with_heap, set_register}
 use Rattle.gc_script.specs.Steps.{Step, Answers, Does, MakesNew, made, lacks, GrowsHeap, grown, refused, tests, first_failing, new_struct}
 use Rattle.gc_script.specs.Run.{Run, SaysRefused}
 use Rattle.gc_script.specs.Laws.{NoneRefused, SameReply, SameReplies}
@@ -82,7 +80,7 @@ module _ (is_made : Bool) (pages : ℕ) (a : Account) (s : State) (layouts : Lay
   same_step : (c : Command) (answer answer' : Reply) (s' t' : State) → Step layouts limit s c answer s' → Step layouts limit other_state c answer' t' → ¬ SaysRefused answer → ¬ SaysRefused answer' → SameReply c answer answer' × IsShifted s' t'
   same_step c answer answer' s' t' one other fine fine1 =
       same_answers c (first_failing (tests layouts s c)) answer answer' s' t' one
-        (subst (λ (found : Option Refusal). Answers layouts limit other_state c found answer' t') (tests_same is_made pages a s layouts c) other) fine fine1
+      (subst (λ (found : Option Refusal). Answers layouts limit other_state c found answer' t') (tests_same is_made pages a s layouts c) other) fine fine1
 
 -- two runs from such states
 same_runs : (layouts : Layouts) (limit : Option ℕ) (cs : List Command) (rs qs : List Reply) (s t s' t' : State) → IsShifted s t → Run layouts limit s cs rs s' → Run layouts limit t cs qs t' → NoneRefused rs → NoneRefused qs → SameReplies cs rs qs

@@ -1,5 +1,5 @@
 -- Steps of two states that differ in the account, and in whether the heap is made and its pages.
-use Rattle.std.proofs.Common.{◌≡◌, ℕ, ◌+◌, ◌%◌, ◌^◌, ◌&&◌, nat_le, Bool, true, false, not, cond, List, [], ◌∷◌, ◌++◌, Option, Some, None, length, map, inl, inr, refl, sym, ap, ap₂, ◌∙◌, subst, arith}
+use Rattle.std.proofs.Common.{◌≡◌, ℕ, ◌%◌, ◌^◌, ◌&&◌, nat_le, Bool, not, List, [], ◌∷◌, ◌++◌, Option, Some, None, length, map, refl, sym, ap, ap₂, ◌∙◌}
 use Rattle.std.specs.Prelude.{◌==◌, slice_get, unwrap_or, is_none}
 use Rattle.std.specs.List.{list_any}
 use Rattle.std.proofs.lemmas.List.{same_from_push}
@@ -29,7 +29,7 @@ use Rattle.gc_store.specs.Accounts.{Account}
 use Rattle.gc_script.specs.State.{State, Held, number, reference, with_table, with_heap, with_marks, set_register, put_into}
 use Rattle.gc_script.specs.Built.{is_built, built_struct}
 use Rattle.gc_script.specs.Given.{Given, held_operand, given_held, given, given_register, given_value, given_values, is_unset, is_gone, value_named, named, Target, reference_target, target, target_values, field_of, is_constant, fits_field}
-use Rattle.gc_script.specs.Steps.{Does, Declares, declared, bad, MakesSmall, ReadsField, SetsField, Compares, Leaves, Keeps, tests, built_tests, first_failing, new_struct, new_tests, heap_tests, value_tests, all_value_tests, struct_value_tests, any_unset, field_count, reads_root, target_tests, field_tests, set_tests, eq_tests, held_value, shown, shown_object}
+use Rattle.gc_script.specs.Steps.{Does, Declares, declared, bad, ReadsField, SetsField, Compares, Leaves, Keeps, tests, built_tests, first_failing, new_struct, new_tests, value_tests, all_value_tests, any_unset, field_count, reads_root, target_tests, held_value, shown}
 use Rattle.gc_script.proofs.SumLemmas.{same_number}
 
 -- the table with its heap made or not, and other pages
@@ -218,8 +218,8 @@ module _ (made : Bool) (pages : ℕ) (a : Account) (s : State) where
       let found : slice_get (target_values (target s r)) i ≡ Some other.value = ap (λ (x : Option Target). slice_get (target_values x) i) (sym (target_same made pages a s r)) ∙ other.found in
       let same : other.value ≡ one.value = cc (found, one.found) in
       changed (read_into into one.value) (reads_steadily into one.value) answer answer' s' t'
-        (one.shows ∙ ap (λ (x : ReplyValue). reply.Value x) (sym (shown_same made pages s.table one.value)) ∙ ap (λ (v : Value). reply.Value (shown (repaged made pages s.table) v)) (sym same) ∙ sym other.shows)
-        one.after (other.after ∙ ap (λ (v : Value). read_into into v (shifted made pages a s)) same)
+      (one.shows ∙ ap (λ (x : ReplyValue). reply.Value x) (sym (shown_same made pages s.table one.value)) ∙ ap (λ (v : Value). reply.Value (shown (repaged made pages s.table) v)) (sym same) ∙ sym other.shows)
+      one.after (other.after ∙ ap (λ (v : Value). read_into into v (shifted made pages a s)) same)
 
   same_writes : (r i : ℕ) (v : Operand) (answer answer' : Reply) (s' t' : State) → answer ≡ answer' → SetsField r i v s s' → SetsField r i v (shifted made pages a s) t' → SameStep made pages a s answer answer' s' t'
   same_writes r i v answer answer' s' t' replies one other =
