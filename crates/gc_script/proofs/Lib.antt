@@ -27,3 +27,9 @@ pub mod FieldLemmas
 pub mod RowLemmas
 pub mod KeptLemmas
 pub mod LimitLaws
+pub mod SumLemmas
+pub mod StepLaws
+pub mod RunLaws
+pub mod RetryLaws
+pub mod GrowthLaws
+pub mod PolicyLaws

@@ -1,5 +1,5 @@
 -- The session of three lines that make a struct and read its field.
-use Rattle.std.proofs.Common.{◌≡◌, ℕ, List, [], ◌∷◌, ◌++◌, codes, Option, Some, None, true, false, pos, refl, sym, ap, subst, ◌∙◌, arith, rules}
+use Rattle.std.proofs.Common.{◌≡◌, ℕ, List, [], ◌∷◌, ◌++◌, codes, Option, Some, None, true, false, inr, pos, refl, sym, ap, subst, ◌∙◌, arith, rules}
 use Rattle.std.specs.List.{flat_map, join_with_byte}
 use Rattle.std.specs.Fmt.{decimal}
 use Rattle.std.proofs.lemmas.Fmt.{decimal_digit}
@@ -7,9 +7,14 @@ use Rattle.gc_types.specs.declared.kind.Layouts.TheVariants.{Null}
 use Rattle.gc_types.specs.Declarable.{Declarable}
 use Rattle.gc_model.specs.declared.GcClass.TheVariants as class
 use Rattle.gc_model.specs.Values.{Value, i32, Object, struct}
-use Rattle.gc_model.specs.Table.{Table, start, usual_roots, declare, make, make_heap}
-use Rattle.gc_model.specs.Allocation.{no_heap, no_room, FitsIn}
+use Rattle.gc_model.specs.Table.{Table, start, usual_roots, declare, make, make_heap, with_pages}
+use Rattle.gc_model.specs.Allocation.{Limits, no_heap, no_room, FitsIn, same}
 use Rattle.gc_model.specs.Sizes.{object_size}
+use Rattle.gc_store.specs.Accounts.{Account, no_account, counted, with_held}
+use Rattle.gc_store.specs.Limiters.{fresh_limits}
+use Rattle.gc_store.specs.Growth as growth
+use Rattle.gc_store.specs.Policy.{PolicyState, policy_state, Prepares, tried}
+use Rattle.gc_store.specs.Retry.{at_once}
 use Rattle.gc_commands.specs.declared.command.Command.{Command}
 use Rattle.gc_commands.specs.declared.command.Command.TheVariants.{Bad, Struct, New, I31, Field, SetField, Eq, Enter, Leave, Gc, Grow, Cap}
 use Rattle.gc_commands.specs.declared.command.FieldWord.{FieldWord}
@@ -21,10 +26,12 @@ use Rattle.gc_commands.specs.declared.reply.Reply.TheVariants as reply
 use Rattle.gc_commands.specs.declared.reply.ReplyValue.TheVariants as reply_value
 use Rattle.gc_commands.specs.Spelling.{IsCommandOf, Spells}
 use Rattle.gc_commands.proofs.UniqueLemmas.{one_spelling}
-use Rattle.gc_script.specs.State.{State, reference, begin, with_table, set_register}
+use Rattle.gc_script.specs.State.{State, reference, begin, with_table, with_heap, set_register}
 use Rattle.gc_script.specs.Built.{built_struct}
 use Rattle.gc_script.specs.Steps.{Step, declared, bad, made, lacks, shown}
 use Rattle.gc_script.specs.Run.{Run}
+use Rattle.gc_script.specs.Policy as policy
+use Rattle.gc_script.specs.Policy.{Follows, RunByPolicy, policy_of, with_made}
 use Rattle.gc_script.specs.Session.{AreCommandsOf, Session, reply_line}
 use Rattle.gc_script.specs.Rows.{one_struct, one_struct_replies}
 
@@ -88,7 +95,7 @@ command_is line known Cap spells is = one_spelling line Cap known is spells
 
 -- the states between the commands
 abbrev nothing : State
-nothing = begin (start 1 usual_roots usual_roots)
+nothing = begin (start 1 usual_roots usual_roots) no_account
 
 abbrev declared_one : State
 declared_one = with_table (declare (built_struct (number_field ∷ [])) nothing.table) nothing
@@ -97,8 +104,12 @@ declared_one = with_table (declare (built_struct (number_field ∷ [])) nothing.
 abbrev one_made : Object ℕ
 one_made = struct 0 (i32 5 ∷ [])
 
+-- the state after the second one, whose heap has so many pages and whose store has that account
+abbrev made_with : ℕ → Account → State
+made_with pages a = set_register 1 (reference class.Any (Some 0)) (with_heap (make one_made (with_pages pages declared_one.table)) a declared_one)
+
 abbrev made_one : State
-made_one = set_register 1 (reference class.Any (Some 0)) (with_table (make one_made (make_heap declared_one.table)) declared_one)
+made_one = made_with 1 (with_held 0 (counted no_account))
 
 may_declare : Declarable [] (built_struct (number_field ∷ []))
 may_declare = record { few_fields = omega arith; few_types = omega arith; known = search rules; extends = tt }
@@ -110,21 +121,53 @@ step_declares : Step Null (Some 64) nothing declares (reply.Declared 0) declared
 step_declares = declared may_declare refl refl
 
 step_makes : Step Null (Some 64) declared_one makes reply.Done made_one
-step_makes = made _ (record { may = λ unmade. omega arith; fits = fits; made = refl }) refl refl
+step_makes = made _ _ (record { pages = 1; gets = same (λ unmade. omega arith); fits = fits; made = refl }) refl refl
 
 step_reads : Step Null (Some 64) made_one reads (reply.Value (reply_value.I32 (pos 5))) made_one
 step_reads = record { value = i32 5; found = refl; shows = refl; after = refl }
+
+abbrev limits : Limits
+limits = fresh_limits (Some 64)
+
+-- what the policy goes by once the heap is made for the object
+abbrev readied : PolicyState ℕ
+readied = policy_state (make_heap declared_one.table) (counted no_account) limits
+
+prepares : Prepares Null None (object_size Null declared_one.table.types one_made) (policy_of declared_one limits) true readied
+prepares = tried {m = readied} {n = readied} (record { asks = growth.granted refl (omega arith); after = refl }) (inr (refl, refl)) (at_once fits)
+
+makes_by_policy : Follows Null None declared_one limits makes reply.Done made_one limits
+makes_by_policy = policy.made {p = readied} refl prepares (record { table = refl; account = refl; limits_are = refl })
+
+by_policy : RunByPolicy Null None nothing limits (declares ∷ makes ∷ reads ∷ []) (reply.Declared 0 ∷ reply.Done ∷ reply.Value (reply_value.I32 (pos 5)) ∷ []) made_one limits
+by_policy = (
+  declared_one,
+  limits,
+  (
+    step_declares,
+    (
+      record { account = refl; same_limits = refl },
+      (
+        made_one,
+        limits,
+        (step_makes, (makes_by_policy, (made_one, limits, (step_reads, (record { account = refl; same_limits = refl }, (refl, refl)))))),
+      ),
+    ),
+  ),
+)
 
 pub is_session : (t : Table ℕ) × Session Null 1 64 one_struct one_struct_replies t
 is_session = (
   made_one.table,
   record {
     after = made_one;
+    limits = limits;
     from_start = record {
       commands = declares ∷ makes ∷ reads ∷ [];
       replies = reply.Declared 0 ∷ reply.Done ∷ reply.Value (reply_value.I32 (pos 5)) ∷ [];
       are_commands = (spells_declares, (spells_makes, (spells_reads, tt)));
       run = (declared_one, (step_declares, (made_one, (step_makes, (made_one, (step_reads, refl))))));
+      by_policy = by_policy;
       output_is = replies_text;
     };
     table_is = refl;
@@ -136,19 +179,19 @@ declares_once : (answer : Reply) (s' : State) → Step Null (Some 64) nothing de
 declares_once answer s' (declared may is after) = (is, after)
 declares_once answer s' (bad may_not is after) = absurd (may_not may_declare)
 
-makes_once : (answer : Reply) (s' : State) → Step Null (Some 64) declared_one makes answer s' → (answer ≡ reply.Done) × (s' ≡ made_one)
-makes_once answer s' (made t allocates is after) = (is, after ∙ ap (λ (x : Table ℕ). set_register 1 (reference class.Any (Some 0)) (with_table x declared_one)) allocates.made)
-makes_once answer s' (lacks t (no_heap refused same) is after) = absurd (let above = refused.above in omega arith)
-makes_once answer s' (lacks t (no_room may full same) is after) = absurd (full fits)
+makes_once : (answer : Reply) (s' : State) → Step Null (Some 64) declared_one makes answer s' → (answer ≡ reply.Done) × ((pages : ℕ) × (a : Account) × (s' ≡ made_with pages a))
+makes_once answer s' (made t a allocates is after) = (is, (allocates.pages, a, after ∙ ap (λ (x : Table ℕ). set_register 1 (reference class.Any (Some 0)) (with_heap x a declared_one)) allocates.made))
+makes_once answer s' (lacks t a (no_heap refused unchanged) is after) = absurd (let above = refused.above in omega arith)
+makes_once answer s' (lacks t a (no_room may refused full unchanged) is after) = absurd (full fits)
 
 -- what a value that is known shows
-shows_five : (found : Option Value) (value : Value) (answer : Reply) → found ≡ Some (i32 5) → found ≡ Some value → answer ≡ reply.Value (shown made_one.table value) → answer ≡ reply.Value (reply_value.I32 (pos 5))
-shows_five found value answer known is shows =
+shows_five : (t : Table ℕ) (found : Option Value) (value : Value) (answer : Reply) → found ≡ Some (i32 5) → found ≡ Some value → answer ≡ reply.Value (shown t value) → answer ≡ reply.Value (reply_value.I32 (pos 5))
+shows_five t found value answer known is shows =
     let same : value ≡ i32 5 = cc (known, is) in
-    shows ∙ ap (λ (v : Value). reply.Value (shown made_one.table v)) same
+    shows ∙ ap (λ (v : Value). reply.Value (shown t v)) same
 
-reads_once : (answer : Reply) (s' : State) → Step Null (Some 64) made_one reads answer s' → answer ≡ reply.Value (reply_value.I32 (pos 5))
-reads_once answer s' did = shows_five (Some (i32 5)) did.value answer refl did.found did.shows
+reads_once : (pages : ℕ) (a : Account) (answer : Reply) (s' : State) → Step Null (Some 64) (made_with pages a) reads answer s' → answer ≡ reply.Value (reply_value.I32 (pos 5))
+reads_once pages a answer s' did = shows_five (made_with pages a).table (Some (i32 5)) did.value answer refl did.found did.shows
 
 -- the replies of a run of the three commands
 replies_once : (rs : List Reply) (s' : State) → Run Null (Some 64) nothing (declares ∷ makes ∷ reads ∷ []) rs s' → rs ≡ reply.Declared 0 ∷ reply.Done ∷ reply.Value (reply_value.I32 (pos 5)) ∷ []
@@ -158,7 +201,8 @@ replies_once (a ∷ b ∷ []) s' run = absurd run.1.1.1.1
 replies_once (a ∷ b ∷ c ∷ []) s' (mid, (first, (next, (second, (last, (third, end)))))) =
     let one = declares_once a mid first in
     let two = makes_once b next (subst (λ (s : State). Step Null (Some 64) s makes b next) one.1 second) in
-    let three = reads_once c last (subst (λ (s : State). Step Null (Some 64) s reads c last) two.1 third) in
+    let (pages, a, after) = two.1 in
+    let three = reads_once pages a c last (subst (λ (s : State). Step Null (Some 64) s reads c last) after third) in
     λ i. one.0 i ∷ two.0 i ∷ three i ∷ []
 replies_once (a ∷ b ∷ c ∷ d ∷ rs) s' run = absurd run.1.1.1.1.1.1
 
