@@ -218,6 +218,7 @@ MayGetPages limit bytes t t' = (t' ≡ t) ⊎ ((pages : ℕ) × (GetsPages limit
 pub record WantsPlace {D : Type 0} (layouts : Layouts) (counter : Option ℕ) (o : Object D) (p : PolicyState D) (limits' : Limits) (new : StoreView) : Type 0 where
   pub after : PolicyState D
   pub prepared : Prepared layouts counter (bytes_of layouts o p.table) p after
+  pub begun : (after ≡ p) ⊎ ((too_large layouts (bytes_of layouts o p.table) ≡ false) × (roots_full p.table ≡ false))
   pub pages : MayGetPages p.limits.limit (need_of layouts (bytes_of layouts o p.table)) p.table after.table
   pub holds : HoldsAccount layouts new after.table after.account
   pub limits : limits' ≡ after.limits

@@ -131,5 +131,5 @@ pub data Expands {D : Type 0} (layouts : Layouts) (bytes : ℕ) (p : PolicyState
 
 -- a growth wanted memory on its way
 pub data Expanded {D : Type 0} (layouts : Layouts) (bytes : ℕ) (p : PolicyState D) : PolicyState D → Type 0 where
-  not_made : Expanded layouts bytes p p
+  not_made : 0 < bytes → Expanded layouts bytes p p
   not_grown : {m q : PolicyState D} → 0 < bytes → MakesTable p true m → ReadiesTable layouts m q → Expanded layouts bytes p q
