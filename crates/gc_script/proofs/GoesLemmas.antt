@@ -14,8 +14,8 @@ use Rattle.gc_script.specs.declared.runner.RunError.{RunError}
 use Rattle.gc_script.specs.Slots.{RunnerView}
 use Rattle.gc_script.specs.State.{State, HoldsState}
 use Rattle.gc_script.specs.Steps.{tests, first_failing, Answers, Does, declared, bad}
-use Rattle.gc_script.specs.Policy.{policy_of, AsksNothing, FollowsTested, Came}
-use Rattle.gc_script.specs.Run.{SaysRefused, GoesOn, RunsOne, WantsMemory}
+use Rattle.gc_script.specs.Policy.{policy_of, AsksNothing, FollowsTested, Came, CameDoing}
+use Rattle.gc_script.specs.Run.{SaysRefused, GoesOn, RunsOne, WantsAfter}
 use Rattle.gc_script.proofs.CountLemmas.{AllMild, mild_found, says_other, counts_nothing}
 
 -- a command that asks no limiter, and leaves the account
@@ -85,7 +85,7 @@ follows_any layouts counter s limits (Grow n) None answer s' asks none = absurd 
 follows_any layouts counter s limits Cap None answer s' asks none = none
 
 -- a command that wanted memory may not have begun
-not_begun : (layouts : Layouts) (counter : Option ℕ) (s : State) (limits : Limits) (c : Command) → Came layouts counter s c (policy_of s limits) (policy_of s limits)
+not_begun : (layouts : Layouts) (counter : Option ℕ) (s : State) (limits : Limits) (c : Command) → CameDoing layouts counter s c (policy_of s limits) (policy_of s limits)
 not_begun layouts counter s limits Bad = refl
 not_begun layouts counter s limits (Struct is_final supertype fs) = refl
 not_begun layouts counter s limits (New d t vs) = policy.not_begun
@@ -96,14 +96,18 @@ not_begun layouts counter s limits (Eq r q) = refl
 not_begun layouts counter s limits Enter = refl
 not_begun layouts counter s limits Leave = refl
 not_begun layouts counter s limits Gc = refl
-not_begun layouts counter s limits (Grow n) = policy.not_made
+not_begun layouts counter s limits (Grow n) = inl refl
 not_begun layouts counter s limits Cap = refl
 
+nowhere_come : (layouts : Layouts) (counter : Option ℕ) (s : State) (limits : Limits) (c : Command) (found : Option Refusal) → Came layouts counter s c found (policy_of s limits) (policy_of s limits)
+nowhere_come layouts counter s limits c (Some why) = refl
+nowhere_come layouts counter s limits c None = not_begun layouts counter s limits c
+
 -- want of memory that leaves all
-pub wants_nothing : (layouts : Layouts) (counter : Option ℕ) (limits : Limits) (s : State) (c : Command) (new : StoreView) (runner : RunnerView) → HoldsState layouts new runner s → WantsMemory layouts counter limits limits s c new runner
-wants_nothing layouts counter limits s c new runner holds = record {
+pub wants_nothing : (layouts : Layouts) (counter : Option ℕ) (limits : Limits) (s : State) (c : Command) (found : Option Refusal) (new : StoreView) (runner : RunnerView) → HoldsState layouts new runner s → WantsAfter layouts counter limits limits s c found new runner
+wants_nothing layouts counter limits s c found new runner holds = record {
   after = policy_of s limits;
-  came = not_begun layouts counter s limits c;
+  came = nowhere_come layouts counter s limits c found;
   pages = inl refl;
   holds = holds;
   limits_are = refl;
@@ -120,7 +124,7 @@ goes_runs layouts counter limits s c (Ok answer) new runner asks goes =
       counts = counts_nothing layouts limits limits s c answer goes.after did.1 refl;
       holds = goes.holds;
     }
-goes_runs layouts counter limits s c (Err e) new runner asks goes = wants_nothing layouts counter limits s c new runner goes
+goes_runs layouts counter limits s c (Err e) new runner asks goes = wants_nothing layouts counter limits s c (first_failing (tests layouts s c)) new runner goes
 
 -- the same of a command that is known
 pub runs_as : (layouts : Layouts) (counter : Option ℕ) (limits : Limits) (s : State) (c known : Command) (result : Result Reply RunError) (new : StoreView) (runner : RunnerView) → c ≡ known → AsksNone known → GoesOn layouts s known (tests layouts s known) result new runner → RunsOne layouts counter limits limits s c result new runner

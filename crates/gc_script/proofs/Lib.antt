@@ -33,3 +33,5 @@ pub mod RunLaws
 pub mod RetryLaws
 pub mod GrowthLaws
 pub mod PolicyLaws
+pub mod PolicyRuns
+pub mod SessionLaws

@@ -1,5 +1,5 @@
 -- The tests of `new`, in their order.
-use Rattle.std.proofs.Common.{◌≡◌, ◌≢◌, ℕ, ◌==◌, List, [], ◌∷◌, ◌++◌, length, Option, Some, None, Bool, true, false, sym, ap, ◌∙◌, refl, arith}
+use Rattle.std.proofs.Common.{subst, ◌≡◌, ◌≢◌, ℕ, ◌==◌, List, [], ◌∷◌, ◌++◌, length, Option, Some, None, Bool, true, false, sym, ap, ◌∙◌, refl, arith}
 use Rattle.std.specs.Prelude.{Result, Ok, Err, is_none, not, ◌||◌}
 use Rattle.std.specs.List.{list_all}
 use Rattle.std.specs.Option.{option_map, unwrap_or}
@@ -30,7 +30,7 @@ use Rattle.gc_script.specs.State.{State, Held, number, reference, Stands, HoldsS
 use Rattle.gc_script.specs.Built.{is_built, is_built_operand}
 use Rattle.gc_script.specs.Given.{held_operand, given_held, given_root, is_unset}
 use Rattle.gc_script.specs.Steps.{tests, first_failing, any_unset, field_count, all_value_tests, struct_value_tests, heap_tests}
-use Rattle.gc_script.specs.Run.{RunsOn, RunsOne}
+use Rattle.gc_script.specs.Run.{WantsAfter, RunsOn, RunsOne}
 use Rattle.gc_script.specs.Values.{AllHeld}
 use Rattle.gc_script.proofs.TestLemmas.{passes, stops, passes_all, stops_all, answers_by, follows_by}
 use Rattle.gc_script.proofs.CountLemmas.{tells_pages, AllMild, mild_found, says_other, counts_nothing}
@@ -143,4 +143,5 @@ module _ (layouts : Layouts) (counter : Option ℕ) (limits : Limits) (store : S
         counts = ran.counts;
         holds = ran.holds;
       }
-      new_runs limits' (Err e) new runner pass ran = ran
+      new_runs limits' (Err e) new runner pass ran =
+          subst (λ (found : Option Refusal). WantsAfter layouts counter limits limits' s (New d t vs) found new runner) (sym (past_count ∙ passes_all (struct_value_tests s t vs) (heap_tests layouts s t vs) pass)) ran

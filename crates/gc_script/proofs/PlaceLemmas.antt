@@ -1,6 +1,6 @@
 -- What a struct that is placed, or refused by the heap, leaves of the state.
-use Rattle.std.proofs.Common.{inl, ◌≡◌, ◌≢◌, ℕ, List, [], ◌∷◌, ◌++◌, length, Option, Some, None, true, false, sym, ap, ◌∙◌, refl, subst, arith}
-use Rattle.std.specs.Prelude.{Ok, Err}
+use Rattle.std.proofs.Common.{inl, inr, ◌≡◌, ◌≢◌, ℕ, List, [], ◌∷◌, ◌++◌, length, Option, Some, None, true, false, sym, ap, ◌∙◌, refl, subst, arith}
+use Rattle.std.specs.Prelude.{◌⊎◌, Ok, Err}
 use Rattle.std.proofs.lemmas.List.{length-append}
 use Rattle.gc_types.specs.declared.kind.Layouts.{Layouts}
 use Rattle.gc_model.specs.declared.GcClass.TheVariants as class
@@ -16,6 +16,7 @@ use Rattle.gc_store.specs.declared.store.PlaceFault.TheVariants as fault
 use Rattle.gc_store.specs.Accounts.{Account, HoldsAccount, with_held}
 use Rattle.gc_store.specs.Stores.{IsSameStore}
 use Rattle.gc_store.specs.Places.{Places, LacksPlace}
+use Rattle.gc_commands.specs.declared.command.Command.{Command}
 use Rattle.gc_commands.specs.declared.command.Command.TheVariants.{New}
 use Rattle.gc_commands.specs.declared.command.Operand.{Operand}
 use Rattle.gc_commands.specs.declared.reply.Reply.TheVariants as reply
@@ -25,7 +26,8 @@ use Rattle.gc_script.specs.declared.runner.RunError.{RunError}
 use Rattle.gc_script.specs.Slots.{register_at, RunnerView}
 use Rattle.gc_script.specs.State.{State, reference, HoldsState, with_heap, set_register}
 use Rattle.gc_script.specs.Steps.{first_failing, heap_tests, new_struct, made, lacks}
-use Rattle.gc_script.specs.Policy.{policy_of}
+use Rattle.gc_store.specs.Policy.{PolicyState}
+use Rattle.gc_script.specs.Policy.{policy_of, Came, CameDoing}
 use Rattle.gc_script.specs.Policy as policy
 use Rattle.gc_script.specs.Run.{RunsOn}
 use Rattle.gc_script.proofs.StandLemmas.{keeps_same, holds_kept, holds_same}
@@ -48,6 +50,12 @@ made_position : (layouts : Layouts) (limit : Option ℕ) (o : Object ℕ) (t t' 
 made_position layouts limit o t t' allocates =
     let both : length (t'.objects ++ o ∷ []) ≡ length (t.objects ++ o ∷ []) = ap (λ (x : Table ℕ). length x.objects) allocates.made in
     omega (arith, sym (length-append t'.objects (o ∷ [])) ∙ both ∙ length-append t.objects (o ∷ []))
+
+-- an allocation that wanted memory had come as far as told, where its tests passed
+came_there : (layouts : Layouts) (counter : Option ℕ) (s : State) (limits : Limits) (c : Command) (found : Option Refusal) (q : PolicyState ℕ) {small not_full : Type 0} → CameDoing layouts counter s c (policy_of s limits) q → (q ≡ policy_of s limits) ⊎ (small × not_full) → (small → not_full → found ≡ None) → Came layouts counter s c found (policy_of s limits) q
+came_there layouts counter s limits c None q came begun pass = came
+came_there layouts counter s limits c (Some why) q came (inl same) pass = same
+came_there layouts counter s limits c (Some why) q came (inr both) pass = absurd (cc (pass both.0 both.1))
 
 module _ (layouts : Layouts) (counter : Option ℕ) (limits limits' : Limits) (old new : StoreView) (runner runner' : RunnerView) (s : State) (d ty : ℕ) (vs : List Operand) (same : IsSameStore old new) (holds : HoldsState layouts old runner s) (marks : runner'.marks ≡ runner.marks) where
   -- no test on the heap refuses
@@ -119,7 +127,7 @@ module _ (layouts : Layouts) (counter : Option ℕ) (limits limits' : Limits) (o
     pub unplaced : (e : RunError) → Places layouts counter (new_struct s ty vs) (policy_of s limits) limits' (Err fault.Memory) new → RunsOn layouts counter limits limits' s (New d ty vs) (heap_tests layouts s ty vs) (Err e) new runner'
     unplaced e places = record {
       after = places.after;
-      came = places.prepared;
+      came = came_there layouts counter s limits (New d ty vs) (first_failing (heap_tests layouts s ty vs)) places.after places.prepared places.begun (λ small not_full. heap_tests_pass small not_full);
       pages = places.pages;
       holds = holds_kept layouts old new runner runner' s places.after.table places.after.account same
           (keeps_same s.table.pushes places.after.table.pushes (paged_pushes limits.limit (need_of layouts (object_size layouts s.table.types (new_struct s ty vs))) s.table places.after.table places.pages))

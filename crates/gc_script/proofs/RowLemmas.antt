@@ -26,6 +26,7 @@ use Rattle.gc_commands.specs.declared.reply.Reply.TheVariants as reply
 use Rattle.gc_commands.specs.declared.reply.ReplyValue.TheVariants as reply_value
 use Rattle.gc_commands.specs.Spelling.{IsCommandOf, Spells}
 use Rattle.gc_commands.proofs.UniqueLemmas.{one_spelling}
+use Rattle.gc_script.proofs.PolicyRuns.{policy_run}
 use Rattle.gc_script.specs.State.{State, reference, begin, with_table, with_heap, set_register}
 use Rattle.gc_script.specs.Built.{built_struct}
 use Rattle.gc_script.specs.Steps.{Step, declared, bad, made, lacks, shown}
@@ -79,7 +80,7 @@ spells_reads = record {
 }
 
 -- a line that spells a command is no other
-command_is : (line : List ℕ) (known c : Command) → Spells line known → IsCommandOf line c → c ≡ known
+pub command_is : (line : List ℕ) (known c : Command) → Spells line known → IsCommandOf line c → c ≡ known
 command_is line known Bad spells is = absurd (is known spells)
 command_is line known (Struct f s xs) spells is = one_spelling line (Struct f s xs) known is spells
 command_is line known (New d t vs) spells is = one_spelling line (New d t vs) known is spells
@@ -166,8 +167,7 @@ is_session = (
       commands = declares ∷ makes ∷ reads ∷ [];
       replies = reply.Declared 0 ∷ reply.Done ∷ reply.Value (reply_value.I32 (pos 5)) ∷ [];
       are_commands = (spells_declares, (spells_makes, (spells_reads, tt)));
-      run = (declared_one, (step_declares, (made_one, (step_makes, (made_one, (step_reads, refl))))));
-      by_policy = by_policy;
+      run = by_policy;
       output_is = replies_text;
     };
     table_is = refl;
@@ -221,5 +221,6 @@ commands_once (a ∷ b ∷ c ∷ d ∷ cs) are = absurd are.1.1.1
 pub one_output : (output : List ℕ) (t : Table ℕ) → Session Null 1 64 one_struct output t → output ≡ one_struct_replies
 one_output output t session =
     let from = session.from_start in
-    let run = subst (λ (cs : List Command). Run Null (Some 64) nothing cs from.replies session.after) (commands_once from.commands from.are_commands) from.run in
+    let run = subst (λ (cs : List Command). Run Null (Some 64) nothing cs from.replies session.after) (commands_once from.commands from.are_commands)
+    (policy_run Null None nothing limits from.commands from.replies session.after session.limits from.run) in
     from.output_is ∙ ap (flat_map reply_line) (replies_once from.replies session.after run) ∙ sym replies_text

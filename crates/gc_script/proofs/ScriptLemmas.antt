@@ -12,7 +12,7 @@ use Rattle.gc_script.specs.Slots.{RunnerView}
 use Rattle.gc_script.specs.State.{State, HoldsState}
 use Rattle.gc_script.specs.Steps.{Step}
 use Rattle.gc_script.specs.Policy.{Follows, RunByPolicy}
-use Rattle.gc_script.specs.Run.{Run, Counts, told, overlooked, nothing, wanted_bytes, WantsMemory}
+use Rattle.gc_script.specs.Run.{Counts, told, overlooked, nothing, wanted_bytes, WantsMemory}
 use Rattle.gc_script.specs.Script.{AddsRefused, RefusedIn, RanScript, RanNext, EndedScript, StoppedScript}
 use Rattle.gc_script.proofs.CountLemmas.{says_other}
 use Rattle.gc_script.proofs.KeptLemmas.{no_last, last_command}
@@ -27,11 +27,10 @@ limit_stays layouts limits limits' s c answer after (nothing not_asked same) = a
 pub reply_behind : (before room now : List Reply) (r : Reply) → room ≡ before → now ≡ room ++ r ∷ [] → now ≡ before ++ r ∷ []
 reply_behind before room now r same appended = appended ∙ ap (λ (rs : List Reply). rs ++ r ∷ []) same
 
--- a run under that limit that follows the policy, and how many of its replies say what a limiter refused
-pub record CountedRun (layouts : Layouts) (counter limit : Option ℕ) (limits limits' : Limits) (s : State) (cs : List Command) (rs : List Reply) (s' : State) (n : ℕ) : Type 0 where
-  pub run : Run layouts limit s cs rs s'
-  pub by_policy : RunByPolicy layouts counter s limits cs rs s' limits'
-  pub refused : RefusedIn layouts limit s cs rs s' run n
+-- a run by the policy, and how many of its replies say what a limiter refused
+pub record CountedRun (layouts : Layouts) (counter : Option ℕ) (limits limits' : Limits) (s : State) (cs : List Command) (rs : List Reply) (s' : State) (n : ℕ) : Type 0 where
+  pub run : RunByPolicy layouts counter s limits cs rs s' limits'
+  pub refused : RefusedIn layouts counter s limits cs rs s' limits' run n
 
 -- a limiter has counted no fewer than so many refusals more
 abbrev pub CountedSo : Limits → Limits → ℕ → Type 0
@@ -42,11 +41,10 @@ CountedSo limits now refused = min (limits.refusals + refused) (2 ^ 64 - 1) ≤ 
 pub record Along (layouts : Layouts) (counter : Option ℕ) (limits now : Limits) (s : State) (done : List Command) (replies : List Reply) (store : StoreView) (runner : RunnerView) : Type 0 where
   pub mid : State
   pub refused : ℕ
-  pub goes_on : (cs : List Command) (rs : List Reply) (after : State) (last : Limits) (n : ℕ) → CountedRun layouts counter limits.limit now last mid cs rs after n → CountedRun layouts counter limits.limit limits last s (done ++ cs) (replies ++ rs) after (refused + n)
+  pub goes_on : (cs : List Command) (rs : List Reply) (after : State) (last : Limits) (n : ℕ) → CountedRun layouts counter now last mid cs rs after n → CountedRun layouts counter limits last s (done ++ cs) (replies ++ rs) after (refused + n)
   pub holds : HoldsState layouts store runner mid
   pub kept : (before : List Command) → done ≡ before ++ Gc ∷ [] → HoldsKept layouts store mid.table
   pub counted : CountedSo limits now refused
-  pub same_limit : now.limit ≡ limits.limit
 
 module _ (layouts : Layouts) (counter : Option ℕ) (limits : Limits) (s : State) where
   -- nothing was run yet
@@ -55,13 +53,12 @@ module _ (layouts : Layouts) (counter : Option ℕ) (limits : Limits) (s : State
     mid = s;
     refused = 0;
     goes_on = λ cs rs after last n counted.
-        subst (λ (m : ℕ). CountedRun layouts counter limits.limit limits last s (done ++ cs) (replies ++ rs) after m) (omega arith)
-        (subst (λ (xs : List Command). CountedRun layouts counter limits.limit limits last s (xs ++ cs) (replies ++ rs) after n) (sym none)
-        (subst (λ (ys : List Reply). CountedRun layouts counter limits.limit limits last s cs (ys ++ rs) after n) (sym none_yet) counted));
+        subst (λ (m : ℕ). CountedRun layouts counter limits last s (done ++ cs) (replies ++ rs) after m) (omega arith)
+        (subst (λ (xs : List Command). CountedRun layouts counter limits last s (xs ++ cs) (replies ++ rs) after n) (sym none)
+        (subst (λ (ys : List Reply). CountedRun layouts counter limits last s cs (ys ++ rs) after n) (sym none_yet) counted));
     holds = holds;
     kept = λ before ends. absurd (no_last before (sym none ∙ ends));
     counted = omega arith;
-    same_limit = refl;
   }
 
 -- what one more reply adds, and what the limiter has counted then
@@ -92,10 +89,9 @@ adds_by layouts limits now next refused s c r mid so_far (nothing not_asked same
 }
 
 -- a run that begins with one more command, whose reply adds k
-one_more : (layouts : Layouts) (counter limit : Option ℕ) (limits between last : Limits) (s mid : State) (c : Command) (r : Reply) → limits.limit ≡ limit → Step layouts limits.limit s c r mid → Follows layouts counter s limits c r mid between → (cs : List Command) (rs : List Reply) (after : State) (n m : ℕ) → AddsRefused r mid (wanted_bytes layouts s c) n m → CountedRun layouts counter limit between last mid cs rs after n → CountedRun layouts counter limit limits last s (c ∷ cs) (r ∷ rs) after m
-one_more layouts counter limit limits between last s mid c r same_limit step follows cs rs after n m adds counted = record {
-  run = (mid, (subst (λ (l : Option ℕ). Step layouts l s c r mid) same_limit step, counted.run));
-  by_policy = (mid, between, (step, (follows, counted.by_policy)));
+one_more : (layouts : Layouts) (counter : Option ℕ) (limits between last : Limits) (s mid : State) (c : Command) (r : Reply) → Step layouts limits.limit s c r mid → Follows layouts counter s limits c r mid between → (cs : List Command) (rs : List Reply) (after : State) (n m : ℕ) → AddsRefused r mid (wanted_bytes layouts s c) n m → CountedRun layouts counter between last mid cs rs after n → CountedRun layouts counter limits last s (c ∷ cs) (r ∷ rs) after m
+one_more layouts counter limits between last s mid c r step follows cs rs after n m adds counted = record {
+  run = (mid, between, (step, (follows, counted.run)));
   refused = (n, (counted.refused, adds));
 }
 
@@ -108,27 +104,25 @@ module _ (layouts : Layouts) (counter : Option ℕ) (limits now : Limits) (s : S
         mid = did.ran.after;
         refused = so_far.refused + more.k;
         goes_on = λ cs rs after last n counted.
-            subst (λ (xs : List Command). CountedRun layouts counter limits.limit limits last s xs (replies' ++ rs) after (so_far.refused + more.k + n)) (sym (append_assoc done (c ∷ []) cs))
-            (subst (λ (ys : List Reply). CountedRun layouts counter limits.limit limits last s (done ++ c ∷ cs) ys after (so_far.refused + more.k + n)) (sym (ap (λ (ys : List Reply). ys ++ rs) did.appended ∙ append_assoc replies (did.answer ∷ []) rs))
-            (subst (λ (m : ℕ). CountedRun layouts counter limits.limit limits last s (done ++ c ∷ cs) (replies ++ did.answer ∷ rs) after m) (omega arith)
+            subst (λ (xs : List Command). CountedRun layouts counter limits last s xs (replies' ++ rs) after (so_far.refused + more.k + n)) (sym (append_assoc done (c ∷ []) cs))
+            (subst (λ (ys : List Reply). CountedRun layouts counter limits last s (done ++ c ∷ cs) ys after (so_far.refused + more.k + n)) (sym (ap (λ (ys : List Reply). ys ++ rs) did.appended ∙ append_assoc replies (did.answer ∷ []) rs))
+            (subst (λ (m : ℕ). CountedRun layouts counter limits last s (done ++ c ∷ cs) (replies ++ did.answer ∷ rs) after m) (omega arith)
             (so_far.goes_on (c ∷ cs) (did.answer ∷ rs) after last (more.k + n)
-            (one_more layouts counter limits.limit now next last so_far.mid did.ran.after c did.answer so_far.same_limit did.ran.step did.ran.follows cs rs after n (more.k + n) (more.adds n) counted))));
+            (one_more layouts counter now next last so_far.mid did.ran.after c did.answer did.ran.step did.ran.follows cs rs after n (more.k + n) (more.adds n) counted))));
         holds = did.ran.holds;
         kept = λ before ends. did.kept (last_command done c before ends);
         counted = more.counted;
-        same_limit = limit_stays layouts now next so_far.mid c did.answer did.ran.after did.ran.counts ∙ so_far.same_limit;
       }
 
   -- the commands done are a run by themselves
   ran_so_far : RanScript layouts counter limits now s done replies so_far.mid
   ran_so_far =
-      let whole : CountedRun layouts counter limits.limit limits now s done replies so_far.mid (so_far.refused + 0) =
-      subst (λ (xs : List Command). CountedRun layouts counter limits.limit limits now s xs replies so_far.mid (so_far.refused + 0)) (append-nil done)
-      (subst (λ (ys : List Reply). CountedRun layouts counter limits.limit limits now s (done ++ []) ys so_far.mid (so_far.refused + 0)) (append-nil replies)
-      (so_far.goes_on [] [] so_far.mid now 0 (record { run = refl; by_policy = (refl, refl); refused = refl }))) in
+      let whole : CountedRun layouts counter limits now s done replies so_far.mid (so_far.refused + 0) =
+      subst (λ (xs : List Command). CountedRun layouts counter limits now s xs replies so_far.mid (so_far.refused + 0)) (append-nil done)
+      (subst (λ (ys : List Reply). CountedRun layouts counter limits now s (done ++ []) ys so_far.mid (so_far.refused + 0)) (append-nil replies)
+      (so_far.goes_on [] [] so_far.mid now 0 (record { run = (refl, refl); refused = refl }))) in
       record {
         run = whole.run;
-        by_policy = whole.by_policy;
         refused = so_far.refused + 0;
         refused_in = whole.refused;
         counted = let counted = so_far.counted in omega (arith, counted);

@@ -1,5 +1,5 @@
 -- How commands follow the policy of growth: what they do to the account and ask of the limiter.
-use Rattle.std.specs.Prelude.{◌≡◌, ℕ, true, false, List, [], ◌∷◌, Option, Some, None, length}
+use Rattle.std.specs.Prelude.{◌≡◌, ◌⊎◌, ℕ, true, false, List, [], ◌∷◌, Option, Some, None, length}
 use Rattle.gc_types.specs.declared.kind.Layouts.{Layouts}
 use Rattle.gc_model.specs.Values.{Object}
 use Rattle.gc_model.specs.Table.{make}
@@ -80,17 +80,22 @@ RunByPolicy layouts counter s limits (c ∷ cs) (r ∷ rs) s' limits' = (mid : S
 RunByPolicy layouts counter s limits [] (r ∷ rs) s' limits' = ⊥
 RunByPolicy layouts counter s limits (c ∷ cs) [] s' limits' = ⊥
 
--- how far a command had come that wanted memory
-abbrev pub Came : Layouts → Option ℕ → State → Command → PolicyState ℕ → PolicyState ℕ → Type 0
-Came layouts counter s Bad p q = q ≡ p
-Came layouts counter s (Struct is_final supertype fs) p q = q ≡ p
-Came layouts counter s (New d t vs) p q = Prepared layouts counter (object_size layouts s.table.types (new_struct s t vs)) p q
-Came layouts counter s (I31 d n) p q = q ≡ p
-Came layouts counter s (Field r i into) p q = q ≡ p
-Came layouts counter s (SetField r i v) p q = q ≡ p
-Came layouts counter s (Eq r q') p q = q ≡ p
-Came layouts counter s Enter p q = q ≡ p
-Came layouts counter s Leave p q = q ≡ p
-Came layouts counter s Gc p q = q ≡ p
-Came layouts counter s (Grow n) p q = Expanded layouts n p q
-Came layouts counter s Cap p q = q ≡ p
+-- how far a command had come whose tests all passed
+abbrev pub CameDoing : Layouts → Option ℕ → State → Command → PolicyState ℕ → PolicyState ℕ → Type 0
+CameDoing layouts counter s Bad p q = q ≡ p
+CameDoing layouts counter s (Struct is_final supertype fs) p q = q ≡ p
+CameDoing layouts counter s (New d t vs) p q = Prepared layouts counter (object_size layouts s.table.types (new_struct s t vs)) p q
+CameDoing layouts counter s (I31 d n) p q = q ≡ p
+CameDoing layouts counter s (Field r i into) p q = q ≡ p
+CameDoing layouts counter s (SetField r i v) p q = q ≡ p
+CameDoing layouts counter s (Eq r q') p q = q ≡ p
+CameDoing layouts counter s Enter p q = q ≡ p
+CameDoing layouts counter s Leave p q = q ≡ p
+CameDoing layouts counter s Gc p q = q ≡ p
+CameDoing layouts counter s (Grow n) p q = (q ≡ p) ⊎ Expanded layouts n p q
+CameDoing layouts counter s Cap p q = q ≡ p
+
+-- How far a command had come that wanted memory; one that a test refuses had not begun.
+abbrev pub Came : Layouts → Option ℕ → State → Command → Option Refusal → PolicyState ℕ → PolicyState ℕ → Type 0
+Came layouts counter s c (Some why) p q = q ≡ p
+Came layouts counter s c None p q = CameDoing layouts counter s c p q

@@ -15,7 +15,7 @@ use Rattle.gc_commands.specs.declared.reply.Refusal.{Refusal}
 use Rattle.gc_commands.specs.declared.reply.Refusal.TheVariants as refusal
 use Rattle.gc_script.specs.Slots.{RunnerView}
 use Rattle.gc_script.specs.State.{State, HoldsState, with_heap}
-use Rattle.gc_script.specs.Steps.{Step, Answers, first_failing, new_struct}
+use Rattle.gc_script.specs.Steps.{Step, Answers, tests, first_failing, new_struct}
 use Rattle.gc_script.specs.Policy.{policy_of, Follows, FollowsTested, Came}
 use Rattle.gc_script.specs.declared.runner.RunError.{RunError}
 
@@ -74,13 +74,17 @@ pub record Ran (layouts : Layouts) (counter : Option ℕ) (limits limits' : Limi
   pub holds : HoldsState layouts new runner after
 
 -- Want of memory leaves the state, but that a collection may have run, and that the heap may have got pages which the
--- limit grants: by `new` and `grow` alone, as the policy says.
-pub record WantsMemory (layouts : Layouts) (counter : Option ℕ) (limits limits' : Limits) (s : State) (c : Command) (new : StoreView) (runner : RunnerView) : Type 0 where
+-- limit grants: by `new` and `grow` alone, as the policy says, and where no test refuses the command.
+pub record WantsAfter (layouts : Layouts) (counter : Option ℕ) (limits limits' : Limits) (s : State) (c : Command) (found : Option Refusal) (new : StoreView) (runner : RunnerView) : Type 0 where
   pub after : PolicyState ℕ
-  pub came : Came layouts counter s c (policy_of s limits) after
+  pub came : Came layouts counter s c found (policy_of s limits) after
   pub pages : MayGetPages limits.limit (wanted_bytes layouts s c) s.table after.table
   pub holds : HoldsState layouts new runner (with_heap after.table after.account s)
   pub limits_are : limits' ≡ after.limits
+
+-- the same, where the refusal that the tests find is that of the command
+abbrev pub WantsMemory : Layouts → Option ℕ → Limits → Limits → State → Command → StoreView → RunnerView → Type 0
+WantsMemory layouts counter limits limits' s c new runner = WantsAfter layouts counter limits limits' s c (first_failing (tests layouts s c)) new runner
 
 -- what running one command answers and leaves
 abbrev pub RunsOne : Layouts → Option ℕ → Limits → Limits → State → Command → Result Reply RunError → StoreView → RunnerView → Type 0
@@ -88,25 +92,25 @@ RunsOne layouts counter limits limits' s c (Ok answer) new runner = Ran layouts 
 RunsOne layouts counter limits limits' s c (Err e) new runner = WantsMemory layouts counter limits limits' s c new runner
 
 -- What a command answers and leaves, once the tests up to these passed.
-pub record RunsRest (layouts : Layouts) (counter : Option ℕ) (limits limits' : Limits) (s : State) (c : Command) (tests : List (Bool × Refusal)) (answer : Reply) (new : StoreView) (runner : RunnerView) : Type 0 where
+pub record RunsRest (layouts : Layouts) (counter : Option ℕ) (limits limits' : Limits) (s : State) (c : Command) (left : List (Bool × Refusal)) (answer : Reply) (new : StoreView) (runner : RunnerView) : Type 0 where
   pub after : State
-  pub answers : Answers layouts limits.limit s c (first_failing tests) answer after
-  pub follows : FollowsTested layouts counter s limits c (first_failing tests) answer after limits'
+  pub answers : Answers layouts limits.limit s c (first_failing left) answer after
+  pub follows : FollowsTested layouts counter s limits c (first_failing left) answer after limits'
   pub counts : Counts layouts limits limits' s c answer after
   pub holds : HoldsState layouts new runner after
 
 -- the same, or memory is wanting
 abbrev pub RunsOn : Layouts → Option ℕ → Limits → Limits → State → Command → List (Bool × Refusal) → Result Reply RunError → StoreView → RunnerView → Type 0
-RunsOn layouts counter limits limits' s c tests (Ok answer) new runner = RunsRest layouts counter limits limits' s c tests answer new runner
-RunsOn layouts counter limits limits' s c tests (Err e) new runner = WantsMemory layouts counter limits limits' s c new runner
+RunsOn layouts counter limits limits' s c left (Ok answer) new runner = RunsRest layouts counter limits limits' s c left answer new runner
+RunsOn layouts counter limits limits' s c left (Err e) new runner = WantsAfter layouts counter limits limits' s c (first_failing left) new runner
 
 -- the same of a command that asks no limiter and leaves it and the account as they are
-pub record Goes (layouts : Layouts) (s : State) (c : Command) (tests : List (Bool × Refusal)) (answer : Reply) (new : StoreView) (runner : RunnerView) : Type 0 where
+pub record Goes (layouts : Layouts) (s : State) (c : Command) (left : List (Bool × Refusal)) (answer : Reply) (new : StoreView) (runner : RunnerView) : Type 0 where
   pub after : State
-  pub answers : Answers layouts None s c (first_failing tests) answer after
+  pub answers : Answers layouts None s c (first_failing left) answer after
   pub account : after.account ≡ s.account
   pub holds : HoldsState layouts new runner after
 
 abbrev pub GoesOn : Layouts → State → Command → List (Bool × Refusal) → Result Reply RunError → StoreView → RunnerView → Type 0
-GoesOn layouts s c tests (Ok answer) new runner = Goes layouts s c tests answer new runner
-GoesOn layouts s c tests (Err e) new runner = HoldsState layouts new runner s
+GoesOn layouts s c left (Ok answer) new runner = Goes layouts s c left answer new runner
+GoesOn layouts s c left (Err e) new runner = HoldsState layouts new runner s

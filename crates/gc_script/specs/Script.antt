@@ -10,7 +10,7 @@ use Rattle.gc_commands.specs.declared.command.Command.TheVariants.{Gc}
 use Rattle.gc_commands.specs.declared.reply.Reply.{Reply}
 use Rattle.gc_script.specs.Slots.{RunnerView}
 use Rattle.gc_script.specs.State.{State}
-use Rattle.gc_script.specs.Run.{Run, Ran, IsAsked, WantsMemory, wanted_bytes}
+use Rattle.gc_script.specs.Run.{Ran, IsAsked, WantsMemory, wanted_bytes}
 use Rattle.gc_script.specs.Policy.{RunByPolicy}
 
 -- a reply adds to the number of those that say what a limiter refused
@@ -18,19 +18,19 @@ abbrev pub AddsRefused : Reply → State → ℕ → ℕ → ℕ → Type 0
 AddsRefused r after bytes before n = (IsAsked r after bytes × (n ≡ 1 + before)) ⊎ ((¬ IsAsked r after bytes) × (n ≡ before))
 
 -- so many replies of a run say what a limiter refused
-abbrev pub RefusedIn : (layouts : Layouts) (limit : Option ℕ) (s : State) (cs : List Command) (rs : List Reply) (s' : State) → Run layouts limit s cs rs s' → ℕ → Type 0
-RefusedIn layouts limit s [] [] s' run n = n ≡ 0
-RefusedIn layouts limit s (c ∷ cs) (r ∷ rs) s' run n = (rest : ℕ) × (RefusedIn layouts limit run.0 cs rs s' run.1.1 rest × AddsRefused r run.0 (wanted_bytes layouts s c) rest n)
-RefusedIn layouts limit s [] (r ∷ rs) s' run n = ⊥
-RefusedIn layouts limit s (c ∷ cs) [] s' run n = ⊥
+abbrev pub RefusedIn : (layouts : Layouts) (counter : Option ℕ) (s : State) (limits : Limits) (cs : List Command) (rs : List Reply) (s' : State) (limits' : Limits) → RunByPolicy layouts counter s limits cs rs s' limits' → ℕ → Type 0
+RefusedIn layouts counter s limits [] [] s' limits' run n = n ≡ 0
+RefusedIn layouts counter s limits (c ∷ cs) (r ∷ rs) s' limits' run n =
+    (rest : ℕ) × (RefusedIn layouts counter run.0 run.1 cs rs s' limits' run.2.1.1 rest × AddsRefused r run.0 (wanted_bytes layouts s c) rest n)
+RefusedIn layouts counter s limits [] (r ∷ rs) s' limits' run n = ⊥
+RefusedIn layouts counter s limits (c ∷ cs) [] s' limits' run n = ⊥
 
--- The replies are a run of the commands, which follows the policy of growth. The limiter's count rose by no less than
+-- The replies are a run of the commands by the policy of growth. The limiter's count rose by no less than
 -- the number of replies that say what it refused, as far as it goes.
 pub record RanScript (layouts : Layouts) (counter : Option ℕ) (limits limits' : Limits) (s : State) (cs : List Command) (rs : List Reply) (s' : State) : Type 0 where
-  pub run : Run layouts limits.limit s cs rs s'
-  pub by_policy : RunByPolicy layouts counter s limits cs rs s' limits'
+  pub run : RunByPolicy layouts counter s limits cs rs s' limits'
   pub refused : ℕ
-  pub refused_in : RefusedIn layouts limits.limit s cs rs s' run refused
+  pub refused_in : RefusedIn layouts counter s limits cs rs s' limits' run refused
   pub counted : min (limits.refusals + refused) (2 ^ 64 - 1) ≤ limits'.refusals
 
 -- The store holds the table at the end; where the last command is `gc`, its heap holds the kept objects alone.

@@ -12,7 +12,6 @@ use Rattle.gc_commands.specs.Spelling.{IsCommandOf}
 use Rattle.gc_commands.specs.Text.{text_of}
 use Rattle.gc_script.specs.Lines.{line_feed, lines}
 use Rattle.gc_script.specs.State.{State, begin}
-use Rattle.gc_script.specs.Run.{Run}
 use Rattle.gc_script.specs.Policy.{RunByPolicy}
 
 -- each command is that of the line at its place
@@ -26,14 +25,13 @@ AreCommandsOf (line ∷ lines) [] = ⊥
 abbrev pub reply_line : Reply → List ℕ
 reply_line r = text_of r ++ line_feed ∷ []
 
--- The lines are commands whose replies are a run from that state, which follows the policy of growth, and the output
--- is the replies' texts.
+-- The lines are commands whose replies are a run from that state by the policy of growth, and the output is the
+-- replies' texts.
 pub record SessionFrom (layouts : Layouts) (counter : Option ℕ) (limits : Limits) (s : State) (lines : List (List ℕ)) (output : List ℕ) (s' : State) (limits' : Limits) : Type 0 where
   pub commands : List Command
   pub replies : List Reply
   pub are_commands : AreCommandsOf lines commands
-  pub run : Run layouts limits.limit s commands replies s'
-  pub by_policy : RunByPolicy layouts counter s limits commands replies s' limits'
+  pub run : RunByPolicy layouts counter s limits commands replies s' limits'
   pub output_is : output ≡ flat_map reply_line replies
 
 -- A session over a heap that begins with `first` pages and is granted up to `most`: the lines of the input

@@ -28,6 +28,18 @@ pub fn policy_decides_replies()
         → limits.limit ≡ Some most → RunByPolicy Copying counter s limits cs rs1 s1 limits1 → RunByPolicy Copying counter s limits cs rs2 s2 limits2 → rs1 ≡ rs2 }
 {}
 
+/// So the output of a session over a copying heap, with the replies of `cap`, is a function of the words
+/// and the input.
+pub fn copying_output_is_decided()
+    ensures { (first most : ℕ) (input output output' : List ℕ) (t t' : Table ℕ) → Session Copying first most input output t → Session Copying first most input output' t' → output ≡ output' }
+{}
+
+/// A run by the policy is a run.
+pub fn runs_by_policy_are_runs()
+    ensures { (layouts : Layouts) (counter : Option ℕ) (limits limits' : Limits) (s s' : State) (cs : List Command) (rs : List Reply)
+        → RunByPolicy layouts counter s limits cs rs s' limits' → Run layouts limits.limit s cs rs s' }
+{}
+
 /// The steps decide but for the pages: two runs of one script from one state in which no heap was refused
 /// pages have the same replies but for those of `cap`, whether or not they follow the policy.
 pub fn steps_decide_replies()

@@ -31,7 +31,7 @@ places_as g c s vs result is holds stand =
 
 pub returns-then-is_err-clause-runs : goal.returns-then-is_err-clause-runs
 returns-then-is_err-clause-runs g c s vs holds stand =
-    wants_nothing _ _ _ s _ _ _
+    wants_nothing _ _ _ s _ _ _ _
     (holds_same g.H.GcHeap.KIND c.args.store.now c.args.store.now c.args.self.now _ s (same_store c.args.store.now)
     (λ k. c.make_room.ensures.same k ∙ ap (λ (r : RunnerView). register_at r.registers k) c.self.view_is)
     (ap (λ (r : RunnerView). r.marks) c.self.view_is) holds holds.table)
