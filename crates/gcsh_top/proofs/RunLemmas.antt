@@ -8,9 +8,6 @@ use Rattle.gc_model.specs.Allocation.{Limits}
 use Rattle.gc_model.specs.Views.{StoreView}
 use Rattle.gc_script.specs.Slots.{RunnerView}
 use Rattle.gc_script.specs.State.{State, HoldsState}
-use Rattle.gc_commands.specs.declared.command.Command.{Command}
-use Rattle.gc_commands.specs.declared.reply.Reply.{Reply}
-use Rattle.gc_script.specs.Run.{Run, Counts, told, overlooked, nothing}
 use Rattle.gc_script.specs.Session.{SessionFrom, reply_line}
 use Rattle.gc_store.specs.Stores.{IsSameStore}
 use Rattle.gcsh_top.specs.Ends.{TookPart}
@@ -44,12 +41,6 @@ along_start layouts counter limits s input store slots held holds = record {
   replied = Appends-nil held;
 }
 
--- the limit is that of before, whatever was counted
-same_limit : (layouts : Layouts) (limits limits' : Limits) (s : State) (c : Command) (answer : Reply) (after : State) → Counts layouts limits limits' s c answer after → limits'.limit ≡ limits.limit
-same_limit layouts limits limits' s c answer after (told said refuses) = ap (λ (l : Limits). l.limit) refuses
-same_limit layouts limits limits' s c answer after (overlooked done refuses) = ap (λ (l : Limits). l.limit) refuses
-same_limit layouts limits limits' s c answer after (nothing unsaid same) = ap (λ (l : Limits). l.limit) same
-
 -- a session that begins with one more line
 one_more : (layouts : Layouts) (counter : Option ℕ) (limits limits' : Limits) (s : State) (line : List ℕ) (store : StoreView) (slots : RunnerView) (held held' : Option (List ℕ)) (did : RanLine layouts counter limits limits' s line store slots held held') → (ls : List (List ℕ)) (more : List ℕ) (after : State) (last : Limits)
     → SessionFrom layouts counter limits' did.ran.after ls more after last → SessionFrom layouts counter limits s (line ∷ ls) (reply_line did.answer ++ more) after last
@@ -57,8 +48,7 @@ one_more layouts counter limits limits' s line store slots held held' did ls mor
   commands = did.command ∷ session.commands;
   replies = did.answer ∷ session.replies;
   are_commands = (did.is_command, session.are_commands);
-  run = (did.ran.after, (did.ran.step, subst (λ (l : Option ℕ). Run layouts l did.ran.after session.commands session.replies after) (same_limit layouts limits limits' s did.command did.answer did.ran.after did.ran.counts) session.run));
-  by_policy = (did.ran.after, (limits', (did.ran.step, (did.ran.follows, session.by_policy))));
+  run = (did.ran.after, limits', (did.ran.step, (did.ran.follows, session.run)));
   output_is = ap (λ (bs : List ℕ). reply_line did.answer ++ bs) session.output_is;
 }
 
@@ -86,7 +76,7 @@ along_more layouts counter limits now next s input rest line behind store store'
 session_so_far : (layouts : Layouts) (counter : Option ℕ) (limits now : Limits) (s : State) (input rest : List ℕ) (store : StoreView) (slots : RunnerView) (a b : Option (List ℕ)) → (so_far : Along layouts counter limits now s input rest store slots a b) → SessionFrom layouts counter limits s so_far.done so_far.output so_far.mid now
 session_so_far layouts counter limits now s input rest store slots a b so_far =
     session_of layouts counter limits s so_far.mid now (so_far.done ++ []) so_far.done (so_far.output ++ []) so_far.output (append-nil so_far.done) (append-nil so_far.output)
-    (so_far.goes_on [] [] so_far.mid now (record { commands = []; replies = []; are_commands = tt; run = refl; by_policy = (refl, refl); output_is = refl }))
+    (so_far.goes_on [] [] so_far.mid now (record { commands = []; replies = []; are_commands = tt; run = (refl, refl); output_is = refl }))
 
 pub along_end : (layouts : Layouts) (counter : Option ℕ) (limits now : Limits) (s : State) (input rest : List ℕ) (store : StoreView) (slots : RunnerView) (a b : Option (List ℕ)) → Along layouts counter limits now s input rest store slots a b → rest ≡ [] → RanLines layouts counter limits now s input store slots a b
 along_end layouts counter limits now s input rest store slots a b so_far none = record {
