@@ -46,7 +46,7 @@ numbers_counted Counting types h capacity allocated roots exact = record { count
 numbers_counted Copying types h capacity allocated roots exact = tt
 
 -- the bytes of a heap don't matter
-numbers_kept : (layouts : Layouts) (types : List Declaration) (h : HeapView) (attached : Bool) (capacity allocated : ℕ) (roots : List Root) (hosts : ℕ → Bool) → IsCollectable layouts types h roots hosts
+pub numbers_kept : (layouts : Layouts) (types : List Declaration) (h : HeapView) (attached : Bool) (capacity allocated : ℕ) (roots : List Root) (hosts : ℕ → Bool) → IsCollectable layouts types h roots hosts
     → IsCollectable layouts types (record h { attached = attached; capacity = capacity; allocated = allocated }) roots hosts
 numbers_kept layouts types h attached capacity allocated roots hosts can = record {
   traced = can.traced;

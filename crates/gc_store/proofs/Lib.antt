@@ -36,3 +36,5 @@ pub mod GoneRoots
 pub mod OtherHalves
 pub mod HeldBlocks
 pub mod AccountLemmas
+pub mod Simulation
+pub mod GrowthSimulation
