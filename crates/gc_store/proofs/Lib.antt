@@ -38,3 +38,4 @@ pub mod HeldBlocks
 pub mod AccountLemmas
 pub mod Simulation
 pub mod GrowthSimulation
+pub mod RetrySimulation
