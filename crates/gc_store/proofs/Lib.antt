@@ -39,3 +39,4 @@ pub mod AccountLemmas
 pub mod Simulation
 pub mod GrowthSimulation
 pub mod RetrySimulation
+pub mod MakingSimulation
