@@ -40,3 +40,4 @@ pub mod Simulation
 pub mod GrowthSimulation
 pub mod RetrySimulation
 pub mod MakingSimulation
+pub mod Expanding

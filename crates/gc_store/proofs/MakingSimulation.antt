@@ -1,14 +1,14 @@
 -- How an allocation and a growth begin: the heap's first pages, and a collection that is due.
-use Rattle.std.proofs.Common.{◌≡◌, ℕ, ◌*◌, ◌≤◌, inl, inr, Bool, true, false, cond, Option, Ok, refl, sym, ap, ◌∙◌, subst}
+use Rattle.std.proofs.Common.{◌≡◌, ℕ, ◌*◌, ◌<◌, ◌≤◌, inl, inr, Bool, true, false, cond, Option, Ok, refl, sym, ap, ◌∙◌, subst}
 use Rattle.std.specs.Prelude.{IfSome}
 use Rattle.gc_types.specs.declared.kind.Layouts.{Layouts}
 use Rattle.gc_model.specs.Table.{Table, make_heap, with_pages}
-use Rattle.gc_model.specs.Allocation.{Limits, page, max_pages, MayMakeHeap, GetsPages, same, more}
+use Rattle.gc_model.specs.Allocation.{Limits, page, max_pages, MayRefuse, MayMakeHeap, IsRefusedHeap, GetsPages, same, more}
 use Rattle.gc_model.specs.Views.{StoreView, HeapView}
 use Rattle.gc_model.proofs.HoldsHeap.{IsMadeHeap, holds_heap}
 use Rattle.gc_heap.specs.Content.{IsHeap}
 use Rattle.gc_heap.specs.Heap.{allocated_at_first}
-use Rattle.gc_store.specs.Accounts.{HoldsAccount, is_due}
+use Rattle.gc_store.specs.Accounts.{Account, HoldsAccount, is_due}
 use Rattle.gc_store.specs.Growth.{HeapState, AsksFirst, already, granted, refused}
 use Rattle.gc_store.specs.Places.{MakesHeap, GetsFirst, IsRefusedPages, DuesHeap, Begins}
 use Rattle.gc_store.specs.Policy.{PolicyState, MakesTable, Dues}
@@ -171,6 +171,37 @@ module _ {D : Type 0} (layouts : Layouts) (s : StoreView) (h : HeapState) (p : P
             (subst (λ (n : ℕ). AsksFirst p.table.made n h.limits false e.limits) shows.holds.holds.numbers.first (refused unmade no_pages.wanted no_pages.above no_pages.counted));
         after = refl;
       }
+
+  pub no_heap_follows : (e : HeapState) → IsRefusedPages s.first h.heap e.heap h.limits e.limits → IsRefusedHeap p.limits.limit p.table
+  no_heap_follows e no_pages =
+      let first : s.first ≡ p.table.first = shows.holds.holds.numbers.first in
+      record {
+        unmade = sym shows.holds.holds.numbers.made ∙ no_pages.detached;
+        wanted = subst (λ (n : ℕ). 0 < n) first no_pages.wanted;
+        above = subst (λ (l : Limits). MayRefuse l.limit p.table.first) (sym shows.limits) (subst (λ (n : ℕ). MayRefuse h.limits.limit n) first no_pages.above);
+      }
+
+-- What the store holds once a call has changed its heap: a table and an account, and no last usage where no heap
+-- is made.
+pub record LeavesStore (D : Type 0) (layouts : Layouts) (s : StoreView) (e : HeapState) : Type 0 where
+  pub table : Table D
+  pub account : Account
+  pub holds : HoldsAccount layouts (view_at s e) table account
+  pub unused : e.heap.attached ≡ false → e.last ≡ 0
+
+pub agrees_leaves : {D : Type 0} (layouts : Layouts) (s : StoreView) (e : HeapState) (p : PolicyState D) → Agrees layouts s e p → LeavesStore D layouts s e
+agrees_leaves layouts s e p agrees = record { table = p.table; account = p.account; holds = agrees.holds; unused = λ detached. absurd (cc (sym agrees.attached ∙ detached)) }
+
+pub same_holds : {D : Type 0} (layouts : Layouts) (s : StoreView) (h e : HeapState) (p : PolicyState D) → Shows layouts s h p → e ≡ record h { limits = e.limits } → HoldsAccount layouts (view_at s e) p.table p.account
+same_holds layouts s h e p shows is = subst (λ (x : HeapState). HoldsAccount layouts (view_at s x) p.table p.account) (sym is) shows.holds
+
+pub same_leaves : {D : Type 0} (layouts : Layouts) (s : StoreView) (h e : HeapState) (p : PolicyState D) → Shows layouts s h p → (h.heap.attached ≡ false → h.last ≡ 0) → e ≡ record h { limits = e.limits } → LeavesStore D layouts s e
+same_leaves layouts s h e p shows unused is = record {
+  table = p.table;
+  account = p.account;
+  holds = same_holds layouts s h e p shows is;
+  unused = λ detached. ap (λ (x : HeapState). x.last) is ∙ unused (sym (ap (λ (x : HeapState). x.heap.attached) is) ∙ detached);
+}
 
 -- the pages that a heap got
 pub record GotPages {D : Type 0} (limit : Option ℕ) (bytes : ℕ) (t t' : Table D) : Type 0 where
