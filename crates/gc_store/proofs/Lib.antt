@@ -41,3 +41,5 @@ pub mod GrowthSimulation
 pub mod RetrySimulation
 pub mod MakingSimulation
 pub mod Expanding
+pub mod HeldMore
+pub mod PlacingFaults

@@ -7,7 +7,7 @@ use Rattle.gc_model.specs.Views.{StoreView}
 use Rattle.gc_model.specs.Holds.{HoldsKept}
 use Rattle.gc_heap.specs.Content.{IsHeap}
 use Rattle.gc_heap.specs.Heap.{HasRoom}
-use Rattle.gc_store.specs.Accounts.{HoldsAccount}
+use Rattle.gc_store.specs.Accounts.{Account, HoldsAccount}
 use Rattle.gc_store.specs.Growth.{HeapState, CollectsHeap, ReadiesHeap}
 use Rattle.gc_store.specs.Policy.{PolicyState, CollectsTable, ReadiesTable, FitsNow, LacksNow}
 use Rattle.gc_store.specs.Tracing.{IsCollectable, roots_of}
@@ -24,6 +24,14 @@ pub record Agrees {D : Type 0} (layouts : Layouts) (s : StoreView) (h : HeapStat
   pub is_heap : IsHeap layouts h.heap
   pub collectable : IsCollectable layouts s.types h.heap (roots_of h.entries) h.hosts
   pub attached : h.heap.attached ≡ true
+
+-- the store after its heap came to a state, with other host values and another generation
+abbrev pub left_view : StoreView → HeapState → ℕ → ℕ → StoreView
+left_view s e hosts generation = record (view_at s e) { hosts = hosts; generation = generation }
+
+pub keeps_left : {D : Type 0} (layouts : Layouts) (s : StoreView) (e : HeapState) (n generation : ℕ) → (s.hosts ≡ 0 → n ≡ 0) → generation ≡ s.generation → (t : Table D) (a : Account) → HoldsAccount layouts (view_at s e) t a → HoldsAccount layouts (left_view s e n generation) t a
+keeps_left layouts s e n generation none same t a holds =
+    subst (λ (v : StoreView). HoldsAccount layouts v t a) (λ i. record (view_at s e) { hosts = (holds.holds.no_hosts ∙ sym (none holds.holds.no_hosts)) i; generation = sym same i }) holds
 
 -- what the table came to by a collection
 pub record FollowsCollection {D : Type 0} (layouts : Layouts) (s : StoreView) (e : HeapState) (p : PolicyState D) : Type 0 where
