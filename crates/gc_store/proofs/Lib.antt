@@ -43,3 +43,4 @@ pub mod MakingSimulation
 pub mod Expanding
 pub mod HeldMore
 pub mod PlacingFaults
+pub mod MakingRoom
