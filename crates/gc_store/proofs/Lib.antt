@@ -44,3 +44,4 @@ pub mod Expanding
 pub mod HeldMore
 pub mod PlacingFaults
 pub mod MakingRoom
+pub mod CountedTries

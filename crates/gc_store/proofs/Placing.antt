@@ -32,7 +32,7 @@ use Rattle.gc_store.specs.Policy.{PolicyState, policy_state, count_try, Prepares
 use Rattle.gc_store.specs.Stores.{is_full}
 use Rattle.gc_store.specs.Tracing.{IsCollectable, roots_of, root_of}
 use Rattle.gc_store.specs.Values.{AllStand}
-use Rattle.gc_store.proofs.AccountLemmas.{holds_counted}
+use Rattle.gc_store.proofs.CountedTries.{counted_store, counted_holds}
 use Rattle.gc_store.proofs.HeapMade.{pushed_kept}
 use Rattle.gc_store.proofs.HeldMore.{held_more}
 use Rattle.gc_store.proofs.MakingSimulation.{Shows, FollowsBeginning, beginning_follows, refusal_follows, no_heap_follows, GotPages, got_pages, LeavesStore, agrees_leaves, same_leaves, same_holds}
@@ -53,10 +53,6 @@ allocated_next Null allocated after size is null = omega (arith, is, round_up-le
 allocated_next Counting allocated after size is null = absurd (cc)
 allocated_next Copying allocated after size is null = absurd (cc)
 
--- the store that counted one more allocation
-abbrev pub counted_store : StoreView → StoreView
-counted_store s = record s { tries = min (s.tries + 1) (2 ^ 64 - 1) }
-
 -- the store after a placing, of which its parts tell
 abbrev pub placed_view : StoreView → HeapState → ℕ → List RootEntry → ℕ → StoreView
 placed_view s e hosts entries generation = record (view_at s e) { hosts = hosts; scoped = entries; generation = generation }
@@ -75,11 +71,7 @@ module _ {D : Type 0} (layouts : Layouts) (s : StoreView) (ty : ℕ) (raws : Lis
 
   pub shows : Shows layouts (counted_store s) start (count_try before)
   shows = record {
-    holds = record {
-      place = holds.place;
-      holds = holds_counted layouts s t holds.place s.last (min (s.tries + 1) (2 ^ 64 - 1)) holds.holds;
-      account = record { held = holds.account.held; last = holds.account.last; tries = ap (λ (n : ℕ). min (n + 1) (2 ^ 64 - 1)) holds.account.tries; upper = holds.account.upper };
-    };
+    holds = counted_holds layouts s t a holds;
     limits = refl;
     is_heap = heap;
     collectable = collectable;
@@ -140,6 +132,16 @@ module _ {D : Type 0} (layouts : Layouts) (s : StoreView) (ty : ℕ) (raws : Lis
             upper = made.needs_gc ∙ after.account.upper;
           };
         })
+
+    -- no more roots stand than a store may have
+    pub few_placed : (due : Bool) → due ≡ is_due s.alloc_counter (min (s.tries + 1) (2 ^ 64 - 1)) → (b e : HeapState) (word : ℕ) → Begins layouts s.types s.first due start b → Creates layouts s.types can.fields ty raws b e word → length e.entries < 2 ^ 32
+    few_placed due due_is b e word begins made =
+        let beginning = begun due due_is b begins in
+        let retried = retry_follows layouts (counted_store s) (size_of layouts can.fields) b beginning.after beginning.agrees true made.mid made.retried in
+        let count : length e.entries ≡ length retried.after.table.scoped = ap (λ (x : HeapState). length x.entries) made.rest ∙ retried.agrees.holds.holds.scoped.same_count in
+        let within = retried.agrees.holds.holds.numbers.scoped_within in
+        let few = retried.agrees.holds.holds.numbers.few_roots in
+        omega arith
 
     -- A struct that was made and pushed is in the table, under the handle of its push; and its heap is made.
     pub placing_follows : (due : Bool) → due ≡ is_due s.alloc_counter (min (s.tries + 1) (2 ^ 64 - 1)) → (vs : List Value) (b e : HeapState) (word : ℕ) → AllStand s t raws vs

@@ -20,8 +20,9 @@ use Rattle.gc_store.specs.Policy as policy
 use Rattle.gc_store.specs.Policy.{PolicyState, policy_state, count_try, Prepares, Prepared}
 use Rattle.gc_store.specs.Stores.{is_full}
 use Rattle.gc_store.specs.Tracing.{IsCollectable, roots_of}
+use Rattle.gc_store.proofs.CountedTries.{counted_store}
 use Rattle.gc_store.proofs.MakingSimulation.{Shows, FollowsBeginning, refusal_follows, no_heap_follows, GotPages, got_pages, LeavesStore, agrees_leaves, same_leaves, same_holds}
-use Rattle.gc_store.proofs.Placing.{too_large_is, counted_store, start_state, shows, size_in, begun, not_full}
+use Rattle.gc_store.proofs.Placing.{too_large_is, start_state, shows, size_in, begun, not_full}
 use Rattle.gc_store.proofs.RetrySimulation.{MayHaveGrown, retry_follows, pause_follows}
 use Rattle.gc_store.proofs.Simulation.{view_at}
 
