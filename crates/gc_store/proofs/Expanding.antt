@@ -1,5 +1,5 @@
 -- A growth that was asked for.
-use Rattle.std.proofs.Common.{◌≡◌, ℕ, ◌+◌, ◌<◌, inl, inr, Bool, true, false, Option, Result, Ok, Err, refl, sym, ap, ◌∙◌, subst}
+use Rattle.std.proofs.Common.{◌≡◌, ℕ, ◌<◌, inl, inr, Bool, true, false, Option, Result, Ok, Err, refl, sym, ap, ◌∙◌, subst}
 use Rattle.gc_types.specs.declared.kind.Layouts.{Layouts}
 use Rattle.gc_model.specs.Table.{Table, make_heap, made_pages}
 use Rattle.gc_model.specs.Allocation as allocation
@@ -36,8 +36,7 @@ module _ {D : Type 0} (layouts : Layouts) (s : StoreView) (h : HeapState) (p : P
       let making = only_making_follows layouts s h p shows b begins in
       let grown = growth_follows layouts s bytes b making.after making.agrees ok e grew in
       let answer : Answered ok p.limits.limit (made_pages p.table) bytes =
-      subst (λ (t : Table D). Answered ok p.limits.limit t.pages bytes) making.table (subst (λ l. Answered ok (allocation.Limits.limit l) making.after.table.pages bytes) making.limits grown.answer) in
-      (
+      subst (λ (t : Table D). Answered ok p.limits.limit t.pages bytes) making.table (subst (λ l. Answered ok (allocation.Limits.limit l) making.after.table.pages bytes) making.limits grown.answer) in (
         record {
           after = grown.after;
           expands = policy.grows some making.makes grown.grows;

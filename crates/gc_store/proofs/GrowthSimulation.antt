@@ -1,21 +1,19 @@
 -- A growth of a heap is one of the table that its store holds.
 use Rattle.std.proofs.Common.{◌≡◌, ℕ, ◌+◌, ◌*◌, ◌/◌, inl, inr, Bool, true, false, Option, refl, sym, ap, ◌∙◌, subst, arith}
 use Rattle.gc_types.specs.declared.kind.Layouts.{Layouts}
-use Rattle.gc_types.specs.declared.kind.Layouts.TheVariants.{Null}
-use Rattle.gc_model.specs.Table.{Table, with_pages}
+use Rattle.gc_model.specs.Table.{Table}
 use Rattle.gc_model.specs.Allocation.{Limits, page, asked, MayGrow, IsRefusedGrowth}
 use Rattle.gc_model.specs.Views.{StoreView, HeapView}
 use Rattle.gc_model.specs.Holds.{HoldsKept}
 use Rattle.gc_model.proofs.HoldsHeap.{IsGrownHeap, holds_pages}
 use Rattle.gc_heap.specs.Content.{IsHeap}
 use Rattle.gc_heap.specs.Heap.{grown, allocated_in_more}
-use Rattle.gc_store.specs.Accounts.{HoldsAccount}
 use Rattle.gc_store.specs.Growth.{HeapState, GrowsHeap, AsksPages, unasked, refused, granted, pages_of, heap_after}
 use Rattle.gc_store.specs.Policy.{PolicyState, GrowsTable, table_after}
-use Rattle.gc_store.specs.Tracing.{IsCollectable, roots_of}
+use Rattle.gc_store.specs.Tracing.{roots_of}
 use Rattle.gc_store.proofs.AccountLemmas.{account_kept}
 use Rattle.gc_store.proofs.HeapMade.{numbers_kept}
-use Rattle.gc_store.proofs.Simulation.{view_at, Agrees, FollowsReady, ready_follows}
+use Rattle.gc_store.proofs.Simulation.{view_at, Agrees, ready_follows}
 
 -- what a limit said to a growth of a heap with so many pages
 abbrev pub Answered : Bool → Option ℕ → ℕ → ℕ → Type 0

@@ -1,8 +1,8 @@
 -- A collection for want of room, and the growth after it.
-use Rattle.std.proofs.Common.{◌≡◌, ℕ, ◌-◌, ◌*◌, ◌<◌, ◌≤◌, inl, inr, Bool, true, false, Option, Result, Ok, Err, refl, sym, ap, ◌∙◌, subst}
+use Rattle.std.proofs.Common.{◌≡◌, ℕ, ◌-◌, ◌<◌, ◌≤◌, inl, inr, Bool, true, false, Ok, Err, refl, sym, ◌∙◌, subst}
 use Rattle.gc_types.specs.declared.kind.Layouts.{Layouts}
 use Rattle.gc_model.specs.Table.{Table}
-use Rattle.gc_model.specs.Allocation.{Limits, page}
+use Rattle.gc_model.specs.Allocation.{Limits}
 use Rattle.gc_model.specs.Views.{StoreView}
 use Rattle.gc_heap.specs.Content.{IsHeap}
 use Rattle.gc_store.specs.Accounts.{Account, HoldsAccount}

@@ -1,17 +1,16 @@
 -- A struct that was placed in the heap is the table's.
-use Rattle.std.proofs.Common.{inl, inr, ◌≡◌, ℕ, ◌+◌, ◌-◌, ◌*◌, ◌%◌, ◌^◌, ◌<◌, ◌≤◌, min, Bool, true, false, List, [], ◌∷◌, ◌++◌, Option, Some, Result, Ok, Err, length, sym, ap, ◌∙◌, refl, subst, arith, le-leb}
+use Rattle.std.proofs.Common.{◌≡◌, ℕ, ◌+◌, ◌-◌, ◌^◌, ◌<◌, min, Bool, true, false, List, [], ◌∷◌, ◌++◌, length, sym, ap, ◌∙◌, refl, subst, arith, le-leb}
 use Rattle.std.proofs.lemmas.Option.{slice_get_within}
 use Rattle.gc_types.specs.declared.kind.Layouts.{Layouts}
 use Rattle.gc_types.specs.declared.kind.Layouts.TheVariants.{Null, Counting, Copying}
 use Rattle.gc_types.specs.Declarations.{Declaration, struct_fields_at}
-use Rattle.gc_types.specs.Layouts.{struct_base, fields_end, round_up}
+use Rattle.gc_types.specs.Layouts.{round_up}
 use Rattle.gc_model.specs.declared.RootEntry.{RootEntry}
-use Rattle.gc_model.specs.Values.{Value, Object, struct}
-use Rattle.gc_model.specs.Table.{Table, make, make_heap, made_pages, with_pages}
+use Rattle.gc_model.specs.Values.{Value, struct}
+use Rattle.gc_model.specs.Table.{Table, make, with_pages}
 use Rattle.gc_model.specs.Live.{roots_full}
 use Rattle.gc_model.specs.Sizes.{object_size, fields_size, alignment, need_of}
-use Rattle.gc_model.specs.Allocation as allocation
-use Rattle.gc_model.specs.Allocation.{Limits, too_large, FitsIn, LacksFit, IsRefusedGrowth, GetsPages}
+use Rattle.gc_model.specs.Allocation.{Limits, too_large, FitsIn, GetsPages}
 use Rattle.gc_model.specs.Views.{HeapView, StoreView}
 use Rattle.gc_model.specs.Holds.{Placing, Holds}
 use Rattle.gc_model.proofs.HoldsMake.{IsMadeObject, holds_make, placed_at}
@@ -21,25 +20,23 @@ use Rattle.gc_heap.specs.Heap.{IsTooLarge, allocated_after}
 use Rattle.gc_store.specs.declared.root.GcRootIndex.{GcRootIndex}
 use Rattle.gc_store.specs.declared.root.RawValue.{RawValue}
 use Rattle.gc_store.specs.declared.root.RootSlot.TheVariants as slot
-use Rattle.gc_store.specs.declared.store.PlaceFault.{PlaceFault}
-use Rattle.gc_store.specs.declared.store.PlaceFault.TheVariants as fault
 use Rattle.gc_store.specs.Accounts.{Account, HoldsAccount, is_due, with_held}
 use Rattle.gc_store.specs.Fields.{AllKept}
 use Rattle.gc_store.specs.Growth.{HeapState}
-use Rattle.gc_store.specs.Places.{Begins, Creates, CanPlace, PlacesIn, PlacesObject, Places, MayGetPages, size_of}
+use Rattle.gc_store.specs.Places.{Begins, Creates, CanPlace, PlacesObject, size_of}
 use Rattle.gc_store.specs.Policy as policy
-use Rattle.gc_store.specs.Policy.{PolicyState, policy_state, count_try, Prepares, Prepared}
+use Rattle.gc_store.specs.Policy.{PolicyState, policy_state, count_try, Prepares}
 use Rattle.gc_store.specs.Stores.{is_full}
 use Rattle.gc_store.specs.Tracing.{IsCollectable, roots_of, root_of}
 use Rattle.gc_store.specs.Values.{AllStand}
 use Rattle.gc_store.proofs.CountedTries.{counted_store, counted_holds}
 use Rattle.gc_store.proofs.HeapMade.{pushed_kept}
 use Rattle.gc_store.proofs.HeldMore.{held_more}
-use Rattle.gc_store.proofs.MakingSimulation.{Shows, FollowsBeginning, beginning_follows, refusal_follows, no_heap_follows, GotPages, got_pages, LeavesStore, agrees_leaves, same_leaves, same_holds}
+use Rattle.gc_store.proofs.MakingSimulation.{Shows, FollowsBeginning, beginning_follows, got_pages}
 use Rattle.gc_store.proofs.PlacedValues.{all_kept}
 use Rattle.gc_store.proofs.Pushing.{full_is, entry_of}
-use Rattle.gc_store.proofs.RetrySimulation.{MayHaveGrown, retry_follows, pause_follows}
-use Rattle.gc_store.proofs.Simulation.{view_at, Agrees}
+use Rattle.gc_store.proofs.RetrySimulation.{MayHaveGrown, retry_follows}
+use Rattle.gc_store.proofs.Simulation.{view_at}
 
 -- what is too large for the heap is too large for the table
 pub too_large_is : (layouts : Layouts) (n : ℕ) → IsTooLarge layouts n → too_large layouts n ≡ true
@@ -155,8 +152,7 @@ module _ {D : Type 0} (layouts : Layouts) (s : StoreView) (ty : ℕ) (raws : Lis
         let got = got_pages limits.limit (need_of layouts (size_of layouts can.fields)) t beginning.after.table retried.after.table beginning.may beginning.table
         (subst (λ (l : Limits). MayHaveGrown l.limit (need_of layouts (size_of layouts can.fields)) beginning.after.table retried.after.table) beginning.limits retried.tried.0) in
         let after : HoldsAccount layouts (view_at (counted_store s) made.mid) (with_pages got.pages t) retried.after.account =
-        subst (λ (u : Table D). HoldsAccount layouts (view_at (counted_store s) made.mid) u retried.after.account) got.is retried.agrees.holds in
-        (
+        subst (λ (u : Table D). HoldsAccount layouts (view_at (counted_store s) made.mid) u retried.after.account) got.is retried.agrees.holds in (
           record {
             small = ap (too_large layouts) (size_in vs layouts) ∙ small;
             not_full = not_full;

@@ -1,5 +1,5 @@
 -- A struct that was not placed is refused as the table says.
-use Rattle.std.proofs.Common.{inl, inr, ◌≡◌, ℕ, ◌+◌, ◌-◌, ◌^◌, min, Bool, true, false, List, Option, Result, Err, sym, ap, ◌∙◌, refl, subst}
+use Rattle.std.proofs.Common.{inl, inr, ◌≡◌, ℕ, ◌+◌, ◌-◌, ◌^◌, min, Bool, false, List, Err, sym, ap, ◌∙◌, refl, subst}
 use Rattle.gc_types.specs.declared.kind.Layouts.{Layouts}
 use Rattle.gc_model.specs.Values.{Value, struct}
 use Rattle.gc_model.specs.Table.{Table, make_heap, made_pages}
@@ -9,7 +9,6 @@ use Rattle.gc_model.specs.Allocation as allocation
 use Rattle.gc_model.specs.Allocation.{Limits, too_large, LacksFit, IsRefusedGrowth}
 use Rattle.gc_model.specs.Views.{StoreView}
 use Rattle.gc_heap.specs.Content.{IsHeap}
-use Rattle.gc_store.specs.declared.root.GcRootIndex.{GcRootIndex}
 use Rattle.gc_store.specs.declared.root.RawValue.{RawValue}
 use Rattle.gc_store.specs.declared.store.PlaceFault.{PlaceFault}
 use Rattle.gc_store.specs.declared.store.PlaceFault.TheVariants as fault
@@ -21,7 +20,7 @@ use Rattle.gc_store.specs.Policy.{PolicyState, policy_state, count_try, Prepares
 use Rattle.gc_store.specs.Stores.{is_full}
 use Rattle.gc_store.specs.Tracing.{IsCollectable, roots_of}
 use Rattle.gc_store.proofs.CountedTries.{counted_store}
-use Rattle.gc_store.proofs.MakingSimulation.{Shows, FollowsBeginning, refusal_follows, no_heap_follows, GotPages, got_pages, LeavesStore, agrees_leaves, same_leaves, same_holds}
+use Rattle.gc_store.proofs.MakingSimulation.{Shows, FollowsBeginning, refusal_follows, no_heap_follows, got_pages, LeavesStore, agrees_leaves, same_leaves, same_holds}
 use Rattle.gc_store.proofs.Placing.{too_large_is, start_state, shows, size_in, begun, not_full}
 use Rattle.gc_store.proofs.RetrySimulation.{MayHaveGrown, retry_follows, pause_follows}
 use Rattle.gc_store.proofs.Simulation.{view_at}
@@ -70,8 +69,7 @@ module _ {D : Type 0} (layouts : Layouts) (s : StoreView) (ty : ℕ) (raws : Lis
         let is : retried.after.table ≡ make_heap t = retried.tried.same ∙ beginning.table in
         let refused : IsRefusedGrowth limits.limit (made_pages t) need =
         subst (λ (u : Table D). IsRefusedGrowth limits.limit u.pages need) beginning.table (subst (λ (l : Limits). IsRefusedGrowth l.limit beginning.after.table.pages need) beginning.limits retried.tried.refused) in
-        let none : LacksFit layouts (make_heap t) size = subst (λ (u : Table D). LacksFit layouts u size) is retried.tried.lacks in
-        (
+        let none : LacksFit layouts (make_heap t) size = subst (λ (u : Table D). LacksFit layouts u size) is retried.tried.lacks in (
           record {
             small = is_small vs;
             not_full = full;

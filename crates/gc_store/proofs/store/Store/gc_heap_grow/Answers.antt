@@ -1,4 +1,4 @@
-use Rattle.std.proofs.Common.{◌≡◌, ℕ, ◌<◌, true, sym, ap, ◌∙◌, refl, subst, arith}
+use Rattle.std.proofs.Common.{true, sym, refl, subst, arith}
 use Rattle.std.specs.FinMap.{len}
 use Rattle.gc_heap.specs.Collection.{has_host}
 use Rattle.gc_model.specs.Table.{Table}
@@ -6,7 +6,7 @@ use Rattle.gc_model.specs.Views.{StoreView}
 use Rattle.gc_store.specs.Accounts.{Account, HoldsAccount}
 use Rattle.gc_store.specs.Growth.{HeapState, heap_state}
 use Rattle.gc_store.specs.Policy as policy
-use Rattle.gc_store.specs.Policy.{PolicyState, policy_state}
+use Rattle.gc_store.specs.Policy.{policy_state}
 use Rattle.gc_store.specs.Stores.{store_view}
 use Rattle.gc_model.specs.Allocation as allocation
 use Rattle.gc_store.proofs.CollectedStore.{part_has_none}

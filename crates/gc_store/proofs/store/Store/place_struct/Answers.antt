@@ -1,4 +1,4 @@
-use Rattle.std.proofs.Common.{inl, inr, ◌≡◌, ℕ, ◌+◌, ◌-◌, ◌<◌, ◌^◌, ◌⊎◌, min, Bool, List, ◌++◌, ◌∷◌, [], Ok, Err, Result, IsOk, true, false, length, refl, sym, ap, ◌∙◌, subst}
+use Rattle.std.proofs.Common.{inl, inr, ◌≡◌, ℕ, ◌+◌, ◌-◌, ◌^◌, ◌⊎◌, min, List, ◌++◌, ◌∷◌, [], Ok, Err, Result, IsOk, true, false, length, refl, sym, ap, ◌∙◌, subst}
 use Rattle.std.specs.FinMap.{len}
 use Rattle.std.specs.Option.{option_map}
 use Rattle.std.specs.Int.NonZero.{non_zero_u32_get}
@@ -24,7 +24,7 @@ use Rattle.gc_store.specs.Values.{AllStand}
 use Rattle.gc_store.proofs.CollectedStore.{part_has_none}
 use Rattle.gc_store.proofs.CountedTries.{counted_store}
 use Rattle.gc_store.proofs.PlacedValues.{can_create, values_of}
-use Rattle.gc_store.proofs.Placing.{placed_view, start_state, few_placed, placing_follows, collectable_pushed}
+use Rattle.gc_store.proofs.Placing.{start_state, few_placed, placing_follows, collectable_pushed}
 use Rattle.gc_store.proofs.PlacingFaults.{FollowsFault, fault_follows}
 use Rattle.gc_store.proofs.Pushing.{entry_of}
 use Rattle.gc_store.proofs.Simulation.{left_view, keeps_left}
@@ -131,10 +131,9 @@ made g c t a vs holds all =
     let follows = placing_follows g.H.GcHeap.KIND (view g before) c.args.ty c.args.values.now (can g before) (g.met.H.GcHeap.is_heap c.self.inside.heap c.self.invariant.heap) (has_host c.self.inside.hosts.entries) c.self.invariant.collectable
     (g.L.ResourceLimiter.limits c.args.limiter.now) t a holds (small g before) (room g before) c.count_allocation-is_due.result (due_is g at) vs p.0 (end g at) c.in-Ok.gc_ref all p.1.0 p.1.1
     (len c.place_in.new.hosts.entries) c.push_root.new.roots.entries c.push_root.new.roots.generation c.push_root.result (none g at) (c.push_root.ensures.generation ∙ generation_is g at) (items_are g c)
-    (c.push_root.ensures.handle ∙ ap (λ n. record { store_id = c.self.inside.id; generation = n; slot = slot.Scoped (length c.place_in.new.roots.entries) }) (sym c.push_root.ensures.generation)) in
-    (
+    (c.push_root.ensures.handle ∙ ap (λ n. record { store_id = c.self.inside.id; generation = n; slot = slot.Scoped (length c.place_in.new.roots.entries) }) (sym c.push_root.ensures.generation)) in (
       subst (λ (s : StoreView). PlacesObject g.H.GcHeap.KIND (option_map non_zero_u32_get c.self.inside.config.alloc_counter) (struct c.args.ty vs) (policy_state t a (g.L.ResourceLimiter.limits c.args.limiter.now)) (g.L.ResourceLimiter.limits c.place_in.new.limiter) c.push_root.result s)
-      (λ i. record (now g c) { last = sym c.push_root.ensures.last i; tries = sym c.count_allocation-is_due.ensures.counted i }) follows.0,
+          (λ i. record (now g c) { last = sym c.push_root.ensures.last i; tries = sym c.count_allocation-is_due.ensures.counted i }) follows.0,
       follows.1,
     )
 

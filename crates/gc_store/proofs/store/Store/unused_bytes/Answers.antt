@@ -1,4 +1,4 @@
-use Rattle.std.proofs.Common.{◌≡◌, ◌-◌, sym, ap, ◌∙◌, subst}
+use Rattle.std.proofs.Common.{◌-◌, ap, ◌∙◌, subst}
 use Rattle.gc_model.specs.Views.{StoreView}
 use Rattle.gc_heap.specs.Content.{IsHeap}
 use Rattle.gc_store.proofs.MakingRoom.{unused_is}
