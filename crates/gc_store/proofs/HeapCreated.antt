@@ -1,5 +1,5 @@
 -- A struct that was allocated, and gets its values.
-use Rattle.std.proofs.Common.{◌≡◌, ℕ, ◌+◌, ◌<◌, ◌^◌, inl, inr, Bool, true, false, cond, nat_eq, List, [], ◌∷◌, length, Option, Some, None, Result, Ok, Err, option_map, refl, sym, ap, ◌∙◌, arith}
+use Rattle.std.proofs.Common.{◌≡◌, ℕ, ◌+◌, ◌<◌, ◌^◌, inl, inr, Bool, true, false, cond, nat_eq, List, [], ◌∷◌, length, Option, Some, None, Result, Ok, Err, option_map, refl, sym, ap, ◌∙◌, subst, arith}
 use Rattle.std.specs.Prelude.{All}
 use Rattle.std.specs.List.{slice_get}
 use Rattle.std.specs.FinMap.{get}
@@ -10,10 +10,10 @@ use Rattle.gc_types.specs.declared.value.FieldType.{FieldType}
 use Rattle.gc_types.specs.declared.kind.Layouts.{Layouts}
 use Rattle.gc_types.specs.declared.layout.FieldLayout.{FieldLayout}
 use Rattle.gc_types.specs.Declarations.{Declaration, struct_fields_at}
-use Rattle.gc_types.specs.Layouts.{struct_base, struct_layout, field_layouts, fields_end}
+use Rattle.gc_types.specs.Layouts.{struct_base, struct_layout, field_layouts}
 use Rattle.gc_model.specs.declared.RootEntry.{RootEntry}
 use Rattle.gc_model.specs.Fits.{is_built_field}
-use Rattle.gc_model.specs.Allocation.{Limits}
+use Rattle.gc_model.specs.Sizes.{need_of}
 use Rattle.gc_model.specs.Views.{HeapObject, HeapView}
 use Rattle.gc_model.proofs.Content.{get-put_other}
 use Rattle.gc_heap.specs.Heap.{new_struct}
@@ -29,7 +29,9 @@ use Rattle.gc_store.specs.declared.store.PlaceFault.TheVariants as place_fault
 use Rattle.gc_store.specs.RootSets.{entry_word, slot_word}
 use Rattle.gc_store.specs.Tracing.{root_of, roots_of}
 use Rattle.gc_store.specs.Fields.{IsKept, AllFit, AreRoots, CanWriteValues, WritesValues}
-use Rattle.gc_store.specs.Places.{MakesHeap, MayCollect, Allocates, Creates, CreatesStruct, PlacesIn}
+use Rattle.gc_store.specs.Growth.{HeapState, ReadiesHeap, GrowsHeap, heap_rules}
+use Rattle.gc_store.specs.Places.{size_of, Allocates, CanCreate, Creates, CreatesStruct, DuesHeap, Begins, PlacesIn}
+use Rattle.gc_store.specs.Retry.{Retry}
 use Rattle.gc_store.proofs.RootSetLemmas.{generations_of}
 use Rattle.gc_store.proofs.HeapMade.{new_size}
 
@@ -64,9 +66,23 @@ kept_again entries entries' (raw.Ref class (Some handle)) same kept =
     let now = slot_again entries entries' handle.slot handle.generation kept.1.0 same kept.1.1.0 in
     (stored.Ref now.0, (now.0, (now.1, refl)))
 
-pub same_generations : (layouts : Layouts) (types : List Declaration) (old mid : HeapView) (entries entries' : List RootEntry) (hosts hosts' : ℕ → Bool) → MayCollect layouts types old mid entries entries' hosts hosts' → generations_of entries' ≡ generations_of entries
-same_generations layouts types old mid entries entries' hosts hosts' (inl same) = ap generations_of same.1.0
-same_generations layouts types old mid entries entries' hosts hosts' (inr collected) = collected.generations
+-- a collection and a growth leave the roots their generations
+
+ready_generations : (layouts : Layouts) (types : List Declaration) (s e : HeapState) → ReadiesHeap layouts types s e → generations_of e.entries ≡ generations_of s.entries
+ready_generations layouts types s e (inl collected) = collected.1.collected.generations
+ready_generations layouts types s e (inr same) = ap (λ (r : HeapState). generations_of r.entries) same.1
+
+grown_generations : (layouts : Layouts) (types : List Declaration) (bytes : ℕ) (s : HeapState) (granted : Bool) (e : HeapState) → GrowsHeap layouts types bytes s granted e → generations_of e.entries ≡ generations_of s.entries
+grown_generations layouts types bytes s granted e grows = ap (λ (r : HeapState). generations_of r.entries) grows.after ∙ ready_generations layouts types s grows.ready grows.readied
+
+retried_generations : (layouts : Layouts) (types : List Declaration) (size : ℕ) (s : HeapState) (ok : Bool) (e : HeapState) → Retry (heap_rules layouts types size) s ok e → generations_of e.entries ≡ generations_of s.entries
+retried_generations layouts types size s ok e (Retry.at_once fits) = refl
+retried_generations layouts types size s ok e (Retry.after_collection lacks rule collects fits) = collects.collected.generations
+retried_generations layouts types size s ok e (Retry.after_both {m} {granted} lacks rule collects still grows made ends) =
+    grown_generations layouts types (need_of layouts size) m granted e grows ∙ collects.collected.generations
+retried_generations layouts types size s ok e (Retry.after_growth lacks rule grows fits) = grown_generations layouts types (need_of layouts size) s true e grows
+retried_generations layouts types size s ok e (Retry.after_refusal {m} lacks rule grows collects ends) =
+    collects.collected.generations ∙ grown_generations layouts types (need_of layouts size) s false m grows
 
 same_length : (entries entries' : List RootEntry) → generations_of entries' ≡ generations_of entries → length entries' ≡ length entries
 same_length entries entries' same =
@@ -87,30 +103,29 @@ are_roots entries word e among =
       get_or-map (λ (x : RootEntry). root_of x.word) entries among.0 e (root_of e.word) among.1 ∙ ap (λ (x : RootEntry). root_of x.word) among.2,
     )
 
-module _ (layouts : Layouts) (types : List Declaration) (fields : List FieldType) (ty : ℕ) (raws : List RawValue) (old new : HeapView) (entries entries' : List RootEntry) (hosts hosts' : ℕ → Bool) (word : ℕ)
-    (a : Allocates layouts types fields ty old new entries entries' hosts hosts' word) where
+module _ (layouts : Layouts) (types : List Declaration) (fields : List FieldType) (ty : ℕ) (raws : List RawValue) (s e : HeapState) (word : ℕ) (a : Allocates layouts types fields ty s e word) where
   abbrev blank : HeapObject
   blank = new_struct layouts ty (struct_layout layouts fields)
 
-  pub held_blank : get new.content word ≡ Some blank
-  held_blank = held_added layouts a.mid new word blank (fields_end (struct_base layouts) fields) a.adds
+  pub held_blank : get e.heap.content word ≡ Some blank
+  held_blank = held_added layouts a.mid.heap e.heap word blank (size_of layouts fields) a.adds
 
-  generations : generations_of entries' ≡ generations_of entries
-  generations = same_generations layouts types old a.mid entries entries' hosts hosts' a.may_collect
+  generations : generations_of e.entries ≡ generations_of s.entries
+  generations = ap (λ (r : HeapState). generations_of r.entries) a.rest ∙ retried_generations layouts types (size_of layouts fields) s true a.mid a.retried
 
-  pub fits_now : AllFit entries fields raws → AllFit entries' fields raws
-  fits_now = fit_again entries entries' fields raws generations
+  pub fits_now : AllFit s.entries fields raws → AllFit e.entries fields raws
+  fits_now = fit_again s.entries e.entries fields raws generations
 
-  pub roots_now : AreRoots entries' (root_of word ∷ roots_of entries')
-  roots_now = are_roots entries' word
+  pub roots_now : AreRoots e.entries (root_of word ∷ roots_of e.entries)
+  roots_now = are_roots e.entries word
 
   -- its values may be written
-  pub can_write_new : struct_fields_at types ty ≡ Some fields → AllFit entries fields raws → All (λ (f : FieldType). is_built_field f ≡ true) fields → length entries < 2 ^ 32
-      → (places : List FieldLayout) → places ≡ field_layouts (struct_base layouts) fields → CanWriteValues layouts new entries' word places raws
+  pub can_write_new : struct_fields_at types ty ≡ Some fields → AllFit s.entries fields raws → All (λ (f : FieldType). is_built_field f ≡ true) fields → length s.entries < 2 ^ 32
+      → (places : List FieldLayout) → places ≡ field_layouts (struct_base layouts) fields → CanWriteValues layouts e.heap e.entries word places raws
   can_write_new declared fit built few places laid_out = record {
     types = types;
-    roots = root_of word ∷ roots_of entries';
-    hosts = hosts';
+    roots = root_of word ∷ roots_of e.entries;
+    hosts = e.hosts;
     collectable = a.collectable;
     are_roots = roots_now;
     object = blank;
@@ -121,18 +136,19 @@ module _ (layouts : Layouts) (types : List Declaration) (fields : List FieldType
     fit = fits_now fit;
     built = built;
     few =
-        let count = length-map entries' (λ (x : RootEntry). root_of x.word) in
-        let same = same_length entries entries' generations in
+        let count = length-map e.entries (λ (x : RootEntry). root_of x.word) in
+        let same = same_length s.entries e.entries generations in
         omega arith;
   }
 
   -- and were written
-  pub creates_new : (after : HeapView) → WritesValues layouts types (root_of word ∷ roots_of entries') hosts' entries' fields raws new after word blank → Creates layouts types fields ty raws old after entries entries' hosts hosts' word
+  pub creates_new : (after : HeapView) → WritesValues layouts types (root_of word ∷ roots_of e.entries) e.hosts e.entries fields raws e.heap after word blank → Creates layouts types fields ty raws s (record e { heap = after }) word
   creates_new after w =
       let added = a.adds.added in
       record {
         mid = a.mid;
-        may_collect = a.may_collect;
+        retried = a.retried;
+        rest = ap (λ (r : HeapState). record r { heap = after }) a.rest;
         small = a.adds.small;
         room = a.adds.room;
         object = record blank { bytes = w.bytes };
@@ -142,20 +158,36 @@ module _ (layouts : Layouts) (types : List Declaration) (fields : List FieldType
         lie = w.lie;
         fresh = a.adds.fresh;
         here = w.written;
-        others = λ q other. w.others q other ∙ ap (λ (h : HeapView). get h.content q) added ∙ get-put_other a.mid.content word q blank other;
+        others = λ q other. w.others q other ∙ ap (λ (h : HeapView). get h.content q) added ∙ get-put_other a.mid.heap.content word q blank other;
         attached = w.attached ∙ ap (λ (h : HeapView). h.attached) added;
         capacity = w.capacity ∙ ap (λ (h : HeapView). h.capacity) added;
         allocated = w.allocated ∙ ap (λ (h : HeapView). h.allocated) added;
+        needs_gc = w.needs_gc ∙ ap (λ (h : HeapView). h.needs_gc) added;
         collectable = w.collectable;
       }
 
--- A heap was made where there was none, and then a struct in it.
-pub places_created : (layouts : Layouts) (types : List Declaration) (fields : List FieldType) (ty : ℕ) (raws : List RawValue) (first : ℕ) (old start new : HeapView) (entries entries' : List RootEntry) (hosts hosts' : ℕ → Bool) (limits limits' : Limits)
-    (result : Result ℕ PlaceFault) → MakesHeap layouts first old start limits limits' (Ok tt) → CreatesStruct layouts types fields ty raws start new entries entries' hosts hosts' result
-    → PlacesIn layouts types fields ty raws first old new entries entries' hosts hosts' limits limits' result
-places_created layouts types fields ty raws first old start new entries entries' hosts hosts' limits limits' (Ok word) made created = (start, (made, created))
-places_created layouts types fields ty raws first old start new entries entries' hosts hosts' limits limits' (Err place_fault.FuncTableFull) made created = created
-places_created layouts types fields ty raws first old start new entries entries' hosts hosts' limits limits' (Err place_fault.TooLarge) made created = created
-places_created layouts types fields ty raws first old start new entries entries' hosts hosts' limits limits' (Err place_fault.RootsFull) made created = created
-places_created layouts types fields ty raws first old start new entries entries' hosts hosts' limits limits' (Err (place_fault.HeapOutOfMemory f)) made created = inr (start, (made, created))
-places_created layouts types fields ty raws first old start new entries entries' hosts hosts' limits limits' (Err place_fault.Memory) made created = (made.1, inr (start, (made, created)))
+dues_generations : (layouts : Layouts) (types : List Declaration) (is_due : Bool) (s e : HeapState) → DuesHeap layouts types is_due s e → generations_of e.entries ≡ generations_of s.entries
+dues_generations layouts types is_due s e (inl collected) = collected.1.collected.generations
+dues_generations layouts types is_due s e (inr same) = ap (λ (r : HeapState). generations_of r.entries) same.1
+
+-- the values may still be kept after a collection
+pub can_create_again : (layouts : Layouts) (types : List Declaration) (ty : ℕ) (is_due : Bool) (s e : HeapState) (raws : List RawValue) → DuesHeap layouts types is_due s e → CanCreate layouts types ty s.entries raws → CanCreate layouts types ty e.entries raws
+can_create_again layouts types ty is_due s e raws dues can =
+    let same : generations_of e.entries ≡ generations_of s.entries = dues_generations layouts types is_due s e dues in
+    record {
+      fields = can.fields;
+      declared = can.declared;
+      built = can.built;
+      fit = fit_again s.entries e.entries can.fields raws same can.fit;
+      few = subst (λ n. n < 2 ^ 32) (sym (same_length s.entries e.entries same)) can.few;
+    }
+
+-- A heap was made and collected where that was due, and then a struct was made in it.
+pub places_created : (layouts : Layouts) (types : List Declaration) (fields : List FieldType) (ty : ℕ) (raws : List RawValue) (first : ℕ) (is_due : Bool) (s b e : HeapState) (result : Result ℕ PlaceFault)
+    → Begins layouts types first is_due s b → CreatesStruct layouts types fields ty raws b e result → PlacesIn layouts types fields ty raws first is_due s e result
+places_created layouts types fields ty raws first is_due s b e (Ok word) begins creates = (b, (begins, creates))
+places_created layouts types fields ty raws first is_due s b e (Err place_fault.FuncTableFull) begins creates = creates
+places_created layouts types fields ty raws first is_due s b e (Err place_fault.TooLarge) begins creates = creates
+places_created layouts types fields ty raws first is_due s b e (Err place_fault.RootsFull) begins creates = creates
+places_created layouts types fields ty raws first is_due s b e (Err (place_fault.HeapOutOfMemory f)) begins creates = inr (b, (begins, creates))
+places_created layouts types fields ty raws first is_due s b e (Err place_fault.Memory) begins creates = inr (b, (begins, creates))

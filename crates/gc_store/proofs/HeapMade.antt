@@ -23,13 +23,12 @@ use Rattle.gc_model.proofs.Layouts.{stored_size-le, fields_end-le}
 use Rattle.gc_heap.specs.Objects.{first_offset}
 use Rattle.gc_heap.specs.References.{IsTraceable, LayoutTraces}
 use Rattle.gc_heap.specs.Content.{IsHeap}
-use Rattle.gc_heap.specs.Heap.{AddsObject, LacksRoom, Allocated, empty_heap, new_struct, layout_kind}
+use Rattle.gc_heap.specs.Heap.{AddsObject, empty_heap, new_struct, layout_kind}
 use Rattle.gc_heap.specs.Collection.{CanCollect, AreCounted, stack_words}
 use Rattle.gc_heap.proofs.SpacedLemmas.{contains_in, spaced_fields, aligned_fields, Spaced-in}
 use Rattle.gc_heap.proofs.AddedLemmas.{start, blank_struct, owns_none}
 use Rattle.gc_heap.proofs.MadeLemmas.{can_collect_made}
 use Rattle.gc_heap.proofs.CountLemmas.{held-append, words-append}
-use Rattle.gc_store.specs.Places.{MayCollect, CanAllocate, Allocates}
 use Rattle.gc_store.specs.Tracing.{root_of, roots_of, IsTracedStruct, AreTraced, IsCollectable}
 use Rattle.gc_store.proofs.HeapTraced.{with_memory, memory_same}
 use Rattle.gc_store.proofs.HeapBarriers.{last_root}
@@ -184,26 +183,3 @@ module _ (layouts : Layouts) (types : List Declaration) (fields : List FieldType
         traced = all_traced can.traced;
         collects = subst (λ h. CanCollect layouts (start h (roots ++ root_of word ∷ []) types hosts)) (sym (memory_same new still)) can_new;
       })
-
--- an allocation that had no room left the heap as it was
-pub lacks_same : (layouts : Layouts) (old new : HeapView) (o : HeapObject) (size need : ℕ) (answer : Result ℕ ℕ) → answer ≡ Err need → Allocated layouts old new o size (Ok answer) → new ≡ old
-lacks_same layouts old new o size need answer is allocated =
-    let lacks : LacksRoom layouts old new need size = subst (λ (r : Result ℕ ℕ). Allocated layouts old new o size (Ok r)) is allocated in
-    lacks.same
-
--- What an allocation that had room answers and leaves, maybe after a collection.
-pub allocates_new : (layouts : Layouts) (types : List Declaration) (fields : List FieldType) (ty : ℕ) (layout : GcStructLayout) (old mid new : HeapView) (entries entries' : List RootEntry) (hosts hosts' : ℕ → Bool) (word : ℕ) (answer : Result ℕ ℕ)
-    → CanAllocate layouts types ty layout → struct_fields_at types ty ≡ Some fields → MayCollect layouts types old mid entries entries' hosts hosts' → IsHeap layouts mid → mid.attached ≡ true → IsCollectable layouts types mid (roots_of entries') hosts'
-    → answer ≡ Ok word → Allocated layouts mid new (new_struct layouts ty layout) layout.size (Ok answer) → Allocates layouts types fields ty old new entries entries' hosts hosts' word
-allocates_new layouts types fields ty layout old mid new entries entries' hosts hosts' word answer can declared may heap attached collectable is allocated =
-    let same : can.fields ≡ fields = same_Some can.fields fields (sym can.declared ∙ declared) in
-    let laid : layout ≡ struct_layout layouts fields = can.laid_out ∙ ap (struct_layout layouts) same in
-    let adds : AddsObject layouts mid new word (new_struct layouts ty layout) layout.size = subst (λ (r : Result ℕ ℕ). Allocated layouts mid new (new_struct layouts ty layout) layout.size (Ok r)) is allocated in
-    let adds' : AddsObject layouts mid new word (new_struct layouts ty (struct_layout layouts fields)) (fields_end (struct_base layouts) fields) =
-    subst (λ (l : GcStructLayout). AddsObject layouts mid new word (new_struct layouts ty l) l.size) laid adds in
-    record {
-      mid = mid;
-      may_collect = may;
-      adds = adds';
-      collectable = made_kept layouts types fields ty mid new word (fields_end (struct_base layouts) fields) adds' declared (roots_of entries') hosts' heap attached collectable;
-    }

@@ -106,6 +106,7 @@ pub record WritesTo (layouts : Layouts) (types : List Declaration) (roots : List
   pub attached : new.attached ≡ old.attached
   pub capacity : new.capacity ≡ old.capacity
   pub allocated : new.allocated ≡ old.allocated
+  pub needs_gc : new.needs_gc ≡ old.needs_gc
   pub same_length : length bytes ≡ length before.bytes
   pub collectable : IsCollectable layouts types new roots hosts
   pub lie : (placing : Placing) (values : List Value) → AllKept placing entries raws values → ValuesLieTo placing (struct_base layouts) fields values bytes k
@@ -120,6 +121,7 @@ module _ (layouts : Layouts) (types : List Declaration) (roots : List Root) (hos
     attached = refl;
     capacity = refl;
     allocated = refl;
+    needs_gc = refl;
     same_length = refl;
     collectable = b.collectable;
     lie = λ placing values all. lie_to-none placing (struct_base layouts) fields values before.bytes (sym all.same_count ∙ b.fit.same_count);
@@ -198,6 +200,7 @@ module _ (layouts : Layouts) (types : List Declaration) (roots : List Root) (hos
           attached = ap (λ (h : HeapView). h.attached) e ∙ w.attached;
           capacity = ap (λ (h : HeapView). h.capacity) e ∙ w.capacity;
           allocated = ap (λ (h : HeapView). h.allocated) e ∙ w.allocated;
+          needs_gc = ap (λ (h : HeapView). h.needs_gc) e ∙ w.needs_gc;
           same_length = length-put_bytes w.bytes ((layout_at places k).offset - base) ws inside ∙ w.same_length;
           collectable = can;
           lie = λ placing values all.
@@ -220,6 +223,7 @@ writes_all layouts types roots hosts entries fields raws old new place before k 
   attached = w.attached;
   capacity = w.capacity;
   allocated = w.allocated;
+  needs_gc = w.needs_gc;
   same_length = w.same_length;
   collectable = w.collectable;
   lie = λ placing values kept. lie_to-all placing (struct_base layouts) fields values w.bytes k all (w.lie placing values kept);

@@ -28,6 +28,8 @@ pub mod HeapFields
 pub mod HeapLayouts
 pub mod HeapValues
 pub mod HeapMade
+pub mod GrowthLemmas
+pub mod RetryLemmas
 pub mod HeapCreated
 pub mod MadeHeaps
 pub mod PlacedValues

@@ -168,6 +168,7 @@ pub record WritesValues (layouts : Layouts) (types : List Declaration) (roots : 
   pub attached : new.attached ≡ old.attached
   pub capacity : new.capacity ≡ old.capacity
   pub allocated : new.allocated ≡ old.allocated
+  pub needs_gc : new.needs_gc ≡ old.needs_gc
   pub same_length : length bytes ≡ length before.bytes
   pub collectable : IsCollectable layouts types new roots hosts
   pub lie : (placing : Placing) (values : List Value) → AllKept placing entries raws values → ValuesLie placing (struct_base layouts) fields values bytes

@@ -8,6 +8,8 @@ use Rattle.gc_types.specs.Declarations.{struct_fields_at}
 use Rattle.gc_types.specs.Layouts.{struct_layout, field_layouts, struct_base}
 use Rattle.gc_heap.specs.Collection.{has_host}
 use Rattle.gc_heap.specs.Heap.{new_struct}
+use Rattle.gc_store.specs.Growth.{heap_state}
+use Rattle.gc_store.specs.Places.{Creates}
 use Rattle.gc_store.specs.Tracing.{root_of, roots_of}
 use Rattle.gc_store.proofs.HeapLayouts.{copied_value, is_some_from}
 use Rattle.gc_store.proofs.HeapCreated.{held_blank, fits_now, roots_now, can_write_new, creates_new}
@@ -28,8 +30,9 @@ pub write_values-requires-clause-values : goal.write_values-requires-clause-valu
 write_values-requires-clause-values g c =
     let can = c.requires.values in
     let allocated = c.in-Ok.ensures.allocated can.fields can.declared in
-    can_write_new g.H.GcHeap.KIND c.args.trace.now.types.now.declarations can.fields c.args.ty c.args.values.now (g.H.GcHeap.seen c.args.heap.now) (g.H.GcHeap.seen c.allocate.new.heap) c.args.roots.now.entries c.allocate.new.roots.entries
-    (has_host c.args.trace.now.host_data_table.now.entries) (has_host c.allocate.new.trace.host_data_table.now.entries) c.in-Ok.gc_ref allocated
+    can_write_new g.H.GcHeap.KIND c.args.trace.now.types.now.declarations can.fields c.args.ty c.args.values.now
+    (heap_state (g.H.GcHeap.seen c.args.heap.now) c.args.roots.now (has_host c.args.trace.now.host_data_table.now.entries) (g.L.ResourceLimiter.limits c.args.limiter.now))
+    (heap_state (g.H.GcHeap.seen c.allocate.new.heap) c.allocate.new.roots (has_host c.allocate.new.trace.host_data_table.now.entries) (g.L.ResourceLimiter.limits c.allocate.new.limiter)) c.in-Ok.gc_ref allocated
     can.declared can.fit can.built can.few c.as_slice.result.now (places g c can.fields can.declared)
 
 pub returns-in-Ok-clause-created : goal.returns-in-Ok-clause-created
@@ -37,15 +40,20 @@ returns-in-Ok-clause-created g c = λ fields declared.
     let can = c.requires.values in
     let same = same_Some can.fields fields (sym can.declared ∙ declared) in
     let allocated = c.in-Ok.ensures.allocated can.fields can.declared in
-    let now = held_blank g.H.GcHeap.KIND c.args.trace.now.types.now.declarations can.fields c.args.ty c.args.values.now (g.H.GcHeap.seen c.args.heap.now) (g.H.GcHeap.seen c.allocate.new.heap) c.args.roots.now.entries c.allocate.new.roots.entries
-    (has_host c.args.trace.now.host_data_table.now.entries) (has_host c.allocate.new.trace.host_data_table.now.entries) c.in-Ok.gc_ref allocated in
-    let fit = fits_now g.H.GcHeap.KIND c.args.trace.now.types.now.declarations can.fields c.args.ty c.args.values.now (g.H.GcHeap.seen c.args.heap.now) (g.H.GcHeap.seen c.allocate.new.heap) c.args.roots.now.entries c.allocate.new.roots.entries
-    (has_host c.args.trace.now.host_data_table.now.entries) (has_host c.allocate.new.trace.host_data_table.now.entries) c.in-Ok.gc_ref allocated can.fit in
-    let roots = roots_now g.H.GcHeap.KIND c.args.trace.now.types.now.declarations can.fields c.args.ty c.args.values.now (g.H.GcHeap.seen c.args.heap.now) (g.H.GcHeap.seen c.allocate.new.heap) c.args.roots.now.entries c.allocate.new.roots.entries
-    (has_host c.args.trace.now.host_data_table.now.entries) (has_host c.allocate.new.trace.host_data_table.now.entries) c.in-Ok.gc_ref allocated in
+    let now = held_blank g.H.GcHeap.KIND c.args.trace.now.types.now.declarations can.fields c.args.ty c.args.values.now
+    (heap_state (g.H.GcHeap.seen c.args.heap.now) c.args.roots.now (has_host c.args.trace.now.host_data_table.now.entries) (g.L.ResourceLimiter.limits c.args.limiter.now))
+    (heap_state (g.H.GcHeap.seen c.allocate.new.heap) c.allocate.new.roots (has_host c.allocate.new.trace.host_data_table.now.entries) (g.L.ResourceLimiter.limits c.allocate.new.limiter)) c.in-Ok.gc_ref allocated in
+    let fit = fits_now g.H.GcHeap.KIND c.args.trace.now.types.now.declarations can.fields c.args.ty c.args.values.now
+    (heap_state (g.H.GcHeap.seen c.args.heap.now) c.args.roots.now (has_host c.args.trace.now.host_data_table.now.entries) (g.L.ResourceLimiter.limits c.args.limiter.now))
+    (heap_state (g.H.GcHeap.seen c.allocate.new.heap) c.allocate.new.roots (has_host c.allocate.new.trace.host_data_table.now.entries) (g.L.ResourceLimiter.limits c.allocate.new.limiter)) c.in-Ok.gc_ref allocated can.fit in
+    let roots = roots_now g.H.GcHeap.KIND c.args.trace.now.types.now.declarations can.fields c.args.ty c.args.values.now
+    (heap_state (g.H.GcHeap.seen c.args.heap.now) c.args.roots.now (has_host c.args.trace.now.host_data_table.now.entries) (g.L.ResourceLimiter.limits c.args.limiter.now))
+    (heap_state (g.H.GcHeap.seen c.allocate.new.heap) c.allocate.new.roots (has_host c.allocate.new.trace.host_data_table.now.entries) (g.L.ResourceLimiter.limits c.allocate.new.limiter)) c.in-Ok.gc_ref allocated in
     let written = c.write_values.ensures.written c.args.trace.now.types.now.declarations (root_of c.in-Ok.gc_ref ∷ roots_of c.allocate.new.roots.entries) (has_host c.allocate.new.trace.host_data_table.now.entries)
     (new_struct g.H.GcHeap.KIND c.args.ty (struct_layout g.H.GcHeap.KIND can.fields)) can.fields allocated.collectable roots now can.declared (places g (goal.at.returns-in-Ok-clause-created g c).After-as_slice can.fields can.declared) fit can.built in
-    subst (λ (fs : List FieldType). Rattle.gc_store.specs.Places.Creates g.H.GcHeap.KIND c.args.trace.now.types.now.declarations fs c.args.ty c.args.values.now (g.H.GcHeap.seen c.args.heap.now) (g.H.GcHeap.seen c.write_values.new.heap)
-    c.args.roots.now.entries c.allocate.new.roots.entries (has_host c.args.trace.now.host_data_table.now.entries) (has_host c.allocate.new.trace.host_data_table.now.entries) c.in-Ok.gc_ref) same
-    (creates_new g.H.GcHeap.KIND c.args.trace.now.types.now.declarations can.fields c.args.ty c.args.values.now (g.H.GcHeap.seen c.args.heap.now) (g.H.GcHeap.seen c.allocate.new.heap) c.args.roots.now.entries c.allocate.new.roots.entries
-    (has_host c.args.trace.now.host_data_table.now.entries) (has_host c.allocate.new.trace.host_data_table.now.entries) c.in-Ok.gc_ref allocated (g.H.GcHeap.seen c.write_values.new.heap) written)
+    subst (λ (fs : List FieldType). Creates g.H.GcHeap.KIND c.args.trace.now.types.now.declarations fs c.args.ty c.args.values.now
+    (heap_state (g.H.GcHeap.seen c.args.heap.now) c.args.roots.now (has_host c.args.trace.now.host_data_table.now.entries) (g.L.ResourceLimiter.limits c.args.limiter.now))
+    (heap_state (g.H.GcHeap.seen c.write_values.new.heap) c.allocate.new.roots (has_host c.allocate.new.trace.host_data_table.now.entries) (g.L.ResourceLimiter.limits c.allocate.new.limiter)) c.in-Ok.gc_ref) same
+    (creates_new g.H.GcHeap.KIND c.args.trace.now.types.now.declarations can.fields c.args.ty c.args.values.now
+    (heap_state (g.H.GcHeap.seen c.args.heap.now) c.args.roots.now (has_host c.args.trace.now.host_data_table.now.entries) (g.L.ResourceLimiter.limits c.args.limiter.now))
+    (heap_state (g.H.GcHeap.seen c.allocate.new.heap) c.allocate.new.roots (has_host c.allocate.new.trace.host_data_table.now.entries) (g.L.ResourceLimiter.limits c.allocate.new.limiter)) c.in-Ok.gc_ref allocated (g.H.GcHeap.seen c.write_values.new.heap) written)

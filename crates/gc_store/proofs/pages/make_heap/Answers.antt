@@ -1,7 +1,7 @@
 use Rattle.std.proofs.Common.{sym, ◌∙◌}
 use Rattle.gc_model.specs.Views.{HeapView}
 use Rattle.gc_store.proofs.HeapMade.{on_either, attached_kept}
-use Rattle.gc_store.proofs.allocate.make_heap.Goals as goal
+use Rattle.gc_store.proofs.pages.make_heap.Goals as goal
 
 pub returns-after-attach-clause-keeps : goal.returns-after-attach-clause-keeps
 returns-after-attach-clause-keeps g c = λ types roots hosts can.
