@@ -1,5 +1,5 @@
 -- What a collection leaves of a store's table and account, and room by the account.
-use Rattle.std.proofs.Common.{◌≡◌, ℕ, ◌+◌, ◌-◌, Bool, true, not, if◌then◌else◌, ◌==◌, List, map, sum, Some, refl, sym, ap, ◌∙◌, subst, arith}
+use Rattle.std.proofs.Common.{◌≡◌, ℕ, ◌+◌, Bool, true, not, if◌then◌else◌, ◌==◌, List, Some, refl, sym, ap, ◌∙◌, subst, arith}
 use Rattle.gc_types.specs.declared.kind.Layouts.{Layouts}
 use Rattle.gc_types.specs.declared.kind.Layouts.TheVariants.{Null, Counting, Copying}
 use Rattle.gc_types.specs.Declarations.{Declaration}
@@ -13,7 +13,7 @@ use Rattle.gc_heap.specs.Content.{IsHeap, total, block_size}
 use Rattle.gc_heap.specs.Heap.{HasRoom}
 use Rattle.gc_store.specs.Accounts.{Account, IsAccount, HoldsAccount}
 use Rattle.gc_store.specs.Collects.{IsPlaced}
-use Rattle.gc_store.specs.Policy.{PolicyState, policy_state, block_at, allocated_bytes, FitsNow, LacksNow, turned, CollectsTable}
+use Rattle.gc_store.specs.Policy.{PolicyState, policy_state, allocated_bytes, FitsNow, LacksNow, turned, CollectsTable}
 use Rattle.gc_store.specs.RootSets.{IsCollected}
 use Rattle.gc_store.specs.Tracing.{IsCollectable, roots_of}
 use Rattle.gc_store.proofs.CollectedStore.{collected_store}
@@ -123,15 +123,15 @@ collected_account {D} layouts s t a limits heap entries n hosts hosts' collectab
     }
 
 -- a store that holds a table has some account beside it
-pub some_account : {D : Type 0} (layouts : Layouts) (s : StoreView) (t : Table D) → HoldsTable layouts s t → (a : Account) × HoldsAccount layouts s t a
-some_account layouts s t holds = (
-  record { held = positions layouts t holds.0 s.heap holds.1.objects; last = s.last; tries = s.tries; upper = s.heap.needs_gc },
-  record {
-    place = holds.0;
-    holds = holds.1;
-    account = record { held = are_placed layouts t holds.0 s.heap holds.1.objects; last = refl; tries = refl; upper = refl };
-  },
+pub own_account : {D : Type 0} (layouts : Layouts) (s : StoreView) (t : Table D) (place : Placing) → Holds layouts s t place → (a : Account) × IsAccount s place a
+own_account layouts s t place holds = (
+  record { held = positions layouts t place s.heap holds.objects; last = s.last; tries = s.tries; upper = s.heap.needs_gc },
+  record { held = are_placed layouts t place s.heap holds.objects; last = refl; tries = refl; upper = refl },
 )
+
+-- the same, whatever the placing is
+pub some_account : {D : Type 0} (layouts : Layouts) (s : StoreView) (t : Table D) → HoldsTable layouts s t → (a : Account) × HoldsAccount layouts s t a
+some_account layouts s t holds = let own = own_account layouts s t holds.0 holds.1 in (own.0, record { place = holds.0; holds = holds.1; account = own.1 })
 
 -- what is held after a collection is what it keeps
 pub kept_after : {D : Type 0} (layouts : Layouts) (s : StoreView) (t : Table D) (a : Account) (limits : Limits) (heap : HeapView) (entries : List RootEntry) (n : ℕ) → AfterCollection layouts s t a limits heap entries n

@@ -19,7 +19,8 @@ use Rattle.gc_model.specs.Values.{Reference, null, Value, i32, i64, reference, n
 use Rattle.gc_model.specs.Table.{Table, write}
 use Rattle.gc_model.specs.Views.{StoreView, HeapView, HeapObject}
 use Rattle.gc_model.specs.Encoded.{IsEncoded}
-use Rattle.gc_model.specs.Holds.{Placing, IsWord, Holds, HoldsTable}
+use Rattle.gc_model.specs.Holds.{Placing, IsWord, Holds}
+use Rattle.gc_store.specs.Accounts.{Account, HoldsAccount}
 use Rattle.gc_model.proofs.HoldsWrite.{IsWrittenObject, holds_write}
 use Rattle.gc_heap.specs.Heap.{put_object, with_data}
 use Rattle.gc_heap.specs.Collection.{IsWordOf}
@@ -36,6 +37,7 @@ use Rattle.gc_store.specs.Values.{raw_fits, NamesLive, IsLive, RawStands, CanWri
 use Rattle.gc_store.specs.Stores.{IsSound}
 use Rattle.gc_store.specs.Tracing.{IsCollectable, roots_of}
 use Rattle.gc_store.proofs.Roots.{named_live, named_dead, names-store, names-entry, own_word, word_of-ok, root_word}
+use Rattle.gc_store.proofs.AccountLemmas.{account_kept, some_account}
 use Rattle.gc_store.proofs.Pushing.{root_named, named_word}
 use Rattle.gc_store.proofs.HeapValues.{stored_encoded}
 use Rattle.gc_store.proofs.FieldReads.{FieldAt, field_at}
@@ -188,23 +190,29 @@ module _ (D : Type 0) (layouts : Layouts) (s : StoreView) (handle : GcRootIndex)
   module _ (heap : HeapView) (small : FitsBytes spot_kept.0)
       (written : (place : Placing) (position ty : ℕ) (before : Value) (a : FieldAt layouts s place word position ty index before) → heap ≡ record (put_object s.heap word (with_data layouts a.object a.holds.layout.offset (stored_bytes spot_kept.0))) { counts = heap.counts }) where
     -- each table that the store held is held with the value
-    pub writes_value : (t : Table D) → HoldsTable layouts s t → WritesValue layouts s (record s { heap = heap }) t handle index r
-    writes_value t holds before v has stands =
-        let at = field_at layouts s t holds.0 holds.1 handle index before has word e in (
-          holds.0,
-          holds_written layouts s t holds.0 holds.1 handle index before has word e heap r spot_kept.0 v (spot_fits holds.0 has.position has.ty before at) can.can_store.live spot_kept.1 stands small
-              (written holds.0 has.position has.ty before at),
-        )
+    pub writes_value : (t : Table D) (a : Account) → HoldsAccount layouts s t a → WritesValue layouts s (record s { heap = heap }) t a handle index r
+    writes_value t a holds before v has stands =
+        let at = field_at layouts s t holds.place holds.holds handle index before has word e in
+        let is = written holds.place has.position has.ty before at in
+        record {
+          place = holds.place;
+          holds = holds_written layouts s t holds.place holds.holds handle index before has word e heap r spot_kept.0 v (spot_fits holds.place has.position has.ty before at) can.can_store.live spot_kept.1 stands small is;
+          account = account_kept s (record s { heap = heap }) holds.place a refl refl (ap (λ (h : HeapView). h.needs_gc) is) holds.account;
+        }
 
     -- so the store is sound
     pub sound_written : (old_sound new_sound : Type 0) (types : TypeTable) (hosts : ℕ → Bool) → IsSound D layouts old_sound types hosts s → new_sound → IsCollectable layouts s.types heap (roots_of s.scoped) hosts → IsSound D layouts new_sound types hosts (record s { heap = heap })
     sound_written old_sound new_sound types hosts sound now collectable =
         let v = value_of D layouts s can.table can.holds.0 can.holds.1 spot.holds.field.element_type r (spot_fits can.holds.0 can.has.position can.has.ty can.before spot) can.can_store.live in
+        let some = some_account layouts s can.table can.holds in
+        let same = ap (λ (h : HeapView). h.attached) (written can.holds.0 can.has.position can.has.ty can.before spot) in
         record {
           heap = now;
           engine = sound.engine;
           number = sound.number;
           collectable = collectable;
+          unused = λ unmade. sound.unused (sym same ∙ unmade);
           table = write can.has.position index v.0 can.table;
-          holds = writes_value can.table can.holds can.before v.0 can.has v.1;
+          account = some.0;
+          holds = writes_value can.table some.0 some.1 can.before v.0 can.has v.1;
         }

@@ -1,6 +1,6 @@
 -- The blocks of the objects that a heap holds: their bytes by the table are those by the heap.
-use Rattle.std.proofs.Common.{◌≡◌, ◌≢◌, ℕ, zero, suc, ◌+◌, ◌*◌, ◌≤◌, ◌==◌, nat_eq, false, List, length, map, sum, Some, Contains, refl, sym, ap, ◌∙◌, arith, ne_eqb}
-use Rattle.std.specs.List.{sum_by, IsDistinct}
+use Rattle.std.proofs.Common.{◌≡◌, ℕ, zero, suc, ◌+◌, ◌*◌, ◌==◌, List, length, map, sum, Some, refl, sym, ap, ◌∙◌, arith, ne_eqb}
+use Rattle.std.specs.List.{sum_by}
 use Rattle.std.specs.FinMap.{get, entries}
 use Rattle.std.proofs.lemmas.List.Sums.{sum-map}
 use Rattle.gc_types.specs.declared.kind.Layouts.{Layouts}

@@ -35,7 +35,6 @@ pub mod MadeHeaps
 pub mod PlacedValues
 pub mod Placing
 pub mod GoneRoots
-pub mod OtherHalves
 pub mod HeldBlocks
 pub mod AccountLemmas
 pub mod Simulation

@@ -16,12 +16,15 @@ use Rattle.gc_heap.specs.Content.{IsHeap}
 use Rattle.gc_heap.specs.Collection.{IsWordOf, CanCollect}
 use Rattle.gc_heap.proofs.AddedLemmas.{start}
 use Rattle.gc_heap.proofs.RootedLemmas.{can_collect_cloned}
+use Rattle.gc_store.specs.Accounts.{Account, IsAccount, HoldsAccount}
 use Rattle.gc_store.specs.declared.root.GcRootIndex.{GcRootIndex}
 use Rattle.gc_store.specs.declared.root.RootSlot.TheVariants as slot
 use Rattle.gc_store.specs.Roots.{IsRootWord}
 use Rattle.gc_store.specs.Handles.{PushesRoot}
+use Rattle.gc_store.specs.RootSets.{RootSetView}
 use Rattle.gc_store.specs.Stores.{is_full, IsSound}
 use Rattle.gc_store.specs.Tracing.{IsCollectable, roots_of, root_of, start_from}
+use Rattle.gc_store.proofs.AccountLemmas.{account_kept, own_account}
 use Rattle.gc_store.proofs.HeapBarriers.{can_name, few_roots}
 
 -- the entry of a new root
@@ -62,44 +65,60 @@ collectable_cloned layouts types h entries generation word hosts can named = rec
 }
 
 -- the store after a push, of which its parts tell
-abbrev pub pushed_view : StoreView → HeapView → List RootEntry → ℕ → StoreView
-pushed_view s heap entries generation = record s { heap = heap; scoped = entries; generation = generation }
+abbrev pub pushed_view : StoreView → HeapView → RootSetView → StoreView
+pushed_view s heap roots = record s { heap = heap; scoped = roots.entries; generation = roots.generation; last = roots.last }
 
-module _ {D : Type 0} (layouts : Layouts) (s : StoreView) (heap : HeapView) (entries : List RootEntry) (generation word : ℕ) (same : SameHeld s.heap heap) (entries_are : entries ≡ s.scoped ++ entry_of s.generation word ∷ []) (generation_is : generation ≡ s.generation)
-    (positive : 0 < word) (room : is_full s ≡ false) where
-  table_room : (t : Table D) (place : Placing) → Holds layouts s t place → roots_full t ≡ false
+-- the roots are those of the store and one more, with that word
+pub record GainsRoot (s : StoreView) (roots : RootSetView) (word : ℕ) : Type 0 where
+  pub entries : roots.entries ≡ s.scoped ++ entry_of s.generation word ∷ []
+  pub generation : roots.generation ≡ s.generation
+  pub last : roots.last ≡ s.last
+
+module _ (layouts : Layouts) (s : StoreView) (heap : HeapView) (roots : RootSetView) (word : ℕ) (same : SameHeld s.heap heap) (gains : GainsRoot s roots word) (positive : 0 < word) (room : is_full s ≡ false) where
+  table_room : {D : Type 0} (t : Table D) (place : Placing) → Holds layouts s t place → roots_full t ≡ false
   table_room t place holds = sym (full_is layouts s t place holds) ∙ room
 
+  gained_view : record s { heap = heap; scoped = s.scoped ++ entry_of s.generation word ∷ [] } ≡ pushed_view s heap roots
+  gained_view i = record s { heap = heap; scoped = sym gains.entries i; generation = sym gains.generation i; last = sym gains.last i }
+
   -- the store holds the table with the root
-  pub holds_pushed : (t : Table D) (place : Placing) (r : Reference) → Holds layouts s t place → IsWord place r word → Holds layouts (pushed_view s heap entries generation) (push r t) place
-  holds_pushed t place r holds is =
-      subst (λ (g : ℕ). Holds layouts (pushed_view s heap entries g) (push r t) place) (sym generation_is)
-      (subst (λ (es : List RootEntry). Holds layouts (pushed_view s heap es s.generation) (push r t) place) (sym entries_are)
-      (holds_push layouts s t place r heap word holds (table_room t place holds) same is positive))
+  holds_pushed : {D : Type 0} (t : Table D) (place : Placing) (r : Reference) → Holds layouts s t place → IsWord place r word → Holds layouts (pushed_view s heap roots) (push r t) place
+  holds_pushed t place r holds is = subst (λ (v : StoreView). Holds layouts v (push r t) place) gained_view (holds_push layouts s t place r heap word holds (table_room t place holds) same is positive)
+
+  -- with the account that it had
+  pub account_pushed : {D : Type 0} (t : Table D) (place : Placing) (a : Account) (r : Reference) → Holds layouts s t place → IsAccount s place a → IsWord place r word → HoldsAccount layouts (pushed_view s heap roots) (push r t) a
+  account_pushed t place a r holds account is = record {
+    place = place;
+    holds = holds_pushed t place r holds is;
+    account = account_kept s (pushed_view s heap roots) place a gains.last refl same.needs_gc account;
+  }
 
   -- and the handle is that of its push
-  pub pushes_root : (handle : GcRootIndex) → handle ≡ record { store_id = record { engine = s.engine; number = s.number }; generation = s.generation; slot = slot.Scoped (length s.scoped) }
-      → (t : Table D) (place : Placing) (r : Reference) → Holds layouts s t place → IsWord place r word → PushesRoot layouts t r (Ok handle) (pushed_view s heap entries generation)
-  pushes_root handle handle_is t place r holds is = (
+  pub pushes_root : {D : Type 0} (handle : GcRootIndex) → handle ≡ record { store_id = record { engine = s.engine; number = s.number }; generation = s.generation; slot = slot.Scoped (length s.scoped) }
+      → (t : Table D) (place : Placing) (a : Account) (r : Reference) → Holds layouts s t place → IsAccount s place a → IsWord place r word → PushesRoot layouts t a r (Ok handle) (pushed_view s heap roots)
+  pushes_root handle handle_is t place a r holds account is = (
     table_room t place holds,
     (
       handle_is ∙ (λ i. record { store_id = record { engine = s.engine; number = s.number }; generation = (holds.numbers.generation i); slot = slot.Scoped (holds.scoped.same_count i) }),
-      (place, holds_pushed t place r holds is),
+      account_pushed t place a r holds account is,
     ),
   )
 
 -- the store is sound after a push of a word that was cloned
-pub sound_cloned : (D : Type 0) (layouts : Layouts) (old_sound new_sound : Type 0) (types : TypeTable) (hosts : ℕ → Bool) (s : StoreView) (heap : HeapView) (entries : List RootEntry) (generation word : ℕ) → IsSound D layouts old_sound types hosts s → new_sound
-    → IsRootWord D layouts s word → heap ≡ cloned s.heap word → entries ≡ s.scoped ++ entry_of s.generation word ∷ [] → generation ≡ s.generation → is_full s ≡ false → IsSound D layouts new_sound types hosts (pushed_view s heap entries generation)
-sound_cloned D layouts old_sound new_sound types hosts s heap entries generation word sound now is heap_is entries_are generation_is room =
+pub sound_cloned : (D : Type 0) (layouts : Layouts) (old_sound new_sound : Type 0) (types : TypeTable) (hosts : ℕ → Bool) (s : StoreView) (heap : HeapView) (roots : RootSetView) (word : ℕ) → IsSound D layouts old_sound types hosts s → new_sound
+    → IsRootWord D layouts s word → heap ≡ cloned s.heap word → GainsRoot s roots word → is_full s ≡ false → IsSound D layouts new_sound types hosts (pushed_view s heap roots)
+sound_cloned D layouts old_sound new_sound types hosts s heap roots word sound now is heap_is gains room =
     let held : SameHeld s.heap heap = subst (λ (h : HeapView). SameHeld s.heap h) (sym heap_is) (record { content = refl; attached = refl; capacity = refl; allocated = refl; needs_gc = refl }) in
+    let own = own_account layouts s is.table is.place is.holds in
     record {
       heap = now;
       engine = sound.engine;
       number = sound.number;
-      collectable = subst (λ (h : HeapView). IsCollectable layouts s.types h (roots_of entries) hosts) (sym heap_is)
-          (subst (λ (es : List RootEntry). IsCollectable layouts s.types (cloned s.heap word) (roots_of es) hosts) (sym entries_are)
+      collectable = subst (λ (h : HeapView). IsCollectable layouts s.types h (roots_of roots.entries) hosts) (sym heap_is)
+          (subst (λ (es : List RootEntry). IsCollectable layouts s.types (cloned s.heap word) (roots_of es) hosts) (sym gains.entries)
           (collectable_cloned layouts s.types s.heap s.scoped s.generation word hosts sound.collectable (root_named layouts s is.table is.place is.root word is.holds is.is_word is.not_null)));
+      unused = λ unmade. gains.last ∙ sound.unused (sym held.attached ∙ unmade);
       table = push is.root is.table;
-      holds = (is.place, holds_pushed layouts s heap entries generation word held entries_are generation_is is.not_null room is.table is.place is.root is.holds is.is_word);
+      account = own.0;
+      holds = account_pushed layouts s heap roots word held gains is.not_null room is.table is.place own.0 is.root is.holds own.1 is.is_word;
     }

@@ -8,8 +8,9 @@ use Rattle.gc_model.specs.Values.{Reference, null, small, at, Value, reference}
 use Rattle.gc_model.specs.Table.{Table}
 use Rattle.gc_model.specs.Reads.{makes_root}
 use Rattle.gc_model.specs.Views.{StoreView}
-use Rattle.gc_model.specs.Holds.{Placing, IsWord, Holds, HoldsTable}
+use Rattle.gc_model.specs.Holds.{Placing, IsWord}
 use Rattle.gc_model.proofs.Words.{place_even}
+use Rattle.gc_store.specs.Accounts.{Account, HoldsAccount}
 use Rattle.gc_store.specs.declared.root.GcRootIndex.{GcRootIndex}
 use Rattle.gc_store.specs.declared.root.RawValue.TheVariants as raw
 use Rattle.gc_store.specs.declared.root.RootFault.{RootFault}
@@ -24,51 +25,51 @@ pub signed_again : (w : Width) (n : ℕ) (answer : ℤ) → cast_unsigned w (cas
 signed_again w n answer back is = ap (λ z. cast_signed w (cast_unsigned w z)) is ∙ ap (cast_signed w) back
 
 -- a number is read as its bits, signed
-pub reads_i32 : {D : Type 0} (layouts : Layouts) (s : StoreView) (t : Table D) (place : Placing) (number : ℕ) (answer : ℤ) (v : Value) → number < 2 ^ 32 → answer ≡ cast_signed w32 number → StoredStands place (stored.I32 number) v → HoldsTable layouts s t → ReadsValue layouts t v (Ok (raw.I32 answer)) s
-reads_i32 {D} layouts s t place number answer v fits is stands holds =
-    subst (λ (v : Value). ReadsValue layouts t v (Ok (raw.I32 answer)) s) (sym stands)
+pub reads_i32 : {D : Type 0} (layouts : Layouts) (s : StoreView) (t : Table D) (a : Account) (place : Placing) (number : ℕ) (answer : ℤ) (v : Value) → number < 2 ^ 32 → answer ≡ cast_signed w32 number → StoredStands place (stored.I32 number) v → HoldsAccount layouts s t a → ReadsValue layouts t a v (Ok (raw.I32 answer)) s
+reads_i32 {D} layouts s t a place number answer v fits is stands holds =
+    subst (λ (v : Value). ReadsValue layouts t a v (Ok (raw.I32 answer)) s) (sym stands)
     (λ makes. absurd (cc makes), ((answer, (refl, sym (ap (λ z. cast_unsigned w32 (cast_signed w32 (cast_unsigned w32 z))) is ∙ ap (λ n. cast_unsigned w32 (cast_signed w32 n)) (of_z-to_z w32 number fits) ∙ of_z-to_z w32 number fits))), holds))
 
-pub reads_i64 : {D : Type 0} (layouts : Layouts) (s : StoreView) (t : Table D) (place : Placing) (number : ℕ) (answer : ℤ) (v : Value) → number < 2 ^ 64 → answer ≡ cast_signed w64 number → StoredStands place (stored.I64 number) v → HoldsTable layouts s t → ReadsValue layouts t v (Ok (raw.I64 answer)) s
-reads_i64 {D} layouts s t place number answer v fits is stands holds =
-    subst (λ (v : Value). ReadsValue layouts t v (Ok (raw.I64 answer)) s) (sym stands)
+pub reads_i64 : {D : Type 0} (layouts : Layouts) (s : StoreView) (t : Table D) (a : Account) (place : Placing) (number : ℕ) (answer : ℤ) (v : Value) → number < 2 ^ 64 → answer ≡ cast_signed w64 number → StoredStands place (stored.I64 number) v → HoldsAccount layouts s t a → ReadsValue layouts t a v (Ok (raw.I64 answer)) s
+reads_i64 {D} layouts s t a place number answer v fits is stands holds =
+    subst (λ (v : Value). ReadsValue layouts t a v (Ok (raw.I64 answer)) s) (sym stands)
     (λ makes. absurd (cc makes), ((answer, (refl, sym (ap (λ z. cast_unsigned w64 (cast_signed w64 (cast_unsigned w64 z))) is ∙ ap (λ n. cast_unsigned w64 (cast_signed w64 n)) (of_z-to_z w64 number fits) ∙ of_z-to_z w64 number fits))), holds))
 
-module _ {D : Type 0} (layouts : Layouts) (s : StoreView) (t : Table D) (place : Placing) (holds : Holds layouts s t place) where
-  null_word : (r : Reference) → IsWord place r 0 → r ≡ null
+module _ {D : Type 0} (layouts : Layouts) (s : StoreView) (t : Table D) (a : Account) (holds : HoldsAccount layouts s t a) where
+  null_word : (r : Reference) → IsWord holds.place r 0 → r ≡ null
   null_word null is = refl
   null_word (small n) is = absurd (omega (arith, is))
-  null_word (at p) is = absurd (omega (arith, (place_even layouts t place s.heap holds.objects p 0 is).1))
+  null_word (at p) is = absurd (omega (arith, (place_even layouts t holds.place s.heap holds.holds.objects p 0 is).1))
 
   -- the word 0 is read as null
-  pub reads_null : (word : ℕ) (v : Value) → word ≡ 0 → StoredStands place (stored.Ref word) v → ReadsValue layouts t v (Ok (raw.Ref Any None)) s
+  pub reads_null : (word : ℕ) (v : Value) → word ≡ 0 → StoredStands holds.place (stored.Ref word) v → ReadsValue layouts t a v (Ok (raw.Ref Any None)) s
   reads_null word v zero stands =
-      let is_null : stands.0 ≡ null = null_word stands.0 (subst (IsWord place stands.0) zero stands.1.0) in
-      subst (λ (v : Value). ReadsValue layouts t v (Ok (raw.Ref Any None)) s) (sym (stands.1.1 ∙ ap (reference Any) is_null))
-      (λ makes. absurd (cc makes), (refl, (place, holds)))
+      let is_null : stands.0 ≡ null = null_word stands.0 (subst (IsWord holds.place stands.0) zero stands.1.0) in
+      subst (λ (v : Value). ReadsValue layouts t a v (Ok (raw.Ref Any None)) s) (sym (stands.1.1 ∙ ap (reference Any) is_null))
+      (λ makes. absurd (cc makes), (refl, holds))
 
-reads_pushed : {D : Type 0} (layouts : Layouts) (t : Table D) (place : Placing) (r : Reference) (word : ℕ) (handle : GcRootIndex) (new : StoreView) → IsWord place r word → 0 < word → PushesRoot layouts t r (Ok handle) new → ReadsValue layouts t (reference Any r) (Ok (raw.Ref Any (Some handle))) new
-reads_pushed layouts t place null word handle new is positive pushes = absurd (omega (arith, is, positive))
-reads_pushed layouts t place (small n) word handle new is positive pushes = (λ makes. pushes.0, (ap (λ h. raw.Ref Any (Some h)) pushes.1.0, pushes.1.1))
-reads_pushed layouts t place (at p) word handle new is positive pushes = (λ makes. pushes.0, (ap (λ h. raw.Ref Any (Some h)) pushes.1.0, pushes.1.1))
+reads_pushed : {D : Type 0} (layouts : Layouts) (t : Table D) (a : Account) (place : Placing) (r : Reference) (word : ℕ) (handle : GcRootIndex) (new : StoreView) → IsWord place r word → 0 < word → PushesRoot layouts t a r (Ok handle) new → ReadsValue layouts t a (reference Any r) (Ok (raw.Ref Any (Some handle))) new
+reads_pushed layouts t a place null word handle new is positive pushes = absurd (omega (arith, is, positive))
+reads_pushed layouts t a place (small n) word handle new is positive pushes = (λ makes. pushes.0, (ap (λ h. raw.Ref Any (Some h)) pushes.1.0, pushes.1.1))
+reads_pushed layouts t a place (at p) word handle new is positive pushes = (λ makes. pushes.0, (ap (λ h. raw.Ref Any (Some h)) pushes.1.0, pushes.1.1))
 
 -- another word is read as a handle of a new root
-pub reads_reference : {D : Type 0} (layouts : Layouts) (t : Table D) (place : Placing) (word : ℕ) (v : Value) (handle : GcRootIndex) (new : StoreView) → (stands : StoredStands place (stored.Ref word) v) → 0 < word → PushesRoot layouts t stands.0 (Ok handle) new → ReadsValue layouts t v (Ok (raw.Ref Any (Some handle))) new
-reads_reference layouts t place word v handle new stands positive pushes =
-    subst (λ (v : Value). ReadsValue layouts t v (Ok (raw.Ref Any (Some handle))) new) (sym stands.1.1) (reads_pushed layouts t place stands.0 word handle new stands.1.0 positive pushes)
+pub reads_reference : {D : Type 0} (layouts : Layouts) (t : Table D) (a : Account) (place : Placing) (word : ℕ) (v : Value) (handle : GcRootIndex) (new : StoreView) → (stands : StoredStands place (stored.Ref word) v) → 0 < word → PushesRoot layouts t a stands.0 (Ok handle) new → ReadsValue layouts t a v (Ok (raw.Ref Any (Some handle))) new
+reads_reference layouts t a place word v handle new stands positive pushes =
+    subst (λ (v : Value). ReadsValue layouts t a v (Ok (raw.Ref Any (Some handle))) new) (sym stands.1.1) (reads_pushed layouts t a place stands.0 word handle new stands.1.0 positive pushes)
 
 makes_one : (place : Placing) (r : Reference) (word : ℕ) → IsWord place r word → 0 < word → makes_root (reference Any r) ≡ true
 makes_one place null word is positive = absurd (omega (arith, is, positive))
 makes_one place (small n) word is positive = refl
 makes_one place (at p) word is positive = refl
 
-reads_refused : {D : Type 0} (layouts : Layouts) (t : Table D) (place : Placing) (r : Reference) (word : ℕ) (f : RootFault) (new : StoreView) → IsWord place r word → 0 < word → PushesRoot layouts t r (Err f) new → ReadsValue layouts t (reference Any r) (Err f) new
-reads_refused layouts t place r word fault.WrongStore new is positive pushes = absurd pushes
-reads_refused layouts t place r word fault.Unrooted new is positive pushes = absurd pushes
-reads_refused layouts t place r word fault.RootsFull new is positive pushes = (makes_one place r word is positive, (pushes.0, pushes.1))
-reads_refused layouts t place r word fault.Memory new is positive pushes = (makes_one place r word is positive, pushes)
+reads_refused : {D : Type 0} (layouts : Layouts) (t : Table D) (a : Account) (place : Placing) (r : Reference) (word : ℕ) (f : RootFault) (new : StoreView) → IsWord place r word → 0 < word → PushesRoot layouts t a r (Err f) new → ReadsValue layouts t a (reference Any r) (Err f) new
+reads_refused layouts t a place r word fault.WrongStore new is positive pushes = absurd pushes
+reads_refused layouts t a place r word fault.Unrooted new is positive pushes = absurd pushes
+reads_refused layouts t a place r word fault.RootsFull new is positive pushes = (makes_one place r word is positive, (pushes.0, pushes.1))
+reads_refused layouts t a place r word fault.Memory new is positive pushes = (makes_one place r word is positive, pushes)
 
 -- or it is refused one
-pub reads_fault : {D : Type 0} (layouts : Layouts) (t : Table D) (place : Placing) (word : ℕ) (v : Value) (f : RootFault) (new : StoreView) → (stands : StoredStands place (stored.Ref word) v) → 0 < word → PushesRoot layouts t stands.0 (Err f) new → ReadsValue layouts t v (Err f) new
-reads_fault layouts t place word v f new stands positive pushes =
-    subst (λ (v : Value). ReadsValue layouts t v (Err f) new) (sym stands.1.1) (reads_refused layouts t place stands.0 word f new stands.1.0 positive pushes)
+pub reads_fault : {D : Type 0} (layouts : Layouts) (t : Table D) (a : Account) (place : Placing) (word : ℕ) (v : Value) (f : RootFault) (new : StoreView) → (stands : StoredStands place (stored.Ref word) v) → 0 < word → PushesRoot layouts t a stands.0 (Err f) new → ReadsValue layouts t a v (Err f) new
+reads_fault layouts t a place word v f new stands positive pushes =
+    subst (λ (v : Value). ReadsValue layouts t a v (Err f) new) (sym stands.1.1) (reads_refused layouts t a place stands.0 word f new stands.1.0 positive pushes)

@@ -1,5 +1,6 @@
 -- That a store is sound: it holds some table, and a collection may begin in it.
-use Rattle.std.proofs.Common.{◌≡◌, ℕ, Bool, List, [], true, Some, refl, sym, ap, ◌∙◌, subst, arith}
+use Rattle.std.proofs.Common.{◌≡◌, ℕ, Bool, List, [], true, false, Some, refl, sym, ap, ◌∙◌, subst, arith}
+use Rattle.std.specs.List.{IsDistinct}
 use Rattle.std.specs.FinMap.{get, empty, get-empty}
 use Rattle.std.specs.Option.{option_map}
 use Rattle.std.specs.Int.NonZero.{non_zero_u32_get}
@@ -8,15 +9,18 @@ use Rattle.std.proofs.lemmas.Option.{none-some}
 use Rattle.gc_types.specs.declared.kind.Layouts.{Layouts}
 use Rattle.gc_types.specs.declared.kind.Layouts.TheVariants.{Null, Counting, Copying}
 use Rattle.gc_types.specs.Declarations.{Declaration, TypeTable}
-use Rattle.gc_model.specs.declared.RootEntry.{RootEntry}
 use Rattle.gc_model.specs.Table.{start}
 use Rattle.gc_model.specs.Views.{StoreView, HeapView, detached, empty_store}
-use Rattle.gc_model.proofs.HoldsStart.{nowhere, IsUntouched, holds_untouched, untouched_new, untouched_from_start}
+use Rattle.gc_model.proofs.HoldsStart.{nowhere, IsUntouched, holds_untouched, untouched_new, untouched_from_parts, untouched_from_start}
 use Rattle.gc_heap.specs.Collection.{AreCounted}
+use Rattle.gc_heap.specs.Content.{IsHeap}
+use Rattle.gc_store.specs.Accounts.{no_account}
+use Rattle.gc_store.specs.RootSets.{RootSetView}
+use Rattle.gc_store.proofs.AccountLemmas.{holds_counted}
 use Rattle.gc_store.specs.declared.engine.StoreId.{StoreId}
 use Rattle.gc_store.specs.declared.config.HeapConfig.{HeapConfig}
 use Rattle.gc_store.specs.Tracing.{IsCollectable, roots_of}
-use Rattle.gc_store.specs.Stores.{store_view, IsSound, HoldsStart, configured}
+use Rattle.gc_store.specs.Stores.{store_view, IsSound, HoldsStart, ShowsNothing, configured}
 
 nothing_held : {V : Type 0} (q : ℕ) (x : V) → get (empty {X = V} {R = nat_cmp}) q ≡ Some x → ⊥
 nothing_held q x e = none-some x (sym (get-empty nat_cmp q) ∙ e)
@@ -45,49 +49,73 @@ collectable_empty layouts types hosts = record {
   };
 }
 
--- the parts of a new store show nothing
-pub new_view : (id : StoreId) (config : HeapConfig) (types : List Declaration) (heap : HeapView) (hosts : ℕ) (scoped : List RootEntry) (generation : ℕ) → types ≡ [] → heap ≡ detached → hosts ≡ 0 → scoped ≡ [] → generation ≡ 0
-    → store_view id config types heap hosts scoped generation ≡ empty_store id.engine id.number config.first_pages config.max_scoped config.max_owned (option_map non_zero_u32_get config.alloc_counter)
-new_view id config types heap hosts scoped generation no_types no_heap no_hosts no_roots none i = store_view id config (no_types i) (no_heap i) (no_hosts i) (no_roots i) (none i)
+-- The store has no account to speak of: nothing was allocated, counted or moved to an upper half.
+pub record CountsNothing (s : StoreView) : Type 0 where
+  pub last : s.last ≡ 0
+  pub tries : s.tries ≡ 0
+  pub upper : s.heap.needs_gc ≡ false
 
--- an untouched store is sound
+-- an untouched store that counted nothing holds the empty table
+pub starts_untouched : (D : Type 0) (layouts : Layouts) (s : StoreView) → IsUntouched layouts s → CountsNothing s → HoldsStart D layouts s
+unfolding IsDistinct
+starts_untouched D layouts s untouched counts = record {
+  place = nowhere;
+  holds = holds_untouched D layouts s untouched;
+  account = record {
+    held = record { distinct = tt; all = λ p. (λ c. absurd (omega (arith, c.1)), λ placed. absurd (none-some placed.0 placed.1)) };
+    last = counts.last;
+    tries = counts.tries;
+    upper = counts.upper;
+  };
+}
+
+-- and is sound
 pub sound_untouched : (D : Type 0) (layouts : Layouts) (heap_is_sound : Type 0) → heap_is_sound → (types : TypeTable) (hosts : ℕ → Bool) (s : StoreView) → types.engine ≡ s.engine → types.number ≡ s.number
-    → IsCollectable layouts s.types s.heap (roots_of s.scoped) hosts → IsUntouched layouts s → IsSound D layouts heap_is_sound types hosts s
-sound_untouched D layouts heap_is_sound heap types hosts s engine number collectable untouched = record {
+    → IsCollectable layouts s.types s.heap (roots_of s.scoped) hosts → HoldsStart D layouts s → IsSound D layouts heap_is_sound types hosts s
+sound_untouched D layouts heap_is_sound heap types hosts s engine number collectable holds = record {
   heap = heap;
   engine = engine;
   number = number;
   collectable = collectable;
+  unused = λ unmade. holds.account.last;
   table = start s.first s.max_scoped s.max_owned;
-  holds = (nowhere, holds_untouched D layouts s untouched);
+  account = no_account;
+  holds = holds;
 }
 
-module _ (D : Type 0) (layouts : Layouts) (id : StoreId) (config : HeapConfig) (types : TypeTable) (heap : HeapView) (hosts : ℕ) (scoped : List RootEntry) (generation : ℕ)
-    (no_types : types ≡ record { engine = id.engine; number = id.number; declarations = [] }) (no_heap : heap ≡ detached) (no_hosts : hosts ≡ 0) (no_roots : scoped ≡ []) (none : generation ≡ 0) where
-  same_view : store_view id config types.declarations heap hosts scoped generation ≡ empty_store id.engine id.number config.first_pages config.max_scoped config.max_owned (option_map non_zero_u32_get config.alloc_counter)
-  same_view = new_view id config types.declarations heap hosts scoped generation (ap (λ (t : TypeTable). t.declarations) no_types) no_heap no_hosts no_roots none
+-- What the parts of a new store are.
+pub record IsFresh (id : StoreId) (table : TypeTable) (h : HeapView) (n : ℕ) (roots : RootSetView) : Type 0 where
+  pub types : table ≡ record { engine = id.engine; number = id.number; declarations = [] }
+  pub heap : h ≡ detached
+  pub hosts : n ≡ 0
+  pub entries : roots.entries ≡ []
+  pub generation : roots.generation ≡ 0
+  pub last : roots.last ≡ 0
 
-  -- a new store is untouched
-  untouched_fresh : IsUntouched layouts (store_view id config types.declarations heap hosts scoped generation)
-  untouched_fresh =
-      subst (IsUntouched layouts) (sym same_view)
+module _ (id : StoreId) (config : HeapConfig) (types : TypeTable) (heap : HeapView) (hosts : ℕ) (roots : RootSetView) (fresh : IsFresh id types heap hosts roots) where
+  -- they show nothing
+  pub new_view : store_view id config types.declarations heap hosts roots 0 ≡ empty_store id.engine id.number config.first_pages config.max_scoped config.max_owned (option_map non_zero_u32_get config.alloc_counter)
+  new_view i = store_view id config (fresh.types i).declarations (fresh.heap i) (fresh.hosts i) (record { entries = fresh.entries i; generation = fresh.generation i; spare = roots.spare; last = fresh.last i }) 0
+
+  -- so a new store holds the empty table
+  pub starts_fresh : (D : Type 0) (layouts : Layouts) → HoldsStart D layouts (store_view id config types.declarations heap hosts roots 0)
+  starts_fresh D layouts =
+      subst (HoldsStart D layouts) (sym new_view)
+      (starts_untouched D layouts (empty_store id.engine id.number config.first_pages config.max_scoped config.max_owned (option_map non_zero_u32_get config.alloc_counter))
       (untouched_new layouts id.engine id.number config.first_pages config.max_scoped config.max_owned (option_map non_zero_u32_get config.alloc_counter) config.few_pages config.few_roots)
-
-  -- so it holds the empty table
-  pub starts_fresh : HoldsStart D layouts (store_view id config types.declarations heap hosts scoped generation)
-  starts_fresh = (nowhere, holds_untouched D layouts (store_view id config types.declarations heap hosts scoped generation) untouched_fresh)
+      (record { last = refl; tries = refl; upper = refl }))
 
   -- and is sound
-  pub sound_new : (heap_is_sound : Type 0) → heap_is_sound → (has : ℕ → Bool) → IsSound D layouts heap_is_sound types has (store_view id config types.declarations heap hosts scoped generation)
-  sound_new heap_is_sound is_sound has =
-      sound_untouched D layouts heap_is_sound is_sound types has (store_view id config types.declarations heap hosts scoped generation) (ap (λ (t : TypeTable). t.engine) no_types) (ap (λ (t : TypeTable). t.number) no_types)
-      (subst (λ (s : StoreView). IsCollectable layouts s.types s.heap (roots_of s.scoped) has) (sym same_view) (collectable_empty layouts [] has)) untouched_fresh
+  pub sound_new : (D : Type 0) (layouts : Layouts) (heap_is_sound : Type 0) → heap_is_sound → (has : ℕ → Bool) → IsSound D layouts heap_is_sound types has (store_view id config types.declarations heap hosts roots 0)
+  sound_new D layouts heap_is_sound is_sound has =
+      sound_untouched D layouts heap_is_sound is_sound types has (store_view id config types.declarations heap hosts roots 0) (ap (λ (t : TypeTable). t.engine) fresh.types) (ap (λ (t : TypeTable). t.number) fresh.types)
+      (subst (λ (s : StoreView). IsCollectable layouts s.types s.heap (roots_of s.scoped) has) (sym new_view) (collectable_empty layouts [] has)) (starts_fresh D layouts)
 
--- another configuration leaves a store untouched
-pub untouched_configured : (D : Type 0) (layouts : Layouts) (config : HeapConfig) (s : StoreView) → HoldsStart D layouts s → IsUntouched layouts (configured config s)
-untouched_configured D layouts config s holds =
-    let untouched = untouched_from_start D layouts s holds.0 holds.1 in
-    record {
+-- another configuration leaves a store untouched, and so it holds the empty table with the new numbers
+pub starts_configured : (D : Type 0) (layouts : Layouts) (config : HeapConfig) (s : StoreView) → HoldsStart D layouts s → HoldsStart D layouts (configured config s)
+starts_configured D layouts config s holds =
+    let untouched = untouched_from_start D layouts s holds.place holds.holds in
+    let still : IsUntouched layouts (configured config s) = record {
       types = untouched.types;
       scoped = untouched.scoped;
       generation = untouched.generation;
@@ -98,11 +126,37 @@ untouched_configured D layouts config s holds =
       first_fits = config.few_pages;
       few_roots = config.few_roots;
       no_hosts = untouched.no_hosts;
-    }
+    } in
+    starts_untouched D layouts (configured config s) still (record { last = holds.account.last; tries = holds.account.tries; upper = holds.account.upper })
 
--- and so it holds the empty table with the new numbers
-pub starts_configured : (D : Type 0) (layouts : Layouts) (config : HeapConfig) (s : StoreView) → HoldsStart D layouts s → HoldsStart D layouts (configured config s)
-starts_configured D layouts config s holds = (nowhere, holds_untouched D layouts (configured config s) (untouched_configured D layouts config s holds))
+-- a sound store that shows nothing holds the empty table
+pub starts_nothing : (D : Type 0) (layouts : Layouts) (heap_is_sound : Type 0) (types : TypeTable) (hosts : ℕ → Bool) (s : StoreView) → IsHeap layouts s.heap → IsSound D layouts heap_is_sound types hosts s → ShowsNothing s → HoldsStart D layouts s
+starts_nothing D layouts heap_is_sound types hosts s heap sound nothing =
+    starts_untouched D layouts s (untouched_from_parts layouts s sound.table sound.holds.place sound.holds.holds nothing.types nothing.scoped nothing.generation nothing.attached)
+    (record { last = sound.unused nothing.attached; tries = nothing.tries; upper = ap (λ (h : HeapView). h.needs_gc) (heap.detached nothing.attached) })
+
+-- a store that holds the empty table shows nothing
+pub nothing_starts : (D : Type 0) (layouts : Layouts) (s : StoreView) → HoldsStart D layouts s → ShowsNothing s
+nothing_starts D layouts s holds =
+    let untouched = untouched_from_start D layouts s holds.place holds.holds in
+    record { tries = holds.account.tries; types = untouched.types; scoped = untouched.scoped; generation = untouched.generation; attached = untouched.attached }
+
+-- a count of allocations leaves a store sound
+pub sound_counted : (D : Type 0) (layouts : Layouts) (heap_is_sound : Type 0) (types : TypeTable) (hosts : ℕ → Bool) (s : StoreView) (tries : ℕ) → IsSound D layouts heap_is_sound types hosts s → IsSound D layouts heap_is_sound types hosts (record s { tries = tries })
+sound_counted D layouts heap_is_sound types hosts s tries sound = record {
+  heap = sound.heap;
+  engine = sound.engine;
+  number = sound.number;
+  collectable = sound.collectable;
+  unused = sound.unused;
+  table = sound.table;
+  account = record sound.account { tries = tries };
+  holds = record {
+    place = sound.holds.place;
+    holds = holds_counted layouts s sound.table sound.holds.place s.last tries sound.holds.holds;
+    account = record { held = sound.holds.account.held; last = sound.holds.account.last; tries = refl; upper = sound.holds.account.upper };
+  };
+}
 
 -- a table of types with that id
 pub own_types : (types : TypeTable) (e n : ℕ) → types.engine ≡ e → types.number ≡ n → types ≡ record { engine = e; number = n; declarations = types.declarations }

@@ -10,7 +10,6 @@ use Rattle.gc_types.specs.Declarable.{Declarable}
 use Rattle.gc_types.specs.Declarations.{Declaration, TypeTable, TypeName, plain_struct}
 use Rattle.gc_model.specs.Table.{Table, start, declare}
 use Rattle.gc_model.specs.Views.{StoreView, HeapView}
-use Rattle.gc_model.specs.Holds.{HoldsTable}
 use Rattle.gc_store.specs.Accounts.{Account, no_account, HoldsAccount}
 use Rattle.gc_store.specs.RootSets.{RootSetView}
 use Rattle.gc_store.specs.Tracing.{IsCollectable, roots_of}
@@ -54,10 +53,6 @@ pub record IsSound (D : Type 0) (layouts : Layouts) (heap_is_sound : Type 0) (ty
 -- the store holds the empty table with the numbers of its configuration, and counted no allocation
 abbrev pub HoldsStart : (D : Type 0) → Layouts → StoreView → Type 0
 HoldsStart D layouts s = HoldsAccount layouts s (start {D = D} s.first s.max_scoped s.max_owned) no_account
-
--- the store holds some table
-abbrev pub HoldsSome : (D : Type 0) → Layouts → StoreView → Type 0
-HoldsSome D layouts s = (t : Table D) × HoldsTable layouts s t
 
 -- the store shows no type, root, scope end, memory or allocation
 pub record ShowsNothing (s : StoreView) : Type 0 where

@@ -1,6 +1,6 @@
 //! A limiter that answers by a list, for tests.
 
-ghost use Rattle.std.specs.Prelude.{◌≡◌, ◌∷◌, [], Bool, List, None};
+ghost use Rattle.std.specs.Prelude.{◌≡◌, None};
 ghost use Rattle.gc_store.specs.Limiters.{fresh_limits, next_answer, rest_of};
 
 use crate::limiter::ResourceLimiter;
@@ -17,7 +17,7 @@ pub struct Scripted {
 }
 
 impl Model for Scripted {
-    ghost use Rattle.std.specs.Prelude.{◌<◌, ◌^◌, None, drop};
+    ghost use Rattle.std.specs.Prelude.{None, drop};
     ghost use Rattle.gc_store.specs.Limiters.{ScriptedView};
 
     ghost Value = { ScriptedView };

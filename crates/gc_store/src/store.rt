@@ -8,7 +8,7 @@ ghost use Rattle.gc_model.specs.Fits.{is_built_field};
 ghost use Rattle.gc_model.specs.Table.{Table};
 ghost use Rattle.gc_model.specs.Views.{detached, empty_store};
 ghost use Rattle.gc_store.specs.Accounts.{Account, HoldsAccount};
-ghost use Rattle.gc_store.specs.Stores.{HoldsStart, HoldsSome, ShowsNothing, DeclaresStruct, IsSameStore, configured};
+ghost use Rattle.gc_store.specs.Stores.{HoldsStart, ShowsNothing, DeclaresStruct, IsSameStore, configured};
 
 use crate::config::HeapConfig;
 use crate::engine::StoreId;
@@ -143,13 +143,13 @@ impl<H: GcHeap, D: Drop> Store<H, D> {
     pub fn is_new(&self) -> bool
         ensures { IsTrue result ↔ HoldsStart D H.KIND self.now }
     {
+        let _heap = &self.heap;
         self.is_untouched()
     }
 
     /// Whether there is no type, root, generation, memory or allocation.
     fn is_untouched(&self) -> bool
-        ensures parts { IsTrue result ↔ ShowsNothing self.now }
-        ensures sound { HoldsSome D H.KIND self.now }
+        ensures { IsTrue result ↔ ShowsNothing self.now }
     {
         self.roots.len() == 0
             && self.roots.generation() == 0

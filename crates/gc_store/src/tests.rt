@@ -1,8 +1,8 @@
-//! Configurations, ids, a limiter, and handles that name nothing.
+//! Configurations, ids, limiters, a full heap's words, and handles that name nothing.
 
 use crate::{
-    Engine, GcRootIndex, HeapConfig, PageLimit, ResourceLimiter, RootFault, RootSlot, Store,
-    StoreId,
+    Engine, GcHeapOutOfMemory, GcRootIndex, HeapConfig, PageLimit, ResourceLimiter, RootFault,
+    RootSlot, Scripted, Store, StoreId,
 };
 use gc_heap::NullHeap;
 use std::alloc::{AllocError, Global};
@@ -51,6 +51,40 @@ fn a_limiter_counts_what_it_refuses(rt: HostRuntime) -> Result<(), Fail> {
         assert_eq!(rt; limiter.refusals(), refusals);
         assert_eq!(rt; limiter.last_refused(), last);
     }
+    Ok(())
+}
+
+#[test]
+fn a_script_is_answered_in_order(rt: HostRuntime) -> Result<(), Fail> {
+    let mut limiter = Scripted::new(vec![in rt.alloc(); false, true, false]?);
+    let asks = [
+        (0, 1, false, 1, Some((0, 1))),
+        (0, 2, true, 1, Some((0, 1))),
+        (2, 4, false, 2, Some((2, 4))),
+        (4, 9, true, 2, Some((2, 4))),
+        (9, 9, true, 2, Some((2, 4))),
+    ];
+    for (from, to, want, refusals, last) in asks {
+        assert_eq!(rt; limiter.growing(from, to), want);
+        assert_eq!(rt; limiter.refusals(), refusals);
+        assert_eq!(rt; limiter.last_refused(), last);
+    }
+    Ok(())
+}
+
+#[test]
+fn a_full_heap_tells_what_it_needs(rt: HostRuntime) -> Result<(), Fail> {
+    let fault = GcHeapOutOfMemory {
+        inner: 7u32,
+        bytes_needed: 64,
+    };
+    assert_eq!(rt;
+        format!(in rt.alloc(); "{fault}")?.as_str(),
+        "GC heap out of memory: no capacity for allocation of 64 bytes"
+    );
+    let (inner, rest) = fault.take_inner();
+    assert_eq!(rt; inner, 7);
+    assert_eq!(rt; rest.bytes_needed(), 64);
     Ok(())
 }
 

@@ -1,4 +1,4 @@
-use Rattle.std.proofs.Common.{◌≡◌, ◌+◌, ◌<◌, ◌≤◌, ◌++◌, ◌∷◌, [], List, length, take, refl, sym, ap, ◌∙◌, subst, arith}
+use Rattle.std.proofs.Common.{◌≡◌, ◌+◌, ◌<◌, ◌≤◌, ◌∷◌, [], List, length, take, refl, sym, ap, ◌∙◌, subst, arith}
 use Rattle.std.proofs.lemmas.List.{take-append-le, take_all, length-append}
 use Rattle.gc_model.specs.declared.RootEntry.{RootEntry}
 use Rattle.gc_model.specs.Views.{HeapView}
@@ -14,10 +14,11 @@ pub loop-word-init : goal.loop-word-init
 loop-word-init g c = record {
   sound = c.requires.sound;
   can = c.requires.can;
-  held = record { content = refl; attached = refl; capacity = refl; allocated = refl };
+  held = record { content = refl; attached = refl; capacity = refl; allocated = refl; needs_gc = refl };
   keeps = λ types hosts can. can;
   entries = refl;
   generation = refl;
+  last = refl;
 }
 
 pub unwrap-requires : goal.unwrap-requires
@@ -74,6 +75,7 @@ loop-word-preserved g c =
         attached = ap (λ (h : HeapView). h.attached) c.drop_gc_ref.ensures.seen ∙ held.attached;
         capacity = ap (λ (h : HeapView). h.capacity) c.drop_gc_ref.ensures.seen ∙ held.capacity;
         allocated = ap (λ (h : HeapView). h.allocated) c.drop_gc_ref.ensures.seen ∙ held.allocated;
+        needs_gc = ap (λ (h : HeapView). h.needs_gc) c.drop_gc_ref.ensures.seen ∙ held.needs_gc;
       };
       keeps = λ types hosts first. stepped g c types hosts (c.loop-word.invariant.keeps types hosts first);
       entries =
@@ -81,6 +83,7 @@ loop-word-preserved g c =
           ∙ ap (take c.args.mark) (sym popped.1.1.0)
           ∙ c.loop-word.invariant.entries;
       generation = c.in-Some.ensures.generation ∙ c.loop-word.invariant.generation;
+      last = c.in-Some.ensures.last ∙ c.loop-word.invariant.last;
     }
 
 pub returns-clause-sound : goal.returns-clause-sound
@@ -99,3 +102,6 @@ returns-clause-entries g c =
 
 pub returns-clause-generation : goal.returns-clause-generation
 returns-clause-generation g c = c.in_default.ensures.generation ∙ c.loop-word.invariant.generation
+
+pub returns-clause-last : goal.returns-clause-last
+returns-clause-last g c = c.in_default.ensures.last ∙ c.loop-word.invariant.last

@@ -14,6 +14,7 @@ invariant-loop-word g l = record {
       → IsCollectable g.H.GcHeap.KIND types (g.H.GcHeap.seen l.heap) (roots_of l.roots.entries) hosts;
   entries : take l.mark l.roots.entries ≡ take l.mark l.initial.roots.entries;
   generation : l.roots.generation ≡ l.initial.roots.generation;
+  last : l.roots.last ≡ l.initial.roots.last;
 }
 
 abbrev pub decreases-loop-word : goal.decreases-loop-word

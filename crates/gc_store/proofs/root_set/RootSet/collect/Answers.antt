@@ -36,23 +36,25 @@ collects g c =
 
 pub invariant_of-self : goal.invariant_of-self
 invariant_of-self g c =
-    let old : All (λ (e : RootEntry). 0 < e.word) c.args.self.now.entries = subst (λ es. All (λ (e : RootEntry). 0 < e.word) es) (sym (entries_are g c)) c.self.invariant.2 in
+    let at = (goal.at.invariant_of-self g c).After-clear in
+    let old : All (λ (e : RootEntry). 0 < e.word) c.args.self.now.entries = subst (λ es. All (λ (e : RootEntry). 0 < e.word) es) (sym (entries_are g at)) c.self.invariant.2 in
     let new : All (λ (e : RootEntry). 0 < e.word) c.take_words.new.entries =
     present_again g.H.GcHeap.KIND c.args.trace.now.types.now.declarations (g.H.GcHeap.seen c.args.heap.now) (g.H.GcHeap.seen c.run.new.heap) c.args.self.now.entries c.take_words.new.entries c.run.new.roots.roots
     (has_host c.args.trace.now.host_data_table.now.entries) (has_host c.run.new.trace.host_data_table.now.entries)
-    (g.met.H.GcHeap.is_heap c.args.heap.now c.requires.sound) c.requires.attached c.requires.collectable (collects g c) c.take_words.ensures.words
+    (g.met.H.GcHeap.is_heap c.args.heap.now c.requires.sound) c.requires.attached c.requires.collectable (collects g at) c.take_words.ensures.words
     (g.met.H.GcHeap.is_heap c.run.new.heap c.run.ensures.sound) old in (
       c.clear.ensures.roots,
-      omega (arith, c.self.invariant.1, c.clear.ensures.spare, c.run.ensures.spare, c.add_roots.ensures.spare, list_count g c, new_count g c, c.as_slice.ensures.len),
-      subst (λ es. All (λ (e : RootEntry). 0 < e.word) es) (sym (refilled c.take_words.new.entries c.self.inside.entries.items c.self.inside.entries.len (new_count g c))) new,
+      omega (arith, c.self.invariant.1, c.clear.ensures.spare, c.run.ensures.spare, c.add_roots.ensures.spare, list_count g at, new_count g at, c.as_slice.ensures.len),
+      subst (λ es. All (λ (e : RootEntry). 0 < e.word) es) (sym (refilled c.take_words.new.entries c.self.inside.entries.items c.self.inside.entries.len (new_count g at))) new,
     )
 
 pub returns-clause-collected : goal.returns-clause-collected
 returns-clause-collected g c =
+    let at = (goal.at.returns-clause-collected g c).After-clear in
     subst (λ es. IsCollected g.H.GcHeap.KIND c.args.trace.now.types.now.declarations (g.H.GcHeap.seen c.args.heap.now) (g.H.GcHeap.seen c.run.new.heap) c.args.self.now.entries es
     (has_host c.args.trace.now.host_data_table.now.entries) (has_host c.run.new.trace.host_data_table.now.entries))
-    (sym (refilled c.take_words.new.entries c.self.inside.entries.items c.self.inside.entries.len (new_count g c)))
+    (sym (refilled c.take_words.new.entries c.self.inside.entries.items c.self.inside.entries.len (new_count g at)))
     (is_collected g.H.GcHeap.KIND c.args.trace.now.types.now.declarations (g.H.GcHeap.seen c.args.heap.now) (g.H.GcHeap.seen c.run.new.heap) c.args.self.now.entries c.take_words.new.entries c.run.new.roots.roots
     (has_host c.args.trace.now.host_data_table.now.entries) (has_host c.run.new.trace.host_data_table.now.entries)
-    (g.met.H.GcHeap.is_heap c.args.heap.now c.requires.sound) c.requires.attached c.requires.collectable (collects g c) c.take_words.ensures.words
-    (c.take_words.ensures.generations ∙ ap generations_of (c.as_mut_slice.ensures.value ∙ sym (entries_are g c))))
+    (g.met.H.GcHeap.is_heap c.args.heap.now c.requires.sound) c.requires.attached c.requires.collectable (collects g at) c.take_words.ensures.words
+    (c.take_words.ensures.generations ∙ ap generations_of (c.as_mut_slice.ensures.value ∙ sym (entries_are g at))))

@@ -1,7 +1,7 @@
 use Rattle.std.proofs.Common.{subst, sym}
 use Rattle.gc_types.specs.Declarations.{plain_struct}
 use Rattle.gc_model.specs.Views.{StoreView}
-use Rattle.gc_model.specs.Holds.{HoldsTable}
+use Rattle.gc_store.specs.Accounts.{HoldsAccount}
 use Rattle.gc_store.proofs.Declare.{TypesDeclare, declared_step, declares_plain, sound_declared}
 use Rattle.gc_store.proofs.store.Store.declare_struct.Given as given
 use Rattle.gc_store.proofs.store.Store.declare_struct.Goals as goal
@@ -15,10 +15,10 @@ did g c =
 
 pub invariant_of-self : goal.invariant_of-self
 invariant_of-self g c =
-    sound_declared _ _ _ c.self.inside.id c.self.inside.config _ _ _ c.self.inside.roots.generation c.args.fields.now c.requires.built _ _ c.declare_struct.result
+    sound_declared _ _ _ c.self.inside.id c.self.inside.config _ _ c.self.inside.roots c.self.inside.tries c.args.fields.now c.requires.built _ _ c.declare_struct.result
     (did g (goal.at.invariant_of-self g c).After-declare_struct) c.self.invariant
 
 pub returns-clause-step : goal.returns-clause-step
-returns-clause-step g c t holds =
-    declared_step _ _ _ c.self.inside.id c.self.inside.config _ _ _ c.self.inside.roots.generation c.args.fields.now c.requires.built _ _ c.declare_struct.result
-    (did g (goal.at.returns-clause-step g c).After-declare_struct) c.self.invariant t (subst (λ (v : StoreView). HoldsTable g.H.GcHeap.KIND v t) (sym c.self.view_is) holds)
+returns-clause-step g c t a holds =
+    declared_step _ _ _ c.self.inside.id c.self.inside.config _ _ c.self.inside.roots c.self.inside.tries c.args.fields.now c.requires.built _ _ c.declare_struct.result
+    (did g (goal.at.returns-clause-step g c).After-declare_struct) c.self.invariant t a (subst (λ (v : StoreView). HoldsAccount g.H.GcHeap.KIND v t a) (sym c.self.view_is) holds)

@@ -1,12 +1,12 @@
-use Rattle.std.proofs.Common.{◌≡◌, ◌<◌, ◌+◌, ◌-◌, ◌^◌, min, List, length, take, sym, ap, ◌∙◌, subst, arith}
+use Rattle.std.proofs.Common.{◌<◌, ◌+◌, ◌-◌, ◌^◌, min, List, length, sym, ap, ◌∙◌, subst, arith}
 use Rattle.std.specs.FinMap.{len}
 use Rattle.gc_model.specs.declared.RootEntry.{RootEntry}
 use Rattle.gc_model.specs.Views.{StoreView}
-use Rattle.gc_model.specs.Holds.{HoldsTable}
 use Rattle.gc_heap.specs.Collection.{has_host}
+use Rattle.gc_store.specs.Accounts.{HoldsAccount}
 use Rattle.gc_store.specs.Tracing.{IsCollectable, roots_of}
 use Rattle.gc_store.specs.Stores.{store_view}
-use Rattle.gc_store.proofs.Leaving.{holds_left, sound_left}
+use Rattle.gc_store.proofs.Leaving.{LosesRoots, holds_left, sound_left}
 use Rattle.gc_store.proofs.store.Store.exit_gc_lifo_scope.Given as given
 use Rattle.gc_store.proofs.store.Store.exit_gc_lifo_scope.Goals as goal
 use Rattle.gc_store.proofs.store.Store.exit_gc_lifo_scope.Goals.{After-end_generation}
@@ -15,11 +15,12 @@ use Rattle.gc_store.proofs.store.Store.exit_gc_lifo_scope.Goals.{After-end_gener
 abbrev view : (g : given.Over) (c : After-end_generation g) → StoreView
 view g c = store_view c.self.inside.id c.self.inside.config c.self.inside.types.declarations (g.H.GcHeap.seen c.self.inside.heap) (len c.self.inside.hosts.entries) c.self.inside.roots c.self.inside.tries
 
-entries_are : (g : given.Over) (c : After-end_generation g) → c.end_generation.new.self.entries ≡ take c.args.scope c.self.inside.roots.entries
-entries_are g c = c.end_generation.ensures.entries ∙ c.drop_roots.ensures.entries
-
-generation_is : (g : given.Over) (c : After-end_generation g) → c.end_generation.new.self.generation ≡ min (c.self.inside.roots.generation + 1) (2 ^ 64 - 1)
-generation_is g c = c.end_generation.ensures.generation ∙ ap (λ n. min (n + 1) (2 ^ 64 - 1)) c.drop_roots.ensures.generation
+loses : (g : given.Over) (c : After-end_generation g) → LosesRoots (view g c) c.end_generation.new.self c.args.scope
+loses g c = record {
+  entries = c.end_generation.ensures.entries ∙ c.drop_roots.ensures.entries;
+  generation = c.end_generation.ensures.generation ∙ ap (λ n. min (n + 1) (2 ^ 64 - 1)) c.drop_roots.ensures.generation;
+  last = c.end_generation.ensures.last ∙ c.drop_roots.ensures.last;
+}
 
 less : (g : given.Over) (c : After-end_generation g) → c.args.scope < length c.self.inside.roots.entries
 less g c = omega (arith, c.if-len-scope.false, c.len.ensures)
@@ -27,13 +28,13 @@ less g c = omega (arith, c.if-len-scope.false, c.len.ensures)
 pub invariant_of-self : goal.invariant_of-self
 invariant_of-self g c =
     let at = (goal.at.invariant_of-self g c).After-end_generation in
-    sound_left g.H.GcHeap.KIND (view g at) (g.H.GcHeap.seen c.drop_roots.new.heap) c.end_generation.new.self.entries c.end_generation.new.self.generation c.args.scope c.drop_roots.ensures.held (entries_are g at) (generation_is g at) (less g at)
+    sound_left g.H.GcHeap.KIND (view g at) (g.H.GcHeap.seen c.drop_roots.new.heap) c.end_generation.new.self c.args.scope c.drop_roots.ensures.held (loses g at) (less g at)
     g.row.D.Denot (g.H.GcHeap.sound c.self.inside.heap) (g.H.GcHeap.sound c.drop_roots.new.heap) c.self.inside.types (has_host c.self.inside.hosts.entries) c.self.invariant c.drop_roots.ensures.sound
     (subst (λ (es : List RootEntry). IsCollectable g.H.GcHeap.KIND c.self.inside.types.declarations (g.H.GcHeap.seen c.drop_roots.new.heap) (roots_of es) (has_host c.self.inside.hosts.entries)) (sym c.end_generation.ensures.entries)
     (c.drop_roots.ensures.keeps c.self.inside.types.declarations (has_host c.self.inside.hosts.entries) c.self.invariant.collectable))
 
 pub returns-clause-leaves : goal.returns-clause-leaves
-returns-clause-leaves g c t holds =
+returns-clause-leaves g c t a holds =
     let at = (goal.at.returns-clause-leaves g c).After-end_generation in
-    holds_left g.H.GcHeap.KIND (view g at) (g.H.GcHeap.seen c.drop_roots.new.heap) c.end_generation.new.self.entries c.end_generation.new.self.generation c.args.scope c.drop_roots.ensures.held (entries_are g at) (generation_is g at) (less g at)
-    t (subst (λ (s : StoreView). HoldsTable g.H.GcHeap.KIND s t) (sym c.self.view_is) holds)
+    holds_left g.H.GcHeap.KIND (view g at) (g.H.GcHeap.seen c.drop_roots.new.heap) c.end_generation.new.self c.args.scope c.drop_roots.ensures.held (loses g at) (less g at)
+    t a (subst (λ (s : StoreView). HoldsAccount g.H.GcHeap.KIND s t a) (sym c.self.view_is) holds)

@@ -1,13 +1,12 @@
-use Rattle.gc_model.proofs.HoldsStart.{nowhere, holds_untouched, untouched_from_parts, untouched_from_start}
+use Rattle.std.proofs.Common.{subst, sym}
+use Rattle.gc_store.proofs.Sound.{starts_nothing, nothing_starts}
+use Rattle.gc_store.specs.Stores.{HoldsStart, ShowsNothing}
 use Rattle.gc_store.proofs.store.Store.is_new.Goals as goal
 
 pub returns : goal.returns
 returns g c = (
   λ yes.
-      let nothing = c.is_untouched.ensures.parts.0 yes in
-      let held = c.is_untouched.ensures.sound in
-      (nowhere, holds_untouched _ _ _ (untouched_from_parts _ _ held.0 held.1.0 held.1.1 nothing.types nothing.scoped nothing.generation nothing.attached)),
-  λ holds.
-      let untouched = untouched_from_start _ _ _ holds.0 holds.1 in
-      c.is_untouched.ensures.parts.1 (record { types = untouched.types; scoped = untouched.scoped; generation = untouched.generation; attached = untouched.attached }),
+      subst (HoldsStart g.row.D.Denot g.H.GcHeap.KIND) c.self.view_is
+      (starts_nothing _ _ _ _ _ _ (g.met.H.GcHeap.is_heap c.self.inside.heap c.self.invariant.heap) c.self.invariant (subst ShowsNothing (sym c.self.view_is) (c.is_untouched.ensures.0 yes))),
+  λ holds. c.is_untouched.ensures.1 (nothing_starts _ _ _ holds),
 )

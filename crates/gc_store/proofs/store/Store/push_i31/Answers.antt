@@ -9,8 +9,8 @@ push_clone-requires g c =
     subst (λ (s : StoreView). IsRootWord g.row.D.Denot g.H.GcHeap.KIND s c.from_i31.result) c.self.view_is
     (record {
       table = c.self.invariant.table;
-      place = c.self.invariant.holds.0;
-      holds = c.self.invariant.holds.1;
+      place = c.self.invariant.holds.place;
+      holds = c.self.invariant.holds.holds;
       root = small c.args.value;
       is_word = c.from_i31.ensures;
       not_null = omega (arith, c.from_i31.ensures);

@@ -8,18 +8,18 @@ use Rattle.gc_store.proofs.store.Store.read_value.Goals as goal
 use Rattle.gc_store.proofs.store.Store.read_value.Goals.{In-Some}
 
 pub returns-in-I32-clause-reads : goal.returns-in-I32-clause-reads
-returns-in-I32-clause-reads g c t value holds has =
+returns-in-I32-clause-reads g c t a value holds has =
     let fits : c.in-I32.bits < 2 ^ 32 = search rules in
-    reads_i32 g.H.GcHeap.KIND c.args.self.now t holds.0 c.in-I32.bits _ value fits (signed_again w32 c.in-I32.bits c.cast_signed.result (of_z-to_z w32 c.in-I32.bits fits) c.cast_signed.ensures) (c.in-I32.ensures t holds.0 value holds.1 has) holds
+    reads_i32 g.H.GcHeap.KIND c.args.self.now t a holds.place c.in-I32.bits _ value fits (signed_again w32 c.in-I32.bits c.cast_signed.result (of_z-to_z w32 c.in-I32.bits fits) c.cast_signed.ensures) (c.in-I32.ensures t holds.place value holds.holds has) holds
 
 pub returns-in-I64-clause-reads : goal.returns-in-I64-clause-reads
-returns-in-I64-clause-reads g c t value holds has =
+returns-in-I64-clause-reads g c t a value holds has =
     let fits : c.in-I64.bits < 2 ^ 64 = search rules in
-    reads_i64 g.H.GcHeap.KIND c.args.self.now t holds.0 c.in-I64.bits _ value fits (signed_again w64 c.in-I64.bits c.cast_signed-in-I64.result (of_z-to_z w64 c.in-I64.bits fits) c.cast_signed-in-I64.ensures) (c.in-I64.ensures t holds.0 value holds.1 has) holds
+    reads_i64 g.H.GcHeap.KIND c.args.self.now t a holds.place c.in-I64.bits _ value fits (signed_again w64 c.in-I64.bits c.cast_signed-in-I64.result (of_z-to_z w64 c.in-I64.bits fits) c.cast_signed-in-I64.ensures) (c.in-I64.ensures t holds.place value holds.holds has) holds
 
 pub returns-in-None-clause-reads : goal.returns-in-None-clause-reads
-returns-in-None-clause-reads g c t value holds has =
-    reads_null g.H.GcHeap.KIND c.args.self.now t holds.0 holds.1 c.in-Ref.word value (SomeIff-zero c.from_raw_u32.result c.in-Ref.word c.from_raw_u32.ensures c.in-None.is) (c.in-Ref.ensures t holds.0 value holds.1 has)
+returns-in-None-clause-reads g c t a value holds has =
+    reads_null g.H.GcHeap.KIND c.args.self.now t a holds c.in-Ref.word value (SomeIff-zero c.from_raw_u32.result c.in-Ref.word c.from_raw_u32.ensures c.in-None.is) (c.in-Ref.ensures t holds.place value holds.holds has)
 
 -- the word that was read, whose root is pushed
 positive : (g : given.Over) (c : In-Some g) → 0 < c.in-Ref.word
@@ -42,15 +42,15 @@ push_clone-requires g c =
     }
 
 pub returns-in-Ok-clause-reads : goal.returns-in-Ok-clause-reads
-returns-in-Ok-clause-reads g c t value holds has =
+returns-in-Ok-clause-reads g c t a value holds has =
     let at = (goal.at.returns-in-Ok-clause-reads g c).In-Some in
-    let stands = c.in-Ref.ensures t holds.0 value holds.1 has in
-    reads_reference g.H.GcHeap.KIND t holds.0 c.in-Ref.word value c.in-Ok.found _ stands (positive g at)
-    (c.in-Ok.ensures.pushes t holds.0 stands.0 holds.1 (subst (IsWord holds.0 stands.0) (sym (word_is g at)) stands.1.0))
+    let stands = c.in-Ref.ensures t holds.place value holds.holds has in
+    reads_reference g.H.GcHeap.KIND t a holds.place c.in-Ref.word value c.in-Ok.found _ stands (positive g at)
+    (c.in-Ok.ensures.pushes t holds.place a stands.0 holds.holds holds.account (subst (IsWord holds.place stands.0) (sym (word_is g at)) stands.1.0))
 
 pub returns-in-Err-clause-reads : goal.returns-in-Err-clause-reads
-returns-in-Err-clause-reads g c t value holds has =
+returns-in-Err-clause-reads g c t a value holds has =
     let at = (goal.at.returns-in-Err-clause-reads g c).In-Some in
-    let stands = c.in-Ref.ensures t holds.0 value holds.1 has in
-    reads_fault g.H.GcHeap.KIND t holds.0 c.in-Ref.word value c.in-Err.fault _ stands (positive g at)
-    (c.in-Err.ensures.pushes t holds.0 stands.0 holds.1 (subst (IsWord holds.0 stands.0) (sym (word_is g at)) stands.1.0))
+    let stands = c.in-Ref.ensures t holds.place value holds.holds has in
+    reads_fault g.H.GcHeap.KIND t a holds.place c.in-Ref.word value c.in-Err.fault _ stands (positive g at)
+    (c.in-Err.ensures.pushes t holds.place a stands.0 holds.holds holds.account (subst (IsWord holds.place stands.0) (sym (word_is g at)) stands.1.0))

@@ -3,9 +3,10 @@ use Rattle.std.specs.FinMap as finite
 use Rattle.gc_model.specs.Values.{Value}
 use Rattle.gc_model.specs.Table.{Table}
 use Rattle.gc_model.specs.Views.{StoreView, HeapObject}
-use Rattle.gc_model.specs.Holds.{HoldsTable, Placing}
+use Rattle.gc_model.specs.Holds.{Placing}
 use Rattle.gc_heap.specs.Heap.{put_object, with_data}
 use Rattle.gc_heap.specs.Collection.{has_host}
+use Rattle.gc_store.specs.Accounts.{Account, HoldsAccount}
 use Rattle.gc_store.specs.declared.field.Stored.{Stored}
 use Rattle.gc_store.specs.Fields.{StoredFits, FitsBytes, stored_bytes}
 use Rattle.gc_store.specs.Roots.{word_of}
@@ -129,11 +130,11 @@ invariant_of-self g c =
     (c.write_field.ensures.keeps _ _ _ lies.object lies.holds.field.element_type c.self.invariant.collectable (held_in g (goal.at.After-field_place-place g placed).After-unwrap-gc_ref lies.object lies.held) field fits)
 
 pub returns-clause-writes : goal.returns-clause-writes
-returns-clause-writes g c t holds before v has stands =
+returns-clause-writes g c t a holds before v has stands =
     let write = (goal.at.returns-clause-writes g c).After-write_field in
     let after = (goal.at.After-write_field g write).After-stored_value-stored in
     let at = (goal.at.After-write_field g write).In-Ok in
-    let writes : (s : StoreView) → view g at ≡ s → (t : Table g.row.D.Denot) → HoldsTable g.H.GcHeap.KIND s t → WritesValue g.H.GcHeap.KIND s (record (view g at) { heap = g.H.GcHeap.seen c.write_field.new.heap }) t c.args.handle c.args.index c.args.value =
-    λ s e. subst (λ (s : StoreView). (t : Table g.row.D.Denot) → HoldsTable g.H.GcHeap.KIND s t → WritesValue g.H.GcHeap.KIND s (record (view g at) { heap = g.H.GcHeap.seen c.write_field.new.heap }) t c.args.handle c.args.index c.args.value) e
+    let writes : (s : StoreView) → view g at ≡ s → (t : Table g.row.D.Denot) (a : Account) → HoldsAccount g.H.GcHeap.KIND s t a → WritesValue g.H.GcHeap.KIND s (record (view g at) { heap = g.H.GcHeap.seen c.write_field.new.heap }) t a c.args.handle c.args.index c.args.value =
+    λ s e. subst (λ (s : StoreView). (t : Table g.row.D.Denot) (a : Account) → HoldsAccount g.H.GcHeap.KIND s t a → WritesValue g.H.GcHeap.KIND s (record (view g at) { heap = g.H.GcHeap.seen c.write_field.new.heap }) t a c.args.handle c.args.index c.args.value) e
     (writes_value g.row.D.Denot g.H.GcHeap.KIND (view g at) c.args.handle c.args.index c.args.value (can g at) c.in-Ok.word (word_at g at) (g.H.GcHeap.seen c.write_field.new.heap) (subst FitsBytes (stored_is g after) (small g after)) (written g write)) in
-    writes c.args.self.now c.self.view_is t holds before v has stands
+    writes c.args.self.now c.self.view_is t a holds before v has stands
