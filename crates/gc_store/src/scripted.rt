@@ -72,12 +72,16 @@ impl Scripted {
 }
 
 impl ResourceLimiter for Scripted {
-    ghost use Rattle.std.specs.Prelude.{◌≡◌};
-    ghost use Rattle.gc_store.specs.Limiters.{next_answer, rest_of};
+    ghost use Rattle.std.specs.Prelude.{◌≡◌, ◌↔◌, ◌≤◌, IsTrue, IfSome};
+    ghost use Rattle.std.specs.Bool.{OnTrue, OnFalse};
+    ghost use Rattle.gc_store.specs.Limiters.{Refuses, next_answer, rest_of};
 
     ghost limits = { λ s. s.limits };
 
     fn growing(&mut self, from: u32, to: u32) -> bool
+        ensures granted { OnTrue result (self.new.limits ≡ self.old.limits) }
+        ensures refused { OnFalse result (Refuses self.old.limits self.new.limits from to) }
+        ensures by_limit { IfSome self.old.limits.limit (λ most. IsTrue result ↔ (to ≤ most)) }
         ensures answer { result ≡ next_answer self.old.answers }
         ensures rest { self.new.answers ≡ rest_of self.old.answers }
     {
