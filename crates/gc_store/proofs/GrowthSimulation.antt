@@ -7,7 +7,7 @@ use Rattle.gc_model.specs.Views.{StoreView, HeapView}
 use Rattle.gc_model.specs.Holds.{HoldsKept}
 use Rattle.gc_model.proofs.HoldsHeap.{IsGrownHeap, holds_pages}
 use Rattle.gc_heap.specs.Content.{IsHeap}
-use Rattle.gc_heap.specs.Heap.{grown, allocated_in_more}
+use Rattle.gc_heap.specs.Heap.{allocated_in_more}
 use Rattle.gc_store.specs.Growth.{HeapState, GrowsHeap, AsksPages, unasked, refused, granted, pages_of, heap_after}
 use Rattle.gc_store.specs.Policy.{PolicyState, GrowsTable, table_after}
 use Rattle.gc_store.specs.Tracing.{roots_of}

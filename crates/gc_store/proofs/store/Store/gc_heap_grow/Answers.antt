@@ -1,4 +1,4 @@
-use Rattle.std.proofs.Common.{true, sym, refl, subst, arith}
+use Rattle.std.proofs.Common.{sym, refl, subst, arith}
 use Rattle.std.specs.FinMap.{len}
 use Rattle.gc_heap.specs.Collection.{has_host}
 use Rattle.gc_model.specs.Table.{Table}
