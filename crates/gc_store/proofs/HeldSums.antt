@@ -1,5 +1,5 @@
 -- Sums over some elements of a list, and the elements that pass a test.
-use Rattle.std.proofs.Common.{◌≡◌, ◌≢◌, ℕ, suc, ◌+◌, ◌≤◌, Bool, true, false, cond, nat_eq, List, [], ◌∷◌, map, filter, Some, Contains, inl, inr, refl, sym, ap, ap₂, ◌∙◌, subst, arith, eq-eqb, ne_eqb}
+use Rattle.std.proofs.Common.{◌≡◌, ◌≢◌, ℕ, suc, ◌+◌, ◌≤◌, Bool, true, false, cond, nat_eq, List, [], ◌∷◌, ◌++◌, map, filter, Some, Contains, inl, inr, refl, sym, ap, ap₂, ◌∙◌, subst, arith, eq-eqb, ne_eqb}
 use Rattle.std.specs.List.{slice_get, IsDistinct, AllByRecursion, sum_by}
 use Rattle.std.proofs.lemmas.Bool.{cases_eq}
 use Rattle.std.proofs.lemmas.List.Sums.{sum_by-cons}
@@ -90,6 +90,18 @@ distinct_passing test (x ∷ xs) distinct = elim (test x) as (λ b. IsDistinct n
   | true ↦ (all_others x (filter test xs) (λ z c same. no_other x xs distinct.0 z (passing test xs z c).0 (sym same)), distinct_passing test xs distinct.1)
   | false ↦ distinct_passing test xs distinct.1
 ]
+
+-- one more number, which is none of them
+pub distinct_push : (xs : List ℕ) (n : ℕ) → IsDistinct nat_eq xs → (Contains xs n → ⊥) → IsDistinct nat_eq (xs ++ n ∷ [])
+unfolding IsDistinct
+distinct_push [] n distinct other = (tt, tt)
+distinct_push (x ∷ xs) n distinct other = (
+  all_others x (xs ++ n ∷ []) (λ z c same. elim (Contains-append_cases xs (n ∷ []) z c) [
+    | inl one ↦ no_other x xs distinct.0 z one (sym same)
+    | inr last ↦ other (get_contains (x ∷ xs) 0 n (ap (λ k. Some k) (same ∙ sym (only_item n z last))))
+  ]),
+  distinct_push xs n distinct.1 (λ c. other (Contains-append_right (x ∷ []) xs n c)),
+)
 
 -- a sum over the images of a list's elements
 pub same_sums : {X : Type 0} (f : ℕ → ℕ) (g : X → ℕ) (h : X → ℕ) (es : List X) → ((i : ℕ) (e : X) → slice_get es i ≡ Some e → f (g e) ≡ h e) → sum_by f (map g es) ≡ sum_by h es

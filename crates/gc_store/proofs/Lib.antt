@@ -37,3 +37,12 @@ pub mod Placing
 pub mod GoneRoots
 pub mod HeldBlocks
 pub mod AccountLemmas
+pub mod Simulation
+pub mod GrowthSimulation
+pub mod RetrySimulation
+pub mod MakingSimulation
+pub mod Expanding
+pub mod HeldMore
+pub mod PlacingFaults
+pub mod MakingRoom
+pub mod CountedTries

@@ -9,7 +9,7 @@ use Rattle.gc_types.specs.declared.kind.Layouts.{Layouts}
 use Rattle.gc_types.specs.Declarations.{Declaration, struct_fields_at}
 use Rattle.gc_model.specs.declared.RootEntry.{RootEntry}
 use Rattle.gc_model.specs.Values.{Value}
-use Rattle.gc_model.specs.Table.{Table, make_heap}
+use Rattle.gc_model.specs.Table.{Table, with_pages}
 use Rattle.gc_model.specs.Views.{StoreView}
 use Rattle.gc_model.specs.Holds.{Placing, Holds}
 use Rattle.gc_model.proofs.Lists.{slice_get-same_length}
@@ -61,9 +61,9 @@ module _ {D : Type 0} (layouts : Layouts) (s : StoreView) (ty : ℕ) (raws : Lis
     few = let few = few_roots layouts s t place holds in omega (arith, few, length-map s.scoped (λ (e : RootEntry). root_of e.word));
   }
 
-  -- The values stand in another store that holds the table, which has the same id.
-  module _ (after : StoreView) (engine : after.engine ≡ s.engine) (number : after.number ≡ s.number) (t : Table D) where
-    raw_after : (r : RawValue) (v : Value) → RawStands s t r v → RawStands after (make_heap t) r v
+  -- The values stand in another store that holds the table with other pages, which has the same id.
+  module _ (after : StoreView) (engine : after.engine ≡ s.engine) (number : after.number ≡ s.number) (t : Table D) (pages : ℕ) where
+    raw_after : (r : RawValue) (v : Value) → RawStands s t r v → RawStands after (with_pages pages t) r v
     raw_after (raw.I32 n) v stands = stands
     raw_after (raw.I64 n) v stands = stands
     raw_after (raw.F32 n) v stands = stands
@@ -84,18 +84,18 @@ module _ {D : Type 0} (layouts : Layouts) (s : StoreView) (ty : ℕ) (raws : Lis
     }
 
     -- and are kept by the words that its roots have
-    module _ (place : Placing) (holds : Holds layouts after (make_heap t) place) where
-      named_after : (st : StorageType) (r : RawValue) (v : Value) → Fitting st r → RawStands after (make_heap t) r v → NamesLive D layouts after r
+    module _ (place : Placing) (holds : Holds layouts after (with_pages pages t) place) where
+      named_after : (st : StorageType) (r : RawValue) (v : Value) → Fitting st r → RawStands after (with_pages pages t) r v → NamesLive D layouts after r
       named_after _ _ v (is_i32 z) stands = tt
       named_after _ _ v (is_i64 z) stands = tt
       named_after _ _ v (is_null ty) stands = tt
-      named_after _ _ v (is_handle ty handle) stands = record { table = make_heap t; holds = (place, holds); serial = stands.serial; names = stands.names; root = stands.root; live = stands.live }
+      named_after _ _ v (is_handle ty handle) stands = record { table = with_pages pages t; holds = (place, holds); serial = stands.serial; names = stands.names; root = stands.root; live = stands.live }
 
-      kept_after : (st : StorageType) (r : RawValue) (v : Value) → Fitting st r → RawStands after (make_heap t) r v → KeptStands place after.scoped r v
+      kept_after : (st : StorageType) (r : RawValue) (v : Value) → Fitting st r → RawStands after (with_pages pages t) r v → KeptStands place after.scoped r v
       kept_after st r v fits stands =
           let live = named_after st r v fits stands in
           let kept = is_kept D layouts after st r fits live in
-          (kept.0, (kept.1, λ small. kept_stands D layouts after (make_heap t) place holds st r kept.0 v fits live kept.1 stands small))
+          (kept.0, (kept.1, λ small. kept_stands D layouts after (with_pages pages t) place holds st r kept.0 v fits live kept.1 stands small))
 
       pub all_kept : (vs : List Value) → AllStand s t raws vs → AllKept place after.scoped raws vs
       all_kept vs all = record {

@@ -1,49 +1,45 @@
--- A struct that was made in the heap is the table's.
-use Rattle.std.proofs.Common.{inl, inr, ◌≡◌, ℕ, ◌+◌, ◌*◌, ◌%◌, ◌^◌, ◌<◌, ◌≤◌, Bool, true, false, cond, List, [], ◌∷◌, ◌++◌, Some, Result, Ok, Err, length, sym, ap, ◌∙◌, refl, subst, arith, le-leb}
-use Rattle.std.specs.Prelude.{IfSome}
-use Rattle.std.specs.FinMap.{get}
-use Rattle.std.proofs.lemmas.Bool.{cases_eq}
-use Rattle.std.proofs.lemmas.Option.{none-some}
+-- A struct that was placed in the heap is the table's.
+use Rattle.std.proofs.Common.{◌≡◌, ℕ, ◌+◌, ◌-◌, ◌^◌, ◌<◌, min, Bool, true, false, List, [], ◌∷◌, ◌++◌, length, sym, ap, ◌∙◌, refl, subst, arith, le-leb}
+use Rattle.std.proofs.lemmas.Option.{slice_get_within}
 use Rattle.gc_types.specs.declared.kind.Layouts.{Layouts}
 use Rattle.gc_types.specs.declared.kind.Layouts.TheVariants.{Null, Counting, Copying}
 use Rattle.gc_types.specs.Declarations.{Declaration, struct_fields_at}
-use Rattle.gc_types.specs.Layouts.{struct_base, fields_end, round_up}
+use Rattle.gc_types.specs.Layouts.{round_up}
 use Rattle.gc_model.specs.declared.RootEntry.{RootEntry}
-use Rattle.gc_model.specs.Values.{Value, Object, struct}
-use Rattle.gc_model.specs.Table.{Table, make, make_heap}
+use Rattle.gc_model.specs.Values.{Value, struct}
+use Rattle.gc_model.specs.Table.{Table, make, with_pages}
 use Rattle.gc_model.specs.Live.{roots_full}
-use Rattle.gc_model.specs.Sizes.{object_size, fields_size, alignment}
-use Rattle.gc_model.specs.Allocation.{Limits, page, max_pages, too_large, no_heap, no_room, MayMakeHeap, FitsIn, LacksFit}
-use Rattle.gc_model.specs.Views.{HeapView, HeapObject, StoreView}
-use Rattle.gc_model.specs.Holds.{Placing, Holds, HoldsTable}
-use Rattle.gc_model.proofs.HoldsHeap.{IsMadeHeap, holds_heap}
+use Rattle.gc_model.specs.Sizes.{object_size, fields_size, alignment, need_of}
+use Rattle.gc_model.specs.Allocation.{Limits, too_large, FitsIn, GetsPages}
+use Rattle.gc_model.specs.Views.{HeapView, StoreView}
+use Rattle.gc_model.specs.Holds.{Placing, Holds}
 use Rattle.gc_model.proofs.HoldsMake.{IsMadeObject, holds_make, placed_at}
 use Rattle.gc_model.proofs.Layouts.{round_up-le}
 use Rattle.gc_heap.specs.Content.{IsHeap}
-use Rattle.gc_heap.specs.Heap.{IsTooLarge, allocated_at_first, allocated_after, need_of}
+use Rattle.gc_heap.specs.Heap.{IsTooLarge, allocated_after}
 use Rattle.gc_store.specs.declared.root.GcRootIndex.{GcRootIndex}
 use Rattle.gc_store.specs.declared.root.RawValue.{RawValue}
 use Rattle.gc_store.specs.declared.root.RootSlot.TheVariants as slot
-use Rattle.gc_store.specs.declared.store.PlaceFault.{PlaceFault}
-use Rattle.gc_store.specs.declared.store.PlaceFault.TheVariants as fault
-use Rattle.gc_store.specs.Limiters.{Refuses}
-use Rattle.gc_store.specs.Places.{MakesHeap, MayCollect, Creates, CanPlace, PlacesIn, PlacesObject, Places, size_of}
+use Rattle.gc_store.specs.Accounts.{Account, HoldsAccount, is_due, with_held}
+use Rattle.gc_store.specs.Fields.{AllKept}
+use Rattle.gc_store.specs.Growth.{HeapState}
+use Rattle.gc_store.specs.Places.{Begins, Creates, CanPlace, PlacesObject, size_of}
+use Rattle.gc_store.specs.Policy as policy
+use Rattle.gc_store.specs.Policy.{PolicyState, policy_state, count_try, Prepares}
 use Rattle.gc_store.specs.Stores.{is_full}
 use Rattle.gc_store.specs.Tracing.{IsCollectable, roots_of, root_of}
 use Rattle.gc_store.specs.Values.{AllStand}
-use Rattle.gc_store.proofs.CollectedRoom.{fits_in, lacks_fit}
-use Rattle.gc_store.proofs.CollectedStore.{collected_even, heap_even}
-use Rattle.gc_store.proofs.HeapMade.{attached_kept, pushed_kept}
-use Rattle.gc_store.proofs.MadeHeaps.{made_heap}
+use Rattle.gc_store.proofs.CountedTries.{counted_store, counted_holds}
+use Rattle.gc_store.proofs.HeapMade.{pushed_kept}
+use Rattle.gc_store.proofs.HeldMore.{held_more}
+use Rattle.gc_store.proofs.MakingSimulation.{Shows, FollowsBeginning, beginning_follows, got_pages}
 use Rattle.gc_store.proofs.PlacedValues.{all_kept}
 use Rattle.gc_store.proofs.Pushing.{full_is, entry_of}
-
--- a heap that is made stays as it is
-made_again : {D : Type 0} (t : Table D) → t.made ≡ true → make_heap t ≡ t
-made_again t is i = record t { made = sym is i; pages = cond (is i) t.pages t.first }
+use Rattle.gc_store.proofs.RetrySimulation.{MayHaveGrown, retry_follows}
+use Rattle.gc_store.proofs.Simulation.{view_at}
 
 -- what is too large for the heap is too large for the table
-too_large_is : (layouts : Layouts) (n : ℕ) → IsTooLarge layouts n → too_large layouts n ≡ true
+pub too_large_is : (layouts : Layouts) (n : ℕ) → IsTooLarge layouts n → too_large layouts n ≡ true
 too_large_is Null n large = le-leb 67108864 n large
 too_large_is Counting n large = le-leb (2 ^ 32) (n + 16) large
 too_large_is Copying n large = le-leb (2 ^ 32) (round_up n alignment) large
@@ -55,185 +51,130 @@ allocated_next Counting allocated after size is null = absurd (cc)
 allocated_next Copying allocated after size is null = absurd (cc)
 
 -- the store after a placing, of which its parts tell
-abbrev pub placed_view : StoreView → HeapView → ℕ → List RootEntry → ℕ → StoreView
-placed_view s heap hosts entries generation = record s { heap = heap; hosts = hosts; scoped = entries; generation = generation }
+abbrev pub placed_view : StoreView → HeapState → ℕ → List RootEntry → ℕ → StoreView
+placed_view s e hosts entries generation = record (view_at s e) { hosts = hosts; scoped = entries; generation = generation }
 
-module _ {D : Type 0} (layouts : Layouts) (s : StoreView) (ty : ℕ) (raws : List RawValue) (can : CanPlace D layouts s ty raws) (heap : IsHeap layouts s.heap) (hosts hosts' : ℕ → Bool) (collectable : IsCollectable layouts s.types s.heap (roots_of s.scoped) hosts)
-    (limits limits' : Limits) (t : Table D) (place : Placing) (holds : Holds layouts s t place) where
-  size_in : (vs : List Value) (k : Layouts) → object_size {D = D} k t.types (struct ty vs) ≡ fields_end (struct_base k) can.fields
-  size_in vs k = ap (fields_size k) (ap (λ (ts : List Declaration). struct_fields_at ts ty) (sym holds.types) ∙ can.declared)
+-- what placing starts from
+abbrev pub start_state : StoreView → (ℕ → Bool) → Limits → HeapState
+start_state s hosts limits = record { heap = s.heap; entries = s.scoped; hosts = hosts; last = s.last; limits = limits }
 
-  -- the store with the heap made holds the table with its heap made
-  record HasHeap (start : HeapView) : Type 0 where
-    still : Holds layouts (record s { heap = start }) (make_heap t) place
-    may : MayMakeHeap limits.limit t
-    same : limits' ≡ limits
-    is_heap : IsHeap layouts start
-    collects : IsCollectable layouts s.types start (roots_of s.scoped) hosts
-    attached : start.attached ≡ true
+module _ {D : Type 0} (layouts : Layouts) (s : StoreView) (ty : ℕ) (raws : List RawValue) (can : CanPlace D layouts s ty raws) (heap : IsHeap layouts s.heap) (hosts : ℕ → Bool) (collectable : IsCollectable layouts s.types s.heap (roots_of s.scoped) hosts)
+    (limits : Limits) (t : Table D) (a : Account) (holds : HoldsAccount layouts s t a) where
+  abbrev before : PolicyState D
+  before = policy_state t a limits
 
-  has_heap : (start : HeapView) → MakesHeap layouts s.first s.heap start limits limits' (Ok tt) → HasHeap start
-  has_heap start (inl (attached, is), same) =
-      let made : t.made ≡ true = sym holds.numbers.made ∙ attached in
-      record {
-        still = subst (λ (u : Table D). Holds layouts (record s { heap = start }) u place) (sym (made_again t made)) (subst (λ (h : HeapView). Holds layouts (record s { heap = h }) t place) (sym is) holds);
-        may = λ unmade. absurd (cc (sym made ∙ unmade));
-        same = same;
-        is_heap = subst (IsHeap layouts) (sym is) heap;
-        collects = subst (λ (h : HeapView). IsCollectable layouts s.types h (roots_of s.scoped) hosts) (sym is) collectable;
-        attached = ap (λ (h : HeapView). h.attached) is ∙ attached;
-      }
-  has_heap start (inr gets, same) =
-      let unmade : t.made ≡ false = sym holds.numbers.made ∙ gets.detached in
-      let made : IsMadeHeap layouts start t.first = record {
-        attached = ap (λ (h : HeapView). h.attached) gets.empty;
-        content = ap (λ (h : HeapView). h.content) gets.empty;
-        capacity = ap (λ (h : HeapView). h.capacity) gets.empty ∙ ap (λ n. page * n) holds.numbers.first;
-        allocated = λ null. ap (λ (h : HeapView). h.allocated) gets.empty ∙ ap (λ k. allocated_at_first k (page * s.first)) null;
-      } in
-      record {
-        still = holds_heap layouts s t place start unmade made holds;
-        may = λ _. subst (λ n. IfSome limits.limit (λ most. n ≤ most)) holds.numbers.first gets.granted;
-        same = same;
-        is_heap = subst (IsHeap layouts) (sym gets.empty) (made_heap layouts s.first s.heap.scopes (subst (λ n. n ≤ max_pages) (sym holds.numbers.first) holds.numbers.first_fits) heap.scopes);
-        collects = attached_kept layouts s.types s.heap start (page * s.first) (roots_of s.scoped) hosts heap gets.detached (inl gets.empty) collectable;
-        attached = ap (λ (h : HeapView). h.attached) gets.empty;
-      }
+  abbrev start : HeapState
+  start = start_state s hosts limits
 
-  -- a collection may have run since
-  collected : (start mid : HeapView) (entries : List RootEntry) (n : ℕ) → HasHeap start → MayCollect layouts s.types start mid s.scoped entries hosts hosts' → ((word : ℕ) (o : HeapObject) → get mid.content word ≡ Some o → (word % 2 ≡ 0) × (0 < word)) → (s.hosts ≡ 0 → n ≡ 0) → HoldsTable layouts (record s { heap = mid; scoped = entries; hosts = n }) (make_heap t)
-  collected start mid entries n has (inl (is, (entries_are, hosts_are))) even none = (
-    place,
-    subst (λ (k : ℕ). Holds layouts (record s { heap = mid; scoped = entries; hosts = k }) (make_heap t) place) (has.still.no_hosts ∙ sym (none has.still.no_hosts))
-        (subst (λ (es : List RootEntry). Holds layouts (record s { heap = mid; scoped = es }) (make_heap t) place) (sym entries_are)
-        (subst (λ (h : HeapView). Holds layouts (record s { heap = h }) (make_heap t) place) (sym is) has.still)),
-  )
-  collected start mid entries n has (inr ran) even none =
-      let kept = collected_even layouts (record s { heap = start }) (make_heap t) mid entries n hosts hosts' has.collects has.is_heap even has.attached ran none (place, has.still) in
-      (kept.0, kept.1.0)
+  pub shows : Shows layouts (counted_store s) start (count_try before)
+  shows = record {
+    holds = counted_holds layouts s t a holds;
+    limits = refl;
+    is_heap = heap;
+    collectable = collectable;
+  }
 
-  module _ (new : HeapView) (new_heap : IsHeap layouts new) (n : ℕ) (none : s.hosts ≡ 0 → n ≡ 0) (entries : List RootEntry) (generation : ℕ) (generation_is : generation ≡ s.generation)
-      (small : too_large layouts (size_of layouts can.fields) ≡ false) (room : is_full s ≡ false) where
-    not_full : roots_full t ≡ false
-    not_full = sym (full_is layouts s t place holds) ∙ room
+  pub size_in : (vs : List Value) (k : Layouts) → object_size {D = D} k t.types (struct ty vs) ≡ size_of k can.fields
+  size_in vs k = ap (fields_size k) (ap (λ (ts : List Declaration). struct_fields_at ts ty) (sym holds.holds.types) ∙ can.declared)
 
-    -- the objects before the new one lie at even places too
-    mid_even : (start : HeapView) (word : ℕ) (made : Creates layouts s.types can.fields ty raws start new s.scoped entries hosts hosts' word) → (q : ℕ) (o : HeapObject) → get made.mid.content q ≡ Some o → (q % 2 ≡ 0) × (0 < q)
-    mid_even start word made q o e = elim (cases_eq q word) [
-      | inl at ↦ absurd (none-some o (sym made.fresh.free ∙ ap (get made.mid.content) (sym at) ∙ e))
-      | inr other ↦ heap_even layouts new new_heap q o (made.others q other ∙ e)
-    ]
+  -- what comes before the first try
+  pub begun : (due : Bool) → due ≡ is_due s.alloc_counter (min (s.tries + 1) (2 ^ 64 - 1)) → (b : HeapState) → Begins layouts s.types s.first due start b → FollowsBeginning layouts (counted_store s) s.alloc_counter b (count_try before)
+  begun due due_is b begins = beginning_follows layouts (counted_store s) start (count_try before) shows s.alloc_counter due (due_is ∙ ap (λ (n : ℕ). is_due s.alloc_counter (min (n + 1) (2 ^ 64 - 1))) holds.account.tries) b begins
 
-    -- the object that was made stands for the table's
-    made_object : (vs : List Value) (start : HeapView) (word : ℕ) (made : Creates layouts s.types can.fields ty raws start new s.scoped entries hosts hosts' word) (place' : Placing) → Holds layouts (record s { heap = made.mid; scoped = entries; hosts = n }) (make_heap t) place'
-        → AllStand s t raws vs → IsMadeObject layouts (make_heap t) place' (struct ty vs) made.mid new word
-    made_object vs start word made place' after all = record {
-      object = made.object;
-      stands = record {
-        fields = can.fields;
-        declared = ap (λ (ts : List Declaration). struct_fields_at ts ty) (sym holds.types) ∙ can.declared;
-        kind = made.kind;
-        same_type = made.same_type;
-        size = made.size;
-        values_lie = made.lie place' vs (all_kept layouts s ty raws can (record s { heap = made.mid; scoped = entries; hosts = n }) refl refl t place' after vs all);
-      };
-      free = made.fresh.free;
-      is_even = let aligned = made.fresh.aligned in omega arith;
-      not_null = made.fresh.not_null;
-      here = made.here;
-      others = made.others;
-      attached = made.attached;
-      capacity = made.capacity;
-      allocated = λ null. allocated_next layouts made.mid.allocated new.allocated (size_of layouts can.fields) made.allocated null ∙ ap (λ k. round_up (made.mid.allocated + 1) alignment + k) (ap (λ k. size_of k can.fields) null ∙ sym (size_in vs Null));
-    }
+  -- the object that was made stands for the table's
+  made_object : (vs : List Value) (b e : HeapState) (word : ℕ) (made : Creates layouts s.types can.fields ty raws b e word) (pages : ℕ) (place : Placing) → Holds layouts (view_at (counted_store s) made.mid) (with_pages pages t) place
+      → AllStand s t raws vs → IsMadeObject layouts (with_pages pages t) place (struct ty vs) made.mid.heap e.heap word
+  made_object vs b e word made pages place after all = record {
+    object = made.object;
+    stands = record {
+      fields = can.fields;
+      declared = ap (λ (ts : List Declaration). struct_fields_at ts ty) (sym holds.holds.types) ∙ can.declared;
+      kind = made.kind;
+      same_type = made.same_type;
+      size = made.size;
+      values_lie = made.lie place vs (subst (λ (es : List RootEntry). AllKept place es raws vs) (sym (ap (λ (x : HeapState). x.entries) made.rest)) (all_kept layouts s ty raws can (view_at (counted_store s) made.mid) refl refl t pages place after vs all));
+    };
+    free = made.fresh.free;
+    is_even = let aligned = made.fresh.aligned in omega arith;
+    not_null = made.fresh.not_null;
+    here = made.here;
+    others = made.others;
+    attached = made.attached;
+    capacity = made.capacity;
+    allocated = λ null. allocated_next layouts made.mid.heap.allocated e.heap.allocated (size_of layouts can.fields) made.allocated null ∙ ap (λ k. round_up (made.mid.heap.allocated + 1) alignment + k) (ap (λ k. size_of k can.fields) null ∙ sym (size_in vs Null));
+  }
 
-    -- a struct that was made and pushed is in the table, under the handle of its push
-    pub places_ok : (vs : List Value) (start : HeapView) (word : ℕ) (items : List RootEntry) (handle : GcRootIndex) → AllStand s t raws vs
-        → MakesHeap layouts s.first s.heap start limits limits' (Ok tt) → Creates layouts s.types can.fields ty raws start new s.scoped entries hosts hosts' word
-        → items ≡ entries ++ entry_of generation word ∷ []
-        → handle ≡ record { store_id = record { engine = s.engine; number = s.number }; generation = generation; slot = slot.Scoped (length entries) }
-        → PlacesObject layouts (struct ty vs) limits limits' t handle (placed_view s new n items generation)
-    places_ok vs start word items handle all makes made items_are handle_is =
-        let has = has_heap start makes in
-        let after = collected start made.mid entries n has made.may_collect (mid_even start word made) none in
-        let object = made_object vs start word made after.0 after.1 all in
-        record {
-          small = ap (too_large layouts) (size_in vs layouts) ∙ small;
-          not_full = not_full;
-          same_limits = has.same;
-          after = make (struct ty vs) (make_heap t);
-          allocates = record {
-            may = has.may;
-            fits = subst (FitsIn layouts (make_heap t)) (sym (size_in vs layouts)) (fits_in layouts (record s { heap = made.mid; scoped = entries; hosts = n }) (make_heap t) after.0 (size_of layouts can.fields) after.1 made.room);
-            made = refl;
+  module _ (small : too_large layouts (size_of layouts can.fields) ≡ false) (room : is_full s ≡ false) where
+    pub not_full : roots_full t ≡ false
+    not_full = sym (full_is layouts s t holds.place holds.holds) ∙ room
+
+    -- the table with the object is held, with its root pushed
+    made_holds : (vs : List Value) (b e : HeapState) (word : ℕ) (made : Creates layouts s.types can.fields ty raws b e word) (pages : ℕ) (account : Account) → HoldsAccount layouts (view_at (counted_store s) made.mid) (with_pages pages t) account
+        → AllStand s t raws vs → (n : ℕ) (items : List RootEntry) (generation : ℕ) → (s.hosts ≡ 0 → n ≡ 0) → generation ≡ s.generation → items ≡ e.entries ++ entry_of generation word ∷ []
+        → HoldsAccount layouts (placed_view (counted_store s) e n items generation) (make (struct ty vs) (with_pages pages t)) (with_held (length t.objects) account)
+    made_holds vs b e word made pages account after all n items generation none generation_is items_are =
+        let object = made_object vs b e word made pages after.place after.holds all in
+        let last_is : made.mid.last ≡ e.last = ap (λ (x : HeapState). x.last) (sym made.rest) in
+        let items_is : made.mid.entries ++ entry_of s.generation word ∷ [] ≡ items = (λ i. (ap (λ (x : HeapState). x.entries) (sym made.rest) i) ++ entry_of (sym generation_is i) word ∷ []) ∙ sym items_are in
+        let hosts_is : s.hosts ≡ n = holds.holds.no_hosts ∙ sym (none holds.holds.no_hosts) in
+        subst (λ (v : StoreView). HoldsAccount layouts v (make (struct ty vs) (with_pages pages t)) (with_held (length t.objects) account))
+        (λ i. record (counted_store s) { heap = e.heap; last = last_is i; scoped = items_is i; hosts = hosts_is i; generation = sym generation_is i })
+        (record {
+          place = placed_at after.place (length t.objects) word;
+          holds = holds_make layouts (view_at (counted_store s) made.mid) (with_pages pages t) after.place (struct ty vs) e.heap word after.holds object refl not_full;
+          account = record {
+            held = held_more after.place account.held (length t.objects) word (λ p w placed. let held = after.holds.objects.placed p w placed in slice_get_within t.objects p held.entry held.in_table) after.account.held;
+            last = after.account.last;
+            tries = after.account.tries;
+            upper = made.needs_gc ∙ after.account.upper;
           };
-          holds = subst (λ (xs : List RootEntry). HoldsTable layouts (placed_view s new n xs generation) (make (struct ty vs) (make_heap t))) (sym items_are)
-              (subst (λ (g : ℕ). HoldsTable layouts (placed_view s new n (entries ++ entry_of g word ∷ []) g) (make (struct ty vs) (make_heap t))) (sym generation_is)
-              (placed_at after.0 (length t.objects) word, holds_make layouts (record s { heap = made.mid; scoped = entries; hosts = n }) (make_heap t) after.0 (struct ty vs) new word after.1 object refl not_full));
-          handle_is = handle_is ∙ (λ i. record { store_id = record { engine = s.engine; number = s.number }; generation = (generation_is ∙ holds.numbers.generation) i; slot = slot.Scoped (after.1.scoped.same_count i) });
-        }
+        })
 
-    -- and one that was not made is refused as the table says
-    pub places_err : (vs : List Value) (f : PlaceFault) → PlacesIn layouts s.types can.fields ty raws s.first s.heap new s.scoped entries hosts hosts' limits limits' (Err f) → Places layouts (struct ty vs) limits limits' t (Err f) (placed_view s new n entries generation)
-    places_err vs fault.FuncTableFull places = absurd places
-    places_err vs fault.TooLarge places = absurd (cc (sym small ∙ too_large_is layouts (size_of layouts can.fields) places))
-    places_err vs fault.RootsFull places = absurd places
-    places_err vs (fault.HeapOutOfMemory f) (inl (refused, (need, (entries_are, hosts_are)))) =
-        let unmade : t.made ≡ false = sym holds.numbers.made ∙ refused.detached in
-        record {
-          small = ap (too_large layouts) (size_in vs layouts) ∙ small;
-          not_full = not_full;
-          asked = need ∙ ap (need_of layouts) (sym (size_in vs layouts));
-          after = t;
-          lacks = no_heap (record {
-            unmade = unmade;
-            wanted = subst (λ k. 0 < k) holds.numbers.first refused.wanted;
-            above = subst (λ k. IfSome limits.limit (λ most. most < k)) holds.numbers.first refused.above;
-          }) refl;
-          holds = (place, same_parts refused.same entries_are);
-          counted = λ _. subst (λ k. Refuses limits limits' 0 k) holds.numbers.first refused.counted;
-          same_limits = λ made. absurd (cc (sym made ∙ unmade));
-        }
-      where
-        same_parts : new ≡ s.heap → entries ≡ s.scoped → Holds layouts (placed_view s new n entries generation) t place
-        same_parts is entries_are =
-            subst (λ (v : StoreView). Holds layouts v t place)
-            (λ i. placed_view s (sym is i) ((holds.no_hosts ∙ sym (none holds.no_hosts)) i) (sym entries_are i) (sym generation_is i)) holds
-    places_err vs (fault.HeapOutOfMemory f) (inr (start, (makes, lacks))) =
-        let has = has_heap start makes in
-        let kept = collected_even layouts (record s { heap = start }) (make_heap t) new entries n hosts hosts' has.collects has.is_heap (heap_even layouts new new_heap) has.attached lacks.collected none (place, has.still) in
-        record {
-          small = ap (too_large layouts) (size_in vs layouts) ∙ small;
-          not_full = not_full;
-          asked = lacks.lacks.asked ∙ ap (need_of layouts) (sym (size_in vs layouts));
-          after = make_heap t;
-          lacks = no_room has.may (subst (LacksFit layouts (make_heap t)) (sym (size_in vs layouts)) (lacks_fit layouts (record s { heap = new; scoped = entries; hosts = n }) (make_heap t) (size_of layouts can.fields) kept lacks.lacks.no_room)) refl;
-          holds = (kept.0, subst (λ (g : ℕ). Holds layouts (placed_view s new n entries g) (make_heap t) kept.0) (sym generation_is) kept.1.0);
-          counted = λ unmade. absurd (cc unmade);
-          same_limits = λ _. has.same;
-        }
-    places_err vs fault.Memory (limits_same, inl (is, (entries_are, hosts_are))) = (
-      inl (
-        place,
-        subst (λ (v : StoreView). Holds layouts v t place)
-            (λ i. placed_view s (sym is i) ((holds.no_hosts ∙ sym (none holds.no_hosts)) i) (sym entries_are i) (sym generation_is i)) holds,
-      ),
-      limits_same,
-    )
-    places_err vs fault.Memory (limits_same, inr (start, (makes, may))) =
-        let has = has_heap start makes in
-        let after = collected start new entries n has may (heap_even layouts new new_heap) none in
-        (inr (has.may, (after.0, subst (λ (g : ℕ). Holds layouts (placed_view s new n entries g) (make_heap t) after.0) (sym generation_is) after.1)), limits_same)
+    -- no more roots stand than a store may have
+    pub few_placed : (due : Bool) → due ≡ is_due s.alloc_counter (min (s.tries + 1) (2 ^ 64 - 1)) → (b e : HeapState) (word : ℕ) → Begins layouts s.types s.first due start b → Creates layouts s.types can.fields ty raws b e word → length e.entries < 2 ^ 32
+    few_placed due due_is b e word begins made =
+        let beginning = begun due due_is b begins in
+        let retried = retry_follows layouts (counted_store s) (size_of layouts can.fields) b beginning.after beginning.agrees true made.mid made.retried in
+        let count : length e.entries ≡ length retried.after.table.scoped = ap (λ (x : HeapState). length x.entries) made.rest ∙ retried.agrees.holds.holds.scoped.same_count in
+        let within = retried.agrees.holds.holds.numbers.scoped_within in
+        let few = retried.agrees.holds.holds.numbers.few_roots in
+        omega arith
 
--- whatever placing answers, the store holds some table
-pub sound_places : {D : Type 0} (layouts : Layouts) (o : Object D) (limits limits' : Limits) (t : Table D) (r : Result GcRootIndex PlaceFault) (new : StoreView) → Places layouts o limits limits' t r new → (t' : Table D) × HoldsTable layouts new t'
-sound_places layouts o limits limits' t (Ok handle) new places = (places.after, places.holds)
-sound_places layouts o limits limits' t (Err fault.FuncTableFull) new places = absurd places
-sound_places layouts o limits limits' t (Err fault.TooLarge) new places = (t, places.1)
-sound_places layouts o limits limits' t (Err fault.RootsFull) new places = (t, places.2)
-sound_places layouts o limits limits' t (Err (fault.HeapOutOfMemory f)) new places = (places.after, places.holds)
-sound_places layouts o limits limits' t (Err fault.Memory) new (inl same, limits_same) = (t, same)
-sound_places layouts o limits limits' t (Err fault.Memory) new (inr made, limits_same) = (make_heap t, made.1)
+    -- A struct that was made and pushed is in the table, under the handle of its push; and its heap is made.
+    pub placing_follows : (due : Bool) → due ≡ is_due s.alloc_counter (min (s.tries + 1) (2 ^ 64 - 1)) → (vs : List Value) (b e : HeapState) (word : ℕ) → AllStand s t raws vs
+        → Begins layouts s.types s.first due start b → Creates layouts s.types can.fields ty raws b e word
+        → (n : ℕ) (items : List RootEntry) (generation : ℕ) (handle : GcRootIndex) → (s.hosts ≡ 0 → n ≡ 0) → generation ≡ s.generation → items ≡ e.entries ++ entry_of generation word ∷ []
+        → handle ≡ record { store_id = record { engine = s.engine; number = s.number }; generation = generation; slot = slot.Scoped (length e.entries) }
+        → PlacesObject layouts s.alloc_counter (struct ty vs) before e.limits handle (placed_view (counted_store s) e n items generation) × (e.heap.attached ≡ true)
+    placing_follows due due_is vs b e word all begins made n items generation handle none generation_is items_are handle_is =
+        let beginning = begun due due_is b begins in
+        let retried = retry_follows layouts (counted_store s) (size_of layouts can.fields) b beginning.after beginning.agrees true made.mid made.retried in
+        let got = got_pages limits.limit (need_of layouts (size_of layouts can.fields)) t beginning.after.table retried.after.table beginning.may beginning.table
+        (subst (λ (l : Limits). MayHaveGrown l.limit (need_of layouts (size_of layouts can.fields)) beginning.after.table retried.after.table) beginning.limits retried.tried.0) in
+        let after : HoldsAccount layouts (view_at (counted_store s) made.mid) (with_pages got.pages t) retried.after.account =
+        subst (λ (u : Table D). HoldsAccount layouts (view_at (counted_store s) made.mid) u retried.after.account) got.is retried.agrees.holds in (
+          record {
+            small = ap (too_large layouts) (size_in vs layouts) ∙ small;
+            not_full = not_full;
+            after = retried.after;
+            prepares = subst (λ (k : ℕ). Prepares layouts s.alloc_counter k before true retried.after) (sym (size_in vs layouts)) (policy.tried beginning.makes beginning.dues retried.retried);
+            allocates = record {
+              pages = got.pages;
+              gets = subst (λ (k : ℕ). GetsPages limits.limit t (need_of layouts k) got.pages) (sym (size_in vs layouts)) got.gets;
+              fits = subst (FitsIn layouts (with_pages got.pages t)) (sym (size_in vs layouts)) (subst (λ (u : Table D). FitsIn layouts u (size_of layouts can.fields)) got.is retried.tried.1);
+              made = ap (make (struct ty vs)) got.is;
+            };
+            holds = subst (λ (u : Table D). HoldsAccount layouts (placed_view (counted_store s) e n items generation) (make (struct ty vs) u) (with_held (length t.objects) retried.after.account)) (sym got.is)
+                (made_holds vs b e word made got.pages retried.after.account after all n items generation none generation_is items_are);
+            limits = ap (λ (x : HeapState). x.limits) made.rest ∙ sym retried.agrees.limits;
+            handle_is = handle_is ∙ (λ i. record {
+              store_id = record { engine = s.engine; number = s.number };
+              generation = (generation_is ∙ holds.holds.numbers.generation) i;
+              slot = slot.Scoped ((ap (λ (x : HeapState). length x.entries) made.rest ∙ after.holds.scoped.same_count) i);
+            });
+          },
+          made.attached ∙ retried.agrees.attached,
+        )
 
 -- a collection may begin once the new object's word is a scoped root
 pub collectable_pushed : (layouts : Layouts) (types : List Declaration) (h : HeapView) (entries items : List RootEntry) (generation word : ℕ) (hosts : ℕ → Bool) → IsCollectable layouts types h (root_of word ∷ roots_of entries) hosts → items ≡ entries ++ entry_of generation word ∷ [] → IsCollectable layouts types h (roots_of items) hosts

@@ -16,7 +16,6 @@ use Rattle.gc_heap.specs.Collection.{AreCounted}
 use Rattle.gc_heap.specs.Content.{IsHeap}
 use Rattle.gc_store.specs.Accounts.{no_account}
 use Rattle.gc_store.specs.RootSets.{RootSetView}
-use Rattle.gc_store.proofs.AccountLemmas.{holds_counted}
 use Rattle.gc_store.specs.declared.engine.StoreId.{StoreId}
 use Rattle.gc_store.specs.declared.config.HeapConfig.{HeapConfig}
 use Rattle.gc_store.specs.Tracing.{IsCollectable, roots_of}
@@ -140,23 +139,6 @@ pub nothing_starts : (D : Type 0) (layouts : Layouts) (s : StoreView) → HoldsS
 nothing_starts D layouts s holds =
     let untouched = untouched_from_start D layouts s holds.place holds.holds in
     record { tries = holds.account.tries; types = untouched.types; scoped = untouched.scoped; generation = untouched.generation; attached = untouched.attached }
-
--- a count of allocations leaves a store sound
-pub sound_counted : (D : Type 0) (layouts : Layouts) (heap_is_sound : Type 0) (types : TypeTable) (hosts : ℕ → Bool) (s : StoreView) (tries : ℕ) → IsSound D layouts heap_is_sound types hosts s → IsSound D layouts heap_is_sound types hosts (record s { tries = tries })
-sound_counted D layouts heap_is_sound types hosts s tries sound = record {
-  heap = sound.heap;
-  engine = sound.engine;
-  number = sound.number;
-  collectable = sound.collectable;
-  unused = sound.unused;
-  table = sound.table;
-  account = record sound.account { tries = tries };
-  holds = record {
-    place = sound.holds.place;
-    holds = holds_counted layouts s sound.table sound.holds.place s.last tries sound.holds.holds;
-    account = record { held = sound.holds.account.held; last = sound.holds.account.last; tries = refl; upper = sound.holds.account.upper };
-  };
-}
 
 -- a table of types with that id
 pub own_types : (types : TypeTable) (e n : ℕ) → types.engine ≡ e → types.number ≡ n → types ≡ record { engine = e; number = n; declarations = types.declarations }

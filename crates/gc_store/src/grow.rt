@@ -6,7 +6,7 @@ ghost use Rattle.gc_model.specs.Table.{Table};
 ghost use Rattle.gc_model.specs.Holds.{HoldsTable};
 ghost use Rattle.gc_heap.specs.Collection.{has_host, IsPartOf};
 ghost use Rattle.gc_store.specs.Accounts.{Account, HoldsAccount};
-ghost use Rattle.gc_store.specs.Expansion.{GrowsStore, CollectsFor};
+ghost use Rattle.gc_store.specs.Expansion.{GrowsStore, CollectsFor, unused_bytes};
 ghost use Rattle.gc_store.specs.Growth.{collects_first, heap_state, ReadiesHeap, GrowsBy};
 ghost use Rattle.gc_store.specs.Places.{ExpandsHeap};
 ghost use Rattle.gc_store.specs.Policy.{policy_state};
@@ -211,14 +211,15 @@ impl<H: GcHeap, D: Drop> Store<H, D> {
             return Ok(());
         }
         match self.gc_heap_grow(limiter, why.bytes_needed()) {
-            Ok(()) | Err(GrowFault::GcHeapGrowthFailed) => Ok(()),
+            Ok(()) => Ok(()),
+            Err(GrowFault::GcHeapGrowthFailed) => Ok(()),
             Err(GrowFault::Memory) => Err(AllocError),
         }
     }
 
     /// The bytes of the heap beside those that are allocated.
     fn unused_bytes(&self) -> u64
-        ensures { result ≡ self.now.heap.capacity - self.now.heap.allocated }
+        ensures { (t : Table D) (a : Account) (limits : Limits) → HoldsAccount H.KIND self.now t a → result ≡ unused_bytes H.KIND (policy_state t a limits) }
     {
         (self.gc_heap_capacity() - self.heap.allocated_bytes()) as u64
     }

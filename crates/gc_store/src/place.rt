@@ -1,6 +1,8 @@
 //! Making objects of the table.
 
 ghost use Rattle.std.specs.Prelude.{◌≡◌, ◌+◌, ◌-◌, ◌<◌, ◌^◌, min, ◌++◌, ◌∷◌, [], List, length, IsSome};
+ghost use Rattle.std.specs.Option.{option_map};
+ghost use Rattle.std.specs.Int.NonZero.{non_zero_u32_get};
 ghost use Rattle.gc_types.specs.Declarations.{struct_fields_at};
 ghost use Rattle.gc_model.specs.Sizes.{fields_size};
 ghost use Rattle.gc_model.specs.Allocation.{too_large};
@@ -20,6 +22,7 @@ use crate::root_set::RootSet;
 use crate::store::{PlaceFault, Store};
 use gc_heap::GcHeap;
 use gc_types::{Layouts, Types, VMSharedTypeIndex};
+use std::num::NonZeroU32;
 
 /// Whether no heap of the kind can hold an object of that size.
 fn is_too_large(layouts: Layouts, size: u32) -> bool
@@ -58,25 +61,24 @@ pub(crate) fn push_root(roots: &mut RootSet, store_id: StoreId, word: u32) -> Gc
     }
 }
 
+/// Counts one more allocation, and tells whether it is due for a collection.
+fn count_allocation(tries: &mut u64, alloc_counter: Option<NonZeroU32>) -> bool
+    ensures counted { tries.new ≡ min (tries.old + 1) (2 ^ 64 - 1) }
+    ensures due { result ≡ is_due (option_map non_zero_u32_get alloc_counter) tries.new }
+{
+    *tries = tries.saturating_add(1);
+    match alloc_counter {
+        Some(counter) => *tries % u64::from(counter.get()) == 0,
+        None => false,
+    }
+}
+
 impl<H: GcHeap, D: Drop> Store<H, D> {
     /// Whether no further scoped root may be made.
     pub(crate) fn roots_full(&self) -> bool
         ensures { result ≡ is_full self.now }
     {
         self.roots.len() >= self.config.max_scoped as usize || self.roots.generation() == u64::MAX
-    }
-
-    /// Counts one more allocation, and tells whether it is due for a collection.
-    fn count_allocation(&mut self) -> bool
-        ensures counted { self.new ≡ record self.old { tries = min (self.old.tries + 1) (2 ^ 64 - 1) } }
-        ensures due { result ≡ is_due self.new.alloc_counter self.new.tries }
-    {
-        let _heap = &self.heap;
-        self.tries = self.tries.saturating_add(1);
-        match self.config.alloc_counter {
-            Some(counter) => self.tries % u64::from(counter.get()) == 0,
-            None => false,
-        }
     }
 
     /// Places a struct of a declared type with these values, and pushes a scoped root for it. Refused
@@ -109,7 +111,7 @@ impl<H: GcHeap, D: Drop> Store<H, D> {
         if self.roots.reserve().is_err() {
             return Err(PlaceFault::Memory);
         }
-        let is_due = self.count_allocation();
+        let is_due = count_allocation(&mut self.tries, self.config.alloc_counter);
         let first_pages = self.config.first_pages;
         let alloc = self.alloc;
         match place_in(
