@@ -17,7 +17,7 @@ use crate::values::{check_values, operand_values};
 use gc_commands::{FieldWord, Operand, Refusal, Reply};
 use gc_heap::GcHeap;
 use gc_refs::I31;
-use gc_store::{GcClass, PlaceFault, RawValue, ResourceLimiter, RootFault, Store};
+use gc_store::{Contents, GcClass, Place, PlaceFault, RawValue, ResourceLimiter, RootFault, Store};
 use gc_types::{TypeFault, VMSharedTypeIndex};
 
 impl Runner {
@@ -61,7 +61,7 @@ impl Runner {
         if self.registers.make_room(d).is_err() {
             return Err(RunError::OutOfMemory);
         }
-        match store.place_struct(limiter, ty, values) {
+        match store.place(limiter, Place::Struct(ty), Contents::Each(values)) {
             Ok(handle) => {
                 self.registers
                     .set(d, RawValue::Ref(GcClass::Any, Some(handle)));

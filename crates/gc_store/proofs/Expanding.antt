@@ -65,7 +65,7 @@ module _ {D : Type 0} (layouts : Layouts) (s : StoreView) (h : HeapState) (p : P
       record {
         grows = record {
           after = p;
-          expanded = policy.not_made;
+          expanded = policy.not_made some;
           pages = inl refl;
           holds = keeps p.table p.account (same_holds layouts s h e p shows is_same);
           limits = ap (λ (x : HeapState). x.limits) is ∙ sym shows.limits;

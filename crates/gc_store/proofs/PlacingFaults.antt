@@ -107,6 +107,7 @@ module _ {D : Type 0} (layouts : Layouts) (s : StoreView) (ty : ℕ) (raws : Lis
           places = record {
             after = count_try p;
             prepared = policy.not_made;
+            begun = inr (is_small vs, full);
             pages = inl refl;
             holds = keeps t (counted a) (same_holds layouts (counted_store s) h e (count_try p) shown is_same);
             limits = ap (λ (x : HeapState). x.limits) is;
@@ -122,6 +123,7 @@ module _ {D : Type 0} (layouts : Layouts) (s : StoreView) (ty : ℕ) (raws : Lis
           places = record {
             after = paused.after;
             prepared = subst (λ (k : ℕ). Prepared layouts s.alloc_counter k p paused.after) (sizes vs) (policy.paused beginning.makes beginning.dues paused.paused);
+            begun = inr (is_small vs, full);
             pages = subst (λ (k : ℕ). MayGetPages limits.limit (need_of layouts k) t paused.after.table) (sizes vs) (inr (got.pages, (got.gets, got.is)));
             holds = keeps paused.after.table paused.after.account paused.agrees.holds;
             limits = sym paused.agrees.limits;

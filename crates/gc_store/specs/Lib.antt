@@ -13,6 +13,7 @@ pub mod Retry
 pub mod Growth
 pub mod Policy
 pub mod Places
+pub mod Requests
 pub mod Expansion
 pub mod Reading
 pub mod Scopes

@@ -7,16 +7,18 @@ ghost use Rattle.gc_types.specs.Declarations.{struct_fields_at};
 ghost use Rattle.gc_model.specs.Sizes.{fields_size};
 ghost use Rattle.gc_model.specs.Allocation.{too_large};
 ghost use Rattle.gc_model.specs.Table.{Table};
-ghost use Rattle.gc_model.specs.Values.{Value, struct};
+ghost use Rattle.gc_model.specs.Values.{Value, Object, struct};
 ghost use Rattle.gc_store.specs.Accounts.{Account, HoldsAccount, is_due};
 ghost use Rattle.gc_store.specs.Policy.{policy_state};
 ghost use Rattle.gc_store.specs.Values.{AllStand};
 ghost use Rattle.gc_store.specs.Places.{CanPlace, Places};
+ghost use Rattle.gc_store.specs.Requests.{CanPlaceIn, IsObjectOf};
 ghost use Rattle.gc_store.specs.Stores.{is_full, IsSameStore};
 
 use crate::allocate::place_in;
 use crate::engine::StoreId;
 use crate::limiter::ResourceLimiter;
+use crate::request::{Contents, Place};
 use crate::root::{GcRootIndex, RawValue, RootSlot};
 use crate::root_set::RootSet;
 use crate::store::{PlaceFault, Store};
@@ -81,16 +83,40 @@ impl<H: GcHeap, D: Drop> Store<H, D> {
         self.roots.len() >= self.config.max_scoped as usize || self.roots.generation() == u64::MAX
     }
 
-    /// Places a struct of a declared type with these values, and pushes a scoped root for it. Refused
-    /// are, in this order: `TooLarge` where no heap of the kind can hold it; `RootsFull` where no
-    /// further scoped root may be made; `HeapOutOfMemory` where the limiter refused the heap's first
-    /// pages, or where there is no room and it refused a growth.
+    /// Places an object of a declared type with these values, and pushes a scoped root for it. Structs
+    /// with a value for each field are built so far. Refused are, in this order: `TooLarge` where no
+    /// heap of the kind can hold it; `RootsFull` where no further scoped root may be made;
+    /// `HeapOutOfMemory` where the limiter refused the heap's first pages, or where there is no room
+    /// and it refused a growth.
     ///
     /// The allocation is counted, and each n-th one collects first where the configuration says so. A
     /// heap without room collects or grows, by `should_collect_first`: it collects, tries again, and
     /// then grows by what is needed; or it grows, and collects only where that was refused. Its time is
-    /// linear in the struct's size, beside that of a collection and of new memory.
-    pub fn place_struct<L: ResourceLimiter>(
+    /// linear in the object's size, beside that of a collection and of new memory.
+    pub fn place<L: ResourceLimiter>(
+        &mut self,
+        limiter: &mut L,
+        request: Place,
+        contents: Contents<'_>,
+    ) -> Result<GcRootIndex, PlaceFault>
+        requires { CanPlaceIn D H.KIND self.old request contents }
+        ensures same { IsSameStore self.old self.new }
+        ensures places { (t : Table D) (a : Account) (o : Object D) → HoldsAccount H.KIND self.old t a → IsObjectOf self.old t request contents.entry o
+            → Places H.KIND self.old.alloc_counter o (policy_state t a (L.limits limiter.old)) (L.limits limiter.new) result self.new }
+    {
+        match request {
+            Place::Struct(ty) => match contents {
+                Contents::Each(values) => self.place_struct(limiter, ty, values),
+                Contents::Same(_) => unreachable!(),
+                Contents::Bytes(_) => unreachable!(),
+            },
+            Place::Exn(..) => unreachable!(),
+            Place::Array(..) => unreachable!(),
+        }
+    }
+
+    /// Places a struct, as `place` does.
+    fn place_struct<L: ResourceLimiter>(
         &mut self,
         limiter: &mut L,
         ty: VMSharedTypeIndex,

@@ -1,4 +1,4 @@
-use Rattle.std.proofs.Common.{◌≡◌, ℕ, List, ap, ◌∙◌, subst}
+use Rattle.std.proofs.Common.{◌≡◌, refl, ℕ, List, ap, ◌∙◌, subst}
 use Rattle.std.specs.Prelude.{Result, Ok, Err}
 use Rattle.gc_store.specs.declared.root.GcRootIndex.{GcRootIndex}
 use Rattle.gc_store.specs.declared.store.PlaceFault.{PlaceFault}
@@ -17,17 +17,17 @@ use Rattle.gc_script.proofs.GoesLemmas.{wants_nothing}
 use Rattle.gc_script.proofs.PlaceLemmas.{placed, refused_large, refused_full, lacked, unplaced}
 use Rattle.gc_script.proofs.runner.Runner.place_new.Given as given
 use Rattle.gc_script.proofs.runner.Runner.place_new.Goals as goal
-use Rattle.gc_script.proofs.runner.Runner.place_new.Goals.{After-place_struct}
+use Rattle.gc_script.proofs.runner.Runner.place_new.Goals.{After-place}
 
 -- the registers are those of before
-slots_are : (g : given.Over) (c : After-place_struct g) (k : ℕ) → register_at c.make_room.new.self k ≡ register_at c.args.self.now.registers k
+slots_are : (g : given.Over) (c : After-place g) (k : ℕ) → register_at c.make_room.new.self k ≡ register_at c.args.self.now.registers k
 slots_are g c k = c.make_room.ensures.same k ∙ ap (λ (r : RunnerView). register_at r.registers k) c.self.view_is
 
 -- what was placed, by a result that is known
-places_as : (g : given.Over) (c : After-place_struct g) (s : State) (vs : List Operand) (result : Result GcRootIndex PlaceFault) → c.place_struct.result ≡ result → HoldsState g.H.GcHeap.KIND c.args.store.now c.args.self.now s → AllStand c.args.store.now s.table c.args.values.now (given_values s vs) → Places g.H.GcHeap.KIND c.args.store.now.alloc_counter (new_struct s c.args.ty vs) (policy_of s (g.L.ResourceLimiter.limits c.args.limiter.now)) (g.L.ResourceLimiter.limits c.place_struct.new.limiter) result c.place_struct.new.self
+places_as : (g : given.Over) (c : After-place g) (s : State) (vs : List Operand) (result : Result GcRootIndex PlaceFault) → c.place.result ≡ result → HoldsState g.H.GcHeap.KIND c.args.store.now c.args.self.now s → AllStand c.args.store.now s.table c.args.values.now (given_values s vs) → Places g.H.GcHeap.KIND c.args.store.now.alloc_counter (new_struct s c.args.ty vs) (policy_of s (g.L.ResourceLimiter.limits c.args.limiter.now)) (g.L.ResourceLimiter.limits c.place.new.limiter) result c.place.new.self
 places_as g c s vs result is holds stand =
-    subst (λ (r : Result GcRootIndex PlaceFault). Places g.H.GcHeap.KIND c.args.store.now.alloc_counter (new_struct s c.args.ty vs) (policy_of s (g.L.ResourceLimiter.limits c.args.limiter.now)) (g.L.ResourceLimiter.limits c.place_struct.new.limiter) r c.place_struct.new.self) is
-    (c.place_struct.ensures.places s.table s.account (given_values s vs) holds.table stand)
+    subst (λ (r : Result GcRootIndex PlaceFault). Places g.H.GcHeap.KIND c.args.store.now.alloc_counter (new_struct s c.args.ty vs) (policy_of s (g.L.ResourceLimiter.limits c.args.limiter.now)) (g.L.ResourceLimiter.limits c.place.new.limiter) r c.place.new.self) is
+    (c.place.ensures.places s.table s.account (new_struct s c.args.ty vs) holds.table (given_values s vs, (stand, refl)))
 
 pub returns-then-is_err-clause-runs : goal.returns-then-is_err-clause-runs
 returns-then-is_err-clause-runs g c s vs holds stand =
@@ -38,37 +38,37 @@ returns-then-is_err-clause-runs g c s vs holds stand =
 
 pub returns-in-Ok-clause-runs : goal.returns-in-Ok-clause-runs
 returns-in-Ok-clause-runs g c s vs holds stand =
-    let at = (goal.at.returns-in-Ok-clause-runs g c).After-place_struct in
-    placed _ _ _ _ c.args.store.now _ c.args.self.now _ s c.args.d c.args.ty vs c.place_struct.ensures.same holds (ap (λ (r : RunnerView). r.marks) c.self.view_is)
+    let at = (goal.at.returns-in-Ok-clause-runs g c).After-place in
+    placed _ _ _ _ c.args.store.now _ c.args.self.now _ s c.args.d c.args.ty vs c.place.ensures.same holds (ap (λ (r : RunnerView). r.marks) c.self.view_is)
     c.in-Ok.handle (places_as g at s vs (Ok c.in-Ok.handle) c.in-Ok.is holds stand)
     c.set.ensures.set
     (λ k other. c.set.ensures.others k other ∙ slots_are g at k)
 
 pub returns-in-Err-TooLarge-clause-runs : goal.returns-in-Err-TooLarge-clause-runs
 returns-in-Err-TooLarge-clause-runs g c s vs holds stand =
-    let at = (goal.at.returns-in-Err-TooLarge-clause-runs g c).After-place_struct in
-    refused_large _ _ _ _ c.args.store.now _ c.args.self.now _ s c.args.d c.args.ty vs c.place_struct.ensures.same holds (ap (λ (r : RunnerView). r.marks) c.self.view_is) (slots_are g at)
+    let at = (goal.at.returns-in-Err-TooLarge-clause-runs g c).After-place in
+    refused_large _ _ _ _ c.args.store.now _ c.args.self.now _ s c.args.d c.args.ty vs c.place.ensures.same holds (ap (λ (r : RunnerView). r.marks) c.self.view_is) (slots_are g at)
     (places_as g at s vs (Err fault.TooLarge) (c.in-Err-TooLarge.is ∙ ap Err c.in-Err-TooLarge.field-0-is) holds stand)
 
 pub returns-in-Err-RootsFull-clause-runs : goal.returns-in-Err-RootsFull-clause-runs
 returns-in-Err-RootsFull-clause-runs g c s vs holds stand =
-    let at = (goal.at.returns-in-Err-RootsFull-clause-runs g c).After-place_struct in
-    refused_full _ _ _ _ c.args.store.now _ c.args.self.now _ s c.args.d c.args.ty vs c.place_struct.ensures.same holds (ap (λ (r : RunnerView). r.marks) c.self.view_is) (slots_are g at)
+    let at = (goal.at.returns-in-Err-RootsFull-clause-runs g c).After-place in
+    refused_full _ _ _ _ c.args.store.now _ c.args.self.now _ s c.args.d c.args.ty vs c.place.ensures.same holds (ap (λ (r : RunnerView). r.marks) c.self.view_is) (slots_are g at)
     (places_as g at s vs (Err fault.RootsFull) (c.in-Err-RootsFull.is ∙ ap Err c.in-Err-RootsFull.field-0-is) holds stand)
 
 pub returns-in-Err-HeapOutOfMemory-clause-runs : goal.returns-in-Err-HeapOutOfMemory-clause-runs
 returns-in-Err-HeapOutOfMemory-clause-runs g c s vs holds stand =
-    let at = (goal.at.returns-in-Err-HeapOutOfMemory-clause-runs g c).After-place_struct in
-    lacked _ _ _ _ c.args.store.now _ c.args.self.now _ s c.args.d c.args.ty vs c.place_struct.ensures.same holds (ap (λ (r : RunnerView). r.marks) c.self.view_is) (slots_are g at)
+    let at = (goal.at.returns-in-Err-HeapOutOfMemory-clause-runs g c).After-place in
+    lacked _ _ _ _ c.args.store.now _ c.args.self.now _ s c.args.d c.args.ty vs c.place.ensures.same holds (ap (λ (r : RunnerView). r.marks) c.self.view_is) (slots_are g at)
     c.in-Err-HeapOutOfMemory.field-0-0.bytes_needed
     (places_as g at s vs (Err (fault.HeapOutOfMemory c.in-Err-HeapOutOfMemory.field-0-0)) (c.in-Err-HeapOutOfMemory.is ∙ ap Err c.in-Err-HeapOutOfMemory.field-0-is) holds stand)
 
 pub returns-in-Err-FuncTableFull-clause-runs : goal.returns-in-Err-FuncTableFull-clause-runs
 returns-in-Err-FuncTableFull-clause-runs g c s vs holds stand =
-    absurd (places_as g (goal.at.returns-in-Err-FuncTableFull-clause-runs g c).After-place_struct s vs (Err fault.FuncTableFull) (c.in-Err-FuncTableFull.is ∙ ap Err c.in-Err-FuncTableFull.field-0-is) holds stand)
+    absurd (places_as g (goal.at.returns-in-Err-FuncTableFull-clause-runs g c).After-place s vs (Err fault.FuncTableFull) (c.in-Err-FuncTableFull.is ∙ ap Err c.in-Err-FuncTableFull.field-0-is) holds stand)
 
 pub returns-in-Err-Memory-clause-runs : goal.returns-in-Err-Memory-clause-runs
 returns-in-Err-Memory-clause-runs g c s vs holds stand =
-    let at = (goal.at.returns-in-Err-Memory-clause-runs g c).After-place_struct in
-    unplaced _ _ _ _ c.args.store.now _ c.args.self.now _ s c.args.d c.args.ty vs c.place_struct.ensures.same holds (ap (λ (r : RunnerView). r.marks) c.self.view_is) (slots_are g at) error.OutOfMemory
+    let at = (goal.at.returns-in-Err-Memory-clause-runs g c).After-place in
+    unplaced _ _ _ _ c.args.store.now _ c.args.self.now _ s c.args.d c.args.ty vs c.place.ensures.same holds (ap (λ (r : RunnerView). r.marks) c.self.view_is) (slots_are g at) error.OutOfMemory
     (places_as g at s vs (Err fault.Memory) (c.in-Err-Memory.is ∙ ap Err c.in-Err-Memory.field-0-is) holds stand)

@@ -52,6 +52,7 @@ returns-then-is_err-clause-places g c t a vs holds all =
     record {
       after = policy_state t a (g.L.ResourceLimiter.limits c.args.limiter.now);
       prepared = policy.not_begun;
+      begun = inl refl;
       pages = inl refl;
       holds = subst (λ (s : StoreView). HoldsAccount g.H.GcHeap.KIND s t a)
           (λ i. store_view c.self.inside.id c.self.inside.config c.self.inside.types.declarations (g.H.GcHeap.seen c.self.inside.heap) (len c.self.inside.hosts.entries)
