@@ -8,16 +8,10 @@
 //! memory), `Words` (the words of the program), `Runs` (what a run leaves).
 #![tactic(auto)]
 
-#[cfg(test)]
-mod ask_tests;
 pub mod lines;
 pub mod memory;
 pub mod read;
 mod run;
-#[cfg(test)]
-mod run_tests;
-#[cfg(test)]
-mod session_tests;
 pub mod sink;
 pub mod source;
 pub mod standard;

@@ -1,0 +1,83 @@
+//! Runs the worked sessions of a table, which comes on standard input, and prints what each gives.
+//!
+//! A session is a header and a script, which is the lines behind it up to the next header; headers
+//! that stand one behind the other have the same script. Empty lines and lines that begin with `//` say
+//! nothing. There are two kinds of header:
+//!
+//! - `# WORDS` runs the top call with these words, the script being its input. Printed are the header,
+//!   what the sink took, and `status N`, or `status N within a line` where the last line that the sink
+//!   took is cut. Options stand behind the words: `| reads N..` and `| writes N..` number the reads and
+//!   writes that fail (write 0 is the flush), `| room N` is the room of the sink in bytes, and with
+//!   `| unended` the last line has no line feed.
+//! - `! COLLECTOR FIRST MAX_SCOPED` runs the commands of the script, one by one, on a new store whose
+//!   heap begins with FIRST pages and which may have so many scoped roots. Printed are the header, each
+//!   reply, `refusals N` and `last FROM TO`, the last ask that the limiter refused, or `last none`. The
+//!   limiter answers by the list of `| answers yes no..` and yes behind it, or grants up to the pages of
+//!   `| most N`. With `| counter N` each N-th allocation collects first. Lines `---` cut the script into
+//!   several, which the store runs one after the other, each with unset registers.
+//!
+//! In a line of a script `{N*TEXT}` stands for N times the text, `\n` for a line feed and `\r` for a
+//! carriage return. Each line of the table ends with a line feed in the script, where its own text
+//! doesn't already.
+//!
+//! What the table must give, in `stdout`, was worked out by hand from the rules in docs/.
+#![tactic(auto)]
+
+mod expand;
+mod runs;
+mod setup;
+mod table;
+
+use anyhow::{Context, Result};
+use expand::expand_lines;
+use runs::{run_program, run_store};
+use setup::Setup;
+use std::alloc::Global;
+use std::io;
+use std::io::{BufWriter, Write};
+use table::{Sessions, read_table};
+
+/// Runs the session of a header, and writes what it gives.
+fn run_session<W: Write + Drop>(
+    alloc: Global,
+    header: &str,
+    lines: &[&str],
+    out: &mut W,
+) -> Result<()> {
+    writeln!(out, "{header}")?;
+    match Setup::parse(alloc, header)? {
+        Setup::Program(setup) => {
+            let script = expand_lines(alloc, lines, setup.is_ended)?;
+            run_program(alloc, setup, script.as_str(), out)
+        }
+        Setup::Store(setup) => {
+            let script = expand_lines(alloc, lines, true)?;
+            run_store(alloc, setup, script.as_str(), out)
+        }
+    }
+}
+
+/// Runs the sessions of a script.
+fn run_sessions<W: Write + Drop>(
+    alloc: Global,
+    sessions: &Sessions<'_>,
+    out: &mut W,
+) -> Result<()> {
+    for header in sessions.headers.iter() {
+        run_session(alloc, header, sessions.lines.as_slice(), out).context(format_args!(
+            "session {header:?}"
+        ))?;
+    }
+    Ok(())
+}
+
+fn main(rt: HostRuntime) -> Result<()> {
+    let alloc = rt.alloc();
+    let text = io::read_to_string(alloc, rt.reader())?;
+    let mut out = BufWriter::new(alloc, io::writer(&rt))?;
+    for sessions in read_table(alloc, text.as_str())?.iter() {
+        run_sessions(alloc, sessions, &mut out)?;
+    }
+    out.flush()?;
+    Ok(())
+}
