@@ -12,6 +12,8 @@ pub mod config;
 pub mod engine;
 mod field;
 pub mod grow;
+#[cfg(test)]
+mod growth_tests;
 pub mod laws;
 pub mod limiter;
 mod pages;

@@ -24,12 +24,13 @@
 #![tactic(auto)]
 
 mod expand;
+mod fault;
 mod runs;
 mod setup;
 mod table;
 
-use anyhow::{Context, Result};
 use expand::expand_lines;
+use fault::{RunFault, SessionFault};
 use runs::{run_program, run_store};
 use setup::Setup;
 use std::alloc::Global;
@@ -43,7 +44,7 @@ fn run_session<W: Write + Drop>(
     header: &str,
     lines: &[&str],
     out: &mut W,
-) -> Result<()> {
+) -> Result<(), SessionFault> {
     writeln!(out, "{header}")?;
     match Setup::parse(alloc, header)? {
         Setup::Program(setup) => {
@@ -62,16 +63,17 @@ fn run_sessions<W: Write + Drop>(
     alloc: Global,
     sessions: &Sessions<'_>,
     out: &mut W,
-) -> Result<()> {
+) -> Result<(), RunFault> {
     for header in sessions.headers.iter() {
-        run_session(alloc, header, sessions.lines.as_slice(), out).context(format_args!(
-            "session {header:?}"
-        ))?;
+        if let Err(fault) = run_session(alloc, header, sessions.lines.as_slice(), out) {
+            let header = String::from_str(alloc, header)?;
+            return Err(RunFault::Session { header, fault });
+        }
     }
     Ok(())
 }
 
-fn main(rt: HostRuntime) -> Result<()> {
+fn main(rt: HostRuntime) -> Result<(), RunFault> {
     let alloc = rt.alloc();
     let text = io::read_to_string(alloc, rt.reader())?;
     let mut out = BufWriter::new(alloc, io::writer(&rt))?;

@@ -1,7 +1,7 @@
 //! Runs scripts, and writes what they give.
 
+use crate::fault::SessionFault;
 use crate::setup::{Collector, Limit, ProgramSetup, StoreSetup};
-use anyhow::Result;
 use gc_copying::CopyingHeap;
 use gc_heap::{GcHeap, NullHeap};
 use gc_script::{Command, Reply, Runner, parse_line, reply_text, run_script};
@@ -25,7 +25,7 @@ pub(crate) fn run_program<W: Write + Drop>(
     setup: ProgramSetup<'_>,
     script: &str,
     out: &mut W,
-) -> Result<()> {
+) -> Result<(), SessionFault> {
     let words = words_of(alloc, setup.words)?;
     let input = script.as_bytes().to_vec(alloc)?;
     let mut source = MemSource::new(input, setup.failing_reads);
@@ -53,7 +53,7 @@ pub(crate) fn run_store<W: Write + Drop>(
     setup: StoreSetup,
     script: &str,
     out: &mut W,
-) -> Result<()> {
+) -> Result<(), SessionFault> {
     let config = setup.config()?;
     let collector = setup.collector;
     match setup.limit {
@@ -75,7 +75,7 @@ fn write_refused<W: Write + Drop>(
     refusals: u64,
     last: Option<(u32, u32)>,
     out: &mut W,
-) -> Result<()> {
+) -> Result<(), SessionFault> {
     writeln!(out, "refusals {refusals}")?;
     match last {
         Some((from, to)) => writeln!(out, "last {from} {to}")?,
@@ -92,7 +92,7 @@ fn run_heap<L: ResourceLimiter, W: Write + Drop>(
     limiter: &mut L,
     script: &str,
     out: &mut W,
-) -> Result<()> {
+) -> Result<(), SessionFault> {
     match collector {
         Collector::Copying => {
             let mut store = Store::new(alloc, STORE, CopyingHeap::new(alloc), config)?;
@@ -112,7 +112,7 @@ fn run_parts<H: GcHeap, L: ResourceLimiter, W: Write + Drop>(
     limiter: &mut L,
     script: &str,
     out: &mut W,
-) -> Result<()> {
+) -> Result<(), SessionFault> {
     let Some((first, rest)) = script.split_once(CUT) else {
         return run_commands(alloc, store, limiter, script, out);
     };
@@ -131,7 +131,7 @@ fn run_commands<H: GcHeap, L: ResourceLimiter, W: Write + Drop>(
     limiter: &mut L,
     script: &str,
     out: &mut W,
-) -> Result<()> {
+) -> Result<(), SessionFault> {
     let mut runner = Runner::new(alloc);
     for line in script.lines() {
         let command = parse_line(alloc, line.as_bytes())?;
@@ -148,7 +148,7 @@ fn run_whole<H: GcHeap, L: ResourceLimiter, W: Write + Drop>(
     limiter: &mut L,
     script: &str,
     out: &mut W,
-) -> Result<()> {
+) -> Result<(), SessionFault> {
     let commands = commands_of(alloc, script)?;
     for reply in run_script(alloc, store, limiter, commands.as_slice())?.iter() {
         write_reply(alloc, reply, out)?;
@@ -165,7 +165,11 @@ fn commands_of(alloc: Global, script: &str) -> Result<Vec<Command>, AllocError> 
 }
 
 /// Writes a reply on a line of its own.
-fn write_reply<W: Write + Drop>(alloc: Global, reply: &Reply, out: &mut W) -> Result<()> {
+fn write_reply<W: Write + Drop>(
+    alloc: Global,
+    reply: &Reply,
+    out: &mut W,
+) -> Result<(), SessionFault> {
     writeln!(out, "{}", reply_text(alloc, reply)?)?;
     Ok(())
 }

@@ -120,3 +120,12 @@ pub record RanSoFar (layouts : Layouts) (limits now : Limits) (input rest : List
 pub keeps_same : (held : Option (List ℕ)) → Keeps held held
 keeps_same None = tt
 keeps_same (Some bytes) = refl
+
+-- a line that ran, or where a run broke off, at the counter of the store it began with
+pub ran_from : {layouts : Layouts} {now next : Limits} {s : State} {line : List ℕ} {store : StoreView} {slots : RunnerView} {a b : Option (List ℕ)} (counter counter' : Option ℕ) → counter' ≡ counter → RanLine layouts counter' now next s line store slots a b → RanLine layouts counter now next s line store slots a b
+ran_from {layouts} {now} {next} {s} {line} {store} {slots} {a} {b} counter counter' same ran =
+    subst (λ (k : Option ℕ). RanLine layouts k now next s line store slots a b) same ran
+
+pub broke_from : {layouts : Layouts} {now : Limits} {s : State} {line : List ℕ} {store : StoreView} {slots : RunnerView} {a b : Option (List ℕ)} (counter counter' : Option ℕ) → counter' ≡ counter → BrokeOff layouts counter' now s line store slots a b → BrokeOff layouts counter now s line store slots a b
+broke_from {layouts} {now} {s} {line} {store} {slots} {a} {b} counter counter' same broke =
+    subst (λ (k : Option ℕ). BrokeOff layouts k now s line store slots a b) same broke
