@@ -1,5 +1,5 @@
 -- What contracts see of a mutator.
-use Rattle.std.specs.Prelude.{ℕ, Bool, List, [], ◌∷◌, ◌++◌}
+use Rattle.std.specs.Prelude.{◌≡◌, ◌<◌, ℕ, Bool, List, [], ◌∷◌, ◌++◌, length}
 use Rattle.std.specs.FinMap.{FinMap}
 use Rattle.std.specs.Ordering.{nat_cmp}
 use Rattle.gc_types.specs.declared.kind.Layouts.{Layouts}
@@ -40,3 +40,7 @@ with_root m heap on_stack word = record m { heap = heap; roots = m.roots ++ root
 -- the mutator with another heap and without the name that a root was
 abbrev pub without_root : MutatorView → HeapView → ℕ → MutatorView
 without_root m heap index = record m { heap = heap; roots = with_word_at m.roots index gone_word }
+
+-- a root of that index stands, which is a frame slot or none
+abbrev pub IsRoot : Bool → MutatorView → ℕ → Type 0
+IsRoot on_stack m index = (index < length m.roots) × ((root_at m.roots index).on_stack ≡ on_stack)

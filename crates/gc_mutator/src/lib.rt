@@ -8,14 +8,14 @@
 //! caller's numbers (a root, a type, an offset) it tests, and answers a `MutatorFault`.
 #![tactic(auto)]
 
-// mod collection;
+mod collection;
 pub mod fault;
-// mod fields;
-// mod growth;
+mod fields;
+mod growth;
 pub mod mutator;
-// mod objects;
-// mod reading;
-// mod rooting;
+mod objects;
+mod reading;
+mod rooting;
 
 pub use fault::MutatorFault;
 pub use mutator::Mutator;
