@@ -3,3 +3,4 @@ pub mod GrowLemmas
 pub mod MakeLemmas
 pub mod NameLemmas
 pub mod RootLemmas
+pub mod WriteLemmas

@@ -34,7 +34,7 @@ counted_is Counting types h roots heap counted q n is = counted.counted q n is
 counted_is Copying types h roots heap counted q n is = absurd (nothing_counted h q n heap.by_kind.counts is)
 
 -- a word that isn't null may be given to a barrier
-is_named : (h : HeapView) (word : ℕ) → IsWordOf h word → 0 < word → IsNamed h word
+pub is_named : (h : HeapView) (word : ℕ) → IsWordOf h word → 0 < word → IsNamed h word
 is_named h word (inl null) present = absurd (omega arith)
 is_named h word (inr named) present = named
 

@@ -1,5 +1,5 @@
 -- What contracts see of a mutator.
-use Rattle.std.specs.Prelude.{◌≡◌, ◌<◌, ℕ, Bool, List, [], ◌∷◌, ◌++◌, length}
+use Rattle.std.specs.Prelude.{◌≡◌, ◌<◌, ℕ, Bool, List, [], ◌∷◌, ◌++◌, Option, Some, None, length}
 use Rattle.std.specs.FinMap.{FinMap}
 use Rattle.std.specs.Ordering.{nat_cmp}
 use Rattle.gc_types.specs.declared.kind.Layouts.{Layouts}
@@ -44,3 +44,8 @@ without_root m heap index = record m { heap = heap; roots = with_word_at m.roots
 -- a root of that index stands, which is a frame slot or none
 abbrev pub IsRoot : Bool → MutatorView → ℕ → Type 0
 IsRoot on_stack m index = (index < length m.roots) × ((root_at m.roots index).on_stack ≡ on_stack)
+
+-- the word of a root that is written to a field; none is null
+abbrev pub source_word : MutatorView → Option ℕ → Option ℕ
+source_word m None = None
+source_word m (Some index) = Some (word_of m index)

@@ -10,6 +10,7 @@ use gc_heap::GcHeap;
 
 /// The bytes of a page, and the pages of the largest memory.
 const PAGE: u64 = 65536;
+
 const MOST_PAGES: u64 = 65535;
 
 /// Takes the memory of a heap, and gives it back with so many pages more. Without memory for them it is

@@ -14,11 +14,12 @@ returns-then-behind-ne0 c =
 
 pub returns : goal.returns
 returns c =
-    let base = c.array_base-base.ensures.value in
-    (λ is.
-        let below : (c.args.offset - c.array_base-base.result) / 4 < c.args.length = grind (arith, nat_tests, is) in
-        has_element c.args.length (array_base c.args.layouts) c.args.offset (omega (arith, c.if-offset-base.false)) (omega (arith, c.if-behind-ne0.false)) (omega arith),
-     λ has.
-        let element = (element_lies c.args.length (array_base c.args.layouts) c.args.offset has).below in
-        let below : (c.args.offset - c.array_base-base.result) / 4 < c.args.length = omega arith in
-        grind (arith, nat_tests, below))
+    let base = c.array_base-base.ensures.value in (
+      λ is.
+          let below : (c.args.offset - c.array_base-base.result) / 4 < c.args.length = grind (arith, nat_tests, is) in
+          has_element c.args.length (array_base c.args.layouts) c.args.offset (omega (arith, c.if-offset-base.false)) (omega (arith, c.if-behind-ne0.false)) (omega arith),
+      λ has.
+          let element = (element_lies c.args.length (array_base c.args.layouts) c.args.offset has).below in
+          let below : (c.args.offset - c.array_base-base.result) / 4 < c.args.length = omega arith in
+          grind (arith, nat_tests, below),
+    )
