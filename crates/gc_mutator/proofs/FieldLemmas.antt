@@ -1,7 +1,8 @@
 -- Elements of arrays, and writes to fields.
-use Rattle.std.proofs.Common.{◌≡◌, ◌≢◌, ℕ, zero, suc, ◌+◌, ◌-◌, ◌/◌, ◌%◌, ◌≤◌, ◌<◌, ◌⊎◌, inl, inr, List, [], ◌∷◌, Some, refl, sym, ap, subst, ◌∙◌, arith}
+use Rattle.std.proofs.Common.{◌≡◌, ◌≢◌, ℕ, zero, suc, ◌+◌, ◌-◌, ◌/◌, ◌%◌, ◌≤◌, ◌<◌, ◌⊎◌, inl, inr, List, [], ◌∷◌, Option, Some, None, refl, sym, ap, subst, ◌∙◌, arith}
 use Rattle.std.specs.List.{Contains}
 use Rattle.std.proofs.lemmas.Bool.{cases_eq}
+use Rattle.std.specs.Option.{SomeIff}
 use Rattle.std.specs.FinMap.{get}
 use Rattle.std.specs.Int.{w32}
 use Rattle.gc_types.specs.declared.kind.Layouts.{Layouts}
@@ -15,7 +16,7 @@ use Rattle.gc_heap.specs.References.{word_offsets}
 use Rattle.gc_heap.specs.Access.{IsReadable, data_part}
 use Rattle.gc_heap.proofs.WrittenLemmas.{writable_from}
 use Rattle.gc_heap.proofs.SpacedLemmas.{first_or_later, contains_in, in_contains}
-use Rattle.gc_mutator.specs.Fields.{HasWord}
+use Rattle.gc_mutator.specs.Fields.{HasWord, slot_word}
 
 element_in : (n from x : ℕ) → from ≤ x → (x - from) % 4 ≡ 0 → (x - from) / 4 < n → In x (word_offsets from n)
 element_in zero from x low aligned below = absurd (omega arith)
@@ -70,3 +71,8 @@ word_readable layouts h place o offset held word =
     let least = writable_from layouts o.kind word.fields in
     let from = word.from in
     record { object = o; held = held; has_fields = word.fields; from = omega arith; to = word.to }
+
+-- the word that a slot stands for
+pub slot_of_raw : (made : Option ℕ) (word : ℕ) → SomeIff made (0 < word) word → slot_word made ≡ word
+slot_of_raw None word gives = let none : (0 < word → ⊥) = gives in omega arith
+slot_of_raw (Some held) word gives = gives.1

@@ -1,5 +1,5 @@
 -- Fields of held objects, as a mutator writes them.
-use Rattle.std.specs.Prelude.{◌≡◌, ℕ, ◌+◌, ◌%◌, ◌≤◌, List, Option, Some, None}
+use Rattle.std.specs.Prelude.{◌≡◌, ℕ, ◌+◌, ◌%◌, ◌≤◌, List, [], ◌∷◌, Option, Some, None}
 use Rattle.std.specs.List.{Contains}
 use Rattle.std.specs.FinMap.{get}
 use Rattle.std.specs.Int.{w32, to_le_bytes}
@@ -10,6 +10,7 @@ use Rattle.gc_model.specs.Views.{HeapObject, HeapView}
 use Rattle.gc_heap.specs.Objects.{held_size, writable_offset, HasFields}
 use Rattle.gc_heap.specs.References.{typed_offsets, word_in}
 use Rattle.gc_heap.specs.Heap.{put_object, with_data}
+use Rattle.gc_heap.specs.Access.{IsReadable}
 use Rattle.gc_heap.specs.Barriers.{overwritten}
 use Rattle.gc_mutator.specs.Mutators.{MutatorView, word_of}
 
@@ -46,3 +47,10 @@ pub record WritesNumber (layouts : Layouts) (old new : MutatorView) (holder offs
   pub held : get old.heap.content (word_of old holder) ≡ Some object
   pub lies : HasWord layouts object offset
   pub written : new ≡ record old { heap = put_object old.heap (word_of old holder) (with_data layouts object offset (to_le_bytes w32 number)) }
+
+-- A path of offsets leads from a word to another: each offset leads to the word that lies there in the
+-- object that is named.
+abbrev pub Leads : Layouts → HeapView → ℕ → List ℕ → ℕ → Type 0
+Leads layouts h from [] to = from ≡ to
+Leads layouts h from (offset ∷ path) to =
+    (o : HeapObject) → get h.content from ≡ Some o → IsReadable layouts h from offset 4 → Leads layouts h (word_in layouts o offset) path to

@@ -1,12 +1,17 @@
 //! What a mutator reads: roots, fields, and how much there is.
 
-ghost use Rattle.std.specs.Prelude.{◌≡◌, ◌≤◌, ◌<◌, IfSome, IfNone, IfOk, length, ℕ};
+ghost use Rattle.std.specs.Prelude.{◌≡◌, ◌≤◌, ◌<◌, Some, IfSome, IfNone, IfOk, length, ℕ};
 ghost use Rattle.std.specs.FinMap as finite;
 ghost use Rattle.std.specs.Int.{w32};
 ghost use Rattle.gc_refs.specs.LittleEndian.{unsigned_at};
 ghost use Rattle.gc_heap.specs.Content.{IsHeld};
-ghost use Rattle.gc_heap.specs.Access.{ReadsData};
+ghost use Rattle.gc_types.specs.declared.kind.VMGcKind.TheVariants.{ExternRef};
+ghost use Rattle.gc_model.specs.Views.{HeapObject};
+ghost use Rattle.gc_heap.specs.Objects.{host_id};
+ghost use Rattle.gc_heap.specs.References.{word_in};
+ghost use Rattle.gc_heap.specs.Access.{IsReadable, ReadsData};
 ghost use Rattle.gc_mutator.specs.Mutators.{word_of};
+ghost use Rattle.gc_mutator.specs.Fields.{Leads, slot_word};
 
 use crate::fault::MutatorFault;
 use crate::fields::has_words;
@@ -15,12 +20,18 @@ use gc_heap::GcHeap;
 use gc_heap::access::read_u32;
 use gc_refs::{VMExternRef, VMGcRef};
 
-/// The word at an offset of whatever object a word names, if it isn't null.
+/// The word that lies at an offset of the struct, array or exception that a word names, if it isn't null.
 fn reference_at<H: GcHeap>(heap: &H, holder: &VMGcRef, offset: u32) -> Option<VMGcRef>
     requires { H.sound heap.now }
+    ensures { (o : HeapObject) → finite.get (H.seen heap.now).content holder.now ≡ Some o → IsReadable H.KIND (H.seen heap.now) holder.now offset 4 → slot_word result ≡ word_in H.KIND o offset }
 {
-    let data = heap.gc_object_data(holder).ok()?;
-    VMGcRef::from_raw_u32(data.read_u32(offset).ok()?)
+    match heap.gc_object_data(holder) {
+        Ok(data) => match data.read_u32(offset) {
+            Ok(word) => VMGcRef::from_raw_u32(word),
+            Err(_) => None,
+        },
+        Err(_) => None,
+    }
 }
 
 impl<H: GcHeap> Mutator<H> {
@@ -51,8 +62,10 @@ impl<H: GcHeap> Mutator<H> {
     }
 
     /// The word that a path of offsets leads to from a root. What lies at an offset is taken for a
-    /// reference, so that a path through anything else leads anywhere, or nowhere.
-    pub fn follow(&self, root: usize, path: &[u32]) -> Option<VMGcRef> {
+    /// reference; a path ends nowhere where it comes to null.
+    pub fn follow(&self, root: usize, path: &[u32]) -> Option<VMGcRef>
+        ensures { IfSome result (λ to. Leads H.KIND self.now.heap (word_of self.now root) path.now to) }
+    {
         let mut word = self.root(root)?;
         for offset in path {
             word = reference_at(&self.heap, &word, *offset)?;
@@ -74,10 +87,17 @@ impl<H: GcHeap> Mutator<H> {
     }
 
     /// The host value of the external object that a word names.
-    pub fn host(&self, word: VMGcRef) -> Option<u8> {
+    pub fn host(&self, word: VMGcRef) -> Option<u8>
+        ensures { (o : HeapObject) → finite.get self.now.heap.content word ≡ Some o → o.kind ≡ ExternRef → result ≡ finite.get self.now.hosts (host_id o) }
+    {
         let external = VMExternRef::new_unchecked(word);
-        let id = self.heap.externref_host_data(&external).ok()?;
-        Some(*self.hosts.get(id).ok()?)
+        match self.heap.externref_host_data(&external) {
+            Ok(id) => match self.hosts.get(id) {
+                Ok(value) => Some(*value),
+                Err(_) => None,
+            },
+            Err(_) => None,
+        }
     }
 
     /// How many objects the heap holds, garbage among them.
