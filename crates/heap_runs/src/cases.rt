@@ -68,15 +68,20 @@ impl Case {
             Case::KindsDropped => "an object of each kind, dropped",
             Case::ChainKept => "a chain of 100000 structs, kept by its head",
             Case::ChainDropped => "a chain of 100000 structs, dropped at its head",
-            Case::CycleKept => "two structs that name each other, one kept until the second collection",
+            Case::CycleKept =>
+                "two structs that name each other, one kept until the second collection",
             Case::CycleDropped => "two structs that name each other, dropped",
-            Case::ArrayCycleKept => "an array and a struct that name each other, the array kept until the second collection",
+            Case::ArrayCycleKept =>
+                "an array and a struct that name each other, the array kept until the second collection",
             Case::ArrayCycleDropped => "an array and a struct that name each other, dropped",
             Case::SelfNamed => "a struct that names itself, written twice and dropped",
-            Case::ShownTwice => "a word shown to two frame slots, of which one is left, and then the other",
-            Case::ShownWithoutRoot => "a struct that nothing but a frame slot names, until it is left",
+            Case::ShownTwice =>
+                "a word shown to two frame slots, of which one is left, and then the other",
+            Case::ShownWithoutRoot =>
+                "a struct that nothing but a frame slot names, until it is left",
             Case::Overwritten => "a struct whose only name is overwritten by null",
-            Case::OverwrittenByItself => "a struct whose name is overwritten by itself, and then by null",
+            Case::OverwrittenByItself =>
+                "a struct whose name is overwritten by itself, and then by null",
             Case::TwoHolders => "a struct with two holders, which go one after the other",
             Case::HostOfTwo => "a host value with two holders, which go one after the other",
             Case::Grown => "memory grown between two allocations, and before a collection",
@@ -123,15 +128,12 @@ impl Case {
     }
 
     /// What is done between the collections.
-    pub(crate) fn go_on<H: GcHeap>(
-        self,
-        m: &mut Mutator<H>,
-        _named: &Named,
-    ) -> Result<(), MutatorFault> {
+    pub(crate) fn go_on<H: GcHeap>(self, m: &mut Mutator<H>) -> Result<(), MutatorFault> {
         match self {
-            Case::CycleKept | Case::ArrayCycleKept | Case::TwoHolders | Case::HostOfTwo => {
-                m.drop_root(1)
-            }
+            Case::CycleKept => drop_at_end(m, &[first_field::<H>(), first_field::<H>()]),
+            Case::ArrayCycleKept => drop_at_end(m, &[first_element::<H>(), first_field::<H>()]),
+            Case::HostOfTwo => drop_host(m),
+            Case::TwoHolders => m.drop_root(1),
             Case::ShownTwice => m.leave_slot(2),
             Case::ShownWithoutRoot => m.leave_slot(1),
             Case::OverwrittenByItself => m.write_reference(0, first_field::<H>(), None),
@@ -241,6 +243,14 @@ fn show_alone<H: GcHeap>(m: &mut Mutator<H>, named: &Named) -> Result<(), Mutato
     m.drop_root(cell)
 }
 
+/// Drops the root of index 1, to whose object the path leads back.
+fn drop_at_end<H: GcHeap>(m: &mut Mutator<H>, path: &[u32]) -> Result<(), MutatorFault> {
+    if m.follow(1, path) != m.root(1) {
+        return Err(MutatorFault::NoField);
+    }
+    m.drop_root(1)
+}
+
 /// Makes a struct that another one names alone; the root of that has index 0.
 fn make_pair<H: GcHeap>(m: &mut Mutator<H>, named: &Named) -> Result<(), MutatorFault> {
     let holder = m.make_struct(named.cell)?;
@@ -287,6 +297,17 @@ fn hold_host<H: GcHeap>(m: &mut Mutator<H>, named: &Named) -> Result<(), Mutator
     m.write_reference(array, first_element::<H>(), Some(host))?;
     m.drop_root(host)?;
     m.drop_root(cell)
+}
+
+/// Drops the array, which names the host value still.
+fn drop_host<H: GcHeap>(m: &mut Mutator<H>) -> Result<(), MutatorFault> {
+    let Some(word) = m.follow(1, &[first_element::<H>()]) else {
+        return Err(MutatorFault::NoField);
+    };
+    if m.host(word) != Some(7) {
+        return Err(MutatorFault::NoField);
+    }
+    m.drop_root(1)
 }
 
 fn grow<H: GcHeap>(m: &mut Mutator<H>, named: &Named) -> Result<(), MutatorFault> {

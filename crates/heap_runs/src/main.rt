@@ -2,9 +2,6 @@
 //! null, the counting and the copying heap. With the word `times` it measures the counting heap instead.
 #![tactic(auto)]
 
-ghost use Rattle.std.specs.Prelude.{◌≡◌};
-ghost use Rattle.gc_model.specs.Views.{detached_in};
-
 mod cases;
 mod count;
 mod named;
@@ -12,56 +9,57 @@ mod room;
 mod times;
 
 use crate::cases::{CASES, Case};
-use crate::count::Count;
-use crate::named::Named;
-use crate::room::show_room;
+use crate::count::Outcome;
+use crate::room::Wanted;
 use crate::times::show_times;
 use anyhow::Result;
 use gc_copying::CopyingHeap;
 use gc_drc::DrcHeap;
-use gc_heap::{GcHeap, NullHeap};
-use gc_mutator::Mutator;
+use gc_heap::NullHeap;
 use std::alloc::Global;
 use std::env;
 
-/// Runs a case on a new heap: what there is before a collection, after it, and after another one.
-fn run_case<H: GcHeap + Drop>(
-    rt: &impl Print,
-    alloc: Global,
-    heap: H,
-    kind: &str,
-    case: Case,
-) -> Result<()>
-    requires sound { H.sound heap }
-    requires detached { H.seen heap ≡ detached_in 0 }
-{
-    let (types, named) = Named::declare(alloc)?;
-    let mut mutator = Mutator::new(alloc, heap, types, case.pages())?;
+/// Shows what came of a case on one kind of heap.
+fn show_case(rt: &impl Print, kind: &str, case: Case, outcome: Outcome) -> Result<()> {
     let name = case.name();
     println!(rt; "{kind}: {name}")?;
-    case.begin(&mut mutator, &named)?;
-    let made = Count::of(&mutator);
-    println!(rt; "  made: {made}")?;
-    let increments = mutator.collect();
-    let kept = Count::of(&mutator);
-    println!(rt; "  after {increments} increments: {kept}")?;
-    case.go_on(&mut mutator, &named)?;
-    let increments = mutator.collect();
-    let left = Count::of(&mutator);
-    println!(rt; "  after {increments} more: {left}")?;
+    println!(rt; "{outcome}")?;
     Ok(())
 }
 
-/// Runs every case on each kind of heap.
-fn run_cases(rt: &impl Print, alloc: Global) -> Result<()> {
+/// Shows what the allocations in a page wanted.
+fn show_room(rt: &impl Print, kind: &str, length: u32, wanted: Wanted) -> Result<()> {
+    println!(rt; "{kind}: an array of {length} bytes fits in a page")?;
+    println!(rt; "  {wanted}")?;
+    Ok(())
+}
+
+/// Runs a case on each kind of heap.
+fn run_case(rt: &impl Print, alloc: Global, case: Case) -> Result<()> {
+    let outcome = Outcome::of(alloc, DrcHeap::new(alloc), case)?;
+    show_case(rt, "counting", case, outcome)?;
+    let outcome = Outcome::of(alloc, CopyingHeap::new(alloc), case)?;
+    show_case(rt, "copying", case, outcome)?;
+    let outcome = Outcome::of(alloc, NullHeap::new(alloc), case)?;
+    show_case(rt, "null", case, outcome)
+}
+
+/// Fills a page of each kind of heap.
+fn run_rooms(rt: &impl Print, alloc: Global) -> Result<()> {
+    let wanted = Wanted::of(alloc, DrcHeap::new(alloc), 65_488)?;
+    show_room(rt, "counting", 65_488, wanted)?;
+    let wanted = Wanted::of(alloc, CopyingHeap::new(alloc), 32_736)?;
+    show_room(rt, "copying", 32_736, wanted)?;
+    let wanted = Wanted::of(alloc, NullHeap::new(alloc), 65_508)?;
+    show_room(rt, "null", 65_508, wanted)
+}
+
+/// Runs every case.
+fn run_all(rt: &impl Print, alloc: Global) -> Result<()> {
     for case in CASES {
-        run_case(rt, alloc, DrcHeap::new(alloc), "counting", case)?;
-        run_case(rt, alloc, CopyingHeap::new(alloc), "copying", case)?;
-        run_case(rt, alloc, NullHeap::new(alloc), "null", case)?;
+        run_case(rt, alloc, case)?;
     }
-    show_room(rt, alloc, DrcHeap::new(alloc), "counting", 65_488)?;
-    show_room(rt, alloc, CopyingHeap::new(alloc), "copying", 32_736)?;
-    show_room(rt, alloc, NullHeap::new(alloc), "null", 65_508)
+    run_rooms(rt, alloc)
 }
 
 fn main(rt: HostRuntime) -> Result<()> {
@@ -72,5 +70,5 @@ fn main(rt: HostRuntime) -> Result<()> {
             return show_times(&rt, alloc);
         }
     }
-    run_cases(&rt, alloc)
+    run_all(&rt, alloc)
 }

@@ -8,9 +8,27 @@ use anyhow::{Result, bail};
 use gc_heap::GcHeap;
 use gc_mutator::{Mutator, MutatorFault};
 use std::alloc::Global;
+use std::fmt;
+
+/// How many bytes the calls that found no room wanted.
+#[derive(Clone, Copy, Debug, PartialEq, Eq)]
+pub(crate) struct Wanted {
+    /// An array that is a byte longer than the longest one.
+    longer: u64,
+    /// A struct behind the longest array.
+    behind: u64,
+}
+
+impl fmt::Display for Wanted {
+    fn fmt<W: fmt::Write>(&self, f: &mut fmt::Formatter<W>) -> fmt::Result {
+        let longer = self.longer;
+        let behind = self.behind;
+        write!(f, "a byte more wants {longer}, a struct behind it {behind}")
+    }
+}
 
 /// How many bytes a call that found no room wants.
-fn wanted(answer: Result<usize, MutatorFault>) -> Result<u64> {
+fn bytes_wanted(answer: Result<usize, MutatorFault>) -> Result<u64> {
     match answer {
         Ok(_) => bail!("there was room"),
         Err(MutatorFault::NoRoom(bytes)) => Ok(bytes),
@@ -18,24 +36,18 @@ fn wanted(answer: Result<usize, MutatorFault>) -> Result<u64> {
     }
 }
 
-/// In one page an array of so many bytes fits, and one of a byte more doesn't; behind the first one
-/// there is no room for a struct.
-pub(crate) fn show_room<H: GcHeap + Drop>(
-    rt: &impl Print,
-    alloc: Global,
-    heap: H,
-    kind: &str,
-    length: u32,
-) -> Result<()>
-    requires sound { H.sound heap }
-    requires detached { H.seen heap ≡ detached_in 0 }
-{
-    let (types, named) = Named::declare(alloc)?;
-    let mut mutator = Mutator::new(alloc, heap, types, 1)?;
-    let more = wanted(mutator.make_array(named.bytes, length.saturating_add(1)))?;
-    println!(rt; "{kind}: a page, and an array of a byte more than {length}: wants {more}")?;
-    mutator.make_array(named.bytes, length)?;
-    let behind = wanted(mutator.make_struct(named.cell))?;
-    println!(rt; "{kind}: one of {length} fits, and a struct behind it wants {behind}")?;
-    Ok(())
+impl Wanted {
+    /// In one page an array of so many bytes fits, and one of a byte more doesn't; behind the first one
+    /// there is no room for a struct.
+    pub(crate) fn of<H: GcHeap + Drop>(alloc: Global, heap: H, length: u32) -> Result<Wanted>
+        requires sound { H.sound heap }
+        requires detached { H.seen heap ≡ detached_in 0 }
+    {
+        let (types, named) = Named::declare(alloc)?;
+        let mut mutator = Mutator::new(alloc, heap, types, 1)?;
+        let longer = bytes_wanted(mutator.make_array(named.bytes, length.saturating_add(1)))?;
+        mutator.make_array(named.bytes, length)?;
+        let behind = bytes_wanted(mutator.make_struct(named.cell))?;
+        Ok(Wanted { longer, behind })
+    }
 }

@@ -12,11 +12,19 @@ use std::time::Instant;
 /// How many calls or objects are timed.
 const MANY: u32 = 100_000;
 
-/// What was timed, and the nanoseconds that one took.
-fn show(rt: &impl Print, what: &str, nanoseconds: u128) -> Result<()> {
-    let each = nanoseconds / u128::from(MANY);
-    println!(rt; "{what}: {each} ns")?;
-    Ok(())
+/// The nanoseconds that each of these took.
+#[derive(Clone, Copy, Debug)]
+struct Times {
+    cloned_and_dropped: u64,
+    made_and_written: u64,
+    kept_by_a_collection: u64,
+    freed_by_a_collection: u64,
+}
+
+/// The nanoseconds of one of the calls that were made since then.
+fn each(rt: &impl Clock, start: Instant) -> Result<u64> {
+    let seconds = start.elapsed(rt)?;
+    Ok((seconds.as_nanos() / u128::from(MANY)) as u64)
 }
 
 /// Copies a root and drops the copy, so often.
@@ -40,22 +48,35 @@ fn make_chain(m: &mut Mutator<DrcHeap>, named: &Named) -> Result<usize, MutatorF
     Ok(head)
 }
 
-/// Times barriers, a chain that is made, collections that keep it, and one that frees it.
-pub(crate) fn show_times<R: Print + Clock>(rt: &R, alloc: Global) -> Result<()> {
+/// Times barriers, a chain that is made, a collection that keeps it, and one that frees it.
+fn times_of(rt: &impl Clock, alloc: Global) -> Result<Times> {
     let (types, named) = Named::declare(alloc)?;
     let mut mutator = Mutator::new(alloc, DrcHeap::new(alloc), types, 64)?;
     let root = mutator.make_struct(named.cell)?;
     let start = Instant::now(rt)?;
     copy_and_drop(&mut mutator, root)?;
-    show(rt, "a word cloned and dropped", start.elapsed(rt)?.as_nanos())?;
+    let cloned_and_dropped = each(rt, start)?;
     let start = Instant::now(rt)?;
     let head = make_chain(&mut mutator, &named)?;
-    show(rt, "a struct made, written and rooted", start.elapsed(rt)?.as_nanos())?;
+    let made_and_written = each(rt, start)?;
     let start = Instant::now(rt)?;
     mutator.collect();
-    show(rt, "a struct kept by a collection", start.elapsed(rt)?.as_nanos())?;
+    let kept_by_a_collection = each(rt, start)?;
     mutator.drop_root(head)?;
     let start = Instant::now(rt)?;
     mutator.collect();
-    show(rt, "a struct freed by a collection", start.elapsed(rt)?.as_nanos())
+    let freed_by_a_collection = each(rt, start)?;
+    Ok(Times {
+        cloned_and_dropped,
+        made_and_written,
+        kept_by_a_collection,
+        freed_by_a_collection,
+    })
+}
+
+/// Shows the times.
+pub(crate) fn show_times<R: Print + Clock>(rt: &R, alloc: Global) -> Result<()> {
+    let times = times_of(rt, alloc)?;
+    println!(rt; "{times:?}")?;
+    Ok(())
 }
