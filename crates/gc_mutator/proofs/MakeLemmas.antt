@@ -1,0 +1,213 @@
+-- Making objects: their layouts are such as heaps take, and with its root each leaves a heap in which a
+-- collection may begin.
+use Rattle.std.proofs.Common.{◌≡◌, ℕ, ◌+◌, ◌≤◌, ◌<◌, ◌^◌, ◌⊎◌, inl, inr, Bool, true, false, List, [], ◌∷◌, ◌++◌, length, map, get_or, Option, Some, None, Result, Ok, Err, OnOk, is_some, refl, sym, ap, subst, ◌∙◌, arith}
+use Rattle.std.specs.Prelude.{All, slice_get, ◌↔◌, IsErrOf, is_err, option_map}
+use Rattle.std.specs.FinMap.{FinMap, get, insert, remove, same_map, nat_cmp-IsAntisymmetric, gets}
+use Rattle.std.specs.Cmp.{nat_cmp_total}
+use Rattle.std.specs.Ordering.{nat_cmp}
+use Rattle.std.proofs.lemmas.Grind.{common_steps}
+use Rattle.std.proofs.lemmas.Option.{none-some}
+use Rattle.std.proofs.lemmas.List.Elements.{Contains-get_or}
+use Rattle.gc_types.specs.declared.kind.Layouts.{Layouts}
+use Rattle.gc_types.specs.declared.kind.Layouts.TheVariants.{Null, Counting, Copying}
+use Rattle.gc_types.specs.declared.kind.VMGcKind.TheVariants.{StructRef, ArrayRef, ExnRef, ExternRef}
+use Rattle.gc_types.specs.declared.value.FieldType.{FieldType}
+use Rattle.gc_types.specs.declared.layout.GcStructLayout.{GcStructLayout}
+use Rattle.gc_types.specs.declared.layout.GcArrayLayout.{GcArrayLayout}
+use Rattle.gc_types.specs.Declarations.{Declaration, Shape, struct_of, array_of, exn_of, func_of, constant_field, elem_at}
+use Rattle.gc_types.specs.Layouts.{struct_base, exception_base, array_base, round_up, ref_offsets, field_layouts, fields_end, struct_layout, exn_layout, array_layout, shape_layout, declaration_layout, layout_at, array_layout_at}
+use Rattle.gc_roots.specs.Roots.{Root, root}
+use Rattle.gc_model.specs.Views.{HeapObject, HeapView}
+use Rattle.gc_model.proofs.Layouts.{layout_low}
+use Rattle.gc_heap.specs.Objects.{first_offset, external}
+use Rattle.gc_heap.specs.References.{IsTraceable, LayoutTraces, ArrayTraces}
+use Rattle.gc_heap.specs.Content.{IsHeap}
+use Rattle.gc_heap.specs.Heap.{Allocated, exn_or_struct, layout_kind, new_struct, new_array, array_size}
+use Rattle.gc_heap.specs.Collection.{CanCollect, has_host}
+use Rattle.gc_heap.specs.declared.heap.HeapFault.{HeapFault}
+use Rattle.gc_heap.specs.declared.heap.HeapFault.TheVariants as heap_fault
+use Rattle.gc_heap.proofs.AddedLemmas.{start, IsBlank, OwnsHost, owns_none, owns_new, more_hosts, blank_struct, blank_array, blank_external}
+use Rattle.gc_heap.proofs.MadeLemmas.{can_collect_made}
+use Rattle.gc_heap.proofs.SpacedLemmas.{contains_in, Spaced-in, spaced_fields, fields_from, aligned_fields, ref_width}
+use Rattle.gc_tables.specs.declared.host_data.HostFault.{HostFault}
+use Rattle.gc_tables.specs.declared.host_data.HostFault.TheVariants as host_fault
+use Rattle.gc_memory.specs.Offsets.{external_size}
+use Rattle.gc_mutator.specs.Mutators.{MutatorView}
+use Rattle.gc_mutator.specs.Makes.{Roots, MakesHost}
+use Rattle.gc_mutator.specs.declared.fault.MutatorFault.{MutatorFault}
+
+fields_traced : (base : ℕ) (fields : List FieldType) → All (IsTraceable base (fields_end base fields)) (ref_offsets (field_layouts base fields))
+fields_traced base fields = λ k d below.
+    let os : List ℕ = ref_offsets (field_layouts base fields) in
+    let among = contains_in os (get_or os k d) (Contains-get_or os k d below) in
+    let inside = Spaced-in base (fields_end base fields) os (get_or os k d) (spaced_fields base fields) among in
+    record { aligned = aligned_fields base fields (get_or os k d) among; from = inside.0; to = inside.1 }
+
+-- What a heap asks of the layout of a struct or an exception.
+pub record IsTakenLayout (layouts : Layouts) (layout : GcStructLayout) : Type 0 where
+  pub least : first_offset layouts (layout_kind layout) ≤ layout.size
+  pub traces : LayoutTraces layouts layout (first_offset layouts (layout_kind layout))
+
+struct_traces : (layouts : Layouts) (fields : List FieldType) → LayoutTraces layouts (struct_layout layouts fields) (struct_base layouts)
+struct_traces Null fields = tt
+struct_traces Counting fields = tt
+struct_traces Copying fields = fields_traced 12 fields
+
+exn_traces : (layouts : Layouts) (params : List FieldType) → LayoutTraces layouts (record { size = fields_end (exception_base layouts) params; is_exception = true; fields = field_layouts (exception_base layouts) params }) (exception_base layouts)
+exn_traces Null params = tt
+exn_traces Counting params = tt
+exn_traces Copying params = fields_traced 20 params
+
+shape_taken : (layouts : Layouts) (shape : Shape) (layout : GcStructLayout) → shape_layout layouts shape ≡ Some layout → IsTakenLayout layouts layout
+shape_taken layouts (struct_of fields) layout e =
+    let same : struct_layout layouts fields ≡ layout = cc in
+    subst (IsTakenLayout layouts) same (record { least = fields_from (struct_base layouts) fields; traces = struct_traces layouts fields })
+shape_taken layouts (array_of elem) layout e = absurd (none-some layout e)
+shape_taken layouts (exn_of params) layout e =
+    let same : exn_layout layouts params ≡ layout = cc in
+    subst (IsTakenLayout layouts) same (record { least = fields_from (exception_base layouts) (map constant_field params); traces = exn_traces layouts (map constant_field params) })
+shape_taken layouts (func_of params results) layout e = absurd (none-some layout e)
+
+declaration_taken : (layouts : Layouts) (d : Option Declaration) (layout : GcStructLayout) → declaration_layout layouts d ≡ Some layout → IsTakenLayout layouts layout
+declaration_taken layouts None layout e = absurd (none-some layout e)
+declaration_taken layouts (Some d) layout e = shape_taken layouts d.shape layout e
+
+pub taken_layout : (layouts : Layouts) (types : List Declaration) (ty : ℕ) (layout : GcStructLayout) → layout_at layouts types ty ≡ Some layout → IsTakenLayout layouts layout
+taken_layout layouts types ty layout declared = declaration_taken layouts (slice_get types ty) layout declared
+
+-- What a heap asks of the layout of an array.
+pub record IsTakenArray (layouts : Layouts) (layout : GcArrayLayout) : Type 0 where
+  pub least : array_base layouts ≤ layout.base_size
+  pub traces : ArrayTraces layouts layout
+
+array_traces : (layouts : Layouts) (elem : FieldType) → ArrayTraces layouts (array_layout layouts elem)
+array_traces Null elem = tt
+array_traces Counting elem = tt
+array_traces Copying elem = λ is. let four = ref_width elem.element_type is in (ap (round_up 16) four, four)
+
+elem_taken : (layouts : Layouts) (elem : Option FieldType) (layout : GcArrayLayout) → option_map (array_layout layouts) elem ≡ Some layout → IsTakenArray layouts layout
+elem_taken layouts None layout e = absurd (none-some layout e)
+elem_taken layouts (Some elem) layout e =
+    let same : array_layout layouts elem ≡ layout = cc in
+    subst (IsTakenArray layouts) same (record { least = layout_low (array_base layouts) (elem ∷ []) 0 _ refl; traces = array_traces layouts elem })
+
+pub taken_array : (layouts : Layouts) (types : List Declaration) (ty : ℕ) (layout : GcArrayLayout) → array_layout_at layouts types ty ≡ Some layout → IsTakenArray layouts layout
+taken_array layouts types ty layout declared = elem_taken layouts (elem_at types ty) layout declared
+
+-- nothing was made
+unchanged : (layouts : Layouts) (types : List Declaration) (old new : HeapView) (roots roots' : List Root) (hosts : ℕ → Bool) → CanCollect layouts (start old roots types hosts) → new ≡ old → roots' ≡ roots → CanCollect layouts (start new roots' types hosts)
+unchanged layouts types old new roots roots' hosts can seen same =
+    subst (λ rs. CanCollect layouts (start new rs types hosts)) (sym same) (subst (λ (v : HeapView). CanCollect layouts (start v roots types hosts)) (sym seen) can)
+
+-- nor was the host table changed
+pub unchanged_hosts : (layouts : Layouts) (types : List Declaration) (old new : HeapView) (roots roots' : List Root) (entries back : FinMap nat_cmp ℕ) → CanCollect layouts (start old roots types (has_host entries)) → new ≡ old → roots' ≡ roots
+    → back ≡ entries → CanCollect layouts (start new roots' types (has_host back))
+unchanged_hosts layouts types old new roots roots' entries back can seen same is_back =
+    subst (λ (m : FinMap nat_cmp ℕ). CanCollect layouts (start new roots' types (has_host m))) (sym is_back) (unchanged layouts types old new roots roots' (has_host entries) can seen same)
+
+-- a blank object was made and rooted, or nothing was
+made : (layouts : Layouts) (types : List Declaration) (old new : HeapView) (roots roots' : List Root) (hosts : ℕ → Bool) (o : HeapObject) (size : ℕ) (answer : Result (Result ℕ ℕ) HeapFault) (result : Result ℕ MutatorFault) → IsHeap layouts old
+    → CanCollect layouts (start old roots types hosts) → IsBlank layouts types o → OwnsHost hosts old o → Allocated layouts old new o size answer → Roots answer roots roots' result → CanCollect layouts (start new roots' types hosts)
+made layouts types old new roots roots' hosts o size (Ok (Ok place)) result heap can blank owns allocated rooted =
+    subst (λ rs. CanCollect layouts (start new rs types hosts)) (sym rooted.0) (can_collect_made layouts types old new roots 0 place o size hosts allocated heap can blank owns)
+made layouts types old new roots roots' hosts o size (Ok (Err need)) result heap can blank owns allocated rooted = unchanged layouts types old new roots roots' hosts can allocated.same rooted.0
+made layouts types old new roots roots' hosts o size (Err heap_fault.TooLarge) result heap can blank owns allocated rooted = unchanged layouts types old new roots roots' hosts can allocated.1 rooted.0
+made layouts types old new roots roots' hosts o size (Err heap_fault.Memory) result heap can blank owns allocated rooted = unchanged layouts types old new roots roots' hosts can allocated rooted.0
+
+not_external : (is_exception : Bool) → exn_or_struct is_exception ≡ ExternRef → ⊥
+not_external true e = absurd (cc)
+not_external false e = absurd (cc)
+
+pub struct_made : (layouts : Layouts) (types : List Declaration) (old new : HeapView) (roots room roots' : List Root) (hosts : ℕ → Bool) (ty : ℕ) (layout : GcStructLayout) (answer : Result (Result ℕ ℕ) HeapFault) (result : Result ℕ MutatorFault) → IsHeap layouts old
+    → CanCollect layouts (start old roots types hosts) → layout_at layouts types ty ≡ Some layout → Allocated layouts old new (new_struct layouts ty layout) layout.size answer → room ≡ roots → Roots answer room roots' result → CanCollect layouts (start new roots' types hosts)
+struct_made layouts types old new roots room roots' hosts ty layout answer result heap can declared allocated same rooted =
+    made layouts types old new roots roots' hosts (new_struct layouts ty layout) layout.size answer result heap can (blank_struct layouts types ty layout declared)
+    (owns_none hosts old (new_struct layouts ty layout) (not_external layout.is_exception)) allocated (subst (λ rs. Roots answer rs roots' result) same rooted)
+
+array_is : ArrayRef ≡ ExternRef → ⊥
+array_is e = cc
+
+pub array_made : (layouts : Layouts) (types : List Declaration) (old new : HeapView) (roots room roots' : List Root) (hosts : ℕ → Bool) (ty count : ℕ) (layout : GcArrayLayout) (answer answer' : Result (Result ℕ ℕ) HeapFault) (result : Result ℕ MutatorFault) → IsHeap layouts old
+    → CanCollect layouts (start old roots types hosts) → array_layout_at layouts types ty ≡ Some layout → count < 2 ^ 32 → Allocated layouts old new (new_array layouts ty count layout) (array_size layout count) answer → answer' ≡ answer
+    → room ≡ roots → Roots answer' room roots' result → CanCollect layouts (start new roots' types hosts)
+array_made layouts types old new roots room roots' hosts ty count layout answer answer' result heap can declared small allocated alike same rooted =
+    made layouts types old new roots roots' hosts (new_array layouts ty count layout) (array_size layout count) answer result heap can (blank_array layouts types ty count layout small declared)
+    (owns_none hosts old (new_array layouts ty count layout) array_is) allocated (subst (λ rs. Roots answer rs roots' result) same (subst (λ a. Roots a room roots' result) alike rooted))
+
+host_there : {D : Type 0} (entries : FinMap nat_cmp D) (id : ℕ) (value : D) → has_host (insert entries id value) id ≡ true
+host_there entries id value = grind (arith, common_steps, gets)
+
+host_more : {D : Type 0} (entries : FinMap nat_cmp D) (id q : ℕ) (value : D) → has_host entries q ≡ true → has_host (insert entries id value) q ≡ true
+host_more entries id q value is = grind (arith, common_steps, gets)
+
+host_back : (entries : FinMap nat_cmp ℕ) (id value q : ℕ) → get entries id ≡ None → get (remove (insert entries id value) id) q ≡ get entries q
+host_back entries id value q free = grind (arith, common_steps, gets)
+
+-- a host value that was taken back
+pub taken_back : (entries more less : FinMap nat_cmp ℕ) (id value : ℕ) (result : Result ℕ HostFault) → get entries id ≡ None → more ≡ insert entries id value → OnOk result (less ≡ remove more id)
+    → (IsErrOf result host_fault.BadHostDataId ↔ (get more id ≡ None)) → less ≡ entries
+taken_back entries more less id value (Ok back) free added removed bad =
+    removed ∙ ap (λ (m : FinMap nat_cmp ℕ). remove m id) added ∙ same_map nat_cmp_total nat_cmp-IsAntisymmetric _ _ (λ q. host_back entries id value q free)
+taken_back entries more less id value (Err host_fault.BadHostDataId) free added removed bad =
+    let none : get more id ≡ None = bad.0 refl in
+    let some : is_some (get more id) ≡ true = ap (λ (m : FinMap nat_cmp ℕ). has_host m id) added ∙ host_there entries id value in
+    absurd (cc)
+
+-- an external object was made with its host value and rooted, or nothing was
+pub host_made : (layouts : Layouts) (types : List Declaration) (old new : HeapView) (roots room roots' : List Root) (entries more : FinMap nat_cmp ℕ) (id value size : ℕ) (answer answer' : Result (Result ℕ ℕ) HeapFault) (result : Result ℕ MutatorFault) → IsHeap layouts old
+    → CanCollect layouts (start old roots types (has_host entries)) → get entries id ≡ None → more ≡ insert entries id value → id + 1 < 2 ^ 32 → Allocated layouts old new (external id) size answer → answer' ≡ answer
+    → room ≡ roots → Roots answer' room roots' result → CanCollect layouts (start new roots' types (has_host more))
+host_made layouts types old new roots room roots' entries more id value size answer answer' result heap can free added small allocated alike same rooted =
+    let there : has_host more id ≡ true = ap (λ (m : FinMap nat_cmp ℕ). has_host m id) added ∙ host_there entries id value in
+    let kept : (q : ℕ) → has_host entries q ≡ true → has_host more q ≡ true = λ q is. ap (λ (m : FinMap nat_cmp ℕ). has_host m q) added ∙ host_more entries id q value is in
+    made layouts types old new roots roots' (has_host more) (external id) size answer result heap (more_hosts layouts types old roots (has_host entries) (has_host more) can kept) (blank_external layouts types id)
+    (owns_new layouts types old roots (has_host entries) (has_host more) id can small (ap is_some free) there) allocated (subst (λ rs. Roots answer rs roots' result) same (subst (λ a. Roots a room roots' result) alike rooted))
+
+-- nothing was made, so that the heap and the roots are as they were
+pub nothing_made : (layouts : Layouts) (old new : HeapView) (roots room roots' : List Root) (o : HeapObject) (size : ℕ) (answer answer' : Result (Result ℕ ℕ) HeapFault) (result : Result ℕ MutatorFault) → is_err result ≡ true
+    → Allocated layouts old new o size answer → answer' ≡ answer → room ≡ roots → Roots answer' room roots' result → (new ≡ old) × (roots' ≡ roots)
+nothing_made layouts old new roots room roots' o size answer answer' result err allocated alike same rooted = nothing answer allocated (subst (λ rs. Roots answer rs roots' result) same (subst (λ a. Roots a room roots' result) alike rooted))
+  where
+    nothing : (answer : Result (Result ℕ ℕ) HeapFault) → Allocated layouts old new o size answer → Roots answer roots roots' result → (new ≡ old) × (roots' ≡ roots)
+    nothing (Ok (Ok place)) allocated rooted = let ok : is_err result ≡ false = ap is_err rooted.1 in absurd (cc)
+    nothing (Ok (Err need)) allocated rooted = (allocated.same, rooted.0)
+    nothing (Err heap_fault.TooLarge) allocated rooted = (allocated.1, rooted.0)
+    nothing (Err heap_fault.Memory) allocated rooted = (allocated, rooted.0)
+
+-- the view of a mutator with these
+abbrev pub view : HeapView → List Root → List Declaration → FinMap nat_cmp ℕ → MutatorView
+view heap roots types hosts = record { heap = heap; roots = roots; types = types; hosts = hosts }
+
+module _ (layouts : Layouts) (types : List Declaration) (old new : HeapView) (roots room roots' : List Root) (entries more : FinMap nat_cmp ℕ) (id value : ℕ) (answer answer' : Result (Result ℕ ℕ) HeapFault) (result : Result ℕ MutatorFault)
+    (allocated : Allocated layouts old new (external id) (external_size layouts) answer) (alike : answer' ≡ answer) (same : room ≡ roots) (rooted : Roots answer' room roots' result) where
+  of_answer : Roots answer roots roots' result
+  of_answer = subst (λ rs. Roots answer rs roots' result) same (subst (λ a. Roots a room roots' result) alike rooted)
+
+  -- an external object was made with its host value
+  pub host_added : is_err result ≡ false → more ≡ insert entries id value → MakesHost layouts (view old roots types entries) (view new roots' types more) value result
+  host_added ok added = by_answer answer allocated of_answer
+    where
+      by_answer : (answer : Result (Result ℕ ℕ) HeapFault) → Allocated layouts old new (external id) (external_size layouts) answer → Roots answer roots roots' result → MakesHost layouts (view old roots types entries) (view new roots' types more) value result
+      by_answer (Ok (Ok place)) allocated rooted =
+          subst (MakesHost layouts (view old roots types entries) (view new roots' types more) value) (sym rooted.1) (record {
+            id = id;
+            added = record { place = place; added = allocated; rooted = ap (λ rs. view new rs types more) rooted.0; index_is = refl };
+            hosts = added;
+          })
+      by_answer (Ok (Err need)) allocated rooted = let err : is_err result ≡ true = ap is_err rooted.1 in absurd (cc)
+      by_answer (Err heap_fault.TooLarge) allocated rooted = let err : is_err result ≡ true = ap is_err rooted.1 in absurd (cc)
+      by_answer (Err heap_fault.Memory) allocated rooted = let err : is_err result ≡ true = ap is_err rooted.1 in absurd (cc)
+
+  -- or nothing was
+  pub host_refused : is_err result ≡ true → (back : FinMap nat_cmp ℕ) → back ≡ entries → MakesHost layouts (view old roots types entries) (view new roots' types back) value result
+  host_refused err back is_back = by_answer answer allocated of_answer
+    where
+      as_before : new ≡ old → roots' ≡ roots → view new roots' types back ≡ view old roots types entries
+      as_before seen same = ap (λ (h : HeapView). view h roots' types back) seen ∙ ap (λ rs. view old rs types back) same ∙ ap (view old roots types) is_back
+
+      by_answer : (answer : Result (Result ℕ ℕ) HeapFault) → Allocated layouts old new (external id) (external_size layouts) answer → Roots answer roots roots' result → MakesHost layouts (view old roots types entries) (view new roots' types back) value result
+      by_answer (Ok (Ok place)) allocated rooted = let ok : is_err result ≡ false = ap is_err rooted.1 in absurd (cc)
+      by_answer (Ok (Err need)) allocated rooted =
+          subst (MakesHost layouts (view old roots types entries) (view new roots' types back) value) (sym rooted.1) ((allocated.no_room, allocated.asked), as_before allocated.same rooted.0)
+      by_answer (Err heap_fault.TooLarge) allocated rooted = subst (MakesHost layouts (view old roots types entries) (view new roots' types back) value) (sym rooted.1) (as_before allocated.1 rooted.0)
+      by_answer (Err heap_fault.Memory) allocated rooted = subst (MakesHost layouts (view old roots types entries) (view new roots' types back) value) (sym rooted.1) (as_before allocated rooted.0)

@@ -1,0 +1,67 @@
+-- What making an object answers and leaves.
+use Rattle.std.specs.Prelude.{◌≡◌, ℕ, ◌≤◌, ◌^◌, ◌∷◌, [], ◌++◌, false, List, Result, Ok, Err, Some, length}
+use Rattle.std.specs.FinMap.{insert}
+use Rattle.gc_types.specs.declared.kind.Layouts.{Layouts}
+use Rattle.gc_types.specs.declared.layout.GcStructLayout.{GcStructLayout}
+use Rattle.gc_types.specs.declared.layout.GcArrayLayout.{GcArrayLayout}
+use Rattle.gc_types.specs.Layouts.{layout_at, array_layout_at}
+use Rattle.gc_roots.specs.Roots.{Root, root}
+use Rattle.gc_memory.specs.Offsets.{external_size}
+use Rattle.gc_model.specs.Sizes.{need_of}
+use Rattle.gc_model.specs.Views.{HeapObject, HeapView}
+use Rattle.gc_heap.specs.Objects.{external}
+use Rattle.gc_heap.specs.Heap.{AddsObject, HasRoom, IsTooLarge, new_struct, new_array, array_size}
+use Rattle.gc_heap.specs.declared.heap.HeapFault.{HeapFault}
+use Rattle.gc_heap.specs.declared.heap.HeapFault.TheVariants as heap_fault
+use Rattle.gc_mutator.specs.Mutators.{MutatorView, with_root}
+use Rattle.gc_mutator.specs.declared.fault.MutatorFault.{MutatorFault}
+use Rattle.gc_mutator.specs.declared.fault.MutatorFault.TheVariants as fault
+
+-- the answer of an allocation becomes that of a mutator's call: the object has a new root, which is the
+-- last one, or there is none
+abbrev pub Roots : Result (Result ℕ ℕ) HeapFault → List Root → List Root → Result ℕ MutatorFault → Type 0
+Roots (Ok (Ok place)) old new result = (new ≡ old ++ root 0 false place ∷ []) × (result ≡ Ok (length old))
+Roots (Ok (Err need)) old new result = (new ≡ old) × (result ≡ Err (fault.NoRoom need))
+Roots (Err heap_fault.TooLarge) old new result = (new ≡ old) × (result ≡ Err fault.TooLarge)
+Roots (Err heap_fault.Memory) old new result = (new ≡ old) × (result ≡ Err fault.Memory)
+
+-- An object was added, with a root of its own.
+pub record AddsRooted (layouts : Layouts) (old new : MutatorView) (object : HeapObject) (size index : ℕ) : Type 0 where
+  pub place : ℕ
+  pub added : AddsObject layouts old.heap new.heap place object size
+  pub rooted : new ≡ record (with_root old new.heap false place) { hosts = new.hosts }
+  pub index_is : index ≡ length old.roots
+
+-- Why an object of that size isn't made, where its type is declared.
+abbrev pub Refuses : Layouts → MutatorView → ℕ → MutatorFault → Type 0
+Refuses layouts m size (fault.NoRoom need) = (HasRoom layouts m.heap size → ⊥) × (need ≡ need_of layouts size)
+Refuses layouts m size fault.TooLarge = IsTooLarge layouts size
+Refuses layouts m size fault.Full = 2 ^ 31 ≤ length m.roots
+Refuses layouts m size fault.Memory = Unit {0}
+Refuses layouts m size _ = ⊥
+
+-- what making an object of that size answers and leaves
+abbrev pub Makes : Layouts → MutatorView → MutatorView → HeapObject → ℕ → Result ℕ MutatorFault → Type 0
+Makes layouts old new object size (Ok index) = AddsRooted layouts old new object size index × (new.hosts ≡ old.hosts)
+Makes layouts old new object size (Err why) = Refuses layouts old size why × (new ≡ old)
+
+-- the same of a struct or an exception of a declared type, and of an array
+abbrev pub MakesStruct : Layouts → MutatorView → MutatorView → ℕ → Result ℕ MutatorFault → Type 0
+MakesStruct layouts old new ty result =
+    (layout : GcStructLayout) → layout_at layouts old.types ty ≡ Some layout → Makes layouts old new (new_struct layouts ty layout) layout.size result
+
+abbrev pub MakesArray : Layouts → MutatorView → MutatorView → ℕ → ℕ → Result ℕ MutatorFault → Type 0
+MakesArray layouts old new ty count result =
+    (layout : GcArrayLayout) → array_layout_at layouts old.types ty ≡ Some layout → Makes layouts old new (new_array layouts ty count layout) (array_size layout count) result
+
+-- an external object was added with a root and a new host value of its own
+pub record AddsHost (layouts : Layouts) (old new : MutatorView) (value index : ℕ) : Type 0 where
+  pub id : ℕ
+  pub added : AddsRooted layouts old new (external id) (external_size layouts) index
+  pub hosts : new.hosts ≡ insert old.hosts id value
+
+-- what making an external object answers and leaves
+abbrev pub MakesHost : Layouts → MutatorView → MutatorView → ℕ → Result ℕ MutatorFault → Type 0
+MakesHost layouts old new value (Ok index) = AddsHost layouts old new value index
+MakesHost layouts old new value (Err (fault.NoRoom need)) = Refuses layouts old (external_size layouts) (fault.NoRoom need) × (new ≡ old)
+MakesHost layouts old new value (Err why) = new ≡ old

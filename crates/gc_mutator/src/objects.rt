@@ -1,0 +1,120 @@
+//! Making objects, each with a root of its own.
+
+ghost use Rattle.std.specs.Prelude.{◌≡◌, ◌≤◌, ◌<◌, ◌^◌, ◌↔◌, OnOk, OnErr, IfErr, IsErrOf, None, length};
+ghost use Rattle.gc_types.specs.Layouts.{layout_at, array_layout_at};
+ghost use Rattle.gc_mutator.specs.Makes.{Roots, MakesStruct, MakesArray, MakesHost};
+
+use crate::fault::MutatorFault;
+use crate::mutator::Mutator;
+use crate::rooting::{OBJECT, make_room};
+use gc_heap::{GcHeap, HeapFault};
+use gc_refs::{VMArrayRef, VMExternRef, VMGcRef};
+use gc_roots::GcRootsList;
+use gc_tables::SlabFault;
+use gc_types::VMSharedTypeIndex;
+
+/// Gives a new object its root, which is the last one, or tells why there is none.
+fn root_new(
+    roots: &mut GcRootsList,
+    made: Result<Result<VMGcRef, u64>, HeapFault>,
+) -> Result<usize, MutatorFault>
+    requires { 0 < roots.old.spare }
+    ensures { Roots made roots.old.roots roots.new.roots result }
+{
+    match made {
+        Ok(Ok(object)) => {
+            let index = roots.len();
+            roots.add_vmgcref_root(OBJECT, object);
+            Ok(index)
+        }
+        Ok(Err(need)) => Err(MutatorFault::NoRoom(need)),
+        Err(HeapFault::TooLarge) => Err(MutatorFault::TooLarge),
+        Err(HeapFault::Memory) => Err(MutatorFault::Memory),
+    }
+}
+
+/// The same answer of an allocation, with the word of the array alone.
+fn array_word(
+    made: Result<Result<VMArrayRef, u64>, HeapFault>,
+) -> Result<Result<VMGcRef, u64>, HeapFault>
+    ensures { result ≡ made }
+{
+    match made {
+        Ok(Ok(array)) => Ok(Ok(VMGcRef::from(array))),
+        Ok(Err(need)) => Ok(Err(need)),
+        Err(fault) => Err(fault),
+    }
+}
+
+/// The same answer of an allocation, with the word of the external object alone.
+fn external_word(
+    made: Result<Result<VMExternRef, u64>, HeapFault>,
+) -> Result<Result<VMGcRef, u64>, HeapFault>
+    ensures { result ≡ made }
+{
+    match made {
+        Ok(Ok(external)) => Ok(Ok(VMGcRef::from(external))),
+        Ok(Err(need)) => Ok(Err(need)),
+        Err(fault) => Err(fault),
+    }
+}
+
+impl<H: GcHeap> Mutator<H> {
+    /// Makes a struct or an exception of a declared type, whose fields are 0 or null, and answers the
+    /// index of its root.
+    pub fn make_struct(&mut self, ty: VMSharedTypeIndex) -> Result<usize, MutatorFault>
+        ensures made { MakesStruct H.KIND self.old self.new ty result }
+        ensures no_type { layout_at H.KIND self.old.types ty ≡ None → result ≡ Err MutatorFault.NoType }
+        ensures err { OnErr result (self.new ≡ self.old) }
+    {
+        let Some(layout) = self.types.struct_layout(H::KIND, ty) else {
+            return Err(MutatorFault::NoType);
+        };
+        match make_room(&mut self.roots) {
+            Ok(()) => {}
+            Err(fault) => return Err(fault),
+        }
+        let made = self.heap.alloc_uninit_struct_or_exn(ty, layout);
+        root_new(&mut self.roots, made)
+    }
+
+    /// Makes an array of a declared type, whose elements are 0 or null, and answers the index of its root.
+    pub fn make_array(&mut self, ty: VMSharedTypeIndex, length: u32) -> Result<usize, MutatorFault>
+        ensures made { MakesArray H.KIND self.old self.new ty length result }
+        ensures no_type { array_layout_at H.KIND self.old.types ty ≡ None → result ≡ Err MutatorFault.NoType }
+        ensures err { OnErr result (self.new ≡ self.old) }
+    {
+        let Some(layout) = self.types.array_layout(H::KIND, ty) else {
+            return Err(MutatorFault::NoType);
+        };
+        match make_room(&mut self.roots) {
+            Ok(()) => {}
+            Err(fault) => return Err(fault),
+        }
+        let made = array_word(self.heap.alloc_uninit_array(ty, length, layout));
+        root_new(&mut self.roots, made)
+    }
+
+    /// Makes an external object with a new host value, and answers the index of its root. A host value
+    /// whose object found no room is taken back.
+    pub fn make_host(&mut self, value: u8) -> Result<usize, MutatorFault>
+        ensures { MakesHost H.KIND self.old self.new value result }
+    {
+        match make_room(&mut self.roots) {
+            Ok(()) => {}
+            Err(fault) => return Err(fault),
+        }
+        let id = match self.hosts.alloc(value) {
+            Ok(id) => id,
+            Err(SlabFault::Full(_)) => return Err(MutatorFault::Full),
+            Err(SlabFault::Memory(_)) => return Err(MutatorFault::Memory),
+        };
+        let _bounded = id.into_raw();
+        let made = external_word(self.heap.alloc_externref(id));
+        let rooted = root_new(&mut self.roots, made);
+        if rooted.is_err() {
+            let _taken_back = self.hosts.dealloc(id);
+        }
+        rooted
+    }
+}
