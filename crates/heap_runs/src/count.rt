@@ -4,8 +4,8 @@ ghost use Rattle.std.specs.Prelude.{◌≡◌};
 ghost use Rattle.gc_model.specs.Views.{detached_in};
 
 use crate::cases::Case;
+use crate::fault::RunFault;
 use crate::named::Named;
-use anyhow::Result;
 use gc_heap::GcHeap;
 use gc_mutator::Mutator;
 use std::alloc::Global;
@@ -73,7 +73,11 @@ pub(crate) struct Outcome {
 
 impl Outcome {
     /// Runs a case on a new heap.
-    pub(crate) fn of<H: GcHeap + Drop>(alloc: Global, heap: H, case: Case) -> Result<Outcome>
+    pub(crate) fn of<H: GcHeap + Drop>(
+        alloc: Global,
+        heap: H,
+        case: Case,
+    ) -> Result<Outcome, RunFault>
         requires sound { H.sound heap }
         requires detached { H.seen heap ≡ detached_in 0 }
     {

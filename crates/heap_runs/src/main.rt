@@ -4,15 +4,16 @@
 
 mod cases;
 mod count;
+mod fault;
 mod named;
 mod room;
 mod times;
 
 use crate::cases::{CASES, Case};
 use crate::count::Outcome;
+use crate::fault::RunFault;
 use crate::room::Wanted;
 use crate::times::show_times;
-use anyhow::Result;
 use gc_copying::CopyingHeap;
 use gc_drc::DrcHeap;
 use gc_heap::NullHeap;
@@ -20,7 +21,7 @@ use std::alloc::Global;
 use std::env;
 
 /// Shows what came of a case on one kind of heap.
-fn show_case(rt: &impl Print, kind: &str, case: Case, outcome: Outcome) -> Result<()> {
+fn show_case(rt: &impl Print, kind: &str, case: Case, outcome: Outcome) -> Result<(), RunFault> {
     let name = case.name();
     println!(rt; "{kind}: {name}")?;
     println!(rt; "{outcome}")?;
@@ -28,14 +29,14 @@ fn show_case(rt: &impl Print, kind: &str, case: Case, outcome: Outcome) -> Resul
 }
 
 /// Shows what the allocations in a page wanted.
-fn show_room(rt: &impl Print, kind: &str, length: u32, wanted: Wanted) -> Result<()> {
+fn show_room(rt: &impl Print, kind: &str, length: u32, wanted: Wanted) -> Result<(), RunFault> {
     println!(rt; "{kind}: an array of {length} bytes fits in a page")?;
     println!(rt; "  {wanted}")?;
     Ok(())
 }
 
 /// Runs a case on each kind of heap.
-fn run_case(rt: &impl Print, alloc: Global, case: Case) -> Result<()> {
+fn run_case(rt: &impl Print, alloc: Global, case: Case) -> Result<(), RunFault> {
     let outcome = Outcome::of(alloc, DrcHeap::new(alloc), case)?;
     show_case(rt, "counting", case, outcome)?;
     let outcome = Outcome::of(alloc, CopyingHeap::new(alloc), case)?;
@@ -45,7 +46,7 @@ fn run_case(rt: &impl Print, alloc: Global, case: Case) -> Result<()> {
 }
 
 /// Fills a page of each kind of heap.
-fn run_rooms(rt: &impl Print, alloc: Global) -> Result<()> {
+fn run_rooms(rt: &impl Print, alloc: Global) -> Result<(), RunFault> {
     let wanted = Wanted::of(alloc, DrcHeap::new(alloc), 65_488)?;
     show_room(rt, "counting", 65_488, wanted)?;
     let wanted = Wanted::of(alloc, CopyingHeap::new(alloc), 32_736)?;
@@ -55,14 +56,14 @@ fn run_rooms(rt: &impl Print, alloc: Global) -> Result<()> {
 }
 
 /// Runs every case.
-fn run_all(rt: &impl Print, alloc: Global) -> Result<()> {
+fn run_all(rt: &impl Print, alloc: Global) -> Result<(), RunFault> {
     for case in CASES {
         run_case(rt, alloc, case)?;
     }
     run_rooms(rt, alloc)
 }
 
-fn main(rt: HostRuntime) -> Result<()> {
+fn main(rt: HostRuntime) -> Result<(), RunFault> {
     let alloc = rt.alloc();
     let words: Vec<String> = env::args(&rt)?.skip(1).collect(alloc)?;
     if let [word] = words.as_slice() {

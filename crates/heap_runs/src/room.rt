@@ -3,8 +3,8 @@
 ghost use Rattle.std.specs.Prelude.{◌≡◌};
 ghost use Rattle.gc_model.specs.Views.{detached_in};
 
+use crate::fault::RunFault;
 use crate::named::Named;
-use anyhow::{Result, bail};
 use gc_heap::GcHeap;
 use gc_mutator::{Mutator, MutatorFault};
 use std::alloc::Global;
@@ -28,18 +28,22 @@ impl fmt::Display for Wanted {
 }
 
 /// How many bytes a call that found no room wants.
-fn bytes_wanted(answer: Result<usize, MutatorFault>) -> Result<u64> {
+fn bytes_wanted(answer: Result<usize, MutatorFault>) -> Result<u64, RunFault> {
     match answer {
-        Ok(_) => bail!("there was room"),
+        Ok(_) => Err(RunFault::HadRoom),
         Err(MutatorFault::NoRoom(bytes)) => Ok(bytes),
-        Err(fault) => Err(fault)?,
+        Err(fault) => Err(RunFault::Mutator(fault)),
     }
 }
 
 impl Wanted {
     /// In one page an array of so many bytes fits, and one of a byte more doesn't; behind the first one
     /// there is no room for a struct.
-    pub(crate) fn of<H: GcHeap + Drop>(alloc: Global, heap: H, length: u32) -> Result<Wanted>
+    pub(crate) fn of<H: GcHeap + Drop>(
+        alloc: Global,
+        heap: H,
+        length: u32,
+    ) -> Result<Wanted, RunFault>
         requires sound { H.sound heap }
         requires detached { H.seen heap ≡ detached_in 0 }
     {

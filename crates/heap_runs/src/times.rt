@@ -1,8 +1,8 @@
 //! How long the calls of a counting heap take.
 
 use crate::cases::first_field;
+use crate::fault::RunFault;
 use crate::named::Named;
-use anyhow::Result;
 use gc_drc::DrcHeap;
 use gc_mutator::{Mutator, MutatorFault};
 use std::alloc::Global;
@@ -26,7 +26,7 @@ struct Times {
 }
 
 /// The nanoseconds of one of the calls that were made since then.
-fn each<R: Clock>(rt: &R, start: Instant) -> Result<u64> {
+fn each<R: Clock>(rt: &R, start: Instant) -> Result<u64, RunFault> {
     let nanoseconds = start.elapsed(rt)?.as_nanos();
     Ok(u64::try_from(nanoseconds / u128::from(MANY)).unwrap_or(u64::MAX))
 }
@@ -54,7 +54,11 @@ fn make_chain(m: &mut Mutator<DrcHeap>, named: &Named) -> Result<(), MutatorFaul
 }
 
 /// Times words that are cloned and dropped.
-fn time_of_copies<R: Clock>(rt: &R, m: &mut Mutator<DrcHeap>, named: &Named) -> Result<u64> {
+fn time_of_copies<R: Clock>(
+    rt: &R,
+    m: &mut Mutator<DrcHeap>,
+    named: &Named,
+) -> Result<u64, RunFault> {
     let root = m.make_struct(named.cell)?;
     let start = Instant::now(rt)?;
     copy_and_drop(m, root)?;
@@ -62,21 +66,25 @@ fn time_of_copies<R: Clock>(rt: &R, m: &mut Mutator<DrcHeap>, named: &Named) -> 
 }
 
 /// Times a chain that is made.
-fn time_of_chain<R: Clock>(rt: &R, m: &mut Mutator<DrcHeap>, named: &Named) -> Result<u64> {
+fn time_of_chain<R: Clock>(
+    rt: &R,
+    m: &mut Mutator<DrcHeap>,
+    named: &Named,
+) -> Result<u64, RunFault> {
     let start = Instant::now(rt)?;
     make_chain(m, named)?;
     each(rt, start)
 }
 
 /// Times a collection.
-fn time_of_collection<R: Clock>(rt: &R, m: &mut Mutator<DrcHeap>) -> Result<u64> {
+fn time_of_collection<R: Clock>(rt: &R, m: &mut Mutator<DrcHeap>) -> Result<u64, RunFault> {
     let start = Instant::now(rt)?;
     m.collect();
     each(rt, start)
 }
 
 /// Times barriers, a chain that is made, a collection that keeps it, and one that frees it.
-fn times_of<R: Clock>(rt: &R, m: &mut Mutator<DrcHeap>, named: &Named) -> Result<Times> {
+fn times_of<R: Clock>(rt: &R, m: &mut Mutator<DrcHeap>, named: &Named) -> Result<Times, RunFault> {
     let cloned_and_dropped = time_of_copies(rt, m, named)?;
     let made_and_written = time_of_chain(rt, m, named)?;
     let kept_by_a_collection = time_of_collection(rt, m)?;
@@ -91,14 +99,14 @@ fn times_of<R: Clock>(rt: &R, m: &mut Mutator<DrcHeap>, named: &Named) -> Result
 }
 
 /// A counting heap, and the types of its objects.
-fn new_mutator(alloc: Global) -> Result<(Mutator<DrcHeap>, Named)> {
+fn new_mutator(alloc: Global) -> Result<(Mutator<DrcHeap>, Named), RunFault> {
     let (types, named) = Named::declare(alloc)?;
     let m = Mutator::new(alloc, DrcHeap::new(alloc), types, 64)?;
     Ok((m, named))
 }
 
 /// Shows the times.
-pub(crate) fn show_times<R: Print + Clock>(rt: &R, alloc: Global) -> Result<()> {
+pub(crate) fn show_times<R: Print + Clock>(rt: &R, alloc: Global) -> Result<(), RunFault> {
     let (mut m, named) = new_mutator(alloc)?;
     let times = times_of(rt, &mut m, &named)?;
     println!(rt; "{times:?}")?;
