@@ -14,7 +14,7 @@ use Rattle.gc_model.specs.Views.{HeapObject, HeapView, Counts}
 use Rattle.gc_heap.specs.Objects.{held_size, writable_offset, HasFields}
 use Rattle.gc_heap.specs.References.{reference_offsets, references, word_in}
 use Rattle.gc_heap.specs.Content.{total, IsHeld, IsHeap}
-use Rattle.gc_heap.specs.Barriers.{raise, lower, IsSlot, copied, emptied, overwritten}
+use Rattle.gc_heap.specs.Barriers.{raise, lower, copied, emptied, overwritten}
 use Rattle.gc_heap.specs.Heap.{with_data, put_object}
 use Rattle.gc_heap.specs.Collection.{CanCollect, CountsExact, AreCounted, IsWordOf, names_of, occurrences, held_words, stack_words}
 use Rattle.gc_heap.specs.Totals.{total-replace, total-least}

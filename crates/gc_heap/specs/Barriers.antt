@@ -13,11 +13,6 @@ use Rattle.gc_heap.specs.Content.{IsHeld}
 abbrev pub IsNamed : HeapView → ℕ → Type 0
 IsNamed h word = (word % 2 ≡ 1) ⊎ IsHeld h word
 
--- a slot that a barrier may be given: null, or such a word
-abbrev pub IsSlot : HeapView → Option ℕ → Type 0
-IsSlot h None = Unit {0}
-IsSlot h (Some word) = IsNamed h word
-
 -- where the place is counted, its count is below a number
 abbrev pub IsCountedBelow : ℕ → HeapView → ℕ → Type 0
 IsCountedBelow bound h place = (n : ℕ) → finite.get h.counts.counted place ≡ Some n → n < bound

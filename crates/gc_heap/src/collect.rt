@@ -36,9 +36,9 @@ pub fn collect<H: GcHeap, D: Drop>(
     }
 }
 
-/// Does the increments that a collection has left, as `collect` does, and counts a step of the
-/// counter for each object that it copies, each reference that it looks at, and each root word that
-/// isn't null.
+/// Does the increments that a collection has left, as `collect` does, and counts their steps: in a
+/// copying heap one for each object that is copied, each reference that is looked at, and each root
+/// word that isn't null; the other heaps may count none.
 pub fn collect_counted<H: GcHeap, D: Drop, G: Ledger>(
     heap: &mut H,
     state: &mut H::State,

@@ -34,7 +34,14 @@ pub enum HeapFault {
 ///
 /// A word is an `i31` where it is odd, and else the place of an object. Reads are safe for every
 /// word, and answer `BadRef` always for an i31 and else only for a word that names no held object of
-/// the kind that is asked for; all other calls want a word of a held object.
+/// the kind that is asked for. Barriers and `set_header` want an i31 or a word of a held object, all
+/// other calls a word of a held object.
+///
+/// Reads and barriers are constant. An allocation is linear in the object's size, and so is a write
+/// in its bytes; a counting heap also searches its free runs for an allocation and for an object that
+/// is given back, in a logarithm of their number, and moves entries of two vectors. A collection is
+/// linear in the roots, and in what a copying heap keeps or a counting heap holds, beside giving back
+/// what that one frees; in a null heap it is constant.
 pub trait GcHeap {
     ghost use Rattle.std.specs.Prelude.{ℕ, ◌≡◌, ◌≤◌, ◌<◌, ◌⊎◌, ◌%◌, ◌-◌, ◌+◌, ◌^◌, ◌++◌, Bool, true, false, List, length, take, drop, replicate, OnOk, OnErr, IfErr, IsOkAnd, IsErr, IsOk, Some};
     ghost use Rattle.std.specs.Ordering.{nat_cmp};
@@ -357,8 +364,9 @@ pub trait GcHeap {
         ensures hosts { trace.new.host_data_table.ghost_name ≡ trace.old.host_data_table.ghost_name }
         ensures types { trace.new.types ≡ trace.old.types };
 
-    /// Does one increment as `step` does, and counts a step of the counter for each object that it
-    /// copies, each reference that it looks at, and each root word that isn't null.
+    /// Does one increment as `step` does, and counts its steps: a copying heap one for each object that
+    /// it copies, each reference that it looks at, and each root word that isn't null; the others may
+    /// count none.
     fn step_counted<D: Drop, G: Ledger>(
         &mut self,
         state: &mut Self::State,

@@ -33,7 +33,7 @@ AsksNone Gc = ⊥
 AsksNone (Grow n) = ⊥
 AsksNone Cap = Unit {0}
 
-tests_mild : (layouts : Layouts) (s : State) (c : Command) → AsksNone c → AllMild (tests layouts s c)
+pub tests_mild : (layouts : Layouts) (s : State) (c : Command) → AsksNone c → AllMild (tests layouts s c)
 tests_mild layouts s Bad asks = (refl, tt)
 tests_mild layouts s (Struct is_final supertype fs) asks = (refl, tt)
 tests_mild layouts s (New d t vs) asks = absurd asks

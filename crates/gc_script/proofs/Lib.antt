@@ -27,6 +27,7 @@ pub mod FieldLemmas
 pub mod RowLemmas
 pub mod KeptLemmas
 pub mod LimitLaws
+pub mod RefusalLaws
 pub mod SumLemmas
 pub mod StepLaws
 pub mod RunLaws

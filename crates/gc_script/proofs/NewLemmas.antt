@@ -73,7 +73,7 @@ known_type layouts store s t count holds e =
     known_fields (struct_fields_at s.table.types t) count (ap (λ (ts : List Declaration). option_map length (struct_fields_at ts t)) (sym holds.1.types) ∙ e)
 
 -- no value is refused by the heap
-values_mild : (s : State) (fs : List FieldType) (vs : List Operand) → AllMild (all_value_tests s fs vs)
+pub values_mild : (s : State) (fs : List FieldType) (vs : List Operand) → AllMild (all_value_tests s fs vs)
 values_mild s [] [] = tt
 values_mild s [] (v ∷ vs) = tt
 values_mild s (f ∷ fs) [] = tt

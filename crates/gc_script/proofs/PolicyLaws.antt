@@ -16,9 +16,9 @@ use Rattle.gc_commands.specs.declared.reply.Refusal.TheVariants as refusal
 use Rattle.gc_store.specs.Accounts.{Account, with_held}
 use Rattle.gc_store.specs.Policy.{PolicyState, Prepares, Expands}
 use Rattle.gc_script.specs.State.{State, reference, with_heap, with_account, set_register}
-use Rattle.gc_script.specs.Steps.{Step, Answers, Does, MakesNew, made, lacks, GrowsHeap, grown, refused, tests, first_failing, new_struct}
+use Rattle.gc_script.specs.Steps.{Step, Answers, Does, MakesNew, made, lacks, AnswersGrow, grown, refused, tests, first_failing, new_struct}
 use Rattle.gc_script.specs.Policy as policy
-use Rattle.gc_script.specs.Policy.{policy_of, IsPolicyOf, with_made, AllocatesBy, GrowsBy, AsksNothing, FollowsDoing, FollowsTested, Follows, RunByPolicy}
+use Rattle.gc_script.specs.Policy.{policy_of, IsPolicyOf, with_made, AllocatesByPolicy, GrowsByPolicy, AsksNothing, FollowsDoing, FollowsTested, Follows, RunByPolicy}
 use Rattle.gc_script.proofs.StepLaws.{SameStep, tests_same, new_struct_same, same_keeps, same_plain, same_states}
 use Rattle.gc_script.proofs.GrowthLaws.{AlikeAccounts, AlikePolicies, same_accounts, alike_at, prepares_alike, expands_alike, may_collect_alike}
 
@@ -80,7 +80,7 @@ record NewByPolicy (counter : Option ℕ) (d : ℕ) (o : Object ℕ) (s : State)
 by_heap : (s s' : State) (t : Table ℕ) (a : Account) (p : PolicyState ℕ) (limits : Limits) → s' ≡ with_heap t a s → IsPolicyOf p s' limits → s' ≡ with_policy p s
 by_heap s s' t a p limits after ends = after ∙ ap₂ (λ (x : Table ℕ) (b : Account). with_heap x b s) (sym (ap (λ (x : State). x.table) after) ∙ ends.table) (sym (ap (λ (x : State). x.account) after) ∙ ends.account)
 
-new_by_policy : (limit counter : Option ℕ) (d : ℕ) (o : Object ℕ) (s : State) (limits : Limits) (answer : Reply) (s' : State) (limits' : Limits) → MakesNew Copying limit d o s answer s' → AllocatesBy Copying counter o s limits answer s' limits' → NewByPolicy counter d o s limits answer s' limits'
+new_by_policy : (limit counter : Option ℕ) (d : ℕ) (o : Object ℕ) (s : State) (limits : Limits) (answer : Reply) (s' : State) (limits' : Limits) → MakesNew Copying limit d o s answer s' → AllocatesByPolicy Copying counter o s limits answer s' limits' → NewByPolicy counter d o s limits answer s' limits'
 new_by_policy limit counter d o s limits answer s' limits' (made t a allocates is after) (policy.made {p = p} is_done prepares ends) = record {
   ok = true;
   ready = p;
@@ -114,7 +114,7 @@ record GrowByPolicy (bytes : ℕ) (s : State) (limits : Limits) (answer : Reply)
   after : s' ≡ with_policy end s
   limits_are : limits' ≡ end.limits
 
-grow_by_policy : (limit : Option ℕ) (bytes : ℕ) (s : State) (limits : Limits) (answer : Reply) (s' : State) (limits' : Limits) → GrowsHeap limit bytes s answer s' → GrowsBy Copying bytes s limits answer s' limits' → GrowByPolicy bytes s limits answer s' limits'
+grow_by_policy : (limit : Option ℕ) (bytes : ℕ) (s : State) (limits : Limits) (answer : Reply) (s' : State) (limits' : Limits) → AnswersGrow limit bytes s answer s' → GrowsByPolicy Copying bytes s limits answer s' limits' → GrowByPolicy bytes s limits answer s' limits'
 grow_by_policy limit bytes s limits answer s' limits' (grown t a grows is after) (policy.grown {p = p} is_done expands ends) = record {
   granted = true;
   end = p;
@@ -197,7 +197,7 @@ module _ (most : ℕ) (s : State) (a : Account) (limits : Limits) (accounts : Al
       (new_by_policy limits.limit counter d (new_struct s t vs) s limits answer s' limits1 one follows)
       (new_by_policy limits.limit counter d (new_struct s t vs) other_state limits answer' t' limits2
       (subst (λ (o : Object ℕ). MakesNew Copying limits.limit d o other_state answer' t') same other)
-      (subst (λ (o : Object ℕ). AllocatesBy Copying counter o other_state limits answer' t' limits2) same follows'))
+      (subst (λ (o : Object ℕ). AllocatesByPolicy Copying counter o other_state limits answer' t' limits2) same follows'))
   doing_alike counter (Grow n) answer answer' s' t' limits1 limits2 one follows other follows' =
       grow_alike n answer answer' s' t' limits1 limits2 (grow_by_policy limits.limit n s limits answer s' limits1 one follows) (grow_by_policy limits.limit n other_state limits answer' t' limits2 other follows')
   doing_alike counter Gc answer answer' s' t' limits1 limits2 one follows other follows' =

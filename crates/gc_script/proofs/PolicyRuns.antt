@@ -14,7 +14,7 @@ use Rattle.gc_commands.specs.declared.reply.Reply.{Reply}
 use Rattle.gc_commands.specs.declared.reply.Refusal.{Refusal}
 use Rattle.gc_script.specs.State.{State}
 use Rattle.gc_script.specs.Steps.{tests, first_failing}
-use Rattle.gc_script.specs.Policy.{policy_of, AllocatesBy, GrowsBy, FollowsDoing, FollowsTested, Follows, RunByPolicy}
+use Rattle.gc_script.specs.Policy.{policy_of, AllocatesByPolicy, GrowsByPolicy, FollowsDoing, FollowsTested, Follows, RunByPolicy}
 use Rattle.gc_script.specs.Policy as policy
 use Rattle.gc_script.specs.Run.{Run}
 use Rattle.gc_script.proofs.AskLemmas.{AsksBy, unrefused, too_many, refused_pages, refused_first, prepares_asks, expands_asks}
@@ -25,13 +25,13 @@ asks_limit bytes limits limits' t (too_many made many same) = ap (λ (l : Limits
 asks_limit bytes limits limits' t (refused_pages made few refuses) = ap (λ (l : Limits). l.limit) refuses
 asks_limit bytes limits limits' t (refused_first is unmade refuses) = ap (λ (l : Limits). l.limit) refuses
 
-new_limit : (layouts : Layouts) (counter : Option ℕ) (o : Object ℕ) (s : State) (limits : Limits) (answer : Reply) (s' : State) (limits' : Limits) → AllocatesBy layouts counter o s limits answer s' limits' → limits'.limit ≡ limits.limit
+new_limit : (layouts : Layouts) (counter : Option ℕ) (o : Object ℕ) (s : State) (limits : Limits) (answer : Reply) (s' : State) (limits' : Limits) → AllocatesByPolicy layouts counter o s limits answer s' limits' → limits'.limit ≡ limits.limit
 new_limit layouts counter o s limits answer s' limits' (policy.made {p = p} done prepares is) =
     ap (λ (l : Limits). l.limit) is.limits_are ∙ asks_limit (need_of layouts (object_size layouts s.table.types o)) limits p.limits p.table (prepares_asks layouts counter (object_size layouts s.table.types o) (policy_of s limits) prepares)
 new_limit layouts counter o s limits answer s' limits' (policy.refused {p = p} not_done prepares is) =
     ap (λ (l : Limits). l.limit) is.limits_are ∙ asks_limit (need_of layouts (object_size layouts s.table.types o)) limits p.limits p.table (prepares_asks layouts counter (object_size layouts s.table.types o) (policy_of s limits) prepares)
 
-grow_limit : (layouts : Layouts) (bytes : ℕ) (s : State) (limits : Limits) (answer : Reply) (s' : State) (limits' : Limits) → GrowsBy layouts bytes s limits answer s' limits' → limits'.limit ≡ limits.limit
+grow_limit : (layouts : Layouts) (bytes : ℕ) (s : State) (limits : Limits) (answer : Reply) (s' : State) (limits' : Limits) → GrowsByPolicy layouts bytes s limits answer s' limits' → limits'.limit ≡ limits.limit
 grow_limit layouts bytes s limits answer s' limits' (policy.grown {p = p} done expands is) =
     ap (λ (l : Limits). l.limit) is.limits_are ∙ asks_limit bytes limits p.limits p.table (expands_asks layouts bytes (policy_of s limits) expands)
 grow_limit layouts bytes s limits answer s' limits' (policy.refused {p = p} not_done expands is) =

@@ -12,7 +12,7 @@ use Rattle.gc_commands.specs.declared.reply.Reply.{Reply}
 use Rattle.gc_commands.specs.declared.reply.Refusal.{Refusal}
 use Rattle.gc_store.specs.Accounts.{Account}
 use Rattle.gc_script.specs.State.{State, reference, with_heap, set_register}
-use Rattle.gc_script.specs.Steps.{Step, Answers, Does, MakesNew, made, lacks, GrowsHeap, grown, refused, tests, first_failing, new_struct}
+use Rattle.gc_script.specs.Steps.{Step, Answers, Does, MakesNew, made, lacks, AnswersGrow, grown, refused, tests, first_failing, new_struct}
 use Rattle.gc_script.specs.Run.{Run, SaysRefused}
 use Rattle.gc_script.specs.Laws.{NoneRefused, SameReply, SameReplies}
 use Rattle.gc_script.proofs.StepLaws.{repaged, shifted, tests_same, new_struct_same, same_keeps, same_plain, same_states}
@@ -48,7 +48,7 @@ module _ (is_made : Bool) (pages : ℕ) (a : Account) (s : State) (layouts : Lay
   same_new d o o' answer answer' s' t' same (made t b allocates is after) (lacks t1 b1 wants is1 after1) fine fine1 = absurd (fine1 (inl is1))
   same_new d o o' answer answer' s' t' same (lacks t b wants is after) makes fine fine1 = absurd (fine (inl is))
 
-  same_grown : (bytes : ℕ) (answer answer' : Reply) (s' t' : State) → GrowsHeap limit bytes s answer s' → GrowsHeap limit bytes other_state answer' t' → ¬ SaysRefused answer → ¬ SaysRefused answer' → (answer ≡ answer') × IsShifted s' t'
+  same_grown : (bytes : ℕ) (answer answer' : Reply) (s' t' : State) → AnswersGrow limit bytes s answer s' → AnswersGrow limit bytes other_state answer' t' → ¬ SaysRefused answer → ¬ SaysRefused answer' → (answer ≡ answer') × IsShifted s' t'
   same_grown bytes answer answer' s' t' (grown t b grows is after) (grown t1 b1 grows1 is1 after1) fine fine1 =
       let (m, p, changed) = grows_pages limit bytes s.table t true grows in
       let (m1, p1, changed1) = grows_pages limit bytes other_state.table t1 true grows1 in

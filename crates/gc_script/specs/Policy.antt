@@ -31,18 +31,18 @@ abbrev pub with_made : Object ℕ → PolicyState ℕ → PolicyState ℕ
 with_made o p = record p { table = make o p.table; account = with_held (length p.table.objects) p.account }
 
 -- an object was made, or refused, by the policy
-pub data AllocatesBy (layouts : Layouts) (counter : Option ℕ) (o : Object ℕ) (s : State) (limits : Limits) (answer : Reply) (s' : State) (limits' : Limits) : Type 0 where
+pub data AllocatesByPolicy (layouts : Layouts) (counter : Option ℕ) (o : Object ℕ) (s : State) (limits : Limits) (answer : Reply) (s' : State) (limits' : Limits) : Type 0 where
   made : {p : PolicyState ℕ} → answer ≡ reply.Done → Prepares layouts counter (object_size layouts s.table.types o) (policy_of s limits) true p
-      → IsPolicyOf (with_made o p) s' limits' → AllocatesBy layouts counter o s limits answer s' limits'
+      → IsPolicyOf (with_made o p) s' limits' → AllocatesByPolicy layouts counter o s limits answer s' limits'
   refused : {p : PolicyState ℕ} → ¬ (answer ≡ reply.Done) → Prepares layouts counter (object_size layouts s.table.types o) (policy_of s limits) false p
-      → IsPolicyOf p s' limits' → AllocatesBy layouts counter o s limits answer s' limits'
+      → IsPolicyOf p s' limits' → AllocatesByPolicy layouts counter o s limits answer s' limits'
 
 -- the heap grew, or was refused to, by the policy
-pub data GrowsBy (layouts : Layouts) (bytes : ℕ) (s : State) (limits : Limits) (answer : Reply) (s' : State) (limits' : Limits) : Type 0 where
+pub data GrowsByPolicy (layouts : Layouts) (bytes : ℕ) (s : State) (limits : Limits) (answer : Reply) (s' : State) (limits' : Limits) : Type 0 where
   grown : {p : PolicyState ℕ} → answer ≡ reply.Done → Expands layouts bytes (policy_of s limits) true p → IsPolicyOf p s' limits'
-      → GrowsBy layouts bytes s limits answer s' limits'
+      → GrowsByPolicy layouts bytes s limits answer s' limits'
   refused : {p : PolicyState ℕ} → ¬ (answer ≡ reply.Done) → Expands layouts bytes (policy_of s limits) false p → IsPolicyOf p s' limits'
-      → GrowsBy layouts bytes s limits answer s' limits'
+      → GrowsByPolicy layouts bytes s limits answer s' limits'
 
 -- nothing was asked of the limiter, and the account is as before
 pub record AsksNothing (s : State) (limits : Limits) (s' : State) (limits' : Limits) : Type 0 where
@@ -53,7 +53,7 @@ pub record AsksNothing (s : State) (limits : Limits) (s' : State) (limits' : Lim
 abbrev pub FollowsDoing : Layouts → Option ℕ → State → Limits → Command → Reply → State → Limits → Type 0
 FollowsDoing layouts counter s limits Bad answer s' limits' = AsksNothing s limits s' limits'
 FollowsDoing layouts counter s limits (Struct is_final supertype fs) answer s' limits' = AsksNothing s limits s' limits'
-FollowsDoing layouts counter s limits (New d t vs) answer s' limits' = AllocatesBy layouts counter (new_struct s t vs) s limits answer s' limits'
+FollowsDoing layouts counter s limits (New d t vs) answer s' limits' = AllocatesByPolicy layouts counter (new_struct s t vs) s limits answer s' limits'
 FollowsDoing layouts counter s limits (I31 d n) answer s' limits' = AsksNothing s limits s' limits'
 FollowsDoing layouts counter s limits (Field r i into) answer s' limits' = AsksNothing s limits s' limits'
 FollowsDoing layouts counter s limits (SetField r i v) answer s' limits' = AsksNothing s limits s' limits'
@@ -61,7 +61,7 @@ FollowsDoing layouts counter s limits (Eq r q) answer s' limits' = AsksNothing s
 FollowsDoing layouts counter s limits Enter answer s' limits' = AsksNothing s limits s' limits'
 FollowsDoing layouts counter s limits Leave answer s' limits' = AsksNothing s limits s' limits'
 FollowsDoing layouts counter s limits Gc answer s' limits' = MayCollectTable layouts (policy_of s limits) (policy_of s' limits')
-FollowsDoing layouts counter s limits (Grow n) answer s' limits' = GrowsBy layouts n s limits answer s' limits'
+FollowsDoing layouts counter s limits (Grow n) answer s' limits' = GrowsByPolicy layouts n s limits answer s' limits'
 FollowsDoing layouts counter s limits Cap answer s' limits' = AsksNothing s limits s' limits'
 
 abbrev pub FollowsTested : Layouts → Option ℕ → State → Limits → Command → Option Refusal → Reply → State → Limits → Type 0

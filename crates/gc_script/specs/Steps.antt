@@ -192,11 +192,11 @@ pub data MakesNew (layouts : Layouts) (limit : Option ℕ) (d : ℕ) (o : Object
       → MakesNew layouts limit d o s answer s'
 
 -- The heap grew by so many bytes, or was refused to.
-pub data GrowsHeap (limit : Option ℕ) (bytes : ℕ) (s : State) (answer : Reply) (s' : State) : Type 0 where
+pub data AnswersGrow (limit : Option ℕ) (bytes : ℕ) (s : State) (answer : Reply) (s' : State) : Type 0 where
   grown : (t : Table ℕ) (a : Account) → Grows limit bytes s.table true t → answer ≡ reply.Done → s' ≡ with_heap t a s
-      → GrowsHeap limit bytes s answer s'
+      → AnswersGrow limit bytes s answer s'
   refused : (t : Table ℕ) (a : Account) → Grows limit bytes s.table false t → answer ≡ reply.Refused refusal.GcHeapGrowthFailed → s' ≡ with_heap t a s
-      → GrowsHeap limit bytes s answer s'
+      → AnswersGrow limit bytes s answer s'
 
 -- a 31-bit number was put into a register
 abbrev pub MakesSmall : ℕ → ℕ → State → State → Type 0
@@ -250,7 +250,7 @@ Does layouts limit s (Eq r q) answer s' = Compares r q s answer × (s' ≡ s)
 Does layouts limit s Enter answer s' = (answer ≡ reply.Done) × (s' ≡ with_marks (s.marks ++ length s.table.scoped ∷ []) s)
 Does layouts limit s Leave answer s' = (answer ≡ reply.Done) × Leaves s s'
 Does layouts limit s Gc answer s' = Keeps layouts s answer × ((a : Account) × (s' ≡ with_account a s))
-Does layouts limit s (Grow n) answer s' = GrowsHeap limit n s answer s'
+Does layouts limit s (Grow n) answer s' = AnswersGrow limit n s answer s'
 Does layouts limit s Cap answer s' = (answer ≡ reply.Capacity (page * s.table.pages)) × (s' ≡ s)
 
 -- a refused command replies its refusal and changes nothing; any other does what it says

@@ -30,7 +30,7 @@ use Rattle.gc_store.specs.RootSets.{entry_word, slot_word}
 use Rattle.gc_store.specs.Tracing.{root_of, roots_of}
 use Rattle.gc_store.specs.Fields.{IsKept, AllFit, AreRoots, CanWriteValues, WritesValues}
 use Rattle.gc_store.specs.Growth.{HeapState, ReadiesHeap, GrowsHeap, heap_rules}
-use Rattle.gc_store.specs.Places.{size_of, Allocates, CanCreate, Creates, CreatesStruct, DuesHeap, Begins, PlacesIn}
+use Rattle.gc_store.specs.Places.{size_of, AllocatesWord, CanCreate, Creates, CreatesStruct, DuesHeap, Begins, PlacesIn}
 use Rattle.gc_store.specs.Retry.{Retry}
 use Rattle.gc_store.proofs.RootSetLemmas.{generations_of}
 use Rattle.gc_store.proofs.HeapMade.{new_size}
@@ -103,7 +103,7 @@ are_roots entries word e among =
       get_or-map (λ (x : RootEntry). root_of x.word) entries among.0 e (root_of e.word) among.1 ∙ ap (λ (x : RootEntry). root_of x.word) among.2,
     )
 
-module _ (layouts : Layouts) (types : List Declaration) (fields : List FieldType) (ty : ℕ) (raws : List RawValue) (s e : HeapState) (word : ℕ) (a : Allocates layouts types fields ty s e word) where
+module _ (layouts : Layouts) (types : List Declaration) (fields : List FieldType) (ty : ℕ) (raws : List RawValue) (s e : HeapState) (word : ℕ) (a : AllocatesWord layouts types fields ty s e word) where
   abbrev blank : HeapObject
   blank = new_struct layouts ty (struct_layout layouts fields)
 

@@ -7,16 +7,18 @@ use Rattle.gc_model.specs.Live.{roots_full}
 use Rattle.gc_model.specs.Sizes.{need_of}
 use Rattle.gc_model.specs.Allocation as allocation
 use Rattle.gc_model.specs.Allocation.{Limits, too_large, LacksFit, IsRefusedGrowth}
-use Rattle.gc_model.specs.Views.{StoreView}
+use Rattle.gc_model.specs.Views.{StoreView, HeapView}
 use Rattle.gc_heap.specs.Content.{IsHeap}
+use Rattle.gc_heap.specs.Heap.{HasRoom}
 use Rattle.gc_store.specs.declared.root.RawValue.{RawValue}
 use Rattle.gc_store.specs.declared.store.PlaceFault.{PlaceFault}
 use Rattle.gc_store.specs.declared.store.PlaceFault.TheVariants as fault
 use Rattle.gc_store.specs.Accounts.{Account, HoldsAccount, counted, is_due}
-use Rattle.gc_store.specs.Growth.{HeapState}
+use Rattle.gc_store.specs.Growth.{HeapState, heap_rules}
 use Rattle.gc_store.specs.Places.{Begins, CanPlace, PlacesIn, Places, LacksPlace, LacksSpace, MayGetPages, bytes_of, size_of}
 use Rattle.gc_store.specs.Policy as policy
 use Rattle.gc_store.specs.Policy.{PolicyState, policy_state, count_try, Prepares, Prepared}
+use Rattle.gc_store.specs.Retry.{Rules, Retry, at_once, after_collection, after_both, after_growth, after_refusal, Ends}
 use Rattle.gc_store.specs.Stores.{is_full}
 use Rattle.gc_store.specs.Tracing.{IsCollectable, roots_of}
 use Rattle.gc_store.proofs.CountedTries.{counted_store}
@@ -24,6 +26,14 @@ use Rattle.gc_store.proofs.MakingSimulation.{Shows, FollowsBeginning, refusal_fo
 use Rattle.gc_store.proofs.Placing.{too_large_is, start_state, shows, size_in, begun, not_full}
 use Rattle.gc_store.proofs.RetrySimulation.{MayHaveGrown, retry_follows, pause_follows}
 use Rattle.gc_store.proofs.Simulation.{view_at}
+
+-- where the rule of retry ends without room, there is none
+ends_lacking : {S : Type 0} (rules : Rules S) (s e : S) (ok : Bool) → Retry rules s ok e → ok ≡ false → rules.Lacks e
+ends_lacking rules s e ok (at_once fits) none = absurd (cc none)
+ends_lacking rules s e ok (after_collection lacks first collects fits) none = absurd (cc none)
+ends_lacking rules s e ok (after_both lacks first collects lacks_still grows may ends) none = subst (λ (b : Bool). Ends rules b e) none ends
+ends_lacking rules s e ok (after_growth lacks first grows fits) none = absurd (cc none)
+ends_lacking rules s e ok (after_refusal lacks first grows collects ends) none = subst (λ (b : Bool). Ends rules b e) none ends
 
 -- what a refusal leaves of the heap and of the store
 pub record FollowsFault {D : Type 0} (layouts : Layouts) (s : StoreView) (ty : ℕ) (vs : List Value) (p : PolicyState D) (e : HeapState) (new : StoreView) (f : PlaceFault) : Type 0 where
@@ -60,7 +70,7 @@ module _ {D : Type 0} (layouts : Layouts) (s : StoreView) (ty : ℕ) (raws : Lis
   begun_at = begun layouts s ty raws can heap hosts collectable limits t a holds
 
   module _ (due : Bool) (due_is : due ≡ is_due s.alloc_counter (min (s.tries + 1) (2 ^ 64 - 1))) (vs : List Value) (e : HeapState) (new : StoreView)
-      (keeps : (u : Table D) (a' : Account) → HoldsAccount layouts (view_at (counted_store s) e) u a' → HoldsAccount layouts new u a') where
+      (keeps : (u : Table D) (a' : Account) → HoldsAccount layouts (view_at (counted_store s) e) u a' → HoldsAccount layouts new u a') (same_heap : new.heap ≡ e.heap) where
     -- no room, and no more pages
     no_room_follows : (b : HeapState) (asked : ℕ) → Begins layouts s.types s.first due h b → LacksSpace layouts s.types size b e asked → LacksPlace layouts s.alloc_counter (struct ty vs) p e.limits asked new × LeavesStore D layouts (counted_store s) e
     no_room_follows b asked begins lacks =
@@ -77,6 +87,7 @@ module _ {D : Type 0} (layouts : Layouts) (s : StoreView) (ty : ℕ) (raws : Lis
             after = retried.after;
             prepares = subst (λ (k : ℕ). Prepares layouts s.alloc_counter k p false retried.after) (sizes vs) (policy.tried beginning.makes beginning.dues retried.retried);
             lacks = allocation.no_room beginning.may (subst (λ (k : ℕ). IsRefusedGrowth limits.limit (made_pages t) (need_of layouts k)) (sizes vs) refused) (subst (LacksFit layouts (make_heap t)) (sizes vs) none) is;
+            no_room = λ made. subst (λ (k : ℕ). HasRoom layouts new.heap k → ⊥) (sizes vs) (subst (λ (x : HeapView). HasRoom layouts x size → ⊥) (sym same_heap) (ends_lacking (heap_rules layouts s.types size) b e false lacks.retried refl));
             holds = keeps retried.after.table retried.after.account retried.agrees.holds;
             limits = sym retried.agrees.limits;
           },
@@ -95,6 +106,7 @@ module _ {D : Type 0} (layouts : Layouts) (s : StoreView) (ty : ℕ) (raws : Lis
         after = record (count_try p) { limits = e.limits };
         prepares = policy.no_heap (refusal_follows layouts (counted_store s) h (count_try p) shown e no_pages);
         lacks = allocation.no_heap (no_heap_follows layouts (counted_store s) h (count_try p) shown e no_pages) refl;
+        no_room = (let unmade = (no_heap_follows layouts (counted_store s) h (count_try p) shown e no_pages).unmade in λ made. absurd (cc (unmade, made)));
         holds = keeps t (counted a) (same_holds layouts (counted_store s) h e (count_try p) shown is);
         limits = refl;
       };

@@ -17,7 +17,7 @@ use Rattle.gc_store.specs.declared.pages.PagesFault.TheVariants as pages_fault
 use Rattle.gc_store.specs.declared.store.PlaceFault.{PlaceFault}
 use Rattle.gc_store.specs.declared.store.PlaceFault.TheVariants as fault
 use Rattle.gc_store.specs.Growth.{HeapState, CollectsHeap, ReadiesHeap, GrowsHeap, GrowsMemory, GrowsBy, pages_of, collects_first, heap_rules}
-use Rattle.gc_store.specs.Places.{MakesHeap, Begins, size_of, CanAllocate, Tries, Allocates, AllocatesStruct, EndsTrying}
+use Rattle.gc_store.specs.Places.{MakesHeap, Begins, size_of, CanAllocate, Tries, AllocatesWord, AllocatesStruct, EndsTrying}
 use Rattle.gc_store.specs.Retry.{Retry, Paused}
 use Rattle.gc_store.specs.Tracing.{roots_of, IsCollectable}
 use Rattle.gc_store.proofs.HeapMade.{made_kept}
@@ -135,7 +135,7 @@ module _ (layouts : Layouts) (types : List Declaration) (fields : List FieldType
   at_size : AtTry layouts types (size_of layouts fields) s m
   at_size = subst (λ (l : GcStructLayout). AtTry layouts types l.size s m) laid at
 
-  made_of : (word : ℕ) → AddsObject layouts m.heap new word (new_struct layouts ty (struct_layout layouts fields)) (size_of layouts fields) → Allocates layouts types fields ty s (record m { heap = new }) word
+  made_of : (word : ℕ) → AddsObject layouts m.heap new word (new_struct layouts ty (struct_layout layouts fields)) (size_of layouts fields) → AllocatesWord layouts types fields ty s (record m { heap = new }) word
   made_of word adds = record {
     mid = m;
     retried = at_size.fits adds.room;
@@ -145,7 +145,7 @@ module _ (layouts : Layouts) (types : List Declaration) (fields : List FieldType
   }
 
   -- it found room
-  pub made_there : (word : ℕ) → AddsObject layouts m.heap new word (new_struct layouts ty layout) layout.size → Allocates layouts types fields ty s (record m { heap = new }) word
+  pub made_there : (word : ℕ) → AddsObject layouts m.heap new word (new_struct layouts ty layout) layout.size → AllocatesWord layouts types fields ty s (record m { heap = new }) word
   made_there word adds = made_of word (subst (λ (l : GcStructLayout). AddsObject layouts m.heap new word (new_struct layouts ty l) l.size) laid adds)
 
   paused_there : new ≡ m.heap → Paused (heap_rules layouts types (size_of layouts fields)) s (record m { heap = new })

@@ -13,8 +13,7 @@ use Rattle.gc_model.specs.Table.{Table, make, with_pages}
 use Rattle.gc_model.specs.Live.{roots_full}
 use Rattle.gc_model.specs.Sizes.{object_size, stored_size, need_of}
 use Rattle.gc_model.specs.Fits.{is_built_field}
-use Rattle.gc_model.specs.Allocation.{Limits, page, too_large, LacksMemory, GetsPages}
-use Rattle.gc_model.specs.Allocation as allocation
+use Rattle.gc_model.specs.Allocation.{Limits, page, too_large, Allocates, LacksMemory, GetsPages}
 use Rattle.gc_model.specs.Views.{HeapView, HeapObject, StoreView}
 use Rattle.gc_model.specs.Holds.{Placing, ValuesLie}
 use Rattle.gc_heap.specs.Heap.{empty_heap, HasRoom, IsTooLarge, LacksRoom, AddsObject, IsNewPlace, new_struct, allocated_after}
@@ -78,7 +77,7 @@ abbrev pub IsLaidOut : Layouts → GcStructLayout → Type 0
 IsLaidOut layouts layout = (fields : List FieldType) × (layout ≡ struct_layout layouts fields)
 
 -- A new struct was allocated, by the rule of retry.
-pub record Allocates (layouts : Layouts) (types : List Declaration) (fields : List FieldType) (ty : ℕ) (s e : HeapState) (word : ℕ) : Type 0 where
+pub record AllocatesWord (layouts : Layouts) (types : List Declaration) (fields : List FieldType) (ty : ℕ) (s e : HeapState) (word : ℕ) : Type 0 where
   pub mid : HeapState
   pub retried : Retry (heap_rules layouts types (size_of layouts fields)) s true mid
   pub adds : AddsObject layouts mid.heap e.heap word (new_struct layouts ty (struct_layout layouts fields)) (size_of layouts fields)
@@ -92,7 +91,7 @@ pub record LacksSpace (layouts : Layouts) (types : List Declaration) (size : ℕ
 
 -- what allocating a struct answers and leaves
 abbrev pub AllocatesStruct : Layouts → List Declaration → List FieldType → ℕ → HeapState → HeapState → Result ℕ PlaceFault → Type 0
-AllocatesStruct layouts types fields ty s e (Ok word) = Allocates layouts types fields ty s e word
+AllocatesStruct layouts types fields ty s e (Ok word) = AllocatesWord layouts types fields ty s e word
 AllocatesStruct layouts types fields ty s e (Err fault.FuncTableFull) = ⊥
 AllocatesStruct layouts types fields ty s e (Err fault.TooLarge) = IsTooLarge layouts (size_of layouts fields)
 AllocatesStruct layouts types fields ty s e (Err fault.RootsFull) = ⊥
@@ -194,12 +193,12 @@ pub record PlacesObject {D : Type 0} (layouts : Layouts) (counter : Option ℕ) 
   pub not_full : roots_full p.table ≡ false
   pub after : PolicyState D
   pub prepares : Prepares layouts counter (bytes_of layouts o p.table) p true after
-  pub allocates : allocation.Allocates layouts p.limits.limit o p.table (make o after.table)
+  pub allocates : Allocates layouts p.limits.limit o p.table (make o after.table)
   pub holds : HoldsAccount layouts new (make o after.table) (with_held (length p.table.objects) after.account)
   pub limits : limits' ≡ after.limits
   pub handle_is : handle ≡ handle_of new (length p.table.scoped) p.table.drops
 
--- the first pages were refused, or there was no room and the heap was refused more pages
+-- The first pages were refused, or the heap was refused more pages and has no room, whichever kind it is of.
 pub record LacksPlace {D : Type 0} (layouts : Layouts) (counter : Option ℕ) (o : Object D) (p : PolicyState D) (limits' : Limits) (need : ℕ) (new : StoreView) : Type 0 where
   pub small : too_large layouts (bytes_of layouts o p.table) ≡ false
   pub not_full : roots_full p.table ≡ false
@@ -207,6 +206,7 @@ pub record LacksPlace {D : Type 0} (layouts : Layouts) (counter : Option ℕ) (o
   pub after : PolicyState D
   pub prepares : Prepares layouts counter (bytes_of layouts o p.table) p false after
   pub lacks : LacksMemory layouts p.limits.limit o p.table after.table
+  pub no_room : after.table.made ≡ true → HasRoom layouts new.heap (bytes_of layouts o p.table) → ⊥
   pub holds : HoldsAccount layouts new after.table after.account
   pub limits : limits' ≡ after.limits
 

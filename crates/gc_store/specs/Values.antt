@@ -105,7 +105,7 @@ ReadsValue layouts t a v (Err fault.Unrooted) new = ⊥
 ReadsValue layouts t a v (Err fault.RootsFull) new = (makes_root v ≡ true) × ((roots_full t ≡ true) × HoldsAccount layouts new t a)
 ReadsValue layouts t a v (Err fault.Memory) new = (makes_root v ≡ true) × HoldsAccount layouts new t a
 
--- a value may be written there: the handle is live and names a struct with a mutable field of that index
+-- a value may be written there: the handle is live and names a struct with a field of that index, which the value fits
 pub record CanWrite (D : Type 0) (layouts : Layouts) (s : StoreView) (handle : GcRootIndex) (index : ℕ) (r : RawValue) : Type 0 where
   pub table : Table D
   pub holds : HoldsTable layouts s table

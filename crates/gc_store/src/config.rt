@@ -23,6 +23,7 @@ pub struct HeapConfig {
     pub alloc_counter: Option<NonZeroU32>,
     ghost few_pages: { first_pages ≤ max_pages },
     ghost few_roots: { max_scoped ≤ 2 ^ 31 },
+    ghost few_owned: { max_owned ≤ 2 ^ 31 },
 }
 
 impl HeapConfig {

@@ -30,7 +30,7 @@ pub enum GrowFault {
     /// 65,535 pages.
     #[error("GC heap growth failed")]
     GcHeapGrowthFailed,
-    /// Out of memory. The heap may have got its first pages.
+    /// Out of memory. The heap may have been collected, or have got its first pages.
     #[error("out of memory")]
     Memory,
 }

@@ -1,8 +1,12 @@
 //! Growth: the rule of what comes first, and a heap that is made, grows and is refused.
 
+ghost use Rattle.std.specs.Prelude.{ℕ, IfOk};
+ghost use Rattle.gc_types.specs.declared.kind.Layouts.{Layouts};
+ghost use Rattle.gc_store.specs.Stores.{HoldsStart};
+
 use crate::{
-    GcHeapOutOfMemory, GrowFault, HeapConfig, PageLimit, Scripted, Store, StoreId,
-    should_collect_first,
+    Contents, GcHeapOutOfMemory, GrowFault, HeapConfig, PageLimit, Place, PlaceFault, Scripted,
+    Store, StoreId, should_collect_first,
 };
 use gc_heap::NullHeap;
 use std::alloc::{AllocError, Global};
@@ -18,9 +22,9 @@ fn a_heap_without_memory_grows_first(rt: HostRuntime) -> Result<(), Fail> {
     Ok(())
 }
 
-/// Whether each heap of that capacity collects first, whatever was in use.
+/// Whether each heap of that capacity collects first, whatever was in use: nothing, all, or a part.
 fn all_collect_first(capacity: usize) -> bool {
-    (0..capacity).all(|usage| should_collect_first(0, capacity, usage))
+    (0..=capacity).all(|usage| should_collect_first(0, capacity, usage))
 }
 
 #[test]
@@ -49,7 +53,9 @@ fn what_comes_first_is_decided_by_half(rt: HostRuntime) -> Result<(), Fail> {
 }
 
 /// A new store whose heap begins with one page.
-fn one_page(alloc: Global) -> Result<Store<NullHeap, u64>, AllocError> {
+fn one_page(alloc: Global) -> Result<Store<NullHeap, u64>, AllocError>
+    ensures { IfOk result (HoldsStart ℕ Layouts.Null) }
+{
     let Some(config) = HeapConfig::with_pages(1) else {
         return Err(AllocError);
     };
@@ -94,6 +100,22 @@ fn a_limiter_is_asked_once_for_each_growth(rt: HostRuntime) -> Result<(), Fail> 
 }
 
 #[test]
+fn a_limiter_is_asked_once_for_the_growth_of_a_collection(rt: HostRuntime) -> Result<(), Fail> {
+    let mut store = one_page(rt.alloc())?;
+    let mut limiter = Scripted::new(vec![in rt.alloc(); true, true, false]?);
+    let why = GcHeapOutOfMemory {
+        inner: (),
+        bytes_needed: 1,
+    };
+    store.gc_for(&mut limiter, &why)?;
+    assert_eq!(rt; store.gc_heap_capacity() / PAGE, 2);
+    let refused = Err(GrowFault::GcHeapGrowthFailed);
+    assert_eq!(rt; store.gc_heap_grow(&mut limiter, 1), refused);
+    assert_eq!(rt; limiter.last_refused(), Some((2, 4)));
+    Ok(())
+}
+
+#[test]
 fn a_collection_grows_where_the_bytes_lack(rt: HostRuntime) -> Result<(), Fail> {
     let mut store = one_page(rt.alloc())?;
     let mut limiter = PageLimit::new(4);
@@ -106,5 +128,29 @@ fn a_collection_grows_where_the_bytes_lack(rt: HostRuntime) -> Result<(), Fail> 
         assert_eq!(rt; store.gc_heap_capacity() / PAGE, pages);
     }
     assert_eq!(rt; limiter.refusals(), 1);
+    Ok(())
+}
+
+/// Declares a struct without fields in a new store, and asks for one of it, to which the limiter refuses
+/// the first pages. Tells how many bytes were needed.
+fn refuse_one(store: &mut Store<NullHeap, u64>, limiter: &mut PageLimit) -> Result<u64, Fail>
+    requires { HoldsStart ℕ Layouts.Null store.old }
+{
+    let ty = store.declare_struct(&[], None, false)?.index();
+    match store.place(limiter, Place::Struct(ty), Contents::Each(&[])) {
+        Err(PlaceFault::HeapOutOfMemory(fault)) => Ok(fault.bytes_needed()),
+        _ => Err("not refused")?,
+    }
+}
+
+#[test]
+fn a_store_that_counted_an_allocation_is_not_new(rt: HostRuntime) -> Result<(), Fail> {
+    let mut store = one_page(rt.alloc())?;
+    let mut limiter = PageLimit::new(0);
+    assert!(rt; store.is_new());
+    assert_eq!(rt; refuse_one(&mut store, &mut limiter)?, 24);
+    assert!(rt; !store.is_new());
+    assert!(rt; !store.heap_is_made());
+    assert_eq!(rt; limiter.last_refused(), Some((0, 1)));
     Ok(())
 }

@@ -1,11 +1,18 @@
-//! Laws of handles.
+//! Laws of handles, of what is written, and of growth.
 
-ghost use Rattle.std.specs.Prelude.{◌≡◌, ◌<◌, ◌≤◌, ℕ, None, Some, length, slice_get};
+ghost use Rattle.std.specs.Prelude.{◌≡◌, ◌<◌, ◌≤◌, ◌*◌, ℕ, None, Some, length, slice_get};
+ghost use Rattle.gc_types.specs.declared.kind.Layouts.{Layouts};
 ghost use Rattle.gc_model.specs.Values.{Reference, Object, Value};
 ghost use Rattle.gc_model.specs.Reach.{object_values};
 ghost use Rattle.gc_model.specs.Table.{Table, Scoped, push, make, leave, with_value};
 ghost use Rattle.gc_model.specs.Live.{rooted};
+ghost use Rattle.gc_model.specs.Sizes.{need_of};
+ghost use Rattle.gc_model.specs.Allocation.{page, asked};
+ghost use Rattle.gc_model.specs.Views.{HeapView};
 ghost use Rattle.gc_model.specs.Holds.{HoldsTable};
+ghost use Rattle.gc_heap.specs.Content.{IsHeap};
+ghost use Rattle.gc_heap.specs.Heap.{HasRoom, grown};
+ghost use Rattle.gc_store.specs.Growth.{pages_of};
 ghost use Rattle.gc_store.specs.Roots.{Names};
 ghost use Rattle.gc_store.specs.declared.root.GcRootIndex.{GcRootIndex};
 
@@ -33,4 +40,9 @@ pub fn roots_stay_gone()
     ensures push { (t : Table ℕ) (x : ℕ) (r : Reference) → x < length t.pushes → rooted t x ≡ None → rooted (push r t) x ≡ None }
     ensures make { (t : Table ℕ) (x : ℕ) (o : Object ℕ) → x < length t.pushes → rooted t x ≡ None → rooted (make o t) x ≡ None }
     ensures leave { (t : Table ℕ) (x mark : ℕ) → rooted t x ≡ None → rooted (leave mark t) x ≡ None }
+{}
+
+/// A growth by the bytes that an object needs makes room for it, in a heap of any kind.
+pub fn granted_growth_fits()
+    ensures { (layouts : Layouts) (h : HeapView) (size : ℕ) → IsHeap layouts h → HasRoom layouts (grown layouts h (page * asked (pages_of h) (need_of layouts size))) size }
 {}

@@ -87,7 +87,8 @@ impl<H: GcHeap, D: Drop> Store<H, D> {
     /// with a value for each field are built so far. Refused are, in this order: `TooLarge` where no
     /// heap of the kind can hold it; `RootsFull` where no further scoped root may be made;
     /// `HeapOutOfMemory` where the limiter refused the heap's first pages, or where there is no room
-    /// and it refused a growth.
+    /// and a growth was refused: by the limiter, or unasked, as the heap would have more than 65,535
+    /// pages.
     ///
     /// The allocation is counted, and each n-th one collects first where the configuration says so. A
     /// heap without room collects or grows, by `should_collect_first`: it collects, tries again, and

@@ -74,7 +74,7 @@ pub enum PlaceFault {
     TooLarge,
     /// No further root may be made.
     RootsFull,
-    /// The heap has no room, and the limiter refused it more.
+    /// The heap has no room, and it was refused more.
     HeapOutOfMemory(GcHeapOutOfMemory<()>),
     /// Out of memory. The table is as it was; a collection may have run, and the heap may have got its
     /// first pages and a growth.

@@ -187,7 +187,7 @@ refused g c t a vs holds =
     let before = (goal.at.In-Err g c).After-is_err in
     let at = (goal.at.In-Err g c).After-place_in in
     fault_follows g.H.GcHeap.KIND (view g before) c.args.ty c.args.values.now (can g before) (g.met.H.GcHeap.is_heap c.self.inside.heap c.self.invariant.heap) (has_host c.self.inside.hosts.entries) c.self.invariant.collectable
-    (g.L.ResourceLimiter.limits c.args.limiter.now) t a holds (small g before) (room g before) c.self.invariant.unused c.count_allocation-is_due.result (due_is g at) vs (end g at) (left g c) (keeps g c)
+    (g.L.ResourceLimiter.limits c.args.limiter.now) t a holds (small g before) (room g before) c.self.invariant.unused c.count_allocation-is_due.result (due_is g at) vs (end g at) (left g c) (keeps g c) refl
     c.in-Err.fault (placed g at (Err c.in-Err.fault) c.in-Err.is)
 
 -- a collection may begin where none was made

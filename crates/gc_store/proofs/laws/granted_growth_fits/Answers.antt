@@ -1,0 +1,9 @@
+use Rattle.std.proofs.Common.{ℕ, ◌*◌, arith}
+use Rattle.gc_model.specs.Sizes.{need_of}
+use Rattle.gc_model.specs.Allocation.{page, asked}
+use Rattle.gc_store.specs.Growth.{pages_of}
+use Rattle.gc_store.proofs.GrowthLemmas.{grown_fits, asked_holds}
+use Rattle.gc_store.proofs.laws.granted_growth_fits.Goals as goal
+
+pub returns : goal.returns
+returns g layouts h size heap = grown_fits layouts h size (page * asked (pages_of h) (need_of layouts size)) heap (omega arith) (asked_holds (pages_of h) (need_of layouts size))
