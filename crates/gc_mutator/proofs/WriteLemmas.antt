@@ -1,8 +1,8 @@
 -- A collection may begin after a reference was written by its barrier, or a number to an object without references.
-use Rattle.std.proofs.Common.{◌≡◌, ℕ, ◌+◌, ◌≤◌, ◌<◌, ◌^◌, ◌%◌, ◌⊎◌, inl, inr, Bool, true, false, List, [], ◌∷◌, length, Option, Some, None, Contains, refl, sym, ap, ◌∙◌, subst, arith}
+use Rattle.std.proofs.Common.{◌≡◌, ℕ, ◌+◌, ◌≤◌, ◌<◌, ◌^◌, ◌⊎◌, inl, inr, Bool, true, false, List, [], ◌∷◌, length, Option, Some, None, Contains, refl, sym, ap, ◌∙◌, subst, arith}
 use Rattle.std.specs.Prelude.{◌↔◌, IfSome, IsTrue}
 use Rattle.std.specs.Int.{w32, to_le_bytes}
-use Rattle.std.specs.FinMap.{FinMap, get, insert, get-empty}
+use Rattle.std.specs.FinMap.{FinMap, get, get-empty}
 use Rattle.std.specs.Ordering.{nat_cmp}
 use Rattle.gc_types.specs.declared.kind.Layouts.{Layouts}
 use Rattle.gc_types.specs.declared.kind.Layouts.TheVariants.{Null, Counting, Copying}
@@ -16,11 +16,11 @@ use Rattle.gc_model.specs.Views.{HeapObject, HeapView, Counts, no_counts}
 use Rattle.gc_types.specs.declared.layout.TraceInfo.{TraceInfo}
 use Rattle.gc_types.specs.declared.layout.TraceInfo.TheVariants as trace
 use Rattle.gc_refs.specs.Trace.{form_unit}
-use Rattle.gc_heap.specs.Objects.{held_size, SpareIs}
+use Rattle.gc_heap.specs.Objects.{SpareIs}
 use Rattle.gc_heap.specs.References.{reference_offsets, typed_offsets, info_offsets, traced_offsets, references, word_in}
 use Rattle.gc_heap.specs.Content.{IsHeap, total}
 use Rattle.gc_heap.specs.Heap.{IsWritable, with_data, put_object}
-use Rattle.gc_heap.specs.Barriers.{CanUnname, CanUnnameSlot, raise, lower, copied, emptied, cloned, dropped, overwritten}
+use Rattle.gc_heap.specs.Barriers.{CanUnname, CanUnnameSlot, raise, lower, copied, emptied, overwritten}
 use Rattle.gc_heap.specs.Collection.{CanCollect, IsWordOf, names_of, occurrences}
 use Rattle.gc_heap.specs.Totals.{total-least}
 use Rattle.gc_heap.proofs.AddedLemmas.{start}

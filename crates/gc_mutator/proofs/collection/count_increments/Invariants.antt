@@ -1,4 +1,4 @@
-use Rattle.std.proofs.Common.{ℕ, Bool, ◌≡◌, ◌+◌, ◌-◌, ◌^◌, min}
+use Rattle.std.proofs.Common.{ℕ, Bool, ◌≡◌, ◌-◌, ◌^◌, min}
 use Rattle.gc_heap.specs.Collection.{Start, has_host, IsPartOf}
 use Rattle.gc_mutator.proofs.collection.count_increments.Given as goal
 

@@ -1,4 +1,4 @@
-use Rattle.std.proofs.Common.{◌≡◌, ◌+◌, ◌≤◌, refl, sym, ap, subst, ◌∙◌, arith}
+use Rattle.std.proofs.Common.{◌≡◌, sym, ap, subst, ◌∙◌}
 use Rattle.std.specs.List.{Contains}
 use Rattle.std.specs.Option.{option_copied}
 use Rattle.gc_types.specs.Layouts.{trace_at}
@@ -6,7 +6,6 @@ use Rattle.gc_model.specs.Views.{HeapObject}
 use Rattle.gc_heap.specs.Objects.{array_length}
 use Rattle.gc_heap.specs.References.{info_offsets, typed_offsets}
 use Rattle.gc_heap.proofs.ReferenceLemmas.{typed_is}
-use Rattle.gc_heap.proofs.WrittenLemmas.{writable_from}
 use Rattle.gc_mutator.specs.Fields.{HasWord}
 use Rattle.gc_mutator.proofs.FieldLemmas.{length_readable, length_read}
 use Rattle.gc_mutator.proofs.fields.has_reference.Goals as goal

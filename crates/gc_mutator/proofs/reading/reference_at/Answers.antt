@@ -1,4 +1,4 @@
-use Rattle.gc_mutator.proofs.FieldLemmas.{word_at, word_inside}
+use Rattle.gc_mutator.proofs.FieldLemmas.{word_at}
 use Rattle.gc_mutator.proofs.reading.reference_at.Goals as goal
 
 pub returns-in-Ok-read_u32-clause-held : goal.returns-in-Ok-read_u32-clause-held

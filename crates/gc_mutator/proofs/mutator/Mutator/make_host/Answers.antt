@@ -1,7 +1,6 @@
-use Rattle.std.proofs.Common.{◌≡◌, ◌<◌, ◌^◌, ◌+◌, ℕ, false, true, arith, sym, ◌∙◌, subst}
-use Rattle.std.specs.FinMap.{FinMap, len}
+use Rattle.std.proofs.Common.{◌≡◌, ◌<◌, ◌^◌, ◌+◌, true, arith, sym, ◌∙◌, subst}
+use Rattle.std.specs.FinMap.{len}
 use Rattle.gc_tables.specs.declared.slab.SlabFault.TheVariants.{Full}
-use Rattle.std.specs.Ordering.{nat_cmp}
 use Rattle.std.specs.Prelude.{is_err}
 use Rattle.gc_memory.specs.Offsets.{external_size}
 use Rattle.gc_heap.specs.Objects.{external}

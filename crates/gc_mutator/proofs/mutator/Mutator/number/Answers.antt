@@ -1,7 +1,6 @@
 use Rattle.std.proofs.Common.{◌≡◌, Some, sym, ap, ◌∙◌}
 use Rattle.gc_model.specs.Views.{HeapObject}
 use Rattle.gc_mutator.specs.Mutators.{MutatorView}
-use Rattle.gc_mutator.specs.Fields.{HasWord}
 use Rattle.std.specs.FinMap.{get}
 use Rattle.gc_mutator.proofs.FieldLemmas.{word_readable}
 use Rattle.gc_mutator.proofs.mutator.Mutator.number.Goals as goal

@@ -1,4 +1,4 @@
-use Rattle.std.proofs.Common.{◌≡◌, sym, subst}
+use Rattle.std.proofs.Common.{sym, subst}
 use Rattle.gc_heap.specs.Content.{IsHeld}
 use Rattle.gc_mutator.specs.Mutators.{MutatorView, NamesObject}
 use Rattle.gc_mutator.proofs.FieldLemmas.{number_names_none}

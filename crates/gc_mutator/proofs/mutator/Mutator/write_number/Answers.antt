@@ -1,12 +1,9 @@
-use Rattle.std.proofs.Common.{◌≡◌, Some, sym, ap, subst, ◌∙◌}
+use Rattle.std.proofs.Common.{◌≡◌, Some, ap, ◌∙◌}
 use Rattle.std.specs.FinMap.{get}
 use Rattle.gc_model.specs.Views.{HeapObject}
-use Rattle.gc_heap.specs.Heap.{put_object, with_data}
 use Rattle.gc_heap.specs.Collection.{has_host}
-use Rattle.std.specs.Int.{w32, to_le_bytes}
-use Rattle.gc_mutator.specs.Mutators.{MutatorView, word_of}
-use Rattle.gc_mutator.specs.Fields.{HasWord, WritesNumber}
-use Rattle.gc_mutator.proofs.MakeLemmas.{view}
+use Rattle.gc_mutator.specs.Mutators.{MutatorView}
+use Rattle.gc_mutator.specs.Fields.{HasWord}
 use Rattle.gc_mutator.proofs.WriteLemmas.{numbers_alone, number_stored, number_written}
 use Rattle.gc_mutator.proofs.mutator.Mutator.write_number.Goals as goal
 use Rattle.gc_mutator.proofs.mutator.Mutator.write_number.Goals.{After-write_u32}
