@@ -30,7 +30,7 @@ pub record HasReference (layouts : Layouts) (types : List Declaration) (o : Heap
   pub aligned : offset % 4 ≡ 0
   pub among : Contains (typed_offsets layouts types o o.kind) offset
 
--- objects with that trace info have no references
+-- there is trace info, and objects with it have no references
 abbrev pub NamesNone : Option TraceInfo → Type 0
 NamesNone None = ⊥
 NamesNone (Some (trace.Struct offsets)) = offsets ≡ []

@@ -33,8 +33,8 @@ pub record AddsRooted (layouts : Layouts) (old new : MutatorView) (object : Heap
   pub rooted : new ≡ record (with_root old new.heap false place) { hosts = new.hosts }
   pub index_is : index ≡ length old.roots
 
--- Why an object of that size isn't made, where its type is declared, in the order of the tests. Each
--- cause excludes the others and an Ok, so that only want of memory comes in place of another answer.
+-- Why an object of that size isn't made, where its type is declared, in the order of the tests. But for
+-- want of memory each cause excludes the others and an Ok.
 abbrev pub Refuses : Layouts → MutatorView → ℕ → MutatorFault → Type 0
 Refuses layouts m size fault.Full = max_roots ≤ length m.roots
 Refuses layouts m size fault.TooLarge = (length m.roots < max_roots) × IsTooLarge layouts size

@@ -1,5 +1,6 @@
--- Why calls of a mutator do nothing, in the order of their tests. Each cause excludes the others and an
--- Ok, so that only want of memory comes in place of another answer.
+-- Why calls of a mutator do nothing, in the order of their tests. But for want of memory each cause
+-- excludes the others and an Ok, so that each answer comes exactly where its cause is true; want of
+-- memory may come in place of those behind its cause.
 use Rattle.std.specs.Prelude.{◌≡◌, ℕ, ◌+◌, ◌*◌, ◌<◌, ◌≤◌, ◌⊎◌, true, false, List, Option, Some, None, length}
 use Rattle.gc_types.specs.declared.kind.Layouts.{Layouts}
 use Rattle.gc_roots.specs.Roots.{Root}
