@@ -1,22 +1,27 @@
 -- Elements of arrays, and writes to fields.
-use Rattle.std.proofs.Common.{◌≡◌, ◌≢◌, ℕ, zero, suc, ◌+◌, ◌-◌, ◌/◌, ◌%◌, ◌≤◌, ◌<◌, ◌⊎◌, inl, inr, List, [], ◌∷◌, Option, Some, None, refl, sym, ap, subst, ◌∙◌, arith}
+use Rattle.std.proofs.Common.{◌≡◌, ℕ, zero, suc, ◌+◌, ◌-◌, ◌/◌, ◌%◌, ◌≤◌, ◌<◌, ◌⊎◌, inl, inr, List, ◌∷◌, Option, Some, None, refl, sym, ap, subst, ◌∙◌, Result, Ok, arith}
 use Rattle.std.specs.List.{Contains}
 use Rattle.std.proofs.lemmas.Bool.{cases_eq}
-use Rattle.std.specs.Option.{SomeIff}
+use Rattle.std.specs.Prelude.{SomeIff}
 use Rattle.std.specs.FinMap.{get}
 use Rattle.std.specs.Int.{w32}
 use Rattle.gc_types.specs.declared.kind.Layouts.{Layouts}
-use Rattle.gc_types.specs.Layouts.{struct_base}
+use Rattle.gc_types.specs.declared.kind.VMGcKind.{VMGcKind}
+use Rattle.gc_types.specs.declared.kind.VMGcKind.TheVariants.{ExternRef, AnyRef, EqRef, StructRef, ArrayRef, ExnRef}
+use Rattle.gc_types.specs.Layouts.{struct_base, array_base}
 use Rattle.gc_refs.specs.LittleEndian.{unsigned_at}
-use Rattle.gc_refs.specs.Views.{part_of}
+use Rattle.gc_refs.specs.Views.{IsInside, part_of, Reads}
+use Rattle.gc_refs.specs.declared.fault.DataFault.{DataFault}
 use Rattle.gc_model.specs.Views.{HeapObject, HeapView}
 use Rattle.gc_memory.specs.Lists.{In, here, there}
-use Rattle.gc_heap.specs.Objects.{array_length}
-use Rattle.gc_heap.specs.References.{word_offsets}
+use Rattle.gc_heap.specs.Objects.{HasFields, writable_offset, array_length, IsObjectData}
+use Rattle.gc_heap.specs.References.{word_offsets, word_in}
+use Rattle.gc_heap.specs.Content.{IsHeap, IsHeld}
 use Rattle.gc_heap.specs.Access.{IsReadable, data_part}
+use Rattle.gc_heap.proofs.AccessLemmas.{reads_data}
 use Rattle.gc_heap.proofs.WrittenLemmas.{writable_from}
 use Rattle.gc_heap.proofs.SpacedLemmas.{first_or_later, contains_in, in_contains}
-use Rattle.gc_mutator.specs.Fields.{HasWord, slot_word}
+use Rattle.gc_mutator.specs.Fields.{HasWord, StepsTo, Leads, slot_word}
 
 element_in : (n from x : ℕ) → from ≤ x → (x - from) % 4 ≡ 0 → (x - from) / 4 < n → In x (word_offsets from n)
 element_in zero from x low aligned below = absurd (omega arith)
@@ -71,6 +76,69 @@ word_readable layouts h place o offset held word =
     let least = writable_from layouts o.kind word.fields in
     let from = word.from in
     record { object = o; held = held; has_fields = word.fields; from = omega arith; to = word.to }
+
+-- a kind that is none of the three that have fields
+pub no_fields : (kind : VMGcKind) → (kind ≡ StructRef → ⊥) → (kind ≡ ExnRef → ⊥) → (kind ≡ ArrayRef → ⊥) → HasFields kind → ⊥
+no_fields ExternRef struct exn array fields = fields
+no_fields AnyRef struct exn array fields = fields
+no_fields EqRef struct exn array fields = fields
+no_fields StructRef struct exn array fields = struct refl
+no_fields ArrayRef struct exn array fields = array refl
+no_fields ExnRef struct exn array fields = exn refl
+
+-- where the part of a struct, an array or an exception begins that its holder may write
+pub struct_from : (layouts kind : Layouts) (own : VMGcKind) (n : ℕ) → (own ≡ StructRef) ⊎ (own ≡ ExnRef) → kind ≡ layouts → n ≡ struct_base kind → HasFields own × (writable_offset layouts own ≡ n)
+struct_from layouts kind own n (inl is) same base = subst (λ k. HasFields k × (writable_offset layouts k ≡ n)) (sym is) (tt, sym (base ∙ ap struct_base same))
+struct_from layouts kind own n (inr is) same base = subst (λ k. HasFields k × (writable_offset layouts k ≡ n)) (sym is) (tt, sym (base ∙ ap struct_base same))
+
+pub array_from : (layouts kind : Layouts) (own : VMGcKind) (n : ℕ) → own ≡ ArrayRef → kind ≡ layouts → n ≡ array_base kind → HasFields own × (writable_offset layouts own ≡ n)
+array_from layouts kind own n is same base = subst (λ k. HasFields k × (writable_offset layouts k ≡ n)) (sym is) (tt, sym (base ∙ ap array_base same))
+
+-- a 31-bit number names no object
+pub number_names_none : (layouts : Layouts) (h : HeapView) (word : ℕ) → IsHeap layouts h → word % 2 ≡ 1 → IsHeld h word → ⊥
+number_names_none layouts h word heap odd held =
+    let aligned : word % 16 ≡ 0 = (heap.objects word held.0 held.1).aligned in
+    omega arith
+
+-- the word that lies at an offset of a held object, if it isn't null
+pub word_at : (layouts : Layouts) (h : HeapView) (place offset : ℕ) (o : HeapObject) (bytes : List ℕ) (read : Result ℕ DataFault) (number : ℕ) (made : Option ℕ) → get h.content place ≡ Some o → HasWord layouts o offset
+    → IsObjectData layouts o bytes → Reads 4 (unsigned_at w32) 0 bytes offset read → read ≡ Ok number → SomeIff made (0 < number) number → SomeIff made (HasWord layouts o offset × (0 < word_in layouts o offset)) (word_in layouts o offset)
+word_at layouts h place offset o bytes read number made held lies told reads is gives =
+    let same : number ≡ word_in layouts o offset = reads_data (unsigned_at w32) layouts h place offset 4 bytes read number (word_readable layouts h place o offset held lies) (λ o' held'. subst (λ (x : HeapObject). IsObjectData layouts x bytes) (some_is o o' (sym held ∙ held')) told) reads is o held in
+    by_made made (subst (λ n. SomeIff made (0 < n) n) same gives)
+  where
+    some_is : (a b : HeapObject) → Some a ≡ Some b → a ≡ b
+    some_is a b e = cc
+
+    by_made : (made : Option ℕ) → SomeIff made (0 < word_in layouts o offset) (word_in layouts o offset) → SomeIff made (HasWord layouts o offset × (0 < word_in layouts o offset)) (word_in layouts o offset)
+    by_made None none = λ both. none both.1
+    by_made (Some w) some = ((lies, some.0), some.1)
+
+-- where a word that lies inside isn't read
+pub word_inside : (layouts : Layouts) (o : HeapObject) (bytes : List ℕ) (offset : ℕ) → HasWord layouts o offset → IsObjectData layouts o bytes → IsInside 0 bytes offset 4
+word_inside layouts o bytes offset lies told = let to = lies.to in let size = told.size in (omega arith, omega arith)
+
+module _ (layouts : Layouts) (h : HeapView) (from offset : ℕ) (path : List ℕ) (to : Option ℕ) (made : Option ℕ) (held : (o : HeapObject) → get h.content from ≡ Some o → SomeIff made (HasWord layouts o offset × (0 < word_in layouts o offset)) (word_in layouts o offset))
+    (number : from % 2 ≡ 1 → made ≡ None) where
+  -- where a path leads from the next word, it leads from this one
+  pub leads_on : (next : ℕ) → made ≡ Some next → Leads layouts h next path to → Leads layouts h from (offset ∷ path) to
+  leads_on next is leads = (λ next' step. subst (λ w. Leads layouts h w path to) (same next' step) leads, λ known none. absurd (stuck known none))
+    where
+      read : (o : HeapObject) → get h.content from ≡ Some o → (HasWord layouts o offset × (0 < word_in layouts o offset)) × (next ≡ word_in layouts o offset)
+      read o is_held = subst (λ m. SomeIff m (HasWord layouts o offset × (0 < word_in layouts o offset)) (word_in layouts o offset)) is (held o is_held)
+
+      same : (next' : ℕ) → StepsTo layouts h from offset next' → next ≡ next'
+      same next' step = (read step.object step.held).1 ∙ sym step.is
+
+      stuck : (from % 2 ≡ 1) ⊎ IsHeld h from → ((next' : ℕ) → StepsTo layouts h from offset next' → ⊥) → ⊥
+      stuck (inl odd) none = let nothing : made ≡ None = number odd in absurd (cc)
+      stuck (inr o) none =
+          let found = read o.0 o.1 in
+          none next (record { object = o.0; held = o.1; lies = found.0.0; present = subst (λ n. 0 < n) (sym found.1) found.0.1; is = found.1 })
+
+  -- and it leads nowhere where there is no next word
+  pub leads_nowhere : made ≡ None → Leads layouts h from (offset ∷ path) None
+  leads_nowhere is = (λ next step. absurd (subst (λ m. SomeIff m (HasWord layouts step.object offset × (0 < word_in layouts step.object offset)) (word_in layouts step.object offset)) is (held step.object step.held) (step.lies, subst (λ n. 0 < n) step.is step.present)), λ known none. refl)
 
 -- the word that a slot stands for
 pub slot_of_raw : (made : Option ℕ) (word : ℕ) → SomeIff made (0 < word) word → slot_word made ≡ word

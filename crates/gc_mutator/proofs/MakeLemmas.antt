@@ -1,8 +1,8 @@
 -- Making objects: their layouts are such as heaps take, and with its root each leaves a heap in which a
 -- collection may begin.
-use Rattle.std.proofs.Common.{◌≡◌, ℕ, ◌+◌, ◌≤◌, ◌<◌, ◌^◌, ◌⊎◌, inl, inr, Bool, true, false, List, [], ◌∷◌, ◌++◌, length, map, get_or, Option, Some, None, Result, Ok, Err, OnOk, is_some, refl, sym, ap, subst, ◌∙◌, arith}
-use Rattle.std.specs.Prelude.{All, slice_get, ◌↔◌, IsErrOf, is_err, option_map}
-use Rattle.std.specs.FinMap.{FinMap, get, insert, remove, same_map, nat_cmp-IsAntisymmetric, gets}
+use Rattle.std.proofs.Common.{◌≡◌, ℕ, ◌+◌, ◌≤◌, ◌<◌, ◌^◌, Bool, true, false, List, [], ◌∷◌, length, map, get_or, Option, Some, None, Result, Ok, Err, OnOk, is_some, refl, sym, ap, subst, ◌∙◌, arith}
+use Rattle.std.specs.Prelude.{◌≢◌, All, slice_get, ◌↔◌, IsErrOf, is_err, option_map}
+use Rattle.std.specs.FinMap.{FinMap, get, len, insert, remove, same_map, nat_cmp-IsAntisymmetric, gets}
 use Rattle.std.specs.Cmp.{nat_cmp_total}
 use Rattle.std.specs.Ordering.{nat_cmp}
 use Rattle.std.proofs.lemmas.Grind.{common_steps}
@@ -10,13 +10,13 @@ use Rattle.std.proofs.lemmas.Option.{none-some}
 use Rattle.std.proofs.lemmas.List.Elements.{Contains-get_or}
 use Rattle.gc_types.specs.declared.kind.Layouts.{Layouts}
 use Rattle.gc_types.specs.declared.kind.Layouts.TheVariants.{Null, Counting, Copying}
-use Rattle.gc_types.specs.declared.kind.VMGcKind.TheVariants.{StructRef, ArrayRef, ExnRef, ExternRef}
+use Rattle.gc_types.specs.declared.kind.VMGcKind.TheVariants.{ArrayRef, ExternRef}
 use Rattle.gc_types.specs.declared.value.FieldType.{FieldType}
 use Rattle.gc_types.specs.declared.layout.GcStructLayout.{GcStructLayout}
 use Rattle.gc_types.specs.declared.layout.GcArrayLayout.{GcArrayLayout}
 use Rattle.gc_types.specs.Declarations.{Declaration, Shape, struct_of, array_of, exn_of, func_of, constant_field, elem_at}
 use Rattle.gc_types.specs.Layouts.{struct_base, exception_base, array_base, round_up, ref_offsets, field_layouts, fields_end, struct_layout, exn_layout, array_layout, shape_layout, declaration_layout, layout_at, array_layout_at}
-use Rattle.gc_roots.specs.Roots.{Root, root}
+use Rattle.gc_roots.specs.Roots.{Root}
 use Rattle.gc_model.specs.Views.{HeapObject, HeapView}
 use Rattle.gc_model.proofs.Layouts.{layout_low}
 use Rattle.gc_heap.specs.Objects.{first_offset, external}
@@ -30,7 +30,9 @@ use Rattle.gc_heap.proofs.AddedLemmas.{start, IsBlank, OwnsHost, owns_none, owns
 use Rattle.gc_heap.proofs.MadeLemmas.{can_collect_made}
 use Rattle.gc_heap.proofs.SpacedLemmas.{contains_in, Spaced-in, spaced_fields, fields_from, aligned_fields, ref_width}
 use Rattle.gc_tables.specs.declared.host_data.HostFault.{HostFault}
+use Rattle.gc_tables.specs.declared.slab.SlabFault.{SlabFault}
 use Rattle.gc_tables.specs.declared.host_data.HostFault.TheVariants as host_fault
+use Rattle.gc_tables.specs.SideTables.{max_entries}
 use Rattle.gc_memory.specs.Offsets.{external_size}
 use Rattle.gc_mutator.specs.Mutators.{MutatorView}
 use Rattle.gc_mutator.specs.Makes.{Roots, MakesHost}
@@ -179,7 +181,7 @@ abbrev pub view : HeapView → List Root → List Declaration → FinMap nat_cmp
 view heap roots types hosts = record { heap = heap; roots = roots; types = types; hosts = hosts }
 
 module _ (layouts : Layouts) (types : List Declaration) (old new : HeapView) (roots room roots' : List Root) (entries more : FinMap nat_cmp ℕ) (id value : ℕ) (answer answer' : Result (Result ℕ ℕ) HeapFault) (result : Result ℕ MutatorFault)
-    (allocated : Allocated layouts old new (external id) (external_size layouts) answer) (alike : answer' ≡ answer) (same : room ≡ roots) (rooted : Roots answer' room roots' result) where
+    (allocated : Allocated layouts old new (external id) (external_size layouts) answer) (alike : answer' ≡ answer) (same : room ≡ roots) (rooted : Roots answer' room roots' result) (few : length roots < 2 ^ 31) (space : len entries ≢ max_entries) where
   of_answer : Roots answer roots roots' result
   of_answer = subst (λ rs. Roots answer rs roots' result) same (subst (λ a. Roots a room roots' result) alike rooted)
 
@@ -189,11 +191,15 @@ module _ (layouts : Layouts) (types : List Declaration) (old new : HeapView) (ro
     where
       by_answer : (answer : Result (Result ℕ ℕ) HeapFault) → Allocated layouts old new (external id) (external_size layouts) answer → Roots answer roots roots' result → MakesHost layouts (view old roots types entries) (view new roots' types more) value result
       by_answer (Ok (Ok place)) allocated rooted =
-          subst (MakesHost layouts (view old roots types entries) (view new roots' types more) value) (sym rooted.1) (record {
-            id = id;
-            added = record { place = place; added = allocated; rooted = ap (λ rs. view new rs types more) rooted.0; index_is = refl };
-            hosts = added;
-          })
+          subst (MakesHost layouts (view old roots types entries) (view new roots' types more) value) (sym rooted.1) (
+            record {
+              id = id;
+              added = record { place = place; added = allocated; rooted = ap (λ rs. view new rs types more) rooted.0; index_is = refl };
+              hosts = added;
+            },
+            few,
+            space,
+          )
       by_answer (Ok (Err need)) allocated rooted = let err : is_err result ≡ true = ap is_err rooted.1 in absurd (cc)
       by_answer (Err heap_fault.TooLarge) allocated rooted = let err : is_err result ≡ true = ap is_err rooted.1 in absurd (cc)
       by_answer (Err heap_fault.Memory) allocated rooted = let err : is_err result ≡ true = ap is_err rooted.1 in absurd (cc)
@@ -208,6 +214,10 @@ module _ (layouts : Layouts) (types : List Declaration) (old new : HeapView) (ro
       by_answer : (answer : Result (Result ℕ ℕ) HeapFault) → Allocated layouts old new (external id) (external_size layouts) answer → Roots answer roots roots' result → MakesHost layouts (view old roots types entries) (view new roots' types back) value result
       by_answer (Ok (Ok place)) allocated rooted = let ok : is_err result ≡ false = ap is_err rooted.1 in absurd (cc)
       by_answer (Ok (Err need)) allocated rooted =
-          subst (MakesHost layouts (view old roots types entries) (view new roots' types back) value) (sym rooted.1) ((allocated.no_room, allocated.asked), as_before allocated.same rooted.0)
-      by_answer (Err heap_fault.TooLarge) allocated rooted = subst (MakesHost layouts (view old roots types entries) (view new roots' types back) value) (sym rooted.1) (as_before allocated.1 rooted.0)
-      by_answer (Err heap_fault.Memory) allocated rooted = subst (MakesHost layouts (view old roots types entries) (view new roots' types back) value) (sym rooted.1) (as_before allocated rooted.0)
+          subst (MakesHost layouts (view old roots types entries) (view new roots' types back) value) (sym rooted.1) ((space, (few, allocated.small, allocated.no_room, allocated.asked)), as_before allocated.same rooted.0)
+      by_answer (Err heap_fault.TooLarge) allocated rooted = subst (MakesHost layouts (view old roots types entries) (view new roots' types back) value) (sym rooted.1) ((space, (few, allocated.0)), as_before allocated.1 rooted.0)
+      by_answer (Err heap_fault.Memory) allocated rooted = subst (MakesHost layouts (view old roots types entries) (view new roots' types back) value) (sym rooted.1) (few, as_before allocated rooted.0)
+
+-- a host table that takes a value isn't full
+pub not_full : {A : Type 0} (count : ℕ) (id : A) (back : SlabFault ℕ) → ((◌≡◌ {A = Result A (SlabFault ℕ)} (Ok id) (Err back)) ↔ (count ≡ max_entries)) → count ≢ max_entries
+not_full count id back full = λ is. let err : Ok id ≡ Err back = full.1 is in absurd (cc)

@@ -1,8 +1,8 @@
 -- A collection may begin after a reference was written by its barrier, or a number to an object without references.
-use Rattle.std.proofs.Common.{◌≡◌, ℕ, ◌+◌, ◌≤◌, ◌<◌, ◌^◌, ◌%◌, ◌⊎◌, inl, inr, Bool, List, [], ◌∷◌, length, Option, Some, None, Contains, refl, sym, ap, ◌∙◌, subst, arith}
-use Rattle.std.specs.Prelude.{IfSome}
+use Rattle.std.proofs.Common.{◌≡◌, ℕ, ◌+◌, ◌≤◌, ◌<◌, ◌^◌, ◌⊎◌, inl, inr, Bool, true, false, List, [], ◌∷◌, length, Option, Some, None, Contains, refl, sym, ap, ◌∙◌, subst, arith}
+use Rattle.std.specs.Prelude.{◌↔◌, IfSome, IsTrue}
 use Rattle.std.specs.Int.{w32, to_le_bytes}
-use Rattle.std.specs.FinMap.{FinMap, get, insert, get-empty}
+use Rattle.std.specs.FinMap.{FinMap, get, get-empty}
 use Rattle.std.specs.Ordering.{nat_cmp}
 use Rattle.gc_types.specs.declared.kind.Layouts.{Layouts}
 use Rattle.gc_types.specs.declared.kind.Layouts.TheVariants.{Null, Counting, Copying}
@@ -14,11 +14,13 @@ use Rattle.gc_roots.specs.Roots.{Root}
 use Rattle.gc_memory.specs.Lists.{In, here, there}
 use Rattle.gc_model.specs.Views.{HeapObject, HeapView, Counts, no_counts}
 use Rattle.gc_types.specs.declared.layout.TraceInfo.{TraceInfo}
-use Rattle.gc_heap.specs.Objects.{held_size, SpareIs}
+use Rattle.gc_types.specs.declared.layout.TraceInfo.TheVariants as trace
+use Rattle.gc_refs.specs.Trace.{form_unit}
+use Rattle.gc_heap.specs.Objects.{SpareIs}
 use Rattle.gc_heap.specs.References.{reference_offsets, typed_offsets, info_offsets, traced_offsets, references, word_in}
 use Rattle.gc_heap.specs.Content.{IsHeap, total}
 use Rattle.gc_heap.specs.Heap.{IsWritable, with_data, put_object}
-use Rattle.gc_heap.specs.Barriers.{CanUnname, CanUnnameSlot, raise, lower, copied, emptied, cloned, dropped, overwritten}
+use Rattle.gc_heap.specs.Barriers.{CanUnname, CanUnnameSlot, raise, lower, copied, emptied, overwritten}
 use Rattle.gc_heap.specs.Collection.{CanCollect, IsWordOf, names_of, occurrences}
 use Rattle.gc_heap.specs.Totals.{total-least}
 use Rattle.gc_heap.proofs.AddedLemmas.{start}
@@ -27,7 +29,7 @@ use Rattle.gc_heap.proofs.SpacedLemmas.{contains_in, in_contains, map_in}
 use Rattle.gc_heap.proofs.StoredLemmas.{IsSlotOf, IsWrite, can_collect_word, can_collect_stored, can_collect_number}
 use Rattle.gc_heap.proofs.WrittenLemmas.{fits_data}
 use Rattle.gc_mutator.specs.Mutators.{MutatorView, word_of, source_word}
-use Rattle.gc_mutator.specs.Fields.{HasWord, HasReference, slot_word, WritesNumber, WritesReference}
+use Rattle.gc_mutator.specs.Fields.{HasWord, HasReference, HasNumber, NamesNone, IsOfNumbers, slot_word, WritesNumber, WritesReference}
 use Rattle.gc_mutator.proofs.MakeLemmas.{view}
 use Rattle.gc_mutator.proofs.NameLemmas.{is_named}
 
@@ -145,33 +147,53 @@ number_stored layouts types h h' roots hosts place o offset number heap can held
     (can_collect_number layouts types h place o offset (to_le_bytes w32 number) roots hosts (is_write layouts h place o offset number heap held lies) nothing can)
 
 -- an object whose type names no references has none
-pub typed_none : (layouts : Layouts) (types : List Declaration) (o : HeapObject) (k : VMGcKind) → info_offsets layouts o (trace_at layouts types o.ty) ≡ [] → typed_offsets layouts types o k ≡ []
+names_none : (layouts : Layouts) (o : HeapObject) (info : Option TraceInfo) → NamesNone info → info_offsets layouts o info ≡ []
+names_none layouts o None none = refl
+names_none layouts o (Some (trace.Struct offsets)) none = none
+names_none layouts o (Some (trace.Array true)) none = absurd (cc)
+names_none layouts o (Some (trace.Array false)) none = refl
+
+typed_none : (layouts : Layouts) (types : List Declaration) (o : HeapObject) (k : VMGcKind) → NamesNone (trace_at layouts types o.ty) → typed_offsets layouts types o k ≡ []
 typed_none layouts types o ExternRef none = refl
 typed_none layouts types o AnyRef none = refl
 typed_none layouts types o EqRef none = refl
-typed_none layouts types o StructRef none = none
-typed_none layouts types o ArrayRef none = none
-typed_none layouts types o ExnRef none = none
+typed_none layouts types o StructRef none = names_none layouts o (trace_at layouts types o.ty) none
+typed_none layouts types o ArrayRef none = names_none layouts o (trace_at layouts types o.ty) none
+typed_none layouts types o ExnRef none = names_none layouts o (trace_at layouts types o.ty) none
 
--- the references of a held object, where its heap finds them by its type, and where by its trace word
-pub plain_typed : (layouts kind : Layouts) (types : List Declaration) (o : HeapObject) (info : Option TraceInfo) → (kind ≡ Null) ⊎ (kind ≡ Counting) → kind ≡ layouts → info ≡ trace_at layouts types o.ty → info_offsets layouts o info ≡ [] → reference_offsets layouts types o ≡ []
-plain_typed layouts kind types o info (inl null) is told none =
-    subst (λ l. reference_offsets l types o ≡ []) (sym null ∙ is) (typed_none Null types o o.kind (subst (λ l. info_offsets l o (trace_at l types o.ty) ≡ []) (sym is ∙ null) (subst (λ i. info_offsets layouts o i ≡ []) told none)))
-plain_typed layouts kind types o info (inr counting) is told none =
-    subst (λ l. reference_offsets l types o ≡ []) (sym counting ∙ is) (typed_none Counting types o o.kind (subst (λ l. info_offsets l o (trace_at l types o.ty) ≡ []) (sym is ∙ counting) (subst (λ i. info_offsets layouts o i ≡ []) told none)))
+-- nor has one whose trace word names none
+traced_none : (types : List Declaration) (o : HeapObject) → (o.spare ≡ 0) ⊎ (o.spare ≡ form_unit) → traced_offsets types o ≡ []
+traced_none types o (inl none) = ap (λ (n : ℕ). traced_offsets types (record o { spare = n })) none
+traced_none types o (inr plain) = ap (λ (n : ℕ). traced_offsets types (record o { spare = n })) plain
 
-pub plain_traced : (layouts kind : Layouts) (types : List Declaration) (o : HeapObject) → kind ≡ Copying → kind ≡ layouts → traced_offsets types o ≡ [] → reference_offsets layouts types o ≡ []
-plain_traced layouts kind types o copying is none = subst (λ l. reference_offsets l types o ≡ []) (sym copying ∙ is) none
+-- an object of numbers alone has no references
+pub numbers_alone : (layouts : Layouts) (types : List Declaration) (o : HeapObject) → IsOfNumbers layouts types o → reference_offsets layouts types o ≡ []
+numbers_alone Null types o none = typed_none Null types o o.kind none
+numbers_alone Counting types o none = typed_none Counting types o o.kind none
+numbers_alone Copying types o none = traced_none types o none
+
+-- whether a held object is one, where its heap traces it by its type, and where by its trace word
+pub tells_typed : (layouts kind : Layouts) (types : List Declaration) (o : HeapObject) (info : Option TraceInfo) (answer : Bool) → (kind ≡ Null) ⊎ (kind ≡ Counting) → kind ≡ layouts → info ≡ trace_at layouts types o.ty → (IsTrue answer ↔ NamesNone info)
+    → (IsTrue answer ↔ IsOfNumbers layouts types o)
+tells_typed layouts kind types o info answer (inl null) is told tells =
+    subst (λ l. IsTrue answer ↔ IsOfNumbers l types o) (sym null ∙ is) (subst (λ i. IsTrue answer ↔ NamesNone i) (told ∙ ap (λ l. trace_at l types o.ty) (sym is ∙ null)) tells)
+tells_typed layouts kind types o info answer (inr counting) is told tells =
+    subst (λ l. IsTrue answer ↔ IsOfNumbers l types o) (sym counting ∙ is) (subst (λ i. IsTrue answer ↔ NamesNone i) (told ∙ ap (λ l. trace_at l types o.ty) (sym is ∙ counting)) tells)
+
+pub tells_traced : (layouts kind : Layouts) (types : List Declaration) (o : HeapObject) (word : ℕ) (answer : Bool) → kind ≡ Copying → kind ≡ layouts → o.spare ≡ word → (IsTrue answer ↔ ((word ≡ 0) ⊎ (word ≡ form_unit))) → (IsTrue answer ↔ IsOfNumbers layouts types o)
+tells_traced layouts kind types o word answer copying is spare tells =
+    subst (λ l. IsTrue answer ↔ IsOfNumbers l types o) (sym copying ∙ is) (subst (λ w. IsTrue answer ↔ ((w ≡ 0) ⊎ (w ≡ form_unit))) (sym spare) tells)
 
 pub spare_of : (layouts kind : Layouts) (o : HeapObject) (bits : ℕ) → kind ≡ Copying → kind ≡ layouts → SpareIs layouts o bits → o.spare ≡ bits
 spare_of layouts kind o bits copying is spare = sym (subst (λ l. SpareIs l o bits) (sym is ∙ copying) spare)
 
 -- what the calls that write say of the mutator
-pub number_written : (layouts : Layouts) (m : MutatorView) (h h' : HeapView) (roots : List Root) (types : List Declaration) (hosts : FinMap nat_cmp ℕ) (holder place : ℕ) (o : HeapObject) (offset number : ℕ) → view h roots types hosts ≡ m → place ≡ word_of m holder
-    → get h.content place ≡ Some o → HasWord layouts o offset → h' ≡ put_object h place (with_data layouts o offset (to_le_bytes w32 number)) → WritesNumber layouts m (view h' roots types hosts) holder offset number
-number_written layouts m h h' roots types hosts holder place o offset number is at held lies written =
+pub number_written : (layouts : Layouts) (m : MutatorView) (h h' : HeapView) (roots : List Root) (types : List Declaration) (hosts : FinMap nat_cmp ℕ) (holder place : ℕ) (o : HeapObject) (offset number : ℕ) → view h roots types hosts ≡ m → place ≡ word_of m holder → holder < length m.roots
+    → get h.content place ≡ Some o → HasNumber layouts types o offset → h' ≡ put_object h place (with_data layouts o offset (to_le_bytes w32 number)) → WritesNumber layouts m (view h' roots types hosts) holder offset number
+number_written layouts m h h' roots types hosts holder place o offset number is at stands held lies written =
     let root : word_of (view h roots types hosts) holder ≡ place = ap (λ (v : MutatorView). word_of v holder) is ∙ sym at in
     subst (λ (v : MutatorView). WritesNumber layouts v (view h' roots types hosts) holder offset number) is (record {
+      stands = subst (λ (v : MutatorView). holder < length v.roots) (sym is) stands;
       object = o;
       held = ap (get h.content) root ∙ held;
       lies = lies;
@@ -179,12 +201,13 @@ number_written layouts m h h' roots types hosts holder place o offset number is 
     })
 
 pub reference_written : (layouts : Layouts) (m : MutatorView) (h middle h' : HeapView) (roots : List Root) (types : List Declaration) (hosts : FinMap nat_cmp ℕ) (holder place : ℕ) (o : HeapObject) (offset word : ℕ) (slot written_word : Option ℕ) (source : Option ℕ)
-    → view h roots types hosts ≡ m → place ≡ word_of m holder → get h.content place ≡ Some o → HasReference layouts types o offset → written_word ≡ source_word m source → (layouts ≡ Counting → slot_word slot ≡ word_in layouts o offset)
+    → view h roots types hosts ≡ m → place ≡ word_of m holder → holder < length m.roots → get h.content place ≡ Some o → HasReference layouts types o offset → written_word ≡ source_word m source → (layouts ≡ Counting → slot_word slot ≡ word_in layouts o offset)
     → middle ≡ overwritten h slot written_word → word ≡ slot_word written_word → h' ≡ put_object middle place (with_data layouts o offset (to_le_bytes w32 word)) → WritesReference layouts m (view h' roots types hosts) holder offset (source_word m source)
-reference_written layouts m h middle h' roots types hosts holder place o offset word slot written_word source is at held lies word_is told seen raw written =
+reference_written layouts m h middle h' roots types hosts holder place o offset word slot written_word source is at stands held lies word_is told seen raw written =
     let root : word_of (view h roots types hosts) holder ≡ place = ap (λ (v : MutatorView). word_of v holder) is ∙ sym at in
     subst (WritesReference layouts m (view h' roots types hosts) holder offset) word_is
     (subst (λ (v : MutatorView). WritesReference layouts v (view h' roots types hosts) holder offset written_word) is (record {
+      stands = subst (λ (v : MutatorView). holder < length v.roots) (sym is) stands;
       object = o;
       held = ap (get h.content) root ∙ held;
       lies = lies;

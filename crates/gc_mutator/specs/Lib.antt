@@ -1,3 +1,4 @@
 pub mod Fields
 pub mod Makes
 pub mod Mutators
+pub mod Refusals

@@ -1,6 +1,6 @@
 -- What making an object answers and leaves.
-use Rattle.std.specs.Prelude.{◌≡◌, ℕ, ◌≤◌, ◌^◌, ◌∷◌, [], ◌++◌, false, List, Result, Ok, Err, Some, length}
-use Rattle.std.specs.FinMap.{insert}
+use Rattle.std.specs.Prelude.{◌≡◌, ◌≢◌, ℕ, ◌<◌, ◌≤◌, ◌⊎◌, ◌∷◌, [], ◌++◌, false, List, Result, Ok, Err, Some, length}
+use Rattle.std.specs.FinMap.{insert, len}
 use Rattle.gc_types.specs.declared.kind.Layouts.{Layouts}
 use Rattle.gc_types.specs.declared.layout.GcStructLayout.{GcStructLayout}
 use Rattle.gc_types.specs.declared.layout.GcArrayLayout.{GcArrayLayout}
@@ -8,12 +8,13 @@ use Rattle.gc_types.specs.Layouts.{layout_at, array_layout_at}
 use Rattle.gc_roots.specs.Roots.{Root, root}
 use Rattle.gc_memory.specs.Offsets.{external_size}
 use Rattle.gc_model.specs.Sizes.{need_of}
-use Rattle.gc_model.specs.Views.{HeapObject, HeapView}
+use Rattle.gc_model.specs.Views.{HeapObject}
 use Rattle.gc_heap.specs.Objects.{external}
 use Rattle.gc_heap.specs.Heap.{AddsObject, HasRoom, IsTooLarge, new_struct, new_array, array_size}
 use Rattle.gc_heap.specs.declared.heap.HeapFault.{HeapFault}
 use Rattle.gc_heap.specs.declared.heap.HeapFault.TheVariants as heap_fault
-use Rattle.gc_mutator.specs.Mutators.{MutatorView, with_root}
+use Rattle.gc_tables.specs.SideTables.{max_entries}
+use Rattle.gc_mutator.specs.Mutators.{MutatorView, max_roots, with_root}
 use Rattle.gc_mutator.specs.declared.fault.MutatorFault.{MutatorFault}
 use Rattle.gc_mutator.specs.declared.fault.MutatorFault.TheVariants as fault
 
@@ -32,17 +33,20 @@ pub record AddsRooted (layouts : Layouts) (old new : MutatorView) (object : Heap
   pub rooted : new ≡ record (with_root old new.heap false place) { hosts = new.hosts }
   pub index_is : index ≡ length old.roots
 
--- Why an object of that size isn't made, where its type is declared.
+-- Why an object of that size isn't made, where its type is declared, in the order of the tests. But for
+-- want of memory each cause excludes the others and an Ok.
 abbrev pub Refuses : Layouts → MutatorView → ℕ → MutatorFault → Type 0
-Refuses layouts m size (fault.NoRoom need) = (HasRoom layouts m.heap size → ⊥) × (need ≡ need_of layouts size)
-Refuses layouts m size fault.TooLarge = IsTooLarge layouts size
-Refuses layouts m size fault.Full = 2 ^ 31 ≤ length m.roots
-Refuses layouts m size fault.Memory = Unit {0}
+Refuses layouts m size fault.Full = max_roots ≤ length m.roots
+Refuses layouts m size fault.TooLarge = (length m.roots < max_roots) × IsTooLarge layouts size
+Refuses layouts m size (fault.NoRoom need) =
+    (length m.roots < max_roots) × (IsTooLarge layouts size → ⊥) × (HasRoom layouts m.heap size → ⊥) × (need ≡ need_of layouts size)
+Refuses layouts m size fault.Memory = length m.roots < max_roots
 Refuses layouts m size _ = ⊥
 
 -- what making an object of that size answers and leaves
 abbrev pub Makes : Layouts → MutatorView → MutatorView → HeapObject → ℕ → Result ℕ MutatorFault → Type 0
-Makes layouts old new object size (Ok index) = AddsRooted layouts old new object size index × (new.hosts ≡ old.hosts)
+Makes layouts old new object size (Ok index) =
+    AddsRooted layouts old new object size index × (new.hosts ≡ old.hosts) × (length old.roots < max_roots)
 Makes layouts old new object size (Err why) = Refuses layouts old size why × (new ≡ old)
 
 -- the same of a struct or an exception of a declared type, and of an array
@@ -60,8 +64,15 @@ pub record AddsHost (layouts : Layouts) (old new : MutatorView) (value index : �
   pub added : AddsRooted layouts old new (external id) (external_size layouts) index
   pub hosts : new.hosts ≡ insert old.hosts id value
 
+-- Why an external object isn't made: there are too many roots or host values, or it is refused as other
+-- objects are.
+abbrev pub RefusesHost : Layouts → MutatorView → MutatorFault → Type 0
+RefusesHost layouts m fault.Full = (max_roots ≤ length m.roots) ⊎ (len m.hosts ≡ max_entries)
+RefusesHost layouts m fault.Memory = Refuses layouts m (external_size layouts) fault.Memory
+RefusesHost layouts m why = (len m.hosts ≢ max_entries) × Refuses layouts m (external_size layouts) why
+
 -- what making an external object answers and leaves
 abbrev pub MakesHost : Layouts → MutatorView → MutatorView → ℕ → Result ℕ MutatorFault → Type 0
-MakesHost layouts old new value (Ok index) = AddsHost layouts old new value index
-MakesHost layouts old new value (Err (fault.NoRoom need)) = Refuses layouts old (external_size layouts) (fault.NoRoom need) × (new ≡ old)
-MakesHost layouts old new value (Err why) = new ≡ old
+MakesHost layouts old new value (Ok index) =
+    AddsHost layouts old new value index × (length old.roots < max_roots) × (len old.hosts ≢ max_entries)
+MakesHost layouts old new value (Err why) = RefusesHost layouts old why × (new ≡ old)

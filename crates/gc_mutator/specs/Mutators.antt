@@ -1,11 +1,12 @@
 -- What contracts see of a mutator.
-use Rattle.std.specs.Prelude.{◌≡◌, ◌<◌, ℕ, Bool, List, [], ◌∷◌, ◌++◌, Option, Some, None, length}
-use Rattle.std.specs.FinMap.{FinMap}
+use Rattle.std.specs.Prelude.{◌≡◌, ◌<◌, ◌^◌, ℕ, Bool, List, [], ◌∷◌, ◌++◌, Option, Some, None, length}
+use Rattle.std.specs.FinMap.{FinMap, get}
 use Rattle.std.specs.Ordering.{nat_cmp}
 use Rattle.gc_types.specs.declared.kind.Layouts.{Layouts}
 use Rattle.gc_types.specs.Declarations.{Declaration}
 use Rattle.gc_roots.specs.Roots.{Root, root, root_at, with_word_at}
-use Rattle.gc_model.specs.Views.{HeapView}
+use Rattle.gc_model.specs.Views.{HeapObject, HeapView}
+use Rattle.gc_heap.specs.Content.{IsHeld}
 use Rattle.gc_heap.specs.Collection.{Start, CanCollect}
 use Rattle.gc_heap.specs.Run.{start_at}
 
@@ -15,6 +16,10 @@ pub record MutatorView : Type 0 where
   pub roots : List Root
   pub types : List Declaration
   pub hosts : FinMap nat_cmp ℕ
+
+-- how many roots a mutator has at most
+abbrev pub max_roots : ℕ
+max_roots = 2 ^ 31
 
 -- where a collection would begin
 abbrev pub start_of : MutatorView → Start
@@ -44,6 +49,17 @@ without_root m heap index = record m { heap = heap; roots = with_word_at m.roots
 -- a root of that index stands, which is a frame slot or none
 abbrev pub IsRoot : Bool → MutatorView → ℕ → Type 0
 IsRoot on_stack m index = (index < length m.roots) × ((root_at m.roots index).on_stack ≡ on_stack)
+
+-- a root of that index stands, and names an object
+abbrev pub NamesObject : MutatorView → ℕ → Type 0
+NamesObject m index = (index < length m.roots) × IsHeld m.heap (word_of m index)
+
+-- A root of that index stands, and names an object that is such.
+pub record NamesSuch (m : MutatorView) (index : ℕ) (is_such : HeapObject → Type 0) : Type 0 where
+  pub stands : index < length m.roots
+  pub object : HeapObject
+  pub held : get m.heap.content (word_of m index) ≡ Some object
+  pub such : is_such object
 
 -- the word of a root that is written to a field; none is null
 abbrev pub source_word : MutatorView → Option ℕ → Option ℕ

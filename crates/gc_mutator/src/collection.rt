@@ -1,7 +1,7 @@
 //! Whole collections, with their increments counted.
 
 ghost use Rattle.std.specs.Prelude.{ℕ, Bool, ◌≡◌, ◌-◌, ◌^◌, min};
-ghost use Rattle.gc_heap.specs.Collection.{Start, Collected, has_host, IsIncrements};
+ghost use Rattle.gc_heap.specs.Collection.{Start, Collected, has_host, IsIncrements, IsPartOf};
 ghost use Rattle.gc_mutator.specs.Mutators.{start_of};
 
 use crate::mutator::Mutator;
@@ -21,6 +21,7 @@ fn count_increments<H: GcHeap, D: Drop>(
         → Collected H.KIND s (H.seen heap.new) roots.new.roots (has_host trace.new.host_data_table.now.entries) }
     ensures increments { (s : Start) (c : Bool) → H.under_way s 0 c heap.old state.old roots.old.roots trace.old.types.now.declarations (has_host trace.old.host_data_table.now.entries)
         → (n : ℕ) × (IsIncrements H.KIND s n × (result ≡ min n (2 ^ 64 - 1))) }
+    ensures values { IsPartOf trace.new.host_data_table.now.entries trace.old.host_data_table.now.entries }
     ensures hosts { trace.new.host_data_table.ghost_name ≡ trace.old.host_data_table.ghost_name }
     ensures types { trace.new.types ≡ trace.old.types }
 {
@@ -37,10 +38,11 @@ fn count_increments<H: GcHeap, D: Drop>(
 
 impl<H: GcHeap> Mutator<H> {
     /// Collects, and says how many increments it took: exactly so many as the kind of heap takes, up to
-    /// the greatest u64.
+    /// the greatest u64. The host values that stay are as they were.
     pub fn collect(&mut self) -> u64
         ensures collected { Collected H.KIND (start_of self.old) self.new.heap self.new.roots (has_host self.new.hosts) }
         ensures increments { (n : ℕ) × (IsIncrements H.KIND (start_of self.old) n × (result ≡ min n (2 ^ 64 - 1))) }
+        ensures values { IsPartOf self.new.hosts self.old.hosts }
         ensures types { self.new.types ≡ self.old.types }
     {
         let mut state = self.heap.begin();

@@ -1,6 +1,6 @@
 //! Fields of held objects, written by the heap's barrier.
 
-ghost use Rattle.std.specs.Prelude.{◌≡◌, ◌-◌, ◌≤◌, ◌<◌, ◌^◌, ◌↔◌, ℕ, List, [], Option, Some, None, IfSome, IfOk, OnOk, OnErr, IsTrue, length};
+ghost use Rattle.std.specs.Prelude.{◌≡◌, ◌⊎◌, ◌-◌, ◌≤◌, ◌<◌, ◌^◌, ◌%◌, ◌↔◌, ℕ, false, List, [], Option, Some, None, IfSome, IfOk, IfErr, OnOk, OnErr, MatchOption, IsTrue, length};
 ghost use Rattle.std.specs.List.{Contains};
 ghost use Rattle.std.specs.FinMap as finite;
 ghost use Rattle.std.specs.Option.{option_copied};
@@ -10,13 +10,15 @@ ghost use Rattle.gc_types.specs.Declarations.{Declaration};
 ghost use Rattle.gc_types.specs.Layouts.{struct_base, array_base};
 ghost use Rattle.gc_model.specs.Views.{HeapObject};
 ghost use Rattle.gc_heap.specs.Objects.{HasFields, writable_offset, array_length};
-ghost use Rattle.gc_heap.specs.References.{word_offsets, info_offsets, traced_offsets, reference_offsets, word_in};
+ghost use Rattle.gc_refs.specs.Trace.{form_unit};
+ghost use Rattle.gc_heap.specs.References.{word_offsets, info_offsets, word_in};
 ghost use Rattle.gc_heap.specs.Content.{IsHeld};
 ghost use Rattle.gc_heap.specs.Access.{IsReadable};
 ghost use Rattle.gc_heap.specs.Barriers.{CanNameSlot};
 ghost use Rattle.gc_heap.specs.Collection.{IsWordOf};
 ghost use Rattle.gc_mutator.specs.Mutators.{word_of, source_word};
-ghost use Rattle.gc_mutator.specs.Fields.{HasWord, HasReference, slot_word, WritesReference, WritesNumber};
+ghost use Rattle.gc_mutator.specs.Fields.{HasWord, HasReference, HasNumber, IsOfNumbers, NamesNone, slot_word, WritesReference, WritesNumber};
+ghost use Rattle.gc_mutator.specs.Refusals.{CanWrite, RefusesSource, RefusesReference, RefusesObject};
 
 use crate::fault::MutatorFault;
 use crate::mutator::Mutator;
@@ -29,9 +31,13 @@ use gc_types::{Layouts, TraceInfo, Types};
 /// Where the part of a struct, an array or an exception begins that its holder may write.
 fn first_offset<H: GcHeap>(heap: &H, holder: &VMGcRef) -> Option<u32>
     requires { H.sound heap.now }
-    ensures { (o : HeapObject) → finite.get (H.seen heap.now).content holder.now ≡ Some o → IfSome result (λ n. HasFields o.kind × (writable_offset H.KIND o.kind ≡ n)) }
+    ensures held { (o : HeapObject) → finite.get (H.seen heap.now).content holder.now ≡ Some o → MatchOption result (¬ HasFields o.kind) (λ n. HasFields o.kind × (writable_offset H.KIND o.kind ≡ n)) }
+    ensures number { holder.now % 2 ≡ 1 → result ≡ None }
 {
-    if holder.is_structref(heap) || holder.is_exnref(heap) {
+    if holder.is_structref(heap) {
+        return Some(H::KIND.struct_base());
+    }
+    if holder.is_exnref(heap) {
         return Some(H::KIND.struct_base());
     }
     if holder.is_arrayref(heap) {
@@ -43,7 +49,8 @@ fn first_offset<H: GcHeap>(heap: &H, holder: &VMGcRef) -> Option<u32>
 /// Whether a word at that offset lies in the part of a held object that its holder may write.
 pub(crate) fn has_words<H: GcHeap>(heap: &H, holder: &VMGcRef, offset: u32) -> bool
     requires { H.sound heap.now }
-    ensures { (o : HeapObject) → finite.get (H.seen heap.now).content holder.now ≡ Some o → IsTrue result → HasWord H.KIND o offset }
+    ensures held { (o : HeapObject) → finite.get (H.seen heap.now).content holder.now ≡ Some o → IsTrue result ↔ HasWord H.KIND o offset }
+    ensures number { holder.now % 2 ≡ 1 → result ≡ false }
 {
     let Some(first) = first_offset(heap, holder) else {
         return false;
@@ -90,7 +97,7 @@ fn is_reference(layouts: Layouts, info: Option<&TraceInfo>, length: u32, offset:
 fn has_reference<H: GcHeap>(heap: &H, types: &Types, holder: &VMGcRef, offset: u32) -> bool
     requires sound { H.sound heap.now }
     requires held { IsHeld (H.seen heap.now) holder.now }
-    ensures { (o : HeapObject) → finite.get (H.seen heap.now).content holder.now ≡ Some o → IsTrue result → HasReference H.KIND types.now.declarations o offset }
+    ensures { (o : HeapObject) → finite.get (H.seen heap.now).content holder.now ≡ Some o → IsTrue result ↔ HasReference H.KIND types.now.declarations o offset }
 {
     if offset % 4 != 0 {
         return false;
@@ -136,7 +143,7 @@ const PLAIN_ARRAY: u32 = 0x0080_0000;
 
 /// Whether objects with that trace info have no references.
 fn names_nothing(info: Option<&TraceInfo>) -> bool
-    ensures { (layouts : Layouts) (o : HeapObject) → IsTrue result → info_offsets layouts o (option_copied info.entry) ≡ [] }
+    ensures { IsTrue result ↔ NamesNone (option_copied info.entry) }
 {
     match info {
         Some(TraceInfo::Struct { gc_ref_offsets }) => gc_ref_offsets.as_slice().is_empty(),
@@ -147,7 +154,7 @@ fn names_nothing(info: Option<&TraceInfo>) -> bool
 
 /// Whether objects with that trace word have no references.
 fn traces_nothing(word: u32) -> bool
-    ensures { (types : List Declaration) (o : HeapObject) → o.spare ≡ word → IsTrue result → traced_offsets types o ≡ [] }
+    ensures { IsTrue result ↔ ((word ≡ 0) ⊎ (word ≡ form_unit)) }
 {
     if word == 0 {
         return true;
@@ -155,11 +162,11 @@ fn traces_nothing(word: u32) -> bool
     word == PLAIN_ARRAY
 }
 
-/// Whether a held object has no references, as its heap traces it.
+/// Whether a held object is of numbers alone, by what its heap traces it by.
 fn is_plain<H: GcHeap>(heap: &H, types: &Types, holder: &VMGcRef) -> bool
     requires sound { H.sound heap.now }
     requires held { IsHeld (H.seen heap.now) holder.now }
-    ensures { (o : HeapObject) → finite.get (H.seen heap.now).content holder.now ≡ Some o → IsTrue result → reference_offsets H.KIND types.now.declarations o ≡ [] }
+    ensures { (o : HeapObject) → finite.get (H.seen heap.now).content holder.now ≡ Some o → IsTrue result ↔ IsOfNumbers H.KIND types.now.declarations o }
 {
     let Ok(header) = heap.header(holder) else {
         return false;
@@ -179,6 +186,8 @@ impl<H: GcHeap> Mutator<H> {
         ensures can { IfOk result (λ word. CanNameSlot self.now.heap word) }
         ensures names { IfOk result (λ word. IsWordOf self.now.heap (slot_word word)) }
         ensures present { IfOk result (λ word. IfSome word (λ w. 0 < w)) }
+        ensures writes { OnOk result (CanWrite self.now source) }
+        ensures why { IfErr result (RefusesSource self.now source) }
     {
         let _heap = &self.heap;
         let Some(index) = source else {
@@ -195,7 +204,10 @@ impl<H: GcHeap> Mutator<H> {
         Ok(Some(word))
     }
 
-    /// Writes the word of a root, or null, to a reference of the object that another root names.
+    /// Writes the word of a root, or null, to a reference of the object that another root names. `NoRoot`
+    /// exactly where the holder is no root that names an object, or the source is no root; then `Full`
+    /// exactly where a root is written and there are 2^31, and `NoField` exactly where the object has no
+    /// reference at that offset, by its type.
     pub fn write_reference(
         &mut self,
         holder: usize,
@@ -203,6 +215,8 @@ impl<H: GcHeap> Mutator<H> {
         source: Option<usize>,
     ) -> Result<(), MutatorFault>
         ensures written { OnOk result (WritesReference H.KIND self.old self.new holder offset (source_word self.old source)) }
+        ensures can { OnOk result (CanWrite self.old source) }
+        ensures why { IfErr result (RefusesReference H.KIND self.old holder offset source) }
         ensures err { OnErr result (self.new ≡ self.old) }
     {
         let Some(object) = self.object(holder) else {
@@ -221,7 +235,9 @@ impl<H: GcHeap> Mutator<H> {
         Ok(())
     }
 
-    /// Writes a number to a struct, an array or an exception that has no references.
+    /// Writes a number to a struct, an array or an exception that has no references. `NoRoot` exactly where
+    /// the holder is no root that names an object, and else `NoField` exactly where no word lies at that
+    /// offset in the part that the object's holder may write, or the object may have references.
     pub fn write_number(
         &mut self,
         holder: usize,
@@ -229,6 +245,7 @@ impl<H: GcHeap> Mutator<H> {
         number: u32,
     ) -> Result<(), MutatorFault>
         ensures written { OnOk result (WritesNumber H.KIND self.old self.new holder offset number) }
+        ensures why { IfErr result (RefusesObject self.old holder (λ o. HasNumber H.KIND self.old.types o offset)) }
         ensures err { OnErr result (self.new ≡ self.old) }
     {
         let Some(object) = self.object(holder) else {

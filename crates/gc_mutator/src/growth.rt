@@ -1,8 +1,9 @@
 //! More memory for a heap that holds objects.
 
-ghost use Rattle.std.specs.Prelude.{◌≡◌, ◌*◌, ◌≤◌, ◌+◌, OnOk, OnErr, true, false};
+ghost use Rattle.std.specs.Prelude.{◌≡◌, ◌*◌, ◌≤◌, ◌+◌, ◌↔◌, OnOk, OnErr, IfErr, IsErrOf, IsOkUnless, true, false};
 ghost use Rattle.gc_model.specs.Allocation.{page, max_pages};
 ghost use Rattle.gc_heap.specs.Heap.{grown};
+ghost use Rattle.gc_mutator.specs.Refusals.{CanGrow, RefusesGrowth};
 
 use crate::fault::MutatorFault;
 use crate::mutator::Mutator;
@@ -23,6 +24,7 @@ fn grow_heap<H: GcHeap>(heap: &mut H, pages: u32) -> Result<(), MutatorFault>
     ensures sound { H.sound heap.new }
     ensures ok { OnOk result (H.seen heap.new ≡ grown H.KIND (H.seen heap.old) (page * pages)) }
     ensures err { OnErr result (H.seen heap.new ≡ H.seen heap.old) }
+    ensures why { IsOkUnless result MutatorFault.Memory }
 {
     let mut memory = heap.take_memory();
     match memory.grow(pages) {
@@ -38,12 +40,15 @@ fn grow_heap<H: GcHeap>(heap: &mut H, pages: u32) -> Result<(), MutatorFault>
 }
 
 impl<H: GcHeap> Mutator<H> {
-    /// Grows the memory of the heap by so many pages. All objects stay. A heap may ask for a collection
-    /// first.
+    /// Grows the memory of the heap by so many pages. All objects stay. `CollectFirst` exactly where the
+    /// heap asks for a collection first, and else `Full` exactly where the memory would have more than
+    /// 65,535 pages.
     pub fn grow(&mut self, pages: u32) -> Result<(), MutatorFault>
         ensures grown { OnOk result (self.new ≡ record self.old { heap = grown H.KIND self.old.heap (page * pages) }) }
         ensures err { OnErr result (self.new ≡ self.old) }
-        ensures first { self.old.heap.needs_gc ≡ true → result ≡ Err MutatorFault.CollectFirst }
+        ensures first { IsErrOf result MutatorFault.CollectFirst ↔ (self.old.heap.needs_gc ≡ true) }
+        ensures can { OnOk result (CanGrow self.old pages) }
+        ensures why { IfErr result (RefusesGrowth self.old pages) }
     {
         if self.heap.needs_gc_before_next_growth() {
             return Err(MutatorFault::CollectFirst);

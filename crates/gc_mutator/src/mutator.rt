@@ -1,6 +1,6 @@
 //! A mutator, and what is there to see of it.
 
-ghost use Rattle.std.specs.Prelude.{◌≡◌, ◌≤◌, ◌*◌, [], IfOk, length};
+ghost use Rattle.std.specs.Prelude.{◌≡◌, ◌≤◌, ◌*◌, [], IfOk, IsOkUnless, length};
 ghost use Rattle.std.specs.FinMap as map;
 ghost use Rattle.gc_model.specs.Allocation.{page, max_pages};
 ghost use Rattle.gc_model.specs.Views.{detached_in};
@@ -38,7 +38,7 @@ impl<H: GcHeap> Model for Mutator<H> {
 }
 
 impl<H: GcHeap + Drop> Mutator<H> {
-    /// A mutator over a new heap, which gets so many pages. An error is want of memory.
+    /// A mutator over a new heap, which gets so many pages. `Memory` is the only error.
     pub fn new(
         alloc: Global,
         mut heap: H,
@@ -48,7 +48,8 @@ impl<H: GcHeap + Drop> Mutator<H> {
         requires sound { H.sound heap }
         requires detached { H.seen heap ≡ detached_in 0 }
         requires few { pages ≤ max_pages }
-        ensures { IfOk result (λ m. m ≡ record { heap = empty_heap H.KIND (page * pages) 0; roots = []; types = types.declarations; hosts = map.empty }) }
+        ensures made { IfOk result (λ m. m ≡ record { heap = empty_heap H.KIND (page * pages) 0; roots = []; types = types.declarations; hosts = map.empty }) }
+        ensures why { IsOkUnless result MutatorFault.Memory }
     {
         let Ok(memory) = HeapMemory::new(alloc, pages) else {
             return Err(MutatorFault::Memory);

@@ -61,10 +61,12 @@ fn external_word(
 
 impl<H: GcHeap> Mutator<H> {
     /// Makes a struct or an exception of a declared type, whose fields are 0 or null, and answers the
-    /// index of its root.
+    /// index of its root. `NoType` exactly where the index names no such type, and then `Full` exactly
+    /// where there are 2^31 roots, `TooLarge` where no heap of the kind holds so many bytes, and `NoRoom`
+    /// where this heap doesn't, with the bytes that it wants.
     pub fn make_struct(&mut self, ty: VMSharedTypeIndex) -> Result<usize, MutatorFault>
         ensures made { MakesStruct H.KIND self.old self.new ty result }
-        ensures no_type { layout_at H.KIND self.old.types ty ≡ None → result ≡ Err MutatorFault.NoType }
+        ensures no_type { IsErrOf result MutatorFault.NoType ↔ (layout_at H.KIND self.old.types ty ≡ None) }
         ensures err { OnErr result (self.new ≡ self.old) }
     {
         let Some(layout) = self.types.struct_layout(H::KIND, ty) else {
@@ -79,9 +81,10 @@ impl<H: GcHeap> Mutator<H> {
     }
 
     /// Makes an array of a declared type, whose elements are 0 or null, and answers the index of its root.
+    /// It is refused as a struct is.
     pub fn make_array(&mut self, ty: VMSharedTypeIndex, length: u32) -> Result<usize, MutatorFault>
         ensures made { MakesArray H.KIND self.old self.new ty length result }
-        ensures no_type { array_layout_at H.KIND self.old.types ty ≡ None → result ≡ Err MutatorFault.NoType }
+        ensures no_type { IsErrOf result MutatorFault.NoType ↔ (array_layout_at H.KIND self.old.types ty ≡ None) }
         ensures err { OnErr result (self.new ≡ self.old) }
     {
         let Some(layout) = self.types.array_layout(H::KIND, ty) else {
@@ -96,7 +99,8 @@ impl<H: GcHeap> Mutator<H> {
     }
 
     /// Makes an external object with a new host value, and answers the index of its root. A host value
-    /// whose object found no room is taken back.
+    /// whose object found no room is taken back. `Full` exactly where there are 2^31 roots or host values;
+    /// else it is refused as a struct is.
     pub fn make_host(&mut self, value: u8) -> Result<usize, MutatorFault>
         ensures { MakesHost H.KIND self.old self.new value result }
     {

@@ -1,9 +1,10 @@
 //! Roots and frame slots: copied, given up, shown, left.
 
-ghost use Rattle.std.specs.Prelude.{◌≡◌, ◌≤◌, ◌<◌, ◌^◌, ◌↔◌, ◌⊎◌, OnOk, OnErr, IfOk, IfErr, IsErrOf, true, false, length};
+ghost use Rattle.std.specs.Prelude.{◌≡◌, ◌≤◌, ◌<◌, ◌^◌, ◌↔◌, OnOk, OnErr, IfOk, IfErr, IsErrOf, IsOkUnless, true, false, length};
 ghost use Rattle.gc_roots.specs.Roots.{root_at};
 ghost use Rattle.gc_heap.specs.Barriers.{cloned, dropped, exposed};
 ghost use Rattle.gc_mutator.specs.Mutators.{word_of, with_root, without_root, gone_word, IsRoot};
+ghost use Rattle.gc_mutator.specs.Refusals.{RefusesRoot, CanCopy, RefusesCopy};
 
 use crate::fault::MutatorFault;
 use crate::mutator::Mutator;
@@ -22,7 +23,7 @@ pub(crate) fn make_room(roots: &mut GcRootsList) -> Result<(), MutatorFault>
     ensures roots { roots.new.roots ≡ roots.old.roots }
     ensures room { OnOk result (0 < roots.new.spare) }
     ensures few { OnOk result (length roots.old.roots < 2 ^ 31) }
-    ensures why { IfErr result (λ fault. (fault ≡ MutatorFault.Memory) ⊎ ((fault ≡ MutatorFault.Full) × (2 ^ 31 ≤ length roots.old.roots))) }
+    ensures why { IfErr result (RefusesRoot roots.old.roots) }
 {
     if roots.len() >= MOST_ROOTS {
         return Err(MutatorFault::Full);
@@ -41,10 +42,13 @@ fn gone() -> VMGcRef
 }
 
 impl<H: GcHeap> Mutator<H> {
-    /// Copies the word of a root to a new one, and answers its index.
+    /// Copies the word of a root to a new one, and answers its index. `NoRoot` exactly where there is no
+    /// root of that index, and else `Full` exactly where there are 2^31 roots.
     pub fn copy_root(&mut self, index: usize) -> Result<usize, MutatorFault>
         ensures copied { IfOk result (λ copy. (copy ≡ length self.old.roots) × (self.new ≡ with_root self.old (cloned self.old.heap (word_of self.old index)) false (word_of self.old index))) }
         ensures no_root { IsErrOf result MutatorFault.NoRoot ↔ (length self.old.roots ≤ index) }
+        ensures can { OnOk result (CanCopy self.old index) }
+        ensures why { IfErr result (RefusesCopy self.old index) }
         ensures err { OnErr result (self.new ≡ self.old) }
     {
         if index >= self.roots.len() {
@@ -62,11 +66,12 @@ impl<H: GcHeap> Mutator<H> {
         Ok(at)
     }
 
-    /// Gives a root up that is no frame slot. The other roots keep their indexes: in its place stands a
-    /// 31-bit number from then on.
+    /// Gives a root up that is no frame slot; `NoRoot` exactly where it is none. The other roots keep their
+    /// indexes: in its place stands a 31-bit number from then on.
     pub fn drop_root(&mut self, index: usize) -> Result<(), MutatorFault>
         ensures dropped { OnOk result (self.new ≡ without_root self.old (dropped self.old.heap (word_of self.old index)) index) }
         ensures no_root { IsErrOf result MutatorFault.NoRoot ↔ (¬ IsRoot false self.old index) }
+        ensures why { IsOkUnless result MutatorFault.NoRoot }
         ensures err { OnErr result (self.new ≡ self.old) }
     {
         if index >= self.roots.len() || self.roots.is_on_wasm_stack_at(index) {
@@ -79,10 +84,13 @@ impl<H: GcHeap> Mutator<H> {
         Ok(())
     }
 
-    /// Shows the word of a root to a new frame slot, and answers the index of the slot among the roots.
+    /// Shows the word of a root to a new frame slot, and answers the index of the slot among the roots. It
+    /// is refused where `copy_root` is.
     pub fn show_root(&mut self, index: usize) -> Result<usize, MutatorFault>
         ensures shown { IfOk result (λ slot. (slot ≡ length self.old.roots) × (self.new ≡ with_root self.old (exposed (cloned self.old.heap (word_of self.old index)) (word_of self.old index)) true (word_of self.old index))) }
         ensures no_root { IsErrOf result MutatorFault.NoRoot ↔ (length self.old.roots ≤ index) }
+        ensures can { OnOk result (CanCopy self.old index) }
+        ensures why { IfErr result (RefusesCopy self.old index) }
         ensures err { OnErr result (self.new ≡ self.old) }
     {
         if index >= self.roots.len() {
@@ -101,10 +109,12 @@ impl<H: GcHeap> Mutator<H> {
         Ok(at)
     }
 
-    /// Leaves a frame slot: it holds nothing from then on. The heap is not told.
+    /// Leaves a frame slot: it holds nothing from then on. The heap is not told. `NoRoot` exactly where
+    /// the root is no frame slot.
     pub fn leave_slot(&mut self, index: usize) -> Result<(), MutatorFault>
         ensures left { OnOk result (self.new ≡ without_root self.old self.old.heap index) }
         ensures no_root { IsErrOf result MutatorFault.NoRoot ↔ (¬ IsRoot true self.old index) }
+        ensures why { IsOkUnless result MutatorFault.NoRoot }
         ensures err { OnErr result (self.new ≡ self.old) }
     {
         if index >= self.roots.len() || !self.roots.is_on_wasm_stack_at(index) {

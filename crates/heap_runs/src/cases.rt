@@ -24,11 +24,12 @@ pub(crate) enum Case {
     OverwrittenByItself,
     TwoHolders,
     HostOfTwo,
+    HostsApart,
     Grown,
     NumberKept,
 }
 
-pub(crate) const CASES: [Case; 17] = [
+pub(crate) const CASES: [Case; 18] = [
     Case::KindsKept,
     Case::KindsDropped,
     Case::ChainKept,
@@ -44,6 +45,7 @@ pub(crate) const CASES: [Case; 17] = [
     Case::OverwrittenByItself,
     Case::TwoHolders,
     Case::HostOfTwo,
+    Case::HostsApart,
     Case::Grown,
     Case::NumberKept,
 ];
@@ -84,6 +86,7 @@ impl Case {
                 "a struct whose name is overwritten by itself, and then by null",
             Case::TwoHolders => "a struct with two holders, which go one after the other",
             Case::HostOfTwo => "a host value with two holders, which go one after the other",
+            Case::HostsApart => "two host values, one of which is dropped and the other read back",
             Case::Grown => "memory grown between two allocations, and before a collection",
             Case::NumberKept => "a number that is read back after each collection",
         }
@@ -122,6 +125,7 @@ impl Case {
             Case::OverwrittenByItself => overwrite_by_itself(m, named),
             Case::TwoHolders => hold_twice(m, named),
             Case::HostOfTwo => hold_host(m, named),
+            Case::HostsApart => drop_one_host(m),
             Case::Grown => grow(m, named),
             Case::NumberKept => keep_number(m, named),
         }
@@ -133,6 +137,7 @@ impl Case {
             Case::CycleKept => drop_at_end(m, &[first_field::<H>(), first_field::<H>()]),
             Case::ArrayCycleKept => drop_at_end(m, &[first_element::<H>(), first_field::<H>()]),
             Case::HostOfTwo => drop_host(m),
+            Case::HostsApart => drop_other_host(m),
             Case::TwoHolders => m.drop_root(1),
             Case::ShownTwice => m.leave_slot(2),
             Case::ShownWithoutRoot => m.leave_slot(1),
@@ -305,6 +310,24 @@ fn drop_host<H: GcHeap>(m: &mut Mutator<H>) -> Result<(), MutatorFault> {
         return Err(MutatorFault::NoField);
     };
     if m.host(word) != Some(7) {
+        return Err(MutatorFault::NoField);
+    }
+    m.drop_root(1)
+}
+
+/// Makes two host values, and drops the first one.
+fn drop_one_host<H: GcHeap>(m: &mut Mutator<H>) -> Result<(), MutatorFault> {
+    let one = m.make_host(7)?;
+    m.make_host(9)?;
+    m.drop_root(one)
+}
+
+/// Reads the second one back, and drops it.
+fn drop_other_host<H: GcHeap>(m: &mut Mutator<H>) -> Result<(), MutatorFault> {
+    let Some(word) = m.root(1) else {
+        return Err(MutatorFault::NoRoot);
+    };
+    if m.host(word) != Some(9) {
         return Err(MutatorFault::NoField);
     }
     m.drop_root(1)

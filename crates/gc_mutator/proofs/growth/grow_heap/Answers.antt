@@ -1,7 +1,5 @@
-use Rattle.std.proofs.Common.{◌≡◌, ◌*◌, ◌++◌, inl, inr, replicate, refl, sym, ap, ◌∙◌, ℕ}
+use Rattle.std.proofs.Common.{◌*◌, ◌++◌, inl, inr, replicate, refl, sym, ap, ◌∙◌, ℕ}
 use Rattle.std.proofs.lemmas.List.{append-nil}
-use Rattle.gc_heap.proofs.AddedLemmas.{start}
-use Rattle.gc_mutator.proofs.GrowLemmas.{grown_none}
 use Rattle.gc_mutator.proofs.growth.grow_heap.Goals as goal
 
 pub replace_memory-requires : goal.replace_memory-requires

@@ -1,4 +1,4 @@
-use Rattle.std.proofs.Common.{◌≡◌, ◌-◌, ◌^◌, ℕ, true, refl, sym, min, subst}
+use Rattle.std.proofs.Common.{◌≡◌, ◌-◌, ◌^◌, ℕ, true, refl, min, subst}
 use Rattle.gc_heap.specs.Collection.{Start, Collected, IsIncrements, has_host}
 use Rattle.gc_heap.specs.Run.{start_at}
 use Rattle.gc_heap.proofs.AgainLemmas.{can_collect_again}

@@ -1,7 +1,5 @@
-use Rattle.std.proofs.Common.{◌≡◌, ◌*◌, Result, Ok, Err, sym, ◌∙◌, subst}
-use Rattle.gc_model.specs.Views.{HeapView}
-use Rattle.gc_heap.specs.Collection.{CanCollect, has_host}
-use Rattle.gc_heap.proofs.AddedLemmas.{start}
+use Rattle.std.proofs.Common.{◌*◌}
+use Rattle.gc_heap.specs.Collection.{has_host}
 use Rattle.gc_mutator.proofs.GrowLemmas.{grew}
 use Rattle.gc_mutator.proofs.mutator.Mutator.grow.Goals as goal
 

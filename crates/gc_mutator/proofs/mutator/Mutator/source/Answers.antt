@@ -1,5 +1,4 @@
-use Rattle.std.proofs.Common.{◌<◌, ◌^◌, length, ap, subst, refl, arith}
-use Rattle.gc_model.specs.Views.{HeapView}
+use Rattle.std.proofs.Common.{◌<◌, ◌^◌, length, subst, arith}
 use Rattle.gc_heap.specs.Barriers.{CanName}
 use Rattle.gc_heap.specs.Collection.{has_host}
 use Rattle.gc_mutator.specs.Mutators.{MutatorView}

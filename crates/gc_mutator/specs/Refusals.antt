@@ -1,0 +1,63 @@
+-- Why calls of a mutator do nothing, in the order of their tests. But for want of memory each cause
+-- excludes the others and an Ok, so that each answer comes exactly where its cause is true; want of
+-- memory may come in place of those behind its cause.
+use Rattle.std.specs.Prelude.{◌≡◌, ℕ, ◌+◌, ◌*◌, ◌<◌, ◌≤◌, ◌⊎◌, true, false, List, Option, Some, None, length}
+use Rattle.gc_types.specs.declared.kind.Layouts.{Layouts}
+use Rattle.gc_roots.specs.Roots.{Root}
+use Rattle.gc_model.specs.Allocation.{page, max_pages}
+use Rattle.gc_model.specs.Views.{HeapObject}
+use Rattle.gc_mutator.specs.Mutators.{MutatorView, max_roots, NamesObject, NamesSuch}
+use Rattle.gc_mutator.specs.Fields.{HasReference}
+use Rattle.gc_mutator.specs.declared.fault.MutatorFault.{MutatorFault}
+use Rattle.gc_mutator.specs.declared.fault.MutatorFault.TheVariants as fault
+
+-- why a root isn't added
+abbrev pub RefusesRoot : List Root → MutatorFault → Type 0
+RefusesRoot roots fault.Full = max_roots ≤ length roots
+RefusesRoot roots fault.Memory = length roots < max_roots
+RefusesRoot roots _ = ⊥
+
+-- a root stands and may be copied
+abbrev pub CanCopy : MutatorView → ℕ → Type 0
+CanCopy m index = (index < length m.roots) × (length m.roots < max_roots)
+
+-- why a root isn't copied
+abbrev pub RefusesCopy : MutatorView → ℕ → MutatorFault → Type 0
+RefusesCopy m index fault.NoRoot = length m.roots ≤ index
+RefusesCopy m index why = (index < length m.roots) × RefusesRoot m.roots why
+
+-- null may be written to a field, and a root that may be copied
+abbrev pub CanWrite : MutatorView → Option ℕ → Type 0
+CanWrite m None = Unit {0}
+CanWrite m (Some index) = CanCopy m index
+
+-- why a root isn't written to a field, which takes no memory
+abbrev pub RefusesSource : MutatorView → Option ℕ → MutatorFault → Type 0
+RefusesSource m (Some index) fault.NoRoot = RefusesCopy m index fault.NoRoot
+RefusesSource m (Some index) fault.Full = RefusesCopy m index fault.Full
+RefusesSource m source _ = ⊥
+
+-- why nothing is done with the object that a root names: there is none, or it isn't such
+abbrev pub RefusesObject : MutatorView → ℕ → (HeapObject → Type 0) → MutatorFault → Type 0
+RefusesObject m index is_such fault.NoRoot = ¬ NamesObject m index
+RefusesObject m index is_such fault.NoField = NamesSuch m index (λ o. ¬ is_such o)
+RefusesObject m index is_such _ = ⊥
+
+-- why a reference isn't written
+abbrev pub RefusesReference : Layouts → MutatorView → ℕ → ℕ → Option ℕ → MutatorFault → Type 0
+RefusesReference layouts m holder offset source fault.NoRoot =
+    (¬ NamesObject m holder) ⊎ RefusesSource m source fault.NoRoot
+RefusesReference layouts m holder offset source fault.NoField =
+    CanWrite m source × NamesSuch m holder (λ o. ¬ HasReference layouts m.types o offset)
+RefusesReference layouts m holder offset source why = NamesObject m holder × RefusesSource m source why
+
+-- the memory may grow by so many pages
+abbrev pub CanGrow : MutatorView → ℕ → Type 0
+CanGrow m pages = (m.heap.needs_gc ≡ false) × (m.heap.capacity + page * pages ≤ page * max_pages)
+
+-- why the memory doesn't grow
+abbrev pub RefusesGrowth : MutatorView → ℕ → MutatorFault → Type 0
+RefusesGrowth m pages fault.CollectFirst = m.heap.needs_gc ≡ true
+RefusesGrowth m pages fault.Full = (m.heap.needs_gc ≡ false) × (page * max_pages < m.heap.capacity + page * pages)
+RefusesGrowth m pages fault.Memory = CanGrow m pages
+RefusesGrowth m pages _ = ⊥
