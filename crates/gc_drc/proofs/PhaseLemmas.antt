@@ -106,6 +106,8 @@ unheld_freed D c s before old new are f = record {
   places = f.view.places;
   swept = record { view = f.view; at = f.at; drained = f.drained; places_are = refl };
   gone = subst (λ (b : ℕ → Bool). HostsGone c f.view.places b (has_host new)) are (hosts_gone D c f.view.places old new f.hosts);
+  freed = f.freed;
+  kept = f.kept;
 }
 
 pub unreached_ends : (D : Type 0) (c : Context) (places : List ℕ) (s : CountedSpace) (before : ℕ → Bool) (old new : finite.FinMap nat_cmp D) → ((p : ℕ) → In p places → In p c.graph.places) → HostsGone c places before (has_host old) → FreesUnreached D c places s old new
