@@ -39,3 +39,4 @@ pub mod ObjectsSteps
 pub mod ObjectsUnheld
 pub mod RunLemmas
 pub mod IncrementLemmas
+pub mod BarrierRuns
