@@ -1,6 +1,5 @@
 -- A collection may begin behind some barriers of a new object.
-use Rattle.std.proofs.Common.{◌≡◌, ℕ, ◌+◌, ◌-◌, ◌<◌, Bool, true, false, List, [], ◌∷◌, map, Option, Some, refl, sym, ap, ap₂, subst, ◌∙◌, inl, inr, arith}
-use Rattle.std.specs.Ordering.{nat_cmp}
+use Rattle.std.proofs.Common.{◌≡◌, ℕ, ◌+◌, ◌-◌, ◌<◌, Bool, true, false, List, [], ◌∷◌, map, Option, Some, refl, sym, ap, ap₂, subst, ◌∙◌, inr, arith}
 use Rattle.std.specs.FinMap.{get}
 use Rattle.gc_types.specs.declared.kind.Layouts.TheVariants.{Counting}
 use Rattle.gc_types.specs.declared.kind.VMGcKind.TheVariants.{ExternRef, StructRef}
@@ -11,7 +10,7 @@ use Rattle.gc_roots.specs.Roots.{Root, root}
 use Rattle.gc_model.specs.Views.{HeapObject, HeapView}
 use Rattle.gc_heap.specs.Content.{IsHeld, IsHeap}
 use Rattle.gc_heap.specs.Heap.{AddsObject, new_struct, exn_or_struct}
-use Rattle.gc_heap.specs.Barriers.{raise, lower, cloned, dropped, exposed, overwritten, CanName, CanUnname, count_limit}
+use Rattle.gc_heap.specs.Barriers.{raise, lower, cloned, dropped, exposed, overwritten, CanName, CanUnname}
 use Rattle.gc_heap.specs.Collection.{Start, CanCollect, moved_root, Collected}
 use Rattle.gc_heap.proofs.AddedLemmas.{start, blank_struct, owns_none}
 use Rattle.gc_heap.proofs.MadeLemmas.{can_collect_made}

@@ -1,14 +1,12 @@
 -- What the first two increments of a collection leave, in objects.
-use Rattle.std.proofs.Common.{◌≡◌, ℕ, ◌+◌, ◌-◌, ◌<◌, ◌^◌, Bool, List, [], Option, Some, None, refl, sym, ap, subst, ◌∙◌, inl, inr, arith}
-use Rattle.std.specs.Ordering.{nat_cmp}
+use Rattle.std.proofs.Common.{◌≡◌, ℕ, ◌-◌, ◌<◌, Bool, List, Option, Some, None, refl, sym, ap, subst, ◌∙◌, inl, inr, arith}
 use Rattle.std.specs.FinMap as finite
 use Rattle.gc_types.specs.declared.kind.Layouts.TheVariants.{Counting}
 use Rattle.gc_types.specs.Declarations.{Declaration}
 use Rattle.gc_roots.specs.Roots.{Root}
-use Rattle.gc_memory.specs.Lists.{In, occ}
+use Rattle.gc_memory.specs.Lists.{In}
 use Rattle.gc_memory.proofs.ListLemmas.{In-occ, occ-In}
 use Rattle.gc_model.specs.Views.{HeapObject, HeapView, u32_at}
-use Rattle.gc_heap.specs.Content.{IsHeld}
 use Rattle.gc_heap.specs.Collection.{Start, Stepped}
 use Rattle.gc_heap.specs.declared.collection.GcProgress.{GcProgress}
 use Rattle.gc_heap.specs.declared.collection.GcProgress.TheVariants as progress
@@ -22,14 +20,13 @@ use Rattle.gc_drc.specs.Layout.{object_at}
 use Rattle.gc_drc.specs.View.{View}
 use Rattle.gc_drc.specs.Content.{seen_in}
 use Rattle.gc_drc.specs.States.{seen_of, drc_seen, IsBacked, IsDrcSound}
-use Rattle.gc_drc.specs.CollectUnreached.{Swept}
 use Rattle.gc_drc.specs.CollectPhases.{UnheldFreed, increments_before}
 use Rattle.gc_drc.specs.Objects.{BeginsIn}
-use Rattle.gc_drc.specs.ObjectsBetween.{StandsIn, BetweenIn, Between, IsDrcUnderWay}
+use Rattle.gc_drc.specs.ObjectsBetween.{StandsIn, Between, IsDrcUnderWay}
 use Rattle.gc_drc.specs.PlainCounting.{IsUnheld, UnheldGone}
 use Rattle.gc_drc.proofs.OccLemmas.{occ-cases}
 use Rattle.gc_drc.proofs.UnreachedMemory.{none_in}
-use Rattle.gc_drc.proofs.ObjectsBegin.{start, held_place, is_held, unheld_so, unheld_back}
+use Rattle.gc_drc.proofs.ObjectsBegin.{start, held_place, unheld_so, unheld_back}
 use Rattle.gc_drc.proofs.ObjectsLeft.{Leaves, place_after, still_held, counts_anew, sound_after, capacity_after, host_so, external_so, id_is}
 
 none_held : (o : Option HeapObject) → ((x : HeapObject) → o ≡ Some x → ⊥) → o ≡ None

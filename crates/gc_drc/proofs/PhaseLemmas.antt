@@ -1,5 +1,5 @@
 -- From one increment to the next.
-use Rattle.std.proofs.Common.{◌≡◌, ℕ, ◌+◌, ◌-◌, ◌<◌, ◌≤◌, Bool, true, false, List, [], Option, Some, None, refl, sym, ap, subst, ◌∙◌, inl, inr, arith}
+use Rattle.std.proofs.Common.{◌≡◌, ℕ, ◌+◌, ◌<◌, ◌≤◌, Bool, true, false, List, [], Option, Some, None, refl, sym, ap, subst, ◌∙◌, inl, inr, arith}
 use Rattle.std.specs.Prelude.{is_some}
 use Rattle.std.specs.FinMap as finite
 use Rattle.std.specs.Ordering.{nat_cmp}
@@ -14,7 +14,7 @@ use Rattle.gc_drc.specs.declared.collect.phase.Phase.{Phase}
 use Rattle.gc_drc.specs.declared.collect.phase.Phase.TheVariants as phase
 use Rattle.gc_drc.specs.View.{View, Holds}
 use Rattle.gc_drc.specs.CollectStates.{IsView}
-use Rattle.gc_drc.specs.CollectMemory.{Context, At}
+use Rattle.gc_drc.specs.CollectMemory.{Context}
 use Rattle.gc_drc.specs.CollectHosts.{HostsLeft}
 use Rattle.gc_drc.specs.CollectSweep.{FrameMarks}
 use Rattle.gc_drc.specs.CollectSwept.{FreesUnheld}

@@ -1,4 +1,4 @@
-use Rattle.std.proofs.Common.{◌≡◌, true, false, List, refl, sym, subst}
+use Rattle.std.proofs.Common.{true, false, List, refl, sym, subst}
 use Rattle.gc_types.specs.declared.kind.Layouts.TheVariants.{Counting}
 use Rattle.gc_roots.specs.Roots.{Root}
 use Rattle.gc_heap.specs.Collection.{Start, CanCollect, has_host}

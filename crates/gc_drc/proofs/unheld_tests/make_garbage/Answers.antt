@@ -1,4 +1,4 @@
-use Rattle.std.proofs.Common.{rules, ◌≡◌, false, true, List, [], ◌∷◌, Some, ap, sym, subst}
+use Rattle.std.proofs.Common.{rules, ◌≡◌, false, List, [], ◌∷◌, Some, ap, sym, subst}
 use Rattle.gc_types.specs.declared.kind.Layouts.TheVariants.{Counting}
 use Rattle.gc_types.specs.declared.layout.TraceInfo.TheVariants as trace
 use Rattle.gc_types.specs.Declarations.{Declaration}
