@@ -1,15 +1,15 @@
 -- The marks are cleared, in memory.
-use Rattle.std.proofs.Common.{◌≡◌, ℕ, ◌+◌, ◌-◌, ◌*◌, ◌/◌, ◌<◌, ◌≤◌, List, [], ◌∷◌, length, refl, sym, ap, subst, ◌∙◌, inl, inr, arith}
+use Rattle.std.proofs.Common.{◌≡◌, ℕ, ◌+◌, ◌-◌, ◌*◌, ◌/◌, ◌<◌, ◌≤◌, List, [], ◌∷◌, refl, sym, ap, subst, ◌∙◌, inl, inr, arith}
 use Rattle.std.proofs.lemmas.Bool.{cases_eq, cases_lt}
 use Rattle.gc_memory.specs.Lists.{In, here, occ}
-use Rattle.gc_memory.proofs.ListLemmas.{In-occ, occ-In, occ-same}
+use Rattle.gc_memory.proofs.ListLemmas.{occ-In, occ-same}
 use Rattle.gc_free.specs.Space.{places_end}
 use Rattle.gc_drc.specs.declared.space.CountedSpace.{CountedSpace}
 use Rattle.gc_drc.specs.Layout.{size_at, block_of}
 use Rattle.gc_drc.specs.View.{View}
 use Rattle.gc_drc.specs.PlaceLaws.{spread-lies, spread-apart}
 use Rattle.gc_drc.specs.SpaceLaws.{blocks_apart}
-use Rattle.gc_drc.specs.CollectOps.{same, without_one, unmarked}
+use Rattle.gc_drc.specs.CollectOps.{same, unmarked}
 use Rattle.gc_drc.specs.CollectMemory.{Context, At, CanRelease, CanUnmark}
 use Rattle.gc_drc.specs.CollectWalk.{IsBorder, IsNext, CanWalk, walk_end}
 use Rattle.gc_drc.specs.CollectClear.{AllMarked, Clearing, Unmarked, Clears}

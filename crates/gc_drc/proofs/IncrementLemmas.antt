@@ -6,7 +6,7 @@ use Rattle.gc_heap.specs.Collection.{Start, Stepped}
 use Rattle.gc_heap.specs.declared.collection.GcProgress.{GcProgress}
 use Rattle.gc_heap.specs.declared.collection.GcProgress.TheVariants as progress
 
-told : (k : Layouts) (s : Start) (n : ℕ) (r q : GcProgress) (goes ended : Type 0) → k ≡ Counting → r ≡ q → Stepped k s n r goes ended → Stepped Counting s n q goes ended
+pub told : (k : Layouts) (s : Start) (n : ℕ) (r q : GcProgress) (goes ended : Type 0) → k ≡ Counting → r ≡ q → Stepped k s n r goes ended → Stepped Counting s n q goes ended
 told k s n r q goes ended kind is t = subst (λ (p : GcProgress). Stepped Counting s n p goes ended) is (subst (λ (l : Layouts). Stepped l s n r goes ended) kind t)
 
 -- an increment that isn't the last

@@ -33,7 +33,10 @@ pub mod PhaseLemmas
 pub mod ObjectsRoots
 pub mod ObjectsOffsets
 pub mod ObjectsBegin
+pub mod ObjectsLeft
 pub mod ObjectsEnd
 pub mod ObjectsSteps
+pub mod ObjectsUnheld
 pub mod RunLemmas
 pub mod IncrementLemmas
+pub mod BarrierRuns

@@ -31,6 +31,8 @@ use Rattle.gc_drc.specs.PlaceLaws as place
 use Rattle.gc_drc.specs.SpaceLaws.{blocks_apart, places_are, lies, apart, held_size-at, counts_are}
 use Rattle.gc_drc.specs.Graph.{names}
 use Rattle.gc_drc.specs.Graph as graph
+use Rattle.gc_drc.specs.Unheld as memory
+use Rattle.gc_drc.specs.PlainCounting.{IsUnheld, unheld}
 use Rattle.gc_drc.specs.CollectMemory.{offsets_at, words_at, info_at, traced_offsets, Context, IsWord, IsContext}
 use Rattle.gc_drc.specs.CollectSpan.{IsOf, Begins}
 use Rattle.gc_drc.specs.Objects.{context_of, BeginsIn}
@@ -203,6 +205,12 @@ module _ (s : Start) (v : View) (space : CountedSpace) (scopes : ℕ) (b : Begin
   pub is_of : IsOf start s.roots s.types
   is_of = record { roots_are = refl; frames_are = refl; types_are = refl }
 
+  -- a reference of a held object, among its words in memory
+  word_so : (p q : ℕ) (o : HeapObject) → finite.get s.heap.content q ≡ Some o → Contains (references Counting s.types o) p → In p (start.graph.words q)
+  word_so p q o got c =
+      let f = found q o got in
+      subst (In p) (references_so q f.0) (contains_in (references Counting s.types (object_at space.memory q)) p (subst (λ (x : HeapObject). Contains (references Counting s.types x) p) f.1 c))
+
   -- WHAT IS REACHED, IN OBJECTS AND IN MEMORY
 
   pub reached_in : (p : ℕ) → graph.Reached start.graph p → In p v.places
@@ -218,10 +226,7 @@ module _ (s : Start) (v : View) (space : CountedSpace) (scopes : ℕ) (b : Begin
   reached_so p (content.by_root h r c e) =
       by_word p (held_place p h) (subst (λ (w : ℕ). In w (held_words s.roots) ⊎ In w (stack_words s.roots)) e (root_word s.roots r c))
   reached_so p (content.by_field h {from = q} r o got c) =
-      let f = found q o got in
-      let in_words : In p (start.graph.words q) =
-      subst (In p) (references_so q f.0) (contains_in (references Counting s.types (object_at space.memory q)) p (subst (λ (x : HeapObject). Contains (references Counting s.types x) p) f.1 c)) in
-      graph.by_field (held_place p h) (reached_so q r) in_words
+      graph.by_field (held_place p h) (reached_so q r) (word_so p q o got c)
 
   pub reached_back : (p : ℕ) → graph.Reached start.graph p → content.Reached Counting s p
   reached_back p (graph.by_root i j) = let r = held_root s.roots p j in content.by_root (is_held p i) r.0 r.1.0 r.1.1
@@ -229,3 +234,19 @@ module _ (s : Start) (v : View) (space : CountedSpace) (scopes : ℕ) (b : Begin
   reached_back p (graph.by_field {from = q} i r j) =
       let k = reached_in q r in
       content.by_field (is_held p i) (reached_back q r) (object_at space.memory q) (held q k) (names_so q p k j)
+
+  -- WHAT IS UNHELD, IN OBJECTS AND IN MEMORY
+
+  pub unheld_so : (p : ℕ) → IsUnheld s p → memory.Unheld start.graph p
+  unheld_so p (unheld h unnamed holders) = memory.unheld (held_place p h)
+      (λ j. let r = held_root s.roots p j in unnamed r.0 r.1.0 r.1.1)
+      (λ j. let r = stack_root s.roots p j in unnamed r.0 r.1.0 r.1.1)
+      (λ q i j. unheld_so q (holders q (object_at space.memory q) (held q i) (names_so q p i j)))
+
+  pub unheld_back : (p : ℕ) → memory.Unheld start.graph p → IsUnheld s p
+  unheld_back p (memory.unheld i no_root no_frame holders) = unheld (is_held p i)
+      (λ r c e. elim (root_word s.roots r c) [
+        | inl j ↦ no_root (subst (λ (w : ℕ). In w (held_words s.roots)) e j)
+        | inr j ↦ no_frame (subst (λ (w : ℕ). In w (stack_words s.roots)) e j)
+      ])
+      (λ q o got c. unheld_back q (holders q (found q o got).0 (word_so p q o got c)))

@@ -1,5 +1,5 @@
 -- From one increment to the next.
-use Rattle.std.proofs.Common.{◌≡◌, ℕ, ◌+◌, ◌-◌, ◌<◌, ◌≤◌, Bool, true, false, List, [], Option, Some, None, refl, sym, ap, subst, ◌∙◌, inl, inr, arith}
+use Rattle.std.proofs.Common.{◌≡◌, ℕ, ◌+◌, ◌<◌, ◌≤◌, Bool, true, false, List, [], Option, Some, None, refl, sym, ap, subst, ◌∙◌, inl, inr, arith}
 use Rattle.std.specs.Prelude.{is_some}
 use Rattle.std.specs.FinMap as finite
 use Rattle.std.specs.Ordering.{nat_cmp}
@@ -14,7 +14,7 @@ use Rattle.gc_drc.specs.declared.collect.phase.Phase.{Phase}
 use Rattle.gc_drc.specs.declared.collect.phase.Phase.TheVariants as phase
 use Rattle.gc_drc.specs.View.{View, Holds}
 use Rattle.gc_drc.specs.CollectStates.{IsView}
-use Rattle.gc_drc.specs.CollectMemory.{Context, At}
+use Rattle.gc_drc.specs.CollectMemory.{Context}
 use Rattle.gc_drc.specs.CollectHosts.{HostsLeft}
 use Rattle.gc_drc.specs.CollectSweep.{FrameMarks}
 use Rattle.gc_drc.specs.CollectSwept.{FreesUnheld}
@@ -106,6 +106,8 @@ unheld_freed D c s before old new are f = record {
   places = f.view.places;
   swept = record { view = f.view; at = f.at; drained = f.drained; places_are = refl };
   gone = subst (λ (b : ℕ → Bool). HostsGone c f.view.places b (has_host new)) are (hosts_gone D c f.view.places old new f.hosts);
+  freed = f.freed;
+  kept = f.kept;
 }
 
 pub unreached_ends : (D : Type 0) (c : Context) (places : List ℕ) (s : CountedSpace) (before : ℕ → Bool) (old new : finite.FinMap nat_cmp D) → ((p : ℕ) → In p places → In p c.graph.places) → HostsGone c places before (has_host old) → FreesUnreached D c places s old new

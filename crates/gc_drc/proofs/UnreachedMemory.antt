@@ -1,5 +1,5 @@
 -- The third increment: from what the second one left to what is reached.
-use Rattle.std.proofs.Common.{◌≡◌, ℕ, zero, suc, ◌+◌, ◌-◌, ◌<◌, ◌≤◌, Bool, true, false, cond, not, List, [], ◌∷◌, length, map, refl, sym, ap, subst, ◌∙◌, inl, inr, arith}
+use Rattle.std.proofs.Common.{◌≡◌, ℕ, zero, suc, ◌+◌, ◌-◌, ◌<◌, Bool, true, false, cond, not, List, [], ◌∷◌, length, map, refl, sym, ap, subst, inl, inr, arith}
 use Rattle.std.specs.Prelude.{filter}
 use Rattle.std.specs.FinMap as finite
 use Rattle.std.specs.Ordering.{nat_cmp}
@@ -9,7 +9,7 @@ use Rattle.gc_heap.specs.Collection.{held_words, stack_words}
 use Rattle.gc_memory.specs.Lists.{In, occ, sum_over}
 use Rattle.gc_memory.proofs.ListLemmas.{In-occ, occ-In, occ-same}
 use Rattle.gc_drc.specs.declared.space.CountedSpace.{CountedSpace}
-use Rattle.gc_drc.specs.View.{View, Linked, last}
+use Rattle.gc_drc.specs.View.{View, last}
 use Rattle.gc_drc.specs.Graph.{Graph, names, Reached, by_root, by_frame, by_field}
 use Rattle.gc_drc.specs.CollectStates.{Cascading, Drained, Tracing, Done}
 use Rattle.gc_drc.specs.CollectMemory.{Context, IsContext, IsWord, At}

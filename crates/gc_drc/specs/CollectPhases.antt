@@ -5,7 +5,9 @@ use Rattle.gc_heap.specs.declared.collection.GcProgress.TheVariants as progress
 use Rattle.gc_drc.specs.declared.space.CountedSpace.{CountedSpace}
 use Rattle.gc_drc.specs.declared.collect.phase.Phase.{Phase}
 use Rattle.gc_drc.specs.declared.collect.phase.Phase.TheVariants as phase
+use Rattle.gc_memory.specs.Lists.{In}
 use Rattle.gc_drc.specs.View.{View}
+use Rattle.gc_drc.specs.Unheld.{Unheld}
 use Rattle.gc_drc.specs.CollectMemory.{Context}
 use Rattle.gc_drc.specs.CollectSweep.{FrameMarks}
 use Rattle.gc_drc.specs.CollectSpan.{Begins, HostsGone, Ends}
@@ -33,11 +35,13 @@ pub record FramesMarked (c : Context) (before : ℕ → Bool) (s : CountedSpace)
   pub marks : FrameMarks c s []
   pub hosts_are : now ≡ before
 
--- What nothing held any more was freed.
+-- What nothing held any more was freed: exactly the unheld objects are gone.
 pub record UnheldFreed (c : Context) (before : ℕ → Bool) (s : CountedSpace) (now : ℕ → Bool) : Type 0 where
   pub places : List ℕ
   pub swept : Swept c places s
   pub gone : HostsGone c places before now
+  pub freed : (p : ℕ) → In p c.graph.places → (In p places → ⊥) → Unheld c.graph p
+  pub kept : (p : ℕ) → In p places → Unheld c.graph p → ⊥
 
 -- where a collection stands that began there, by what its next increment does
 abbrev pub StandsAt : Context → (ℕ → Bool) → Phase → CountedSpace → (ℕ → Bool) → Type 0

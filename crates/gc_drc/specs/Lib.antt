@@ -30,3 +30,4 @@ pub mod CollectPhases
 pub mod Objects
 pub mod ObjectsBetween
 pub mod DrcCollectionLaw
+pub mod PlainCounting

@@ -20,6 +20,7 @@ ghost use Rattle.gc_heap.specs.Collection.{Start, has_host, IsPartOf, Collected,
 ghost use Rattle.gc_drc.specs.States.{drc_seen, IsDrcSound};
 ghost use Rattle.gc_drc.specs.CollectPhases.{left_of};
 ghost use Rattle.gc_drc.specs.ObjectsBetween.{Between};
+ghost use Rattle.gc_drc.specs.PlainCounting.{HasDone, UnheldGone};
 
 use crate::collect::phase::Phase;
 use crate::collection::DrcCollection;
@@ -141,6 +142,30 @@ impl DrcHeap {
             }
             _ => unreachable!(),
         }
+    }
+
+    /// Does the first two increments of a collection of which nothing was done. They free what plain
+    /// counting frees; cycles of garbage are left to the third increment, which the next step does.
+    pub fn free_unheld<D: Drop>(
+        &mut self,
+        state: &mut DrcCollection,
+        roots: &mut GcRootsList,
+        trace: &mut GcStoreTraceState<'_, D>,
+    )
+        requires { (s : Start) × HasDone s 0 self.old state.old roots.old.roots trace.old.types.now.declarations (has_host trace.old.host_data_table.now.entries) }
+        ensures under_way { (s : Start) → HasDone s 0 self.old state.old roots.old.roots trace.old.types.now.declarations (has_host trace.old.host_data_table.now.entries)
+            → HasDone s 2 self.new state.new roots.new.roots trace.old.types.now.declarations (has_host trace.new.host_data_table.now.entries) }
+        ensures gone { (s : Start) → HasDone s 0 self.old state.old roots.old.roots trace.old.types.now.declarations (has_host trace.old.host_data_table.now.entries)
+            → UnheldGone s (drc_seen self.new) (has_host trace.new.host_data_table.now.entries) }
+        ensures sound { IsDrcSound self.new }
+        ensures roots { roots.new ≡ roots.old }
+        ensures host_spare { trace.old.host_data_table.now.spare ≤ trace.new.host_data_table.now.spare }
+        ensures values { IsPartOf trace.new.host_data_table.now.entries trace.old.host_data_table.now.entries }
+        ensures hosts { trace.new.host_data_table.ghost_name ≡ trace.old.host_data_table.ghost_name }
+        ensures types { trace.new.types ≡ trace.old.types }
+    {
+        self.collect_more(&mut state.phase, roots, trace);
+        self.collect_more(&mut state.phase, roots, trace);
     }
 }
 

@@ -20,6 +20,8 @@
 #![tactic(auto)]
 
 mod alloc;
+#[cfg(test)]
+mod barrier_tests;
 mod barriers;
 #[cfg(test)]
 mod client_tests;
@@ -36,6 +38,8 @@ mod read;
 pub(crate) mod space;
 #[cfg(test)]
 mod tests;
+#[cfg(test)]
+mod unheld_tests;
 mod write;
 
 pub use collection::{DrcCollection, DrcCollector};

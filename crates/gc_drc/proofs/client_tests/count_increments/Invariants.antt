@@ -1,4 +1,4 @@
-use Rattle.std.proofs.Common.{ℕ, Bool, ◌<◌}
+use Rattle.std.proofs.Common.{Bool, ◌<◌}
 use Rattle.gc_heap.specs.Collection.{Start, has_host}
 use Rattle.gc_drc.proofs.client_tests.count_increments.Given as goal
 
