@@ -2,6 +2,7 @@ pub mod TendLemmas
 pub mod BarrierLemmas
 pub mod SeenLemmas
 pub mod ReadLemmas
+pub mod ThreadedMemory
 pub mod PlacingLemmas
 pub mod FrontLemmas
 pub mod MakeLemmas

@@ -31,3 +31,4 @@ pub mod Objects
 pub mod ObjectsBetween
 pub mod DrcCollectionLaw
 pub mod PlainCounting
+pub mod ThreadedLists

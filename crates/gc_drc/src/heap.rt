@@ -170,8 +170,13 @@ impl DrcHeap {
 }
 
 impl GcHeap for DrcHeap {
-    ghost use Rattle.std.specs.Prelude.{ℕ};
+    ghost use Rattle.std.specs.Prelude.{ℕ, ◌≡◌, Some, length, take, drop};
+    ghost use Rattle.std.specs.FinMap as finite;
     ghost use Rattle.gc_types.specs.declared.kind.Layouts.TheVariants.{Counting};
+    ghost use Rattle.gc_model.specs.Views.{HeapObject};
+    ghost use Rattle.gc_heap.specs.Objects.{held_size, IsObjectData};
+    ghost use Rattle.gc_heap.specs.Barriers.{ShowsCount};
+    ghost use Rattle.gc_drc.specs.ThreadedLists.{ThreadsLists};
     ghost use Rattle.gc_drc.specs.States.{drc_seen, IsDrcSound, IsDrcTaken};
     ghost use Rattle.gc_drc.specs.CollectPhases.{left_of};
     ghost use Rattle.gc_drc.specs.ObjectsBetween.{IsDrcUnderWay};
@@ -388,7 +393,15 @@ impl GcHeap for DrcHeap {
         }
     }
 
-    fn heap_slice(&self) -> &[u8] {
+    /// All bytes of the heap's memory. They also show the list of shown words and the queue, which are
+    /// threaded through the headers: the heap keeps no other list of them.
+    fn heap_slice(&self) -> &[u8]
+        requires { IsDrcSound self.now }
+        ensures size { length result.now ≡ (drc_seen self.now).capacity }
+        ensures objects { (place : ℕ) (object : HeapObject) → finite.get (drc_seen self.now).content place ≡ Some object → IsObjectData Counting object (take (held_size Counting object) (drop place result.now)) }
+        ensures counts { (place n : ℕ) → finite.get (drc_seen self.now).counts.counted place ≡ Some n → ShowsCount (drc_seen self.now) result.now place n }
+        ensures lists { ThreadsLists (drc_seen self.now) result.now }
+    {
         match &self.backing {
             Backing::Attached(space) => space.memory.bytes(),
             _ => &[],

@@ -1,5 +1,5 @@
-//! The counting heap: each object counts the words that name it, and a collection frees those that
-//! nothing names.
+//! The counting heap: each object counts the words that name it, and a collection frees those that no
+//! root reaches.
 //!
 //! `CountedSpace` is the memory with what the heap knows of it: the words in front of each object, and a
 //! free list that holds a block for each object. What stands in the memory is told by a view: the places,
@@ -13,6 +13,7 @@
 //! - `collect`: the increments of a collection over a space.
 //! - `collection`: what a collection knows between two increments.
 //! - `heap`: `DrcHeap`, a space or none, behind `GcHeap`.
+//! - `laws`: what stands between two increments.
 //!
 //! A collection has three increments and moves nothing. Its proof has two levels: in memory, where a
 //! `Context` is what it began with and each increment leads from one phase to the next, and in objects,
@@ -33,6 +34,7 @@ mod counting;
 mod give;
 mod growth;
 pub mod heap;
+pub mod laws;
 mod place;
 mod read;
 pub(crate) mod space;

@@ -186,8 +186,8 @@ module _ (layouts : Layouts) (types : List Declaration) (old new : HeapView) (ro
   of_answer = subst (λ rs. Roots answer rs roots' result) same (subst (λ a. Roots a room roots' result) alike rooted)
 
   -- an external object was made with its host value
-  pub host_added : is_err result ≡ false → more ≡ insert entries id value → MakesHost layouts (view old roots types entries) (view new roots' types more) value result
-  host_added ok added = by_answer answer allocated of_answer
+  pub host_added : is_err result ≡ false → get entries id ≡ None → more ≡ insert entries id value → MakesHost layouts (view old roots types entries) (view new roots' types more) value result
+  host_added ok fresh added = by_answer answer allocated of_answer
     where
       by_answer : (answer : Result (Result ℕ ℕ) HeapFault) → Allocated layouts old new (external id) (external_size layouts) answer → Roots answer roots roots' result → MakesHost layouts (view old roots types entries) (view new roots' types more) value result
       by_answer (Ok (Ok place)) allocated rooted =
@@ -195,6 +195,7 @@ module _ (layouts : Layouts) (types : List Declaration) (old new : HeapView) (ro
             record {
               id = id;
               added = record { place = place; added = allocated; rooted = ap (λ rs. view new rs types more) rooted.0; index_is = refl };
+              fresh = fresh;
               hosts = added;
             },
             few,

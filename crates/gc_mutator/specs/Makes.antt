@@ -1,6 +1,6 @@
 -- What making an object answers and leaves.
-use Rattle.std.specs.Prelude.{◌≡◌, ◌≢◌, ℕ, ◌<◌, ◌≤◌, ◌⊎◌, ◌∷◌, [], ◌++◌, false, List, Result, Ok, Err, Some, length}
-use Rattle.std.specs.FinMap.{insert, len}
+use Rattle.std.specs.Prelude.{◌≡◌, ◌≢◌, ℕ, ◌<◌, ◌≤◌, ◌⊎◌, ◌∷◌, [], ◌++◌, false, List, Result, Ok, Err, Some, None, length}
+use Rattle.std.specs.FinMap.{get, insert, len}
 use Rattle.gc_types.specs.declared.kind.Layouts.{Layouts}
 use Rattle.gc_types.specs.declared.layout.GcStructLayout.{GcStructLayout}
 use Rattle.gc_types.specs.declared.layout.GcArrayLayout.{GcArrayLayout}
@@ -58,10 +58,11 @@ abbrev pub MakesArray : Layouts → MutatorView → MutatorView → ℕ → ℕ 
 MakesArray layouts old new ty count result =
     (layout : GcArrayLayout) → array_layout_at layouts old.types ty ≡ Some layout → Makes layouts old new (new_array layouts ty count layout) (array_size layout count) result
 
--- an external object was added with a root and a new host value of its own
+-- an external object was added with a root and a new host value of its own, whose id no value had
 pub record AddsHost (layouts : Layouts) (old new : MutatorView) (value index : ℕ) : Type 0 where
   pub id : ℕ
   pub added : AddsRooted layouts old new (external id) (external_size layouts) index
+  pub fresh : get old.hosts id ≡ None
   pub hosts : new.hosts ≡ insert old.hosts id value
 
 -- Why an external object isn't made: there are too many roots or host values, or it is refused as other

@@ -60,4 +60,4 @@ returns-else-is_err g c =
     subst (λ (m : MutatorView). MakesHost g.H.GcHeap.KIND m (view new c.root_new-rooted.new.roots.roots types more) c.args.value c.root_new-rooted.result) c.self.view_is
     (host_added g.H.GcHeap.KIND types (g.H.GcHeap.seen c.self.inside.heap) new c.self.inside.roots.roots c.make_room.new.roots.roots c.root_new-rooted.new.roots.roots c.self.inside.hosts.entries more
     c.in-Ok-alloc.id c.args.value c.alloc_externref.result c.external_word-made.result c.root_new-rooted.result c.alloc_externref.ensures.allocated c.external_word-made.ensures c.make_room.ensures.roots c.root_new-rooted.ensures
-    c.in-Ok.ensures.few (not_full (len c.self.inside.hosts.entries) c.in-Ok-alloc.id (Full c.args.value) c.in-Ok-alloc.ensures.full) (sym c.is_err.ensures.value ∙ c.if-is_err.false) c.in-Ok-alloc.ensures.added)
+    c.in-Ok.ensures.few (not_full (len c.self.inside.hosts.entries) c.in-Ok-alloc.id (Full c.args.value) c.in-Ok-alloc.ensures.full) (sym c.is_err.ensures.value ∙ c.if-is_err.false) c.in-Ok-alloc.ensures.fresh c.in-Ok-alloc.ensures.added)
