@@ -145,7 +145,8 @@ impl DrcHeap {
     }
 
     /// Does the first two increments of a collection of which nothing was done. They free what plain
-    /// counting frees; cycles of garbage are left to the third increment, which the next step does.
+    /// counting frees; cycles of garbage are left to the third increment, which the next step does. The
+    /// heap may be read in between. It takes no memory.
     pub fn free_unheld<D: Drop>(
         &mut self,
         state: &mut DrcCollection,

@@ -17,7 +17,8 @@
 //!
 //! A collection has three increments and moves nothing. Its proof has two levels: in memory, where a
 //! `Context` is what it began with and each increment leads from one phase to the next, and in objects,
-//! where it began at a `Start` and what it leaves is `Collected`.
+//! where it began at a `Start` and what it leaves is `Collected`. `DrcHeap::free_unheld` does the first
+//! two, and says what they free: the plain law of counting.
 #![tactic(auto)]
 
 mod alloc;
