@@ -1,5 +1,5 @@
 -- The lists of a heap are threaded through its headers.
-use Rattle.std.proofs.Common.{◌≡◌, ℕ, refl, ap, ◌∙◌, List, [], arith}
+use Rattle.std.proofs.Common.{ℕ, refl, ap, [], arith}
 use Rattle.gc_model.specs.Views.{Counts, detached_in}
 use Rattle.gc_drc.specs.declared.space.CountedSpace.{CountedSpace}
 use Rattle.gc_drc.specs.View as view

@@ -1,6 +1,5 @@
 -- A run by the policy is a run.
 use Rattle.std.proofs.Common.{inl, inr, ◌≡◌, ℕ, List, [], ◌∷◌, Option, Some, None, refl, sym, ap, ◌∙◌, subst}
-use Rattle.std.specs.Prelude.{◌⊎◌}
 use Rattle.gc_types.specs.declared.kind.Layouts.{Layouts}
 use Rattle.gc_model.specs.Sizes.{object_size, need_of}
 use Rattle.gc_model.specs.Allocation.{Limits}
@@ -9,7 +8,7 @@ use Rattle.gc_model.specs.Values.{Object}
 use Rattle.gc_store.specs.Expansion.{MayCollectTable}
 use Rattle.gc_store.specs.Policy.{PolicyState}
 use Rattle.gc_commands.specs.declared.command.Command.{Command}
-use Rattle.gc_commands.specs.declared.command.Command.TheVariants.{Bad, Struct, New, I31, Field, SetField, Eq, Enter, Leave, Gc, Grow, Cap}
+use Rattle.gc_commands.specs.declared.command.Command.TheVariants.{New, Gc, Grow}
 use Rattle.gc_commands.specs.declared.reply.Reply.{Reply}
 use Rattle.gc_commands.specs.declared.reply.Refusal.{Refusal}
 use Rattle.gc_script.specs.State.{State}

@@ -1,4 +1,4 @@
-use Rattle.std.proofs.Common.{ℕ, ◌*◌, arith}
+use Rattle.std.proofs.Common.{◌*◌, arith}
 use Rattle.gc_model.specs.Sizes.{need_of}
 use Rattle.gc_model.specs.Allocation.{page, asked}
 use Rattle.gc_store.specs.Growth.{pages_of}
