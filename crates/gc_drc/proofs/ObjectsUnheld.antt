@@ -96,6 +96,8 @@ module _ (s : Start) (v : View) (before after : CountedSpace) (scopes : ℕ) (ho
         let h = host_so s v before scopes b p (object_at before.memory p) x in
         is_left p i (all p (object_at before.memory p) x (id_is id (u32_at (object_at before.memory p).bytes 0) (h.1 ∙ number))));
     counts = counts_anew s v u.swept.view before after scopes b leaves;
+    attached = refl;
+    scopes = ap (λ (h : HeapView). h.scopes) b.heap_is ∙ b.can.open_scopes;
     capacity = capacity_after s v u.swept.view before after scopes b leaves;
   }
 

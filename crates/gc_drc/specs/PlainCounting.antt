@@ -1,5 +1,5 @@
 -- The plain law of counting: what the first two increments of a collection free.
-use Rattle.std.specs.Prelude.{◌≡◌, ℕ, Bool, false, List, Some, None}
+use Rattle.std.specs.Prelude.{◌≡◌, ℕ, Bool, true, false, List, Some, None}
 use Rattle.std.specs.List.{Contains}
 use Rattle.std.specs.FinMap as finite
 use Rattle.gc_types.specs.declared.kind.Layouts.TheVariants.{Counting}
@@ -21,8 +21,8 @@ pub data IsUnheld (s : Start) : ℕ → Type 0 where
       → ((holder : ℕ) (o : HeapObject) → finite.get s.heap.content holder ≡ Some o → Contains (references Counting s.types o) place → IsUnheld s holder)
       → IsUnheld s place
 
--- Exactly the objects of the least set are gone, with their host values; the others are where and as they were,
--- and the counts are exact.
+-- Exactly the objects of the least set are gone, with their host values; the others are where and as they were, the
+-- counts are exact, shown is what frame slots name, nothing is queued, and the memory has its size.
 pub record UnheldGone (s : Start) (h : HeapView) (hosts : ℕ → Bool) : Type 0 where
   pub freed : (place : ℕ) → IsUnheld s place → finite.get h.content place ≡ None
   pub kept : (place : ℕ) → (IsUnheld s place → ⊥) → finite.get h.content place ≡ finite.get s.heap.content place
@@ -30,8 +30,10 @@ pub record UnheldGone (s : Start) (h : HeapView) (hosts : ℕ → Bool) : Type 0
   pub hosts_kept : (id : ℕ) → ((place : ℕ) (o : HeapObject) → IsExternal s.heap place o → host_id o ≡ id → IsUnheld s place → ⊥)
       → hosts id ≡ s.hosts id
   pub counts : CountsAnew s.types h s.roots
+  pub attached : h.attached ≡ true
+  pub scopes : h.scopes ≡ 0
   pub capacity : h.capacity ≡ s.heap.capacity
 
--- A collection that began there has done n increments in this heap, and knows this.
+-- A collection that began there has done n increments in this heap, and its state is at the phase behind them.
 abbrev pub HasDone : Start → ℕ → DrcHeap → DrcCollection → List Root → List Declaration → (ℕ → Bool) → Type 0
 HasDone s n h state roots types hosts = IsDrcUnderWay s n h state.phase roots types hosts

@@ -7,8 +7,8 @@ use Rattle.gc_memory.specs.Lists.{occ}
 use Rattle.gc_model.specs.Views.{HeapView}
 use Rattle.gc_drc.specs.View.{Linked}
 
--- Exactly these places, each once, are linked through the words at an offset: the first one is some place, and
--- the last link is 0.
+-- Exactly these places, each once, are linked through the word at an offset of each, from a first one on; the last
+-- link is 0.
 pub record IsThreaded (bytes : List ℕ) (offset : ℕ) (places : FinSet nat_cmp) : Type 0 where
   pub list : List ℕ
   pub are : places ≡ finset.from_list list

@@ -150,16 +150,15 @@ impl DrcHeap {
     pub fn free_unheld<D: Drop>(
         &mut self,
         state: &mut DrcCollection,
-        roots: &mut GcRootsList,
+        roots: &GcRootsList,
         trace: &mut GcStoreTraceState<'_, D>,
     )
-        requires { (s : Start) × HasDone s 0 self.old state.old roots.old.roots trace.old.types.now.declarations (has_host trace.old.host_data_table.now.entries) }
-        ensures under_way { (s : Start) → HasDone s 0 self.old state.old roots.old.roots trace.old.types.now.declarations (has_host trace.old.host_data_table.now.entries)
-            → HasDone s 2 self.new state.new roots.new.roots trace.old.types.now.declarations (has_host trace.new.host_data_table.now.entries) }
-        ensures gone { (s : Start) → HasDone s 0 self.old state.old roots.old.roots trace.old.types.now.declarations (has_host trace.old.host_data_table.now.entries)
+        requires { (s : Start) × HasDone s 0 self.old state.old roots.now.roots trace.old.types.now.declarations (has_host trace.old.host_data_table.now.entries) }
+        ensures under_way { (s : Start) → HasDone s 0 self.old state.old roots.now.roots trace.old.types.now.declarations (has_host trace.old.host_data_table.now.entries)
+            → HasDone s 2 self.new state.new roots.now.roots trace.old.types.now.declarations (has_host trace.new.host_data_table.now.entries) }
+        ensures gone { (s : Start) → HasDone s 0 self.old state.old roots.now.roots trace.old.types.now.declarations (has_host trace.old.host_data_table.now.entries)
             → UnheldGone s (drc_seen self.new) (has_host trace.new.host_data_table.now.entries) }
         ensures sound { IsDrcSound self.new }
-        ensures roots { roots.new ≡ roots.old }
         ensures host_spare { trace.old.host_data_table.now.spare ≤ trace.new.host_data_table.now.spare }
         ensures values { IsPartOf trace.new.host_data_table.now.entries trace.old.host_data_table.now.entries }
         ensures hosts { trace.new.host_data_table.ghost_name ≡ trace.old.host_data_table.ghost_name }

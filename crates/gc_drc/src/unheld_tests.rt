@@ -83,7 +83,7 @@ fn frees_by_counts_first(heap: &mut DrcHeap, alloc: Global) -> Result<(u64, u64)
         types: &types,
     };
     let mut state = heap.begin();
-    heap.free_unheld(&mut state, &mut roots, &mut trace);
+    heap.free_unheld(&mut state, &roots, &mut trace);
     let by_counts = heap.object_count();
     match heap.step(&mut state, &mut roots, &mut trace) {
         GcProgress::Continue => Err("a fourth increment")?,

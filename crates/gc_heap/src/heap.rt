@@ -37,11 +37,12 @@ pub enum HeapFault {
 /// the kind that is asked for. Barriers and `set_header` want an i31 or a word of a held object, all
 /// other calls a word of a held object.
 ///
-/// Reads and barriers are constant. An allocation is linear in the object's size, and so is a write
-/// in its bytes; a counting heap also searches its free runs for an allocation and for an object that
-/// is given back, in a logarithm of their number, and moves entries of two vectors. A collection is
-/// linear in the roots, and in what a copying heap keeps or a counting heap holds, beside giving back
-/// what that one frees; in a null heap it is constant.
+/// Times of the heaps here, which no clause says: reads and barriers are constant. An allocation is
+/// linear in the object's size, and so is a write in its bytes; a counting heap also searches its free
+/// runs for an allocation and for an object that is given back, in a logarithm of their number, and
+/// moves entries of two vectors. A collection is linear in the roots, and in what a copying heap keeps
+/// and the external objects that it held, or in what a counting heap holds, beside giving back what
+/// that one frees; in a null heap it is constant.
 pub trait GcHeap {
     ghost use Rattle.std.specs.Prelude.{ℕ, ◌≡◌, ◌≤◌, ◌<◌, ◌⊎◌, ◌%◌, ◌-◌, ◌+◌, ◌^◌, ◌++◌, Bool, true, false, List, length, take, drop, replicate, OnOk, OnErr, IfErr, IsOkAnd, IsErr, IsOk, Some};
     ghost use Rattle.std.specs.Ordering.{nat_cmp};

@@ -36,8 +36,8 @@ NamesNone None = ⊥
 NamesNone (Some (trace.Struct offsets)) = offsets ≡ []
 NamesNone (Some (trace.Array elements_are_references)) = elements_are_references ≡ false
 
--- an object is of numbers alone, by what its heap traces it by: its type, or in a copying heap its
--- trace word, which is an empty bitmap or that of an array of numbers
+-- an object is of numbers alone: by its type, or in a copying heap by its trace word, which is an empty
+-- bitmap or that of an array of numbers
 abbrev pub IsOfNumbers : Layouts → List Declaration → HeapObject → Type 0
 IsOfNumbers Null types o = NamesNone (trace_at Null types o.ty)
 IsOfNumbers Counting types o = NamesNone (trace_at Counting types o.ty)
@@ -81,8 +81,8 @@ pub record StepsTo (layouts : Layouts) (h : HeapView) (from offset to : ℕ) : T
   pub is : to ≡ word_in layouts object offset
 
 -- Where a path of offsets leads from a word: each offset leads on to the word that lies there, and the
--- path leads nowhere where none does. Of a word that is no 31-bit number and names no held object
--- nothing is said.
+-- path leads nowhere where none does. Where a path goes on from a word that is no 31-bit number and
+-- names no held object, nothing is said.
 abbrev pub Leads : Layouts → HeapView → ℕ → List ℕ → Option ℕ → Type 0
 Leads layouts h from [] to = to ≡ Some from
 Leads layouts h from (offset ∷ path) to =

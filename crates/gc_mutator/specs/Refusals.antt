@@ -1,6 +1,7 @@
--- Why calls of a mutator do nothing, in the order of their tests. But for want of memory each cause
--- excludes the others and an Ok, so that each answer comes exactly where its cause is true; want of
--- memory may come in place of those behind its cause.
+-- Why calls of a mutator do nothing, in the order of their tests (of objects that aren't made, see
+-- `Makes`). The causes exclude each other and an Ok, so that each answer comes exactly where its cause is
+-- true; only want of memory may come wherever its cause is true, in place of an Ok or of what is tested
+-- after it.
 use Rattle.std.specs.Prelude.{◌≡◌, ℕ, ◌+◌, ◌*◌, ◌<◌, ◌≤◌, ◌⊎◌, true, false, List, Option, Some, None, length}
 use Rattle.gc_types.specs.declared.kind.Layouts.{Layouts}
 use Rattle.gc_roots.specs.Roots.{Root}
@@ -27,9 +28,9 @@ RefusesCopy m index fault.NoRoot = length m.roots ≤ index
 RefusesCopy m index why = (index < length m.roots) × RefusesRoot m.roots why
 
 -- null may be written to a field, and a root that may be copied
-abbrev pub CanWrite : MutatorView → Option ℕ → Type 0
-CanWrite m None = Unit {0}
-CanWrite m (Some index) = CanCopy m index
+abbrev pub CanBeSource : MutatorView → Option ℕ → Type 0
+CanBeSource m None = Unit {0}
+CanBeSource m (Some index) = CanCopy m index
 
 -- why a root isn't written to a field, which takes no memory
 abbrev pub RefusesSource : MutatorView → Option ℕ → MutatorFault → Type 0
@@ -48,7 +49,7 @@ abbrev pub RefusesReference : Layouts → MutatorView → ℕ → ℕ → Option
 RefusesReference layouts m holder offset source fault.NoRoot =
     (¬ NamesObject m holder) ⊎ RefusesSource m source fault.NoRoot
 RefusesReference layouts m holder offset source fault.NoField =
-    CanWrite m source × NamesSuch m holder (λ o. ¬ HasReference layouts m.types o offset)
+    CanBeSource m source × NamesSuch m holder (λ o. ¬ HasReference layouts m.types o offset)
 RefusesReference layouts m holder offset source why = NamesObject m holder × RefusesSource m source why
 
 -- the memory may grow by so many pages

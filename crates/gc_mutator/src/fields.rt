@@ -18,7 +18,7 @@ ghost use Rattle.gc_heap.specs.Barriers.{CanNameSlot};
 ghost use Rattle.gc_heap.specs.Collection.{IsWordOf};
 ghost use Rattle.gc_mutator.specs.Mutators.{word_of, source_word};
 ghost use Rattle.gc_mutator.specs.Fields.{HasWord, HasReference, HasNumber, IsOfNumbers, NamesNone, slot_word, WritesReference, WritesNumber};
-ghost use Rattle.gc_mutator.specs.Refusals.{CanWrite, RefusesSource, RefusesReference, RefusesObject};
+ghost use Rattle.gc_mutator.specs.Refusals.{CanBeSource, RefusesSource, RefusesReference, RefusesObject};
 
 use crate::fault::MutatorFault;
 use crate::mutator::Mutator;
@@ -186,7 +186,7 @@ impl<H: GcHeap> Mutator<H> {
         ensures can { IfOk result (λ word. CanNameSlot self.now.heap word) }
         ensures names { IfOk result (λ word. IsWordOf self.now.heap (slot_word word)) }
         ensures present { IfOk result (λ word. IfSome word (λ w. 0 < w)) }
-        ensures writes { OnOk result (CanWrite self.now source) }
+        ensures writes { OnOk result (CanBeSource self.now source) }
         ensures why { IfErr result (RefusesSource self.now source) }
     {
         let _heap = &self.heap;
@@ -206,7 +206,7 @@ impl<H: GcHeap> Mutator<H> {
 
     /// Writes the word of a root, or null, to a reference of the object that another root names. `NoRoot`
     /// exactly where the holder is no root that names an object, or the source is no root; then `Full`
-    /// exactly where a root is written and there are 2^31, and `NoField` exactly where the object has no
+    /// exactly where a root is written and there are 2^31 roots, and `NoField` exactly where the object has no
     /// reference at that offset, by its type.
     pub fn write_reference(
         &mut self,
@@ -215,7 +215,7 @@ impl<H: GcHeap> Mutator<H> {
         source: Option<usize>,
     ) -> Result<(), MutatorFault>
         ensures written { OnOk result (WritesReference H.KIND self.old self.new holder offset (source_word self.old source)) }
-        ensures can { OnOk result (CanWrite self.old source) }
+        ensures can { OnOk result (CanBeSource self.old source) }
         ensures why { IfErr result (RefusesReference H.KIND self.old holder offset source) }
         ensures err { OnErr result (self.new ≡ self.old) }
     {

@@ -99,8 +99,8 @@ impl<H: GcHeap> Mutator<H> {
     }
 
     /// Makes an external object with a new host value, and answers the index of its root. A host value
-    /// whose object found no room is taken back. `Full` exactly where there are 2^31 roots or host values;
-    /// else it is refused as a struct is.
+    /// whose object found no room is taken back. `Full` where there are 2^31 roots, and else, but for want
+    /// of memory, where there are 2^31 host values; after that it is refused as a struct is.
     pub fn make_host(&mut self, value: u8) -> Result<usize, MutatorFault>
         ensures { MakesHost H.KIND self.old self.new value result }
     {

@@ -70,8 +70,8 @@ impl<H: GcHeap> Mutator<H> {
     }
 
     /// The word that a path of offsets leads to from a root. What lies at an offset is taken for a
-    /// reference. None where there is no such root, and where the path comes to null, to a 31-bit number,
-    /// or to an object with no word at the next offset.
+    /// reference. None where there is no such root, where null lies at an offset of the path, and where
+    /// the path goes on from a 31-bit number or from an object with no word at the next offset.
     pub fn follow(&self, root: usize, path: &[u32]) -> Option<VMGcRef>
         ensures no_root { length self.now.roots ≤ root → result ≡ None }
         ensures leads { root < length self.now.roots → Leads H.KIND self.now.heap (word_of self.now root) path.now result }

@@ -48,30 +48,10 @@ RunsOut layouts most t o = PassesLimit most t (need_of layouts (object_size layo
 
 -- Where a command is refused for want of room: it makes an object, its tests all pass, and the heap runs out.
 abbrev pub IsOutOfMemory : Layouts → ℕ → State → Command → Type 0
-IsOutOfMemory layouts most s Bad = ⊥
-IsOutOfMemory layouts most s (Struct is_final supertype fs) = ⊥
 IsOutOfMemory layouts most s (New d t vs) = (first_failing (tests layouts s (New d t vs)) ≡ None) × RunsOut layouts most s.table (new_struct s t vs)
-IsOutOfMemory layouts most s (I31 d n) = ⊥
-IsOutOfMemory layouts most s (Field r i into) = ⊥
-IsOutOfMemory layouts most s (SetField r i v) = ⊥
-IsOutOfMemory layouts most s (Eq r q) = ⊥
-IsOutOfMemory layouts most s Enter = ⊥
-IsOutOfMemory layouts most s Leave = ⊥
-IsOutOfMemory layouts most s Gc = ⊥
-IsOutOfMemory layouts most s (Grow n) = ⊥
-IsOutOfMemory layouts most s Cap = ⊥
+IsOutOfMemory layouts most s _ = ⊥
 
 -- Where a command's growth fails: it is one by some bytes, and it would pass the limit.
 abbrev pub FailsToGrow : ℕ → State → Command → Type 0
-FailsToGrow most s Bad = ⊥
-FailsToGrow most s (Struct is_final supertype fs) = ⊥
-FailsToGrow most s (New d t vs) = ⊥
-FailsToGrow most s (I31 d n) = ⊥
-FailsToGrow most s (Field r i into) = ⊥
-FailsToGrow most s (SetField r i v) = ⊥
-FailsToGrow most s (Eq r q) = ⊥
-FailsToGrow most s Enter = ⊥
-FailsToGrow most s Leave = ⊥
-FailsToGrow most s Gc = ⊥
 FailsToGrow most s (Grow n) = (0 < n) × PassesLimit most s.table n
-FailsToGrow most s Cap = ⊥
+FailsToGrow most s _ = ⊥

@@ -198,7 +198,7 @@ pub record PlacesObject {D : Type 0} (layouts : Layouts) (counter : Option ℕ) 
   pub limits : limits' ≡ after.limits
   pub handle_is : handle ≡ handle_of new (length p.table.scoped) p.table.drops
 
--- The first pages were refused, or the heap was refused more pages and has no room, whichever kind it is of.
+-- The first pages were refused, or the heap was refused more pages and has no room, of whatever kind it is.
 pub record LacksPlace {D : Type 0} (layouts : Layouts) (counter : Option ℕ) (o : Object D) (p : PolicyState D) (limits' : Limits) (need : ℕ) (new : StoreView) : Type 0 where
   pub small : too_large layouts (bytes_of layouts o p.table) ≡ false
   pub not_full : roots_full p.table ≡ false
