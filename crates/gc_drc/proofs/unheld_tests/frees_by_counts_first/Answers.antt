@@ -33,9 +33,9 @@ free_unheld-requires c =
 
 -- two increments were done, of the types as they were
 two : (c : After-free_unheld) (b : After-begin-state) → HasDone (starts_at b) 0 c.make_garbage.new.heap c.begin-state.result c.new-roots.result.roots c.in_ok-types.types.declarations (has_host c.new-hosts.result.entries)
-    → HasDone (starts_at b) 2 c.free_unheld.new.self c.free_unheld.new.state c.free_unheld.new.roots.roots c.free_unheld.new.trace.types.now.declarations (has_host c.free_unheld.new.trace.host_data_table.now.entries)
+    → HasDone (starts_at b) 2 c.free_unheld.new.self c.free_unheld.new.state c.new-roots.result.roots c.free_unheld.new.trace.types.now.declarations (has_host c.free_unheld.new.trace.host_data_table.now.entries)
 two c b first =
-    subst (λ types. HasDone (starts_at b) 2 c.free_unheld.new.self c.free_unheld.new.state c.free_unheld.new.roots.roots types.now.declarations (has_host c.free_unheld.new.trace.host_data_table.now.entries))
+    subst (λ types. HasDone (starts_at b) 2 c.free_unheld.new.self c.free_unheld.new.state c.new-roots.result.roots types.now.declarations (has_host c.free_unheld.new.trace.host_data_table.now.entries))
     (sym c.free_unheld.ensures.types) (c.free_unheld.ensures.under_way (starts_at b) first)
 
 pub step-requires : goal.step-requires
