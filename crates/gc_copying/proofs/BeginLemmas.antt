@@ -2,7 +2,7 @@
 use Rattle.std.proofs.Common.{◌≡◌, ℕ, ◌+◌, ◌%◌, ◌<◌, ◌≤◌, not, Bool, true, false, if◌then◌else◌, List, [], length, refl, sym, ap, subst, ◌∙◌, inl, inr, arith}
 use Rattle.std.proofs.Math.Logic.{◌⊎◌}
 use Rattle.std.proofs.lemmas.Bool.{cases_eq, eq-eqb, ne_eqb}
-use Rattle.gc_model.specs.Bytes.{SameBytes}
+use Rattle.gc_view.specs.Bytes.{SameBytes}
 use Rattle.gc_memory.specs.Chains.{Chain, done}
 use Rattle.gc_memory.proofs.ListLemmas.{sum_over-same}
 use Rattle.gc_memory.proofs.ChainLemmas.{Chain-sum}

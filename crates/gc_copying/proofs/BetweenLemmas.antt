@@ -13,7 +13,7 @@ use Rattle.gc_heap.specs.Collection.{Start, has_host, Collected, AreReached, IsI
 use Rattle.gc_heap.specs.Collection as content
 use Rattle.gc_heap.specs.declared.collection.GcProgress.{GcProgress}
 use Rattle.gc_heap.specs.declared.collection.GcProgress.TheVariants as progress
-use Rattle.gc_model.specs.Views.{HeapView}
+use Rattle.gc_view.specs.Heaps.{HeapView}
 use Rattle.gc_copying.specs.declared.space.Space.{Space}
 use Rattle.gc_copying.specs.declared.heap.CopyingHeap.{CopyingHeap}
 use Rattle.gc_copying.specs.declared.heap.Backing.{Backing}

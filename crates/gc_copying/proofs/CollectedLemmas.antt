@@ -13,8 +13,8 @@ use Rattle.gc_memory.specs.Lists.{In, here, there, sum_over, occ}
 use Rattle.gc_memory.specs.Chains.{Chain}
 use Rattle.gc_memory.proofs.ChainLemmas.{LiesInChain, Chain-lies, Chain-places}
 use Rattle.gc_memory.proofs.ListLemmas.{occ-same, In-occ}
-use Rattle.gc_model.specs.Allocation.{page, max_pages}
-use Rattle.gc_model.specs.Views.{HeapObject, HeapView}
+use Rattle.gc_view.specs.Pages.{page, max_pages}
+use Rattle.gc_view.specs.Heaps.{HeapObject, HeapView}
 use Rattle.gc_heap.specs.Objects.{host_id}
 use Rattle.gc_heap.specs.Collection.{Start, has_host, IsPartOf, moved, moved_root, IsMoved, Collected, AreReached, IsIncrements, IsStepCount, reference_count, present_words}
 use Rattle.gc_heap.specs.Collection as content

@@ -2,8 +2,8 @@
 use Rattle.std.proofs.Common.{◌≡◌, ℕ, ◌+◌, ◌/◌, ◌%◌, ◌≤◌, cond, nat_eq, List, [], ◌∷◌, ◌++◌, sym, ap, subst, ◌∙◌, inl, inr, arith, length-append}
 use Rattle.std.proofs.Math.Logic.{◌⊎◌}
 use Rattle.std.proofs.lemmas.Bool.{cases_eq}
-use Rattle.gc_model.specs.Bytes.{SameBytes}
-use Rattle.gc_model.proofs.ByteLemmas.{SameBytes-then, SameBytes-part}
+use Rattle.gc_view.specs.Bytes.{SameBytes}
+use Rattle.gc_view.proofs.ByteLemmas.{SameBytes-then, SameBytes-part}
 use Rattle.gc_memory.specs.Words.{word}
 use Rattle.gc_memory.specs.Lists.{In, here, there, sum_over}
 use Rattle.gc_memory.specs.Chains.{Chain}

@@ -7,7 +7,7 @@ use Rattle.gc_types.specs.Declarations.{Declaration}
 use Rattle.gc_types.specs.Layouts.{trace_at}
 use Rattle.gc_refs.specs.Trace.{form_unit, form_of, MeansTrace}
 use Rattle.gc_refs.specs.declared.trace.InlineTraceInfo.TheVariants.{Bitmap, Array, OutOfLine}
-use Rattle.gc_model.specs.Views.{u32_at}
+use Rattle.gc_view.specs.Bytes.{u32_at}
 use Rattle.gc_memory.specs.Words.{word}
 use Rattle.gc_memory.specs.Changes.{SameAcross}
 use Rattle.gc_memory.proofs.WordLemmas.{word-is, word_across}

@@ -1,7 +1,7 @@
 -- A word is moved.
 use Rattle.std.proofs.Common.{◌≡◌, ℕ, ◌+◌, ◌-◌, ◌/◌, ◌%◌, ◌<◌, ◌≤◌, ◌^◌, List, length, refl, sym, ap, subst, ◌∙◌, inl, inr, arith}
 use Rattle.std.proofs.Math.Logic.{◌⊎◌}
-use Rattle.gc_model.specs.Views.{u32_at}
+use Rattle.gc_view.specs.Bytes.{u32_at}
 use Rattle.gc_memory.specs.Lists.{In}
 use Rattle.gc_memory.proofs.WordLemmas.{word-is}
 use Rattle.gc_memory.proofs.ChainLemmas.{Chain-length}

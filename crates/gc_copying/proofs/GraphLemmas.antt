@@ -20,7 +20,7 @@ use Rattle.gc_types.specs.Layouts.{ref_offsets, field_layouts, fields_end, struc
 use Rattle.gc_refs.specs.Trace.{form_unit, form_of}
 use Rattle.std.proofs.lemmas.List.Elements.{Contains-get_or}
 use Rattle.gc_roots.specs.Roots.{Root, no_root, root, root_at, with_word, with_word_at}
-use Rattle.gc_model.specs.Views.{HeapObject, HeapView}
+use Rattle.gc_view.specs.Heaps.{HeapObject, HeapView}
 use Rattle.gc_heap.specs.Objects.{zeroed, external, held_size, first_offset, writable_offset, HasFields}
 use Rattle.gc_heap.specs.References.{reference_offsets, bitmap_offsets, IsTraceable, LayoutTraces}
 use Rattle.gc_heap.specs.Content.{IsHeld, IsHeap}

@@ -13,8 +13,8 @@ use Rattle.gc_memory.specs.Lists.{In, here}
 use Rattle.gc_memory.specs.Chains.{Chain, done, next}
 use Rattle.gc_memory.proofs.ChainLemmas.{Chain-resized, Chain-places, Chain-end}
 use Rattle.gc_memory.proofs.WordLemmas.{word-grown}
-use Rattle.gc_model.specs.Allocation.{page, max_pages}
-use Rattle.gc_model.specs.Views.{no_counts}
+use Rattle.gc_view.specs.Pages.{page, max_pages}
+use Rattle.gc_view.specs.Heaps.{no_counts}
 use Rattle.gc_heap.specs.Content.{IsSpare}
 use Rattle.gc_heap.specs.Heap.{empty_heap, grown}
 use Rattle.gc_copying.specs.Spaces.{half_start, half_end}

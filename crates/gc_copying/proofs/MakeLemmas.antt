@@ -18,9 +18,10 @@ use Rattle.gc_memory.specs.Lists.{In, here}
 use Rattle.gc_memory.proofs.ChangeLemmas.{Wrote-within, Wrote-then, Wrote-before, Wrote-put_u32, Wrote-zeros}
 use Rattle.gc_memory.proofs.ChainLemmas.{Chain-end, Chain-length, Chain-aligned}
 use Rattle.gc_memory.proofs.WordLemmas.{word-is, word_before, word-put_u32, word_of_zeros}
-use Rattle.gc_model.specs.Bytes.{put_bytes}
-use Rattle.gc_model.proofs.ByteLemmas.{part_in_same, part-put_bytes, part-put_bytes_inside}
-use Rattle.gc_model.specs.Views.{HeapObject, HeapView, no_counts, u32_at, put_u32}
+use Rattle.gc_view.specs.Bytes.{put_bytes}
+use Rattle.gc_view.proofs.ByteLemmas.{part_in_same, part-put_bytes, part-put_bytes_inside}
+use Rattle.gc_view.specs.Bytes.{u32_at, put_u32}
+use Rattle.gc_view.specs.Heaps.{HeapObject, HeapView, no_counts}
 use Rattle.gc_heap.specs.Heap.{AddsObject, LacksRoom, CanAllocate}
 use Rattle.gc_refs.specs.Trace.{form_of}
 use Rattle.gc_heap.specs.Objects.{held_size, first_offset, zeroed, zeroed_array, external, IsObjectKind, HasFields}

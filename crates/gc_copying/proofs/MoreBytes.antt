@@ -1,9 +1,9 @@
 -- What copying one object does to the bytes.
 use Rattle.std.proofs.Common.{◌≡◌, ℕ, ◌+◌, ◌/◌, ◌%◌, ◌<◌, ◌≤◌, ◌^◌, List, length, take, drop, sym, ap, subst, ◌∙◌, inl, inr, arith}
 use Rattle.std.proofs.Math.Logic.{◌⊎◌}
-use Rattle.gc_model.specs.Views.{u32_at, put_u32}
-use Rattle.gc_model.specs.Bytes.{put_bytes, SameBytes}
-use Rattle.gc_model.proofs.ByteLemmas.{SameBytes-then}
+use Rattle.gc_view.specs.Bytes.{u32_at, put_u32}
+use Rattle.gc_view.specs.Bytes.{put_bytes, SameBytes}
+use Rattle.gc_view.proofs.ByteLemmas.{SameBytes-then}
 use Rattle.gc_memory.specs.Words.{word}
 use Rattle.gc_memory.specs.Changes.{Wrote, SameAcross}
 use Rattle.gc_memory.proofs.ChangeLemmas.{Wrote-put_u32, Wrote-move, Wrote-apart, SameAcross-move, SameAcross-kept}

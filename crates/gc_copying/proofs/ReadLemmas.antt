@@ -11,8 +11,9 @@ use Rattle.gc_refs.specs.Header.{kind_part, spare_bits}
 use Rattle.gc_memory.specs.Words.{word}
 use Rattle.gc_memory.specs.Lists.{In}
 use Rattle.gc_memory.proofs.WordLemmas.{word-is}
-use Rattle.gc_model.proofs.ByteLemmas.{u32_at-part}
-use Rattle.gc_model.specs.Views.{HeapObject, u32_at}
+use Rattle.gc_view.proofs.ByteLemmas.{u32_at-part}
+use Rattle.gc_view.specs.Bytes.{u32_at}
+use Rattle.gc_view.specs.Heaps.{HeapObject}
 use Rattle.gc_heap.specs.Objects.{held_size, first_offset, data_offset, array_length, IsObjectKind, IsHeaderOf, IsObjectData}
 use Rattle.gc_copying.specs.Layout.{size_at, places_in, kind_at, data_at, object_at}
 use Rattle.gc_copying.specs.Content.{objects_at, IsWhole, IsExternalAt, IsSpace}

@@ -23,8 +23,9 @@ use Rattle.gc_refs.specs.Trace.{form_unit, form_of}
 use Rattle.gc_memory.specs.Words.{word}
 use Rattle.gc_memory.specs.Lists.{In, here, there}
 use Rattle.gc_memory.proofs.WordLemmas.{word-is}
-use Rattle.gc_model.specs.Views.{HeapObject, u32_at}
-use Rattle.gc_model.proofs.ByteLemmas.{u32_at-part}
+use Rattle.gc_view.specs.Bytes.{u32_at}
+use Rattle.gc_view.specs.Heaps.{HeapObject}
+use Rattle.gc_view.proofs.ByteLemmas.{u32_at-part}
 use Rattle.gc_heap.specs.Objects.{held_size, array_length, HasFields}
 use Rattle.gc_heap.specs.References.{word_offsets, bit_offsets, bitmap_offsets, element_offsets, info_offsets, typed_offsets, traced_offsets, reference_offsets, IsTyped, HoldsType}
 use Rattle.gc_heap.specs.Content.{TracesInside}

@@ -18,10 +18,10 @@ use Rattle.gc_memory.proofs.ChainLemmas.{Chain-resized, Chain-push, Chain-places
 use Rattle.gc_memory.proofs.ChangeLemmas.{Wrote-before}
 use Rattle.gc_memory.proofs.ListLemmas.{In-left, In-right, In-split, In-one, occ-none, occ-same, occ-other}
 use Rattle.gc_memory.proofs.WordLemmas.{word_in_same}
-use Rattle.gc_model.specs.Allocation.{page, max_pages}
-use Rattle.gc_model.specs.Bytes.{SameBytes}
-use Rattle.gc_model.proofs.ByteLemmas.{SameBytes-part, part_in_same}
-use Rattle.gc_model.specs.Views.{HeapObject}
+use Rattle.gc_view.specs.Pages.{page, max_pages}
+use Rattle.gc_view.specs.Bytes.{SameBytes}
+use Rattle.gc_view.proofs.ByteLemmas.{SameBytes-part, part_in_same}
+use Rattle.gc_view.specs.Heaps.{HeapObject}
 use Rattle.gc_heap.specs.Objects.{first_offset, IsObjectKind}
 use Rattle.gc_heap.specs.Content.{IsSpare}
 use Rattle.gc_heap.specs.Heap.{HasRoom}

@@ -11,8 +11,8 @@ use Rattle.gc_refs.specs.Trace.{form_of}
 use Rattle.gc_roots.specs.Roots.{Root}
 use Rattle.gc_memory.specs.Words.{word}
 use Rattle.gc_memory.specs.Lists.{In, here, there}
-use Rattle.gc_model.specs.Allocation.{page}
-use Rattle.gc_model.specs.Views.{HeapObject, HeapView}
+use Rattle.gc_view.specs.Pages.{page}
+use Rattle.gc_view.specs.Heaps.{HeapObject, HeapView}
 use Rattle.gc_heap.specs.Objects.{held_size, HasFields}
 use Rattle.gc_heap.specs.References.{reference_offsets, references, word_in}
 use Rattle.gc_heap.specs.Content.{IsHeld, half_of}

@@ -5,8 +5,8 @@ use Rattle.std.proofs.lemmas.Bool.{cases_eq}
 use Rattle.std.proofs.lemmas.Option.{none-some}
 use Rattle.std.specs.FinMap as finite
 use Rattle.std.specs.Ordering.{nat_cmp}
-use Rattle.gc_model.specs.Views.{u32_at, put_u32}
-use Rattle.gc_model.proofs.ByteLemmas.{SameBytes-part}
+use Rattle.gc_view.specs.Bytes.{u32_at, put_u32}
+use Rattle.gc_view.proofs.ByteLemmas.{SameBytes-part}
 use Rattle.gc_memory.specs.Words.{word}
 use Rattle.gc_memory.specs.Changes.{Wrote}
 use Rattle.gc_memory.specs.Lists.{In, here, there, occ}

@@ -18,14 +18,15 @@ use Rattle.gc_memory.proofs.ChainLemmas.{Chain-resized, Chain-apart, Chain-place
 use Rattle.gc_memory.proofs.ChangeLemmas.{Wrote-before, Wrote-behind, Wrote-put_bytes}
 use Rattle.gc_memory.proofs.ListLemmas.{In-occ, occ-In}
 use Rattle.gc_memory.proofs.WordLemmas.{word-is, word_before}
-use Rattle.gc_model.specs.Bytes.{put_bytes}
-use Rattle.gc_model.proofs.ByteLemmas.{part-put_bytes_inside, u32_at-part}
-use Rattle.gc_model.specs.Views.{HeapObject, no_counts, u32_at}
+use Rattle.gc_view.specs.Bytes.{put_bytes}
+use Rattle.gc_view.proofs.ByteLemmas.{part-put_bytes_inside, u32_at-part}
+use Rattle.gc_view.specs.Bytes.{u32_at}
+use Rattle.gc_view.specs.Heaps.{HeapObject, no_counts}
 use Rattle.gc_heap.specs.Objects.{held_size, first_offset, writable_offset, array_length, IsObjectKind}
 use Rattle.gc_heap.specs.References.{IsTraceWord}
 use Rattle.gc_heap.specs.Content.{IsSpare, TracesInside}
 use Rattle.gc_heap.specs.Heap.{IsWritable, with_data, put_object}
-use Rattle.gc_model.specs.Allocation.{page, max_pages}
+use Rattle.gc_view.specs.Pages.{page, max_pages}
 use Rattle.gc_copying.specs.Spaces.{half_start, half_end}
 use Rattle.gc_copying.specs.Layout.{first_place, size_at, places_in, kind_at, data_at, object_at}
 use Rattle.gc_copying.specs.Content.{objects_at, space_view, IsWhole, ExternalsLinked, IsSpace}

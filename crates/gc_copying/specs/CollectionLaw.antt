@@ -1,7 +1,7 @@
 -- A collection of a copying heap begins.
 use Rattle.std.proofs.Common.{◌≡◌, ℕ, true, refl, sym, ap, subst, ◌∙◌}
 use Rattle.gc_types.specs.declared.kind.Layouts.TheVariants.{Copying}
-use Rattle.gc_model.specs.Views.{HeapView}
+use Rattle.gc_view.specs.Heaps.{HeapView}
 use Rattle.gc_heap.specs.Collection.{Start, CanCollect}
 use Rattle.gc_copying.specs.declared.collection.CopyingCollection.{CopyingCollection}
 use Rattle.gc_copying.specs.declared.copy.collect.Phase.{Phase}

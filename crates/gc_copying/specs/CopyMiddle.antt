@@ -1,6 +1,6 @@
 -- What stands in the middle of a collection of a copying heap, in bytes.
 use Rattle.std.specs.Prelude.{◌≡◌, ℕ, ◌+◌, ◌%◌, ◌<◌, ◌≤◌, ◌⊎◌, cond, nat_eq, List, length, slice_index_or}
-use Rattle.gc_model.specs.Bytes.{SameBytes}
+use Rattle.gc_view.specs.Bytes.{SameBytes}
 use Rattle.gc_memory.specs.Words.{word}
 use Rattle.gc_memory.specs.Lists.{In, sum_over}
 use Rattle.gc_memory.specs.Chains.{Chain}

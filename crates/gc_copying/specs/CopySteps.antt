@@ -1,6 +1,6 @@
 -- What the steps of a collection of a copying heap do to its memory.
 use Rattle.std.specs.Prelude.{◌≡◌, ℕ, ◌+◌, ◌<◌, ◌≤◌, ◌^◌, ◌⊎◌, List, [], ◌∷◌, length}
-use Rattle.gc_model.specs.Bytes.{SameBytes}
+use Rattle.gc_view.specs.Bytes.{SameBytes}
 use Rattle.gc_memory.specs.Words.{word}
 use Rattle.gc_memory.specs.Changes.{SameAcross}
 use Rattle.gc_types.specs.Declarations.{Declaration}

@@ -11,7 +11,7 @@ use Rattle.gc_types.specs.Layouts.{round_up}
 use Rattle.gc_memory.specs.Lists.{In}
 use Rattle.gc_memory.proofs.ChainLemmas.{Chain-lies, Chain-sum, Chain-apart}
 use Rattle.gc_memory.proofs.ListLemmas.{sum_over-same}
-use Rattle.gc_model.specs.Views.{HeapObject, detached_in}
+use Rattle.gc_view.specs.Heaps.{HeapObject, detached_in}
 use Rattle.gc_heap.specs.Objects.{size_with, held_size, first_offset, data_offset}
 use Rattle.gc_heap.specs.Content.{total, block_size, LiesAtPlace, LiesInHalf, IsHeap}
 use Rattle.gc_heap.specs.Totals.{total-empty}

@@ -6,7 +6,7 @@ use Rattle.gc_types.specs.Kinds.{kind_bits}
 use Rattle.gc_refs.specs.Header.{spare_bits, kind_part}
 use Rattle.gc_memory.specs.Words.{word}
 use Rattle.gc_memory.specs.Chains.{places}
-use Rattle.gc_model.specs.Views.{HeapObject}
+use Rattle.gc_view.specs.Heaps.{HeapObject}
 use Rattle.gc_copying.specs.Spaces.{half_start}
 
 -- the bytes of a half that no object lies in: its first 16, where there is any memory

@@ -11,7 +11,7 @@ use Rattle.gc_types.specs.declared.kind.VMGcKind.TheVariants.{ExternRef, AnyRef,
 use Rattle.gc_memory.specs.Lists.{In, here, there, sum_over}
 use Rattle.gc_memory.specs.Chains.{Chain, done, next}
 use Rattle.gc_memory.proofs.ChainLemmas.{Chain-lies}
-use Rattle.gc_model.specs.Views.{HeapObject}
+use Rattle.gc_view.specs.Heaps.{HeapObject}
 use Rattle.gc_heap.specs.Objects.{size_with, held_size, first_offset, IsObjectKind}
 use Rattle.gc_heap.specs.Content.{total}
 use Rattle.gc_heap.specs.Totals.{total-empty, total-insert, len_with}

@@ -6,10 +6,10 @@ use Rattle.gc_types.specs.Layouts.{round_up}
 use Rattle.gc_refs.specs.Header.{Header}
 use Rattle.gc_memory.specs.Words.{word}
 use Rattle.gc_memory.specs.Changes.{Wrote}
-use Rattle.gc_model.specs.Sizes.{alignment}
-use Rattle.gc_model.specs.Views.{HeapObject, HeapView}
+use Rattle.gc_view.specs.Sizes.{alignment}
+use Rattle.gc_view.specs.Heaps.{HeapObject, HeapView}
 use Rattle.gc_heap.specs.Heap.{IsTooLarge, HasRoom}
-use Rattle.gc_model.specs.Sizes.{need_of}
+use Rattle.gc_view.specs.Sizes.{need_of}
 use Rattle.gc_copying.specs.declared.place.Room.{Room}
 use Rattle.gc_copying.specs.declared.place.Room.TheVariants as room
 use Rattle.gc_copying.specs.Layout.{size_at, kind_at, object_at}

@@ -1,7 +1,7 @@
 -- A copying heap by its fields: what is seen of it, and how it is outside a collection and while its
 -- memory is out.
 use Rattle.std.specs.Prelude.{◌≡◌, ℕ, ◌<◌, ◌^◌, List}
-use Rattle.gc_model.specs.Views.{HeapView, detached_in}
+use Rattle.gc_view.specs.Heaps.{HeapView, detached_in}
 use Rattle.gc_copying.specs.Content.{space_view, IsSpace}
 use Rattle.gc_copying.specs.declared.space.Space.{Space}
 use Rattle.gc_copying.specs.declared.heap.CopyingHeap.{CopyingHeap}

@@ -1,7 +1,7 @@
 //! A client of any heap, over the copying heap.
 
 ghost use Rattle.std.specs.Prelude.{◌≡◌, OnOk};
-ghost use Rattle.gc_model.specs.Views.{detached_in};
+ghost use Rattle.gc_view.specs.Heaps.{detached_in};
 ghost use Rattle.gc_heap.specs.Heap.{empty_heap};
 
 use crate::CopyingHeap;

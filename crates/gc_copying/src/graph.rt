@@ -4,8 +4,8 @@ ghost use Rattle.std.specs.Prelude.{◌≡◌, ◌≤◌, ◌<◌, ◌*◌, ◌^
 ghost use Rattle.std.specs.FinMap as finite;
 ghost use Rattle.gc_types.specs.declared.kind.Layouts.TheVariants.{Copying};
 ghost use Rattle.gc_refs.specs.Trace.{form_unit};
-ghost use Rattle.gc_model.specs.Allocation.{page, max_pages};
-ghost use Rattle.gc_model.specs.Views.{HeapObject, detached_in};
+ghost use Rattle.gc_view.specs.Pages.{page, max_pages};
+ghost use Rattle.gc_view.specs.Heaps.{HeapObject, detached_in};
 ghost use Rattle.gc_heap.specs.Objects.{HasFields, writable_offset};
 ghost use Rattle.gc_heap.specs.References.{bitmap_offsets};
 ghost use Rattle.gc_heap.specs.Content.{IsHeld};

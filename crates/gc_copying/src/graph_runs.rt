@@ -3,8 +3,8 @@
 ghost use Rattle.std.specs.Prelude.{ℕ, Bool, ◌≡◌, ◌<◌, ◌≤◌, ◌^◌, OnOk, IfOk};
 ghost use Rattle.gc_copying.specs.declared.graph.Around.{Around};
 ghost use Rattle.gc_types.specs.declared.kind.Layouts.TheVariants.{Copying};
-ghost use Rattle.gc_model.specs.Allocation.{max_pages};
-ghost use Rattle.gc_model.specs.Views.{detached_in};
+ghost use Rattle.gc_view.specs.Pages.{max_pages};
+ghost use Rattle.gc_view.specs.Heaps.{detached_in};
 ghost use Rattle.gc_heap.specs.Collection.{Start, CanCollect, Collected, has_host, IsPartOf};
 ghost use Rattle.gc_heap.specs.Run.{start_at};
 

@@ -2,7 +2,7 @@
 
 ghost use Rattle.std.specs.Prelude.{◌≡◌, ◌≤◌, ◌^◌};
 ghost use Rattle.gc_types.specs.declared.kind.Layouts.TheVariants.{Copying};
-ghost use Rattle.gc_model.specs.Views.{detached_in};
+ghost use Rattle.gc_view.specs.Heaps.{detached_in};
 
 use crate::CopyingHeap;
 use crate::graph::{

@@ -3,7 +3,7 @@
 ghost use Rattle.std.specs.Prelude.{ℕ, ◌≡◌, ◌*◌, ◌≤◌, ◌%◌, length};
 ghost use Rattle.gc_heap.specs.Heap.{empty_heap};
 ghost use Rattle.gc_types.specs.declared.kind.Layouts.TheVariants.{Copying};
-ghost use Rattle.gc_model.specs.Allocation.{page, max_pages};
+ghost use Rattle.gc_view.specs.Pages.{page, max_pages};
 ghost use Rattle.gc_copying.specs.Growth.{bump_in_more};
 ghost use Rattle.gc_copying.specs.States.{IsSound, seen_in};
 

@@ -14,7 +14,7 @@
 
 ghost use Rattle.std.specs.Prelude.{ℕ, ◌≡◌, ◌+◌, ◌<◌, ◌≤◌};
 ghost use Rattle.gc_types.specs.declared.kind.Layouts.TheVariants.{Copying};
-ghost use Rattle.gc_model.specs.Views.{detached_in};
+ghost use Rattle.gc_view.specs.Heaps.{detached_in};
 ghost use Rattle.gc_heap.specs.Collection.{Start, has_host, IsPartOf, Collected, Stepped, IsStepCount};
 ghost use Rattle.gc_copying.specs.States.{copying_seen, IsCopyingSound};
 ghost use Rattle.gc_copying.specs.CopyPhases.{left_of};

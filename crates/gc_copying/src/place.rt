@@ -10,7 +10,7 @@
 ghost use Rattle.std.specs.Prelude.{ℕ, ◌≡◌, ◌+◌, ◌-◌, ◌*◌, ◌/◌, ◌≤◌, ◌<◌, ◌^◌, length, IfSome, IfNone};
 ghost use Rattle.gc_types.specs.declared.kind.Layouts.TheVariants.{Copying};
 ghost use Rattle.gc_types.specs.Layouts.{round_up};
-ghost use Rattle.gc_model.specs.Sizes.{alignment};
+ghost use Rattle.gc_view.specs.Sizes.{alignment};
 ghost use Rattle.gc_heap.specs.Heap.{IsTooLarge};
 ghost use Rattle.gc_copying.specs.States.{IsSound, seen_in};
 ghost use Rattle.gc_copying.specs.Placing.{CanPlace, WritesBlock, FindsRoom};

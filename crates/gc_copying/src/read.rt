@@ -8,7 +8,8 @@ ghost use Rattle.gc_types.specs.declared.kind.VMGcKind.TheVariants.{ExternRef, A
 ghost use Rattle.gc_refs.specs.Header.{IsOfKind};
 ghost use Rattle.gc_memory.specs.Words.{word};
 ghost use Rattle.gc_memory.specs.Lists.{In};
-ghost use Rattle.gc_model.specs.Views.{HeapObject, u32_at};
+ghost use Rattle.gc_view.specs.Bytes.{u32_at};
+ghost use Rattle.gc_view.specs.Heaps.{HeapObject};
 ghost use Rattle.gc_heap.specs.Objects.{held_size, array_length, IsHeaderOf, IsObjectData};
 ghost use Rattle.gc_heap.specs.Heap.{IsWritable, with_data, put_object};
 ghost use Rattle.gc_copying.specs.Layout.{size_at, places_in, kind_at};

@@ -2,7 +2,7 @@
 
 ghost use Rattle.std.specs.Prelude.{◌≡◌, ◌*◌, ◌+◌, ◌≤◌, true, false, OnOk};
 ghost use Rattle.gc_types.specs.declared.kind.Layouts.TheVariants.{Copying};
-ghost use Rattle.gc_model.specs.Allocation.{page, max_pages};
+ghost use Rattle.gc_view.specs.Pages.{page, max_pages};
 ghost use Rattle.gc_heap.specs.Heap.{empty_heap, grown};
 ghost use Rattle.gc_copying.specs.States.{copying_seen, IsCopyingSound};
 

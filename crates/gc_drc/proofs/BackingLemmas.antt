@@ -4,8 +4,8 @@ use Rattle.std.specs.Ordering.{nat_cmp}
 use Rattle.std.specs.FinMap as finite
 use Rattle.std.proofs.lemmas.Bool.{cases_eq}
 use Rattle.gc_types.specs.declared.kind.Layouts.TheVariants.{Counting}
-use Rattle.gc_model.specs.Allocation.{page, max_pages}
-use Rattle.gc_model.specs.Views.{HeapObject, HeapView, detached_in}
+use Rattle.gc_view.specs.Pages.{page, max_pages}
+use Rattle.gc_view.specs.Heaps.{HeapObject, HeapView, detached_in}
 use Rattle.gc_free.specs.Space.{IsSound, grow}
 use Rattle.gc_heap.specs.Heap.{grown}
 use Rattle.gc_heap.specs.Barriers.{raise, lower, show, cloned, dropped, exposed, copied, CanUnname, CanUnnameSlot, IsNamed}

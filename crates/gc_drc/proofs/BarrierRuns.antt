@@ -7,7 +7,7 @@ use Rattle.gc_types.specs.declared.layout.GcStructLayout.{GcStructLayout}
 use Rattle.gc_types.specs.Declarations.{Declaration}
 use Rattle.gc_types.specs.Layouts.{layout_at}
 use Rattle.gc_roots.specs.Roots.{Root, root}
-use Rattle.gc_model.specs.Views.{HeapObject, HeapView}
+use Rattle.gc_view.specs.Heaps.{HeapObject, HeapView}
 use Rattle.gc_heap.specs.Content.{IsHeld, IsHeap}
 use Rattle.gc_heap.specs.Heap.{AddsObject, new_struct, exn_or_struct}
 use Rattle.gc_heap.specs.Barriers.{raise, lower, cloned, dropped, exposed, overwritten, CanName, CanUnname}

@@ -10,7 +10,7 @@ use Rattle.gc_types.specs.declared.kind.Layouts.TheVariants.{Counting}
 use Rattle.gc_types.specs.declared.kind.VMGcKind.{VMGcKind}
 use Rattle.gc_memory.specs.Lists.{In, here, there, occ, sum_over}
 use Rattle.gc_memory.proofs.ListLemmas.{In-occ, occ-none}
-use Rattle.gc_model.specs.Views.{Counts}
+use Rattle.gc_view.specs.Heaps.{Counts}
 use Rattle.gc_free.specs.Runs.{run, IsSpread, without, begins_at}
 use Rattle.gc_free.specs.Space.{Space, IsSound, places_end, give}
 use Rattle.gc_heap.specs.Content.{block_size}

@@ -10,7 +10,7 @@ use Rattle.gc_heap.specs.Heap.{empty_heap, grown}
 use Rattle.gc_memory.specs.Words.{word}
 use Rattle.gc_memory.specs.Lists.{In}
 use Rattle.gc_memory.proofs.WordLemmas.{word-grown, word64-grown}
-use Rattle.gc_model.specs.Allocation.{page, max_pages}
+use Rattle.gc_view.specs.Pages.{page, max_pages}
 use Rattle.gc_free.specs.declared.run.Run.{Run}
 use Rattle.gc_free.specs.Runs.{gap}
 use Rattle.gc_free.specs.Space.{Space, IsSound, new_space, places_end, merge_all, grow}

@@ -15,7 +15,7 @@ use Rattle.gc_memory.specs.Words.{word}
 use Rattle.gc_memory.specs.Lists.{In, occ}
 use Rattle.gc_memory.proofs.ListLemmas.{In-occ, occ-In}
 use Rattle.gc_memory.proofs.WordLemmas.{word_in_same}
-use Rattle.gc_model.proofs.ByteLemmas.{SameBytes-part}
+use Rattle.gc_view.proofs.ByteLemmas.{SameBytes-part}
 use Rattle.gc_heap.specs.Collection.{IsPartOf}
 use Rattle.gc_drc.specs.Layout.{kind_at}
 use Rattle.gc_drc.specs.CollectOps.{without_one, same}

@@ -11,18 +11,18 @@ use Rattle.gc_memory.specs.Lists.{In, here, there, occ, sum_over}
 use Rattle.gc_memory.proofs.ListLemmas.{occ-none, sum_over-same}
 use Rattle.gc_memory.proofs.ChangeLemmas.{Wrote-apart}
 use Rattle.gc_memory.proofs.WordLemmas.{word_in_same, word64_in_same}
-use Rattle.gc_model.specs.Bytes.{SameBytes}
-use Rattle.gc_model.proofs.ByteLemmas.{SameBytes-part}
-use Rattle.gc_model.specs.Views.{HeapObject, Counts}
+use Rattle.gc_view.specs.Bytes.{SameBytes}
+use Rattle.gc_view.proofs.ByteLemmas.{SameBytes-part}
+use Rattle.gc_view.specs.Heaps.{HeapObject, Counts}
 use Rattle.gc_free.specs.declared.run.Run.{Run}
 use Rattle.gc_free.specs.Runs.{run, insert_run, IsSpread, gap, gaps}
 use Rattle.gc_free.specs.Space.{places_end, AllAligned}
 use Rattle.gc_types.specs.Layouts.{round_up}
-use Rattle.gc_model.specs.Sizes.{alignment}
+use Rattle.gc_view.specs.Sizes.{alignment}
 use Rattle.gc_heap.specs.Content.{block_size}
 use Rattle.gc_heap.specs.Objects.{held_size}
 use Rattle.gc_heap.specs.Heap.{AddsObject, HasRoom, IsFree, EndsAt, IsTooLarge}
-use Rattle.gc_model.specs.Allocation.{page}
+use Rattle.gc_view.specs.Pages.{page}
 use Rattle.gc_drc.specs.declared.space.CountedSpace.{CountedSpace}
 use Rattle.gc_drc.specs.Layout.{count_at, flags_at, block_of, object_at}
 use Rattle.gc_drc.specs.View.{View, block_at, Holds, ShowsObject, IsPart, Linked}

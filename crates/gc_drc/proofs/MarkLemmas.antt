@@ -1,7 +1,7 @@
 -- Marks and counts in memory.
 use Rattle.std.proofs.Common.{◌≡◌, ℕ, ◌+◌, ◌-◌, ◌*◌, ◌%◌, ◌<◌, ◌≤◌, ◌^◌, cond, nat_eq, List, ◌∷◌, length, refl, sym, ap, subst, ◌∙◌, inl, inr, arith}
 use Rattle.std.proofs.lemmas.Bool.{cases_eq, eq-eqb, ne_eqb}
-use Rattle.gc_model.specs.Views.{put_u32}
+use Rattle.gc_view.specs.Bytes.{put_u32}
 use Rattle.gc_memory.specs.Words.{word, word64, put_u64}
 use Rattle.gc_memory.specs.Lists.{In, here, there, occ}
 use Rattle.gc_memory.proofs.ListLemmas.{In-occ, occ-In, occ-same}

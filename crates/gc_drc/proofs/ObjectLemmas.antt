@@ -13,12 +13,13 @@ use Rattle.gc_memory.specs.Words.{word}
 use Rattle.gc_memory.specs.Changes.{Wrote}
 use Rattle.gc_memory.proofs.ChangeLemmas.{Wrote-within, Wrote-then, Wrote-put_u32}
 use Rattle.gc_memory.proofs.WordLemmas.{word_before, word64_before, word-put_u32}
-use Rattle.gc_model.specs.Bytes.{put_bytes}
-use Rattle.gc_model.proofs.ByteLemmas.{part-put_bytes_inside}
-use Rattle.gc_model.specs.Views.{HeapObject, put_u32}
+use Rattle.gc_view.specs.Bytes.{put_bytes}
+use Rattle.gc_view.proofs.ByteLemmas.{part-put_bytes_inside}
+use Rattle.gc_view.specs.Bytes.{put_u32}
+use Rattle.gc_view.specs.Heaps.{HeapObject}
 use Rattle.gc_heap.specs.Objects.{first_offset, zeroed, zeroed_array, external, IsObjectKind, HasFields}
 use Rattle.gc_heap.specs.Heap.{LacksRoom, Allocated, CanAllocate, IsTooLarge, exn_or_struct}
-use Rattle.gc_model.specs.Sizes.{need_of}
+use Rattle.gc_view.specs.Sizes.{need_of}
 use Rattle.gc_heap.specs.declared.heap.HeapFault.{HeapFault}
 use Rattle.gc_heap.specs.declared.heap.HeapFault.TheVariants as fault
 use Rattle.gc_drc.specs.declared.space.CountedSpace.{CountedSpace}

@@ -14,8 +14,9 @@ use Rattle.gc_memory.specs.Words.{word}
 use Rattle.gc_memory.specs.Lists.{In, here, there, occ, sum_over}
 use Rattle.gc_memory.proofs.ListLemmas.{sum_over-same}
 use Rattle.gc_memory.proofs.WordLemmas.{word-is}
-use Rattle.gc_model.specs.Views.{HeapObject, HeapView, Counts, u32_at}
-use Rattle.gc_model.proofs.ByteLemmas.{u32_at-part}
+use Rattle.gc_view.specs.Bytes.{u32_at}
+use Rattle.gc_view.specs.Heaps.{HeapObject, HeapView, Counts}
+use Rattle.gc_view.proofs.ByteLemmas.{u32_at-part}
 use Rattle.gc_heap.specs.Objects.{first_offset, array_length}
 use Rattle.gc_heap.specs.References.{reference_offsets, references, word_in}
 use Rattle.gc_heap.specs.Content.{IsHeld, total}

@@ -3,7 +3,8 @@ use Rattle.std.proofs.Common.{◌≡◌, ℕ, ◌-◌, Bool, refl, sym, ap, subs
 use Rattle.gc_types.specs.declared.kind.Layouts.TheVariants.{Counting}
 use Rattle.gc_memory.specs.Lists.{In}
 use Rattle.gc_memory.proofs.ListLemmas.{In-occ, occ-In}
-use Rattle.gc_model.specs.Views.{HeapObject, HeapView, u32_at}
+use Rattle.gc_view.specs.Bytes.{u32_at}
+use Rattle.gc_view.specs.Heaps.{HeapObject, HeapView}
 use Rattle.gc_heap.specs.References.{word_in}
 use Rattle.gc_heap.specs.Collection.{Start, IsMoved, Collected}
 use Rattle.gc_heap.specs.Collection as content

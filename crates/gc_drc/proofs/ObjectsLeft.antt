@@ -7,7 +7,8 @@ use Rattle.gc_types.specs.declared.kind.Layouts.TheVariants.{Counting}
 use Rattle.gc_types.specs.declared.kind.VMGcKind.TheVariants.{ExternRef}
 use Rattle.gc_memory.specs.Lists.{In, occ}
 use Rattle.gc_memory.proofs.ListLemmas.{In-occ, occ-In}
-use Rattle.gc_model.specs.Views.{HeapObject, HeapView, Counts, u32_at}
+use Rattle.gc_view.specs.Bytes.{u32_at}
+use Rattle.gc_view.specs.Heaps.{HeapObject, HeapView, Counts}
 use Rattle.gc_heap.specs.References.{references}
 use Rattle.gc_heap.specs.Content.{total}
 use Rattle.gc_heap.specs.Collection.{Start, held_words, stack_words, occurrences, IsExternal, CountsAnew, names_of}

@@ -19,7 +19,7 @@ use Rattle.gc_types.specs.Layouts.{trace_at, ref_offsets, field_layouts, fields_
 use Rattle.gc_types.specs.LayoutLaws.{IsPlacedIn}
 use Rattle.gc_types.proofs.RefLemmas.{references_placed}
 use Rattle.gc_memory.specs.Lists.{In}
-use Rattle.gc_model.specs.Views.{HeapObject}
+use Rattle.gc_view.specs.Heaps.{HeapObject}
 use Rattle.gc_heap.specs.Objects.{held_size, array_length, IsObjectKind}
 use Rattle.gc_heap.specs.References.{word_offsets, info_offsets, typed_offsets, HoldsType}
 use Rattle.gc_drc.specs.CollectMemory.{traced_offsets, info_of}

@@ -6,7 +6,8 @@ use Rattle.gc_types.specs.Declarations.{Declaration}
 use Rattle.gc_roots.specs.Roots.{Root}
 use Rattle.gc_memory.specs.Lists.{In}
 use Rattle.gc_memory.proofs.ListLemmas.{In-occ, occ-In}
-use Rattle.gc_model.specs.Views.{HeapObject, HeapView, u32_at}
+use Rattle.gc_view.specs.Bytes.{u32_at}
+use Rattle.gc_view.specs.Heaps.{HeapObject, HeapView}
 use Rattle.gc_heap.specs.Collection.{Start, Stepped}
 use Rattle.gc_heap.specs.declared.collection.GcProgress.{GcProgress}
 use Rattle.gc_heap.specs.declared.collection.GcProgress.TheVariants as progress

@@ -13,9 +13,9 @@ use Rattle.gc_memory.specs.Changes.{Wrote}
 use Rattle.gc_memory.specs.Lists.{In, here, there, sum_over}
 use Rattle.gc_memory.proofs.ChangeLemmas.{get_or-zeros, length-put_zeros, Wrote-within, Wrote-then, Wrote-zeros, Wrote-put_u32, Wrote-put_u64, Wrote-behind}
 use Rattle.gc_memory.proofs.WordLemmas.{word-is, word_before, word64_before, word-put_u32, word64-put_u64}
-use Rattle.gc_model.specs.Bytes.{put_bytes}
-use Rattle.gc_model.proofs.ByteLemmas.{part_in_same}
-use Rattle.gc_model.specs.Views.{u32_at, put_u32}
+use Rattle.gc_view.specs.Bytes.{put_bytes}
+use Rattle.gc_view.proofs.ByteLemmas.{part_in_same}
+use Rattle.gc_view.specs.Bytes.{u32_at, put_u32}
 use Rattle.gc_free.specs.Runs.{run, insert_run, IsSpread}
 use Rattle.gc_drc.specs.Layout.{count_at, size_at, block_of}
 use Rattle.gc_drc.specs.View.{block_at}

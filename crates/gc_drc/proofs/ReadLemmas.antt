@@ -13,8 +13,9 @@ use Rattle.gc_memory.specs.Words.{word}
 use Rattle.gc_memory.specs.Lists.{In, occ}
 use Rattle.gc_memory.proofs.ListLemmas.{In-occ, occ-none}
 use Rattle.gc_memory.proofs.WordLemmas.{word-is, word64-is}
-use Rattle.gc_model.proofs.ByteLemmas.{u32_at-part}
-use Rattle.gc_model.specs.Views.{HeapObject, Counts, u32_at}
+use Rattle.gc_view.proofs.ByteLemmas.{u32_at-part}
+use Rattle.gc_view.specs.Bytes.{u32_at}
+use Rattle.gc_view.specs.Heaps.{HeapObject, Counts}
 use Rattle.gc_heap.specs.Objects.{held_size, data_offset, first_offset, array_length, IsHeaderOf, IsObjectData}
 use Rattle.gc_heap.specs.Barriers.{ShowsCount, one_in}
 use Rattle.gc_drc.specs.declared.space.CountedSpace.{CountedSpace}

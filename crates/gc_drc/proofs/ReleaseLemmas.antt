@@ -8,7 +8,7 @@ use Rattle.gc_memory.proofs.ListLemmas.{In-occ, occ-In, occ-same}
 use Rattle.gc_free.specs.declared.run.Run.{Run}
 use Rattle.gc_free.specs.Runs.{run, without, begins_at, IsSpread}
 use Rattle.gc_free.specs.Space.{Space, IsSound, give, places_end}
-use Rattle.gc_model.specs.Allocation.{page}
+use Rattle.gc_view.specs.Pages.{page}
 use Rattle.gc_drc.specs.declared.space.CountedSpace.{CountedSpace}
 use Rattle.gc_drc.specs.Layout.{size_at, block_of}
 use Rattle.gc_drc.specs.View.{View, Holds, ShowsObject, IsPart, Linked, block_at, count_of, flags_of}

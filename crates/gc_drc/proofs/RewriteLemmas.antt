@@ -6,9 +6,9 @@ use Rattle.gc_types.specs.declared.kind.VMGcKind.TheVariants.{ExternRef}
 use Rattle.gc_refs.specs.Header.{kind_part, IsOfKind}
 use Rattle.gc_types.specs.declared.kind.Layouts.TheVariants.{Counting}
 use Rattle.gc_heap.specs.Objects.{first_offset, IsObjectKind}
-use Rattle.gc_model.specs.Views.{put_u32}
-use Rattle.gc_model.specs.Bytes.{SameBytes}
-use Rattle.gc_model.proofs.ByteLemmas.{SameBytes-then, SameBytes-part}
+use Rattle.gc_view.specs.Bytes.{put_u32}
+use Rattle.gc_view.specs.Bytes.{SameBytes}
+use Rattle.gc_view.proofs.ByteLemmas.{SameBytes-then, SameBytes-part}
 use Rattle.gc_memory.specs.Words.{word, word64, put_u64}
 use Rattle.gc_memory.specs.Changes.{Wrote}
 use Rattle.gc_memory.specs.Lists.{In, here, there}

@@ -2,7 +2,7 @@
 use Rattle.std.proofs.Common.{◌≡◌, ℕ, ◌+◌, ◌-◌, ◌<◌, ◌≤◌, ◌^◌, Bool, true, List, [], ◌∷◌, map, replicate, false, Option, Some, None, refl, sym, ap, ap₂, subst, ◌∙◌, inl, inr, arith, Contains}
 use Rattle.std.specs.Int.{w32, to_le_bytes}
 use Rattle.gc_refs.specs.LittleEndian.{unsigned_bytes}
-use Rattle.gc_model.specs.Bytes.{put_bytes}
+use Rattle.gc_view.specs.Bytes.{put_bytes}
 use Rattle.std.specs.Ordering.{nat_cmp}
 use Rattle.std.specs.FinMap.{FinMap, get, insert, empty, gets, same_map, nat_cmp-IsAntisymmetric}
 use Rattle.std.specs.FinMap as finite
@@ -17,7 +17,8 @@ use Rattle.gc_types.specs.declared.layout.GcStructLayout.{GcStructLayout}
 use Rattle.gc_types.specs.declared.layout.TraceInfo.TheVariants as trace
 use Rattle.gc_types.specs.Declarations.{Declaration}
 use Rattle.gc_types.specs.Layouts.{layout_at, trace_at}
-use Rattle.gc_model.specs.Views.{HeapObject, HeapView, u32_at}
+use Rattle.gc_view.specs.Bytes.{u32_at}
+use Rattle.gc_view.specs.Heaps.{HeapObject, HeapView}
 use Rattle.gc_heap.specs.Objects.{external, zeroed, host_id, held_size, writable_offset}
 use Rattle.gc_heap.specs.References.{references, word_in, info_offsets, HoldsType}
 use Rattle.gc_heap.specs.Content.{IsHeld, total}

@@ -9,7 +9,7 @@ use Rattle.std.specs.FinSet as finset
 use Rattle.std.proofs.lemmas.Bool.{cases_eq, cases_lt, ne_eqb, eq-eqb}
 use Rattle.gc_memory.specs.Lists.{In, occ, sum_over}
 use Rattle.gc_memory.proofs.ListLemmas.{occ-In, In-occ}
-use Rattle.gc_model.specs.Views.{HeapView, Counts}
+use Rattle.gc_view.specs.Heaps.{HeapView, Counts}
 use Rattle.gc_heap.specs.Content.{IsHeld}
 use Rattle.gc_heap.specs.Barriers.{IsNamed, is_alone, raise, lower, show, cloned, dropped, exposed, CanName, CanUnname}
 use Rattle.gc_drc.specs.declared.space.CountedSpace.{CountedSpace}

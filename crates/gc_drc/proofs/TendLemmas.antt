@@ -11,10 +11,11 @@ use Rattle.gc_memory.specs.Lists.{In, here, there, occ}
 use Rattle.gc_memory.specs.Changes.{Wrote}
 use Rattle.gc_memory.proofs.ChangeLemmas.{Wrote-put_u32, Wrote-put_u64, Wrote-within, Wrote-then, Wrote-nothing, Wrote-apart, Wrote-behind}
 use Rattle.gc_memory.proofs.WordLemmas.{word_in_same, word64_in_same, word_before, word_behind, word64_before, word64_behind, word-put_u32, word64-put_u64}
-use Rattle.gc_model.specs.Bytes.{SameBytes}
-use Rattle.gc_model.proofs.ByteLemmas.{SameBytes-part, part_in_same}
-use Rattle.gc_model.specs.Views.{HeapObject, put_u32}
-use Rattle.gc_model.specs.Allocation.{page}
+use Rattle.gc_view.specs.Bytes.{SameBytes}
+use Rattle.gc_view.proofs.ByteLemmas.{SameBytes-part, part_in_same}
+use Rattle.gc_view.specs.Bytes.{put_u32}
+use Rattle.gc_view.specs.Heaps.{HeapObject}
+use Rattle.gc_view.specs.Pages.{page}
 use Rattle.gc_drc.specs.declared.space.CountedSpace.{CountedSpace}
 use Rattle.gc_drc.specs.Layout.{count_at, size_at, block_of, flags_at, kind_of, kind_at, data_at, object_at, IsWhole}
 use Rattle.gc_drc.specs.View.{View, count_of, flags_of, Holds, ShowsObject, IsPart, Linked, last, link}

@@ -1,6 +1,6 @@
 -- The lists of a heap are threaded through its headers.
 use Rattle.std.proofs.Common.{ℕ, refl, ap, [], arith}
-use Rattle.gc_model.specs.Views.{Counts, detached_in}
+use Rattle.gc_view.specs.Heaps.{Counts, detached_in}
 use Rattle.gc_drc.specs.declared.space.CountedSpace.{CountedSpace}
 use Rattle.gc_drc.specs.View as view
 use Rattle.gc_drc.specs.Content.{seen_in, IsSoundSpace}

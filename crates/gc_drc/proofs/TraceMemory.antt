@@ -4,7 +4,7 @@ use Rattle.std.proofs.lemmas.Bool.{ne_eqb}
 use Rattle.gc_types.specs.Declarations.{Declaration}
 use Rattle.std.proofs.lemmas.List.{drop_more}
 use Rattle.gc_roots.specs.Roots.{Root, root_at, no_root}
-use Rattle.gc_model.specs.Views.{put_u32}
+use Rattle.gc_view.specs.Bytes.{put_u32}
 use Rattle.gc_memory.specs.Words.{word, word64}
 use Rattle.gc_memory.specs.Lists.{In, here, there, occ, sum_over}
 use Rattle.gc_memory.proofs.ListLemmas.{In-occ, occ-In, occ-same, sum_over-same}

@@ -1,8 +1,8 @@
 -- The words of an object are visited one by one.
 use Rattle.std.proofs.Common.{◌≡◌, ℕ, zero, suc, ◌+◌, ◌-◌, ◌*◌, ◌<◌, ◌≤◌, ◌^◌, List, [], ◌∷◌, Bool, true, false, Some, None, length, drop, get_or, refl, sym, ap, subst, ◌∙◌, arith}
 use Rattle.std.proofs.lemmas.List.{drop_more}
-use Rattle.gc_model.specs.Views.{u32_at}
-use Rattle.gc_model.proofs.ByteLemmas.{SameBytes-part}
+use Rattle.gc_view.specs.Bytes.{u32_at}
+use Rattle.gc_view.proofs.ByteLemmas.{SameBytes-part}
 use Rattle.gc_memory.specs.Words.{word}
 use Rattle.gc_memory.specs.Lists.{In, here, there}
 use Rattle.gc_memory.proofs.WordLemmas.{word-is, word_in_same}

@@ -13,12 +13,13 @@ use Rattle.gc_memory.specs.Changes.{Wrote}
 use Rattle.gc_memory.specs.Lists.{In}
 use Rattle.gc_memory.proofs.ChangeLemmas.{Wrote-within, Wrote-put_bytes, Wrote-put_u32, Wrote-behind}
 use Rattle.gc_memory.proofs.WordLemmas.{word_before, word64_before, word_behind, word64_behind, word_in_same, word-put_u32}
-use Rattle.gc_model.specs.Bytes.{put_bytes, SameBytes}
-use Rattle.gc_model.proofs.ByteLemmas.{SameBytes-part, part_in_same, part-put_bytes_inside}
-use Rattle.gc_model.specs.Views.{HeapObject, put_u32}
+use Rattle.gc_view.specs.Bytes.{put_bytes, SameBytes}
+use Rattle.gc_view.proofs.ByteLemmas.{SameBytes-part, part_in_same, part-put_bytes_inside}
+use Rattle.gc_view.specs.Bytes.{put_u32}
+use Rattle.gc_view.specs.Heaps.{HeapObject}
 use Rattle.gc_heap.specs.Objects.{first_offset, writable_offset, IsObjectKind}
 use Rattle.gc_heap.specs.Heap.{IsWritable, with_data, with_spare_of, put_object}
-use Rattle.gc_model.specs.Allocation.{page}
+use Rattle.gc_view.specs.Pages.{page}
 use Rattle.gc_drc.specs.declared.space.CountedSpace.{CountedSpace}
 use Rattle.gc_drc.specs.Layout.{count_at, size_at, block_of, flags_at, kind_of, kind_at, data_at, object_at, IsWhole}
 use Rattle.gc_drc.specs.View.{View, count_of, flags_of, Holds, ShowsObject}

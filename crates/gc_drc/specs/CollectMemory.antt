@@ -8,14 +8,14 @@ use Rattle.gc_types.specs.declared.layout.TraceInfo.TheVariants as trace
 use Rattle.gc_types.specs.Declarations.{Declaration}
 use Rattle.gc_types.specs.Layouts.{trace_at}
 use Rattle.gc_refs.specs.Header.{IsOfKind}
-use Rattle.gc_model.specs.Bytes.{SameBytes}
+use Rattle.gc_view.specs.Bytes.{SameBytes}
 use Rattle.gc_memory.specs.Words.{word}
 use Rattle.gc_memory.specs.Lists.{In, occ}
 use Rattle.gc_heap.specs.References.{word_offsets}
 use Rattle.gc_drc.specs.declared.space.CountedSpace.{CountedSpace}
 use Rattle.gc_free.specs.Runs.{run}
 use Rattle.gc_free.specs.Space.{IsSound, give}
-use Rattle.gc_model.specs.Views.{put_u32}
+use Rattle.gc_view.specs.Bytes.{put_u32}
 use Rattle.gc_drc.specs.Layout.{size_at, block_of, kind_at, IsExternalAt}
 use Rattle.gc_drc.specs.CollectLists.{onto, front}
 use Rattle.gc_drc.specs.View.{View, Holds, count_of}

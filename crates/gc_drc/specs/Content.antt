@@ -3,7 +3,7 @@ use Rattle.std.specs.Prelude.{◌≡◌, ℕ, ◌-◌, ◌/◌, ◌%◌, true, n
 use Rattle.std.specs.Ordering.{nat_cmp}
 use Rattle.std.specs.FinMap as finite
 use Rattle.std.specs.FinSet as finset
-use Rattle.gc_model.specs.Views.{HeapView, Counts, detached_in}
+use Rattle.gc_view.specs.Heaps.{HeapView, Counts, detached_in}
 use Rattle.gc_free.specs.declared.run.Run.{Run}
 use Rattle.gc_drc.specs.declared.space.CountedSpace.{CountedSpace}
 use Rattle.gc_drc.specs.Layout.{count_at, flags_at, object_at}

@@ -1,7 +1,7 @@
 -- A collection of a counting heap begins.
 use Rattle.std.proofs.Common.{◌≡◌, ℕ, refl, sym, ap, subst, ◌∙◌}
 use Rattle.gc_types.specs.declared.kind.Layouts.TheVariants.{Counting}
-use Rattle.gc_model.specs.Views.{HeapView}
+use Rattle.gc_view.specs.Heaps.{HeapView}
 use Rattle.gc_heap.specs.Collection.{Start, CanCollect}
 use Rattle.gc_drc.specs.declared.collection.DrcCollection.{DrcCollection}
 use Rattle.gc_drc.specs.declared.collect.phase.Phase.{Phase}

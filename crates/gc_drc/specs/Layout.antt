@@ -8,8 +8,8 @@ use Rattle.gc_types.specs.Layouts.{round_up}
 use Rattle.gc_refs.specs.Header.{spare_bits, kind_part, IsOfKind}
 use Rattle.gc_tables.specs.SideTables.{max_entries}
 use Rattle.gc_memory.specs.Words.{word, word64}
-use Rattle.gc_model.specs.Sizes.{alignment}
-use Rattle.gc_model.specs.Views.{HeapObject}
+use Rattle.gc_view.specs.Sizes.{alignment}
+use Rattle.gc_view.specs.Heaps.{HeapObject}
 use Rattle.gc_heap.specs.Objects.{first_offset, IsObjectKind}
 
 -- the count word of the object at a place, its size, and the bytes of its block

@@ -10,7 +10,7 @@ use Rattle.std.specs.FinSet as finset
 use Rattle.std.proofs.lemmas.Bool.{cases_eq, cases_lt, ne_eqb, eq-eqb}
 use Rattle.gc_memory.specs.Lists.{In, here, there, sum_over, occ}
 use Rattle.gc_memory.proofs.ListLemmas.{occ-In, In-occ}
-use Rattle.gc_model.specs.Views.{HeapObject}
+use Rattle.gc_view.specs.Heaps.{HeapObject}
 use Rattle.gc_free.specs.Runs.{IsSpread}
 use Rattle.gc_heap.specs.Content.{total}
 use Rattle.gc_heap.specs.Totals.{total-empty, total-insert, len_with}

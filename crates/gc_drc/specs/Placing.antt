@@ -4,12 +4,12 @@ use Rattle.gc_types.specs.declared.kind.Layouts.TheVariants.{Counting}
 use Rattle.gc_refs.specs.Header.{Header}
 use Rattle.gc_memory.specs.Words.{word}
 use Rattle.gc_memory.specs.Changes.{Wrote}
-use Rattle.gc_model.specs.Views.{HeapObject}
+use Rattle.gc_view.specs.Heaps.{HeapObject}
 use Rattle.gc_free.specs.Runs.{run, insert_run}
 use Rattle.gc_free.specs.Space.{IsSound, free_runs}
 use Rattle.gc_free.specs.Space as free_list
 use Rattle.gc_heap.specs.Heap.{IsTooLarge}
-use Rattle.gc_model.specs.Sizes.{need_of}
+use Rattle.gc_view.specs.Sizes.{need_of}
 use Rattle.gc_heap.specs.declared.heap.HeapFault.{HeapFault}
 use Rattle.gc_heap.specs.declared.heap.HeapFault.TheVariants as fault
 use Rattle.gc_drc.specs.declared.space.CountedSpace.{CountedSpace}

@@ -5,7 +5,7 @@ use Rattle.std.specs.FinMap as finite
 use Rattle.gc_types.specs.declared.kind.Layouts.TheVariants.{Counting}
 use Rattle.gc_types.specs.Declarations.{Declaration}
 use Rattle.gc_roots.specs.Roots.{Root}
-use Rattle.gc_model.specs.Views.{HeapObject, HeapView}
+use Rattle.gc_view.specs.Heaps.{HeapObject, HeapView}
 use Rattle.gc_heap.specs.Objects.{host_id}
 use Rattle.gc_heap.specs.References.{references}
 use Rattle.gc_heap.specs.Content.{IsHeld}

@@ -11,7 +11,7 @@ use Rattle.gc_types.specs.declared.kind.VMGcKind.{VMGcKind}
 use Rattle.gc_types.specs.declared.kind.VMGcKind.TheVariants.{ExternRef, AnyRef, EqRef, StructRef, ArrayRef, ExnRef}
 use Rattle.gc_memory.specs.Lists.{In, here, there, sum_over, occ}
 use Rattle.gc_memory.proofs.ListLemmas.{occ-In, In-occ, sum_over-same, sum_over-le}
-use Rattle.gc_model.specs.Views.{HeapObject, detached_in}
+use Rattle.gc_view.specs.Heaps.{HeapObject, detached_in}
 use Rattle.gc_free.specs.Runs.{IsSpread}
 use Rattle.gc_free.specs.Space.{places_end, AllAligned}
 use Rattle.gc_heap.specs.Objects.{held_size, size_with, first_offset, data_offset}

@@ -1,7 +1,7 @@
 -- A counting heap by its fields: what is seen of it, and how it is outside a collection and while its
 -- memory is out.
 use Rattle.std.specs.Prelude.{◌≡◌, ℕ, ◌<◌, ◌^◌, List}
-use Rattle.gc_model.specs.Views.{HeapView, detached_in}
+use Rattle.gc_view.specs.Heaps.{HeapView, detached_in}
 use Rattle.gc_drc.specs.declared.heap.DrcHeap.{DrcHeap}
 use Rattle.gc_drc.specs.declared.heap.Backing.{Backing}
 use Rattle.gc_drc.specs.declared.heap.Backing.TheVariants as backing

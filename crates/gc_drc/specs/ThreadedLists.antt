@@ -4,7 +4,7 @@ use Rattle.std.specs.Ordering.{nat_cmp}
 use Rattle.std.specs.FinSet as finset
 use Rattle.std.specs.FinSet.{FinSet}
 use Rattle.gc_memory.specs.Lists.{occ}
-use Rattle.gc_model.specs.Views.{HeapView}
+use Rattle.gc_view.specs.Heaps.{HeapView}
 use Rattle.gc_drc.specs.View.{Linked}
 
 -- Exactly these places, each once, are linked through the word at an offset of each, from a first one on; the last

@@ -2,7 +2,7 @@
 use Rattle.std.specs.Prelude.{◌≡◌, ℕ, ◌+◌, ◌*◌, ◌%◌, ◌<◌, ◌≤◌, List, [], ◌∷◌, map, length}
 use Rattle.gc_memory.specs.Words.{word}
 use Rattle.gc_memory.specs.Lists.{In, occ, sum_over}
-use Rattle.gc_model.specs.Allocation.{page, max_pages}
+use Rattle.gc_view.specs.Pages.{page, max_pages}
 use Rattle.gc_free.specs.declared.run.Run.{Run}
 use Rattle.gc_free.specs.Runs.{run}
 use Rattle.gc_free.specs.Space.{IsSound}

@@ -1,7 +1,7 @@
 //! A client of any heap, over the counting heap.
 
 ghost use Rattle.std.specs.Prelude.{Bool, ◌≡◌, OnOk};
-ghost use Rattle.gc_model.specs.Views.{detached_in};
+ghost use Rattle.gc_view.specs.Heaps.{detached_in};
 ghost use Rattle.gc_heap.specs.Heap.{empty_heap};
 ghost use Rattle.gc_heap.specs.Collection.{Start, has_host};
 

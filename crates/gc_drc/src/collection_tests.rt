@@ -4,7 +4,7 @@ ghost use Rattle.std.specs.Prelude.{◌≡◌, ◌<◌, ◌≤◌, ◌^◌, ℕ,
 ghost use Rattle.std.specs.Int.{w32};
 ghost use Rattle.gc_types.specs.declared.kind.Layouts.TheVariants.{Counting};
 ghost use Rattle.gc_refs.specs.LittleEndian.{unsigned_bytes};
-ghost use Rattle.gc_model.specs.Views.{detached_in};
+ghost use Rattle.gc_view.specs.Heaps.{detached_in};
 ghost use Rattle.gc_heap.specs.Objects.{external};
 ghost use Rattle.gc_heap.specs.Heap.{AddsObject, empty_heap, with_object, new_struct, with_data, put_object};
 ghost use Rattle.gc_heap.specs.Barriers.{dropped};

@@ -3,7 +3,7 @@
 ghost use Rattle.std.specs.Prelude.{ℕ, ◌≡◌, ◌*◌, ◌%◌, ◌≤◌, length, IfOk, IfErr};
 ghost use Rattle.gc_heap.specs.Heap.{empty_heap};
 ghost use Rattle.gc_types.specs.declared.kind.Layouts.TheVariants.{Counting};
-ghost use Rattle.gc_model.specs.Allocation.{page, max_pages};
+ghost use Rattle.gc_view.specs.Pages.{page, max_pages};
 ghost use Rattle.gc_free.specs.Space.{grow, IsSound};
 ghost use Rattle.gc_drc.specs.Content.{IsSoundSpace, seen_in};
 

@@ -14,7 +14,7 @@
 ghost use Rattle.std.specs.Prelude.{ℕ, ◌≡◌, ◌≤◌, ◌<◌, ◌+◌};
 ghost use Rattle.std.specs.Option.{option_copied};
 ghost use Rattle.gc_types.specs.declared.kind.Layouts.TheVariants.{Counting};
-ghost use Rattle.gc_model.specs.Views.{detached_in};
+ghost use Rattle.gc_view.specs.Heaps.{detached_in};
 ghost use Rattle.gc_heap.specs.Barriers.{CanName, CanUnname, CanNameSlot, CanUnnameSlot, cloned, dropped, copied, emptied};
 ghost use Rattle.gc_heap.specs.Collection.{Start, has_host, IsPartOf, Collected, Stepped};
 ghost use Rattle.gc_drc.specs.States.{drc_seen, IsDrcSound};
@@ -173,7 +173,7 @@ impl GcHeap for DrcHeap {
     ghost use Rattle.std.specs.Prelude.{ℕ, ◌≡◌, Some, length, take, drop};
     ghost use Rattle.std.specs.FinMap as finite;
     ghost use Rattle.gc_types.specs.declared.kind.Layouts.TheVariants.{Counting};
-    ghost use Rattle.gc_model.specs.Views.{HeapObject};
+    ghost use Rattle.gc_view.specs.Heaps.{HeapObject};
     ghost use Rattle.gc_heap.specs.Objects.{held_size, IsObjectData};
     ghost use Rattle.gc_heap.specs.Barriers.{ShowsCount};
     ghost use Rattle.gc_drc.specs.ThreadedLists.{ThreadsLists};

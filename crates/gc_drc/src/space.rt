@@ -10,7 +10,7 @@
 //! The block of an object in the free list is its size to the next multiple of 16.
 
 ghost use Rattle.std.specs.Prelude.{◌≡◌, ◌+◌, ◌/◌, ◌%◌, ◌≤◌, length, nat_eq};
-ghost use Rattle.gc_model.specs.Views.{put_u32};
+ghost use Rattle.gc_view.specs.Bytes.{put_u32};
 ghost use Rattle.gc_memory.specs.Words.{word, word64, put_u64};
 
 use gc_free::FreeList;

@@ -5,7 +5,7 @@ ghost use Rattle.gc_types.specs.declared.types.Types.{Types};
 ghost use Rattle.gc_types.specs.declared.kind.Layouts.TheVariants.{Counting};
 ghost use Rattle.gc_types.specs.Declarations.{Declaration};
 ghost use Rattle.gc_types.specs.Layouts.{layout_at};
-ghost use Rattle.gc_model.specs.Views.{detached_in};
+ghost use Rattle.gc_view.specs.Heaps.{detached_in};
 ghost use Rattle.gc_heap.specs.Collection.{CanCollect};
 ghost use Rattle.gc_drc.specs.States.{IsDrcSound, drc_seen};
 

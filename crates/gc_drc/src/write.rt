@@ -4,7 +4,7 @@ ghost use Rattle.std.specs.Prelude.{ℕ, ◌≡◌, ◌+◌, ◌%◌, length, So
 ghost use Rattle.std.specs.FinMap as finite;
 ghost use Rattle.gc_types.specs.declared.kind.Layouts.TheVariants.{Counting};
 ghost use Rattle.gc_refs.specs.Header.{spare_bits};
-ghost use Rattle.gc_model.specs.Views.{HeapObject};
+ghost use Rattle.gc_view.specs.Heaps.{HeapObject};
 ghost use Rattle.gc_heap.specs.Heap.{IsWritable, IsSameHeader, with_data, with_spare_of, put_object};
 ghost use Rattle.gc_heap.specs.Barriers.{IsNamed};
 ghost use Rattle.gc_drc.specs.Content.{IsSoundSpace, seen_in};

@@ -8,7 +8,7 @@ use Rattle.gc_types.specs.declared.kind.VMGcKind.TheVariants.{ExternRef, AnyRef,
 use Rattle.gc_types.specs.Layouts.{struct_base}
 use Rattle.gc_refs.specs.Views.{part_of, Reads}
 use Rattle.gc_refs.specs.declared.fault.DataFault.{DataFault}
-use Rattle.gc_model.specs.Views.{HeapObject, HeapView}
+use Rattle.gc_view.specs.Heaps.{HeapObject, HeapView}
 use Rattle.gc_heap.specs.Objects.{held_size, size_with, data_offset, HasFields, IsObjectData}
 use Rattle.gc_heap.specs.Access.{IsReadable, data_part, ReadsData}
 

@@ -20,8 +20,9 @@ use Rattle.gc_refs.specs.Trace.{form_of}
 use Rattle.gc_roots.specs.Roots.{Root, root}
 use Rattle.gc_memory.specs.Lists.{In, here, there}
 use Rattle.gc_memory.specs.Offsets.{stored_size, external_size}
-use Rattle.gc_model.specs.Views.{HeapObject, HeapView, u32_at}
-use Rattle.gc_model.proofs.Content.{get-put_same, get-put_other}
+use Rattle.gc_view.specs.Bytes.{u32_at}
+use Rattle.gc_view.specs.Heaps.{HeapObject, HeapView}
+use Rattle.gc_view.proofs.Content.{get-put_same, get-put_other}
 use Rattle.gc_heap.specs.Objects.{held_size, zeroed, zeroed_array, external, host_id, array_length}
 use Rattle.gc_heap.specs.References.{reference_offsets, typed_offsets, traced_offsets, word_offsets, references, word_in, IsTyped, HoldsType, struct_spare, array_spare}
 use Rattle.gc_heap.specs.Content.{IsHeld}

@@ -11,9 +11,10 @@ use Rattle.gc_types.specs.Declarations.{Declaration}
 use Rattle.gc_types.specs.Layouts.{struct_base, array_base}
 use Rattle.gc_roots.specs.Roots.{Root}
 use Rattle.gc_memory.specs.Lists.{In, here, there}
-use Rattle.gc_model.specs.Views.{HeapObject, HeapView, u32_at}
-use Rattle.gc_model.specs.Bytes.{SameBytes}
-use Rattle.gc_model.proofs.ByteLemmas.{u32_in_same}
+use Rattle.gc_view.specs.Bytes.{u32_at}
+use Rattle.gc_view.specs.Heaps.{HeapObject, HeapView}
+use Rattle.gc_view.specs.Bytes.{SameBytes}
+use Rattle.gc_view.proofs.ByteLemmas.{u32_in_same}
 use Rattle.gc_heap.specs.Objects.{held_size, writable_offset, array_length, host_id}
 use Rattle.gc_heap.specs.References.{reference_offsets, typed_offsets, references, word_in}
 use Rattle.gc_heap.specs.Content.{IsHeld, IsHeap, IsSpare, TracesInside}

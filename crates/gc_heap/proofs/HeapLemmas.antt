@@ -4,8 +4,8 @@ use Rattle.std.specs.FinMap as finite
 use Rattle.std.proofs.lemmas.List.{length-replicate}
 use Rattle.gc_types.specs.declared.kind.Layouts.{Layouts}
 use Rattle.gc_types.specs.declared.kind.Layouts.TheVariants.{Null}
-use Rattle.gc_model.specs.Views.{HeapView}
-use Rattle.gc_model.proofs.Content.{get-put_same}
+use Rattle.gc_view.specs.Heaps.{HeapView}
+use Rattle.gc_view.proofs.Content.{get-put_same}
 use Rattle.gc_heap.specs.Objects.{zeroed}
 use Rattle.gc_heap.specs.Heap.{AddsObject, IsWritable, exn_or_struct}
 

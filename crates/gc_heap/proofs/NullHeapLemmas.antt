@@ -16,11 +16,12 @@ use Rattle.gc_types.specs.Kinds.{kind_bits}
 use Rattle.gc_types.specs.Layouts.{round_up}
 use Rattle.gc_refs.specs.Header.{Header, spare_bits}
 use Rattle.gc_refs.specs.declared.fault.RefFault.{RefFault}
-use Rattle.gc_model.specs.Sizes.{alignment}
-use Rattle.gc_model.specs.Allocation.{page, max_pages}
-use Rattle.gc_model.specs.Bytes.{put_bytes}
-use Rattle.gc_model.specs.Views.{Counts, no_counts, HeapObject, HeapView, Counts, no_counts, u32_at}
-use Rattle.gc_model.proofs.ByteLemmas.{u32_at-part}
+use Rattle.gc_view.specs.Sizes.{alignment}
+use Rattle.gc_view.specs.Pages.{page, max_pages}
+use Rattle.gc_view.specs.Bytes.{put_bytes}
+use Rattle.gc_view.specs.Bytes.{u32_at}
+use Rattle.gc_view.specs.Heaps.{Counts, no_counts, HeapObject, HeapView, Counts, no_counts}
+use Rattle.gc_view.proofs.ByteLemmas.{u32_at-part}
 use Rattle.gc_heap.specs.Objects.{held_size, size_with, first_offset, data_offset, external, IsHeaderOf, IsObjectData}
 use Rattle.gc_heap.specs.Heap.{grown, put_object, with_data, IsWritable}
 use Rattle.gc_heap.specs.Barriers.{cloned, dropped, exposed, copied, emptied, overwritten, raise, lower, show}

@@ -14,16 +14,17 @@ use Rattle.gc_types.specs.declared.kind.Layouts.TheVariants.{Null}
 use Rattle.gc_types.specs.Kinds.{kind_bits}
 use Rattle.gc_types.specs.Layouts.{round_up}
 use Rattle.gc_refs.specs.Header.{spare_bits, kind_part, IsOfKind}
-use Rattle.gc_model.specs.Sizes.{alignment}
-use Rattle.gc_model.specs.Allocation.{page, max_pages}
-use Rattle.gc_model.specs.Views.{HeapObject, u32_at, put_u32}
-use Rattle.gc_model.specs.Bytes.{put_bytes, SameBytes}
+use Rattle.gc_view.specs.Sizes.{alignment}
+use Rattle.gc_view.specs.Pages.{page, max_pages}
+use Rattle.gc_view.specs.Bytes.{u32_at, put_u32}
+use Rattle.gc_view.specs.Heaps.{HeapObject}
+use Rattle.gc_view.specs.Bytes.{put_bytes, SameBytes}
 use Rattle.gc_heap.specs.Objects.{held_size, first_offset, writable_offset, IsObjectKind}
 use Rattle.gc_heap.specs.Heap.{IsWritable, with_data, put_object, AddsObject}
 use Rattle.gc_heap.specs.NullWalk.{first_place, kind_of, size_at, object_at, place_after, entries, IsHost, LiesAt, Follow, data_with, word_end, placed, PlacesObject}
 use Rattle.gc_heap.specs.NullStates.{bump_view, IsBumped}
 use Rattle.gc_heap.specs.NullWalkLaws.{first_least, least, spare_is, object_bytes, length-object, held_is, LiesAmong, some_is, found_lies, find_behind}
-use Rattle.gc_model.proofs.ByteLemmas.{SameBytes-part, SameBytes-then, u32_in_same, part_in_same, length-put_bytes, put_bytes-below, put_bytes-above, part-put_bytes, part-put_bytes_inside, u32_at-put_u32}
+use Rattle.gc_view.proofs.ByteLemmas.{SameBytes-part, SameBytes-then, u32_in_same, part_in_same, length-put_bytes, put_bytes-below, put_bytes-above, part-put_bytes, part-put_bytes_inside, u32_at-put_u32}
 use Rattle.gc_heap.proofs.NullWalkLemmas.{size_in_same, kind_in_same, ty_in_same, same_object, lies_in_header, follow_in_same, follow_push, rewritten}
 
 -- what is held lies in the memory

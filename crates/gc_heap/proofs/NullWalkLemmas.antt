@@ -10,12 +10,12 @@ use Rattle.gc_types.specs.declared.kind.VMGcKind.TheVariants.{ExternRef}
 use Rattle.gc_types.specs.Kinds.{kind_bits}
 use Rattle.gc_types.specs.Layouts.{round_up}
 use Rattle.gc_refs.specs.Header.{spare_bits, kind_part}
-use Rattle.gc_model.specs.Sizes.{alignment}
-use Rattle.gc_model.specs.Views.{HeapObject}
+use Rattle.gc_view.specs.Sizes.{alignment}
+use Rattle.gc_view.specs.Heaps.{HeapObject}
 use Rattle.gc_heap.specs.Objects.{first_offset, IsObjectKind}
 use Rattle.gc_heap.specs.NullWalk.{kind_of, size_at, object_at, place_after, entries, IsHost, LiesAt, Follow}
-use Rattle.gc_model.specs.Bytes.{SameBytes}
-use Rattle.gc_model.proofs.ByteLemmas.{SameBytes-part, part_in_same, u32_in_same}
+use Rattle.gc_view.specs.Bytes.{SameBytes}
+use Rattle.gc_view.proofs.ByteLemmas.{SameBytes-part, part_in_same, u32_in_same}
 use Rattle.gc_heap.specs.NullWalkLaws.{least, follow_bounds, find_other, found_lies, spare_is}
 
 pub size_in_same : (a b : List ℕ) (p : ℕ) → SameBytes a b p (p + 8) → size_at b p ≡ size_at a p

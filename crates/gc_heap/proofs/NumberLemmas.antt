@@ -17,10 +17,10 @@ use Rattle.gc_types.specs.Layouts.{struct_base}
 use Rattle.gc_refs.specs.LittleEndian.{unsigned_at}
 use Rattle.gc_refs.specs.Views.{part_of}
 use Rattle.gc_roots.specs.Roots.{Root, root, root_at}
-use Rattle.gc_model.specs.Views.{HeapObject, HeapView}
-use Rattle.gc_model.proofs.Content.{get-put_same}
-use Rattle.gc_model.proofs.ByteLemmas.{length-put_bytes, part-put_bytes}
-use Rattle.gc_model.specs.Sizes.{stored_size}
+use Rattle.gc_view.specs.Heaps.{HeapObject, HeapView}
+use Rattle.gc_view.proofs.Content.{get-put_same}
+use Rattle.gc_view.proofs.ByteLemmas.{length-put_bytes, part-put_bytes}
+use Rattle.gc_view.specs.Sizes.{stored_size}
 use Rattle.gc_heap.specs.Objects.{held_size, size_with, writable_offset, HasFields}
 use Rattle.gc_heap.specs.References.{struct_spare}
 use Rattle.gc_heap.specs.Heap.{AddsObject, IsWritable, with_data, put_object, layout_kind, exn_or_struct, new_struct}

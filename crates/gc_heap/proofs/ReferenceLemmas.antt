@@ -17,7 +17,7 @@ use Rattle.gc_types.specs.Declarations.{Declaration, Shape, struct_of, array_of,
 use Rattle.gc_types.specs.Layouts.{struct_base, exception_base, array_base, round_up, trace_at, ref_offsets, field_layouts, fields_end, is_gc_storage, storage_width, array_layout, shape_layout, shape_trace, declaration_layout, declaration_trace, layout_at, array_layout_at}
 use Rattle.gc_refs.specs.Trace.{form_of}
 use Rattle.gc_memory.specs.Lists.{In}
-use Rattle.gc_model.specs.Views.{HeapObject}
+use Rattle.gc_view.specs.Heaps.{HeapObject}
 use Rattle.gc_heap.specs.Objects.{held_size, size_with, array_length, writable_offset, HasFields}
 use Rattle.gc_heap.specs.References.{bit_offsets, word_offsets, bitmap_offsets, element_offsets, info_offsets, typed_offsets, traced_offsets, reference_offsets, IsTyped, HoldsType, HoldsLayout, HoldsArrayLayout}
 use Rattle.gc_heap.specs.Content.{TracesInside, IsSpare}

@@ -11,7 +11,7 @@ use Rattle.gc_types.specs.declared.kind.Layouts.{Layouts}
 use Rattle.gc_types.specs.declared.kind.Layouts.TheVariants.{Null, Counting, Copying}
 use Rattle.gc_types.specs.Declarations.{Declaration}
 use Rattle.gc_roots.specs.Roots.{Root, root}
-use Rattle.gc_model.specs.Views.{HeapObject, HeapView, Counts}
+use Rattle.gc_view.specs.Heaps.{HeapObject, HeapView, Counts}
 use Rattle.gc_heap.specs.References.{references}
 use Rattle.gc_heap.specs.Content.{total, IsHeld, IsHeap}
 use Rattle.gc_heap.specs.Barriers.{raise, lower, show, cloned, dropped, exposed}

@@ -10,7 +10,7 @@ use Rattle.gc_types.specs.Declarations.{Declaration}
 use Rattle.gc_types.specs.Layouts.{struct_base}
 use Rattle.gc_roots.specs.Roots.{Root}
 use Rattle.gc_memory.specs.Lists.{In, here, there}
-use Rattle.gc_model.specs.Views.{HeapObject, HeapView, Counts}
+use Rattle.gc_view.specs.Heaps.{HeapObject, HeapView, Counts}
 use Rattle.gc_heap.specs.Objects.{held_size, writable_offset, HasFields}
 use Rattle.gc_heap.specs.References.{reference_offsets, references, word_in}
 use Rattle.gc_heap.specs.Content.{total, IsHeld, IsHeap}

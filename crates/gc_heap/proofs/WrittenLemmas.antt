@@ -12,10 +12,11 @@ use Rattle.gc_types.specs.Declarations.{Declaration}
 use Rattle.gc_types.specs.Layouts.{struct_base, array_base}
 use Rattle.gc_roots.specs.Roots.{Root}
 use Rattle.gc_memory.specs.Lists.{In}
-use Rattle.gc_model.specs.Views.{HeapObject, HeapView, u32_at}
-use Rattle.gc_model.specs.Bytes.{put_bytes}
-use Rattle.gc_model.proofs.Content.{get-put_same, get-put_other}
-use Rattle.gc_model.proofs.ByteLemmas.{u32_in_same, length-put_bytes, put_bytes-below, put_bytes-above, part-put_bytes}
+use Rattle.gc_view.specs.Bytes.{u32_at}
+use Rattle.gc_view.specs.Heaps.{HeapObject, HeapView}
+use Rattle.gc_view.specs.Bytes.{put_bytes}
+use Rattle.gc_view.proofs.Content.{get-put_same, get-put_other}
+use Rattle.gc_view.proofs.ByteLemmas.{u32_in_same, length-put_bytes, put_bytes-below, put_bytes-above, part-put_bytes}
 use Rattle.gc_heap.specs.Objects.{held_size, size_with, writable_offset, array_length, HasFields, IsObjectKind}
 use Rattle.gc_heap.specs.References.{reference_offsets, references, word_in, IsTyped}
 use Rattle.gc_heap.specs.Content.{IsHeld, IsHeap, IsSpare}

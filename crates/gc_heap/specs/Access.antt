@@ -4,7 +4,7 @@ use Rattle.std.specs.FinMap as finite
 use Rattle.gc_types.specs.declared.kind.Layouts.{Layouts}
 use Rattle.gc_types.specs.Layouts.{struct_base}
 use Rattle.gc_refs.specs.Views.{part_of}
-use Rattle.gc_model.specs.Views.{HeapObject, HeapView}
+use Rattle.gc_view.specs.Heaps.{HeapObject, HeapView}
 use Rattle.gc_heap.specs.Objects.{held_size, HasFields}
 use Rattle.gc_heap.specs.Heap.{with_data, put_object}
 

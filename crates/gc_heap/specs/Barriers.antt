@@ -6,7 +6,8 @@ use Rattle.std.specs.FinSet.{FinSet}
 use Rattle.std.specs.Ordering.{nat_cmp}
 use Rattle.gc_memory.specs.Words.{u64_at}
 use Rattle.gc_memory.specs.Offsets.{count_offset}
-use Rattle.gc_model.specs.Views.{HeapView, Counts, u32_at}
+use Rattle.gc_view.specs.Bytes.{u32_at}
+use Rattle.gc_view.specs.Heaps.{HeapView, Counts}
 use Rattle.gc_heap.specs.Content.{IsHeld}
 
 -- a word that a barrier may be given: a 31-bit number, or the place of a held object

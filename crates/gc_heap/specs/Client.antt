@@ -8,7 +8,7 @@ use Rattle.gc_types.specs.declared.layout.GcStructLayout.{GcStructLayout}
 use Rattle.gc_types.specs.Declarations.{Declaration}
 use Rattle.gc_types.specs.Layouts.{struct_base, layout_at, ref_offsets}
 use Rattle.gc_refs.specs.LittleEndian.{unsigned_at}
-use Rattle.gc_model.specs.Views.{HeapObject, HeapView}
+use Rattle.gc_view.specs.Heaps.{HeapObject, HeapView}
 use Rattle.gc_heap.specs.Objects.{held_size}
 use Rattle.gc_heap.specs.References.{struct_spare}
 use Rattle.gc_heap.specs.Heap.{IsNewPlace, LacksRoom, IsTooLarge, counts_with}

@@ -10,7 +10,7 @@ use Rattle.gc_types.specs.declared.kind.VMGcKind.TheVariants.{ExternRef}
 use Rattle.gc_types.specs.Declarations.{Declaration}
 use Rattle.gc_types.specs.Layouts.{struct_base}
 use Rattle.gc_roots.specs.Roots.{Root}
-use Rattle.gc_model.specs.Views.{HeapObject, HeapView}
+use Rattle.gc_view.specs.Heaps.{HeapObject, HeapView}
 use Rattle.gc_heap.specs.Objects.{host_id}
 use Rattle.gc_heap.specs.References.{reference_offsets, references, word_in, IsTyped}
 use Rattle.gc_heap.specs.Content.{IsHeld, total}

@@ -8,9 +8,9 @@ use Rattle.gc_types.specs.declared.kind.Layouts.TheVariants.{Null, Counting, Cop
 use Rattle.gc_types.specs.declared.kind.VMGcKind.{VMGcKind}
 use Rattle.gc_types.specs.declared.kind.VMGcKind.TheVariants.{ExternRef, AnyRef, EqRef, StructRef, ArrayRef, ExnRef}
 use Rattle.gc_types.specs.Layouts.{round_up, array_base}
-use Rattle.gc_model.specs.Sizes.{alignment}
-use Rattle.gc_model.specs.Allocation.{page, max_pages}
-use Rattle.gc_model.specs.Views.{HeapObject, HeapView, no_counts, detached_in}
+use Rattle.gc_view.specs.Sizes.{alignment}
+use Rattle.gc_view.specs.Pages.{page, max_pages}
+use Rattle.gc_view.specs.Heaps.{HeapObject, HeapView, no_counts, detached_in}
 use Rattle.gc_heap.specs.Objects.{held_size, first_offset, data_offset, array_length, IsObjectKind}
 use Rattle.gc_heap.specs.References.{IsTraceWord}
 

@@ -11,9 +11,9 @@ use Rattle.gc_types.specs.declared.layout.GcArrayLayout.{GcArrayLayout}
 use Rattle.gc_types.specs.Layouts.{struct_base, ref_offsets, round_up}
 use Rattle.gc_types.specs.Kinds.{kind_bits}
 use Rattle.gc_refs.specs.Header.{Header, spare_bits, kind_part, IsOfKind}
-use Rattle.gc_model.specs.Sizes.{alignment, need_of}
-use Rattle.gc_model.specs.Bytes.{put_bytes}
-use Rattle.gc_model.specs.Views.{HeapObject, HeapView, Counts, detached_in}
+use Rattle.gc_view.specs.Sizes.{alignment, need_of}
+use Rattle.gc_view.specs.Bytes.{put_bytes}
+use Rattle.gc_view.specs.Heaps.{HeapObject, HeapView, Counts, detached_in}
 use Rattle.gc_heap.specs.Objects.{held_size, first_offset, zeroed, zeroed_array, writable_offset, HasFields}
 use Rattle.gc_heap.specs.References.{struct_spare, array_spare, SpareFits}
 use Rattle.gc_heap.specs.Content.{total, block_size, half_of, half_start}

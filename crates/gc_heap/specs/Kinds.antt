@@ -6,7 +6,7 @@ use Rattle.gc_types.specs.declared.kind.VMGcKind.{VMGcKind}
 use Rattle.gc_types.specs.declared.kind.VMGcKind.TheVariants.{AnyRef}
 use Rattle.gc_types.specs.Kinds.{IsKindOf}
 use Rattle.gc_refs.specs.Header.{Header}
-use Rattle.gc_model.specs.Views.{HeapObject, HeapView}
+use Rattle.gc_view.specs.Heaps.{HeapObject, HeapView}
 use Rattle.gc_heap.specs.Objects.{IsHeaderOf}
 
 -- The answer of a test of a word: of a 31-bit number it is this one, and of a held object it is true

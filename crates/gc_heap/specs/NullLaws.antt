@@ -8,8 +8,8 @@ use Rattle.gc_types.specs.declared.kind.Layouts.TheVariants.{Null}
 use Rattle.gc_types.specs.declared.kind.VMGcKind.{VMGcKind}
 use Rattle.gc_types.specs.declared.kind.VMGcKind.TheVariants.{ExternRef, AnyRef, EqRef, StructRef, ArrayRef, ExnRef}
 use Rattle.gc_types.specs.Layouts.{round_up}
-use Rattle.gc_model.specs.Sizes.{alignment}
-use Rattle.gc_model.specs.Views.{HeapObject, detached_in}
+use Rattle.gc_view.specs.Sizes.{alignment}
+use Rattle.gc_view.specs.Heaps.{HeapObject, detached_in}
 use Rattle.gc_heap.specs.Objects.{held_size, data_offset}
 use Rattle.gc_heap.specs.Content.{total, LiesAtPlace, IsHeap}
 use Rattle.gc_heap.specs.Totals.{total-empty}

@@ -7,9 +7,9 @@ use Rattle.gc_types.specs.declared.kind.Layouts.TheVariants.{Null}
 use Rattle.gc_types.specs.Declarations.{Declaration}
 use Rattle.gc_types.specs.Layouts.{round_up}
 use Rattle.gc_roots.specs.Roots.{Root}
-use Rattle.gc_model.specs.Allocation.{page, max_pages}
-use Rattle.gc_model.specs.Sizes.{alignment}
-use Rattle.gc_model.specs.Views.{HeapObject, HeapView, detached_in}
+use Rattle.gc_view.specs.Pages.{page, max_pages}
+use Rattle.gc_view.specs.Sizes.{alignment}
+use Rattle.gc_view.specs.Heaps.{HeapObject, HeapView, detached_in}
 use Rattle.gc_heap.specs.Objects.{held_size}
 use Rattle.gc_heap.specs.Collection.{Start, CanCollect}
 use Rattle.gc_heap.specs.NullWalk.{first_place, entries, Follow}

@@ -9,9 +9,10 @@ use Rattle.gc_types.specs.Kinds.{kind_bits}
 use Rattle.gc_types.specs.Layouts.{round_up}
 use Rattle.gc_refs.specs.Header.{Header, spare_bits, kind_part, IsOfKind}
 use Rattle.gc_tables.specs.SideTables.{max_entries}
-use Rattle.gc_model.specs.Sizes.{alignment}
-use Rattle.gc_model.specs.Views.{HeapObject, u32_at}
-use Rattle.gc_model.specs.Bytes.{SameBytes}
+use Rattle.gc_view.specs.Sizes.{alignment}
+use Rattle.gc_view.specs.Bytes.{u32_at}
+use Rattle.gc_view.specs.Heaps.{HeapObject}
+use Rattle.gc_view.specs.Bytes.{SameBytes}
 use Rattle.gc_heap.specs.Objects.{first_offset, IsObjectKind}
 
 -- where the first object lies: place 0 is null

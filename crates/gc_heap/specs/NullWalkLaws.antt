@@ -10,7 +10,8 @@ use Rattle.gc_types.specs.declared.kind.Layouts.TheVariants.{Null}
 use Rattle.gc_types.specs.declared.kind.VMGcKind.{VMGcKind}
 use Rattle.gc_types.specs.declared.kind.VMGcKind.TheVariants.{ExternRef, AnyRef, EqRef, StructRef, ArrayRef, ExnRef}
 use Rattle.gc_refs.specs.Header.{spare_bits}
-use Rattle.gc_model.specs.Views.{HeapObject, u32_at}
+use Rattle.gc_view.specs.Bytes.{u32_at}
+use Rattle.gc_view.specs.Heaps.{HeapObject}
 use Rattle.gc_heap.specs.Objects.{first_offset, held_size, size_with}
 use Rattle.gc_heap.specs.Content.{total}
 use Rattle.gc_heap.specs.Totals.{total-empty, total-insert}

@@ -9,7 +9,8 @@ use Rattle.gc_types.specs.Layouts.{struct_base, exception_base, array_base}
 use Rattle.gc_types.specs.Kinds.{kind_bits}
 use Rattle.gc_refs.specs.Header.{Header, spare_bits, kind_part}
 use Rattle.gc_memory.specs.Offsets.{external_size, host_id_offset, counting_size_offset, copying_size_offset, stored_size}
-use Rattle.gc_model.specs.Views.{HeapObject, u32_at}
+use Rattle.gc_view.specs.Bytes.{u32_at}
+use Rattle.gc_view.specs.Heaps.{HeapObject}
 
 -- where the data of an object begins, counted from its first byte
 abbrev pub data_offset : Layouts → VMGcKind → ℕ

@@ -11,7 +11,8 @@ use Rattle.gc_types.specs.declared.layout.TraceInfo.TheVariants as trace
 use Rattle.gc_types.specs.Declarations.{Declaration}
 use Rattle.gc_types.specs.Layouts.{struct_base, array_base, trace_at, layout_at, array_layout_at, ref_offsets}
 use Rattle.gc_refs.specs.Trace.{form_unit, form_of}
-use Rattle.gc_model.specs.Views.{HeapObject, u32_at}
+use Rattle.gc_view.specs.Bytes.{u32_at}
+use Rattle.gc_view.specs.Heaps.{HeapObject}
 use Rattle.gc_heap.specs.Objects.{array_length, held_size}
 
 -- so many offsets of words that follow each other from an offset on

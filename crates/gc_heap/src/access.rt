@@ -7,7 +7,7 @@ ghost use Rattle.std.specs.Prelude.{◌≡◌, Some};
 ghost use Rattle.std.specs.FinMap as finite;
 ghost use Rattle.std.specs.Int.{w8, w16, w32, w64, w128};
 ghost use Rattle.gc_refs.specs.LittleEndian.{unsigned_at, unsigned_bytes};
-ghost use Rattle.gc_model.specs.Views.{HeapObject};
+ghost use Rattle.gc_view.specs.Heaps.{HeapObject};
 ghost use Rattle.gc_heap.specs.Objects.{IsObjectData};
 ghost use Rattle.gc_heap.specs.Content.{IsHeld};
 ghost use Rattle.gc_heap.specs.Heap.{IsWritable};

@@ -27,7 +27,7 @@ pub enum HeapFault {
 /// A heap of garbage-collected objects.
 ///
 /// What contracts see of it is `seen`: its content (a finite map from places to objects), its
-/// capacity and its counts (`HeapView` of `gc_model`). Most calls want a heap that is `sound`, as it is
+/// capacity and its counts (`HeapView` of `gc_view`). Most calls want a heap that is `sound`, as it is
 /// outside a collection and while its memory is not taken; of a sound heap `IsHeap` is true, by the
 /// law `is_heap`. `is_attached` wants nothing, `replace_memory` a heap whose memory is taken, and
 /// `step` and `step_counted` a collection that is under way.
@@ -57,7 +57,8 @@ pub trait GcHeap {
     ghost use Rattle.gc_refs.specs.Header.{IsOfKind, spare_bits};
     ghost use Rattle.gc_roots.specs.Roots.{Root};
     ghost use Rattle.gc_memory.specs.Offsets.{external_size};
-    ghost use Rattle.gc_model.specs.Views.{HeapView, HeapObject, detached_in, u32_at};
+    ghost use Rattle.gc_view.specs.Bytes.{u32_at};
+    ghost use Rattle.gc_view.specs.Heaps.{HeapView, HeapObject, detached_in};
     ghost use Rattle.gc_heap.specs.declared.collection.GcProgress.{GcProgress};
     ghost use Rattle.gc_heap.specs.Objects.{held_size, first_offset, array_length, external, zeroed, HasFields, IsHeaderOf, IsObjectData};
     ghost use Rattle.gc_heap.specs.References.{SpareFits, LayoutTraces, ArrayTraces};

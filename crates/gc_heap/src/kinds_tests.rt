@@ -1,7 +1,7 @@
 //! What users of a heap share, over the null heap.
 
 ghost use Rattle.std.specs.Prelude.{◌≡◌, ◌%◌, true, false, IfOk, OnOk};
-ghost use Rattle.gc_model.specs.Views.{detached_in};
+ghost use Rattle.gc_view.specs.Heaps.{detached_in};
 ghost use Rattle.gc_heap.specs.Heap.{empty_heap};
 
 use crate::client::keep_number;

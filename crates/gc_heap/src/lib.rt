@@ -2,7 +2,7 @@
 //!
 //! A store asks its heap for memory, objects and bytes by the trait `GcHeap` and knows nothing of
 //! how a heap keeps them: contracts speak of the heap's content, a finite map from places to objects
-//! (`HeapView` of `gc_model`). What serves every heap is here too: typed reads and writes (`access`),
+//! (`HeapView` of `gc_view`). What serves every heap is here too: typed reads and writes (`access`),
 //! collections run to their end (`collect`), and what a word's object is (`ref_kinds`). The null
 //! heap is the simplest heap: its objects follow each other, and it never frees.
 #![tactic(auto)]

@@ -15,7 +15,7 @@
 //! time to copy its bytes. All other calls take constant time: none walks over the objects.
 
 ghost use Rattle.std.specs.Prelude.{◌≡◌};
-ghost use Rattle.gc_model.specs.Views.{detached_in};
+ghost use Rattle.gc_view.specs.Heaps.{detached_in};
 ghost use Rattle.gc_heap.specs.NullStates.{null_seen, IsNullSound};
 
 mod place;

@@ -2,7 +2,7 @@
 
 ghost use Rattle.std.specs.Prelude.{◌≡◌, ◌%◌, Some, None, false};
 ghost use Rattle.std.specs.FinMap as finite;
-ghost use Rattle.gc_model.specs.Views.{HeapObject};
+ghost use Rattle.gc_view.specs.Heaps.{HeapObject};
 ghost use Rattle.gc_heap.specs.Kinds.{TellsKind};
 
 use crate::heap::GcHeap;
@@ -19,7 +19,7 @@ pub trait RefKinds: Sized {
     ghost use Rattle.std.specs.Prelude.{ℕ, ◌≡◌, ◌%◌, Some, None, true, false, IsSomeAnd};
     ghost use Rattle.std.specs.FinMap as finite;
     ghost use Rattle.gc_types.specs.declared.kind.VMGcKind.TheVariants.{ExternRef, StructRef, ArrayRef, ExnRef};
-    ghost use Rattle.gc_model.specs.Views.{HeapObject};
+    ghost use Rattle.gc_view.specs.Heaps.{HeapObject};
     ghost use Rattle.gc_refs.specs.Words.{IsHeapWord};
     ghost use Rattle.gc_heap.specs.Objects.{IsHeaderOf};
     ghost use Rattle.gc_heap.specs.Kinds.{TellsKind, TellsHeader, IsAny, GivesWhere, TakesWhere};

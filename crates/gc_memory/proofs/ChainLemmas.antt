@@ -1,7 +1,7 @@
 -- Objects that follow each other.
 use Rattle.std.proofs.Common.{◌≡◌, ℕ, zero, suc, cond, length, ◌+◌, ◌*◌, ◌%◌, ◌<◌, ◌≤◌, List, [], ◌∷◌, ◌++◌, refl, sym, ap, subst, ◌∙◌, arith}
 use Rattle.std.proofs.lemmas.Bool.{lt-ltb, le-ltb}
-use Rattle.gc_model.specs.Sizes.{alignment}
+use Rattle.gc_view.specs.Sizes.{alignment}
 use Rattle.gc_memory.specs.Lists.{In, here, there, sum_over, occ}
 use Rattle.gc_memory.specs.Chains.{Chain, done, next, places_of, places}
 use Rattle.gc_memory.proofs.ListLemmas.{sum_over-same, occ-same, occ-other, occ-none}

@@ -5,9 +5,9 @@ use Rattle.std.specs.Int.{w32, w64, to_le_bytes}
 use Rattle.std.proofs.lemmas.Bool.{cases_lt}
 use Rattle.std.proofs.lemmas.List.{same_lists, length-replicate, length-take-le, length-drop, length-append, get_or-take, get_or-drop, get_or-replicate, get_or_append_left, get_or-append_right}
 use Rattle.std.proofs.Math.ListN.{get_or-eq_default}
-use Rattle.gc_model.specs.Views.{put_u32}
-use Rattle.gc_model.specs.Bytes.{put_bytes, SameBytes}
-use Rattle.gc_model.proofs.ByteLemmas.{length-put_bytes, put_bytes-below, put_bytes-above, part-put_bytes}
+use Rattle.gc_view.specs.Bytes.{put_u32}
+use Rattle.gc_view.specs.Bytes.{put_bytes, SameBytes}
+use Rattle.gc_view.proofs.ByteLemmas.{length-put_bytes, put_bytes-below, put_bytes-above, part-put_bytes}
 use Rattle.gc_memory.specs.Words.{put_u64}
 use Rattle.gc_memory.specs.Changes.{Wrote, SameAcross}
 

@@ -2,9 +2,9 @@
 use Rattle.std.proofs.Common.{◌≡◌, ℕ, ◌+◌, ◌<◌, ◌≤◌, ◌^◌, List, length, ◌∙◌, refl, arith}
 use Rattle.std.specs.Int.{w32, to_le_bytes}
 use Rattle.gc_refs.specs.Header.{Header, header_bytes}
-use Rattle.gc_model.specs.Views.{u32_at, put_u32}
-use Rattle.gc_model.specs.Bytes.{put_bytes}
-use Rattle.gc_model.proofs.ByteLemmas.{u32_at-put_u32, u32_at-put_before, length-put_u32}
+use Rattle.gc_view.specs.Bytes.{u32_at, put_u32}
+use Rattle.gc_view.specs.Bytes.{put_bytes}
+use Rattle.gc_view.proofs.ByteLemmas.{u32_at-put_u32, u32_at-put_before, length-put_u32}
 use Rattle.gc_memory.specs.Changes.{Wrote}
 use Rattle.gc_memory.proofs.ChangeLemmas.{put_bytes-append, Wrote-put_bytes}
 

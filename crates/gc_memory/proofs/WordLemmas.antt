@@ -4,9 +4,9 @@ use Rattle.std.proofs.Math.Logic.{◌⊎◌}
 use Rattle.std.specs.Int.{w32, w64, from_le_bytes, to_le_bytes}
 use Rattle.std.proofs.lemmas.List.{get_or-take, get_or-drop}
 use Rattle.std.proofs.lemmas.Nat.{from_le_bytes-to_le_bytes_4, from_le_bytes-to_le_bytes_8}
-use Rattle.gc_model.specs.Views.{u32_at, put_u32}
-use Rattle.gc_model.specs.Bytes.{put_bytes, SameBytes}
-use Rattle.gc_model.proofs.ByteLemmas.{SameBytes-part, part-put_bytes}
+use Rattle.gc_view.specs.Bytes.{u32_at, put_u32}
+use Rattle.gc_view.specs.Bytes.{put_bytes, SameBytes}
+use Rattle.gc_view.proofs.ByteLemmas.{SameBytes-part, part-put_bytes}
 use Rattle.gc_memory.specs.Words.{AreBytes, u64_at, put_u64, word, word64}
 use Rattle.gc_memory.specs.Changes.{Wrote, SameAcross}
 use Rattle.gc_memory.proofs.ChangeLemmas.{Wrote-before, Wrote-behind, Wrote-apart, get_or-zeros, get_or-grown}

@@ -1,6 +1,6 @@
 -- Objects that follow each other in a memory, by their places.
 use Rattle.std.specs.Prelude.{◌≡◌, ℕ, zero, suc, ◌+◌, ◌%◌, ◌≤◌, cond, nat_lt, List, [], ◌∷◌}
-use Rattle.gc_model.specs.Sizes.{alignment}
+use Rattle.gc_view.specs.Sizes.{alignment}
 
 -- Objects of these sizes follow each other from the first number up to the second, at the listed places.
 -- Each takes a multiple of 16 bytes, and at least 16.

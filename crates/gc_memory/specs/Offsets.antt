@@ -3,7 +3,7 @@ use Rattle.std.specs.Prelude.{ℕ, ◌+◌}
 use Rattle.gc_types.specs.declared.kind.Layouts.{Layouts}
 use Rattle.gc_types.specs.declared.kind.Layouts.TheVariants.{Null, Counting, Copying}
 use Rattle.gc_types.specs.Layouts.{struct_base}
-pub use Rattle.gc_model.specs.Sizes.{stored_size}
+pub use Rattle.gc_view.specs.Sizes.{stored_size}
 
 -- the type word of a header; its kind word is at 0
 abbrev pub type_word_offset : ℕ

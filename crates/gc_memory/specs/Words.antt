@@ -1,7 +1,7 @@
 -- Numbers of several bytes in a memory.
 use Rattle.std.specs.Prelude.{ℕ, ◌+◌, ◌<◌, List, ◌++◌, take, drop, slice_index_or}
 use Rattle.std.specs.Int.{w64, from_le_bytes, to_le_bytes}
-use Rattle.gc_model.specs.Views.{u32_at}
+use Rattle.gc_view.specs.Bytes.{u32_at}
 
 -- each number of the list is a byte
 abbrev pub AreBytes : List ℕ → Type 0

@@ -2,9 +2,9 @@
 
 ghost use Rattle.std.specs.Prelude.{◌≡◌, ◌+◌, ◌*◌, ◌/◌, ◌≤◌, ◌<◌, ◌^◌, ◌++◌, length, take, drop, IfOk, OnOk, OnErr, replicate};
 ghost use Rattle.gc_refs.specs.Header.{header_bytes};
-ghost use Rattle.gc_model.specs.Allocation.{page, max_pages};
-ghost use Rattle.gc_model.specs.Views.{u32_at, put_u32};
-ghost use Rattle.gc_model.specs.Bytes.{put_bytes};
+ghost use Rattle.gc_view.specs.Pages.{page, max_pages};
+ghost use Rattle.gc_view.specs.Bytes.{u32_at, put_u32};
+ghost use Rattle.gc_view.specs.Bytes.{put_bytes};
 ghost use Rattle.gc_memory.specs.Words.{AreBytes, u64_at, put_u64};
 ghost use Rattle.gc_memory.specs.Changes.{Wrote};
 ghost use Rattle.std.specs.Borrow.{sem};
@@ -29,7 +29,7 @@ pub struct HeapMemory {
 
 impl Model for HeapMemory {
     ghost use Rattle.std.specs.Prelude.{◌≡◌, ◌*◌, ◌≤◌, List, ℕ, length};
-    ghost use Rattle.gc_model.specs.Allocation.{page, max_pages};
+    ghost use Rattle.gc_view.specs.Pages.{page, max_pages};
 
     ghost Value = { List ℕ };
 

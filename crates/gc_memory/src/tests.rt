@@ -1,7 +1,7 @@
 //! A memory that is written, copied within and grown.
 
 ghost use Rattle.std.specs.Prelude.{◌≡◌, ◌<◌, ◌≤◌, length, slice_set};
-ghost use Rattle.gc_model.specs.Allocation.{page};
+ghost use Rattle.gc_view.specs.Pages.{page};
 
 use crate::{HeapMemory, offsets};
 use gc_refs::VMGcHeader;

@@ -9,7 +9,8 @@ use Rattle.gc_types.specs.Declarations.{Declaration}
 use Rattle.gc_types.specs.Layouts.{round_up}
 use Rattle.gc_model.specs.Values.{Value, Object, struct, array, host, exception}
 use Rattle.gc_model.specs.Table.{change_at, with_value}
-use Rattle.gc_model.specs.Sizes.{object_size, next_after, alignment}
+use Rattle.gc_view.specs.Sizes.{alignment}
+use Rattle.gc_model.specs.Sizes.{object_size, next_after}
 
 pub length-change_at : {X : Type 0} (n : ℕ) (change : X → X) (xs : List X) → length (change_at n change xs) ≡ length xs
 length-change_at n change [] = refl

@@ -8,11 +8,11 @@ use Rattle.gc_types.specs.declared.value.ValType.TheVariants as val
 use Rattle.gc_types.specs.Layouts.{storage_width}
 use Rattle.gc_model.specs.declared.GcClass.TheVariants.{Any, Extern, Exn}
 use Rattle.gc_model.specs.Values.{Value, i32, i64, f32, f64, v128, function, reference}
-use Rattle.gc_model.specs.Views.{u32_at, u64_at}
-use Rattle.gc_model.specs.Bytes.{put_bytes, SameBytes}
+use Rattle.gc_view.specs.Bytes.{u32_at, u64_at}
+use Rattle.gc_view.specs.Bytes.{put_bytes, SameBytes}
 use Rattle.gc_model.specs.Holds.{Placing, IsWord, Lies, LiesI32, LiesI64, LiesAny}
 use Rattle.gc_model.specs.Encoded.{IsEncoded, EncodesI32, EncodesI64, EncodesAny}
-use Rattle.gc_model.proofs.ByteLemmas.{part_in_same, part-put_bytes, put_bytes-below, put_bytes-above}
+use Rattle.gc_view.proofs.ByteLemmas.{part_in_same, part-put_bytes, put_bytes-below, put_bytes-above}
 
 -- two ranges have no place in common: one ends before the other begins
 abbrev pub IsApart : ℕ → ℕ → ℕ → ℕ → Type 0

@@ -7,10 +7,10 @@ use Rattle.gc_types.specs.declared.value.FieldType.{FieldType}
 use Rattle.gc_types.specs.declared.layout.FieldLayout.{FieldLayout}
 use Rattle.gc_types.specs.Layouts.{field_layouts, fields_end, storage_width}
 use Rattle.gc_model.specs.Values.{Value}
-use Rattle.gc_model.specs.Bytes.{put_bytes}
+use Rattle.gc_view.specs.Bytes.{put_bytes}
 use Rattle.gc_model.specs.Holds.{Placing, Lies, ValuesLie}
 use Rattle.gc_model.specs.Encoded.{IsEncoded}
-use Rattle.gc_model.proofs.Layouts.{layout_low, layout_high, layouts_apart}
+use Rattle.gc_view.proofs.Layouts.{layout_low, layout_high, layouts_apart}
 use Rattle.gc_model.proofs.Encoding.{IsApart, encoded_width, encoded_lies}
 use Rattle.gc_model.proofs.Lying.{lies_apart}
 

@@ -11,9 +11,10 @@ use Rattle.gc_model.specs.Values.{at, Value, Object, struct, array, host, except
 use Rattle.gc_model.specs.Table.{Table}
 use Rattle.gc_model.specs.Live.{rooted}
 use Rattle.gc_model.specs.Fits.{fits}
-use Rattle.gc_model.specs.Views.{StoreView, HeapObject}
+use Rattle.gc_view.specs.Heaps.{HeapObject}
+use Rattle.gc_model.specs.Stores.{StoreView}
 use Rattle.gc_model.specs.Holds.{Placing, Lies, Holds, HoldsTable, Stands, StructStands}
-use Rattle.gc_model.proofs.Layouts.{length-field_layouts, stored_size-le}
+use Rattle.gc_view.proofs.Layouts.{length-field_layouts, stored_size-le}
 use Rattle.gc_model.proofs.FieldsLie.{IsField, field_range}
 use Rattle.gc_model.proofs.Lists.{slice_get-same_length}
 use Rattle.gc_model.proofs.Live.{rooted_word}

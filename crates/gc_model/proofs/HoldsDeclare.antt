@@ -7,7 +7,8 @@ use Rattle.gc_types.specs.declared.kind.Layouts.TheVariants.{Null, Counting, Cop
 use Rattle.gc_types.specs.Declarations.{Declaration}
 use Rattle.gc_model.specs.Values.{Object, struct, array, host, exception}
 use Rattle.gc_model.specs.Table.{Table, declare}
-use Rattle.gc_model.specs.Views.{StoreView, HeapView, HeapObject}
+use Rattle.gc_view.specs.Heaps.{HeapView, HeapObject}
+use Rattle.gc_model.specs.Stores.{StoreView}
 use Rattle.gc_model.specs.Holds.{Placing, Holds, KindHolds, NullHolds, Stands, ObjectsHold}
 use Rattle.gc_model.proofs.Types.{struct_fields_at-push, IsTyped, next_after-push_type, IsBuiltDeclaration, OnlyBuilt-push}
 use Rattle.gc_model.proofs.HoldsParts.{scoped-kept, pushes-kept, nothing-kept}

@@ -7,9 +7,10 @@ use Rattle.std.proofs.lemmas.Option.{none-some}
 use Rattle.gc_types.specs.declared.kind.Layouts.{Layouts}
 use Rattle.gc_types.specs.declared.kind.Layouts.TheVariants.{Null, Counting, Copying}
 use Rattle.gc_model.specs.Table.{Table, make_heap, with_pages}
-use Rattle.gc_model.specs.Allocation.{page}
+use Rattle.gc_view.specs.Pages.{page}
 use Rattle.gc_model.specs.Sizes.{next_after}
-use Rattle.gc_model.specs.Views.{StoreView, HeapView}
+use Rattle.gc_view.specs.Heaps.{HeapView}
+use Rattle.gc_model.specs.Stores.{StoreView}
 use Rattle.gc_model.specs.Holds.{Placing, Holds, KindHolds, ObjectsHold}
 use Rattle.gc_model.proofs.HoldsParts.{objects-same, scoped-kept, pushes-kept, nothing-kept}
 

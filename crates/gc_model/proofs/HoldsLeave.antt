@@ -6,7 +6,8 @@ use Rattle.std.proofs.lemmas.Bool.Decides.{nat_tests}
 use Rattle.std.proofs.lemmas.List.{length-take}
 use Rattle.gc_types.specs.declared.kind.Layouts.{Layouts}
 use Rattle.gc_model.specs.Table.{Table, Push, leave}
-use Rattle.gc_model.specs.Views.{StoreView, HeapView}
+use Rattle.gc_view.specs.Heaps.{HeapView}
+use Rattle.gc_model.specs.Stores.{StoreView}
 use Rattle.gc_model.specs.Holds.{Placing, Holds, IsPast, ScopedHold}
 use Rattle.gc_model.proofs.Lists.{slice_get-take}
 use Rattle.gc_model.proofs.HoldsParts.{SameHeld, objects-same, kind-same, objects-rooted, kind-rooted, nothing-kept}

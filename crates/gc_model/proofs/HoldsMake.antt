@@ -10,8 +10,10 @@ use Rattle.gc_types.specs.Layouts.{round_up}
 use Rattle.gc_model.specs.Values.{at, Object}
 use Rattle.gc_model.specs.Table.{Table, make, add_object}
 use Rattle.gc_model.specs.Live.{roots_full}
-use Rattle.gc_model.specs.Sizes.{object_size, alignment}
-use Rattle.gc_model.specs.Views.{StoreView, HeapView, HeapObject}
+use Rattle.gc_view.specs.Sizes.{alignment}
+use Rattle.gc_model.specs.Sizes.{object_size}
+use Rattle.gc_view.specs.Heaps.{HeapView, HeapObject}
+use Rattle.gc_model.specs.Stores.{StoreView}
 use Rattle.gc_model.specs.Holds.{Placing, Holds, KindHolds, HeldAt, Stands}
 use Rattle.gc_model.proofs.Lists.{slice_get-push_old, slice_get-push_new}
 use Rattle.gc_model.proofs.Types.{next_after-push}

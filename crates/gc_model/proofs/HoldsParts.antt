@@ -8,8 +8,9 @@ use Rattle.gc_types.specs.Declarations.{Declaration}
 use Rattle.gc_model.specs.declared.RootEntry.{RootEntry}
 use Rattle.gc_model.specs.Values.{Object}
 use Rattle.gc_model.specs.Table.{Table, Scoped, Push}
-pub use Rattle.gc_model.specs.Views.{SameHeld}
-use Rattle.gc_model.specs.Views.{StoreView, HeapView, HeapObject}
+pub use Rattle.gc_view.specs.Heaps.{SameHeld}
+use Rattle.gc_view.specs.Heaps.{HeapView, HeapObject}
+use Rattle.gc_model.specs.Stores.{StoreView}
 use Rattle.gc_model.specs.Holds.{Placing, Holds, KindHolds, HeldAt, ObjectsHold, ScopedHold, PushesDiffer, NothingElse}
 use Rattle.gc_model.proofs.Placings.{IsWithin, is_word-more}
 

@@ -9,7 +9,8 @@ use Rattle.gc_model.specs.declared.RootEntry.{RootEntry}
 use Rattle.gc_model.specs.Values.{Reference}
 use Rattle.gc_model.specs.Table.{Table, Scoped, Push, push}
 use Rattle.gc_model.specs.Live.{roots_full}
-use Rattle.gc_model.specs.Views.{StoreView, HeapView}
+use Rattle.gc_view.specs.Heaps.{HeapView}
+use Rattle.gc_model.specs.Stores.{StoreView}
 use Rattle.gc_model.specs.Holds.{Placing, IsWord, Holds, EntryStands, IsPast}
 use Rattle.gc_model.proofs.Lists.{slice_get-push_old, slice_get-push_new, slice_get-push_cases}
 use Rattle.gc_model.proofs.HoldsParts.{SameHeld, objects-same, kind-same, objects-rooted, kind-rooted, nothing-kept}

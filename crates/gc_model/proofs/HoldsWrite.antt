@@ -14,16 +14,17 @@ use Rattle.gc_types.specs.Declarations.{Declaration, struct_fields_at}
 use Rattle.gc_types.specs.Layouts.{struct_base, fields_end}
 use Rattle.gc_model.specs.Values.{Value, Object, struct}
 use Rattle.gc_model.specs.Table.{Table, change_at, with_value, write}
-use Rattle.gc_model.specs.Sizes.{stored_size}
-use Rattle.gc_model.specs.Bytes.{put_bytes}
-use Rattle.gc_model.specs.Views.{StoreView, HeapView, HeapObject}
+use Rattle.gc_view.specs.Sizes.{stored_size}
+use Rattle.gc_view.specs.Bytes.{put_bytes}
+use Rattle.gc_view.specs.Heaps.{HeapView, HeapObject}
+use Rattle.gc_model.specs.Stores.{StoreView}
 use Rattle.gc_model.specs.Holds.{Placing, Holds, KindHolds, HeldAt, Stands, StructStands, ValuesLie, ObjectsHold}
 use Rattle.gc_model.specs.Encoded.{IsEncoded}
-use Rattle.gc_model.proofs.ByteLemmas.{length-put_bytes}
+use Rattle.gc_view.proofs.ByteLemmas.{length-put_bytes}
 use Rattle.gc_model.proofs.Changes.{length-change_at, slice_get-change_at_same, slice_get-change_at_other, slice_get-set_same, slice_get-set_other, next_after-with_value}
 use Rattle.gc_model.proofs.FieldsLie.{IsField, field_within, other_lies, written_lies}
 use Rattle.gc_model.proofs.HoldsParts.{scoped-kept, pushes-kept, nothing-kept}
-use Rattle.gc_model.proofs.Layouts.{stored_size-le}
+use Rattle.gc_view.proofs.Layouts.{stored_size-le}
 
 -- What a write of some bytes to an object's data left of a heap.
 pub record IsWrittenObject (old new : HeapView) (word offset : ℕ) (ws : List ℕ) : Type 0 where

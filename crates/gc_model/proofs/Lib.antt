@@ -1,4 +1,3 @@
-pub mod Content
 pub mod Lists
 pub mod Types
 pub mod Placings
@@ -14,8 +13,6 @@ pub mod HoldsWrite
 pub mod Live
 pub mod Words
 pub mod HeldStructs
-pub mod Layouts
-pub mod ByteLemmas
 pub mod Encoding
 pub mod Lying
 pub mod FieldsLie

@@ -8,7 +8,7 @@ use Rattle.gc_model.specs.declared.RootEntry.{RootEntry}
 use Rattle.gc_model.specs.Values.{Reference}
 use Rattle.gc_model.specs.Table.{Table, Scoped, Push}
 use Rattle.gc_model.specs.Live.{rooted, rooted_among}
-use Rattle.gc_model.specs.Views.{StoreView}
+use Rattle.gc_model.specs.Stores.{StoreView}
 use Rattle.gc_model.specs.Holds.{Placing, IsWord, Holds, EntryStands}
 
 -- each root's serial is of a push whose index is the root's, counted from k

@@ -6,10 +6,10 @@ use Rattle.gc_types.specs.declared.value.ValType.TheVariants as val
 use Rattle.gc_types.specs.Layouts.{storage_width}
 use Rattle.gc_model.specs.declared.GcClass.TheVariants.{Any, Extern, Exn}
 use Rattle.gc_model.specs.Values.{Value, i32, i64, f32, f64, v128, function, reference}
-use Rattle.gc_model.specs.Bytes.{put_bytes, SameBytes}
+use Rattle.gc_view.specs.Bytes.{put_bytes, SameBytes}
 use Rattle.gc_model.specs.Fits.{fits, is_i32, is_i64, is_any_reference}
 use Rattle.gc_model.specs.Holds.{Placing, IsWord, Lies, LiesI32, LiesI64, LiesAny}
-use Rattle.gc_model.proofs.ByteLemmas.{u32_in_same}
+use Rattle.gc_view.proofs.ByteLemmas.{u32_in_same}
 use Rattle.gc_model.proofs.Encoding.{IsApart, put_bytes-apart, u64_in_same}
 
 i32_same : (v : Value) (a b : List ℕ) (o : ℕ) → SameBytes a b o (o + 4) → LiesI32 v a o → LiesI32 v b o

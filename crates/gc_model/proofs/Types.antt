@@ -8,7 +8,8 @@ use Rattle.gc_types.specs.declared.kind.Layouts.TheVariants.{Null}
 use Rattle.gc_types.specs.Declarations.{Declaration, struct_fields_at, shape_struct_fields, plain_struct, IsMutableI32}
 use Rattle.gc_types.specs.Layouts.{round_up}
 use Rattle.gc_model.specs.Values.{Object, struct, array, host, exception}
-use Rattle.gc_model.specs.Sizes.{object_size, next_after, fields_size, alignment}
+use Rattle.gc_view.specs.Sizes.{alignment}
+use Rattle.gc_model.specs.Sizes.{object_size, next_after, fields_size}
 use Rattle.gc_model.specs.Fits.{is_built_field}
 use Rattle.gc_model.specs.Holds.{OnlyBuilt}
 

@@ -1,20 +1,14 @@
 -- When an allocation succeeds.
-use Rattle.std.specs.Prelude.{◌≡◌, ℕ, ◌+◌, ◌-◌, ◌*◌, ◌/◌, ◌^◌, ◌<◌, ◌≤◌, ◌⊎◌, min, max, nat_le, Bool, true, false, List, Option, Some, None, IfSome, map, slice_get, sum}
+use Rattle.std.specs.Prelude.{◌≡◌, ℕ, ◌+◌, ◌-◌, ◌*◌, ◌/◌, ◌^◌, ◌<◌, ◌≤◌, ◌⊎◌, min, max, nat_le, Bool, true, false, List, Option, IfSome, map, slice_get, sum}
 use Rattle.gc_types.specs.declared.kind.Layouts.{Layouts}
 use Rattle.gc_types.specs.declared.kind.Layouts.TheVariants.{Null, Counting, Copying}
 use Rattle.gc_types.specs.Layouts.{round_up}
+use Rattle.gc_view.specs.Pages.{page, max_pages}
 use Rattle.gc_model.specs.Values.{Object}
 use Rattle.gc_model.specs.Table.{Table, make, make_heap, made_pages, with_pages}
-use Rattle.gc_model.specs.Sizes.{object_size, rounded_size, next_place, alignment, need_of}
+use Rattle.gc_view.specs.Sizes.{alignment, need_of}
+use Rattle.gc_model.specs.Sizes.{object_size, rounded_size, next_place}
 use Rattle.gc_model.specs.Reach.{IsReached, AreAll}
-
--- the bytes of a page
-abbrev pub page : ℕ
-page = 65536
-
--- the greatest number of pages of a heap
-abbrev pub max_pages : ℕ
-max_pages = 65535
 
 -- what a limiter tells: the greatest number of pages that it grants, where it tells it; how many
 -- asks it refused; and the last of these, as pages before and after

@@ -1,11 +1,10 @@
 -- Which values fit a field, of the types of fields that are built.
-use Rattle.std.specs.Prelude.{Bool, true, false, List, if◌then◌else◌}
+use Rattle.std.specs.Prelude.{Bool, true, false, if◌then◌else◌}
 use Rattle.gc_types.specs.declared.value.FieldType.{FieldType}
 use Rattle.gc_types.specs.declared.value.StorageType.{StorageType}
 use Rattle.gc_types.specs.declared.value.StorageType.TheVariants as storage
 use Rattle.gc_types.specs.declared.value.ValType.{ValType}
 use Rattle.gc_types.specs.declared.value.ValType.TheVariants as val
-use Rattle.gc_types.specs.declared.value.RefType.{RefType}
 use Rattle.gc_types.specs.declared.value.HeapType.{HeapType}
 use Rattle.gc_types.specs.declared.value.HeapType.TheVariants as heap
 use Rattle.gc_model.specs.declared.GcClass.{GcClass}

@@ -1,5 +1,5 @@
 -- A store holds a table: its heap, its roots and its numbers stand for the table's.
-use Rattle.std.specs.Prelude.{◌≡◌, ℕ, ◌+◌, ◌-◌, ◌*◌, ◌%◌, ◌<◌, ◌≤◌, ◌⊎◌, ◌^◌, Bool, true, false, List, [], ◌∷◌, Option, Some, None, length, slice_get, replicate, All}
+use Rattle.std.specs.Prelude.{◌≡◌, ℕ, ◌+◌, ◌-◌, ◌*◌, ◌%◌, ◌<◌, ◌≤◌, ◌⊎◌, ◌^◌, true, false, List, [], Option, Some, None, length, slice_get, replicate, All}
 use Rattle.std.specs.Ordering.{nat_cmp}
 use Rattle.std.specs.FinMap as map
 use Rattle.gc_types.specs.declared.value.FieldType.{FieldType}
@@ -19,10 +19,13 @@ use Rattle.gc_model.specs.declared.GcClass.TheVariants.{Any, Extern, Exn}
 use Rattle.gc_model.specs.Fits.{is_built_field}
 use Rattle.gc_model.specs.Reach.{IsKept}
 use Rattle.gc_model.specs.Table.{Table, Scoped, Push, empty_slot, global_count}
-use Rattle.gc_model.specs.Sizes.{next_place, stored_size}
-use Rattle.gc_model.specs.Allocation.{page, max_pages}
+use Rattle.gc_view.specs.Sizes.{stored_size}
+use Rattle.gc_model.specs.Sizes.{next_place}
+use Rattle.gc_view.specs.Pages.{page, max_pages}
 use Rattle.gc_model.specs.declared.RootEntry.{RootEntry}
-use Rattle.gc_model.specs.Views.{HeapObject, HeapView, StoreView, u32_at, u64_at}
+use Rattle.gc_view.specs.Bytes.{u32_at, u64_at}
+use Rattle.gc_view.specs.Heaps.{HeapObject, HeapView}
+use Rattle.gc_model.specs.Stores.{StoreView}
 
 -- where the heap holds each position
 abbrev pub Placing : Type 0

@@ -6,7 +6,6 @@ pub mod Reads
 pub mod Live
 pub mod Sizes
 pub mod Allocation
-pub mod Views
+pub mod Stores
 pub mod Holds
 pub mod Encoded
-pub mod Bytes

@@ -1,5 +1,5 @@
 -- Reading a value: a reference that isn't null gets a scoped root.
-use Rattle.std.specs.Prelude.{ℕ, Bool, true, false, ◌==◌}
+use Rattle.std.specs.Prelude.{Bool, true, false, ◌==◌}
 use Rattle.gc_model.specs.Values.{Reference, null, small, at, Value, i32, i64, f32, f64, v128, function, reference}
 use Rattle.gc_model.specs.Table.{Table, push}
 

@@ -1,11 +1,12 @@
 -- How many bytes an object takes, by the heap that holds it.
-use Rattle.std.specs.Prelude.{ℕ, ◌+◌, ◌*◌, List, [], ◌∷◌, Option, None, Some, length}
+use Rattle.std.specs.Prelude.{ℕ, ◌+◌, List, [], ◌∷◌, Option, None, Some}
 use Rattle.gc_types.specs.declared.value.FieldType.{FieldType}
 use Rattle.gc_types.specs.declared.kind.Layouts.{Layouts}
-use Rattle.gc_types.specs.declared.kind.Layouts.TheVariants.{Null, Counting, Copying}
+use Rattle.gc_types.specs.declared.kind.Layouts.TheVariants.{Null, Copying}
 use Rattle.gc_types.specs.Declarations.{Declaration, struct_fields_at}
 use Rattle.gc_types.specs.Layouts.{struct_base, fields_end, round_up}
 use Rattle.gc_model.specs.Values.{Object, struct, array, host, exception}
+use Rattle.gc_view.specs.Sizes.{alignment}
 use Rattle.gc_model.specs.Table.{Table}
 
 -- the bytes of a struct with these fields; 0 where there is no such type
@@ -19,16 +20,6 @@ object_size layouts types (struct ty values) = fields_size layouts (struct_field
 object_size layouts types (array ty values) = 0
 object_size layouts types (host value) = 0
 object_size layouts types (exception ty tag values) = 0
-
--- every object of a heap begins at a multiple of this many bytes
-abbrev pub alignment : ℕ
-alignment = 16
-
--- the bytes that a heap keeps for an object of that size: the copying heap keeps whole multiples of 16
-abbrev pub stored_size : Layouts → ℕ → ℕ
-stored_size Null size = size
-stored_size Counting size = size
-stored_size Copying size = round_up size alignment
 
 -- the bytes of an object as a copying heap takes them; 0 where there is none
 abbrev pub rounded_size : {D : Type 0} → List Declaration → Option (Object D) → ℕ
@@ -44,9 +35,3 @@ next_after types n (o ∷ os) = next_after types (round_up n alignment + object_
 -- where the null heap goes on; it begins at 1
 abbrev pub next_place : {D : Type 0} → Table D → ℕ
 next_place t = next_after t.types 1 t.objects
-
--- the bytes that a heap without room for an object of that size has to grow by, so that it fits
-abbrev pub need_of : Layouts → ℕ → ℕ
-need_of Null size = size + 16
-need_of Counting size = round_up size alignment + 16
-need_of Copying size = 2 * round_up size alignment + 32

@@ -12,7 +12,7 @@ use Rattle.gc_types.specs.Layouts.{struct_base, array_base}
 use Rattle.gc_refs.specs.LittleEndian.{unsigned_at}
 use Rattle.gc_refs.specs.Views.{IsInside, part_of, Reads}
 use Rattle.gc_refs.specs.declared.fault.DataFault.{DataFault}
-use Rattle.gc_model.specs.Views.{HeapObject, HeapView}
+use Rattle.gc_view.specs.Heaps.{HeapObject, HeapView}
 use Rattle.gc_memory.specs.Lists.{In, here, there}
 use Rattle.gc_heap.specs.Objects.{HasFields, writable_offset, array_length, IsObjectData}
 use Rattle.gc_heap.specs.References.{word_offsets, word_in}

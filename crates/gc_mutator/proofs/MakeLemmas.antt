@@ -17,8 +17,8 @@ use Rattle.gc_types.specs.declared.layout.GcArrayLayout.{GcArrayLayout}
 use Rattle.gc_types.specs.Declarations.{Declaration, Shape, struct_of, array_of, exn_of, func_of, constant_field, elem_at}
 use Rattle.gc_types.specs.Layouts.{struct_base, exception_base, array_base, round_up, ref_offsets, field_layouts, fields_end, struct_layout, exn_layout, array_layout, shape_layout, declaration_layout, layout_at, array_layout_at}
 use Rattle.gc_roots.specs.Roots.{Root}
-use Rattle.gc_model.specs.Views.{HeapObject, HeapView}
-use Rattle.gc_model.proofs.Layouts.{layout_low}
+use Rattle.gc_view.specs.Heaps.{HeapObject, HeapView}
+use Rattle.gc_view.proofs.Layouts.{layout_low}
 use Rattle.gc_heap.specs.Objects.{first_offset, external}
 use Rattle.gc_heap.specs.References.{IsTraceable, LayoutTraces, ArrayTraces}
 use Rattle.gc_heap.specs.Content.{IsHeap}

@@ -11,7 +11,7 @@ use Rattle.gc_types.specs.declared.kind.Layouts.{Layouts}
 use Rattle.gc_types.specs.declared.kind.Layouts.TheVariants.{Null, Counting, Copying}
 use Rattle.gc_types.specs.Declarations.{Declaration}
 use Rattle.gc_roots.specs.Roots.{Root}
-use Rattle.gc_model.specs.Views.{HeapObject, HeapView, Counts, no_counts}
+use Rattle.gc_view.specs.Heaps.{HeapObject, HeapView, Counts, no_counts}
 use Rattle.gc_heap.specs.Objects.{held_size}
 use Rattle.gc_heap.specs.References.{references, reference_offsets, word_in}
 use Rattle.gc_heap.specs.Content.{IsHeap, total}

@@ -12,7 +12,7 @@ use Rattle.gc_types.specs.Declarations.{Declaration}
 use Rattle.gc_types.specs.Layouts.{trace_at}
 use Rattle.gc_roots.specs.Roots.{Root}
 use Rattle.gc_memory.specs.Lists.{In, here, there}
-use Rattle.gc_model.specs.Views.{HeapObject, HeapView, Counts, no_counts}
+use Rattle.gc_view.specs.Heaps.{HeapObject, HeapView, Counts, no_counts}
 use Rattle.gc_types.specs.declared.layout.TraceInfo.{TraceInfo}
 use Rattle.gc_types.specs.declared.layout.TraceInfo.TheVariants as trace
 use Rattle.gc_refs.specs.Trace.{form_unit}

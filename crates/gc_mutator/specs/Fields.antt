@@ -10,7 +10,7 @@ use Rattle.gc_types.specs.declared.layout.TraceInfo.TheVariants as trace
 use Rattle.gc_types.specs.Declarations.{Declaration}
 use Rattle.gc_types.specs.Layouts.{trace_at}
 use Rattle.gc_refs.specs.Trace.{form_unit}
-use Rattle.gc_model.specs.Views.{HeapObject, HeapView}
+use Rattle.gc_view.specs.Heaps.{HeapObject, HeapView}
 use Rattle.gc_heap.specs.Objects.{held_size, writable_offset, HasFields}
 use Rattle.gc_heap.specs.References.{typed_offsets, word_in}
 use Rattle.gc_heap.specs.Heap.{put_object, with_data}

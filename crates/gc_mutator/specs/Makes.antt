@@ -7,8 +7,8 @@ use Rattle.gc_types.specs.declared.layout.GcArrayLayout.{GcArrayLayout}
 use Rattle.gc_types.specs.Layouts.{layout_at, array_layout_at}
 use Rattle.gc_roots.specs.Roots.{Root, root}
 use Rattle.gc_memory.specs.Offsets.{external_size}
-use Rattle.gc_model.specs.Sizes.{need_of}
-use Rattle.gc_model.specs.Views.{HeapObject}
+use Rattle.gc_view.specs.Sizes.{need_of}
+use Rattle.gc_view.specs.Heaps.{HeapObject}
 use Rattle.gc_heap.specs.Objects.{external}
 use Rattle.gc_heap.specs.Heap.{AddsObject, HasRoom, IsTooLarge, new_struct, new_array, array_size}
 use Rattle.gc_heap.specs.declared.heap.HeapFault.{HeapFault}

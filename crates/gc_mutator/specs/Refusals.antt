@@ -5,8 +5,8 @@
 use Rattle.std.specs.Prelude.{◌≡◌, ℕ, ◌+◌, ◌*◌, ◌<◌, ◌≤◌, ◌⊎◌, true, false, List, Option, Some, None, length}
 use Rattle.gc_types.specs.declared.kind.Layouts.{Layouts}
 use Rattle.gc_roots.specs.Roots.{Root}
-use Rattle.gc_model.specs.Allocation.{page, max_pages}
-use Rattle.gc_model.specs.Views.{HeapObject}
+use Rattle.gc_view.specs.Pages.{page, max_pages}
+use Rattle.gc_view.specs.Heaps.{HeapObject}
 use Rattle.gc_mutator.specs.Mutators.{MutatorView, max_roots, NamesObject, NamesSuch}
 use Rattle.gc_mutator.specs.Fields.{HasReference}
 use Rattle.gc_mutator.specs.declared.fault.MutatorFault.{MutatorFault}

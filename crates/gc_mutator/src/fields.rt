@@ -8,7 +8,7 @@ ghost use Rattle.gc_types.specs.declared.kind.Layouts.{Layouts};
 ghost use Rattle.gc_types.specs.declared.kind.Layouts.TheVariants.{Counting};
 ghost use Rattle.gc_types.specs.Declarations.{Declaration};
 ghost use Rattle.gc_types.specs.Layouts.{struct_base, array_base};
-ghost use Rattle.gc_model.specs.Views.{HeapObject};
+ghost use Rattle.gc_view.specs.Heaps.{HeapObject};
 ghost use Rattle.gc_heap.specs.Objects.{HasFields, writable_offset, array_length};
 ghost use Rattle.gc_refs.specs.Trace.{form_unit};
 ghost use Rattle.gc_heap.specs.References.{word_offsets, info_offsets, word_in};

@@ -1,7 +1,7 @@
 //! More memory for a heap that holds objects.
 
 ghost use Rattle.std.specs.Prelude.{◌≡◌, ◌*◌, ◌≤◌, ◌+◌, ◌↔◌, OnOk, OnErr, IfErr, IsErrOf, IsOkUnless, true, false};
-ghost use Rattle.gc_model.specs.Allocation.{page, max_pages};
+ghost use Rattle.gc_view.specs.Pages.{page, max_pages};
 ghost use Rattle.gc_heap.specs.Heap.{grown};
 ghost use Rattle.gc_mutator.specs.Refusals.{CanGrow, RefusesGrowth};
 

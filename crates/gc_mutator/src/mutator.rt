@@ -2,8 +2,8 @@
 
 ghost use Rattle.std.specs.Prelude.{◌≡◌, ◌≤◌, ◌*◌, [], IfOk, IsOkUnless, length};
 ghost use Rattle.std.specs.FinMap as map;
-ghost use Rattle.gc_model.specs.Allocation.{page, max_pages};
-ghost use Rattle.gc_model.specs.Views.{detached_in};
+ghost use Rattle.gc_view.specs.Pages.{page, max_pages};
+ghost use Rattle.gc_view.specs.Heaps.{detached_in};
 ghost use Rattle.gc_heap.specs.Heap.{empty_heap};
 
 use crate::fault::MutatorFault;

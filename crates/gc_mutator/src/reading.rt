@@ -6,7 +6,7 @@ ghost use Rattle.std.specs.Int.{w32};
 ghost use Rattle.gc_refs.specs.LittleEndian.{unsigned_at};
 ghost use Rattle.gc_heap.specs.Content.{IsHeld};
 ghost use Rattle.gc_types.specs.declared.kind.VMGcKind.TheVariants.{ExternRef};
-ghost use Rattle.gc_model.specs.Views.{HeapObject};
+ghost use Rattle.gc_view.specs.Heaps.{HeapObject};
 ghost use Rattle.gc_heap.specs.Objects.{host_id};
 ghost use Rattle.gc_heap.specs.References.{word_in};
 ghost use Rattle.gc_heap.specs.Access.{ReadsData};

@@ -3,8 +3,9 @@ use Rattle.std.proofs.Common.{inl, inr, ◌≡◌, ℕ, ◌+◌, ◌<◌, ◌≤
 use Rattle.std.specs.Prelude.{◌⊎◌}
 use Rattle.gc_types.specs.declared.kind.Layouts.{Layouts}
 use Rattle.gc_model.specs.Table.{Table}
-use Rattle.gc_model.specs.Sizes.{need_of}
-use Rattle.gc_model.specs.Allocation.{Limits, max_pages, asked}
+use Rattle.gc_view.specs.Sizes.{need_of}
+use Rattle.gc_view.specs.Pages.{max_pages}
+use Rattle.gc_model.specs.Allocation.{Limits, asked}
 use Rattle.gc_store.specs.Limiters.{Refuses}
 use Rattle.gc_store.specs.Growth.{AsksFirst, AsksPages}
 use Rattle.gc_store.specs.Growth as growth

@@ -9,7 +9,7 @@ use Rattle.gc_types.specs.declared.value.FieldType.{FieldType}
 use Rattle.gc_types.specs.Declarations.{TypeName}
 use Rattle.gc_model.specs.Fits as model
 use Rattle.gc_model.specs.Table.{declare}
-use Rattle.gc_model.specs.Views.{StoreView}
+use Rattle.gc_model.specs.Stores.{StoreView}
 use Rattle.gc_store.specs.Stores.{IsSameStore, DeclaresStruct}
 use Rattle.gc_commands.specs.declared.command.Command.TheVariants.{Struct}
 use Rattle.gc_commands.specs.declared.command.FieldWord.{FieldWord}

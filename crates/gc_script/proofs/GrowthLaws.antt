@@ -4,9 +4,10 @@ use Rattle.std.proofs.Common.{◌≡◌, ℕ, ◌+◌, ◌*◌, ◌/◌, ◌<◌
 use Rattle.gc_types.specs.declared.kind.Layouts.TheVariants.{Copying}
 use Rattle.gc_types.specs.Layouts.{round_up}
 use Rattle.gc_model.specs.Table.{Table}
-use Rattle.gc_model.specs.Sizes.{alignment, need_of}
+use Rattle.gc_view.specs.Sizes.{alignment, need_of}
 use Rattle.gc_model.specs.Reach.{AreAll, IsKept}
-use Rattle.gc_model.specs.Allocation.{Limits, page, asked, skipped, MayHave, MayRefuse}
+use Rattle.gc_view.specs.Pages.{page}
+use Rattle.gc_model.specs.Allocation.{Limits, asked, skipped, MayHave, MayRefuse}
 use Rattle.gc_store.specs.Accounts.{Account, is_due}
 use Rattle.gc_store.specs.Growth as growth
 use Rattle.gc_store.specs.Growth.{AsksFirst, AsksPages}

@@ -5,7 +5,7 @@ use Rattle.gc_types.specs.declared.kind.Layouts.{Layouts}
 use Rattle.gc_model.specs.Table.{Table}
 use Rattle.gc_model.specs.Allocation.{Limits, Grows, GetsPages}
 use Rattle.gc_model.specs.Allocation as allocation
-use Rattle.gc_model.specs.Views.{StoreView}
+use Rattle.gc_model.specs.Stores.{StoreView}
 use Rattle.gc_store.specs.declared.grow.GrowFault.TheVariants as fault
 use Rattle.gc_store.specs.Expansion.{GrowsStore}
 use Rattle.gc_store.specs.Places.{MayGetPages}

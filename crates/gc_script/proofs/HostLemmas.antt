@@ -15,9 +15,9 @@ use Rattle.gc_model.specs.declared.GcClass.TheVariants.{Any, Extern, Exn}
 use Rattle.gc_model.specs.Values.{Reference, at, Value, i32, i64, f32, f64, v128, function, reference, Object, struct, array, host, exception}
 use Rattle.gc_model.specs.Table.{Table, Scoped, Slot, Owned, empty_slot, global_count}
 use Rattle.gc_model.specs.Reach.{Reached, by_root, by_value, IsKept, IsHost, HasNumber, root_references, references_in, value_references, slot_references, owned_references, present}
-use Rattle.gc_model.specs.Views.{StoreView}
+use Rattle.gc_model.specs.Stores.{StoreView}
 use Rattle.gc_model.specs.Holds.{Placing, IsWord, Holds, HoldsTable, Stands, Lies, LiesI32, LiesI64, LiesAny}
-use Rattle.gc_model.specs.Views.{HeapObject}
+use Rattle.gc_view.specs.Heaps.{HeapObject}
 use Rattle.gc_model.proofs.HeldStructs.{read_lies, placed_typed}
 
 -- a reference has a word

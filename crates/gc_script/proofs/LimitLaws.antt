@@ -6,8 +6,10 @@ use Rattle.gc_model.specs.Values.{Object, Value}
 use Rattle.gc_model.specs.Table.{Table, made_pages, make_heap, with_pages}
 use Rattle.gc_model.specs.Reads.{after_read}
 use Rattle.gc_model.specs.Values as values
-use Rattle.gc_model.specs.Sizes.{object_size, need_of}
-use Rattle.gc_model.specs.Allocation.{max_pages, asked, FitsIn, LacksFit, MayMakeHeap, LacksMemory, no_heap, no_room, Allocates, GetsPages, same, more, Grows}
+use Rattle.gc_view.specs.Sizes.{need_of}
+use Rattle.gc_model.specs.Sizes.{object_size}
+use Rattle.gc_view.specs.Pages.{max_pages}
+use Rattle.gc_model.specs.Allocation.{asked, FitsIn, LacksFit, MayMakeHeap, LacksMemory, no_heap, no_room, Allocates, GetsPages, same, more, Grows}
 use Rattle.gc_model.specs.Allocation as allocation
 use Rattle.gc_commands.specs.declared.command.Command.{Command}
 use Rattle.gc_commands.specs.declared.command.Command.TheVariants.{Bad, Struct, New, I31, Field, SetField, Eq, Enter, Leave, Gc, Grow, Cap}

@@ -6,7 +6,7 @@ use Rattle.gc_model.specs.declared.GcClass.TheVariants as class
 use Rattle.gc_model.specs.Values.{small}
 use Rattle.gc_model.specs.Table.{push}
 use Rattle.gc_model.specs.Live.{roots_full}
-use Rattle.gc_model.specs.Views.{StoreView}
+use Rattle.gc_model.specs.Stores.{StoreView}
 use Rattle.gc_store.specs.declared.root.GcRootIndex.{GcRootIndex}
 use Rattle.gc_store.specs.declared.root.RawValue.TheVariants as raw
 use Rattle.gc_store.specs.declared.root.RootFault.TheVariants as fault

@@ -9,7 +9,7 @@ use Rattle.gc_model.specs.Values as values
 use Rattle.gc_model.specs.Table.{Table}
 use Rattle.gc_model.specs.Live.{rooted}
 use Rattle.gc_model.specs.Reads.{same_reference}
-use Rattle.gc_model.specs.Views.{StoreView}
+use Rattle.gc_model.specs.Stores.{StoreView}
 use Rattle.gc_model.specs.Holds.{HoldsTable}
 use Rattle.gc_model.proofs.Live.{rooted_word}
 use Rattle.gc_commands.specs.declared.command.Command.TheVariants as command

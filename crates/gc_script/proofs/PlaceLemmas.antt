@@ -8,8 +8,9 @@ use Rattle.gc_model.specs.Values.{Object}
 use Rattle.gc_model.specs.Table.{Table, make}
 use Rattle.gc_model.specs.Allocation.{Limits, Allocates, LacksMemory, no_heap, no_room, too_large}
 use Rattle.gc_model.specs.Live.{roots_full}
-use Rattle.gc_model.specs.Sizes.{object_size, need_of}
-use Rattle.gc_model.specs.Views.{StoreView}
+use Rattle.gc_view.specs.Sizes.{need_of}
+use Rattle.gc_model.specs.Sizes.{object_size}
+use Rattle.gc_model.specs.Stores.{StoreView}
 use Rattle.gc_store.specs.declared.root.GcRootIndex.{GcRootIndex}
 use Rattle.gc_store.specs.declared.root.RawValue.TheVariants as raw
 use Rattle.gc_store.specs.declared.store.PlaceFault.TheVariants as fault

@@ -17,7 +17,7 @@ use Rattle.gc_model.specs.Table.{Table, Scoped, push}
 use Rattle.gc_model.specs.Live.{rooted, rooted_among}
 use Rattle.gc_model.specs.Fits.{fits, fits_type}
 use Rattle.gc_model.specs.Reads.{after_read}
-use Rattle.gc_model.specs.Views.{StoreView}
+use Rattle.gc_model.specs.Stores.{StoreView}
 use Rattle.gc_model.specs.Holds.{HoldsTable}
 use Rattle.gc_model.proofs.Lists.{slice_get-push_new, slice_get-same_length}
 use Rattle.gc_store.specs.declared.root.GcRootIndex.{GcRootIndex}

@@ -8,7 +8,8 @@ use Rattle.gc_model.specs.Values.{Object, Value}
 use Rattle.gc_model.specs.Values as values
 use Rattle.gc_model.specs.Table.{Table}
 use Rattle.gc_model.specs.Reads.{after_read}
-use Rattle.gc_model.specs.Allocation.{max_pages, LacksMemory, no_heap, no_room, Grows}
+use Rattle.gc_view.specs.Pages.{max_pages}
+use Rattle.gc_model.specs.Allocation.{LacksMemory, no_heap, no_room, Grows}
 use Rattle.gc_model.specs.Allocation as allocation
 use Rattle.gc_commands.specs.declared.command.Command.{Command}
 use Rattle.gc_commands.specs.declared.command.Command.TheVariants.{Bad, Struct, New, I31, Field, SetField, Eq, Enter, Leave, Gc, Grow, Cap}

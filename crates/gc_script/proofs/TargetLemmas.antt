@@ -13,7 +13,7 @@ use Rattle.gc_model.specs.Values as values
 use Rattle.gc_model.specs.Table.{Table}
 use Rattle.gc_model.specs.Live.{rooted}
 use Rattle.gc_model.specs.Fits.{fits}
-use Rattle.gc_model.specs.Views.{StoreView}
+use Rattle.gc_model.specs.Stores.{StoreView}
 use Rattle.gc_model.specs.Holds.{HoldsTable}
 use Rattle.gc_model.proofs.HeldStructs.{holds_typed}
 use Rattle.gc_model.proofs.Lists.{slice_get-same_length}

@@ -9,7 +9,7 @@ use Rattle.gc_model.specs.declared.GcClass.{GcClass}
 use Rattle.gc_model.specs.Values.{Reference}
 use Rattle.gc_model.specs.Table.{Table, write}
 use Rattle.gc_model.specs.Live.{rooted}
-use Rattle.gc_model.specs.Views.{StoreView}
+use Rattle.gc_model.specs.Stores.{StoreView}
 use Rattle.gc_commands.specs.declared.command.Operand.{Operand}
 use Rattle.gc_commands.specs.declared.command.Command.TheVariants as command
 use Rattle.gc_commands.specs.declared.reply.Reply.TheVariants as reply

@@ -3,7 +3,8 @@ use Rattle.std.specs.Prelude.{◌≡◌, ◌+◌, ◌<◌, ℕ, List, [], ◌∷
 use Rattle.gc_types.specs.declared.kind.Layouts.{Layouts}
 use Rattle.gc_model.specs.Values.{Object}
 use Rattle.gc_model.specs.Table.{Table, made_pages, make_heap}
-use Rattle.gc_model.specs.Sizes.{object_size, need_of}
+use Rattle.gc_view.specs.Sizes.{need_of}
+use Rattle.gc_model.specs.Sizes.{object_size}
 use Rattle.gc_model.specs.Allocation.{asked, LacksFit}
 use Rattle.gc_commands.specs.declared.command.Command.{Command}
 use Rattle.gc_commands.specs.declared.command.Command.TheVariants.{Bad, Struct, New, I31, Field, SetField, Eq, Enter, Leave, Gc, Grow, Cap}

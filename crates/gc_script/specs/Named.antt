@@ -6,7 +6,7 @@ use Rattle.gc_types.specs.Declarations.{struct_fields_at}
 use Rattle.gc_model.specs.Values.{Reference, at, Value, struct}
 use Rattle.gc_model.specs.Table.{Table}
 use Rattle.gc_model.specs.Live.{rooted}
-use Rattle.gc_model.specs.Views.{StoreView}
+use Rattle.gc_model.specs.Stores.{StoreView}
 use Rattle.gc_model.specs.Holds.{HoldsTable}
 use Rattle.gc_commands.specs.declared.reply.Refusal.{Refusal}
 use Rattle.gc_store.specs.declared.root.GcRootIndex.{GcRootIndex}

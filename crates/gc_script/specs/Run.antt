@@ -1,9 +1,11 @@
 -- A run of commands.
 use Rattle.std.specs.Prelude.{◌≡◌, ℕ, ◌+◌, ◌≤◌, ◌⊎◌, List, [], ◌∷◌, Option, None, Result, Ok, Err, Bool, true, if◌then◌else◌}
 use Rattle.gc_types.specs.declared.kind.Layouts.{Layouts}
-use Rattle.gc_model.specs.Sizes.{object_size, need_of}
-use Rattle.gc_model.specs.Allocation.{Limits, asked, max_pages}
-use Rattle.gc_model.specs.Views.{StoreView}
+use Rattle.gc_view.specs.Sizes.{need_of}
+use Rattle.gc_model.specs.Sizes.{object_size}
+use Rattle.gc_view.specs.Pages.{max_pages}
+use Rattle.gc_model.specs.Allocation.{Limits, asked}
+use Rattle.gc_model.specs.Stores.{StoreView}
 use Rattle.gc_store.specs.Limiters.{Refuses}
 use Rattle.gc_store.specs.Places.{MayGetPages}
 use Rattle.gc_store.specs.Policy.{PolicyState}

@@ -14,7 +14,8 @@ use Rattle.gc_model.specs.Live.{roots_full}
 use Rattle.gc_model.specs.Reach.{KeepsNumber}
 use Rattle.gc_model.specs.Reads.{makes_root, after_read, same_reference}
 use Rattle.gc_model.specs.Sizes.{object_size}
-use Rattle.gc_model.specs.Allocation.{page, too_large, Allocates, LacksMemory, Grows}
+use Rattle.gc_view.specs.Pages.{page}
+use Rattle.gc_model.specs.Allocation.{too_large, Allocates, LacksMemory, Grows}
 use Rattle.gc_commands.specs.declared.command.Command.{Command}
 use Rattle.gc_commands.specs.declared.command.Command.TheVariants.{Bad, Struct, New, I31, Field, SetField, Eq, Enter, Leave, Gc, Grow, Cap}
 use Rattle.gc_commands.specs.declared.command.Operand.{Operand}

@@ -7,7 +7,8 @@ use Rattle.gc_model.specs.declared.RootEntry.{RootEntry}
 use Rattle.gc_model.specs.Table.{Table}
 use Rattle.gc_model.specs.Reach.{AreAll, IsKept}
 use Rattle.gc_model.specs.Allocation.{Limits}
-use Rattle.gc_model.specs.Views.{StoreView, HeapView}
+use Rattle.gc_view.specs.Heaps.{HeapView}
+use Rattle.gc_model.specs.Stores.{StoreView}
 use Rattle.gc_model.specs.Holds.{Placing, Holds, HoldsTable, HoldsKept}
 use Rattle.gc_heap.specs.Content.{IsHeap, total, block_size}
 use Rattle.gc_heap.specs.Heap.{HasRoom}

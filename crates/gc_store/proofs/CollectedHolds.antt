@@ -10,7 +10,8 @@ use Rattle.gc_model.specs.declared.RootEntry.{RootEntry}
 use Rattle.gc_model.specs.Values.{Reference, null, small, at, struct}
 use Rattle.gc_model.specs.Table.{Table, Scoped}
 use Rattle.gc_model.specs.Reach.{IsKept}
-use Rattle.gc_model.specs.Views.{StoreView, HeapView, HeapObject}
+use Rattle.gc_view.specs.Heaps.{HeapView, HeapObject}
+use Rattle.gc_model.specs.Stores.{StoreView}
 use Rattle.gc_model.specs.Holds.{Placing, IsWord, EntryStands, HeldAt, ObjectsHold, KindHolds, ScopedHold, Holds, HoldsKept}
 use Rattle.gc_heap.specs.References.{references}
 use Rattle.gc_heap.specs.Content.{IsHeld, IsHeap}

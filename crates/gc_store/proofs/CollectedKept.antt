@@ -11,7 +11,8 @@ use Rattle.gc_model.specs.Values.{Reference, at, Value, Object, struct, array, h
 use Rattle.gc_model.specs.Table.{Table, Scoped}
 use Rattle.gc_model.specs.Reach as reach
 use Rattle.gc_model.specs.Reach.{value_references, references_in, IsReached, IsKept}
-use Rattle.gc_model.specs.Views.{StoreView, HeapObject}
+use Rattle.gc_view.specs.Heaps.{HeapObject}
+use Rattle.gc_model.specs.Stores.{StoreView}
 use Rattle.gc_model.specs.Holds.{Placing, IsWord, Stands, StructStands, Holds}
 use Rattle.gc_model.proofs.Lists.{slice_get-same_length}
 use Rattle.gc_model.proofs.Live.{entry_stands}

@@ -17,9 +17,9 @@ use Rattle.gc_types.specs.Declarations.{Shape, struct_of, array_of, exn_of, func
 use Rattle.gc_types.specs.Layouts.{struct_base, field_layouts, field_offset, storage_width, is_gc_storage, ref_offsets, shape_trace, declaration_trace}
 use Rattle.gc_refs.specs.Trace.{form_unit, form_of}
 use Rattle.gc_memory.specs.Lists.{In, here, there}
-use Rattle.gc_model.specs.Views.{HeapObject}
+use Rattle.gc_view.specs.Heaps.{HeapObject}
 use Rattle.gc_model.proofs.FieldsLie.{IsField}
-use Rattle.gc_model.proofs.Layouts.{layout_low}
+use Rattle.gc_view.proofs.Layouts.{layout_low}
 use Rattle.gc_heap.specs.References.{bit_offsets, bitmap_of, bitmap_offsets, is_past_bitmap, info_offsets, typed_offsets, traced_offsets, reference_offsets}
 use Rattle.gc_heap.proofs.SpacedLemmas.{bit_set, bit_clear, bit_is_0, first_or_later, refs-take, refs-skip, aligned_fields}
 use Rattle.gc_heap.proofs.ReferenceLemmas.{content_by_form}

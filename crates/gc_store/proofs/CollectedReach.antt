@@ -14,7 +14,8 @@ use Rattle.gc_model.specs.declared.GcClass.TheVariants.{Any, Extern, Exn}
 use Rattle.gc_model.specs.Values.{Reference, null, at, Value, i32, i64, f32, f64, v128, function, reference}
 use Rattle.gc_model.specs.Table.{Table, Scoped, empty_slot, global_count}
 use Rattle.gc_model.specs.Reach.{root_references, slot_references, owned_references, present, value_references}
-use Rattle.gc_model.specs.Views.{HeapObject, u32_at}
+use Rattle.gc_view.specs.Bytes.{u32_at}
+use Rattle.gc_view.specs.Heaps.{HeapObject}
 use Rattle.gc_model.specs.Holds.{Placing, IsWord, Lies, LiesAny, StructStands, NothingElse}
 use Rattle.gc_model.proofs.HeldStructs.{read_lies, field_value, FieldHolds}
 use Rattle.gc_heap.specs.References.{reference_offsets, word_in}

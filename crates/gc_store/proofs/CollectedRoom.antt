@@ -11,7 +11,8 @@ use Rattle.gc_model.specs.Sizes.{fields_size, rounded_size}
 use Rattle.gc_model.specs.Reach.{IsReached, AreAll, root_references}
 use Rattle.gc_model.specs.Allocation as allocation
 use Rattle.gc_model.specs.Allocation.{copied_size, FitsIn, LacksFit}
-use Rattle.gc_model.specs.Views.{StoreView, HeapObject}
+use Rattle.gc_view.specs.Heaps.{HeapObject}
+use Rattle.gc_model.specs.Stores.{StoreView}
 use Rattle.gc_model.specs.Holds.{Placing, Holds, HoldsKept}
 use Rattle.gc_heap.specs.Objects.{size_with}
 use Rattle.gc_heap.specs.Content.{total, block_size}

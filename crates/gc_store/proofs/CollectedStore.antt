@@ -7,7 +7,8 @@ use Rattle.std.proofs.lemmas.Option.{none-some}
 use Rattle.gc_types.specs.declared.kind.Layouts.{Layouts}
 use Rattle.gc_model.specs.declared.RootEntry.{RootEntry}
 use Rattle.gc_model.specs.Table.{Table}
-use Rattle.gc_model.specs.Views.{StoreView, HeapView, HeapObject}
+use Rattle.gc_view.specs.Heaps.{HeapView, HeapObject}
+use Rattle.gc_model.specs.Stores.{StoreView}
 use Rattle.gc_model.specs.Values.{Object}
 use Rattle.gc_model.specs.Holds.{HoldsTable, HoldsKept}
 use Rattle.gc_heap.specs.Content.{IsHeap}

@@ -17,12 +17,12 @@ use Rattle.gc_types.specs.Layouts.{struct_base, storage_width, is_gc_storage, is
 use Rattle.gc_memory.specs.Lists.{In}
 use Rattle.gc_model.specs.declared.GcClass.TheVariants.{Any, Extern, Exn}
 use Rattle.gc_model.specs.Values.{Reference, Value, i32, i64, f32, f64, v128, function, reference}
-use Rattle.gc_model.specs.Bytes.{SameBytes}
+use Rattle.gc_view.specs.Bytes.{SameBytes}
 use Rattle.gc_model.specs.Fits.{is_any, is_built_value, is_built_storage, is_built_field}
-use Rattle.gc_model.specs.Views.{HeapObject}
+use Rattle.gc_view.specs.Heaps.{HeapObject}
 use Rattle.gc_model.specs.Holds.{Placing, IsWord, Lies, LiesAny, ValuesLie, StructStands}
 use Rattle.gc_model.proofs.FieldsLie.{IsField, fields_apart}
-use Rattle.gc_model.proofs.Layouts.{layout_low}
+use Rattle.gc_view.proofs.Layouts.{layout_low}
 use Rattle.gc_model.proofs.Lying.{lies_same}
 use Rattle.gc_heap.specs.References.{reference_offsets, references, word_in}
 use Rattle.gc_heap.specs.Collection.{moved, IsNoReference, IsMoved}

@@ -9,7 +9,8 @@ use Rattle.gc_types.specs.Declarable.{Declarable}
 use Rattle.gc_types.specs.Declarations.{Declaration, TypeTable, TypeName, plain_struct, struct_type}
 use Rattle.gc_types.specs.Declarations as types
 use Rattle.gc_model.specs.Table.{Table, declare}
-use Rattle.gc_model.specs.Views.{StoreView, HeapView}
+use Rattle.gc_view.specs.Heaps.{HeapView}
+use Rattle.gc_model.specs.Stores.{StoreView}
 use Rattle.gc_model.specs.Holds.{Holds}
 use Rattle.gc_model.proofs.HoldsDeclare.{holds_declare}
 use Rattle.gc_model.specs.Fits.{is_built_field}

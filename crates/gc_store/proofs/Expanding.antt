@@ -4,7 +4,7 @@ use Rattle.gc_types.specs.declared.kind.Layouts.{Layouts}
 use Rattle.gc_model.specs.Table.{Table, make_heap, made_pages}
 use Rattle.gc_model.specs.Allocation as allocation
 use Rattle.gc_model.specs.Allocation.{MayMakeHeap, Grows, same}
-use Rattle.gc_model.specs.Views.{StoreView}
+use Rattle.gc_model.specs.Stores.{StoreView}
 use Rattle.gc_store.specs.declared.grow.GrowFault.{GrowFault}
 use Rattle.gc_store.specs.declared.grow.GrowFault.TheVariants as fault
 use Rattle.gc_store.specs.Accounts.{Account, HoldsAccount}

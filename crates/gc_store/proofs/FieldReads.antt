@@ -14,7 +14,9 @@ use Rattle.gc_model.specs.declared.GcClass.TheVariants.{Any, Extern, Exn}
 use Rattle.gc_model.specs.Values.{Reference, at, Value, i32, i64, f32, f64, v128, function, reference}
 use Rattle.gc_model.specs.Fits.{is_built_field}
 use Rattle.gc_model.specs.Table.{Table}
-use Rattle.gc_model.specs.Views.{StoreView, HeapObject, u32_at, u64_at}
+use Rattle.gc_view.specs.Bytes.{u32_at, u64_at}
+use Rattle.gc_view.specs.Heaps.{HeapObject}
+use Rattle.gc_model.specs.Stores.{StoreView}
 use Rattle.gc_model.specs.Holds.{Placing, IsWord, Holds, Lies, LiesI32, LiesI64, LiesAny}
 use Rattle.gc_model.proofs.HeldStructs.{FieldHolds, struct_stands, read_lies}
 use Rattle.gc_store.specs.declared.field.Stored.{Stored}

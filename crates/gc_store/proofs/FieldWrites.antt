@@ -17,7 +17,8 @@ use Rattle.gc_types.specs.Layouts.{struct_base}
 use Rattle.gc_model.specs.declared.GcClass.TheVariants.{Any}
 use Rattle.gc_model.specs.Values.{Reference, null, Value, i32, i64, reference, number_bits}
 use Rattle.gc_model.specs.Table.{Table, write}
-use Rattle.gc_model.specs.Views.{StoreView, HeapView, HeapObject}
+use Rattle.gc_view.specs.Heaps.{HeapView, HeapObject}
+use Rattle.gc_model.specs.Stores.{StoreView}
 use Rattle.gc_model.specs.Encoded.{IsEncoded}
 use Rattle.gc_model.specs.Holds.{Placing, IsWord, Holds}
 use Rattle.gc_store.specs.Accounts.{Account, HoldsAccount}

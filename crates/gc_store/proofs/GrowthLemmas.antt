@@ -7,9 +7,10 @@ use Rattle.gc_types.specs.declared.kind.Layouts.TheVariants.{Null, Counting, Cop
 use Rattle.gc_types.specs.Declarations.{Declaration}
 use Rattle.gc_types.specs.Layouts.{round_up}
 use Rattle.gc_roots.specs.Roots.{Root}
-use Rattle.gc_model.specs.Sizes.{alignment, need_of}
-use Rattle.gc_model.specs.Allocation.{Limits, page, max_pages, asked, MayHave, MayRefuse}
-use Rattle.gc_model.specs.Views.{HeapView}
+use Rattle.gc_view.specs.Sizes.{alignment, need_of}
+use Rattle.gc_view.specs.Pages.{page, max_pages}
+use Rattle.gc_model.specs.Allocation.{Limits, asked, MayHave, MayRefuse}
+use Rattle.gc_view.specs.Heaps.{HeapView}
 use Rattle.gc_heap.specs.Objects.{held_size}
 use Rattle.gc_heap.specs.Content.{IsHeap, block_size, half_of, total}
 use Rattle.gc_heap.specs.Heap.{HasRoom, IsFree, grown, allocated_in_more}

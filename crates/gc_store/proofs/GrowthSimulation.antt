@@ -2,8 +2,10 @@
 use Rattle.std.proofs.Common.{◌≡◌, ℕ, ◌+◌, ◌*◌, ◌/◌, inl, inr, Bool, true, false, Option, refl, sym, ap, ◌∙◌, subst, arith}
 use Rattle.gc_types.specs.declared.kind.Layouts.{Layouts}
 use Rattle.gc_model.specs.Table.{Table}
-use Rattle.gc_model.specs.Allocation.{Limits, page, asked, MayGrow, IsRefusedGrowth}
-use Rattle.gc_model.specs.Views.{StoreView, HeapView}
+use Rattle.gc_view.specs.Pages.{page}
+use Rattle.gc_model.specs.Allocation.{Limits, asked, MayGrow, IsRefusedGrowth}
+use Rattle.gc_view.specs.Heaps.{HeapView}
+use Rattle.gc_model.specs.Stores.{StoreView}
 use Rattle.gc_model.specs.Holds.{HoldsKept}
 use Rattle.gc_model.proofs.HoldsHeap.{IsGrownHeap, holds_pages}
 use Rattle.gc_heap.specs.Content.{IsHeap}

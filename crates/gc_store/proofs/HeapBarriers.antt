@@ -12,7 +12,8 @@ use Rattle.gc_types.specs.Declarations.{Declaration}
 use Rattle.gc_roots.specs.Roots.{Root}
 use Rattle.gc_model.specs.declared.RootEntry.{RootEntry}
 use Rattle.gc_model.specs.Table.{Table}
-use Rattle.gc_model.specs.Views.{HeapObject, HeapView, StoreView, Counts, no_counts}
+use Rattle.gc_view.specs.Heaps.{HeapObject, HeapView, Counts, no_counts}
+use Rattle.gc_model.specs.Stores.{StoreView}
 use Rattle.gc_model.specs.Holds.{Holds, Placing}
 use Rattle.gc_heap.specs.Objects.{held_size}
 use Rattle.gc_heap.specs.References.{references, reference_offsets, word_in}

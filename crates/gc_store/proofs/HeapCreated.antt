@@ -13,9 +13,9 @@ use Rattle.gc_types.specs.Declarations.{Declaration, struct_fields_at}
 use Rattle.gc_types.specs.Layouts.{struct_base, struct_layout, field_layouts}
 use Rattle.gc_model.specs.declared.RootEntry.{RootEntry}
 use Rattle.gc_model.specs.Fits.{is_built_field}
-use Rattle.gc_model.specs.Sizes.{need_of}
-use Rattle.gc_model.specs.Views.{HeapObject, HeapView}
-use Rattle.gc_model.proofs.Content.{get-put_other}
+use Rattle.gc_view.specs.Sizes.{need_of}
+use Rattle.gc_view.specs.Heaps.{HeapObject, HeapView}
+use Rattle.gc_view.proofs.Content.{get-put_other}
 use Rattle.gc_heap.specs.Heap.{new_struct}
 use Rattle.gc_heap.proofs.NumberLemmas.{held_added}
 use Rattle.gc_store.specs.declared.root.RawValue.{RawValue}

@@ -19,9 +19,9 @@ use Rattle.gc_types.specs.Layouts.{struct_base, field_layouts, fields_end, stora
 use Rattle.gc_roots.specs.Roots.{Root}
 use Rattle.gc_memory.specs.Lists.{In, here, there}
 use Rattle.gc_model.specs.Fits.{is_any, is_built_storage}
-use Rattle.gc_model.specs.Views.{HeapObject, HeapView}
-use Rattle.gc_model.proofs.Content.{get-put_same, get-put_other}
-use Rattle.gc_model.proofs.Layouts.{stored_size-le}
+use Rattle.gc_view.specs.Heaps.{HeapObject, HeapView}
+use Rattle.gc_view.proofs.Content.{get-put_same, get-put_other}
+use Rattle.gc_view.proofs.Layouts.{stored_size-le}
 use Rattle.gc_model.proofs.FieldsLie.{IsField, FieldRange, field_range, fields_apart}
 use Rattle.gc_heap.specs.Objects.{held_size, size_with, writable_offset, HasFields}
 use Rattle.gc_heap.specs.Heap.{IsWritable, with_data, put_object}

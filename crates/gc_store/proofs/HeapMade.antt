@@ -16,10 +16,10 @@ use Rattle.gc_types.specs.Declarations.{Shape, struct_of, array_of, exn_of, func
 use Rattle.gc_types.specs.Layouts.{struct_base, struct_layout, field_layouts, fields_end, ref_offsets, shape_layout, declaration_layout}
 use Rattle.gc_roots.specs.Roots.{Root}
 use Rattle.gc_model.specs.declared.RootEntry.{RootEntry}
-use Rattle.gc_model.specs.Sizes.{stored_size}
-use Rattle.gc_model.specs.Views.{HeapObject, HeapView, detached_in}
-use Rattle.gc_model.proofs.Content.{get-put_same, get-put_other}
-use Rattle.gc_model.proofs.Layouts.{stored_size-le, fields_end-le}
+use Rattle.gc_view.specs.Sizes.{stored_size}
+use Rattle.gc_view.specs.Heaps.{HeapObject, HeapView, detached_in}
+use Rattle.gc_view.proofs.Content.{get-put_same, get-put_other}
+use Rattle.gc_view.proofs.Layouts.{stored_size-le, fields_end-le}
 use Rattle.gc_heap.specs.Objects.{first_offset}
 use Rattle.gc_heap.specs.References.{IsTraceable, LayoutTraces}
 use Rattle.gc_heap.specs.Content.{IsHeap}

@@ -9,7 +9,7 @@ use Rattle.gc_types.specs.Declarations.{Declaration, struct_fields_at}
 use Rattle.gc_types.specs.Layouts.{struct_base}
 use Rattle.gc_roots.specs.Roots.{Root}
 use Rattle.gc_model.specs.declared.RootEntry.{RootEntry}
-use Rattle.gc_model.specs.Views.{HeapObject, HeapView}
+use Rattle.gc_view.specs.Heaps.{HeapObject, HeapView}
 use Rattle.gc_heap.specs.Content.{IsHeap, AllocatedIs, KindIs}
 use Rattle.gc_heap.specs.Collection.{Start, CanCollect, Collected, IsMoved, moved}
 use Rattle.gc_heap.proofs.AddedLemmas.{start}

@@ -17,12 +17,12 @@ use Rattle.gc_roots.specs.Roots.{Root}
 use Rattle.gc_model.specs.declared.RootEntry.{RootEntry}
 use Rattle.gc_model.specs.Values.{Value}
 use Rattle.gc_model.specs.Fits.{is_built_field}
-use Rattle.gc_model.specs.Views.{HeapObject, HeapView}
+use Rattle.gc_view.specs.Heaps.{HeapObject, HeapView}
 use Rattle.gc_model.specs.Holds.{Placing}
 use Rattle.gc_model.specs.Encoded.{IsEncoded, EncodesI32, EncodesI64, EncodesAny}
-use Rattle.gc_model.proofs.Content.{get-put_same, get-put_other}
-use Rattle.gc_model.proofs.ByteLemmas.{length-put_bytes}
-use Rattle.gc_model.proofs.Layouts.{length-field_layouts}
+use Rattle.gc_view.proofs.Content.{get-put_same, get-put_other}
+use Rattle.gc_view.proofs.ByteLemmas.{length-put_bytes}
+use Rattle.gc_view.proofs.Layouts.{length-field_layouts}
 use Rattle.gc_model.proofs.Lists.{slice_get-same_length}
 use Rattle.gc_model.proofs.FieldsLie.{IsField, ValuesLieTo, lie_to-none, lie_to-step, lie_to-all}
 use Rattle.gc_heap.specs.Content.{IsHeap}

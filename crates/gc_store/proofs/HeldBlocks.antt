@@ -7,10 +7,12 @@ use Rattle.gc_types.specs.declared.kind.Layouts.{Layouts}
 use Rattle.gc_types.specs.declared.kind.Layouts.TheVariants.{Null, Counting, Copying}
 use Rattle.gc_types.specs.Layouts.{struct_base, fields_end, round_up}
 use Rattle.gc_model.specs.Table.{Table}
-use Rattle.gc_model.specs.Sizes.{fields_size, stored_size}
+use Rattle.gc_view.specs.Sizes.{stored_size}
+use Rattle.gc_model.specs.Sizes.{fields_size}
 use Rattle.gc_model.specs.Reach.{AreAll}
-use Rattle.gc_model.specs.Allocation.{page}
-use Rattle.gc_model.specs.Views.{StoreView, HeapObject}
+use Rattle.gc_view.specs.Pages.{page}
+use Rattle.gc_view.specs.Heaps.{HeapObject}
+use Rattle.gc_model.specs.Stores.{StoreView}
 use Rattle.gc_model.specs.Holds.{Placing, Holds}
 use Rattle.gc_heap.specs.Objects.{size_with}
 use Rattle.gc_heap.specs.Content.{total, block_size}

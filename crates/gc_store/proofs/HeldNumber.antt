@@ -6,7 +6,8 @@ use Rattle.std.proofs.lemmas.Option.{none-some}
 use Rattle.gc_types.specs.declared.kind.Layouts.{Layouts}
 use Rattle.gc_model.specs.Table.{Table}
 use Rattle.gc_model.specs.Reach.{IsKept, AreAll, HasNumber}
-use Rattle.gc_model.specs.Views.{StoreView, HeapObject, HeapView}
+use Rattle.gc_view.specs.Heaps.{HeapObject, HeapView}
+use Rattle.gc_model.specs.Stores.{StoreView}
 use Rattle.gc_model.specs.Holds.{Placing, ObjectsHold, Holds, HoldsKept}
 use Rattle.gc_store.specs.Collects.{IsPlaced}
 use Rattle.gc_store.proofs.CollectedLists.{get_contains, contains_map, map_get}

@@ -4,7 +4,8 @@ use Rattle.std.proofs.lemmas.Bool.{lt-ltb}
 use Rattle.gc_types.specs.declared.kind.Layouts.{Layouts}
 use Rattle.gc_types.specs.Declarations.{TypeTable}
 use Rattle.gc_model.specs.Table.{Table, leave}
-use Rattle.gc_model.specs.Views.{StoreView, HeapView, SameHeld}
+use Rattle.gc_view.specs.Heaps.{HeapView, SameHeld}
+use Rattle.gc_model.specs.Stores.{StoreView}
 use Rattle.gc_model.specs.Holds.{Holds}
 use Rattle.gc_model.proofs.HoldsLeave.{without_roots, holds_leave}
 use Rattle.gc_store.specs.Accounts.{Account, HoldsAccount}

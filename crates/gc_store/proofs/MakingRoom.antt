@@ -3,7 +3,7 @@ use Rattle.std.proofs.Common.{◌≡◌, ℕ, ◌-◌, ◌<◌, ◌≤◌, inl, 
 use Rattle.gc_types.specs.declared.kind.Layouts.{Layouts}
 use Rattle.gc_model.specs.Table.{Table}
 use Rattle.gc_model.specs.Allocation.{Limits}
-use Rattle.gc_model.specs.Views.{StoreView}
+use Rattle.gc_model.specs.Stores.{StoreView}
 use Rattle.gc_heap.specs.Content.{IsHeap}
 use Rattle.gc_store.specs.Accounts.{Account, HoldsAccount}
 use Rattle.gc_store.specs.Expansion.{CollectsStore, CollectsFor, ExpandsStore, WantsPages, MayCollectTable, enough, grows, unused_bytes}

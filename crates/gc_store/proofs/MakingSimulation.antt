@@ -3,8 +3,10 @@ use Rattle.std.proofs.Common.{◌≡◌, ℕ, ◌*◌, ◌<◌, ◌≤◌, inl, 
 use Rattle.std.specs.Prelude.{IfSome}
 use Rattle.gc_types.specs.declared.kind.Layouts.{Layouts}
 use Rattle.gc_model.specs.Table.{Table, make_heap, with_pages}
-use Rattle.gc_model.specs.Allocation.{Limits, page, max_pages, MayRefuse, MayMakeHeap, IsRefusedHeap, GetsPages, same, more}
-use Rattle.gc_model.specs.Views.{StoreView, HeapView}
+use Rattle.gc_view.specs.Pages.{page, max_pages}
+use Rattle.gc_model.specs.Allocation.{Limits, MayRefuse, MayMakeHeap, IsRefusedHeap, GetsPages, same, more}
+use Rattle.gc_view.specs.Heaps.{HeapView}
+use Rattle.gc_model.specs.Stores.{StoreView}
 use Rattle.gc_model.proofs.HoldsHeap.{IsMadeHeap, holds_heap}
 use Rattle.gc_heap.specs.Content.{IsHeap}
 use Rattle.gc_heap.specs.Heap.{allocated_at_first}

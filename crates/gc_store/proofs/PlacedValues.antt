@@ -10,7 +10,7 @@ use Rattle.gc_types.specs.Declarations.{Declaration, struct_fields_at}
 use Rattle.gc_model.specs.declared.RootEntry.{RootEntry}
 use Rattle.gc_model.specs.Values.{Value}
 use Rattle.gc_model.specs.Table.{Table, with_pages}
-use Rattle.gc_model.specs.Views.{StoreView}
+use Rattle.gc_model.specs.Stores.{StoreView}
 use Rattle.gc_model.specs.Holds.{Placing, Holds}
 use Rattle.gc_model.proofs.Lists.{slice_get-same_length}
 use Rattle.gc_store.specs.declared.root.RawValue.{RawValue}

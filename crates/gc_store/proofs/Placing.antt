@@ -9,12 +9,14 @@ use Rattle.gc_model.specs.declared.RootEntry.{RootEntry}
 use Rattle.gc_model.specs.Values.{Value, struct}
 use Rattle.gc_model.specs.Table.{Table, make, with_pages}
 use Rattle.gc_model.specs.Live.{roots_full}
-use Rattle.gc_model.specs.Sizes.{object_size, fields_size, alignment, need_of}
+use Rattle.gc_view.specs.Sizes.{alignment, need_of}
+use Rattle.gc_model.specs.Sizes.{object_size, fields_size}
 use Rattle.gc_model.specs.Allocation.{Limits, too_large, FitsIn, GetsPages}
-use Rattle.gc_model.specs.Views.{HeapView, StoreView}
+use Rattle.gc_view.specs.Heaps.{HeapView}
+use Rattle.gc_model.specs.Stores.{StoreView}
 use Rattle.gc_model.specs.Holds.{Placing, Holds}
 use Rattle.gc_model.proofs.HoldsMake.{IsMadeObject, holds_make, placed_at}
-use Rattle.gc_model.proofs.Layouts.{round_up-le}
+use Rattle.gc_view.proofs.Layouts.{round_up-le}
 use Rattle.gc_heap.specs.Content.{IsHeap}
 use Rattle.gc_heap.specs.Heap.{IsTooLarge, allocated_after}
 use Rattle.gc_store.specs.declared.root.GcRootIndex.{GcRootIndex}

@@ -4,10 +4,11 @@ use Rattle.gc_types.specs.declared.kind.Layouts.{Layouts}
 use Rattle.gc_model.specs.Values.{Value, struct}
 use Rattle.gc_model.specs.Table.{Table, make_heap, made_pages}
 use Rattle.gc_model.specs.Live.{roots_full}
-use Rattle.gc_model.specs.Sizes.{need_of}
+use Rattle.gc_view.specs.Sizes.{need_of}
 use Rattle.gc_model.specs.Allocation as allocation
 use Rattle.gc_model.specs.Allocation.{Limits, too_large, LacksFit, IsRefusedGrowth}
-use Rattle.gc_model.specs.Views.{StoreView, HeapView}
+use Rattle.gc_view.specs.Heaps.{HeapView}
+use Rattle.gc_model.specs.Stores.{StoreView}
 use Rattle.gc_heap.specs.Content.{IsHeap}
 use Rattle.gc_heap.specs.Heap.{HasRoom}
 use Rattle.gc_store.specs.declared.root.RawValue.{RawValue}

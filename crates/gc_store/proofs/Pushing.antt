@@ -8,7 +8,8 @@ use Rattle.gc_model.specs.declared.RootEntry.{RootEntry}
 use Rattle.gc_model.specs.Values.{Reference, null, small, at}
 use Rattle.gc_model.specs.Table.{Table, push}
 use Rattle.gc_model.specs.Live.{roots_full}
-use Rattle.gc_model.specs.Views.{StoreView, HeapView, SameHeld}
+use Rattle.gc_view.specs.Heaps.{HeapView, SameHeld}
+use Rattle.gc_model.specs.Stores.{StoreView}
 use Rattle.gc_model.specs.Holds.{Placing, IsWord, Holds}
 use Rattle.gc_model.proofs.HoldsPush.{holds_push}
 use Rattle.gc_heap.specs.Barriers.{IsNamed, CanName, cloned}

@@ -7,7 +7,7 @@ use Rattle.gc_model.specs.declared.GcClass.TheVariants.{Any}
 use Rattle.gc_model.specs.Values.{Reference, null, small, at, Value, reference}
 use Rattle.gc_model.specs.Table.{Table}
 use Rattle.gc_model.specs.Reads.{makes_root}
-use Rattle.gc_model.specs.Views.{StoreView}
+use Rattle.gc_model.specs.Stores.{StoreView}
 use Rattle.gc_model.specs.Holds.{Placing, IsWord}
 use Rattle.gc_model.proofs.Words.{place_even}
 use Rattle.gc_store.specs.Accounts.{Account, HoldsAccount}

@@ -6,9 +6,10 @@ use Rattle.gc_types.specs.declared.kind.Layouts.{Layouts}
 use Rattle.gc_types.specs.declared.layout.GcStructLayout.{GcStructLayout}
 use Rattle.gc_types.specs.Declarations.{Declaration, struct_fields_at}
 use Rattle.gc_types.specs.Layouts.{struct_layout}
-use Rattle.gc_model.specs.Sizes.{need_of}
-use Rattle.gc_model.specs.Allocation.{Limits, page, asked}
-use Rattle.gc_model.specs.Views.{HeapView}
+use Rattle.gc_view.specs.Sizes.{need_of}
+use Rattle.gc_view.specs.Pages.{page}
+use Rattle.gc_model.specs.Allocation.{Limits, asked}
+use Rattle.gc_view.specs.Heaps.{HeapView}
 use Rattle.gc_heap.specs.Content.{IsHeap}
 use Rattle.gc_heap.specs.Heap.{HasRoom, IsTooLarge, AddsObject, LacksRoom, new_struct}
 use Rattle.gc_store.specs.declared.allocate.Tried.TheVariants as tried

@@ -2,9 +2,9 @@
 use Rattle.std.proofs.Common.{◌≡◌, ℕ, ◌+◌, ◌⊎◌, inl, inr, Bool, true, false, Option, refl, sym, ap, ◌∙◌, subst}
 use Rattle.gc_types.specs.declared.kind.Layouts.{Layouts}
 use Rattle.gc_model.specs.Table.{Table, with_pages}
-use Rattle.gc_model.specs.Sizes.{need_of}
+use Rattle.gc_view.specs.Sizes.{need_of}
 use Rattle.gc_model.specs.Allocation.{Limits, asked, MayGrow, IsRefusedGrowth, FitsIn, LacksFit}
-use Rattle.gc_model.specs.Views.{StoreView}
+use Rattle.gc_model.specs.Stores.{StoreView}
 use Rattle.gc_model.specs.Holds.{HoldsKept}
 use Rattle.gc_heap.specs.Heap.{HasRoom}
 use Rattle.gc_store.specs.Growth.{HeapState, heap_rules, collects_first}

@@ -10,7 +10,8 @@ use Rattle.gc_types.specs.declared.kind.Layouts.{Layouts}
 use Rattle.gc_types.specs.declared.kind.Layouts.TheVariants.{Null, Counting, Copying}
 use Rattle.gc_types.specs.Declarations.{Declaration, TypeTable}
 use Rattle.gc_model.specs.Table.{start}
-use Rattle.gc_model.specs.Views.{StoreView, HeapView, detached, empty_store}
+use Rattle.gc_view.specs.Heaps.{HeapView, detached}
+use Rattle.gc_model.specs.Stores.{StoreView, empty_store}
 use Rattle.gc_model.proofs.HoldsStart.{nowhere, IsUntouched, holds_untouched, untouched_new, untouched_from_parts, untouched_from_start}
 use Rattle.gc_heap.specs.Collection.{AreCounted}
 use Rattle.gc_heap.specs.Content.{IsHeap}

@@ -13,7 +13,7 @@ use Rattle.gc_types.specs.Declarations.{Declaration, struct_fields_at, declarati
 use Rattle.gc_types.specs.Layouts.{declaration_trace, declaration_layout, array_layout}
 use Rattle.gc_refs.specs.Trace.{form_of}
 use Rattle.gc_roots.specs.Roots.{Root}
-use Rattle.gc_model.specs.Views.{HeapObject, HeapView}
+use Rattle.gc_view.specs.Heaps.{HeapObject, HeapView}
 use Rattle.gc_model.proofs.Types.{struct_fields_at-push}
 use Rattle.gc_heap.specs.References.{reference_offsets, typed_offsets, info_offsets, bitmap_offsets, element_offsets, references, word_in, IsTyped, HoldsType, HoldsLayout, HoldsArrayLayout}
 use Rattle.gc_heap.specs.Objects.{held_size, array_length}

@@ -1,8 +1,9 @@
 -- What a growth that was asked for, and a collection for want of room, answer and leave.
 use Rattle.std.specs.Prelude.{◌≡◌, ℕ, ◌-◌, ◌*◌, ◌<◌, ◌≤◌, ◌⊎◌, Bool, true, false, Result, Ok, Err}
 use Rattle.gc_types.specs.declared.kind.Layouts.{Layouts}
-use Rattle.gc_model.specs.Allocation.{Limits, Grows, page}
-use Rattle.gc_model.specs.Views.{StoreView}
+use Rattle.gc_view.specs.Pages.{page}
+use Rattle.gc_model.specs.Allocation.{Limits, Grows}
+use Rattle.gc_model.specs.Stores.{StoreView}
 use Rattle.gc_store.specs.declared.grow.GrowFault.{GrowFault}
 use Rattle.gc_store.specs.declared.grow.GrowFault.TheVariants as fault
 use Rattle.gc_store.specs.Accounts.{HoldsAccount}

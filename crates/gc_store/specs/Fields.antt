@@ -16,7 +16,8 @@ use Rattle.gc_model.specs.declared.GcClass.TheVariants.{Any}
 use Rattle.gc_model.specs.declared.RootEntry.{RootEntry}
 use Rattle.gc_model.specs.Fits.{is_built_field}
 use Rattle.gc_model.specs.Values.{Reference, Value, i32, i64, reference}
-use Rattle.gc_model.specs.Views.{HeapView, HeapObject, u32_at, u64_at}
+use Rattle.gc_view.specs.Bytes.{u32_at, u64_at}
+use Rattle.gc_view.specs.Heaps.{HeapView, HeapObject}
 use Rattle.gc_model.specs.Holds.{Placing, IsWord, ValuesLie}
 use Rattle.gc_heap.specs.Collection.{IsWordOf}
 use Rattle.gc_store.specs.declared.field.Stored.{Stored}

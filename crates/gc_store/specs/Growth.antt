@@ -3,9 +3,10 @@ use Rattle.std.specs.Prelude.{◌≡◌, ℕ, ◌+◌, ◌*◌, ◌/◌, ◌^◌
 use Rattle.gc_types.specs.declared.kind.Layouts.{Layouts}
 use Rattle.gc_types.specs.Declarations.{Declaration}
 use Rattle.gc_model.specs.declared.RootEntry.{RootEntry}
-use Rattle.gc_model.specs.Sizes.{need_of}
-use Rattle.gc_model.specs.Allocation.{Limits, page, max_pages, asked, MayHave, MayRefuse, MayGrow}
-use Rattle.gc_model.specs.Views.{HeapView}
+use Rattle.gc_view.specs.Sizes.{need_of}
+use Rattle.gc_view.specs.Pages.{page, max_pages}
+use Rattle.gc_model.specs.Allocation.{Limits, asked, MayHave, MayRefuse, MayGrow}
+use Rattle.gc_view.specs.Heaps.{HeapView}
 use Rattle.gc_heap.specs.Content.{IsHeap}
 use Rattle.gc_heap.specs.Heap.{HasRoom, grown}
 use Rattle.gc_store.specs.declared.pages.PagesFault.{PagesFault}

@@ -5,7 +5,7 @@ use Rattle.gc_model.specs.Values.{Reference}
 use Rattle.gc_model.specs.Table.{Table, push}
 use Rattle.gc_model.specs.Live.{roots_full}
 use Rattle.gc_model.specs.Reads.{same_reference}
-use Rattle.gc_model.specs.Views.{StoreView}
+use Rattle.gc_model.specs.Stores.{StoreView}
 use Rattle.gc_store.specs.declared.root.GcRootIndex.{GcRootIndex}
 use Rattle.gc_store.specs.declared.root.RootFault.{RootFault}
 use Rattle.gc_store.specs.declared.root.RootFault.TheVariants as fault

@@ -11,10 +11,13 @@ use Rattle.gc_model.specs.declared.RootEntry.{RootEntry}
 use Rattle.gc_model.specs.Values.{Value, Object}
 use Rattle.gc_model.specs.Table.{Table, make, with_pages}
 use Rattle.gc_model.specs.Live.{roots_full}
-use Rattle.gc_model.specs.Sizes.{object_size, stored_size, need_of}
+use Rattle.gc_view.specs.Sizes.{stored_size, need_of}
+use Rattle.gc_model.specs.Sizes.{object_size}
 use Rattle.gc_model.specs.Fits.{is_built_field}
-use Rattle.gc_model.specs.Allocation.{Limits, page, too_large, Allocates, LacksMemory, GetsPages}
-use Rattle.gc_model.specs.Views.{HeapView, HeapObject, StoreView}
+use Rattle.gc_view.specs.Pages.{page}
+use Rattle.gc_model.specs.Allocation.{Limits, too_large, Allocates, LacksMemory, GetsPages}
+use Rattle.gc_view.specs.Heaps.{HeapView, HeapObject}
+use Rattle.gc_model.specs.Stores.{StoreView}
 use Rattle.gc_model.specs.Holds.{Placing, ValuesLie}
 use Rattle.gc_heap.specs.Heap.{empty_heap, HasRoom, IsTooLarge, LacksRoom, AddsObject, IsNewPlace, new_struct, allocated_after}
 use Rattle.gc_store.specs.declared.root.GcRootIndex.{GcRootIndex}

@@ -6,9 +6,11 @@ use Rattle.gc_types.specs.Declarations.{Declaration}
 use Rattle.gc_types.specs.Layouts.{round_up}
 use Rattle.gc_model.specs.Values.{Object}
 use Rattle.gc_model.specs.Table.{Table, make_heap, with_pages}
-use Rattle.gc_model.specs.Sizes.{object_size, alignment, next_place, need_of}
+use Rattle.gc_view.specs.Sizes.{alignment, need_of}
+use Rattle.gc_model.specs.Sizes.{object_size, next_place}
 use Rattle.gc_model.specs.Reach.{AreAll, IsKept}
-use Rattle.gc_model.specs.Allocation.{Limits, page, Fits, asked, skipped}
+use Rattle.gc_view.specs.Pages.{page}
+use Rattle.gc_model.specs.Allocation.{Limits, Fits, asked, skipped}
 use Rattle.gc_store.specs.Accounts.{Account, counted, is_due}
 use Rattle.gc_store.specs.Growth.{AsksFirst, AsksPages, collects_first}
 use Rattle.gc_store.specs.Retry.{Rules, Retry, Paused}

@@ -9,7 +9,8 @@ use Rattle.gc_types.specs.declared.types.TypeFault.TheVariants as type_fault
 use Rattle.gc_types.specs.Declarable.{Declarable}
 use Rattle.gc_types.specs.Declarations.{Declaration, TypeTable, TypeName, plain_struct}
 use Rattle.gc_model.specs.Table.{Table, start, declare}
-use Rattle.gc_model.specs.Views.{StoreView, HeapView}
+use Rattle.gc_view.specs.Heaps.{HeapView}
+use Rattle.gc_model.specs.Stores.{StoreView}
 use Rattle.gc_store.specs.Accounts.{Account, no_account, HoldsAccount}
 use Rattle.gc_store.specs.RootSets.{RootSetView}
 use Rattle.gc_store.specs.Tracing.{IsCollectable, roots_of}

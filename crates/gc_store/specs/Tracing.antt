@@ -9,8 +9,8 @@ use Rattle.gc_types.specs.Declarations.{Declaration, struct_fields_at}
 use Rattle.gc_types.specs.Layouts.{struct_base, field_layouts, fields_end, ref_offsets}
 use Rattle.gc_roots.specs.Roots.{Root, root}
 use Rattle.gc_model.specs.declared.RootEntry.{RootEntry}
-use Rattle.gc_model.specs.Sizes.{stored_size}
-use Rattle.gc_model.specs.Views.{HeapObject, HeapView}
+use Rattle.gc_view.specs.Sizes.{stored_size}
+use Rattle.gc_view.specs.Heaps.{HeapObject, HeapView}
 use Rattle.gc_heap.specs.References.{struct_spare}
 use Rattle.gc_heap.specs.Collection.{Start, CanCollect}
 

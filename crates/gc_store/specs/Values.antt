@@ -14,7 +14,7 @@ use Rattle.gc_model.specs.Fits.{is_class_any}
 use Rattle.gc_model.specs.Table.{Table, write}
 use Rattle.gc_model.specs.Live.{rooted, roots_full}
 use Rattle.gc_model.specs.Reads.{makes_root, after_read}
-use Rattle.gc_model.specs.Views.{StoreView}
+use Rattle.gc_model.specs.Stores.{StoreView}
 use Rattle.gc_model.specs.Holds.{HoldsTable}
 use Rattle.gc_store.specs.declared.root.GcRootIndex.{GcRootIndex}
 use Rattle.gc_store.specs.declared.root.RawValue.{RawValue}

@@ -3,8 +3,9 @@
 ghost use Rattle.std.specs.Prelude.{◌≡◌, ◌≤◌, ◌⊎◌, true, false, List, Some, IsOk, length};
 ghost use Rattle.gc_types.specs.declared.value.FieldType.{FieldType};
 ghost use Rattle.gc_types.specs.Declarations.{struct_fields_at};
-ghost use Rattle.gc_model.specs.Allocation.{Limits, max_pages};
-ghost use Rattle.gc_model.specs.Sizes.{need_of};
+ghost use Rattle.gc_view.specs.Pages.{max_pages};
+ghost use Rattle.gc_model.specs.Allocation.{Limits};
+ghost use Rattle.gc_view.specs.Sizes.{need_of};
 ghost use Rattle.gc_heap.specs.Collection.{has_host, IsPartOf};
 ghost use Rattle.gc_heap.specs.Heap.{HasRoom};
 ghost use Rattle.gc_store.specs.Tracing.{IsCollectable, roots_of};

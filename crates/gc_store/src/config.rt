@@ -2,7 +2,7 @@
 
 ghost use Rattle.std.specs.Prelude.{◌≡◌, ◌≤◌, ◌^◌, IfSome, IsSome, ◌↔◌, None};
 ghost use Rattle.std.specs.Option.{SomeIff};
-ghost use Rattle.gc_model.specs.Allocation.{max_pages};
+ghost use Rattle.gc_view.specs.Pages.{max_pages};
 
 use std::num::NonZeroU32;
 

@@ -9,7 +9,7 @@ ghost use Rattle.gc_types.specs.Declarations.{Declaration, struct_fields_at};
 ghost use Rattle.gc_types.specs.Layouts.{struct_base, field_layouts};
 ghost use Rattle.gc_roots.specs.Roots.{Root};
 ghost use Rattle.gc_model.specs.Fits.{is_built_field};
-ghost use Rattle.gc_model.specs.Views.{HeapObject};
+ghost use Rattle.gc_view.specs.Heaps.{HeapObject};
 ghost use Rattle.gc_heap.specs.Heap.{put_object, with_data};
 ghost use Rattle.gc_store.specs.declared.field.Stored as FieldValue;
 ghost use Rattle.gc_store.specs.Tracing.{IsCollectable};

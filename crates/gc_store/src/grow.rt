@@ -1,7 +1,8 @@
 //! Growth of a store's heap.
 
 ghost use Rattle.std.specs.Prelude.{◌≡◌, ◌≤◌, ◌*◌, ◌-◌, true, false};
-ghost use Rattle.gc_model.specs.Allocation.{Limits, page, max_pages};
+ghost use Rattle.gc_view.specs.Pages.{page, max_pages};
+ghost use Rattle.gc_model.specs.Allocation.{Limits};
 ghost use Rattle.gc_model.specs.Table.{Table};
 ghost use Rattle.gc_model.specs.Holds.{HoldsTable};
 ghost use Rattle.gc_heap.specs.Collection.{has_host, IsPartOf};

@@ -3,7 +3,8 @@
 ghost use Rattle.std.specs.Prelude.{◌≡◌, ◌≤◌, ◌+◌, ◌*◌, ℕ, Bool, true, false, List, Err, OnOk, OnErr};
 ghost use Rattle.gc_types.specs.Declarations.{Declaration};
 ghost use Rattle.gc_roots.specs.Roots.{Root};
-ghost use Rattle.gc_model.specs.Allocation.{page, max_pages, asked};
+ghost use Rattle.gc_view.specs.Pages.{page, max_pages};
+ghost use Rattle.gc_model.specs.Allocation.{asked};
 ghost use Rattle.gc_heap.specs.Heap.{grown};
 ghost use Rattle.gc_store.specs.Tracing.{IsCollectable};
 ghost use Rattle.gc_store.specs.Growth.{pages_of, GrowsMemory};

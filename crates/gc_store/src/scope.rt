@@ -3,7 +3,7 @@
 ghost use Rattle.std.specs.Prelude.{◌≡◌, ◌≤◌, ◌<◌, ℕ, Bool, List, length, take};
 ghost use Rattle.gc_types.specs.Declarations.{Declaration};
 ghost use Rattle.gc_model.specs.Table.{Table, leave};
-ghost use Rattle.gc_model.specs.Views.{SameHeld};
+ghost use Rattle.gc_view.specs.Heaps.{SameHeld};
 ghost use Rattle.gc_model.specs.Holds.{HoldsTable};
 ghost use Rattle.gc_store.specs.Accounts.{Account, HoldsAccount};
 ghost use Rattle.gc_store.specs.Tracing.{IsCollectable, roots_of};

@@ -6,7 +6,8 @@ ghost use Rattle.std.specs.Int.NonZero.{non_zero_u32_get};
 ghost use Rattle.gc_types.specs.declared.value.FieldType.{FieldType};
 ghost use Rattle.gc_model.specs.Fits.{is_built_field};
 ghost use Rattle.gc_model.specs.Table.{Table};
-ghost use Rattle.gc_model.specs.Views.{detached, empty_store};
+ghost use Rattle.gc_view.specs.Heaps.{detached};
+ghost use Rattle.gc_model.specs.Stores.{empty_store};
 ghost use Rattle.gc_store.specs.Accounts.{Account, HoldsAccount};
 ghost use Rattle.gc_store.specs.Stores.{HoldsStart, ShowsNothing, DeclaresStruct, IsSameStore, configured};
 
@@ -99,7 +100,7 @@ impl<H: GcHeap, D: Drop> Model for Store<H, D> {
     ghost use Rattle.std.specs.Prelude.{◌≡◌};
     ghost use Rattle.std.specs.Coded.{codes};
     ghost use Rattle.std.specs.FinMap as map;
-    ghost use Rattle.gc_model.specs.Views.{StoreView};
+    ghost use Rattle.gc_model.specs.Stores.{StoreView};
 
     ghost Value = { StoreView };
 

@@ -1,7 +1,7 @@
 -- The stores of the program, of which a run uses one.
 use Rattle.std.specs.Prelude.{◌≡◌, ℕ}
 use Rattle.gc_types.specs.declared.kind.Layouts.TheVariants.{Null, Copying}
-use Rattle.gc_model.specs.Views.{StoreView}
+use Rattle.gc_model.specs.Stores.{StoreView}
 use Rattle.gc_store.specs.Stores.{HoldsStart}
 use Rattle.gcsh_top.specs.declared.words.Collector.{Collector}
 use Rattle.gcsh_top.specs.declared.words.Collector.TheVariants as collector

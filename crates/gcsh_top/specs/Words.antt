@@ -3,7 +3,7 @@ use Rattle.std.specs.Prelude.{◌≡◌, ℕ, ◌≤◌, List, [], ◌∷◌, co
 use Rattle.std.specs.Fmt.{decimal}
 use Rattle.gc_types.specs.declared.kind.Layouts.{Layouts}
 use Rattle.gc_types.specs.declared.kind.Layouts.TheVariants as layouts
-use Rattle.gc_model.specs.Allocation.{max_pages}
+use Rattle.gc_view.specs.Pages.{max_pages}
 use Rattle.gcsh_top.specs.declared.words.Collector.{Collector}
 use Rattle.gcsh_top.specs.declared.words.Collector.TheVariants.{Copying, Counting, Null}
 use Rattle.gcsh_top.specs.declared.words.Form.{Form}

@@ -3,7 +3,8 @@
 ghost use Rattle.std.specs.Prelude.{◌≡◌, ◌≤◌, ◌+◌, ◌↔◌, ◌⊎◌, ℕ, IsTrue, map, string_bytes};
 ghost use Rattle.gc_store.specs.Stores.{HoldsStart};
 ghost use Rattle.gcsh_top.specs.declared.words.Form.{Form};
-ghost use Rattle.gc_model.specs.Allocation.{max_pages, Rose};
+ghost use Rattle.gc_view.specs.Pages.{max_pages};
+ghost use Rattle.gc_model.specs.Allocation.{Rose};
 ghost use Rattle.gcsh_top.specs.Chosen.{AreNew, OthersStay, HasSameId, AreSameStores};
 ghost use Rattle.gcsh_top.specs.Ends.{Gave};
 ghost use Rattle.gcsh_top.specs.Input.{max_input};

@@ -1,7 +1,7 @@
 //! How much there is in a heap.
 
 ghost use Rattle.std.specs.Prelude.{◌≡◌};
-ghost use Rattle.gc_model.specs.Views.{detached_in};
+ghost use Rattle.gc_view.specs.Heaps.{detached_in};
 
 use crate::cases::Case;
 use crate::fault::RunFault;

@@ -1,7 +1,7 @@
 //! Room to the byte.
 
 ghost use Rattle.std.specs.Prelude.{◌≡◌};
-ghost use Rattle.gc_model.specs.Views.{detached_in};
+ghost use Rattle.gc_view.specs.Heaps.{detached_in};
 
 use crate::fault::RunFault;
 use crate::named::Named;

@@ -4,7 +4,8 @@ ghost use Rattle.std.specs.Prelude.{ℕ, ◌≡◌, ◌+◌, ◌%◌, ◌≤◌,
 ghost use Rattle.std.specs.FinMap as finite;
 ghost use Rattle.gc_types.specs.declared.kind.Layouts.TheVariants.{Null};
 ghost use Rattle.gc_refs.specs.Header.{spare_bits};
-ghost use Rattle.gc_model.specs.Views.{HeapObject, u32_at};
+ghost use Rattle.gc_view.specs.Bytes.{u32_at};
+ghost use Rattle.gc_view.specs.Heaps.{HeapObject};
 ghost use Rattle.gc_heap.specs.Objects.{held_size, IsHeaderOf, IsObjectData};
 ghost use Rattle.gc_heap.specs.NullWalk.{header_in, CanBegin, HasObject, HasFirstWord};
 ghost use Rattle.gc_heap.specs.NullStates.{null_seen, IsNullSound};

@@ -3,7 +3,7 @@ use Rattle.std.specs.Int.{w32, to_le_bytes}
 use Rattle.std.proofs.lemmas.Bool.Decides.{nat_tests}
 use Rattle.gc_types.specs.declared.kind.VMGcKind.TheVariants.{StructRef}
 use Rattle.gc_refs.specs.Header.{spare_bits}
-use Rattle.gc_model.specs.Views.{HeapObject}
+use Rattle.gc_view.specs.Heaps.{HeapObject}
 use Rattle.gc_heap.specs.Objects.{SpareIs, IsHeaderOf, held_size}
 use Rattle.gc_heap.specs.Heap.{put_object, with_data}
 use Rattle.gc_heap.specs.Collection.{has_host}

@@ -1,7 +1,7 @@
 use Rattle.std.proofs.Common.{◌≡◌, ◌%◌, inr, arith}
 use Rattle.gc_types.specs.declared.kind.VMGcKind.TheVariants.{StructRef}
 use Rattle.gc_refs.specs.Header.{spare_bits}
-use Rattle.gc_model.specs.Views.{HeapObject}
+use Rattle.gc_view.specs.Heaps.{HeapObject}
 use Rattle.gc_heap.specs.Objects.{zeroed}
 use Rattle.gc_heap.specs.Heap.{AddsObject}
 use Rattle.gc_heap.specs.Collection.{has_host}

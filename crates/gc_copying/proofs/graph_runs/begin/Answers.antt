@@ -1,6 +1,6 @@
 use Rattle.std.proofs.Common.{◌*◌}
 use Rattle.gc_types.specs.declared.kind.Layouts.TheVariants.{Copying}
-use Rattle.gc_model.specs.Allocation.{page}
+use Rattle.gc_view.specs.Pages.{page}
 use Rattle.gc_heap.specs.Collection.{has_host}
 use Rattle.gc_heap.proofs.ClientLemmas.{can_collect_empty}
 use Rattle.gc_copying.proofs.graph_runs.begin.Goals as goal

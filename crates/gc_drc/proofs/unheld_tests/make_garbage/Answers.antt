@@ -3,7 +3,7 @@ use Rattle.gc_types.specs.declared.kind.Layouts.TheVariants.{Counting}
 use Rattle.gc_types.specs.declared.layout.TraceInfo.TheVariants as trace
 use Rattle.gc_types.specs.Declarations.{Declaration}
 use Rattle.gc_types.specs.Layouts.{layout_at, trace_at}
-use Rattle.gc_model.specs.Views.{HeapView}
+use Rattle.gc_view.specs.Heaps.{HeapView}
 use Rattle.gc_heap.specs.Collection.{CanCollect}
 use Rattle.gc_heap.proofs.AddedLemmas.{start}
 use Rattle.gc_drc.proofs.RunLemmas.{can_collect_named}

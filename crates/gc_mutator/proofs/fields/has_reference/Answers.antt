@@ -2,7 +2,7 @@ use Rattle.std.proofs.Common.{◌≡◌, sym, ap, subst, ◌∙◌}
 use Rattle.std.specs.List.{Contains}
 use Rattle.std.specs.Option.{option_copied}
 use Rattle.gc_types.specs.Layouts.{trace_at}
-use Rattle.gc_model.specs.Views.{HeapObject}
+use Rattle.gc_view.specs.Heaps.{HeapObject}
 use Rattle.gc_heap.specs.Objects.{array_length}
 use Rattle.gc_heap.specs.References.{info_offsets, typed_offsets}
 use Rattle.gc_heap.proofs.ReferenceLemmas.{typed_is}

@@ -9,8 +9,8 @@ use Rattle.gc_types.specs.declared.layout.GcStructLayout.{GcStructLayout}
 use Rattle.gc_types.specs.declared.layout.FieldLayout.{FieldLayout}
 use Rattle.gc_types.specs.Declarations.{struct_fields_at}
 use Rattle.gc_types.specs.Layouts.{struct_layout, field_layouts, struct_base}
-use Rattle.gc_model.specs.Views.{HeapObject}
-use Rattle.gc_model.proofs.Layouts.{length-field_layouts}
+use Rattle.gc_view.specs.Heaps.{HeapObject}
+use Rattle.gc_view.proofs.Layouts.{length-field_layouts}
 use Rattle.gc_store.proofs.HeapLayouts.{copied_some, copied_value, is_some_from, layout_found, field_found}
 use Rattle.gc_store.proofs.field.field_place.Given.{Over}
 use Rattle.gc_store.proofs.field.field_place.Goals.{After-struct_layout, After-as_slice, After-field}

@@ -4,8 +4,8 @@ use Rattle.gc_types.specs.declared.value.StorageType.TheVariants as storage
 use Rattle.gc_types.specs.declared.value.ValType.{ValType}
 use Rattle.gc_types.specs.declared.layout.FieldLayout.{FieldLayout}
 use Rattle.gc_types.specs.Layouts.{struct_base, field_layouts, storage_width}
-use Rattle.gc_model.specs.Views.{HeapView}
-use Rattle.gc_model.proofs.Layouts.{length-field_layouts}
+use Rattle.gc_view.specs.Heaps.{HeapView}
+use Rattle.gc_view.proofs.Layouts.{length-field_layouts}
 use Rattle.gc_model.proofs.Lists.{slice_get-same_length}
 use Rattle.gc_heap.specs.Access.{IsReadable}
 use Rattle.gc_model.specs.Fits.{is_built_storage}

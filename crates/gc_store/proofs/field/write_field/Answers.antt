@@ -1,7 +1,7 @@
 use Rattle.std.proofs.Common.{sym, ap, subst}
 use Rattle.std.specs.Int.{w32, w64, to_le_bytes}
 use Rattle.gc_types.specs.Layouts.{storage_width, is_gc_storage}
-use Rattle.gc_model.specs.Views.{HeapView}
+use Rattle.gc_view.specs.Heaps.{HeapView}
 use Rattle.gc_store.specs.Tracing.{IsCollectable}
 use Rattle.gc_store.specs.Fields.{StoredFits}
 use Rattle.gc_store.proofs.HeapFields.{i32_is, i64_is, writable, number_kept}

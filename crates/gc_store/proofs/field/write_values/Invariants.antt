@@ -2,7 +2,7 @@ use Rattle.std.proofs.Common.{ℕ, Bool, List}
 use Rattle.gc_types.specs.declared.value.FieldType.{FieldType}
 use Rattle.gc_types.specs.Declarations.{Declaration}
 use Rattle.gc_roots.specs.Roots.{Root}
-use Rattle.gc_model.specs.Views.{HeapObject}
+use Rattle.gc_view.specs.Heaps.{HeapObject}
 use Rattle.gc_store.proofs.HeapValues.{Begins, WritesTo}
 use Rattle.gc_store.proofs.field.write_values.Given as goal
 

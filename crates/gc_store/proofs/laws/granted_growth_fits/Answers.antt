@@ -1,6 +1,7 @@
 use Rattle.std.proofs.Common.{◌*◌, arith}
-use Rattle.gc_model.specs.Sizes.{need_of}
-use Rattle.gc_model.specs.Allocation.{page, asked}
+use Rattle.gc_view.specs.Sizes.{need_of}
+use Rattle.gc_view.specs.Pages.{page}
+use Rattle.gc_model.specs.Allocation.{asked}
 use Rattle.gc_store.specs.Growth.{pages_of}
 use Rattle.gc_store.proofs.GrowthLemmas.{grown_fits, asked_holds}
 use Rattle.gc_store.proofs.laws.granted_growth_fits.Goals as goal

@@ -1,5 +1,5 @@
 use Rattle.std.proofs.Common.{◌+◌, ◌*◌, ◌<◌, ◌≤◌, refl, arith}
-use Rattle.gc_model.specs.Allocation.{max_pages, page}
+use Rattle.gc_view.specs.Pages.{max_pages, page}
 use Rattle.gc_store.specs.Growth.{pages_of}
 use Rattle.gc_store.proofs.GrowthLemmas.{asks_nobody, asks_refused, grows_memory, either_kept}
 use Rattle.gc_store.proofs.pages.grow_memory.Goals as goal

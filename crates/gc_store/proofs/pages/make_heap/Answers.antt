@@ -1,5 +1,5 @@
 use Rattle.std.proofs.Common.{sym, ◌∙◌}
-use Rattle.gc_model.specs.Views.{HeapView}
+use Rattle.gc_view.specs.Heaps.{HeapView}
 use Rattle.gc_store.proofs.HeapMade.{on_either, attached_kept}
 use Rattle.gc_store.proofs.pages.make_heap.Goals as goal
 

@@ -1,6 +1,6 @@
 use Rattle.std.proofs.Common.{◌≡◌, ℕ, Bool, List, length, take}
 use Rattle.gc_types.specs.Declarations.{Declaration}
-use Rattle.gc_model.specs.Views.{SameHeld}
+use Rattle.gc_view.specs.Heaps.{SameHeld}
 use Rattle.gc_store.specs.Tracing.{IsCollectable, roots_of}
 use Rattle.gc_store.specs.Scopes.{CanDrop}
 use Rattle.gc_store.proofs.scope.drop_roots.Given as goal

@@ -1,6 +1,6 @@
 use Rattle.std.proofs.Common.{◌∙◌, sym, ap, subst}
 use Rattle.std.specs.FinMap as finite
-use Rattle.gc_model.specs.Views.{HeapObject, HeapView}
+use Rattle.gc_view.specs.Heaps.{HeapObject, HeapView}
 use Rattle.gc_copying.specs.States.{seen_of, IsBacked}
 use Rattle.gc_copying.proofs.BackingLemmas.{not_attached, count_of}
 use Rattle.std.specs.Ordering.{nat_cmp}

@@ -1,6 +1,6 @@
 use Rattle.std.proofs.Common.{◌≡◌, ℕ, ◌+◌, ◌*◌, ◌∙◌, ◌≤◌, true, refl, sym, ap, ap₂, subst, arith}
 use Rattle.gc_types.specs.declared.kind.Layouts.TheVariants.{Copying}
-use Rattle.gc_model.specs.Views.{put_u32}
+use Rattle.gc_view.specs.Bytes.{put_u32}
 use Rattle.gc_heap.specs.Heap.{IsTooLarge, new_array, array_size}
 use Rattle.gc_copying.specs.States.{seen_in}
 use Rattle.gc_copying.specs.Placing.{FindsRoom, CanPlace}

@@ -1,6 +1,6 @@
 use Rattle.std.proofs.Common.{ℕ, ◌+◌, ◌∙◌, ◌≤◌, length, refl, sym, ap, ap₂, subst, arith}
 use Rattle.gc_types.specs.declared.kind.Layouts.TheVariants.{Copying}
-use Rattle.gc_model.specs.Views.{put_u32}
+use Rattle.gc_view.specs.Bytes.{put_u32}
 use Rattle.gc_heap.specs.Objects.{external}
 use Rattle.gc_heap.specs.Heap.{IsTooLarge}
 use Rattle.gc_copying.specs.States.{seen_in}
@@ -9,7 +9,7 @@ use Rattle.gc_copying.specs.declared.space.Space.{Space}
 use Rattle.gc_copying.specs.declared.place.Room.TheVariants as room
 use Rattle.gc_copying.proofs.MakeLemmas.{can_place, lacks_room, MakesObject, makes_external}
 use Rattle.gc_tables.specs.SideTables.{max_entries}
-use Rattle.gc_model.proofs.ByteLemmas.{length-put_u32}
+use Rattle.gc_view.proofs.ByteLemmas.{length-put_u32}
 use Rattle.gc_heap.specs.Heap.{AddsObject}
 use Rattle.gc_copying.proofs.space.Space.alloc_external.Goals as goal
 use Rattle.gc_copying.proofs.space.Space.alloc_external.Goals.{After-new_unchecked}

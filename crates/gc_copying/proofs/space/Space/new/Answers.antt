@@ -1,5 +1,5 @@
 use Rattle.std.proofs.Common.{◌≡◌, ◌*◌, ◌≤◌, ◌%◌, false, sym, subst, length, arith}
-use Rattle.gc_model.specs.Allocation.{page, max_pages}
+use Rattle.gc_view.specs.Pages.{page, max_pages}
 use Rattle.gc_copying.specs.Content.{IsSpace}
 use Rattle.gc_copying.proofs.GrowLemmas.{empty_space}
 use Rattle.gc_copying.proofs.space.Space.new.Goals as goal

@@ -1,6 +1,6 @@
 use Rattle.std.proofs.Common.{◌+◌, ◌∙◌, sym, ap, ap₂, arith}
 use Rattle.gc_memory.proofs.WordLemmas.{word-is}
-use Rattle.gc_model.specs.Views.{u32_at}
+use Rattle.gc_view.specs.Bytes.{u32_at}
 use Rattle.gc_copying.specs.HeapLaws.{lies_in_space}
 use Rattle.gc_copying.proofs.space.Space.range.Goals as goal
 use Rattle.gc_copying.proofs.space.Space.range.Goals.{then-size-lt-ALIGNMENT-via-then-size-lt-ALIGNMENT, then-size-lt-ALIGNMENT-via-else-size-lt-ALIGNMENT+then-end-bytes}

@@ -1,5 +1,5 @@
 use Rattle.std.proofs.Common.{ℕ, ◌≡◌, ◌+◌, refl, sym, ap, subst, ◌∙◌, arith}
-use Rattle.gc_model.specs.Views.{put_u32}
+use Rattle.gc_view.specs.Bytes.{put_u32}
 use Rattle.gc_memory.proofs.WordLemmas.{word-is}
 use Rattle.gc_copying.specs.CopyWords.{forwarding, host_word}
 use Rattle.gc_copying.specs.CopySweep.{FreesHost}

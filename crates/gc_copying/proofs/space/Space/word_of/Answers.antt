@@ -2,7 +2,7 @@ use Rattle.std.proofs.Common.{◌+◌, ◌∙◌, sym, ap, arith}
 use Rattle.gc_types.specs.Kinds.{kind_bits}
 use Rattle.gc_refs.specs.Header.{Header, kind_part, IsOfKind}
 use Rattle.gc_memory.proofs.WordLemmas.{word-is}
-use Rattle.gc_model.specs.Views.{u32_at}
+use Rattle.gc_view.specs.Bytes.{u32_at}
 use Rattle.gc_copying.proofs.space.Space.word_of.Goals as goal
 use Rattle.gc_copying.proofs.space.Space.word_of.Goals.{else-is_of_kind-via-then-is_of_kind+else-at-range, else-is_of_kind-via-else-is_of_kind}
 

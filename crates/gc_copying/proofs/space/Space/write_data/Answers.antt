@@ -1,5 +1,5 @@
 use Rattle.std.proofs.Common.{◌+◌, ◌∙◌, ap, length, arith}
-use Rattle.gc_model.specs.Bytes.{put_bytes}
+use Rattle.gc_view.specs.Bytes.{put_bytes}
 use Rattle.gc_copying.proofs.WriteLemmas.{WritesData, writable_at, writes_data}
 use Rattle.gc_copying.proofs.space.Space.write_data.Goals as goal
 use Rattle.gc_copying.proofs.space.Space.write_data.Goals.{After-write_bytes}

@@ -1,7 +1,7 @@
 use Rattle.std.proofs.Common.{◌≡◌, sym, subst, Some}
 use Rattle.std.specs.FinMap as finite
 use Rattle.gc_types.specs.declared.kind.Layouts.TheVariants.{Counting}
-use Rattle.gc_model.specs.Views.{HeapObject}
+use Rattle.gc_view.specs.Heaps.{HeapObject}
 use Rattle.gc_heap.specs.Heap.{given_back, CanGiveBack, IsStructOrExn}
 use Rattle.gc_drc.specs.Content.{seen_in}
 use Rattle.gc_drc.specs.States.{seen_of, IsBacked}

@@ -1,7 +1,7 @@
 use Rattle.std.proofs.Common.{◌≡◌, sym, ap, ap₂, subst, take, drop, Some, []}
 use Rattle.std.specs.FinMap as finite
 use Rattle.gc_types.specs.declared.kind.Layouts.TheVariants.{Counting}
-use Rattle.gc_model.specs.Views.{HeapView}
+use Rattle.gc_view.specs.Heaps.{HeapView}
 use Rattle.gc_heap.specs.Objects.{IsObjectData}
 use Rattle.gc_heap.specs.Barriers.{ShowsCount}
 use Rattle.gc_drc.specs.Content.{seen_in, IsSoundSpace}

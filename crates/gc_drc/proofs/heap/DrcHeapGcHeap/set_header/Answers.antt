@@ -3,7 +3,7 @@ use Rattle.std.specs.Prelude.{IsOk}
 use Rattle.std.specs.FinMap as finite
 use Rattle.gc_types.specs.declared.kind.Layouts.TheVariants.{Counting}
 use Rattle.gc_refs.specs.Header.{spare_bits}
-use Rattle.gc_model.specs.Views.{HeapObject}
+use Rattle.gc_view.specs.Heaps.{HeapObject}
 use Rattle.gc_heap.specs.Heap.{put_object, with_spare_of, IsSameHeader}
 use Rattle.gc_heap.specs.Barriers.{IsNamed}
 use Rattle.gc_drc.specs.Content.{seen_in}

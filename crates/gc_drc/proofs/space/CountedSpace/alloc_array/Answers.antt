@@ -3,7 +3,7 @@ use Rattle.gc_types.specs.declared.kind.VMGcKind.TheVariants.{ArrayRef}
 use Rattle.gc_types.specs.declared.kind.Layouts.TheVariants.{Counting}
 use Rattle.gc_types.specs.declared.layout.GcArrayLayout.{GcArrayLayout}
 use Rattle.gc_refs.specs.Header.{header_of}
-use Rattle.gc_model.specs.Views.{put_u32}
+use Rattle.gc_view.specs.Bytes.{put_u32}
 use Rattle.gc_heap.specs.Heap.{new_array, array_size}
 use Rattle.gc_drc.specs.Placing.{PlacesObject}
 use Rattle.gc_drc.proofs.MakeLemmas.{Makes, kept_sound}

@@ -2,7 +2,7 @@ use Rattle.std.proofs.Common.{◌+◌, ◌-◌, ◌≤◌, ◌^◌, Ok, Err, ref
 use Rattle.gc_types.specs.declared.kind.VMGcKind.TheVariants.{ExternRef}
 use Rattle.gc_refs.specs.Header.{header_of}
 use Rattle.gc_tables.specs.SideTables.{max_entries}
-use Rattle.gc_model.specs.Views.{put_u32}
+use Rattle.gc_view.specs.Bytes.{put_u32}
 use Rattle.gc_heap.specs.Objects.{external}
 use Rattle.gc_drc.specs.Placing.{PlacesObject}
 use Rattle.gc_drc.proofs.MakeLemmas.{Makes, kept_sound}

@@ -1,7 +1,7 @@
 use Rattle.std.proofs.Common.{◌+◌, ◌∙◌, sym, ap, subst}
 use Rattle.gc_types.specs.declared.kind.Layouts.TheVariants.{Counting}
 use Rattle.gc_memory.proofs.WordLemmas.{word-is}
-use Rattle.gc_model.specs.Views.{u32_at}
+use Rattle.gc_view.specs.Bytes.{u32_at}
 use Rattle.gc_heap.specs.Objects.{IsHeaderOf}
 use Rattle.gc_drc.proofs.ReadLemmas.{held_at, header_of}
 use Rattle.gc_drc.proofs.space.CountedSpace.header.Goals as goal

@@ -1,5 +1,5 @@
 use Rattle.std.proofs.Common.{◌≡◌, ◌*◌, ◌%◌, ◌≤◌, length, refl, ap, ◌∙◌, arith}
-use Rattle.gc_model.specs.Allocation.{page, max_pages}
+use Rattle.gc_view.specs.Pages.{page, max_pages}
 use Rattle.gc_free.specs.Space.{new_space}
 use Rattle.gc_drc.proofs.GrowLemmas.{empty_sound, empty_seen}
 use Rattle.gc_drc.proofs.space.CountedSpace.new.Goals as goal

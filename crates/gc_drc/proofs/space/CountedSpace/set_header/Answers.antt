@@ -3,7 +3,8 @@ use Rattle.gc_types.specs.declared.kind.Layouts.TheVariants.{Counting}
 use Rattle.gc_types.specs.Kinds.{kind_bits}
 use Rattle.gc_refs.specs.Header.{kind_part, spare_bits}
 use Rattle.gc_memory.specs.Words.{word}
-use Rattle.gc_model.specs.Views.{HeapObject, put_u32}
+use Rattle.gc_view.specs.Bytes.{put_u32}
+use Rattle.gc_view.specs.Heaps.{HeapObject}
 use Rattle.gc_heap.specs.Heap.{with_spare_of, put_object}
 use Rattle.gc_drc.specs.Content.{seen_in}
 use Rattle.gc_drc.proofs.ReadLemmas.{HeldAt, held_at}

@@ -1,6 +1,6 @@
 use Rattle.std.proofs.Common.{◌≡◌, ◌+◌, length, refl, sym, ap, subst, ◌∙◌, arith}
 use Rattle.gc_types.specs.declared.kind.Layouts.TheVariants.{Counting}
-use Rattle.gc_model.specs.Bytes.{put_bytes}
+use Rattle.gc_view.specs.Bytes.{put_bytes}
 use Rattle.gc_heap.specs.Heap.{with_data, put_object}
 use Rattle.gc_drc.specs.Layout.{object_at}
 use Rattle.gc_drc.specs.Content.{seen_in}

@@ -1,6 +1,6 @@
 use Rattle.std.proofs.Common.{sym, subst}
 use Rattle.gc_types.specs.declared.kind.Layouts.TheVariants.{Null}
-use Rattle.gc_model.specs.Views.{HeapView}
+use Rattle.gc_view.specs.Heaps.{HeapView}
 use Rattle.gc_heap.specs.Heap.{Allocated}
 use Rattle.gc_heap.specs.NullWalk.{placed}
 use Rattle.gc_heap.specs.NullStates.{bump_view}

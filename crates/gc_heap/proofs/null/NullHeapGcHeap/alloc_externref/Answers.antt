@@ -2,7 +2,7 @@ use Rattle.std.proofs.Common.{ℕ, Some, Result, Ok, sym, ap, subst, ◌∙◌}
 use Rattle.gc_types.specs.declared.kind.Layouts.TheVariants.{Null}
 use Rattle.gc_types.specs.declared.kind.VMGcKind.TheVariants.{ExternRef}
 use Rattle.gc_refs.specs.Header.{Header, kind_part}
-use Rattle.gc_model.specs.Views.{HeapObject}
+use Rattle.gc_view.specs.Heaps.{HeapObject}
 use Rattle.gc_heap.specs.Objects.{external}
 use Rattle.gc_heap.specs.Heap.{AddsObject, Allocated}
 use Rattle.gc_heap.specs.NullWalk.{placed}

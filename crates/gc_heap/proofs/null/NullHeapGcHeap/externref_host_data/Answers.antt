@@ -1,6 +1,6 @@
 use Rattle.std.proofs.Common.{◌≡◌, ℕ, Some, sym, subst}
 use Rattle.std.specs.FinMap as finite
-use Rattle.gc_model.specs.Views.{u32_at}
+use Rattle.gc_view.specs.Bytes.{u32_at}
 use Rattle.gc_heap.specs.NullStates.{null_seen}
 use Rattle.gc_heap.proofs.NullHeapLemmas.{extern_size_least, null_host, host_number}
 use Rattle.gc_heap.proofs.null.NullHeapGcHeap.externref_host_data.Goals as goal

@@ -1,5 +1,5 @@
 use Rattle.std.proofs.Common.{◌≡◌, ◌≤◌, ◌*◌, ◌%◌, length, arith}
-use Rattle.gc_model.specs.Allocation.{page, max_pages}
+use Rattle.gc_view.specs.Pages.{page, max_pages}
 use Rattle.gc_heap.proofs.NullHeapLemmas.{replaces}
 use Rattle.gc_heap.proofs.null.NullHeapGcHeap.replace_memory.Goals as goal
 

@@ -1,5 +1,5 @@
 use Rattle.std.proofs.Common.{◌≡◌, ◌+◌, List, ℕ, Some, sym, ap, subst, ◌∙◌, arith}
-use Rattle.gc_model.specs.Bytes.{put_bytes}
+use Rattle.gc_view.specs.Bytes.{put_bytes}
 use Rattle.gc_heap.specs.NullStates.{bump_view, IsNullSound}
 use Rattle.gc_heap.proofs.NullHeapLemmas.{nothing_held, writes_in, written_seen}
 use Rattle.gc_heap.proofs.null.NullHeapGcHeap.write_object_data.Goals as goal

@@ -2,7 +2,7 @@ use Rattle.std.proofs.Common.{◌≡◌, ◌+◌, ◌<◌, ◌≤◌, length, ar
 use Rattle.gc_types.specs.declared.kind.VMGcKind.{VMGcKind}
 use Rattle.gc_types.specs.Layouts.{round_up}
 use Rattle.gc_refs.specs.Header.{IsOfKind, spare_bits}
-use Rattle.gc_model.specs.Sizes.{alignment}
+use Rattle.gc_view.specs.Sizes.{alignment}
 use Rattle.gc_heap.specs.NullWalk.{first_place, placed}
 use Rattle.gc_heap.specs.NullWalkLaws.{follow_bounds}
 use Rattle.gc_heap.proofs.NullMemoryLemmas.{Adds, adds_object}

@@ -1,5 +1,5 @@
 use Rattle.std.proofs.Common.{◌+◌, ◌-◌, replicate, ap, ◌∙◌}
-use Rattle.gc_model.specs.Bytes.{put_bytes}
+use Rattle.gc_view.specs.Bytes.{put_bytes}
 use Rattle.gc_heap.proofs.NullMemoryLemmas.{told_data}
 use Rattle.gc_heap.proofs.null.place.write_data.Goals as goal
 

@@ -2,8 +2,8 @@ use Rattle.std.proofs.Common.{◌+◌, ◌^◌, ◌<◌, ◌∙◌, ap, subst, s
 use Rattle.gc_types.specs.declared.kind.VMGcKind.{VMGcKind}
 use Rattle.gc_types.specs.Kinds.{kind_bits}
 use Rattle.gc_refs.specs.Header.{Header}
-use Rattle.gc_model.specs.Views.{put_u32}
-use Rattle.gc_model.specs.Bytes.{SameBytes}
+use Rattle.gc_view.specs.Bytes.{put_u32}
+use Rattle.gc_view.specs.Bytes.{SameBytes}
 use Rattle.gc_heap.specs.NullWalk.{placed, PlacesObject}
 use Rattle.gc_heap.proofs.NullMemoryLemmas.{places_new, same_kind}
 use Rattle.gc_heap.proofs.null.place.write_object.Goals as goal

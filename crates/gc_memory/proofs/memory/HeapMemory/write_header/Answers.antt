@@ -1,5 +1,5 @@
 use Rattle.std.proofs.Common.{◌≡◌, ◌+◌, ◌^◌, ◌<◌, ◌∙◌, ap, subst, sym, arith}
-use Rattle.gc_model.specs.Views.{u32_at, put_u32}
+use Rattle.gc_view.specs.Bytes.{u32_at, put_u32}
 use Rattle.gc_memory.specs.Changes.{Wrote}
 use Rattle.gc_memory.proofs.HeaderLemmas.{header_put, kind_word_put, Wrote-header}
 use Rattle.gc_memory.proofs.memory.HeapMemory.write_header.Goals as goal

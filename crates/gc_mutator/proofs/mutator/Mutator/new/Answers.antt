@@ -1,5 +1,5 @@
 use Rattle.std.proofs.Common.{ap, length}
-use Rattle.gc_model.specs.Views.{HeapView}
+use Rattle.gc_view.specs.Heaps.{HeapView}
 use Rattle.gc_heap.specs.Collection.{has_host}
 use Rattle.gc_heap.proofs.ClientLemmas.{can_collect_empty}
 use Rattle.gc_mutator.proofs.mutator.Mutator.new.Goals as goal

@@ -1,5 +1,5 @@
 use Rattle.std.proofs.Common.{◌≡◌, Some, sym, ap, ◌∙◌}
-use Rattle.gc_model.specs.Views.{HeapObject}
+use Rattle.gc_view.specs.Heaps.{HeapObject}
 use Rattle.gc_mutator.specs.Mutators.{MutatorView}
 use Rattle.std.specs.FinMap.{get}
 use Rattle.gc_mutator.proofs.FieldLemmas.{word_readable}

@@ -1,6 +1,6 @@
 use Rattle.std.proofs.Common.{◌≡◌, Some, ap, ◌∙◌}
 use Rattle.std.specs.FinMap.{get}
-use Rattle.gc_model.specs.Views.{HeapObject}
+use Rattle.gc_view.specs.Heaps.{HeapObject}
 use Rattle.gc_heap.specs.Collection.{has_host}
 use Rattle.gc_mutator.specs.Mutators.{MutatorView}
 use Rattle.gc_mutator.specs.Fields.{HasWord}

@@ -1,6 +1,6 @@
 use Rattle.std.proofs.Common.{subst, sym}
 use Rattle.gc_types.specs.Declarations.{plain_struct}
-use Rattle.gc_model.specs.Views.{StoreView}
+use Rattle.gc_model.specs.Stores.{StoreView}
 use Rattle.gc_store.specs.Accounts.{HoldsAccount}
 use Rattle.gc_store.proofs.Declare.{TypesDeclare, declared_step, declares_plain, sound_declared}
 use Rattle.gc_store.proofs.store.Store.declare_struct.Given as given

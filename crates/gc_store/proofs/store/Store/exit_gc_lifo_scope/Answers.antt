@@ -1,7 +1,7 @@
 use Rattle.std.proofs.Common.{◌<◌, ◌+◌, ◌-◌, ◌^◌, min, List, length, sym, ap, ◌∙◌, subst, arith}
 use Rattle.std.specs.FinMap.{len}
 use Rattle.gc_model.specs.declared.RootEntry.{RootEntry}
-use Rattle.gc_model.specs.Views.{StoreView}
+use Rattle.gc_model.specs.Stores.{StoreView}
 use Rattle.gc_heap.specs.Collection.{has_host}
 use Rattle.gc_store.specs.Accounts.{HoldsAccount}
 use Rattle.gc_store.specs.Tracing.{IsCollectable, roots_of}

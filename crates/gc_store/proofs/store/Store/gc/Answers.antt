@@ -3,7 +3,7 @@ use Rattle.std.specs.FinMap.{len}
 use Rattle.gc_heap.specs.Collection.{has_host}
 use Rattle.gc_model.specs.Table.{Table}
 use Rattle.gc_model.specs.Allocation.{Limits}
-use Rattle.gc_model.specs.Views.{StoreView}
+use Rattle.gc_model.specs.Stores.{StoreView}
 use Rattle.gc_model.specs.Holds.{HoldsTable, HoldsKept}
 use Rattle.gc_store.specs.Accounts.{Account, HoldsAccount}
 use Rattle.gc_store.specs.Stores.{store_view}

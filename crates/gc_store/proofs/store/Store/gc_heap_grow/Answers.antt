@@ -2,7 +2,7 @@ use Rattle.std.proofs.Common.{sym, refl, subst, arith}
 use Rattle.std.specs.FinMap.{len}
 use Rattle.gc_heap.specs.Collection.{has_host}
 use Rattle.gc_model.specs.Table.{Table}
-use Rattle.gc_model.specs.Views.{StoreView}
+use Rattle.gc_model.specs.Stores.{StoreView}
 use Rattle.gc_store.specs.Accounts.{Account, HoldsAccount}
 use Rattle.gc_store.specs.Growth.{HeapState, heap_state}
 use Rattle.gc_store.specs.Policy as policy

@@ -1,7 +1,7 @@
 use Rattle.std.proofs.Common.{◌≡◌, ap, sym, subst, ◌∙◌}
 use Rattle.std.specs.FinMap.{len}
 use Rattle.gc_model.specs.Reach.{HasNumber, IsKept}
-use Rattle.gc_model.specs.Views.{StoreView}
+use Rattle.gc_model.specs.Stores.{StoreView}
 use Rattle.gc_store.specs.Collects.{IsPlaced}
 use Rattle.gc_store.proofs.HeldNumber.{held_number, kept_number}
 use Rattle.gc_store.proofs.store.Store.held_objects.Goals as goal

@@ -1,5 +1,5 @@
 use Rattle.std.proofs.Common.{◌≡◌, true, ap, sym, ◌∙◌, subst}
-use Rattle.gc_model.specs.Views.{StoreView}
+use Rattle.gc_model.specs.Stores.{StoreView}
 use Rattle.gc_store.specs.Roots.{word_of, is_of_store}
 use Rattle.gc_store.specs.RootSets.{slot_word}
 use Rattle.gc_store.proofs.Roots.{names-store, own_word}

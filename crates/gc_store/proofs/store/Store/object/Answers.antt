@@ -1,5 +1,5 @@
 use Rattle.std.proofs.Common.{ap, sym, ◌∙◌, subst}
-use Rattle.gc_model.specs.Views.{StoreView}
+use Rattle.gc_model.specs.Stores.{StoreView}
 use Rattle.gc_store.specs.Roots.{IsRootWord, word_of}
 use Rattle.gc_store.proofs.Roots.{root_word, named_live, named_dead, tells_live, tells_dead, word_of-ok, names-entry}
 use Rattle.gc_model.specs.Holds.{Holds}

@@ -9,7 +9,7 @@ use Rattle.gc_model.specs.Allocation.{too_large}
 use Rattle.gc_model.specs.Sizes.{fields_size}
 use Rattle.gc_model.specs.Table.{Table}
 use Rattle.gc_model.specs.Values.{Value, struct}
-use Rattle.gc_model.specs.Views.{StoreView}
+use Rattle.gc_model.specs.Stores.{StoreView}
 use Rattle.gc_heap.specs.Collection.{has_host}
 use Rattle.gc_store.specs.declared.root.RootSlot.TheVariants as slot
 use Rattle.gc_store.specs.declared.store.PlaceFault.{PlaceFault}

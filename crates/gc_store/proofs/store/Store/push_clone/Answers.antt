@@ -1,6 +1,7 @@
 use Rattle.std.proofs.Common.{◌≡◌, ◌++◌, ◌∷◌, [], false, length, ap, sym, ◌∙◌, subst, refl}
 use Rattle.std.specs.FinMap.{len}
-use Rattle.gc_model.specs.Views.{StoreView, HeapView, SameHeld}
+use Rattle.gc_view.specs.Heaps.{HeapView, SameHeld}
+use Rattle.gc_model.specs.Stores.{StoreView}
 use Rattle.gc_model.specs.Holds.{Holds}
 use Rattle.gc_heap.specs.Collection.{has_host}
 use Rattle.gc_store.specs.Accounts.{IsAccount}

@@ -1,6 +1,6 @@
 use Rattle.std.proofs.Common.{subst, arith}
 use Rattle.gc_model.specs.Values.{small}
-use Rattle.gc_model.specs.Views.{StoreView}
+use Rattle.gc_model.specs.Stores.{StoreView}
 use Rattle.gc_store.specs.Roots.{IsRootWord}
 use Rattle.gc_store.proofs.store.Store.push_i31.Goals as goal
 

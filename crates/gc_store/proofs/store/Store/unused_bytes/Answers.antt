@@ -1,5 +1,5 @@
 use Rattle.std.proofs.Common.{◌-◌, ap, ◌∙◌, subst}
-use Rattle.gc_model.specs.Views.{StoreView}
+use Rattle.gc_model.specs.Stores.{StoreView}
 use Rattle.gc_heap.specs.Content.{IsHeap}
 use Rattle.gc_store.proofs.MakingRoom.{unused_is}
 use Rattle.gc_store.proofs.store.Store.unused_bytes.Goals as goal

@@ -2,7 +2,8 @@ use Rattle.std.proofs.Common.{arith, ◌≡◌, ℕ, Ok, Some, sym, ap, ◌∙�
 use Rattle.std.specs.FinMap as finite
 use Rattle.gc_model.specs.Values.{Value}
 use Rattle.gc_model.specs.Table.{Table}
-use Rattle.gc_model.specs.Views.{StoreView, HeapObject}
+use Rattle.gc_view.specs.Heaps.{HeapObject}
+use Rattle.gc_model.specs.Stores.{StoreView}
 use Rattle.gc_model.specs.Holds.{Placing}
 use Rattle.gc_heap.specs.Heap.{put_object, with_data}
 use Rattle.gc_heap.specs.Collection.{has_host}

@@ -3,7 +3,7 @@ use Rattle.std.proofs.Common.{◌≡◌, ◌≢◌, ℕ, Some, arith}
 use Rattle.std.specs.Ordering.{nat_cmp}
 use Rattle.std.specs.FinMap.{gets, FinMap, get, insert}
 use Rattle.std.proofs.lemmas.Grind.{common_steps}
-use Rattle.gc_model.specs.Views.{HeapObject}
+use Rattle.gc_view.specs.Heaps.{HeapObject}
 
 -- the object that was put there is there
 pub get-put_same : (m : FinMap nat_cmp HeapObject) (k : ℕ) (v : HeapObject) → get (insert m k v) k ≡ Some v

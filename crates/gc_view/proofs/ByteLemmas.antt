@@ -4,8 +4,8 @@ use Rattle.std.specs.Int.{w32, from_le_bytes, to_le_bytes}
 use Rattle.std.proofs.lemmas.List.{same_lists, length-take, length-drop, length-append, get_or-take, get_or-drop, get_or_append_left, get_or-append_right, length-take-le}
 use Rattle.std.proofs.lemmas.Bool.{cases_lt}
 use Rattle.std.proofs.lemmas.Nat.{from_le_bytes-to_le_bytes_4}
-use Rattle.gc_model.specs.Views.{u32_at, put_u32}
-use Rattle.gc_model.specs.Bytes.{put_bytes, SameBytes}
+use Rattle.gc_view.specs.Bytes.{u32_at, put_u32}
+use Rattle.gc_view.specs.Bytes.{put_bytes, SameBytes}
 
 -- a part of a range
 pub SameBytes-part : {a b : List ℕ} {lo hi : ℕ} → SameBytes a b lo hi → (lo' hi' : ℕ) → lo ≤ lo' → hi' ≤ hi → SameBytes a b lo' hi'

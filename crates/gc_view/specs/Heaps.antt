@@ -1,13 +1,10 @@
--- What contracts see of a heap and of a store.
-use Rattle.std.specs.Prelude.{◌≡◌, ℕ, ◌+◌, ◌-◌, ◌*◌, ◌<◌, ◌≤◌, ◌%◌, Bool, true, false, List, [], ◌++◌, Option, Some, None, take, drop, length}
+-- What contracts see of a heap.
+use Rattle.std.specs.Prelude.{◌≡◌, ℕ, Bool, false, List}
 use Rattle.std.specs.Ordering.{nat_cmp}
 use Rattle.std.specs.FinMap as map
 use Rattle.std.specs.FinSet as finset
 use Rattle.std.specs.FinSet.{FinSet}
-use Rattle.std.specs.Int.{w32, w64, from_le_bytes, to_le_bytes}
 use Rattle.gc_types.specs.declared.kind.VMGcKind.{VMGcKind}
-use Rattle.gc_types.specs.Declarations.{Declaration}
-use Rattle.gc_model.specs.declared.RootEntry.{RootEntry}
 
 -- an object of a heap: its kind, its type, the spare bits of its kind word as far as they are its
 -- maker's (the trace word in a copying heap), and its data: the bytes from the first free offset of a
@@ -64,51 +61,3 @@ detached_in scopes = record {
 -- a heap with no memory
 abbrev pub detached : HeapView
 detached = detached_in 0
-
--- the 32-bit number that lies at an offset, its lowest byte first
-abbrev pub u32_at : List ℕ → ℕ → ℕ
-u32_at bytes offset = from_le_bytes w32 (take 4 (drop offset bytes))
-
--- the 64-bit number that lies at an offset
-abbrev pub u64_at : List ℕ → ℕ → ℕ
-u64_at bytes offset = from_le_bytes w64 (take 8 (drop offset bytes))
-
--- the bytes with that 32-bit number at an offset
-abbrev pub put_u32 : List ℕ → ℕ → ℕ → List ℕ
-put_u32 bytes offset n = take offset bytes ++ (to_le_bytes w32 n ++ drop (offset + 4) bytes)
-
--- A store: its id, its types, its heap, how many host values it has, its scoped roots, its generation,
--- the bytes that were allocated after its last collection, how many allocations it counted, and its
--- configuration.
-pub record StoreView : Type 0 where
-  pub engine : ℕ
-  pub number : ℕ
-  pub types : List Declaration
-  pub heap : HeapView
-  pub hosts : ℕ
-  pub scoped : List RootEntry
-  pub generation : ℕ
-  pub last : ℕ
-  pub tries : ℕ
-  pub first : ℕ
-  pub max_scoped : ℕ
-  pub max_owned : ℕ
-  pub alloc_counter : Option ℕ
-
--- what is seen of a store with nothing in it
-abbrev pub empty_store : ℕ → ℕ → ℕ → ℕ → ℕ → Option ℕ → StoreView
-empty_store engine number first max_scoped max_owned alloc_counter = record {
-  engine = engine;
-  number = number;
-  types = [];
-  heap = detached;
-  hosts = 0;
-  scoped = [];
-  generation = 0;
-  last = 0;
-  tries = 0;
-  first = first;
-  max_scoped = max_scoped;
-  max_owned = max_owned;
-  alloc_counter = alloc_counter;
-}

@@ -14,7 +14,7 @@ use Rattle.gc_types.specs.declared.kind.Layouts.TheVariants.{Null, Counting, Cop
 use Rattle.gc_types.specs.declared.layout.FieldLayout.{FieldLayout}
 use Rattle.gc_types.specs.Declarations.{IsMutableI32}
 use Rattle.gc_types.specs.Layouts.{field_layouts, fields_end, field_offset, storage_width, value_width, round_up, ref_offsets, is_gc_storage}
-use Rattle.gc_model.specs.Sizes.{stored_size}
+use Rattle.gc_view.specs.Sizes.{stored_size}
 
 value_width_positive : (ty : ValType) → 0 < value_width ty
 value_width_positive val.I32 = omega arith

@@ -1,0 +1,4 @@
+pub mod Heaps
+pub mod Bytes
+pub mod Sizes
+pub mod Pages
