@@ -1,18 +1,16 @@
--- Values that are written lie where they were written, and others lie where they lay.
-use Rattle.std.proofs.Common.{◌≡◌, ℕ, ◌+◌, ◌<◌, ◌≤◌, ◌^◌, ◌⊎◌, inl, inr, List, length, take, drop, sym, ap, ◌∙◌, subst}
-use Rattle.std.specs.Int.{w32, w64, from_le_bytes, to_le_bytes}
-use Rattle.std.proofs.lemmas.Nat.{from_le_bytes-to_le_bytes_4, from_le_bytes-to_le_bytes_8}
+-- Values that are written lie where they were written, at every width.
+use Rattle.std.proofs.Common.{◌≡◌, ℕ, zero, suc, ◌+◌, ◌-◌, ◌<◌, ◌≤◌, ◌^◌, ◌%◌, ◌⊎◌, inl, inr, List, [], ◌∷◌, length, take, drop, refl, sym, ap, ◌∙◌, subst, arith}
+use Rattle.std.specs.Prelude.{slice_index}
+use Rattle.std.specs.Int.{sum_through, byte_worth, byte_at, bytes_low_first}
+use Rattle.std.proofs.Math.Nat.{mod-eq_of_lt}
 use Rattle.gc_types.specs.declared.value.StorageType.{StorageType}
-use Rattle.gc_types.specs.declared.value.StorageType.TheVariants as storage
-use Rattle.gc_types.specs.declared.value.ValType.TheVariants as val
 use Rattle.gc_types.specs.Layouts.{storage_width}
-use Rattle.gc_model.specs.declared.GcClass.TheVariants.{Any, Extern, Exn}
-use Rattle.gc_model.specs.Values.{Value, i32, i64, f32, f64, v128, function, reference}
-use Rattle.gc_view.specs.Bytes.{u32_at, u64_at}
+use Rattle.gc_refs.proofs.LittleEndianLemmas.{sum_of_bytes}
+use Rattle.gc_model.specs.Values.{Value}
+use Rattle.gc_model.specs.Forms.{Names, IsCode, LiesAs, IsEncodedAs, number_at}
 use Rattle.gc_view.specs.Bytes.{put_bytes, SameBytes}
-use Rattle.gc_model.specs.Holds.{Placing, IsWord, Lies, LiesI32, LiesI64, LiesAny}
-use Rattle.gc_model.specs.Encoded.{IsEncoded, EncodesI32, EncodesI64, EncodesAny}
 use Rattle.gc_view.proofs.ByteLemmas.{part_in_same, part-put_bytes, put_bytes-below, put_bytes-above}
+use Rattle.gc_view.proofs.Layouts.{storage_width_positive}
 
 -- two ranges have no place in common: one ends before the other begins
 abbrev pub IsApart : ℕ → ℕ → ℕ → ℕ → Type 0
@@ -23,99 +21,56 @@ pub put_bytes-apart : (bytes : List ℕ) (p : ℕ) (ws : List ℕ) (o n : ℕ) �
 put_bytes-apart bytes p ws o n within (inl before) = put_bytes-below bytes p ws o (o + n) within before
 put_bytes-apart bytes p ws o n within (inr behind) = put_bytes-above bytes p ws o (o + n) within behind
 
--- a number of 64 bits that lies in equal bytes is the same
-pub u64_in_same : (a b : List ℕ) (p : ℕ) → SameBytes a b p (p + 8) → u64_at b p ≡ u64_at a p
-u64_in_same a b p s = ap (from_le_bytes w64) (part_in_same a b p 8 s)
+-- the number that some bytes are, their lowest first
+abbrev number_in : ℕ → List ℕ → ℕ
+number_in width bytes = sum_through (λ i. byte_worth i (slice_index bytes i)) (width - 1)
+
+-- a number that lies in equal bytes is the same
+pub number_in_same : (width : ℕ) (a b : List ℕ) (p : ℕ) → SameBytes a b p (p + width) → number_at width b p ≡ number_at width a p
+number_in_same width a b p same = ap (number_in width) (part_in_same a b p width same)
+
+length-bytes : (i k n : ℕ) → length (bytes_low_first i k n) ≡ k
+length-bytes i zero n = refl
+length-bytes i (suc k) n = ap suc (length-bytes (suc i) k n)
+
+-- a byte of a number
+byte_of : (i k n j : ℕ) → j < k → slice_index (bytes_low_first i k n) j ≡ byte_at (i + j) n
+byte_of i zero n j below = absurd (omega (arith, below))
+byte_of i (suc k) n zero below = ap (λ m. byte_at m n) (let e : i ≡ i + 0 = omega arith in e)
+byte_of i (suc k) n (suc j) below = byte_of (suc i) k n j (omega (arith, below)) ∙ ap (λ m. byte_at m n) (let e : suc i + j ≡ i + suc j = omega arith in e)
+
+-- sums of equal numbers are equal
+same_sums : (f g : ℕ → ℕ) (k : ℕ) → ((i : ℕ) → i ≤ k → f i ≡ g i) → sum_through f k ≡ sum_through g k
+same_sums f g zero same = same 0 (omega arith)
+same_sums f g (suc k) same =
+    ap (λ n. n + f (suc k)) (same_sums f g k (λ i h. same i (omega (arith, h)))) ∙ ap (λ n. sum_through g k + n) (same (suc k) (omega arith))
+
+-- the bytes of a number are the number
+number_of_bytes : (width n : ℕ) → 0 < width → n < 256 ^ width → number_in width (bytes_low_first 0 width n) ≡ n
+number_of_bytes width n positive small =
+    let last : suc (width - 1) ≡ width = omega (arith, positive) in
+    same_sums (λ i. byte_worth i (slice_index (bytes_low_first 0 width n) i)) (λ i. byte_worth i (byte_at i n)) (width - 1)
+    (λ i h. ap (byte_worth i) (byte_of 0 width n i (omega (arith, h, positive)) ∙ ap (λ m. byte_at m n) (let e : 0 + i ≡ i = omega arith in e)))
+    ∙ sum_of_bytes n (width - 1)
+    ∙ ap (λ m. n % 256 ^ m) last
+    ∙ mod-eq_of_lt small
 
 -- a number whose bytes were written can be read
-pub u32_encoded : (bytes : List ℕ) (p n : ℕ) (ws : List ℕ) → n < 2 ^ 32 → ws ≡ to_le_bytes w32 n → p + length ws ≤ length bytes → u32_at (put_bytes bytes p ws) p ≡ n
-u32_encoded bytes p n ws small is within =
-    let four : length ws ≡ 4 = ap length is in
-    ap (from_le_bytes w32) (ap (λ k. take k (drop p (put_bytes bytes p ws))) (sym four) ∙ part-put_bytes bytes p ws within ∙ is)
-    ∙ from_le_bytes-to_le_bytes_4 n small
+pub number_encoded : (width : ℕ) (bytes : List ℕ) (p n : ℕ) (ws : List ℕ) → 0 < width → n < 256 ^ width → ws ≡ bytes_low_first 0 width n → p + length ws ≤ length bytes
+    → number_at width (put_bytes bytes p ws) p ≡ n
+number_encoded width bytes p n ws positive small is within =
+    let long : length ws ≡ width = ap length is ∙ length-bytes 0 width n in
+    ap (number_in width) (ap (λ k. take k (drop p (put_bytes bytes p ws))) (sym long) ∙ part-put_bytes bytes p ws within ∙ is)
+    ∙ number_of_bytes width n positive small
 
-pub u64_encoded : (bytes : List ℕ) (p n : ℕ) (ws : List ℕ) → n < 2 ^ 64 → ws ≡ to_le_bytes w64 n → p + length ws ≤ length bytes → u64_at (put_bytes bytes p ws) p ≡ n
-u64_encoded bytes p n ws small is within =
-    let eight : length ws ≡ 8 = ap length is in
-    ap (from_le_bytes w64) (ap (λ k. take k (drop p (put_bytes bytes p ws))) (sym eight) ∙ part-put_bytes bytes p ws within ∙ is)
-    ∙ from_le_bytes-to_le_bytes_8 n small
+module _ (names : Names) (ty : StorageType) (v : Value) where
+  -- a value's bytes are as many as its field has
+  pub encoded_width : (ws : List ℕ) → IsEncodedAs names ty v ws → length ws ≡ storage_width ty
+  encoded_width ws is = ap length is.encoded ∙ length-bytes 0 (storage_width ty) is.word
 
-i32_width : (v : Value) (ws : List ℕ) → EncodesI32 v ws → length ws ≡ 4
-i32_width (i32 n) ws is = ap length is.1
-i32_width (i64 n) ws is = absurd is
-i32_width (f32 n) ws is = absurd is
-i32_width (f64 n) ws is = absurd is
-i32_width (v128 n) ws is = absurd is
-i32_width (function f) ws is = absurd is
-i32_width (reference class r) ws is = absurd is
-
-i64_width : (v : Value) (ws : List ℕ) → EncodesI64 v ws → length ws ≡ 8
-i64_width (i32 n) ws is = absurd is
-i64_width (i64 n) ws is = ap length is.1
-i64_width (f32 n) ws is = absurd is
-i64_width (f64 n) ws is = absurd is
-i64_width (v128 n) ws is = absurd is
-i64_width (function f) ws is = absurd is
-i64_width (reference class r) ws is = absurd is
-
-any_width : (place : Placing) (v : Value) (ws : List ℕ) → EncodesAny place v ws → length ws ≡ 4
-any_width place (i32 n) ws is = absurd is
-any_width place (i64 n) ws is = absurd is
-any_width place (f32 n) ws is = absurd is
-any_width place (f64 n) ws is = absurd is
-any_width place (v128 n) ws is = absurd is
-any_width place (function f) ws is = absurd is
-any_width place (reference Any r) ws is = ap length is.encoded
-any_width place (reference Extern r) ws is = absurd is
-any_width place (reference Exn r) ws is = absurd is
-
--- a value's bytes are as many as its field has
-pub encoded_width : (place : Placing) (ty : StorageType) (v : Value) (ws : List ℕ) → IsEncoded place ty v ws → length ws ≡ storage_width ty
-encoded_width place storage.I8 v ws is = absurd is
-encoded_width place storage.I16 v ws is = absurd is
-encoded_width place (storage.ValType val.I32) v ws is = i32_width v ws is
-encoded_width place (storage.ValType val.I64) v ws is = i64_width v ws is
-encoded_width place (storage.ValType val.F32) v ws is = absurd is
-encoded_width place (storage.ValType val.F64) v ws is = absurd is
-encoded_width place (storage.ValType val.V128) v ws is = absurd is
-encoded_width place (storage.ValType (val.Ref ty)) v ws is = any_width place v ws is
-
-i32_lies : (v : Value) (bytes : List ℕ) (p : ℕ) (ws : List ℕ) → EncodesI32 v ws → p + length ws ≤ length bytes → LiesI32 v (put_bytes bytes p ws) p
-i32_lies (i32 n) bytes p ws is within = u32_encoded bytes p n ws is.0 is.1 within
-i32_lies (i64 n) bytes p ws is within = absurd is
-i32_lies (f32 n) bytes p ws is within = absurd is
-i32_lies (f64 n) bytes p ws is within = absurd is
-i32_lies (v128 n) bytes p ws is within = absurd is
-i32_lies (function f) bytes p ws is within = absurd is
-i32_lies (reference class r) bytes p ws is within = absurd is
-
-i64_lies : (v : Value) (bytes : List ℕ) (p : ℕ) (ws : List ℕ) → EncodesI64 v ws → p + length ws ≤ length bytes → LiesI64 v (put_bytes bytes p ws) p
-i64_lies (i32 n) bytes p ws is within = absurd is
-i64_lies (i64 n) bytes p ws is within = u64_encoded bytes p n ws is.0 is.1 within
-i64_lies (f32 n) bytes p ws is within = absurd is
-i64_lies (f64 n) bytes p ws is within = absurd is
-i64_lies (v128 n) bytes p ws is within = absurd is
-i64_lies (function f) bytes p ws is within = absurd is
-i64_lies (reference class r) bytes p ws is within = absurd is
-
-any_lies : (place : Placing) (v : Value) (bytes : List ℕ) (p : ℕ) (ws : List ℕ) → EncodesAny place v ws → p + length ws ≤ length bytes → LiesAny place v (put_bytes bytes p ws) p
-any_lies place (i32 n) bytes p ws is within = absurd is
-any_lies place (i64 n) bytes p ws is within = absurd is
-any_lies place (f32 n) bytes p ws is within = absurd is
-any_lies place (f64 n) bytes p ws is within = absurd is
-any_lies place (v128 n) bytes p ws is within = absurd is
-any_lies place (function f) bytes p ws is within = absurd is
-any_lies place (reference Any r) bytes p ws is within = subst (IsWord place r) (sym (u32_encoded bytes p is.word ws is.small is.encoded within)) is.is_word
-any_lies place (reference Extern r) bytes p ws is within = absurd is
-any_lies place (reference Exn r) bytes p ws is within = absurd is
-
--- a value whose bytes were written lies there
-pub encoded_lies : (place : Placing) (ty : StorageType) (v : Value) (bytes : List ℕ) (p : ℕ) (ws : List ℕ) → IsEncoded place ty v ws → p + length ws ≤ length bytes → Lies place ty v (put_bytes bytes p ws) p
-encoded_lies place storage.I8 v bytes p ws is within = absurd is
-encoded_lies place storage.I16 v bytes p ws is within = absurd is
-encoded_lies place (storage.ValType val.I32) v bytes p ws is within = i32_lies v bytes p ws is within
-encoded_lies place (storage.ValType val.I64) v bytes p ws is within = i64_lies v bytes p ws is within
-encoded_lies place (storage.ValType val.F32) v bytes p ws is within = absurd is
-encoded_lies place (storage.ValType val.F64) v bytes p ws is within = absurd is
-encoded_lies place (storage.ValType val.V128) v bytes p ws is within = absurd is
-encoded_lies place (storage.ValType (val.Ref ty)) v bytes p ws is within = any_lies place v bytes p ws is within
+  -- a value whose bytes were written lies there
+  pub encoded_lies : (bytes : List ℕ) (p : ℕ) (ws : List ℕ) → IsEncodedAs names ty v ws → p + length ws ≤ length bytes → LiesAs names ty v (put_bytes bytes p ws) p
+  encoded_lies bytes p ws is within = record {
+    form = is.form;
+    code = subst (IsCode names v) (sym (number_encoded (storage_width ty) bytes p is.word ws (storage_width_positive ty) is.small is.encoded within)) is.code;
+  }

@@ -8,6 +8,7 @@ use Rattle.gc_types.specs.declared.layout.FieldLayout.{FieldLayout}
 use Rattle.gc_types.specs.Layouts.{field_layouts, fields_end, storage_width}
 use Rattle.gc_model.specs.Values.{Value}
 use Rattle.gc_view.specs.Bytes.{put_bytes}
+use Rattle.gc_model.specs.Forms.{no_functions}
 use Rattle.gc_model.specs.Holds.{Placing, Lies, ValuesLie}
 use Rattle.gc_model.specs.Encoded.{IsEncoded}
 use Rattle.gc_view.proofs.Layouts.{layout_low, layout_high, layouts_apart}
@@ -50,7 +51,7 @@ pub field_within : (base : ℕ) (fields : List FieldType) (k : ℕ) (field : Fie
     → layout.offset - base + length ws ≤ length bytes
 field_within base fields k field layout place value bytes ws is encoded room =
     let range = field_range base fields k field layout is in
-    omega (arith, range.low, range.high, room, encoded_width place field.element_type value ws encoded)
+    omega (arith, range.low, range.high, room, encoded_width (no_functions place) field.element_type value ws encoded)
 
 -- another field's value lies as before where a field was written
 pub other_lies : (base : ℕ) (fields : List FieldType) (i k : ℕ) (field other : FieldType) (layout there : FieldLayout) (place : Placing) (value written : Value) (bytes ws : List ℕ)
@@ -59,9 +60,9 @@ pub other_lies : (base : ℕ) (fields : List FieldType) (i k : ℕ) (field other
     → Lies place field.element_type value bytes (layout.offset - base)
     → Lies place field.element_type value (put_bytes bytes (there.offset - base) ws) (layout.offset - base)
 other_lies base fields i k field other layout there place value written bytes ws here at_k differ encoded room =
-    lies_apart place field.element_type value bytes (layout.offset - base) (there.offset - base) ws
+    lies_apart (no_functions place) field.element_type value bytes (layout.offset - base) (there.offset - base) ws
     (field_within base fields k other there place written bytes ws at_k encoded room)
-    (subst (IsApart (layout.offset - base) (storage_width field.element_type) (there.offset - base)) (sym (encoded_width place other.element_type written ws encoded)) (fields_apart base fields i k field other layout there here at_k differ))
+    (subst (IsApart (layout.offset - base) (storage_width field.element_type) (there.offset - base)) (sym (encoded_width (no_functions place) other.element_type written ws encoded)) (fields_apart base fields i k field other layout there here at_k differ))
 
 -- the first k values lie at their fields
 pub record ValuesLieTo (place : Placing) (base : ℕ) (fields : List FieldType) (values : List Value) (bytes : List ℕ) (k : ℕ) : Type 0 where
@@ -81,7 +82,7 @@ pub written_lies : (place : Placing) (base : ℕ) (fields : List FieldType) (k :
 written_lies place base fields k field layout value bytes ws is encoded room other there v here same =
     let type_same : field ≡ other = grind (arith, sym is.type_is ∙ here.type_is) in
     let layout_same : layout ≡ there = grind (arith, sym is.layout_is ∙ here.layout_is) in
-    let lies = encoded_lies place field.element_type value bytes (layout.offset - base) ws encoded (field_within base fields k field layout place value bytes ws is encoded room) in
+    let lies = encoded_lies (no_functions place) field.element_type value bytes (layout.offset - base) ws encoded (field_within base fields k field layout place value bytes ws is encoded room) in
     subst (λ (w : Value). Lies place other.element_type w (put_bytes bytes (layout.offset - base) ws) (there.offset - base)) (sym same)
     (subst (λ (f : FieldType). Lies place f.element_type value (put_bytes bytes (layout.offset - base) ws) (there.offset - base)) type_same
     (subst (λ (l : FieldLayout). Lies place field.element_type value (put_bytes bytes (layout.offset - base) ws) (l.offset - base)) layout_same lies))

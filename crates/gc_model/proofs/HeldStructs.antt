@@ -2,6 +2,8 @@
 use Rattle.std.proofs.Common.{◌≡◌, ℕ, ◌+◌, ◌-◌, ◌≤◌, List, length, Some, true, sym, ◌∙◌, subst, arith}
 use Rattle.std.specs.List.{slice_get}
 use Rattle.std.specs.FinMap.{get}
+use Rattle.std.specs.Prelude.{All}
+use Rattle.std.proofs.lemmas.Option.{slice_get_within, get_or_from_slice_get}
 use Rattle.gc_types.specs.declared.value.FieldType.{FieldType}
 use Rattle.gc_types.specs.declared.kind.Layouts.{Layouts}
 use Rattle.gc_types.specs.declared.layout.FieldLayout.{FieldLayout}
@@ -10,15 +12,16 @@ use Rattle.gc_types.specs.Layouts.{struct_base, field_layouts, fields_end, stora
 use Rattle.gc_model.specs.Values.{at, Value, Object, struct, array, host, exception}
 use Rattle.gc_model.specs.Table.{Table}
 use Rattle.gc_model.specs.Live.{rooted}
-use Rattle.gc_model.specs.Fits.{fits}
+use Rattle.gc_model.specs.Fits.{fits, is_built_field}
 use Rattle.gc_view.specs.Heaps.{HeapObject}
 use Rattle.gc_model.specs.Stores.{StoreView}
-use Rattle.gc_model.specs.Holds.{Placing, Lies, Holds, HoldsTable, Stands, StructStands}
+use Rattle.gc_model.specs.Forms.{no_functions}
+use Rattle.gc_model.specs.Holds.{Placing, Lies, Holds, HoldsTable, OnlyBuilt, Stands, StructStands}
 use Rattle.gc_view.proofs.Layouts.{length-field_layouts, stored_size-le}
 use Rattle.gc_model.proofs.FieldsLie.{IsField, field_range}
 use Rattle.gc_model.proofs.Lists.{slice_get-same_length}
 use Rattle.gc_model.proofs.Live.{rooted_word}
-use Rattle.gc_model.proofs.Lying.{lies_fits}
+use Rattle.gc_model.proofs.ReadingBack.{lies_fits}
 
 -- the heap's object at a placed struct stands for it
 pub struct_stands : {D : Type 0} (layouts : Layouts) (s : StoreView) (t : Table D) (place : Placing) → Holds layouts s t place → (position word ty : ℕ) (values : List Value) (h : HeapObject) → place position ≡ Some word → get s.heap.content word ≡ Some h → slice_get t.objects position ≡ Some (struct ty values) → StructStands layouts t.types place ty values h
@@ -68,30 +71,37 @@ pub record IsTypedStruct {D : Type 0} (t : Table D) (position : ℕ) : Type 0 wh
   pub same_count : length values ≡ length fields
   pub fit : (i : ℕ) (field : FieldType) (value : Value) → slice_get fields i ≡ Some field → slice_get values i ≡ Some value → fits field.element_type value ≡ true
 
-struct_fits : (layouts : Layouts) (types : List Declaration) (place : Placing) (ty : ℕ) (values : List Value) (h : HeapObject) (stands : StructStands layouts types place ty values h) → (i : ℕ) (field : FieldType) (value : Value) → slice_get stands.fields i ≡ Some field → slice_get values i ≡ Some value → fits field.element_type value ≡ true
-struct_fits layouts types place ty values h stands i field value e f =
-    let layout = slice_get-same_length stands.fields (field_layouts (struct_base layouts) stands.fields) i field (sym (length-field_layouts (struct_base layouts) stands.fields)) e in
-    lies_fits place field.element_type value h.bytes (layout.0.offset - struct_base layouts) (stands.values_lie.each i field layout.0 value e layout.1 f)
+-- all fields of a struct are of types that are built
+abbrev AllBuilt : List FieldType → Type 0
+AllBuilt fields = All (λ (f : FieldType). is_built_field f ≡ true) fields
 
-typed_entry : {D : Type 0} (layouts : Layouts) (t : Table D) (place : Placing) (position : ℕ) (o : Object D) (h : HeapObject) → slice_get t.objects position ≡ Some o → Stands layouts t.types place o h → IsTypedStruct t position
-typed_entry layouts t place position (struct ty values) h e stands = record {
+built_at : (fields : List FieldType) (i : ℕ) (field : FieldType) → AllBuilt fields → slice_get fields i ≡ Some field → is_built_field field ≡ true
+built_at fields i field all e = subst (λ (f : FieldType). is_built_field f ≡ true) (get_or_from_slice_get fields i field field e) (all i field (slice_get_within fields i field e))
+
+struct_fits : (layouts : Layouts) (types : List Declaration) (place : Placing) (ty : ℕ) (values : List Value) (h : HeapObject) (stands : StructStands layouts types place ty values h) → AllBuilt stands.fields → (i : ℕ) (field : FieldType) (value : Value) → slice_get stands.fields i ≡ Some field → slice_get values i ≡ Some value → fits field.element_type value ≡ true
+struct_fits layouts types place ty values h stands built i field value e f =
+    let layout = slice_get-same_length stands.fields (field_layouts (struct_base layouts) stands.fields) i field (sym (length-field_layouts (struct_base layouts) stands.fields)) e in
+    lies_fits (no_functions place) field.element_type value h.bytes (layout.0.offset - struct_base layouts) (built_at stands.fields i field built e) (stands.values_lie.each i field layout.0 value e layout.1 f)
+
+typed_entry : {D : Type 0} (layouts : Layouts) (t : Table D) (place : Placing) (position : ℕ) (o : Object D) (h : HeapObject) → slice_get t.objects position ≡ Some o → OnlyBuilt t.types → Stands layouts t.types place o h → IsTypedStruct t position
+typed_entry layouts t place position (struct ty values) h e built stands = record {
   ty = ty;
   values = values;
   object = e;
   fields = stands.fields;
   declared = stands.declared;
   same_count = stands.values_lie.same_count;
-  fit = struct_fits layouts t.types place ty values h stands;
+  fit = struct_fits layouts t.types place ty values h stands (built ty stands.fields stands.declared);
 }
-typed_entry layouts t place position (array ty values) h e stands = absurd stands
-typed_entry layouts t place position (host value) h e stands = absurd stands
-typed_entry layouts t place position (exception ty tag values) h e stands = absurd stands
+typed_entry layouts t place position (array ty values) h e built stands = absurd stands
+typed_entry layouts t place position (host value) h e built stands = absurd stands
+typed_entry layouts t place position (exception ty tag values) h e built stands = absurd stands
 
 -- a placed position is such a struct
 pub placed_typed : {D : Type 0} (layouts : Layouts) (s : StoreView) (t : Table D) (place : Placing) → Holds layouts s t place → (position word : ℕ) → place position ≡ Some word → IsTypedStruct t position
 placed_typed layouts s t place holds position word placed =
     let held = holds.objects.placed position word placed in
-    typed_entry layouts t place position held.entry held.object held.in_table held.stands
+    typed_entry layouts t place position held.entry held.object held.in_table holds.only_built held.stands
 
 -- and so is what a live root names
 pub holds_typed : {D : Type 0} (layouts : Layouts) (s : StoreView) (t : Table D) → HoldsTable layouts s t → (serial position : ℕ) → rooted t serial ≡ Some (at position) → IsTypedStruct t position

@@ -15,5 +15,6 @@ pub mod Live
 pub mod Words
 pub mod HeldStructs
 pub mod Encoding
+pub mod ReadingBack
 pub mod Lying
 pub mod FieldsLie

@@ -1,14 +1,13 @@
 -- What lies under a placing lies under each placing with more positions.
 use Rattle.std.proofs.Common.{◌≡◌, ℕ, List, Some}
 use Rattle.gc_types.specs.declared.value.StorageType.{StorageType}
-use Rattle.gc_types.specs.declared.value.StorageType.TheVariants as storage
-use Rattle.gc_types.specs.declared.value.ValType.TheVariants as val
 use Rattle.gc_types.specs.declared.kind.Layouts.{Layouts}
 use Rattle.gc_types.specs.Declarations.{Declaration}
-use Rattle.gc_model.specs.declared.GcClass.TheVariants.{Any, Extern, Exn}
-use Rattle.gc_model.specs.Values.{Reference, null, small, at, Value, i32, i64, f32, f64, v128, function, reference, Object, struct, array, host, exception}
+use Rattle.gc_model.specs.Values.{Reference, null, small, at, Value, numeric, function, reference, Object, struct, array, host, exception}
 use Rattle.gc_view.specs.Heaps.{HeapObject}
-use Rattle.gc_model.specs.Holds.{Placing, IsWord, Lies, LiesAny, Stands}
+use Rattle.gc_model.specs.Holds.{Placing, IsWord, Lies, Stands}
+use Rattle.gc_model.specs.Forms.{IsCode, number_at, no_functions}
+use Rattle.gc_types.specs.Layouts.{storage_width}
 
 -- each position that is placed before is placed alike after
 abbrev pub IsWithin : Placing → Placing → Type 0
@@ -19,26 +18,13 @@ is_word-more place place' null word within is = is
 is_word-more place place' (small n) word within is = is
 is_word-more place place' (at p) word within is = within p word is
 
-lies_any-more : (place place' : Placing) (v : Value) (bytes : List ℕ) (offset : ℕ) → IsWithin place place' → LiesAny place v bytes offset → LiesAny place' v bytes offset
-lies_any-more place place' (i32 n) bytes offset within lies = lies
-lies_any-more place place' (i64 n) bytes offset within lies = lies
-lies_any-more place place' (f32 n) bytes offset within lies = lies
-lies_any-more place place' (f64 n) bytes offset within lies = lies
-lies_any-more place place' (v128 n) bytes offset within lies = lies
-lies_any-more place place' (function f) bytes offset within lies = lies
-lies_any-more place place' (reference Any r) bytes offset within lies = is_word-more place place' r _ within lies
-lies_any-more place place' (reference Extern r) bytes offset within lies = lies
-lies_any-more place place' (reference Exn r) bytes offset within lies = lies
+is_code-more : (place place' : Placing) (v : Value) (code : ℕ) → IsWithin place place' → IsCode (no_functions place) v code → IsCode (no_functions place') v code
+is_code-more place place' (numeric kind n) code within is = is
+is_code-more place place' (function f) code within is = is
+is_code-more place place' (reference class r) code within is = is_word-more place place' r code within is
 
 pub lies-more : (place place' : Placing) (ty : StorageType) (v : Value) (bytes : List ℕ) (offset : ℕ) → IsWithin place place' → Lies place ty v bytes offset → Lies place' ty v bytes offset
-lies-more place place' storage.I8 v bytes offset within lies = lies
-lies-more place place' storage.I16 v bytes offset within lies = lies
-lies-more place place' (storage.ValType val.I32) v bytes offset within lies = lies
-lies-more place place' (storage.ValType val.I64) v bytes offset within lies = lies
-lies-more place place' (storage.ValType val.F32) v bytes offset within lies = lies
-lies-more place place' (storage.ValType val.F64) v bytes offset within lies = lies
-lies-more place place' (storage.ValType val.V128) v bytes offset within lies = lies
-lies-more place place' (storage.ValType (val.Ref ty)) v bytes offset within lies = lies_any-more place place' v bytes offset within lies
+lies-more place place' ty v bytes offset within lies = record { form = lies.form; code = is_code-more place place' v (number_at (storage_width ty) bytes offset) within lies.code }
 
 pub stands-more : {D : Type 0} (layouts : Layouts) (types : List Declaration) (place place' : Placing) (entry : Object D) (h : HeapObject) → IsWithin place place' → Stands layouts types place entry h → Stands layouts types place' entry h
 stands-more layouts types place place' (struct ty values) h within stands = record {

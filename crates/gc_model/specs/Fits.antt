@@ -9,7 +9,7 @@ use Rattle.gc_types.specs.declared.value.HeapType.{HeapType}
 use Rattle.gc_types.specs.declared.value.HeapType.TheVariants as heap
 use Rattle.gc_model.specs.declared.GcClass.{GcClass}
 use Rattle.gc_model.specs.declared.GcClass.TheVariants.{Any, Extern, Exn}
-use Rattle.gc_model.specs.Values.{Value, i32, i64, f32, f64, v128, function, reference}
+use Rattle.gc_model.specs.Values.{i32, i64, Value, numeric, reference}
 
 -- the heap type of every reference of class Any
 abbrev pub is_any : HeapType → Bool
@@ -56,32 +56,17 @@ is_class_any Extern = false
 is_class_any Exn = false
 
 abbrev pub is_i32 : Value → Bool
-is_i32 (i32 n) = true
-is_i32 (i64 n) = false
-is_i32 (f32 n) = false
-is_i32 (f64 n) = false
-is_i32 (v128 n) = false
-is_i32 (function f) = false
-is_i32 (reference class r) = false
+is_i32 (numeric i32 n) = true
+is_i32 _ = false
 
 abbrev pub is_i64 : Value → Bool
-is_i64 (i32 n) = false
-is_i64 (i64 n) = true
-is_i64 (f32 n) = false
-is_i64 (f64 n) = false
-is_i64 (v128 n) = false
-is_i64 (function f) = false
-is_i64 (reference class r) = false
+is_i64 (numeric i64 n) = true
+is_i64 _ = false
 
 -- a reference of class Any, null among them
 abbrev pub is_any_reference : Value → Bool
-is_any_reference (i32 n) = false
-is_any_reference (i64 n) = false
-is_any_reference (f32 n) = false
-is_any_reference (f64 n) = false
-is_any_reference (v128 n) = false
-is_any_reference (function f) = false
 is_any_reference (reference class r) = is_class_any class
+is_any_reference _ = false
 
 abbrev pub fits_type : ValType → Value → Bool
 fits_type val.I32 v = is_i32 v

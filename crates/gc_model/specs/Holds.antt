@@ -3,80 +3,27 @@ use Rattle.std.specs.Prelude.{◌≡◌, Bool, ℕ, ◌+◌, ◌-◌, ◌*◌, �
 use Rattle.std.specs.Ordering.{nat_cmp}
 use Rattle.std.specs.FinMap as map
 use Rattle.gc_types.specs.declared.value.FieldType.{FieldType}
-use Rattle.gc_types.specs.declared.value.StorageType.{StorageType}
-use Rattle.gc_types.specs.declared.value.StorageType.TheVariants as storage
-use Rattle.gc_types.specs.declared.value.ValType.{ValType}
-use Rattle.gc_types.specs.declared.value.ValType.TheVariants as val
 use Rattle.gc_types.specs.declared.kind.Layouts.{Layouts}
 use Rattle.gc_types.specs.declared.kind.Layouts.TheVariants.{Null, Counting, Copying}
 use Rattle.gc_types.specs.declared.kind.VMGcKind.TheVariants.{StructRef}
 use Rattle.gc_types.specs.declared.layout.FieldLayout.{FieldLayout}
 use Rattle.gc_types.specs.Declarations.{Declaration, struct_fields_at}
 use Rattle.gc_types.specs.Layouts.{struct_base, field_layouts, fields_end}
-use Rattle.gc_model.specs.Values.{Reference, null, small, at, Value, i32, i64, f32, f64, v128, function, reference, Object, struct, array, host, exception}
-use Rattle.gc_model.specs.declared.GcClass.{GcClass}
-use Rattle.gc_model.specs.declared.GcClass.TheVariants.{Any, Extern, Exn}
+use Rattle.gc_model.specs.Values.{Reference, Value, Object, struct, array, host, exception}
 use Rattle.gc_model.specs.Fits.{is_built_field}
 use Rattle.gc_model.specs.Reach.{IsKept}
 use Rattle.gc_types.specs.declared.value.Func.{Func}
 use Rattle.gc_model.specs.Table.{Table, Scoped, Push, Slot, Owned, Block, empty_slot, global_count}
 pub use Rattle.gc_model.specs.Words.{Placing, IsWord}
+pub use Rattle.gc_model.specs.Encoded.{Lies}
 pub use Rattle.gc_model.specs.RootPoints.{EntryBy, ScopedBy, IsPastBy, PushesBy, SlotBy, SlotsBy, FramesBy, GlobalsBy, OwnedRootBy, OwnedBy, PendingBy}
 use Rattle.gc_view.specs.Sizes.{stored_size}
 use Rattle.gc_model.specs.Sizes.{next_after}
 use Rattle.gc_view.specs.Pages.{page, max_pages}
 use Rattle.gc_model.specs.declared.RootEntry.{RootEntry}
-use Rattle.gc_view.specs.Bytes.{u32_at, u64_at}
 use Rattle.gc_view.specs.Heaps.{HeapObject, HeapView}
 use Rattle.gc_model.specs.declared.SlotEntry.{SlotEntry}
 use Rattle.gc_model.specs.Stores.{StoreView, OwnedEntry}
-
-abbrev pub LiesI32 : Value → List ℕ → ℕ → Type 0
-LiesI32 (i32 n) bytes offset = u32_at bytes offset ≡ n
-LiesI32 (i64 n) bytes offset = ⊥
-LiesI32 (f32 n) bytes offset = ⊥
-LiesI32 (f64 n) bytes offset = ⊥
-LiesI32 (v128 n) bytes offset = ⊥
-LiesI32 (function f) bytes offset = ⊥
-LiesI32 (reference class r) bytes offset = ⊥
-
-abbrev pub LiesI64 : Value → List ℕ → ℕ → Type 0
-LiesI64 (i32 n) bytes offset = ⊥
-LiesI64 (i64 n) bytes offset = u64_at bytes offset ≡ n
-LiesI64 (f32 n) bytes offset = ⊥
-LiesI64 (f64 n) bytes offset = ⊥
-LiesI64 (v128 n) bytes offset = ⊥
-LiesI64 (function f) bytes offset = ⊥
-LiesI64 (reference class r) bytes offset = ⊥
-
-abbrev pub LiesOfClass : Placing → GcClass → Reference → List ℕ → ℕ → Type 0
-LiesOfClass place Any r bytes offset = IsWord place r (u32_at bytes offset)
-LiesOfClass place Extern r bytes offset = ⊥
-LiesOfClass place Exn r bytes offset = ⊥
-
-abbrev pub LiesAny : Placing → Value → List ℕ → ℕ → Type 0
-LiesAny place (i32 n) bytes offset = ⊥
-LiesAny place (i64 n) bytes offset = ⊥
-LiesAny place (f32 n) bytes offset = ⊥
-LiesAny place (f64 n) bytes offset = ⊥
-LiesAny place (v128 n) bytes offset = ⊥
-LiesAny place (function f) bytes offset = ⊥
-LiesAny place (reference class r) bytes offset = LiesOfClass place class r bytes offset
-
-abbrev pub LiesOfType : Placing → ValType → Value → List ℕ → ℕ → Type 0
-LiesOfType place val.I32 v bytes offset = LiesI32 v bytes offset
-LiesOfType place val.I64 v bytes offset = LiesI64 v bytes offset
-LiesOfType place val.F32 v bytes offset = ⊥
-LiesOfType place val.F64 v bytes offset = ⊥
-LiesOfType place val.V128 v bytes offset = ⊥
-LiesOfType place (val.Ref ty) v bytes offset = LiesAny place v bytes offset
-
--- A value lies at an offset of an object's bytes, as a field of that type holds it: a number with its
--- lowest byte first, a reference as its word.
-abbrev pub Lies : Placing → StorageType → Value → List ℕ → ℕ → Type 0
-Lies place storage.I8 v bytes offset = ⊥
-Lies place storage.I16 v bytes offset = ⊥
-Lies place (storage.ValType ty) v bytes offset = LiesOfType place ty v bytes offset
 
 -- each value lies at its field's offset, which counts from the object's header on
 pub record ValuesLie (place : Placing) (base : ℕ) (fields : List FieldType) (values : List Value) (bytes : List ℕ) : Type 0 where

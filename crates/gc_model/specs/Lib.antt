@@ -7,7 +7,8 @@ pub mod Live
 pub mod Sizes
 pub mod Allocation
 pub mod Words
+pub mod Forms
+pub mod Encoded
 pub mod Stores
 pub mod RootPoints
 pub mod Holds
-pub mod Encoded

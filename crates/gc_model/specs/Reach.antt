@@ -3,16 +3,13 @@ use Rattle.std.specs.Prelude.{◌≡◌, ◌↔◌, ℕ, ◌<◌, List, [], ◌�
 use Rattle.std.specs.List.{Contains, IsDistinct, flat_map}
 use Rattle.gc_types.specs.declared.kind.Layouts.{Layouts}
 use Rattle.gc_types.specs.declared.kind.Layouts.TheVariants.{Null, Counting, Copying}
-use Rattle.gc_model.specs.Values.{Reference, at, Value, i32, i64, f32, f64, v128, function, reference, Object, struct, array, host, exception}
+use Rattle.gc_model.specs.Values.{Reference, at, Value, numeric, function, reference, Object, struct, array, host, exception}
+pub use Rattle.gc_view.specs.Reach.{Reachable, by_start, by_step}
 use Rattle.gc_model.specs.Table.{Table, Scoped, Slot, Owned}
 
 -- the reference that a value is, where it is one
 abbrev pub value_references : Value → List Reference
-value_references (i32 n) = []
-value_references (i64 n) = []
-value_references (f32 n) = []
-value_references (f64 n) = []
-value_references (v128 n) = []
+value_references (numeric kind n) = []
 value_references (function f) = []
 value_references (reference class r) = r ∷ []
 
@@ -46,11 +43,15 @@ root_references t =
     ++ (flat_map owned_references t.owned
     ++ present t.pending)))
 
+-- an object names a position
+pub record NamesPosition {D : Type 0} (objects : List (Object D)) (holder p : ℕ) : Type 0 where
+  pub object : Object D
+  pub there : slice_get objects holder ≡ Some object
+  pub among : Contains (references_in object) (at p)
+
 -- the positions that some references reach through the objects' values
-pub data Reached {D : Type 0} (objects : List (Object D)) (roots : List Reference) : ℕ → Type 0 where
-  by_root : {p : ℕ} → Contains roots (at p) → Reached objects roots p
-  by_value : {p q : ℕ} → Reached objects roots q → (o : Object D) → slice_get objects q ≡ Some o
-      → Contains (references_in o) (at p) → Reached objects roots p
+abbrev pub Reached : {D : Type 0} → List (Object D) → List Reference → ℕ → Type 0
+Reached objects roots p = Reachable (λ (q : ℕ). Contains roots (at q)) (NamesPosition objects) p
 
 -- the roots of the table reach the object at a position
 abbrev pub IsReached : {D : Type 0} → Table D → ℕ → Type 0

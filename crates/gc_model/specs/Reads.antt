@@ -1,6 +1,6 @@
 -- Reading a value: a reference that isn't null gets a scoped root.
 use Rattle.std.specs.Prelude.{Bool, true, false, ◌==◌}
-use Rattle.gc_model.specs.Values.{Reference, null, small, at, Value, i32, i64, f32, f64, v128, function, reference}
+use Rattle.gc_model.specs.Values.{Reference, null, small, at, Value, numeric, function, reference}
 use Rattle.gc_model.specs.Table.{Table, push}
 
 abbrev pub is_null : Reference → Bool
@@ -10,11 +10,7 @@ is_null (at p) = false
 
 -- whether reading the value makes a scoped root
 abbrev pub makes_root : Value → Bool
-makes_root (i32 n) = false
-makes_root (i64 n) = false
-makes_root (f32 n) = false
-makes_root (f64 n) = false
-makes_root (v128 n) = false
+makes_root (numeric kind n) = false
 makes_root (function f) = false
 makes_root (reference class null) = false
 makes_root (reference class (small n)) = true
@@ -22,11 +18,7 @@ makes_root (reference class (at p)) = true
 
 -- the table after a value was read
 abbrev pub after_read : {D : Type 0} → Value → Table D → Table D
-after_read (i32 n) t = t
-after_read (i64 n) t = t
-after_read (f32 n) t = t
-after_read (f64 n) t = t
-after_read (v128 n) t = t
+after_read (numeric kind n) t = t
 after_read (function f) t = t
 after_read (reference class null) t = t
 after_read (reference class (small n)) t = push (small n) t

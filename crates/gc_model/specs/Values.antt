@@ -11,13 +11,17 @@ pub data Reference : Type 0 where
   small : ℕ → Reference
   at : ℕ → Reference
 
--- a number with its width, as its bits; a function or none; a class with a reference
+-- the kinds of numbers
+pub data NumberKind : Type 0 where
+  i32 : NumberKind
+  i64 : NumberKind
+  f32 : NumberKind
+  f64 : NumberKind
+  v128 : NumberKind
+
+-- a number with its kind, as its bits; a function or none; a class with a reference
 pub data Value : Type 0 where
-  i32 : ℕ → Value
-  i64 : ℕ → Value
-  f32 : ℕ → Value
-  f64 : ℕ → Value
-  v128 : ℕ → Value
+  numeric : NumberKind → ℕ → Value
   function : Option Func → Value
   reference : GcClass → Reference → Value
 

@@ -8,15 +8,14 @@ use Rattle.std.proofs.lemmas.Option.{slice_get_within, slice_get-get_or, slice_g
 use Rattle.gc_types.specs.declared.kind.Layouts.{Layouts}
 use Rattle.gc_types.specs.declared.kind.Layouts.TheVariants.{Null, Counting, Copying}
 use Rattle.gc_types.specs.declared.value.StorageType.{StorageType}
-use Rattle.gc_types.specs.declared.value.StorageType.TheVariants as storage
-use Rattle.gc_types.specs.declared.value.ValType.TheVariants as val
 use Rattle.gc_model.specs.declared.RootEntry.{RootEntry}
-use Rattle.gc_model.specs.declared.GcClass.TheVariants.{Any, Extern, Exn}
-use Rattle.gc_model.specs.Values.{Reference, at, Value, i32, i64, f32, f64, v128, function, reference, Object, struct, array, host, exception}
+use Rattle.gc_model.specs.Values.{Reference, at, Value, numeric, function, reference, Object, struct, array, host, exception}
 use Rattle.gc_model.specs.Table.{Table, Scoped, Slot, Owned, empty_slot, global_count}
-use Rattle.gc_model.specs.Reach.{Reached, by_root, by_value, IsKept, IsHost, HasNumber, root_references, references_in, value_references, slot_references, owned_references, present}
+use Rattle.gc_model.specs.Reach.{Reached, by_start, by_step, IsKept, IsHost, HasNumber, root_references, references_in, value_references, slot_references, owned_references, present}
 use Rattle.gc_model.specs.Stores.{StoreView}
-use Rattle.gc_model.specs.Holds.{Placing, IsWord, Holds, HoldsTable, Stands, Lies, LiesI32, LiesI64, LiesAny}
+use Rattle.gc_model.specs.Holds.{Placing, IsWord, Holds, HoldsTable, Stands, Lies}
+use Rattle.gc_types.specs.Layouts.{storage_width}
+use Rattle.gc_model.specs.Forms.{IsCode, no_functions, number_at}
 use Rattle.gc_view.specs.Heaps.{HeapObject}
 use Rattle.gc_model.proofs.HeldStructs.{read_lies, placed_typed}
 
@@ -51,45 +50,14 @@ module _ {D : Type 0} (layouts : Layouts) (s : StoreView) (t : Table D) (place :
       (All-append (HasWord place) (flat_map owned_references t.owned) _ (subst (λ (os : List Owned). All (HasWord place) (flat_map owned_references os)) (sym holds.nothing_else.owned) (All-nil (HasWord place)))
       (subst (λ (o : Option Reference). All (HasWord place) (present o)) (sym holds.nothing_else.pending) (All-nil (HasWord place))))))
 
-any_words : (place : Placing) (v : Value) (bytes : List ℕ) (offset : ℕ) → LiesAny place v bytes offset → All (HasWord place) (value_references v)
-any_words place (i32 n) bytes offset lies = absurd lies
-any_words place (i64 n) bytes offset lies = absurd lies
-any_words place (f32 n) bytes offset lies = absurd lies
-any_words place (f64 n) bytes offset lies = absurd lies
-any_words place (v128 n) bytes offset lies = absurd lies
-any_words place (function f) bytes offset lies = absurd lies
-any_words place (reference Any r) bytes offset lies = All-cons (HasWord place) r [] (_, lies) (All-nil (HasWord place))
-any_words place (reference Extern r) bytes offset lies = absurd lies
-any_words place (reference Exn r) bytes offset lies = absurd lies
-
-i32_words : (place : Placing) (v : Value) (bytes : List ℕ) (offset : ℕ) → LiesI32 v bytes offset → All (HasWord place) (value_references v)
-i32_words place (i32 n) bytes offset lies = All-nil (HasWord place)
-i32_words place (i64 n) bytes offset lies = absurd lies
-i32_words place (f32 n) bytes offset lies = absurd lies
-i32_words place (f64 n) bytes offset lies = absurd lies
-i32_words place (v128 n) bytes offset lies = absurd lies
-i32_words place (function f) bytes offset lies = absurd lies
-i32_words place (reference c r) bytes offset lies = absurd lies
-
-i64_words : (place : Placing) (v : Value) (bytes : List ℕ) (offset : ℕ) → LiesI64 v bytes offset → All (HasWord place) (value_references v)
-i64_words place (i32 n) bytes offset lies = absurd lies
-i64_words place (i64 n) bytes offset lies = All-nil (HasWord place)
-i64_words place (f32 n) bytes offset lies = absurd lies
-i64_words place (f64 n) bytes offset lies = absurd lies
-i64_words place (v128 n) bytes offset lies = absurd lies
-i64_words place (function f) bytes offset lies = absurd lies
-i64_words place (reference c r) bytes offset lies = absurd lies
-
 -- what lies in a field has a word where it is a reference
+code_words : (place : Placing) (v : Value) (code : ℕ) → IsCode (no_functions place) v code → All (HasWord place) (value_references v)
+code_words place (numeric kind n) code is = All-nil (HasWord place)
+code_words place (function f) code is = All-nil (HasWord place)
+code_words place (reference class r) code is = All-cons (HasWord place) r [] (code, is) (All-nil (HasWord place))
+
 value_words : (place : Placing) (ty : StorageType) (v : Value) (bytes : List ℕ) (offset : ℕ) → Lies place ty v bytes offset → All (HasWord place) (value_references v)
-value_words place storage.I8 v bytes offset lies = absurd lies
-value_words place storage.I16 v bytes offset lies = absurd lies
-value_words place (storage.ValType val.I32) v bytes offset lies = i32_words place v bytes offset lies
-value_words place (storage.ValType val.I64) v bytes offset lies = i64_words place v bytes offset lies
-value_words place (storage.ValType val.F32) v bytes offset lies = absurd lies
-value_words place (storage.ValType val.F64) v bytes offset lies = absurd lies
-value_words place (storage.ValType val.V128) v bytes offset lies = absurd lies
-value_words place (storage.ValType (val.Ref ty)) v bytes offset lies = any_words place v bytes offset lies
+value_words place ty v bytes offset lies = code_words place v (number_at (storage_width ty) bytes offset) lies.code
 
 -- the references of an object that stands in a heap have words
 entry_words : {D : Type 0} (layouts : Layouts) (t : Table D) (place : Placing) (o : Object D) (h : HeapObject) → Stands layouts t.types place o h → All (HasWord place) (references_in o)
@@ -103,13 +71,13 @@ entry_words layouts t place (exception ty tag values) h stands = absurd stands
 
 -- what is reached has a place
 reached_placed : {D : Type 0} (layouts : Layouts) (s : StoreView) (t : Table D) (place : Placing) → Holds layouts s t place → (p : ℕ) → Reached t.objects (root_references t) p → (word : ℕ) × (place p ≡ Some word)
-reached_placed layouts s t place holds p (by_root named) = All-contains (HasWord place) (root_references t) (at p) (root_words layouts s t place holds) named
-reached_placed {D} layouts s t place holds p (by_value {q = q} reached o in_table among) =
+reached_placed layouts s t place holds p (by_start named) = All-contains (HasWord place) (root_references t) (at p) (root_words layouts s t place holds) named
+reached_placed {D} layouts s t place holds p (by_step {y = q} reached names) =
     let from = reached_placed layouts s t place holds q reached in
     let held = holds.objects.placed q from.0 from.1 in
-    let both : Some held.entry ≡ Some o = sym held.in_table ∙ in_table in
-    let same : held.entry ≡ o = grind (arith, both) in
-    All-contains (HasWord place) (references_in o) (at p) (entry_words layouts t place o held.object (subst (λ (e : Object D). Stands layouts t.types place e held.object) same held.stands)) among
+    let both : Some held.entry ≡ Some names.object = sym held.in_table ∙ names.there in
+    let same : held.entry ≡ names.object = grind (arith, both) in
+    All-contains (HasWord place) (references_in names.object) (at p) (entry_words layouts t place names.object held.object (subst (λ (e : Object D). Stands layouts t.types place e held.object) same held.stands)) names.among
 
 -- what is kept has a place
 kept_placed : {D : Type 0} (layouts : Layouts) (s : StoreView) (t : Table D) (place : Placing) → Holds layouts s t place → (p : ℕ) → IsKept layouts t p → (word : ℕ) × (place p ≡ Some word)

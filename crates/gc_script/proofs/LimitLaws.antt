@@ -82,11 +82,11 @@ grows_within most before bytes t t' granted (allocation.no_heap some refused) wi
 grows_within most before bytes t t' granted (allocation.refused some may over) within = made_within most before t may within
 
 read_within : (most before : ℕ) (v : Value) (t : Table ℕ) → IsWithin most before t → IsWithin most before (after_read v t)
-read_within most before (values.i32 n) t within = within
-read_within most before (values.i64 n) t within = within
-read_within most before (values.f32 n) t within = within
-read_within most before (values.f64 n) t within = within
-read_within most before (values.v128 n) t within = within
+read_within most before (values.numeric values.i32 n) t within = within
+read_within most before (values.numeric values.i64 n) t within = within
+read_within most before (values.numeric values.f32 n) t within = within
+read_within most before (values.numeric values.f64 n) t within = within
+read_within most before (values.numeric values.v128 n) t within = within
 read_within most before (values.function f) t within = within
 read_within most before (values.reference c values.null) t within = within
 read_within most before (values.reference c (values.small n)) t within = within

@@ -11,7 +11,7 @@ use Rattle.gc_types.specs.declared.value.Func.{Func}
 use Rattle.gc_types.specs.declared.value.ValType.{ValType}
 use Rattle.gc_model.specs.declared.GcClass.{GcClass}
 use Rattle.gc_model.specs.declared.RootEntry.{RootEntry}
-use Rattle.gc_model.specs.Values.{Reference, null, small, at, Value, i32, i64, f32, f64, v128, function}
+use Rattle.gc_model.specs.Values.{Reference, null, small, at, Value, numeric, i32, i64, f32, f64, v128, function}
 use Rattle.gc_model.specs.Values as values
 use Rattle.gc_model.specs.Table.{Table, Scoped, push}
 use Rattle.gc_model.specs.Live.{rooted, rooted_among}
@@ -78,11 +78,11 @@ module _ (layouts : Layouts) (s : StoreView) (t : Table ℕ) (holds : HoldsTable
 
   -- what is read stands for the value in the table after
   pub read_stands : (new : StoreView) (v : Value) (r : RawValue) → IsReadAs new t v r → RawStands new (after_read v t) r v
-  read_stands new (i32 n) r is = subst (λ (x : RawValue). RawStands new t x (i32 n)) (sym is.1.0) (ap i32 is.1.1)
-  read_stands new (i64 n) r is = subst (λ (x : RawValue). RawStands new t x (i64 n)) (sym is.1.0) (ap i64 is.1.1)
-  read_stands new (f32 n) r is = subst (λ (x : RawValue). RawStands new t x (f32 n)) (sym is) refl
-  read_stands new (f64 n) r is = subst (λ (x : RawValue). RawStands new t x (f64 n)) (sym is) refl
-  read_stands new (v128 n) r is = subst (λ (x : RawValue). RawStands new t x (v128 n)) (sym is) refl
+  read_stands new (numeric i32 n) r is = subst (λ (x : RawValue). RawStands new t x (numeric i32 n)) (sym is.1.0) (ap (numeric i32) is.1.1)
+  read_stands new (numeric i64 n) r is = subst (λ (x : RawValue). RawStands new t x (numeric i64 n)) (sym is.1.0) (ap (numeric i64) is.1.1)
+  read_stands new (numeric f32 n) r is = subst (λ (x : RawValue). RawStands new t x (numeric f32 n)) (sym is) refl
+  read_stands new (numeric f64 n) r is = subst (λ (x : RawValue). RawStands new t x (numeric f64 n)) (sym is) refl
+  read_stands new (numeric v128 n) r is = subst (λ (x : RawValue). RawStands new t x (numeric v128 n)) (sym is) refl
   read_stands new (function f) r is = subst (λ (x : RawValue). RawStands new t x (function f)) (sym is) refl
   read_stands new (values.reference c null) r is = subst (λ (x : RawValue). RawStands new t x (values.reference c null)) (sym is) refl
   read_stands new (values.reference c (small n)) r is = subst (λ (x : RawValue). RawStands new (push (small n) t) x (values.reference c (small n))) (sym is) (root_pushed new c (small n))
@@ -90,11 +90,11 @@ module _ (layouts : Layouts) (s : StoreView) (t : Table ℕ) (holds : HoldsTable
 
   -- what a register holds of it
   pub register_stands : (new : StoreView) (v : Value) (r : RawValue) → ((f : Option Func) → ¬ (v ≡ function f)) → IsReadAs new t v r → Stands new (after_read v t) (Some r) (Some (held_value t v))
-  register_stands new (i32 n) r other is = subst (λ (x : RawValue). Stands new t (Some x) (Some (number (i32 n)))) (sym is.1.0) (ap i32 is.1.1)
-  register_stands new (i64 n) r other is = subst (λ (x : RawValue). Stands new t (Some x) (Some (number (i64 n)))) (sym is.1.0) (ap i64 is.1.1)
-  register_stands new (f32 n) r other is = subst (λ (x : RawValue). Stands new t (Some x) (Some (number (f32 n)))) (sym is) refl
-  register_stands new (f64 n) r other is = subst (λ (x : RawValue). Stands new t (Some x) (Some (number (f64 n)))) (sym is) refl
-  register_stands new (v128 n) r other is = subst (λ (x : RawValue). Stands new t (Some x) (Some (number (v128 n)))) (sym is) refl
+  register_stands new (numeric i32 n) r other is = subst (λ (x : RawValue). Stands new t (Some x) (Some (number (numeric i32 n)))) (sym is.1.0) (ap (numeric i32) is.1.1)
+  register_stands new (numeric i64 n) r other is = subst (λ (x : RawValue). Stands new t (Some x) (Some (number (numeric i64 n)))) (sym is.1.0) (ap (numeric i64) is.1.1)
+  register_stands new (numeric f32 n) r other is = subst (λ (x : RawValue). Stands new t (Some x) (Some (number (numeric f32 n)))) (sym is) refl
+  register_stands new (numeric f64 n) r other is = subst (λ (x : RawValue). Stands new t (Some x) (Some (number (numeric f64 n)))) (sym is) refl
+  register_stands new (numeric v128 n) r other is = subst (λ (x : RawValue). Stands new t (Some x) (Some (number (numeric v128 n)))) (sym is) refl
   register_stands new (function f) r other is = absurd (other f refl)
   register_stands new (values.reference c null) r other is = subst (λ (x : RawValue). Stands new t (Some x) (Some (reference c None))) (sym is) refl
   register_stands new (values.reference c (small n)) r other is = subst (λ (x : RawValue). Stands new (push (small n) t) (Some x) (Some (reference c (Some (length t.pushes))))) (sym is) (refl, names_pushed new (small n))
@@ -102,11 +102,11 @@ module _ (layouts : Layouts) (s : StoreView) (t : Table ℕ) (holds : HoldsTable
 
 -- a value shows the same before it was read
 pub shown_after : (t : Table ℕ) (v : Value) → shown (after_read v t) v ≡ shown t v
-shown_after t (i32 n) = refl
-shown_after t (i64 n) = refl
-shown_after t (f32 n) = refl
-shown_after t (f64 n) = refl
-shown_after t (v128 n) = refl
+shown_after t (numeric i32 n) = refl
+shown_after t (numeric i64 n) = refl
+shown_after t (numeric f32 n) = refl
+shown_after t (numeric f64 n) = refl
+shown_after t (numeric v128 n) = refl
 shown_after t (function f) = refl
 shown_after t (values.reference c null) = refl
 shown_after t (values.reference c (small n)) = refl
@@ -114,11 +114,11 @@ shown_after t (values.reference c (at p)) = refl
 
 -- a read keeps the pushes
 pub keeps_read : (t : Table ℕ) (v : Value) → Keeps t.pushes (after_read v t).pushes
-keeps_read t (i32 n) = keeps_same t.pushes t.pushes refl
-keeps_read t (i64 n) = keeps_same t.pushes t.pushes refl
-keeps_read t (f32 n) = keeps_same t.pushes t.pushes refl
-keeps_read t (f64 n) = keeps_same t.pushes t.pushes refl
-keeps_read t (v128 n) = keeps_same t.pushes t.pushes refl
+keeps_read t (numeric i32 n) = keeps_same t.pushes t.pushes refl
+keeps_read t (numeric i64 n) = keeps_same t.pushes t.pushes refl
+keeps_read t (numeric f32 n) = keeps_same t.pushes t.pushes refl
+keeps_read t (numeric f64 n) = keeps_same t.pushes t.pushes refl
+keeps_read t (numeric v128 n) = keeps_same t.pushes t.pushes refl
 keeps_read t (function f) = keeps_same t.pushes t.pushes refl
 keeps_read t (values.reference c null) = keeps_same t.pushes t.pushes refl
 keeps_read t (values.reference c (small n)) = keeps_pushed t.pushes (push (small n) t).pushes (record { index = length t.scoped; generation = t.drops }) refl

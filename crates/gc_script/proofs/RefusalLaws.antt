@@ -159,11 +159,11 @@ read_first : (v : Value) (t : Table ℕ) → (after_read v t).first ≡ t.first
 read_first (values.reference c values.null) t = refl
 read_first (values.reference c (values.small n)) t = refl
 read_first (values.reference c (values.at p)) t = refl
-read_first (values.i32 n) t = refl
-read_first (values.i64 n) t = refl
-read_first (values.f32 n) t = refl
-read_first (values.f64 n) t = refl
-read_first (values.v128 n) t = refl
+read_first (values.numeric values.i32 n) t = refl
+read_first (values.numeric values.i64 n) t = refl
+read_first (values.numeric values.f32 n) t = refl
+read_first (values.numeric values.f64 n) t = refl
+read_first (values.numeric values.v128 n) t = refl
 read_first (values.function f) t = refl
 
 put_first : (into : Option ℕ) (held : Held) (s : State) → (put_into into held s).table.first ≡ s.table.first

@@ -6,7 +6,7 @@ use Rattle.std.proofs.lemmas.Fmt.{decimal_digit}
 use Rattle.gc_types.specs.declared.kind.Layouts.TheVariants.{Null}
 use Rattle.gc_types.specs.Declarable.{Declarable}
 use Rattle.gc_model.specs.declared.GcClass.TheVariants as class
-use Rattle.gc_model.specs.Values.{Value, i32, Object, struct}
+use Rattle.gc_model.specs.Values.{Value, numeric, i32, Object, struct}
 use Rattle.gc_model.specs.Table.{Table, start, usual_roots, declare, make, make_heap, with_pages}
 use Rattle.gc_model.specs.Allocation.{Limits, no_heap, no_room, FitsIn, same}
 use Rattle.gc_model.specs.Sizes.{object_size}
@@ -103,7 +103,7 @@ declared_one = with_table (declare (built_struct (number_field ∷ [])) nothing.
 
 -- the struct of the second one
 abbrev one_made : Object ℕ
-one_made = struct 0 (i32 5 ∷ [])
+one_made = struct 0 (numeric i32 5 ∷ [])
 
 -- the state after the second one, whose heap has so many pages and whose store has that account
 abbrev made_with : ℕ → Account → State
@@ -125,7 +125,7 @@ step_makes : Step Null (Some 64) declared_one makes reply.Done made_one
 step_makes = made _ _ (record { pages = 1; gets = same (λ unmade. omega arith); fits = fits; made = refl }) refl refl
 
 step_reads : Step Null (Some 64) made_one reads (reply.Value (reply_value.I32 (pos 5))) made_one
-step_reads = record { value = i32 5; found = refl; shows = refl; after = refl }
+step_reads = record { value = numeric i32 5; found = refl; shows = refl; after = refl }
 
 abbrev limits : Limits
 limits = fresh_limits (Some 64)
@@ -185,13 +185,13 @@ makes_once answer s' (lacks t a (no_heap refused unchanged) is after) = absurd (
 makes_once answer s' (lacks t a (no_room may refused full unchanged) is after) = absurd (full fits)
 
 -- what a value that is known shows
-shows_five : (t : Table ℕ) (found : Option Value) (value : Value) (answer : Reply) → found ≡ Some (i32 5) → found ≡ Some value → answer ≡ reply.Value (shown t value) → answer ≡ reply.Value (reply_value.I32 (pos 5))
+shows_five : (t : Table ℕ) (found : Option Value) (value : Value) (answer : Reply) → found ≡ Some (numeric i32 5) → found ≡ Some value → answer ≡ reply.Value (shown t value) → answer ≡ reply.Value (reply_value.I32 (pos 5))
 shows_five t found value answer known is shows =
-    let same : value ≡ i32 5 = cc (known, is) in
+    let same : value ≡ numeric i32 5 = cc (known, is) in
     shows ∙ ap (λ (v : Value). reply.Value (shown t v)) same
 
 reads_once : (pages : ℕ) (a : Account) (answer : Reply) (s' : State) → Step Null (Some 64) (made_with pages a) reads answer s' → answer ≡ reply.Value (reply_value.I32 (pos 5))
-reads_once pages a answer s' did = shows_five (made_with pages a).table (Some (i32 5)) did.value answer refl did.found did.shows
+reads_once pages a answer s' did = shows_five (made_with pages a).table (Some (numeric i32 5)) did.value answer refl did.found did.shows
 
 -- the replies of a run of the three commands
 replies_once : (rs : List Reply) (s' : State) → Run Null (Some 64) nothing (declares ∷ makes ∷ reads ∷ []) rs s' → rs ≡ reply.Declared 0 ∷ reply.Done ∷ reply.Value (reply_value.I32 (pos 5)) ∷ []

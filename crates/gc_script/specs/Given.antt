@@ -7,7 +7,7 @@ use Rattle.gc_types.specs.declared.value.Mutability.TheVariants.{Const, Var}
 use Rattle.gc_types.specs.Declarations.{struct_fields_at}
 use Rattle.gc_model.specs.declared.GcClass.{GcClass}
 use Rattle.gc_model.specs.declared.GcClass.TheVariants as class
-use Rattle.gc_model.specs.Values.{Reference, null, small, at, Value, i32, i64, f32, f64, v128, function, Object, struct, array, host, exception, number_bits}
+use Rattle.gc_model.specs.Values.{Reference, null, small, at, Value, numeric, i32, i64, f32, f64, v128, function, Object, struct, array, host, exception, number_bits}
 use Rattle.gc_model.specs.Values as values
 use Rattle.gc_model.specs.Fits.{fits}
 use Rattle.gc_model.specs.Table.{Table}
@@ -18,11 +18,11 @@ use Rattle.gc_script.specs.State.{State, Held, number, reference}
 
 -- what an operand holds, as a register would
 abbrev pub held_operand : State → Operand → Option Held
-held_operand s (operand.I32 n) = Some (number (i32 (number_bits w32 n)))
-held_operand s (operand.I64 n) = Some (number (i64 (number_bits w64 n)))
-held_operand s (operand.F32 n) = Some (number (f32 n))
-held_operand s (operand.F64 n) = Some (number (f64 n))
-held_operand s (operand.V128 n) = Some (number (v128 n))
+held_operand s (operand.I32 n) = Some (number (numeric i32 (number_bits w32 n)))
+held_operand s (operand.I64 n) = Some (number (numeric i64 (number_bits w64 n)))
+held_operand s (operand.F32 n) = Some (number (numeric f32 n))
+held_operand s (operand.F64 n) = Some (number (numeric f64 n))
+held_operand s (operand.V128 n) = Some (number (numeric v128 n))
 held_operand s operand.AnyNull = Some (reference class.Any None)
 held_operand s operand.ExternNull = Some (reference class.Extern None)
 held_operand s operand.ExnNull = Some (reference class.Exn None)
@@ -72,11 +72,7 @@ given_values s vs = map (λ (v : Operand). given_value (given s v)) vs
 
 -- the reference that is given, where it is one and not null
 abbrev pub value_named : Value → Option Reference
-value_named (i32 n) = None
-value_named (i64 n) = None
-value_named (f32 n) = None
-value_named (f64 n) = None
-value_named (v128 n) = None
+value_named (numeric kind n) = None
 value_named (function f) = None
 value_named (values.reference c null) = None
 value_named (values.reference c (small n)) = Some (small n)

@@ -3,7 +3,7 @@ use Rattle.std.specs.Prelude.{◌≡◌, ℕ, ◌==◌, List, [], Option, Some, 
 use Rattle.std.specs.Int.{w32, w64}
 use Rattle.gc_types.specs.declared.kind.Layouts.{Layouts}
 use Rattle.gc_model.specs.declared.GcClass.{GcClass}
-use Rattle.gc_model.specs.Values.{Value, i32, i64, f32, f64, v128, number_bits}
+use Rattle.gc_model.specs.Values.{Value, numeric, i32, i64, f32, f64, v128, number_bits}
 use Rattle.gc_model.specs.Table.{Table}
 use Rattle.gc_model.specs.Stores.{StoreView}
 use Rattle.gc_store.specs.Accounts.{Account, HoldsAccount}
@@ -68,11 +68,11 @@ put_into (Some d) held s = set_register d held s
 -- What a register of the runner holds is what one of the table holds: a handle is that of the serial.
 abbrev pub Stands : StoreView → Table ℕ → Option RawValue → Option Held → Type 0
 Stands s t None None = Unit {0}
-Stands s t (Some (raw.I32 n)) (Some (number v)) = v ≡ i32 (number_bits w32 n)
-Stands s t (Some (raw.I64 n)) (Some (number v)) = v ≡ i64 (number_bits w64 n)
-Stands s t (Some (raw.F32 n)) (Some (number v)) = v ≡ f32 n
-Stands s t (Some (raw.F64 n)) (Some (number v)) = v ≡ f64 n
-Stands s t (Some (raw.V128 n)) (Some (number v)) = v ≡ v128 n
+Stands s t (Some (raw.I32 n)) (Some (number v)) = v ≡ numeric i32 (number_bits w32 n)
+Stands s t (Some (raw.I64 n)) (Some (number v)) = v ≡ numeric i64 (number_bits w64 n)
+Stands s t (Some (raw.F32 n)) (Some (number v)) = v ≡ numeric f32 n
+Stands s t (Some (raw.F64 n)) (Some (number v)) = v ≡ numeric f64 n
+Stands s t (Some (raw.V128 n)) (Some (number v)) = v ≡ numeric v128 n
 Stands s t (Some (raw.Ref class (Some handle))) (Some (reference class' (Some serial))) = (class ≡ class') × Names s t handle serial
 Stands s t (Some (raw.Ref class None)) (Some (reference class' None)) = class ≡ class'
 Stands s t _ _ = ⊥

@@ -7,7 +7,7 @@ use Rattle.gc_types.specs.declared.kind.Layouts.{Layouts}
 use Rattle.gc_types.specs.Declarable.{Declarable}
 use Rattle.gc_types.specs.Declarations.{Declaration, struct_fields_at}
 use Rattle.gc_model.specs.declared.GcClass.TheVariants as class
-use Rattle.gc_model.specs.Values.{Reference, null, small, at, Value, i32, i64, f32, f64, v128, function, Object, struct, array, host, exception}
+use Rattle.gc_model.specs.Values.{Reference, null, small, at, Value, numeric, i32, i64, f32, f64, v128, function, Object, struct, array, host, exception}
 use Rattle.gc_model.specs.Values as values
 use Rattle.gc_model.specs.Table.{Table, declare, push, leave, write}
 use Rattle.gc_model.specs.Live.{roots_full}
@@ -153,11 +153,11 @@ shown_object (Some (exception ty tag vs)) = reply_value.Exn ty tag.index
 
 -- a value as a reply shows it
 abbrev pub shown : Table ℕ → Value → ReplyValue
-shown t (i32 n) = reply_value.I32 (cast_signed w32 n)
-shown t (i64 n) = reply_value.I64 (cast_signed w64 n)
-shown t (f32 n) = reply_value.F32 n
-shown t (f64 n) = reply_value.F64 n
-shown t (v128 n) = reply_value.V128 n
+shown t (numeric i32 n) = reply_value.I32 (cast_signed w32 n)
+shown t (numeric i64 n) = reply_value.I64 (cast_signed w64 n)
+shown t (numeric f32 n) = reply_value.F32 n
+shown t (numeric f64 n) = reply_value.F64 n
+shown t (numeric v128 n) = reply_value.V128 n
 shown t (function f) = reply_value.Null
 shown t (values.reference c null) = reply_value.Null
 shown t (values.reference c (small n)) = reply_value.I31 n
@@ -165,11 +165,7 @@ shown t (values.reference c (at p)) = shown_object (slice_get t.objects p)
 
 -- what a register holds of a value that was read: a reference by its new root
 abbrev pub held_value : Table ℕ → Value → Held
-held_value t (i32 n) = number (i32 n)
-held_value t (i64 n) = number (i64 n)
-held_value t (f32 n) = number (f32 n)
-held_value t (f64 n) = number (f64 n)
-held_value t (v128 n) = number (v128 n)
+held_value t (numeric kind n) = number (numeric kind n)
 held_value t (function f) = number (function f)
 held_value t (values.reference c null) = reference c None
 held_value t (values.reference c (small n)) = reference c (Some (length t.pushes))

@@ -93,7 +93,7 @@ module _ {D : Type 0} (layouts : Layouts) (s : StoreView) (t : Table D) (place :
         stands = stands_moved layouts t.types done.to there.object now.0 is place after
             (λ r w among is_word. carried r w
             (λ q placed. kept_by_field layouts begin w word there.object (held_of q w placed) kept there.in_heap (subst (λ types. Contains (references layouts types there.object) w) (sym c.holds.types) among)) is_word)
-            there.ty there.values there.stands (c.holds.only_built there.object.ty is.traced.fields is.traced.declared);
+            there.ty there.values there.stands;
       }
 
   objects_after : ObjectsHold layouts t after heap

@@ -45,21 +45,21 @@ module _ {D : Type 0} (layouts : Layouts) (s : StoreView) (t : Table D) (place :
 
   -- what is reached is placed
   pub reached_placed : (p : ℕ) → reach.Reached t.objects (reach.root_references t) p → (word : ℕ) × (place p ≡ Some word)
-  reached_placed p (reach.by_root c) =
+  reached_placed p (reach.by_start c) =
       let found = scoped_names t holds.nothing_else p c in
       let entry = entry_at found.index found.root found.there in
       (entry.0.word, subst (λ (r : Reference). IsWord place r entry.0.word) found.is (holds.scoped.each found.index entry.0 found.root entry.1 found.there).word)
     where
       entry_at : (i : ℕ) (root : Scoped) → slice_get t.scoped i ≡ Some root → (entry : RootEntry) × (slice_get s.scoped i ≡ Some entry)
       entry_at i root e = slice_get-same_length t.scoped s.scoped i root (sym holds.scoped.same_count) e
-  reached_placed p (reach.by_value {q = q} reached o e c) =
+  reached_placed p (reach.by_step {y = q} reached named) =
       let before = reached_placed q reached in
       let there = placed_struct q before.0 before.1 in
-      let same : o ≡ struct there.ty there.values = (let both : Some o ≡ Some (struct there.ty there.values) = sym e ∙ there.in_table in grind (arith, both)) in
-      reference_word layouts t.types place there.ty there.values there.object there.stands (at p) (subst (λ (x : Object D). Contains (references_in x) (at p)) same c)
+      let same : named.object ≡ struct there.ty there.values = (let both : Some named.object ≡ Some (struct there.ty there.values) = sym named.there ∙ there.in_table in grind (arith, both)) in
+      reference_word layouts t.types place there.ty there.values there.object there.stands (at p) (subst (λ (x : Object D). Contains (references_in x) (at p)) same named.among)
 
   value_reached : (q ty : ℕ) (values : List Value) → IsReached t q → slice_get t.objects q ≡ Some (struct ty values) → (r : Reference) (p : ℕ) → r ≡ at p → Contains (flat_map value_references values) r → IsReached t p
-  value_reached q ty values reached e r p is c = reach.by_value reached (struct ty values) e (subst (λ (x : Reference). Contains (flat_map value_references values) x) is c)
+  value_reached q ty values reached e r p is c = reach.by_step reached (record { object = struct ty values; there = e; among = subst (λ (x : Reference). Contains (flat_map value_references values) x) is c })
 
   module _ (traced : AreTraced layouts s.types s.heap) (hosts : ℕ → Bool) where
     -- a struct that is placed is traced by the table's types
@@ -73,7 +73,7 @@ module _ {D : Type 0} (layouts : Layouts) (s : StoreView) (t : Table D) (place :
         let stands = entry_stands layouts s t place holds found.index found.element found.there in
         let word_is : found.element.word ≡ word = ap (λ (r : Root). r.word) found.is ∙ is in
         let names : stands.0.reference ≡ at p = word_names layouts t place s.heap holds.objects stands.0.reference (at p) word (subst (IsWord place stands.0.reference) word_is stands.1.1.word) e in
-        reach.by_root (subst (λ (x : Reference). Contains (reach.root_references t) x) names (root_named t found.index stands.0 stands.1.0))
+        reach.by_start (subst (λ (x : Reference). Contains (reach.root_references t) x) names (root_named t found.index stands.0 stands.1.0))
     reached_position word (by_field held {from = from} reached o got among) p e =
         let before = holds.objects.only from o got in
         let there = placed_struct before.0 from before.1 in

@@ -7,16 +7,18 @@ use Rattle.gc_types.specs.declared.value.StorageType.TheVariants as storage
 use Rattle.gc_types.specs.declared.value.ValType.TheVariants as val
 use Rattle.gc_types.specs.declared.kind.Layouts.{Layouts}
 use Rattle.gc_types.specs.Declarations.{Declaration, struct_fields_at}
-use Rattle.gc_types.specs.Layouts.{struct_base, field_layouts, is_gc_storage, ref_offsets}
+use Rattle.gc_types.specs.Layouts.{struct_base, field_layouts, is_gc_storage, ref_offsets, storage_width}
 use Rattle.gc_memory.specs.Lists.{In}
 use Rattle.gc_model.specs.declared.GcClass.{GcClass}
 use Rattle.gc_model.specs.declared.GcClass.TheVariants.{Any, Extern, Exn}
-use Rattle.gc_model.specs.Values.{Reference, null, at, Value, i32, i64, f32, f64, v128, function, reference}
+use Rattle.gc_model.specs.Values.{Reference, null, at, Value, numeric, i32, i64, f32, f64, v128, function, reference}
 use Rattle.gc_model.specs.Table.{Table, Scoped, empty_slot, global_count}
 use Rattle.gc_model.specs.Reach.{root_references, slot_references, owned_references, present, value_references}
 use Rattle.gc_view.specs.Bytes.{u32_at}
 use Rattle.gc_view.specs.Heaps.{HeapObject}
-use Rattle.gc_model.specs.Holds.{Placing, IsWord, Lies, LiesAny, StructStands, NothingElse}
+use Rattle.gc_model.specs.Holds.{Placing, IsWord, Lies, StructStands, NothingElse}
+use Rattle.gc_model.specs.Forms.{storage_form, is_reference, no_functions, number_at}
+use Rattle.gc_model.proofs.ReadingBack.{ReferenceAs, reference_lying, storage_reference, reference_class, reference_width}
 use Rattle.gc_model.proofs.HeldStructs.{read_lies, field_value, FieldHolds}
 use Rattle.gc_heap.specs.References.{reference_offsets, word_in}
 use Rattle.gc_heap.proofs.SpacedLemmas.{only_item}
@@ -76,53 +78,32 @@ root_named t i root e =
     Contains-append_left (map (λ (root : Scoped). root.reference) t.scoped) (frames t ++ (globals t ++ (owned t ++ present t.pending))) root.reference
     (get_contains (map (λ (root : Scoped). root.reference) t.scoped) i root.reference (map_get (λ (root : Scoped). root.reference) t.scoped i root e))
 
--- A reference of class Any, with its word.
+-- A reference, with its class and its word.
 pub record AnyLies (place : Placing) (v : Value) (word : ℕ) : Type 0 where
-  pub reference_is : Reference
-  pub value_is : v ≡ reference Any reference_is
-  pub is_word : IsWord place reference_is word
+  pub class_is : GcClass
+  pub lies : ReferenceAs place class_is v word
 
-any_lies : (place : Placing) (v : Value) (bytes : List ℕ) (offset : ℕ) → LiesAny place v bytes offset → AnyLies place v (u32_at bytes offset)
-any_lies place (i32 n) bytes offset lies = absurd lies
-any_lies place (i64 n) bytes offset lies = absurd lies
-any_lies place (f32 n) bytes offset lies = absurd lies
-any_lies place (f64 n) bytes offset lies = absurd lies
-any_lies place (v128 n) bytes offset lies = absurd lies
-any_lies place (function f) bytes offset lies = absurd lies
-any_lies place (reference Any r) bytes offset lies = record { reference_is = r; value_is = refl; is_word = lies }
-any_lies place (reference Extern r) bytes offset lies = absurd lies
-any_lies place (reference Exn r) bytes offset lies = absurd lies
+-- a reference that lies in a field is as wide as a word
+word_lies : (place : Placing) (class : GcClass) (v : Value) (bytes : List ℕ) (offset width : ℕ) → width ≡ 4 → ReferenceAs place class v (number_at width bytes offset) → ReferenceAs place class v (u32_at bytes offset)
+word_lies place class v bytes offset width is lies = subst (λ (w : ℕ). ReferenceAs place class v (number_at w bytes offset)) is lies
 
 -- what lies in a field that a collection follows is a reference
 followed_lies : (place : Placing) (ty : StorageType) (v : Value) (bytes : List ℕ) (offset : ℕ) → is_gc_storage ty ≡ true → Lies place ty v bytes offset → AnyLies place v (u32_at bytes offset)
-followed_lies place storage.I8 v bytes offset followed lies = absurd lies
-followed_lies place storage.I16 v bytes offset followed lies = absurd lies
-followed_lies place (storage.ValType val.I32) v bytes offset followed lies = absurd (cc)
-followed_lies place (storage.ValType val.I64) v bytes offset followed lies = absurd (cc)
-followed_lies place (storage.ValType val.F32) v bytes offset followed lies = absurd lies
-followed_lies place (storage.ValType val.F64) v bytes offset followed lies = absurd lies
-followed_lies place (storage.ValType val.V128) v bytes offset followed lies = absurd lies
-followed_lies place (storage.ValType (val.Ref ty)) v bytes offset followed lies = any_lies place v bytes offset lies
+followed_lies place ty v bytes offset followed lies =
+    let refers : is_reference (storage_form ty) ≡ true = sym (storage_reference ty) ∙ followed in
+    let class = reference_class (storage_form ty) refers in
+    record {
+      class_is = class.0;
+      lies = word_lies place class.0 v bytes offset (storage_width ty) (reference_width ty refers) (reference_lying (no_functions place) ty v bytes offset class.0 class.1 lies);
+    }
 
 -- a reference lies in a field as its word
 reference_lies : (place : Placing) (ty : StorageType) (class : GcClass) (r : Reference) (bytes : List ℕ) (offset : ℕ) → Lies place ty (reference class r) bytes offset → IsWord place r (u32_at bytes offset)
-reference_lies place storage.I8 class r bytes offset lies = absurd lies
-reference_lies place storage.I16 class r bytes offset lies = absurd lies
-reference_lies place (storage.ValType val.I32) class r bytes offset lies = absurd lies
-reference_lies place (storage.ValType val.I64) class r bytes offset lies = absurd lies
-reference_lies place (storage.ValType val.F32) class r bytes offset lies = absurd lies
-reference_lies place (storage.ValType val.F64) class r bytes offset lies = absurd lies
-reference_lies place (storage.ValType val.V128) class r bytes offset lies = absurd lies
-reference_lies place (storage.ValType (val.Ref ty)) Any r bytes offset lies = lies
-reference_lies place (storage.ValType (val.Ref ty)) Extern r bytes offset lies = absurd lies
-reference_lies place (storage.ValType (val.Ref ty)) Exn r bytes offset lies = absurd lies
+reference_lies place ty class r bytes offset lies =
+    subst (λ (w : ℕ). IsWord place r (number_at w bytes offset)) (reference_width ty (ap is_reference lies.form)) lies.code
 
 class_of : (v : Value) (r : Reference) → Contains (value_references v) r → (class : GcClass) × (v ≡ reference class r)
-class_of (i32 n) r c = absurd (none_contained r c)
-class_of (i64 n) r c = absurd (none_contained r c)
-class_of (f32 n) r c = absurd (none_contained r c)
-class_of (f64 n) r c = absurd (none_contained r c)
-class_of (v128 n) r c = absurd (none_contained r c)
+class_of (numeric kind n) r c = absurd (none_contained r c)
 class_of (function f) r c = absurd (none_contained r c)
 class_of (reference class q) r c = (class, ap (reference class) (only_item q r c))
 
@@ -144,9 +125,9 @@ pub record ReferenceOfWord (place : Placing) (values : List Value) (word : ℕ) 
 
 word_of_value : (place : Placing) (values : List Value) (index : ℕ) (value : Value) (word : ℕ) → slice_get values index ≡ Some value → AnyLies place value word → ReferenceOfWord place values word
 word_of_value place values index value word e lies = record {
-  reference_is = lies.reference_is;
-  among = flat_contains value_references values index value lies.reference_is e (subst (λ v. Contains (value_references v) lies.reference_is) (sym lies.value_is) (contains_one lies.reference_is));
-  is_word = lies.is_word;
+  reference_is = lies.lies.reference_is;
+  among = flat_contains value_references values index value lies.lies.reference_is e (subst (λ v. Contains (value_references v) lies.lies.reference_is) (sym lies.lies.value_is) (contains_one lies.lies.reference_is));
+  is_word = lies.lies.is_word;
 }
 
 module _ (layouts : Layouts) (types : List Declaration) (place : Placing) (ty : ℕ) (values : List Value) (h : HeapObject) (stands : StructStands layouts types place ty values h) (traced : IsTracedStruct layouts types h) where

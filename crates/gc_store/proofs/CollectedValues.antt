@@ -5,42 +5,25 @@ use Rattle.std.proofs.lemmas.Option.{slice_get_within, get_or_from_slice_get}
 use Rattle.std.specs.Prelude.{All}
 use Rattle.gc_types.specs.declared.value.FieldType.{FieldType}
 use Rattle.gc_types.specs.declared.value.StorageType.{StorageType}
-use Rattle.gc_types.specs.declared.value.StorageType.TheVariants as storage
-use Rattle.gc_types.specs.declared.value.ValType.TheVariants as val
-use Rattle.gc_types.specs.declared.value.RefType.{RefType}
-use Rattle.gc_types.specs.declared.value.HeapType.{HeapType}
-use Rattle.gc_types.specs.declared.value.HeapType.TheVariants as heap
 use Rattle.gc_types.specs.declared.kind.Layouts.{Layouts}
 use Rattle.gc_types.specs.declared.layout.FieldLayout.{FieldLayout}
 use Rattle.gc_types.specs.Declarations.{Declaration, struct_fields_at}
 use Rattle.gc_types.specs.Layouts.{struct_base, storage_width, is_gc_storage, is_gc_heap_type}
 use Rattle.gc_memory.specs.Lists.{In}
-use Rattle.gc_model.specs.declared.GcClass.TheVariants.{Any, Extern, Exn}
-use Rattle.gc_model.specs.Values.{Reference, Value, i32, i64, f32, f64, v128, function, reference}
-use Rattle.gc_view.specs.Bytes.{SameBytes}
-use Rattle.gc_model.specs.Fits.{is_any, is_built_value, is_built_storage, is_built_field}
+use Rattle.gc_model.specs.Values.{Reference, Value}
+use Rattle.gc_view.specs.Bytes.{SameBytes, u32_at}
 use Rattle.gc_view.specs.Heaps.{HeapObject}
-use Rattle.gc_model.specs.Holds.{Placing, IsWord, Lies, LiesAny, ValuesLie, StructStands}
+use Rattle.gc_model.specs.Holds.{Placing, IsWord, Lies, ValuesLie, StructStands}
+use Rattle.gc_model.specs.Forms.{value_form, is_reference, number_at}
+use Rattle.gc_model.proofs.ReadingBack.{storage_reference, reference_width, value_moved}
+use Rattle.gc_model.proofs.Encoding.{number_in_same}
 use Rattle.gc_model.proofs.FieldsLie.{IsField, fields_apart}
 use Rattle.gc_view.proofs.Layouts.{layout_low}
-use Rattle.gc_model.proofs.Lying.{lies_same}
 use Rattle.gc_heap.specs.References.{reference_offsets, references, word_in}
 use Rattle.gc_heap.specs.Collection.{moved, IsNoReference, IsMoved}
 use Rattle.gc_heap.proofs.SpacedLemmas.{contains_in, in_contains, map_in, ref_width}
 use Rattle.gc_store.specs.Tracing.{IsTracedStruct}
 use Rattle.gc_store.proofs.CollectedOffsets.{RefField, ref_field, field_referenced, traced_offsets_are}
-
-any_is_followed : (ty : HeapType) → is_any ty ≡ true → is_gc_heap_type ty ≡ true
-any_is_followed heap.Any e = refl
-any_is_followed _ e = absurd (cc)
-
-ref_is_followed : (nullable : Bool) (ty : HeapType) → (cond nullable (is_any ty) false) ≡ true → is_gc_heap_type ty ≡ true
-ref_is_followed true ty e = any_is_followed ty e
-ref_is_followed false ty e = absurd (cc)
-
--- a collection follows a field of references that is of a type that is built
-pub built_is_followed : (ty : RefType) → is_built_value (val.Ref ty) ≡ true → is_gc_storage (storage.ValType (val.Ref ty)) ≡ true
-built_is_followed ty e = ref_is_followed ty.nullable ty.heap_type e
 
 -- A traced struct, and what it is after its references were moved.
 pub record MovedStruct (layouts : Layouts) (types : List Declaration) (to : ℕ → ℕ) (old new : HeapObject) : Type 0 where
@@ -82,38 +65,34 @@ module _ (layouts : Layouts) (types : List Declaration) (to : ℕ → ℕ) (old 
   referenced i field layout here followed = (traced_offsets_are layouts types old is.traced).back layout.offset (field_referenced base fields i field layout here followed)
 
   module _ (place place' : Placing) (carried : (r : Reference) (w : ℕ) → Contains (references layouts types old) w → IsWord place r w → IsWord place' r (moved to w)) where
-    any_moved : (v : Value) (offset : ℕ) → In offset (reference_offsets layouts types old) → LiesAny place v old.bytes (offset - base) → LiesAny place' v new.bytes (offset - base)
-    any_moved (i32 n) offset i lies = lies
-    any_moved (i64 n) offset i lies = lies
-    any_moved (f32 n) offset i lies = lies
-    any_moved (f64 n) offset i lies = lies
-    any_moved (v128 n) offset i lies = lies
-    any_moved (function f) offset i lies = lies
-    any_moved (reference Any r) offset i lies =
+    -- the word of a reference at a traced offset is that of its new place
+    word_moved : (r : Reference) (offset : ℕ) → In offset (reference_offsets layouts types old) → IsWord place r (u32_at old.bytes (offset - base)) → IsWord place' r (u32_at new.bytes (offset - base))
+    word_moved r offset i is_word =
         let offsets : List ℕ = reference_offsets layouts types old in
         let word : ℕ = word_in layouts old offset in
         let among : Contains (references layouts types old) word = in_contains (references layouts types old) word (map_in (word_in layouts old) offsets offset i) in
-        subst (IsWord place' r) (sym (is.is_moved.refers offset (in_contains offsets offset i))) (carried r word among lies)
-    any_moved (reference Extern r) offset i lies = lies
-    any_moved (reference Exn r) offset i lies = lies
+        subst (IsWord place' r) (sym (is.is_moved.refers offset (in_contains offsets offset i))) (carried r word among is_word)
 
-    lies_moved : (i : ℕ) (field : FieldType) (layout : FieldLayout) → IsField base fields i field layout → (ty : StorageType) → field.element_type ≡ ty → is_built_storage ty ≡ true
-        → (v : Value) → Lies place ty v old.bytes (layout.offset - base) → Lies place' ty v new.bytes (layout.offset - base)
-    lies_moved i field layout here storage.I8 e built v lies = lies
-    lies_moved i field layout here storage.I16 e built v lies = lies
-    lies_moved i field layout here (storage.ValType val.I32) e built v lies =
-        lies_same place' (storage.ValType val.I32) v old.bytes new.bytes (layout.offset - base) (subst (λ ty. SameBytes old.bytes new.bytes (layout.offset - base) (layout.offset - base + storage_width ty)) e (number_same i field layout here (ap is_gc_storage e))) lies
-    lies_moved i field layout here (storage.ValType val.I64) e built v lies =
-        lies_same place' (storage.ValType val.I64) v old.bytes new.bytes (layout.offset - base) (subst (λ ty. SameBytes old.bytes new.bytes (layout.offset - base) (layout.offset - base + storage_width ty)) e (number_same i field layout here (ap is_gc_storage e))) lies
-    lies_moved i field layout here (storage.ValType val.F32) e built v lies = lies
-    lies_moved i field layout here (storage.ValType val.F64) e built v lies = lies
-    lies_moved i field layout here (storage.ValType val.V128) e built v lies = lies
-    lies_moved i field layout here (storage.ValType (val.Ref ty)) e built v lies =
-        any_moved v layout.offset (referenced i field layout here (ap is_gc_storage e ∙ built_is_followed ty built)) lies
+    lies_moved : (i : ℕ) (field : FieldType) (layout : FieldLayout) → IsField base fields i field layout
+        → (v : Value) → Lies place field.element_type v old.bytes (layout.offset - base) → Lies place' field.element_type v new.bytes (layout.offset - base)
+    lies_moved i field layout here v lies =
+        let ty : StorageType = field.element_type in
+        let at : ℕ = layout.offset - base in
+        let followed : is_gc_storage ty ≡ is_reference (value_form v) = storage_reference ty ∙ ap is_reference lies.form in
+        record {
+          form = lies.form;
+          code = value_moved place place' v (number_at (storage_width ty) old.bytes at) (number_at (storage_width ty) new.bytes at)
+              (λ number. number_in_same (storage_width ty) old.bytes new.bytes at (number_same i field layout here (followed ∙ number)))
+              (λ r refers is_word.
+              let width : storage_width ty ≡ 4 = reference_width ty (ap is_reference lies.form ∙ refers) in
+              subst (λ (w : ℕ). IsWord place' r (number_at w new.bytes at)) (sym width)
+              (word_moved r layout.offset (referenced i field layout here (followed ∙ refers)) (subst (λ (w : ℕ). IsWord place r (number_at w old.bytes at)) width is_word)))
+              lies.code;
+        }
 
     -- A struct of the table is that struct still.
-    pub stands_moved : (ty : ℕ) (values : List Value) → StructStands layouts types place ty values old → All (λ (f : FieldType). is_built_field f ≡ true) fields → StructStands layouts types place' ty values new
-    stands_moved ty values stands built =
+    pub stands_moved : (ty : ℕ) (values : List Value) → StructStands layouts types place ty values old → StructStands layouts types place' ty values new
+    stands_moved ty values stands =
         let same : stands.fields ≡ fields = fields_same in
         record {
           fields = fields;
@@ -123,13 +102,10 @@ module _ (layouts : Layouts) (types : List Declaration) (to : ℕ → ℕ) (old 
           size = ap (λ n. base + n) is.is_moved.size ∙ is.traced.size;
           values_lie = record {
             same_count = (subst (λ fs. ValuesLie place base fs values old.bytes) same stands.values_lie).same_count;
-            each = λ i field layout value e f v. lies_moved i field layout (record { type_is = e; layout_is = f }) field.element_type refl (built_at i field e) value
+            each = λ i field layout value e f v. lies_moved i field layout (record { type_is = e; layout_is = f }) value
                 ((subst (λ fs. ValuesLie place base fs values old.bytes) same stands.values_lie).each i field layout value e f v);
           };
         }
       where
         fields_same : stands.fields ≡ fields
         fields_same = let both : Some stands.fields ≡ Some fields = sym stands.declared ∙ ap (struct_fields_at types) (sym stands.same_type) ∙ is.traced.declared in grind (arith, both)
-
-        built_at : (i : ℕ) (field : FieldType) → slice_get fields i ≡ Some field → is_built_storage field.element_type ≡ true
-        built_at i field e = subst (λ (f : FieldType). is_built_field f ≡ true) (get_or_from_slice_get fields i field field e) (built i field (slice_get_within fields i field e))

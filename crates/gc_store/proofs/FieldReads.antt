@@ -11,13 +11,15 @@ use Rattle.gc_types.specs.declared.value.ValType.TheVariants as val
 use Rattle.gc_types.specs.declared.kind.Layouts.{Layouts}
 use Rattle.gc_types.specs.Declarations.{Declaration, struct_fields_at}
 use Rattle.gc_model.specs.declared.GcClass.TheVariants.{Any, Extern, Exn}
-use Rattle.gc_model.specs.Values.{Reference, at, Value, i32, i64, f32, f64, v128, function, reference}
-use Rattle.gc_model.specs.Fits.{is_built_field}
+use Rattle.gc_model.specs.Values.{Reference, at, Value, numeric, i32, i64, f32, f64, v128, function, reference}
+use Rattle.gc_model.specs.Fits.{is_built_field, is_built_storage}
 use Rattle.gc_model.specs.Table.{Table}
 use Rattle.gc_view.specs.Bytes.{u32_at, u64_at}
 use Rattle.gc_view.specs.Heaps.{HeapObject}
 use Rattle.gc_model.specs.Stores.{StoreView}
-use Rattle.gc_model.specs.Holds.{Placing, IsWord, Holds, Lies, LiesI32, LiesI64, LiesAny}
+use Rattle.gc_model.specs.Holds.{Placing, IsWord, Holds, Lies}
+use Rattle.gc_model.specs.Forms.{no_functions}
+use Rattle.gc_model.proofs.ReadingBack.{ReferenceAs, number_lying, reference_lying, built_form}
 use Rattle.gc_model.proofs.HeldStructs.{FieldHolds, struct_stands, read_lies}
 use Rattle.gc_store.specs.declared.field.Stored.{Stored}
 use Rattle.gc_store.specs.declared.field.Stored.TheVariants as stored
@@ -73,42 +75,21 @@ module _ {D : Type 0} (layouts : Layouts) (s : StoreView) (t : Table D) (place :
   pub never_dead : (f : RootFault) → word_of s handle ≡ Err f → ⊥
   never_dead f e = absurd (cc (sym has.live ∙ (named_dead layouts s t place holds handle has.serial f has.names e).0))
 
-i32_stands : (place : Placing) (v : Value) (bytes : List ℕ) (offset : ℕ) → LiesI32 v bytes offset → v ≡ i32 (u32_at bytes offset)
-i32_stands place (i32 n) bytes offset lies = ap i32 (sym lies)
-i32_stands place (i64 n) bytes offset lies = absurd lies
-i32_stands place (f32 n) bytes offset lies = absurd lies
-i32_stands place (f64 n) bytes offset lies = absurd lies
-i32_stands place (v128 n) bytes offset lies = absurd lies
-i32_stands place (function f) bytes offset lies = absurd lies
-i32_stands place (reference class r) bytes offset lies = absurd lies
+-- a reference of class Any stands for what was read
+reference_stands : (place : Placing) (v : Value) (word : ℕ) → ReferenceAs place Any v word → StoredStands place (stored.Ref word) v
+reference_stands place v word lies = (lies.reference_is, (lies.is_word, lies.value_is))
 
-i64_stands : (place : Placing) (v : Value) (bytes : List ℕ) (offset : ℕ) → LiesI64 v bytes offset → v ≡ i64 (u64_at bytes offset)
-i64_stands place (i32 n) bytes offset lies = absurd lies
-i64_stands place (i64 n) bytes offset lies = ap i64 (sym lies)
-i64_stands place (f32 n) bytes offset lies = absurd lies
-i64_stands place (f64 n) bytes offset lies = absurd lies
-i64_stands place (v128 n) bytes offset lies = absurd lies
-i64_stands place (function f) bytes offset lies = absurd lies
-i64_stands place (reference class r) bytes offset lies = absurd lies
-
-any_stands : (place : Placing) (v : Value) (bytes : List ℕ) (offset : ℕ) → LiesAny place v bytes offset → StoredStands place (stored.Ref (u32_at bytes offset)) v
-any_stands place (i32 n) bytes offset lies = absurd lies
-any_stands place (i64 n) bytes offset lies = absurd lies
-any_stands place (f32 n) bytes offset lies = absurd lies
-any_stands place (f64 n) bytes offset lies = absurd lies
-any_stands place (v128 n) bytes offset lies = absurd lies
-any_stands place (function f) bytes offset lies = absurd lies
-any_stands place (reference Any r) bytes offset lies = (r, (lies, refl))
-any_stands place (reference Extern r) bytes offset lies = absurd lies
-any_stands place (reference Exn r) bytes offset lies = absurd lies
-
--- what was read of a value that lies there stands for the value
-pub stored_stands : (place : Placing) (ty : StorageType) (v : Value) (bytes : List ℕ) (offset : ℕ) (x : Stored) → Lies place ty v bytes offset → ReadsStored ty bytes offset x → StoredStands place x v
-stored_stands place storage.I8 v bytes offset x lies reads = absurd lies
-stored_stands place storage.I16 v bytes offset x lies reads = absurd lies
-stored_stands place (storage.ValType val.I32) v bytes offset x lies reads = subst (λ (x : Stored). StoredStands place x v) (sym reads) (i32_stands place v bytes offset lies)
-stored_stands place (storage.ValType val.I64) v bytes offset x lies reads = subst (λ (x : Stored). StoredStands place x v) (sym reads) (i64_stands place v bytes offset lies)
-stored_stands place (storage.ValType val.F32) v bytes offset x lies reads = absurd lies
-stored_stands place (storage.ValType val.F64) v bytes offset x lies reads = absurd lies
-stored_stands place (storage.ValType val.V128) v bytes offset x lies reads = absurd lies
-stored_stands place (storage.ValType (val.Ref ty)) v bytes offset x lies reads = subst (λ (x : Stored). StoredStands place x v) (sym reads) (any_stands place v bytes offset lies)
+-- what was read of a value that lies in a field of a type that is built stands for the value
+pub stored_stands : (place : Placing) (ty : StorageType) (v : Value) (bytes : List ℕ) (offset : ℕ) (x : Stored) → is_built_storage ty ≡ true → Lies place ty v bytes offset → ReadsStored ty bytes offset x → StoredStands place x v
+stored_stands place storage.I8 v bytes offset x built lies reads = absurd reads
+stored_stands place storage.I16 v bytes offset x built lies reads = absurd reads
+stored_stands place (storage.ValType val.I32) v bytes offset x built lies reads =
+    subst (λ (x : Stored). StoredStands place x v) (sym reads) (number_lying (no_functions place) (storage.ValType val.I32) v bytes offset i32 refl lies)
+stored_stands place (storage.ValType val.I64) v bytes offset x built lies reads =
+    subst (λ (x : Stored). StoredStands place x v) (sym reads) (number_lying (no_functions place) (storage.ValType val.I64) v bytes offset i64 refl lies)
+stored_stands place (storage.ValType val.F32) v bytes offset x built lies reads = absurd reads
+stored_stands place (storage.ValType val.F64) v bytes offset x built lies reads = absurd reads
+stored_stands place (storage.ValType val.V128) v bytes offset x built lies reads = absurd reads
+stored_stands place (storage.ValType (val.Ref ty)) v bytes offset x built lies reads =
+    subst (λ (x : Stored). StoredStands place x v) (sym reads)
+    (reference_stands place v (u32_at bytes offset) (reference_lying (no_functions place) (storage.ValType (val.Ref ty)) v bytes offset Any (built_form ty built) lies))

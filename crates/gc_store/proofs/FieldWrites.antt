@@ -15,11 +15,12 @@ use Rattle.gc_types.specs.declared.kind.Layouts.{Layouts}
 use Rattle.gc_types.specs.Declarations.{Declaration, TypeTable, struct_fields_at}
 use Rattle.gc_types.specs.Layouts.{struct_base}
 use Rattle.gc_model.specs.declared.GcClass.TheVariants.{Any}
-use Rattle.gc_model.specs.Values.{Reference, null, Value, i32, i64, reference, number_bits}
+use Rattle.gc_model.specs.Values.{Reference, null, Value, numeric, i32, i64, reference, number_bits}
 use Rattle.gc_model.specs.Table.{Table, write}
 use Rattle.gc_view.specs.Heaps.{HeapView, HeapObject}
 use Rattle.gc_model.specs.Stores.{StoreView}
 use Rattle.gc_model.specs.Encoded.{IsEncoded}
+use Rattle.gc_model.specs.Fits.{is_built_storage}
 use Rattle.gc_model.specs.Holds.{Placing, IsWord, Holds}
 use Rattle.gc_store.specs.Accounts.{Account, HoldsAccount}
 use Rattle.gc_model.proofs.HoldsWrite.{IsWrittenObject, holds_write}
@@ -98,8 +99,8 @@ module _ (D : Type 0) (layouts : Layouts) (s : StoreView) where
 
     -- it stands for a value of the table
     pub value_of : (st : StorageType) (r : RawValue) → Fitting st r → NamesLive D layouts s r → (v : Value) × RawStands s t r v
-    value_of _ _ (is_i32 z) live = (i32 (number_bits w32 z), refl)
-    value_of _ _ (is_i64 z) live = (i64 (number_bits w64 z), refl)
+    value_of _ _ (is_i32 z) live = (numeric i32 (number_bits w32 z), refl)
+    value_of _ _ (is_i64 z) live = (numeric i64 (number_bits w64 z), refl)
     value_of _ _ (is_null ty) live = (reference Any null, refl)
     value_of _ _ (is_handle ty handle) live =
         let word = live_word handle live in
@@ -110,9 +111,9 @@ module _ (D : Type 0) (layouts : Layouts) (s : StoreView) where
     -- what is kept stands for that value
     pub kept_stands : (st : StorageType) (r : RawValue) (x : Stored) (v : Value) → Fitting st r → NamesLive D layouts s r → KeptAs s.scoped r x → RawStands s t r v → FitsBytes x → StoredStands place x v
     kept_stands _ _ x v (is_i32 z) live kept stands small =
-        subst (λ (x : Stored). StoredStands place x v) (sym kept) (stands ∙ ap i32 (of_z-to_z w32 (cast_unsigned w32 z) (subst FitsBytes kept small)))
+        subst (λ (x : Stored). StoredStands place x v) (sym kept) (stands ∙ ap (numeric i32) (of_z-to_z w32 (cast_unsigned w32 z) (subst FitsBytes kept small)))
     kept_stands _ _ x v (is_i64 z) live kept stands small =
-        subst (λ (x : Stored). StoredStands place x v) (sym kept) (stands ∙ ap i64 (of_z-to_z w64 (cast_unsigned w64 z) (subst FitsBytes kept small)))
+        subst (λ (x : Stored). StoredStands place x v) (sym kept) (stands ∙ ap (numeric i64) (of_z-to_z w64 (cast_unsigned w64 z) (subst FitsBytes kept small)))
     kept_stands _ _ x v (is_null ty) live kept stands small = subst (λ (x : Stored). StoredStands place x v) (sym kept) (null, (refl, stands))
     kept_stands _ _ x v (is_handle ty handle) live kept stands small =
         let named = named_live layouts s t place holds handle stands.serial kept.0 stands.names (live_slot handle kept.0 live kept.1.0) in
@@ -120,9 +121,9 @@ module _ (D : Type 0) (layouts : Layouts) (s : StoreView) where
         subst (λ (x : Stored). StoredStands place x v) (sym kept.1.1) (stands.root, (subst (λ (r : Reference). IsWord place r kept.0) same named.1.1, stands.is))
 
     -- whose bytes these are
-    encodes : (st : StorageType) (r : RawValue) (x : Stored) (v : Value) → Fitting st r → NamesLive D layouts s r → KeptAs s.scoped r x → RawStands s t r v → FitsBytes x → IsEncoded place st v (stored_bytes x)
-    encodes st r x v fits live kept stands small =
-        stored_encoded place s.heap st x v (stored_fits st r x fits live kept) small (kept_stands st r x v fits live kept stands small)
+    encodes : (st : StorageType) (r : RawValue) (x : Stored) (v : Value) → is_built_storage st ≡ true → Fitting st r → NamesLive D layouts s r → KeptAs s.scoped r x → RawStands s t r v → FitsBytes x → IsEncoded place st v (stored_bytes x)
+    encodes st r x v built fits live kept stands small =
+        stored_encoded place s.heap st x v built (stored_fits st r x fits live kept) small (kept_stands st r x v fits live kept stands small)
 
 -- a heap with other bytes in an object
 pub written_object : (layouts : Layouts) (old new : HeapView) (word offset : ℕ) (object : HeapObject) (ws : List ℕ) → get old.content word ≡ Some object → new ≡ record (put_object old word (with_data layouts object offset ws)) { counts = new.counts } → IsWrittenObject old new word (offset - struct_base layouts) ws
@@ -146,7 +147,7 @@ module _ {D : Type 0} (layouts : Layouts) (s : StoreView) (t : Table D) (place :
   holds_written heap r x v fits live kept stands small is =
       holds_write layouts s t place heap word has.position index v has.ty has.values lies.fields lies.holds.field lies.holds.layout (stored_bytes x) holds lies.placed has.object
       (ap (λ (ts : List Declaration). struct_fields_at ts has.ty) (sym holds.types) ∙ ap (struct_fields_at s.types) (sym lies.of_type) ∙ lies.declared)
-      lies.holds.is_field (encodes D layouts s t place holds lies.holds.field.element_type r x v fits live kept stands small)
+      lies.holds.is_field (encodes D layouts s t place holds lies.holds.field.element_type r x v lies.built fits live kept stands small)
       (written_object layouts s.heap heap word lies.holds.layout.offset lies.object (stored_bytes x) lies.held is)
 
 -- a field of one object is one field

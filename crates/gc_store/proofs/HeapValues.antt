@@ -16,10 +16,11 @@ use Rattle.gc_types.specs.Layouts.{struct_base, field_layouts, storage_width}
 use Rattle.gc_roots.specs.Roots.{Root}
 use Rattle.gc_model.specs.declared.RootEntry.{RootEntry}
 use Rattle.gc_model.specs.Values.{Value}
-use Rattle.gc_model.specs.Fits.{is_built_field}
+use Rattle.gc_model.specs.Fits.{is_built_field, is_built_storage}
 use Rattle.gc_view.specs.Heaps.{HeapObject, HeapView}
 use Rattle.gc_model.specs.Holds.{Placing}
-use Rattle.gc_model.specs.Encoded.{IsEncoded, EncodesI32, EncodesI64, EncodesAny}
+use Rattle.gc_model.specs.Encoded.{IsEncoded}
+use Rattle.gc_model.proofs.ReadingBack.{built_form}
 use Rattle.gc_view.proofs.Content.{get-put_same, get-put_other}
 use Rattle.gc_view.proofs.ByteLemmas.{length-put_bytes}
 use Rattle.gc_view.proofs.Layouts.{length-field_layouts}
@@ -75,13 +76,16 @@ stored_width h (storage.ValType val.I64) (stored.I64 n) is = refl
 stored_width h (storage.ValType (val.Ref ty)) (stored.Ref word) is = refl
 stored_width h st x is = absurd is
 
--- the bytes that are stored are those of the value
-pub stored_encoded : (place : Placing) (h : HeapView) (st : StorageType) (x : Stored) (v : Value) → StoredFits h st x → FitsBytes x → StoredStands place x v → IsEncoded place st v (stored_bytes x)
-stored_encoded place h (storage.ValType val.I32) (stored.I32 n) v is small stands = subst (λ v. EncodesI32 v (to_le_bytes w32 n)) (sym stands) (small, refl)
-stored_encoded place h (storage.ValType val.I64) (stored.I64 n) v is small stands = subst (λ v. EncodesI64 v (to_le_bytes w64 n)) (sym stands) (small, refl)
-stored_encoded place h (storage.ValType (val.Ref ty)) (stored.Ref word) v is small stands =
-    subst (λ v. EncodesAny place v (to_le_bytes w32 word)) (sym stands.1.1) (record { word = word; small = small; is_word = stands.1.0; encoded = refl })
-stored_encoded place h st x v is small stands = absurd is
+-- the bytes that are stored are those of the value, in a field of a type that is built
+pub stored_encoded : (place : Placing) (h : HeapView) (st : StorageType) (x : Stored) (v : Value) → is_built_storage st ≡ true → StoredFits h st x → FitsBytes x → StoredStands place x v → IsEncoded place st v (stored_bytes x)
+stored_encoded place h (storage.ValType val.I32) (stored.I32 n) v built is small stands =
+    subst (λ (v : Value). IsEncoded place (storage.ValType val.I32) v (to_le_bytes w32 n)) (sym stands) (record { form = refl; word = n; small = small; code = refl; encoded = refl })
+stored_encoded place h (storage.ValType val.I64) (stored.I64 n) v built is small stands =
+    subst (λ (v : Value). IsEncoded place (storage.ValType val.I64) v (to_le_bytes w64 n)) (sym stands) (record { form = refl; word = n; small = small; code = refl; encoded = refl })
+stored_encoded place h (storage.ValType (val.Ref ty)) (stored.Ref word) v built is small stands =
+    subst (λ (v : Value). IsEncoded place (storage.ValType (val.Ref ty)) v (to_le_bytes w32 word)) (sym stands.1.1)
+    (record { form = built_form ty built; word = word; small = small; code = stands.1.0; encoded = refl })
+stored_encoded place h st x v built is small stands = absurd is
 
 abbrev pub layout_at : List FieldLayout → ℕ → FieldLayout
 layout_at places k = slice_index_or places k (record { offset = 0; is_gc_ref = false })
@@ -209,7 +213,7 @@ module _ (layouts : Layouts) (types : List Declaration) (roots : List Root) (hos
               let same = is kept.0 kept.1.0 in
               let stands = subst (λ y. StoredStands placing y v.0) (sym same) (kept.1.1 (subst FitsBytes same small)) in
               lie_to-step placing base fields values w.bytes k field_at.0 (layout_at places k) v.0 ws (w.lie placing values all) is_field v.1
-              (stored_encoded placing new field_at.0.element_type x v.0 fit small stands)
+              (stored_encoded placing new field_at.0.element_type x v.0 field_of.built fit small stands)
               (room layouts types new roots hosts place now (layout_at places k).offset field_at.0.element_type held_field);
         }
 

@@ -6,7 +6,7 @@ use Rattle.std.proofs.lemmas.List.Elements.{Contains-append_cases, Contains-appe
 use Rattle.std.proofs.lemmas.Option.{slice_get_within}
 use Rattle.gc_memory.specs.Lists.{In, here, there}
 use Rattle.gc_model.specs.Values.{Reference, null, small, at, Object}
-use Rattle.gc_model.specs.Reach.{references_in, Reached, by_root, by_value}
+use Rattle.gc_model.specs.Reach.{references_in, Reached, by_start, by_step}
 use Rattle.gc_heap.proofs.SpacedLemmas.{only_item}
 
 or_cases : (a b : Bool) → (a || b) ≡ true → (a ≡ true) ⊎ (b ≡ true)
@@ -150,12 +150,12 @@ module _ {D : Type 0} (objects : List (Object D)) (roots : List Reference) where
 
   reaches_next : (x y : ℕ) → ReachedFrom x → names_next objects roots x y ≡ true → ReachedFrom y
   reaches_next x zero r e = tt
-  reaches_next zero (suc p) r e = by_root (names_one p roots e)
+  reaches_next zero (suc p) r e = by_start (names_one p roots e)
   reaches_next (suc q) (suc p) r e = by (slice_get objects q) refl e
     where
       by : (o : Option (Object D)) → slice_get objects q ≡ o → names p (references_of o) ≡ true → Reached objects roots p
       by None is e = absurd (cc)
-      by (Some o) is e = by_value r o is (names_one p (references_in o) e)
+      by (Some o) is e = by_step r (record { object = o; there = is; among = names_one p (references_in o) e })
 
   pub is_reached-true : (p : ℕ) → is_reached objects roots p ≡ true → Reached objects roots p
   unfolding is_reached
@@ -163,7 +163,7 @@ module _ {D : Type 0} (objects : List (Object D)) (roots : List Reference) where
 
   pub true-is_reached : (p : ℕ) → Reached objects roots p → is_reached objects roots p ≡ true
   unfolding is_reached
-  true-is_reached p (by_root c) = path_edge (names_next objects roots) (first_positions (length objects)) 0 (suc p) (one_names p roots c)
-  true-is_reached p (by_value {q = q} reached o is c) =
-      path_joins (names_next objects roots) (first_positions (length objects)) (suc q) (in_first (length objects) q (slice_get_within objects q o is)) 0 (suc p) (true-is_reached q reached)
-      (path_edge (names_next objects roots) (first_positions (length objects)) (suc q) (suc p) (ap (λ x. names p (references_of x)) is ∙ one_names p (references_in o) c))
+  true-is_reached p (by_start c) = path_edge (names_next objects roots) (first_positions (length objects)) 0 (suc p) (one_names p roots c)
+  true-is_reached p (by_step {y = q} reached named) =
+      path_joins (names_next objects roots) (first_positions (length objects)) (suc q) (in_first (length objects) q (slice_get_within objects q named.object named.there)) 0 (suc p) (true-is_reached q reached)
+      (path_edge (names_next objects roots) (first_positions (length objects)) (suc q) (suc p) (ap (λ x. names p (references_of x)) named.there ∙ one_names p (references_in named.object) named.among))

@@ -15,7 +15,7 @@ use Rattle.gc_roots.specs.Roots.{Root}
 use Rattle.gc_model.specs.declared.GcClass.TheVariants.{Any}
 use Rattle.gc_model.specs.declared.RootEntry.{RootEntry}
 use Rattle.gc_model.specs.Fits.{is_built_field}
-use Rattle.gc_model.specs.Values.{Reference, Value, i32, i64, reference}
+use Rattle.gc_model.specs.Values.{Reference, Value, numeric, i32, i64, reference}
 use Rattle.gc_view.specs.Bytes.{u32_at, u64_at}
 use Rattle.gc_view.specs.Heaps.{HeapView, HeapObject}
 use Rattle.gc_model.specs.Holds.{Placing, IsWord, ValuesLie}
@@ -122,8 +122,8 @@ IsKept entries r = (x : Stored) × KeptAs entries r x
 
 -- what a field keeps is a value of the table
 abbrev pub StoredStands : Placing → Stored → Value → Type 0
-StoredStands place (stored.I32 n) v = v ≡ i32 n
-StoredStands place (stored.I64 n) v = v ≡ i64 n
+StoredStands place (stored.I32 n) v = v ≡ numeric i32 n
+StoredStands place (stored.I64 n) v = v ≡ numeric i64 n
 StoredStands place (stored.Ref word) v = (r : Reference) × (IsWord place r word × (v ≡ reference Any r))
 
 -- A value that is given to the store is one of the table, by the words that the roots have, where its bits

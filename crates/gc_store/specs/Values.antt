@@ -9,7 +9,7 @@ use Rattle.gc_types.specs.declared.value.ValType.TheVariants as val
 use Rattle.gc_types.specs.declared.kind.Layouts.{Layouts}
 use Rattle.gc_types.specs.Declarations.{struct_fields_at}
 use Rattle.gc_model.specs.declared.GcClass.{GcClass}
-use Rattle.gc_model.specs.Values.{Reference, null, small, at, Value, i32, i64, f32, f64, v128, function, reference, number_bits}
+use Rattle.gc_model.specs.Values.{Reference, null, small, at, Value, numeric, i32, i64, f32, f64, v128, function, reference, number_bits}
 use Rattle.gc_model.specs.Fits.{is_class_any}
 use Rattle.gc_model.specs.Table.{Table, write}
 use Rattle.gc_model.specs.Live.{rooted, roots_full}
@@ -34,11 +34,11 @@ pub record RootStands {D : Type 0} (s : StoreView) (t : Table D) (class : GcClas
 
 -- a value that is given to the store stands for one of the table
 abbrev pub RawStands : {D : Type 0} → StoreView → Table D → RawValue → Value → Type 0
-RawStands s t (raw.I32 n) v = v ≡ i32 (number_bits w32 n)
-RawStands s t (raw.I64 n) v = v ≡ i64 (number_bits w64 n)
-RawStands s t (raw.F32 n) v = v ≡ f32 n
-RawStands s t (raw.F64 n) v = v ≡ f64 n
-RawStands s t (raw.V128 n) v = v ≡ v128 n
+RawStands s t (raw.I32 n) v = v ≡ numeric i32 (number_bits w32 n)
+RawStands s t (raw.I64 n) v = v ≡ numeric i64 (number_bits w64 n)
+RawStands s t (raw.F32 n) v = v ≡ numeric f32 n
+RawStands s t (raw.F64 n) v = v ≡ numeric f64 n
+RawStands s t (raw.V128 n) v = v ≡ numeric v128 n
 RawStands s t (raw.Func f) v = v ≡ function f
 RawStands s t (raw.Ref class None) v = v ≡ reference class null
 RawStands s t (raw.Ref class (Some handle)) v = RootStands s t class handle v
@@ -86,11 +86,11 @@ pub record CanStore (D : Type 0) (layouts : Layouts) (s : StoreView) (field : Fi
 
 -- the value that a read answers, whose new root is the newest one
 abbrev pub IsReadAs : {D : Type 0} → StoreView → Table D → Value → RawValue → Type 0
-IsReadAs s t (i32 n) r = (z : ℤ) × ((r ≡ raw.I32 z) × (n ≡ number_bits w32 z))
-IsReadAs s t (i64 n) r = (z : ℤ) × ((r ≡ raw.I64 z) × (n ≡ number_bits w64 z))
-IsReadAs s t (f32 n) r = r ≡ raw.F32 n
-IsReadAs s t (f64 n) r = r ≡ raw.F64 n
-IsReadAs s t (v128 n) r = r ≡ raw.V128 n
+IsReadAs s t (numeric i32 n) r = (z : ℤ) × ((r ≡ raw.I32 z) × (n ≡ number_bits w32 z))
+IsReadAs s t (numeric i64 n) r = (z : ℤ) × ((r ≡ raw.I64 z) × (n ≡ number_bits w64 z))
+IsReadAs s t (numeric f32 n) r = r ≡ raw.F32 n
+IsReadAs s t (numeric f64 n) r = r ≡ raw.F64 n
+IsReadAs s t (numeric v128 n) r = r ≡ raw.V128 n
 IsReadAs s t (function f) r = r ≡ raw.Func f
 IsReadAs s t (reference class null) r = r ≡ raw.Ref class None
 IsReadAs s t (reference class (small n)) r = r ≡ raw.Ref class (Some (handle_of s (length t.scoped) t.drops))

@@ -24,7 +24,7 @@ value_width_positive val.F64 = omega arith
 value_width_positive val.V128 = omega arith
 value_width_positive (val.Ref ty) = omega arith
 
-storage_width_positive : (ty : StorageType) → 0 < storage_width ty
+pub storage_width_positive : (ty : StorageType) → 0 < storage_width ty
 storage_width_positive storage.I8 = omega arith
 storage_width_positive storage.I16 = omega arith
 storage_width_positive (storage.ValType ty) = value_width_positive ty

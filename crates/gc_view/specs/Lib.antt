@@ -2,3 +2,4 @@ pub mod Heaps
 pub mod Bytes
 pub mod Sizes
 pub mod Pages
+pub mod Reach

@@ -49,5 +49,5 @@ pub returns : goal.returns
 returns g c t place v holds has =
     let after = (goal.at.returns g c).After-unwrap-gc_ref in
     let lies = field_at _ _ t place holds c.args.handle c.args.index v has c.in-Ok.word (sym c.word_of.ensures ∙ c.in-Ok.is) in
-    stored_stands place lies.holds.field.element_type v lies.object.bytes _ c.read_field.result lies.holds.lies
+    stored_stands place lies.holds.field.element_type v lies.object.bytes _ c.read_field.result lies.built lies.holds.lies
     (c.read_field.ensures lies.object lies.fields lies.holds.field lies.holds.layout (in_heap g after lies.object lies.held) (in_types g after lies.object.ty lies.fields lies.declared) lies.holds.is_field.type_is lies.holds.is_field.layout_is)

@@ -1,0 +1,132 @@
+-- What lies in a field, by the form of the field, and what a change of words leaves of it.
+use Rattle.std.proofs.Common.{◌≡◌, ℕ, List, Some, true, false, Bool, cond, refl, sym, ap, ◌∙◌, subst, arith}
+use Rattle.std.specs.List.{slice_get}
+use Rattle.gc_types.specs.declared.value.StorageType.{StorageType}
+use Rattle.gc_types.specs.declared.value.StorageType.TheVariants as storage
+use Rattle.gc_types.specs.declared.value.ValType.TheVariants as val
+use Rattle.gc_types.specs.declared.value.RefType.{RefType}
+use Rattle.gc_types.specs.declared.value.HeapType.{HeapType}
+use Rattle.gc_types.specs.declared.value.HeapType.TheVariants as heap
+use Rattle.gc_types.specs.Values.{heap_top}
+use Rattle.gc_types.specs.Layouts.{storage_width, is_gc_storage, is_gc_heap_type}
+use Rattle.gc_model.specs.declared.GcClass.{GcClass}
+use Rattle.gc_model.specs.declared.GcClass.TheVariants.{Any}
+use Rattle.gc_model.specs.Values.{NumberKind, i32, i64, Value, numeric, function, reference, Reference}
+use Rattle.gc_model.specs.Words.{Placing, IsWord}
+use Rattle.gc_model.specs.Fits.{is_any, is_built_value, is_built_storage, fits, is_i32, is_i64, is_any_reference}
+use Rattle.gc_model.specs.Forms.{Form, number_of, function_of, continuation_of, reference_of, top_form, type_form, storage_form, value_form, is_reference, Names, no_functions, IsCode, LiesAs, number_at}
+
+number_of_form : (kind : NumberKind) (v : Value) → number_of kind ≡ value_form v → (n : ℕ) × (v ≡ numeric kind n)
+number_of_form kind (numeric k n) e = let same : k ≡ kind = grind (arith, e) in (n, ap (λ j. numeric j n) same)
+number_of_form kind (function f) e = absurd (cc)
+number_of_form kind (reference class r) e = absurd (cc)
+
+reference_of_form : (class : GcClass) (v : Value) → reference_of class ≡ value_form v → (r : Reference) × (v ≡ reference class r)
+reference_of_form class (numeric k n) e = absurd (cc)
+reference_of_form class (function f) e = absurd (cc)
+reference_of_form class (reference c r) e = let same : c ≡ class = grind (arith, e) in (r, ap (λ j. reference j r) same)
+
+-- A reference of the class, with its word.
+pub record ReferenceAs (place : Placing) (class : GcClass) (v : Value) (word : ℕ) : Type 0 where
+  pub reference_is : Reference
+  pub value_is : v ≡ reference class reference_is
+  pub is_word : IsWord place reference_is word
+
+module _ (names : Names) (ty : StorageType) (v : Value) (bytes : List ℕ) (o : ℕ) where
+  abbrev code : ℕ
+  code = number_at (storage_width ty) bytes o
+
+  -- in a field of numbers lies a number
+  pub number_lying : (kind : NumberKind) → storage_form ty ≡ number_of kind → LiesAs names ty v bytes o → v ≡ numeric kind (number_at (storage_width ty) bytes o)
+  number_lying kind is lies =
+      let number = number_of_form kind v (sym is ∙ lies.form) in
+      let same : code ≡ number.0 = subst (λ (x : Value). IsCode names x code) number.1 lies.code in
+      number.1 ∙ ap (numeric kind) (sym same)
+
+  -- in a field of references lies one of their class
+  pub reference_lying : (class : GcClass) → storage_form ty ≡ reference_of class → LiesAs names ty v bytes o → ReferenceAs names.place class v (number_at (storage_width ty) bytes o)
+  reference_lying class is lies =
+      let r = reference_of_form class v (sym is ∙ lies.form) in
+      record { reference_is = r.0; value_is = r.1; is_word = subst (λ (x : Value). IsCode names x code) r.1 lies.code }
+
+heap_reference : (ty : HeapType) → is_gc_heap_type ty ≡ is_reference (top_form (heap_top ty))
+heap_reference heap.Any = refl
+heap_reference heap.Eq = refl
+heap_reference heap.I31 = refl
+heap_reference heap.Struct = refl
+heap_reference heap.Array = refl
+heap_reference heap.None = refl
+heap_reference (heap.ConcreteStruct ty) = refl
+heap_reference (heap.ConcreteArray ty) = refl
+heap_reference heap.Extern = refl
+heap_reference heap.NoExtern = refl
+heap_reference heap.Func = refl
+heap_reference heap.NoFunc = refl
+heap_reference (heap.ConcreteFunc ty) = refl
+heap_reference heap.Exn = refl
+heap_reference heap.NoExn = refl
+heap_reference (heap.ConcreteExn ty) = refl
+heap_reference heap.Cont = refl
+heap_reference heap.NoCont = refl
+
+-- a collection follows the fields of references
+pub storage_reference : (ty : StorageType) → is_gc_storage ty ≡ is_reference (storage_form ty)
+storage_reference storage.I8 = refl
+storage_reference storage.I16 = refl
+storage_reference (storage.ValType val.I32) = refl
+storage_reference (storage.ValType val.I64) = refl
+storage_reference (storage.ValType val.F32) = refl
+storage_reference (storage.ValType val.F64) = refl
+storage_reference (storage.ValType val.V128) = refl
+storage_reference (storage.ValType (val.Ref ty)) = heap_reference ty.heap_type
+
+-- such a field is as wide as a word
+pub reference_width : (ty : StorageType) → is_reference (storage_form ty) ≡ true → storage_width ty ≡ 4
+reference_width storage.I8 e = absurd (cc)
+reference_width storage.I16 e = absurd (cc)
+reference_width (storage.ValType val.I32) e = refl
+reference_width (storage.ValType val.I64) e = absurd (cc)
+reference_width (storage.ValType val.F32) e = refl
+reference_width (storage.ValType val.F64) e = absurd (cc)
+reference_width (storage.ValType val.V128) e = absurd (cc)
+reference_width (storage.ValType (val.Ref ty)) e = refl
+
+-- a form of references is that of one class
+pub reference_class : (f : Form) → is_reference f ≡ true → (class : GcClass) × (f ≡ reference_of class)
+reference_class (number_of kind) e = absurd (cc)
+reference_class function_of e = absurd (cc)
+reference_class continuation_of e = absurd (cc)
+reference_class (reference_of class) e = (class, refl)
+
+any_form : (ty : HeapType) → is_any ty ≡ true → top_form (heap_top ty) ≡ reference_of Any
+any_form heap.Any e = refl
+any_form _ e = absurd (cc)
+
+nullable_form : (nullable : Bool) (ty : HeapType) → cond nullable (is_any ty) false ≡ true → top_form (heap_top ty) ≡ reference_of Any
+nullable_form true ty e = any_form ty e
+nullable_form false ty e = absurd (cc)
+
+-- a field of references that is of a type that is built holds references of class Any
+pub built_form : (ty : RefType) → is_built_value (val.Ref ty) ≡ true → type_form (val.Ref ty) ≡ reference_of Any
+built_form ty e = nullable_form ty.nullable ty.heap_type e
+
+-- a value that lies in a field of a type that is built fits it
+pub lies_fits : (names : Names) (ty : StorageType) (v : Value) (bytes : List ℕ) (o : ℕ) → is_built_storage ty ≡ true → LiesAs names ty v bytes o → fits ty v ≡ true
+lies_fits names storage.I8 v bytes o built lies = absurd (cc)
+lies_fits names storage.I16 v bytes o built lies = absurd (cc)
+lies_fits names (storage.ValType val.I32) v bytes o built lies = ap is_i32 (number_lying names (storage.ValType val.I32) v bytes o i32 refl lies)
+lies_fits names (storage.ValType val.I64) v bytes o built lies = ap is_i64 (number_lying names (storage.ValType val.I64) v bytes o i64 refl lies)
+lies_fits names (storage.ValType val.F32) v bytes o built lies = absurd (cc)
+lies_fits names (storage.ValType val.F64) v bytes o built lies = absurd (cc)
+lies_fits names (storage.ValType val.V128) v bytes o built lies = absurd (cc)
+lies_fits names (storage.ValType (val.Ref ty)) v bytes o built lies =
+    ap is_any_reference (reference_lying names (storage.ValType (val.Ref ty)) v bytes o Any (built_form ty built) lies).value_is
+
+-- A value stands for itself under another placing and another number, where the number of one that is no
+-- reference is the same, and a reference's word is carried along.
+pub value_moved : (place place' : Placing) (v : Value) (was now : ℕ) → (is_reference (value_form v) ≡ false → now ≡ was)
+    → ((r : Reference) → is_reference (value_form v) ≡ true → IsWord place r was → IsWord place' r now)
+    → IsCode (no_functions place) v was → IsCode (no_functions place') v now
+value_moved place place' (numeric kind n) was now same carried is = same refl ∙ is
+value_moved place place' (function f) was now same carried is = subst (λ (c : ℕ). IsCode (no_functions place') (function f) c) (sym (same refl)) is
+value_moved place place' (reference class r) was now same carried is = carried r refl is

@@ -1,0 +1,89 @@
+-- Which form a value has, which form a field holds, and the bytes that hold a value in a field: a number with its
+-- lowest byte first at every width, a function as its id, a reference as its word.
+use Rattle.std.specs.Prelude.{◌≡◌, ℕ, Bool, true, false, ◌-◌, ◌<◌, ◌^◌, List, [], Option, Some, take, drop, slice_get, slice_index}
+use Rattle.std.specs.Int.{sum_through, byte_worth, bytes_low_first}
+use Rattle.gc_types.specs.declared.value.Func.{Func}
+use Rattle.gc_types.specs.declared.value.StorageType.{StorageType}
+use Rattle.gc_types.specs.declared.value.StorageType.TheVariants as storage
+use Rattle.gc_types.specs.declared.value.ValType.{ValType}
+use Rattle.gc_types.specs.declared.value.ValType.TheVariants as val
+use Rattle.gc_types.specs.declared.value.HeapTopType.{HeapTopType}
+use Rattle.gc_types.specs.declared.value.HeapTopType.TheVariants as top
+use Rattle.gc_types.specs.Values.{heap_top}
+use Rattle.gc_types.specs.Layouts.{storage_width}
+use Rattle.gc_model.specs.declared.GcClass.{GcClass}
+use Rattle.gc_model.specs.declared.GcClass.TheVariants.{Any, Extern, Exn}
+use Rattle.gc_model.specs.Values.{NumberKind, i32, i64, f32, f64, v128, Value, numeric, function, reference}
+use Rattle.gc_model.specs.Words.{Placing, IsWord}
+
+-- what a value is, and what a field holds; no value is a continuation
+pub data Form : Type 0 where
+  number_of : NumberKind → Form
+  function_of : Form
+  continuation_of : Form
+  reference_of : GcClass → Form
+
+abbrev pub value_form : Value → Form
+value_form (numeric kind n) = number_of kind
+value_form (function f) = function_of
+value_form (reference class r) = reference_of class
+
+-- the form of references whose types lie under that top
+abbrev pub top_form : HeapTopType → Form
+top_form top.Any = reference_of Any
+top_form top.Extern = reference_of Extern
+top_form top.Exn = reference_of Exn
+top_form top.Func = function_of
+top_form top.Cont = continuation_of
+
+abbrev pub type_form : ValType → Form
+type_form val.I32 = number_of i32
+type_form val.I64 = number_of i64
+type_form val.F32 = number_of f32
+type_form val.F64 = number_of f64
+type_form val.V128 = number_of v128
+type_form (val.Ref ty) = top_form (heap_top ty.heap_type)
+
+-- the form of what a field of that type holds; small integers are held as 32-bit numbers
+abbrev pub storage_form : StorageType → Form
+storage_form storage.I8 = number_of i32
+storage_form storage.I16 = number_of i32
+storage_form (storage.ValType ty) = type_form ty
+
+abbrev pub is_reference : Form → Bool
+is_reference (number_of kind) = false
+is_reference function_of = false
+is_reference continuation_of = false
+is_reference (reference_of class) = true
+
+-- the number of so many bytes that lies at an offset, its lowest byte first
+abbrev pub number_at : ℕ → List ℕ → ℕ → ℕ
+number_at width bytes offset = sum_through (λ i. byte_worth i (slice_index (take width (drop offset bytes)) i)) (width - 1)
+
+-- What stands in a heap for a position and for a function: its place, and its id.
+pub record Names : Type 0 where
+  pub place : Placing
+  pub funcs : List (Option Func)
+
+-- no function has an id
+abbrev pub no_functions : Placing → Names
+no_functions place = record { place = place; funcs = [] }
+
+-- the number that stands in a heap for a value
+abbrev pub IsCode : Names → Value → ℕ → Type 0
+IsCode names (numeric kind n) code = code ≡ n
+IsCode names (function f) code = slice_get names.funcs code ≡ Some f
+IsCode names (reference class r) code = IsWord names.place r code
+
+-- a value lies at an offset of an object's bytes, as a field of that type holds it
+pub record LiesAs (names : Names) (ty : StorageType) (v : Value) (bytes : List ℕ) (offset : ℕ) : Type 0 where
+  pub form : storage_form ty ≡ value_form v
+  pub code : IsCode names v (number_at (storage_width ty) bytes offset)
+
+-- the bytes are those of a value in a field of that type
+pub record IsEncodedAs (names : Names) (ty : StorageType) (v : Value) (bytes : List ℕ) : Type 0 where
+  pub form : storage_form ty ≡ value_form v
+  pub word : ℕ
+  pub small : word < 256 ^ storage_width ty
+  pub code : IsCode names v word
+  pub encoded : bytes ≡ bytes_low_first 0 (storage_width ty) word
