@@ -5,12 +5,13 @@ use Rattle.std.specs.Prelude.{slice_set}
 use Rattle.std.proofs.lemmas.Option.{none-some}
 use Rattle.gc_types.specs.declared.kind.Layouts.{Layouts}
 use Rattle.gc_types.specs.declared.kind.Layouts.TheVariants.{Null}
-use Rattle.gc_types.specs.Declarations.{Declaration}
+use Rattle.gc_types.specs.Declarations.{Declaration, elem_at}
+use Rattle.std.proofs.lemmas.List.{length-set}
 use Rattle.gc_types.specs.Layouts.{round_up}
 use Rattle.gc_model.specs.Values.{Value, Object, struct, array, host, exception}
 use Rattle.gc_model.specs.Table.{change_at, with_value}
 use Rattle.gc_view.specs.Sizes.{alignment}
-use Rattle.gc_model.specs.Sizes.{object_size, next_after}
+use Rattle.gc_model.specs.Sizes.{object_size, elements_size, next_after}
 
 pub length-change_at : {X : Type 0} (n : ℕ) (change : X → X) (xs : List X) → length (change_at n change xs) ≡ length xs
 length-change_at n change [] = refl
@@ -47,7 +48,7 @@ slice_get-set_other (y ∷ xs) (suc i) (suc j) x ne = slice_get-set_other xs i j
 -- an object's size is of its type
 pub object_size-with_value : {D : Type 0} (layouts : Layouts) (types : List Declaration) (index : ℕ) (v : Value) (o : Object D) → object_size layouts types (with_value index v o) ≡ object_size layouts types o
 object_size-with_value layouts types index v (struct ty values) = refl
-object_size-with_value layouts types index v (array ty values) = refl
+object_size-with_value layouts types index v (array ty values) = ap (elements_size layouts (elem_at types ty)) (length-set values index v)
 object_size-with_value layouts types index v (host value) = refl
 object_size-with_value layouts types index v (exception ty tag values) = refl
 

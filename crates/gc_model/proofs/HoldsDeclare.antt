@@ -34,9 +34,9 @@ stands-push_type layouts types d place (exception ty tag values) h stands = stan
 -- what stands for an object has its type
 pub typed-stands : {D : Type 0} (layouts : Layouts) (types : List Declaration) (place : Placing) (entry : Object D) (h : HeapObject) → Stands layouts types place entry h → IsTyped types entry
 typed-stands layouts types place (struct ty values) h stands = (stands.fields, stands.declared)
-typed-stands layouts types place (array ty values) h stands = tt
+typed-stands layouts types place (array ty values) h stands = absurd stands
 typed-stands layouts types place (host value) h stands = tt
-typed-stands layouts types place (exception ty tag values) h stands = tt
+typed-stands layouts types place (exception ty tag values) h stands = absurd stands
 
 -- in a null heap each object's type is declared
 pub all_typed : {D : Type 0} (t : Table D) (place : Placing) (heap : HeapView) → ObjectsHold Null t place heap → NullHolds t place heap → (i : ℕ) (o : Object D) → slice_get t.objects i ≡ Some o → IsTyped t.types o

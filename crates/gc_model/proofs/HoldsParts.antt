@@ -1,5 +1,5 @@
 -- What holds of a table and a heap holds where what it speaks of is the same.
-use Rattle.std.proofs.Common.{◌≡◌, sym, ap, ◌∙◌, refl, subst}
+use Rattle.std.proofs.Common.{◌≡◌, sym, ◌∙◌, refl, subst}
 use Rattle.std.specs.Ordering.{nat_cmp}
 use Rattle.std.specs.FinMap.{FinMap}
 use Rattle.gc_types.specs.declared.kind.Layouts.{Layouts}

@@ -9,11 +9,10 @@ use Rattle.gc_types.specs.declared.kind.Layouts.{Layouts}
 use Rattle.gc_types.specs.declared.kind.Layouts.TheVariants.{Null, Counting, Copying}
 use Rattle.gc_view.specs.Pages.{max_pages}
 use Rattle.gc_model.specs.Sizes.{next_after}
-use Rattle.gc_model.specs.declared.SlotEntry.{SlotEntry}
 use Rattle.gc_model.specs.Values.{Reference}
 use Rattle.gc_model.specs.Table.{Table, Slot, Owned, start, global_count, empty_slot}
 use Rattle.gc_view.specs.Heaps.{HeapView, HeapObject}
-use Rattle.gc_model.specs.Stores.{StoreView, empty_store, empty_entry}
+use Rattle.gc_model.specs.Stores.{StoreView, empty_store}
 use Rattle.gc_model.specs.Holds.{Placing, Holds, KindHolds}
 use Rattle.gc_model.specs.RootPoints.{FramesBy, GlobalsBy, OwnedBy, PendingBy}
 use Rattle.gc_model.proofs.RootsMoved.{frames-none, globals-unset, globals-empty, owned-none}

@@ -17,4 +17,8 @@ pub mod HeldStructs
 pub mod Encoding
 pub mod ReadingBack
 pub mod Lying
+pub mod SlotWrites
+pub mod SlotObjects
+pub mod StructSlots
+pub mod SlotsSet
 pub mod FieldsLie

@@ -1,6 +1,5 @@
 -- What lies in a field, by the form of the field, and what a change of words leaves of it.
-use Rattle.std.proofs.Common.{◌≡◌, ℕ, List, Some, true, false, Bool, cond, refl, sym, ap, ◌∙◌, subst, arith}
-use Rattle.std.specs.List.{slice_get}
+use Rattle.std.proofs.Common.{◌≡◌, ℕ, List, true, false, Bool, cond, refl, sym, ap, ◌∙◌, subst, arith}
 use Rattle.gc_types.specs.declared.value.StorageType.{StorageType}
 use Rattle.gc_types.specs.declared.value.StorageType.TheVariants as storage
 use Rattle.gc_types.specs.declared.value.ValType.TheVariants as val

@@ -5,11 +5,11 @@ use Rattle.std.specs.Prelude.{All}
 use Rattle.std.proofs.lemmas.Option.{none-some}
 use Rattle.gc_types.specs.declared.value.FieldType.{FieldType}
 use Rattle.gc_types.specs.declared.kind.Layouts.TheVariants.{Null}
-use Rattle.gc_types.specs.Declarations.{Declaration, struct_fields_at, shape_struct_fields, plain_struct, IsMutableI32}
+use Rattle.gc_types.specs.Declarations.{Declaration, struct_fields_at, elem_at, shape_struct_fields, plain_struct, IsMutableI32}
 use Rattle.gc_types.specs.Layouts.{round_up}
 use Rattle.gc_model.specs.Values.{Object, struct, array, host, exception}
 use Rattle.gc_view.specs.Sizes.{alignment}
-use Rattle.gc_model.specs.Sizes.{object_size, next_after, fields_size}
+use Rattle.gc_model.specs.Sizes.{object_size, next_after, fields_size, elements_size, exception_size, exn_fields_at}
 use Rattle.gc_model.specs.Fits.{is_built_field}
 use Rattle.gc_model.specs.Holds.{OnlyBuilt}
 
@@ -31,20 +31,33 @@ pub struct_fields_at-new : (types : List Declaration) (fields : List FieldType) 
 struct_fields_at-new [] fields = refl
 struct_fields_at-new (x ∷ types) fields = struct_fields_at-new types fields
 
--- an object's struct type is declared
+-- an array type and an exception type, as well
+pub elem_at-push : (types : List Declaration) (d : Declaration) (ty : ℕ) (element : FieldType) → elem_at types ty ≡ Some element → elem_at (types ++ d ∷ []) ty ≡ Some element
+elem_at-push [] d ty element e = absurd (none-some element e)
+elem_at-push (x ∷ types) d zero element e = e
+elem_at-push (x ∷ types) d (suc ty) element e = elem_at-push types d ty element e
+
+pub exn_fields_at-push : (types : List Declaration) (d : Declaration) (ty : ℕ) (fields : List FieldType) → exn_fields_at types ty ≡ Some fields → exn_fields_at (types ++ d ∷ []) ty ≡ Some fields
+exn_fields_at-push [] d ty fields e = absurd (none-some fields e)
+exn_fields_at-push (x ∷ types) d zero fields e = e
+exn_fields_at-push (x ∷ types) d (suc ty) fields e = exn_fields_at-push types d ty fields e
+
+-- an object's type is declared
 abbrev pub IsTyped : {D : Type 0} → List Declaration → Object D → Type 0
 IsTyped types (struct ty values) = (fields : List FieldType) × (struct_fields_at types ty ≡ Some fields)
-IsTyped types (array ty values) = Unit {0}
+IsTyped types (array ty values) = (element : FieldType) × (elem_at types ty ≡ Some element)
 IsTyped types (host value) = Unit {0}
-IsTyped types (exception ty tag values) = Unit {0}
+IsTyped types (exception ty tag values) = (fields : List FieldType) × (exn_fields_at types ty ≡ Some fields)
 
 -- an object's size is the same in the longer table
 pub object_size-push : {D : Type 0} (types : List Declaration) (d : Declaration) (o : Object D) → IsTyped types o → object_size Null (types ++ d ∷ []) o ≡ object_size Null types o
 object_size-push types d (struct ty values) typed =
     ap (fields_size Null) (struct_fields_at-push types d ty typed.0 typed.1 ∙ sym typed.1)
-object_size-push types d (array ty values) typed = refl
+object_size-push types d (array ty values) typed =
+    ap (λ e. elements_size Null e (length values)) (elem_at-push types d ty typed.0 typed.1 ∙ sym typed.1)
 object_size-push types d (host value) typed = refl
-object_size-push types d (exception ty tag values) typed = refl
+object_size-push types d (exception ty tag values) typed =
+    ap (exception_size Null) (exn_fields_at-push types d ty typed.0 typed.1 ∙ sym typed.1)
 
 -- where the null heap goes on is the same in the longer table
 pub next_after-push_type : {D : Type 0} (types : List Declaration) (d : Declaration) (n : ℕ) (objects : List (Object D)) → ((i : ℕ) (o : Object D) → slice_get objects i ≡ Some o → IsTyped types o) → next_after (types ++ d ∷ []) n objects ≡ next_after types n objects

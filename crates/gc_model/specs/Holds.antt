@@ -1,5 +1,5 @@
 -- A store holds a table: its heap, its roots and its numbers stand for the table's.
-use Rattle.std.specs.Prelude.{◌≡◌, Bool, ℕ, ◌+◌, ◌-◌, ◌*◌, ◌%◌, ◌<◌, ◌≤◌, ◌⊎◌, ◌^◌, true, false, List, [], Option, Some, None, length, slice_get, replicate, All}
+use Rattle.std.specs.Prelude.{◌≡◌, Bool, ℕ, ◌+◌, ◌-◌, ◌*◌, ◌%◌, ◌<◌, ◌≤◌, ◌^◌, true, false, List, [], Option, Some, None, length, slice_get, replicate, All}
 use Rattle.std.specs.Ordering.{nat_cmp}
 use Rattle.std.specs.FinMap as map
 use Rattle.gc_types.specs.declared.value.FieldType.{FieldType}

@@ -9,6 +9,9 @@ pub mod Allocation
 pub mod Words
 pub mod Forms
 pub mod Encoded
+pub mod Matching
+pub mod Standing
+pub mod Globals
 pub mod Stores
 pub mod RootPoints
 pub mod Holds

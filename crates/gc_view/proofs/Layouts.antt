@@ -39,7 +39,7 @@ stored_size-le Null n = omega arith
 stored_size-le Counting n = omega arith
 stored_size-le Copying n = round_up-le n 16 (omega arith)
 
-offset_low : (p : ℕ) (field : FieldType) → p ≤ field_offset p field
+pub offset_low : (p : ℕ) (field : FieldType) → p ≤ field_offset p field
 offset_low p field = round_up-le p (storage_width field.element_type) (storage_width_positive field.element_type)
 
 -- the end of the fields is not below their beginning

@@ -1,3 +1,4 @@
 pub mod Content
 pub mod ByteLemmas
 pub mod Layouts
+pub mod SlotLemmas

@@ -3,3 +3,4 @@ pub mod Bytes
 pub mod Sizes
 pub mod Pages
 pub mod Reach
+pub mod Slots
