@@ -16,10 +16,10 @@ pub(crate) enum Outcome<'a> {
     Same,
     /// The status wasn't 0.
     Ended(u8),
-    /// A line of its output, counted from 1, isn't the one wanted; nothing stands for a line that isn't
-    /// there.
+    /// Behind so many lines of its output, a line isn't the one wanted; nothing stands for a line that
+    /// isn't there.
     Differs {
-        number: usize,
+        alike: usize,
         given: Option<&'a str>,
         wanted: Option<&'a str>,
     },
@@ -31,10 +31,13 @@ impl Display for Outcome<'_> {
             Outcome::Same => write!(f, "ok"),
             Outcome::Ended(status) => write!(f, "status {status}"),
             Outcome::Differs {
-                number,
+                alike,
                 given,
                 wanted,
-            } => write!(f, "line {number} is {given:?}, wanted is {wanted:?}"),
+            } => write!(
+                f,
+                "differs after {alike} lines: {given:?} and not {wanted:?}"
+            ),
         }
     }
 }
@@ -72,7 +75,7 @@ pub(crate) fn outcome_of<'a>(status: u8, output: &'a str, wanted: &'a str) -> Ou
     }
     let alike = alike_lines(output, wanted);
     Outcome::Differs {
-        number: alike + 1,
+        alike,
         given: output.lines().nth(alike),
         wanted: wanted.lines().nth(alike),
     }
