@@ -3,7 +3,9 @@
 use crate::fault::CaseFault;
 use crate::lookups::{look_up, show_declared};
 use crate::small::ask_small;
-use crate::table::{chain, climb, declare, declare_many, family, is_subtype, no_types, two_numbers};
+use crate::table::{
+    chain, climb, declare, declare_many, family, is_subtype, no_types, two_numbers,
+};
 use crate::words::{field_of, ref_type_of, value_of};
 use gc_types::Types;
 use std::alloc::Global;
@@ -49,9 +51,10 @@ impl Cases {
                 let declared = declare(self.alloc, &mut self.types, words)?;
                 show_declared(declared, out)
             }
-            ["about" | "holds" | "elem" | "names" | "layout" | "elems", ..] => {
-                look_up(&self.types, words, out)
-            }
+            [
+                "about" | "holds" | "elem" | "names" | "layout" | "elems",
+                ..
+            ] => { look_up(&self.types, words, out) }
             _ => ask_small(words, out),
         }
     }

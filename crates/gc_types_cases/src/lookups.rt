@@ -68,16 +68,40 @@ fn show_names<W: Write + Drop>(
     out: &mut W,
 ) -> Result<(), CaseFault> {
     if let Some(name) = types.struct_type(ty) {
-        write!(out, "struct {} {} {}", name.engine(), name.number(), name.index().as_u32())?;
+        write!(
+            out,
+            "struct {} {} {}",
+            name.engine(),
+            name.number(),
+            name.index().as_u32()
+        )?;
     }
     if let Some(name) = types.array_type(ty) {
-        write!(out, "array {} {} {}", name.engine(), name.number(), name.index().as_u32())?;
+        write!(
+            out,
+            "array {} {} {}",
+            name.engine(),
+            name.number(),
+            name.index().as_u32()
+        )?;
     }
     if let Some(name) = types.exn_type(ty) {
-        write!(out, "exn {} {} {}", name.engine(), name.number(), name.index().as_u32())?;
+        write!(
+            out,
+            "exn {} {} {}",
+            name.engine(),
+            name.number(),
+            name.index().as_u32()
+        )?;
     }
     if let Some(name) = types.func_type(ty) {
-        write!(out, "func {} {} {}", name.engine(), name.number(), name.index().as_u32())?;
+        write!(
+            out,
+            "func {} {} {}",
+            name.engine(),
+            name.number(),
+            name.index().as_u32()
+        )?;
     }
     write!(out, ", struct fields {:?}", types.struct_len(ty))?;
     Ok(())

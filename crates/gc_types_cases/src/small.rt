@@ -43,7 +43,12 @@ pub(crate) fn ask_small<W: Write + Drop>(words: &[&str], out: &mut W) -> Result<
 /// Writes the bits of a kind, the kind that they are read as, and the kinds that it matches.
 fn show_kind<W: Write + Drop>(kind: VMGcKind, out: &mut W) -> Result<(), CaseFault> {
     let word = kind.as_u32() | VMGcKind::UNUSED_MASK;
-    write!(out, "{:#x}, {:?}", kind.as_u32(), VMGcKind::from_high_bits_of_u32(word))?;
+    write!(
+        out,
+        "{:#x}, {:?}",
+        kind.as_u32(),
+        VMGcKind::from_high_bits_of_u32(word)
+    )?;
     for (other, name) in KINDS {
         if kind.matches(other) {
             write!(out, ", {name}")?;
@@ -64,6 +69,11 @@ fn show_bytes<W: Write + Drop>(
         elem_size,
         elems_are_gc_refs: false,
     };
-    write!(out, "{:?}, end {:?}", layout.size(len), layout.elem_offset(len))?;
+    write!(
+        out,
+        "{:?}, end {:?}",
+        layout.size(len),
+        layout.elem_offset(len)
+    )?;
     Ok(())
 }

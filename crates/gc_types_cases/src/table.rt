@@ -1,7 +1,7 @@
 //! The tables that the cases begin with, and the types that they declare.
 
 use crate::fault::CaseFault;
-use crate::words::{field_of, fields_of, finality_of, index_of, supertype_of, values_of};
+use crate::words::{fields_of, finality_of, index_of, supertype_of, values_of};
 use gc_types::{FieldType, Mutability, StorageType, TypeFault, Types, VMSharedTypeIndex, ValType};
 use std::alloc::Global;
 
@@ -61,7 +61,7 @@ pub(crate) fn declare(
 ) -> Result<Option<VMSharedTypeIndex>, CaseFault> {
     match words.split_first() {
         Some((&"struct", rest)) => declare_struct(alloc, types, rest),
-        Some((&"array", rest)) => declare_array(types, rest),
+        Some((&"array", rest)) => declare_array(alloc, types, rest),
         Some((&"func", rest)) => declare_func(alloc, types, rest),
         Some((&"exn", rest)) => {
             let params = values_of(alloc, rest)?;
@@ -98,14 +98,20 @@ fn declare_struct(
 }
 
 fn declare_array(
+    alloc: Global,
     types: &mut Types,
     words: &[&str],
 ) -> Result<Option<VMSharedTypeIndex>, CaseFault> {
-    let [supertype, finality, elem] = words else {
+    let (head, rest) = words.split_at_checked(2).ok_or(CaseFault::BadCase)?;
+    let [supertype, finality] = head else {
         return Err(CaseFault::BadCase);
     };
     let (supertype, is_final) = (supertype_of(supertype)?, finality_of(finality)?);
-    let answer = types.declare_array(field_of(elem)?, supertype, is_final);
+    let elems = fields_of(alloc, rest)?;
+    let [elem] = elems.as_slice() else {
+        return Err(CaseFault::BadCase);
+    };
+    let answer = types.declare_array(*elem, supertype, is_final);
     declared(answer.map(|ty| ty.index()))
 }
 
