@@ -6,15 +6,18 @@ use crate::{
 };
 use std::test::Fail;
 
-#[test]
-fn types_are_declared(rt: HostRuntime) -> Result<(), Fail> {
-    let byte = FieldType {
+fn byte() -> FieldType {
+    FieldType {
         mutability: Mutability::Var,
         element_type: StorageType::I8,
-    };
+    }
+}
+
+#[test]
+fn types_are_declared(rt: HostRuntime) -> Result<(), Fail> {
     let mut types = Types::new(rt.alloc(), 3, 8);
-    let structure = types.declare_struct(&[byte], None, false)?;
-    let array = types.declare_array(byte, None, true)?;
+    let structure = types.declare_struct(&[byte()], None, false)?;
+    let array = types.declare_array(byte(), None, true)?;
     let exception = types.declare_exn(&[ValType::I64])?;
     let function = types.declare_func(&[ValType::I32], &[], None, false)?;
     assert_eq!(rt; structure.index().as_u32(), 0);
