@@ -61,7 +61,7 @@ pub trait GcHeap {
     ghost use Rattle.gc_view.specs.Heaps.{HeapView, HeapObject, detached_in};
     ghost use Rattle.gc_heap.specs.declared.collection.GcProgress.{GcProgress};
     ghost use Rattle.gc_heap.specs.Objects.{held_size, first_offset, array_length, external, zeroed, HasFields, IsHeaderOf, IsObjectData};
-    ghost use Rattle.gc_heap.specs.References.{SpareFits, LayoutTraces, ArrayTraces};
+    ghost use Rattle.gc_heap.specs.Rules.{SpareFits, LayoutTraces, ArrayTraces};
     ghost use Rattle.gc_heap.specs.Content.{IsHeld, IsHeap};
     ghost use Rattle.gc_heap.specs.Heap.{empty_heap, grown, Allocated, layout_kind, new_struct, new_array, array_size, given_back, IsWritable, with_data, put_object, with_spare_of, CanAllocate, CanGiveBack, IsStructOrExn, IsArray, IsSameHeader};
     ghost use Rattle.gc_heap.specs.Barriers.{ShowsCount, CanName, CanUnname, CanNameSlot, CanUnnameSlot, IsNamed, cloned, dropped, exposed, overwritten};
