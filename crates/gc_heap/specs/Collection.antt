@@ -22,6 +22,24 @@ pub use Rattle.gc_heap.specs.Rules.{AreCounted, IsIncrements, IsStepCount, Kept,
 abbrev pub has_host : {D : Type 0} → finite.FinMap nat_cmp D → ℕ → Bool
 has_host entries id = is_some (finite.get entries id)
 
+-- A collection between two increments: the heap, the collection's own state, the root words, the types, and
+-- whether the host table has a value under an id.
+pub record Stage (Heap State : Type 0) : Type 0 where
+  pub heap : Heap
+  pub state : State
+  pub roots : List Root
+  pub types : List Declaration
+  pub hosts : ℕ → Bool
+
+-- the stage with this heap, state, roots, types and host table
+abbrev pub stage : {Heap State D : Type 0} → Heap → State → List Root → List Declaration → finite.FinMap nat_cmp D → Stage Heap State
+stage h state roots types entries = record { heap = h; state = state; roots = roots; types = types; hosts = has_host entries }
+
+-- some collection has come so far, by a heap's relation of where it began, how many increments it has done,
+-- whether each was counted, and how it stands
+abbrev pub IsUnderWay : {A : Type 0} → (Start → ℕ → Bool → A → Type 0) → A → Type 0
+IsUnderWay {A} HasCome at = (s : Start) × ((n : ℕ) × ((c : Bool) × HasCome s n c at))
+
 -- no value of a host table was changed or added
 abbrev pub IsPartOf : {D : Type 0} → finite.FinMap nat_cmp D → finite.FinMap nat_cmp D → Type 0
 IsPartOf {D} part whole = (id : ℕ) (value : D) → finite.get part id ≡ Some value → finite.get whole id ≡ Some value
