@@ -147,7 +147,7 @@ copying_rules = record {
   Keeps = λ s place. Reached Copying s place;
   Increments = λ s n. (places : List ℕ) × (AreReached Copying s places × (n ≡ length places / objects_per_increment + 3));
   StepCount = λ s n. (places : List ℕ) × (AreReached Copying s places
-    × (n ≡ length places + sum (map (λ (place : ℕ). reference_count Copying s.types (finite.get s.heap.content place)) places) + length (present_words s.roots)));
+      × (n ≡ length places + sum (map (λ (place : ℕ). reference_count Copying s.types (finite.get s.heap.content place)) places) + length (present_words s.roots)));
   Leaves = λ s to h roots. h.needs_gc ≡ not s.heap.needs_gc;
 }
 

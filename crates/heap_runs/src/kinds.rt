@@ -46,10 +46,7 @@ fn make_kinds<H: GcHeap>(m: &mut Mutator<H>, named: &Named) -> Result<(), Mutato
 }
 
 /// A mutator that has an object of each kind.
-pub(crate) fn with_kinds<H: GcHeap + Drop>(
-    alloc: Global,
-    heap: H,
-) -> Result<Mutator<H>, RunFault>
+pub(crate) fn with_kinds<H: GcHeap + Drop>(alloc: Global, heap: H) -> Result<Mutator<H>, RunFault>
     requires sound { H.sound heap }
     requires detached { H.seen heap ≡ detached_in 0 }
 {
