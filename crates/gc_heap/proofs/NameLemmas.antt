@@ -1,5 +1,5 @@
 -- A word of a heap may be cloned, and that of a root dropped: counts are the numbers of names, and a place
--- has fewer names than the heap has bytes and roots.
+-- has fewer names than the heap has bytes and counted roots.
 use Rattle.std.proofs.Common.{◌≡◌, ℕ, ◌+◌, ◌-◌, ◌<◌, ◌≤◌, ◌^◌, inl, inr, Bool, true, false, not, cond, nat_eq, min, List, [], ◌∷◌, ◌++◌, length, map, filter, Option, Some, None, option_map, refl, sym, ap, ◌∙◌, arith}
 use Rattle.std.specs.Prelude.{sum_by}
 use Rattle.std.specs.Ordering.{nat_cmp}
@@ -28,7 +28,7 @@ nothing_counted : (h : HeapView) (q n : ℕ) → h.counts ≡ no_counts → get 
 nothing_counted h q n none is = none-some n (sym (get-empty nat_cmp q) ∙ ap (λ (c : Counts). get c.counted q) (sym none) ∙ is)
 
 -- where a place is counted, its count is the number of its names
-counted_is : (layouts : Layouts) (types : List Declaration) (h : HeapView) (roots : List Root) → IsHeap layouts h → AreCounted layouts types h roots → (q n : ℕ) → get h.counts.counted q ≡ Some n → n ≡ names_of layouts types h roots q
+pub counted_is : (layouts : Layouts) (types : List Declaration) (h : HeapView) (roots : List Root) → IsHeap layouts h → AreCounted layouts types h roots → (q n : ℕ) → get h.counts.counted q ≡ Some n → n ≡ names_of layouts types h roots q
 counted_is Null types h roots heap counted q n is = absurd (nothing_counted h q n heap.by_kind.0 is)
 counted_is Counting types h roots heap counted q n is = counted.counted q n is
 counted_is Copying types h roots heap counted q n is = absurd (nothing_counted h q n heap.by_kind.counts is)
@@ -72,7 +72,8 @@ occurrences-le q (w ∷ words) =
     let rest = occurrences-le q words in
     elim (nat_eq q w) as (λ b. length (cond b (w ∷ filter (nat_eq q) words) (filter (nat_eq q) words)) ≤ length (w ∷ words)) [ true ↦ omega arith | false ↦ omega arith ]
 
-held-le : (roots : List Root) → length (held_words roots) ≤ length roots
+-- no more words of roots are counted than there are roots
+pub held-le : (roots : List Root) → length (held_words roots) ≤ length roots
 held-le [] = omega arith
 held-le (r ∷ roots) =
     let rest = held-le roots in
@@ -88,7 +89,8 @@ spaced_count lo hi (o ∷ os) spaced =
     omega arith
 
 module _ (layouts : Layouts) (types : List Declaration) (h : HeapView) (roots : List Root) (hosts : ℕ → Bool) (heap : IsHeap layouts h) (can : CanCollect layouts (start h roots types hosts)) where
-  names_few : (q : ℕ) → names_of layouts types h roots q ≤ 2 ^ 32 + length roots
+  -- a place has fewer names than the heap has bytes and counted roots
+  pub names_few : (q : ℕ) → names_of layouts types h roots q ≤ 2 ^ 32 + length (held_words roots)
   names_few q =
       let fields = total-le (λ o. occurrences q (references layouts types o)) (held_size layouts) h.content (λ p o is.
       let spaced = spaced_count _ _ _ (references_spaced layouts types o (heap.objects p o is).spare (can.typed p o is)) in
@@ -98,10 +100,10 @@ module _ (layouts : Layouts) (types : List Declaration) (h : HeapView) (roots : 
       let held = occurrences-le q (held_words roots) in
       let fits = heap.fits in
       let bound = heap.bound in
-      omega (arith, held-le roots)
+      omega arith
 
   -- a word of the heap or of a root may be cloned
-  pub can_name : length roots < 2 ^ 31 → (word : ℕ) → IsWordOf h word → 0 < word → CanName h word
+  pub can_name : length (held_words roots) < 2 ^ 63 → (word : ℕ) → IsWordOf h word → 0 < word → CanName h word
   can_name few word is present = record {
     named = is_named h word is present;
     below = λ n counted.
