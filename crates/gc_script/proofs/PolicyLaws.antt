@@ -19,7 +19,7 @@ use Rattle.gc_script.specs.State.{State, reference, with_heap, with_account, set
 use Rattle.gc_script.specs.Steps.{Step, Answers, Does, MakesNew, made, lacks, AnswersGrow, grown, refused, tests, first_failing, new_struct}
 use Rattle.gc_script.specs.Policy as policy
 use Rattle.gc_script.specs.Policy.{policy_of, IsPolicyOf, with_made, AllocatesByPolicy, GrowsByPolicy, AsksNothing, FollowsDoing, FollowsTested, Follows, RunByPolicy}
-use Rattle.gc_script.proofs.StepLaws.{SameStep, tests_same, new_struct_same, same_keeps, same_plain, same_states}
+use Rattle.gc_script.proofs.StepLaws.{SameStep, same_keeps, same_plain, same_states}
 use Rattle.gc_script.proofs.GrowthLaws.{AlikeAccounts, AlikePolicies, same_accounts, alike_at, prepares_alike, expands_alike, may_collect_alike}
 
 -- The states are the same but for the order of the positions that their accounts hold; so are the limiters, and their limit
@@ -192,12 +192,9 @@ module _ (most : ℕ) (s : State) (a : Account) (limits : Limits) (accounts : Al
 
   doing_alike : (counter : Option ℕ) (c : Command) (answer answer' : Reply) (s' t' : State) (limits1 limits2 : Limits) → Does Copying limits.limit s c answer s' → FollowsDoing Copying counter s limits c answer s' limits1 → Does Copying limits.limit other_state c answer' t' → FollowsDoing Copying counter other_state limits c answer' t' limits2 → AlikeSteps answer answer' s' t' limits1 limits2
   doing_alike counter (New d t vs) answer answer' s' t' limits1 limits2 one follows other follows' =
-      let same = new_struct_same s.table.made s.table.pages a s t vs in
       new_alike counter d (new_struct s t vs) answer answer' s' t' limits1 limits2
       (new_by_policy limits.limit counter d (new_struct s t vs) s limits answer s' limits1 one follows)
-      (new_by_policy limits.limit counter d (new_struct s t vs) other_state limits answer' t' limits2
-      (subst (λ (o : Object ℕ). MakesNew Copying limits.limit d o other_state answer' t') same other)
-      (subst (λ (o : Object ℕ). AllocatesByPolicy Copying counter o other_state limits answer' t' limits2) same follows'))
+      (new_by_policy limits.limit counter d (new_struct s t vs) other_state limits answer' t' limits2 other follows')
   doing_alike counter (Grow n) answer answer' s' t' limits1 limits2 one follows other follows' =
       grow_alike n answer answer' s' t' limits1 limits2 (grow_by_policy limits.limit n s limits answer s' limits1 one follows) (grow_by_policy limits.limit n other_state limits answer' t' limits2 other follows')
   doing_alike counter Gc answer answer' s' t' limits1 limits2 one follows other follows' =
@@ -223,10 +220,7 @@ module _ (most : ℕ) (s : State) (a : Account) (limits : Limits) (accounts : Al
   -- two steps of one command by the policy
   step_alike : (counter : Option ℕ) (c : Command) (answer answer' : Reply) (s' t' : State) (limits1 limits2 : Limits) → Step Copying limits.limit s c answer s' → Follows Copying counter s limits c answer s' limits1 → Step Copying limits.limit other_state c answer' t' → Follows Copying counter other_state limits c answer' t' limits2 → AlikeSteps answer answer' s' t' limits1 limits2
   step_alike counter c answer answer' s' t' limits1 limits2 one follows other follows' =
-      let same = tests_same s.table.made s.table.pages a s Copying c in
-      answers_alike counter c (first_failing (tests Copying s c)) answer answer' s' t' limits1 limits2 one follows
-      (subst (λ (found : Option Refusal). Answers Copying limits.limit other_state c found answer' t') same other)
-      (subst (λ (found : Option Refusal). FollowsTested Copying counter other_state limits c found answer' t' limits2) same follows')
+      answers_alike counter c (first_failing (tests Copying s c)) answer answer' s' t' limits1 limits2 one follows other follows'
 
 -- two runs from alike states
 runs_alike : (counter : Option ℕ) (most : ℕ) (cs : List Command) (rs qs : List Reply) (s t s' t' : State) (limits limits' end end' : Limits) → AlikeStates most s t limits limits' → RunByPolicy Copying counter s limits cs rs s' end → RunByPolicy Copying counter t limits' cs qs t' end' → rs ≡ qs

@@ -15,7 +15,7 @@ use Rattle.gc_script.specs.State.{State, reference, with_heap, set_register}
 use Rattle.gc_script.specs.Steps.{Step, Answers, Does, MakesNew, made, lacks, AnswersGrow, grown, refused, tests, first_failing, new_struct}
 use Rattle.gc_script.specs.Run.{Run, SaysRefused}
 use Rattle.gc_script.specs.Laws.{NoneRefused, SameReply, SameReplies}
-use Rattle.gc_script.proofs.StepLaws.{repaged, shifted, tests_same, new_struct_same, same_keeps, same_plain, same_states}
+use Rattle.gc_script.proofs.StepLaws.{repaged, shifted, same_keeps, same_plain, same_states}
 
 -- the states differ in their accounts, and in whether their heaps are made and the pages, alone
 abbrev IsShifted : State → State → Type 0
@@ -59,7 +59,7 @@ module _ (is_made : Bool) (pages : ℕ) (a : Account) (s : State) (layouts : Lay
   same_grown bytes answer answer' s' t' (refused t b grows is after) grows1 fine fine1 = absurd (fine (inr is))
 
   same_doing : (c : Command) (answer answer' : Reply) (s' t' : State) → Does layouts limit s c answer s' → Does layouts limit other_state c answer' t' → ¬ SaysRefused answer → ¬ SaysRefused answer' → SameReply c answer answer' × IsShifted s' t'
-  same_doing (New d t vs) answer answer' s' t' one other fine fine1 = same_new d (new_struct s t vs) (new_struct other_state t vs) answer answer' s' t' (new_struct_same is_made pages a s t vs) one other fine fine1
+  same_doing (New d t vs) answer answer' s' t' one other fine fine1 = same_new d (new_struct s t vs) (new_struct other_state t vs) answer answer' s' t' refl one other fine fine1
   same_doing Gc answer answer' s' t' one other fine fine1 = (
     same_keeps is_made pages a s layouts answer answer' one.0 other.0,
     (is_made, pages, other.1.0, other.1.1 ∙ sym (ap (shifted is_made pages other.1.0) one.1.1)),
@@ -79,8 +79,7 @@ module _ (is_made : Bool) (pages : ℕ) (a : Account) (s : State) (layouts : Lay
   -- two steps of a command that weren't refused pages
   same_step : (c : Command) (answer answer' : Reply) (s' t' : State) → Step layouts limit s c answer s' → Step layouts limit other_state c answer' t' → ¬ SaysRefused answer → ¬ SaysRefused answer' → SameReply c answer answer' × IsShifted s' t'
   same_step c answer answer' s' t' one other fine fine1 =
-      same_answers c (first_failing (tests layouts s c)) answer answer' s' t' one
-      (subst (λ (found : Option Refusal). Answers layouts limit other_state c found answer' t') (tests_same is_made pages a s layouts c) other) fine fine1
+      same_answers c (first_failing (tests layouts s c)) answer answer' s' t' one other fine fine1
 
 -- two runs from such states
 same_runs : (layouts : Layouts) (limit : Option ℕ) (cs : List Command) (rs qs : List Reply) (s t s' t' : State) → IsShifted s t → Run layouts limit s cs rs s' → Run layouts limit t cs qs t' → NoneRefused rs → NoneRefused qs → SameReplies cs rs qs

@@ -41,126 +41,11 @@ abbrev pub shifted : Bool → ℕ → Account → State → State
 shifted made pages a s = with_heap (repaged made pages s.table) a s
 
 module _ (made : Bool) (pages : ℕ) (t : Table ℕ) where
-  given_held_same : (held : Option Held) → given_held (repaged made pages t) held ≡ given_held t held
-  given_held_same None = refl
-  given_held_same (Some (number v)) = refl
-  given_held_same (Some (reference c None)) = refl
-  given_held_same (Some (reference c (Some serial))) = refl
-
-  reference_target_same : (r : Option Reference) → reference_target (repaged made pages t) r ≡ reference_target t r
-  reference_target_same None = refl
-  reference_target_same (Some null) = refl
-  reference_target_same (Some (small n)) = refl
-  reference_target_same (Some (at p)) = refl
-
-  field_of_same : (found : Option Target) (i : ℕ) → field_of (repaged made pages t) found i ≡ field_of t found i
-  field_of_same None i = refl
-  field_of_same (Some found) i = refl
-
-  shown_same : (v : Value) → shown (repaged made pages t) v ≡ shown t v
-  shown_same (values.reference c null) = refl
-  shown_same (values.reference c (small n)) = refl
-  shown_same (values.reference c (at p)) = refl
-  shown_same v = refl
-
-  held_value_same : (v : Value) → held_value (repaged made pages t) v ≡ held_value t v
-  held_value_same (values.reference c null) = refl
-  held_value_same (values.reference c (small n)) = refl
-  held_value_same (values.reference c (at p)) = refl
-  held_value_same v = refl
-
   after_read_same : (v : Value) → after_read v (repaged made pages t) ≡ repaged made pages (after_read v t)
   after_read_same (values.reference c null) = refl
   after_read_same (values.reference c (small n)) = refl
   after_read_same (values.reference c (at p)) = refl
   after_read_same v = refl
-
-module _ (made : Bool) (pages : ℕ) (a : Account) (s : State) where
-  held_operand_same : (v : Operand) → held_operand (shifted made pages a s) v ≡ held_operand s v
-  held_operand_same (operand.Register r) = refl
-  held_operand_same v = refl
-
-  given_same : (v : Operand) → given (shifted made pages a s) v ≡ given s v
-  given_same v = ap (given_held (repaged made pages s.table)) (held_operand_same v) ∙ given_held_same made pages s.table (held_operand s v)
-
-  given_values_same : (vs : List Operand) → given_values (shifted made pages a s) vs ≡ given_values s vs
-  given_values_same vs = λ i. map (λ (v : Operand). given_value (given_same v i)) vs
-
-  any_unset_same : (vs : List Operand) → any_unset (shifted made pages a s) vs ≡ any_unset s vs
-  any_unset_same vs = λ i. list_any (λ (v : Operand). is_unset (given_same v i)) vs
-
-  pub new_struct_same : (t : ℕ) (vs : List Operand) → new_struct (shifted made pages a s) t vs ≡ new_struct s t vs
-  new_struct_same t vs = ap (struct t) (given_values_same vs)
-
-  given_register_same : (r : ℕ) → given_register (shifted made pages a s) r ≡ given_register s r
-  given_register_same r = given_held_same made pages s.table (s.registers r)
-
-  named_same : (r : ℕ) → named (shifted made pages a s) r ≡ named s r
-  named_same r = ap (λ (g : Given). value_named (given_value g)) (given_register_same r)
-
-  target_same : (r : ℕ) → target (shifted made pages a s) r ≡ target s r
-  target_same r = ap (reference_target (repaged made pages s.table)) (named_same r) ∙ reference_target_same made pages s.table (named s r)
-
-  target_field_same : (r i : ℕ) → field_of (repaged made pages s.table) (target (shifted made pages a s) r) i ≡ field_of s.table (target s r) i
-  target_field_same r i = ap (λ (found : Option Target). field_of (repaged made pages s.table) found i) (target_same r) ∙ field_of_same made pages s.table (target s r) i
-
-  value_tests_same : (field : Option FieldType) (v : Operand) → value_tests (shifted made pages a s) field v ≡ value_tests s field v
-  value_tests_same field v = ap (λ (g : Given). (is_gone g, refusal.Unrooted) ∷ (not (fits_field field (given_value g)), refusal.TypeMismatch) ∷ []) (given_same v)
-
-  all_value_tests_same : (fs : List FieldType) (vs : List Operand) → all_value_tests (shifted made pages a s) fs vs ≡ all_value_tests s fs vs
-  all_value_tests_same [] [] = refl
-  all_value_tests_same [] (v ∷ vs) = refl
-  all_value_tests_same (f ∷ fs) [] = refl
-  all_value_tests_same (f ∷ fs) (v ∷ vs) = ap₂ (λ (ts us : List (Bool × Refusal)). ts ++ us) (value_tests_same (Some f) v) (all_value_tests_same fs vs)
-
-  target_tests_same : (r i : ℕ) → target_tests (shifted made pages a s) r i ≡ target_tests s r i
-  target_tests_same r i = λ k.
-      (is_gone (given_register_same r k), refusal.Unrooted)
-      ∷ (is_none (target_same r k), refusal.WrongKind)
-      ∷ (nat_le (length (target_values (target_same r k))) i, refusal.OutOfBounds)
-      ∷ []
-
-  new_tests_same : (t : ℕ) (vs : List Operand) → new_tests (shifted made pages a s) t vs ≡ new_tests s t vs
-  new_tests_same t vs = λ k.
-      (is_none (struct_fields_at s.table.types t), refusal.NoSuchName)
-      ∷ (any_unset_same vs k, refusal.NoSuchName)
-      ∷ (not (length vs == field_count s.table t), refusal.FieldCount)
-      ∷ all_value_tests_same (unwrap_or (struct_fields_at s.table.types t) []) vs k
-
-  built_tests_same : (layouts : Layouts) (c : Command) → built_tests layouts (shifted made pages a s) c ≡ built_tests layouts s c
-  built_tests_same layouts Bad = refl
-  built_tests_same layouts (Struct is_final supertype fs) = refl
-  built_tests_same layouts (New d t vs) = λ k.
-      new_tests_same t vs k
-      ++ ((too_large layouts (object_size layouts s.table.types (new_struct_same t vs k)), refusal.TooLarge) ∷ (roots_full s.table, refusal.RootsFull) ∷ [])
-  built_tests_same layouts (I31 d n) = refl
-  built_tests_same layouts (Field r i into) = λ k.
-      (is_unset (given_register_same r k), refusal.NoSuchName)
-      ∷ (target_tests_same r i k
-      ++ (reads_root (slice_get (target_values (target_same r k)) i) && roots_full s.table, refusal.RootsFull) ∷ [])
-  built_tests_same layouts (SetField r i v) = λ k.
-      (is_unset (given_register_same r k), refusal.NoSuchName)
-      ∷ (is_unset (given_same v k), refusal.NoSuchName)
-      ∷ (target_tests_same r i k
-      ++ ((is_constant (target_field_same r i k), refusal.Immutable)
-      ∷ ((is_gone (given_same v k), refusal.Unrooted) ∷ (not (fits_field (target_field_same r i k) (given_value (given_same v k))), refusal.TypeMismatch) ∷ [])))
-  built_tests_same layouts (Eq r q) = λ k.
-      (is_unset (given_register_same r k), refusal.NoSuchName)
-      ∷ (is_unset (given_register_same q k), refusal.NoSuchName)
-      ∷ (is_gone (given_register_same r k), refusal.Unrooted)
-      ∷ (is_gone (given_register_same q k), refusal.Unrooted)
-      ∷ (is_none (named_same r k), refusal.WrongKind)
-      ∷ (is_none (named_same q k), refusal.WrongKind)
-      ∷ []
-  built_tests_same layouts Enter = refl
-  built_tests_same layouts Leave = refl
-  built_tests_same layouts Gc = refl
-  built_tests_same layouts (Grow n) = refl
-  built_tests_same layouts Cap = refl
-
-  -- the tests of a command find the same
-  pub tests_same : (layouts : Layouts) (c : Command) → first_failing (tests layouts (shifted made pages a s) c) ≡ first_failing (tests layouts s c)
-  tests_same layouts c = ap (λ (ts : List (Bool × Refusal)). first_failing ((not (is_built c), refusal.BadLine) ∷ ts)) (built_tests_same layouts c)
 
 -- what two steps leave from such states: the same replies, and such states again; the heap is as before
 pub record SameStep (made : Bool) (pages : ℕ) (a : Account) (s : State) (r q : Reply) (s' t' : State) : Type 0 where
@@ -175,20 +60,15 @@ IsSteady change = (made : Bool) (pages : ℕ) (a : Account) (s : State) → chan
 abbrev read_into : Option ℕ → Value → State → State
 read_into into v s = put_into into (held_value s.table v) (with_table (after_read v s.table) s)
 
-puts_steadily : (into : Option ℕ) (held : Held) → IsSteady (put_into into held)
-puts_steadily None held made pages a s = refl
-puts_steadily (Some d) held made pages a s = refl
-
 reads_steadily : (into : Option ℕ) (v : Value) → IsSteady (read_into into v)
 reads_steadily into v made pages a s =
-    ap₂ (λ (held : Held) (t : Table ℕ). put_into into held (with_table t (shifted made pages a s))) (held_value_same made pages s.table v) (after_read_same made pages s.table v)
-    ∙ puts_steadily into (held_value s.table v) made pages a (with_table (after_read v s.table) s)
+    ap (λ (t : Table ℕ). put_into into (held_value s.table v) (with_table t (shifted made pages a s))) (after_read_same made pages s.table v)
 
 abbrev written : ℕ → Operand → Target → State → State
 written i v found s = with_table (write found.position i (given_value (given s v)) s.table) s
 
 writes_steadily : (i : ℕ) (v : Operand) (found : Target) → IsSteady (written i v found)
-writes_steadily i v found made pages a s = ap (λ (g : Given). with_table (write found.position i (given_value g) (repaged made pages s.table)) (shifted made pages a s)) (given_same made pages a s v)
+writes_steadily i v found made pages a s = refl
 
 abbrev left : List ℕ → ℕ → State → State
 left older mark s = with_marks older (with_table (leave mark s.table) s)
@@ -215,22 +95,22 @@ module _ (made : Bool) (pages : ℕ) (a : Account) (s : State) where
 
   same_reads : (r i : ℕ) (into : Option ℕ) (answer answer' : Reply) (s' t' : State) → ReadsField r i into s answer s' → ReadsField r i into (shifted made pages a s) answer' t' → SameStep made pages a s answer answer' s' t'
   same_reads r i into answer answer' s' t' one other =
-      let found : slice_get (target_values (target s r)) i ≡ Some other.value = ap (λ (x : Option Target). slice_get (target_values x) i) (sym (target_same made pages a s r)) ∙ other.found in
+      let found : slice_get (target_values (target s r)) i ≡ Some other.value = other.found in
       let same : other.value ≡ one.value = cc (found, one.found) in
       changed (read_into into one.value) (reads_steadily into one.value) answer answer' s' t'
-      (one.shows ∙ ap (λ (x : ReplyValue). reply.Value x) (sym (shown_same made pages s.table one.value)) ∙ ap (λ (v : Value). reply.Value (shown (repaged made pages s.table) v)) (sym same) ∙ sym other.shows)
+      (one.shows ∙ ap (λ (v : Value). reply.Value (shown (repaged made pages s.table) v)) (sym same) ∙ sym other.shows)
       one.after (other.after ∙ ap (λ (v : Value). read_into into v (shifted made pages a s)) same)
 
   same_writes : (r i : ℕ) (v : Operand) (answer answer' : Reply) (s' t' : State) → answer ≡ answer' → SetsField r i v s s' → SetsField r i v (shifted made pages a s) t' → SameStep made pages a s answer answer' s' t'
   same_writes r i v answer answer' s' t' replies one other =
-      let found : target s r ≡ Some other.found = sym (target_same made pages a s r) ∙ other.is_target in
+      let found : target s r ≡ Some other.found = other.is_target in
       let same : other.found ≡ one.found = cc (found, one.is_target) in
       changed (written i v one.found) (writes_steadily i v one.found) answer answer' s' t' replies one.after (other.after ∙ ap (λ (x : Target). written i v x (shifted made pages a s)) same)
 
   same_compares : (r q : ℕ) (answer answer' : Reply) → Compares r q s answer → Compares r q (shifted made pages a s) answer' → answer ≡ answer'
   same_compares r q answer answer' one other =
-      let first : named s r ≡ Some other.first = sym (named_same made pages a s r) ∙ other.first_is in
-      let second : named s q ≡ Some other.second = sym (named_same made pages a s q) ∙ other.second_is in
+      let first : named s r ≡ Some other.first = other.first_is in
+      let second : named s q ≡ Some other.second = other.second_is in
       let same_first : one.first ≡ other.first = cc (first, one.first_is) in
       let same_second : one.second ≡ other.second = cc (second, one.second_is) in
       one.same ∙ ap₂ (λ (x y : Reference). reply.Same (same_reference x y)) same_first same_second ∙ sym other.same

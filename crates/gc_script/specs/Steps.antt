@@ -26,9 +26,9 @@ use Rattle.gc_commands.specs.declared.reply.ReplyValue.TheVariants as reply_valu
 use Rattle.gc_commands.specs.declared.reply.Refusal.{Refusal}
 use Rattle.gc_commands.specs.declared.reply.Refusal.TheVariants as refusal
 use Rattle.gc_store.specs.Accounts.{Account}
-use Rattle.gc_script.specs.State.{State, Held, number, reference, with_table, with_account, with_heap, with_marks, set_register, put_into}
+use Rattle.gc_script.specs.State.{State, Held, number, reference, with_table, with_account, with_heap, with_marks, set_register, put_into, visible}
 use Rattle.gc_script.specs.Built.{is_built, built_struct}
-use Rattle.gc_script.specs.Given.{given, given_register, given_value, given_values, is_unset, is_gone, named, target, target_values, Target, field_of, is_constant, fits_field}
+use Rattle.gc_script.specs.Given.{Given, given, given_register, given_value, given_values, is_unset, is_gone, named, target, target_values, Target, field_of, is_constant, fits_field}
 
 -- how many fields the struct type has; 0 where it isn't declared
 abbrev pub field_count : Table ℕ → ℕ → ℕ
@@ -39,18 +39,24 @@ abbrev pub new_struct : State → ℕ → List Operand → Object ℕ
 new_struct s t vs = struct t (given_values s vs)
 
 -- the tests of a value that goes into a field
-abbrev pub value_tests : State → Option FieldType → Operand → List (Bool × Refusal)
-value_tests s field v =
-    (is_gone (given s v), refusal.Unrooted)
-    ∷ (not (fits_field field (given_value (given s v))), refusal.TypeMismatch)
+abbrev pub given_tests : Option FieldType → Given → List (Bool × Refusal)
+given_tests field g =
+    (is_gone g, refusal.Unrooted)
+    ∷ (not (fits_field field (given_value g)), refusal.TypeMismatch)
     ∷ []
 
--- the same of each value in order
+abbrev pub value_tests : State → Option FieldType → Operand → List (Bool × Refusal)
+value_tests s field v = given_tests field (given s v)
+
+-- the same of each value in order, by what the operands give
+abbrev pub tests_of_values : (Operand → Given) → List FieldType → List Operand → List (Bool × Refusal)
+tests_of_values gives [] [] = []
+tests_of_values gives [] (v ∷ vs) = []
+tests_of_values gives (f ∷ fs) [] = []
+tests_of_values gives (f ∷ fs) (v ∷ vs) = given_tests (Some f) (gives v) ++ tests_of_values gives fs vs
+
 abbrev pub all_value_tests : State → List FieldType → List Operand → List (Bool × Refusal)
-all_value_tests s [] [] = []
-all_value_tests s [] (v ∷ vs) = []
-all_value_tests s (f ∷ fs) [] = []
-all_value_tests s (f ∷ fs) (v ∷ vs) = value_tests s (Some f) v ++ all_value_tests s fs vs
+all_value_tests s fs vs = tests_of_values (given s) fs vs
 
 -- the tests of an allocation that come before the heap is asked
 abbrev pub heap_tests : Layouts → State → ℕ → List Operand → List (Bool × Refusal)
@@ -135,9 +141,9 @@ built_tests layouts s Gc = []
 built_tests layouts s (Grow n) = []
 built_tests layouts s Cap = []
 
--- the tests of a command
+-- the tests of a command, which see what is visible of the state
 abbrev pub tests : Layouts → State → Command → List (Bool × Refusal)
-tests layouts s c = (not (is_built c), refusal.BadLine) ∷ built_tests layouts s c
+tests layouts s c = (not (is_built c), refusal.BadLine) ∷ built_tests layouts (visible s) c
 
 -- the refusal of the first test that is true
 abbrev pub first_failing : List (Bool × Refusal) → Option Refusal
@@ -152,28 +158,34 @@ shown_object (Some (host v)) = reply_value.Host
 shown_object (Some (exception ty tag vs)) = reply_value.Exn ty tag.index
 
 -- a value as a reply shows it
-abbrev pub shown : Table ℕ → Value → ReplyValue
-shown t (i32 n) = reply_value.I32 (cast_signed w32 n)
-shown t (i64 n) = reply_value.I64 (cast_signed w64 n)
-shown t (f32 n) = reply_value.F32 n
-shown t (f64 n) = reply_value.F64 n
-shown t (v128 n) = reply_value.V128 n
-shown t (function f) = reply_value.Null
-shown t (values.reference c null) = reply_value.Null
-shown t (values.reference c (small n)) = reply_value.I31 n
-shown t (values.reference c (at p)) = shown_object (slice_get t.objects p)
+abbrev pub shown_among : List (Object ℕ) → Value → ReplyValue
+shown_among objects (i32 n) = reply_value.I32 (cast_signed w32 n)
+shown_among objects (i64 n) = reply_value.I64 (cast_signed w64 n)
+shown_among objects (f32 n) = reply_value.F32 n
+shown_among objects (f64 n) = reply_value.F64 n
+shown_among objects (v128 n) = reply_value.V128 n
+shown_among objects (function f) = reply_value.Null
+shown_among objects (values.reference c null) = reply_value.Null
+shown_among objects (values.reference c (small n)) = reply_value.I31 n
+shown_among objects (values.reference c (at p)) = shown_object (slice_get objects p)
 
--- what a register holds of a value that was read: a reference by its new root
+abbrev pub shown : Table ℕ → Value → ReplyValue
+shown t v = shown_among t.objects v
+
+-- what a register holds of a value that was read: a reference by its new root, whose serial is the next one
+abbrev pub held_next : ℕ → Value → Held
+held_next serial (i32 n) = number (i32 n)
+held_next serial (i64 n) = number (i64 n)
+held_next serial (f32 n) = number (f32 n)
+held_next serial (f64 n) = number (f64 n)
+held_next serial (v128 n) = number (v128 n)
+held_next serial (function f) = number (function f)
+held_next serial (values.reference c null) = reference c None
+held_next serial (values.reference c (small n)) = reference c (Some serial)
+held_next serial (values.reference c (at p)) = reference c (Some serial)
+
 abbrev pub held_value : Table ℕ → Value → Held
-held_value t (i32 n) = number (i32 n)
-held_value t (i64 n) = number (i64 n)
-held_value t (f32 n) = number (f32 n)
-held_value t (f64 n) = number (f64 n)
-held_value t (v128 n) = number (v128 n)
-held_value t (function f) = number (function f)
-held_value t (values.reference c null) = reference c None
-held_value t (values.reference c (small n)) = reference c (Some (length t.pushes))
-held_value t (values.reference c (at p)) = reference c (Some (length t.pushes))
+held_value t v = held_next (length t.pushes) v
 
 -- A type was declared, or it may not be.
 pub data Declares (d : Declaration) (s : State) (answer : Reply) (s' : State) : Type 0 where
