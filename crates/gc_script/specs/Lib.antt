@@ -10,5 +10,3 @@ pub mod Run
 pub mod Lines
 pub mod Session
 pub mod Script
-pub mod Rows
-pub mod Laws

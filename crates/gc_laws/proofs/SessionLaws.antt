@@ -11,8 +11,8 @@ use Rattle.gc_commands.specs.Spelling.{IsCommandOf}
 use Rattle.gc_script.specs.State.{begin}
 use Rattle.gc_script.specs.Policy.{RunByPolicy}
 use Rattle.gc_script.specs.Session.{AreCommandsOf, Session, reply_line}
-use Rattle.gc_script.proofs.RowLemmas.{command_is}
-use Rattle.gc_script.proofs.PolicyLaws.{policy_decides}
+use Rattle.gc_laws.proofs.RowLemmas.{command_is}
+use Rattle.gc_laws.proofs.PolicyLaws.{policy_decides}
 
 -- a line is one command
 one_of_line : (line : List ℕ) (c d : Command) → IsCommandOf line c → IsCommandOf line d → c ≡ d

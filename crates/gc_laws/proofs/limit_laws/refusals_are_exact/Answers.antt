@@ -1,5 +1,5 @@
-use Rattle.gc_script.proofs.RefusalLaws.{out_exact, growth_exact, first_stays}
-use Rattle.gc_script.proofs.limit_laws.refusals_are_exact.Goals as goal
+use Rattle.gc_laws.proofs.RefusalLaws.{out_exact, growth_exact, first_stays}
+use Rattle.gc_laws.proofs.limit_laws.refusals_are_exact.Goals as goal
 
 pub returns-clause-out_of_memory : goal.returns-clause-out_of_memory
 returns-clause-out_of_memory g = out_exact

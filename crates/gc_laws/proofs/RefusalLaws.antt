@@ -21,11 +21,11 @@ use Rattle.gc_script.specs.State.{State, Held, put_into, with_table}
 use Rattle.gc_script.specs.Steps as steps
 use Rattle.gc_script.specs.Steps.{Step, Answers, Does, first_failing, tests, new_struct, heap_tests, struct_value_tests, held_value}
 use Rattle.gc_script.specs.Run.{Run, SaysRefused}
-use Rattle.gc_script.specs.Laws.{IsOutOfMemory, FailsToGrow}
+use Rattle.gc_laws.specs.Laws.{IsOutOfMemory, FailsToGrow}
 use Rattle.gc_script.proofs.CountLemmas.{AllMild, mild_found, says_other}
 use Rattle.gc_script.proofs.GoesLemmas.{tests_mild}
 use Rattle.gc_script.proofs.NewLemmas.{values_mild}
-use Rattle.gc_script.proofs.LimitLaws.{lacks_over, allocates_under, growth_over}
+use Rattle.gc_laws.proofs.LimitLaws.{lacks_over, allocates_under, growth_over}
 
 append_mild : (ts us : List (Bool × Refusal)) → AllMild ts → AllMild us → AllMild (ts ++ us)
 append_mild [] us one other = other

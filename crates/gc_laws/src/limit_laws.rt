@@ -14,7 +14,7 @@ ghost use Rattle.gc_commands.specs.declared.reply.Reply.TheVariants as reply;
 ghost use Rattle.gc_commands.specs.declared.reply.Refusal.TheVariants as refusal;
 ghost use Rattle.gc_script.specs.Steps.{Step};
 ghost use Rattle.gc_script.specs.Run.{Run};
-ghost use Rattle.gc_script.specs.Laws.{PassesLimit, RunsOut, IsOutOfMemory, FailsToGrow};
+ghost use Rattle.gc_laws.specs.Laws.{PassesLimit, RunsOut, IsOutOfMemory, FailsToGrow};
 
 /// Under a limit that grants the first pages, `GcHeapOutOfMemory` comes exactly where the pages that a growth
 /// asks for would pass the limit and there is no room (of a counting heap's room nothing is said), and

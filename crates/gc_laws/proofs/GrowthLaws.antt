@@ -14,8 +14,8 @@ use Rattle.gc_store.specs.Growth.{AsksFirst, AsksPages}
 use Rattle.gc_store.specs.Policy.{PolicyState, FitsNow, LacksNow, CollectsTable, ReadiesTable, GrowsTable, MakesTable, Dues, Prepares, Expands, table_rules, table_after, table_made, block_at, allocated_bytes, turned, count_try, tried, nothing, grows}
 use Rattle.gc_store.specs.Policy as policy
 use Rattle.gc_store.specs.Expansion.{MayCollectTable}
-use Rattle.gc_script.proofs.SumLemmas.{same_sums}
-use Rattle.gc_script.proofs.RetryLaws.{differ, Decides, retries_alike}
+use Rattle.gc_laws.proofs.SumLemmas.{same_sums}
+use Rattle.gc_laws.proofs.RetryLaws.{differ, Decides, retries_alike}
 
 -- The accounts are the same but for the order of the positions that are held.
 pub record AlikeAccounts (a b : Account) : Type 0 where

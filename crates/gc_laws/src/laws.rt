@@ -10,9 +10,9 @@ ghost use Rattle.gc_commands.specs.declared.reply.Reply.{Reply};
 ghost use Rattle.gc_script.specs.State.{State};
 ghost use Rattle.gc_script.specs.Run.{Run};
 ghost use Rattle.gc_script.specs.Policy.{RunByPolicy};
-ghost use Rattle.gc_script.specs.Laws.{NoneRefused, SameReplies};
+ghost use Rattle.gc_laws.specs.Laws.{NoneRefused, SameReplies};
 ghost use Rattle.gc_script.specs.Session.{Session};
-ghost use Rattle.gc_script.specs.Rows.{one_struct, one_struct_replies};
+ghost use Rattle.gc_laws.specs.Rows.{one_struct, one_struct_replies};
 
 /// Three lines that make a struct and read its field are a session of a null heap of one page, whose
 /// output is their three replies, and no other output is.

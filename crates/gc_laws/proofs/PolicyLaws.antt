@@ -19,8 +19,8 @@ use Rattle.gc_script.specs.State.{State, reference, with_heap, with_account, set
 use Rattle.gc_script.specs.Steps.{Step, Answers, Does, MakesNew, made, lacks, AnswersGrow, grown, refused, tests, first_failing, new_struct}
 use Rattle.gc_script.specs.Policy as policy
 use Rattle.gc_script.specs.Policy.{policy_of, IsPolicyOf, with_made, AllocatesByPolicy, GrowsByPolicy, AsksNothing, FollowsDoing, FollowsTested, Follows, RunByPolicy}
-use Rattle.gc_script.proofs.StepLaws.{SameStep, same_keeps, same_plain, same_states}
-use Rattle.gc_script.proofs.GrowthLaws.{AlikeAccounts, AlikePolicies, same_accounts, alike_at, prepares_alike, expands_alike, may_collect_alike}
+use Rattle.gc_laws.proofs.StepLaws.{SameStep, same_keeps, same_plain, same_states}
+use Rattle.gc_laws.proofs.GrowthLaws.{AlikeAccounts, AlikePolicies, same_accounts, alike_at, prepares_alike, expands_alike, may_collect_alike}
 
 -- The states are the same but for the order of the positions that their accounts hold; so are the limiters, and their limit
 -- is told.

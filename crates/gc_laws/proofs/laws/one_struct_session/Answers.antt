@@ -1,5 +1,5 @@
-use Rattle.gc_script.proofs.RowLemmas.{is_session, one_output}
-use Rattle.gc_script.proofs.laws.one_struct_session.Goals as goal
+use Rattle.gc_laws.proofs.RowLemmas.{is_session, one_output}
+use Rattle.gc_laws.proofs.laws.one_struct_session.Goals as goal
 
 pub returns-clause-replies : goal.returns-clause-replies
 returns-clause-replies c = is_session

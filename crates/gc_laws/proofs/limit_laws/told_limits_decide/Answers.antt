@@ -1,5 +1,5 @@
-use Rattle.gc_script.proofs.LimitLaws.{lacks_over, allocates_under, growth_over, pages_within}
-use Rattle.gc_script.proofs.limit_laws.told_limits_decide.Goals as goal
+use Rattle.gc_laws.proofs.LimitLaws.{lacks_over, allocates_under, growth_over, pages_within}
+use Rattle.gc_laws.proofs.limit_laws.told_limits_decide.Goals as goal
 
 pub returns-clause-out_of_memory : goal.returns-clause-out_of_memory
 returns-clause-out_of_memory g = lacks_over

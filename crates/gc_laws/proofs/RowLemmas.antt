@@ -26,7 +26,7 @@ use Rattle.gc_commands.specs.declared.reply.Reply.TheVariants as reply
 use Rattle.gc_commands.specs.declared.reply.ReplyValue.TheVariants as reply_value
 use Rattle.gc_commands.specs.Spelling.{IsCommandOf, Spells}
 use Rattle.gc_commands.proofs.UniqueLemmas.{one_spelling}
-use Rattle.gc_script.proofs.PolicyRuns.{policy_run}
+use Rattle.gc_laws.proofs.PolicyRuns.{policy_run}
 use Rattle.gc_script.specs.State.{State, reference, begin, with_table, with_heap, set_register}
 use Rattle.gc_script.specs.Built.{built_struct}
 use Rattle.gc_script.specs.Steps.{Step, declared, bad, made, lacks, shown}
@@ -34,7 +34,7 @@ use Rattle.gc_script.specs.Run.{Run}
 use Rattle.gc_script.specs.Policy as policy
 use Rattle.gc_script.specs.Policy.{Follows, RunByPolicy, policy_of, with_made}
 use Rattle.gc_script.specs.Session.{AreCommandsOf, Session, reply_line}
-use Rattle.gc_script.specs.Rows.{one_struct, one_struct_replies}
+use Rattle.gc_laws.specs.Rows.{one_struct, one_struct_replies}
 
 abbrev number_field : FieldWord
 number_field = record { mutable = true; storage = storage.Value value.I32 }

@@ -14,8 +14,8 @@ use Rattle.gc_store.specs.Accounts.{Account}
 use Rattle.gc_script.specs.State.{State, reference, with_heap, set_register}
 use Rattle.gc_script.specs.Steps.{Step, Answers, Does, MakesNew, made, lacks, AnswersGrow, grown, refused, tests, first_failing, new_struct}
 use Rattle.gc_script.specs.Run.{Run, SaysRefused}
-use Rattle.gc_script.specs.Laws.{NoneRefused, SameReply, SameReplies}
-use Rattle.gc_script.proofs.StepLaws.{repaged, shifted, same_keeps, same_plain, same_states}
+use Rattle.gc_laws.specs.Laws.{NoneRefused, SameReply, SameReplies}
+use Rattle.gc_laws.proofs.StepLaws.{repaged, shifted, same_keeps, same_plain, same_states}
 
 -- the states differ in their accounts, and in whether their heaps are made and the pages, alone
 abbrev IsShifted : State → State → Type 0

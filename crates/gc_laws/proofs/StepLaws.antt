@@ -30,7 +30,7 @@ use Rattle.gc_script.specs.State.{State, Held, number, reference, with_table, wi
 use Rattle.gc_script.specs.Built.{is_built, built_struct}
 use Rattle.gc_script.specs.Given.{Given, held_operand, given_held, given, given_register, given_value, given_values, is_unset, is_gone, value_named, named, Target, reference_target, target, target_values, field_of, is_constant, fits_field}
 use Rattle.gc_script.specs.Steps.{Does, Declares, declared, bad, ReadsField, SetsField, Compares, Leaves, Keeps, tests, built_tests, first_failing, new_struct, new_tests, value_tests, all_value_tests, any_unset, field_count, reads_root, target_tests, held_value, shown}
-use Rattle.gc_script.proofs.SumLemmas.{same_number}
+use Rattle.gc_laws.proofs.SumLemmas.{same_number}
 
 -- the table with its heap made or not, and other pages
 abbrev pub repaged : Bool → ℕ → Table ℕ → Table ℕ
