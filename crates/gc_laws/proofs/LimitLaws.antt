@@ -2,22 +2,20 @@
 use Rattle.std.proofs.Common.{inl, inr, ◌≡◌, ◌↔◌, ℕ, ◌+◌, ◌<◌, ◌≤◌, Bool, true, false, cond, max, List, [], ◌∷◌, Option, Some, None, refl, sym, subst, arith}
 use Rattle.gc_types.specs.declared.kind.Layouts.{Layouts}
 use Rattle.gc_types.specs.declared.kind.Layouts.TheVariants.{Null, Counting, Copying}
-use Rattle.gc_model.specs.Values.{Object, Value}
+use Rattle.gc_model.specs.Values.{Object}
 use Rattle.gc_model.specs.Table.{Table, made_pages, make_heap, with_pages}
-use Rattle.gc_model.specs.Reads.{after_read}
-use Rattle.gc_model.specs.Values as values
 use Rattle.gc_view.specs.Sizes.{need_of}
 use Rattle.gc_model.specs.Sizes.{object_size}
 use Rattle.gc_view.specs.Pages.{max_pages}
 use Rattle.gc_model.specs.Allocation.{asked, FitsIn, LacksFit, MayMakeHeap, LacksMemory, no_heap, no_room, Allocates, GetsPages, same, more, Grows}
 use Rattle.gc_model.specs.Allocation as allocation
 use Rattle.gc_commands.specs.declared.command.Command.{Command}
-use Rattle.gc_commands.specs.declared.command.Command.TheVariants.{Bad, Struct, New, I31, Field, SetField, Eq, Enter, Leave, Gc, Grow, Cap}
 use Rattle.gc_commands.specs.declared.reply.Reply.{Reply}
 use Rattle.gc_commands.specs.declared.reply.Refusal.{Refusal}
-use Rattle.gc_script.specs.State.{State, Held, put_into, with_table}
+use Rattle.gc_script.specs.State.{State}
+use Rattle.gc_script.specs.Shapes.{Shape, plain, declaring, making, growing, collecting, showing, shape}
 use Rattle.gc_script.specs.Steps as steps
-use Rattle.gc_script.specs.Steps.{Step, Answers, Does, first_failing, tests, held_value}
+use Rattle.gc_script.specs.Steps.{Step, Answers, Does, first_failing, tests}
 use Rattle.gc_script.specs.Run.{Run}
 
 pub lacks_over : (layouts : Layouts) (most : ℕ) (o : Object ℕ) (t t' : Table ℕ) → most ≤ max_pages → t.first ≤ most → LacksMemory layouts (Some most) o t t'
@@ -81,53 +79,31 @@ grows_within most before bytes t t' granted (allocation.granted some may grow) w
 grows_within most before bytes t t' granted (allocation.no_heap some refused) within = within
 grows_within most before bytes t t' granted (allocation.refused some may over) within = made_within most before t may within
 
-read_within : (most before : ℕ) (v : Value) (t : Table ℕ) → IsWithin most before t → IsWithin most before (after_read v t)
-read_within most before (values.i32 n) t within = within
-read_within most before (values.i64 n) t within = within
-read_within most before (values.f32 n) t within = within
-read_within most before (values.f64 n) t within = within
-read_within most before (values.v128 n) t within = within
-read_within most before (values.function f) t within = within
-read_within most before (values.reference c values.null) t within = within
-read_within most before (values.reference c (values.small n)) t within = within
-read_within most before (values.reference c (values.at p)) t within = within
-
-put_within : (most before : ℕ) (into : Option ℕ) (held : Held) (s : State) → IsWithin most before s.table → IsWithin most before (put_into into held s).table
-put_within most before None held s within = within
-put_within most before (Some d) held s within = within
-
 -- a state whose table is that of another
 from_state : (most before : ℕ) (s' u : State) → s' ≡ u → IsWithin most before u.table → IsWithin most before s'.table
 from_state most before s' u is within = subst (λ (x : State). IsWithin most before x.table) (sym is) within
 
-does_within : (layouts : Layouts) (most before : ℕ) (s : State) (c : Command) (answer : Reply) (s' : State) → Does layouts (Some most) s c answer s' → IsWithin most before s.table → IsWithin most before s'.table
-does_within layouts most before s Bad answer s' does within = absurd does
-does_within layouts most before s (Struct is_final supertype fs) answer s' (steps.declared may said after) within = from_state most before s' _ after within
-does_within layouts most before s (Struct is_final supertype fs) answer s' (steps.bad may said after) within = from_state most before s' s after within
-does_within layouts most before s (New d t vs) answer s' (steps.made u a allocates said after) within = from_state most before s' _ after (allocates_within layouts most before _ s.table u allocates within)
-does_within layouts most before s (New d t vs) answer s' (steps.lacks u a lacking said after) within = from_state most before s' _ after (lacks_within layouts most before _ s.table u lacking within)
-does_within layouts most before s (I31 d n) answer s' does within = from_state most before s' _ does.1 within
-does_within layouts most before s (Field r i into) answer s' does within =
-    from_state most before s' _ does.after (put_within most before into (held_value s.table does.value) (with_table (after_read does.value s.table) s) (read_within most before does.value s.table within))
-does_within layouts most before s (SetField r i v) answer s' does within = from_state most before s' _ does.1.after within
-does_within layouts most before s (Eq r q) answer s' does within = from_state most before s' s does.1 within
-does_within layouts most before s Enter answer s' does within = from_state most before s' _ does.1 within
-does_within layouts most before s Leave answer s' does within = from_state most before s' _ does.1.after within
-does_within layouts most before s Gc answer s' does within = from_state most before s' _ does.1.1 within
-does_within layouts most before s (Grow n) answer s' (steps.grown u a grows said after) within = from_state most before s' _ after (grows_within most before n s.table u true grows within)
-does_within layouts most before s (Grow n) answer s' (steps.refused u a grows said after) within = from_state most before s' _ after (grows_within most before n s.table u false grows within)
-does_within layouts most before s Cap answer s' does within = from_state most before s' s does.1 within
+does_within : (layouts : Layouts) (most before : ℕ) (s : State) (sh : Shape) (answer : Reply) (s' : State) → Does layouts (Some most) s sh answer s' → IsWithin most before s.table → IsWithin most before s'.table
+does_within layouts most before s (plain effect) answer s' does within = from_state most before s' _ does.1 within
+does_within layouts most before s (declaring d) answer s' (steps.declared may said after) within = from_state most before s' _ after within
+does_within layouts most before s (declaring d) answer s' (steps.bad may said after) within = from_state most before s' s after within
+does_within layouts most before s (making d class object) answer s' (steps.made u a allocates said after) within = from_state most before s' _ after (allocates_within layouts most before _ s.table u allocates within)
+does_within layouts most before s (making d class object) answer s' (steps.lacks u a lacking said after) within = from_state most before s' _ after (lacks_within layouts most before _ s.table u lacking within)
+does_within layouts most before s (growing n) answer s' (steps.grown u a grows said after) within = from_state most before s' _ after (grows_within most before n s.table u true grows within)
+does_within layouts most before s (growing n) answer s' (steps.refused u a grows said after) within = from_state most before s' _ after (grows_within most before n s.table u false grows within)
+does_within layouts most before s collecting answer s' does within = from_state most before s' _ does.1.1 within
+does_within layouts most before s showing answer s' does within = from_state most before s' s does.1 within
 
-answers_within : (layouts : Layouts) (most before : ℕ) (s : State) (c : Command) (found : Option Refusal) (answer : Reply) (s' : State) → Answers layouts (Some most) s c found answer s' → IsWithin most before s.table → IsWithin most before s'.table
-answers_within layouts most before s c None answer s' answers within = does_within layouts most before s c answer s' answers within
-answers_within layouts most before s c (Some why) answer s' answers within = from_state most before s' s answers.1 within
+answers_within : (layouts : Layouts) (most before : ℕ) (s : State) (sh : Shape) (found : Option Refusal) (answer : Reply) (s' : State) → Answers layouts (Some most) s sh found answer s' → IsWithin most before s.table → IsWithin most before s'.table
+answers_within layouts most before s sh None answer s' answers within = does_within layouts most before s sh answer s' answers within
+answers_within layouts most before s sh (Some why) answer s' answers within = from_state most before s' s answers.1 within
 
 run_within : (layouts : Layouts) (most before : ℕ) (s s' : State) (cs : List Command) (rs : List Reply) → Run layouts (Some most) s cs rs s' → IsWithin most before s.table → IsWithin most before s'.table
 run_within layouts most before s s' [] [] run within = from_state most before s' s run within
 run_within layouts most before s s' [] (r ∷ rs) run within = absurd run
 run_within layouts most before s s' (c ∷ cs) [] run within = absurd run
 run_within layouts most before s s' (c ∷ cs) (r ∷ rs) run within =
-    run_within layouts most before run.0 s' cs rs run.1.1 (answers_within layouts most before s c (first_failing (tests layouts s c)) r run.0 run.1.0 within)
+    run_within layouts most before run.0 s' cs rs run.1.1 (answers_within layouts most before s (shape c) (first_failing (tests layouts s c)) r run.0 run.1.0 within)
 
 -- no heap has more pages than the limit, or than it had
 pub pages_within : (layouts : Layouts) (most : ℕ) (s s' : State) (cs : List Command) (rs : List Reply) → Run layouts (Some most) s cs rs s' → s'.table.pages ≤ max most s.table.pages

@@ -2,24 +2,25 @@
 use Rattle.std.proofs.Common.{◌≡◌, ℕ, ◌+◌, Bool, true, false, List, [], ◌∷◌, ◌++◌, Option, Some, None, length, map, sum, refl, sym, ap, ap₂, ◌∙◌, subst}
 use Rattle.std.proofs.lemmas.List.Sums.{sum-map, sum_by_push}
 use Rattle.gc_types.specs.declared.kind.Layouts.TheVariants.{Copying}
-use Rattle.gc_model.specs.declared.GcClass.TheVariants as class
+use Rattle.gc_types.specs.Declarations.{Declaration}
+use Rattle.gc_model.specs.declared.GcClass.{GcClass}
 use Rattle.gc_model.specs.Values.{Object}
-use Rattle.gc_model.specs.Table.{Table, make}
+use Rattle.gc_model.specs.Table.{Table, declare, make}
 use Rattle.gc_model.specs.Sizes.{object_size}
 use Rattle.gc_model.specs.Allocation.{Limits}
 use Rattle.gc_commands.specs.declared.command.Command.{Command}
-use Rattle.gc_commands.specs.declared.command.Command.TheVariants.{New, Gc, Grow, Cap}
 use Rattle.gc_commands.specs.declared.reply.Reply.{Reply}
 use Rattle.gc_commands.specs.declared.reply.Reply.TheVariants as reply
 use Rattle.gc_commands.specs.declared.reply.Refusal.{Refusal}
 use Rattle.gc_commands.specs.declared.reply.Refusal.TheVariants as refusal
 use Rattle.gc_store.specs.Accounts.{Account, with_held}
 use Rattle.gc_store.specs.Policy.{PolicyState, Prepares, Expands}
-use Rattle.gc_script.specs.State.{State, reference, with_heap, with_account, set_register}
-use Rattle.gc_script.specs.Steps.{Step, Answers, Does, MakesNew, made, lacks, AnswersGrow, grown, refused, tests, first_failing, new_struct}
+use Rattle.gc_script.specs.State.{State, reference, with_heap, with_account, with_table, set_register, visible, over}
+use Rattle.gc_script.specs.Shapes.{Shape, plain, declaring, making, growing, collecting, showing, shape}
+use Rattle.gc_script.specs.Steps.{Step, Answers, Does, Declares, declared, bad, MakesNew, made, lacks, AnswersGrow, grown, refused, tests, first_failing}
 use Rattle.gc_script.specs.Policy as policy
 use Rattle.gc_script.specs.Policy.{policy_of, IsPolicyOf, with_made, AllocatesByPolicy, GrowsByPolicy, AsksNothing, FollowsDoing, FollowsTested, Follows, RunByPolicy}
-use Rattle.gc_laws.proofs.StepLaws.{SameStep, same_keeps, same_plain, same_states}
+use Rattle.gc_laws.proofs.StepLaws.{same_held}
 use Rattle.gc_laws.proofs.GrowthLaws.{AlikeAccounts, AlikePolicies, same_accounts, alike_at, prepares_alike, expands_alike, may_collect_alike}
 
 -- The states are the same but for the order of the positions that their accounts hold; so are the limiters, and their limit
@@ -55,43 +56,43 @@ new_answer true = reply.Done
 new_answer false = reply.Refused refusal.GcHeapOutOfMemory
 
 -- the state with the root that a push makes next in a register
-abbrev set_next : ℕ → State → State
-set_next d s = set_register d (reference class.Any (Some (length s.table.pushes))) s
+abbrev set_next : ℕ → GcClass → State → State
+set_next d class s = set_register d (reference class (Some (length s.table.pushes))) s
 
 -- the state with the table and the account of the policy
 abbrev with_policy : PolicyState ℕ → State → State
 with_policy p s = with_heap p.table p.account s
 
 -- the state that `new` leaves
-abbrev after_new : Bool → ℕ → Object ℕ → PolicyState ℕ → State → State
-after_new true d o p s = with_policy (with_made o p) (set_next d s)
-after_new false d o p s = with_policy p s
+abbrev after_new : Bool → ℕ → GcClass → Object ℕ → PolicyState ℕ → State → State
+after_new true d class o p s = with_policy (with_made o p) (set_next d class s)
+after_new false d class o p s = with_policy p s
 
 -- `new` by the policy
-record NewByPolicy (counter : Option ℕ) (d : ℕ) (o : Object ℕ) (s : State) (limits : Limits) (answer : Reply) (s' : State) (limits' : Limits) : Type 0 where
+record NewByPolicy (counter : Option ℕ) (d : ℕ) (class : GcClass) (o : Object ℕ) (s : State) (limits : Limits) (answer : Reply) (s' : State) (limits' : Limits) : Type 0 where
   ok : Bool
   ready : PolicyState ℕ
   prepares : Prepares Copying counter (object_size Copying s.table.types o) (policy_of s limits) ok ready
   answer_is : answer ≡ new_answer ok
-  after : s' ≡ after_new ok d o ready s
+  after : s' ≡ after_new ok d class o ready s
   limits_are : limits' ≡ ready.limits
 
 -- a state that differs in the heap alone, and has that of the policy
 by_heap : (s s' : State) (t : Table ℕ) (a : Account) (p : PolicyState ℕ) (limits : Limits) → s' ≡ with_heap t a s → IsPolicyOf p s' limits → s' ≡ with_policy p s
 by_heap s s' t a p limits after ends = after ∙ ap₂ (λ (x : Table ℕ) (b : Account). with_heap x b s) (sym (ap (λ (x : State). x.table) after) ∙ ends.table) (sym (ap (λ (x : State). x.account) after) ∙ ends.account)
 
-new_by_policy : (limit counter : Option ℕ) (d : ℕ) (o : Object ℕ) (s : State) (limits : Limits) (answer : Reply) (s' : State) (limits' : Limits) → MakesNew Copying limit d o s answer s' → AllocatesByPolicy Copying counter o s limits answer s' limits' → NewByPolicy counter d o s limits answer s' limits'
-new_by_policy limit counter d o s limits answer s' limits' (made t a allocates is after) (policy.made {p = p} is_done prepares ends) = record {
+new_by_policy : (limit counter : Option ℕ) (d : ℕ) (class : GcClass) (o : Object ℕ) (s : State) (limits : Limits) (answer : Reply) (s' : State) (limits' : Limits) → MakesNew Copying limit d class o s answer s' → AllocatesByPolicy Copying counter o s limits answer s' limits' → NewByPolicy counter d class o s limits answer s' limits'
+new_by_policy limit counter d class o s limits answer s' limits' (made t a allocates is after) (policy.made {p = p} is_done prepares ends) = record {
   ok = true;
   ready = p;
   prepares = prepares;
   answer_is = is;
-  after = by_heap (set_next d s) s' t a (with_made o p) limits' after ends;
+  after = by_heap (set_next d class s) s' t a (with_made o p) limits' after ends;
   limits_are = ends.limits_are;
 }
-new_by_policy limit counter d o s limits answer s' limits' (made t a allocates is after) (policy.refused not_done prepares ends) = absurd (not_done is)
-new_by_policy limit counter d o s limits answer s' limits' (lacks t a wants is after) (policy.made is_done prepares ends) = absurd (cc (is, is_done))
-new_by_policy limit counter d o s limits answer s' limits' (lacks t a wants is after) (policy.refused {p = p} not_done prepares ends) = record {
+new_by_policy limit counter d class o s limits answer s' limits' (made t a allocates is after) (policy.refused not_done prepares ends) = absurd (not_done is)
+new_by_policy limit counter d class o s limits answer s' limits' (lacks t a wants is after) (policy.made is_done prepares ends) = absurd (cc (is, is_done))
+new_by_policy limit counter d class o s limits answer s' limits' (lacks t a wants is after) (policy.refused {p = p} not_done prepares ends) = record {
   ok = false;
   ready = p;
   prepares = prepares;
@@ -162,15 +163,15 @@ module _ (most : ℕ) (s : State) (a : Account) (limits : Limits) (accounts : Al
   abbrev AlikeSteps : Reply → Reply → State → State → Limits → Limits → Type 0
   AlikeSteps answer answer' s' t' limits1 limits2 = (answer ≡ answer') × AlikeStates most s' t' limits1 limits2
 
-  after_alike : (ok : Bool) (d : ℕ) (o : Object ℕ) (p q : PolicyState ℕ) (s' t' : State) (limits1 limits2 : Limits) → AlikePolicies most p q → s' ≡ after_new ok d o p s → t' ≡ after_new ok d o q other_state → limits1 ≡ p.limits → limits2 ≡ q.limits → AlikeStates most s' t' limits1 limits2
-  after_alike true d o p q s' t' limits1 limits2 alike one other one_limits other_limits = ends_alike most (set_next d s) s' t' (with_made o p) (with_made o q) limits1 limits2 (made_alike most o p q alike) one other one_limits other_limits
-  after_alike false d o p q s' t' limits1 limits2 alike one other one_limits other_limits = ends_alike most s s' t' p q limits1 limits2 alike one other one_limits other_limits
+  after_alike : (ok : Bool) (d : ℕ) (class : GcClass) (o : Object ℕ) (p q : PolicyState ℕ) (s' t' : State) (limits1 limits2 : Limits) → AlikePolicies most p q → s' ≡ after_new ok d class o p s → t' ≡ after_new ok d class o q other_state → limits1 ≡ p.limits → limits2 ≡ q.limits → AlikeStates most s' t' limits1 limits2
+  after_alike true d class o p q s' t' limits1 limits2 alike one other one_limits other_limits = ends_alike most (set_next d class s) s' t' (with_made o p) (with_made o q) limits1 limits2 (made_alike most o p q alike) one other one_limits other_limits
+  after_alike false d class o p q s' t' limits1 limits2 alike one other one_limits other_limits = ends_alike most s s' t' p q limits1 limits2 alike one other one_limits other_limits
 
-  new_alike : (counter : Option ℕ) (d : ℕ) (o : Object ℕ) (answer answer' : Reply) (s' t' : State) (limits1 limits2 : Limits) → NewByPolicy counter d o s limits answer s' limits1 → NewByPolicy counter d o other_state limits answer' t' limits2 → AlikeSteps answer answer' s' t' limits1 limits2
-  new_alike counter d o answer answer' s' t' limits1 limits2 one other =
+  new_alike : (counter : Option ℕ) (d : ℕ) (class : GcClass) (o : Object ℕ) (answer answer' : Reply) (s' t' : State) (limits1 limits2 : Limits) → NewByPolicy counter d class o s limits answer s' limits1 → NewByPolicy counter d class o other_state limits answer' t' limits2 → AlikeSteps answer answer' s' t' limits1 limits2
+  new_alike counter d class o answer answer' s' t' limits1 limits2 one other =
       let same = prepares_alike most counter (object_size Copying s.table.types o) (policy_of s limits) (policy_of other_state limits) one.ready other.ready one.ok other.ok policies one.prepares other.prepares in (
         one.answer_is ∙ ap new_answer same.0 ∙ sym other.answer_is,
-        after_alike one.ok d o one.ready other.ready s' t' limits1 limits2 same.1 one.after (subst (λ (ok : Bool). t' ≡ after_new ok d o other.ready other_state) (sym same.0) other.after) one.limits_are other.limits_are,
+        after_alike one.ok d class o one.ready other.ready s' t' limits1 limits2 same.1 one.after (subst (λ (ok : Bool). t' ≡ after_new ok d class o other.ready other_state) (sym same.0) other.after) one.limits_are other.limits_are,
       )
 
   grow_alike : (bytes : ℕ) (answer answer' : Reply) (s' t' : State) (limits1 limits2 : Limits) → GrowByPolicy bytes s limits answer s' limits1 → GrowByPolicy bytes other_state limits answer' t' limits2 → AlikeSteps answer answer' s' t' limits1 limits2
@@ -178,28 +179,39 @@ module _ (most : ℕ) (s : State) (a : Account) (limits : Limits) (accounts : Al
       let same = expands_alike most bytes (policy_of s limits) (policy_of other_state limits) one.end other.end one.granted other.granted policies one.expands other.expands in
       (one.answer_is ∙ ap grow_answer same.0 ∙ sym other.answer_is, ends_alike most s s' t' one.end other.end limits1 limits2 same.1 one.after other.after one.limits_are other.limits_are)
 
-  -- two steps that change their states alike and ask nothing
-  asking_nothing : (answer answer' : Reply) (s' t' : State) (limits1 limits2 : Limits) → SameStep s.table.made s.table.pages a s answer answer' s' t' → AsksNothing s limits s' limits1 → AsksNothing other_state limits t' limits2 → AlikeSteps answer answer' s' t' limits1 limits2
-  asking_nothing answer answer' s' t' limits1 limits2 same one other = (
-    same.replies,
+  -- two steps that leave one state, but for the account, and ask nothing
+  asking_nothing : (x : State) (answer answer' : Reply) (s' t' : State) (limits1 limits2 : Limits) → answer ≡ answer' → s' ≡ x → t' ≡ with_account a x → AsksNothing s limits s' limits1 → AsksNothing other_state limits t' limits2 → AlikeSteps answer answer' s' t' limits1 limits2
+  asking_nothing x answer answer' s' t' limits1 limits2 replies is is' one other = (
+    replies,
     record {
-      state = same.alike ∙ sym (ap (with_account a) same.kept) ∙ ap (λ (x : Account). with_account x s') (sym (ap (λ (x : State). x.account) same.alike));
+      state = is' ∙ sym (ap (with_account a) is) ∙ ap (λ (b : Account). with_account b s') (sym other.account);
       account = alike_at s.account s'.account a t'.account one.account other.account accounts;
       same_limits = one.same_limits ∙ sym other.same_limits;
       told = ap (λ (l : Limits). l.limit) one.same_limits ∙ told;
     },
   )
 
-  doing_alike : (counter : Option ℕ) (c : Command) (answer answer' : Reply) (s' t' : State) (limits1 limits2 : Limits) → Does Copying limits.limit s c answer s' → FollowsDoing Copying counter s limits c answer s' limits1 → Does Copying limits.limit other_state c answer' t' → FollowsDoing Copying counter other_state limits c answer' t' limits2 → AlikeSteps answer answer' s' t' limits1 limits2
-  doing_alike counter (New d t vs) answer answer' s' t' limits1 limits2 one follows other follows' =
-      new_alike counter d (new_struct s t vs) answer answer' s' t' limits1 limits2
-      (new_by_policy limits.limit counter d (new_struct s t vs) s limits answer s' limits1 one follows)
-      (new_by_policy limits.limit counter d (new_struct s t vs) other_state limits answer' t' limits2 other follows')
-  doing_alike counter (Grow n) answer answer' s' t' limits1 limits2 one follows other follows' =
+  declares_alike : (d : Declaration) (answer answer' : Reply) (s' t' : State) (limits1 limits2 : Limits) → Declares d s answer s' → AsksNothing s limits s' limits1 → Declares d other_state answer' t' → AsksNothing other_state limits t' limits2 → AlikeSteps answer answer' s' t' limits1 limits2
+  declares_alike d answer answer' s' t' limits1 limits2 (declared may is after) follows (declared may' is' after') follows' =
+      asking_nothing (with_table (declare d s.table) s) answer answer' s' t' limits1 limits2 (is ∙ sym is') after after' follows follows'
+  declares_alike d answer answer' s' t' limits1 limits2 (declared may is after) follows (bad may_not is' after') follows' = absurd (may_not may)
+  declares_alike d answer answer' s' t' limits1 limits2 (bad may_not is after) follows (declared may is' after') follows' = absurd (may_not may)
+  declares_alike d answer answer' s' t' limits1 limits2 (bad may_not is after) follows (bad may_not' is' after') follows' =
+      asking_nothing s answer answer' s' t' limits1 limits2 (is ∙ sym is') after after' follows follows'
+
+  doing_alike : (counter : Option ℕ) (sh : Shape) (answer answer' : Reply) (s' t' : State) (limits1 limits2 : Limits) → Does Copying limits.limit s sh answer s' → FollowsDoing Copying counter s limits sh answer s' limits1 → Does Copying limits.limit other_state sh answer' t' → FollowsDoing Copying counter other_state limits sh answer' t' limits2 → AlikeSteps answer answer' s' t' limits1 limits2
+  doing_alike counter (plain effect) answer answer' s' t' limits1 limits2 one follows other follows' =
+      asking_nothing (over s (effect (visible s)).1) answer answer' s' t' limits1 limits2 (one.0 ∙ sym other.0) one.1 other.1 follows follows'
+  doing_alike counter (declaring d) answer answer' s' t' limits1 limits2 one follows other follows' = declares_alike d answer answer' s' t' limits1 limits2 one follows other follows'
+  doing_alike counter (making d class object) answer answer' s' t' limits1 limits2 one follows other follows' =
+      new_alike counter d class (object (visible s)) answer answer' s' t' limits1 limits2
+      (new_by_policy limits.limit counter d class (object (visible s)) s limits answer s' limits1 one follows)
+      (new_by_policy limits.limit counter d class (object (visible s)) other_state limits answer' t' limits2 other follows')
+  doing_alike counter (growing n) answer answer' s' t' limits1 limits2 one follows other follows' =
       grow_alike n answer answer' s' t' limits1 limits2 (grow_by_policy limits.limit n s limits answer s' limits1 one follows) (grow_by_policy limits.limit n other_state limits answer' t' limits2 other follows')
-  doing_alike counter Gc answer answer' s' t' limits1 limits2 one follows other follows' =
+  doing_alike counter collecting answer answer' s' t' limits1 limits2 one follows other follows' =
       let alike = may_collect_alike most (policy_of s limits) (policy_of other_state limits) (policy_of s' limits1) (policy_of t' limits2) policies follows follows' in (
-        same_keeps s.table.made s.table.pages a s Copying answer answer' one.0 other.0,
+        same_held Copying s other_state answer answer' refl one.0 other.0,
         record {
           state = same_heaps s s' t' s.table s.table one.1.0 other.1.0 one.1.1 other.1.1 refl;
           account = alike.account;
@@ -207,20 +219,18 @@ module _ (most : ℕ) (s : State) (a : Account) (limits : Limits) (accounts : Al
           told = alike.told;
         },
       )
-  doing_alike counter Cap answer answer' s' t' limits1 limits2 one follows other follows' =
-      asking_nothing answer answer' s' t' limits1 limits2 (same_states s.table.made s.table.pages a s answer answer' s' t' (one.0 ∙ sym other.0) one.1 other.1) follows follows'
-  doing_alike counter c answer answer' s' t' limits1 limits2 one follows other follows' =
-      asking_nothing answer answer' s' t' limits1 limits2 (same_plain s.table.made s.table.pages a s Copying limits.limit c answer answer' s' t' tt one other) follows follows'
+  doing_alike counter showing answer answer' s' t' limits1 limits2 one follows other follows' =
+      asking_nothing s answer answer' s' t' limits1 limits2 (one.0 ∙ sym other.0) one.1 other.1 follows follows'
 
-  answers_alike : (counter : Option ℕ) (c : Command) (found : Option Refusal) (answer answer' : Reply) (s' t' : State) (limits1 limits2 : Limits) → Answers Copying limits.limit s c found answer s' → FollowsTested Copying counter s limits c found answer s' limits1 → Answers Copying limits.limit other_state c found answer' t' → FollowsTested Copying counter other_state limits c found answer' t' limits2 → AlikeSteps answer answer' s' t' limits1 limits2
-  answers_alike counter c None answer answer' s' t' limits1 limits2 one follows other follows' = doing_alike counter c answer answer' s' t' limits1 limits2 one follows other follows'
-  answers_alike counter c (Some why) answer answer' s' t' limits1 limits2 one follows other follows' =
-      asking_nothing answer answer' s' t' limits1 limits2 (same_states s.table.made s.table.pages a s answer answer' s' t' (one.0 ∙ sym other.0) one.1 other.1) follows follows'
+  answers_alike : (counter : Option ℕ) (sh : Shape) (found : Option Refusal) (answer answer' : Reply) (s' t' : State) (limits1 limits2 : Limits) → Answers Copying limits.limit s sh found answer s' → FollowsTested Copying counter s limits sh found answer s' limits1 → Answers Copying limits.limit other_state sh found answer' t' → FollowsTested Copying counter other_state limits sh found answer' t' limits2 → AlikeSteps answer answer' s' t' limits1 limits2
+  answers_alike counter sh None answer answer' s' t' limits1 limits2 one follows other follows' = doing_alike counter sh answer answer' s' t' limits1 limits2 one follows other follows'
+  answers_alike counter sh (Some why) answer answer' s' t' limits1 limits2 one follows other follows' =
+      asking_nothing s answer answer' s' t' limits1 limits2 (one.0 ∙ sym other.0) one.1 other.1 follows follows'
 
   -- two steps of one command by the policy
   step_alike : (counter : Option ℕ) (c : Command) (answer answer' : Reply) (s' t' : State) (limits1 limits2 : Limits) → Step Copying limits.limit s c answer s' → Follows Copying counter s limits c answer s' limits1 → Step Copying limits.limit other_state c answer' t' → Follows Copying counter other_state limits c answer' t' limits2 → AlikeSteps answer answer' s' t' limits1 limits2
   step_alike counter c answer answer' s' t' limits1 limits2 one follows other follows' =
-      answers_alike counter c (first_failing (tests Copying s c)) answer answer' s' t' limits1 limits2 one follows other follows'
+      answers_alike counter (shape c) (first_failing (tests Copying s c)) answer answer' s' t' limits1 limits2 one follows other follows'
 
 -- two runs from alike states
 runs_alike : (counter : Option ℕ) (most : ℕ) (cs : List Command) (rs qs : List Reply) (s t s' t' : State) (limits limits' end end' : Limits) → AlikeStates most s t limits limits' → RunByPolicy Copying counter s limits cs rs s' end → RunByPolicy Copying counter t limits' cs qs t' end' → rs ≡ qs

@@ -16,7 +16,7 @@ use Rattle.gc_store.specs.Growth as growth
 use Rattle.gc_store.specs.Policy.{PolicyState, policy_state, Prepares, tried}
 use Rattle.gc_store.specs.Retry.{at_once}
 use Rattle.gc_commands.specs.declared.command.Command.{Command}
-use Rattle.gc_commands.specs.declared.command.Command.TheVariants.{Bad, Struct, New, I31, Field, SetField, Eq, Enter, Leave, Gc, Grow, Cap}
+use Rattle.gc_commands.specs.declared.command.Command.TheVariants.{Bad, Struct, New, Field}
 use Rattle.gc_commands.specs.declared.command.FieldWord.{FieldWord}
 use Rattle.gc_commands.specs.declared.command.Operand.TheVariants as operand
 use Rattle.gc_commands.specs.declared.command.StorageWord.TheVariants as storage
@@ -29,7 +29,7 @@ use Rattle.gc_commands.proofs.UniqueLemmas.{one_spelling}
 use Rattle.gc_laws.proofs.PolicyRuns.{policy_run}
 use Rattle.gc_script.specs.State.{State, reference, begin, with_table, with_heap, set_register}
 use Rattle.gc_script.specs.Built.{built_struct}
-use Rattle.gc_script.specs.Steps.{Step, declared, bad, made, lacks, shown}
+use Rattle.gc_script.specs.Steps.{Step, declared, bad, made, lacks}
 use Rattle.gc_script.specs.Run.{Run}
 use Rattle.gc_script.specs.Policy as policy
 use Rattle.gc_script.specs.Policy.{Follows, RunByPolicy, policy_of, with_made}
@@ -82,17 +82,7 @@ spells_reads = record {
 -- a line that spells a command is no other
 pub command_is : (line : List ℕ) (known c : Command) → Spells line known → IsCommandOf line c → c ≡ known
 command_is line known Bad spells is = absurd (is known spells)
-command_is line known (Struct f s xs) spells is = one_spelling line (Struct f s xs) known is spells
-command_is line known (New d t vs) spells is = one_spelling line (New d t vs) known is spells
-command_is line known (I31 d n) spells is = one_spelling line (I31 d n) known is spells
-command_is line known (Field r i into) spells is = one_spelling line (Field r i into) known is spells
-command_is line known (SetField r i v) spells is = one_spelling line (SetField r i v) known is spells
-command_is line known (Eq r q) spells is = one_spelling line (Eq r q) known is spells
-command_is line known Enter spells is = one_spelling line Enter known is spells
-command_is line known Leave spells is = one_spelling line Leave known is spells
-command_is line known Gc spells is = one_spelling line Gc known is spells
-command_is line known (Grow n) spells is = one_spelling line (Grow n) known is spells
-command_is line known Cap spells is = one_spelling line Cap known is spells
+command_is line known c spells is = one_spelling line c known is spells
 
 -- the states between the commands
 abbrev nothing : State
@@ -125,7 +115,7 @@ step_makes : Step Null (Some 64) declared_one makes reply.Done made_one
 step_makes = made _ _ (record { pages = 1; gets = same (λ unmade. omega arith); fits = fits; made = refl }) refl refl
 
 step_reads : Step Null (Some 64) made_one reads (reply.Value (reply_value.I32 (pos 5))) made_one
-step_reads = record { value = i32 5; found = refl; shows = refl; after = refl }
+step_reads = (refl, refl)
 
 abbrev limits : Limits
 limits = fresh_limits (Some 64)
@@ -184,14 +174,8 @@ makes_once answer s' (made t a allocates is after) = (is, (allocates.pages, a, a
 makes_once answer s' (lacks t a (no_heap refused unchanged) is after) = absurd (let above = refused.above in omega arith)
 makes_once answer s' (lacks t a (no_room may refused full unchanged) is after) = absurd (full fits)
 
--- what a value that is known shows
-shows_five : (t : Table ℕ) (found : Option Value) (value : Value) (answer : Reply) → found ≡ Some (i32 5) → found ≡ Some value → answer ≡ reply.Value (shown t value) → answer ≡ reply.Value (reply_value.I32 (pos 5))
-shows_five t found value answer known is shows =
-    let same : value ≡ i32 5 = cc (known, is) in
-    shows ∙ ap (λ (v : Value). reply.Value (shown t v)) same
-
 reads_once : (pages : ℕ) (a : Account) (answer : Reply) (s' : State) → Step Null (Some 64) (made_with pages a) reads answer s' → answer ≡ reply.Value (reply_value.I32 (pos 5))
-reads_once pages a answer s' did = shows_five (made_with pages a).table (Some (i32 5)) did.value answer refl did.found did.shows
+reads_once pages a answer s' did = did.0
 
 -- the replies of a run of the three commands
 replies_once : (rs : List Reply) (s' : State) → Run Null (Some 64) nothing (declares ∷ makes ∷ reads ∷ []) rs s' → rs ≡ reply.Declared 0 ∷ reply.Done ∷ reply.Value (reply_value.I32 (pos 5)) ∷ []

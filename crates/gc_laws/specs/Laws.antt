@@ -7,10 +7,10 @@ use Rattle.gc_view.specs.Sizes.{need_of}
 use Rattle.gc_model.specs.Sizes.{object_size}
 use Rattle.gc_model.specs.Allocation.{asked, LacksFit}
 use Rattle.gc_commands.specs.declared.command.Command.{Command}
-use Rattle.gc_commands.specs.declared.command.Command.TheVariants.{Bad, Struct, New, I31, Field, SetField, Eq, Enter, Leave, Gc, Grow, Cap}
 use Rattle.gc_commands.specs.declared.reply.Reply.{Reply}
-use Rattle.gc_script.specs.State.{State}
-use Rattle.gc_script.specs.Steps.{tests, first_failing, new_struct}
+use Rattle.gc_script.specs.State.{State, visible}
+use Rattle.gc_script.specs.Shapes.{Shape, plain, declaring, making, growing, collecting, showing, shape}
+use Rattle.gc_script.specs.Steps.{tests, first_failing}
 use Rattle.gc_script.specs.Run.{SaysRefused}
 
 -- no reply says that the heap was refused pages
@@ -18,20 +18,14 @@ abbrev pub NoneRefused : List Reply → Type 0
 NoneRefused [] = Unit {0}
 NoneRefused (r ∷ rs) = (¬ SaysRefused r) × NoneRefused rs
 
+-- two replies of a command of that shape are the same; those that show the heap's pages may differ
+abbrev pub SameAnswer : Shape → Reply → Reply → Type 0
+SameAnswer showing r q = Unit {0}
+SameAnswer _ r q = r ≡ q
+
 -- two replies of a command are the same; those of `cap` may differ
 abbrev pub SameReply : Command → Reply → Reply → Type 0
-SameReply Bad r q = r ≡ q
-SameReply (Struct is_final supertype fs) r q = r ≡ q
-SameReply (New d t vs) r q = r ≡ q
-SameReply (I31 d n) r q = r ≡ q
-SameReply (Field k i into) r q = r ≡ q
-SameReply (SetField k i v) r q = r ≡ q
-SameReply (Eq k l) r q = r ≡ q
-SameReply Enter r q = r ≡ q
-SameReply Leave r q = r ≡ q
-SameReply Gc r q = r ≡ q
-SameReply (Grow n) r q = r ≡ q
-SameReply Cap r q = Unit {0}
+SameReply c r q = SameAnswer (shape c) r q
 
 -- as many replies of some commands, each the same as the other
 abbrev pub SameReplies : List Command → List Reply → List Reply → Type 0
@@ -47,12 +41,20 @@ PassesLimit most t bytes = most < made_pages t + asked (made_pages t) bytes
 abbrev pub RunsOut : Layouts → ℕ → Table ℕ → Object ℕ → Type 0
 RunsOut layouts most t o = PassesLimit most t (need_of layouts (object_size layouts t.types o)) × LacksFit layouts (make_heap t) (object_size layouts t.types o)
 
--- Where a command is refused for want of room: it makes an object, its tests all pass, and the heap runs out.
-abbrev pub IsOutOfMemory : Layouts → ℕ → State → Command → Type 0
-IsOutOfMemory layouts most s (New d t vs) = (first_failing (tests layouts s (New d t vs)) ≡ None) × RunsOut layouts most s.table (new_struct s t vs)
-IsOutOfMemory layouts most s _ = ⊥
+-- a command of that shape makes an object for which the heap runs out
+abbrev pub LacksRoom : Layouts → ℕ → State → Shape → Type 0
+LacksRoom layouts most s (making d class object) = RunsOut layouts most s.table (object (visible s))
+LacksRoom layouts most s _ = ⊥
 
--- Where a command's growth fails: it is one by some bytes, and it would pass the limit.
-abbrev pub FailsToGrow : ℕ → State → Command → Type 0
-FailsToGrow most s (Grow n) = (0 < n) × PassesLimit most s.table n
-FailsToGrow most s _ = ⊥
+-- Where a command is refused for want of room: its tests all pass, it makes an object, and the heap runs out.
+abbrev pub IsOutOfMemory : Layouts → ℕ → State → Command → Type 0
+IsOutOfMemory layouts most s c = (first_failing (tests layouts s c) ≡ None) × LacksRoom layouts most s (shape c)
+
+-- a command of that shape is a growth by some bytes that would pass the limit
+abbrev pub GrowsPast : ℕ → State → Shape → Type 0
+GrowsPast most s (growing n) = (0 < n) × PassesLimit most s.table n
+GrowsPast most s _ = ⊥
+
+-- Where a command's growth fails: its tests all pass, it is one by some bytes, and it would pass the limit.
+abbrev pub FailsToGrow : Layouts → ℕ → State → Command → Type 0
+FailsToGrow layouts most s c = (first_failing (tests layouts s c) ≡ None) × GrowsPast most s (shape c)

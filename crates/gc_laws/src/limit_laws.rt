@@ -38,6 +38,6 @@ pub fn refusals_are_exact()
     ensures out_of_memory { (layouts : Layouts) (most : ℕ) (s s' : State) (c : Command) (r : Reply) → ¬ (layouts ≡ Counting) → most ≤ max_pages → s.table.first ≤ most
         → Step layouts (Some most) s c r s' → (r ≡ reply.Refused refusal.GcHeapOutOfMemory) ↔ IsOutOfMemory layouts most s c }
     ensures growth_failed { (layouts : Layouts) (most : ℕ) (s s' : State) (c : Command) (r : Reply) → most ≤ max_pages → s.table.first ≤ most
-        → Step layouts (Some most) s c r s' → (r ≡ reply.Refused refusal.GcHeapGrowthFailed) ↔ FailsToGrow most s c }
+        → Step layouts (Some most) s c r s' → (r ≡ reply.Refused refusal.GcHeapGrowthFailed) ↔ FailsToGrow layouts most s c }
     ensures first { (layouts : Layouts) (limit : Option ℕ) (s s' : State) (cs : List Command) (rs : List Reply) → Run layouts limit s cs rs s' → s'.table.first ≡ s.table.first }
 {}

@@ -2,6 +2,7 @@ pub mod Slots
 pub mod State
 pub mod Built
 pub mod Given
+pub mod Shapes
 pub mod Steps
 pub mod Policy
 pub mod Named
