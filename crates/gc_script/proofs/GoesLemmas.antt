@@ -129,7 +129,7 @@ goes_runs layouts counter limits s c (Ok answer) new runner asks goes =
       counts = counts_nothing (wanted_bytes layouts s c) limits limits answer goes.after did.1 refl;
       holds = goes.holds;
     }
-goes_runs layouts counter limits s c (Err e) new runner asks goes = wants_nothing layouts counter limits s (shape c) (first_failing (tests layouts s c)) new runner goes
+goes_runs layouts counter limits s c (Err e) new runner asks goes = record { wants = wants_nothing layouts counter limits s (shape c) (first_failing (tests layouts s c)) new runner goes }
 
 -- the same of a command that is known
 pub runs_as : (layouts : Layouts) (counter : Option ℕ) (limits : Limits) (s : State) (c known : Command) (result : Result Reply RunError) (new : StoreView) (runner : RunnerView) → c ≡ known → AsksNone (shape known) → GoesOn layouts s known result new runner → RunsOne layouts counter limits limits s c result new runner

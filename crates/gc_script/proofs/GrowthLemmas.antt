@@ -65,9 +65,11 @@ module _ (layouts : Layouts) (counter : Option ℕ) (limits limits' : Limits) (o
   -- memory was wanting
   pub growth_wanting : (e : RunError) → GrowsStore layouts n (policy_of s limits) limits' (Err fault.Memory) new → RunsOne layouts counter limits limits' s (command.Grow n) (Err e) new runner
   growth_wanting e wants = record {
-    after = wants.after;
-    came = inr wants.expanded;
-    pages = wants.pages;
-    holds = holds_kept layouts old new runner runner s wants.after.table wants.after.account same (keeps_same s.table.pushes wants.after.table.pushes (paged_pushes limits.limit n s.table wants.after.table wants.pages)) (λ d. refl) refl holds wants.holds;
-    limits_are = wants.limits;
+    wants = record {
+      after = wants.after;
+      came = inr wants.expanded;
+      pages = wants.pages;
+      holds = holds_kept layouts old new runner runner s wants.after.table wants.after.account same (keeps_same s.table.pushes wants.after.table.pushes (paged_pushes limits.limit n s.table wants.after.table wants.pages)) (λ d. refl) refl holds wants.holds;
+      limits_are = wants.limits;
+    };
   }

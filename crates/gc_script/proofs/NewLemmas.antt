@@ -128,4 +128,4 @@ module _ (layouts : Layouts) (counter : Option ℕ) (limits : Limits) (store : S
         holds = ran.holds;
       }
       new_runs limits' (Err e) new runner pass ran =
-          subst (λ (found : Option Refusal). WantsAfter layouts counter limits limits' s (shape (New d t vs)) found new runner) (sym (past_count ∙ passes_all (struct_value_tests s t vs) (heap_tests layouts s (new_struct s t vs)) pass)) ran
+          record { wants = subst (λ (found : Option Refusal). WantsAfter layouts counter limits limits' s (shape (New d t vs)) found new runner) (sym (past_count ∙ passes_all (struct_value_tests s t vs) (heap_tests layouts s (new_struct s t vs)) pass)) ran }

@@ -77,9 +77,9 @@ pub record WantsAfter (layouts : Layouts) (counter : Option ℕ) (limits limits'
   pub holds : HoldsState layouts new runner (with_heap after.table after.account s)
   pub limits_are : limits' ≡ after.limits
 
--- the same, where the refusal that the tests find is that of the command
-abbrev pub WantsMemory : Layouts → Option ℕ → Limits → Limits → State → Command → StoreView → RunnerView → Type 0
-WantsMemory layouts counter limits limits' s c new runner = WantsAfter layouts counter limits limits' s (shape c) (first_failing (tests layouts s c)) new runner
+-- the same of a command, with its shape and the refusal that its tests find
+pub record WantsMemory (layouts : Layouts) (counter : Option ℕ) (limits limits' : Limits) (s : State) (c : Command) (new : StoreView) (runner : RunnerView) : Type 0 where
+  pub wants : WantsAfter layouts counter limits limits' s (shape c) (first_failing (tests layouts s c)) new runner
 
 -- what running one command answers and leaves
 abbrev pub RunsOne : Layouts → Option ℕ → Limits → Limits → State → Command → Result Reply RunError → StoreView → RunnerView → Type 0

@@ -38,7 +38,7 @@ operands_held : (g : given.Over) (c : In-Some-found g) → HoldsOperands c.self.
 operands_held g c = rw c.in-Some-found.is at c.in-Ok.ensures.set
 
 pub returns-in_default-operand_values-clause-runs : goal.returns-in_default-operand_values-clause-runs
-returns-in_default-operand_values-clause-runs g c s holds = wants_nothing _ _ _ s _ _ _ _ holds
+returns-in_default-operand_values-clause-runs g c s holds = record { wants = wants_nothing _ _ _ s _ _ _ _ holds }
 
 pub returns-in_default-found-clause-runs : goal.returns-in_default-found-clause-runs
 returns-in_default-found-clause-runs g c s holds =
