@@ -9,7 +9,7 @@ use Rattle.gc_model.specs.Allocation.{asked, LacksFit}
 use Rattle.gc_commands.specs.declared.command.Command.{Command}
 use Rattle.gc_commands.specs.declared.reply.Reply.{Reply}
 use Rattle.gc_script.specs.State.{State, visible}
-use Rattle.gc_script.specs.Shapes.{Shape, plain, declaring, making, growing, collecting, showing, shape}
+use Rattle.gc_script.specs.Shapes.{Shape, making, growing, showing, shape}
 use Rattle.gc_script.specs.Steps.{tests, first_failing}
 use Rattle.gc_script.specs.Run.{SaysRefused}
 

@@ -1,6 +1,6 @@
 -- Declarations of structs whose fields are built.
-use Rattle.std.proofs.Common.{◌≡◌, ℕ, List, [], ◌∷◌, map, Option, Some, None, Bool, true, false, cond, ap, ◌∙◌, refl, subst}
-use Rattle.std.specs.Prelude.{All, Ok, Err, is_some, not, ◌&&◌}
+use Rattle.std.proofs.Common.{◌≡◌, ℕ, List, [], ◌∷◌, map, Option, Some, None, Bool, true, false, ap, refl, subst}
+use Rattle.std.specs.Prelude.{All, Ok, Err, not, ◌&&◌}
 use Rattle.std.specs.List.{list_all}
 use Rattle.std.proofs.lemmas.List.Elements.{All-nil, All-cons}
 use Rattle.gc_types.specs.declared.kind.Layouts.{Layouts}

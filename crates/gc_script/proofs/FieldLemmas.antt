@@ -1,5 +1,5 @@
 -- Reading a field that a register names.
-use Rattle.std.proofs.Common.{◌≡◌, ℕ, ◌&&◌, List, [], ◌∷◌, ◌++◌, Option, Some, None, Bool, true, false, ap, ◌∙◌, refl}
+use Rattle.std.proofs.Common.{◌≡◌, ℕ, ◌&&◌, List, [], ◌∷◌, ◌++◌, Option, Some, Bool, true, false, ap, ◌∙◌, refl}
 use Rattle.std.specs.Prelude.{Ok, unwrap_or}
 use Rattle.std.specs.List.{slice_get}
 use Rattle.gc_types.specs.declared.kind.Layouts.{Layouts}

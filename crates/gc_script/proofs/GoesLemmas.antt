@@ -1,5 +1,5 @@
 -- A command that asks no limiter is a step under any limit, and follows the policy.
-use Rattle.std.proofs.Common.{inl, ◌≡◌, ℕ, Bool, true, false, List, [], ◌∷◌, Option, Some, None, sym, ap, refl, subst}
+use Rattle.std.proofs.Common.{inl, ◌≡◌, ℕ, true, false, List, [], ◌∷◌, Option, Some, None, sym, ap, refl, subst}
 use Rattle.std.specs.Prelude.{Result, Ok, Err, not, unwrap_or}
 use Rattle.gc_types.specs.declared.kind.Layouts.{Layouts}
 use Rattle.gc_types.specs.declared.value.FieldType.{FieldType}

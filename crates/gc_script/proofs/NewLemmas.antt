@@ -29,7 +29,7 @@ use Rattle.gc_script.specs.Slots.{RunnerView}
 use Rattle.gc_script.specs.State.{State, Held, number, reference, Stands, HoldsState}
 use Rattle.gc_script.specs.Built.{is_built, is_built_operand}
 use Rattle.gc_script.specs.Given.{held_operand, given_held, given_root, is_unset}
-use Rattle.gc_script.specs.Steps.{tests, first_failing, any_unset, field_count, all_value_tests, struct_value_tests, heap_tests}
+use Rattle.gc_script.specs.Steps.{tests, first_failing, any_unset, field_count, struct_value_tests, heap_tests}
 use Rattle.gc_script.specs.Shapes.{shape, new_struct}
 use Rattle.gc_script.specs.Run.{WantsAfter, RunsOn, RunsOne}
 use Rattle.gc_script.specs.Values.{AllHeld}

@@ -162,7 +162,6 @@ put_stands new t slots s None r held stand stands d = stand d
 put_stands new t slots s (Some k) r held stand stands d =
     elim (d == k) as (λ b. Stands new t (cond b (Some r) (register_at slots d)) (cond b (Some held) (s.registers d))) [ true ↦ stands | false ↦ stand d ]
 
-
 -- what a read leaves is what it leaves of what is visible
 pub read_over : (v : Value) (into : Option ℕ) (s : State) → put_into into (held_value s.table v) (with_table (after_read v s.table) s) ≡ over s (reads v into (visible s)).1
 read_over (values.reference c null) into s = refl

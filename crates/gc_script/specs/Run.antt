@@ -18,7 +18,7 @@ use Rattle.gc_commands.specs.declared.reply.Refusal.TheVariants as refusal
 use Rattle.gc_script.specs.Slots.{RunnerView}
 use Rattle.gc_script.specs.State.{State, HoldsState, with_heap, visible}
 use Rattle.gc_script.specs.Built.{is_built}
-use Rattle.gc_script.specs.Shapes.{Shape, plain, declaring, making, growing, collecting, showing, shape}
+use Rattle.gc_script.specs.Shapes.{Shape, making, growing, shape}
 use Rattle.gc_script.specs.Steps.{Step, Answers, tests, first_failing}
 use Rattle.gc_script.specs.Policy.{policy_of, Follows, FollowsTested, Came}
 use Rattle.gc_script.specs.declared.runner.RunError.{RunError}

@@ -16,7 +16,6 @@ use Rattle.gc_commands.specs.declared.reply.Reply.TheVariants as reply
 use Rattle.gc_commands.specs.declared.reply.ReplyValue.{ReplyValue}
 use Rattle.gc_commands.specs.declared.reply.ReplyValue.TheVariants as reply_value
 use Rattle.gc_commands.specs.declared.reply.Refusal.TheVariants as refusal
-use Rattle.gc_commands.specs.declared.command.FieldWord.{FieldWord}
 use Rattle.gc_script.specs.State.{State, Held, number, reference, with_table, with_marks, set_register, put_into}
 use Rattle.gc_script.specs.Built.{built_struct}
 use Rattle.gc_script.specs.Given.{given, given_value, given_values, named, Target, target, target_values}

@@ -1,14 +1,12 @@
-use Rattle.std.proofs.Common.{◌≡◌, ℕ, map, true, false, sym, ◌∙◌, subst}
-use Rattle.std.specs.Prelude.{All, Ok, Err, is_some}
-use Rattle.std.specs.List.{list_all}
+use Rattle.std.proofs.Common.{◌≡◌, ℕ, map, true, sym, ◌∙◌, subst}
+use Rattle.std.specs.Prelude.{All, Ok, Err}
 use Rattle.gc_types.specs.declared.types.TypeFault.{TypeFault}
 use Rattle.gc_types.specs.declared.value.FieldType.{FieldType}
 use Rattle.gc_model.specs.Fits as model
 use Rattle.gc_commands.specs.declared.command.Command.TheVariants.{Struct}
 use Rattle.gc_commands.specs.declared.reply.Reply.TheVariants as reply
 use Rattle.gc_store.specs.Stores.{DeclaresStruct}
-use Rattle.gc_script.specs.Built.{is_built, is_built_field, field_type}
-use Rattle.gc_script.specs.Steps.{tests}
+use Rattle.gc_script.specs.Built.{field_type}
 use Rattle.gc_script.specs.Run.{GoesOn}
 use Rattle.gc_script.proofs.DeclareLemmas.{built_fields, built_form, struct_declared, struct_refused}
 use Rattle.gc_script.proofs.runner.Runner.declare_struct.Given as given
