@@ -59,7 +59,7 @@ pub(crate) fn first_field<H: GcHeap>() -> u32 {
 }
 
 /// The offset of the first element of an array of references.
-pub(crate) fn first_element<H: GcHeap>() -> u32 {
+fn first_element<H: GcHeap>() -> u32 {
     H::KIND.array_base()
 }
 

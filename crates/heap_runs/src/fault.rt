@@ -1,6 +1,5 @@
 //! Why runs can't be shown.
 
-use gc_heap::RefFault;
 use gc_mutator::MutatorFault;
 use gc_types::TypeFault;
 use std::alloc::AllocError;
@@ -12,10 +11,6 @@ use thiserror::Error;
 pub(crate) enum RunFault {
     #[error("there was room")]
     HadRoom,
-    #[error("the root names no object")]
-    NoObject,
-    #[error(transparent)]
-    Reference(#[from] RefFault),
     #[error(transparent)]
     Types(#[from] TypeFault),
     #[error(transparent)]

@@ -2,13 +2,9 @@
 //! null, the counting and the copying heap. With the word `times` it measures the counting heap instead.
 #![tactic(auto)]
 
-ghost use Rattle.std.specs.Prelude.{◌≡◌};
-ghost use Rattle.gc_view.specs.Heaps.{detached_in};
-
 mod cases;
 mod count;
 mod fault;
-mod kinds;
 mod named;
 mod room;
 mod times;
@@ -16,13 +12,11 @@ mod times;
 use crate::cases::{CASES, Case};
 use crate::count::Outcome;
 use crate::fault::RunFault;
-use crate::kinds::{KINDS, with_kinds, words_of};
 use crate::room::Wanted;
 use crate::times::show_times;
 use gc_copying::CopyingHeap;
 use gc_drc::DrcHeap;
-use gc_heap::{GcHeap, NullHeap};
-use gc_mutator::Mutator;
+use gc_heap::NullHeap;
 use std::alloc::Global;
 use std::env;
 
@@ -61,51 +55,12 @@ fn run_rooms(rt: &impl Print, alloc: Global) -> Result<(), RunFault> {
     show_room(rt, "null", 65_508, wanted)
 }
 
-/// Shows the words of an object of each kind.
-fn show_words<H: GcHeap>(
-    rt: &impl Print,
-    alloc: Global,
-    mutator: &Mutator<H>,
-) -> Result<(), RunFault> {
-    for (root, name) in KINDS {
-        let words = words_of(alloc, mutator, root)?;
-        println!(rt; "  {name}: {words}")?;
-    }
-    Ok(())
-}
-
-/// Shows the words of an object of each kind, before and after a collection.
-fn show_kinds<H: GcHeap + Drop>(
-    rt: &impl Print,
-    alloc: Global,
-    kind: &str,
-    heap: H,
-) -> Result<(), RunFault>
-    requires sound { H.sound heap }
-    requires detached { H.seen heap ≡ detached_in 0 }
-{
-    let mut mutator = with_kinds(alloc, heap)?;
-    println!(rt; "{kind}: the words of an object of each kind")?;
-    show_words(rt, alloc, &mutator)?;
-    mutator.collect();
-    println!(rt; "{kind}: the same after a collection")?;
-    show_words(rt, alloc, &mutator)
-}
-
-/// The same of each kind of heap.
-fn run_kinds(rt: &impl Print, alloc: Global) -> Result<(), RunFault> {
-    show_kinds(rt, alloc, "counting", DrcHeap::new(alloc))?;
-    show_kinds(rt, alloc, "copying", CopyingHeap::new(alloc))?;
-    show_kinds(rt, alloc, "null", NullHeap::new(alloc))
-}
-
 /// Runs every case.
 fn run_all(rt: &impl Print, alloc: Global) -> Result<(), RunFault> {
     for case in CASES {
         run_case(rt, alloc, case)?;
     }
-    run_rooms(rt, alloc)?;
-    run_kinds(rt, alloc)
+    run_rooms(rt, alloc)
 }
 
 fn main(rt: HostRuntime) -> Result<(), RunFault> {
