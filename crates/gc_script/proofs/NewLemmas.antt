@@ -9,15 +9,10 @@ use Rattle.std.proofs.lemmas.Slice.Zip.{AllZip-long}
 use Rattle.gc_types.specs.declared.kind.Layouts.{Layouts}
 use Rattle.gc_types.specs.declared.value.FieldType.{FieldType}
 use Rattle.gc_types.specs.Declarations.{Declaration, struct_fields_at}
-use Rattle.gc_model.specs.declared.GcClass.{GcClass}
-use Rattle.gc_model.specs.Values.{Reference}
-use Rattle.gc_model.specs.Table.{Table}
-use Rattle.gc_model.specs.Live.{rooted}
 use Rattle.gc_model.specs.Allocation.{Limits}
 use Rattle.gc_model.specs.Stores.{StoreView}
 use Rattle.gc_model.specs.Holds.{HoldsTable}
 use Rattle.gc_store.specs.declared.root.RawValue.{RawValue}
-use Rattle.gc_store.specs.declared.root.RawValue.TheVariants as raw
 use Rattle.gc_commands.specs.declared.command.Command.TheVariants.{New}
 use Rattle.gc_commands.specs.declared.command.Operand.{Operand}
 use Rattle.gc_commands.specs.declared.reply.Reply.{Reply}
@@ -26,43 +21,23 @@ use Rattle.gc_commands.specs.declared.reply.Refusal.{Refusal}
 use Rattle.gc_commands.specs.declared.reply.Refusal.TheVariants as refusal
 use Rattle.gc_script.specs.declared.runner.RunError.{RunError}
 use Rattle.gc_script.specs.Slots.{RunnerView}
-use Rattle.gc_script.specs.State.{State, Held, number, reference, Stands, HoldsState}
+use Rattle.gc_script.specs.State.{State, Stands, HoldsState}
 use Rattle.gc_script.specs.Built.{is_built, is_built_operand}
-use Rattle.gc_script.specs.Given.{held_operand, given_held, given_root, is_unset}
+use Rattle.gc_script.specs.Given.{held_operand}
 use Rattle.gc_script.specs.Steps.{tests, first_failing, any_unset, field_count, struct_value_tests, heap_tests}
 use Rattle.gc_script.specs.Shapes.{shape, new_struct}
 use Rattle.gc_script.specs.Run.{WantsAfter, RunsOn, RunsOne}
 use Rattle.gc_script.specs.Values.{AllHeld}
 use Rattle.gc_script.proofs.TestLemmas.{passes, stops, passes_all, stops_all, answers_by, follows_by}
 use Rattle.gc_script.proofs.GoesLemmas.{refused_runs}
-
-root_given : (c : GcClass) (o : Option Reference) → is_unset (given_root c o) ≡ false
-root_given c None = refl
-root_given c (Some r) = refl
-
-none_stands : (store : StoreView) (t : Table ℕ) (r : RawValue) → Stands store t (Some r) None → ⊥
-none_stands store t (raw.I32 n) stands = stands
-none_stands store t (raw.I64 n) stands = stands
-none_stands store t (raw.F32 n) stands = stands
-none_stands store t (raw.F64 n) stands = stands
-none_stands store t (raw.V128 n) stands = stands
-none_stands store t (raw.Func f) stands = stands
-none_stands store t (raw.Ref class None) stands = stands
-none_stands store t (raw.Ref class (Some handle)) stands = stands
-
--- what is held is set
-set_given : (store : StoreView) (t : Table ℕ) (r : RawValue) (held : Option Held) → Stands store t (Some r) held → is_unset (given_held t held) ≡ false
-set_given store t r None stands = absurd (none_stands store t r stands)
-set_given store t r (Some (number v)) stands = refl
-set_given store t r (Some (reference c None)) stands = refl
-set_given store t r (Some (reference c (Some serial))) stands = root_given c (rooted t serial)
+use Rattle.gc_script.proofs.WriteLemmas.{is_set}
 
 -- no operand is unset where all are held
 pub all_set : (store : StoreView) (s : State) (vs : List Operand) (raws : List RawValue) → AllHeld store s vs raws → any_unset s vs ≡ false
 all_set store s [] raws all = refl
 all_set store s (v ∷ vs) [] all = absurd all
 all_set store s (v ∷ vs) (r ∷ raws) all =
-    ap (λ (b : Bool). b || any_unset s vs) (set_given store s.table r (held_operand s v) all.0) ∙ all_set store s vs raws all.1
+    ap (λ (b : Bool). b || any_unset s vs) (is_set store s.table r (held_operand s v) all.0) ∙ all_set store s vs raws all.1
 
 known_fields : (o : Option (List FieldType)) (count : ℕ) → option_map length o ≡ Some count → (is_none o ≡ false) × (unwrap_or (option_map length o) 0 ≡ count)
 known_fields None count e = absurd (none-some count e)

@@ -17,12 +17,6 @@ use Rattle.gc_script.specs.Script.{AddsRefused, RefusedIn, RanScript, RanNext, E
 use Rattle.gc_script.proofs.CountLemmas.{says_other}
 use Rattle.gc_script.proofs.KeptLemmas.{no_last, last_command}
 
--- the limit is that of before, whatever was counted
-pub limit_stays : (bytes : ℕ) (limits limits' : Limits) (answer : Reply) (after : State) → Counts bytes limits limits' answer after → limits'.limit ≡ limits.limit
-limit_stays bytes limits limits' answer after (told is_asked refuses) = ap (λ (l : Limits). l.limit) refuses
-limit_stays bytes limits limits' answer after (overlooked done refuses) = ap (λ (l : Limits). l.limit) refuses
-limit_stays bytes limits limits' answer after (nothing not_asked same) = ap (λ (l : Limits). l.limit) same
-
 -- a reply stands behind the others, for which room was made before
 pub reply_behind : (before room now : List Reply) (r : Reply) → room ≡ before → now ≡ room ++ r ∷ [] → now ≡ before ++ r ∷ []
 reply_behind before room now r same appended = appended ∙ ap (λ (rs : List Reply). rs ++ r ∷ []) same

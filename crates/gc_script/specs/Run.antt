@@ -86,7 +86,7 @@ abbrev pub RunsOne : Layouts → Option ℕ → Limits → Limits → State → 
 RunsOne layouts counter limits limits' s c (Ok answer) new runner = Ran layouts counter limits limits' s c answer new runner
 RunsOne layouts counter limits limits' s c (Err e) new runner = WantsMemory layouts counter limits limits' s c new runner
 
--- A command that is built and takes memory: for a type, a register, a root, a scope mark, or pages.
+-- the commands that take memory: for a type, a register, a root, a scope mark, or pages
 abbrev pub takes_memory : Command → Bool
 takes_memory (Struct is_final supertype fs) = true
 takes_memory (New d t vs) = true
@@ -96,6 +96,7 @@ takes_memory Enter = true
 takes_memory (Grow n) = true
 takes_memory _ = false
 
+-- a command that is run, and takes some
 abbrev pub TakesMemory : Command → Type 0
 TakesMemory c = (is_built c ≡ true) × (takes_memory c ≡ true)
 
