@@ -32,6 +32,7 @@ AsksNone Leave = Unit {0}
 AsksNone Gc = ⊥
 AsksNone (Grow n) = ⊥
 AsksNone Cap = Unit {0}
+AsksNone c = Unit {0}
 
 pub tests_mild : (layouts : Layouts) (s : State) (c : Command) → AsksNone c → AllMild (tests layouts s c)
 tests_mild layouts s Bad asks = (refl, tt)
@@ -46,6 +47,7 @@ tests_mild layouts s Leave asks = (refl, (refl, tt))
 tests_mild layouts s Gc asks = absurd asks
 tests_mild layouts s (Grow n) asks = absurd asks
 tests_mild layouts s Cap asks = (refl, tt)
+tests_mild layouts s c asks = (refl, tt)
 
 -- what it does is the same under any limit, and the reply says nothing of pages that were refused
 does_any : (layouts : Layouts) (limit : Option ℕ) (s : State) (c : Command) (answer : Reply) (s' : State) → AsksNone c → Does layouts None s c answer s' → Does layouts limit s c answer s' × (¬ SaysRefused answer)
@@ -62,6 +64,7 @@ does_any layouts limit s Leave answer s' asks does = (does, says_other answer _ 
 does_any layouts limit s Gc answer s' asks does = absurd asks
 does_any layouts limit s (Grow n) answer s' asks does = absurd asks
 does_any layouts limit s Cap answer s' asks does = (does, says_other answer _ does.0 refl)
+does_any layouts limit s c answer s' asks does = absurd does
 
 answers_any : (layouts : Layouts) (limit : Option ℕ) (s : State) (c : Command) (found : Option Refusal) (answer : Reply) (s' : State) → AsksNone c → first_failing (tests layouts s c) ≡ found → Answers layouts None s c found answer s' → Answers layouts limit s c found answer s' × (¬ SaysRefused answer)
 answers_any layouts limit s c None answer s' asks is answers = does_any layouts limit s c answer s' asks answers
@@ -83,6 +86,7 @@ follows_any layouts counter s limits Leave None answer s' asks none = none
 follows_any layouts counter s limits Gc None answer s' asks none = absurd asks
 follows_any layouts counter s limits (Grow n) None answer s' asks none = absurd asks
 follows_any layouts counter s limits Cap None answer s' asks none = none
+follows_any layouts counter s limits c None answer s' asks none = none
 
 -- a command that wanted memory may not have begun
 not_begun : (layouts : Layouts) (counter : Option ℕ) (s : State) (limits : Limits) (c : Command) → CameDoing layouts counter s c (policy_of s limits) (policy_of s limits)
@@ -98,6 +102,7 @@ not_begun layouts counter s limits Leave = refl
 not_begun layouts counter s limits Gc = refl
 not_begun layouts counter s limits (Grow n) = inl refl
 not_begun layouts counter s limits Cap = refl
+not_begun layouts counter s limits c = refl
 
 nowhere_come : (layouts : Layouts) (counter : Option ℕ) (s : State) (limits : Limits) (c : Command) (found : Option Refusal) → Came layouts counter s c found (policy_of s limits) (policy_of s limits)
 nowhere_come layouts counter s limits c (Some why) = refl

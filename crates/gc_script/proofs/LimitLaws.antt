@@ -115,6 +115,7 @@ does_within layouts most before s Gc answer s' does within = from_state most bef
 does_within layouts most before s (Grow n) answer s' (steps.grown u a grows said after) within = from_state most before s' _ after (grows_within most before n s.table u true grows within)
 does_within layouts most before s (Grow n) answer s' (steps.refused u a grows said after) within = from_state most before s' _ after (grows_within most before n s.table u false grows within)
 does_within layouts most before s Cap answer s' does within = from_state most before s' s does.1 within
+does_within layouts most before s c answer s' does within = absurd does
 
 answers_within : (layouts : Layouts) (most before : ℕ) (s : State) (c : Command) (found : Option Refusal) (answer : Reply) (s' : State) → Answers layouts (Some most) s c found answer s' → IsWithin most before s.table → IsWithin most before s'.table
 answers_within layouts most before s c None answer s' answers within = does_within layouts most before s c answer s' answers within

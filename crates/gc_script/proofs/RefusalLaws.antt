@@ -45,6 +45,7 @@ all_mild layouts s (Eq r q) = tests_mild layouts s (Eq r q) tt
 all_mild layouts s Enter = tests_mild layouts s Enter tt
 all_mild layouts s Leave = tests_mild layouts s Leave tt
 all_mild layouts s Cap = tests_mild layouts s Cap tt
+all_mild layouts s c = (refl, tt)
 
 -- a reply that says nothing of it, and a cause that isn't there
 no_memory : {A : Type 0} {r : Reply} → ¬ SaysRefused r → (A → ⊥) → (r ≡ reply.Refused refusal.GcHeapOutOfMemory) ↔ A
@@ -73,6 +74,7 @@ module _ (layouts : Layouts) (most : ℕ) (s s' : State) where
   out_does (Grow n) r other within first pass (steps.grown u a grows said after) = no_memory (says_other r _ said refl) (λ x. x)
   out_does (Grow n) r other within first pass (steps.refused u a grows said after) = (λ e. absurd (cc (said, e)), λ x. absurd x)
   out_does Cap r other within first pass does = no_memory (says_other r _ does.0 refl) (λ x. x)
+  out_does c r other within first pass does = absurd does
 
   -- a command that a test refuses has no room that is looked for
   not_out : (c : Command) (why : Refusal) → first_failing (tests layouts s c) ≡ Some why → IsOutOfMemory layouts most s c → ⊥
@@ -88,6 +90,7 @@ module _ (layouts : Layouts) (most : ℕ) (s s' : State) where
   not_out Gc why is out = out
   not_out (Grow n) why is out = out
   not_out Cap why is out = out
+  not_out c why is out = out
 
   out_by : (c : Command) (r : Reply) (found : Option Refusal) → ¬ (layouts ≡ Counting) → most ≤ max_pages → s.table.first ≤ most → first_failing (tests layouts s c) ≡ found → Answers layouts (Some most) s c found r s'
       → (r ≡ reply.Refused refusal.GcHeapOutOfMemory) ↔ IsOutOfMemory layouts most s c
@@ -114,6 +117,7 @@ module _ (layouts : Layouts) (most : ℕ) (s s' : State) where
       no_growth (says_other r _ said refl) (λ fails. none ((growth_over most n s.table u true within first grows).1 fails))
   growth_does (Grow n) r within first (steps.refused u a grows said after) = (λ e. (growth_over most n s.table u false within first grows).0 refl, λ fails. said)
   growth_does Cap r within first does = no_growth (says_other r _ does.0 refl) (λ x. x)
+  growth_does c r within first does = absurd does
 
   -- no test refuses a growth
   not_failed : (c : Command) (why : Refusal) → first_failing (tests layouts s c) ≡ Some why → FailsToGrow most s c → ⊥
@@ -129,6 +133,7 @@ module _ (layouts : Layouts) (most : ℕ) (s s' : State) where
   not_failed Gc why is fails = fails
   not_failed (Grow n) why is fails = cc is
   not_failed Cap why is fails = fails
+  not_failed c why is fails = fails
 
   growth_by : (c : Command) (r : Reply) (found : Option Refusal) → most ≤ max_pages → s.table.first ≤ most → first_failing (tests layouts s c) ≡ found → Answers layouts (Some most) s c found r s'
       → (r ≡ reply.Refused refusal.GcHeapGrowthFailed) ↔ FailsToGrow most s c
@@ -189,6 +194,7 @@ does_first layouts limit s Gc answer s' does = ap first_of does.1.1
 does_first layouts limit s (Grow n) answer s' (steps.grown u a grows said after) = ap first_of after ∙ grows_first limit n s.table u true grows
 does_first layouts limit s (Grow n) answer s' (steps.refused u a grows said after) = ap first_of after ∙ grows_first limit n s.table u false grows
 does_first layouts limit s Cap answer s' does = ap first_of does.1
+does_first layouts limit s c answer s' does = absurd does
 
 answers_first : (layouts : Layouts) (limit : Option ℕ) (s : State) (c : Command) (found : Option Refusal) (answer : Reply) (s' : State) → Answers layouts limit s c found answer s' → s'.table.first ≡ s.table.first
 answers_first layouts limit s c None answer s' answers = does_first layouts limit s c answer s' answers

@@ -63,18 +63,18 @@ replies_text : one_struct_replies ≡ flat_map reply_line (reply.Declared 0 ∷ 
 replies_text = λ i. ((codes "type " ++ digit_zero i) ++ 10 ∷ []) ++ ((codes "ok" ++ 10 ∷ []) ++ (((codes "i32 " ++ digit_five i) ++ 10 ∷ []) ++ []))
 
 spells_declares : Spells (codes "struct m:i32") declares
-spells_declares = record { built = (refl, refl, (tt, tt)); short = omega arith; spelled = refl }
+spells_declares = record { fits = (tt, (tt, tt)); short = omega arith; spelled = refl }
 
 spells_makes : Spells (codes "new 1 0 i32:5") makes
 spells_makes = record {
-  built = (omega arith, omega arith, (record { sfits = omega arith }, tt));
+  fits = (omega arith, omega arith, (record { sfits = omega arith }, tt));
   short = omega arith;
   spelled = λ i. join_with_byte 32 (codes "new" ∷ digit_one i ∷ digit_zero i ∷ (codes "i32:" ++ digit_five i) ∷ []);
 }
 
 spells_reads : Spells (codes "field 1 0") reads
 spells_reads = record {
-  built = (omega arith, omega arith, tt);
+  fits = (omega arith, omega arith, tt);
   short = omega arith;
   spelled = λ i. join_with_byte 32 (codes "field" ∷ digit_one i ∷ digit_zero i ∷ []);
 }
@@ -82,17 +82,7 @@ spells_reads = record {
 -- a line that spells a command is no other
 pub command_is : (line : List ℕ) (known c : Command) → Spells line known → IsCommandOf line c → c ≡ known
 command_is line known Bad spells is = absurd (is known spells)
-command_is line known (Struct f s xs) spells is = one_spelling line (Struct f s xs) known is spells
-command_is line known (New d t vs) spells is = one_spelling line (New d t vs) known is spells
-command_is line known (I31 d n) spells is = one_spelling line (I31 d n) known is spells
-command_is line known (Field r i into) spells is = one_spelling line (Field r i into) known is spells
-command_is line known (SetField r i v) spells is = one_spelling line (SetField r i v) known is spells
-command_is line known (Eq r q) spells is = one_spelling line (Eq r q) known is spells
-command_is line known Enter spells is = one_spelling line Enter known is spells
-command_is line known Leave spells is = one_spelling line Leave known is spells
-command_is line known Gc spells is = one_spelling line Gc known is spells
-command_is line known (Grow n) spells is = one_spelling line (Grow n) known is spells
-command_is line known Cap spells is = one_spelling line Cap known is spells
+command_is line known c spells is = one_spelling line c known is spells
 
 -- the states between the commands
 abbrev nothing : State

@@ -157,6 +157,7 @@ module _ (made : Bool) (pages : ℕ) (a : Account) (s : State) where
   built_tests_same layouts Gc = refl
   built_tests_same layouts (Grow n) = refl
   built_tests_same layouts Cap = refl
+  built_tests_same layouts c = refl
 
   -- the tests of a command find the same
   pub tests_same : (layouts : Layouts) (c : Command) → first_failing (tests layouts (shifted made pages a s) c) ≡ first_failing (tests layouts s c)
@@ -262,6 +263,7 @@ IsPlain Leave = Unit {0}
 IsPlain Gc = ⊥
 IsPlain (Grow n) = ⊥
 IsPlain Cap = ⊥
+IsPlain c = Unit {0}
 
 module _ (made : Bool) (pages : ℕ) (a : Account) (s : State) (layouts : Layouts) (limit : Option ℕ) where
   -- two steps of one plain command whose tests passed
@@ -278,6 +280,7 @@ module _ (made : Bool) (pages : ℕ) (a : Account) (s : State) (layouts : Layout
   same_plain Gc answer answer' s' t' plain one other = absurd plain
   same_plain (Grow n) answer answer' s' t' plain one other = absurd plain
   same_plain Cap answer answer' s' t' plain one other = absurd plain
+  same_plain c answer answer' s' t' plain one other = absurd one
 
 -- two steps that change no state
 pub same_states : (made : Bool) (pages : ℕ) (a : Account) (s : State) (answer answer' : Reply) (s' t' : State) → answer ≡ answer' → s' ≡ s → t' ≡ shifted made pages a s → SameStep made pages a s answer answer' s' t'

@@ -76,6 +76,7 @@ is_built Leave = true
 is_built Gc = true
 is_built (Grow n) = true
 is_built Cap = true
+is_built c = false
 
 -- the type of a value that is built
 abbrev pub value_type : ValueWord → ValType

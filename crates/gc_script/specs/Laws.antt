@@ -31,6 +31,7 @@ SameReply Leave r q = r ≡ q
 SameReply Gc r q = r ≡ q
 SameReply (Grow n) r q = r ≡ q
 SameReply Cap r q = Unit {0}
+SameReply c r q = r ≡ q
 
 -- as many replies of some commands, each the same as the other
 abbrev pub SameReplies : List Command → List Reply → List Reply → Type 0

@@ -63,6 +63,7 @@ FollowsDoing layouts counter s limits Leave answer s' limits' = AsksNothing s li
 FollowsDoing layouts counter s limits Gc answer s' limits' = MayCollectTable layouts (policy_of s limits) (policy_of s' limits')
 FollowsDoing layouts counter s limits (Grow n) answer s' limits' = GrowsByPolicy layouts n s limits answer s' limits'
 FollowsDoing layouts counter s limits Cap answer s' limits' = AsksNothing s limits s' limits'
+FollowsDoing layouts counter s limits c answer s' limits' = AsksNothing s limits s' limits'
 
 abbrev pub FollowsTested : Layouts → Option ℕ → State → Limits → Command → Option Refusal → Reply → State → Limits → Type 0
 FollowsTested layouts counter s limits c (Some why) answer s' limits' = AsksNothing s limits s' limits'
@@ -94,6 +95,7 @@ CameDoing layouts counter s Leave p q = q ≡ p
 CameDoing layouts counter s Gc p q = q ≡ p
 CameDoing layouts counter s (Grow n) p q = (q ≡ p) ⊎ Expanded layouts n p q
 CameDoing layouts counter s Cap p q = q ≡ p
+CameDoing layouts counter s c p q = q ≡ p
 
 -- How far a command had come that wanted memory; one that a test refuses had not begun.
 abbrev pub Came : Layouts → Option ℕ → State → Command → Option Refusal → PolicyState ℕ → PolicyState ℕ → Type 0

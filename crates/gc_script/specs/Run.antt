@@ -40,6 +40,7 @@ wanted_bytes layouts s Leave = 0
 wanted_bytes layouts s Gc = 0
 wanted_bytes layouts s (Grow n) = n
 wanted_bytes layouts s Cap = 0
+wanted_bytes layouts s c = 0
 
 -- the reply says that the heap was refused pages
 abbrev pub SaysRefused : Reply → Type 0

@@ -133,6 +133,7 @@ built_tests layouts s Leave = (is_empty_list s.marks, refusal.NoSuchName) ∷ []
 built_tests layouts s Gc = []
 built_tests layouts s (Grow n) = []
 built_tests layouts s Cap = []
+built_tests layouts s c = []
 
 -- the tests of a command
 abbrev pub tests : Layouts → State → Command → List (Bool × Refusal)
@@ -252,6 +253,7 @@ Does layouts limit s Leave answer s' = (answer ≡ reply.Done) × Leaves s s'
 Does layouts limit s Gc answer s' = Keeps layouts s answer × ((a : Account) × (s' ≡ with_account a s))
 Does layouts limit s (Grow n) answer s' = AnswersGrow limit n s answer s'
 Does layouts limit s Cap answer s' = (answer ≡ reply.Capacity (page * s.table.pages)) × (s' ≡ s)
+Does layouts limit s c answer s' = ⊥
 
 -- a refused command replies its refusal and changes nothing; any other does what it says
 abbrev pub Answers : Layouts → Option ℕ → State → Command → Option Refusal → Reply → State → Type 0

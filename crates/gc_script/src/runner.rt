@@ -51,7 +51,7 @@ impl Runner {
         }
     }
 
-    /// Runs one command. What it refuses is a reply; an error is want of memory, which leaves the
+    /// Runs one command. One that has no effect yet is refused as `BadLine`. What it refuses is a reply; an error is want of memory, which leaves the
     /// table as it was, but that `new` and `grow` may have collected and got the heap pages.
     /// The time is linear in the command's length and in the number of the register that it sets, beside
     /// that of a collection and of new memory, and for `leave` in the roots that it drops.
@@ -66,7 +66,6 @@ impl Runner {
         ensures same { IsSameStore store.old store.new }
     {
         match command {
-            Command::Bad => Ok(Reply::Refused(Refusal::BadLine)),
             Command::Struct {
                 is_final,
                 supertype,
@@ -84,6 +83,7 @@ impl Runner {
             Command::Gc => Ok(self.collect(store)),
             Command::Grow { n } => self.grow(store, limiter, *n),
             Command::Cap => Ok(self.capacity(store)),
+            _ => Ok(Reply::Refused(Refusal::BadLine)),
         }
     }
 }
