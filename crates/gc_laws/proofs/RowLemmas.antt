@@ -63,18 +63,18 @@ replies_text : one_struct_replies ≡ flat_map reply_line (reply.Declared 0 ∷ 
 replies_text = λ i. ((codes "type " ++ digit_zero i) ++ 10 ∷ []) ++ ((codes "ok" ++ 10 ∷ []) ++ (((codes "i32 " ++ digit_five i) ++ 10 ∷ []) ++ []))
 
 spells_declares : Spells (codes "struct m:i32") declares
-spells_declares = record { built = (refl, refl, (tt, tt)); short = omega arith; spelled = refl }
+spells_declares = record { fits = (tt, (tt, tt)); short = omega arith; spelled = refl }
 
 spells_makes : Spells (codes "new 1 0 i32:5") makes
 spells_makes = record {
-  built = (omega arith, omega arith, (record { sfits = omega arith }, tt));
+  fits = (omega arith, omega arith, (record { sfits = omega arith }, tt));
   short = omega arith;
   spelled = λ i. join_with_byte 32 (codes "new" ∷ digit_one i ∷ digit_zero i ∷ (codes "i32:" ++ digit_five i) ∷ []);
 }
 
 spells_reads : Spells (codes "field 1 0") reads
 spells_reads = record {
-  built = (omega arith, omega arith, tt);
+  fits = (omega arith, omega arith, tt);
   short = omega arith;
   spelled = λ i. join_with_byte 32 (codes "field" ∷ digit_one i ∷ digit_zero i ∷ []);
 }
