@@ -11,7 +11,7 @@ use Rattle.gc_view.specs.Heaps.{HeapView, HeapObject}
 use Rattle.gc_model.specs.Stores.{StoreView}
 use Rattle.gc_model.specs.Holds.{Placing, Holds, KindHolds, NullHolds, Stands, ObjectsHold}
 use Rattle.gc_model.proofs.Types.{struct_fields_at-push, IsTyped, next_after-push_type, IsBuiltDeclaration, OnlyBuilt-push}
-use Rattle.gc_model.proofs.HoldsParts.{scoped-kept, pushes-kept, nothing-kept}
+use Rattle.gc_model.proofs.HoldsParts.{types_changed}
 
 -- the store with one more type
 abbrev pub with_type : Declaration → StoreView → StoreView
@@ -70,27 +70,9 @@ objects-declared layouts d t place heap objects = record {
 }
 
 pub holds_declare : {D : Type 0} (layouts : Layouts) (s : StoreView) (t : Table D) (place : Placing) (d : Declaration) → IsBuiltDeclaration d → Holds layouts s t place → Holds layouts (with_type d s) (declare d t) place
-holds_declare layouts s t place d built holds = record {
-  types = ap (λ types. types ++ d ∷ []) holds.types;
-  numbers = record {
-    generation = holds.numbers.generation;
-    first = holds.numbers.first;
-    max_scoped = holds.numbers.max_scoped;
-    max_owned = holds.numbers.max_owned;
-    made = holds.numbers.made;
-    capacity = holds.numbers.capacity;
-    no_pages = holds.numbers.no_pages;
-    no_objects = holds.numbers.no_objects;
-    first_fits = holds.numbers.first_fits;
-    few_roots = holds.numbers.few_roots;
-    scoped_within = holds.numbers.scoped_within;
-    drops_within = holds.numbers.drops_within;
-  };
-  objects = objects-declared layouts d t place s.heap holds.objects;
-  by_kind = declare_by_kind layouts d t place s.heap holds.objects holds.by_kind;
-  scoped = scoped-kept t place place s.scoped _ _ _ _ (λ position word e. e) holds.scoped;
-  pushes = pushes-kept t place _ _ _ _ holds.pushes;
-  no_hosts = holds.no_hosts;
-  nothing_else = nothing-kept t place _ _ _ _ _ _ _ holds.nothing_else;
-  only_built = OnlyBuilt-push t.types d holds.only_built built;
-}
+holds_declare layouts s t place d built holds =
+    types_changed holds
+    (ap (λ types. types ++ d ∷ []) holds.types)
+    (objects-declared layouts d t place s.heap holds.objects)
+    (declare_by_kind layouts d t place s.heap holds.objects holds.by_kind)
+    (OnlyBuilt-push t.types d holds.only_built built)

@@ -12,7 +12,7 @@ use Rattle.gc_model.specs.Sizes.{next_after}
 use Rattle.gc_view.specs.Heaps.{HeapView}
 use Rattle.gc_model.specs.Stores.{StoreView}
 use Rattle.gc_model.specs.Holds.{Placing, Holds, KindHolds, ObjectsHold}
-use Rattle.gc_model.proofs.HoldsParts.{objects-same, scoped-kept, pushes-kept, nothing-kept}
+use Rattle.gc_model.proofs.HoldsParts.{objects-same, heap_changed}
 
 -- a heap that was just made with so many pages
 pub record IsMadeHeap (layouts : Layouts) (heap : HeapView) (pages : ℕ) : Type 0 where
@@ -41,37 +41,22 @@ made_by_kind Copying t place heap pages none made = tt
 
 pub holds_heap : {D : Type 0} (layouts : Layouts) (s : StoreView) (t : Table D) (place : Placing) (heap : HeapView) → t.made ≡ false → IsMadeHeap layouts heap t.first → Holds layouts s t place → Holds layouts (with_heap heap s) (make_heap t) place
 holds_heap layouts s t place heap unmade made holds =
-    let none : t.objects ≡ [] = holds.numbers.no_objects unmade in
+    let none : t.objects ≡ [] = holds.memory.no_objects unmade in
     let nowhere = nothing_placed layouts t place s.heap holds.objects none in
-    record {
-      types = holds.types;
-      numbers = record {
-        generation = holds.numbers.generation;
-        first = holds.numbers.first;
-        max_scoped = holds.numbers.max_scoped;
-        max_owned = holds.numbers.max_owned;
-        made = made.attached;
-        capacity = made.capacity ∙ ap (λ (b : Bool). page * cond b t.pages t.first) (sym unmade);
-        no_pages = λ h. absurd (cc);
-        no_objects = λ h. none;
-        first_fits = holds.numbers.first_fits;
-        few_roots = holds.numbers.few_roots;
-        scoped_within = holds.numbers.scoped_within;
-        drops_within = holds.numbers.drops_within;
-      };
-      objects = record {
-        placed = λ position word e. absurd (nowhere position word e);
-        only = λ word object e. absurd (none-some object (sym (get-empty nat_cmp word) ∙ ap (λ (m : _). Rattle.std.specs.FinMap.get m word) (sym made.content) ∙ e));
-        injective = λ p q word e f. absurd (nowhere p word e);
-        even = λ word object e. absurd (none-some object (sym (get-empty nat_cmp word) ∙ ap (λ (m : _). Rattle.std.specs.FinMap.get m word) (sym made.content) ∙ e));
-      };
-      by_kind = made_by_kind layouts t place heap t.first none made;
-      scoped = scoped-kept t place place s.scoped _ _ _ _ (λ position word e. e) holds.scoped;
-      pushes = pushes-kept t place _ _ _ _ holds.pushes;
-      no_hosts = holds.no_hosts;
-      nothing_else = nothing-kept t place _ _ _ _ _ _ _ holds.nothing_else;
-      only_built = holds.only_built;
-    }
+    heap_changed holds
+    (record {
+      made = made.attached;
+      capacity = made.capacity ∙ ap (λ (b : Bool). page * cond b t.pages t.first) (sym unmade);
+      no_pages = λ h. absurd (cc);
+      no_objects = λ h. none;
+    })
+    (record {
+      placed = λ position word e. absurd (nowhere position word e);
+      only = λ word object e. absurd (none-some object (sym (get-empty nat_cmp word) ∙ ap (λ (m : _). Rattle.std.specs.FinMap.get m word) (sym made.content) ∙ e));
+      injective = λ p q word e f. absurd (nowhere p word e);
+      even = λ word object e. absurd (none-some object (sym (get-empty nat_cmp word) ∙ ap (λ (m : _). Rattle.std.specs.FinMap.get m word) (sym made.content) ∙ e));
+    })
+    (made_by_kind layouts t place heap t.first none made)
 
 -- a heap with the same objects and so many pages
 pub record IsGrownHeap (layouts : Layouts) (old new : HeapView) (pages : ℕ) : Type 0 where
@@ -91,39 +76,7 @@ grown_by_kind Copying t place old new pages grown holds = tt
 -- a store holds the table with other pages, once its heap has as many
 pub holds_pages : {D : Type 0} (layouts : Layouts) (s : StoreView) (t : Table D) (place : Placing) (heap : HeapView) (pages : ℕ) → IsGrownHeap layouts s.heap heap pages → Holds layouts s t place → Holds layouts (with_heap heap s) (with_pages pages t) place
 holds_pages layouts s t place heap pages grown holds =
-    let objects : ObjectsHold layouts t place heap = objects-same layouts t place s.heap heap grown.content holds.objects in
-    record {
-      types = holds.types;
-      numbers = record {
-        generation = holds.numbers.generation;
-        first = holds.numbers.first;
-        max_scoped = holds.numbers.max_scoped;
-        max_owned = holds.numbers.max_owned;
-        made = grown.attached;
-        capacity = grown.capacity;
-        no_pages = λ h. absurd (cc);
-        no_objects = λ h. absurd (cc);
-        first_fits = holds.numbers.first_fits;
-        few_roots = holds.numbers.few_roots;
-        scoped_within = holds.numbers.scoped_within;
-        drops_within = holds.numbers.drops_within;
-      };
-      objects = record {
-        placed = λ position word e. let held = objects.placed position word e in record {
-          object = held.object;
-          entry = held.entry;
-          in_heap = held.in_heap;
-          in_table = held.in_table;
-          stands = held.stands;
-        };
-        only = objects.only;
-        injective = objects.injective;
-        even = objects.even;
-      };
-      by_kind = grown_by_kind layouts t place s.heap heap pages grown holds.by_kind;
-      scoped = scoped-kept t place place s.scoped _ _ _ _ (λ position word e. e) holds.scoped;
-      pushes = pushes-kept t place _ _ _ _ holds.pushes;
-      no_hosts = holds.no_hosts;
-      nothing_else = nothing-kept t place _ _ _ _ _ _ _ holds.nothing_else;
-      only_built = holds.only_built;
-    }
+    heap_changed holds
+    (record { made = grown.attached; capacity = grown.capacity; no_pages = λ h. absurd (cc); no_objects = λ h. absurd (cc) })
+    (objects-same layouts t place s.heap heap grown.content holds.objects)
+    (grown_by_kind layouts t place s.heap heap pages grown holds.by_kind)

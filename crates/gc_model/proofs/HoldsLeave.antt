@@ -10,7 +10,7 @@ use Rattle.gc_view.specs.Heaps.{HeapView}
 use Rattle.gc_model.specs.Stores.{StoreView}
 use Rattle.gc_model.specs.Holds.{Placing, Holds, IsPast, ScopedHold}
 use Rattle.gc_model.proofs.Lists.{slice_get-take}
-use Rattle.gc_model.proofs.HoldsParts.{SameHeld, objects-same, kind-same, objects-rooted, kind-rooted, nothing-kept}
+use Rattle.gc_model.proofs.HoldsParts.{SameHeld, scoped_changed, holds_same}
 
 -- the count of scope ends, once a scope was left that began with so many of the roots
 abbrev pub drops_after : ℕ → ℕ → ℕ → ℕ
@@ -54,27 +54,12 @@ module _ {D : Type 0} (layouts : Layouts) (s : StoreView) (t : Table D) (place :
       (past-left mark (length t.scoped) t.drops p.generation p.index (holds.pushes.early serial p e) (holds.pushes.past serial p e))
 
   pub holds_leave : SameHeld s.heap heap → Holds layouts (without_roots heap mark s) (leave mark t) place
-  holds_leave same = record {
-    types = holds.types;
-    numbers = record {
-      generation = λ i. drops_after mark (holds.scoped.same_count i) (holds.numbers.generation i);
-      first = holds.numbers.first;
-      max_scoped = holds.numbers.max_scoped;
-      max_owned = holds.numbers.max_owned;
-      made = same.attached ∙ holds.numbers.made;
-      capacity = same.capacity ∙ holds.numbers.capacity;
-      no_pages = holds.numbers.no_pages;
-      no_objects = holds.numbers.no_objects;
-      first_fits = holds.numbers.first_fits;
-      few_roots = holds.numbers.few_roots;
-      scoped_within = omega (arith, length-take mark t.scoped, holds.numbers.scoped_within);
-      drops_within = drops_after-within mark (length t.scoped) t.drops holds.numbers.drops_within;
-    };
-    objects = objects-rooted t place layouts heap _ _ _ (objects-same layouts t place s.heap heap same.content holds.objects);
-    by_kind = kind-rooted t place layouts heap _ _ _ (kind-same layouts t place s.heap heap same.allocated holds.by_kind);
-    scoped = scoped;
-    pushes = record { past = past; early = holds.pushes.early; apart = holds.pushes.apart };
-    no_hosts = holds.no_hosts;
-    nothing_else = nothing-kept t place _ _ _ _ _ _ _ holds.nothing_else;
-    only_built = holds.only_built;
-  }
+  holds_leave same =
+      scoped_changed (holds_same layouts s t place heap holds same)
+      (record {
+        generation = λ i. drops_after mark (holds.scoped.same_count i) (holds.scopes.generation i);
+        scoped_within = omega (arith, length-take mark t.scoped, holds.scopes.scoped_within);
+        drops_within = drops_after-within mark (length t.scoped) t.drops holds.scopes.drops_within;
+      })
+      scoped
+      (record { past = past; early = holds.pushes.early; apart = holds.pushes.apart })

@@ -18,7 +18,8 @@ use Rattle.gc_model.specs.Holds.{Placing, Holds, KindHolds, HeldAt, Stands}
 use Rattle.gc_model.proofs.Lists.{slice_get-push_old, slice_get-push_new}
 use Rattle.gc_model.proofs.Types.{next_after-push}
 use Rattle.gc_model.proofs.Placings.{IsWithin, stands-more}
-use Rattle.gc_model.proofs.HoldsParts.{same_held-itself, scoped-kept, pushes-kept, nothing-kept}
+use Rattle.gc_model.proofs.RootsMoved.{scoped-more, frames-more, globals-more, owned-more, pending-more}
+use Rattle.gc_model.proofs.HoldsParts.{same_held-itself, places_changed}
 use Rattle.gc_model.proofs.HoldsPush.{with_root, holds_push}
 
 -- the placing with one more position
@@ -147,30 +148,21 @@ module _ {D : Type 0} (layouts : Layouts) (s : StoreView) (t : Table D) (place :
 
   -- the store holds the table with the object, which no root names yet
   pub holds_add : t.made ≡ true → Holds layouts (record s { heap = heap }) (add_object o t) place'
-  holds_add is_made = record {
-    types = holds.types;
-    numbers = record {
-      generation = holds.numbers.generation;
-      first = holds.numbers.first;
-      max_scoped = holds.numbers.max_scoped;
-      max_owned = holds.numbers.max_owned;
-      made = made.attached ∙ holds.numbers.made;
-      capacity = made.capacity ∙ holds.numbers.capacity;
-      no_pages = holds.numbers.no_pages;
-      no_objects = λ unmade. absurd (cc (sym is_made ∙ unmade));
-      first_fits = holds.numbers.first_fits;
-      few_roots = holds.numbers.few_roots;
-      scoped_within = holds.numbers.scoped_within;
-      drops_within = holds.numbers.drops_within;
-    };
-    objects = record { placed = held; only = only; injective = injective; even = even };
-    by_kind = made_by_kind layouts refl holds.by_kind;
-    scoped = scoped-kept t place place' s.scoped _ _ _ _ within holds.scoped;
-    pushes = pushes-kept t place _ _ _ _ holds.pushes;
-    no_hosts = holds.no_hosts;
-    nothing_else = nothing-kept t place _ _ _ _ _ _ _ holds.nothing_else;
-    only_built = holds.only_built;
-  }
+  holds_add is_made =
+      places_changed holds
+      (record {
+        made = made.attached ∙ holds.memory.made;
+        capacity = made.capacity ∙ holds.memory.capacity;
+        no_pages = holds.memory.no_pages;
+        no_objects = λ unmade. absurd (cc (sym is_made ∙ unmade));
+      })
+      (record { placed = held; only = only; injective = injective; even = even })
+      (made_by_kind layouts refl holds.by_kind)
+      (scoped-more place place' within t.pushes t.scoped s.scoped holds.scoped)
+      (frames-more place place' within t.frames s.frames holds.frames)
+      (globals-more place place' within t.globals s.globals holds.globals)
+      (owned-more place place' within t.owns s.owns t.owned s.owned holds.owned)
+      (pending-more place place' within t.pending s.pending holds.pending)
 
   -- the store holds the table with the object, and a new root that names it
   pub holds_make : t.made ≡ true → roots_full t ≡ false → Holds layouts (with_root heap word s) (make o t) place'

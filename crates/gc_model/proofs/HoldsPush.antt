@@ -13,7 +13,7 @@ use Rattle.gc_view.specs.Heaps.{HeapView}
 use Rattle.gc_model.specs.Stores.{StoreView}
 use Rattle.gc_model.specs.Holds.{Placing, IsWord, Holds, EntryStands, IsPast}
 use Rattle.gc_model.proofs.Lists.{slice_get-push_old, slice_get-push_new, slice_get-push_cases}
-use Rattle.gc_model.proofs.HoldsParts.{SameHeld, objects-same, kind-same, objects-rooted, kind-rooted, nothing-kept}
+use Rattle.gc_model.proofs.HoldsParts.{SameHeld, scoped_changed, holds_same}
 
 -- the store with another heap and one more scoped root
 abbrev pub with_root : HeapView → ℕ → StoreView → StoreView
@@ -35,7 +35,7 @@ module _ {D : Type 0} (layouts : Layouts) (s : StoreView) (t : Table D) (place :
 
   entry_stands : IsWord place r word → 0 < word → EntryStands (push r t) place (length t.scoped) entry root
   entry_stands is positive = record {
-    pushed = subst (λ (g : ℕ). slice_get (t.pushes ++ pushed ∷ []) (length t.pushes) ≡ Some (record { index = length t.scoped; generation = g })) (sym holds.numbers.generation) (slice_get-push_new t.pushes pushed);
+    pushed = subst (λ (g : ℕ). slice_get (t.pushes ++ pushed ∷ []) (length t.pushes) ≡ Some (record { index = length t.scoped; generation = g })) (sym holds.scopes.generation) (slice_get-push_new t.pushes pushed);
     word = is;
     not_null = positive;
   }
@@ -84,7 +84,7 @@ module _ {D : Type 0} (layouts : Layouts) (s : StoreView) (t : Table D) (place :
   early serial p e =
       elim (slice_get-push_cases t.pushes pushed serial p e) [
         | inl old ↦ holds.pushes.early serial p old
-        | inr new ↦ subst (λ (q : Push). q.generation < 2 ^ 64 - 1) new.1 (room_for_root t room holds.numbers.drops_within).1
+        | inr new ↦ subst (λ (q : Push). q.generation < 2 ^ 64 - 1) new.1 (room_for_root t room holds.scopes.drops_within).1
       ]
 
   differ : (a b : ℕ) (p : Push) → slice_get (t.pushes ++ pushed ∷ []) a ≡ Some p → slice_get (t.pushes ++ pushed ∷ []) b ≡ Some p → a ≡ b
@@ -101,30 +101,15 @@ module _ {D : Type 0} (layouts : Layouts) (s : StoreView) (t : Table D) (place :
       ]
 
   pub holds_push : SameHeld s.heap heap → IsWord place r word → 0 < word → Holds layouts (with_root heap word s) (push r t) place
-  holds_push same is positive = record {
-    types = holds.types;
-    numbers = record {
-      generation = holds.numbers.generation;
-      first = holds.numbers.first;
-      max_scoped = holds.numbers.max_scoped;
-      max_owned = holds.numbers.max_owned;
-      made = same.attached ∙ holds.numbers.made;
-      capacity = same.capacity ∙ holds.numbers.capacity;
-      no_pages = holds.numbers.no_pages;
-      no_objects = holds.numbers.no_objects;
-      first_fits = holds.numbers.first_fits;
-      few_roots = holds.numbers.few_roots;
-      scoped_within = omega (arith, length_push t.scoped root, (room_for_root t room holds.numbers.drops_within).0);
-      drops_within = holds.numbers.drops_within;
-    };
-    objects = objects-rooted t place layouts heap _ _ _ (objects-same layouts t place s.heap heap same.content holds.objects);
-    by_kind = kind-rooted t place layouts heap _ _ _ (kind-same layouts t place s.heap heap same.allocated holds.by_kind);
-    scoped = record {
-      same_count = length_push s.scoped entry ∙ ap (λ k. k + 1) holds.scoped.same_count ∙ sym (length_push t.scoped root);
-      each = each_stands is positive;
-    };
-    pushes = record { past = past; early = early; apart = differ };
-    no_hosts = holds.no_hosts;
-    nothing_else = nothing-kept t place _ _ _ _ _ _ _ holds.nothing_else;
-    only_built = holds.only_built;
-  }
+  holds_push same is positive =
+      scoped_changed (holds_same layouts s t place heap holds same)
+      (record {
+        generation = holds.scopes.generation;
+        scoped_within = omega (arith, length_push t.scoped root, (room_for_root t room holds.scopes.drops_within).0);
+        drops_within = holds.scopes.drops_within;
+      })
+      (record {
+        same_count = length_push s.scoped entry ∙ ap (λ k. k + 1) holds.scoped.same_count ∙ sym (length_push t.scoped root);
+        each = each_stands is positive;
+      })
+      (record { past = past; early = early; apart = differ })

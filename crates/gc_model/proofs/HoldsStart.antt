@@ -1,5 +1,6 @@
 -- A store with nothing in it holds the empty table.
-use Rattle.std.proofs.Common.{◌≡◌, ℕ, ◌+◌, ◌≤◌, ◌^◌, [], Option, Some, None, sym, ap, ◌∙◌, refl, arith, false, length, subst}
+use Rattle.std.specs.Prelude.{replicate}
+use Rattle.std.proofs.Common.{List, ◌≡◌, ℕ, ◌+◌, ◌≤◌, ◌^◌, [], Option, Some, None, sym, ap, ◌∙◌, refl, arith, false, length, subst}
 use Rattle.std.specs.Ordering.{nat_cmp}
 use Rattle.std.specs.FinMap.{get, get-empty}
 use Rattle.std.proofs.lemmas.Option.{none-some}
@@ -8,10 +9,14 @@ use Rattle.gc_types.specs.declared.kind.Layouts.{Layouts}
 use Rattle.gc_types.specs.declared.kind.Layouts.TheVariants.{Null, Counting, Copying}
 use Rattle.gc_view.specs.Pages.{max_pages}
 use Rattle.gc_model.specs.Sizes.{next_after}
-use Rattle.gc_model.specs.Table.{Table, start}
+use Rattle.gc_model.specs.declared.SlotEntry.{SlotEntry}
+use Rattle.gc_model.specs.Values.{Reference}
+use Rattle.gc_model.specs.Table.{Table, Slot, Owned, start, global_count, empty_slot}
 use Rattle.gc_view.specs.Heaps.{HeapView, HeapObject}
-use Rattle.gc_model.specs.Stores.{StoreView, empty_store}
+use Rattle.gc_model.specs.Stores.{StoreView, empty_store, empty_entry}
 use Rattle.gc_model.specs.Holds.{Placing, Holds, KindHolds}
+use Rattle.gc_model.specs.RootPoints.{FramesBy, GlobalsBy, OwnedBy, PendingBy}
+use Rattle.gc_model.proofs.RootsMoved.{frames-none, globals-unset, globals-empty, owned-none}
 use Rattle.gc_model.proofs.HoldsHeap.{nothing_placed}
 
 -- no position is placed
@@ -29,6 +34,11 @@ pub record IsUntouched (layouts : Layouts) (s : StoreView) : Type 0 where
   pub allocated : layouts ≡ Null → s.heap.allocated ≡ 0
   pub first_fits : s.first ≤ max_pages
   pub few_roots : s.max_scoped ≤ 2 ^ 31
+  pub frames : FramesBy nowhere [] s.frames
+  pub globals : GlobalsBy nowhere (replicate global_count empty_slot) s.globals
+  pub owned : OwnedBy nowhere 0 s.owns [] s.owned
+  pub pending : s.pending ≡ 0
+  pub funcs : s.funcs ≡ []
   pub no_hosts : s.hosts ≡ 0
 
 start_by_kind : (D : Type 0) (layouts k : Layouts) (s : StoreView) → layouts ≡ k → IsUntouched layouts s → KindHolds {D = D} k (start s.first s.max_scoped s.max_owned) nowhere s.heap
@@ -40,20 +50,9 @@ start_by_kind D layouts Copying s is untouched = tt
 pub holds_untouched : (D : Type 0) (layouts : Layouts) (s : StoreView) → IsUntouched layouts s → Holds {D = D} layouts s (start s.first s.max_scoped s.max_owned) nowhere
 holds_untouched D layouts s untouched = record {
   types = untouched.types;
-  numbers = record {
-    generation = untouched.generation;
-    first = refl;
-    max_scoped = refl;
-    max_owned = refl;
-    made = untouched.attached;
-    capacity = untouched.capacity;
-    no_pages = λ _. refl;
-    no_objects = λ _. refl;
-    first_fits = untouched.first_fits;
-    few_roots = untouched.few_roots;
-    scoped_within = omega arith;
-    drops_within = omega arith;
-  };
+  settings = record { first = refl; max_scoped = refl; max_owned = refl; first_fits = untouched.first_fits; few_roots = untouched.few_roots };
+  memory = record { made = untouched.attached; capacity = untouched.capacity; no_pages = λ _. refl; no_objects = λ _. refl };
+  scopes = record { generation = untouched.generation; scoped_within = omega arith; drops_within = omega arith };
   objects = record {
     placed = λ position word e. absurd (none-some word e);
     only = λ word object e. absurd (untouched.no_object word object e);
@@ -63,6 +62,11 @@ holds_untouched D layouts s untouched = record {
   by_kind = start_by_kind D layouts layouts s refl untouched;
   scoped = record { same_count = ap length untouched.scoped; each = λ i entry root e f. absurd (none-some root f) };
   pushes = record { past = λ serial p e. absurd (none-some p e); early = λ serial p e. absurd (none-some p e); apart = λ a b p e f. absurd (none-some p e) };
+  frames = untouched.frames;
+  globals = untouched.globals;
+  owned = untouched.owned;
+  pending = untouched.pending;
+  funcs = untouched.funcs;
   no_hosts = untouched.no_hosts;
   nothing_else = record { owns = refl; frames = refl; globals = refl; owned = refl; pending = refl; funcs = refl; blocks = refl };
   only_built = λ ty fields e. absurd (none-some fields e);
@@ -76,25 +80,32 @@ untouched_allocated Copying t place heap none kind is = absurd (cc)
 -- a store that holds some table, and shows no type, root, generation or memory, is untouched
 pub untouched_from_parts : {D : Type 0} (layouts : Layouts) (s : StoreView) (t : Table D) (place : Placing) → Holds layouts s t place → s.types ≡ [] → s.scoped ≡ [] → s.generation ≡ 0 → s.heap.attached ≡ false → IsUntouched layouts s
 untouched_from_parts layouts s t place holds no_types no_roots first_generation unmade =
-    let not_made : t.made ≡ false = sym holds.numbers.made ∙ unmade in
-    let none : t.objects ≡ [] = holds.numbers.no_objects not_made in
+    let nothing = holds.nothing_else in
+    let not_made : t.made ≡ false = sym holds.memory.made ∙ unmade in
+    let none : t.objects ≡ [] = holds.memory.no_objects not_made in
     record {
       types = no_types;
       scoped = no_roots;
       generation = first_generation;
       attached = unmade;
-      capacity = omega (arith, holds.numbers.capacity, holds.numbers.no_pages not_made);
+      capacity = omega (arith, holds.memory.capacity, holds.memory.no_pages not_made);
       no_object = λ word object e. let p = holds.objects.only word object e in nothing_placed layouts t place s.heap holds.objects none p.0 word p.1;
       allocated = untouched_allocated layouts t place s.heap none holds.by_kind;
-      first_fits = subst (λ n. n ≤ max_pages) (sym holds.numbers.first) holds.numbers.first_fits;
-      few_roots = subst (λ n. n ≤ 2 ^ 31) (sym holds.numbers.max_scoped) holds.numbers.few_roots;
+      first_fits = subst (λ n. n ≤ max_pages) (sym holds.settings.first) holds.settings.first_fits;
+      few_roots = subst (λ n. n ≤ 2 ^ 31) (sym holds.settings.max_scoped) holds.settings.few_roots;
+      frames = subst (λ (fs : List (List Slot)). FramesBy nowhere fs s.frames) nothing.frames (frames-none place nowhere t.frames s.frames nothing.frames holds.frames);
+      globals = subst (λ (gs : List Slot). GlobalsBy nowhere gs s.globals) nothing.globals (globals-unset place nowhere global_count t.globals s.globals nothing.globals holds.globals);
+      owned = subst (λ (n : ℕ). OwnedBy nowhere n s.owns [] s.owned) nothing.owns
+          (subst (λ (os : List Owned). OwnedBy nowhere t.owns s.owns os s.owned) nothing.owned (owned-none place nowhere t.owns s.owns t.owned s.owned nothing.owned holds.owned));
+      pending = subst (λ (r : Option Reference). PendingBy place r s.pending) nothing.pending holds.pending;
+      funcs = holds.funcs ∙ nothing.funcs;
       no_hosts = holds.no_hosts;
     }
 
 -- a store that holds the empty table is untouched
 pub untouched_from_start : (D : Type 0) (layouts : Layouts) (s : StoreView) (place : Placing) → Holds {D = D} layouts s (start s.first s.max_scoped s.max_owned) place → IsUntouched layouts s
 untouched_from_start D layouts s place holds =
-    untouched_from_parts layouts s (start s.first s.max_scoped s.max_owned) place holds holds.types (nil_from_length s.scoped holds.scoped.same_count) holds.numbers.generation holds.numbers.made
+    untouched_from_parts layouts s (start s.first s.max_scoped s.max_owned) place holds holds.types (nil_from_length s.scoped holds.scoped.same_count) holds.scopes.generation holds.memory.made
 
 -- what is seen of a new store is untouched
 pub untouched_new : (layouts : Layouts) (engine number first max_scoped max_owned : ℕ) (alloc_counter : Option ℕ) → first ≤ max_pages → max_scoped ≤ 2 ^ 31 → IsUntouched layouts (empty_store engine number first max_scoped max_owned alloc_counter)
@@ -108,5 +119,17 @@ untouched_new layouts engine number first max_scoped max_owned alloc_counter few
   allocated = λ _. refl;
   first_fits = few;
   few_roots = few_roots;
+  frames = record { same_count = refl; each = λ i slots frame e f. absurd (none-some frame f) };
+  globals = globals-empty nowhere;
+  owned = record {
+    same_owns = refl;
+    same_count = refl;
+    each = λ i entry root e f. absurd (none-some root f);
+    rising = λ i j a b e f. absurd (none-some a e);
+    early = λ i root e. absurd (none-some root e);
+    apart = λ i j a b e f. absurd (none-some a e);
+  };
+  pending = refl;
+  funcs = refl;
   no_hosts = refl;
 }

@@ -23,7 +23,7 @@ use Rattle.gc_model.specs.Encoded.{IsEncoded}
 use Rattle.gc_view.proofs.ByteLemmas.{length-put_bytes}
 use Rattle.gc_model.proofs.Changes.{length-change_at, slice_get-change_at_same, slice_get-change_at_other, slice_get-set_same, slice_get-set_other, next_after-with_value}
 use Rattle.gc_model.proofs.FieldsLie.{IsField, field_within, other_lies, written_lies}
-use Rattle.gc_model.proofs.HoldsParts.{scoped-kept, pushes-kept, nothing-kept}
+use Rattle.gc_model.proofs.HoldsParts.{heap_changed}
 use Rattle.gc_view.proofs.Layouts.{stored_size-le}
 
 -- What a write of some bytes to an object's data left of a heap.
@@ -142,27 +142,13 @@ module _ {D : Type 0} (layouts : Layouts) (s : StoreView) (t : Table D) (place :
   written_by_kind Copying kind = tt
 
   pub holds_write : Holds layouts (record s { heap = heap }) (write position index v t) place
-  holds_write = record {
-    types = holds.types;
-    numbers = record {
-      generation = holds.numbers.generation;
-      first = holds.numbers.first;
-      max_scoped = holds.numbers.max_scoped;
-      max_owned = holds.numbers.max_owned;
-      made = written.attached ∙ holds.numbers.made;
-      capacity = written.capacity ∙ holds.numbers.capacity;
-      no_pages = holds.numbers.no_pages;
-      no_objects = λ unmade. ap (change_at position (with_value index v)) (holds.numbers.no_objects unmade);
-      first_fits = holds.numbers.first_fits;
-      few_roots = holds.numbers.few_roots;
-      scoped_within = holds.numbers.scoped_within;
-      drops_within = holds.numbers.drops_within;
-    };
-    objects = objects;
-    by_kind = written_by_kind layouts holds.by_kind;
-    scoped = scoped-kept t place place s.scoped _ _ _ _ (λ p w e. e) holds.scoped;
-    pushes = pushes-kept t place _ _ _ _ holds.pushes;
-    no_hosts = holds.no_hosts;
-    nothing_else = nothing-kept t place _ _ _ _ _ _ _ holds.nothing_else;
-    only_built = holds.only_built;
-  }
+  holds_write =
+      heap_changed holds
+      (record {
+        made = written.attached ∙ holds.memory.made;
+        capacity = written.capacity ∙ holds.memory.capacity;
+        no_pages = holds.memory.no_pages;
+        no_objects = λ unmade. ap (change_at position (with_value index v)) (holds.memory.no_objects unmade);
+      })
+      objects
+      (written_by_kind layouts holds.by_kind)

@@ -1,6 +1,7 @@
 pub mod Lists
 pub mod Types
 pub mod Placings
+pub mod RootsMoved
 pub mod HoldsParts
 pub mod HoldsStart
 pub mod HoldsDeclare

@@ -1,5 +1,5 @@
 -- A store holds a table: its heap, its roots and its numbers stand for the table's.
-use Rattle.std.specs.Prelude.{◌≡◌, ℕ, ◌+◌, ◌-◌, ◌*◌, ◌%◌, ◌<◌, ◌≤◌, ◌⊎◌, ◌^◌, true, false, List, [], Option, Some, None, length, slice_get, replicate, All}
+use Rattle.std.specs.Prelude.{◌≡◌, Bool, ℕ, ◌+◌, ◌-◌, ◌*◌, ◌%◌, ◌<◌, ◌≤◌, ◌⊎◌, ◌^◌, true, false, List, [], Option, Some, None, length, slice_get, replicate, All}
 use Rattle.std.specs.Ordering.{nat_cmp}
 use Rattle.std.specs.FinMap as map
 use Rattle.gc_types.specs.declared.value.FieldType.{FieldType}
@@ -18,24 +18,18 @@ use Rattle.gc_model.specs.declared.GcClass.{GcClass}
 use Rattle.gc_model.specs.declared.GcClass.TheVariants.{Any, Extern, Exn}
 use Rattle.gc_model.specs.Fits.{is_built_field}
 use Rattle.gc_model.specs.Reach.{IsKept}
-use Rattle.gc_model.specs.Table.{Table, Scoped, Push, empty_slot, global_count}
+use Rattle.gc_types.specs.declared.value.Func.{Func}
+use Rattle.gc_model.specs.Table.{Table, Scoped, Push, Slot, Owned, Block, empty_slot, global_count}
+pub use Rattle.gc_model.specs.Words.{Placing, IsWord}
+pub use Rattle.gc_model.specs.RootPoints.{EntryBy, ScopedBy, IsPastBy, PushesBy, SlotBy, SlotsBy, FramesBy, GlobalsBy, OwnedRootBy, OwnedBy, PendingBy}
 use Rattle.gc_view.specs.Sizes.{stored_size}
-use Rattle.gc_model.specs.Sizes.{next_place}
+use Rattle.gc_model.specs.Sizes.{next_after}
 use Rattle.gc_view.specs.Pages.{page, max_pages}
 use Rattle.gc_model.specs.declared.RootEntry.{RootEntry}
 use Rattle.gc_view.specs.Bytes.{u32_at, u64_at}
 use Rattle.gc_view.specs.Heaps.{HeapObject, HeapView}
-use Rattle.gc_model.specs.Stores.{StoreView}
-
--- where the heap holds each position
-abbrev pub Placing : Type 0
-Placing = ℕ → Option ℕ
-
--- the word that a reference has under a placing
-abbrev pub IsWord : Placing → Reference → ℕ → Type 0
-IsWord place null word = word ≡ 0
-IsWord place (small n) word = word ≡ 2 * n + 1
-IsWord place (at p) word = place p ≡ Some word
+use Rattle.gc_model.specs.declared.SlotEntry.{SlotEntry}
+use Rattle.gc_model.specs.Stores.{StoreView, OwnedEntry}
 
 abbrev pub LiesI32 : Value → List ℕ → ℕ → Type 0
 LiesI32 (i32 n) bytes offset = u32_at bytes offset ≡ n
@@ -108,96 +102,162 @@ Stands layouts types place (host value) h = ⊥
 Stands layouts types place (exception ty tag values) h = ⊥
 
 -- what stands at the place of a position
-pub record HeldAt {D : Type 0} (layouts : Layouts) (t : Table D) (place : Placing) (content : map.FinMap nat_cmp HeapObject) (position word : ℕ) : Type 0 where
+pub record HeldBy {D : Type 0} (layouts : Layouts) (types : List Declaration) (objects : List (Object D)) (place : Placing) (content : map.FinMap nat_cmp HeapObject) (position word : ℕ) : Type 0 where
   pub object : HeapObject
   pub entry : Object D
   pub in_heap : map.get content word ≡ Some object
-  pub in_table : slice_get t.objects position ≡ Some entry
-  pub stands : Stands layouts t.types place entry object
+  pub in_table : slice_get objects position ≡ Some entry
+  pub stands : Stands layouts types place entry object
 
 -- The heap's objects are the table's: each placed position is held, each held place is some
 -- position's, no two positions share a place, and places are even and not 0.
-pub record ObjectsHold {D : Type 0} (layouts : Layouts) (t : Table D) (place : Placing) (heap : HeapView) : Type 0 where
-  pub placed : (position word : ℕ) → place position ≡ Some word → HeldAt layouts t place heap.content position word
-  pub only : (word : ℕ) (object : HeapObject) → map.get heap.content word ≡ Some object → (position : ℕ) × (place position ≡ Some word)
+pub record ObjectsBy {D : Type 0} (layouts : Layouts) (types : List Declaration) (objects : List (Object D)) (place : Placing) (content : map.FinMap nat_cmp HeapObject) : Type 0 where
+  pub placed : (position word : ℕ) → place position ≡ Some word → HeldBy layouts types objects place content position word
+  pub only : (word : ℕ) (object : HeapObject) → map.get content word ≡ Some object → (position : ℕ) × (place position ≡ Some word)
   pub injective : (p q word : ℕ) → place p ≡ Some word → place q ≡ Some word → p ≡ q
-  pub even : (word : ℕ) (object : HeapObject) → map.get heap.content word ≡ Some object → (word % 2 ≡ 0) × (0 < word)
+  pub even : (word : ℕ) (object : HeapObject) → map.get content word ≡ Some object → (word % 2 ≡ 0) × (0 < word)
 
 -- a null heap holds every object, and goes on where the table says
-pub record NullHolds {D : Type 0} (t : Table D) (place : Placing) (heap : HeapView) : Type 0 where
-  pub all_held : (position : ℕ) → position < length t.objects → (word : ℕ) × (place position ≡ Some word)
-  pub allocated : heap.allocated + 1 ≡ next_place t
+pub record NullBy {D : Type 0} (types : List Declaration) (objects : List (Object D)) (place : Placing) (bytes : ℕ) : Type 0 where
+  pub all_held : (position : ℕ) → position < length objects → (word : ℕ) × (place position ≡ Some word)
+  pub allocated : bytes + 1 ≡ next_after types 1 objects
 
 -- what one kind of heap owes alone
-abbrev pub KindHolds : {D : Type 0} → Layouts → Table D → Placing → HeapView → Type 0
-KindHolds Null t place heap = NullHolds t place heap
-KindHolds Counting t place heap = Unit {0}
-KindHolds Copying t place heap = Unit {0}
+abbrev pub KindBy : {D : Type 0} → Layouts → List Declaration → List (Object D) → Placing → ℕ → Type 0
+KindBy Null types objects place bytes = NullBy types objects place bytes
+KindBy Counting types objects place bytes = Unit {0}
+KindBy Copying types objects place bytes = Unit {0}
 
--- a scoped root of the store is the table's: its push, and its word, which is not null
-pub record EntryStands {D : Type 0} (t : Table D) (place : Placing) (index : ℕ) (entry : RootEntry) (root : Scoped) : Type 0 where
-  pub pushed : slice_get t.pushes root.serial ≡ Some (record { index = index; generation = entry.generation })
-  pub word : IsWord place root.reference entry.word
-  pub not_null : 0 < entry.word
+-- the configuration of the store is the table's: the first pages, and the greatest numbers of scoped and owned roots
+pub record SettingsBy (pages pages' scoped scoped' owned owned' : ℕ) : Type 0 where
+  pub first : pages ≡ pages'
+  pub max_scoped : scoped ≡ scoped'
+  pub max_owned : owned ≡ owned'
+  pub first_fits : pages' ≤ max_pages
+  pub few_roots : scoped' ≤ 2 ^ 31
 
--- the scoped roots are the table's, in order
-pub record ScopedHold {D : Type 0} (t : Table D) (place : Placing) (entries : List RootEntry) : Type 0 where
-  pub same_count : length entries ≡ length t.scoped
-  pub each : (i : ℕ) (entry : RootEntry) (root : Scoped)
-      → slice_get entries i ≡ Some entry → slice_get t.scoped i ≡ Some root
-      → EntryStands t place i entry root
+-- the heap has a memory where the table's is made, with as many pages; before that there are no objects
+pub record MemoryBy {D : Type 0} (attached : Bool) (bytes : ℕ) (is_made : Bool) (pages : ℕ) (objects : List (Object D)) : Type 0 where
+  pub made : attached ≡ is_made
+  pub capacity : bytes ≡ page * pages
+  pub no_pages : is_made ≡ false → pages ≡ 0
+  pub no_objects : is_made ≡ false → objects ≡ []
 
--- A push is of an earlier generation, or it is of the present one and its root still stands.
-abbrev pub IsPast : {D : Type 0} → Table D → Push → Type 0
-IsPast t p = (p.generation < t.drops) ⊎ ((p.generation ≡ t.drops) × (p.index < length t.scoped))
+-- as many scope ends were counted, and no more scoped roots stand than may
+pub record ScopesBy (ends drops count most : ℕ) : Type 0 where
+  pub generation : ends ≡ drops
+  pub scoped_within : count ≤ most
+  pub drops_within : drops ≤ 2 ^ 64 - 1
 
--- No two pushes have the same index and generation, so a handle stands for one serial. Nothing is pushed
--- once the scope ends are counted to their end.
-pub record PushesDiffer {D : Type 0} (t : Table D) : Type 0 where
-  pub past : (serial : ℕ) (p : Push) → slice_get t.pushes serial ≡ Some p → IsPast t p
-  pub early : (serial : ℕ) (p : Push) → slice_get t.pushes serial ≡ Some p → p.generation < 2 ^ 64 - 1
-  pub apart : (a b : ℕ) (p : Push) → slice_get t.pushes a ≡ Some p → slice_get t.pushes b ≡ Some p → a ≡ b
+-- The blocks of a table whose heap counts references are the positions that are placed, with their places. The
+-- lines on blocks in `NotBuilt` give way to this once a counting heap stands behind a store.
+pub record BlocksBy (place : Placing) (blocks : List Block) : Type 0 where
+  pub each : (i : ℕ) (block : Block) → slice_get blocks i ≡ Some block → place block.position ≡ Some block.place
+  pub all : (position word : ℕ) → place position ≡ Some word → (i : ℕ) × (slice_get blocks i ≡ Some (record { position = position; place = word }))
 
--- what is not built yet is empty
-pub record NothingElse {D : Type 0} (t : Table D) : Type 0 where
-  pub owns : t.owns ≡ 0
-  pub frames : t.frames ≡ []
-  pub globals : t.globals ≡ replicate global_count empty_slot
-  pub owned : t.owned ≡ []
-  pub pending : t.pending ≡ None
-  pub funcs : t.funcs ≡ []
-  pub blocks : t.blocks ≡ []
+-- What no call makes yet is empty: one line each.
+pub record NotBuilt (made : ℕ) (slots : List (List Slot)) (set : List Slot) (roots : List Owned) (exception : Option Reference) (functions : List (Option Func)) (held : List Block) : Type 0 where
+  pub owns : made ≡ 0
+  pub frames : slots ≡ []
+  pub globals : set ≡ replicate global_count empty_slot
+  pub owned : roots ≡ []
+  pub pending : exception ≡ None
+  pub funcs : functions ≡ []
+  pub blocks : held ≡ []
 
 -- the fields of every struct type are of types that are built
 abbrev pub OnlyBuilt : List Declaration → Type 0
 OnlyBuilt types = (ty : ℕ) (fields : List FieldType) → struct_fields_at types ty ≡ Some fields → All (λ (f : FieldType). is_built_field f ≡ true) fields
 
--- the numbers of the store are the table's
-pub record NumbersHold {D : Type 0} (s : StoreView) (t : Table D) : Type 0 where
-  pub generation : s.generation ≡ t.drops
-  pub first : s.first ≡ t.first
-  pub max_scoped : s.max_scoped ≡ t.max_scoped
-  pub max_owned : s.max_owned ≡ t.max_owned
-  pub made : s.heap.attached ≡ t.made
-  pub capacity : s.heap.capacity ≡ page * t.pages
-  pub no_pages : t.made ≡ false → t.pages ≡ 0
-  pub no_objects : t.made ≡ false → t.objects ≡ []
-  pub first_fits : t.first ≤ max_pages
-  pub few_roots : t.max_scoped ≤ 2 ^ 31
-  pub scoped_within : length t.scoped ≤ t.max_scoped
-  pub drops_within : t.drops ≤ 2 ^ 64 - 1
+-- A fact at each point: as the types of the facts are parameters, a change of one part of a store hands the
+-- other points on as they are.
+pub record Points (Types Settings Memory Objects Kind Scopes Scoped Pushes Frames Globals Owned Pending Functions NoHosts Nothing Built : Type 0) : Type 0 where
+  pub types : Types
+  pub settings : Settings
+  pub memory : Memory
+  pub objects : Objects
+  pub by_kind : Kind
+  pub scopes : Scopes
+  pub scoped : Scoped
+  pub pushes : Pushes
+  pub frames : Frames
+  pub globals : Globals
+  pub owned : Owned
+  pub pending : Pending
+  pub funcs : Functions
+  pub no_hosts : NoHosts
+  pub nothing_else : Nothing
+  pub only_built : Built
 
--- the store holds the table under that placing
-pub record Holds {D : Type 0} (layouts : Layouts) (s : StoreView) (t : Table D) (place : Placing) : Type 0 where
-  pub types : s.types ≡ t.types
-  pub numbers : NumbersHold s t
-  pub objects : ObjectsHold layouts t place s.heap
-  pub by_kind : KindHolds layouts t place s.heap
-  pub scoped : ScopedHold t place s.scoped
-  pub pushes : PushesDiffer t
-  pub no_hosts : s.hosts ≡ 0
-  pub nothing_else : NothingElse t
-  pub only_built : OnlyBuilt t.types
+module _ {D : Type 0} where
+  -- the points at a table, each over the parts that it speaks of
+  abbrev pub HeldAt : Layouts → Table D → Placing → map.FinMap nat_cmp HeapObject → ℕ → ℕ → Type 0
+  HeldAt layouts t place content position word = HeldBy layouts t.types t.objects place content position word
+
+  abbrev pub ObjectsHold : Layouts → Table D → Placing → HeapView → Type 0
+  ObjectsHold layouts t place heap = ObjectsBy layouts t.types t.objects place heap.content
+
+  abbrev pub NullHolds : Table D → Placing → HeapView → Type 0
+  NullHolds t place heap = NullBy t.types t.objects place heap.allocated
+
+  abbrev pub KindHolds : Layouts → Table D → Placing → HeapView → Type 0
+  KindHolds layouts t place heap = KindBy layouts t.types t.objects place heap.allocated
+
+  abbrev pub SettingsHold : StoreView → Table D → Type 0
+  SettingsHold s t = SettingsBy s.first t.first s.max_scoped t.max_scoped s.max_owned t.max_owned
+
+  abbrev pub MemoryHolds : StoreView → Table D → Type 0
+  MemoryHolds s t = MemoryBy s.heap.attached s.heap.capacity t.made t.pages t.objects
+
+  abbrev pub ScopesHold : StoreView → Table D → Type 0
+  ScopesHold s t = ScopesBy s.generation t.drops (length t.scoped) t.max_scoped
+
+  abbrev pub EntryStands : Table D → Placing → ℕ → RootEntry → Scoped → Type 0
+  EntryStands t place index entry root = EntryBy t.pushes place index entry root
+
+  abbrev pub ScopedHold : Table D → Placing → List RootEntry → Type 0
+  ScopedHold t place entries = ScopedBy t.pushes place t.scoped entries
+
+  abbrev pub IsPast : Table D → Push → Type 0
+  IsPast t p = IsPastBy t.drops (length t.scoped) p
+
+  abbrev pub PushesDiffer : Table D → Type 0
+  PushesDiffer t = PushesBy t.pushes t.drops (length t.scoped)
+
+  abbrev pub FramesHold : Table D → Placing → List (List SlotEntry) → Type 0
+  FramesHold t place entries = FramesBy place t.frames entries
+
+  abbrev pub GlobalsHold : Table D → Placing → List SlotEntry → Type 0
+  GlobalsHold t place entries = GlobalsBy place t.globals entries
+
+  abbrev pub OwnedHold : Table D → Placing → ℕ → List OwnedEntry → Type 0
+  OwnedHold t place count entries = OwnedBy place t.owns count t.owned entries
+
+  abbrev pub PendingHolds : Table D → Placing → ℕ → Type 0
+  PendingHolds t place word = PendingBy place t.pending word
+
+  abbrev pub NothingElse : Table D → Type 0
+  NothingElse t = NotBuilt t.owns t.frames t.globals t.owned t.pending t.funcs t.blocks
+
+  -- the store holds the table under that placing
+  abbrev pub Holds : Layouts → StoreView → Table D → Placing → Type 0
+  Holds layouts s t place = Points
+      (s.types ≡ t.types)
+      (SettingsHold s t)
+      (MemoryHolds s t)
+      (ObjectsHold layouts t place s.heap)
+      (KindHolds layouts t place s.heap)
+      (ScopesHold s t)
+      (ScopedHold t place s.scoped)
+      (PushesDiffer t)
+      (FramesHold t place s.frames)
+      (GlobalsHold t place s.globals)
+      (OwnedHold t place s.owns s.owned)
+      (PendingHolds t place s.pending)
+      (s.funcs ≡ t.funcs)
+      (s.hosts ≡ 0)
+      (NothingElse t)
+      (OnlyBuilt t.types)
 
 -- the store holds the table, wherever its objects lie
 abbrev pub HoldsTable : {D : Type 0} → Layouts → StoreView → Table D → Type 0

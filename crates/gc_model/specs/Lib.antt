@@ -6,6 +6,8 @@ pub mod Reads
 pub mod Live
 pub mod Sizes
 pub mod Allocation
+pub mod Words
 pub mod Stores
+pub mod RootPoints
 pub mod Holds
 pub mod Encoded

@@ -37,10 +37,10 @@ module _ (layouts : Layouts) (counter : Option ℕ) (limits : Limits) (old new :
             let did = collects is in
             gone_to did.after.account (subst (λ (t : Table ℕ). HoldsAccount layouts new t did.after.account) did.collects.table did.holds)
             (inl (
-              sym holds.table.holds.numbers.made ∙ is,
+              sym holds.table.holds.memory.made ∙ is,
               record { held = did.collects.held; last = did.collects.last; tries = did.collects.tries; upper = did.collects.upper; table = refl; limits = refl },
             ))
         | false ↦ λ is.
             gone_to s.account (subst (λ (store : StoreView). HoldsAccount layouts store s.table s.account) (sym (unmade is)) holds.table)
-            (inr (sym holds.table.holds.numbers.made ∙ is, refl))
+            (inr (sym holds.table.holds.memory.made ∙ is, refl))
       ] refl

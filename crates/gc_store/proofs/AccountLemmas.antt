@@ -27,30 +27,7 @@ account_kept s s' place a last tries upper is = record { held = is.held; last = 
 
 -- a table goes by none of the numbers of an account
 pub holds_counted : {D : Type 0} (layouts : Layouts) (s : StoreView) (t : Table D) (place : Placing) (last tries : ℕ) → Holds layouts s t place → Holds layouts (record s { last = last; tries = tries }) t place
-holds_counted layouts s t place last tries holds = record {
-  types = holds.types;
-  numbers = record {
-    generation = holds.numbers.generation;
-    first = holds.numbers.first;
-    max_scoped = holds.numbers.max_scoped;
-    max_owned = holds.numbers.max_owned;
-    made = holds.numbers.made;
-    capacity = holds.numbers.capacity;
-    no_pages = holds.numbers.no_pages;
-    no_objects = holds.numbers.no_objects;
-    first_fits = holds.numbers.first_fits;
-    few_roots = holds.numbers.few_roots;
-    scoped_within = holds.numbers.scoped_within;
-    drops_within = holds.numbers.drops_within;
-  };
-  objects = holds.objects;
-  by_kind = holds.by_kind;
-  scoped = holds.scoped;
-  pushes = holds.pushes;
-  no_hosts = holds.no_hosts;
-  nothing_else = holds.nothing_else;
-  only_built = holds.only_built;
-}
+holds_counted layouts s t place last tries holds = holds
 
 -- The bytes allocated in a heap are those of the positions it holds.
 pub allocated_is : {D : Type 0} (layouts : Layouts) (s : StoreView) (t : Table D) (place : Placing) (held : List ℕ) → Holds layouts s t place → AreAll (IsPlaced place) held → IsHeap layouts s.heap
@@ -59,27 +36,27 @@ allocated_is Null s t place held holds all heap = let next = holds.by_kind.alloc
 allocated_is Counting s t place held holds all heap = heap.allocated ∙ sym (held_blocks Counting s t place holds held all)
 allocated_is Copying s t place held holds all heap =
     heap.allocated
-    ∙ ap (λ (b : Bool). if b then 0 else 16 + total (block_size Copying) s.heap.content) (no_capacity s.heap.capacity t.pages holds.numbers.capacity)
+    ∙ ap (λ (b : Bool). if b then 0 else 16 + total (block_size Copying) s.heap.content) (no_capacity s.heap.capacity t.pages holds.memory.capacity)
     ∙ ap (λ (n : ℕ). if t.pages == 0 then 0 else 16 + n) (sym (held_blocks Copying s t place holds held all))
 
 -- room of the heap is room by the account
 pub fits_now : {D : Type 0} (layouts : Layouts) (s : StoreView) (t : Table D) (a : Account) (limits : Limits) (size : ℕ) → IsHeap layouts s.heap → HoldsAccount layouts s t a → HasRoom layouts s.heap size
     → FitsNow layouts size (policy_state t a limits)
-fits_now Null s t a limits size heap holds room = let next = holds.holds.by_kind.allocated in let capacity = holds.holds.numbers.capacity in omega arith
+fits_now Null s t a limits size heap holds room = let next = holds.holds.by_kind.allocated in let capacity = holds.holds.memory.capacity in omega arith
 fits_now Counting s t a limits size heap holds room = tt
 fits_now Copying s t a limits size heap holds room =
     let blocks = held_blocks Copying s t holds.place holds.holds a.held holds.account.held in
-    let capacity = holds.holds.numbers.capacity in
+    let capacity = holds.holds.memory.capacity in
     omega arith
 
 -- and so is its lack
 pub lacks_now : {D : Type 0} (layouts : Layouts) (s : StoreView) (t : Table D) (a : Account) (limits : Limits) (size : ℕ) → IsHeap layouts s.heap → HoldsAccount layouts s t a → (HasRoom layouts s.heap size → ⊥)
     → LacksNow layouts size (policy_state t a limits)
-lacks_now Null s t a limits size heap holds none = λ fits. none (let next = holds.holds.by_kind.allocated in let capacity = holds.holds.numbers.capacity in omega arith)
+lacks_now Null s t a limits size heap holds none = λ fits. none (let next = holds.holds.by_kind.allocated in let capacity = holds.holds.memory.capacity in omega arith)
 lacks_now Counting s t a limits size heap holds none = tt
 lacks_now Copying s t a limits size heap holds none = λ fits. none (
     let blocks = held_blocks Copying s t holds.place holds.holds a.held holds.account.held in
-    let capacity = holds.holds.numbers.capacity in
+    let capacity = holds.holds.memory.capacity in
     omega arith)
 
 -- which half is active after a collection

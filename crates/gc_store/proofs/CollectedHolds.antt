@@ -8,10 +8,12 @@ use Rattle.gc_types.specs.declared.kind.Layouts.TheVariants.{Null, Counting, Cop
 use Rattle.gc_roots.specs.Roots.{Root}
 use Rattle.gc_model.specs.declared.RootEntry.{RootEntry}
 use Rattle.gc_model.specs.Values.{Reference, null, small, at, struct}
-use Rattle.gc_model.specs.Table.{Table, Scoped}
+use Rattle.gc_model.specs.Table.{Table, Scoped, global_count}
 use Rattle.gc_model.specs.Reach.{IsKept}
 use Rattle.gc_view.specs.Heaps.{HeapView, HeapObject}
 use Rattle.gc_model.specs.Stores.{StoreView}
+use Rattle.gc_model.proofs.HoldsParts.{places_changed}
+use Rattle.gc_model.proofs.RootsMoved.{frames-none, globals-unset, owned-none, pending-none}
 use Rattle.gc_model.specs.Holds.{Placing, IsWord, EntryStands, HeldAt, ObjectsHold, KindHolds, ScopedHold, Holds, HoldsKept}
 use Rattle.gc_heap.specs.References.{references}
 use Rattle.gc_heap.specs.Content.{IsHeld, IsHeap}
@@ -137,30 +139,22 @@ module _ {D : Type 0} (layouts : Layouts) (s : StoreView) (t : Table D) (place :
   }
 
   holds_after : KindHolds layouts t after heap → Holds layouts (record s { heap = heap; scoped = entries }) t after
-  holds_after kind = record {
-    types = c.holds.types;
-    numbers = record {
-      generation = c.holds.numbers.generation;
-      first = c.holds.numbers.first;
-      max_scoped = c.holds.numbers.max_scoped;
-      max_owned = c.holds.numbers.max_owned;
-      made = done.attached ∙ sym c.attached ∙ c.holds.numbers.made;
-      capacity = done.capacity ∙ c.holds.numbers.capacity;
-      no_pages = c.holds.numbers.no_pages;
-      no_objects = c.holds.numbers.no_objects;
-      first_fits = c.holds.numbers.first_fits;
-      few_roots = c.holds.numbers.few_roots;
-      scoped_within = c.holds.numbers.scoped_within;
-      drops_within = c.holds.numbers.drops_within;
-    };
-    objects = objects_after;
-    by_kind = kind;
-    scoped = scoped_after;
-    pushes = c.holds.pushes;
-    no_hosts = c.holds.no_hosts;
-    nothing_else = c.holds.nothing_else;
-    only_built = c.holds.only_built;
-  }
+  holds_after kind =
+      let nothing = c.holds.nothing_else in
+      places_changed c.holds
+      (record {
+        made = done.attached ∙ sym c.attached ∙ c.holds.memory.made;
+        capacity = done.capacity ∙ c.holds.memory.capacity;
+        no_pages = c.holds.memory.no_pages;
+        no_objects = c.holds.memory.no_objects;
+      })
+      objects_after
+      kind
+      scoped_after
+      (frames-none place after t.frames s.frames nothing.frames c.holds.frames)
+      (globals-unset place after global_count t.globals s.globals nothing.globals c.holds.globals)
+      (owned-none place after t.owns s.owns t.owned s.owned nothing.owned c.holds.owned)
+      (pending-none place after t.pending s.pending nothing.pending c.holds.pending)
 
   kept_after : (p word : ℕ) → after p ≡ Some word → IsKept layouts t p
   kept_after p word e =

@@ -63,7 +63,7 @@ module _ {D : Type 0} (s : StoreView) (t : Table D) (place : Placing) (holds : H
   -- Room beside all objects of the heap is room beside those that are reached.
   pub held_room : (size : ℕ) → HasRoom Copying s.heap size → allocation.HasRoom t size
   held_room size room =
-      let capacity = holds.numbers.capacity in
+      let capacity = holds.memory.capacity in
       let part = sum_part (copied_size t) reached all_positions reached_are.distinct (λ p c. (passing (is_reached t.objects (root_references t)) all_positions p c).0) in
       let all = total_is in
       let as_sum = sum-map (copied_size t) reached in
@@ -73,7 +73,7 @@ module _ {D : Type 0} (s : StoreView) (t : Table D) (place : Placing) (holds : H
 pub collected_room : {D : Type 0} (s : StoreView) (t : Table D) (size : ℕ) → HoldsKept Copying s t → allocation.HasRoom t size → HasRoom Copying s.heap size
 collected_room s t size kept has =
     let holds = kept.1.0 in
-    let capacity = holds.numbers.capacity in
+    let capacity = holds.memory.capacity in
     let are = are_kept Copying s t kept.0 holds kept.1.1 in
     let part = sum_part (copied_size t) (positions Copying t kept.0 s.heap holds.objects) has.reached are.distinct (λ p c. (has.are_reached.all p).1 ((are.all p).0 c)) in
     let all : sum_by (copied_size t) (positions Copying t kept.0 s.heap holds.objects) ≡ total (block_size Copying) s.heap.content = total_is s t kept.0 holds in
@@ -83,12 +83,12 @@ collected_room s t size kept has =
 
 -- where a heap has room for so many bytes, the table has
 pub fits_in : {D : Type 0} (layouts : Layouts) (s : StoreView) (t : Table D) (place : Placing) (size : ℕ) → Holds layouts s t place → HasRoom layouts s.heap size → FitsIn layouts t size
-fits_in Null s t place size holds room = let next = holds.by_kind.allocated in let capacity = holds.numbers.capacity in omega arith
+fits_in Null s t place size holds room = let next = holds.by_kind.allocated in let capacity = holds.memory.capacity in omega arith
 fits_in Counting s t place size holds room = tt
 fits_in Copying s t place size holds room = held_room s t place holds size room
 
 -- where a heap has none after a collection, the table has none
 pub lacks_fit : {D : Type 0} (layouts : Layouts) (s : StoreView) (t : Table D) (size : ℕ) → HoldsKept layouts s t → (HasRoom layouts s.heap size → ⊥) → LacksFit layouts t size
-lacks_fit Null s t size kept none = λ fits. none (let next = kept.1.0.by_kind.allocated in let capacity = kept.1.0.numbers.capacity in omega arith)
+lacks_fit Null s t size kept none = λ fits. none (let next = kept.1.0.by_kind.allocated in let capacity = kept.1.0.memory.capacity in omega arith)
 lacks_fit Counting s t size kept none = tt
 lacks_fit Copying s t size kept none = λ has. none (collected_room s t size kept has)

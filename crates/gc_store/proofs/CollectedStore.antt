@@ -40,7 +40,7 @@ unmade_kept {D} layouts s t detached holds = (
     holds.1,
     λ p word e.
         let held = holds.1.objects.placed p word e in
-        let none : t.objects ≡ [] = holds.1.numbers.no_objects (sym holds.1.numbers.made ∙ detached) in
+        let none : t.objects ≡ [] = holds.1.memory.no_objects (sym holds.1.memory.made ∙ detached) in
         absurd (none-some held.entry (ap (λ (os : List (Object D)). slice_get os p) (sym none) ∙ held.in_table)),
   ),
 )

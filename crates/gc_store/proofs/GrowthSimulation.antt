@@ -51,7 +51,7 @@ module _ {D : Type 0} (layouts : Layouts) (s : StoreView) (bytes : ℕ) (h : Hea
   grown_table limits ok = record p { table = table_after ok bytes p.table; limits = limits }
 
   pages_are : pages_of h.heap ≡ p.table.pages
-  pages_are = whole_pages h.heap.capacity p.table.pages agrees.holds.holds.numbers.capacity
+  pages_are = whole_pages h.heap.capacity p.table.pages agrees.holds.holds.memory.capacity
 
   -- a heap that has grown, or has not, holds the table that has
   growth_agrees : (limits : Limits) (ok : Bool) → IsHeap layouts (heap_after layouts ok bytes h.heap) → Agrees layouts s (grown_state limits ok) (grown_table limits ok)
@@ -62,7 +62,7 @@ module _ {D : Type 0} (layouts : Layouts) (s : StoreView) (bytes : ℕ) (h : Hea
       let is_grown : IsGrownHeap layouts h.heap new pages = record {
         attached = agrees.attached;
         content = refl;
-        capacity = more_pages h.heap.capacity (pages_of h.heap) (asked (pages_of h.heap) bytes) (agrees.holds.holds.numbers.capacity ∙ ap (λ (n : ℕ). page * n) (sym pages_are)) ∙ ap (λ (n : ℕ). page * (n + asked n bytes)) pages_are;
+        capacity = more_pages h.heap.capacity (pages_of h.heap) (asked (pages_of h.heap) bytes) (agrees.holds.holds.memory.capacity ∙ ap (λ (n : ℕ). page * n) (sym pages_are)) ∙ ap (λ (n : ℕ). page * (n + asked n bytes)) pages_are;
         allocated = λ null. ap (λ (k : Layouts). allocated_in_more k h.heap (page * asked (pages_of h.heap) bytes)) null;
       } in
       record {

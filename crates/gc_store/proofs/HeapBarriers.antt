@@ -154,6 +154,6 @@ pub few_roots : {D : Type 0} (layouts : Layouts) (s : StoreView) (t : Table D) (
 few_roots layouts s t place holds =
     let count = length-map s.scoped (λ (e : RootEntry). root_of e.word) in
     let same = holds.scoped.same_count in
-    let within = holds.numbers.scoped_within in
-    let few = holds.numbers.few_roots in
+    let within = holds.scopes.scoped_within in
+    let few = holds.settings.few_roots in
     omega arith

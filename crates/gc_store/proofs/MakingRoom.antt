@@ -14,7 +14,7 @@ use Rattle.gc_store.proofs.Expanding.{grows_pages}
 
 -- the bytes of the heap beside the allocated ones are those by the account
 pub unused_is : {D : Type 0} (layouts : Layouts) (s : StoreView) (t : Table D) (a : Account) (limits : Limits) → IsHeap layouts s.heap → HoldsAccount layouts s t a → s.heap.capacity - s.heap.allocated ≡ unused_bytes layouts (policy_state t a limits)
-unused_is layouts s t a limits heap holds i = holds.holds.numbers.capacity i - allocated_is layouts s t holds.place a.held holds.holds holds.account.held heap i
+unused_is layouts s t a limits heap holds i = holds.holds.memory.capacity i - allocated_is layouts s t holds.place a.held holds.holds holds.account.held heap i
 
 -- what the table came to by a collection, where its heap is made
 pub record FollowsGc {D : Type 0} (layouts : Layouts) (p : PolicyState D) (new : StoreView) : Type 0 where
@@ -32,14 +32,14 @@ gc_follows layouts old new p holds ran same =
           let collected = ran made in
           record {
             after = collected.after;
-            collects = inl (sym holds.holds.numbers.made ∙ made, collected.collects);
+            collects = inl (sym holds.holds.memory.made ∙ made, collected.collects);
             holds = collected.holds;
             table = collected.collects.table;
             limits = collected.collects.limits;
           }
       | false ↦ λ unmade. record {
         after = p;
-        collects = inr (sym holds.holds.numbers.made ∙ unmade, refl);
+        collects = inr (sym holds.holds.memory.made ∙ unmade, refl);
         holds = subst (λ (s : StoreView). HoldsAccount layouts s p.table p.account) (sym (same unmade)) holds;
         table = refl;
         limits = refl;

@@ -63,7 +63,7 @@ module _ {D : Type 0} (layouts : Layouts) (s : StoreView) (h : HeapState) (p : P
 
   stood_agrees : (made : HeapView) (limits : Limits) → h.heap.attached ≡ true → made ≡ h.heap → Agrees layouts s (made_state made limits) (made_table limits)
   stood_agrees made limits attached same_heap =
-      let is_made : p.table.made ≡ true = sym shows.holds.holds.numbers.made ∙ attached in
+      let is_made : p.table.made ≡ true = sym shows.holds.holds.memory.made ∙ attached in
       record {
         holds = subst (λ (x : HeapView). HoldsAccount layouts (view_at s (made_state x limits)) (make_heap p.table) p.account) (sym same_heap)
             (subst (λ (t : Table D). HoldsAccount layouts (view_at s h) t p.account) (sym (made_again p.table is_made)) shows.holds);
@@ -75,8 +75,8 @@ module _ {D : Type 0} (layouts : Layouts) (s : StoreView) (h : HeapState) (p : P
 
   got_agrees : (made : HeapView) (limits : Limits) → GetsFirst layouts s.first h.heap made h.limits.limit → Agrees layouts s (made_state made limits) (made_table limits)
   got_agrees made limits gets =
-      let unmade : p.table.made ≡ false = sym shows.holds.holds.numbers.made ∙ gets.detached in
-      let first : s.first ≡ p.table.first = shows.holds.holds.numbers.first in
+      let unmade : p.table.made ≡ false = sym shows.holds.holds.memory.made ∙ gets.detached in
+      let first : s.first ≡ p.table.first = shows.holds.holds.settings.first in
       let is_made : IsMadeHeap layouts made p.table.first = record {
         attached = ap (λ (x : HeapView). x.attached) gets.empty;
         content = ap (λ (x : HeapView). x.content) gets.empty;
@@ -91,14 +91,14 @@ module _ {D : Type 0} (layouts : Layouts) (s : StoreView) (h : HeapState) (p : P
           account = account_kept (view_at s h) (view_at s (made_state made limits)) shows.holds.place p.account refl refl lower shows.holds.account;
         };
         limits = refl;
-        is_heap = subst (IsHeap layouts) (sym gets.empty) (made_heap layouts s.first h.heap.scopes (subst (λ (n : ℕ). n ≤ max_pages) (sym first) shows.holds.holds.numbers.first_fits) shows.is_heap.scopes);
+        is_heap = subst (IsHeap layouts) (sym gets.empty) (made_heap layouts s.first h.heap.scopes (subst (λ (n : ℕ). n ≤ max_pages) (sym first) shows.holds.holds.settings.first_fits) shows.is_heap.scopes);
         collectable = attached_kept layouts s.types h.heap made (page * s.first) (roots_of h.entries) h.hosts shows.is_heap gets.detached (inl gets.empty) shows.collectable;
         attached = ap (λ (x : HeapView). x.attached) gets.empty;
       }
 
   pub making_follows : (made : HeapView) (limits : Limits) → MakesHeap layouts s.first h.heap made h.limits limits (Ok tt) → FollowsMaking layouts s (made_state made limits) p
   making_follows made limits (inl (attached, same_heap), same_limits) =
-      let is_made : p.table.made ≡ true = sym shows.holds.holds.numbers.made ∙ attached in
+      let is_made : p.table.made ≡ true = sym shows.holds.holds.memory.made ∙ attached in
       let is_same : limits ≡ p.limits = same_limits ∙ sym shows.limits in
       record {
         after = made_table limits;
@@ -110,10 +110,10 @@ module _ {D : Type 0} (layouts : Layouts) (s : StoreView) (h : HeapState) (p : P
         may = λ unmade. absurd (cc (sym is_made ∙ unmade));
       }
   making_follows made limits (inr gets, same_limits) =
-      let unmade : p.table.made ≡ false = sym shows.holds.holds.numbers.made ∙ gets.detached in
+      let unmade : p.table.made ≡ false = sym shows.holds.holds.memory.made ∙ gets.detached in
       let is_same : limits ≡ p.limits = same_limits ∙ sym shows.limits in
       let may : IfSome p.limits.limit (λ most. p.table.first ≤ most) =
-      subst (λ (l : Limits). IfSome l.limit (λ most. p.table.first ≤ most)) (sym shows.limits) (subst (λ (n : ℕ). IfSome h.limits.limit (λ most. n ≤ most)) shows.holds.holds.numbers.first gets.granted) in
+      subst (λ (l : Limits). IfSome l.limit (λ most. p.table.first ≤ most)) (sym shows.limits) (subst (λ (n : ℕ). IfSome h.limits.limit (λ most. n ≤ most)) shows.holds.holds.settings.first gets.granted) in
       record {
         after = made_table limits;
         makes = record { asks = subst (λ (l : Limits). AsksFirst p.table.made p.table.first p.limits true l) (sym is_same) (granted unmade may); after = refl };
@@ -167,18 +167,18 @@ module _ {D : Type 0} (layouts : Layouts) (s : StoreView) (h : HeapState) (p : P
   -- the first pages were refused the table as they were refused the heap
   pub refusal_follows : (e : HeapState) → IsRefusedPages s.first h.heap e.heap h.limits e.limits → MakesTable p false (record p { limits = e.limits })
   refusal_follows e no_pages =
-      let unmade : p.table.made ≡ false = sym shows.holds.holds.numbers.made ∙ no_pages.detached in
+      let unmade : p.table.made ≡ false = sym shows.holds.holds.memory.made ∙ no_pages.detached in
       record {
         asks = subst (λ (l : Limits). AsksFirst p.table.made p.table.first l false e.limits) (sym shows.limits)
-            (subst (λ (n : ℕ). AsksFirst p.table.made n h.limits false e.limits) shows.holds.holds.numbers.first (refused unmade no_pages.wanted no_pages.above no_pages.counted));
+            (subst (λ (n : ℕ). AsksFirst p.table.made n h.limits false e.limits) shows.holds.holds.settings.first (refused unmade no_pages.wanted no_pages.above no_pages.counted));
         after = refl;
       }
 
   pub no_heap_follows : (e : HeapState) → IsRefusedPages s.first h.heap e.heap h.limits e.limits → IsRefusedHeap p.limits.limit p.table
   no_heap_follows e no_pages =
-      let first : s.first ≡ p.table.first = shows.holds.holds.numbers.first in
+      let first : s.first ≡ p.table.first = shows.holds.holds.settings.first in
       record {
-        unmade = sym shows.holds.holds.numbers.made ∙ no_pages.detached;
+        unmade = sym shows.holds.holds.memory.made ∙ no_pages.detached;
         wanted = subst (λ (n : ℕ). 0 < n) first no_pages.wanted;
         above = subst (λ (l : Limits). MayRefuse l.limit p.table.first) (sym shows.limits) (subst (λ (n : ℕ). MayRefuse h.limits.limit n) first no_pages.above);
       }

@@ -136,8 +136,8 @@ module _ {D : Type 0} (layouts : Layouts) (s : StoreView) (ty : ℕ) (raws : Lis
         let beginning = begun due due_is b begins in
         let retried = retry_follows layouts (counted_store s) (size_of layouts can.fields) b beginning.after beginning.agrees true made.mid made.retried in
         let count : length e.entries ≡ length retried.after.table.scoped = ap (λ (x : HeapState). length x.entries) made.rest ∙ retried.agrees.holds.holds.scoped.same_count in
-        let within = retried.agrees.holds.holds.numbers.scoped_within in
-        let few = retried.agrees.holds.holds.numbers.few_roots in
+        let within = retried.agrees.holds.holds.scopes.scoped_within in
+        let few = retried.agrees.holds.holds.settings.few_roots in
         omega arith
 
     -- A struct that was made and pushed is in the table, under the handle of its push; and its heap is made.
@@ -169,7 +169,7 @@ module _ {D : Type 0} (layouts : Layouts) (s : StoreView) (ty : ℕ) (raws : Lis
             limits = ap (λ (x : HeapState). x.limits) made.rest ∙ sym retried.agrees.limits;
             handle_is = handle_is ∙ (λ i. record {
               store_id = record { engine = s.engine; number = s.number };
-              generation = (generation_is ∙ holds.holds.numbers.generation) i;
+              generation = (generation_is ∙ holds.holds.scopes.generation) i;
               slot = slot.Scoped ((ap (λ (x : HeapState). length x.entries) made.rest ∙ after.holds.scoped.same_count) i);
             });
           },

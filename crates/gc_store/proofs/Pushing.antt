@@ -34,7 +34,7 @@ entry_of generation word = record { generation = generation; word = word }
 
 -- the store may push a root exactly where the table may
 pub full_is : {D : Type 0} (layouts : Layouts) (s : StoreView) (t : Table D) (place : Placing) → Holds layouts s t place → is_full s ≡ roots_full t
-full_is layouts s t place holds i = nat_le (holds.numbers.max_scoped i) (holds.scoped.same_count i) || (holds.numbers.generation i == 2 ^ 64 - 1)
+full_is layouts s t place holds i = nat_le (holds.settings.max_scoped i) (holds.scoped.same_count i) || (holds.scopes.generation i == 2 ^ 64 - 1)
 
 pub roots_of-push : (entries : List RootEntry) (generation word : ℕ) → roots_of (entries ++ entry_of generation word ∷ []) ≡ roots_of entries ++ root_of word ∷ []
 roots_of-push entries generation word = map-append (λ (e : RootEntry). root_of e.word) entries (entry_of generation word ∷ [])
@@ -100,7 +100,7 @@ module _ (layouts : Layouts) (s : StoreView) (heap : HeapView) (roots : RootSetV
   pushes_root handle handle_is t place a r holds account is = (
     table_room t place holds,
     (
-      handle_is ∙ (λ i. record { store_id = record { engine = s.engine; number = s.number }; generation = (holds.numbers.generation i); slot = slot.Scoped (holds.scoped.same_count i) }),
+      handle_is ∙ (λ i. record { store_id = record { engine = s.engine; number = s.number }; generation = (holds.scopes.generation i); slot = slot.Scoped (holds.scoped.same_count i) }),
       account_pushed t place a r holds account is,
     ),
   )

@@ -98,7 +98,7 @@ module _ {D : Type 0} (layouts : Layouts) (s : StoreView) (size : ℕ) where
 
   module _ (h : HeapState) (p : PolicyState D) (agrees : Agrees layouts s h p) where
     first_is : (b : Bool) → collects_first (need_of layouts size) h.heap.capacity h.last ≡ b → (table_rules layouts size).collects_first p ≡ b
-    first_is b is = ap (λ (n : ℕ). collects_first (need_of layouts size) n p.account.last) (sym agrees.holds.holds.numbers.capacity) ∙ ap (λ (n : ℕ). collects_first (need_of layouts size) h.heap.capacity n) (sym agrees.holds.account.last) ∙ is
+    first_is b is = ap (λ (n : ℕ). collects_first (need_of layouts size) n p.account.last) (sym agrees.holds.holds.memory.capacity) ∙ ap (λ (n : ℕ). collects_first (need_of layouts size) h.heap.capacity n) (sym agrees.holds.account.last) ∙ is
 
     lacks : (HasRoom layouts h.heap size → ⊥) → (table_rules layouts size).Lacks p
     lacks room = lack_follows layouts s h p agrees size room

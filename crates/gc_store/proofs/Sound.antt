@@ -125,6 +125,11 @@ starts_configured D layouts config s holds =
       allocated = untouched.allocated;
       first_fits = config.few_pages;
       few_roots = config.few_roots;
+      frames = untouched.frames;
+      globals = untouched.globals;
+      owned = untouched.owned;
+      pending = untouched.pending;
+      funcs = untouched.funcs;
       no_hosts = untouched.no_hosts;
     } in
     starts_untouched D layouts (configured config s) still (record { last = holds.account.last; tries = holds.account.tries; upper = holds.account.upper })

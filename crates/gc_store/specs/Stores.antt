@@ -10,7 +10,7 @@ use Rattle.gc_types.specs.Declarable.{Declarable}
 use Rattle.gc_types.specs.Declarations.{Declaration, TypeTable, TypeName, plain_struct}
 use Rattle.gc_model.specs.Table.{Table, start, declare}
 use Rattle.gc_view.specs.Heaps.{HeapView}
-use Rattle.gc_model.specs.Stores.{StoreView}
+use Rattle.gc_model.specs.Stores.{StoreView, unset_globals}
 use Rattle.gc_store.specs.Accounts.{Account, no_account, HoldsAccount}
 use Rattle.gc_store.specs.RootSets.{RootSetView}
 use Rattle.gc_store.specs.Tracing.{IsCollectable, roots_of}
@@ -27,6 +27,12 @@ store_view id config types heap hosts roots tries = record {
   hosts = hosts;
   scoped = roots.entries;
   generation = roots.generation;
+  frames = [];
+  globals = unset_globals;
+  owned = [];
+  owns = 0;
+  pending = 0;
+  funcs = [];
   last = roots.last;
   tries = tries;
   first = config.first_pages;

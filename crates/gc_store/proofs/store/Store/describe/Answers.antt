@@ -14,7 +14,7 @@ same_word g c = SomeIff-value _ c.from_raw_u32.result c.args.word c.unwrap-gc_re
 pub returns-in-Some : goal.returns-in-Some
 returns-in-Some g c t place r holds is positive =
     let same = same_word g (goal.at.returns-in-Some g c).After-as_i31 in
-    describes_small _ _ t place r c.args.word c.in-Some.number holds is (sym same ∙ c.in-Some.ensures)
+    describes_small g.H.GcHeap.KIND c.args.self.now t place r c.args.word c.in-Some.number holds is (sym same ∙ c.in-Some.ensures)
 
 -- an object of the store's heap is one of the heap that is asked
 found : (g : given.Over) (c : After-header g) → c.unwrap-gc_ref.result ≡ c.args.word → (object : HeapObject) → map.get c.args.self.now.heap.content c.args.word ≡ Some object → map.get (g.H.GcHeap.seen c.self.inside.heap).content c.unwrap-gc_ref.result ≡ Some object
@@ -24,7 +24,7 @@ found g c same object e =
 pub unreachable-requires : goal.unreachable-requires
 unreachable-requires g c =
     let same = same_word g (goal.at.unreachable-requires g c).After-as_i31 in
-    let held = held_object _ _ c.requires.table c.requires.place c.requires.root c.args.word c.requires.holds c.requires.is_word c.requires.not_null
+    let held = held_object g.H.GcHeap.KIND c.args.self.now c.requires.table c.requires.place c.requires.root c.args.word c.requires.holds c.requires.is_word c.requires.not_null
     (λ odd. is_even c.as_i31.result c.unwrap-gc_ref.result c.as_i31.ensures c.in_default.not-Some (ap (λ w. w % 2) same ∙ odd)) in
     c.in-Err.ensures.held held.0 (found g (goal.at.unreachable-requires g c).After-header same held.0 held.1)
 

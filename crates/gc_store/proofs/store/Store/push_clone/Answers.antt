@@ -23,7 +23,7 @@ root_word g c = subst (λ (s : StoreView). IsRootWord g.row.D.Denot g.H.GcHeap.K
 pub clone_gc_ref-requires-clause-named : goal.clone_gc_ref-requires-clause-named
 clone_gc_ref-requires-clause-named g c =
     let is = root_word g (goal.at.clone_gc_ref-requires-clause-named g c).After-is_err in
-    may_name g.H.GcHeap.KIND _ is.table is.place is.root c.args.gc_ref.now _ is.holds (g.met.H.GcHeap.is_heap c.self.inside.heap c.self.invariant.heap) c.self.invariant.collectable is.is_word is.not_null
+    may_name g.H.GcHeap.KIND (view g (goal.at.clone_gc_ref-requires-clause-named g c).After-is_err) is.table is.place is.root c.args.gc_ref.now _ is.holds (g.met.H.GcHeap.is_heap c.self.inside.heap c.self.invariant.heap) c.self.invariant.collectable is.is_word is.not_null
 
 -- the word that is pushed
 word_is : (g : given.Over) (c : After-push_root g) → c.as_raw_u32-word.result ≡ c.args.gc_ref.now

@@ -1,0 +1,117 @@
+-- Roots stand for the table's under another placing, where it gives what they name the same words.
+use Rattle.std.proofs.Common.{◌≡◌, ℕ, List, [], ◌∷◌, Some, None, Option, sym, ap, ◌∙◌, refl, subst, arith, zero, suc}
+use Rattle.std.specs.List.{slice_get}
+use Rattle.std.specs.Prelude.{replicate}
+use Rattle.std.proofs.lemmas.Option.{none-some}
+use Rattle.gc_model.specs.declared.RootEntry.{RootEntry}
+use Rattle.gc_model.specs.declared.SlotEntry.{SlotEntry}
+use Rattle.gc_model.specs.Values.{Reference}
+use Rattle.gc_model.specs.Table.{Slot, Owned, Scoped, Push, empty_slot, global_count}
+use Rattle.gc_model.specs.Stores.{OwnedEntry, empty_entry, unset_globals}
+use Rattle.gc_model.specs.Words.{Placing, IsWord}
+use Rattle.gc_model.specs.RootPoints.{ScopedBy, SlotBy, SlotsBy, FramesBy, GlobalsBy, OwnedBy, PendingBy}
+use Rattle.gc_model.proofs.Placings.{IsWithin, is_word-more}
+
+-- each word of the reference under one placing is its word under the other
+abbrev pub Carries : Placing → Placing → Reference → Type 0
+Carries place place' r = (word : ℕ) → IsWord place r word → IsWord place' r word
+
+module _ (place place' : Placing) where
+  pub slots-moved : (slots : List Slot) (entries : List SlotEntry) → ((i : ℕ) (slot : Slot) → slice_get slots i ≡ Some slot → Carries place place' slot.reference) → SlotsBy place slots entries → SlotsBy place' slots entries
+  slots-moved slots entries carries by = record {
+    same_count = by.same_count;
+    each = λ i entry slot e f. let stands = by.each i entry slot e f in record { class = stands.class; word = carries i slot f entry.word stands.word };
+  }
+
+  pub frames-moved : (frames : List (List Slot)) (entries : List (List SlotEntry))
+      → ((i : ℕ) (frame : List Slot) → slice_get frames i ≡ Some frame → (j : ℕ) (slot : Slot) → slice_get frame j ≡ Some slot → Carries place place' slot.reference)
+      → FramesBy place frames entries → FramesBy place' frames entries
+  frames-moved frames entries carries by = record {
+    same_count = by.same_count;
+    each = λ i slots frame e f. slots-moved frame slots (carries i frame f) (by.each i slots frame e f);
+  }
+
+  pub globals-moved : (globals : List Slot) (entries : List SlotEntry) → ((i : ℕ) (slot : Slot) → slice_get globals i ≡ Some slot → Carries place place' slot.reference) → GlobalsBy place globals entries → GlobalsBy place' globals entries
+  globals-moved globals entries carries by = record { count = by.count; slots = slots-moved globals entries carries by.slots }
+
+  pub owned-moved : (owns count : ℕ) (owned : List Owned) (entries : List OwnedEntry) → ((i : ℕ) (root : Owned) → slice_get owned i ≡ Some root → Carries place place' root.reference)
+      → OwnedBy place owns count owned entries → OwnedBy place' owns count owned entries
+  owned-moved owns count owned entries carries by = record {
+    same_owns = by.same_owns;
+    same_count = by.same_count;
+    each = λ i entry root e f. let stands = by.each i entry root e f in record {
+      id = stands.id;
+      number = stands.number;
+      handles = stands.handles;
+      word = carries i root f entry.word stands.word;
+      not_null = stands.not_null;
+    };
+    rising = by.rising;
+    early = by.early;
+    apart = by.apart;
+  }
+
+  pub pending-moved : (pending : Option Reference) (word : ℕ) → ((r : Reference) → pending ≡ Some r → Carries place place' r) → PendingBy place pending word → PendingBy place' pending word
+  pending-moved None word carries by = by
+  pending-moved (Some r) word carries by = (carries r refl word by.0, by.1)
+
+  -- where more positions are placed, all words are the same
+  module _ (within : IsWithin place place') where
+    carries-more : (r : Reference) → Carries place place' r
+    carries-more r word is = is_word-more place place' r word within is
+
+    pub scoped-more : (pushes : List Push) (roots : List Scoped) (entries : List RootEntry) → ScopedBy pushes place roots entries → ScopedBy pushes place' roots entries
+    scoped-more pushes roots entries by = record {
+      same_count = by.same_count;
+      each = λ i entry root e f. let stands = by.each i entry root e f in record { pushed = stands.pushed; word = carries-more root.reference entry.word stands.word; not_null = stands.not_null };
+    }
+
+    pub frames-more : (frames : List (List Slot)) (entries : List (List SlotEntry)) → FramesBy place frames entries → FramesBy place' frames entries
+    frames-more frames entries by = frames-moved frames entries (λ i frame e j slot f. carries-more slot.reference) by
+
+    pub globals-more : (globals : List Slot) (entries : List SlotEntry) → GlobalsBy place globals entries → GlobalsBy place' globals entries
+    globals-more globals entries by = globals-moved globals entries (λ i slot e. carries-more slot.reference) by
+
+    pub owned-more : (owns count : ℕ) (owned : List Owned) (entries : List OwnedEntry) → OwnedBy place owns count owned entries → OwnedBy place' owns count owned entries
+    owned-more owns count owned entries by = owned-moved owns count owned entries (λ i root e. carries-more root.reference) by
+
+    pub pending-more : (pending : Option Reference) (word : ℕ) → PendingBy place pending word → PendingBy place' pending word
+    pending-more pending word by = pending-moved pending word (λ r e. carries-more r) by
+
+  -- where there are none, nothing is to be carried
+  pub frames-none : (frames : List (List Slot)) (entries : List (List SlotEntry)) → frames ≡ [] → FramesBy place frames entries → FramesBy place' frames entries
+  frames-none frames entries none by = frames-moved frames entries (λ i frame e. absurd (none-some frame (ap (λ fs. slice_get fs i) (sym none) ∙ e))) by
+
+  pub owned-none : (owns count : ℕ) (owned : List Owned) (entries : List OwnedEntry) → owned ≡ [] → OwnedBy place owns count owned entries → OwnedBy place' owns count owned entries
+  owned-none owns count owned entries none by = owned-moved owns count owned entries (λ i root e. absurd (none-some root (ap (λ rs. slice_get rs i) (sym none) ∙ e))) by
+
+  pub pending-none : (pending : Option Reference) (word : ℕ) → pending ≡ None → PendingBy place pending word → PendingBy place' pending word
+  pending-none pending word none by = pending-moved pending word (λ r e. absurd (none-some r (sym none ∙ e))) by
+
+-- an element of a list of one element many times is that one
+replicated : {X : Type 0} (n : ℕ) (x : X) (i : ℕ) (y : X) → slice_get (replicate n x) i ≡ Some y → x ≡ y
+replicated zero x i y e = absurd (none-some y e)
+replicated (suc n) x zero y e = grind (arith, e)
+replicated (suc n) x (suc i) y e = replicated n x i y e
+
+-- a null reference has the same word under each placing
+carries-null : (place place' : Placing) (slot : Slot) → empty_slot ≡ slot → Carries place place' slot.reference
+carries-null place place' slot is = subst (λ (s : Slot). Carries place place' s.reference) is (λ word null. null)
+
+-- globals that name nothing stand under every placing
+pub globals-unset : (place place' : Placing) (n : ℕ) (globals : List Slot) (entries : List SlotEntry) → globals ≡ replicate n empty_slot → GlobalsBy place globals entries → GlobalsBy place' globals entries
+globals-unset place place' n globals entries unset by =
+    globals-moved place place' globals entries
+    (λ i slot e. carries-null place place' slot (replicated n empty_slot i slot (ap (λ gs. slice_get gs i) (sym unset) ∙ e))) by
+
+-- globals of which none was set are the table's empty slots
+pub globals-empty : (place : Placing) → GlobalsBy place (replicate global_count empty_slot) unset_globals
+globals-empty place = record {
+  count = refl;
+  slots = record {
+    same_count = refl;
+    each = λ i entry slot e f.
+        subst (λ (x : Slot). SlotBy place entry x) (replicated global_count empty_slot i slot f)
+        (subst (λ (x : SlotEntry). SlotBy place x empty_slot) (replicated global_count empty_entry i entry e) (record { class = refl; word = refl }));
+  };
+}

@@ -1,0 +1,76 @@
+-- The roots of a store are the table's, in order: scoped ones, slots of frames, globals, owned ones and the
+-- pending exception. Each point speaks of its own part of the table alone.
+use Rattle.std.specs.Prelude.{◌≡◌, ℕ, ◌-◌, ◌^◌, ◌<◌, ◌⊎◌, List, Option, Some, None, length, slice_get}
+use Rattle.gc_model.specs.declared.RootEntry.{RootEntry}
+use Rattle.gc_model.specs.declared.SlotEntry.{SlotEntry}
+use Rattle.gc_model.specs.Values.{Reference}
+use Rattle.gc_model.specs.Table.{Scoped, Push, Slot, Owned, global_count}
+use Rattle.gc_model.specs.Stores.{OwnedEntry}
+use Rattle.gc_model.specs.Words.{Placing, IsWord}
+
+-- a scoped root of the store is the table's: its push, and its word, which is not null
+pub record EntryBy (pushes : List Push) (place : Placing) (index : ℕ) (entry : RootEntry) (root : Scoped) : Type 0 where
+  pub pushed : slice_get pushes root.serial ≡ Some (record { index = index; generation = entry.generation })
+  pub word : IsWord place root.reference entry.word
+  pub not_null : 0 < entry.word
+
+-- the scoped roots are the table's, in order
+pub record ScopedBy (pushes : List Push) (place : Placing) (roots : List Scoped) (entries : List RootEntry) : Type 0 where
+  pub same_count : length entries ≡ length roots
+  pub each : (i : ℕ) (entry : RootEntry) (root : Scoped)
+      → slice_get entries i ≡ Some entry → slice_get roots i ≡ Some root
+      → EntryBy pushes place i entry root
+
+-- A push is of an earlier generation, or it is of the present one and its root still stands among so many.
+abbrev pub IsPastBy : ℕ → ℕ → Push → Type 0
+IsPastBy drops count p = (p.generation < drops) ⊎ ((p.generation ≡ drops) × (p.index < count))
+
+-- No two pushes have the same index and generation, so a handle stands for one serial. Nothing is pushed
+-- once the scope ends are counted to their end.
+pub record PushesBy (pushes : List Push) (drops count : ℕ) : Type 0 where
+  pub past : (serial : ℕ) (p : Push) → slice_get pushes serial ≡ Some p → IsPastBy drops count p
+  pub early : (serial : ℕ) (p : Push) → slice_get pushes serial ≡ Some p → p.generation < 2 ^ 64 - 1
+  pub apart : (a b : ℕ) (p : Push) → slice_get pushes a ≡ Some p → slice_get pushes b ≡ Some p → a ≡ b
+
+-- a slot of the store is the table's: its class, and the word of what it names
+pub record SlotBy (place : Placing) (entry : SlotEntry) (slot : Slot) : Type 0 where
+  pub class : entry.class ≡ slot.class
+  pub word : IsWord place slot.reference entry.word
+
+-- slots are the table's, in order
+pub record SlotsBy (place : Placing) (slots : List Slot) (entries : List SlotEntry) : Type 0 where
+  pub same_count : length entries ≡ length slots
+  pub each : (i : ℕ) (entry : SlotEntry) (slot : Slot) → slice_get entries i ≡ Some entry → slice_get slots i ≡ Some slot → SlotBy place entry slot
+
+-- the frames are the table's, in order, with their slots
+pub record FramesBy (place : Placing) (frames : List (List Slot)) (entries : List (List SlotEntry)) : Type 0 where
+  pub same_count : length entries ≡ length frames
+  pub each : (i : ℕ) (slots : List SlotEntry) (frame : List Slot) → slice_get entries i ≡ Some slots → slice_get frames i ≡ Some frame → SlotsBy place frame slots
+
+-- the globals are the table's, in order, as many as there are
+pub record GlobalsBy (place : Placing) (globals : List Slot) (entries : List SlotEntry) : Type 0 where
+  pub count : length globals ≡ global_count
+  pub slots : SlotsBy place globals entries
+
+-- an owned root of the store is the table's: its id, its number, its handles, and the word of what it names
+pub record OwnedRootBy (place : Placing) (entry : OwnedEntry) (root : Owned) : Type 0 where
+  pub id : entry.id ≡ root.id
+  pub number : entry.number ≡ root.number
+  pub handles : entry.handles ≡ root.handles
+  pub word : IsWord place root.reference entry.word
+  pub not_null : 0 < entry.word
+
+-- The owned roots are the table's, by rising id, and as many were made. Each has a number of its own, below
+-- the count of those that were made.
+pub record OwnedBy (place : Placing) (owns count : ℕ) (owned : List Owned) (entries : List OwnedEntry) : Type 0 where
+  pub same_owns : count ≡ owns
+  pub same_count : length entries ≡ length owned
+  pub each : (i : ℕ) (entry : OwnedEntry) (root : Owned) → slice_get entries i ≡ Some entry → slice_get owned i ≡ Some root → OwnedRootBy place entry root
+  pub rising : (i j : ℕ) (a b : Owned) → slice_get owned i ≡ Some a → slice_get owned j ≡ Some b → i < j → a.id < b.id
+  pub early : (i : ℕ) (root : Owned) → slice_get owned i ≡ Some root → root.number < owns
+  pub apart : (i j : ℕ) (a b : Owned) → slice_get owned i ≡ Some a → slice_get owned j ≡ Some b → a.number ≡ b.number → i ≡ j
+
+-- the pending exception is the table's: the word of what it names, or 0 where there is none
+abbrev pub PendingBy : Placing → Option Reference → ℕ → Type 0
+PendingBy place None word = word ≡ 0
+PendingBy place (Some r) word = IsWord place r word × (0 < word)
