@@ -1,7 +1,15 @@
 pub mod WordLemmas
 pub mod NumberLemmas
 pub mod ReadingLemmas
-pub mod PartLemmas
+pub mod HexLemmas
+pub mod HexReadLemmas
+pub mod NameLemmas
+pub mod TypeLemmas
+pub mod OperandLemmas
+pub mod FrontLemmas
+pub mod GraphicLemmas
+pub mod FormLemmas
+pub mod ObjectLemmas
+pub mod ShapeLemmas
 pub mod LineLemmas
 pub mod UniqueLemmas
-pub mod HexLemmas

@@ -1,4 +1,6 @@
 pub mod Words
+pub mod Forms
 pub mod Spelling
 pub mod Text
 pub mod Reading
+pub mod Parts

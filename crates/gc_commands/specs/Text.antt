@@ -1,6 +1,5 @@
 -- How a reply is written.
-use Rattle.std.specs.Prelude.{ℕ, ◌/◌, ◌%◌, Bool, true, false, List, [], ◌∷◌, ◌++◌, codes}
-use Rattle.std.specs.List.{flat_map}
+use Rattle.std.specs.Prelude.{ℕ, Bool, true, false, List, ◌∷◌, ◌++◌, codes}
 use Rattle.std.specs.Fmt.{decimal, signed_decimal}
 use Rattle.gc_commands.specs.declared.reply.Reply.{Reply}
 use Rattle.gc_commands.specs.declared.reply.Reply.TheVariants as reply
@@ -8,7 +7,7 @@ use Rattle.gc_commands.specs.declared.reply.ReplyValue.{ReplyValue}
 use Rattle.gc_commands.specs.declared.reply.ReplyValue.TheVariants as value
 use Rattle.gc_commands.specs.declared.reply.Refusal.{Refusal}
 use Rattle.gc_commands.specs.declared.reply.Refusal.TheVariants as refusal
-use Rattle.gc_commands.specs.Words.{hex_digit, hex_digits}
+use Rattle.gc_commands.specs.Words.{bytes_text, hex_digits}
 
 abbrev pub refusal_text : Refusal → List ℕ
 refusal_text refusal.BadLine = codes "BadLine"
@@ -40,15 +39,7 @@ value_text (value.Struct t) = codes "struct " ++ decimal t
 value_text (value.Array t) = codes "array " ++ decimal t
 value_text value.Host = codes "host"
 value_text (value.Exn t tag) = codes "exn " ++ (decimal t ++ 32 ∷ decimal tag)
-
--- two digits of a byte
-abbrev pub byte_text : ℕ → List ℕ
-byte_text b = hex_digit (b / 16) ∷ hex_digit (b % 16) ∷ []
-
--- pairs of digits, or a dash for no bytes
-abbrev pub bytes_text : List ℕ → List ℕ
-bytes_text [] = codes "-"
-bytes_text (b ∷ bs) = byte_text b ++ flat_map byte_text bs
+value_text value.Opaque = codes "opaque"
 
 abbrev pub bool_text : Bool → List ℕ
 bool_text true = codes "true"

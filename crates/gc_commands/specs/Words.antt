@@ -1,6 +1,7 @@
 -- How types, fields and operands are spelled.
 use Rattle.std.specs.Prelude.{ℕ, ◌+◌, ◌/◌, ◌%◌, Bool, true, false, List, [], ◌∷◌, ◌++◌, codes, if◌then◌else◌, nat_lt, suc, zero}
 use Rattle.std.specs.Fmt.{decimal, signed_decimal}
+use Rattle.std.specs.List.{flat_map}
 use Rattle.gc_commands.specs.declared.command.FieldWord.{FieldWord}
 use Rattle.gc_commands.specs.declared.command.Operand.{Operand}
 use Rattle.gc_commands.specs.declared.command.Operand.TheVariants as operand
@@ -19,6 +20,15 @@ hex_digit n = if nat_lt n 10 then 48 + n else 87 + n
 abbrev pub hex_digits : ℕ → ℕ → List ℕ
 hex_digits zero n = []
 hex_digits (suc k) n = hex_digits k (n / 16) ++ hex_digit (n % 16) ∷ []
+
+-- two digits of a byte
+abbrev pub byte_text : ℕ → List ℕ
+byte_text b = hex_digit (b / 16) ∷ hex_digit (b % 16) ∷ []
+
+-- pairs of digits, or a dash for no bytes
+abbrev pub bytes_text : List ℕ → List ℕ
+bytes_text [] = codes "-"
+bytes_text (b ∷ bs) = byte_text b ++ flat_map byte_text bs
 
 -- the name of a heap type
 abbrev pub heap_text : HeapWord → List ℕ

@@ -6,18 +6,26 @@
 #![tactic(auto)]
 
 pub mod command;
+mod declarations;
+pub mod form;
+mod hex;
 mod numbers;
+mod objects;
+mod operands;
 pub mod parse;
 mod parts;
+mod plain;
 pub mod reply;
 #[cfg(test)]
 mod tests;
 pub mod text;
+mod types;
 mod words;
 
 pub use command::{
-    Command, FieldWord, FieldWords, HeapWord, Operand, Operands, StorageWord, ValueWord,
+    Command, FieldWord, FieldWords, HeapWord, Operand, Operands, StorageWord, ValueWord, ValueWords,
 };
+pub use form::Form;
 pub use numbers::number;
 pub use parse::{MAX_LINE, parse_line, spelling_is_unique};
 pub use reply::{ByteText, Refusal, Reply, ReplyValue};

@@ -1,9 +1,10 @@
 //! Numbers as words: plain decimals without leading zeros.
 
-ghost use Rattle.std.specs.Prelude.{◌≤◌, ◌↔◌, FitsSigned, IsTrue};
+ghost use Rattle.std.specs.Prelude.{◌≤◌, ◌<◌, ◌^◌, ◌↔◌, FitsSigned, IsTrue};
 ghost use Rattle.std.specs.Fmt.{decimal, signed_decimal};
 ghost use Rattle.std.specs.Int.{w32, w64};
 ghost use Rattle.gc_commands.specs.Reading.{IsPlain, Reads};
+ghost use Rattle.gc_commands.specs.Spelling.{type_count};
 
 /// The number that a word spells, if it is at most `most`.
 pub fn number(word: &str, most: u64) -> Option<u64>
@@ -16,6 +17,22 @@ pub fn number(word: &str, most: u64) -> Option<u64>
         return None;
     };
     if n <= most { Some(n) } else { None }
+}
+
+/// The register that a word spells, from 0 to 65535.
+pub(crate) fn register_of(word: &str) -> Option<u16>
+    ensures { Reads (λ r. r < 2 ^ 16) decimal word.now result }
+{
+    let r = number(word, u64::from(u16::MAX))?;
+    Some(r as u16)
+}
+
+/// The index of a type that a word spells, from 0 to 4294967294.
+pub(crate) fn type_of(word: &str) -> Option<u32>
+    ensures { Reads (λ t. t < type_count) decimal word.now result }
+{
+    let t = number(word, u64::from(u32::MAX) - 1)?;
+    Some(t as u32)
 }
 
 /// The signed number that a word spells, if it fits 64 bits.

@@ -3,15 +3,19 @@
 //! A line is cut into words, its first word says which form of command it is, and each form has a
 //! function that reads the words behind it.
 
-ghost use Rattle.std.specs.Prelude.{◌≡◌, ℕ, List, [], ◌∷◌, IfOk, codes};
+ghost use Rattle.std.specs.Prelude.{◌≡◌, ℕ, List, IfOk};
 ghost use Rattle.gc_commands.specs.declared.command.Command.{Command};
 ghost use Rattle.gc_commands.specs.Reading.{Reads};
-ghost use Rattle.gc_commands.specs.Spelling.{IsBuilt, IsCommandOf, Spells, words_of};
+ghost use Rattle.gc_commands.specs.Spelling.{FitsCommand, IsCommandOf, IsOf, Spells, operands_of, words_of};
 
-use crate::command::{Command, FieldWords, Operands};
-use crate::parts::{
-    read_end, read_fields, read_into, read_operand, read_operands, read_register, read_type,
-    read_u32, read_u64,
+use crate::command::Command;
+use crate::declarations::{read_array, read_exn, read_struct};
+use crate::form::{Form, form_of};
+use crate::objects::{read_bytes, read_fixed, read_new, read_new_arr, read_new_exn};
+use crate::plain::{
+    read_alone, read_elem, read_eq, read_field, read_get_global, read_grow, read_host,
+    read_host_number, read_i31, read_len, read_load, read_own, read_push, read_root, read_set_elem,
+    read_set_field, read_set_global, read_store, read_take, read_throw, read_unroot,
 };
 use crate::words::Words;
 use std::alloc::{AllocError, Global};
@@ -22,7 +26,7 @@ pub const MAX_LINE: usize = 1_048_576;
 /// The command that a line, without its line feed, is: the one that it spells, and `Bad` where it
 /// spells none. Numbers are plain decimals without leading zeros, words have one space between
 /// them, and a line of more than `MAX_LINE` bytes is `Bad`. Takes time linear in the line, and
-/// memory only for the fields or operands of the command.
+/// memory only for the fields, values or bytes of the command.
 pub fn parse_line(alloc: Global, line: &[u8]) -> Result<Command, AllocError>
     ensures { IfOk result (λ command. IsCommandOf line.now command) }
 {
@@ -40,114 +44,58 @@ pub fn parse_line(alloc: Global, line: &[u8]) -> Result<Command, AllocError>
 
 /// The command that the words spell.
 fn read_command(alloc: Global, words: &mut Words) -> Result<Option<Command>, AllocError>
-    ensures { IfOk result (λ command. Reads IsBuilt words_of words.old command) }
+    ensures { IfOk result (λ command. Reads FitsCommand words_of words.old command) }
 {
-    match words.next() {
-        Some("struct") => read_struct(alloc, words),
-        Some("new") => read_new(alloc, words),
-        Some("i31") => Ok(read_i31(words)),
-        Some("field") => Ok(read_field(words)),
-        Some("setf") => Ok(read_set_field(words)),
-        Some("eq") => Ok(read_eq(words)),
-        Some("enter") => Ok(read_alone(words, Command::Enter)),
-        Some("leave") => Ok(read_alone(words, Command::Leave)),
-        Some("gc") => Ok(read_alone(words, Command::Gc)),
-        Some("grow") => Ok(read_grow(words)),
-        Some("cap") => Ok(read_alone(words, Command::Cap)),
-        _ => Ok(None),
+    let Some(word) = words.next() else {
+        return Ok(None);
+    };
+    let Some(form) = form_of(word) else {
+        return Ok(None);
+    };
+    read_form(alloc, form, words)
+}
+
+/// The command of a form that the words behind its name spell.
+fn read_form(alloc: Global, form: Form, words: &mut Words) -> Result<Option<Command>, AllocError>
+    ensures { IfOk result (λ command. Reads (IsOf form) operands_of words.old command) }
+{
+    match form {
+        Form::Struct => read_struct(alloc, words),
+        Form::Array => Ok(read_array(words)),
+        Form::Exn => read_exn(alloc, words),
+        Form::New => read_new(alloc, words),
+        Form::NewExn => read_new_exn(alloc, words),
+        Form::NewArr => Ok(read_new_arr(words)),
+        Form::Fixed => read_fixed(alloc, words),
+        Form::Bytes => read_bytes(alloc, words),
+        Form::Host => Ok(read_host(words)),
+        Form::I31 => Ok(read_i31(words)),
+        Form::Field => Ok(read_field(words)),
+        Form::Elem => Ok(read_elem(words)),
+        Form::Len => Ok(read_len(words)),
+        Form::HostNumber => Ok(read_host_number(words)),
+        Form::SetField => Ok(read_set_field(words)),
+        Form::SetElem => Ok(read_set_elem(words)),
+        Form::Eq => Ok(read_eq(words)),
+        Form::Enter => Ok(read_alone(words, Command::Enter)),
+        Form::Leave => Ok(read_alone(words, Command::Leave)),
+        Form::Push => Ok(read_push(words)),
+        Form::Pop => Ok(read_alone(words, Command::Pop)),
+        Form::Store => Ok(read_store(words)),
+        Form::Load => Ok(read_load(words)),
+        Form::SetGlobal => Ok(read_set_global(words)),
+        Form::GetGlobal => Ok(read_get_global(words)),
+        Form::Own => Ok(read_own(words)),
+        Form::Root => Ok(read_root(words)),
+        Form::Unroot => Ok(read_unroot(words)),
+        Form::Throw => Ok(read_throw(words)),
+        Form::Take => Ok(read_take(words)),
+        Form::Gc => Ok(read_alone(words, Command::Gc)),
+        Form::GcDrop => Ok(read_alone(words, Command::GcDrop)),
+        Form::GcInc => Ok(read_alone(words, Command::GcInc)),
+        Form::Grow => Ok(read_grow(words)),
+        Form::Cap => Ok(read_alone(words, Command::Cap)),
     }
-}
-
-/// The words behind `struct`: any number of fields.
-fn read_struct(alloc: Global, words: &mut Words) -> Result<Option<Command>, AllocError>
-    ensures { IfOk result (λ command. Reads IsBuilt words_of (codes "struct" ∷ words.old) command) }
-{
-    let Some(fields) = read_fields(alloc, words)? else {
-        return Ok(None);
-    };
-    Ok(Some(Command::Struct {
-        is_final: false,
-        supertype: None,
-        fields: FieldWords::from_vec(fields),
-    }))
-}
-
-/// The words behind `new`: a register, a type and any number of operands.
-fn read_new(alloc: Global, words: &mut Words) -> Result<Option<Command>, AllocError>
-    ensures { IfOk result (λ command. Reads IsBuilt words_of (codes "new" ∷ words.old) command) }
-{
-    let Some(d) = read_register(words) else {
-        return Ok(None);
-    };
-    let Some(t) = read_type(words) else {
-        return Ok(None);
-    };
-    let Some(values) = read_operands(alloc, words)? else {
-        return Ok(None);
-    };
-    Ok(Some(Command::New {
-        d,
-        t,
-        values: Operands::from_vec(values),
-    }))
-}
-
-/// The words behind `i31`: a register and a number.
-fn read_i31(words: &mut Words) -> Option<Command>
-    ensures { Reads IsBuilt words_of (codes "i31" ∷ words.old) result }
-{
-    let d = read_register(words)?;
-    let n = read_u32(words)?;
-    read_end(words)?;
-    Some(Command::I31 { d, n })
-}
-
-/// The words behind `field`: a register and an index, and a register where one more word stands.
-fn read_field(words: &mut Words) -> Option<Command>
-    ensures { Reads IsBuilt words_of (codes "field" ∷ words.old) result }
-{
-    let r = read_register(words)?;
-    let i = read_u32(words)?;
-    let into = read_into(words)?;
-    Some(Command::Field { r, i, into })
-}
-
-/// The words behind `setf`: a register, an index and an operand.
-fn read_set_field(words: &mut Words) -> Option<Command>
-    ensures { Reads IsBuilt words_of (codes "setf" ∷ words.old) result }
-{
-    let r = read_register(words)?;
-    let i = read_u32(words)?;
-    let value = read_operand(words)?;
-    read_end(words)?;
-    Some(Command::SetField { r, i, value })
-}
-
-/// The words behind `eq`: two registers.
-fn read_eq(words: &mut Words) -> Option<Command>
-    ensures { Reads IsBuilt words_of (codes "eq" ∷ words.old) result }
-{
-    let r = read_register(words)?;
-    let s = read_register(words)?;
-    read_end(words)?;
-    Some(Command::Eq { r, s })
-}
-
-/// The words behind `grow`: a number.
-fn read_grow(words: &mut Words) -> Option<Command>
-    ensures { Reads IsBuilt words_of (codes "grow" ∷ words.old) result }
-{
-    let n = read_u64(words)?;
-    read_end(words)?;
-    Some(Command::Grow { n })
-}
-
-/// A command behind whose name no word stands.
-fn read_alone(words: &mut Words, command: Command) -> Option<Command>
-    ensures { Reads (λ c. c ≡ command) (λ c. []) words.old result }
-{
-    read_end(words)?;
-    Some(command)
 }
 
 /// No two commands have one spelling.

@@ -1,4 +1,4 @@
-//! Reads the parts of a command: registers, numbers, fields and operands.
+//! Reads the parts of a command: registers, numbers, and what several forms share.
 //!
 //! A reader takes words off the front and answers `None` exactly where they spell nothing that it
 //! reads.
@@ -7,12 +7,14 @@ ghost use Rattle.std.specs.Prelude.{◌≡◌, ℕ, ◌<◌, ◌^◌, List, [], 
 ghost use Rattle.std.specs.Fmt.{decimal};
 ghost use Rattle.std.specs.List.{AllByRecursion};
 ghost use Rattle.std.specs.Option.{option_map};
+ghost use Rattle.gc_commands.specs.Parts.{FitPlace, FitRegisterAndNumber, FitRegisterAndWide, FitRegisters, FitWrite, ReadsTarget, number_words, pair_words, place_words, write_words};
 ghost use Rattle.gc_commands.specs.Reading.{Reads, ReadsFirst};
-ghost use Rattle.gc_commands.specs.Spelling.{IsBuiltField, IsBuiltOperand, IsBuiltValue, into_words};
-ghost use Rattle.gc_commands.specs.Words.{field_text, operand_text, value_text};
+ghost use Rattle.gc_commands.specs.Spelling.{FitsOperand, into_words, type_count};
+ghost use Rattle.gc_commands.specs.Words.{operand_text};
 
-use crate::command::{FieldWord, HeapWord, Operand, StorageWord, ValueWord};
-use crate::numbers::{number, signed_number, small_signed_number};
+use crate::command::Operand;
+use crate::numbers::{number, register_of, type_of};
+use crate::operands::operand_of;
 use crate::words::Words;
 use std::alloc::{AllocError, Global};
 
@@ -25,13 +27,12 @@ pub(crate) fn read_register(words: &mut Words) -> Option<u16>
 
 /// The index of a type, from 0 to 4294967294.
 pub(crate) fn read_type(words: &mut Words) -> Option<u32>
-    ensures { ReadsFirst (λ t. t < 4294967295) decimal words.old result words.new }
+    ensures { ReadsFirst (λ t. t < type_count) decimal words.old result words.new }
 {
-    let t = number(words.next()?, u64::from(u32::MAX) - 1)?;
-    Some(t as u32)
+    type_of(words.next()?)
 }
 
-/// The index of a field or the value of a small integer, from 0 to 4294967295.
+/// A number from 0 to 4294967295.
 pub(crate) fn read_u32(words: &mut Words) -> Option<u32>
     ensures { ReadsFirst (λ n. n < 2 ^ 32) decimal words.old result words.new }
 {
@@ -39,8 +40,8 @@ pub(crate) fn read_u32(words: &mut Words) -> Option<u32>
     Some(n as u32)
 }
 
-/// A number of bytes, of 64 bits.
-pub(crate) fn read_u64(words: &mut Words) -> Option<u64>
+/// A number of 64 bits.
+fn read_u64(words: &mut Words) -> Option<u64>
     ensures { ReadsFirst (λ n. n < 2 ^ 64) decimal words.old result words.new }
 {
     number(words.next()?, u64::MAX)
@@ -48,7 +49,7 @@ pub(crate) fn read_u64(words: &mut Words) -> Option<u64>
 
 /// An operand.
 pub(crate) fn read_operand(words: &mut Words) -> Option<Operand>
-    ensures { ReadsFirst IsBuiltOperand operand_text words.old result words.new }
+    ensures { ReadsFirst FitsOperand operand_text words.old result words.new }
 {
     operand_of(words.next()?)
 }
@@ -75,21 +76,82 @@ pub(crate) fn read_end(words: &mut Words) -> Option<()>
     }
 }
 
-/// The fields that all words spell.
-pub(crate) fn read_fields(
-    alloc: Global,
-    words: &mut Words,
-) -> Result<Option<Vec<FieldWord>>, AllocError>
-    ensures { IfOk result (λ fields. Reads (AllByRecursion IsBuiltField) (map field_text) words.old (option_map (λ fs. fs.items) fields)) }
+/// One register, and no more words.
+pub(crate) fn read_last_register(words: &mut Words) -> Option<u16>
+    ensures { Reads (λ r. r < 2 ^ 16) number_words words.old result }
 {
-    let mut fields = Vec::new(alloc);
-    while let Some(word) = words.next() {
-        let Some(field) = field_of(word) else {
-            return Ok(None);
-        };
-        fields.push(field)?;
-    }
-    Ok(Some(fields))
+    let r = read_register(words)?;
+    read_end(words)?;
+    Some(r)
+}
+
+/// A number of 64 bits, and no more words.
+pub(crate) fn read_last_u64(words: &mut Words) -> Option<u64>
+    ensures { Reads (λ n. n < 2 ^ 64) number_words words.old result }
+{
+    let n = read_u64(words)?;
+    read_end(words)?;
+    Some(n)
+}
+
+/// Two registers, and no more words.
+pub(crate) fn read_registers(words: &mut Words) -> Option<(u16, u16)>
+    ensures { Reads FitRegisters pair_words words.old result }
+{
+    let first = read_register(words)?;
+    let second = read_register(words)?;
+    read_end(words)?;
+    Some((first, second))
+}
+
+/// A register and a number of 32 bits, and no more words.
+pub(crate) fn read_register_and_number(words: &mut Words) -> Option<(u16, u32)>
+    ensures { Reads FitRegisterAndNumber pair_words words.old result }
+{
+    let r = read_register(words)?;
+    let n = read_u32(words)?;
+    read_end(words)?;
+    Some((r, n))
+}
+
+/// A register and a number of 64 bits, and no more words.
+pub(crate) fn read_register_and_wide(words: &mut Words) -> Option<(u16, u64)>
+    ensures { Reads FitRegisterAndWide pair_words words.old result }
+{
+    let r = read_register(words)?;
+    let n = read_u64(words)?;
+    read_end(words)?;
+    Some((r, n))
+}
+
+/// A register and an index, and a register where one more word stands.
+pub(crate) fn read_place(words: &mut Words) -> Option<(u16, u32, Option<u16>)>
+    ensures { Reads FitPlace place_words words.old result }
+{
+    let r = read_register(words)?;
+    let i = read_u32(words)?;
+    let into = read_into(words)?;
+    Some((r, i, into))
+}
+
+/// A register, an index and an operand, and no more words.
+pub(crate) fn read_write(words: &mut Words) -> Option<(u16, u32, Operand)>
+    ensures { Reads FitWrite write_words words.old result }
+{
+    let r = read_register(words)?;
+    let i = read_u32(words)?;
+    let value = read_operand(words)?;
+    read_end(words)?;
+    Some((r, i, value))
+}
+
+/// A register and a type.
+pub(crate) fn read_target(words: &mut Words) -> Option<(u16, u32)>
+    ensures { ReadsTarget words.old result words.new }
+{
+    let d = read_register(words)?;
+    let t = read_type(words)?;
+    Some((d, t))
 }
 
 /// The operands that all words spell.
@@ -97,9 +159,9 @@ pub(crate) fn read_operands(
     alloc: Global,
     words: &mut Words,
 ) -> Result<Option<Vec<Operand>>, AllocError>
-    ensures { IfOk result (λ values. Reads (AllByRecursion IsBuiltOperand) (map operand_text) words.old (option_map (λ vs. vs.items) values)) }
+    ensures { IfOk result (λ values. Reads (AllByRecursion FitsOperand) (map operand_text) words.old (option_map (λ vs. vs.items) values)) }
 {
-    let mut values = Vec::new(alloc);
+    let mut values = Vec::with_capacity(alloc, words.count())?;
     while let Some(word) = words.next() {
         let Some(value) = operand_of(word) else {
             return Ok(None);
@@ -107,61 +169,4 @@ pub(crate) fn read_operands(
         values.push(value)?;
     }
     Ok(Some(values))
-}
-
-/// The field that a word spells.
-fn field_of(word: &str) -> Option<FieldWord>
-    ensures { Reads IsBuiltField field_text word.now result }
-{
-    if let Some(value) = word.strip_prefix("m:") {
-        let storage = StorageWord::Value(value_of(value)?);
-        return Some(FieldWord {
-            mutable: true,
-            storage,
-        });
-    }
-    let storage = StorageWord::Value(value_of(word.strip_prefix("c:")?)?);
-    Some(FieldWord {
-        mutable: false,
-        storage,
-    })
-}
-
-/// The value type that a word spells.
-fn value_of(word: &str) -> Option<ValueWord>
-    ensures { Reads IsBuiltValue value_text word.now result }
-{
-    match word {
-        "i32" => Some(ValueWord::I32),
-        "i64" => Some(ValueWord::I64),
-        "any" => Some(ValueWord::Ref {
-            heap: HeapWord::Any,
-            nullable: true,
-        }),
-        _ => None,
-    }
-}
-
-/// The operand that a word spells.
-fn operand_of(word: &str) -> Option<Operand>
-    ensures { Reads IsBuiltOperand operand_text word.now result }
-{
-    if word == "any:null" {
-        return Some(Operand::AnyNull);
-    }
-    if let Some(digits) = word.strip_prefix("i32:") {
-        return Some(Operand::I32(small_signed_number(digits)?));
-    }
-    if let Some(digits) = word.strip_prefix("i64:") {
-        return Some(Operand::I64(signed_number(digits)?));
-    }
-    Some(Operand::Register(register_of(word.strip_prefix('r')?)?))
-}
-
-/// The register that a word spells, from 0 to 65535.
-fn register_of(word: &str) -> Option<u16>
-    ensures { Reads (λ r. r < 2 ^ 16) decimal word.now result }
-{
-    let r = number(word, u64::from(u16::MAX))?;
-    Some(r as u16)
 }

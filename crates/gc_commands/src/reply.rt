@@ -57,6 +57,8 @@ pub enum ReplyValue {
     Host,
     /// An exception's type and its tag's index.
     Exn(u32, u32),
+    /// A function or a continuation, present or none.
+    Opaque,
 }
 
 /// The reply to a command.
@@ -107,5 +109,12 @@ impl ByteText {
         ensures { result.now ≡ self.now }
     {
         self.bytes.as_slice()
+    }
+
+    /// The vector that it was made from. Takes no memory.
+    pub fn into_vec(self) -> Vec<u8>
+        ensures { result.items ≡ self }
+    {
+        self.bytes
     }
 }

@@ -1,8 +1,8 @@
 //! Writes the reply to a command.
 
 ghost use Rattle.std.specs.Prelude.{◌≡◌, ◌++◌, ◌<◌, ◌≤◌, codes, IfOk, OnOk, string_bytes};
-ghost use Rattle.gc_commands.specs.Text.{bool_text, bytes_text, refusal_text, text_of, value_text};
-ghost use Rattle.gc_commands.specs.Words.{hex_digit, hex_digits};
+ghost use Rattle.gc_commands.specs.Text.{bool_text, refusal_text, text_of, value_text};
+ghost use Rattle.gc_commands.specs.Words.{bytes_text, hex_digit, hex_digits};
 
 use crate::reply::{Refusal, Reply, ReplyValue};
 use std::alloc::{AllocError, Global};
@@ -17,7 +17,6 @@ pub fn reply_text(alloc: Global, reply: &Reply) -> Result<String, AllocError>
 }
 
 /// Appends the text of a reply, without its line feed, to a text whose room may be used again.
-/// After want of memory a front of it may stand there.
 pub fn push_reply(text: &mut String, reply: &Reply) -> Result<(), AllocError>
     ensures { OnOk result (string_bytes text.new ≡ string_bytes text.old ++ text_of reply.now) }
 {
@@ -52,6 +51,7 @@ fn push_value(text: &mut String, value: &ReplyValue) -> Result<(), AllocError>
         ReplyValue::Array(t) => write!(text, "array {t}"),
         ReplyValue::Host => text.push_str("host"),
         ReplyValue::Exn(t, tag) => write!(text, "exn {t} {tag}"),
+        ReplyValue::Opaque => text.push_str("opaque"),
     }
 }
 

@@ -1,6 +1,7 @@
 //! The words of a line, one after the other.
 
-ghost use Rattle.std.specs.Prelude.{◌≡◌, ◌==◌, [], ◌∷◌, MatchOption};
+ghost use Rattle.std.specs.Prelude.{◌≡◌, ◌==◌, ℕ, List, [], ◌∷◌, ◌++◌, Bool, true, false, MatchOption};
+ghost use Rattle.std.specs.Bool.{MatchBool};
 ghost use Rattle.std.specs.List.{slice_split};
 
 use std::marker::Model;
@@ -45,5 +46,21 @@ impl<'a> Words<'a> {
                 Some(rest)
             }
         }
+    }
+
+    /// How many words are left, as far as room for what they spell is concerned: no clause says
+    /// that it is exact.
+    pub(crate) fn count(&self) -> usize {
+        match self.rest {
+            Some(rest) => rest.as_bytes().iter().filter(|byte| **byte == b' ').count() + 1,
+            None => 0,
+        }
+    }
+
+    /// The same words, to look at without taking them.
+    pub(crate) fn ahead(&self) -> Words<'a>
+        ensures { result ≡ self.now }
+    {
+        Words { rest: self.rest }
     }
 }

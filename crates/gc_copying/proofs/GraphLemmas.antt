@@ -22,7 +22,8 @@ use Rattle.std.proofs.lemmas.List.Elements.{Contains-get_or}
 use Rattle.gc_roots.specs.Roots.{Root, no_root, root, root_at, with_word, with_word_at}
 use Rattle.gc_view.specs.Heaps.{HeapObject, HeapView}
 use Rattle.gc_heap.specs.Objects.{zeroed, external, held_size, first_offset, writable_offset, HasFields}
-use Rattle.gc_heap.specs.References.{reference_offsets, bitmap_offsets, IsTraceable, LayoutTraces}
+use Rattle.gc_heap.specs.References.{reference_offsets, bitmap_offsets, IsTraceable}
+use Rattle.gc_heap.specs.Rules.{LayoutTraces}
 use Rattle.gc_heap.specs.Content.{IsHeld, IsHeap}
 use Rattle.gc_heap.specs.Heap.{AddsObject, exn_or_struct, layout_kind, new_struct, new_array, array_size, put_object, with_data}
 use Rattle.gc_heap.specs.Collection.{CanCollect, IsWordOf, has_host}

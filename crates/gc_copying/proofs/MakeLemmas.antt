@@ -25,7 +25,8 @@ use Rattle.gc_view.specs.Heaps.{HeapObject, HeapView, no_counts}
 use Rattle.gc_heap.specs.Heap.{AddsObject, LacksRoom, CanAllocate}
 use Rattle.gc_refs.specs.Trace.{form_of}
 use Rattle.gc_heap.specs.Objects.{held_size, first_offset, zeroed, zeroed_array, external, IsObjectKind, HasFields}
-use Rattle.gc_heap.specs.References.{SpareFits, bitmap_offsets, array_spare}
+use Rattle.gc_heap.specs.References.{bitmap_offsets}
+use Rattle.gc_heap.specs.Rules.{SpareFits, array_spare}
 use Rattle.gc_heap.specs.Content.{IsSpare}
 use Rattle.gc_copying.specs.Spaces.{half_start, half_end}
 use Rattle.gc_copying.specs.Layout.{first_place, places_in, size_at, kind_of, kind_at, data_at, object_at}

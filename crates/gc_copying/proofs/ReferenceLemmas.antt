@@ -27,7 +27,8 @@ use Rattle.gc_view.specs.Bytes.{u32_at}
 use Rattle.gc_view.specs.Heaps.{HeapObject}
 use Rattle.gc_view.proofs.ByteLemmas.{u32_at-part}
 use Rattle.gc_heap.specs.Objects.{held_size, array_length, HasFields}
-use Rattle.gc_heap.specs.References.{word_offsets, bit_offsets, bitmap_offsets, element_offsets, info_offsets, typed_offsets, traced_offsets, reference_offsets, IsTyped, HoldsType}
+use Rattle.gc_heap.specs.References.{word_offsets, bit_offsets, bitmap_offsets, element_offsets, info_offsets, typed_offsets, traced_offsets, reference_offsets, HoldsType}
+use Rattle.gc_heap.specs.Rules.{IsTyped}
 use Rattle.gc_heap.specs.Content.{TracesInside}
 use Rattle.gc_copying.specs.Layout.{size_at, kind_at, data_at, object_at}
 use Rattle.gc_copying.specs.Content.{IsWhole}

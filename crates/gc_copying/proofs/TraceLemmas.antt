@@ -18,7 +18,8 @@ use Rattle.gc_refs.specs.declared.trace.InlineTraceInfo.TheVariants.{Bitmap, Arr
 use Rattle.gc_refs.specs.Trace.{form_unit, form_of, trace_word, HasTraceWord}
 use Rattle.gc_heap.specs.Objects.{first_offset, HasFields}
 use Rattle.gc_heap.specs.Heap.{exn_or_struct, layout_kind, CanAllocate}
-use Rattle.gc_heap.specs.References.{IsTraceable, SpareFits, LayoutTraces, bitmap_of, is_past_bitmap, struct_spare, bit_offsets, bitmap_offsets}
+use Rattle.gc_heap.specs.References.{IsTraceable, bitmap_of, is_past_bitmap, bit_offsets, bitmap_offsets}
+use Rattle.gc_heap.specs.Rules.{SpareFits, LayoutTraces, struct_spare}
 use Rattle.gc_copying.specs.Tracing.{traced_from}
 
 -- bits of two bitmaps together

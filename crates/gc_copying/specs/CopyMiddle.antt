@@ -39,8 +39,20 @@ pub record IsCopied (s : From) (m : List ℕ) (news : List ℕ) (t p q : ℕ) : 
   pub copy : CopyOf s m t p q
   pub reached : Reached s p
 
--- The copies lie from base up to bump, in a half that ends at limit; there are `count` of them. The references
--- below t are moved, those from there on are to be moved.
+-- The half that is copied to, in the middle of a collection:
+--
+--     base              t                  bump                 limit
+--      |  copies that   |  copies that     |  room for what is  |
+--      |  are scanned   |  are to be       |  not copied yet    |
+--      |                |  scanned         |                    |
+--
+-- The copies lie one behind the other from base up to bump; there are `count` of them, and `news` are their places. The
+-- frontier t goes through them, also through the references of one copy: those below t name copies, those from t on
+-- still name the objects that were there before (`copied`). A copy is made where a reference at the frontier names an
+-- object that was not copied, so the list of copies is at the same time the list of what is to be scanned, and what is
+-- not copied yet fits between bump and limit (`room`). An object that was copied has its flag set and the place of its
+-- copy in the word behind its size (`Leads`), but keeps its size (`sizes`) and what lies behind that word (`tail`); each
+-- copy is of one object (`back`, `once`). An object that was not copied is as it was (`intact`).
 pub record Mid (s : From) (m : List ℕ) (base bump limit count t : ℕ) : Type 0 where
   pub start : IsFrom s
   pub same_length : length m ≡ length s.memory

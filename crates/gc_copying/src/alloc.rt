@@ -7,7 +7,7 @@ ghost use Rattle.gc_types.specs.Layouts.{array_base};
 ghost use Rattle.gc_refs.specs.Header.{IsOfKind, spare_bits};
 ghost use Rattle.gc_memory.specs.Offsets.{external_size};
 ghost use Rattle.gc_heap.specs.Objects.{first_offset, zeroed, external};
-ghost use Rattle.gc_heap.specs.References.{LayoutTraces, ArrayTraces};
+ghost use Rattle.gc_heap.specs.Rules.{LayoutTraces, ArrayTraces};
 ghost use Rattle.gc_heap.specs.Heap.{Allocated, CanAllocate, layout_kind, new_struct, new_array, array_size};
 ghost use Rattle.gc_copying.specs.States.{IsSound, seen_in};
 

@@ -5,7 +5,7 @@ ghost use Rattle.gc_copying.specs.declared.graph.Around.{Around};
 ghost use Rattle.gc_types.specs.declared.kind.Layouts.TheVariants.{Copying};
 ghost use Rattle.gc_view.specs.Pages.{max_pages};
 ghost use Rattle.gc_view.specs.Heaps.{detached_in};
-ghost use Rattle.gc_heap.specs.Collection.{Start, CanCollect, Collected, has_host, IsPartOf};
+ghost use Rattle.gc_heap.specs.Collection.{Start, CanCollect, Collected, has_host, IsPartOf, stage};
 ghost use Rattle.gc_heap.specs.Run.{start_at};
 
 use crate::alloc::header_with;
@@ -160,9 +160,9 @@ fn count_increments<H: GcHeap, D: Drop>(
     roots: &mut GcRootsList,
     trace: &mut GcStoreTraceState<'_, D>,
 ) -> u64
-    requires { (s : Start) × ((n : ℕ) × ((c : Bool) × H.under_way s n c heap.old state.old roots.old.roots trace.old.types.now.declarations (has_host trace.old.host_data_table.now.entries))) }
+    requires { (s : Start) × ((n : ℕ) × ((c : Bool) × H.under_way s n c (stage heap.old state.old roots.old.roots trace.old.types.now.declarations trace.old.host_data_table.now.entries))) }
     ensures sound { H.sound heap.new }
-    ensures collected { (s : Start) (n : ℕ) (c : Bool) → H.under_way s n c heap.old state.old roots.old.roots trace.old.types.now.declarations (has_host trace.old.host_data_table.now.entries)
+    ensures collected { (s : Start) (n : ℕ) (c : Bool) → H.under_way s n c (stage heap.old state.old roots.old.roots trace.old.types.now.declarations trace.old.host_data_table.now.entries)
         → Collected H.KIND s (H.seen heap.new) roots.new.roots (has_host trace.new.host_data_table.now.entries) }
     ensures hosts { trace.new.host_data_table.ghost_name ≡ trace.old.host_data_table.ghost_name }
     ensures types { trace.new.types ≡ trace.old.types }

@@ -23,6 +23,7 @@ ghost use Rattle.gc_copying.specs.CopyBetween.{Between};
 use crate::collection::CopyingCollection;
 use crate::copy::collect::Phase;
 use crate::growth::Marks;
+use crate::place;
 use crate::space::Space;
 use crate::ticks::Ticks;
 use gc_heap::{GcHeap, GcProgress, GcStoreTraceState, HeapFault, HeapKind, HeapMemory};
@@ -145,7 +146,7 @@ impl GcHeap for CopyingHeap {
 
     ghost ticks = { λ state. state.ticks.count };
 
-    ghost under_way = { λ s n c heap state roots types hosts. IsCopyingUnderWay s n c heap state.phase state.ticks.count roots types hosts };
+    ghost under_way = { λ s n c at. IsCopyingUnderWay s n c at.heap at.state.phase at.state.ticks.count at.roots at.types at.hosts };
 
     ghost left = { λ _ state. left_of state.phase };
 
@@ -156,6 +157,14 @@ impl GcHeap for CopyingHeap {
     ghost starts = { copying_starts };
 
     const KIND: HeapKind = Layouts::Copying;
+
+    fn is_too_large(size: u32) -> bool {
+        place::is_too_large(size)
+    }
+
+    fn need(size: u32) -> u64 {
+        place::need(size)
+    }
 
     fn is_attached(&self) -> bool {
         matches!(self.backing, Backing::Attached(_))

@@ -5,7 +5,7 @@ ghost use Rattle.gc_types.specs.declared.layout.FieldLayout.{FieldLayout};
 ghost use Rattle.gc_types.specs.declared.kind.Layouts.TheVariants.{Copying};
 ghost use Rattle.gc_types.specs.Layouts.{ref_offsets};
 ghost use Rattle.gc_refs.specs.Trace.{trace_word, form_unit, HasTraceWord};
-ghost use Rattle.gc_heap.specs.References.{struct_spare};
+ghost use Rattle.gc_heap.specs.Rules.{struct_spare};
 
 use gc_refs::InlineTraceInfo;
 use gc_types::FieldLayout;

@@ -8,6 +8,7 @@ use Rattle.gc_memory.specs.Lists.{In}
 use Rattle.gc_memory.proofs.ListLemmas.{In-occ, occ-In}
 use Rattle.gc_view.specs.Bytes.{u32_at}
 use Rattle.gc_view.specs.Heaps.{HeapObject, HeapView}
+use Rattle.gc_heap.specs.Content.{IsHeld}
 use Rattle.gc_heap.specs.Collection.{Start, Stepped}
 use Rattle.gc_heap.specs.declared.collection.GcProgress.{GcProgress}
 use Rattle.gc_heap.specs.declared.collection.GcProgress.TheVariants as progress
@@ -75,6 +76,17 @@ module _ (s : Start) (v : View) (before after : CountedSpace) (scopes : ℕ) (ho
   freed_so p gone = none_held (finite.get (seen_in scopes after).content p) (λ o got.
       not_left p gone (in_places p (place_after s v u.swept.view before after scopes b leaves p o got)))
 
+  -- what was held and is gone is unheld
+  only_so : (p : ℕ) → IsHeld s.heap p → finite.get (seen_in scopes after).content p ≡ None → IsUnheld s p
+  only_so p held none = elim (occ-cases p u.places) [
+    | inr some ↦
+        absurd (some_none held.0 (sym held.1 ∙ sym (still_held s v u.swept.view before after scopes b leaves p (in_left p (occ-In p u.places some))) ∙ none))
+    | inl gone ↦ unheld_back s v before scopes b p (u.freed p (held_place s v before scopes b p held) (λ j. absurd (let some = In-occ p u.places j in omega arith)))
+  ]
+    where
+      some_none : (o : HeapObject) → Some o ≡ None → ⊥
+      some_none o is = cc
+
   kept_so : (p : ℕ) → (IsUnheld s p → ⊥) → (o : Option HeapObject) → finite.get s.heap.content p ≡ o → finite.get (seen_in scopes after).content p ≡ o
   kept_so p held None e = none_held (finite.get (seen_in scopes after).content p) (λ o got.
       none_some o (sym e ∙ sym (still_held s v u.swept.view before after scopes b leaves p (place_after s v u.swept.view before after scopes b leaves p o got)) ∙ got))
@@ -87,6 +99,7 @@ module _ (s : Start) (v : View) (before after : CountedSpace) (scopes : ℕ) (ho
   unheld_gone : UnheldGone s (seen_in scopes after) hosts
   unheld_gone = record {
     freed = freed_so;
+    only = only_so;
     kept = λ p held. kept_so p held (finite.get s.heap.content p) refl;
     hosts_lost = λ p o x gone.
         let h = host_so s v before scopes b p o x in

@@ -21,10 +21,12 @@ pub data IsUnheld (s : Start) : ℕ → Type 0 where
       → ((holder : ℕ) (o : HeapObject) → finite.get s.heap.content holder ≡ Some o → Contains (references Counting s.types o) place → IsUnheld s holder)
       → IsUnheld s place
 
--- Exactly the objects of the least set are gone, with their host values; the others are where and as they were, the
--- counts are exact, shown is what frame slots name, nothing is queued, and the memory has its size.
+-- Exactly the objects of the least set are gone, with their host values: each of the set is gone, and what was held
+-- and is gone is of the set. The others are where and as they were, the counts are exact, shown is what frame slots
+-- name, nothing is queued, and the memory has its size.
 pub record UnheldGone (s : Start) (h : HeapView) (hosts : ℕ → Bool) : Type 0 where
   pub freed : (place : ℕ) → IsUnheld s place → finite.get h.content place ≡ None
+  pub only : (place : ℕ) → IsHeld s.heap place → finite.get h.content place ≡ None → IsUnheld s place
   pub kept : (place : ℕ) → (IsUnheld s place → ⊥) → finite.get h.content place ≡ finite.get s.heap.content place
   pub hosts_lost : (place : ℕ) (o : HeapObject) → IsExternal s.heap place o → IsUnheld s place → hosts (host_id o) ≡ false
   pub hosts_kept : (id : ℕ) → ((place : ℕ) (o : HeapObject) → IsExternal s.heap place o → host_id o ≡ id → IsUnheld s place → ⊥)

@@ -3,7 +3,7 @@
 ghost use Rattle.std.specs.Prelude.{Bool, ◌≡◌, OnOk};
 ghost use Rattle.gc_view.specs.Heaps.{detached_in};
 ghost use Rattle.gc_heap.specs.Heap.{empty_heap};
-ghost use Rattle.gc_heap.specs.Collection.{Start, has_host};
+ghost use Rattle.gc_heap.specs.Collection.{Start, stage};
 
 use crate::DrcHeap;
 use gc_heap::client::keep_number;
@@ -65,7 +65,7 @@ fn count_increments<H: GcHeap, D: Drop>(
     trace: &mut GcStoreTraceState<'_, D>,
 ) -> u32
     requires counting { H.KIND ≡ Layouts.Counting }
-    requires begun { (s : Start) × ((c : Bool) × H.under_way s 0 c heap.old state.old roots.old.roots trace.old.types.now.declarations (has_host trace.old.host_data_table.now.entries)) }
+    requires begun { (s : Start) × ((c : Bool) × H.under_way s 0 c (stage heap.old state.old roots.old.roots trace.old.types.now.declarations trace.old.host_data_table.now.entries)) }
     ensures sound { H.sound heap.new }
     ensures three { result ≡ 3 }
 {

@@ -25,6 +25,7 @@ ghost use Rattle.gc_drc.specs.PlainCounting.{HasDone, UnheldGone};
 use crate::collect::phase::Phase;
 use crate::collection::DrcCollection;
 use crate::growth::Marks;
+use crate::place;
 use crate::space::CountedSpace;
 use gc_heap::{GcHeap, GcProgress, GcStoreTraceState, HeapFault, HeapKind, HeapMemory};
 use gc_refs::{RefFault, VMArrayRef, VMExternRef, VMGcHeader, VMGcObjectData, VMGcRef};
@@ -195,7 +196,7 @@ impl GcHeap for DrcHeap {
 
     ghost ticks = { λ _. 0 };
 
-    ghost under_way = { λ s n c heap state roots types hosts. IsDrcUnderWay s n heap state.phase roots types hosts };
+    ghost under_way = { λ s n c at. IsDrcUnderWay s n at.heap at.state.phase at.roots at.types at.hosts };
 
     ghost left = { λ _ state. left_of state.phase };
 
@@ -206,6 +207,14 @@ impl GcHeap for DrcHeap {
     ghost starts = { drc_starts };
 
     const KIND: HeapKind = Layouts::Counting;
+
+    fn is_too_large(size: u32) -> bool {
+        place::is_too_large(size)
+    }
+
+    fn need(size: u32) -> u64 {
+        place::need(size)
+    }
 
     fn is_attached(&self) -> bool {
         matches!(self.backing, Backing::Attached(_))

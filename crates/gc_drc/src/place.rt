@@ -1,6 +1,8 @@
 //! Room for new objects, and what is written for each.
 
 ghost use Rattle.std.specs.Prelude.{◌≡◌, ◌+◌, ◌≤◌, ◌<◌, length};
+ghost use Rattle.gc_types.specs.declared.kind.Layouts.TheVariants.{Counting};
+ghost use Rattle.gc_view.specs.Sizes.{need_of, too_large};
 ghost use Rattle.gc_drc.specs.Layout.{block_of};
 ghost use Rattle.gc_drc.specs.Placing.{CanPlace, WritesBlock, FindsBlock, PlacesObject};
 ghost use Rattle.gc_drc.specs.Content.{IsSoundSpace};
@@ -10,6 +12,9 @@ use gc_free::FreeList;
 use gc_heap::{HeapFault, HeapMemory};
 use gc_memory::offsets::{ALIGNMENT, COUNTING_COUNT, COUNTING_SIZE};
 use gc_refs::{VMGcHeader, VMGcRef};
+
+/// The least size that, 16 bytes added, is no number of 32 bits.
+const MIN_TOO_LARGE: u64 = 0xFFFF_FFF0;
 
 /// Room that was taken for an object of that size.
 #[derive(Clone, Copy, Debug, PartialEq, Eq)]
@@ -24,6 +29,20 @@ pub(crate) fn block_of(size: u32) -> u64
 {
     let alignment = u64::from(ALIGNMENT);
     (u64::from(size) + (alignment - 1)) / alignment * alignment
+}
+
+/// Whether no counting heap can hold an object of `size` bytes.
+pub(crate) fn is_too_large(size: u32) -> bool
+    ensures { result ≡ too_large Counting size }
+{
+    u64::from(size) >= MIN_TOO_LARGE
+}
+
+/// The bytes that a heap without room for an object of `size` bytes has to grow by.
+pub(crate) fn need(size: u32) -> u64
+    ensures { result ≡ need_of Counting size }
+{
+    block_of(size) + u64::from(ALIGNMENT)
 }
 
 /// Writes the words and the zeroed data of a new object of `size` bytes at a place.
@@ -62,7 +81,7 @@ impl CountedSpace {
                 place: place.get(),
                 size,
             })),
-            Ok(None) => Ok(Err(u64::from(block) + u64::from(ALIGNMENT))),
+            Ok(None) => Ok(Err(need(size))),
             Err(_) => Err(HeapFault::Memory),
         }
     }

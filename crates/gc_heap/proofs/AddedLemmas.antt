@@ -24,7 +24,8 @@ use Rattle.gc_view.specs.Bytes.{u32_at}
 use Rattle.gc_view.specs.Heaps.{HeapObject, HeapView}
 use Rattle.gc_view.proofs.Content.{get-put_same, get-put_other}
 use Rattle.gc_heap.specs.Objects.{held_size, zeroed, zeroed_array, external, host_id, array_length}
-use Rattle.gc_heap.specs.References.{reference_offsets, typed_offsets, traced_offsets, word_offsets, references, word_in, IsTyped, HoldsType, struct_spare, array_spare}
+use Rattle.gc_heap.specs.References.{reference_offsets, typed_offsets, traced_offsets, word_offsets, references, word_in, HoldsType}
+use Rattle.gc_heap.specs.Rules.{IsTyped, struct_spare, array_spare}
 use Rattle.gc_heap.specs.Content.{IsHeld}
 use Rattle.gc_heap.specs.Heap.{IsNewPlace, AddsObject, counts_with, layout_kind, exn_or_struct, new_struct, new_array, array_size}
 use Rattle.gc_heap.specs.Collection.{Start, CanCollect, AreCounted, IsWordOf, IsExternal}

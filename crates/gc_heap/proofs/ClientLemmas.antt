@@ -13,7 +13,8 @@ use Rattle.gc_types.specs.Declarations.{Declaration, Shape, struct_of, array_of,
 use Rattle.gc_types.specs.Layouts.{ref_offsets, shape_layout, shape_trace, declaration_layout, declaration_trace}
 use Rattle.gc_roots.specs.Roots.{Root, root, root_at}
 use Rattle.gc_view.specs.Heaps.{HeapObject, HeapView}
-use Rattle.gc_heap.specs.References.{reference_offsets, references, typed_offsets, info_offsets, traced_offsets, word_in, HoldsType, IsTyped}
+use Rattle.gc_heap.specs.References.{reference_offsets, references, typed_offsets, info_offsets, traced_offsets, word_in, HoldsType}
+use Rattle.gc_heap.specs.Rules.{IsTyped}
 use Rattle.gc_heap.specs.Heap.{empty_heap}
 use Rattle.gc_heap.specs.Collection.{CanCollect, AreCounted, CountsExact, IsExternal, occurrences, IsMoved, moved_root}
 use Rattle.gc_heap.specs.Client.{IsPlainObject, AddsPlain}

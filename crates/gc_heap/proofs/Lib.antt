@@ -6,6 +6,7 @@ pub mod CountLemmas
 pub mod HeapLemmas
 pub mod KindLemmas
 pub mod MadeLemmas
+pub mod NameLemmas
 pub mod NullHeapLemmas
 pub mod NullMemoryLemmas
 pub mod NullStepLemmas

@@ -22,7 +22,7 @@ use Rattle.gc_view.proofs.Content.{get-put_same}
 use Rattle.gc_view.proofs.ByteLemmas.{length-put_bytes, part-put_bytes}
 use Rattle.gc_view.specs.Sizes.{stored_size}
 use Rattle.gc_heap.specs.Objects.{held_size, size_with, writable_offset, HasFields}
-use Rattle.gc_heap.specs.References.{struct_spare}
+use Rattle.gc_heap.specs.Rules.{struct_spare}
 use Rattle.gc_heap.specs.Heap.{AddsObject, IsWritable, with_data, put_object, layout_kind, exn_or_struct, new_struct}
 use Rattle.gc_heap.specs.Collection.{Collected, IsMoved}
 use Rattle.gc_heap.specs.Access.{IsReadable, data_part}

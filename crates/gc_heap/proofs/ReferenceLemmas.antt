@@ -19,7 +19,8 @@ use Rattle.gc_refs.specs.Trace.{form_of}
 use Rattle.gc_memory.specs.Lists.{In}
 use Rattle.gc_view.specs.Heaps.{HeapObject}
 use Rattle.gc_heap.specs.Objects.{held_size, size_with, array_length, writable_offset, HasFields}
-use Rattle.gc_heap.specs.References.{bit_offsets, word_offsets, bitmap_offsets, element_offsets, info_offsets, typed_offsets, traced_offsets, reference_offsets, IsTyped, HoldsType, HoldsLayout, HoldsArrayLayout}
+use Rattle.gc_heap.specs.References.{bit_offsets, word_offsets, bitmap_offsets, element_offsets, info_offsets, typed_offsets, traced_offsets, reference_offsets, HoldsType, HoldsLayout, HoldsArrayLayout}
+use Rattle.gc_heap.specs.Rules.{IsTyped}
 use Rattle.gc_heap.specs.Content.{TracesInside, IsSpare}
 use Rattle.gc_heap.proofs.SpacedLemmas.{Spaced, spaced_wider, spaced_bits, spaced_words, spaced_fields, ref_width, no_bits, in_contains, aligned_bits, aligned_words, aligned_fields}
 

@@ -18,7 +18,8 @@ use Rattle.gc_view.specs.Bytes.{put_bytes}
 use Rattle.gc_view.proofs.Content.{get-put_same, get-put_other}
 use Rattle.gc_view.proofs.ByteLemmas.{u32_in_same, length-put_bytes, put_bytes-below, put_bytes-above, part-put_bytes}
 use Rattle.gc_heap.specs.Objects.{held_size, size_with, writable_offset, array_length, HasFields, IsObjectKind}
-use Rattle.gc_heap.specs.References.{reference_offsets, references, word_in, IsTyped}
+use Rattle.gc_heap.specs.References.{reference_offsets, references, word_in}
+use Rattle.gc_heap.specs.Rules.{IsTyped}
 use Rattle.gc_heap.specs.Content.{IsHeld, IsHeap, IsSpare}
 use Rattle.gc_heap.specs.Heap.{IsWritable, with_data, put_object}
 use Rattle.gc_heap.specs.Collection.{Start, CanCollect, AreCounted, IsWordOf, IsExternal}

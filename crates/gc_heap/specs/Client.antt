@@ -10,7 +10,7 @@ use Rattle.gc_types.specs.Layouts.{struct_base, layout_at, ref_offsets}
 use Rattle.gc_refs.specs.LittleEndian.{unsigned_at}
 use Rattle.gc_view.specs.Heaps.{HeapObject, HeapView}
 use Rattle.gc_heap.specs.Objects.{held_size}
-use Rattle.gc_heap.specs.References.{struct_spare}
+use Rattle.gc_heap.specs.Rules.{struct_spare}
 use Rattle.gc_heap.specs.Heap.{IsNewPlace, LacksRoom, IsTooLarge, counts_with}
 use Rattle.gc_heap.specs.Access.{data_part}
 use Rattle.gc_heap.specs.declared.heap.HeapFault.{HeapFault}

@@ -3,6 +3,7 @@ pub mod Barriers
 pub mod Client
 pub mod Collection
 pub mod Content
+pub mod Extents
 pub mod Heap
 pub mod Kinds
 pub mod NullLaws
@@ -11,5 +12,8 @@ pub mod NullWalk
 pub mod NullWalkLaws
 pub mod Objects
 pub mod References
+pub mod Rules
 pub mod Run
+pub mod Space
+pub mod Starts
 pub mod Totals

@@ -1,19 +1,19 @@
 -- Where the references of an object lie.
-use Rattle.std.specs.Prelude.{◌≡◌, ℕ, zero, suc, ◌+◌, ◌-◌, ◌*◌, ◌/◌, ◌%◌, ◌^◌, ◌<◌, ◌≤◌, ◌⊎◌, ◌==◌, if◌then◌else◌, bit_or, nat_le, Bool, true, false, List, [], ◌∷◌, ◌++◌, Option, Some, None, map, All}
-use Rattle.gc_types.specs.declared.kind.Layouts.{Layouts}
-use Rattle.gc_types.specs.declared.kind.Layouts.TheVariants.{Null, Counting, Copying}
-use Rattle.gc_types.specs.declared.kind.VMGcKind.{VMGcKind}
-use Rattle.gc_types.specs.declared.kind.VMGcKind.TheVariants.{ExternRef, AnyRef, EqRef, StructRef, ArrayRef, ExnRef}
-use Rattle.gc_types.specs.declared.layout.GcStructLayout.{GcStructLayout}
-use Rattle.gc_types.specs.declared.layout.GcArrayLayout.{GcArrayLayout}
-use Rattle.gc_types.specs.declared.layout.TraceInfo.{TraceInfo}
-use Rattle.gc_types.specs.declared.layout.TraceInfo.TheVariants as trace
+use Rattle.std.specs.Prelude.{All, Bool, List, None, Option, Some, [], bit_or, false, if◌then◌else◌, map, nat_le, suc, true, zero, ℕ, ◌%◌, ◌*◌, ◌++◌, ◌+◌, ◌-◌, ◌/◌, ◌==◌, ◌^◌, ◌∷◌, ◌≡◌, ◌≤◌, ◌⊎◌}
+use Rattle.gc_types.specs.declared.kind.VMGcKind.TheVariants.{AnyRef, ArrayRef, EqRef, ExnRef, ExternRef, StructRef}
+use Rattle.gc_types.specs.declared.kind.Layouts.TheVariants.{Copying, Counting, Null}
 use Rattle.gc_types.specs.Declarations.{Declaration}
-use Rattle.gc_types.specs.Layouts.{struct_base, array_base, trace_at, layout_at, array_layout_at, ref_offsets}
-use Rattle.gc_refs.specs.Trace.{form_unit, form_of}
-use Rattle.gc_view.specs.Bytes.{u32_at}
+use Rattle.gc_types.specs.declared.layout.GcArrayLayout.{GcArrayLayout}
+use Rattle.gc_types.specs.declared.layout.GcStructLayout.{GcStructLayout}
+use Rattle.gc_types.specs.declared.kind.Layouts.{Layouts}
+use Rattle.gc_types.specs.declared.layout.TraceInfo.{TraceInfo}
+use Rattle.gc_types.specs.declared.kind.VMGcKind.{VMGcKind}
+use Rattle.gc_types.specs.Layouts.{array_base, array_layout_at, layout_at, struct_base, trace_at}
+use Rattle.gc_types.specs.declared.layout.TraceInfo.TheVariants as trace
+use Rattle.gc_refs.specs.Trace.{form_of}
 use Rattle.gc_view.specs.Heaps.{HeapObject}
-use Rattle.gc_heap.specs.Objects.{array_length, held_size}
+use Rattle.gc_view.specs.Bytes.{u32_at}
+use Rattle.gc_heap.specs.Extents.{array_length, held_size}
 
 -- so many offsets of words that follow each other from an offset on
 abbrev pub word_offsets : ℕ → ℕ → List ℕ
@@ -87,12 +87,6 @@ IsTraceWord ArrayRef size word = form_of word ≡ 1
 IsTraceWord ExnRef size word =
     ((form_of word ≡ 0) × All (λ offset. offset + 4 ≤ size) (bitmap_offsets word)) ⊎ (form_of word ≡ 2)
 
--- What the spare bits of a new object's header must be: a trace word in a copying heap, else 0.
-abbrev pub SpareFits : Layouts → VMGcKind → ℕ → ℕ → Type 0
-SpareFits Null kind size word = word ≡ 0
-SpareFits Counting kind size word = word ≡ 0
-SpareFits Copying kind size word = (word < 4 * form_unit) × IsTraceWord kind size word
-
 -- the bitmap that names these offsets
 abbrev pub bitmap_of : List ℕ → ℕ
 bitmap_of [] = 0
@@ -103,34 +97,11 @@ abbrev pub is_past_bitmap : List ℕ → Bool
 is_past_bitmap [] = false
 is_past_bitmap (offset ∷ offsets) = if nat_le offset 100 then is_past_bitmap offsets else true
 
--- the spare bits that a struct or an exception with references at these offsets is made with
-abbrev pub struct_spare : Layouts → List ℕ → ℕ
-struct_spare Null offsets = 0
-struct_spare Counting offsets = 0
-struct_spare Copying offsets = if is_past_bitmap offsets then 2 * form_unit else bitmap_of offsets
-
--- the spare bits that an array is made with
-abbrev pub array_spare : Layouts → Bool → ℕ
-array_spare Null elems_are_refs = 0
-array_spare Counting elems_are_refs = 0
-array_spare Copying elems_are_refs = form_unit + (if elems_are_refs then 1 else 0)
-
 -- A reference of a layout lies at a multiple of 4, behind the first free offset and inside the size.
 pub record IsTraceable (first size offset : ℕ) : Type 0 where
   pub aligned : offset % 4 ≡ 0
   pub from : first ≤ offset
   pub to : offset + 4 ≤ size
-
--- What a copying heap asks of a layout besides: it must be able to trace it.
-abbrev pub LayoutTraces : Layouts → GcStructLayout → ℕ → Type 0
-LayoutTraces Null layout first = Unit {0}
-LayoutTraces Counting layout first = Unit {0}
-LayoutTraces Copying layout first = All (IsTraceable first layout.size) (ref_offsets layout.fields)
-
-abbrev pub ArrayTraces : Layouts → GcArrayLayout → Type 0
-ArrayTraces Null layout = Unit {0}
-ArrayTraces Counting layout = Unit {0}
-ArrayTraces Copying layout = layout.elems_are_gc_refs ≡ true → (layout.base_size ≡ 16) × (layout.elem_size ≡ 4)
 
 -- a struct or an exception of that size holds a layout of its kind
 pub record HoldsLayout (is_exception : Bool) (size : ℕ) (layout : Option GcStructLayout) : Type 0 where
@@ -153,9 +124,3 @@ HoldsType layouts types o EqRef = Unit {0}
 HoldsType layouts types o StructRef = HoldsLayout false (held_size layouts o) (layout_at layouts types o.ty)
 HoldsType layouts types o ArrayRef = HoldsArrayLayout (array_length o) (held_size layouts o) (array_layout_at layouts types o.ty)
 HoldsType layouts types o ExnRef = HoldsLayout true (held_size layouts o) (layout_at layouts types o.ty)
-
--- the type of an object is known as far as the heap traces the object by it
-abbrev pub IsTyped : Layouts → List Declaration → HeapObject → Type 0
-IsTyped Null types o = HoldsType Null types o o.kind
-IsTyped Counting types o = HoldsType Counting types o o.kind
-IsTyped Copying types o = form_of o.spare ≡ 2 → HoldsType Copying types o o.kind

@@ -1,7 +1,7 @@
 //! Collections from their beginning to their end, of any heap.
 
 ghost use Rattle.std.specs.Prelude.{ℕ, Bool, true, ◌≡◌, ◌+◌, ◌≤◌};
-ghost use Rattle.gc_heap.specs.Collection.{Start, has_host, IsPartOf, CanCollect, Collected, IsStepCount};
+ghost use Rattle.gc_heap.specs.Collection.{Start, stage, IsUnderWay, has_host, IsPartOf, CanCollect, Collected, IsStepCount};
 ghost use Rattle.gc_heap.specs.Run.{start_at, IsRise};
 
 use crate::collection::{GcProgress, GcStoreTraceState};
@@ -17,9 +17,10 @@ pub fn collect<H: GcHeap, D: Drop>(
     roots: &mut GcRootsList,
     trace: &mut GcStoreTraceState<'_, D>,
 )
-    requires { (s : Start) × ((n : ℕ) × ((c : Bool) × H.under_way s n c heap.old state.old roots.old.roots trace.old.types.now.declarations (has_host trace.old.host_data_table.now.entries))) }
+    requires { IsUnderWay H.under_way (stage heap.old state.old roots.old.roots trace.old.types.now.declarations trace.old.host_data_table.now.entries) }
     ensures sound { H.sound heap.new }
-    ensures collected { (s : Start) (n : ℕ) (c : Bool) → H.under_way s n c heap.old state.old roots.old.roots trace.old.types.now.declarations (has_host trace.old.host_data_table.now.entries)
+    ensures collected { (s : Start) (n : ℕ) (c : Bool)
+        → H.under_way s n c (stage heap.old state.old roots.old.roots trace.old.types.now.declarations trace.old.host_data_table.now.entries)
         → Collected H.KIND s (H.seen heap.new) roots.new.roots (has_host trace.new.host_data_table.now.entries) }
     ensures ticks { H.ticks state.new ≡ H.ticks state.old }
     ensures spare { roots.new.spare ≡ roots.old.spare }
@@ -46,11 +47,13 @@ pub fn collect_counted<H: GcHeap, D: Drop, G: Ledger>(
     trace: &mut GcStoreTraceState<'_, D>,
     steps: &mut Steps<G>,
 )
-    requires { (s : Start) × ((n : ℕ) × ((c : Bool) × H.under_way s n c heap.old state.old roots.old.roots trace.old.types.now.declarations (has_host trace.old.host_data_table.now.entries))) }
+    requires { IsUnderWay H.under_way (stage heap.old state.old roots.old.roots trace.old.types.now.declarations trace.old.host_data_table.now.entries) }
     ensures sound { H.sound heap.new }
-    ensures collected { (s : Start) (n : ℕ) (c : Bool) → H.under_way s n c heap.old state.old roots.old.roots trace.old.types.now.declarations (has_host trace.old.host_data_table.now.entries)
+    ensures collected { (s : Start) (n : ℕ) (c : Bool)
+        → H.under_way s n c (stage heap.old state.old roots.old.roots trace.old.types.now.declarations trace.old.host_data_table.now.entries)
         → Collected H.KIND s (H.seen heap.new) roots.new.roots (has_host trace.new.host_data_table.now.entries) }
-    ensures counted { (s : Start) (n : ℕ) (c : Bool) → H.under_way s n c heap.old state.old roots.old.roots trace.old.types.now.declarations (has_host trace.old.host_data_table.now.entries)
+    ensures counted { (s : Start) (n : ℕ) (c : Bool)
+        → H.under_way s n c (stage heap.old state.old roots.old.roots trace.old.types.now.declarations trace.old.host_data_table.now.entries)
         → c ≡ true → IsStepCount H.KIND s (H.ticks state.new) }
     ensures ticks { H.ticks state.new + steps.old ≡ H.ticks state.old + steps.new }
     ensures rises { steps.old ≤ steps.new }

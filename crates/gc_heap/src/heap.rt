@@ -58,14 +58,15 @@ pub trait GcHeap {
     ghost use Rattle.gc_roots.specs.Roots.{Root};
     ghost use Rattle.gc_memory.specs.Offsets.{external_size};
     ghost use Rattle.gc_view.specs.Bytes.{u32_at};
+    ghost use Rattle.gc_view.specs.Sizes.{too_large, need_of};
     ghost use Rattle.gc_view.specs.Heaps.{HeapView, HeapObject, detached_in};
     ghost use Rattle.gc_heap.specs.declared.collection.GcProgress.{GcProgress};
     ghost use Rattle.gc_heap.specs.Objects.{held_size, first_offset, array_length, external, zeroed, HasFields, IsHeaderOf, IsObjectData};
-    ghost use Rattle.gc_heap.specs.References.{SpareFits, LayoutTraces, ArrayTraces};
+    ghost use Rattle.gc_heap.specs.Rules.{SpareFits, LayoutTraces, ArrayTraces};
     ghost use Rattle.gc_heap.specs.Content.{IsHeld, IsHeap};
     ghost use Rattle.gc_heap.specs.Heap.{empty_heap, grown, Allocated, layout_kind, new_struct, new_array, array_size, given_back, IsWritable, with_data, put_object, with_spare_of, CanAllocate, CanGiveBack, IsStructOrExn, IsArray, IsSameHeader};
     ghost use Rattle.gc_heap.specs.Barriers.{ShowsCount, CanName, CanUnname, CanNameSlot, CanUnnameSlot, IsNamed, cloned, dropped, exposed, overwritten};
-    ghost use Rattle.gc_heap.specs.Collection.{Start, has_host, IsPartOf, CanCollect, Collected, Stepped, IsStepCount};
+    ghost use Rattle.gc_heap.specs.Collection.{Start, Stage, stage, IsUnderWay, has_host, IsPartOf, CanCollect, Collected, Stepped, IsStepCount};
 
     /// What a collection knows between two increments.
     type State: Drop;
@@ -85,9 +86,9 @@ pub trait GcHeap {
     /// How many steps the counted increments of a state took.
     ghost ticks: { Self.State → ℕ };
 
-    /// A collection that began there has done so many increments, each of them counted or not; it
-    /// has this heap, state, roots, types and host values now.
-    ghost under_way: { Start → ℕ → Bool → Self → Self.State → List Root → List Declaration → (ℕ → Bool) → Type 0 };
+    /// A collection that began there has done so many increments, each of them counted or not, and
+    /// stands so now.
+    ghost under_way: { Start → ℕ → Bool → Stage Self Self.State → Type 0 };
 
     /// What is left of a collection; each increment makes it less.
     ghost left: { Self → Self.State → ℕ };
@@ -96,6 +97,17 @@ pub trait GcHeap {
     ghost KIND: { Layouts };
 
     const KIND: HeapKind;
+
+    // Sizes
+
+    /// Whether no heap of this kind can hold an object of `size` bytes, whatever memory it has.
+    fn is_too_large(size: u32) -> bool
+        ensures { result ≡ too_large KIND size };
+
+    /// The bytes that a heap of this kind without room for an object of `size` bytes has to grow by, so
+    /// that the object fits.
+    fn need(size: u32) -> u64
+        ensures { result ≡ need_of KIND size };
 
     // Attaching
 
@@ -355,9 +367,12 @@ pub trait GcHeap {
         roots: &mut GcRootsList,
         trace: &mut GcStoreTraceState<'_, D>,
     ) -> GcProgress
-        requires { (s : Start) × ((n : ℕ) × ((c : Bool) × under_way s n c self.old state.old roots.old.roots trace.old.types.now.declarations (has_host trace.old.host_data_table.now.entries))) }
-        ensures step { (s : Start) (n : ℕ) (c : Bool) → under_way s n c self.old state.old roots.old.roots trace.old.types.now.declarations (has_host trace.old.host_data_table.now.entries)
-            → Stepped KIND s (n + 1) result (under_way s (n + 1) false self.new state.new roots.new.roots trace.old.types.now.declarations (has_host trace.new.host_data_table.now.entries)) (sound self.new × Collected KIND s (seen self.new) roots.new.roots (has_host trace.new.host_data_table.now.entries)) }
+        requires { IsUnderWay under_way (stage self.old state.old roots.old.roots trace.old.types.now.declarations trace.old.host_data_table.now.entries) }
+        ensures step { (s : Start) (n : ℕ) (c : Bool)
+            → under_way s n c (stage self.old state.old roots.old.roots trace.old.types.now.declarations trace.old.host_data_table.now.entries)
+            → Stepped KIND s (n + 1) result
+            (under_way s (n + 1) false (stage self.new state.new roots.new.roots trace.old.types.now.declarations trace.new.host_data_table.now.entries))
+            (sound self.new × Collected KIND s (seen self.new) roots.new.roots (has_host trace.new.host_data_table.now.entries)) }
         ensures less { result ≡ GcProgress.Continue → left self.new state.new < left self.old state.old }
         ensures ticks { ticks state.new ≡ ticks state.old }
         ensures spare { roots.new.spare ≡ roots.old.spare }
@@ -376,9 +391,12 @@ pub trait GcHeap {
         trace: &mut GcStoreTraceState<'_, D>,
         steps: &mut Steps<G>,
     ) -> GcProgress
-        requires { (s : Start) × ((n : ℕ) × ((c : Bool) × under_way s n c self.old state.old roots.old.roots trace.old.types.now.declarations (has_host trace.old.host_data_table.now.entries))) }
-        ensures step { (s : Start) (n : ℕ) (c : Bool) → under_way s n c self.old state.old roots.old.roots trace.old.types.now.declarations (has_host trace.old.host_data_table.now.entries)
-            → Stepped KIND s (n + 1) result (under_way s (n + 1) c self.new state.new roots.new.roots trace.old.types.now.declarations (has_host trace.new.host_data_table.now.entries)) (sound self.new × (c ≡ true → IsStepCount KIND s (ticks state.new)) × Collected KIND s (seen self.new) roots.new.roots (has_host trace.new.host_data_table.now.entries)) }
+        requires { IsUnderWay under_way (stage self.old state.old roots.old.roots trace.old.types.now.declarations trace.old.host_data_table.now.entries) }
+        ensures step { (s : Start) (n : ℕ) (c : Bool)
+            → under_way s n c (stage self.old state.old roots.old.roots trace.old.types.now.declarations trace.old.host_data_table.now.entries)
+            → Stepped KIND s (n + 1) result
+            (under_way s (n + 1) c (stage self.new state.new roots.new.roots trace.old.types.now.declarations trace.new.host_data_table.now.entries))
+            (sound self.new × (c ≡ true → IsStepCount KIND s (ticks state.new)) × Collected KIND s (seen self.new) roots.new.roots (has_host trace.new.host_data_table.now.entries)) }
         ensures less { result ≡ GcProgress.Continue → left self.new state.new < left self.old state.old }
         ensures ticks { ticks state.new + steps.old ≡ ticks state.old + steps.new }
         ensures rises { steps.old ≤ steps.new }
@@ -393,5 +411,5 @@ pub trait GcHeap {
 
     /// A collection is under way with no increment done, where it may begin.
     ghost starts: { (s : Start) (heap : Self) (state : Self.State) → sound heap → begun state → seen heap ≡ s.heap → CanCollect KIND s
-        → under_way s 0 true heap state s.roots s.types s.hosts };
+        → under_way s 0 true (record { heap = heap; state = state; roots = s.roots; types = s.types; hosts = s.hosts }) };
 }

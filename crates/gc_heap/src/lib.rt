@@ -22,6 +22,7 @@ mod tests;
 pub use collection::{GcProgress, GcStoreTraceState};
 pub use gc_memory::HeapMemory;
 pub use gc_refs::RefFault;
+pub use gc_roots::{GcRoot, GcRootsIter, GcRootsList, RootPlace};
 pub use heap::{GcHeap, HeapFault, HeapKind};
 pub use null::{NullCollection, NullCollector, NullHeap};
 pub use ref_kinds::RefKinds;

@@ -109,7 +109,7 @@ impl GcHeap for NullHeap {
 
     ghost ticks = { λ _. 0 };
 
-    ghost under_way = { λ s n _ heap _ roots types hosts. IsNullUnderWay s n heap roots types hosts };
+    ghost under_way = { λ s n _ at. IsNullUnderWay s n at.heap at.roots at.types at.hosts };
 
     ghost left = { λ _ _. 0 };
 
@@ -120,6 +120,14 @@ impl GcHeap for NullHeap {
     ghost starts = { λ s heap _ sound _ seen can. null_starts s heap sound seen can };
 
     const KIND: HeapKind = Layouts::Null;
+
+    fn is_too_large(size: u32) -> bool {
+        size >= place::SIZE_LIMIT
+    }
+
+    fn need(size: u32) -> u64 {
+        place::need(size)
+    }
 
     fn is_attached(&self) -> bool {
         self.memory.is_some()

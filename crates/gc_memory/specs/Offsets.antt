@@ -1,9 +1,8 @@
 -- Where the words of an object lie, counted from its first byte.
 use Rattle.std.specs.Prelude.{ℕ, ◌+◌}
 use Rattle.gc_types.specs.declared.kind.Layouts.{Layouts}
-use Rattle.gc_types.specs.declared.kind.Layouts.TheVariants.{Null, Counting, Copying}
 use Rattle.gc_types.specs.Layouts.{struct_base}
-pub use Rattle.gc_view.specs.Sizes.{stored_size}
+pub use Rattle.gc_view.specs.Sizes.{stored_size, host_id_offset, external_size}
 
 -- the type word of a header; its kind word is at 0
 abbrev pub type_word_offset : ℕ
@@ -23,18 +22,6 @@ exception_instance_offset layouts = struct_base layouts
 
 abbrev pub exception_tag_offset : Layouts → ℕ
 exception_tag_offset layouts = struct_base layouts + 4
-
--- the id of the host value of an external object
-abbrev pub host_id_offset : Layouts → ℕ
-host_id_offset Null = 8
-host_id_offset Counting = 28
-host_id_offset Copying = 16
-
--- the bytes of an external object
-abbrev pub external_size : Layouts → ℕ
-external_size Null = 12
-external_size Counting = 32
-external_size Copying = 24
 
 -- an object of the counting heap: how many references to it are counted, its size, the next object of
 -- the list of those that were shown, and the next of those that wait

@@ -7,6 +7,7 @@ use Rattle.gc_view.specs.Pages.{page, max_pages}
 use Rattle.gc_model.specs.Values.{Object}
 use Rattle.gc_model.specs.Table.{Table, make, make_heap, made_pages, with_pages}
 use Rattle.gc_view.specs.Sizes.{alignment, need_of}
+pub use Rattle.gc_view.specs.Sizes.{too_large}
 use Rattle.gc_model.specs.Sizes.{object_size, rounded_size, next_place}
 use Rattle.gc_model.specs.Reach.{IsReached, AreAll}
 
@@ -16,12 +17,6 @@ pub record Limits : Type 0 where
   pub limit : Option ℕ
   pub refusals : ℕ
   pub last_refused : Option (ℕ × ℕ)
-
--- a size that no heap of the kind can hold
-abbrev pub too_large : Layouts → ℕ → Bool
-too_large Null size = nat_le 67108864 size
-too_large Counting size = nat_le (2 ^ 32) (size + 16)
-too_large Copying size = nat_le (2 ^ 32) (round_up size alignment)
 
 -- a count of 64 bits rose, or stands at its greatest value
 abbrev pub Rose : ℕ → ℕ → Type 0

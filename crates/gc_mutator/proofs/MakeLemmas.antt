@@ -20,7 +20,8 @@ use Rattle.gc_roots.specs.Roots.{Root}
 use Rattle.gc_view.specs.Heaps.{HeapObject, HeapView}
 use Rattle.gc_view.proofs.Layouts.{layout_low}
 use Rattle.gc_heap.specs.Objects.{first_offset, external}
-use Rattle.gc_heap.specs.References.{IsTraceable, LayoutTraces, ArrayTraces}
+use Rattle.gc_heap.specs.References.{IsTraceable}
+use Rattle.gc_heap.specs.Rules.{LayoutTraces, ArrayTraces}
 use Rattle.gc_heap.specs.Content.{IsHeap}
 use Rattle.gc_heap.specs.Heap.{Allocated, exn_or_struct, layout_kind, new_struct, new_array, array_size}
 use Rattle.gc_heap.specs.Collection.{CanCollect, has_host}

@@ -14,7 +14,7 @@ use Rattle.gc_heap.specs.Collection.{CanCollect, IsWordOf}
 use Rattle.gc_heap.proofs.AddedLemmas.{start}
 use Rattle.gc_heap.proofs.RootedLemmas.{can_collect_cloned, can_collect_dropped, can_collect_exposed, can_collect_unstacked, can_collect_number_root}
 use Rattle.gc_mutator.specs.Mutators.{gone_word}
-use Rattle.gc_mutator.proofs.NameLemmas.{can_name, can_unname}
+use Rattle.gc_heap.proofs.NameLemmas.{can_name, can_unname, held-le}
 
 -- a list of roots, taken apart at an index
 record Split (roots : List Root) (index : ℕ) : Type 0 where
@@ -41,7 +41,7 @@ module _ (layouts : Layouts) (types : List Declaration) (h : HeapView) (roots : 
   root_word index word below is = subst (IsWordOf h) (sym is) (can.roots (root_at roots index) (Contains-get_or roots index no_root below))
 
   pub root_cloneable : (index word : ℕ) → index < length roots → length roots < 2 ^ 31 → word ≡ (root_at roots index).word → 0 < word → CanName h word
-  root_cloneable index word below few is present = can_name layouts types h roots hosts heap can few word (root_word index word below is) present
+  root_cloneable index word below few is present = can_name layouts types h roots hosts heap can (let held = held-le roots in omega arith) word (root_word index word below is) present
 
   pub root_droppable : (index word : ℕ) → index < length roots → (root_at roots index).on_stack ≡ false → word ≡ (root_at roots index).word → 0 < word → CanUnname h word
   root_droppable index word below held is present =

@@ -31,7 +31,7 @@ use Rattle.gc_heap.proofs.WrittenLemmas.{fits_data}
 use Rattle.gc_mutator.specs.Mutators.{MutatorView, word_of, source_word}
 use Rattle.gc_mutator.specs.Fields.{HasWord, HasReference, HasNumber, NamesNone, IsOfNumbers, slot_word, WritesNumber, WritesReference}
 use Rattle.gc_mutator.proofs.MakeLemmas.{view}
-use Rattle.gc_mutator.proofs.NameLemmas.{is_named}
+use Rattle.gc_heap.proofs.NameLemmas.{is_named}
 
 occurs : (word : ℕ) (words : List ℕ) → In word words → 0 < occurrences word words
 occurs word [] i = elim i [ ]

@@ -41,6 +41,14 @@ fn reference_at<H: GcHeap>(heap: &H, holder: &VMGcRef, offset: u32) -> Option<VM
 }
 
 impl<H: GcHeap> Mutator<H> {
+    /// The heap, to be read through its interface.
+    pub fn heap(&self) -> &H
+        ensures sound { H.sound result.now }
+        ensures seen { H.seen result.now ≡ self.now.heap }
+    {
+        &self.heap
+    }
+
     /// The word of a root.
     pub fn root(&self, index: usize) -> Option<VMGcRef>
         ensures some { IfSome result (λ word. (index < length self.now.roots) × (word ≡ word_of self.now index)) }

@@ -1,1 +1,2 @@
 pub mod LittleEndianLemmas
+pub mod RoundTrips

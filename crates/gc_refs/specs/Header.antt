@@ -1,5 +1,5 @@
 -- The header of an object.
-use Rattle.std.specs.Prelude.{◌≡◌, ℕ, ◌+◌, ◌*◌, ◌/◌, ◌++◌, List, take, drop, bit_and}
+use Rattle.std.specs.Prelude.{◌≡◌, ℕ, ◌+◌, ◌*◌, ◌/◌, ◌++◌, List, take, drop}
 use Rattle.std.specs.Int.{w32, to_le_bytes, from_le_bytes}
 use Rattle.gc_types.specs.declared.kind.VMGcKind.{VMGcKind}
 use Rattle.gc_types.specs.Kinds.{kind_bits}
@@ -9,7 +9,7 @@ pub record Header : Type 0 where
   pub kind_word : ℕ
   pub type_word : ℕ
 
--- the spare bits of a kind word are those below this number
+-- the spare bits of a kind word are those below this number, 2^26
 abbrev pub spare_bits : ℕ
 spare_bits = 0x4000000
 
@@ -36,7 +36,3 @@ kind_part word = word / spare_bits * spare_bits
 -- a kind word is of that kind
 abbrev pub IsOfKind : VMGcKind → ℕ → Type 0
 IsOfKind kind word = kind_bits kind ≡ kind_part word
-
--- a kind matches another where it has all the other's bits
-abbrev pub KindMatches : VMGcKind → VMGcKind → Type 0
-KindMatches kind other = bit_and (kind_bits kind) (kind_bits other) ≡ kind_bits other

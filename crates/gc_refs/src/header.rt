@@ -2,7 +2,8 @@
 
 ghost use Rattle.std.specs.Prelude.{◌≡◌, ◌≢◌, ◌<◌, ◌≤◌, ◌%◌, ◌^◌, ◌↔◌, ◌++◌, length, drop, IsTrue, MatchBool, MatchOption, SomeIff};
 ghost use Rattle.gc_types.specs.declared.kind.VMGcKind.{VMGcKind};
-ghost use Rattle.gc_refs.specs.Header.{header_of, with_spare, spare_bits, header_bytes, header_at, IsOfKind, KindMatches};
+ghost use Rattle.gc_refs.specs.Header.{header_of, with_spare, spare_bits, header_bytes, header_at, IsOfKind};
+ghost use Rattle.gc_types.specs.Kinds.{IsKindOf};
 
 use gc_types::{VMGcKind, VMSharedTypeIndex};
 use std::marker::Model;
@@ -87,24 +88,16 @@ impl VMGcHeader {
     pub fn kind(&self) -> Option<VMGcKind>
         ensures { MatchOption result ((kind : VMGcKind) → ¬ (IsOfKind kind self.now.kind_word)) (λ kind. IsOfKind kind self.now.kind_word) }
     {
-        match self.kind_word / SPARE {
-            0x10 => Some(VMGcKind::ExternRef),
-            0x20 => Some(VMGcKind::AnyRef),
-            0x28 => Some(VMGcKind::EqRef),
-            0x29 => Some(VMGcKind::StructRef),
-            0x2A => Some(VMGcKind::ArrayRef),
-            0x04 => Some(VMGcKind::ExnRef),
-            _ => None,
-        }
+        VMGcKind::from_high_bits_of_u32(self.kind_word)
     }
 
     /// Whether the object is of a kind that matches the given one; false where the kind word names no
     /// kind.
     pub fn matches_kind(&self, kind: VMGcKind) -> bool
-        ensures { IsTrue result ↔ ((own : VMGcKind) × IsOfKind own self.now.kind_word × KindMatches own kind) }
+        ensures { IsTrue result ↔ ((own : VMGcKind) × IsOfKind own self.now.kind_word × IsKindOf own kind) }
     {
         match self.kind() {
-            Some(own) => own.as_u32() & kind.as_u32() == kind.as_u32(),
+            Some(own) => own.matches(kind),
             None => false,
         }
     }

@@ -25,7 +25,7 @@ module _ (layouts : Layouts) (counter : Option ℕ) (limits : Limits) (old new :
     after = with_account a s;
     step = (record { objects = objects; hosts = hosts; shows = refl; kept = keeps }, (a, refl));
     follows = follows;
-    counts = counts_nothing layouts limits limits s command.Gc (reply.Held objects hosts) (with_account a s) (says_other (reply.Held objects hosts) (reply.Held objects hosts) refl refl) refl;
+    counts = counts_nothing 0 limits limits (reply.Held objects hosts) (with_account a s) (says_other (reply.Held objects hosts) (reply.Held objects hosts) refl refl) refl;
     holds = holds_kept layouts old new runner runner s s.table a same (λ i p e. e) (λ d. refl) refl holds table;
   }
 

@@ -1,8 +1,11 @@
 -- Reading a field that a register names.
-use Rattle.std.proofs.Common.{◌≡◌, ℕ, ◌&&◌, List, [], ◌∷◌, ◌++◌, Option, Some, None, Bool, true, false, sym, ap, ◌∙◌, refl, subst}
+use Rattle.std.proofs.Common.{◌≡◌, ℕ, ◌&&◌, List, [], ◌∷◌, ◌++◌, Option, Some, Bool, true, false, ap, ◌∙◌, refl}
+use Rattle.std.specs.Prelude.{Ok, unwrap_or}
 use Rattle.std.specs.List.{slice_get}
 use Rattle.gc_types.specs.declared.kind.Layouts.{Layouts}
-use Rattle.gc_model.specs.Values.{Value}
+use Rattle.gc_model.specs.declared.GcClass.TheVariants as class
+use Rattle.gc_model.specs.Values.{Value, null}
+use Rattle.gc_model.specs.Values as values
 use Rattle.gc_model.specs.Live.{roots_full}
 use Rattle.gc_model.specs.Reads.{makes_root, after_read}
 use Rattle.gc_model.specs.Stores.{StoreView}
@@ -17,14 +20,15 @@ use Rattle.gc_store.specs.Stores.{IsSameStore}
 use Rattle.gc_store.specs.Values.{RawStands, IsReadAs}
 use Rattle.gc_script.specs.declared.targets.FieldPlace.{FieldPlace}
 use Rattle.gc_script.specs.Slots.{RunnerView, register_at}
-use Rattle.gc_script.specs.State.{State, Stands, HoldsState, with_table, put_into}
+use Rattle.gc_script.specs.State.{State, HoldsState}
 use Rattle.gc_script.specs.Given.{given_register, is_unset, Target, target, target_values}
-use Rattle.gc_script.specs.Steps.{first_failing, tests, target_tests, reads_root, shown, held_value}
-use Rattle.gc_script.specs.Run.{Goes}
+use Rattle.gc_script.specs.Shapes.{shown, field_value}
+use Rattle.gc_script.specs.Steps.{first_failing, tests, target_tests, reads_root}
+use Rattle.gc_script.specs.Run.{GoesOn}
 use Rattle.gc_script.specs.Named.{FoundField, register_with}
-use Rattle.gc_script.proofs.StandLemmas.{holds_table, stands_kept, holds_same}
-use Rattle.gc_script.proofs.TestLemmas.{passes, stops, passes_all, stops_all, answers_by, refuses}
-use Rattle.gc_script.proofs.ReadLemmas.{read_stands, register_stands, shown_after, keeps_read, field_no_function, put_stands, put_account, put_holds}
+use Rattle.gc_script.proofs.StandLemmas.{holds_table, holds_same}
+use Rattle.gc_script.proofs.TestLemmas.{passes, stops, passes_all, stops_all, refuses}
+use Rattle.gc_script.proofs.ReadLemmas.{read_goes, field_no_function}
 
 -- both tests are true, or the second is false where the first is true
 both_true : (a b : Bool) → a ≡ true → b ≡ true → (a && b) ≡ true
@@ -44,7 +48,7 @@ module _ (layouts : Layouts) (store : StoreView) (runner : RunnerView) (s : Stat
   to_target = passes (is_unset (given_register s r)) refusal.NoSuchName (target_tests s r i ++ full_test) set
 
   -- the register names no such field
-  pub names_no_field : (why : Refusal) → first_failing (target_tests s r i) ≡ Some why → Goes layouts s (command.Field r i into) (tests layouts s (command.Field r i into)) (reply.Refused why) store runner
+  pub names_no_field : (why : Refusal) → first_failing (target_tests s r i) ≡ Some why → GoesOn layouts s (command.Field r i into) (Ok (reply.Refused why)) store runner
   names_no_field why e = refuses layouts store runner s (command.Field r i into) why holds (to_target ∙ stops_all (target_tests s r i) full_test why e)
 
   module _ (place : FieldPlace) (found : FoundField store s r i place) where
@@ -58,28 +62,16 @@ module _ (layouts : Layouts) (store : StoreView) (runner : RunnerView) (s : Stat
 
     module _ (new : StoreView) (runner' : RunnerView) (same : IsSameStore store new) (marks_are : runner'.marks ≡ runner.marks) where
       -- no further root may be made
-      pub full : ((d : ℕ) → register_at runner'.registers d ≡ register_at runner.registers d) → makes_root found.value ≡ true → roots_full s.table ≡ true → HoldsAccount layouts new s.table s.account → Goes layouts s (command.Field r i into) (tests layouts s (command.Field r i into)) (reply.Refused refusal.RootsFull) new runner'
+      pub full : ((d : ℕ) → register_at runner'.registers d ≡ register_at runner.registers d) → makes_root found.value ≡ true → roots_full s.table ≡ true → HoldsAccount layouts new s.table s.account → GoesOn layouts s (command.Field r i into) (Ok (reply.Refused refusal.RootsFull)) new runner'
       full slots_are makes is_full table = refuses layouts new runner' s (command.Field r i into) refusal.RootsFull
           (holds_same layouts store new runner runner' s same slots_are marks_are holds table)
           (to_full ∙ stops (makes_root found.value && roots_full s.table) refusal.RootsFull [] (both_true (makes_root found.value) (roots_full s.table) makes is_full))
 
       -- the field was read
-      pub read : (value : RawValue) (shows : ReplyValue) → ((d : ℕ) → register_at runner'.registers d ≡ register_with into value runner.registers d) → (makes_root found.value ≡ true → roots_full s.table ≡ false) → IsReadAs new s.table found.value value → HoldsAccount layouts new (after_read found.value s.table) s.account → (RawStands new (after_read found.value s.table) value found.value → shows ≡ shown (after_read found.value s.table) found.value) → Goes layouts s (command.Field r i into) (tests layouts s (command.Field r i into)) (reply.Value shows) new runner'
+      pub read : (value : RawValue) (shows : ReplyValue) → ((d : ℕ) → register_at runner'.registers d ≡ register_with into value runner.registers d) → (makes_root found.value ≡ true → roots_full s.table ≡ false) → IsReadAs new s.table found.value value → HoldsAccount layouts new (after_read found.value s.table) s.account → (RawStands new (after_read found.value s.table) value found.value → shows ≡ shown (after_read found.value s.table) found.value) → GoesOn layouts s (command.Field r i into) (Ok (reply.Value shows)) new runner'
       read value shows slots_are may is_read table shows_it =
-          let held = held_value s.table found.value in
-          let t = after_read found.value s.table in
-          let other = field_no_function layouts store s.table (holds_table holds.table) place.root i found.value found.has in
-          let shown_is : shows ≡ shown s.table found.value = shows_it (read_stands layouts store s.table (holds_table holds.table) new found.value value is_read) ∙ shown_after s.table found.value in
-          let kept : (d : ℕ) → Stands new t (register_at runner.registers d) (s.registers d) =
-          λ d. stands_kept store new s.table t (register_at runner.registers d) (s.registers d) same (keeps_read s.table found.value) (holds.registers d) in
-          let put = put_stands new t runner.registers (with_table t s) into value held kept (register_stands layouts store s.table (holds_table holds.table) new found.value value other is_read) in
-          record {
-            after = put_into into held (with_table t s);
-            answers = answers_by layouts None s (command.Field r i into) (first_failing (tests layouts s (command.Field r i into))) None (reply.Value shows) _
-                (to_full ∙ passes (makes_root found.value && roots_full s.table) refusal.RootsFull [] (not_both (makes_root found.value) (roots_full s.table) may))
-                (record { value = found.value; found = value_there; shows = ap reply.Value shown_is; after = refl });
-            account = put_account into held (with_table t s);
-            holds = put_holds layouts new runner' s t into held table
-                (λ d. subst (λ (o : Option RawValue). Stands new t o ((put_into into held (with_table t s)).registers d)) (sym (slots_are d)) (put d))
-                holds.no_owned (marks_are ∙ holds.marks);
-          }
+          read_goes layouts store new runner runner' s (λ (x : State). field_value x r i) into found.value value shows (tests layouts s (command.Field r i into))
+          (to_full ∙ passes (makes_root found.value && roots_full s.table) refusal.RootsFull [] (not_both (makes_root found.value) (roots_full s.table) may))
+          (ap (λ (o : Option Value). unwrap_or o (values.reference class.Any null)) value_there)
+          (field_no_function layouts store s.table (holds_table holds.table) place.root i found.value found.has)
+          same holds marks_are slots_are is_read table shows_it

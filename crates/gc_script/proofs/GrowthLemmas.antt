@@ -44,7 +44,7 @@ module _ (layouts : Layouts) (counter : Option ℕ) (limits limits' : Limits) (o
         after = after;
         step = steps.grown grew.after.table grew.after.account grew.grows refl refl;
         follows = policy.grown refl grew.expands (record { table = refl; account = refl; limits_are = grew.limits });
-        counts = counts_done layouts limits limits' s (command.Grow n) reply.Done after refl
+        counts = counts_done n limits limits' reply.Done after refl
             (subst (λ (l : Limits). AsksBy n true limits l grew.after.table) (sym grew.limits) (expands_asks layouts n (policy_of s limits) grew.expands));
         holds = holds_kept layouts old new runner runner s grew.after.table grew.after.account same (keeps_same s.table.pushes grew.after.table.pushes (grown_pushes limits.limit n s.table grew.grows)) (λ d. refl) refl holds grew.holds;
       }
@@ -57,7 +57,7 @@ module _ (layouts : Layouts) (counter : Option ℕ) (limits limits' : Limits) (o
         after = after;
         step = steps.refused grew.after.table grew.after.account grew.grows refl refl;
         follows = policy.refused (λ is. cc is) grew.expands (record { table = refl; account = refl; limits_are = grew.limits });
-        counts = counts_refused layouts limits limits' s (command.Grow n) (reply.Refused refusal.GcHeapGrowthFailed) after (inr refl)
+        counts = counts_refused n limits limits' (reply.Refused refusal.GcHeapGrowthFailed) after (inr refl)
             (subst (λ (l : Limits). AsksBy n false limits l grew.after.table) (sym grew.limits) (expands_asks layouts n (policy_of s limits) grew.expands));
         holds = holds_kept layouts old new runner runner s grew.after.table grew.after.account same (keeps_same s.table.pushes grew.after.table.pushes (grown_pushes limits.limit n s.table grew.grows)) (λ d. refl) refl holds grew.holds;
       }
@@ -65,9 +65,11 @@ module _ (layouts : Layouts) (counter : Option ℕ) (limits limits' : Limits) (o
   -- memory was wanting
   pub growth_wanting : (e : RunError) → GrowsStore layouts n (policy_of s limits) limits' (Err fault.Memory) new → RunsOne layouts counter limits limits' s (command.Grow n) (Err e) new runner
   growth_wanting e wants = record {
-    after = wants.after;
-    came = inr wants.expanded;
-    pages = wants.pages;
-    holds = holds_kept layouts old new runner runner s wants.after.table wants.after.account same (keeps_same s.table.pushes wants.after.table.pushes (paged_pushes limits.limit n s.table wants.after.table wants.pages)) (λ d. refl) refl holds wants.holds;
-    limits_are = wants.limits;
+    wants = record {
+      after = wants.after;
+      came = inr wants.expanded;
+      pages = wants.pages;
+      holds = holds_kept layouts old new runner runner s wants.after.table wants.after.account same (keeps_same s.table.pushes wants.after.table.pushes (paged_pushes limits.limit n s.table wants.after.table wants.pages)) (λ d. refl) refl holds wants.holds;
+      limits_are = wants.limits;
+    };
   }

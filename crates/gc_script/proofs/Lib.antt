@@ -24,15 +24,4 @@ pub mod ScriptLemmas
 pub mod ShownLemmas
 pub mod ReadLemmas
 pub mod FieldLemmas
-pub mod RowLemmas
 pub mod KeptLemmas
-pub mod LimitLaws
-pub mod RefusalLaws
-pub mod SumLemmas
-pub mod StepLaws
-pub mod RunLaws
-pub mod RetryLaws
-pub mod GrowthLaws
-pub mod PolicyLaws
-pub mod PolicyRuns
-pub mod SessionLaws

@@ -1,6 +1,6 @@
 -- What registers name, for a value that was found.
-use Rattle.std.proofs.Common.{◌≡◌, ℕ, [], ◌∷◌, Option, Some, None, Bool, true, sym, ap, ◌∙◌, refl, subst, arith}
-use Rattle.std.specs.Prelude.{is_none, Ok, Err}
+use Rattle.std.proofs.Common.{◌≡◌, ℕ, [], ◌∷◌, Option, Some, None, Bool, true, sym, ap, ap₂, ◌∙◌, refl, subst, arith}
+use Rattle.std.specs.Prelude.{is_none, unwrap_or, Ok, Err}
 use Rattle.std.proofs.lemmas.Option.{none-some}
 use Rattle.gc_types.specs.declared.kind.Layouts.{Layouts}
 use Rattle.gc_model.specs.declared.GcClass.{GcClass}
@@ -27,7 +27,8 @@ use Rattle.gc_script.specs.Slots.{RunnerView}
 use Rattle.gc_script.specs.State.{State, Held, number, reference, Stands, HoldsState}
 use Rattle.gc_script.specs.Given.{Given, unset, is, given_register, given_held, given_value, value_named, named, is_unset, is_gone}
 use Rattle.gc_script.specs.Steps.{first_failing, tests}
-use Rattle.gc_script.specs.Run.{Goes}
+use Rattle.gc_script.specs.Shapes.{shape}
+use Rattle.gc_script.specs.Run.{GoesOn}
 use Rattle.gc_script.specs.Values.{raw_handle, IsFound}
 use Rattle.gc_script.proofs.StandLemmas.{holds_table}
 use Rattle.gc_script.proofs.TestLemmas.{answers_by}
@@ -103,7 +104,7 @@ eq_tests_by layouts s r q g h x y g_is h_is x_is y_is =
     ∙ ap (λ (a : Option Reference). compared_by g h x a) y_is
 
 -- two roots were compared
-pub compared : (layouts : Layouts) (store : StoreView) (runner : RunnerView) (s : State) (r q : ℕ) (first second : RawValue) (a b : GcRootIndex) (same : Bool) → HoldsState layouts store runner s → raw_handle first ≡ Some a → raw_handle second ≡ Some b → IsFound store s.table first (given_register s r) true → IsFound store s.table second (given_register s q) true → ((x y : ℕ) → Names store s.table a x → Names store s.table b y → TellsSame (rooted s.table x) (rooted s.table y) (Ok same)) → Goes layouts s (command.Eq r q) (tests layouts s (command.Eq r q)) (reply.Same same) store runner
+pub compared : (layouts : Layouts) (store : StoreView) (runner : RunnerView) (s : State) (r q : ℕ) (first second : RawValue) (a b : GcRootIndex) (same : Bool) → HoldsState layouts store runner s → raw_handle first ≡ Some a → raw_handle second ≡ Some b → IsFound store s.table first (given_register s r) true → IsFound store s.table second (given_register s q) true → ((x y : ℕ) → Names store s.table a x → Names store s.table b y → TellsSame (rooted s.table x) (rooted s.table y) (Ok same)) → GoesOn layouts s (command.Eq r q) (Ok (reply.Same same)) store runner
 compared layouts store runner s r q first second a b same holds is_a is_b found_first found_second tells =
     let x = named_root layouts store s r first a (holds_table holds.table) is_a found_first in
     let y = named_root layouts store s q second b (holds_table holds.table) is_b found_second in
@@ -113,9 +114,9 @@ compared layouts store runner s r q first second a b same holds is_a is_b found_
     let is_same : same ≡ same_reference x.root y.root = grind (arith, told) in
     record {
       after = s;
-      answers = answers_by layouts None s (command.Eq r q) (first_failing (tests layouts s (command.Eq r q))) None (reply.Same same) s
+      answers = answers_by layouts None s (shape (command.Eq r q)) (first_failing (tests layouts s (command.Eq r q))) None (reply.Same same) s
           (eq_tests_by layouts s r q (is found_first.0) (is found_second.0) (Some x.root) (Some y.root) found_first.1.0 found_second.1.0 x.named_is y.named_is)
-          (record { first = x.root; second = y.root; first_is = x.named_is; second_is = y.named_is; same = ap reply.Same is_same }, refl);
+          (ap reply.Same (is_same ∙ ap₂ (λ (a b : Option Reference). same_reference (unwrap_or a null) (unwrap_or b null)) (sym x.named_is) (sym y.named_is)), refl);
       account = refl;
       holds = holds;
     }

@@ -9,15 +9,10 @@ use Rattle.std.proofs.lemmas.Slice.Zip.{AllZip-long}
 use Rattle.gc_types.specs.declared.kind.Layouts.{Layouts}
 use Rattle.gc_types.specs.declared.value.FieldType.{FieldType}
 use Rattle.gc_types.specs.Declarations.{Declaration, struct_fields_at}
-use Rattle.gc_model.specs.declared.GcClass.{GcClass}
-use Rattle.gc_model.specs.Values.{Reference}
-use Rattle.gc_model.specs.Table.{Table}
-use Rattle.gc_model.specs.Live.{rooted}
 use Rattle.gc_model.specs.Allocation.{Limits}
 use Rattle.gc_model.specs.Stores.{StoreView}
 use Rattle.gc_model.specs.Holds.{HoldsTable}
 use Rattle.gc_store.specs.declared.root.RawValue.{RawValue}
-use Rattle.gc_store.specs.declared.root.RawValue.TheVariants as raw
 use Rattle.gc_commands.specs.declared.command.Command.TheVariants.{New}
 use Rattle.gc_commands.specs.declared.command.Operand.{Operand}
 use Rattle.gc_commands.specs.declared.reply.Reply.{Reply}
@@ -26,42 +21,23 @@ use Rattle.gc_commands.specs.declared.reply.Refusal.{Refusal}
 use Rattle.gc_commands.specs.declared.reply.Refusal.TheVariants as refusal
 use Rattle.gc_script.specs.declared.runner.RunError.{RunError}
 use Rattle.gc_script.specs.Slots.{RunnerView}
-use Rattle.gc_script.specs.State.{State, Held, number, reference, Stands, HoldsState}
+use Rattle.gc_script.specs.State.{State, Stands, HoldsState}
 use Rattle.gc_script.specs.Built.{is_built, is_built_operand}
-use Rattle.gc_script.specs.Given.{held_operand, given_held, given_root, is_unset}
-use Rattle.gc_script.specs.Steps.{tests, first_failing, any_unset, field_count, all_value_tests, struct_value_tests, heap_tests}
+use Rattle.gc_script.specs.Given.{held_operand}
+use Rattle.gc_script.specs.Steps.{tests, first_failing, any_unset, field_count, struct_value_tests, heap_tests}
+use Rattle.gc_script.specs.Shapes.{shape, new_struct}
 use Rattle.gc_script.specs.Run.{WantsAfter, RunsOn, RunsOne}
 use Rattle.gc_script.specs.Values.{AllHeld}
 use Rattle.gc_script.proofs.TestLemmas.{passes, stops, passes_all, stops_all, answers_by, follows_by}
-use Rattle.gc_script.proofs.CountLemmas.{tells_pages, AllMild, mild_found, says_other, counts_nothing}
-
-root_given : (c : GcClass) (o : Option Reference) → is_unset (given_root c o) ≡ false
-root_given c None = refl
-root_given c (Some r) = refl
-
-none_stands : (store : StoreView) (t : Table ℕ) (r : RawValue) → Stands store t (Some r) None → ⊥
-none_stands store t (raw.I32 n) stands = stands
-none_stands store t (raw.I64 n) stands = stands
-none_stands store t (raw.F32 n) stands = stands
-none_stands store t (raw.F64 n) stands = stands
-none_stands store t (raw.V128 n) stands = stands
-none_stands store t (raw.Func f) stands = stands
-none_stands store t (raw.Ref class None) stands = stands
-none_stands store t (raw.Ref class (Some handle)) stands = stands
-
--- what is held is set
-set_given : (store : StoreView) (t : Table ℕ) (r : RawValue) (held : Option Held) → Stands store t (Some r) held → is_unset (given_held t held) ≡ false
-set_given store t r None stands = absurd (none_stands store t r stands)
-set_given store t r (Some (number v)) stands = refl
-set_given store t r (Some (reference c None)) stands = refl
-set_given store t r (Some (reference c (Some serial))) stands = root_given c (rooted t serial)
+use Rattle.gc_script.proofs.GoesLemmas.{refused_runs}
+use Rattle.gc_script.proofs.WriteLemmas.{is_set}
 
 -- no operand is unset where all are held
 pub all_set : (store : StoreView) (s : State) (vs : List Operand) (raws : List RawValue) → AllHeld store s vs raws → any_unset s vs ≡ false
 all_set store s [] raws all = refl
 all_set store s (v ∷ vs) [] all = absurd all
 all_set store s (v ∷ vs) (r ∷ raws) all =
-    ap (λ (b : Bool). b || any_unset s vs) (set_given store s.table r (held_operand s v) all.0) ∙ all_set store s vs raws all.1
+    ap (λ (b : Bool). b || any_unset s vs) (is_set store s.table r (held_operand s v) all.0) ∙ all_set store s vs raws all.1
 
 known_fields : (o : Option (List FieldType)) (count : ℕ) → option_map length o ≡ Some count → (is_none o ≡ false) × (unwrap_or (option_map length o) 0 ≡ count)
 known_fields None count e = absurd (none-some count e)
@@ -72,16 +48,9 @@ known_type : (layouts : Layouts) (store : StoreView) (s : State) (t count : ℕ)
 known_type layouts store s t count holds e =
     known_fields (struct_fields_at s.table.types t) count (ap (λ (ts : List Declaration). option_map length (struct_fields_at ts t)) (sym holds.1.types) ∙ e)
 
--- no value is refused by the heap
-pub values_mild : (s : State) (fs : List FieldType) (vs : List Operand) → AllMild (all_value_tests s fs vs)
-values_mild s [] [] = tt
-values_mild s [] (v ∷ vs) = tt
-values_mild s (f ∷ fs) [] = tt
-values_mild s (f ∷ fs) (v ∷ vs) = (refl, (refl, values_mild s fs vs))
-
 module _ (layouts : Layouts) (counter : Option ℕ) (limits : Limits) (store : StoreView) (s : State) (d t : ℕ) (vs : List Operand) (table : HoldsTable layouts store s.table) (built : list_all is_built_operand vs ≡ true) (count : ℕ) (counted : option_map length (struct_fields_at store.types t) ≡ Some count) where
   abbrev from_count : List (Bool × Refusal)
-  from_count = (not (length vs == field_count s.table t), refusal.FieldCount) ∷ (struct_value_tests s t vs ++ heap_tests layouts s t vs)
+  from_count = (not (length vs == field_count s.table t), refusal.FieldCount) ∷ (struct_value_tests s t vs ++ heap_tests layouts s (new_struct s t vs))
 
   -- the form and the type are tested first
   past_type : first_failing (tests layouts s (New d t vs)) ≡ first_failing ((any_unset s vs, refusal.NoSuchName) ∷ from_count)
@@ -89,20 +58,10 @@ module _ (layouts : Layouts) (counter : Option ℕ) (limits : Limits) (store : S
       passes (not (is_built (New d t vs))) refusal.BadLine ((is_none (struct_fields_at s.table.types t), refusal.NoSuchName) ∷ (any_unset s vs, refusal.NoSuchName) ∷ from_count) (ap not built)
       ∙ passes (is_none (struct_fields_at s.table.types t)) refusal.NoSuchName ((any_unset s vs, refusal.NoSuchName) ∷ from_count) (known_type layouts store s t count table counted).0
 
-  -- a refusal leaves all
-  refused : (runner : RunnerView) (why : Refusal) → HoldsState layouts store runner s → tells_pages why ≡ false → first_failing (tests layouts s (New d t vs)) ≡ Some why → RunsOne layouts counter limits limits s (New d t vs) (Ok (reply.Refused why)) store runner
-  refused runner why holds mild found = record {
-    after = s;
-    step = answers_by layouts limits.limit s (New d t vs) (first_failing (tests layouts s (New d t vs))) (Some why) (reply.Refused why) s found (refl, refl);
-    follows = follows_by layouts counter s limits (New d t vs) (first_failing (tests layouts s (New d t vs))) (Some why) (reply.Refused why) s limits found (record { account = refl; same_limits = refl });
-    counts = counts_nothing layouts limits limits s (New d t vs) (reply.Refused why) s (says_other (reply.Refused why) (reply.Refused why) refl mild) refl;
-    holds = holds;
-  }
-
   -- some operand is unset
   pub refused_unset : (runner : RunnerView) → HoldsState layouts store runner s → any_unset s vs ≡ true → RunsOne layouts counter limits limits s (New d t vs) (Ok (reply.Refused refusal.NoSuchName)) store runner
   refused_unset runner holds unset =
-      refused runner refusal.NoSuchName holds refl (past_type ∙ stops (any_unset s vs) refusal.NoSuchName from_count unset)
+      refused_runs layouts counter limits s (New d t vs) refusal.NoSuchName store runner holds (past_type ∙ stops (any_unset s vs) refusal.NoSuchName from_count unset)
 
   module _ (raws : List RawValue) (are : AllHeld store s vs raws) where
     past_names : first_failing (tests layouts s (New d t vs)) ≡ first_failing from_count
@@ -116,32 +75,32 @@ module _ (layouts : Layouts) (counter : Option ℕ) (limits : Limits) (store : S
     refused_count runner holds differ =
         let is = (known_type layouts store s t count table counted).1 in
         let other : (length vs == field_count s.table t) ≡ false = grind (arith, nat_tests, is, many, differ) in
-        refused runner refusal.FieldCount holds refl
-        (past_names ∙ stops (not (length vs == field_count s.table t)) refusal.FieldCount (struct_value_tests s t vs ++ heap_tests layouts s t vs) (ap not other))
+        refused_runs layouts counter limits s (New d t vs) refusal.FieldCount store runner holds
+        (past_names ∙ stops (not (length vs == field_count s.table t)) refusal.FieldCount (struct_value_tests s t vs ++ heap_tests layouts s (new_struct s t vs)) (ap not other))
 
     module _ (same_count : length raws ≡ count) where
-      past_count : first_failing (tests layouts s (New d t vs)) ≡ first_failing (struct_value_tests s t vs ++ heap_tests layouts s t vs)
+      past_count : first_failing (tests layouts s (New d t vs)) ≡ first_failing (struct_value_tests s t vs ++ heap_tests layouts s (new_struct s t vs))
       past_count =
           let is = (known_type layouts store s t count table counted).1 in
           let equal : (length vs == field_count s.table t) ≡ true = grind (arith, nat_tests, is, many, same_count) in
-          past_names ∙ passes (not (length vs == field_count s.table t)) refusal.FieldCount (struct_value_tests s t vs ++ heap_tests layouts s t vs) (ap not equal)
+          past_names ∙ passes (not (length vs == field_count s.table t)) refusal.FieldCount (struct_value_tests s t vs ++ heap_tests layouts s (new_struct s t vs)) (ap not equal)
 
       -- some value may not go into its field
       pub refused_value : (runner : RunnerView) (why : Refusal) → HoldsState layouts store runner s → first_failing (struct_value_tests s t vs) ≡ Some why → RunsOne layouts counter limits limits s (New d t vs) (Ok (reply.Refused why)) store runner
       refused_value runner why holds found =
-          refused runner why holds (mild_found (struct_value_tests s t vs) why (values_mild s (unwrap_or (struct_fields_at s.table.types t) []) vs) found)
-          (past_count ∙ stops_all (struct_value_tests s t vs) (heap_tests layouts s t vs) why found)
+          refused_runs layouts counter limits s (New d t vs) why store runner holds
+          (past_count ∙ stops_all (struct_value_tests s t vs) (heap_tests layouts s (new_struct s t vs)) why found)
 
       -- what is left is up to the heap
-      pub new_runs : (limits' : Limits) (result : Result Reply RunError) (new : StoreView) (runner : RunnerView) → first_failing (struct_value_tests s t vs) ≡ None → RunsOn layouts counter limits limits' s (New d t vs) (heap_tests layouts s t vs) result new runner → RunsOne layouts counter limits limits' s (New d t vs) result new runner
+      pub new_runs : (limits' : Limits) (result : Result Reply RunError) (new : StoreView) (runner : RunnerView) → first_failing (struct_value_tests s t vs) ≡ None → RunsOn layouts counter limits limits' s (shape (New d t vs)) (heap_tests layouts s (new_struct s t vs)) result new runner → RunsOne layouts counter limits limits' s (New d t vs) result new runner
       new_runs limits' (Ok answer) new runner pass ran = record {
         after = ran.after;
-        step = answers_by layouts limits.limit s (New d t vs) (first_failing (tests layouts s (New d t vs))) (first_failing (heap_tests layouts s t vs)) answer ran.after
-            (past_count ∙ passes_all (struct_value_tests s t vs) (heap_tests layouts s t vs) pass) ran.answers;
-        follows = follows_by layouts counter s limits (New d t vs) (first_failing (tests layouts s (New d t vs))) (first_failing (heap_tests layouts s t vs)) answer ran.after limits'
-            (past_count ∙ passes_all (struct_value_tests s t vs) (heap_tests layouts s t vs) pass) ran.follows;
+        step = answers_by layouts limits.limit s (shape (New d t vs)) (first_failing (tests layouts s (New d t vs))) (first_failing (heap_tests layouts s (new_struct s t vs))) answer ran.after
+            (past_count ∙ passes_all (struct_value_tests s t vs) (heap_tests layouts s (new_struct s t vs)) pass) ran.answers;
+        follows = follows_by layouts counter s limits (shape (New d t vs)) (first_failing (tests layouts s (New d t vs))) (first_failing (heap_tests layouts s (new_struct s t vs))) answer ran.after limits'
+            (past_count ∙ passes_all (struct_value_tests s t vs) (heap_tests layouts s (new_struct s t vs)) pass) ran.follows;
         counts = ran.counts;
         holds = ran.holds;
       }
       new_runs limits' (Err e) new runner pass ran =
-          subst (λ (found : Option Refusal). WantsAfter layouts counter limits limits' s (New d t vs) found new runner) (sym (past_count ∙ passes_all (struct_value_tests s t vs) (heap_tests layouts s t vs) pass)) ran
+          record { wants = subst (λ (found : Option Refusal). WantsAfter layouts counter limits limits' s (shape (New d t vs)) found new runner) (sym (past_count ∙ passes_all (struct_value_tests s t vs) (heap_tests layouts s (new_struct s t vs)) pass)) ran }

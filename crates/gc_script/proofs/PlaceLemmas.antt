@@ -1,9 +1,9 @@
--- What a struct that is placed, or refused by the heap, leaves of the state.
-use Rattle.std.proofs.Common.{inl, inr, ◌≡◌, ◌≢◌, ℕ, List, [], ◌∷◌, ◌++◌, length, Option, Some, None, true, false, sym, ap, ◌∙◌, refl, subst, arith}
+-- What an object that is placed, or refused by the heap, leaves of the state.
+use Rattle.std.proofs.Common.{inl, inr, ◌≡◌, ◌≢◌, ℕ, [], ◌∷◌, ◌++◌, length, Option, Some, None, true, false, sym, ap, ◌∙◌, refl, subst, arith}
 use Rattle.std.specs.Prelude.{◌⊎◌, Ok, Err}
 use Rattle.std.proofs.lemmas.List.{length-append}
 use Rattle.gc_types.specs.declared.kind.Layouts.{Layouts}
-use Rattle.gc_model.specs.declared.GcClass.TheVariants as class
+use Rattle.gc_model.specs.declared.GcClass.{GcClass}
 use Rattle.gc_model.specs.Values.{Object}
 use Rattle.gc_model.specs.Table.{Table, make}
 use Rattle.gc_model.specs.Allocation.{Limits, Allocates, LacksMemory, no_heap, no_room, too_large}
@@ -17,16 +17,14 @@ use Rattle.gc_store.specs.declared.store.PlaceFault.TheVariants as fault
 use Rattle.gc_store.specs.Accounts.{Account, HoldsAccount, with_held}
 use Rattle.gc_store.specs.Stores.{IsSameStore}
 use Rattle.gc_store.specs.Places.{Places, LacksPlace}
-use Rattle.gc_commands.specs.declared.command.Command.{Command}
-use Rattle.gc_commands.specs.declared.command.Command.TheVariants.{New}
-use Rattle.gc_commands.specs.declared.command.Operand.{Operand}
 use Rattle.gc_commands.specs.declared.reply.Reply.TheVariants as reply
 use Rattle.gc_commands.specs.declared.reply.Refusal.{Refusal}
 use Rattle.gc_commands.specs.declared.reply.Refusal.TheVariants as refusal
 use Rattle.gc_script.specs.declared.runner.RunError.{RunError}
 use Rattle.gc_script.specs.Slots.{register_at, RunnerView}
-use Rattle.gc_script.specs.State.{State, reference, HoldsState, with_heap, set_register}
-use Rattle.gc_script.specs.Steps.{first_failing, heap_tests, new_struct, made, lacks}
+use Rattle.gc_script.specs.State.{State, reference, HoldsState, with_heap, set_register, visible}
+use Rattle.gc_script.specs.Shapes.{Shape, making}
+use Rattle.gc_script.specs.Steps.{first_failing, heap_tests, made, lacks}
 use Rattle.gc_store.specs.Policy.{PolicyState}
 use Rattle.gc_script.specs.Policy.{policy_of, Came, CameDoing}
 use Rattle.gc_script.specs.Policy as policy
@@ -53,85 +51,85 @@ made_position layouts limit o t t' allocates =
     omega (arith, sym (length-append t'.objects (o ∷ [])) ∙ both ∙ length-append t.objects (o ∷ []))
 
 -- an allocation that wanted memory had come as far as told, where its tests passed
-came_there : (layouts : Layouts) (counter : Option ℕ) (s : State) (limits : Limits) (c : Command) (found : Option Refusal) (q : PolicyState ℕ) {small not_full : Type 0} → CameDoing layouts counter s c (policy_of s limits) q → (q ≡ policy_of s limits) ⊎ (small × not_full) → (small → not_full → found ≡ None) → Came layouts counter s c found (policy_of s limits) q
-came_there layouts counter s limits c None q came begun pass = came
-came_there layouts counter s limits c (Some why) q came (inl same) pass = same
-came_there layouts counter s limits c (Some why) q came (inr both) pass = absurd (cc (pass both.0 both.1))
+came_there : (layouts : Layouts) (counter : Option ℕ) (s : State) (limits : Limits) (sh : Shape) (found : Option Refusal) (q : PolicyState ℕ) {small not_full : Type 0} → CameDoing layouts counter s sh (policy_of s limits) q → (q ≡ policy_of s limits) ⊎ (small × not_full) → (small → not_full → found ≡ None) → Came layouts counter s sh found (policy_of s limits) q
+came_there layouts counter s limits sh None q came begun pass = came
+came_there layouts counter s limits sh (Some why) q came (inl same) pass = same
+came_there layouts counter s limits sh (Some why) q came (inr both) pass = absurd (cc (pass both.0 both.1))
 
-module _ (layouts : Layouts) (counter : Option ℕ) (limits limits' : Limits) (old new : StoreView) (runner runner' : RunnerView) (s : State) (d ty : ℕ) (vs : List Operand) (same : IsSameStore old new) (holds : HoldsState layouts old runner s) (marks : runner'.marks ≡ runner.marks) where
+module _ (layouts : Layouts) (counter : Option ℕ) (limits limits' : Limits) (old new : StoreView) (runner runner' : RunnerView) (s : State) (d : ℕ) (class : GcClass) (object : State → Object ℕ) (same : IsSameStore old new) (holds : HoldsState layouts old runner s) (marks : runner'.marks ≡ runner.marks) where
   -- no test on the heap refuses
-  heap_tests_pass : too_large layouts (object_size layouts s.table.types (new_struct s ty vs)) ≡ false → roots_full s.table ≡ false → first_failing (heap_tests layouts s ty vs) ≡ None
+  heap_tests_pass : too_large layouts (object_size layouts s.table.types (object (visible s))) ≡ false → roots_full s.table ≡ false → first_failing (heap_tests layouts s (object (visible s))) ≡ None
   heap_tests_pass small not_full =
       passes _ refusal.TooLarge ((roots_full s.table, refusal.RootsFull) ∷ []) small ∙ passes _ refusal.RootsFull [] not_full
 
-  -- a struct was placed
-  pub placed : (handle : GcRootIndex) → Places layouts counter (new_struct s ty vs) (policy_of s limits) limits' (Ok handle) new → register_at runner'.registers d ≡ Some (raw.Ref class.Any (Some handle)) → ((k : ℕ) → k ≢ d → register_at runner'.registers k ≡ register_at runner.registers k) → RunsOn layouts counter limits limits' s (New d ty vs) (heap_tests layouts s ty vs) (Ok reply.Done) new runner'
+  -- an object was placed
+  pub placed : (handle : GcRootIndex) → Places layouts counter (object (visible s)) (policy_of s limits) limits' (Ok handle) new → register_at runner'.registers d ≡ Some (raw.Ref class (Some handle)) → ((k : ℕ) → k ≢ d → register_at runner'.registers k ≡ register_at runner.registers k) → RunsOn layouts counter limits limits' s (making d class object) (heap_tests layouts s (object (visible s))) (Ok reply.Done) new runner'
   placed handle places set others =
-      let o = new_struct s ty vs in
+      let o = object (visible s) in
       let t : Table ℕ = make o places.after.table in
       let a : Account = with_held (length s.table.objects) places.after.account in
-      let after : State = set_register d (reference class.Any (Some (length s.table.pushes))) (with_heap t a s) in
+      let after : State = set_register d (reference class (Some (length s.table.pushes))) (with_heap t a s) in
       let pass = heap_tests_pass places.small places.not_full in
       record {
         after = after;
-        answers = answers_by layouts limits.limit s (New d ty vs) (first_failing (heap_tests layouts s ty vs)) None reply.Done after pass (made t a places.allocates refl refl);
-        follows = follows_by layouts counter s limits (New d ty vs) (first_failing (heap_tests layouts s ty vs)) None reply.Done after limits' pass
+        answers = answers_by layouts limits.limit s (making d class object) (first_failing (heap_tests layouts s (object (visible s)))) None reply.Done after pass (made t a places.allocates refl refl);
+        follows = follows_by layouts counter s limits (making d class object) (first_failing (heap_tests layouts s (object (visible s)))) None reply.Done after limits' pass
             (policy.made refl places.prepares (record {
               table = refl;
               account = ap (λ (n : ℕ). with_held n places.after.account) (made_position layouts limits.limit o s.table places.after.table places.allocates);
               limits_are = places.limits;
             }));
-        counts = counts_done layouts limits limits' s (New d ty vs) reply.Done after refl
+        counts = counts_done (need_of layouts (object_size layouts s.table.types o)) limits limits' reply.Done after refl
             (subst (λ (l : Limits). AsksBy (need_of layouts (object_size layouts s.table.types o)) true limits l t) (sym places.limits) (prepares_asks layouts counter (object_size layouts s.table.types o) (policy_of s limits) places.prepares));
-        holds = holds_pushed layouts old new runner runner' s t a d class.Any handle same (made_pushes layouts limits.limit o s.table t places.allocates) holds places.holds places.handle_is set others marks;
+        holds = holds_pushed layouts old new runner runner' s t a d class handle same (made_pushes layouts limits.limit o s.table t places.allocates) holds places.holds places.handle_is set others marks;
       }
 
   module _ (slots_are : (k : ℕ) → register_at runner'.registers k ≡ register_at runner.registers k) where
-    refused : (why : Refusal) → tells_pages why ≡ false → first_failing (heap_tests layouts s ty vs) ≡ Some why → HoldsAccount layouts new s.table s.account → limits' ≡ limits → RunsOn layouts counter limits limits' s (New d ty vs) (heap_tests layouts s ty vs) (Ok (reply.Refused why)) new runner'
+    refused : (why : Refusal) → tells_pages why ≡ false → first_failing (heap_tests layouts s (object (visible s))) ≡ Some why → HoldsAccount layouts new s.table s.account → limits' ≡ limits → RunsOn layouts counter limits limits' s (making d class object) (heap_tests layouts s (object (visible s))) (Ok (reply.Refused why)) new runner'
     refused why mild found table same_limits = record {
       after = s;
-      answers = answers_by layouts limits.limit s (New d ty vs) (first_failing (heap_tests layouts s ty vs)) (Some why) (reply.Refused why) s found (refl, refl);
-      follows = follows_by layouts counter s limits (New d ty vs) (first_failing (heap_tests layouts s ty vs)) (Some why) (reply.Refused why) s limits' found (record { account = refl; same_limits = same_limits });
-      counts = counts_nothing layouts limits limits' s (New d ty vs) (reply.Refused why) s (says_other (reply.Refused why) (reply.Refused why) refl mild) same_limits;
+      answers = answers_by layouts limits.limit s (making d class object) (first_failing (heap_tests layouts s (object (visible s)))) (Some why) (reply.Refused why) s found (refl, refl);
+      follows = follows_by layouts counter s limits (making d class object) (first_failing (heap_tests layouts s (object (visible s)))) (Some why) (reply.Refused why) s limits' found (record { account = refl; same_limits = same_limits });
+      counts = counts_nothing (need_of layouts (object_size layouts s.table.types (object (visible s)))) limits limits' (reply.Refused why) s (says_other (reply.Refused why) (reply.Refused why) refl mild) same_limits;
       holds = holds_same layouts old new runner runner' s same slots_are marks holds table;
     }
 
     -- no heap can hold it
-    pub refused_large : Places layouts counter (new_struct s ty vs) (policy_of s limits) limits' (Err fault.TooLarge) new → RunsOn layouts counter limits limits' s (New d ty vs) (heap_tests layouts s ty vs) (Ok (reply.Refused refusal.TooLarge)) new runner'
+    pub refused_large : Places layouts counter (object (visible s)) (policy_of s limits) limits' (Err fault.TooLarge) new → RunsOn layouts counter limits limits' s (making d class object) (heap_tests layouts s (object (visible s))) (Ok (reply.Refused refusal.TooLarge)) new runner'
     refused_large places =
         refused refusal.TooLarge refl (stops _ refusal.TooLarge ((roots_full s.table, refusal.RootsFull) ∷ []) places.0) places.1.holds places.1.limits
 
     -- no further root may be made
-    pub refused_full : Places layouts counter (new_struct s ty vs) (policy_of s limits) limits' (Err fault.RootsFull) new → RunsOn layouts counter limits limits' s (New d ty vs) (heap_tests layouts s ty vs) (Ok (reply.Refused refusal.RootsFull)) new runner'
+    pub refused_full : Places layouts counter (object (visible s)) (policy_of s limits) limits' (Err fault.RootsFull) new → RunsOn layouts counter limits limits' s (making d class object) (heap_tests layouts s (object (visible s))) (Ok (reply.Refused refusal.RootsFull)) new runner'
     refused_full places =
         refused refusal.RootsFull refl
         (passes _ refusal.TooLarge ((roots_full s.table, refusal.RootsFull) ∷ []) places.0 ∙ stops _ refusal.RootsFull [] places.1)
         places.2.holds places.2.limits
 
     -- there was no room
-    pub lacked : (need : ℕ) → LacksPlace layouts counter (new_struct s ty vs) (policy_of s limits) limits' need new → RunsOn layouts counter limits limits' s (New d ty vs) (heap_tests layouts s ty vs) (Ok (reply.Refused refusal.GcHeapOutOfMemory)) new runner'
+    pub lacked : (need : ℕ) → LacksPlace layouts counter (object (visible s)) (policy_of s limits) limits' need new → RunsOn layouts counter limits limits' s (making d class object) (heap_tests layouts s (object (visible s))) (Ok (reply.Refused refusal.GcHeapOutOfMemory)) new runner'
     lacked need places =
-        let o = new_struct s ty vs in
+        let o = object (visible s) in
         let after : State = with_heap places.after.table places.after.account s in
         let pass = heap_tests_pass places.small places.not_full in
         record {
           after = after;
-          answers = answers_by layouts limits.limit s (New d ty vs) (first_failing (heap_tests layouts s ty vs)) None (reply.Refused refusal.GcHeapOutOfMemory) after pass (lacks places.after.table places.after.account places.lacks refl refl);
-          follows = follows_by layouts counter s limits (New d ty vs) (first_failing (heap_tests layouts s ty vs)) None (reply.Refused refusal.GcHeapOutOfMemory) after limits' pass
+          answers = answers_by layouts limits.limit s (making d class object) (first_failing (heap_tests layouts s (object (visible s)))) None (reply.Refused refusal.GcHeapOutOfMemory) after pass (lacks places.after.table places.after.account places.lacks refl refl);
+          follows = follows_by layouts counter s limits (making d class object) (first_failing (heap_tests layouts s (object (visible s)))) None (reply.Refused refusal.GcHeapOutOfMemory) after limits' pass
               (policy.refused (λ is. cc is) places.prepares (record { table = refl; account = refl; limits_are = places.limits }));
-          counts = counts_refused layouts limits limits' s (New d ty vs) (reply.Refused refusal.GcHeapOutOfMemory) after (inl refl)
+          counts = counts_refused (need_of layouts (object_size layouts s.table.types o)) limits limits' (reply.Refused refusal.GcHeapOutOfMemory) after (inl refl)
               (subst (λ (l : Limits). AsksBy (need_of layouts (object_size layouts s.table.types o)) false limits l places.after.table) (sym places.limits) (prepares_asks layouts counter (object_size layouts s.table.types o) (policy_of s limits) places.prepares));
           holds = holds_kept layouts old new runner runner' s places.after.table places.after.account same (keeps_same s.table.pushes places.after.table.pushes (lacking_pushes layouts limits.limit o s.table places.after.table places.lacks)) slots_are marks holds places.holds;
         }
 
     -- want of memory leaves the registers
-    pub unplaced : (e : RunError) → Places layouts counter (new_struct s ty vs) (policy_of s limits) limits' (Err fault.Memory) new → RunsOn layouts counter limits limits' s (New d ty vs) (heap_tests layouts s ty vs) (Err e) new runner'
+    pub unplaced : (e : RunError) → Places layouts counter (object (visible s)) (policy_of s limits) limits' (Err fault.Memory) new → RunsOn layouts counter limits limits' s (making d class object) (heap_tests layouts s (object (visible s))) (Err e) new runner'
     unplaced e places = record {
       after = places.after;
-      came = came_there layouts counter s limits (New d ty vs) (first_failing (heap_tests layouts s ty vs)) places.after places.prepared places.begun (λ small not_full. heap_tests_pass small not_full);
+      came = came_there layouts counter s limits (making d class object) (first_failing (heap_tests layouts s (object (visible s)))) places.after places.prepared places.begun (λ small not_full. heap_tests_pass small not_full);
       pages = places.pages;
       holds = holds_kept layouts old new runner runner' s places.after.table places.after.account same
-          (keeps_same s.table.pushes places.after.table.pushes (paged_pushes limits.limit (need_of layouts (object_size layouts s.table.types (new_struct s ty vs))) s.table places.after.table places.pages))
+          (keeps_same s.table.pushes places.after.table.pushes (paged_pushes limits.limit (need_of layouts (object_size layouts s.table.types (object (visible s)))) s.table places.after.table places.pages))
           slots_are marks holds places.holds;
       limits_are = places.limits;
     }

@@ -1,5 +1,5 @@
 -- Values that are read: their new roots, and the registers that they go into.
-use Rattle.std.proofs.Common.{inl, inr, ◌≡◌, ◌≢◌, ℕ, ◌==◌, ◌<◌, suc, List, [], ◌∷◌, ◌++◌, length, Option, Some, None, true, false, cond, eqb, sym, ap, ◌∙◌, refl, subst, arith}
+use Rattle.std.proofs.Common.{inl, inr, ◌≡◌, ◌≢◌, ℕ, ◌==◌, ◌<◌, suc, List, [], ◌∷◌, ◌++◌, length, Option, Some, None, Bool, true, false, cond, eqb, sym, ap, ◌∙◌, refl, subst, arith}
 use Rattle.std.specs.List.{slice_get}
 use Rattle.std.proofs.lemmas.Grind.{common_steps}
 use Rattle.std.proofs.lemmas.Option.{slice_get_within, slice_get_cases}
@@ -22,14 +22,21 @@ use Rattle.gc_model.specs.Holds.{HoldsTable}
 use Rattle.gc_model.proofs.Lists.{slice_get-push_new, slice_get-same_length}
 use Rattle.gc_store.specs.declared.root.GcRootIndex.{GcRootIndex}
 use Rattle.gc_store.specs.declared.root.RawValue.{RawValue}
+use Rattle.gc_commands.specs.declared.reply.Reply.TheVariants as reply
+use Rattle.gc_commands.specs.declared.reply.ReplyValue.{ReplyValue}
+use Rattle.gc_commands.specs.declared.reply.Refusal.{Refusal}
 use Rattle.gc_store.specs.Accounts.{HoldsAccount}
+use Rattle.gc_store.specs.Stores.{IsSameStore}
 use Rattle.gc_store.specs.Roots.{Names, HasField, handle_of}
 use Rattle.gc_store.specs.Values.{RawStands, RootStands, IsReadAs}
 use Rattle.gc_script.specs.Slots.{RunnerView, register_at}
-use Rattle.gc_script.specs.State.{State, Held, number, reference, Stands, HoldsState, with_table, put_into}
-use Rattle.gc_script.specs.Steps.{shown, held_value}
+use Rattle.gc_script.specs.State.{State, Held, number, reference, Stands, HoldsState, with_table, put_into, visible, over}
+use Rattle.gc_script.specs.Shapes.{shown, held_value, reads, plain}
+use Rattle.gc_script.specs.Steps.{first_failing}
+use Rattle.gc_script.specs.Run.{Goes}
 use Rattle.gc_script.specs.Named.{register_with}
-use Rattle.gc_script.proofs.StandLemmas.{Keeps, keeps_pushed, keeps_same}
+use Rattle.gc_script.proofs.StandLemmas.{Keeps, holds_table, stands_kept, keeps_pushed, keeps_same}
+use Rattle.gc_script.proofs.TestLemmas.{answers_by}
 use Rattle.gc_script.proofs.TargetLemmas.{typed_struct}
 
 -- a root at the end is found by its serial, where no other has it
@@ -155,12 +162,31 @@ put_stands new t slots s None r held stand stands d = stand d
 put_stands new t slots s (Some k) r held stand stands d =
     elim (d == k) as (λ b. Stands new t (cond b (Some r) (register_at slots d)) (cond b (Some held) (s.registers d))) [ true ↦ stands | false ↦ stand d ]
 
--- a value in a register leaves the account
-pub put_account : (into : Option ℕ) (held : Held) (s : State) → (put_into into held s).account ≡ s.account
-put_account None held s = refl
-put_account (Some d) held s = refl
+-- what a read leaves is what it leaves of what is visible
+pub read_over : (v : Value) (into : Option ℕ) (s : State) → put_into into (held_value s.table v) (with_table (after_read v s.table) s) ≡ over s (reads v into (visible s)).1
+read_over (values.reference c null) into s = refl
+read_over (values.reference c (small n)) into s = refl
+read_over (values.reference c (at p)) into s = refl
+read_over v into s = refl
 
--- the state with a value in a register
-pub put_holds : (layouts : Layouts) (new : StoreView) (runner : RunnerView) (s : State) (t : Table ℕ) (into : Option ℕ) (held : Held) → HoldsAccount layouts new t s.account → ((d : ℕ) → Stands new t (register_at runner.registers d) ((put_into into held (with_table t s)).registers d)) → ((o : ℕ) → s.owned_registers o ≡ None) → runner.marks ≡ s.marks → HoldsState layouts new runner (put_into into held (with_table t s))
-put_holds layouts new runner s t None held table stand no_owned marks = record { table = table; registers = stand; no_owned = no_owned; marks = marks }
-put_holds layouts new runner s t (Some d) held table stand no_owned marks = record { table = table; registers = stand; no_owned = no_owned; marks = marks }
+-- A value was read by a command whose tests pass.
+pub read_goes : (layouts : Layouts) (store new : StoreView) (runner runner' : RunnerView) (s : State) (value_of : State → Value) (into : Option ℕ) (v : Value) (r : RawValue) (shows : ReplyValue) (left : List (Bool × Refusal)) → first_failing left ≡ None → value_of (visible s) ≡ v → ((f : Option Func) → ¬ (v ≡ function f)) → IsSameStore store new → HoldsState layouts store runner s → runner'.marks ≡ runner.marks → ((d : ℕ) → register_at runner'.registers d ≡ register_with into r runner.registers d) → IsReadAs new s.table v r → HoldsAccount layouts new (after_read v s.table) s.account → (RawStands new (after_read v s.table) r v → shows ≡ shown (after_read v s.table) v) → Goes layouts s (plain (λ (x : State). reads (value_of x) into x)) left (reply.Value shows) new runner'
+read_goes layouts store new runner runner' s value_of into v r shows left pass value_is other same holds marks_are slots_are is_read table shows_it =
+    let held = held_value s.table v in
+    let t = after_read v s.table in
+    let shown_is : shows ≡ shown s.table v = shows_it (read_stands layouts store s.table (holds_table holds.table) new v r is_read) ∙ shown_after s.table v in
+    let kept : (d : ℕ) → Stands new t (register_at runner.registers d) (s.registers d) =
+    λ d. stands_kept store new s.table t (register_at runner.registers d) (s.registers d) same (keeps_read s.table v) (holds.registers d) in
+    let put = put_stands new t runner.registers (with_table t s) into r held kept (register_stands layouts store s.table (holds_table holds.table) new v r other is_read) in
+    record {
+      after = put_into into held (with_table t s);
+      answers = answers_by layouts None s (plain (λ (x : State). reads (value_of x) into x)) (first_failing left) None (reply.Value shows) _ pass
+          (ap reply.Value (shown_is ∙ ap (shown s.table) (sym value_is)), read_over v into s ∙ ap (λ (x : Value). over s (reads x into (visible s)).1) (sym value_is));
+      account = refl;
+      holds = record {
+        table = table;
+        registers = λ d. subst (λ (o : Option RawValue). Stands new t o ((put_into into held (with_table t s)).registers d)) (sym (slots_are d)) (put d);
+        no_owned = holds.no_owned;
+        marks = marks_are ∙ holds.marks;
+      };
+    }

@@ -17,12 +17,6 @@ use Rattle.gc_script.specs.Script.{AddsRefused, RefusedIn, RanScript, RanNext, E
 use Rattle.gc_script.proofs.CountLemmas.{says_other}
 use Rattle.gc_script.proofs.KeptLemmas.{no_last, last_command}
 
--- the limit is that of before, whatever was counted
-pub limit_stays : (layouts : Layouts) (limits limits' : Limits) (s : State) (c : Command) (answer : Reply) (after : State) → Counts layouts limits limits' s c answer after → limits'.limit ≡ limits.limit
-limit_stays layouts limits limits' s c answer after (told is_asked refuses) = ap (λ (l : Limits). l.limit) refuses
-limit_stays layouts limits limits' s c answer after (overlooked done refuses) = ap (λ (l : Limits). l.limit) refuses
-limit_stays layouts limits limits' s c answer after (nothing not_asked same) = ap (λ (l : Limits). l.limit) same
-
 -- a reply stands behind the others, for which room was made before
 pub reply_behind : (before room now : List Reply) (r : Reply) → room ≡ before → now ≡ room ++ r ∷ [] → now ≡ before ++ r ∷ []
 reply_behind before room now r same appended = appended ∙ ap (λ (rs : List Reply). rs ++ r ∷ []) same
@@ -71,18 +65,18 @@ record Adds (r : Reply) (mid : State) (bytes : ℕ) (limits next : Limits) (refu
 count_more : (before refused now k : ℕ) → k ≤ 1 → min (before + refused) (2 ^ 64 - 1) ≤ now → min (before + (refused + k)) (2 ^ 64 - 1) ≤ min (now + 1) (2 ^ 64 - 1)
 count_more before refused now k few so_far = omega (arith, few, so_far)
 
-adds_by : (layouts : Layouts) (limits now next : Limits) (refused : ℕ) (s : State) (c : Command) (r : Reply) (mid : State) → CountedSo limits now refused → Counts layouts now next s c r mid → Adds r mid (wanted_bytes layouts s c) limits next refused
-adds_by layouts limits now next refused s c r mid so_far (told is_asked refuses) = record {
+adds_by : (bytes : ℕ) (limits now next : Limits) (refused : ℕ) (r : Reply) (mid : State) → CountedSo limits now refused → Counts bytes now next r mid → Adds r mid bytes limits next refused
+adds_by bytes limits now next refused r mid so_far (told is_asked refuses) = record {
   k = 1;
   adds = λ n. inl (is_asked, refl);
   counted = subst (λ (l : Limits). CountedSo limits l (refused + 1)) (sym refuses) (count_more limits.refusals refused now.refusals 1 (omega arith) so_far);
 }
-adds_by layouts limits now next refused s c r mid so_far (overlooked done refuses) = record {
+adds_by bytes limits now next refused r mid so_far (overlooked done refuses) = record {
   k = 0;
   adds = λ n. inr ((λ is_asked. says_other r reply.Done done refl is_asked.says), omega arith);
   counted = subst (λ (l : Limits). CountedSo limits l (refused + 0)) (sym refuses) (count_more limits.refusals refused now.refusals 0 (omega arith) so_far);
 }
-adds_by layouts limits now next refused s c r mid so_far (nothing not_asked same) = record {
+adds_by bytes limits now next refused r mid so_far (nothing not_asked same) = record {
   k = 0;
   adds = λ n. inr (not_asked, omega arith);
   counted = subst (λ (l : Limits). CountedSo limits l (refused + 0)) (sym same) (omega (arith, so_far));
@@ -99,7 +93,7 @@ module _ (layouts : Layouts) (counter : Option ℕ) (limits now : Limits) (s : S
   -- one more command was run
   pub along_more : (next : Limits) (c : Command) (replies' : List Reply) (store' : StoreView) (runner' : RunnerView) → RanNext layouts counter now next so_far.mid c replies replies' store' runner' → Along layouts counter limits next s (done ++ c ∷ []) replies' store' runner'
   along_more next c replies' store' runner' did =
-      let more : Adds did.answer did.ran.after (wanted_bytes layouts so_far.mid c) limits next so_far.refused = adds_by layouts limits now next so_far.refused so_far.mid c did.answer did.ran.after so_far.counted did.ran.counts in
+      let more : Adds did.answer did.ran.after (wanted_bytes layouts so_far.mid c) limits next so_far.refused = adds_by (wanted_bytes layouts so_far.mid c) limits now next so_far.refused did.answer did.ran.after so_far.counted did.ran.counts in
       record {
         mid = did.ran.after;
         refused = so_far.refused + more.k;

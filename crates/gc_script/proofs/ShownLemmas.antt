@@ -12,7 +12,7 @@ use Rattle.gc_store.specs.declared.root.RootFault.{RootFault}
 use Rattle.gc_store.specs.declared.root.RootedObject.{RootedObject}
 use Rattle.gc_store.specs.Roots.{Names, TellsRoot, IsReference}
 use Rattle.gc_store.specs.Values.{RootStands}
-use Rattle.gc_script.specs.Steps.{shown}
+use Rattle.gc_script.specs.Shapes.{shown}
 
 -- what is answered of a live root is shown
 pub root_shown : (store : StoreView) (t : Table ℕ) (class : GcClass) (handle : GcRootIndex) (v : Value) (answer : Result RootedObject RootFault) (object : RootedObject) (shows : ReplyValue) → answer ≡ Ok object → RootStands store t class handle v → ((serial : ℕ) → Names store t handle serial → TellsRoot t (rooted t serial) answer) → ((r : Reference) → IsReference t r object → shows ≡ shown t (reference class r)) → shows ≡ shown t v

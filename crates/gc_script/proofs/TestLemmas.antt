@@ -9,6 +9,7 @@ use Rattle.gc_commands.specs.declared.reply.Reply.TheVariants as reply
 use Rattle.gc_commands.specs.declared.reply.Refusal.{Refusal}
 use Rattle.gc_script.specs.Slots.{RunnerView}
 use Rattle.gc_script.specs.State.{State, HoldsState}
+use Rattle.gc_script.specs.Shapes.{Shape, shape}
 use Rattle.gc_script.specs.Steps.{first_failing, tests, Answers}
 use Rattle.gc_script.specs.Policy.{FollowsTested}
 use Rattle.gc_script.specs.Run.{Goes}
@@ -34,18 +35,18 @@ stops_all ((true, w) ∷ ts) us why e = e
 stops_all ((false, w) ∷ ts) us why e = stops_all ts us why e
 
 -- what a command answers, by what its tests found
-pub answers_by : (layouts : Layouts) (limit : Option ℕ) (s : State) (c : Command) (found known : Option Refusal) (answer : Reply) (s' : State) → found ≡ known → Answers layouts limit s c known answer s' → Answers layouts limit s c found answer s'
-answers_by layouts limit s c found known answer s' e answers = subst (λ (o : Option Refusal). Answers layouts limit s c o answer s') (sym e) answers
+pub answers_by : (layouts : Layouts) (limit : Option ℕ) (s : State) (sh : Shape) (found known : Option Refusal) (answer : Reply) (s' : State) → found ≡ known → Answers layouts limit s sh known answer s' → Answers layouts limit s sh found answer s'
+answers_by layouts limit s sh found known answer s' e answers = subst (λ (o : Option Refusal). Answers layouts limit s sh o answer s') (sym e) answers
 
 -- how a command follows the policy, by what its tests found
-pub follows_by : (layouts : Layouts) (counter : Option ℕ) (s : State) (limits : Limits) (c : Command) (found known : Option Refusal) (answer : Reply) (s' : State) (limits' : Limits) → found ≡ known → FollowsTested layouts counter s limits c known answer s' limits' → FollowsTested layouts counter s limits c found answer s' limits'
-follows_by layouts counter s limits c found known answer s' limits' e follows = subst (λ (o : Option Refusal). FollowsTested layouts counter s limits c o answer s' limits') (sym e) follows
+pub follows_by : (layouts : Layouts) (counter : Option ℕ) (s : State) (limits : Limits) (sh : Shape) (found known : Option Refusal) (answer : Reply) (s' : State) (limits' : Limits) → found ≡ known → FollowsTested layouts counter s limits sh known answer s' limits' → FollowsTested layouts counter s limits sh found answer s' limits'
+follows_by layouts counter s limits sh found known answer s' limits' e follows = subst (λ (o : Option Refusal). FollowsTested layouts counter s limits sh o answer s' limits') (sym e) follows
 
 -- a command that is refused changes nothing
-pub refuses : (layouts : Layouts) (store : StoreView) (runner : RunnerView) (s : State) (c : Command) (why : Refusal) → HoldsState layouts store runner s → first_failing (tests layouts s c) ≡ Some why → Goes layouts s c (tests layouts s c) (reply.Refused why) store runner
+pub refuses : (layouts : Layouts) (store : StoreView) (runner : RunnerView) (s : State) (c : Command) (why : Refusal) → HoldsState layouts store runner s → first_failing (tests layouts s c) ≡ Some why → Goes layouts s (shape c) (tests layouts s c) (reply.Refused why) store runner
 refuses layouts store runner s c why holds e = record {
   after = s;
-  answers = answers_by layouts None s c (first_failing (tests layouts s c)) (Some why) (reply.Refused why) s e (refl, refl);
+  answers = answers_by layouts None s (shape c) (first_failing (tests layouts s c)) (Some why) (reply.Refused why) s e (refl, refl);
   account = refl;
   holds = holds;
 }

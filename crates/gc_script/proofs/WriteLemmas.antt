@@ -1,6 +1,6 @@
 -- Writing a field that a register names.
-use Rattle.std.proofs.Common.{◌≡◌, ℕ, List, ◌∷◌, ◌++◌, Option, Some, None, Bool, true, false, ap, ◌∙◌, refl, subst}
-use Rattle.std.specs.Prelude.{not}
+use Rattle.std.proofs.Common.{◌≡◌, ℕ, List, ◌∷◌, ◌++◌, Option, Some, None, Bool, true, false, sym, ap, ◌∙◌, refl, subst}
+use Rattle.std.specs.Prelude.{not, Ok}
 use Rattle.gc_types.specs.declared.kind.Layouts.{Layouts}
 use Rattle.gc_types.specs.declared.value.FieldType.{FieldType}
 use Rattle.gc_types.specs.declared.value.Mutability.{Mutability}
@@ -22,11 +22,12 @@ use Rattle.gc_store.specs.Stores.{IsSameStore}
 use Rattle.gc_store.specs.Values.{CanStore, CanWrite, RawStands, WritesValue}
 use Rattle.gc_script.specs.declared.targets.FieldPlace.{FieldPlace}
 use Rattle.gc_script.specs.Slots.{RunnerView}
-use Rattle.gc_script.specs.State.{State, Held, number, reference, Stands, HoldsState, with_table}
+use Rattle.gc_script.specs.State.{State, Held, number, reference, Stands, HoldsState, with_table, visible, over}
 use Rattle.gc_script.specs.Built.{is_built_operand}
-use Rattle.gc_script.specs.Given.{unset, given, given_register, given_held, given_root, given_value, is_unset, target, field_of, is_const, is_constant}
+use Rattle.gc_script.specs.Given.{unset, Target, given, given_register, given_held, given_root, given_value, is_unset, target, field_of, is_const, is_constant}
 use Rattle.gc_script.specs.Steps.{first_failing, tests, built_tests, target_tests, value_tests}
-use Rattle.gc_script.specs.Run.{Goes}
+use Rattle.gc_script.specs.Shapes.{shape, write_target}
+use Rattle.gc_script.specs.Run.{GoesOn}
 use Rattle.gc_script.specs.Named.{IsFieldPlace, FoundField}
 use Rattle.gc_script.proofs.StandLemmas.{holds_kept}
 use Rattle.gc_script.proofs.TestLemmas.{passes, stops, passes_all, stops_all, answers_by, refuses}
@@ -60,11 +61,11 @@ module _ (layouts : Layouts) (store : StoreView) (runner : RunnerView) (s : Stat
 
   to_value : first_failing (tests layouts s (command.SetField r i v)) ≡ first_failing ((is_unset (given s v), refusal.NoSuchName) ∷ (target_tests s r i ++ value_rest))
   to_value =
-      passes (not (is_built_operand v)) refusal.BadLine (built_tests layouts s (command.SetField r i v)) (ap not built)
+      passes (not (is_built_operand v)) refusal.BadLine (built_tests layouts (visible s) (command.SetField r i v)) (ap not built)
       ∙ passes (is_unset (given_register s r)) refusal.NoSuchName ((is_unset (given s v), refusal.NoSuchName) ∷ (target_tests s r i ++ value_rest)) set
 
   -- the value's register is unset
-  pub no_value : given s v ≡ unset → Goes layouts s (command.SetField r i v) (tests layouts s (command.SetField r i v)) (reply.Refused refusal.NoSuchName) store runner
+  pub no_value : given s v ≡ unset → GoesOn layouts s (command.SetField r i v) (Ok (reply.Refused refusal.NoSuchName)) store runner
   no_value e = refuses layouts store runner s (command.SetField r i v) refusal.NoSuchName holds
       (to_value ∙ stops (is_unset (given s v)) refusal.NoSuchName (target_tests s r i ++ value_rest) (ap is_unset e))
 
@@ -73,7 +74,7 @@ module _ (layouts : Layouts) (store : StoreView) (runner : RunnerView) (s : Stat
     to_target = to_value ∙ passes (is_unset (given s v)) refusal.NoSuchName (target_tests s r i ++ value_rest) value_set
 
     -- the register names no such field
-    pub no_field : (why : Refusal) → first_failing (target_tests s r i) ≡ Some why → Goes layouts s (command.SetField r i v) (tests layouts s (command.SetField r i v)) (reply.Refused why) store runner
+    pub no_field : (why : Refusal) → first_failing (target_tests s r i) ≡ Some why → GoesOn layouts s (command.SetField r i v) (Ok (reply.Refused why)) store runner
     no_field why e = refuses layouts store runner s (command.SetField r i v) why holds (to_target ∙ stops_all (target_tests s r i) value_rest why e)
 
     module _ (place : FieldPlace) (found : FoundField store s r i place) where
@@ -83,7 +84,7 @@ module _ (layouts : Layouts) (store : StoreView) (runner : RunnerView) (s : Stat
           ∙ ap (λ (f : Option FieldType). first_failing ((is_constant f, refusal.Immutable) ∷ value_tests s f v)) found.field_is
 
       -- the field is constant
-      pub immutable : is_const place.field.mutability ≡ true → Goes layouts s (command.SetField r i v) (tests layouts s (command.SetField r i v)) (reply.Refused refusal.Immutable) store runner
+      pub immutable : is_const place.field.mutability ≡ true → GoesOn layouts s (command.SetField r i v) (Ok (reply.Refused refusal.Immutable)) store runner
       immutable e = refuses layouts store runner s (command.SetField r i v) refusal.Immutable holds
           (to_field ∙ stops (is_const place.field.mutability) refusal.Immutable (value_tests s (Some place.field) v) e)
 
@@ -91,18 +92,18 @@ module _ (layouts : Layouts) (store : StoreView) (runner : RunnerView) (s : Stat
       to_check var = to_field ∙ passes (is_const place.field.mutability) refusal.Immutable (value_tests s (Some place.field) v) (ap is_const var)
 
       -- the value does not go in
-      pub no_fit : place.field.mutability ≡ Var → (why : Refusal) → first_failing (value_tests s (Some place.field) v) ≡ Some why → Goes layouts s (command.SetField r i v) (tests layouts s (command.SetField r i v)) (reply.Refused why) store runner
+      pub no_fit : place.field.mutability ≡ Var → (why : Refusal) → first_failing (value_tests s (Some place.field) v) ≡ Some why → GoesOn layouts s (command.SetField r i v) (Ok (reply.Refused why)) store runner
       no_fit var why e = refuses layouts store runner s (command.SetField r i v) why holds (to_check var ∙ e)
 
       -- the field was written
-      pub written : (new : StoreView) (value : RawValue) → place.field.mutability ≡ Var → first_failing (value_tests s (Some place.field) v) ≡ None → IsSameStore store new → RawStands store s.table value (given_value (given s v)) → WritesValue layouts store new s.table s.account place.root i value → Goes layouts s (command.SetField r i v) (tests layouts s (command.SetField r i v)) reply.Done new runner
+      pub written : (new : StoreView) (value : RawValue) → place.field.mutability ≡ Var → first_failing (value_tests s (Some place.field) v) ≡ None → IsSameStore store new → RawStands store s.table value (given_value (given s v)) → WritesValue layouts store new s.table s.account place.root i value → GoesOn layouts s (command.SetField r i v) (Ok reply.Done) new runner
       written new value var fits same stands writes =
           let table : HoldsAccount layouts new (write found.found.position i (given_value (given s v)) s.table) s.account =
           subst (λ (p : ℕ). HoldsAccount layouts new (write p i (given_value (given s v)) s.table) s.account) found.position (writes found.value (given_value (given s v)) found.has stands) in
           record {
             after = with_table (write found.found.position i (given_value (given s v)) s.table) s;
-            answers = answers_by layouts None s (command.SetField r i v) (first_failing (tests layouts s (command.SetField r i v))) None reply.Done _ (to_check var ∙ fits)
-                (refl, record { found = found.found; is_target = found.is_target; after = refl });
+            answers = answers_by layouts None s (shape (command.SetField r i v)) (first_failing (tests layouts s (command.SetField r i v))) None reply.Done _ (to_check var ∙ fits)
+                (refl, ap (λ (x : Option Target). over s (with_table (write_target x i (given_value (given s v)) (visible s).table) (visible s))) (sym found.is_target));
             account = refl;
             holds = holds_kept layouts store new runner runner s (write found.found.position i (given_value (given s v)) s.table) s.account same (λ j p e. e) (λ d. refl) refl holds table;
           }

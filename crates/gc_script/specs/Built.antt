@@ -10,7 +10,7 @@ use Rattle.gc_types.specs.declared.value.ValType.TheVariants as val_type
 use Rattle.gc_types.specs.declared.value.HeapType.TheVariants as heap_type
 use Rattle.gc_types.specs.Declarations.{Declaration, plain_struct}
 use Rattle.gc_commands.specs.declared.command.Command.{Command}
-use Rattle.gc_commands.specs.declared.command.Command.TheVariants.{Bad, Struct, New, I31, Field, SetField, Eq, Enter, Leave, Gc, Grow, Cap}
+use Rattle.gc_commands.specs.declared.command.Command.TheVariants.{Struct, New, I31, Field, SetField, Eq, Enter, Leave, Gc, Grow, Cap}
 use Rattle.gc_commands.specs.declared.command.FieldWord.{FieldWord}
 use Rattle.gc_commands.specs.declared.command.HeapWord.{HeapWord}
 use Rattle.gc_commands.specs.declared.command.HeapWord.TheVariants as heap
@@ -62,9 +62,8 @@ is_built_operand operand.ExternNull = false
 is_built_operand operand.ExnNull = false
 is_built_operand (operand.Register r) = true
 
--- whether the command is one, of a form that is built
+-- What is built of the commands: those of these forms. Every other one is refused as a bad line.
 abbrev pub is_built : Command → Bool
-is_built Bad = false
 is_built (Struct is_final supertype fields) = if is_final then false else (if is_some supertype then false else list_all is_built_field fields)
 is_built (New d t vs) = list_all is_built_operand vs
 is_built (I31 d n) = true
@@ -76,6 +75,7 @@ is_built Leave = true
 is_built Gc = true
 is_built (Grow n) = true
 is_built Cap = true
+is_built _ = false
 
 -- the type of a value that is built
 abbrev pub value_type : ValueWord → ValType

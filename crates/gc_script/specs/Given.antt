@@ -4,29 +4,32 @@ use Rattle.std.specs.Int.{w32, w64}
 use Rattle.gc_types.specs.declared.value.FieldType.{FieldType}
 use Rattle.gc_types.specs.declared.value.Mutability.{Mutability}
 use Rattle.gc_types.specs.declared.value.Mutability.TheVariants.{Const, Var}
-use Rattle.gc_types.specs.Declarations.{struct_fields_at}
+use Rattle.gc_types.specs.Declarations.{Declaration, struct_fields_at}
 use Rattle.gc_model.specs.declared.GcClass.{GcClass}
 use Rattle.gc_model.specs.declared.GcClass.TheVariants as class
 use Rattle.gc_model.specs.Values.{Reference, null, small, at, Value, numeric, i32, i64, f32, f64, v128, function, Object, struct, array, host, exception, number_bits}
 use Rattle.gc_model.specs.Values as values
 use Rattle.gc_model.specs.Fits.{fits}
-use Rattle.gc_model.specs.Table.{Table}
-use Rattle.gc_model.specs.Live.{rooted}
+use Rattle.gc_model.specs.Table.{Table, Scoped}
+use Rattle.gc_model.specs.Live.{rooted_among}
 use Rattle.gc_commands.specs.declared.command.Operand.{Operand}
 use Rattle.gc_commands.specs.declared.command.Operand.TheVariants as operand
 use Rattle.gc_script.specs.State.{State, Held, number, reference}
 
 -- what an operand holds, as a register would
+abbrev pub operand_held : (ℕ → Option Held) → Operand → Option Held
+operand_held registers (operand.I32 n) = Some (number (numeric i32 (number_bits w32 n)))
+operand_held registers (operand.I64 n) = Some (number (numeric i64 (number_bits w64 n)))
+operand_held registers (operand.F32 n) = Some (number (numeric f32 n))
+operand_held registers (operand.F64 n) = Some (number (numeric f64 n))
+operand_held registers (operand.V128 n) = Some (number (numeric v128 n))
+operand_held registers operand.AnyNull = Some (reference class.Any None)
+operand_held registers operand.ExternNull = Some (reference class.Extern None)
+operand_held registers operand.ExnNull = Some (reference class.Exn None)
+operand_held registers (operand.Register r) = registers r
+
 abbrev pub held_operand : State → Operand → Option Held
-held_operand s (operand.I32 n) = Some (number (numeric i32 (number_bits w32 n)))
-held_operand s (operand.I64 n) = Some (number (numeric i64 (number_bits w64 n)))
-held_operand s (operand.F32 n) = Some (number (numeric f32 n))
-held_operand s (operand.F64 n) = Some (number (numeric f64 n))
-held_operand s (operand.V128 n) = Some (number (numeric v128 n))
-held_operand s operand.AnyNull = Some (reference class.Any None)
-held_operand s operand.ExternNull = Some (reference class.Extern None)
-held_operand s operand.ExnNull = Some (reference class.Exn None)
-held_operand s (operand.Register r) = s.registers r
+held_operand s v = operand_held s.registers v
 
 -- what is given: nothing, a root that is gone, or a value
 pub data Given : Type 0 where
@@ -38,11 +41,15 @@ abbrev pub given_root : GcClass → Option Reference → Given
 given_root c None = gone
 given_root c (Some r) = is (values.reference c r)
 
+-- Each reader takes the part of the state that it reads, so that what it finds is the same in any state with that part.
+abbrev pub given_among : List Scoped → Option Held → Given
+given_among scoped None = unset
+given_among scoped (Some (number v)) = is v
+given_among scoped (Some (reference c None)) = is (values.reference c null)
+given_among scoped (Some (reference c (Some serial))) = given_root c (rooted_among serial scoped)
+
 abbrev pub given_held : Table ℕ → Option Held → Given
-given_held t None = unset
-given_held t (Some (number v)) = is v
-given_held t (Some (reference c None)) = is (values.reference c null)
-given_held t (Some (reference c (Some serial))) = given_root c (rooted t serial)
+given_held t held = given_among t.scoped held
 
 abbrev pub given : State → Operand → Given
 given s v = given_held s.table (held_operand s v)
@@ -95,11 +102,14 @@ object_target p (Some (array ty vs)) = None
 object_target p (Some (host v)) = None
 object_target p (Some (exception ty tag vs)) = None
 
+abbrev pub target_among : List (Object ℕ) → Option Reference → Option Target
+target_among objects None = None
+target_among objects (Some null) = None
+target_among objects (Some (small n)) = None
+target_among objects (Some (at p)) = object_target p (slice_get objects p)
+
 abbrev pub reference_target : Table ℕ → Option Reference → Option Target
-reference_target t None = None
-reference_target t (Some null) = None
-reference_target t (Some (small n)) = None
-reference_target t (Some (at p)) = object_target p (slice_get t.objects p)
+reference_target t r = target_among t.objects r
 
 -- the struct that a register names, where it does
 abbrev pub target : State → ℕ → Option Target
@@ -114,9 +124,12 @@ list_field None i = None
 list_field (Some fields) i = slice_get fields i
 
 -- the type of a field of a struct
+abbrev pub field_among : List Declaration → Option Target → ℕ → Option FieldType
+field_among types None i = None
+field_among types (Some found) i = list_field (struct_fields_at types found.ty) i
+
 abbrev pub field_of : Table ℕ → Option Target → ℕ → Option FieldType
-field_of t None i = None
-field_of t (Some found) i = list_field (struct_fields_at t.types found.ty) i
+field_of t found i = field_among t.types found i
 
 abbrev pub is_const : Mutability → Bool
 is_const Const = true

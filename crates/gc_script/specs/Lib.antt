@@ -2,6 +2,7 @@ pub mod Slots
 pub mod State
 pub mod Built
 pub mod Given
+pub mod Shapes
 pub mod Steps
 pub mod Policy
 pub mod Named
@@ -10,5 +11,3 @@ pub mod Run
 pub mod Lines
 pub mod Session
 pub mod Script
-pub mod Rows
-pub mod Laws

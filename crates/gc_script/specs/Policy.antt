@@ -9,12 +9,12 @@ use Rattle.gc_store.specs.Accounts.{with_held}
 use Rattle.gc_store.specs.Policy.{PolicyState, policy_state, Prepares, Prepared, Expands, Expanded}
 use Rattle.gc_store.specs.Expansion.{MayCollectTable}
 use Rattle.gc_commands.specs.declared.command.Command.{Command}
-use Rattle.gc_commands.specs.declared.command.Command.TheVariants.{Bad, Struct, New, I31, Field, SetField, Eq, Enter, Leave, Gc, Grow, Cap}
 use Rattle.gc_commands.specs.declared.reply.Reply.{Reply}
 use Rattle.gc_commands.specs.declared.reply.Reply.TheVariants as reply
 use Rattle.gc_commands.specs.declared.reply.Refusal.{Refusal}
-use Rattle.gc_script.specs.State.{State}
-use Rattle.gc_script.specs.Steps.{Step, tests, first_failing, new_struct}
+use Rattle.gc_script.specs.State.{State, visible}
+use Rattle.gc_script.specs.Shapes.{Shape, plain, declaring, making, growing, collecting, showing, shape}
+use Rattle.gc_script.specs.Steps.{Step, tests, first_failing}
 
 -- what the policy goes by in a state
 abbrev pub policy_of : State → Limits → PolicyState ℕ
@@ -49,28 +49,22 @@ pub record AsksNothing (s : State) (limits : Limits) (s' : State) (limits' : Lim
   pub account : s'.account ≡ s.account
   pub same_limits : limits' ≡ limits
 
--- a command whose tests all passed follows the policy
-abbrev pub FollowsDoing : Layouts → Option ℕ → State → Limits → Command → Reply → State → Limits → Type 0
-FollowsDoing layouts counter s limits Bad answer s' limits' = AsksNothing s limits s' limits'
-FollowsDoing layouts counter s limits (Struct is_final supertype fs) answer s' limits' = AsksNothing s limits s' limits'
-FollowsDoing layouts counter s limits (New d t vs) answer s' limits' = AllocatesByPolicy layouts counter (new_struct s t vs) s limits answer s' limits'
-FollowsDoing layouts counter s limits (I31 d n) answer s' limits' = AsksNothing s limits s' limits'
-FollowsDoing layouts counter s limits (Field r i into) answer s' limits' = AsksNothing s limits s' limits'
-FollowsDoing layouts counter s limits (SetField r i v) answer s' limits' = AsksNothing s limits s' limits'
-FollowsDoing layouts counter s limits (Eq r q) answer s' limits' = AsksNothing s limits s' limits'
-FollowsDoing layouts counter s limits Enter answer s' limits' = AsksNothing s limits s' limits'
-FollowsDoing layouts counter s limits Leave answer s' limits' = AsksNothing s limits s' limits'
-FollowsDoing layouts counter s limits Gc answer s' limits' = MayCollectTable layouts (policy_of s limits) (policy_of s' limits')
-FollowsDoing layouts counter s limits (Grow n) answer s' limits' = GrowsByPolicy layouts n s limits answer s' limits'
-FollowsDoing layouts counter s limits Cap answer s' limits' = AsksNothing s limits s' limits'
+-- a command of that shape whose tests all passed follows the policy
+abbrev pub FollowsDoing : Layouts → Option ℕ → State → Limits → Shape → Reply → State → Limits → Type 0
+FollowsDoing layouts counter s limits (plain effect) answer s' limits' = AsksNothing s limits s' limits'
+FollowsDoing layouts counter s limits (declaring d) answer s' limits' = AsksNothing s limits s' limits'
+FollowsDoing layouts counter s limits (making d class object) answer s' limits' = AllocatesByPolicy layouts counter (object (visible s)) s limits answer s' limits'
+FollowsDoing layouts counter s limits (growing n) answer s' limits' = GrowsByPolicy layouts n s limits answer s' limits'
+FollowsDoing layouts counter s limits collecting answer s' limits' = MayCollectTable layouts (policy_of s limits) (policy_of s' limits')
+FollowsDoing layouts counter s limits showing answer s' limits' = AsksNothing s limits s' limits'
 
-abbrev pub FollowsTested : Layouts → Option ℕ → State → Limits → Command → Option Refusal → Reply → State → Limits → Type 0
-FollowsTested layouts counter s limits c (Some why) answer s' limits' = AsksNothing s limits s' limits'
-FollowsTested layouts counter s limits c None answer s' limits' = FollowsDoing layouts counter s limits c answer s' limits'
+abbrev pub FollowsTested : Layouts → Option ℕ → State → Limits → Shape → Option Refusal → Reply → State → Limits → Type 0
+FollowsTested layouts counter s limits sh (Some why) answer s' limits' = AsksNothing s limits s' limits'
+FollowsTested layouts counter s limits sh None answer s' limits' = FollowsDoing layouts counter s limits sh answer s' limits'
 
 -- A step of a command follows the policy of growth, where each so-manieth allocation collects first.
 abbrev pub Follows : Layouts → Option ℕ → State → Limits → Command → Reply → State → Limits → Type 0
-Follows layouts counter s limits c answer s' limits' = FollowsTested layouts counter s limits c (first_failing (tests layouts s c)) answer s' limits'
+Follows layouts counter s limits c answer s' limits' = FollowsTested layouts counter s limits (shape c) (first_failing (tests layouts s c)) answer s' limits'
 
 -- a run of commands each of which follows the policy
 abbrev pub RunByPolicy : Layouts → Option ℕ → State → Limits → List Command → List Reply → State → Limits → Type 0
@@ -80,22 +74,16 @@ RunByPolicy layouts counter s limits (c ∷ cs) (r ∷ rs) s' limits' = (mid : S
 RunByPolicy layouts counter s limits [] (r ∷ rs) s' limits' = ⊥
 RunByPolicy layouts counter s limits (c ∷ cs) [] s' limits' = ⊥
 
--- how far a command had come whose tests all passed
-abbrev pub CameDoing : Layouts → Option ℕ → State → Command → PolicyState ℕ → PolicyState ℕ → Type 0
-CameDoing layouts counter s Bad p q = q ≡ p
-CameDoing layouts counter s (Struct is_final supertype fs) p q = q ≡ p
-CameDoing layouts counter s (New d t vs) p q = Prepared layouts counter (object_size layouts s.table.types (new_struct s t vs)) p q
-CameDoing layouts counter s (I31 d n) p q = q ≡ p
-CameDoing layouts counter s (Field r i into) p q = q ≡ p
-CameDoing layouts counter s (SetField r i v) p q = q ≡ p
-CameDoing layouts counter s (Eq r q') p q = q ≡ p
-CameDoing layouts counter s Enter p q = q ≡ p
-CameDoing layouts counter s Leave p q = q ≡ p
-CameDoing layouts counter s Gc p q = q ≡ p
-CameDoing layouts counter s (Grow n) p q = (q ≡ p) ⊎ Expanded layouts n p q
-CameDoing layouts counter s Cap p q = q ≡ p
+-- how far a command of that shape had come whose tests all passed
+abbrev pub CameDoing : Layouts → Option ℕ → State → Shape → PolicyState ℕ → PolicyState ℕ → Type 0
+CameDoing layouts counter s (plain effect) p q = q ≡ p
+CameDoing layouts counter s (declaring d) p q = q ≡ p
+CameDoing layouts counter s (making d class object) p q = Prepared layouts counter (object_size layouts s.table.types (object (visible s))) p q
+CameDoing layouts counter s (growing n) p q = (q ≡ p) ⊎ Expanded layouts n p q
+CameDoing layouts counter s collecting p q = q ≡ p
+CameDoing layouts counter s showing p q = q ≡ p
 
 -- How far a command had come that wanted memory; one that a test refuses had not begun.
-abbrev pub Came : Layouts → Option ℕ → State → Command → Option Refusal → PolicyState ℕ → PolicyState ℕ → Type 0
-Came layouts counter s c (Some why) p q = q ≡ p
-Came layouts counter s c None p q = CameDoing layouts counter s c p q
+abbrev pub Came : Layouts → Option ℕ → State → Shape → Option Refusal → PolicyState ℕ → PolicyState ℕ → Type 0
+Came layouts counter s sh (Some why) p q = q ≡ p
+Came layouts counter s sh None p q = CameDoing layouts counter s sh p q

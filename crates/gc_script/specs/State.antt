@@ -1,12 +1,12 @@
 -- The state of a session: an object table, the account of its store, registers and scope marks.
-use Rattle.std.specs.Prelude.{◌≡◌, ℕ, ◌==◌, List, [], Option, Some, None, if◌then◌else◌}
+use Rattle.std.specs.Prelude.{◌≡◌, ℕ, ◌==◌, Bool, false, List, [], Option, Some, None, if◌then◌else◌}
 use Rattle.std.specs.Int.{w32, w64}
 use Rattle.gc_types.specs.declared.kind.Layouts.{Layouts}
 use Rattle.gc_model.specs.declared.GcClass.{GcClass}
 use Rattle.gc_model.specs.Values.{Value, numeric, i32, i64, f32, f64, v128, number_bits}
 use Rattle.gc_model.specs.Table.{Table}
 use Rattle.gc_model.specs.Stores.{StoreView}
-use Rattle.gc_store.specs.Accounts.{Account, HoldsAccount}
+use Rattle.gc_store.specs.Accounts.{Account, no_account, HoldsAccount}
 use Rattle.gc_store.specs.Roots.{Names}
 use Rattle.gc_store.specs.declared.root.RawValue.{RawValue}
 use Rattle.gc_store.specs.declared.root.RawValue.TheVariants as raw
@@ -60,10 +60,37 @@ with_marks marks s = record s { marks = marks }
 abbrev pub set_register : ℕ → Held → State → State
 set_register d held s = record s { registers = λ k. if k == d then Some held else s.registers k }
 
+-- registers with a value in one, where one is named
+abbrev pub put_register : Option ℕ → Held → (ℕ → Option Held) → ℕ → Option Held
+put_register None held registers k = registers k
+put_register (Some d) held registers k = if k == d then Some held else registers k
+
 -- the state with a value in a register, where one is named
 abbrev pub put_into : Option ℕ → Held → State → State
-put_into None held s = s
-put_into (Some d) held s = set_register d held s
+put_into into held s = record s { registers = put_register into held s.registers }
+
+-- The hidden part of a state, which no test and no plain effect sees or changes: whether the heap is made, its pages and
+-- its first pages, and the account.
+pub record Hidden : Type 0 where
+  pub made : Bool
+  pub pages : ℕ
+  pub first : ℕ
+  pub account : Account
+
+abbrev pub hidden : State → Hidden
+hidden s = record { made = s.table.made; pages = s.table.pages; first = s.table.first; account = s.account }
+
+-- the state with that hidden part
+abbrev pub with_hidden : Hidden → State → State
+with_hidden h s = record s { table = record s.table { made = h.made; pages = h.pages; first = h.first }; account = h.account }
+
+-- what is seen of a state: its hidden part is blank
+abbrev pub visible : State → State
+visible s = with_hidden (record { made = false; pages = 0; first = 0; account = no_account }) s
+
+-- what was made of a state as it is seen, with the hidden part of that state
+abbrev pub over : State → State → State
+over s v = with_hidden (hidden s) v
 
 -- What a register of the runner holds is what one of the table holds: a handle is that of the serial.
 abbrev pub Stands : StoreView → Table ℕ → Option RawValue → Option Held → Type 0

@@ -2,9 +2,9 @@
 
 ghost use Rattle.std.specs.Prelude.{◌≡◌, IfOk, map};
 ghost use Rattle.std.specs.List.{list_all};
-ghost use Rattle.gc_script.specs.Built.{is_built_value, is_built_field, is_built_operand, value_type, field_type};
+ghost use Rattle.gc_script.specs.Built.{is_built, is_built_value, is_built_field, is_built_operand, value_type, field_type};
 
-use gc_commands::{FieldWord, HeapWord, Operand, StorageWord, ValueWord};
+use gc_commands::{Command, FieldWord, HeapWord, Operand, StorageWord, ValueWord};
 use gc_types::{FieldType, HeapType, Mutability, RefType, StorageType, ValType};
 use std::alloc::{AllocError, Global};
 
@@ -30,7 +30,7 @@ fn is_built_field(field: &FieldWord) -> bool
 }
 
 /// Whether an operand is of a form that is built.
-pub(crate) fn is_built_operand(operand: &Operand) -> bool
+fn is_built_operand(operand: &Operand) -> bool
     ensures { result ≡ is_built_operand operand.now }
 {
     matches!(
@@ -40,17 +40,41 @@ pub(crate) fn is_built_operand(operand: &Operand) -> bool
 }
 
 /// Whether all fields are of a form that is built.
-pub(crate) fn are_built_fields(fields: &[FieldWord]) -> bool
+fn are_built_fields(fields: &[FieldWord]) -> bool
     ensures { result ≡ list_all is_built_field fields.now }
 {
     fields.iter().all(|field| is_built_field(field))
 }
 
 /// Whether all operands are of a form that is built.
-pub(crate) fn are_built_operands(operands: &[Operand]) -> bool
+fn are_built_operands(operands: &[Operand]) -> bool
     ensures { result ≡ list_all is_built_operand operands.now }
 {
     operands.iter().all(|operand| is_built_operand(operand))
+}
+
+/// Whether a command is one, and of a form that is built.
+pub(crate) fn is_built(command: &Command) -> bool
+    ensures { result ≡ is_built command.now }
+{
+    match command {
+        Command::Struct {
+            is_final,
+            supertype,
+            fields,
+        } => !*is_final && supertype.is_none() && are_built_fields(fields.as_slice()),
+        Command::New { values, .. } => are_built_operands(values.as_slice()),
+        Command::SetField { value, .. } => is_built_operand(value),
+        Command::I31 { .. }
+        | Command::Field { .. }
+        | Command::Eq { .. }
+        | Command::Enter
+        | Command::Leave
+        | Command::Gc
+        | Command::Grow { .. }
+        | Command::Cap => true,
+        _ => false,
+    }
 }
 
 /// The value type that a word of a built form spells. Any other reference is taken for one that is

@@ -1,15 +1,14 @@
 //! The commands that read and write fields, and that compare references.
 
-ghost use Rattle.std.specs.Prelude.{◌≡◌, ℕ, OnOk};
+ghost use Rattle.std.specs.Prelude.{◌≡◌, ℕ, true, Ok, OnOk};
 ghost use Rattle.gc_commands.specs.declared.command.Command.TheVariants as Command;
 ghost use Rattle.gc_script.specs.State.{State, HoldsState};
-ghost use Rattle.gc_script.specs.Steps.{tests};
+ghost use Rattle.gc_script.specs.Built.{is_built_operand};
 ghost use Rattle.gc_script.specs.Run.{GoesOn};
 ghost use Rattle.gc_script.specs.Slots.{register_at};
 ghost use Rattle.gc_script.specs.Named.{HasRoom, register_with};
 ghost use Rattle.gc_store.specs.Stores.{IsSameStore};
 
-use crate::built::is_built_operand;
 use crate::registers::Registers;
 use crate::runner::{RunError, Runner};
 use crate::shown::shown;
@@ -52,7 +51,7 @@ impl Runner {
         i: u32,
         into: Option<u16>,
     ) -> Result<Reply, RunError>
-        ensures goes { (s : State) → HoldsState H.KIND store.old self.old s → GoesOn H.KIND s (Command.Field r i into) (tests H.KIND s (Command.Field r i into)) result store.new self.new }
+        ensures goes { (s : State) → HoldsState H.KIND store.old self.old s → GoesOn H.KIND s (Command.Field r i into) result store.new self.new }
         ensures same { IsSameStore store.old store.new }
     {
         let target = match self.registers.get(r) {
@@ -78,47 +77,45 @@ impl Runner {
         }
     }
 
-    /// Writes field `i` of the struct in register `r`.
+    /// Writes field `i` of the struct in register `r`. Takes no memory.
     pub(crate) fn write_field<H: GcHeap>(
-        &mut self,
+        &self,
         store: &mut Store<H, u64>,
         r: u16,
         i: u32,
         operand: &Operand,
-    ) -> Result<Reply, RunError>
-        ensures goes { (s : State) → HoldsState H.KIND store.old self.old s → GoesOn H.KIND s (Command.SetField r i operand.now) (tests H.KIND s (Command.SetField r i operand.now)) result store.new self.new }
+    ) -> Reply
+        requires { is_built_operand operand.now ≡ true }
+        ensures goes { (s : State) → HoldsState H.KIND store.old self.now s → GoesOn H.KIND s (Command.SetField r i operand.now) (Ok result) store.new self.now }
         ensures same { IsSameStore store.old store.new }
     {
-        if !is_built_operand(operand) {
-            return Ok(Reply::Refused(Refusal::BadLine));
-        }
         let target = match self.registers.get(r) {
             Some(value) => value,
-            None => return Ok(Reply::Refused(Refusal::NoSuchName)),
+            None => return Reply::Refused(Refusal::NoSuchName),
         };
         let value = match operand_value(&self.registers, operand) {
             Some(value) => value,
-            None => return Ok(Reply::Refused(Refusal::NoSuchName)),
+            None => return Reply::Refused(Refusal::NoSuchName),
         };
         let place = match find_field(store, &target, i) {
             Ok(place) => place,
-            Err(why) => return Ok(Reply::Refused(why)),
+            Err(why) => return Reply::Refused(why),
         };
         if !place.field.mutability.is_var() {
-            return Ok(Reply::Refused(Refusal::Immutable));
+            return Reply::Refused(Refusal::Immutable);
         }
         if let Err(why) = check_value(store, place.field, &value) {
-            return Ok(Reply::Refused(why));
+            return Reply::Refused(why);
         }
         match store.write_value(place.root, i, value) {
-            Ok(()) => Ok(Reply::Done),
+            Ok(()) => Reply::Done,
             Err(_) => unreachable!(),
         }
     }
 
     /// Whether registers `r` and `q` hold the same reference.
     pub(crate) fn compare<H: GcHeap>(&self, store: &Store<H, u64>, r: u16, q: u16) -> Reply
-        ensures goes { (s : State) → HoldsState H.KIND store.now self.now s → GoesOn H.KIND s (Command.Eq r q) (tests H.KIND s (Command.Eq r q)) (Ok result) store.now self.now }
+        ensures goes { (s : State) → HoldsState H.KIND store.now self.now s → GoesOn H.KIND s (Command.Eq r q) (Ok result) store.now self.now }
     {
         let first = match self.registers.get(r) {
             Some(value) => value,

@@ -3,7 +3,6 @@
 ghost use Rattle.std.specs.Prelude.{◌≡◌, Ok};
 ghost use Rattle.gc_commands.specs.declared.command.Command.TheVariants as Command;
 ghost use Rattle.gc_script.specs.State.{State, HoldsState};
-ghost use Rattle.gc_script.specs.Steps.{tests};
 ghost use Rattle.gc_script.specs.Run.{RunsOne, GoesOn};
 ghost use Rattle.gc_store.specs.Stores.{IsSameStore};
 
@@ -32,7 +31,7 @@ impl Runner {
 
     /// The bytes of the heap's memory.
     pub(crate) fn capacity<H: GcHeap>(&self, store: &Store<H, u64>) -> Reply
-        ensures goes { (s : State) → HoldsState H.KIND store.now self.now s → GoesOn H.KIND s Command.Cap (tests H.KIND s Command.Cap) (Ok result) store.now self.now }
+        ensures goes { (s : State) → HoldsState H.KIND store.now self.now s → GoesOn H.KIND s Command.Cap (Ok result) store.now self.now }
     {
         Reply::Capacity(store.gc_heap_capacity() as u64)
     }

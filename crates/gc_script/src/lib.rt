@@ -8,8 +8,6 @@
 mod built;
 mod fields;
 mod growth;
-pub mod laws;
-pub mod limit_laws;
 mod make;
 mod registers;
 pub mod runner;
@@ -23,6 +21,5 @@ pub use gc_commands::{
     ByteText, Command, FieldWord, FieldWords, HeapWord, Operand, Operands, Refusal, Reply,
     ReplyValue, StorageWord, ValueWord, parse_line, push_reply, reply_text,
 };
-pub use laws::one_struct_session;
 pub use runner::{RunError, Runner};
 pub use script::run_script;

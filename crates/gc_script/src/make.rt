@@ -1,17 +1,20 @@
 //! The commands that declare types and make objects and numbers.
 
-ghost use Rattle.std.specs.Prelude.{◌≡◌, ℕ, List};
+ghost use Rattle.std.specs.Prelude.{◌≡◌, ℕ, true, List};
+ghost use Rattle.std.specs.List.{list_all};
 ghost use Rattle.gc_commands.specs.declared.command.Operand.{Operand};
 ghost use Rattle.gc_commands.specs.declared.command.Command.TheVariants as Command;
 ghost use Rattle.gc_script.specs.State.{State, HoldsState};
-ghost use Rattle.gc_script.specs.Steps.{tests, heap_tests};
+ghost use Rattle.gc_script.specs.Built.{is_built, is_built_operand};
+ghost use Rattle.gc_script.specs.Shapes.{shape, new_struct};
+ghost use Rattle.gc_script.specs.Steps.{heap_tests};
 ghost use Rattle.gc_script.specs.Given.{given_values};
 ghost use Rattle.gc_script.specs.Run.{RunsOne, RunsOn, GoesOn};
 ghost use Rattle.gc_store.specs.Places.{CanPlace};
 ghost use Rattle.gc_store.specs.Stores.{IsSameStore};
 ghost use Rattle.gc_store.specs.Values.{AllStand};
 
-use crate::built::{are_built_fields, are_built_operands, field_types};
+use crate::built::field_types;
 use crate::runner::{RunError, Runner};
 use crate::values::{check_values, operand_values};
 use gc_commands::{FieldWord, Operand, Refusal, Reply};
@@ -29,12 +32,10 @@ impl Runner {
         supertype: Option<u32>,
         fields: &[FieldWord],
     ) -> Result<Reply, RunError>
-        ensures goes { (s : State) → HoldsState H.KIND store.old self.now s → GoesOn H.KIND s (Command.Struct is_final supertype fields.now) (tests H.KIND s (Command.Struct is_final supertype fields.now)) result store.new self.now }
+        requires { is_built (Command.Struct is_final supertype fields.now) ≡ true }
+        ensures goes { (s : State) → HoldsState H.KIND store.old self.now s → GoesOn H.KIND s (Command.Struct is_final supertype fields.now) result store.new self.now }
         ensures same { IsSameStore store.old store.new }
     {
-        if is_final || supertype.is_some() || !are_built_fields(fields) {
-            return Ok(Reply::Refused(Refusal::BadLine));
-        }
         let Ok(types) = field_types(self.alloc, fields) else {
             return Err(RunError::OutOfMemory);
         };
@@ -55,7 +56,7 @@ impl Runner {
         values: &[RawValue],
     ) -> Result<Reply, RunError>
         requires { CanPlace ℕ H.KIND store.old ty values.now }
-        ensures runs { (s : State) (vs : List Operand) → HoldsState H.KIND store.old self.old s → AllStand store.old s.table values.now (given_values s vs) → RunsOn H.KIND store.old.alloc_counter (L.limits limiter.old) (L.limits limiter.new) s (Command.New d ty vs) (heap_tests H.KIND s ty vs) result store.new self.new }
+        ensures runs { (s : State) (vs : List Operand) → HoldsState H.KIND store.old self.old s → AllStand store.old s.table values.now (given_values s vs) → RunsOn H.KIND store.old.alloc_counter (L.limits limiter.old) (L.limits limiter.new) s (shape (Command.New d ty vs)) (heap_tests H.KIND s (new_struct s ty vs)) result store.new self.new }
         ensures same { IsSameStore store.old store.new }
     {
         if self.registers.make_room(d).is_err() {
@@ -85,12 +86,10 @@ impl Runner {
         t: u32,
         operands: &[Operand],
     ) -> Result<Reply, RunError>
+        requires { list_all is_built_operand operands.now ≡ true }
         ensures runs { (s : State) → HoldsState H.KIND store.old self.old s → RunsOne H.KIND store.old.alloc_counter (L.limits limiter.old) (L.limits limiter.new) s (Command.New d t operands.now) result store.new self.new }
         ensures same { IsSameStore store.old store.new }
     {
-        if !are_built_operands(operands) {
-            return Ok(Reply::Refused(Refusal::BadLine));
-        }
         let ty = VMSharedTypeIndex::new(t);
         let Some(count) = store.types().struct_len(ty) else {
             return Ok(Reply::Refused(Refusal::NoSuchName));
@@ -117,7 +116,7 @@ impl Runner {
         d: u16,
         n: u32,
     ) -> Result<Reply, RunError>
-        ensures goes { (s : State) → HoldsState H.KIND store.old self.old s → GoesOn H.KIND s (Command.I31 d n) (tests H.KIND s (Command.I31 d n)) result store.new self.new }
+        ensures goes { (s : State) → HoldsState H.KIND store.old self.old s → GoesOn H.KIND s (Command.I31 d n) result store.new self.new }
         ensures same { IsSameStore store.old store.new }
     {
         if self.registers.make_room(d).is_err() {

@@ -1,12 +1,13 @@
 //! Running commands.
 
-ghost use Rattle.std.specs.Prelude.{◌≡◌, OnOk};
+ghost use Rattle.std.specs.Prelude.{◌≡◌, OnOk, OnErr};
 ghost use Rattle.gc_model.specs.Holds.{HoldsKept};
 ghost use Rattle.gc_script.specs.Slots.{new_runner};
 ghost use Rattle.gc_script.specs.State.{State, HoldsState};
-ghost use Rattle.gc_script.specs.Run.{RunsOne};
+ghost use Rattle.gc_script.specs.Run.{RunsOne, TakesMemory};
 ghost use Rattle.gc_store.specs.Stores.{IsSameStore};
 
+use crate::built::is_built;
 use crate::registers::Registers;
 use gc_commands::{Command, Refusal, Reply};
 use gc_heap::GcHeap;
@@ -22,7 +23,9 @@ pub enum RunError {
     OutOfMemory,
 }
 
-/// Runs commands one after another, and has their registers and the scopes that they entered.
+/// Runs commands one after another, and has their registers and the scopes that they entered. A runner is
+/// for one store: its registers hold handles of the store on which its commands ran, and its clauses say
+/// nothing of another one.
 #[derive(Drop)]
 pub struct Runner {
     pub(crate) alloc: Global,
@@ -51,8 +54,10 @@ impl Runner {
         }
     }
 
-    /// Runs one command. What it refuses is a reply; an error is want of memory, which leaves the
-    /// table as it was, but that `new` and `grow` may have collected and got the heap pages.
+    /// Runs one command. What it refuses is a reply, and so is a command that is not built (`BadLine`); an
+    /// error is want of memory, which leaves the table as it was, but that `new` and `grow` may have
+    /// collected and got the heap pages. It comes of no command that takes no memory: `setf`, `eq`,
+    /// `leave`, `gc`, `cap`, and those that are not built.
     /// The time is linear in the command's length and in the number of the register that it sets, beside
     /// that of a collection and of new memory, and for `leave` in the roots that it drops.
     pub fn run_one<H: GcHeap, L: ResourceLimiter>(
@@ -62,11 +67,14 @@ impl Runner {
         command: &Command,
     ) -> Result<Reply, RunError>
         ensures runs { (s : State) → HoldsState H.KIND store.old self.old s → RunsOne H.KIND store.old.alloc_counter (L.limits limiter.old) (L.limits limiter.new) s command.now result store.new self.new }
+        ensures memory { OnErr result (TakesMemory command.now) }
         ensures kept { command.now ≡ Command.Gc → OnOk result ((s : State) → HoldsState H.KIND store.old self.old s → HoldsKept H.KIND store.new s.table) }
         ensures same { IsSameStore store.old store.new }
     {
+        if !is_built(command) {
+            return Ok(Reply::Refused(Refusal::BadLine));
+        }
         match command {
-            Command::Bad => Ok(Reply::Refused(Refusal::BadLine)),
             Command::Struct {
                 is_final,
                 supertype,
@@ -77,13 +85,14 @@ impl Runner {
             }
             Command::I31 { d, n } => self.make_i31(store, *d, *n),
             Command::Field { r, i, into } => self.read_field(store, *r, *i, *into),
-            Command::SetField { r, i, value } => self.write_field(store, *r, *i, value),
+            Command::SetField { r, i, value } => Ok(self.write_field(store, *r, *i, value)),
             Command::Eq { r, s } => Ok(self.compare(store, *r, *s)),
             Command::Enter => self.enter(store),
             Command::Leave => Ok(self.leave(store)),
             Command::Gc => Ok(self.collect(store)),
             Command::Grow { n } => self.grow(store, limiter, *n),
             Command::Cap => Ok(self.capacity(store)),
+            _ => unreachable!(),
         }
     }
 }

@@ -5,7 +5,6 @@ ghost use Rattle.gc_commands.specs.declared.command.Command.TheVariants as Comma
 ghost use Rattle.gc_model.specs.Allocation.{Limits};
 ghost use Rattle.gc_model.specs.Holds.{HoldsKept};
 ghost use Rattle.gc_script.specs.State.{State, HoldsState};
-ghost use Rattle.gc_script.specs.Steps.{tests};
 ghost use Rattle.gc_script.specs.Run.{GoesOn, RunsOne};
 ghost use Rattle.gc_store.specs.Stores.{IsSameStore};
 
@@ -17,7 +16,7 @@ use gc_store::Store;
 impl Runner {
     /// Enters a scope of roots.
     pub(crate) fn enter<H: GcHeap>(&mut self, store: &Store<H, u64>) -> Result<Reply, RunError>
-        ensures goes { (s : State) → HoldsState H.KIND store.now self.old s → GoesOn H.KIND s Command.Enter (tests H.KIND s Command.Enter) result store.now self.new }
+        ensures goes { (s : State) → HoldsState H.KIND store.now self.old s → GoesOn H.KIND s Command.Enter result store.now self.new }
     {
         match self.marks.push(store.enter_gc_lifo_scope()) {
             Ok(()) => Ok(Reply::Done),
@@ -27,7 +26,7 @@ impl Runner {
 
     /// Leaves the scope that was entered last.
     pub(crate) fn leave<H: GcHeap>(&mut self, store: &mut Store<H, u64>) -> Reply
-        ensures goes { (s : State) → HoldsState H.KIND store.old self.old s → GoesOn H.KIND s Command.Leave (tests H.KIND s Command.Leave) (Ok result) store.new self.new }
+        ensures goes { (s : State) → HoldsState H.KIND store.old self.old s → GoesOn H.KIND s Command.Leave (Ok result) store.new self.new }
         ensures same { IsSameStore store.old store.new }
     {
         let Some(mark) = self.marks.pop() else {

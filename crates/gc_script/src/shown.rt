@@ -7,7 +7,7 @@ ghost use Rattle.gc_model.specs.Table.{Table};
 ghost use Rattle.gc_model.specs.Values.{Reference, Value, reference};
 ghost use Rattle.gc_store.specs.Roots.{IsReference};
 ghost use Rattle.gc_store.specs.Values.{RawStands};
-ghost use Rattle.gc_script.specs.Steps.{shown};
+ghost use Rattle.gc_script.specs.Shapes.{shown};
 
 use gc_commands::ReplyValue;
 use gc_heap::GcHeap;

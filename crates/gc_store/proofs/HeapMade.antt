@@ -21,7 +21,8 @@ use Rattle.gc_view.specs.Heaps.{HeapObject, HeapView, detached_in}
 use Rattle.gc_view.proofs.Content.{get-put_same, get-put_other}
 use Rattle.gc_view.proofs.Layouts.{stored_size-le, fields_end-le}
 use Rattle.gc_heap.specs.Objects.{first_offset}
-use Rattle.gc_heap.specs.References.{IsTraceable, LayoutTraces}
+use Rattle.gc_heap.specs.References.{IsTraceable}
+use Rattle.gc_heap.specs.Rules.{LayoutTraces}
 use Rattle.gc_heap.specs.Content.{IsHeap}
 use Rattle.gc_heap.specs.Heap.{AddsObject, empty_heap, new_struct, layout_kind}
 use Rattle.gc_heap.specs.Collection.{CanCollect, AreCounted, stack_words}

@@ -9,7 +9,7 @@ use Rattle.gc_model.specs.declared.RootEntry.{RootEntry}
 use Rattle.gc_model.specs.Values.{Value, struct}
 use Rattle.gc_model.specs.Table.{Table, make, with_pages}
 use Rattle.gc_model.specs.Live.{roots_full}
-use Rattle.gc_view.specs.Sizes.{alignment, need_of}
+use Rattle.gc_view.specs.Sizes.{alignment, need_of, size_rules}
 use Rattle.gc_model.specs.Sizes.{object_size, fields_size}
 use Rattle.gc_model.specs.Allocation.{Limits, too_large, FitsIn, GetsPages}
 use Rattle.gc_view.specs.Heaps.{HeapView}
@@ -42,9 +42,7 @@ use Rattle.gc_store.proofs.Simulation.{view_at}
 
 -- what is too large for the heap is too large for the table
 pub too_large_is : (layouts : Layouts) (n : ℕ) → IsTooLarge layouts n → too_large layouts n ≡ true
-too_large_is Null n large = le-leb 67108864 n large
-too_large_is Counting n large = le-leb (2 ^ 32) (n + 16) large
-too_large_is Copying n large = le-leb (2 ^ 32) (round_up n alignment) large
+too_large_is layouts n large = le-leb (size_rules layouts).limit n large
 
 -- after an allocation the null heap goes on behind the object
 allocated_next : (layouts : Layouts) (allocated after size : ℕ) → after ≡ allocated_after layouts allocated size → layouts ≡ Null → after + 1 ≡ round_up (allocated + 1) alignment + size

@@ -15,7 +15,8 @@ use Rattle.gc_refs.specs.Trace.{form_of}
 use Rattle.gc_roots.specs.Roots.{Root}
 use Rattle.gc_view.specs.Heaps.{HeapObject, HeapView}
 use Rattle.gc_model.proofs.Types.{struct_fields_at-push}
-use Rattle.gc_heap.specs.References.{reference_offsets, typed_offsets, info_offsets, bitmap_offsets, element_offsets, references, word_in, IsTyped, HoldsType, HoldsLayout, HoldsArrayLayout}
+use Rattle.gc_heap.specs.References.{reference_offsets, typed_offsets, info_offsets, bitmap_offsets, element_offsets, references, word_in, HoldsType, HoldsLayout, HoldsArrayLayout}
+use Rattle.gc_heap.specs.Rules.{IsTyped}
 use Rattle.gc_heap.specs.Objects.{held_size, array_length}
 use Rattle.gc_heap.specs.Totals.{total-same}
 use Rattle.gc_heap.specs.Collection.{AreCounted, names_of, occurrences, held_words}

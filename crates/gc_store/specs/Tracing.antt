@@ -11,7 +11,7 @@ use Rattle.gc_roots.specs.Roots.{Root, root}
 use Rattle.gc_model.specs.declared.RootEntry.{RootEntry}
 use Rattle.gc_view.specs.Sizes.{stored_size}
 use Rattle.gc_view.specs.Heaps.{HeapObject, HeapView}
-use Rattle.gc_heap.specs.References.{struct_spare}
+use Rattle.gc_heap.specs.Rules.{struct_spare}
 use Rattle.gc_heap.specs.Collection.{Start, CanCollect}
 
 -- a root that is a reference of the store's own, with that word

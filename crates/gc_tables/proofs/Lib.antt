@@ -1,3 +1,4 @@
 pub mod SlotLemmas
 pub mod LinkLemmas
 pub mod InternLemmas
+pub mod LawsOfTables

@@ -15,21 +15,13 @@ pub mod index;
 pub mod kind;
 pub mod layout;
 pub mod layout_laws;
-#[cfg(test)]
-mod layout_tests;
 mod matching;
 pub mod matching_laws;
-#[cfg(test)]
-mod matching_tests;
 mod placement;
 #[cfg(test)]
-mod small_tests;
-#[cfg(test)]
-mod table_tests;
+mod tests;
 mod type_names;
 pub mod types;
-#[cfg(test)]
-mod types_tests;
 pub mod value;
 
 pub use index::VMSharedTypeIndex;

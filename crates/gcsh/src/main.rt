@@ -7,36 +7,29 @@ use std::process::ExitCode;
 use std::{env, io};
 
 const HELP: &str = "\
-gcsh runs a script of heap commands, one reply a line.
+gcsh runs a script of heap commands, and writes a reply to each.
 
 Usage: gcsh COLLECTOR FIRST MOST < SCRIPT
        gcsh --help | --version
 
-COLLECTOR is copying, a heap that frees what no root reaches, or null, which
-never frees. A heap begins with FIRST pages of 65536 bytes when the first object
-is made or it is grown, and gets more as it needs them, up to MOST:
-FIRST <= MOST <= 65535.
+COLLECTOR is copying, which frees what no root reaches, or null, which never
+frees. FIRST <= MOST <= 65535 are the pages of 65536 bytes that the heap begins
+with, and the most that it gets.
 
-Commands, one a line; D, R and S are registers, from 0 to 65535:
-  struct [F]..        declare a struct type; replies its number. F is m: or c:,
-                      mutable or constant, and i32, i64 or any
-  new D T [V]..       make a struct of type T, and put it into register D
-  i31 D N             put the low 31 bits of N into register D
-  field R I [D]       reply the value of field I of the struct in register R,
-                      and put it into register D
-  setf R I V          write field I of the struct in register R
-  eq R S              whether registers R and S name the same object
-  enter, leave        enter a scope of roots, leave it
-  gc                  collect; replies how many objects and host objects are held
-  grow N              let the heap grow by N bytes
-  cap                 reply the bytes of the heap's memory
-V is i32:N, i64:N, any:null, or r and a register.
+  struct [F]..   declare a type       field R I [D]  read a field, into D
+  new D T [V]..  make a struct        setf R I V     write a field
+  i31 D N        a small integer      eq R S         whether they are the same
+  enter, leave   a scope of roots     gc, grow N     collect, grow by N bytes
+  cap            the heap's bytes
+D, R, S are registers, 0 to 65535; T a type, counted from 0; I a field. F is m:
+or c:, mutable or constant, and i32, i64 or any. V is i32:N, i64:N, any:null, or
+r and a register. Any other line has the reply BadLine. An example:
 
-Every line has a reply, and one that is no command has BadLine.
+  printf 'struct m:i32\\nnew 1 0 i32:5\\nfield 1 0\\n' | gcsh null 1 64
 
-Status: 0 every line has its reply; 1 the words are of no form above;
-2 the input failed; 3 the output failed; 4 the input has more than 16777216
-bytes; 5 there was no memory.
+Status: 0 all was replied to; 1 the words are of no form above, and nothing is
+printed; 2 the input failed; 3 the output failed; 4 the input has more than
+16777216 bytes; 5 there was no memory.
 ";
 
 const VERSION: &str = concat!("gcsh ", "0.1.0", "\n");

@@ -20,7 +20,7 @@ last_line (x ∷ y ∷ xs) line ([], e) = absurd (cc)
 last_line (x ∷ xs) line (b ∷ bs, e) = last_line xs line (bs, cc)
 
 gc_spells : Spells (codes "gc") Gc
-gc_spells = record { built = tt; short = omega arith; spelled = refl }
+gc_spells = record { fits = tt; short = omega arith; spelled = refl }
 
 -- a line that is `gc` is that command
 pub is_gc_line : (line : List ℕ) (c : Command) → IsCommandOf line c → line ≡ codes "gc" → c ≡ Gc

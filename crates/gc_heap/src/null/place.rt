@@ -5,7 +5,7 @@ ghost use Rattle.gc_types.specs.declared.kind.Layouts.TheVariants.{Null};
 ghost use Rattle.gc_types.specs.declared.kind.VMGcKind.{VMGcKind};
 ghost use Rattle.gc_types.specs.Layouts.{round_up};
 ghost use Rattle.gc_refs.specs.Header.{IsOfKind};
-ghost use Rattle.gc_view.specs.Sizes.{alignment};
+ghost use Rattle.gc_view.specs.Sizes.{alignment, need_of};
 ghost use Rattle.gc_view.specs.Bytes.{SameBytes};
 ghost use Rattle.gc_heap.specs.Heap.{Allocated};
 ghost use Rattle.gc_heap.specs.NullWalk.{data_with, word_end, placed, IsNew, PlacesObject};
@@ -17,13 +17,20 @@ use gc_memory::HeapMemory;
 use gc_refs::{VMGcHeader, VMGcRef};
 
 /// The least size, in bytes, that the spare bits of a kind word can't tell.
-const SIZE_LIMIT: u32 = 0x0400_0000;
+pub(super) const SIZE_LIMIT: u32 = 0x0400_0000;
 
 /// The next multiple of 16.
 fn align_up(n: u32) -> u64
     ensures { result ≡ round_up n alignment }
 {
     (u64::from(n) + (ALIGNMENT - 1)) / ALIGNMENT * ALIGNMENT
+}
+
+/// The bytes that a heap without room for an object of `size` bytes has to grow by.
+pub(super) fn need(size: u32) -> u64
+    ensures { result ≡ need_of Null size }
+{
+    u64::from(size) + ALIGNMENT
 }
 
 /// Writes the data of a new object of `size` bytes at a place: its first word where that is told, and
@@ -86,7 +93,7 @@ fn allocate_in(
     let place = align_up(*next);
     let end = place + u64::from(size);
     if end > u64::from(memory.capacity()) {
-        return Ok(Err(u64::from(size) + ALIGNMENT));
+        return Ok(Err(need(size)));
     }
     write_object(memory, place as u32, header, size, word);
     *next = end as u32;

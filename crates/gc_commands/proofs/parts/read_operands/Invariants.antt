@@ -1,12 +1,12 @@
 use Rattle.std.proofs.Common.{◌≡◌, ◌++◌, length, map}
 use Rattle.std.specs.List.{AllByRecursion}
-use Rattle.gc_commands.specs.Spelling.{IsBuiltOperand}
+use Rattle.gc_commands.specs.Spelling.{FitsOperand}
 use Rattle.gc_commands.specs.Words.{operand_text}
 use Rattle.gc_commands.proofs.parts.read_operands.Given as goal
 
 abbrev pub invariant-loop-word : goal.invariant-loop-word
 invariant-loop-word l = record {
-  built : AllByRecursion IsBuiltOperand l.values.items;
+  fit : AllByRecursion FitsOperand l.values.items;
   read : l.fn.words ≡ map operand_text l.values.items ++ l.words;
 }
 

@@ -1,6 +1,6 @@
 use Rattle.std.proofs.Common.{◌≡◌, ◌++◌, codes, string_bytes, take}
 use Rattle.std.specs.List.{flat_map}
-use Rattle.gc_commands.specs.Text.{byte_text}
+use Rattle.gc_commands.specs.Words.{byte_text}
 use Rattle.gc_commands.proofs.text.push_bytes.Given as goal
 
 abbrev pub invariant-loop-byte : goal.invariant-loop-byte

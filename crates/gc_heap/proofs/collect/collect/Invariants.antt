@@ -1,11 +1,11 @@
 use Rattle.std.proofs.Common.{ℕ, Bool, ◌≡◌, ◌≤◌}
-use Rattle.gc_heap.specs.Collection.{Start, has_host, IsPartOf}
+use Rattle.gc_heap.specs.Collection.{Start, IsPartOf, stage}
 use Rattle.gc_heap.proofs.collect.collect.Given as goal
 
 abbrev pub invariant-increments : goal.invariant-increments
 invariant-increments g l = record {
-  goes : (s : Start) (n : ℕ) (c : Bool) → g.H.GcHeap.under_way s n c l.fn.heap l.fn.state l.fn.roots.roots l.fn.trace.types.now.declarations (has_host l.fn.trace.host_data_table.now.entries)
-      → (m : ℕ) × ((d : Bool) × g.H.GcHeap.under_way s m d l.heap l.state l.roots.roots l.trace.types.now.declarations (has_host l.trace.host_data_table.now.entries));
+  goes : (s : Start) (n : ℕ) (c : Bool) → g.H.GcHeap.under_way s n c (stage l.fn.heap l.fn.state l.fn.roots.roots l.fn.trace.types.now.declarations l.fn.trace.host_data_table.now.entries)
+      → (m : ℕ) × ((d : Bool) × g.H.GcHeap.under_way s m d (stage l.heap l.state l.roots.roots l.trace.types.now.declarations l.trace.host_data_table.now.entries));
   ticks : g.H.GcHeap.ticks l.state ≡ g.H.GcHeap.ticks l.fn.state;
   spare : l.roots.spare ≡ l.fn.roots.spare;
   host_spare : l.fn.trace.host_data_table.now.spare ≤ l.trace.host_data_table.now.spare;

@@ -1,7 +1,7 @@
 use Rattle.std.proofs.Common.{◌-◌, arith}
 use Rattle.gc_types.specs.declared.kind.Layouts.{Layouts}
 use Rattle.gc_types.specs.Layouts.{ref_offsets}
-use Rattle.gc_heap.specs.References.{struct_spare}
+use Rattle.gc_heap.specs.Rules.{struct_spare}
 use Rattle.gc_heap.proofs.HeapLemmas.{new_writable}
 use Rattle.gc_heap.proofs.tests.place.Goals as goal
 

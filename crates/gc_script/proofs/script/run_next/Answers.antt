@@ -5,7 +5,7 @@ use Rattle.gc_script.proofs.ScriptLemmas.{reply_behind}
 use Rattle.gc_script.proofs.script.run_next.Goals as goal
 
 pub returns-then-is_err-clause-wants : goal.returns-then-is_err-clause-wants
-returns-then-is_err-clause-wants g c s holds = wants_nothing _ _ _ s _ _ _ _ holds
+returns-then-is_err-clause-wants g c s holds = record { wants = wants_nothing _ _ _ s _ _ _ _ holds }
 
 pub returns-in_err-reply-clause-wants : goal.returns-in_err-reply-clause-wants
 returns-in_err-reply-clause-wants g c = on_any_err c.from_residual.result c.in_err-reply.ensures.runs

@@ -6,7 +6,7 @@ use Rattle.gc_copying.specs.States.{seen_in}
 use Rattle.gc_copying.specs.Placing.{FindsRoom, CanPlace}
 use Rattle.gc_copying.specs.declared.place.Room.TheVariants as room
 use Rattle.gc_copying.proofs.MakeLemmas.{can_place, lacks_room, MakesObject, makes_array}
-use Rattle.gc_heap.specs.References.{ArrayTraces}
+use Rattle.gc_heap.specs.Rules.{ArrayTraces}
 use Rattle.gc_types.specs.declared.layout.GcArrayLayout.{GcArrayLayout}
 use Rattle.gc_copying.proofs.space.Space.alloc_array.Goals as goal
 use Rattle.gc_copying.proofs.space.Space.alloc_array.Goals.{After-place-array, After-new_unchecked}

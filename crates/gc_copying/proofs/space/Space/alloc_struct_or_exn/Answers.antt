@@ -4,7 +4,7 @@ use Rattle.gc_types.specs.declared.layout.FieldLayout.{FieldLayout}
 use Rattle.gc_types.specs.Layouts.{ref_offsets}
 use Rattle.gc_refs.specs.Header.{IsOfKind}
 use Rattle.gc_heap.specs.Objects.{zeroed}
-use Rattle.gc_heap.specs.References.{struct_spare}
+use Rattle.gc_heap.specs.Rules.{struct_spare}
 use Rattle.gc_heap.specs.Heap.{Allocated, layout_kind}
 use Rattle.gc_copying.specs.States.{seen_in}
 use Rattle.gc_copying.proofs.TraceLemmas.{refs_from, can_allocate_struct}

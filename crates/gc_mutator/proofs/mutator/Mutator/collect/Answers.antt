@@ -1,5 +1,5 @@
 use Rattle.std.proofs.Common.{◌≡◌, ◌-◌, ◌^◌, ℕ, true, refl, min, subst}
-use Rattle.gc_heap.specs.Collection.{Start, Collected, IsIncrements, has_host}
+use Rattle.gc_heap.specs.Collection.{Start, Collected, IsIncrements, has_host, stage}
 use Rattle.gc_heap.specs.Run.{start_at}
 use Rattle.gc_heap.proofs.AgainLemmas.{can_collect_again}
 use Rattle.gc_mutator.specs.Mutators.{MutatorView, start_of}
@@ -9,7 +9,7 @@ use Rattle.gc_mutator.proofs.mutator.Mutator.collect.Goals.{After-begin-state}
 abbrev at_start : (g : _) → After-begin-state g → Start
 at_start g c = start_at (g.H.GcHeap.seen c.self.inside.heap) c.self.inside.roots.roots c.self.inside.types.declarations c.self.inside.hosts.entries
 
-under_way : (g : _) (c : After-begin-state g) → g.H.GcHeap.under_way (at_start g c) 0 true c.self.inside.heap c.begin-state.result c.self.inside.roots.roots c.self.inside.types.declarations (has_host c.self.inside.hosts.entries)
+under_way : (g : _) (c : After-begin-state g) → g.H.GcHeap.under_way (at_start g c) 0 true (stage c.self.inside.heap c.begin-state.result c.self.inside.roots.roots c.self.inside.types.declarations c.self.inside.hosts.entries)
 under_way g c = g.met.H.GcHeap.starts (at_start g c) c.self.inside.heap c.begin-state.result c.self.invariant.sound c.begin-state.ensures.begun refl c.self.invariant.can
 
 pub count_increments-requires : goal.count_increments-requires

@@ -10,6 +10,7 @@ use Rattle.gc_script.specs.Slots.{RunnerView, register_at}
 use Rattle.gc_script.specs.State.{State, HoldsState, Stands}
 use Rattle.gc_script.specs.Built.{is_built_operand}
 use Rattle.gc_script.specs.Steps.{first_failing, struct_value_tests, heap_tests}
+use Rattle.gc_script.specs.Shapes.{shape, new_struct}
 use Rattle.gc_script.specs.Run.{RunsOn}
 use Rattle.gc_script.specs.Values.{AreRegisters, AllHeld, HoldsOperands, HasUnset}
 use Rattle.gc_script.proofs.StandLemmas.{holds_table}
@@ -27,7 +28,7 @@ counted g c =
     ∙ c.in-Some.is
 
 built : (g : given.Over) (c : In-Ok g) → list_all is_built_operand c.args.operands.now ≡ true
-built g c = search
+built g c = c.requires
 
 registers_are : (g : given.Over) (c : In-Ok g) (s : State) → HoldsState g.H.GcHeap.KIND c.args.store.now c.args.self.now s → AreRegisters c.args.store.now c.self.inside.registers s
 registers_are g c s holds d =
@@ -37,7 +38,7 @@ operands_held : (g : given.Over) (c : In-Some-found g) → HoldsOperands c.self.
 operands_held g c = rw c.in-Some-found.is at c.in-Ok.ensures.set
 
 pub returns-in_default-operand_values-clause-runs : goal.returns-in_default-operand_values-clause-runs
-returns-in_default-operand_values-clause-runs g c s holds = wants_nothing _ _ _ s _ _ _ _ holds
+returns-in_default-operand_values-clause-runs g c s holds = record { wants = wants_nothing _ _ _ s _ _ _ _ holds }
 
 pub returns-in_default-found-clause-runs : goal.returns-in_default-found-clause-runs
 returns-in_default-found-clause-runs g c s holds =
@@ -67,7 +68,7 @@ returns-in-Ok-check_values-clause-runs g c s holds =
     subst (λ (rs : List RawValue). AllStand c.args.store.now s.table rs (given_values s c.args.operands.now)) (c.as_slice.ensures.value ∙ sym c.as_slice-in-Ok-check_values.ensures.value) checks.1 in
     new_runs g.H.GcHeap.KIND c.args.store.now.alloc_counter (g.L.ResourceLimiter.limits c.args.limiter.now) c.args.store.now s c.args.d c.args.t c.args.operands.now (holds_table holds.table) (built g at) c.in-Some.count (counted g at)
     c.in-Some-found.values.items held many (g.L.ResourceLimiter.limits c.place_new.new.limiter) c.place_new.result c.place_new.new.store c.place_new.new.self passed
-    (subst (λ (ty : ℕ). RunsOn g.H.GcHeap.KIND c.args.store.now.alloc_counter (g.L.ResourceLimiter.limits c.args.limiter.now) (g.L.ResourceLimiter.limits c.place_new.new.limiter) s (New c.args.d ty c.args.operands.now) (heap_tests g.H.GcHeap.KIND s ty c.args.operands.now) c.place_new.result c.place_new.new.store c.place_new.new.self) c.new-ty.ensures
+    (subst (λ (ty : ℕ). RunsOn g.H.GcHeap.KIND c.args.store.now.alloc_counter (g.L.ResourceLimiter.limits c.args.limiter.now) (g.L.ResourceLimiter.limits c.place_new.new.limiter) s (shape (New c.args.d ty c.args.operands.now)) (heap_tests g.H.GcHeap.KIND s (new_struct s ty c.args.operands.now)) c.place_new.result c.place_new.new.store c.place_new.new.self) c.new-ty.ensures
     (c.place_new.ensures.runs s c.args.operands.now holds stand))
 
 pub returns-clause-runs : goal.returns-clause-runs

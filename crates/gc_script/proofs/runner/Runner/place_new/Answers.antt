@@ -1,5 +1,7 @@
 use Rattle.std.proofs.Common.{◌≡◌, refl, ℕ, List, ap, ◌∙◌, subst}
 use Rattle.std.specs.Prelude.{Result, Ok, Err}
+use Rattle.gc_model.specs.declared.GcClass.TheVariants as class
+use Rattle.gc_model.specs.Values.{Object}
 use Rattle.gc_store.specs.declared.root.GcRootIndex.{GcRootIndex}
 use Rattle.gc_store.specs.declared.store.PlaceFault.{PlaceFault}
 use Rattle.gc_store.specs.declared.store.PlaceFault.TheVariants as fault
@@ -10,7 +12,7 @@ use Rattle.gc_script.specs.declared.runner.RunError.TheVariants as error
 use Rattle.gc_script.specs.Given.{given_values}
 use Rattle.gc_script.specs.Slots.{RunnerView, register_at}
 use Rattle.gc_script.specs.State.{State, HoldsState}
-use Rattle.gc_script.specs.Steps.{new_struct}
+use Rattle.gc_script.specs.Shapes.{new_struct}
 use Rattle.gc_script.specs.Policy.{policy_of}
 use Rattle.gc_script.proofs.StandLemmas.{same_store, holds_same}
 use Rattle.gc_script.proofs.GoesLemmas.{wants_nothing}
@@ -18,6 +20,10 @@ use Rattle.gc_script.proofs.PlaceLemmas.{placed, refused_large, refused_full, la
 use Rattle.gc_script.proofs.runner.Runner.place_new.Given as given
 use Rattle.gc_script.proofs.runner.Runner.place_new.Goals as goal
 use Rattle.gc_script.proofs.runner.Runner.place_new.Goals.{After-place}
+
+-- the object that is made
+abbrev made_by : ℕ → List Operand → State → Object ℕ
+made_by ty vs s = new_struct s ty vs
 
 -- the registers are those of before
 slots_are : (g : given.Over) (c : After-place g) (k : ℕ) → register_at c.make_room.new.self k ≡ register_at c.args.self.now.registers k
@@ -39,7 +45,7 @@ returns-then-is_err-clause-runs g c s vs holds stand =
 pub returns-in-Ok-clause-runs : goal.returns-in-Ok-clause-runs
 returns-in-Ok-clause-runs g c s vs holds stand =
     let at = (goal.at.returns-in-Ok-clause-runs g c).After-place in
-    placed _ _ _ _ c.args.store.now _ c.args.self.now _ s c.args.d c.args.ty vs c.place.ensures.same holds (ap (λ (r : RunnerView). r.marks) c.self.view_is)
+    placed _ _ _ _ c.args.store.now _ c.args.self.now _ s c.args.d class.Any (made_by c.args.ty vs) c.place.ensures.same holds (ap (λ (r : RunnerView). r.marks) c.self.view_is)
     c.in-Ok.handle (places_as g at s vs (Ok c.in-Ok.handle) c.in-Ok.is holds stand)
     c.set.ensures.set
     (λ k other. c.set.ensures.others k other ∙ slots_are g at k)
@@ -47,19 +53,19 @@ returns-in-Ok-clause-runs g c s vs holds stand =
 pub returns-in-Err-TooLarge-clause-runs : goal.returns-in-Err-TooLarge-clause-runs
 returns-in-Err-TooLarge-clause-runs g c s vs holds stand =
     let at = (goal.at.returns-in-Err-TooLarge-clause-runs g c).After-place in
-    refused_large _ _ _ _ c.args.store.now _ c.args.self.now _ s c.args.d c.args.ty vs c.place.ensures.same holds (ap (λ (r : RunnerView). r.marks) c.self.view_is) (slots_are g at)
+    refused_large _ _ _ _ c.args.store.now _ c.args.self.now _ s c.args.d class.Any (made_by c.args.ty vs) c.place.ensures.same holds (ap (λ (r : RunnerView). r.marks) c.self.view_is) (slots_are g at)
     (places_as g at s vs (Err fault.TooLarge) (c.in-Err-TooLarge.is ∙ ap Err c.in-Err-TooLarge.field-0-is) holds stand)
 
 pub returns-in-Err-RootsFull-clause-runs : goal.returns-in-Err-RootsFull-clause-runs
 returns-in-Err-RootsFull-clause-runs g c s vs holds stand =
     let at = (goal.at.returns-in-Err-RootsFull-clause-runs g c).After-place in
-    refused_full _ _ _ _ c.args.store.now _ c.args.self.now _ s c.args.d c.args.ty vs c.place.ensures.same holds (ap (λ (r : RunnerView). r.marks) c.self.view_is) (slots_are g at)
+    refused_full _ _ _ _ c.args.store.now _ c.args.self.now _ s c.args.d class.Any (made_by c.args.ty vs) c.place.ensures.same holds (ap (λ (r : RunnerView). r.marks) c.self.view_is) (slots_are g at)
     (places_as g at s vs (Err fault.RootsFull) (c.in-Err-RootsFull.is ∙ ap Err c.in-Err-RootsFull.field-0-is) holds stand)
 
 pub returns-in-Err-HeapOutOfMemory-clause-runs : goal.returns-in-Err-HeapOutOfMemory-clause-runs
 returns-in-Err-HeapOutOfMemory-clause-runs g c s vs holds stand =
     let at = (goal.at.returns-in-Err-HeapOutOfMemory-clause-runs g c).After-place in
-    lacked _ _ _ _ c.args.store.now _ c.args.self.now _ s c.args.d c.args.ty vs c.place.ensures.same holds (ap (λ (r : RunnerView). r.marks) c.self.view_is) (slots_are g at)
+    lacked _ _ _ _ c.args.store.now _ c.args.self.now _ s c.args.d class.Any (made_by c.args.ty vs) c.place.ensures.same holds (ap (λ (r : RunnerView). r.marks) c.self.view_is) (slots_are g at)
     c.in-Err-HeapOutOfMemory.field-0-0.bytes_needed
     (places_as g at s vs (Err (fault.HeapOutOfMemory c.in-Err-HeapOutOfMemory.field-0-0)) (c.in-Err-HeapOutOfMemory.is ∙ ap Err c.in-Err-HeapOutOfMemory.field-0-is) holds stand)
 
@@ -70,5 +76,5 @@ returns-in-Err-FuncTableFull-clause-runs g c s vs holds stand =
 pub returns-in-Err-Memory-clause-runs : goal.returns-in-Err-Memory-clause-runs
 returns-in-Err-Memory-clause-runs g c s vs holds stand =
     let at = (goal.at.returns-in-Err-Memory-clause-runs g c).After-place in
-    unplaced _ _ _ _ c.args.store.now _ c.args.self.now _ s c.args.d c.args.ty vs c.place.ensures.same holds (ap (λ (r : RunnerView). r.marks) c.self.view_is) (slots_are g at) error.OutOfMemory
+    unplaced _ _ _ _ c.args.store.now _ c.args.self.now _ s c.args.d class.Any (made_by c.args.ty vs) c.place.ensures.same holds (ap (λ (r : RunnerView). r.marks) c.self.view_is) (slots_are g at) error.OutOfMemory
     (places_as g at s vs (Err fault.Memory) (c.in-Err-Memory.is ∙ ap Err c.in-Err-Memory.field-0-is) holds stand)

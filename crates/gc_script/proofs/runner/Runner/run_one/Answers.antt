@@ -1,18 +1,21 @@
-use Rattle.std.proofs.Common.{sym, subst, List}
+use Rattle.std.proofs.Common.{sym, ◌∙◌, subst, List}
 use Rattle.std.specs.Prelude.{Ok}
 use Rattle.gc_commands.specs.declared.command.Command.{Command}
 use Rattle.gc_commands.specs.declared.command.Command.TheVariants as command
 use Rattle.gc_commands.specs.declared.command.FieldWord.{FieldWord}
-use Rattle.gc_script.specs.Steps.{tests}
 use Rattle.gc_script.specs.Run.{GoesOn, RunsOne}
-use Rattle.gc_script.proofs.GoesLemmas.{runs_as}
+use Rattle.gc_script.proofs.GoesLemmas.{unbuilt_runs, runs_as}
 use Rattle.gc_script.proofs.runner.Runner.run_one.Goals as goal
+
+pub returns-then-not-is_built-clause-runs : goal.returns-then-not-is_built-clause-runs
+returns-then-not-is_built-clause-runs g c s holds =
+    unbuilt_runs g.H.GcHeap.KIND c.args.store.now.alloc_counter (g.L.ResourceLimiter.limits c.args.limiter.now) s c.args.command.now c.args.store.now c.args.self.now holds (sym c.is_built.ensures ∙ c.if-not-is_built.true)
 
 pub returns-in-Struct-clause-runs : goal.returns-in-Struct-clause-runs
 returns-in-Struct-clause-runs g c s holds =
     let goes = c.declare_struct.ensures.goes s holds in
     runs_as g.H.GcHeap.KIND c.args.store.now.alloc_counter (g.L.ResourceLimiter.limits c.args.limiter.now) s c.args.command.now (command.Struct c.in-Struct.is_final c.in-Struct.supertype c.in-Struct.fields) c.declare_struct.result c.declare_struct.new.store c.args.self.now c.in-Struct.is tt
-    (subst (λ (fs : List FieldWord). GoesOn g.H.GcHeap.KIND s (command.Struct c.in-Struct.is_final c.in-Struct.supertype fs) (tests g.H.GcHeap.KIND s (command.Struct c.in-Struct.is_final c.in-Struct.supertype fs)) c.declare_struct.result c.declare_struct.new.store c.args.self.now) c.as_slice.ensures goes)
+    (subst (λ (fs : List FieldWord). GoesOn g.H.GcHeap.KIND s (command.Struct c.in-Struct.is_final c.in-Struct.supertype fs) c.declare_struct.result c.declare_struct.new.store c.args.self.now) c.as_slice.ensures goes)
 
 pub returns-in-I31-clause-runs : goal.returns-in-I31-clause-runs
 returns-in-I31-clause-runs g c s holds =
@@ -24,7 +27,7 @@ returns-in-Field-clause-runs g c s holds =
 
 pub returns-in-SetField-clause-runs : goal.returns-in-SetField-clause-runs
 returns-in-SetField-clause-runs g c s holds =
-    runs_as g.H.GcHeap.KIND c.args.store.now.alloc_counter (g.L.ResourceLimiter.limits c.args.limiter.now) s c.args.command.now (command.SetField c.in-SetField.r c.in-SetField.i c.in-SetField.value) c.write_field.result c.write_field.new.store c.write_field.new.self c.in-SetField.is tt (c.write_field.ensures.goes s holds)
+    runs_as g.H.GcHeap.KIND c.args.store.now.alloc_counter (g.L.ResourceLimiter.limits c.args.limiter.now) s c.args.command.now (command.SetField c.in-SetField.r c.in-SetField.i c.in-SetField.value) (Ok c.write_field.result) c.write_field.new.store c.args.self.now c.in-SetField.is tt (c.write_field.ensures.goes s holds)
 
 pub returns-in-Eq-clause-runs : goal.returns-in-Eq-clause-runs
 returns-in-Eq-clause-runs g c s holds =

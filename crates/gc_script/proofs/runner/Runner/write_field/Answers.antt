@@ -1,4 +1,4 @@
-use Rattle.std.proofs.Common.{◌≡◌, true, false, Option, Some, sym, ◌∙◌, subst}
+use Rattle.std.proofs.Common.{◌≡◌, true, false, Option, Some, sym, subst}
 use Rattle.gc_store.specs.declared.root.RawValue.{RawValue}
 use Rattle.gc_script.specs.Slots.{RunnerView, register_at}
 use Rattle.gc_script.specs.State.{State, HoldsState, Stands}
@@ -13,7 +13,7 @@ use Rattle.gc_script.proofs.runner.Runner.write_field.Goals as goal
 use Rattle.gc_script.proofs.runner.Runner.write_field.Goals.{After-operand_value, In-Some-operand_value}
 
 built : (g : given.Over) (c : After-operand_value g) → is_built_operand c.args.operand.now ≡ true
-built g c = sym c.is_built_operand.ensures ∙ c.if-not-is_built_operand.false
+built g c = c.requires
 
 -- the registers are those of the state
 are_registers : (g : given.Over) (c : After-operand_value g) (s : State) → HoldsState g.H.GcHeap.KIND c.args.store.now c.args.self.now s → AreRegisters c.args.store.now c.self.inside.registers s

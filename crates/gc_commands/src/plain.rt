@@ -1,0 +1,181 @@
+//! Reads the commands of numbers, registers and single operands.
+
+ghost use Rattle.std.specs.Prelude.{◌≡◌, []};
+ghost use Rattle.gc_commands.specs.declared.form.Form.TheVariants as form;
+ghost use Rattle.gc_commands.specs.Reading.{Reads};
+ghost use Rattle.gc_commands.specs.Spelling.{IsOf, operands_of};
+
+use crate::command::Command;
+use crate::parts::{
+    read_end, read_last_register, read_last_u64, read_place, read_register_and_number,
+    read_register_and_wide, read_registers, read_write,
+};
+use crate::words::Words;
+
+/// The words behind `host`: a register and a number.
+pub(crate) fn read_host(words: &mut Words) -> Option<Command>
+    ensures { Reads (IsOf form.Host) operands_of words.old result }
+{
+    let (d, n) = read_register_and_wide(words)?;
+    Some(Command::Host { d, n })
+}
+
+/// The words behind `i31`: a register and a number.
+pub(crate) fn read_i31(words: &mut Words) -> Option<Command>
+    ensures { Reads (IsOf form.I31) operands_of words.old result }
+{
+    let (d, n) = read_register_and_number(words)?;
+    Some(Command::I31 { d, n })
+}
+
+/// The words behind `field`: a register, an index, and where the value goes.
+pub(crate) fn read_field(words: &mut Words) -> Option<Command>
+    ensures { Reads (IsOf form.Field) operands_of words.old result }
+{
+    let (r, i, into) = read_place(words)?;
+    Some(Command::Field { r, i, into })
+}
+
+/// The words behind `elem`: a register, an index, and where the value goes.
+pub(crate) fn read_elem(words: &mut Words) -> Option<Command>
+    ensures { Reads (IsOf form.Elem) operands_of words.old result }
+{
+    let (r, i, into) = read_place(words)?;
+    Some(Command::Elem { r, i, into })
+}
+
+/// The words behind `setf`: a register, an index and an operand.
+pub(crate) fn read_set_field(words: &mut Words) -> Option<Command>
+    ensures { Reads (IsOf form.SetField) operands_of words.old result }
+{
+    let (r, i, value) = read_write(words)?;
+    Some(Command::SetField { r, i, value })
+}
+
+/// The words behind `sete`: a register, an index and an operand.
+pub(crate) fn read_set_elem(words: &mut Words) -> Option<Command>
+    ensures { Reads (IsOf form.SetElem) operands_of words.old result }
+{
+    let (r, i, value) = read_write(words)?;
+    Some(Command::SetElem { r, i, value })
+}
+
+/// The words behind `grow`: a number.
+pub(crate) fn read_grow(words: &mut Words) -> Option<Command>
+    ensures { Reads (IsOf form.Grow) operands_of words.old result }
+{
+    let n = read_last_u64(words)?;
+    Some(Command::Grow { n })
+}
+
+/// The words behind `len`: a register.
+pub(crate) fn read_len(words: &mut Words) -> Option<Command>
+    ensures { Reads (IsOf form.Len) operands_of words.old result }
+{
+    let r = read_last_register(words)?;
+    Some(Command::Len { r })
+}
+
+/// The words behind `data`: a register.
+pub(crate) fn read_host_number(words: &mut Words) -> Option<Command>
+    ensures { Reads (IsOf form.HostNumber) operands_of words.old result }
+{
+    let r = read_last_register(words)?;
+    Some(Command::HostNumber { r })
+}
+
+/// The words behind `push`: a number of slots.
+pub(crate) fn read_push(words: &mut Words) -> Option<Command>
+    ensures { Reads (IsOf form.Push) operands_of words.old result }
+{
+    let slots = read_last_register(words)?;
+    Some(Command::Push { slots })
+}
+
+/// The words behind `unroot`: an owned register.
+pub(crate) fn read_unroot(words: &mut Words) -> Option<Command>
+    ensures { Reads (IsOf form.Unroot) operands_of words.old result }
+{
+    let o = read_last_register(words)?;
+    Some(Command::Unroot { o })
+}
+
+/// The words behind `throw`: a register.
+pub(crate) fn read_throw(words: &mut Words) -> Option<Command>
+    ensures { Reads (IsOf form.Throw) operands_of words.old result }
+{
+    let r = read_last_register(words)?;
+    Some(Command::Throw { r })
+}
+
+/// The words behind `take`: a register.
+pub(crate) fn read_take(words: &mut Words) -> Option<Command>
+    ensures { Reads (IsOf form.Take) operands_of words.old result }
+{
+    let d = read_last_register(words)?;
+    Some(Command::Take { d })
+}
+
+/// The words behind `eq`: two registers.
+pub(crate) fn read_eq(words: &mut Words) -> Option<Command>
+    ensures { Reads (IsOf form.Eq) operands_of words.old result }
+{
+    let (r, s) = read_registers(words)?;
+    Some(Command::Eq { r, s })
+}
+
+/// The words behind `store`: a slot and a register.
+pub(crate) fn read_store(words: &mut Words) -> Option<Command>
+    ensures { Reads (IsOf form.Store) operands_of words.old result }
+{
+    let (k, r) = read_registers(words)?;
+    Some(Command::Store { k, r })
+}
+
+/// The words behind `load`: a slot and a register.
+pub(crate) fn read_load(words: &mut Words) -> Option<Command>
+    ensures { Reads (IsOf form.Load) operands_of words.old result }
+{
+    let (k, d) = read_registers(words)?;
+    Some(Command::Load { k, d })
+}
+
+/// The words behind `gset`: a global and a register.
+pub(crate) fn read_set_global(words: &mut Words) -> Option<Command>
+    ensures { Reads (IsOf form.SetGlobal) operands_of words.old result }
+{
+    let (g, r) = read_registers(words)?;
+    Some(Command::SetGlobal { g, r })
+}
+
+/// The words behind `gget`: a global and a register.
+pub(crate) fn read_get_global(words: &mut Words) -> Option<Command>
+    ensures { Reads (IsOf form.GetGlobal) operands_of words.old result }
+{
+    let (g, d) = read_registers(words)?;
+    Some(Command::GetGlobal { g, d })
+}
+
+/// The words behind `own`: an owned register and a register.
+pub(crate) fn read_own(words: &mut Words) -> Option<Command>
+    ensures { Reads (IsOf form.Own) operands_of words.old result }
+{
+    let (o, r) = read_registers(words)?;
+    Some(Command::Own { o, r })
+}
+
+/// The words behind `root`: a register and an owned register.
+pub(crate) fn read_root(words: &mut Words) -> Option<Command>
+    ensures { Reads (IsOf form.Root) operands_of words.old result }
+{
+    let (d, o) = read_registers(words)?;
+    Some(Command::Root { d, o })
+}
+
+/// A command behind whose name no word stands.
+pub(crate) fn read_alone(words: &mut Words, command: Command) -> Option<Command>
+    ensures { Reads (λ c. c ≡ command) (λ c. []) words.old result }
+{
+    read_end(words)?;
+    Some(command)
+}

@@ -1,0 +1,94 @@
+//! Words that spell types of values and fields.
+
+ghost use Rattle.gc_commands.specs.Reading.{Reads};
+ghost use Rattle.gc_commands.specs.Spelling.{FitsField, FitsHeap, FitsNamed, FitsReference, FitsStorage, FitsValue};
+ghost use Rattle.gc_commands.specs.Words.{field_text, heap_text, storage_text, value_text};
+
+use crate::command::{FieldWord, HeapWord, StorageWord, ValueWord};
+use crate::numbers::type_of;
+
+/// The field that a word spells.
+pub(crate) fn field_of(word: &str) -> Option<FieldWord>
+    ensures { Reads FitsField field_text word.now result }
+{
+    if let Some(name) = word.strip_prefix("m:") {
+        let storage = storage_of(name)?;
+        return Some(FieldWord {
+            mutable: true,
+            storage,
+        });
+    }
+    let storage = storage_of(word.strip_prefix("c:")?)?;
+    Some(FieldWord {
+        mutable: false,
+        storage,
+    })
+}
+
+/// The storage type that a word spells.
+fn storage_of(word: &str) -> Option<StorageWord>
+    ensures { Reads FitsStorage storage_text word.now result }
+{
+    match word {
+        "i8" => Some(StorageWord::I8),
+        "i16" => Some(StorageWord::I16),
+        _ => Some(StorageWord::Value(value_of(word)?)),
+    }
+}
+
+/// The value type that a word spells.
+pub(crate) fn value_of(word: &str) -> Option<ValueWord>
+    ensures { Reads FitsValue value_text word.now result }
+{
+    match word {
+        "i32" => Some(ValueWord::I32),
+        "i64" => Some(ValueWord::I64),
+        "f32" => Some(ValueWord::F32),
+        "f64" => Some(ValueWord::F64),
+        "v128" => Some(ValueWord::V128),
+        _ => reference_of(word),
+    }
+}
+
+/// The type of references that a word spells: with a mark behind it where none of them is null.
+fn reference_of(word: &str) -> Option<ValueWord>
+    ensures { Reads FitsReference value_text word.now result }
+{
+    match word.strip_suffix('!') {
+        Some(name) => Some(ValueWord::Ref {
+            heap: heap_of(name)?,
+            nullable: false,
+        }),
+        None => Some(ValueWord::Ref {
+            heap: heap_of(word)?,
+            nullable: true,
+        }),
+    }
+}
+
+/// The heap type that a word spells.
+fn heap_of(word: &str) -> Option<HeapWord>
+    ensures { Reads FitsHeap heap_text word.now result }
+{
+    match word {
+        "any" => Some(HeapWord::Any),
+        "eq" => Some(HeapWord::Eq),
+        "i31" => Some(HeapWord::I31),
+        "struct" => Some(HeapWord::Struct),
+        "array" => Some(HeapWord::Array),
+        "none" => Some(HeapWord::None),
+        "extern" => Some(HeapWord::Extern),
+        "noextern" => Some(HeapWord::NoExtern),
+        "exn" => Some(HeapWord::Exn),
+        "noexn" => Some(HeapWord::NoExn),
+        _ => named_of(word),
+    }
+}
+
+/// The heap type that `t` and the index of a type spell.
+fn named_of(word: &str) -> Option<HeapWord>
+    ensures { Reads FitsNamed heap_text word.now result }
+{
+    let t = type_of(word.strip_prefix('t')?)?;
+    Some(HeapWord::Named(t))
+}

@@ -1,0 +1,11 @@
+pub mod RowLemmas
+pub mod LimitLaws
+pub mod RefusalLaws
+pub mod SumLemmas
+pub mod StepLaws
+pub mod RunLaws
+pub mod RetryLaws
+pub mod GrowthLaws
+pub mod PolicyLaws
+pub mod PolicyRuns
+pub mod SessionLaws

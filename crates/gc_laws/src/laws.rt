@@ -1,0 +1,48 @@
+//! Laws of sessions.
+
+ghost use Rattle.std.specs.Prelude.{◌≡◌, ℕ, List, Option, Some};
+ghost use Rattle.gc_types.specs.declared.kind.Layouts.{Layouts};
+ghost use Rattle.gc_types.specs.declared.kind.Layouts.TheVariants.{Null, Copying};
+ghost use Rattle.gc_model.specs.Table.{Table};
+ghost use Rattle.gc_model.specs.Allocation.{Limits};
+ghost use Rattle.gc_commands.specs.declared.command.Command.{Command};
+ghost use Rattle.gc_commands.specs.declared.reply.Reply.{Reply};
+ghost use Rattle.gc_script.specs.State.{State};
+ghost use Rattle.gc_script.specs.Run.{Run};
+ghost use Rattle.gc_script.specs.Policy.{RunByPolicy};
+ghost use Rattle.gc_laws.specs.Laws.{NoneRefused, SameReplies};
+ghost use Rattle.gc_script.specs.Session.{Session};
+ghost use Rattle.gc_laws.specs.Rows.{one_struct, one_struct_replies};
+
+/// Three lines that make a struct and read its field are a session of a null heap of one page, whose
+/// output is their three replies, and no other output is.
+pub fn one_struct_session()
+    ensures replies { (t : Table ℕ) × Session Null 1 64 one_struct one_struct_replies t }
+    ensures alone { (output : List ℕ) (t : Table ℕ) → Session Null 1 64 one_struct output t → output ≡ one_struct_replies }
+{}
+
+/// The policy decides: two runs of one script from one state over a copying heap, which both follow the
+/// policy of growth under a limit that is told, have the same replies, those of `cap` among them.
+pub fn policy_decides_replies()
+    ensures { (counter : Option ℕ) (limits limits1 limits2 : Limits) (most : ℕ) (s s1 s2 : State) (cs : List Command) (rs1 rs2 : List Reply)
+        → limits.limit ≡ Some most → RunByPolicy Copying counter s limits cs rs1 s1 limits1 → RunByPolicy Copying counter s limits cs rs2 s2 limits2 → rs1 ≡ rs2 }
+{}
+
+/// So the output of a session over a copying heap, with the replies of `cap`, is a function of the words
+/// and the input.
+pub fn copying_output_is_decided()
+    ensures { (first most : ℕ) (input output output' : List ℕ) (t t' : Table ℕ) → Session Copying first most input output t → Session Copying first most input output' t' → output ≡ output' }
+{}
+
+/// A run by the policy is a run.
+pub fn runs_by_policy_are_runs()
+    ensures { (layouts : Layouts) (counter : Option ℕ) (limits limits' : Limits) (s s' : State) (cs : List Command) (rs : List Reply)
+        → RunByPolicy layouts counter s limits cs rs s' limits' → Run layouts limits.limit s cs rs s' }
+{}
+
+/// The steps decide but for the pages: two runs of one script from one state in which no heap was refused
+/// pages have the same replies but for those of `cap`, whether or not they follow the policy.
+pub fn steps_decide_replies()
+    ensures { (layouts : Layouts) (limit : Option ℕ) (s s1 s2 : State) (cs : List Command) (rs1 rs2 : List Reply)
+        → Run layouts limit s cs rs1 s1 → Run layouts limit s cs rs2 s2 → NoneRefused rs1 → NoneRefused rs2 → SameReplies cs rs1 rs2 }
+{}

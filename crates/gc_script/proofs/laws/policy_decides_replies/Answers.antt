@@ -1,5 +1,0 @@
-use Rattle.gc_script.proofs.PolicyLaws.{policy_decides}
-use Rattle.gc_script.proofs.laws.policy_decides_replies.Goals as goal
-
-pub returns : goal.returns
-returns c = policy_decides

@@ -1,0 +1,133 @@
+-- What commands do, and the shapes in which they do it.
+use Rattle.std.specs.Prelude.{ℕ, ◌-◌, ◌%◌, ◌^◌, List, [], ◌∷◌, ◌++◌, Option, Some, None, length, get_or, take, slice_get, unwrap_or}
+use Rattle.std.specs.Int.{w32, w64, cast_signed}
+use Rattle.gc_types.specs.Declarations.{Declaration}
+use Rattle.gc_model.specs.declared.GcClass.{GcClass}
+use Rattle.gc_model.specs.declared.GcClass.TheVariants as class
+use Rattle.gc_model.specs.Values.{Reference, null, small, at, Value, numeric, i32, i64, f32, f64, v128, function, Object, struct, array, host, exception}
+use Rattle.gc_model.specs.Values as values
+use Rattle.gc_model.specs.Table.{Table, push, leave, write}
+use Rattle.gc_model.specs.Reads.{after_read, same_reference}
+use Rattle.gc_commands.specs.declared.command.Command.{Command}
+use Rattle.gc_commands.specs.declared.command.Command.TheVariants.{Struct, New, I31, Field, SetField, Eq, Enter, Leave, Gc, Grow, Cap}
+use Rattle.gc_commands.specs.declared.command.Operand.{Operand}
+use Rattle.gc_commands.specs.declared.reply.Reply.{Reply}
+use Rattle.gc_commands.specs.declared.reply.Reply.TheVariants as reply
+use Rattle.gc_commands.specs.declared.reply.ReplyValue.{ReplyValue}
+use Rattle.gc_commands.specs.declared.reply.ReplyValue.TheVariants as reply_value
+use Rattle.gc_commands.specs.declared.reply.Refusal.TheVariants as refusal
+use Rattle.gc_script.specs.State.{State, Held, number, reference, with_table, with_marks, set_register, put_into}
+use Rattle.gc_script.specs.Built.{built_struct}
+use Rattle.gc_script.specs.Given.{given, given_value, given_values, named, Target, target, target_values}
+
+-- the object that `new` makes
+abbrev pub new_struct : State → ℕ → List Operand → Object ℕ
+new_struct s t vs = struct t (given_values s vs)
+
+abbrev pub shown_object : Option (Object ℕ) → ReplyValue
+shown_object None = reply_value.Null
+shown_object (Some (struct ty vs)) = reply_value.Struct ty
+shown_object (Some (array ty vs)) = reply_value.Array ty
+shown_object (Some (host v)) = reply_value.Host
+shown_object (Some (exception ty tag vs)) = reply_value.Exn ty tag.index
+
+-- a value as a reply shows it
+abbrev pub shown_among : List (Object ℕ) → Value → ReplyValue
+shown_among objects (numeric i32 n) = reply_value.I32 (cast_signed w32 n)
+shown_among objects (numeric i64 n) = reply_value.I64 (cast_signed w64 n)
+shown_among objects (numeric f32 n) = reply_value.F32 n
+shown_among objects (numeric f64 n) = reply_value.F64 n
+shown_among objects (numeric v128 n) = reply_value.V128 n
+shown_among objects (function f) = reply_value.Null
+shown_among objects (values.reference c null) = reply_value.Null
+shown_among objects (values.reference c (small n)) = reply_value.I31 n
+shown_among objects (values.reference c (at p)) = shown_object (slice_get objects p)
+
+abbrev pub shown : Table ℕ → Value → ReplyValue
+shown t v = shown_among t.objects v
+
+-- what a register holds of a value that was read: a reference by its new root, whose serial is the next one
+abbrev pub held_next : ℕ → Value → Held
+held_next serial (numeric kind n) = number (numeric kind n)
+held_next serial (function f) = number (function f)
+held_next serial (values.reference c null) = reference c None
+held_next serial (values.reference c (small n)) = reference c (Some serial)
+held_next serial (values.reference c (at p)) = reference c (Some serial)
+
+abbrev pub held_value : Table ℕ → Value → Held
+held_value t v = held_next (length t.pushes) v
+
+-- What plain commands answer and leave of a state as it is seen. Their tests come first; where these exclude a case, it
+-- has a default.
+
+-- a 31-bit number is made, and put into a register
+abbrev pub makes_small : ℕ → ℕ → State → Reply × State
+makes_small d n s = (reply.Done, set_register d (reference class.Any (Some (length s.table.pushes))) (with_table (push (small (n % 2 ^ 31)) s.table) s))
+
+-- a value is read, and put into a register where one is named
+abbrev pub reads : Value → Option ℕ → State → Reply × State
+reads v into s = (reply.Value (shown s.table v), put_into into (held_value s.table v) (with_table (after_read v s.table) s))
+
+-- the value of a field of what a register names
+abbrev pub field_value : State → ℕ → ℕ → Value
+field_value s r i = unwrap_or (slice_get (target_values (target s r)) i) (values.reference class.Any null)
+
+abbrev pub reads_field : ℕ → ℕ → Option ℕ → State → Reply × State
+reads_field r i into s = reads (field_value s r i) into s
+
+-- a value of a struct is written
+abbrev pub write_target : Option Target → ℕ → Value → Table ℕ → Table ℕ
+write_target None i v t = t
+write_target (Some found) i v t = write found.position i v t
+
+abbrev pub writes_field : ℕ → ℕ → Operand → State → Reply × State
+writes_field r i v s = (reply.Done, with_table (write_target (target s r) i (given_value (given s v)) s.table) s)
+
+-- what two registers name is compared
+abbrev pub compares : ℕ → ℕ → State → Reply × State
+compares r q s = (reply.Same (same_reference (unwrap_or (named s r) null) (unwrap_or (named s q) null)), s)
+
+-- a scope is entered
+abbrev pub enters : State → Reply × State
+enters s = (reply.Done, with_marks (s.marks ++ length s.table.scoped ∷ []) s)
+
+-- the newest scope mark, and those before it
+abbrev pub newest : List ℕ → ℕ
+newest marks = get_or marks (length marks - 1) 0
+
+abbrev pub older : List ℕ → List ℕ
+older marks = take (length marks - 1) marks
+
+-- the newest scope is left
+abbrev pub leaves : State → Reply × State
+leaves s = (reply.Done, with_marks (older s.marks) (with_table (leave (newest s.marks) s.table) s))
+
+-- What a command does, in so far as heap and limiter have to do with it:
+-- `plain` answers and leaves what the function says of what is visible of the state, and nothing hidden changes;
+-- `declaring` declares a type;
+-- `making` makes an object, told by what is visible, and puts it into a register with a class;
+-- `growing` lets the heap grow by so many bytes;
+-- `collecting` collects, and tells what the heap holds;
+-- `showing` tells the heap's pages.
+pub data Shape : Type 0 where
+  plain : (State → Reply × State) → Shape
+  declaring : Declaration → Shape
+  making : ℕ → GcClass → (State → Object ℕ) → Shape
+  growing : ℕ → Shape
+  collecting : Shape
+  showing : Shape
+
+-- the shape of a command; one that is not built is never run
+abbrev pub shape : Command → Shape
+shape (Struct is_final supertype fs) = declaring (built_struct fs)
+shape (New d t vs) = making d class.Any (λ (s : State). new_struct s t vs)
+shape (I31 d n) = plain (makes_small d n)
+shape (Field r i into) = plain (reads_field r i into)
+shape (SetField r i v) = plain (writes_field r i v)
+shape (Eq r q) = plain (compares r q)
+shape Enter = plain enters
+shape Leave = plain leaves
+shape Gc = collecting
+shape (Grow n) = growing n
+shape Cap = showing
+shape _ = plain (λ (s : State). (reply.Refused refusal.BadLine, s))

@@ -1,0 +1,22 @@
+//! Why cases can't be run.
+
+use gc_types::TypeFault;
+use std::alloc::AllocError;
+use std::io;
+use std::num::ParseIntError;
+use thiserror::Error;
+
+/// Why cases can't be run.
+#[derive(Debug, Drop, Error)]
+pub(crate) enum CaseFault {
+    #[error("a line is no case")]
+    BadCase,
+    #[error("bad number: {0}")]
+    BadNumber(#[from] ParseIntError),
+    #[error(transparent)]
+    Types(#[from] TypeFault),
+    #[error(transparent)]
+    File(#[from] io::Error),
+    #[error(transparent)]
+    Memory(#[from(alloc)] AllocError),
+}

@@ -1,0 +1,154 @@
+//! Reads the words of a case.
+
+use crate::fault::CaseFault;
+use gc_types::{
+    FieldType, HeapType, Mutability, RefType, StorageType, VMGcKind, VMSharedTypeIndex, ValType,
+};
+use std::alloc::Global;
+
+/// The index that a word is.
+pub(crate) fn index_of(word: &str) -> Result<VMSharedTypeIndex, CaseFault> {
+    let bits: u32 = word.parse()?;
+    Ok(VMSharedTypeIndex::new(bits))
+}
+
+/// The supertype that a word names, which is none or an index.
+pub(crate) fn supertype_of(word: &str) -> Result<Option<VMSharedTypeIndex>, CaseFault> {
+    match word {
+        "none" => Ok(None),
+        _ => Ok(Some(index_of(word)?)),
+    }
+}
+
+/// Whether a word says that no type may extend the one that is declared.
+pub(crate) fn finality_of(word: &str) -> Result<bool, CaseFault> {
+    match word {
+        "open" => Ok(false),
+        "final" => Ok(true),
+        _ => Err(CaseFault::BadCase),
+    }
+}
+
+/// The heap type that a word is.
+pub(crate) fn heap_type_of(word: &str) -> Result<HeapType, CaseFault> {
+    match word {
+        "any" => Ok(HeapType::Any),
+        "eq" => Ok(HeapType::Eq),
+        "i31" => Ok(HeapType::I31),
+        "struct" => Ok(HeapType::Struct),
+        "array" => Ok(HeapType::Array),
+        "none" => Ok(HeapType::None),
+        "extern" => Ok(HeapType::Extern),
+        "noextern" => Ok(HeapType::NoExtern),
+        "func" => Ok(HeapType::Func),
+        "nofunc" => Ok(HeapType::NoFunc),
+        "exn" => Ok(HeapType::Exn),
+        "noexn" => Ok(HeapType::NoExn),
+        "cont" => Ok(HeapType::Cont),
+        "nocont" => Ok(HeapType::NoCont),
+        _ => concrete_of(word),
+    }
+}
+
+/// The heap type of a declared type that a word is.
+fn concrete_of(word: &str) -> Result<HeapType, CaseFault> {
+    let (kind, index) = word.split_once(':').ok_or(CaseFault::BadCase)?;
+    let ty = index_of(index)?;
+    match kind {
+        "struct" => Ok(HeapType::ConcreteStruct(ty)),
+        "array" => Ok(HeapType::ConcreteArray(ty)),
+        "func" => Ok(HeapType::ConcreteFunc(ty)),
+        "exn" => Ok(HeapType::ConcreteExn(ty)),
+        _ => Err(CaseFault::BadCase),
+    }
+}
+
+/// The reference type that a word is.
+pub(crate) fn ref_type_of(word: &str) -> Result<RefType, CaseFault> {
+    let (nullable, name) = match word.strip_prefix('?') {
+        Some(name) => (true, name),
+        None => (false, word),
+    };
+    let heap_type = heap_type_of(name)?;
+    Ok(RefType {
+        nullable,
+        heap_type,
+    })
+}
+
+/// The value type that a word is.
+pub(crate) fn value_of(word: &str) -> Result<ValType, CaseFault> {
+    match word {
+        "i32" => Ok(ValType::I32),
+        "i64" => Ok(ValType::I64),
+        "f32" => Ok(ValType::F32),
+        "f64" => Ok(ValType::F64),
+        "v128" => Ok(ValType::V128),
+        _ => Ok(ValType::Ref(ref_type_of(word)?)),
+    }
+}
+
+/// The storage type that a word is.
+pub(crate) fn storage_of(word: &str) -> Result<StorageType, CaseFault> {
+    match word {
+        "i8" => Ok(StorageType::I8),
+        "i16" => Ok(StorageType::I16),
+        _ => Ok(StorageType::ValType(value_of(word)?)),
+    }
+}
+
+/// The field type that a word is.
+pub(crate) fn field_of(word: &str) -> Result<FieldType, CaseFault> {
+    let (mutability, storage) = word.split_once('=').ok_or(CaseFault::BadCase)?;
+    let mutability = match mutability {
+        "const" => Mutability::Const,
+        "var" => Mutability::Var,
+        _ => return Err(CaseFault::BadCase),
+    };
+    let element_type = storage_of(storage)?;
+    Ok(FieldType {
+        mutability,
+        element_type,
+    })
+}
+
+/// The field type that a word is, or none.
+pub(crate) fn maybe_field_of(word: &str) -> Result<Option<FieldType>, CaseFault> {
+    match word {
+        "none" => Ok(None),
+        _ => Ok(Some(field_of(word)?)),
+    }
+}
+
+/// The kind of objects that a word names.
+pub(crate) fn kind_of(word: &str) -> Result<VMGcKind, CaseFault> {
+    match word {
+        "extern" => Ok(VMGcKind::ExternRef),
+        "any" => Ok(VMGcKind::AnyRef),
+        "eq" => Ok(VMGcKind::EqRef),
+        "struct" => Ok(VMGcKind::StructRef),
+        "array" => Ok(VMGcKind::ArrayRef),
+        "exn" => Ok(VMGcKind::ExnRef),
+        _ => Err(CaseFault::BadCase),
+    }
+}
+
+/// The value types that words are.
+pub(crate) fn values_of(alloc: Global, words: &[&str]) -> Result<Vec<ValType>, CaseFault> {
+    let mut values = Vec::new(alloc);
+    for word in words {
+        let value = value_of(word)?;
+        values.extend_from_slice(&[value])?;
+    }
+    Ok(values)
+}
+
+/// The field types that words are.
+pub(crate) fn fields_of(alloc: Global, words: &[&str]) -> Result<Vec<FieldType>, CaseFault> {
+    let mut fields = Vec::new(alloc);
+    for word in words {
+        let field = field_of(word)?;
+        fields.extend_from_slice(&[field])?;
+    }
+    Ok(fields)
+}
