@@ -94,8 +94,8 @@ fields_followed p (field ∷ fields) =
     let layout : FieldLayout = record { offset = field_offset p field; is_gc_ref = is_gc_storage field.element_type } in
     let rest = fields_followed next fields in
     elim (is_gc_storage field.element_type) as (λ b.
-        map (λ (s : StorageSlot). s.offset) (cond b (slot ∷ followed_slots (field_slots next fields)) (followed_slots (field_slots next fields)))
-        ≡ map (λ (l : FieldLayout). l.offset) (cond b (layout ∷ filter (λ (l : FieldLayout). l.is_gc_ref) (field_layouts next fields)) (filter (λ (l : FieldLayout). l.is_gc_ref) (field_layouts next fields)))) [
+    map (λ (s : StorageSlot). s.offset) (cond b (slot ∷ followed_slots (field_slots next fields)) (followed_slots (field_slots next fields)))
+    ≡ map (λ (l : FieldLayout). l.offset) (cond b (layout ∷ filter (λ (l : FieldLayout). l.is_gc_ref) (field_layouts next fields)) (filter (λ (l : FieldLayout). l.is_gc_ref) (field_layouts next fields)))) [
       | true ↦ ap (λ os. field_offset p field ∷ os) rest
       | false ↦ rest
     ]
