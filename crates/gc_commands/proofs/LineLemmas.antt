@@ -11,7 +11,7 @@ use Rattle.gc_commands.specs.declared.command.Command.TheVariants as command
 use Rattle.gc_commands.specs.declared.form.Form.{Form}
 use Rattle.gc_commands.specs.declared.form.Form.TheVariants as form
 use Rattle.gc_commands.specs.Forms.{form_of, name_of}
-use Rattle.gc_commands.specs.Spelling.{FitsCommand, IsCommandOf, Spells, max_line, words_of}
+use Rattle.gc_commands.specs.Spelling.{FitsCommand, IsCommandOf, Spells, max_line, spelling, words_of}
 use Rattle.gc_commands.proofs.FormLemmas.{has_form, words_by_form}
 use Rattle.gc_commands.proofs.GraphicLemmas.{AreWords, IsWord, word_text}
 use Rattle.gc_commands.proofs.ShapeLemmas.{operands_fit}
@@ -59,9 +59,13 @@ ascii_joined (word ∷ next ∷ words) all =
 pub text_of_spelled : (line : List ℕ) (c : Command) → Spells line c → IsUtf8 line
 text_of_spelled line c s = IsUtf8-from_ascii line (subst IsAscii (sym s.spelled) (ascii_joined (words_of c) (words_fit c s.fits)))
 
+-- the words of a command's spelling are those of the command
+pub words_of_spelling : (c : Command) → FitsCommand c → slice_split (λ b. b == 32) (spelling c) ≡ words_of c
+words_of_spelling c fits = cut_joined (words_of c) (words_fit c fits) (some_words c fits)
+
 -- and its words are those of the command
 pub words_of_spelled : (line : List ℕ) (c : Command) → Spells line c → slice_split (λ b. b == 32) line ≡ words_of c
-words_of_spelled line c s = ap (slice_split (λ b. b == 32)) s.spelled ∙ cut_joined (words_of c) (words_fit c s.fits) (some_words c s.fits)
+words_of_spelled line c s = ap (slice_split (λ b. b == 32)) s.spelled ∙ words_of_spelling c s.fits
 
 spells_of_words : (line : List ℕ) (c : Command) → FitsCommand c → length line ≤ max_line → slice_split (λ b. b == 32) line ≡ words_of c → Spells line c
 spells_of_words line c fits short words = record { fits = fits; short = short; spelled = sym (join_with_byte-slice_split 32 line) ∙ ap (join_with_byte 32) words }

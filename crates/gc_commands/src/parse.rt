@@ -6,7 +6,7 @@
 ghost use Rattle.std.specs.Prelude.{◌≡◌, ℕ, List, IfOk};
 ghost use Rattle.gc_commands.specs.declared.command.Command.{Command};
 ghost use Rattle.gc_commands.specs.Reading.{Reads};
-ghost use Rattle.gc_commands.specs.Spelling.{FitsCommand, IsCommandOf, IsOf, Spells, operands_of, words_of};
+ghost use Rattle.gc_commands.specs.Spelling.{FitsCommand, IsCommandOf, IsOf, operands_of, spelling, words_of};
 
 use crate::command::Command;
 use crate::declarations::{read_array, read_exn, read_struct};
@@ -26,7 +26,7 @@ pub const MAX_LINE: usize = 1_048_576;
 /// The command that a line, without its line feed, is: the one that it spells, and `Bad` where it
 /// spells none. Numbers are plain decimals without leading zeros, words have one space between
 /// them, and a line of more than `MAX_LINE` bytes is `Bad`. Takes time linear in the line, and
-/// memory only for the fields, values or bytes of the command.
+/// memory for as many fields, values or bytes as the line has words, where its form has a list.
 pub fn parse_line(alloc: Global, line: &[u8]) -> Result<Command, AllocError>
     ensures { IfOk result (λ command. IsCommandOf line.now command) }
 {
@@ -100,5 +100,5 @@ fn read_form(alloc: Global, form: Form, words: &mut Words) -> Result<Option<Comm
 
 /// No two commands have one spelling.
 pub fn spelling_is_unique()
-    ensures { (line : List ℕ) (one other : Command) → Spells line one → Spells line other → one ≡ other }
+    ensures { (one other : Command) → FitsCommand one → FitsCommand other → spelling one ≡ spelling other → one ≡ other }
 {}

@@ -10,7 +10,8 @@ use std::marker::Model;
 pub enum Refusal {
     /// The line is no command.
     BadLine,
-    /// A register is unset, or a type, slot, global, scope or frame isn't there.
+    /// A register is unset, an owned register was never set, a type isn't declared or isn't of the
+    /// command's kind, or a slot, global, scope or frame isn't there.
     NoSuchName,
     /// A handle's scope was left, or its owned root was given up.
     Unrooted,
@@ -30,7 +31,7 @@ pub enum Refusal {
     NotI8Array,
     /// The lengths differ.
     LengthMismatch,
-    /// No heap can hold an object of that size.
+    /// No heap of this kind can hold an object of that size.
     TooLarge,
     /// No further root may be made.
     RootsFull,
