@@ -1,0 +1,9 @@
+mod Begins
+mod GrowthLemmas
+mod ListedRoots
+mod Names
+mod TakenColumns
+mod WordBarriers
+mod OwnerLemmas
+mod AllRoots
+mod CollectedRoots

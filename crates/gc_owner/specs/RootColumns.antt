@@ -1,0 +1,186 @@
+-- The roots of an owner by their kinds, and the list of them that a collection is given.
+use Rattle.std.specs.Prelude.{◌≡◌, ℕ, ◌+◌, ◌-◌, ◌^◌, ◌<◌, ◌≤◌, ◌==◌, min, not, nat_le, if◌then◌else◌, Bool, true, false, List, [], ◌∷◌, ◌++◌, length, map, filter, take, drop, slice_set, slice_index_or, replicate, All}
+use Rattle.gc_roots.specs.Roots.{Root, root}
+use Rattle.gc_heap.specs.Collection.{moved, moved_root}
+use Rattle.gc_owner.specs.declared.entry.GcClass.TheVariants.{Any}
+use Rattle.gc_owner.specs.declared.entry.RootEntry.{RootEntry}
+use Rattle.gc_owner.specs.declared.entry.OwnedEntry.{OwnedEntry}
+use Rattle.gc_owner.specs.declared.entry.SlotEntry.{SlotEntry}
+
+-- The roots: the scoped ones from the oldest on, the owned ones by their ids, the slots of all open frames
+-- from the oldest on with the places where the frames begin, the globals, and the pending exception (0 for
+-- none); the generation of the next scoped root; for how many more scoped roots there is room; and the list
+-- that a collection under way was given, which is empty while none is, with its spare places.
+pub record RootsView : Type 0 where
+  pub scoped : List RootEntry
+  pub owned : List OwnedEntry
+  pub slots : List SlotEntry
+  pub frames : List ℕ
+  pub globals : List SlotEntry
+  pub pending : ℕ
+  pub generation : ℕ
+  pub spare : ℕ
+  pub listed : List Root
+  pub list_spare : ℕ
+
+-- how many globals there are
+abbrev pub global_count : ℕ
+global_count = 16
+
+-- a slot that holds nothing
+abbrev pub empty_slot : SlotEntry
+empty_slot = record { class = Any; word = 0 }
+
+-- no roots, with room for so many scoped ones, and so many in the list
+abbrev pub no_roots : ℕ → ℕ → RootsView
+no_roots spare list_spare = record {
+  scoped = [];
+  owned = [];
+  slots = [];
+  frames = [];
+  globals = replicate global_count empty_slot;
+  pending = 0;
+  generation = 0;
+  spare = spare;
+  listed = [];
+  list_spare = list_spare;
+}
+
+-- the words of each kind of root
+abbrev pub scoped_words : RootsView → List ℕ
+scoped_words r = map (λ (e : RootEntry). e.word) r.scoped
+
+abbrev pub owned_words : RootsView → List ℕ
+owned_words r = map (λ (e : OwnedEntry). e.word) r.owned
+
+abbrev pub slot_words : RootsView → List ℕ
+slot_words r = map (λ (e : SlotEntry). e.word) r.slots
+
+abbrev pub global_words : RootsView → List ℕ
+global_words r = map (λ (e : SlotEntry). e.word) r.globals
+
+-- the words that aren't null
+abbrev pub present : List ℕ → List ℕ
+present words = filter (λ w. not (w == 0)) words
+
+-- words as roots of one kind, which are frame slots or none; nulls are no roots
+abbrev pub listed_as : ℕ → Bool → List ℕ → List Root
+listed_as place on_stack words = map (λ w. root place on_stack w) (present words)
+
+-- the roots as a collection sees them
+abbrev pub roots_of : RootsView → List Root
+roots_of r =
+    listed_as 0 false (scoped_words r)
+    ++ (listed_as 1 false (owned_words r)
+    ++ (listed_as 2 true (slot_words r)
+    ++ (listed_as 3 false (global_words r)
+    ++ listed_as 4 false (r.pending ∷ []))))
+
+-- the roots with their words moved; nulls and 31-bit numbers stay
+abbrev pub moved_roots : (ℕ → ℕ) → RootsView → RootsView
+moved_roots to r = record r {
+  scoped = map (λ (e : RootEntry). record e { word = moved to e.word }) r.scoped;
+  owned = map (λ (e : OwnedEntry). record e { word = moved to e.word }) r.owned;
+  slots = map (λ (e : SlotEntry). record e { word = moved to e.word }) r.slots;
+  globals = map (λ (e : SlotEntry). record e { word = moved to e.word }) r.globals;
+  pending = moved to r.pending;
+}
+
+-- the roots with one more scoped root, of the generation that stands
+abbrev pub with_scoped : ℕ → RootsView → RootsView
+with_scoped word r = record r { scoped = r.scoped ++ (record { generation = r.generation; word = word }) ∷ []; spare = r.spare - 1 }
+
+-- The generation after a scope end, which rises where a root was dropped, up to the greatest u64.
+abbrev pub generation_after : ℕ → RootsView → ℕ
+generation_after mark r = if nat_le (length r.scoped) mark then r.generation else min (r.generation + 1) (2 ^ 64 - 1)
+
+-- where the newest frame begins, and its slots
+abbrev pub newest_start : RootsView → ℕ
+newest_start r = slice_index_or r.frames (length r.frames - 1) 0
+
+-- from a place on a list has words of one kind that moved, and then others
+abbrev pub Follow : ℕ → List Root → (ℕ → ℕ) → ℕ → Bool → List ℕ → List Root → Type 0
+Follow from roots to place on_stack words behind = drop from roots ≡ map (moved_root to) (listed_as place on_stack words) ++ behind
+
+-- how many roots there are, nulls among them
+abbrev pub root_count : RootsView → ℕ
+root_count r = length r.scoped + length r.owned + length r.slots + global_count + 1
+
+-- Each open frame begins where the one before it ends, or behind that.
+abbrev pub AreFrames : List ℕ → ℕ → Type 0
+AreFrames [] end = Unit {0}
+AreFrames (start ∷ starts) end = (start ≤ end) × (All (λ later. start ≤ later) starts × AreFrames starts end)
+
+-- there are no more scoped and owned roots than a u32 numbers
+pub record AreFew (r : RootsView) : Type 0 where
+  pub scoped : length r.scoped ≤ 2 ^ 32
+  pub owned : length r.owned ≤ 2 ^ 32
+  pub globals : length r.globals ≡ global_count
+
+-- the roots as their parts tell them; there is room for as many more scoped ones as fit their own list and that of
+-- a collection
+abbrev pub roots_view : List RootEntry → List OwnedEntry → List SlotEntry → List ℕ → List SlotEntry → ℕ → ℕ → ℕ → List Root → ℕ → RootsView
+roots_view scoped owned slots frames globals pending generation capacity listed list_spare = record {
+  scoped = scoped;
+  owned = owned;
+  slots = slots;
+  frames = frames;
+  globals = globals;
+  pending = pending;
+  generation = generation;
+  spare = min (capacity - length scoped) (list_spare - (length scoped + length owned + length slots + global_count + 1));
+  listed = listed;
+  list_spare = list_spare;
+}
+
+-- They are few, frames lie in the slots, and while no list is in use it has room for all.
+pub record IsRoomy (r : RootsView) : Type 0 where
+  pub few : AreFew r
+  pub frames : AreFrames r.frames (length r.slots)
+  pub room : r.listed ≡ [] → root_count r ≤ r.list_spare
+
+-- the roots with as much room as others have
+abbrev pub with_room : RootsView → RootsView → RootsView
+with_room other r = record r { spare = other.spare; list_spare = other.list_spare }
+
+-- the roots after a scope was left with so many scoped ones
+abbrev pub left_scope : ℕ → ℕ → RootsView → RootsView
+left_scope mark spare r = record r { scoped = take mark r.scoped; generation = generation_after mark r; spare = spare }
+
+-- the roots with other globals, slots or pending exception
+abbrev pub with_global : ℕ → SlotEntry → RootsView → RootsView
+with_global index entry r = record r { globals = slice_set r.globals index entry }
+
+abbrev pub with_slot : ℕ → SlotEntry → RootsView → RootsView
+with_slot index entry r = record r { slots = slice_set r.slots (newest_start r + index) entry }
+
+abbrev pub with_frame : ℕ → RootsView → RootsView
+with_frame count r = record r { slots = r.slots ++ replicate count empty_slot; frames = r.frames ++ length r.slots ∷ [] }
+
+abbrev pub without_frame : RootsView → RootsView
+without_frame r = record r { slots = take (newest_start r) r.slots; frames = take (length r.frames - 1) r.frames }
+
+-- a slot of the newest frame is there
+abbrev pub HasSlot : RootsView → ℕ → Type 0
+HasSlot r index = (0 < length r.frames) × (newest_start r + index < length r.slots)
+
+-- the owned roots that have handles
+abbrev pub with_handles : List OwnedEntry → List OwnedEntry
+with_handles entries = filter (λ (e : OwnedEntry). not (e.handles == 0)) entries
+
+-- the roots of these parts as a collection sees them
+abbrev pub all_roots : List RootEntry → List OwnedEntry → List SlotEntry → List SlotEntry → ℕ → List Root
+all_roots scoped owned slots globals pending =
+    listed_as 0 false (map (λ (e : RootEntry). e.word) scoped)
+    ++ (listed_as 1 false (map (λ (e : OwnedEntry). e.word) owned)
+    ++ (listed_as 2 true (map (λ (e : SlotEntry). e.word) slots)
+    ++ (listed_as 3 false (map (λ (e : SlotEntry). e.word) globals)
+    ++ listed_as 4 false (pending ∷ []))))
+
+-- all roots have the words of the objects that moved
+pub record MovesAll (to : ℕ → ℕ) (scoped scoped' : List RootEntry) (owned owned' : List OwnedEntry) (slots slots' globals globals' : List SlotEntry) (pending pending' : ℕ) : Type 0 where
+  pub scoped_moved : scoped' ≡ map (λ (e : RootEntry). record e { word = moved to e.word }) scoped
+  pub owned_moved : owned' ≡ map (λ (e : OwnedEntry). record e { word = moved to e.word }) owned
+  pub slots_moved : slots' ≡ map (λ (e : SlotEntry). record e { word = moved to e.word }) slots
+  pub globals_moved : globals' ≡ map (λ (e : SlotEntry). record e { word = moved to e.word }) globals
+  pub pending_moved : pending' ≡ moved to pending

@@ -1,0 +1,35 @@
+//! The barriers of a heap, for words that may be null.
+
+ghost use Rattle.std.specs.Prelude.{◌≡◌};
+ghost use Rattle.gc_owner.specs.Owners.{raised, lowered, CanCopyWord, CanDropWord};
+
+use gc_heap::GcHeap;
+use gc_refs::VMGcRef;
+
+/// A word is copied; null is no name.
+pub(crate) fn copy_word<H: GcHeap>(heap: &mut H, word: u32)
+    requires sound { H.sound heap.old }
+    requires can { CanCopyWord (H.seen heap.old) word }
+    ensures sound { H.sound heap.new }
+    ensures seen { H.seen heap.new ≡ raised (H.seen heap.old) word }
+{
+    match VMGcRef::from_raw_u32(word) {
+        Some(gc_ref) => {
+            let _copy = heap.clone_gc_ref(&gc_ref).as_raw_u32();
+        }
+        None => {}
+    }
+}
+
+/// A slot that holds the old word takes a copy of the new one.
+pub(crate) fn overwrite_word<H: GcHeap>(heap: &mut H, old_word: u32, new_word: u32)
+    requires sound { H.sound heap.old }
+    requires copies { CanCopyWord (H.seen heap.old) new_word }
+    requires drops { CanDropWord (H.seen heap.old) old_word }
+    ensures sound { H.sound heap.new }
+    ensures seen { H.seen heap.new ≡ lowered (raised (H.seen heap.old) new_word) old_word }
+{
+    let mut slot = VMGcRef::from_raw_u32(old_word);
+    let source = VMGcRef::from_raw_u32(new_word);
+    heap.write_gc_ref(&mut slot, source.as_ref());
+}

@@ -1,0 +1,253 @@
+//! The roots of an owner, and the room that a collection takes for them.
+
+ghost use Rattle.std.specs.Prelude.{◌≡◌, ◌+◌, ◌<◌, ◌≤◌, ◌^◌, [], ℕ, length, map, IfOk, OnOk, slice_index_or, true};
+ghost use Rattle.gc_heap.specs.Collection.{has_host, IsPartOf, moved_root};
+ghost use Rattle.gc_owner.specs.RootColumns.{no_roots, AreFew, with_scoped, with_room, with_global, global_count, empty_slot, roots_of, all_roots, MovesAll};
+ghost use Rattle.gc_owner.specs.Tracing.{IsCollectable};
+ghost use Rattle.gc_owner.specs.Owners.{CollectsRoots};
+
+use crate::columns::{list_column, list_word, take_column, word_from};
+use crate::entry::{GcClass, OwnedEntry, RootEntry, SlotEntry};
+use gc_heap::collect::run;
+use gc_heap::{GcHeap, GcStoreTraceState};
+use gc_roots::{GcRootsList, RootPlace};
+use std::alloc::{AllocError, Global};
+use std::marker::Model;
+
+/// How a collection's list knows each kind of root.
+const SCOPED: RootPlace = RootPlace { number: 0 };
+
+const OWNED: RootPlace = RootPlace { number: 1 };
+
+const SLOTS: RootPlace = RootPlace { number: 2 };
+
+const GLOBALS: RootPlace = RootPlace { number: 3 };
+
+const PENDING: RootPlace = RootPlace { number: 4 };
+
+/// How many globals there are.
+const GLOBAL_COUNT: usize = 16;
+
+/// The roots of all kinds. Whenever a root is made there is also room for it in the list that a collection
+/// is given, so that a collection takes no memory.
+#[derive(Drop)]
+pub(crate) struct Roots {
+    /// The scoped roots, from the oldest on.
+    scoped: Vec<RootEntry>,
+    owned: Vec<OwnedEntry>,
+    /// The slots of all open frames, from the oldest on.
+    slots: Vec<SlotEntry>,
+    /// Where the slots of each open frame begin.
+    frames: Vec<usize>,
+    globals: Vec<SlotEntry>,
+    /// The word of the pending exception; 0 where there is none.
+    pending: u32,
+    /// How many scope ends dropped a root; it is the generation of the next scoped root.
+    generation: u64,
+    /// The list that a collection is given; empty while none is under way.
+    list: GcRootsList,
+}
+
+impl Model for Roots {
+    ghost use Rattle.std.specs.Prelude.{◌≡◌, ◌≤◌, ◌-◌, ◌+◌, ◌^◌, [], min, vec_len, vec_capacity};
+    ghost use Rattle.gc_owner.specs.RootColumns.{RootsView, global_count};
+
+    ghost Value = { RootsView };
+
+    ghost view = { λ s. record {
+      scoped = s.scoped.items;
+      owned = s.owned.items;
+      slots = s.slots.items;
+      frames = s.frames.items;
+      globals = s.globals.items;
+      pending = s.pending;
+      generation = s.generation;
+      spare = min (vec_capacity s.scoped - vec_len s.scoped) (s.list.spare - (vec_len s.scoped + vec_len s.owned + vec_len s.slots + global_count + 1));
+      listed = s.list.roots;
+      list_spare = s.list.spare;
+    } };
+
+    ghost invariant = { λ s. (s.list.roots ≡ []) × (vec_len s.scoped + vec_len s.owned + vec_len s.slots + global_count + 1 ≤ s.list.spare)
+        × (vec_len s.scoped ≤ 2 ^ 32) × (vec_len s.owned ≤ 2 ^ 32) × (vec_len s.globals ≡ global_count) };
+}
+
+/// Puts all roots into the list of a collection, which is empty.
+fn list_all(
+    list: &mut GcRootsList,
+    scoped: &[RootEntry],
+    owned: &[OwnedEntry],
+    slots: &[SlotEntry],
+    globals: &[SlotEntry],
+    pending: u32,
+)
+    requires empty { list.old.roots ≡ [] }
+    requires room { length scoped.now + length owned.now + length slots.now + length globals.now + 1 ≤ list.old.spare }
+    ensures roots { list.new.roots ≡ all_roots scoped.now owned.now slots.now globals.now pending }
+    ensures total { list.new.spare + length list.new.roots ≡ list.old.spare + length list.old.roots }
+{
+    list_column(list, SCOPED, false, scoped);
+    list_column(list, OWNED, false, owned);
+    list_column(list, SLOTS, true, slots);
+    list_column(list, GLOBALS, false, globals);
+    list_word(list, PENDING, false, pending);
+}
+
+/// Gives all roots the words that the list has after a collection, and answers that of the pending
+/// exception.
+fn take_all(
+    scoped: &mut [RootEntry],
+    owned: &mut [OwnedEntry],
+    slots: &mut [SlotEntry],
+    globals: &mut [SlotEntry],
+    pending: u32,
+    list: &GcRootsList,
+) -> u32
+    requires { (to : ℕ → ℕ) × (list.now.roots ≡ map (moved_root to) (all_roots scoped.old owned.old slots.old globals.old pending)) }
+    ensures { (to : ℕ → ℕ) → list.now.roots ≡ map (moved_root to) (all_roots scoped.old owned.old slots.old globals.old pending)
+        → MovesAll to scoped.old scoped.new owned.old owned.new slots.old slots.new globals.old globals.new pending result }
+{
+    let owned_at = take_column(scoped, list, 0);
+    let slots_at = take_column(owned, list, owned_at);
+    let globals_at = take_column(slots, list, slots_at);
+    let pending_at = take_column(globals, list, globals_at);
+    word_from(list, pending_at, pending)
+}
+
+impl Roots {
+    /// No roots.
+    pub(crate) fn new(alloc: Global) -> Result<Roots, AllocError>
+        ensures { IfOk result (λ r. r ≡ no_roots r.spare r.list_spare) }
+    {
+        let mut globals = Vec::new(alloc);
+        globals.resize(
+            GLOBAL_COUNT,
+            SlotEntry {
+                class: GcClass::Any,
+                word: 0,
+            },
+        )?;
+        let mut list = GcRootsList::new(alloc);
+        list.reserve(GLOBAL_COUNT + 1)?;
+        Ok(Roots {
+            scoped: Vec::new(alloc),
+            owned: Vec::new(alloc),
+            slots: Vec::new(alloc),
+            frames: Vec::new(alloc),
+            globals,
+            pending: 0,
+            generation: 0,
+            list,
+        })
+    }
+
+    /// There are no more scoped and owned roots than a u32 numbers, and no list is in use. At run time it
+    /// does nothing.
+    pub(crate) fn are_few(&self)
+        ensures few { AreFew self.now }
+        ensures unlisted { self.now.listed ≡ [] }
+    {
+        let _entries = &self.scoped;
+    }
+
+    /// The scoped roots, from the oldest on.
+    pub(crate) fn scoped(&self) -> &[RootEntry]
+        ensures { result.now ≡ self.now.scoped }
+    {
+        self.scoped.as_slice()
+    }
+
+    /// The generation of the next scoped root.
+    pub(crate) fn generation(&self) -> u64
+        ensures { result ≡ self.now.generation }
+    {
+        self.generation
+    }
+
+    /// Makes room for so many more scoped roots, here and in the list of a collection.
+    pub(crate) fn reserve(&mut self, additional: usize) -> Result<(), AllocError>
+        ensures room { OnOk result (additional ≤ self.new.spare) }
+        ensures rest { self.new ≡ with_room self.new self.old }
+    {
+        let count = self.scoped.len() + self.owned.len() + self.slots.len() + GLOBAL_COUNT + 1;
+        self.list.reserve(count.saturating_add(additional))?;
+        self.scoped.reserve(additional)
+    }
+
+    /// Adds a scoped root, for which there is room, and answers its index.
+    pub(crate) fn push(&mut self, word: u32) -> u32
+        requires room { 0 < self.old.spare }
+        requires small { length self.old.scoped < 2 ^ 32 }
+        ensures pushed { self.new ≡ with_scoped word self.old }
+        ensures index { result ≡ length self.old.scoped }
+    {
+        let index = self.scoped.len() as u32;
+        let generation = self.generation;
+        self.scoped.push_reserved(RootEntry { generation, word });
+        index
+    }
+
+    /// The global of that index.
+    pub(crate) fn global(&self, index: u32) -> SlotEntry
+        requires { index < global_count }
+        ensures { result ≡ slice_index_or self.now.globals index empty_slot }
+    {
+        self.globals[index as usize]
+    }
+
+    /// Overwrites the global of that index.
+    pub(crate) fn set_global(&mut self, index: u32, entry: SlotEntry)
+        requires { index < global_count }
+        ensures { self.new ≡ with_global index entry self.old }
+    {
+        self.globals[index as usize] = entry;
+    }
+
+    /// The word of the pending exception; 0 where there is none.
+    pub(crate) fn pending(&self) -> u32
+        ensures { result ≡ self.now.pending }
+    {
+        self.pending
+    }
+
+    /// Overwrites the word of the pending exception.
+    pub(crate) fn set_pending(&mut self, word: u32)
+        ensures { self.new ≡ record self.old { pending = word } }
+    {
+        self.pending = word;
+    }
+
+    /// Collects. Afterwards the roots have the words of the objects that moved. It takes no memory.
+    pub(crate) fn collect<H: GcHeap, D: Drop>(
+        &mut self,
+        heap: &mut H,
+        trace: &mut GcStoreTraceState<'_, D>,
+    )
+        requires sound { H.sound heap.old }
+        requires attached { (H.seen heap.old).attached ≡ true }
+        requires collectable { IsCollectable H.KIND trace.old.types.now.declarations (H.seen heap.old) (roots_of self.old) (has_host trace.old.host_data_table.now.entries) }
+        ensures sound { H.sound heap.new }
+        ensures collected { CollectsRoots H.KIND trace.old.types.now.declarations (H.seen heap.old) (H.seen heap.new) self.old self.new (has_host trace.old.host_data_table.now.entries) (has_host trace.new.host_data_table.now.entries) }
+        ensures values { IsPartOf trace.new.host_data_table.now.entries trace.old.host_data_table.now.entries }
+        ensures hosts { trace.new.host_data_table.ghost_name ≡ trace.old.host_data_table.ghost_name }
+        ensures types { trace.new.types ≡ trace.old.types }
+    {
+        list_all(
+            &mut self.list,
+            self.scoped.as_slice(),
+            self.owned.as_slice(),
+            self.slots.as_slice(),
+            self.globals.as_slice(),
+            self.pending,
+        );
+        run(heap, &mut self.list, trace);
+        self.pending = take_all(
+            self.scoped.as_mut_slice(),
+            self.owned.as_mut_slice(),
+            self.slots.as_mut_slice(),
+            self.globals.as_mut_slice(),
+            self.pending,
+            &self.list,
+        );
+        self.list.clear();
+    }
+}
