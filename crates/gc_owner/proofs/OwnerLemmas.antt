@@ -12,7 +12,7 @@ use Rattle.gc_roots.specs.Roots.{Root}
 use Rattle.gc_view.specs.Heaps.{HeapObject, HeapView, detached, SameHeld}
 use Rattle.gc_heap.specs.Content.{IsHeap}
 use Rattle.gc_heap.specs.Heap.{empty_heap}
-use Rattle.gc_heap.specs.Collection.{Start, CanCollect, IsWordOf, has_host, IsPartOf}
+use Rattle.gc_heap.specs.Collection.{Stage, Start, CanCollect, IsWordOf, has_host, IsPartOf}
 use Rattle.gc_heap.proofs.AddedLemmas.{start}
 use Rattle.gc_heap.proofs.ClientLemmas.{can_collect_empty}
 use Rattle.gc_owner.specs.declared.entry.RootEntry.{RootEntry}
@@ -143,7 +143,7 @@ module _ (r : RootsView) (layouts : Layouts) (types : List Declaration) (h : Hea
 abbrev pub kind_of : {H S : Type 0} → Layouts → (H → HeapView) → (H → Type 0) → (Start → ℕ → Bool → H → S → List Root → List Declaration → (ℕ → Bool) → Type 0) → Kind H S
 kind_of layouts seen sound under_way = record { layouts = layouts; seen = seen; sound = sound; under_way = under_way }
 
-module _ {H S D : Type 0} (layouts : Layouts) (seen : H → HeapView) (sound : H → Type 0) (under_way : Start → ℕ → Bool → H → S → List Root → List Declaration → (ℕ → Bool) → Type 0)
+module _ {H S D : Type 0} (layouts : Layouts) (seen : H → HeapView) (sound : H → Type 0) (under_way : Start → ℕ → Bool → Stage H S → Type 0)
     (heap : H) (types : TypeTable) (hosts : FinMap nat_cmp D) (roots : RootsView) (last : ℕ) (state : Option S) where
   abbrev before : OwnerValue H S D
   before = owner_value (seen heap) types hosts roots last heap state
@@ -191,7 +191,7 @@ made_stays layouts first old new limits limits' (Err pages_fault.Refused) refuse
 made_stays layouts first old new limits limits' (Err pages_fault.Memory) wanting none = ap (λ (h : HeapView). h.attached) (sym wanting.0) ∙ none
 
 -- A collection ran
-module _ {H S D : Type 0} (layouts : Layouts) (seen : H → HeapView) (sound : H → Type 0) (under_way : Start → ℕ → Bool → H → S → List Root → List Declaration → (ℕ → Bool) → Type 0)
+module _ {H S D : Type 0} (layouts : Layouts) (seen : H → HeapView) (sound : H → Type 0) (under_way : Start → ℕ → Bool → Stage H S → Type 0)
     (heap : H) (types : TypeTable) (hosts : FinMap nat_cmp D) (roots : RootsView) (last : ℕ) (state : Option S) (heap' : H) (hosts' : FinMap nat_cmp D) (roots' : RootsView) (last' : ℕ)
     (col : CollectsRoots layouts types.declarations (seen heap) (seen heap') roots roots' (has_host hosts) (has_host hosts')) where
   pub collected_order : is_none state ≡ true → IsReady layouts (sound heap) (owner_value (seen heap) types hosts roots last heap state).seen → sound heap'

@@ -8,7 +8,7 @@ use Rattle.gc_roots.specs.Roots.{Root}
 use Rattle.gc_view.specs.Heaps.{HeapView, detached, SameHeld}
 use Rattle.gc_heap.specs.Content.{IsHeap}
 use Rattle.gc_heap.specs.Barriers.{cloned, dropped, CanName, CanUnname}
-use Rattle.gc_heap.specs.Collection.{Start, CanCollect, Collected, has_host, IsPartOf, IsIncrements}
+use Rattle.gc_heap.specs.Collection.{Stage, stage, Start, CanCollect, Collected, has_host, IsPartOf, IsIncrements}
 use Rattle.gc_heap.specs.declared.collection.GcProgress.{GcProgress}
 use Rattle.gc_heap.specs.declared.collection.GcProgress.TheVariants as progress
 use Rattle.gc_owner.specs.declared.entry.OwnedEntry.{OwnedEntry}
@@ -71,12 +71,12 @@ pub record Kind (H S : Type 0) : Type 1 where
   pub layouts : Layouts
   pub seen : H → HeapView
   pub sound : H → Type 0
-  pub under_way : Start → ℕ → Bool → H → S → List Root → List Declaration → (ℕ → Bool) → Type 0
+  pub under_way : Start → ℕ → Bool → Stage H S → Type 0
 
 -- A collection is under way that began there: so many increments were done, each of them counted or not. The
 -- roots have the words that they had where it began, and the list has them as far as they have moved.
 pub record Goes {H S D : Type 0} (k : Kind H S) (s : Start) (n : ℕ) (c : Bool) (v : OwnerValue H S D) (state : S) : Type 0 where
-  pub goes : k.under_way s n c v.heap state v.seen.roots.listed v.seen.types.declarations (has_host v.seen.hosts)
+  pub goes : k.under_way s n c (stage v.heap state v.seen.roots.listed v.seen.types.declarations v.seen.hosts)
   pub heap : IsHeap k.layouts s.heap
   pub can : CanCollect k.layouts s
   pub traced : AreTraced k.layouts s.types s.heap

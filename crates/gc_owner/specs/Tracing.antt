@@ -11,7 +11,7 @@ use Rattle.gc_roots.specs.Roots.{Root}
 use Rattle.gc_view.specs.Sizes.{stored_size}
 use Rattle.gc_view.specs.Heaps.{HeapObject, HeapView}
 use Rattle.gc_heap.specs.Objects.{array_length}
-use Rattle.gc_heap.specs.References.{struct_spare, array_spare}
+use Rattle.gc_heap.specs.Rules.{struct_spare, array_spare}
 use Rattle.gc_heap.specs.Heap.{layout_kind, array_size}
 use Rattle.gc_heap.specs.Collection.{Start, CanCollect}
 
