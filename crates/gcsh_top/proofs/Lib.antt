@@ -5,3 +5,4 @@ pub mod InputLemmas
 pub mod GcLemmas
 pub mod RunLemmas
 pub mod FormRun
+pub mod CutLemmas

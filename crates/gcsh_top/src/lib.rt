@@ -5,9 +5,11 @@
 //! `MemSource` and `MemSink` tell their bytes, so that all that a run does can be stated of them;
 //! `StdSource` and `StdSink` stand before standard input and output, and tell counts alone.
 //! The definitions are in `specs/`: `Ends` (what reads and writes do), `Memory` (the ends in
-//! memory), `Words` (the words of the program), `Runs` (what a run leaves).
+//! memory), `Cutting` (pieces of bytes cut into lines), `Words` (the words of the program), `Runs` (what a
+//! run leaves).
 #![tactic(auto)]
 
+pub mod cutter;
 pub mod lines;
 pub mod memory;
 pub mod read;
@@ -22,6 +24,7 @@ pub mod top;
 pub mod words;
 pub mod write;
 
+pub use cutter::{LineCutter, pieces_give_lines};
 pub use lines::next_line;
 pub use memory::{MemSink, MemSource};
 pub use read::{MAX_INPUT, ReadFault, read_all};

@@ -4,7 +4,7 @@ ghost use Rattle.std.specs.Prelude.{◌≡◌, ◌==◌, ◌<◌, [], ◌∷◌,
 ghost use Rattle.gc_script.specs.Lines.{lines};
 
 /// Ends a line.
-const LINE_FEED: u8 = b'\n';
+pub(crate) const LINE_FEED: u8 = b'\n';
 
 /// The first line of `rest`, without its line feed, and what stands behind it; none where no byte
 /// is left. A last piece without a line feed is a line. Looks at the bytes of that line alone.
