@@ -1,7 +1,7 @@
 //! `gcsh`: runs a script of heap commands, one reply a line.
 #![tactic(auto)]
 
-use gcsh_top::{NO_MEMORY, StdSink, StdSource, Stores, USAGE, WRITE_FAULT, gcsh_top};
+use gcsh_top::{Status, StdSink, StdSource, Stores, gcsh_top};
 use std::io::{BufWriter, ErrorKind, Write};
 use std::process::ExitCode;
 use std::{env, io};
@@ -46,7 +46,7 @@ fn show(rt: &HostRuntime, text: &str) -> u8 {
     let mut out = io::writer(rt);
     match out.write_all(text.as_bytes()) {
         Ok(()) => 0,
-        Err(_) => WRITE_FAULT,
+        Err(_) => Status::WriteFault.code(),
     }
 }
 
@@ -70,8 +70,8 @@ fn run(rt: &HostRuntime) -> io::Result<u8> {
 fn main(rt: HostRuntime) -> ExitCode {
     match run(&rt) {
         Ok(status) => ExitCode::from(status),
-        Err(error) if error.kind() == ErrorKind::OutOfMemory => ExitCode::from(NO_MEMORY),
+        Err(error) if error.kind() == ErrorKind::OutOfMemory => ExitCode::from(Status::NoMemory.code()),
         // A word that is no text.
-        Err(_) => ExitCode::from(USAGE),
+        Err(_) => ExitCode::from(Status::Usage.code()),
     }
 }

@@ -4,5 +4,7 @@ pub mod Memory
 pub mod Input
 pub mod Cutting
 pub mod Words
+pub mod Statuses
 pub mod Chosen
 pub mod Runs
+pub mod Answers
