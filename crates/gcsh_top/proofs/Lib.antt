@@ -8,3 +8,4 @@ pub mod FormRun
 pub mod FormAnswers
 pub mod StatusLaws
 pub mod CutLemmas
+pub mod ProgramLemmas

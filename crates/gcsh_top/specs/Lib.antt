@@ -8,3 +8,4 @@ pub mod Statuses
 pub mod Chosen
 pub mod Runs
 pub mod Answers
+pub mod Program

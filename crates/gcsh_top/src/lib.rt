@@ -12,6 +12,7 @@
 pub mod cutter;
 pub mod lines;
 pub mod memory;
+pub mod program;
 pub mod read;
 mod run;
 pub mod sink;
@@ -28,6 +29,7 @@ pub mod write;
 pub use cutter::{LineCutter, pieces_give_lines};
 pub use lines::next_line;
 pub use memory::{MemSink, MemSource};
+pub use program::{Exit, HELP, VERSION, gcsh_main, run_program};
 pub use read::{MAX_INPUT, ReadFault, read_all};
 pub use sink::{Sink, SinkFault};
 pub use source::{Source, SourceFault};

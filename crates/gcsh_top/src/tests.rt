@@ -1,12 +1,14 @@
 //! Ends that fail, inputs at their limit, words of the program, lines of an input.
 
 use crate::{
-    Collector, Form, LineCutter, MAX_INPUT, MemSink, MemSource, ReadFault, Sink, SinkFault, Source,
-    SourceFault, StdSink, StdSource, next_line, parse_words, read_all, write_all,
+    Collector, Form, HELP, LineCutter, MAX_INPUT, MemSink, MemSource, ReadFault, Sink, SinkFault,
+    Source, SourceFault, Status, StdSink, StdSource, gcsh_main, next_line, parse_words, read_all,
+    run_program, write_all,
 };
 use std::alloc::{AllocError, Global};
 use std::io;
 use std::io::{BufWriter, ErrorKind, Read, Write};
+use std::process::{ExitCode, Termination};
 use std::test::Fail;
 
 /// A source of these bytes, whose reads of these numbers fail.
@@ -236,6 +238,44 @@ fn ends_over_std_pass_on_what_std_gives(rt: HostRuntime) -> Result<(), Fail> {
     let mut broken = StdSink::new(Broken);
     assert_eq!(rt; write_all(&mut broken, b"cap 0\n"), Err(SinkFault));
     assert_eq!(rt; broken.flush(), Err(SinkFault));
+    Ok(())
+}
+
+#[test]
+fn the_program_shows_its_texts_or_runs(rt: HostRuntime) -> Result<(), Fail> {
+    let turns: [(&str, Status, &str); 6] = [
+        ("--help", Status::Done, HELP),
+        ("--version", Status::Done, "gcsh 0.1.0\n"),
+        ("--version --help", Status::Usage, ""),
+        ("", Status::Usage, ""),
+        ("null 1 64", Status::Done, "cap 0\n"),
+        ("copying 1 64", Status::Done, "cap 0\n"),
+    ];
+    for (text, want, held) in turns {
+        let mut words = Vec::new(rt.alloc());
+        for word in text.split_whitespace() {
+            words.push(String::from_str(rt.alloc(), word)?)?;
+        }
+        let mut source = source_of(rt.alloc(), b"cap\n", &[])?;
+        let mut sink = sink_of(rt.alloc(), 4096, &[])?;
+        let status = run_program(rt.alloc(), words.as_slice(), &mut source, &mut sink);
+        assert_eq!(rt; status, want, "{text}");
+        assert_eq!(rt; sink.bytes(), held.as_bytes());
+    }
+    Ok(())
+}
+
+#[test]
+fn words_that_cannot_be_had_have_their_status(rt: HostRuntime) -> Result<(), Fail> {
+    for (kind, want) in [(ErrorKind::OutOfMemory, 5), (ErrorKind::InvalidData, 1)] {
+        let exit = gcsh_main(
+            rt.alloc(),
+            Err(kind.into()),
+            b"".as_slice(),
+            Vec::new(rt.alloc()),
+        );
+        assert_eq!(rt; exit.report(&rt), ExitCode::from(want));
+    }
     Ok(())
 }
 
