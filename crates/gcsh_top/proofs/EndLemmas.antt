@@ -1,10 +1,10 @@
 -- What several reads and writes do together.
 use Rattle.std.proofs.Common.{◌≡◌, ℕ, ◌+◌, ◌<◌, ◌≤◌, List, [], ◌++◌, length, take, drop, Option, None, Some, refl, sym, ap, subst, ◌∙◌, arith, append_assoc, append-nil, length-append, length-take-le, take-append-drop}
 use Rattle.std.proofs.Math.Seq.{take-append_seam}
-use Rattle.std.specs.Io.KnownBytes.{Appends, Consumes, Keeps}
+use Rattle.std.specs.Io.KnownBytes.{Appends, Keeps}
 use Rattle.std.proofs.KnownBytes.{Appends-kept, Appends-nil, Appends-trans, Consumes-kept, Consumes-nil, Consumes-trans}
 use Rattle.gcsh_top.specs.Counts.{raised}
-use Rattle.gcsh_top.specs.Ends.{Fills, Gave, TookPart}
+use Rattle.gcsh_top.specs.Ends.{Fills, Gave, SourceRun, SourceTold, TookPart}
 
 -- a sink took a front of the bytes, and the rest of them is left
 pub record Progress (held held' : Option (List ℕ)) (bytes rest : List ℕ) : Type 0 where
@@ -42,10 +42,9 @@ progress_stuck a b c bytes rest n p some none took = progress_part a b c bytes r
 pub progress_done : (a b : Option (List ℕ)) (bytes rest : List ℕ) → Progress a b bytes rest → rest ≡ [] → Appends a b bytes
 progress_done a b bytes rest p done = subst (Appends a b) (sym (p.whole ∙ ap (λ r. p.front ++ r) done ∙ append-nil p.front)) p.taken
 
--- a source gave these bytes
-pub record Drawn (left left' : Option (List ℕ)) (given given' : ℕ) (bytes : List ℕ) : Type 0 where
-  pub taken : Consumes left left' bytes
-  pub counted : given' ≡ raised given (length bytes)
+-- from what a source told to what it tells
+abbrev pub told : SourceTold → SourceTold → SourceRun
+told a b = record { before = a; after = b }
 
 raised_none : (a : ℕ) → a ≡ raised a 0
 raised_none a = omega arith
@@ -53,25 +52,25 @@ raised_none a = omega arith
 raised_twice : (a b c m n : ℕ) → b ≡ raised a m → c ≡ raised b n → c ≡ raised a (m + n)
 raised_twice a b c m n first second = omega arith
 
-pub drawn_start : (a : Option (List ℕ)) (x : ℕ) (bytes : List ℕ) → bytes ≡ [] → Drawn a a x x bytes
-drawn_start a x bytes none = subst (Drawn a a x x) (sym none) (record { taken = Consumes-nil a; counted = raised_none x })
+pub gave_none : (a : SourceTold) → Gave (told a a) []
+gave_none a = record { taken = Consumes-nil a.left; counted = raised_none a.given }
 
-pub drawn_more : (a b c : Option (List ℕ)) (x y z : ℕ) (bytes buf buf' : List ℕ) (n : ℕ) → Drawn a b x y bytes → Fills b c buf buf' n → n ≤ length buf' → z ≡ raised y n → Drawn a c x z (bytes ++ take n buf')
-drawn_more a b c x y z bytes buf buf' n d f within counted =
+pub gave_start : (a : SourceTold) (bytes : List ℕ) → bytes ≡ [] → Gave (told a a) bytes
+gave_start a bytes none = subst (Gave (told a a)) (sym none) (gave_none a)
+
+pub gave_more : (a b c : SourceTold) (bytes buf buf' : List ℕ) (n : ℕ) → Gave (told a b) bytes → Fills b.left c.left buf buf' n → n ≤ length buf' → c.given ≡ raised b.given n → Gave (told a c) (bytes ++ take n buf')
+gave_more a b c bytes buf buf' n gave f within counted =
     let long : length (bytes ++ take n buf') ≡ length bytes + n = length-append bytes (take n buf') ∙ ap (λ k. length bytes + k) (length-take-le n buf' within) in
     record {
-      taken = Consumes-trans a b c bytes (take n buf') d.taken f.taken;
-      counted = raised_twice x y z (length bytes) n d.counted counted ∙ ap (raised x) (sym long);
+      taken = Consumes-trans a.left b.left c.left bytes (take n buf') gave.taken f.taken;
+      counted = raised_twice a.given b.given c.given (length bytes) n gave.counted counted ∙ ap (raised a.given) (sym long);
     }
 
 -- a read that gave nothing
-pub drawn_end : (a b c : Option (List ℕ)) (x y z : ℕ) (bytes buf buf' : List ℕ) (n : ℕ) → Drawn a b x y bytes → Fills b c buf buf' n → n ≡ 0 → z ≡ raised y n → Drawn a c x z bytes
-drawn_end a b c x y z bytes buf buf' n d f none counted =
-    subst (Drawn a c x z) (ap (λ k. bytes ++ take k buf') none ∙ append-nil bytes) (drawn_more a b c x y z bytes buf buf' n d f (omega arith) counted)
+pub gave_end : (a b c : SourceTold) (bytes buf buf' : List ℕ) (n : ℕ) → Gave (told a b) bytes → Fills b.left c.left buf buf' n → n ≡ 0 → c.given ≡ raised b.given n → Gave (told a c) bytes
+gave_end a b c bytes buf buf' n gave f none counted =
+    subst (Gave (told a c)) (ap (λ k. bytes ++ take k buf') none ∙ append-nil bytes) (gave_more a b c bytes buf buf' n gave f (omega arith) counted)
 
 -- a read that failed
-pub drawn_kept : (a b c : Option (List ℕ)) (x y z : ℕ) (bytes : List ℕ) → Drawn a b x y bytes → Keeps b c → z ≡ y → Drawn a c x z bytes
-drawn_kept a b c x y z bytes d kept same = record { taken = Consumes-kept a b c bytes d.taken kept; counted = same ∙ d.counted }
-
-pub gave_drawn : (a b : Option (List ℕ)) (x y : ℕ) (bytes : List ℕ) (n : ℕ) → Drawn a b x y bytes → n ≡ length bytes → Gave a b x y n
-gave_drawn a b x y bytes n d long = record { lost = (bytes, d.taken, sym long); counted = d.counted ∙ ap (raised x) (sym long) }
+pub gave_kept : (a b c : SourceTold) (bytes : List ℕ) → Gave (told a b) bytes → Keeps b.left c.left → c.given ≡ b.given → Gave (told a c) bytes
+gave_kept a b c bytes gave kept same = record { taken = Consumes-kept a.left b.left c.left bytes gave.taken kept; counted = same ∙ gave.counted }

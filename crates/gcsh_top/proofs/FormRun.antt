@@ -1,7 +1,6 @@
 -- A run of a form on a store with nothing in it.
-use Rattle.std.proofs.Common.{inl, inr, arith, ◌≡◌, ℕ, List, [], Option, Some, None, refl, sym, ap, subst, ◌∙◌}
-use Rattle.std.specs.Prelude.{◌⊎◌}
-use Rattle.std.specs.Io.KnownBytes.{Appends, Keeps}
+use Rattle.std.proofs.Common.{◌≡◌, ℕ, List, Option, Some, None, refl, subst, ◌∙◌}
+use Rattle.std.specs.Io.KnownBytes.{Keeps}
 use Rattle.std.proofs.KnownBytes.{Appends-kept}
 use Rattle.gc_types.specs.declared.kind.Layouts.{Layouts}
 use Rattle.gc_model.specs.Table.{start, usual_roots}
@@ -57,8 +56,3 @@ ran_form layouts form counter limits limits' input store slots a b c none same i
   no_counter = same ∙ none;
   kept = ran.kept;
 }
-
--- a status of 3 or 5 is not 0
-pub not_done : (status : ℕ) → (status ≡ 3) ⊎ (status ≡ 5) → (status ≡ 0 → ⊥)
-not_done status (inl is) e = omega (arith, is, e)
-not_done status (inr is) e = omega (arith, is, e)

@@ -1,8 +1,8 @@
 -- A last line that is the command `gc`.
-use Rattle.std.proofs.Common.{◌≡◌, ℕ, List, [], ◌∷◌, ◌++◌, codes, refl, sym, ap, subst, ◌∙◌, length, length-append, arith, ◌<◌, ◌+◌, ◌≤◌}
+use Rattle.std.proofs.Common.{◌≡◌, ℕ, List, [], ◌∷◌, ◌++◌, codes, refl, sym, subst, arith}
 use Rattle.gc_commands.specs.declared.command.Command.{Command}
-use Rattle.gc_commands.specs.declared.command.Command.TheVariants.{Bad, Struct, New, I31, Field, SetField, Eq, Enter, Leave, Gc, Grow, Cap}
-use Rattle.gc_commands.specs.Spelling.{IsCommandOf, Spells, max_line}
+use Rattle.gc_commands.specs.declared.command.Command.TheVariants.{Bad, Gc}
+use Rattle.gc_commands.specs.Spelling.{IsCommandOf, Spells}
 use Rattle.gc_commands.proofs.UniqueLemmas.{one_spelling}
 use Rattle.gcsh_top.specs.Runs.{EndsInGc}
 

@@ -1,8 +1,11 @@
 -- What one turn of reading an input keeps.
 use Rattle.std.proofs.Common.{◌≡◌, ℕ, ◌+◌, ◌-◌, ◌<◌, ◌≤◌, min, Bool, List, length, take, IsTrue, rules, Result, Ok, Err, [], ◌∷◌, sym, ap, subst, ◌∙◌, arith, length-append, length-take, length-take-le, ◌++◌}
+use Rattle.std.specs.Prelude.{MatchResult}
 use Rattle.std.specs.Result.{IsErrAnd}
+use Rattle.gc_model.specs.Allocation.{Rose}
 use Rattle.gcsh_top.specs.Counts.{is_end}
-use Rattle.gcsh_top.specs.Input.{IsCount}
+use Rattle.gcsh_top.specs.Ends.{Gave, SourceRun}
+use Rattle.gcsh_top.specs.Input.{Unread}
 use Rattle.gcsh_top.specs.declared.read.ReadFault.{ReadFault}
 use Rattle.gcsh_top.specs.declared.read.ReadFault.TheVariants.{Memory}
 
@@ -19,9 +22,13 @@ ends ended n [] is none some = absurd (omega arith)
 ends ended n (b ∷ buf) is none some = subst IsTrue (sym (is ∙ ap (λ k. is_end k (b ∷ buf)) none)) (search rules)
 
 -- the answer for want of memory
-pub count_at_memory : {A : Type 0} (len : A → ℕ) (r : Result A ReadFault) (n : ℕ) → IsErrAnd r (λ e. e ≡ Memory) → n ≤ 16777216 → IsCount len r n
-count_at_memory len (Ok x) n wanting short = absurd wanting
-count_at_memory len (Err e) n wanting short = subst (λ f. IsCount len (Err f) n) (sym wanting) short
+pub read_at_memory : {A : Type 0} (source : SourceRun) (r : Result A ReadFault) (P : A → Type 0) (bytes : List ℕ) → IsErrAnd r (λ e. e ≡ Memory) → Gave source bytes → length bytes ≤ 16777216 → MatchResult r P (Unread source)
+read_at_memory source (Ok x) P bytes wanting gave short = absurd wanting
+read_at_memory source (Err e) P bytes wanting gave short = subst (Unread source) (sym wanting) (bytes, record { gave = gave; short = short })
+
+-- why an input was not read, where the fault is known
+pub unread_at : (fault : ReadFault) (source : SourceRun) (e : ReadFault) → e ≡ fault → Unread source e → Unread source fault
+unread_at fault source e is unread = subst (Unread source) is unread
 
 long : (items buf : List ℕ) (count : ℕ) → count ≤ length buf → length (items ++ take count buf) ≡ length items + count
 long items buf count within = length-append items (take count buf) ∙ ap (λ k. length items + k) (length-take-le count buf within)
@@ -38,3 +45,10 @@ still_short items buf used used' count is same few within short = let n = long i
 
 pub not_fallen : (a b c : ℕ) → a ≤ b → b ≤ c → a ≤ c
 not_fallen a b c p q = omega arith
+
+-- a count that rose later rose since the start
+pub rose_since : (a b c : ℕ) → a ≤ b → Rose b c → Rose a c
+rose_since a b c before rose = omega (arith, before, rose)
+
+pub short_items : (len n : ℕ) → len ≡ n → len ≤ 16777216 → n ≤ 16777216
+short_items len n same short = omega (arith, same, short)

@@ -5,3 +5,7 @@ pub mod InputLemmas
 pub mod GcLemmas
 pub mod RunLemmas
 pub mod FormRun
+pub mod FormAnswers
+pub mod StatusLaws
+pub mod CutLemmas
+pub mod ProgramLemmas

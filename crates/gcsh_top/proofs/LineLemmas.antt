@@ -50,8 +50,12 @@ unfound_by : (k n : ℕ) (inside : Bool) → nat_lt k n ≡ inside → k ≤ n �
 unfound_by k n true e within none = cc
 unfound_by k n false e within none = let past = ltb-false k n e in omega arith
 
+-- where none was found, none stands before the end
+pub none_found : (bytes : List ℕ) → position (λ b. b == 10) bytes ≡ None → position_or_len (λ b. b == 10) bytes ≡ length bytes
+none_found bytes none =
+    let k = position_or_len (λ b. b == 10) bytes in
+    unfound_by k (length bytes) (nat_lt k (length bytes)) refl (prefix_len-le-length (λ b. not (b == 10)) bytes) none
+
 -- where none was found, a rest that isn't empty is one line
 pub all_at_unfound : (bytes : List ℕ) → 0 < length bytes → position (λ b. b == 10) bytes ≡ None → lines bytes ≡ bytes ∷ []
-all_at_unfound bytes some none =
-    let k = position_or_len (λ b. b == 10) bytes in
-    lines_of_last bytes some (unfound_by k (length bytes) (nat_lt k (length bytes)) refl (prefix_len-le-length (λ b. not (b == 10)) bytes) none)
+all_at_unfound bytes some none = lines_of_last bytes some (none_found bytes none)

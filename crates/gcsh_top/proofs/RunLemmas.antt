@@ -1,7 +1,6 @@
 -- Lines that were run one after the other.
-use Rattle.std.proofs.Common.{◌≡◌, ◌≤◌, ℕ, List, [], ◌∷◌, ◌++◌, Option, Some, None, refl, sym, ap, subst, ◌∙◌, append_assoc, append-nil, length, length-append, arith, ◌<◌, ◌+◌}
-use Rattle.std.specs.Prelude.{Result, Ok, Err, OnOk, OnErr}
-use Rattle.std.specs.Io.KnownBytes.{Appends, Consumes, IsAtEnd, Keeps}
+use Rattle.std.proofs.Common.{◌≡◌, ◌≤◌, ℕ, List, [], ◌∷◌, ◌++◌, Option, Some, None, refl, sym, ap, subst, ◌∙◌, append_assoc, append-nil, length-append, arith}
+use Rattle.std.specs.Io.KnownBytes.{Appends, Keeps}
 use Rattle.std.proofs.KnownBytes.{Appends-nil, Appends-trans}
 use Rattle.gc_types.specs.declared.kind.Layouts.{Layouts}
 use Rattle.gc_model.specs.Allocation.{Limits}
@@ -13,7 +12,6 @@ use Rattle.gc_store.specs.Stores.{IsSameStore}
 use Rattle.gcsh_top.specs.Ends.{TookPart}
 use Rattle.gc_script.specs.Lines.{lines}
 use Rattle.gc_model.specs.Holds.{HoldsKept}
-use Rattle.gc_commands.specs.declared.command.Command.TheVariants.{Gc}
 use Rattle.gcsh_top.specs.Runs.{BrokeOff, RanLine, RanLines, StoppedLines, EndsInGc}
 use Rattle.gcsh_top.proofs.GcLemmas.{is_gc_line, last_line, no_lines}
 

@@ -2,6 +2,10 @@ pub mod Counts
 pub mod Ends
 pub mod Memory
 pub mod Input
+pub mod Cutting
 pub mod Words
+pub mod Statuses
 pub mod Chosen
 pub mod Runs
+pub mod Answers
+pub mod Program

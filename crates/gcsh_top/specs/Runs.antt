@@ -1,8 +1,8 @@
 -- What running lines leaves.
-use Rattle.std.specs.Prelude.{◌≡◌, ℕ, ◌+◌, ◌-◌, ◌^◌, ◌<◌, ◌≤◌, List, [], ◌∷◌, ◌++◌, Option, Some, None, codes, length}
-use Rattle.std.specs.Io.KnownBytes.{Appends, Consumes, IsAtEnd, Keeps}
+use Rattle.std.specs.Prelude.{◌≡◌, ℕ, List, [], ◌∷◌, ◌++◌, Option, Some, None, codes, IsTrue}
+use Rattle.std.specs.Io.KnownBytes.{Appends, Keeps}
 use Rattle.gc_types.specs.declared.kind.Layouts.{Layouts}
-use Rattle.gc_model.specs.Allocation.{Limits}
+use Rattle.gc_model.specs.Allocation.{Limits, Rose}
 use Rattle.gc_model.specs.Table.{Table, start, usual_roots}
 use Rattle.gc_model.specs.Holds.{HoldsKept}
 use Rattle.gc_model.specs.Stores.{StoreView}
@@ -16,13 +16,11 @@ use Rattle.gc_store.specs.Accounts.{HoldsAccount, no_account}
 use Rattle.gc_store.specs.Limiters.{fresh_limits}
 use Rattle.gc_script.specs.Run.{Ran, WantsMemory}
 use Rattle.gc_script.specs.Session.{Session, SessionFrom, reply_line}
+use Rattle.gcsh_top.specs.declared.status.Status.{Status}
+use Rattle.gcsh_top.specs.declared.status.Status.TheVariants.{Done, Usage, ReadFault, WriteFault, TooLong, NoMemory}
 use Rattle.gcsh_top.specs.declared.words.Form.{Form}
-use Rattle.gcsh_top.specs.Ends.{TookPart}
+use Rattle.gcsh_top.specs.Ends.{SinkRun, TookPart}
 use Rattle.gc_script.specs.Lines.{lines}
-use Rattle.gcsh_top.specs.Words.{IsForm, layouts_of}
-use Rattle.gcsh_top.specs.declared.stores.Stores.{Stores}
-use Rattle.gcsh_top.specs.Chosen.{chosen}
-use Rattle.gcsh_top.specs.Input.{max_input}
 
 -- the line is a command that was run, and the sink took its reply
 pub record RanLine (layouts : Layouts) (counter : Option ℕ) (limits limits' : Limits) (s : State) (line : List ℕ) (store : StoreView) (runner : RunnerView) (held held' : Option (List ℕ)) : Type 0 where
@@ -95,41 +93,11 @@ pub data StoppedForm (layouts : Layouts) (form : Form) (input : List ℕ) (held 
   in_lines : (runner : RunnerView) → store.alloc_counter ≡ None → StoppedLines layouts None (fresh_limits (Some form.most)) (begin (first_table form) no_account) input store runner held held' → StoppedForm layouts form input held held' store
   unflushed : RanForm layouts form input held held' store → StoppedForm layouts form input held held' store
 
--- What a whole run on a store did: the input was read to its end; its lines are commands whose replies are a run
--- of the table that begins empty; the output is the replies' texts; and the store holds the table at the end.
-pub record CompletedForm (layouts : Layouts) (form : Form) (left left' held held' : Option (List ℕ)) (store : StoreView) : Type 0 where
-  pub input : List ℕ
-  pub read : Consumes left left' input
-  pub at_end : IsAtEnd left'
-  pub ran : RanForm layouts form input held held' store
-
--- How a run on a store ended before its end: nothing was run, as the input was not read to its end; or it was,
--- and its run stopped.
-pub data BrokenForm (layouts : Layouts) (form : Form) (left left' held held' : Option (List ℕ)) (store : StoreView) : Type 0 where
-  unread : IsReady layouts form store → Keeps held held' → BrokenForm layouts form left left' held held' store
-  unfinished : (input : List ℕ) → Consumes left left' input → IsAtEnd left' → StoppedForm layouts form input held held' store → BrokenForm layouts form left left' held held' store
-
--- What a whole run of the program did, by its words, what the source had left before and after, what the sink
--- held before and after, and the stores.
-pub record Completed (words : List (List ℕ)) (left left' held held' : Option (List ℕ)) (stores : Stores) : Type 0 where
-  pub form : Form
-  pub is_form : IsForm words form
-  pub completed : CompletedForm (layouts_of form.collector) form left left' held held' (chosen form.collector stores)
-
--- How a run of the program with those words ended before its end.
-pub record Stopped (words : List (List ℕ)) (left left' held held' : Option (List ℕ)) (stores : Stores) : Type 0 where
-  pub form : Form
-  pub is_form : IsForm words form
-  pub broken : BrokenForm (layouts_of form.collector) form left left' held held' (chosen form.collector stores)
-
--- The store that the words choose is ready, and nothing was run on it.
-pub record Unrun (words : List (List ℕ)) (stores : Stores) : Type 0 where
-  pub form : Form
-  pub is_form : IsForm words form
-  pub ready : IsReady (layouts_of form.collector) form (chosen form.collector stores)
-
--- The input is not too long: where the source tells its bytes, by their number; else by how many it gave, where
--- that is counted.
-abbrev pub IsShort : Option (List ℕ) → ℕ → ℕ → Type 0
-IsShort (Some bytes) given given' = length bytes ≤ max_input
-IsShort None given given' = (given' ≤ given + max_input) × (given' < 2 ^ 64 - 1)
+-- how the run of an input that was read ended
+abbrev pub EndsRun : Layouts → Form → List ℕ → SinkRun → StoreView → Status → Type 0
+EndsRun layouts form input sink store Done = RanForm layouts form input sink.before.held sink.after.held store × IsTrue sink.after.flushed
+EndsRun layouts form input sink store Usage = ⊥
+EndsRun layouts form input sink store ReadFault = ⊥
+EndsRun layouts form input sink store WriteFault = StoppedForm layouts form input sink.before.held sink.after.held store × Rose sink.before.faults sink.after.faults
+EndsRun layouts form input sink store TooLong = ⊥
+EndsRun layouts form input sink store NoMemory = StoppedForm layouts form input sink.before.held sink.after.held store

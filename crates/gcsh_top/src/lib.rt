@@ -4,17 +4,21 @@
 //! traits: a fault of an end is counted by it, so that whoever is told of a fault can see its cause.
 //! `MemSource` and `MemSink` tell their bytes, so that all that a run does can be stated of them;
 //! `StdSource` and `StdSink` stand before standard input and output, and tell counts alone.
-//! The definitions are in `specs/`: `Ends` (what reads and writes do), `Memory` (the ends in
-//! memory), `Words` (the words of the program), `Runs` (what a run leaves).
+//! The definitions are in `specs/`: `Ends` (what sources and sinks tell, and what reads and writes do),
+//! `Memory` (the ends in memory), `Cutting` (pieces of bytes cut into lines), `Words` (the words of the
+//! program), `Runs` (what running lines leaves), `Answers` (what the top call answers).
 #![tactic(auto)]
 
+pub mod cutter;
 pub mod lines;
 pub mod memory;
+pub mod program;
 pub mod read;
 mod run;
 pub mod sink;
 pub mod source;
 pub mod standard;
+pub mod status;
 pub mod stores;
 #[cfg(test)]
 mod tests;
@@ -22,13 +26,16 @@ pub mod top;
 pub mod words;
 pub mod write;
 
+pub use cutter::{LineCutter, pieces_give_lines};
 pub use lines::next_line;
 pub use memory::{MemSink, MemSource};
+pub use program::{Exit, HELP, VERSION, gcsh_main, run_program};
 pub use read::{MAX_INPUT, ReadFault, read_all};
 pub use sink::{Sink, SinkFault};
 pub use source::{Source, SourceFault};
 pub use standard::{StdSink, StdSource};
+pub use status::Status;
 pub use stores::Stores;
-pub use top::{DONE, NO_MEMORY, READ_FAULT, TOO_LONG, USAGE, WRITE_FAULT, gcsh_top};
+pub use top::{gcsh_top, statuses_are_exact};
 pub use words::{Collector, Form, MAX_PAGES, parse_words};
 pub use write::write_all;

@@ -4,7 +4,7 @@ ghost use Rattle.std.specs.Prelude.{◌≡◌, ◌==◌, ◌<◌, [], ◌∷◌,
 ghost use Rattle.gc_script.specs.Lines.{lines};
 
 /// Ends a line.
-const LINE_FEED: u8 = b'\n';
+pub(crate) const LINE_FEED: u8 = b'\n';
 
 /// The first line of `rest`, without its line feed, and what stands behind it; none where no byte
 /// is left. A last piece without a line feed is a line. Looks at the bytes of that line alone.
@@ -22,7 +22,7 @@ pub fn next_line(rest: &[u8]) -> Option<(&[u8], &[u8])>
 }
 
 /// Where the first line feed stands.
-fn first_line_feed(bytes: &[u8]) -> Option<usize>
+pub(crate) fn first_line_feed(bytes: &[u8]) -> Option<usize>
     ensures { result ≡ position (λ b. b == 10) bytes.now }
 {
     bytes.iter().position(|byte| *byte == LINE_FEED)

@@ -51,13 +51,7 @@ impl MemSource {
 }
 
 impl Source for MemSource {
-    ghost left = { λ s. Some s.left };
-
-    ghost faults = { λ s. s.counts.faults };
-
-    ghost ended = { λ s. s.counts.ended };
-
-    ghost given = { λ s. s.counts.given };
+    ghost tells = { λ s. record { left = Some s.left; faults = s.counts.faults; given = s.counts.given; ended = s.counts.ended } };
 
     fn read(&mut self, buf: &mut [u8]) -> Result<usize, SourceFault>
         ensures fails { IsErr result ↔ Contains self.old.failing (raised self.old.calls 1) }
@@ -138,11 +132,7 @@ impl MemSink {
 }
 
 impl Sink for MemSink {
-    ghost held = { λ s. Some s.held };
-
-    ghost faults = { λ s. s.counts.faults };
-
-    ghost flushed = { λ s. s.counts.flushed };
+    ghost tells = { λ s. record { held = Some s.held; faults = s.counts.faults; flushed = s.counts.flushed } };
 
     fn write(&mut self, bytes: &[u8]) -> Result<usize, SinkFault>
         ensures fails { IsErr result ↔ (Contains self.old.failing (raised self.old.calls 1) ⊎ IsFull self.old bytes.now) }

@@ -1,10 +1,7 @@
 //! Reads an input to its end.
 
-ghost use Rattle.std.specs.Prelude.{ℕ, ◌≤◌, IfOk, IsErrOf, IsTrue, OnOk, vec_len};
-ghost use Rattle.std.specs.Io.KnownBytes.{Consumes, IsAtEnd};
-ghost use Rattle.gc_model.specs.Allocation.{Rose};
-ghost use Rattle.gcsh_top.specs.Ends.{Gave};
-ghost use Rattle.gcsh_top.specs.Input.{IsCount};
+ghost use Rattle.std.specs.Prelude.{◌≤◌, MatchResult};
+ghost use Rattle.gcsh_top.specs.Input.{ReadWhole, Unread};
 
 use crate::source::Source;
 use std::alloc::{AllocError, Global};
@@ -41,15 +38,9 @@ impl From<AllocError> for ReadFault {
 /// Reads the whole input, of at most `MAX_INPUT` bytes. One byte more is read to see that it is
 /// too long, and none behind that one.
 pub fn read_all<S: Source>(alloc: Global, source: &mut S) -> Result<Vec<u8>, ReadFault>
-    ensures whole { IfOk result (λ input. Consumes (S.left source.old) (S.left source.new) input.items) }
-    ensures end { OnOk result (IsAtEnd (S.left source.new)) }
-    ensures ended { OnOk result (IsTrue (S.ended source.new)) }
-
-    // One byte too many was given exactly where the input is too long, and else no more than are allowed.
-    ensures given { (n : ℕ) × IsCount vec_len result n × Gave (S.left source.old) (S.left source.new) (S.given source.old) (S.given source.new) n }
-
-    ensures failed { IsErrOf result ReadFault.Source → Rose (S.faults source.old) (S.faults source.new) }
-    ensures faults { S.faults source.old ≤ S.faults source.new }
+    ensures read { MatchResult result (λ input. ReadWhole (record { before = S.tells source.old; after = S.tells source.new }) input.items)
+        (Unread (record { before = S.tells source.old; after = S.tells source.new })) }
+    ensures faults { (S.tells source.old).faults ≤ (S.tells source.new).faults }
 {
     let mut piece = vec![in alloc; 0u8; PIECE]?;
     let mut input = Vec::new(alloc);

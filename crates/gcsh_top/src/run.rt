@@ -29,10 +29,10 @@ pub(crate) enum LineFault {
 
 /// Writes a reply with its line feed. The text is a buffer that is used again.
 fn write_reply<K: Sink>(text: &mut String, sink: &mut K, reply: &Reply) -> Result<(), LineFault>
-    ensures replied { OnOk result (Appends (K.held sink.old) (K.held sink.new) (reply_line reply.now)) }
-    ensures part { OnErr result (TookPart (K.held sink.old) (K.held sink.new) (reply_line reply.now)) }
-    ensures failed { IsErrOf result LineFault.Sink → Rose (K.faults sink.old) (K.faults sink.new) }
-    ensures faults { K.faults sink.old ≤ K.faults sink.new }
+    ensures replied { OnOk result (Appends (K.tells sink.old).held (K.tells sink.new).held (reply_line reply.now)) }
+    ensures part { OnErr result (TookPart (K.tells sink.old).held (K.tells sink.new).held (reply_line reply.now)) }
+    ensures failed { IsErrOf result LineFault.Sink → Rose (K.tells sink.old).faults (K.tells sink.new).faults }
+    ensures faults { (K.tells sink.old).faults ≤ (K.tells sink.new).faults }
 {
     text.clear();
     if push_reply(text, reply).is_err() || text.push_str("\n").is_err() {
@@ -54,10 +54,10 @@ fn run_line<H: GcHeap, L: ResourceLimiter, K: Sink>(
     text: &mut String,
     sink: &mut K,
 ) -> Result<(), LineFault>
-    ensures ran { OnOk result ((s : State) → HoldsState H.KIND store.old runner.old s → RanLine H.KIND store.old.alloc_counter (L.limits limiter.old) (L.limits limiter.new) s line.now store.new runner.new (K.held sink.old) (K.held sink.new)) }
-    ensures broke_off { OnErr result ((s : State) → HoldsState H.KIND store.old runner.old s → BrokeOff H.KIND store.old.alloc_counter (L.limits limiter.old) s line.now store.new runner.new (K.held sink.old) (K.held sink.new)) }
-    ensures failed { IsErrOf result LineFault.Sink → Rose (K.faults sink.old) (K.faults sink.new) }
-    ensures faults { K.faults sink.old ≤ K.faults sink.new }
+    ensures ran { OnOk result ((s : State) → HoldsState H.KIND store.old runner.old s → RanLine H.KIND store.old.alloc_counter (L.limits limiter.old) (L.limits limiter.new) s line.now store.new runner.new (K.tells sink.old).held (K.tells sink.new).held) }
+    ensures broke_off { OnErr result ((s : State) → HoldsState H.KIND store.old runner.old s → BrokeOff H.KIND store.old.alloc_counter (L.limits limiter.old) s line.now store.new runner.new (K.tells sink.old).held (K.tells sink.new).held) }
+    ensures failed { IsErrOf result LineFault.Sink → Rose (K.tells sink.old).faults (K.tells sink.new).faults }
+    ensures faults { (K.tells sink.old).faults ≤ (K.tells sink.new).faults }
     ensures same { IsSameStore store.old store.new }
 {
     let Ok(command) = parse_line(alloc, line) else {
@@ -78,10 +78,10 @@ pub(crate) fn run_lines<H: GcHeap, L: ResourceLimiter, K: Sink>(
     input: &[u8],
     sink: &mut K,
 ) -> Result<(), LineFault>
-    ensures ran { OnOk result ((s : State) → HoldsState H.KIND store.old runner.old s → RanLines H.KIND store.old.alloc_counter (L.limits limiter.old) (L.limits limiter.new) s input.now store.new runner.new (K.held sink.old) (K.held sink.new)) }
-    ensures stopped { OnErr result ((s : State) → HoldsState H.KIND store.old runner.old s → StoppedLines H.KIND store.old.alloc_counter (L.limits limiter.old) s input.now store.new runner.new (K.held sink.old) (K.held sink.new)) }
-    ensures failed { IsErrOf result LineFault.Sink → Rose (K.faults sink.old) (K.faults sink.new) }
-    ensures faults { K.faults sink.old ≤ K.faults sink.new }
+    ensures ran { OnOk result ((s : State) → HoldsState H.KIND store.old runner.old s → RanLines H.KIND store.old.alloc_counter (L.limits limiter.old) (L.limits limiter.new) s input.now store.new runner.new (K.tells sink.old).held (K.tells sink.new).held) }
+    ensures stopped { OnErr result ((s : State) → HoldsState H.KIND store.old runner.old s → StoppedLines H.KIND store.old.alloc_counter (L.limits limiter.old) s input.now store.new runner.new (K.tells sink.old).held (K.tells sink.new).held) }
+    ensures failed { IsErrOf result LineFault.Sink → Rose (K.tells sink.old).faults (K.tells sink.new).faults }
+    ensures faults { (K.tells sink.old).faults ≤ (K.tells sink.new).faults }
     ensures same { IsSameStore store.old store.new }
 {
     let mut text = String::new(alloc);

@@ -43,13 +43,7 @@ impl<R: Read> StdSource<R> {
 }
 
 impl<R: Read> Source for StdSource<R> {
-    ghost left = { λ _. None };
-
-    ghost faults = { λ s. s.faults };
-
-    ghost ended = { λ s. s.ended };
-
-    ghost given = { λ s. s.given };
+    ghost tells = { λ s. record { left = None; faults = s.faults; given = s.given; ended = s.ended } };
 
     fn read(&mut self, buf: &mut [u8]) -> Result<usize, SourceFault>
         ensures within { IfOk result (λ n. n ≤ length buf.new) }
@@ -100,11 +94,7 @@ impl<W: Write> StdSink<W> {
 }
 
 impl<W: Write> Sink for StdSink<W> {
-    ghost held = { λ _. None };
-
-    ghost faults = { λ s. s.faults };
-
-    ghost flushed = { λ s. s.flushed };
+    ghost tells = { λ s. record { held = None; faults = s.faults; flushed = s.flushed } };
 
     fn write(&mut self, bytes: &[u8]) -> Result<usize, SinkFault>
         ensures within { IfOk result (λ n. n ≤ length bytes.now) }

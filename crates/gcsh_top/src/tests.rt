@@ -1,12 +1,14 @@
 //! Ends that fail, inputs at their limit, words of the program, lines of an input.
 
 use crate::{
-    Collector, Form, MAX_INPUT, MemSink, MemSource, ReadFault, Sink, SinkFault, Source,
-    SourceFault, StdSink, StdSource, next_line, parse_words, read_all, write_all,
+    Collector, Form, HELP, LineCutter, MAX_INPUT, MemSink, MemSource, ReadFault, Sink, SinkFault,
+    Source, SourceFault, Status, StdSink, StdSource, gcsh_main, next_line, parse_words, read_all,
+    run_program, write_all,
 };
 use std::alloc::{AllocError, Global};
 use std::io;
 use std::io::{BufWriter, ErrorKind, Read, Write};
+use std::process::{ExitCode, Termination};
 use std::test::Fail;
 
 /// A source of these bytes, whose reads of these numbers fail.
@@ -236,5 +238,97 @@ fn ends_over_std_pass_on_what_std_gives(rt: HostRuntime) -> Result<(), Fail> {
     let mut broken = StdSink::new(Broken);
     assert_eq!(rt; write_all(&mut broken, b"cap 0\n"), Err(SinkFault));
     assert_eq!(rt; broken.flush(), Err(SinkFault));
+    Ok(())
+}
+
+#[test]
+fn the_program_shows_its_texts_or_runs(rt: HostRuntime) -> Result<(), Fail> {
+    let turns: [(&str, Status, &str); 6] = [
+        ("--help", Status::Done, HELP),
+        ("--version", Status::Done, "gcsh 0.1.0\n"),
+        ("--version --help", Status::Usage, ""),
+        ("", Status::Usage, ""),
+        ("null 1 64", Status::Done, "cap 0\n"),
+        ("copying 1 64", Status::Done, "cap 0\n"),
+    ];
+    for (text, want, held) in turns {
+        let mut words = Vec::new(rt.alloc());
+        for word in text.split_whitespace() {
+            words.push(String::from_str(rt.alloc(), word)?)?;
+        }
+        let mut source = source_of(rt.alloc(), b"cap\n", &[])?;
+        let mut sink = sink_of(rt.alloc(), 4096, &[])?;
+        let status = run_program(rt.alloc(), words.as_slice(), &mut source, &mut sink);
+        assert_eq!(rt; status, want, "{text}");
+        assert_eq!(rt; sink.bytes(), held.as_bytes());
+    }
+    Ok(())
+}
+
+#[test]
+fn words_that_cannot_be_had_have_their_status(rt: HostRuntime) -> Result<(), Fail> {
+    for (kind, want) in [(ErrorKind::OutOfMemory, 5), (ErrorKind::InvalidData, 1)] {
+        let exit = gcsh_main(
+            rt.alloc(),
+            Err(kind.into()),
+            b"".as_slice(),
+            Vec::new(rt.alloc()),
+        );
+        assert_eq!(rt; exit.report(&rt), ExitCode::from(want));
+    }
+    Ok(())
+}
+
+#[test]
+fn a_cutter_gives_the_same_lines_over_every_cut(rt: HostRuntime) -> Result<(), Fail> {
+    let cuts: [&[&str]; 4] = [
+        &["field 1 0\n\ncap\nle"],
+        &["field", " 1 0\n", "\n", "cap", "\n", "le"],
+        &["field 1 0", "\n\ncap\nl", "e"],
+        &["", "field 1 0\n\nc", "", "ap\nle", ""],
+    ];
+    for pieces in cuts {
+        let mut cutter = LineCutter::new(rt.alloc());
+        let mut ended = Vec::new(rt.alloc());
+        for piece in pieces {
+            let mut rest = piece.as_bytes();
+            while !rest.is_empty() {
+                let (taken, is_ended) = cutter.feed(rest)?;
+                assert!(rt; 0 < taken && taken <= rest.len());
+                if is_ended {
+                    ended.extend_from_slice(cutter.line())?;
+                    ended.push(b'|')?;
+                    cutter.clear();
+                }
+                rest = &rest[taken..];
+            }
+        }
+        assert_eq!(rt; ended.as_slice(), b"field 1 0||cap|".as_slice());
+        assert_eq!(rt; cutter.line(), b"le".as_slice());
+    }
+    Ok(())
+}
+
+#[test]
+fn a_long_line_keeps_its_front_and_a_mark(rt: HostRuntime) -> Result<(), Fail> {
+    for (length, held, is_long) in [
+        (1_048_575, 1_048_575, false),
+        (1_048_576, 1_048_576, false),
+        (1_048_577, 1_048_576, true),
+        (2_000_000, 1_048_576, true),
+    ] {
+        let mut cutter = LineCutter::new(rt.alloc());
+        let front = vec![in rt.alloc(); b'a'; 1_000_000]?;
+        let rest = vec![in rt.alloc(); b'a'; length - 1_000_000]?;
+        assert_eq!(rt; cutter.feed(&front), Ok((1_000_000, false)));
+        assert_eq!(rt; cutter.feed(&rest), Ok((length - 1_000_000, false)));
+        assert_eq!(rt; cutter.feed(b"\n\n"), Ok((1, true)));
+        assert_eq!(rt; cutter.held(), held);
+        assert_eq!(rt; cutter.is_long(), is_long);
+        cutter.clear();
+        assert_eq!(rt; cutter.feed(b"cap\n"), Ok((4, true)));
+        assert_eq!(rt; cutter.line(), b"cap".as_slice());
+        assert_eq!(rt; cutter.is_long(), false);
+    }
     Ok(())
 }

@@ -1,20 +1,25 @@
 //! The top call of the program.
 
-ghost use Rattle.std.specs.Prelude.{◌≡◌, ◌≤◌, ◌+◌, ◌↔◌, ◌⊎◌, ℕ, IsTrue, map, string_bytes};
+ghost use Rattle.std.specs.Prelude.{◌≡◌, ◌+◌, ◌≤◌, ◌⊎◌, ◌↔◌, ℕ, List, length, map, string_bytes};
 ghost use Rattle.gc_store.specs.Stores.{HoldsStart};
-ghost use Rattle.gcsh_top.specs.declared.words.Form.{Form};
 ghost use Rattle.gc_view.specs.Pages.{max_pages};
 ghost use Rattle.gc_model.specs.Allocation.{Rose};
-ghost use Rattle.gcsh_top.specs.Chosen.{AreNew, OthersStay, HasSameId, AreSameStores};
-ghost use Rattle.gcsh_top.specs.Ends.{Gave};
+ghost use Rattle.gcsh_top.specs.Answers.{Answers, IsShort, RanOn, RanWords};
+ghost use Rattle.gcsh_top.specs.Chosen.{AreNew, HasSameId};
+ghost use Rattle.gcsh_top.specs.Runs.{EndsRun, IsReady};
+ghost use Rattle.gcsh_top.specs.Statuses.{code_of};
+ghost use Rattle.gcsh_top.specs.Ends.{Gave, SinkRun, SourceRun};
 ghost use Rattle.gcsh_top.specs.Input.{max_input};
-ghost use Rattle.gcsh_top.specs.Runs.{BrokenForm, Completed, CompletedForm, IsReady, IsShort, RanForm, Stopped, StoppedForm, Unrun};
 ghost use Rattle.gcsh_top.specs.Words.{IsForm};
+ghost use Rattle.gcsh_top.specs.declared.status.Status.{Status};
+ghost use Rattle.gcsh_top.specs.declared.stores.Stores.{Stores};
+ghost use Rattle.gcsh_top.specs.declared.words.Form.{Form};
 
 use crate::read::{ReadFault, read_all};
 use crate::run::{LineFault, run_lines};
 use crate::sink::Sink;
 use crate::source::Source;
+use crate::status::Status;
 use crate::stores::Stores;
 use crate::words::{Collector, Form, parse_words};
 use gc_heap::GcHeap;
@@ -22,28 +27,9 @@ use gc_script::Runner;
 use gc_store::{HeapConfig, PageLimit, Store};
 use std::alloc::Global;
 
-/// The input was read to its end, and every line has its reply.
-pub const DONE: u8 = 0;
-
-/// The words are of no form that is built. Nothing was read or written.
-pub const USAGE: u8 = 1;
-
-/// The source failed. Nothing was written.
-pub const READ_FAULT: u8 = 2;
-
-/// The sink failed.
-pub const WRITE_FAULT: u8 = 3;
-
-/// The input has more bytes than `MAX_INPUT`. Nothing was written.
-pub const TOO_LONG: u8 = 4;
-
-/// There was no memory.
-pub const NO_MEMORY: u8 = 5;
-
 /// Runs the program: `words` are those behind its name. The chosen store begins with FIRST pages,
 /// and has at most MOST. The input is read to its end, then each line is run and its reply written,
-/// with a line feed. The answer is the status that the program ends with, one of `DONE`, `USAGE`,
-/// `READ_FAULT`, `WRITE_FAULT`, `TOO_LONG` and `NO_MEMORY`.
+/// with a line feed. The answer is the number of a [`Status`], which the program ends with.
 pub fn gcsh_top<S: Source, K: Sink>(
     alloc: Global,
     words: &[String],
@@ -52,31 +38,36 @@ pub fn gcsh_top<S: Source, K: Sink>(
     stores: &mut Stores,
 ) -> u8
     requires { AreNew stores.old }
-    ensures status { result ≤ 5 }
-    ensures done { result ≡ 0 → Completed (map string_bytes words.now) (S.left source.old) (S.left source.new) (K.held sink.old) (K.held sink.new) stores.new }
-    ensures ended { result ≡ 0 → IsTrue (S.ended source.new) }
-    ensures flushed { result ≡ 0 → IsTrue (K.flushed sink.new) }
-    ensures usage { (result ≡ 1) ↔ ((form : Form) → ¬ IsForm (map string_bytes words.now) form) }
+    ensures answers { (status : Status) × (result ≡ code_of status) × Answers (map string_bytes words.now)
+        (record { before = S.tells source.old; after = S.tells source.new }) (record { before = K.tells sink.old; after = K.tells sink.new }) stores.old stores.new status }
     ensures untouched { result ≡ 1 → (source.new ≡ source.old) × (sink.new ≡ sink.old) × (stores.new ≡ stores.old) }
-    ensures read_fault { result ≡ 2 → Rose (S.faults source.old) (S.faults source.new) }
-    ensures write_fault { result ≡ 3 → Rose (K.faults sink.old) (K.faults sink.new) }
-    ensures given { (n : ℕ) × Gave (S.left source.old) (S.left source.new) (S.given source.old) (S.given source.new) n × (n ≤ max_input + 1) × ((result ≡ 4) ↔ (n ≡ max_input + 1)) }
-    ensures unrun { (result ≡ 2) ⊎ (result ≡ 4) → Unrun (map string_bytes words.now) stores.new }
-    ensures stopped { (result ≡ 3) ⊎ (result ≡ 5) → Stopped (map string_bytes words.now) (S.left source.old) (S.left source.new) (K.held sink.old) (K.held sink.new) stores.new }
     ensures unwritten { (result ≡ 2) ⊎ (result ≡ 4) → sink.new ≡ sink.old }
-    ensures complete { (form : Form) → IsForm (map string_bytes words.now) form → ¬ Rose (S.faults source.old) (S.faults source.new) → ¬ Rose (K.faults sink.old) (K.faults sink.new)
-        → IsShort (S.left source.old) (S.given source.old) (S.given source.new) → (result ≡ 0) ⊎ (result ≡ 5) }
-    ensures others { (form : Form) → IsForm (map string_bytes words.now) form → OthersStay form.collector stores.old stores.new }
-    ensures same { AreSameStores stores.old stores.new }
+{
+    run_words(alloc, words, source, sink, stores).code()
+}
+
+/// Runs the program on its words.
+pub(crate) fn run_words<S: Source, K: Sink>(
+    alloc: Global,
+    words: &[String],
+    source: &mut S,
+    sink: &mut K,
+    stores: &mut Stores,
+) -> Status
+    requires { AreNew stores.old }
+    ensures answers { Answers (map string_bytes words.now) (record { before = S.tells source.old; after = S.tells source.new })
+        (record { before = K.tells sink.old; after = K.tells sink.new }) stores.old stores.new result }
+    ensures untouched { result ≡ Status.Usage → (source.new ≡ source.old) × (sink.new ≡ sink.old) × (stores.new ≡ stores.old) }
+    ensures unwritten { (result ≡ Status.ReadFault) ⊎ (result ≡ Status.TooLong) → sink.new ≡ sink.old }
 {
     let Some(form) = parse_words(words) else {
-        return USAGE;
+        return Status::Usage;
     };
     match form.collector {
         Collector::Copying => run_on(alloc, form, source, sink, &mut stores.copying),
         Collector::Null => run_on(alloc, form, source, sink, &mut stores.null),
         // No words are of this form.
-        Collector::Counting => USAGE,
+        Collector::Counting => Status::Usage,
     }
 }
 
@@ -87,27 +78,20 @@ fn run_on<H: GcHeap, S: Source, K: Sink>(
     source: &mut S,
     sink: &mut K,
     store: &mut Store<H, u64>,
-) -> u8
+) -> Status
     requires first { form.first ≤ max_pages }
     requires start { HoldsStart ℕ H.KIND store.old }
-    ensures status { (result ≡ 0) ⊎ ((result ≡ 2) ⊎ ((result ≡ 3) ⊎ ((result ≡ 4) ⊎ (result ≡ 5)))) }
-    ensures done { result ≡ 0 → CompletedForm H.KIND form (S.left source.old) (S.left source.new) (K.held sink.old) (K.held sink.new) store.new }
-    ensures ended { result ≡ 0 → IsTrue (S.ended source.new) }
-    ensures flushed { result ≡ 0 → IsTrue (K.flushed sink.new) }
-    ensures read_fault { result ≡ 2 → Rose (S.faults source.old) (S.faults source.new) }
-    ensures write_fault { result ≡ 3 → Rose (K.faults sink.old) (K.faults sink.new) }
-    ensures given { (n : ℕ) × Gave (S.left source.old) (S.left source.new) (S.given source.old) (S.given source.new) n × (n ≤ max_input + 1) × ((result ≡ 4) ↔ (n ≡ max_input + 1)) }
-    ensures unrun { (result ≡ 2) ⊎ (result ≡ 4) → IsReady H.KIND form store.new }
-    ensures stopped { (result ≡ 3) ⊎ (result ≡ 5) → BrokenForm H.KIND form (S.left source.old) (S.left source.new) (K.held sink.old) (K.held sink.new) store.new }
-    ensures unwritten { (result ≡ 2) ⊎ (result ≡ 4) → sink.new ≡ sink.old }
+    ensures ran { RanOn H.KIND form (record { before = S.tells source.old; after = S.tells source.new })
+        (record { before = K.tells sink.old; after = K.tells sink.new }) store.new result }
+    ensures unwritten { (result ≡ Status.ReadFault) ⊎ (result ≡ Status.TooLong) → sink.new ≡ sink.old }
     ensures same { HasSameId store.old store.new }
 {
     configure(form, store);
     let input = match read_all(alloc, source) {
         Ok(input) => input,
-        Err(ReadFault::Source) => return READ_FAULT,
-        Err(ReadFault::TooLong) => return TOO_LONG,
-        Err(ReadFault::Memory) => return NO_MEMORY,
+        Err(ReadFault::Source) => return Status::ReadFault,
+        Err(ReadFault::TooLong) => return Status::TooLong,
+        Err(ReadFault::Memory) => return Status::NoMemory,
     };
     run_form(alloc, form, input.as_slice(), sink, store)
 }
@@ -132,23 +116,32 @@ fn run_form<H: GcHeap, K: Sink>(
     input: &[u8],
     sink: &mut K,
     store: &mut Store<H, u64>,
-) -> u8
+) -> Status
     requires { IsReady H.KIND form store.old }
-    ensures status { (result ≡ 0) ⊎ ((result ≡ 3) ⊎ (result ≡ 5)) }
-    ensures done { result ≡ 0 → RanForm H.KIND form input.now (K.held sink.old) (K.held sink.new) store.new }
-    ensures flushed { result ≡ 0 → IsTrue (K.flushed sink.new) }
-    ensures stopped { (result ≡ 0 → ⊥) → StoppedForm H.KIND form input.now (K.held sink.old) (K.held sink.new) store.new }
-    ensures write_fault { result ≡ 3 → Rose (K.faults sink.old) (K.faults sink.new) }
+    ensures ends { EndsRun H.KIND form input.now (record { before = K.tells sink.old; after = K.tells sink.new }) store.new result }
     ensures same { HasSameId store.old store.new }
 {
     let mut limiter = PageLimit::new(form.most);
     let mut runner = Runner::new(alloc);
     match run_lines(alloc, &mut runner, store, &mut limiter, input, sink) {
-        Err(LineFault::Sink) => WRITE_FAULT,
-        Err(LineFault::Memory) => NO_MEMORY,
+        Err(LineFault::Sink) => Status::WriteFault,
+        Err(LineFault::Memory) => Status::NoMemory,
         Ok(()) => match sink.flush() {
-            Ok(()) => DONE,
-            Err(_) => WRITE_FAULT,
+            Ok(()) => Status::Done,
+            Err(_) => Status::WriteFault,
         },
     }
 }
+
+/// What the answer decides: it is `Usage` exactly where the words are of no form; else the source gave
+/// one byte more than an input may have exactly at `TooLong`, and no more at any status; and where the
+/// words are of a form, no end failed and the input is not too long, it is `Done` or `NoMemory`.
+pub fn statuses_are_exact()
+    ensures usage { (words : List (List ℕ)) (source : SourceRun) (sink : SinkRun) (old new : Stores) (status : Status) → Answers words source sink old new status
+        → (status ≡ Status.Usage) ↔ ((form : Form) → ¬ IsForm words form) }
+    ensures given { (words : List (List ℕ)) (source : SourceRun) (sink : SinkRun) (old new : Stores) (status : Status) → RanWords words source sink old new status
+        → (bytes : List ℕ) × Gave source bytes × (length bytes ≤ max_input + 1) × ((status ≡ Status.TooLong) ↔ (length bytes ≡ max_input + 1)) }
+    ensures complete { (words : List (List ℕ)) (source : SourceRun) (sink : SinkRun) (old new : Stores) (status : Status) (form : Form) → Answers words source sink old new status
+        → IsForm words form → ¬ Rose source.before.faults source.after.faults → ¬ Rose sink.before.faults sink.after.faults
+        → IsShort source.before.left source.before.given source.after.given → (status ≡ Status.Done) ⊎ (status ≡ Status.NoMemory) }
+{}

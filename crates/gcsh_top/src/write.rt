@@ -10,10 +10,10 @@ use crate::sink::{Sink, SinkFault};
 /// Writes all of `bytes`, in as many writes as the sink makes of it. After a fault the sink took
 /// a front of them.
 pub fn write_all<K: Sink>(sink: &mut K, bytes: &[u8]) -> Result<(), SinkFault>
-    ensures ok { OnOk result (Appends (K.held sink.old) (K.held sink.new) bytes.now) }
-    ensures part { OnErr result (TookPart (K.held sink.old) (K.held sink.new) bytes.now) }
-    ensures failed { OnErr result (Rose (K.faults sink.old) (K.faults sink.new)) }
-    ensures faults { K.faults sink.old ≤ K.faults sink.new }
+    ensures ok { OnOk result (Appends (K.tells sink.old).held (K.tells sink.new).held bytes.now) }
+    ensures part { OnErr result (TookPart (K.tells sink.old).held (K.tells sink.new).held bytes.now) }
+    ensures failed { OnErr result (Rose (K.tells sink.old).faults (K.tells sink.new).faults) }
+    ensures faults { (K.tells sink.old).faults ≤ (K.tells sink.new).faults }
 {
     let mut rest = bytes;
     while !rest.is_empty() {

@@ -1,4 +1,4 @@
-use Rattle.gcsh_top.specs.Runs.{not_read, not_run, not_written}
+use Rattle.gcsh_top.specs.Runs.{not_run, not_written}
 use Rattle.gc_script.proofs.ResultLemmas.{on_ok, on_err}
 use Rattle.gcsh_top.proofs.RunLemmas.{keeps_same}
 use Rattle.gc_script.proofs.KeptLemmas.{kept_after}

@@ -1,4 +1,4 @@
-use Rattle.std.proofs.Common.{◌≤◌, ℕ, refl, sym, ap, arith, ◌∙◌}
+use Rattle.std.proofs.Common.{refl, arith}
 use Rattle.gc_script.proofs.StandLemmas.{same_twice}
 use Rattle.gc_script.proofs.ResultLemmas.{on_any_err}
 use Rattle.gcsh_top.proofs.RunLemmas.{ran_from, broke_from, along_start, along_more, along_end, along_broken}

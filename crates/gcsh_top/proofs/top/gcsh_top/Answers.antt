@@ -1,0 +1,12 @@
+use Rattle.std.proofs.Common.{sym, ◌∙◌}
+use Rattle.gcsh_top.proofs.FormAnswers.{unread_of, usage_of}
+use Rattle.gcsh_top.proofs.top.gcsh_top.Goals as goal
+
+pub returns-clause-answers : goal.returns-clause-answers
+returns-clause-answers g c = (c.run_words.result, c.code.ensures, c.run_words.ensures.answers)
+
+pub returns-clause-untouched : goal.returns-clause-untouched
+returns-clause-untouched g c is = c.run_words.ensures.untouched (usage_of c.run_words.result (sym c.code.ensures ∙ is))
+
+pub returns-clause-unwritten : goal.returns-clause-unwritten
+returns-clause-unwritten g c is = c.run_words.ensures.unwritten (unread_of c.run_words.result c.code.result c.code.ensures is)

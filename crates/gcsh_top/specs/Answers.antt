@@ -1,0 +1,66 @@
+-- What the top call answers: one relation by its status.
+use Rattle.std.specs.Prelude.{◌≡◌, ℕ, ◌+◌, ◌-◌, ◌^◌, ◌<◌, ◌≤◌, ◌⊎◌, IsTrue, List, Option, Some, None, length}
+use Rattle.gc_types.specs.declared.kind.Layouts.{Layouts}
+use Rattle.gc_model.specs.Allocation.{Rose}
+use Rattle.gc_model.specs.Stores.{StoreView}
+use Rattle.gcsh_top.specs.declared.status.Status.{Status}
+use Rattle.gcsh_top.specs.declared.status.Status.TheVariants.{Done, Usage, ReadFault, WriteFault, TooLong, NoMemory}
+use Rattle.gcsh_top.specs.declared.stores.Stores.{Stores}
+use Rattle.gcsh_top.specs.declared.words.Form.{Form}
+use Rattle.gcsh_top.specs.Chosen.{AreSameStores, OthersStay, chosen}
+use Rattle.gcsh_top.specs.Ends.{Gave, SinkRun, SourceRun}
+use Rattle.gcsh_top.specs.Input.{ReadWhole, max_input}
+use Rattle.gcsh_top.specs.Runs.{IsReady, RanForm, StoppedForm}
+use Rattle.gcsh_top.specs.Words.{IsForm, layouts_of}
+
+-- Every line of the input has its reply: the input was read to its end; its lines are commands whose replies are a run
+-- of the table that begins empty; the output is the replies' texts, and was flushed; the store holds the table at the
+-- end.
+pub record Completed (layouts : Layouts) (form : Form) (source : SourceRun) (sink : SinkRun) (store : StoreView) : Type 0 where
+  pub input : List ℕ
+  pub whole : ReadWhole source input
+  pub ran : RanForm layouts form input sink.before.held sink.after.held store
+  pub flushed : IsTrue sink.after.flushed
+
+-- The input was read to its end, and its run stopped before all was written and flushed.
+pub record Stopped (layouts : Layouts) (form : Form) (source : SourceRun) (sink : SinkRun) (store : StoreView) : Type 0 where
+  pub input : List ℕ
+  pub whole : ReadWhole source input
+  pub stopped : StoppedForm layouts form input sink.before.held sink.after.held store
+
+-- Nothing was run and nothing written: the input was not read to its end, of which these bytes were given.
+pub record Unrun (layouts : Layouts) (form : Form) (source : SourceRun) (sink : SinkRun) (store : StoreView) (bytes : List ℕ) : Type 0 where
+  pub gave : Gave source bytes
+  pub ready : IsReady layouts form store
+  pub unwritten : sink.after ≡ sink.before
+
+-- How the run of a form on its new store ended, and what it left.
+abbrev pub RanOn : Layouts → Form → SourceRun → SinkRun → StoreView → Status → Type 0
+RanOn layouts form source sink store Done = Completed layouts form source sink store
+RanOn layouts form source sink store Usage = ⊥
+RanOn layouts form source sink store ReadFault =
+    ((bytes : List ℕ) × Unrun layouts form source sink store bytes × (length bytes ≤ max_input)) × Rose source.before.faults source.after.faults
+RanOn layouts form source sink store WriteFault = Stopped layouts form source sink store × Rose sink.before.faults sink.after.faults
+RanOn layouts form source sink store TooLong = (bytes : List ℕ) × Unrun layouts form source sink store bytes × (length bytes ≡ max_input + 1)
+RanOn layouts form source sink store NoMemory =
+    ((bytes : List ℕ) × Unrun layouts form source sink store bytes × (length bytes ≤ max_input)) ⊎ Stopped layouts form source sink store
+
+-- The words are those of a form, whose run on the store that they choose ended so. The other store is as it was, and
+-- each has its id still.
+pub record RanWords (words : List (List ℕ)) (source : SourceRun) (sink : SinkRun) (old new : Stores) (status : Status) : Type 0 where
+  pub form : Form
+  pub is_form : IsForm words form
+  pub ran : RanOn (layouts_of form.collector) form source sink (chosen form.collector new) status
+  pub others : OthersStay form.collector old new
+  pub same : AreSameStores old new
+
+-- What the top call answers: that the words are of no form, where nothing is touched; else how the run ended.
+abbrev pub Answers : List (List ℕ) → SourceRun → SinkRun → Stores → Stores → Status → Type 0
+Answers words source sink old new Usage = (form : Form) → ¬ IsForm words form
+Answers words source sink old new status = RanWords words source sink old new status
+
+-- The input is not too long: where the source tells its bytes, by their number; else by how many it gave, where that
+-- is counted.
+abbrev pub IsShort : Option (List ℕ) → ℕ → ℕ → Type 0
+IsShort (Some bytes) given given' = length bytes ≤ max_input
+IsShort None given given' = (given' ≤ given + max_input) × (given' < 2 ^ 64 - 1)
