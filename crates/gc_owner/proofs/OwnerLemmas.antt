@@ -140,7 +140,7 @@ module _ (r : RootsView) (layouts : Layouts) (types : List Declaration) (h : Hea
 
 -- Owners by their parts
 
-abbrev pub kind_of : {H S : Type 0} → Layouts → (H → HeapView) → (H → Type 0) → (Start → ℕ → Bool → H → S → List Root → List Declaration → (ℕ → Bool) → Type 0) → Kind H S
+abbrev pub kind_of : {H S : Type 0} → Layouts → (H → HeapView) → (H → Type 0) → (Start → ℕ → Bool → Stage H S → Type 0) → Kind H S
 kind_of layouts seen sound under_way = record { layouts = layouts; seen = seen; sound = sound; under_way = under_way }
 
 module _ {H S D : Type 0} (layouts : Layouts) (seen : H → HeapView) (sound : H → Type 0) (under_way : Start → ℕ → Bool → Stage H S → Type 0)
