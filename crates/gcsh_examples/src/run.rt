@@ -1,7 +1,7 @@
 //! Runs a script, and compares what it gives.
 
 use crate::fault::ExampleFault;
-use gcsh_top::{DONE, MemSink, MemSource, Stores, gcsh_top};
+use gcsh_top::{MemSink, MemSource, Status, Stores, gcsh_top};
 use std::alloc::{AllocError, Global};
 use std::fmt::{Display, Formatter};
 use std::{fmt, str};
@@ -67,7 +67,7 @@ fn words_of(alloc: Global, text: &str) -> Result<Vec<String>, AllocError> {
 
 /// How an example ended that had this status and gave this output.
 pub(crate) fn outcome_of<'a>(status: u8, output: &'a str, wanted: &'a str) -> Outcome<'a> {
-    if status != DONE {
+    if status != Status::Done.code() {
         return Outcome::Ended(status);
     }
     if output == wanted {
