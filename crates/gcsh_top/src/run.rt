@@ -91,8 +91,12 @@ fn run_line<H: GcHeap, L: ResourceLimiter, K: Sink>(
     text: &mut String,
     sink: &mut K,
 ) -> Result<(), LineFault>
-    ensures ran { OnOk result ((line : List ℕ) (s : State) → kept.now ≡ kept_of line → HoldsState H.KIND store.old runner.old s → RanLine H.KIND store.old.alloc_counter (L.limits limiter.old) (L.limits limiter.new) s line store.new runner.new (K.tells sink.old).held (K.tells sink.new).held) }
-    ensures broke_off { OnErr result ((line : List ℕ) (s : State) → kept.now ≡ kept_of line → HoldsState H.KIND store.old runner.old s → BrokeOff H.KIND store.old.alloc_counter (L.limits limiter.old) s line store.new runner.new (K.tells sink.old).held (K.tells sink.new).held) }
+    ensures ran { OnOk result ((line : List ℕ) (s : State) → kept.now ≡ kept_of line → HoldsState H.KIND store.old runner.old s
+        → RanLine H.KIND store.old.alloc_counter (L.limits limiter.old) (L.limits limiter.new) s line store.new runner.new
+        (K.tells sink.old).held (K.tells sink.new).held) }
+    ensures broke_off { OnErr result ((line : List ℕ) (s : State) → kept.now ≡ kept_of line → HoldsState H.KIND store.old runner.old s
+        → BrokeOff H.KIND store.old.alloc_counter (L.limits limiter.old) s line store.new runner.new
+        (K.tells sink.old).held (K.tells sink.new).held) }
     ensures failed { IsErrOf result LineFault.Sink → Rose (K.tells sink.old).faults (K.tells sink.new).faults }
     ensures faults { (K.tells sink.old).faults ≤ (K.tells sink.new).faults }
     ensures same { IsSameStore store.old store.new }
@@ -117,8 +121,12 @@ fn run_lines<H: GcHeap, L: ResourceLimiter, K: Sink>(
     piece: &[u8],
     sink: &mut K,
 ) -> Result<bool, LineFault>
-    ensures ran { OnOk result ((bytes : List ℕ) (s : State) → IsUnfinished cutter.old bytes → HoldsState H.KIND store.old runner.old s → RanPiece H.KIND store.old.alloc_counter (L.limits limiter.old) (L.limits limiter.new) s (bytes ++ piece.now) cutter.new store.old store.new runner.new (K.tells sink.old).held (K.tells sink.new).held) }
-    ensures stopped { OnErr result ((bytes : List ℕ) (s : State) → IsUnfinished cutter.old bytes → HoldsState H.KIND store.old runner.old s → StoppedPiece H.KIND store.old.alloc_counter (L.limits limiter.old) s (bytes ++ piece.now) store.old store.new runner.new (K.tells sink.old).held (K.tells sink.new).held) }
+    ensures ran { OnOk result ((bytes : List ℕ) (s : State) → IsUnfinished cutter.old bytes → HoldsState H.KIND store.old runner.old s
+        → RanPiece H.KIND store.old.alloc_counter (L.limits limiter.old) (L.limits limiter.new) s (bytes ++ piece.now) cutter.new store.old store.new runner.new
+        (K.tells sink.old).held (K.tells sink.new).held) }
+    ensures stopped { OnErr result ((bytes : List ℕ) (s : State) → IsUnfinished cutter.old bytes → HoldsState H.KIND store.old runner.old s
+        → StoppedPiece H.KIND store.old.alloc_counter (L.limits limiter.old) s (bytes ++ piece.now) store.old store.new runner.new
+        (K.tells sink.old).held (K.tells sink.new).held) }
     ensures unwritten { IfOk result (λ replied. replied ≡ false → K.tells sink.new ≡ K.tells sink.old) }
     ensures failed { IsErrOf result LineFault.Sink → Rose (K.tells sink.old).faults (K.tells sink.new).faults }
     ensures faults { (K.tells sink.old).faults ≤ (K.tells sink.new).faults }
@@ -150,8 +158,12 @@ pub(crate) fn run_piece<H: GcHeap, L: ResourceLimiter, K: Sink>(
     piece: &[u8],
     sink: &mut K,
 ) -> Result<(), LineFault>
-    ensures ran { OnOk result ((bytes : List ℕ) (s : State) → IsUnfinished cutter.old bytes → HoldsState H.KIND store.old runner.old s → RanPiece H.KIND store.old.alloc_counter (L.limits limiter.old) (L.limits limiter.new) s (bytes ++ piece.now) cutter.new store.old store.new runner.new (K.tells sink.old).held (K.tells sink.new).held) }
-    ensures stopped { OnErr result ((bytes : List ℕ) (s : State) → IsUnfinished cutter.old bytes → HoldsState H.KIND store.old runner.old s → StoppedPiece H.KIND store.old.alloc_counter (L.limits limiter.old) s (bytes ++ piece.now) store.old store.new runner.new (K.tells sink.old).held (K.tells sink.new).held) }
+    ensures ran { OnOk result ((bytes : List ℕ) (s : State) → IsUnfinished cutter.old bytes → HoldsState H.KIND store.old runner.old s
+        → RanPiece H.KIND store.old.alloc_counter (L.limits limiter.old) (L.limits limiter.new) s (bytes ++ piece.now) cutter.new store.old store.new runner.new
+        (K.tells sink.old).held (K.tells sink.new).held) }
+    ensures stopped { OnErr result ((bytes : List ℕ) (s : State) → IsUnfinished cutter.old bytes → HoldsState H.KIND store.old runner.old s
+        → StoppedPiece H.KIND store.old.alloc_counter (L.limits limiter.old) s (bytes ++ piece.now) store.old store.new runner.new
+        (K.tells sink.old).held (K.tells sink.new).held) }
     ensures flushed { OnOk result ((K.tells sink.new ≡ K.tells sink.old) ⊎ IsTrue (K.tells sink.new).flushed) }
     ensures failed { IsErrOf result LineFault.Sink → Rose (K.tells sink.old).faults (K.tells sink.new).faults }
     ensures faults { (K.tells sink.old).faults ≤ (K.tells sink.new).faults }
@@ -173,8 +185,12 @@ fn run_rest<H: GcHeap, L: ResourceLimiter, K: Sink>(
     cutter: &LineCutter,
     sink: &mut K,
 ) -> Result<(), LineFault>
-    ensures ran { OnOk result ((bytes : List ℕ) (s : State) → IsUnfinished cutter.now bytes → HoldsState H.KIND store.old runner.old s → RanLines H.KIND store.old.alloc_counter (L.limits limiter.old) (L.limits limiter.new) s bytes store.old store.new runner.new (K.tells sink.old).held (K.tells sink.new).held) }
-    ensures stopped { OnErr result ((bytes : List ℕ) (s : State) → IsUnfinished cutter.now bytes → HoldsState H.KIND store.old runner.old s → RanSome H.KIND store.old.alloc_counter (L.limits limiter.old) s bytes store.old store.new runner.new (K.tells sink.old).held (K.tells sink.new).held) }
+    ensures ran { OnOk result ((bytes : List ℕ) (s : State) → IsUnfinished cutter.now bytes → HoldsState H.KIND store.old runner.old s
+        → RanLines H.KIND store.old.alloc_counter (L.limits limiter.old) (L.limits limiter.new) s bytes store.old store.new runner.new
+        (K.tells sink.old).held (K.tells sink.new).held) }
+    ensures stopped { OnErr result ((bytes : List ℕ) (s : State) → IsUnfinished cutter.now bytes → HoldsState H.KIND store.old runner.old s
+        → RanSome H.KIND store.old.alloc_counter (L.limits limiter.old) s bytes store.old store.new runner.new
+        (K.tells sink.old).held (K.tells sink.new).held) }
     ensures failed { IsErrOf result LineFault.Sink → Rose (K.tells sink.old).faults (K.tells sink.new).faults }
     ensures faults { (K.tells sink.old).faults ≤ (K.tells sink.new).faults }
     ensures same { IsSameStore store.old store.new }
@@ -195,8 +211,12 @@ pub(crate) fn run_last<H: GcHeap, L: ResourceLimiter, K: Sink>(
     cutter: &LineCutter,
     sink: &mut K,
 ) -> Result<(), LineFault>
-    ensures ran { OnOk result ((bytes : List ℕ) (s : State) → IsUnfinished cutter.now bytes → HoldsState H.KIND store.old runner.old s → RanLines H.KIND store.old.alloc_counter (L.limits limiter.old) (L.limits limiter.new) s bytes store.old store.new runner.new (K.tells sink.old).held (K.tells sink.new).held) }
-    ensures stopped { OnErr result ((bytes : List ℕ) (s : State) → IsUnfinished cutter.now bytes → HoldsState H.KIND store.old runner.old s → RanSome H.KIND store.old.alloc_counter (L.limits limiter.old) s bytes store.old store.new runner.new (K.tells sink.old).held (K.tells sink.new).held) }
+    ensures ran { OnOk result ((bytes : List ℕ) (s : State) → IsUnfinished cutter.now bytes → HoldsState H.KIND store.old runner.old s
+        → RanLines H.KIND store.old.alloc_counter (L.limits limiter.old) (L.limits limiter.new) s bytes store.old store.new runner.new
+        (K.tells sink.old).held (K.tells sink.new).held) }
+    ensures stopped { OnErr result ((bytes : List ℕ) (s : State) → IsUnfinished cutter.now bytes → HoldsState H.KIND store.old runner.old s
+        → RanSome H.KIND store.old.alloc_counter (L.limits limiter.old) s bytes store.old store.new runner.new
+        (K.tells sink.old).held (K.tells sink.new).held) }
     ensures flushed { OnOk result (IsTrue (K.tells sink.new).flushed) }
     ensures failed { IsErrOf result LineFault.Sink → Rose (K.tells sink.old).faults (K.tells sink.new).faults }
     ensures faults { (K.tells sink.old).faults ≤ (K.tells sink.new).faults }
