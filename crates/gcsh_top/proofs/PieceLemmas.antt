@@ -1,19 +1,17 @@
 -- Pieces of an input, one after the other, whose lines are run as they end.
-use Rattle.std.proofs.Common.{◌≡◌, ◌==◌, ℕ, ◌+◌, ◌<◌, ◌≤◌, Bool, true, false, List, [], ◌∷◌, ◌++◌, length, take, drop, nat_lt, Option, Result, Ok, Err, IfOk, inl, inr, refl, sym, ap, subst, ◌∙◌, append_assoc, append-nil, length-take, arith}
-use Rattle.std.proofs.lemmas.Bool.{ltb-false, ltb-true}
+use Rattle.std.proofs.Common.{◌≡◌, ℕ, ◌+◌, ◌<◌, ◌≤◌, Bool, false, List, [], ◌∷◌, ◌++◌, length, take, drop, Option, Result, Ok, Err, IfOk, inl, inr, refl, sym, ap, subst, ◌∙◌, append_assoc, append-nil, length-take, arith}
+use Rattle.std.proofs.lemmas.Bool.{ltb-false}
 use Rattle.std.proofs.lemmas.List.{drop_all, take_all}
 use Rattle.std.specs.Io.KnownBytes.{Keeps}
 use Rattle.gc_types.specs.declared.kind.Layouts.{Layouts}
 use Rattle.gc_commands.specs.declared.command.Command.{Command}
-use Rattle.gc_commands.specs.declared.command.Command.TheVariants.{Bad}
 use Rattle.gc_commands.specs.Spelling.{IsCommandOf, max_line}
 use Rattle.gc_model.specs.Allocation.{Limits}
 use Rattle.gc_model.specs.Stores.{StoreView}
 use Rattle.gc_script.specs.Lines.{line_feed, lines}
 use Rattle.gc_script.specs.Slots.{RunnerView}
 use Rattle.gc_script.specs.State.{State, HoldsState}
-use Rattle.gc_store.specs.Stores.{IsSameStore}
-use Rattle.gcsh_top.specs.Cutting.{EndsLine, EndsWhole, GoesOn, IsCut, IsUnfinished, KeptLine, has_feed, kept_of, longer, no_line}
+use Rattle.gcsh_top.specs.Cutting.{EndsLine, EndsWhole, GoesOn, IsCut, IsUnfinished, KeptLine, kept_of, longer, no_line}
 use Rattle.gcsh_top.specs.Runs.{BrokeOff, RanLine, RanLines, RanPiece, RanSome, StoppedPiece}
 use Rattle.gcsh_top.proofs.CutLemmas.{cut_of, ends_on, line_ends, line_unended, longer_kept, plain_both}
 use Rattle.gcsh_top.proofs.RunLemmas.{ran_kept, ran_none, ran_on, ran_one, some_on, stopped_first, unread}

@@ -15,12 +15,12 @@ use Rattle.gcsh_top.specs.declared.read.ReadFault.{ReadFault as read_fault}
 use Rattle.gcsh_top.specs.declared.run.LineFault.{LineFault}
 use Rattle.gcsh_top.specs.declared.run.LineFault.TheVariants as fault
 use Rattle.gcsh_top.specs.declared.status.Status.{Status}
-use Rattle.gcsh_top.specs.declared.status.Status.TheVariants.{Done, ReadFault, WriteFault, TooLong, NoMemory}
+use Rattle.gcsh_top.specs.declared.status.Status.TheVariants.{ReadFault, TooLong}
 use Rattle.gcsh_top.specs.declared.words.Form.{Form}
-use Rattle.gcsh_top.specs.Answers.{Completed, RanFront, RanOn, Stopped}
+use Rattle.gcsh_top.specs.Answers.{Completed, RanOn, Stopped}
 use Rattle.gcsh_top.specs.Cutting.{IsCut, IsUnfinished, KeptLine, no_line}
 use Rattle.gcsh_top.specs.Ends.{Gave, SinkRun, SinkTold, SourceRun, SourceTold}
-use Rattle.gcsh_top.specs.Input.{GaveLines, GavePiece, GaveWhole, ReadWhole, Unread, max_input, so_far, to_its_end}
+use Rattle.gcsh_top.specs.Input.{GaveLines, GavePiece, ReadWhole, Unread, max_input, so_far, to_its_end}
 use Rattle.gcsh_top.specs.Runs.{IsReady, RanForm, RanLines, RanPiece, RanSome, StoppedPiece, first_table}
 use Rattle.gcsh_top.specs.Statuses.{status_of}
 use Rattle.gcsh_top.proofs.EndLemmas.{gave_no_more, gave_none, gave_on, told}

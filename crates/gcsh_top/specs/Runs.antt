@@ -2,7 +2,7 @@
 use Rattle.std.specs.Prelude.{◌≡◌, ℕ, List, [], ◌∷◌, ◌++◌, ◌⊎◌, Option, Some, None, codes}
 use Rattle.std.specs.Io.KnownBytes.{Appends, Keeps}
 use Rattle.gc_types.specs.declared.kind.Layouts.{Layouts}
-use Rattle.gc_model.specs.Allocation.{Limits, Rose}
+use Rattle.gc_model.specs.Allocation.{Limits}
 use Rattle.gc_model.specs.Table.{Table, start, usual_roots}
 use Rattle.gc_model.specs.Holds.{HoldsKept}
 use Rattle.gc_model.specs.Stores.{StoreView}

@@ -1,6 +1,6 @@
 //! Reads an input piece by piece.
 
-ghost use Rattle.std.specs.Prelude.{◌≡◌, ◌<◌, ◌≤◌, MatchResult, length, take};
+ghost use Rattle.std.specs.Prelude.{◌<◌, ◌≤◌, MatchResult, length, take};
 ghost use Rattle.gcsh_top.specs.Input.{GavePiece, Unread, max_input};
 
 use crate::source::Source;
