@@ -41,7 +41,7 @@ pub(crate) fn run_program<W: Write + Drop>(
 }
 
 /// The words of a text.
-fn words_of(alloc: Global, text: &str) -> Result<Vec<String>, AllocError> {
+pub(crate) fn words_of(alloc: Global, text: &str) -> Result<Vec<String>, AllocError> {
     text.split_whitespace()
         .map(|word| String::from_str(alloc, word))
         .try_collect(alloc)

@@ -12,6 +12,7 @@ const USUAL_ROOM: usize = 1 << 16;
 #[derive(Drop)]
 pub(crate) enum Setup<'a> {
     Program(ProgramSetup<'a>),
+    Traced(TracedSetup<'a>),
     Store(StoreSetup),
 }
 
@@ -25,6 +26,26 @@ pub(crate) struct ProgramSetup<'a> {
     pub(crate) failing_writes: Vec<u64>,
     /// The room of the sink, in bytes.
     pub(crate) room: usize,
+    /// Whether the last line of the script has a line feed.
+    pub(crate) is_ended: bool,
+}
+
+/// A run of the top call over ends that give and take by parts.
+#[derive(Drop)]
+pub(crate) struct TracedSetup<'a> {
+    pub(crate) words: &'a str,
+    /// The most bytes that a read gives.
+    pub(crate) gives: usize,
+    /// The most bytes that a write takes.
+    pub(crate) takes: usize,
+    /// The numbers of the reads that fail.
+    pub(crate) failing_reads: Vec<u64>,
+    /// The numbers of the writes that fail.
+    pub(crate) failing_writes: Vec<u64>,
+    /// The numbers of the flushes that fail.
+    pub(crate) failing_flushes: Vec<u64>,
+    /// The number of the first read that is told.
+    pub(crate) first_told: u64,
     /// Whether the last line of the script has a line feed.
     pub(crate) is_ended: bool,
 }
@@ -61,6 +82,9 @@ impl<'a> Setup<'a> {
         if let Some(rest) = header.strip_prefix('#') {
             return Ok(Setup::Program(ProgramSetup::parse(alloc, rest)?));
         }
+        if let Some(rest) = header.strip_prefix('~') {
+            return Ok(Setup::Traced(TracedSetup::parse(alloc, rest)?));
+        }
         let rest = header.strip_prefix('!').ok_or(TableFault::BadHeader)?;
         Ok(Setup::Store(StoreSetup::parse(alloc, rest)?))
     }
@@ -89,6 +113,42 @@ impl<'a> ProgramSetup<'a> {
             ("reads", numbers) => self.failing_reads = numbers_of(alloc, numbers)?,
             ("writes", numbers) => self.failing_writes = numbers_of(alloc, numbers)?,
             ("room", number) => self.room = number.parse()?,
+            ("unended", "") => self.is_ended = false,
+            _ => return Err(TableFault::BadOption),
+        }
+        Ok(())
+    }
+}
+
+impl<'a> TracedSetup<'a> {
+    /// A run with ends that never fail and give and take all, and what the options behind its words change.
+    fn parse(alloc: Global, header: &'a str) -> Result<TracedSetup<'a>, TableFault> {
+        let mut parts = header.split('|');
+        let mut setup = TracedSetup {
+            words: parts.next().unwrap_or(""),
+            gives: usize::MAX,
+            takes: usize::MAX,
+            failing_reads: Vec::new(alloc),
+            failing_writes: Vec::new(alloc),
+            failing_flushes: Vec::new(alloc),
+            first_told: 1,
+            is_ended: true,
+        };
+        for part in parts {
+            setup.set(alloc, part)?;
+        }
+        Ok(setup)
+    }
+
+    /// Sets an option.
+    fn set(&mut self, alloc: Global, option: &str) -> Result<(), TableFault> {
+        match name_and_value(option) {
+            ("gives", number) => self.gives = number.parse()?,
+            ("takes", number) => self.takes = number.parse()?,
+            ("reads", numbers) => self.failing_reads = numbers_of(alloc, numbers)?,
+            ("writes", numbers) => self.failing_writes = numbers_of(alloc, numbers)?,
+            ("flushes", numbers) => self.failing_flushes = numbers_of(alloc, numbers)?,
+            ("from", number) => self.first_told = number.parse()?,
             ("unended", "") => self.is_ended = false,
             _ => return Err(TableFault::BadOption),
         }

@@ -8,7 +8,7 @@ use Rattle.std.proofs.lemmas.List.Sums.{fails_before_first, passes_at_first}
 use Rattle.gc_commands.specs.Spelling.{max_line}
 use Rattle.gc_script.specs.Lines.{line_feed, lines}
 use Rattle.gcsh_top.proofs.LineLemmas.{none_found}
-use Rattle.gcsh_top.specs.Cutting.{KeptLine, no_line, kept_of, longer, has_feed, EndsLine, GoesOn, FeedsAll, no_pieces, line_ended, line_goes_on, EndsWhole, last_piece, GivesLines}
+use Rattle.gcsh_top.specs.Cutting.{KeptLine, no_line, kept_of, longer, has_feed, IsCut, EndsLine, GoesOn, FeedsAll, no_pieces, line_ended, line_goes_on, EndsWhole, last_piece, GivesLines}
 
 -- the place is that of the first line feed
 record IsFirstFeed (piece : List ℕ) (k : ℕ) : Type 0 where
@@ -146,6 +146,67 @@ pub line_unended : (u : List ℕ) → has_feed u ≡ false → lines u ≡ last_
 line_unended [] plain = refl
 line_unended (b ∷ u) plain = last_by_byte b u (b == line_feed) plain (line_unended u ((or_parts (b == line_feed) (has_feed u) plain).1))
 
+-- lines before others: the first of them is the first of all
+record Joins (all front behind : List (List ℕ)) : Type 0 where
+  first : List ℕ
+  others : List (List ℕ)
+  front_is : front ≡ first ∷ others
+  all_are : all ≡ first ∷ (others ++ behind)
+
+joins_more : (b : ℕ) (feed : Bool) (all front behind : List (List ℕ)) → Joins all front behind → Joins (cond feed ([] ∷ all) (onto_first b all)) (cond feed ([] ∷ front) (onto_first b front)) behind
+joins_more b true all front behind j = record { first = []; others = front; front_is = refl; all_are = ap (λ ls. [] ∷ ls) (j.all_are ∙ ap (λ ls. ls ++ behind) (sym j.front_is)) }
+joins_more b false all front behind j = record { first = b ∷ j.first; others = j.others; front_is = ap (onto_first b) j.front_is; all_are = ap (onto_first b) j.all_are }
+
+joins : (before x : List ℕ) → Joins (lines (before ++ line_feed ∷ x)) (lines (before ++ line_feed ∷ [])) (lines x)
+joins [] x = record { first = []; others = []; front_is = refl; all_are = refl }
+joins (b ∷ before) x = joins_more b (b == line_feed) (lines (before ++ line_feed ∷ x)) (lines (before ++ line_feed ∷ [])) (lines x) (joins before x)
+
+-- the lines of bytes behind whole lines come behind these
+pub lines_behind : (whole x : List ℕ) → EndsWhole whole → lines (whole ++ x) ≡ lines whole ++ lines x
+lines_behind whole x (inl none) = ap (λ w. lines (w ++ x)) none ∙ sym (ap (λ w. lines w ++ lines x) none)
+lines_behind whole x (inr (before, is)) =
+    let j = joins before x in
+    ap (λ w. lines (w ++ x)) is ∙ ap lines (append_assoc before (line_feed ∷ []) x) ∙ j.all_are ∙ ap (λ ls. ls ++ lines x) (sym j.front_is) ∙ sym (ap (λ w. lines w ++ lines x) is)
+
+-- whole lines behind whole lines
+pub ends_on : (whole x : List ℕ) → EndsWhole whole → EndsWhole x → EndsWhole (whole ++ x)
+ends_on whole x ends (inl none) = subst EndsWhole (sym (ap (λ y. whole ++ y) none ∙ append-nil whole)) ends
+ends_on whole x ends (inr (before, is)) = inr (whole ++ before, ap (λ y. whole ++ y) is ∙ sym (append_assoc whole before (line_feed ∷ [])))
+
+-- any bytes are cut behind their last line feed
+pub record Cut (bytes : List ℕ) : Type 0 where
+  pub whole : List ℕ
+  pub rest : List ℕ
+  pub cut : IsCut bytes whole rest
+
+feed_before : (b : ℕ) (whole : List ℕ) → b ≡ line_feed → EndsWhole whole → EndsWhole (b ∷ whole)
+feed_before b whole is (inl none) = inr ([], ap (λ l. b ∷ l) none ∙ ap (λ c. c ∷ []) is)
+feed_before b whole is (inr (before, e)) = inr (b ∷ before, ap (λ l. b ∷ l) e)
+
+byte_before : (b : ℕ) (bytes whole rest : List ℕ) → (b == line_feed) ≡ false → bytes ≡ whole ++ rest → EndsWhole whole → has_feed rest ≡ false → Cut (b ∷ bytes)
+byte_before b bytes whole rest is parts (inl none) plain = record {
+  whole = [];
+  rest = b ∷ rest;
+  cut = record { parts = ap (λ l. b ∷ l) (parts ∙ ap (λ w. w ++ rest) none); ends = inl refl; plain = or_from (b == line_feed) (has_feed rest) is plain };
+}
+byte_before b bytes whole rest is parts (inr (before, e)) plain = record {
+  whole = b ∷ whole;
+  rest = rest;
+  cut = record { parts = ap (λ l. b ∷ l) parts; ends = inr (b ∷ before, ap (λ l. b ∷ l) e); plain = plain };
+}
+
+cut_before : (b : ℕ) (bytes : List ℕ) (feed : Bool) → (b == line_feed) ≡ feed → Cut bytes → Cut (b ∷ bytes)
+cut_before b bytes true is c = record {
+  whole = b ∷ c.whole;
+  rest = c.rest;
+  cut = record { parts = ap (λ l. b ∷ l) c.cut.parts; ends = feed_before b c.whole (eqb-true b line_feed is) c.cut.ends; plain = c.cut.plain };
+}
+cut_before b bytes false is c = byte_before b bytes c.whole c.rest is c.cut.parts c.cut.ends c.cut.plain
+
+pub cut_of : (bytes : List ℕ) → Cut bytes
+cut_of [] = record { whole = []; rest = []; cut = record { parts = refl; ends = inl refl; plain = refl } }
+cut_of (b ∷ bytes) = cut_before b bytes (b == line_feed) refl (cut_of bytes)
+
 -- what is behind a line that ended
 behind : (u bytes tail more : List ℕ) → u ++ ((bytes ++ line_feed ∷ tail) ++ more) ≡ (u ++ bytes) ++ line_feed ∷ (tail ++ more)
 behind u bytes tail more = ap (λ l. u ++ l) (append_assoc bytes (line_feed ∷ tail) more) ∙ sym (append_assoc u bytes (line_feed ∷ (tail ++ more)))
@@ -155,7 +216,7 @@ one_ended : (u bytes whole : List ℕ) → EndsWhole whole → EndsWhole ((u ++ 
 one_ended u bytes whole (inl none) = inr (u ++ bytes, ap (λ l. (u ++ bytes) ++ line_feed ∷ l) none)
 one_ended u bytes whole (inr (before, is)) = inr ((u ++ bytes) ++ line_feed ∷ before, ap (λ l. (u ++ bytes) ++ line_feed ∷ l) is ∙ sym (append_assoc (u ++ bytes) (line_feed ∷ before) (line_feed ∷ [])))
 
-plain_both : (u v : List ℕ) → has_feed u ≡ false → has_feed v ≡ false → has_feed (u ++ v) ≡ false
+pub plain_both : (u v : List ℕ) → has_feed u ≡ false → has_feed v ≡ false → has_feed (u ++ v) ≡ false
 plain_both u v first second = list_any-append (λ b. b == line_feed) u v ∙ or_from (has_feed u) (has_feed v) first second
 
 pub gives_lines_at : {bytes bytes' : List ℕ} {ended : List KeptLine} {last : KeptLine} → bytes ≡ bytes' → GivesLines bytes ended last → GivesLines bytes' ended last

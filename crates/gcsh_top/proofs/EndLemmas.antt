@@ -1,10 +1,10 @@
 -- What several reads and writes do together.
-use Rattle.std.proofs.Common.{◌≡◌, ℕ, ◌+◌, ◌<◌, ◌≤◌, List, [], ◌++◌, length, take, drop, Option, None, Some, refl, sym, ap, subst, ◌∙◌, arith, append_assoc, append-nil, length-append, length-take-le, take-append-drop}
+use Rattle.std.proofs.Common.{◌≡◌, ℕ, ◌+◌, ◌<◌, List, [], ◌++◌, length, take, drop, Option, None, Some, refl, sym, ap, subst, ◌∙◌, arith, append_assoc, append-nil, length-append, take-append-drop}
 use Rattle.std.proofs.Math.Seq.{take-append_seam}
 use Rattle.std.specs.Io.KnownBytes.{Appends, Keeps}
-use Rattle.std.proofs.KnownBytes.{Appends-kept, Appends-nil, Appends-trans, Consumes-kept, Consumes-nil, Consumes-trans}
+use Rattle.std.proofs.KnownBytes.{Appends-kept, Appends-nil, Appends-trans, Consumes-nil, Consumes-trans}
 use Rattle.gcsh_top.specs.Counts.{raised}
-use Rattle.gcsh_top.specs.Ends.{Fills, Gave, SourceRun, SourceTold, TookPart}
+use Rattle.gcsh_top.specs.Ends.{Gave, SourceRun, SourceTold, TookPart}
 
 -- a sink took a front of the bytes, and the rest of them is left
 pub record Progress (held held' : Option (List ℕ)) (bytes rest : List ℕ) : Type 0 where
@@ -55,22 +55,13 @@ raised_twice a b c m n first second = omega arith
 pub gave_none : (a : SourceTold) → Gave (told a a) []
 gave_none a = record { taken = Consumes-nil a.left; counted = raised_none a.given }
 
-pub gave_start : (a : SourceTold) (bytes : List ℕ) → bytes ≡ [] → Gave (told a a) bytes
-gave_start a bytes none = subst (Gave (told a a)) (sym none) (gave_none a)
+-- what was given by two reads, one behind the other
+pub gave_on : (a b c : SourceTold) (bytes more : List ℕ) → Gave (told a b) bytes → Gave (told b c) more → Gave (told a c) (bytes ++ more)
+gave_on a b c bytes more one two = record {
+  taken = Consumes-trans a.left b.left c.left bytes more one.taken two.taken;
+  counted = raised_twice a.given b.given c.given (length bytes) (length more) one.counted two.counted ∙ ap (raised a.given) (sym (length-append bytes more));
+}
 
-pub gave_more : (a b c : SourceTold) (bytes buf buf' : List ℕ) (n : ℕ) → Gave (told a b) bytes → Fills b.left c.left buf buf' n → n ≤ length buf' → c.given ≡ raised b.given n → Gave (told a c) (bytes ++ take n buf')
-gave_more a b c bytes buf buf' n gave f within counted =
-    let long : length (bytes ++ take n buf') ≡ length bytes + n = length-append bytes (take n buf') ∙ ap (λ k. length bytes + k) (length-take-le n buf' within) in
-    record {
-      taken = Consumes-trans a.left b.left c.left bytes (take n buf') gave.taken f.taken;
-      counted = raised_twice a.given b.given c.given (length bytes) n gave.counted counted ∙ ap (raised a.given) (sym long);
-    }
-
--- a read that gave nothing
-pub gave_end : (a b c : SourceTold) (bytes buf buf' : List ℕ) (n : ℕ) → Gave (told a b) bytes → Fills b.left c.left buf buf' n → n ≡ 0 → c.given ≡ raised b.given n → Gave (told a c) bytes
-gave_end a b c bytes buf buf' n gave f none counted =
-    subst (Gave (told a c)) (ap (λ k. bytes ++ take k buf') none ∙ append-nil bytes) (gave_more a b c bytes buf buf' n gave f (omega arith) counted)
-
--- a read that failed
-pub gave_kept : (a b c : SourceTold) (bytes : List ℕ) → Gave (told a b) bytes → Keeps b.left c.left → c.given ≡ b.given → Gave (told a c) bytes
-gave_kept a b c bytes gave kept same = record { taken = Consumes-kept a.left b.left c.left bytes gave.taken kept; counted = same ∙ gave.counted }
+-- nothing more was given
+pub gave_no_more : (a b c : SourceTold) (bytes more : List ℕ) → Gave (told a b) bytes → Gave (told b c) more → more ≡ [] → Gave (told a c) bytes
+gave_no_more a b c bytes more one two none = subst (Gave (told a c)) (ap (λ l. bytes ++ l) none ∙ append-nil bytes) (gave_on a b c bytes more one two)

@@ -1,7 +1,5 @@
 -- A run of a form on a store with nothing in it.
-use Rattle.std.proofs.Common.{◌≡◌, ℕ, List, Option, Some, None, refl, subst, ◌∙◌}
-use Rattle.std.specs.Io.KnownBytes.{Keeps}
-use Rattle.std.proofs.KnownBytes.{Appends-kept}
+use Rattle.std.proofs.Common.{◌≡◌, ℕ, List, [], Option, Some, None, inl, inr, refl, subst, ◌∙◌}
 use Rattle.gc_types.specs.declared.kind.Layouts.{Layouts}
 use Rattle.gc_model.specs.Table.{start, usual_roots}
 use Rattle.gc_model.specs.Stores.{StoreView}
@@ -16,7 +14,8 @@ use Rattle.gc_script.proofs.StandLemmas.{begins}
 use Rattle.gc_script.specs.Session.{SessionFrom}
 use Rattle.gcsh_top.specs.declared.words.Form.{Form}
 use Rattle.gc_script.specs.Lines.{lines}
-use Rattle.gcsh_top.specs.Runs.{RanLines, RanForm, StoppedLines, StoppedForm, in_lines, IsReady, first_table}
+use Rattle.gcsh_top.specs.Runs.{RanLines, RanForm, RanSome, StoppedLines, StoppedForm, in_lines, behind_lines, IsReady, first_table}
+use Rattle.gcsh_top.proofs.GcLemmas.{no_last_gc}
 
 -- a store that was configured holds the empty table with the form's numbers
 pub started : (layouts : Layouts) (config : HeapConfig) (new : StoreView) (form : Form) → HoldsStart ℕ layouts new → new.first ≡ config.first_pages → new.max_scoped ≡ config.max_scoped → new.max_owned ≡ config.max_owned → new.alloc_counter ≡ None
@@ -33,26 +32,27 @@ started layouts config new form holds is_first is_scoped is_owned none firsts sc
 pub ready_state : (layouts : Layouts) (form : Form) (store : StoreView) (slots : RunnerView) → IsReady layouts form store → slots ≡ new_runner → HoldsState layouts store slots (begin (first_table form) no_account)
 ready_state layouts form store slots ready none = begins layouts store slots (first_table form) no_account ready.holds none
 
--- lines that stopped under the form's limit
-pub stopped_form : (layouts : Layouts) (form : Form) (counter : Option ℕ) (limits : Limits) (input : List ℕ) (store : StoreView) (slots : RunnerView) (a b : Option (List ℕ)) → counter ≡ None → store.alloc_counter ≡ counter → limits ≡ fresh_limits (Some form.most) → StoppedLines layouts counter limits (begin (first_table form) no_account) input store slots a b → StoppedForm layouts form input a b store
-stopped_form layouts form counter limits input store slots a b none same is stopped =
-    in_lines slots (same ∙ none) (subst (λ (c : Option ℕ). StoppedLines layouts c (fresh_limits (Some form.most)) (begin (first_table form) no_account) input store slots a b) none
-    (subst (λ (l : Limits). StoppedLines layouts counter l (begin (first_table form) no_account) input store slots a b) is stopped))
-
 -- what was run is the run of the form
-pub ran_form : (layouts : Layouts) (form : Form) (counter : Option ℕ) (limits limits' : Limits) (input : List ℕ) (store : StoreView) (slots : RunnerView) (a b c : Option (List ℕ)) → counter ≡ None → store.alloc_counter ≡ counter → limits ≡ fresh_limits (Some form.most) → RanLines layouts counter limits limits' (begin (first_table form) no_account) input store slots a b → Keeps b c → RanForm layouts form input a c store
-ran_form layouts form counter limits limits' input store slots a b c none same is ran kept = record {
+pub ran_form : (layouts : Layouts) (form : Form) (counter : Option ℕ) (limits : Limits) (input : List ℕ) (old store : StoreView) (slots : RunnerView) (a b : Option (List ℕ)) → counter ≡ None → store.alloc_counter ≡ counter
+    → RanLines layouts counter (fresh_limits (Some form.most)) limits (begin (first_table form) no_account) input old store slots a b → RanForm layouts form input a b store
+ran_form layouts form counter limits input old store slots a b none same ran = record {
   output = ran.output;
-  written = Appends-kept a b c ran.output ran.replied kept;
+  written = ran.replied;
   table = ran.after.table;
   session = record {
     after = ran.after;
-    limits = limits';
-    from_start = subst (λ (x : Option ℕ). SessionFrom layouts x (fresh_limits (Some form.most)) (begin (first_table form) no_account) (lines input) ran.output ran.after limits') none
-        (subst (λ (l : Limits). SessionFrom layouts counter l (begin (first_table form) no_account) (lines input) ran.output ran.after limits') is ran.session);
+    limits = limits;
+    from_start = subst (λ (x : Option ℕ). SessionFrom layouts x (fresh_limits (Some form.most)) (begin (first_table form) no_account) (lines input) ran.output ran.after limits) none ran.session;
     table_is = refl;
   };
   holds = ran.holds.table;
   no_counter = same ∙ none;
-  kept = ran.kept;
+  kept = ran.kept [] (λ ends. absurd (no_last_gc ends));
 }
+
+-- what was run in part
+pub stopped_form : (layouts : Layouts) (form : Form) (counter : Option ℕ) (input : List ℕ) (old store : StoreView) (slots : RunnerView) (a b : Option (List ℕ)) → counter ≡ None → store.alloc_counter ≡ counter
+    → RanSome layouts counter (fresh_limits (Some form.most)) (begin (first_table form) no_account) input old store slots a b → StoppedForm layouts form input a b store
+stopped_form layouts form counter input old store slots a b none same (inl stopped) =
+    in_lines slots (same ∙ none) (subst (λ (c : Option ℕ). StoppedLines layouts c (fresh_limits (Some form.most)) (begin (first_table form) no_account) input store slots a b) none stopped)
+stopped_form layouts form counter input old store slots a b none same (inr ran) = behind_lines (ran_form layouts form counter ran.0 input old store slots a b none same ran.1)

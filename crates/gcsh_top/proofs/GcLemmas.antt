@@ -6,9 +6,10 @@ use Rattle.gc_commands.specs.Spelling.{IsCommandOf, Spells}
 use Rattle.gc_commands.proofs.UniqueLemmas.{one_spelling}
 use Rattle.gcsh_top.specs.Runs.{EndsInGc}
 
-pub no_lines : (before : List (List ℕ)) → [] ≡ before ++ codes "gc" ∷ [] → ⊥
-no_lines [] e = absurd (cc)
-no_lines (b ∷ bs) e = absurd (cc)
+-- none is the last of no lines
+pub no_last_gc : EndsInGc [] → ⊥
+no_last_gc ([], e) = absurd (cc)
+no_last_gc (b ∷ bs, e) = absurd (cc)
 
 -- the last line is `gc`
 pub last_line : (done : List (List ℕ)) (line : List ℕ) → EndsInGc (done ++ line ∷ []) → line ≡ codes "gc"

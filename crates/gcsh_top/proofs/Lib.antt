@@ -4,7 +4,9 @@ pub mod EndLemmas
 pub mod InputLemmas
 pub mod GcLemmas
 pub mod RunLemmas
+pub mod PieceLemmas
 pub mod FormRun
+pub mod ReadingLemmas
 pub mod FormAnswers
 pub mod StatusLaws
 pub mod CutLemmas

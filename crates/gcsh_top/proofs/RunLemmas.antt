@@ -1,118 +1,155 @@
 -- Lines that were run one after the other.
-use Rattle.std.proofs.Common.{◌≡◌, ◌≤◌, ℕ, List, [], ◌∷◌, ◌++◌, Option, Some, None, refl, sym, ap, subst, ◌∙◌, append_assoc, append-nil, length-append, arith}
-use Rattle.std.specs.Io.KnownBytes.{Appends, Keeps}
-use Rattle.std.proofs.KnownBytes.{Appends-nil, Appends-trans}
+use Rattle.std.proofs.Common.{◌≡◌, ℕ, List, [], ◌∷◌, ◌++◌, Option, Some, None, inl, inr, refl, sym, ap, subst, ◌∙◌, append_assoc, append-nil, length-append, arith}
+use Rattle.std.specs.List.{flat_map}
+use Rattle.std.proofs.lemmas.Grind.{flat_map-append}
+use Rattle.std.specs.Io.KnownBytes.{Keeps}
+use Rattle.std.proofs.KnownBytes.{Appends-kept, Appends-nil, Appends-trans}
 use Rattle.gc_types.specs.declared.kind.Layouts.{Layouts}
 use Rattle.gc_model.specs.Allocation.{Limits}
 use Rattle.gc_model.specs.Stores.{StoreView}
+use Rattle.gc_commands.specs.declared.command.Command.{Command}
+use Rattle.gc_commands.specs.declared.reply.Reply.{Reply}
+use Rattle.gc_script.specs.Policy.{RunByPolicy}
 use Rattle.gc_script.specs.Slots.{RunnerView}
 use Rattle.gc_script.specs.State.{State, HoldsState}
-use Rattle.gc_script.specs.Session.{SessionFrom, reply_line}
-use Rattle.gc_store.specs.Stores.{IsSameStore}
+use Rattle.gc_script.specs.Session.{AreCommandsOf, SessionFrom, reply_line}
+use Rattle.gcsh_top.specs.Cutting.{EndsWhole}
 use Rattle.gcsh_top.specs.Ends.{TookPart}
 use Rattle.gc_script.specs.Lines.{lines}
-use Rattle.gc_model.specs.Holds.{HoldsKept}
-use Rattle.gcsh_top.specs.Runs.{BrokeOff, RanLine, RanLines, StoppedLines, EndsInGc}
-use Rattle.gcsh_top.proofs.GcLemmas.{is_gc_line, last_line, no_lines}
+use Rattle.gcsh_top.specs.Runs.{BrokeOff, not_read, EndsInGc, RanLine, RanLines, RanSome, StoppedLines}
+use Rattle.gcsh_top.proofs.GcLemmas.{is_gc_line, last_line}
+use Rattle.gcsh_top.proofs.CutLemmas.{lines_behind}
 
--- The lines before the rest were run from s: whatever session some lines are from here, the lines done and
--- those are that session from s.
-pub record Along (layouts : Layouts) (counter : Option ℕ) (limits now : Limits) (s : State) (input rest : List ℕ) (store : StoreView) (slots : RunnerView) (held held' : Option (List ℕ)) : Type 0 where
-  pub done : List (List ℕ)
-  pub cut : lines input ≡ done ++ lines rest
-  pub output : List ℕ
-  pub mid : State
-  pub goes_on : (ls : List (List ℕ)) (more : List ℕ) (after : State) (last : Limits) → SessionFrom layouts counter now mid ls more after last → SessionFrom layouts counter limits s (done ++ ls) (output ++ more) after last
-  pub holds : HoldsState layouts store slots mid
-  pub kept : EndsInGc done → HoldsKept layouts store mid.table
-  pub replied : Appends held held' output
+-- two runs, one behind the other
+runs_on : (layouts : Layouts) (counter : Option ℕ) (s mid after : State) (limits now last : Limits) (cs ds : List Command) (rs qs : List Reply) → RunByPolicy layouts counter s limits cs rs mid now → RunByPolicy layouts counter mid now ds qs after last
+    → RunByPolicy layouts counter s limits (cs ++ ds) (rs ++ qs) after last
+runs_on layouts counter s mid after limits now last [] ds [] qs ran more =
+    subst (λ (l : Limits). RunByPolicy layouts counter s l ds qs after last) ran.1 (subst (λ (t : State). RunByPolicy layouts counter t now ds qs after last) ran.0 more)
+runs_on layouts counter s mid after limits now last (c ∷ cs) ds (r ∷ rs) qs ran more =
+    (ran.0, ran.1, (ran.2.0, (ran.2.1.0, runs_on layouts counter ran.0 mid after ran.1 now last cs ds rs qs ran.2.1.1 more)))
+runs_on layouts counter s mid after limits now last [] ds (r ∷ rs) qs ran more = absurd ran
+runs_on layouts counter s mid after limits now last (c ∷ cs) ds [] qs ran more = absurd ran
 
-pub along_start : (layouts : Layouts) (counter : Option ℕ) (limits : Limits) (s : State) (input : List ℕ) (store : StoreView) (slots : RunnerView) (held : Option (List ℕ)) → HoldsState layouts store slots s → Along layouts counter limits limits s input input store slots held held
-along_start layouts counter limits s input store slots held holds = record {
-  done = [];
-  cut = refl;
-  output = [];
-  mid = s;
-  goes_on = λ ls more after last session. session;
-  holds = holds;
-  kept = λ ends. absurd (no_lines ends.0 ends.1);
-  replied = Appends-nil held;
+commands_on : (ls ms : List (List ℕ)) (cs ds : List Command) → AreCommandsOf ls cs → AreCommandsOf ms ds → AreCommandsOf (ls ++ ms) (cs ++ ds)
+commands_on [] ms [] ds are more = more
+commands_on (l ∷ ls) ms (c ∷ cs) ds are more = (are.0, commands_on ls ms cs ds are.1 more)
+commands_on [] ms (c ∷ cs) ds are more = absurd are
+commands_on (l ∷ ls) ms [] ds are more = absurd are
+
+-- two sessions, one behind the other
+session_on : (layouts : Layouts) (counter : Option ℕ) (limits now last : Limits) (s mid after : State) (ls ms : List (List ℕ)) (output more : List ℕ) → SessionFrom layouts counter limits s ls output mid now → SessionFrom layouts counter now mid ms more after last
+    → SessionFrom layouts counter limits s (ls ++ ms) (output ++ more) after last
+session_on layouts counter limits now last s mid after ls ms output more one two = record {
+  commands = one.commands ++ two.commands;
+  replies = one.replies ++ two.replies;
+  are_commands = commands_on ls ms one.commands two.commands one.are_commands two.are_commands;
+  run = runs_on layouts counter s mid after limits now last one.commands two.commands one.replies two.replies one.run two.run;
+  output_is = ap (λ (bs : List ℕ). bs ++ more) one.output_is ∙ ap (λ (bs : List ℕ). flat_map reply_line one.replies ++ bs) two.output_is ∙ sym (flat_map-append reply_line one.replies two.replies);
 }
 
--- a session that begins with one more line
-one_more : (layouts : Layouts) (counter : Option ℕ) (limits limits' : Limits) (s : State) (line : List ℕ) (store : StoreView) (slots : RunnerView) (held held' : Option (List ℕ)) (did : RanLine layouts counter limits limits' s line store slots held held') → (ls : List (List ℕ)) (more : List ℕ) (after : State) (last : Limits)
-    → SessionFrom layouts counter limits' did.ran.after ls more after last → SessionFrom layouts counter limits s (line ∷ ls) (reply_line did.answer ++ more) after last
-one_more layouts counter limits limits' s line store slots held held' did ls more after last session = record {
-  commands = did.command ∷ session.commands;
-  replies = did.answer ∷ session.replies;
-  are_commands = (did.is_command, session.are_commands);
-  run = (did.ran.after, limits', (did.ran.step, (did.ran.follows, session.run)));
-  output_is = ap (λ (bs : List ℕ). reply_line did.answer ++ bs) session.output_is;
+-- no line
+session_none : (layouts : Layouts) (counter : Option ℕ) (limits : Limits) (s : State) → SessionFrom layouts counter limits s [] [] s limits
+session_none layouts counter limits s = record { commands = []; replies = []; are_commands = tt; run = (refl, refl); output_is = refl }
+
+-- one line
+session_one : (layouts : Layouts) (counter : Option ℕ) (limits limits' : Limits) (s : State) (line : List ℕ) (store : StoreView) (slots : RunnerView) (held held' : Option (List ℕ)) (did : RanLine layouts counter limits limits' s line store slots held held') → SessionFrom layouts counter limits s (line ∷ []) (reply_line did.answer) did.ran.after limits'
+session_one layouts counter limits limits' s line store slots held held' did = record {
+  commands = did.command ∷ [];
+  replies = did.answer ∷ [];
+  are_commands = (did.is_command, tt);
+  run = (did.ran.after, limits', (did.ran.step, (did.ran.follows, (refl, refl))));
+  output_is = sym (append-nil (reply_line did.answer));
 }
 
--- the same session of equal lines with equal output
-session_of : (layouts : Layouts) (counter : Option ℕ) (limits : Limits) (s after : State) (last : Limits) (ls ls' : List (List ℕ)) (bytes bytes' : List ℕ) → ls ≡ ls' → bytes ≡ bytes' → SessionFrom layouts counter limits s ls bytes after last → SessionFrom layouts counter limits s ls' bytes' after last
-session_of layouts counter limits s after last ls ls' bytes bytes' same_lines same_bytes session =
-    subst (λ (xs : List (List ℕ)). SessionFrom layouts counter limits s xs bytes' after last) same_lines (subst (λ (bs : List ℕ). SessionFrom layouts counter limits s ls bs after last) same_bytes session)
+module _ (layouts : Layouts) (counter : Option ℕ) where
+  -- bytes without a line were run, and nothing was done
+  pub ran_none : (limits : Limits) (s : State) (bytes : List ℕ) (store : StoreView) (slots : RunnerView) (held : Option (List ℕ)) → lines bytes ≡ [] → HoldsState layouts store slots s → RanLines layouts counter limits limits s bytes store store slots held held
+  ran_none limits s bytes store slots held none holds = record {
+    output = [];
+    after = s;
+    session = subst (λ (ls : List (List ℕ)). SessionFrom layouts counter limits s ls [] s limits) (sym none) (session_none layouts counter limits s);
+    holds = holds;
+    kept = λ before was ends. was (subst EndsInGc (ap (λ (ls : List (List ℕ)). before ++ ls) none ∙ append-nil before) ends);
+    replied = Appends-nil held;
+  }
 
-pub along_more : (layouts : Layouts) (counter : Option ℕ) (limits now next : Limits) (s : State) (input rest line behind : List ℕ) (store store' : StoreView) (slots slots' : RunnerView) (a b c : Option (List ℕ)) → (so_far : Along layouts counter limits now s input rest store slots a b) → lines rest ≡ line ∷ lines behind → RanLine layouts counter now next so_far.mid line store' slots' b c → Along layouts counter limits next s input behind store' slots' a c
-along_more layouts counter limits now next s input rest line behind store store' slots slots' a b c so_far cut did = record {
-  done = so_far.done ++ line ∷ [];
-  cut = so_far.cut ∙ ap (λ (ls : List (List ℕ)). so_far.done ++ ls) cut ∙ sym (append_assoc so_far.done (line ∷ []) (lines behind));
-  output = so_far.output ++ reply_line did.answer;
-  mid = did.ran.after;
-  goes_on = λ ls more after last session.
-      session_of layouts counter limits s after last (so_far.done ++ line ∷ ls) ((so_far.done ++ line ∷ []) ++ ls) (so_far.output ++ (reply_line did.answer ++ more)) ((so_far.output ++ reply_line did.answer) ++ more)
-      (sym (append_assoc so_far.done (line ∷ []) ls)) (sym (append_assoc so_far.output (reply_line did.answer) more))
-      (so_far.goes_on (line ∷ ls) (reply_line did.answer ++ more) after last (one_more layouts counter now next so_far.mid line store' slots' b c did ls more after last session));
-  holds = did.ran.holds;
-  kept = λ ends. did.kept (is_gc_line line did.command did.is_command (last_line so_far.done line ends));
-  replied = Appends-trans a b c so_far.output (reply_line did.answer) so_far.replied did.replied;
-}
+  -- bytes of one line were run
+  pub ran_one : (limits limits' : Limits) (s : State) (bytes line : List ℕ) (old store : StoreView) (slots : RunnerView) (held held' : Option (List ℕ)) → lines bytes ≡ line ∷ [] → RanLine layouts counter limits limits' s line store slots held held' → RanLines layouts counter limits limits' s bytes old store slots held held'
+  ran_one limits limits' s bytes line old store slots held held' one did = record {
+    output = reply_line did.answer;
+    after = did.ran.after;
+    session = subst (λ (ls : List (List ℕ)). SessionFrom layouts counter limits s ls (reply_line did.answer) did.ran.after limits') (sym one) (session_one layouts counter limits limits' s line store slots held held' did);
+    holds = did.ran.holds;
+    kept = λ before was ends. did.kept (is_gc_line line did.command did.is_command (last_line before line (subst EndsInGc (ap (λ (ls : List (List ℕ)). before ++ ls) one) ends)));
+    replied = did.replied;
+  }
 
--- the lines done are a session by themselves
-session_so_far : (layouts : Layouts) (counter : Option ℕ) (limits now : Limits) (s : State) (input rest : List ℕ) (store : StoreView) (slots : RunnerView) (a b : Option (List ℕ)) → (so_far : Along layouts counter limits now s input rest store slots a b) → SessionFrom layouts counter limits s so_far.done so_far.output so_far.mid now
-session_so_far layouts counter limits now s input rest store slots a b so_far =
-    session_of layouts counter limits s so_far.mid now (so_far.done ++ []) so_far.done (so_far.output ++ []) so_far.output (append-nil so_far.done) (append-nil so_far.output)
-    (so_far.goes_on [] [] so_far.mid now (record { commands = []; replies = []; are_commands = tt; run = (refl, refl); output_is = refl }))
+  -- bytes behind whole lines were run as well
+  pub ran_on : (limits now last : Limits) (s : State) (whole x : List ℕ) (old mid store : StoreView) (slots slots' : RunnerView) (a b c : Option (List ℕ)) → EndsWhole whole → (one : RanLines layouts counter limits now s whole old mid slots a b)
+      → RanLines layouts counter now last one.after x mid store slots' b c → RanLines layouts counter limits last s (whole ++ x) old store slots' a c
+  ran_on limits now last s whole x old mid store slots slots' a b c ends one two = record {
+    output = one.output ++ two.output;
+    after = two.after;
+    session = subst (λ (ls : List (List ℕ)). SessionFrom layouts counter limits s ls (one.output ++ two.output) two.after last) (sym (lines_behind whole x ends)) (session_on layouts counter limits now last s one.after two.after (lines whole) (lines x) one.output two.output one.session two.session);
+    holds = two.holds;
+    kept = λ before was ends_so.
+        two.kept (before ++ lines whole) (one.kept before was) (subst EndsInGc (ap (λ (ls : List (List ℕ)). before ++ ls) (lines_behind whole x ends) ∙ sym (append_assoc before (lines whole) (lines x))) ends_so);
+    replied = Appends-trans a b c one.output two.output one.replied two.replied;
+  }
 
-pub along_end : (layouts : Layouts) (counter : Option ℕ) (limits now : Limits) (s : State) (input rest : List ℕ) (store : StoreView) (slots : RunnerView) (a b : Option (List ℕ)) → Along layouts counter limits now s input rest store slots a b → rest ≡ [] → RanLines layouts counter limits now s input store slots a b
-along_end layouts counter limits now s input rest store slots a b so_far none = record {
-  output = so_far.output;
-  after = so_far.mid;
-  session = session_of layouts counter limits s so_far.mid now so_far.done (lines input) so_far.output so_far.output
-      (sym (so_far.cut ∙ ap (λ (bs : List ℕ). so_far.done ++ lines bs) none ∙ append-nil so_far.done)) refl
-      (session_so_far layouts counter limits now s input rest store slots a b so_far);
-  holds = so_far.holds;
-  kept = λ ends. so_far.kept (subst EndsInGc (so_far.cut ∙ ap (λ (bs : List ℕ). so_far.done ++ lines bs) none ∙ append-nil so_far.done) ends);
-  replied = so_far.replied;
-}
+  -- what was flushed behind it
+  pub ran_kept : (limits last : Limits) (s : State) (bytes : List ℕ) (old store : StoreView) (slots : RunnerView) (a b c : Option (List ℕ)) → RanLines layouts counter limits last s bytes old store slots a b → Keeps b c → RanLines layouts counter limits last s bytes old store slots a c
+  ran_kept limits last s bytes old store slots a b c ran keeps = record {
+    output = ran.output;
+    after = ran.after;
+    session = ran.session;
+    holds = ran.holds;
+    kept = ran.kept;
+    replied = Appends-kept a b c ran.output ran.replied keeps;
+  }
 
--- the next line broke off
-pub along_broken : (layouts : Layouts) (counter : Option ℕ) (limits now : Limits) (s : State) (input rest line behind : List ℕ) (store store' : StoreView) (slots slots' : RunnerView) (a b c : Option (List ℕ)) → (so_far : Along layouts counter limits now s input rest store slots a b) → lines rest ≡ line ∷ lines behind → BrokeOff layouts counter now so_far.mid line store' slots' b c → StoppedLines layouts counter limits s input store' slots' a c
-along_broken layouts counter limits now s input rest line behind store store' slots slots' a b c so_far cut broke = record {
-  done = so_far.done;
-  line = line;
-  rest = lines behind;
-  cut = so_far.cut ∙ ap (λ (ls : List (List ℕ)). so_far.done ++ ls) cut;
-  output = so_far.output;
-  mid = so_far.mid;
-  mid_limits = now;
-  session = session_so_far layouts counter limits now s input rest store slots a b so_far;
-  between = b;
-  written = so_far.replied;
-  broke_off = broke;
-}
+  -- a line broke off that is the first of the bytes
+  pub stopped_first : (limits : Limits) (s : State) (bytes line : List ℕ) (rest : List (List ℕ)) (store : StoreView) (slots : RunnerView) (a b : Option (List ℕ)) → lines bytes ≡ line ∷ rest → BrokeOff layouts counter limits s line store slots a b → StoppedLines layouts counter limits s bytes store slots a b
+  stopped_first limits s bytes line rest store slots a b cut broke = record {
+    done = [];
+    line = line;
+    rest = rest;
+    cut = cut;
+    output = [];
+    mid = s;
+    mid_limits = limits;
+    session = session_none layouts counter limits s;
+    between = a;
+    written = Appends-nil a;
+    broke_off = broke;
+  }
+
+  -- a line broke off that is behind whole lines
+  stopped_on : (limits now : Limits) (s : State) (whole x : List ℕ) (old mid store : StoreView) (slots slots' : RunnerView) (a b c : Option (List ℕ)) → EndsWhole whole → (one : RanLines layouts counter limits now s whole old mid slots a b)
+      → StoppedLines layouts counter now one.after x store slots' b c → StoppedLines layouts counter limits s (whole ++ x) store slots' a c
+  stopped_on limits now s whole x old mid store slots slots' a b c ends one two = record {
+    done = lines whole ++ two.done;
+    line = two.line;
+    rest = two.rest;
+    cut = lines_behind whole x ends ∙ ap (λ (ls : List (List ℕ)). lines whole ++ ls) two.cut ∙ sym (append_assoc (lines whole) two.done (two.line ∷ two.rest));
+    output = one.output ++ two.output;
+    mid = two.mid;
+    mid_limits = two.mid_limits;
+    session = session_on layouts counter limits now two.mid_limits s one.after two.mid (lines whole) two.done one.output two.output one.session two.session;
+    between = two.between;
+    written = Appends-trans a b two.between one.output two.output one.replied two.written;
+    broke_off = two.broke_off;
+  }
+
+  -- some bytes behind whole lines were run
+  pub some_on : (limits now : Limits) (s : State) (whole x : List ℕ) (old mid store : StoreView) (slots slots' : RunnerView) (a b c : Option (List ℕ)) → EndsWhole whole → (one : RanLines layouts counter limits now s whole old mid slots a b)
+      → RanSome layouts counter now one.after x mid store slots' b c → RanSome layouts counter limits s (whole ++ x) old store slots' a c
+  some_on limits now s whole x old mid store slots slots' a b c ends one (inl two) = inl (stopped_on limits now s whole x old mid store slots slots' a b c ends one two)
+  some_on limits now s whole x old mid store slots slots' a b c ends one (inr two) = inr (two.0, ran_on limits now two.0 s whole x old mid store slots slots' a b c ends one two.1)
 
 -- nothing of a reply was written
 pub took_none : (held : Option (List ℕ)) (bytes : List ℕ) (b : ℕ) → TookPart held held (bytes ++ b ∷ [])
 took_none held bytes b = (0, omega (arith, length-append bytes (b ∷ [])), Appends-nil held)
-
--- what the loop over the lines keeps
-pub record RanSoFar (layouts : Layouts) (limits now : Limits) (input rest : List ℕ) (store store' : StoreView) (slots slots' : RunnerView) (held held' : Option (List ℕ)) (faults faults' : ℕ) : Type 0 where
-  pub along : (s : State) → HoldsState layouts store slots s → Along layouts store.alloc_counter limits now s input rest store' slots' held held'
-  pub no_fewer_faults : faults ≤ faults'
-  pub same : IsSameStore store store'
 
 -- bytes that are as they were
 pub keeps_same : (held : Option (List ℕ)) → Keeps held held
@@ -127,3 +164,11 @@ ran_from {layouts} {now} {next} {s} {line} {store} {slots} {a} {b} counter count
 pub broke_from : {layouts : Layouts} {now : Limits} {s : State} {line : List ℕ} {store : StoreView} {slots : RunnerView} {a b : Option (List ℕ)} (counter counter' : Option ℕ) → counter' ≡ counter → BrokeOff layouts counter' now s line store slots a b → BrokeOff layouts counter now s line store slots a b
 broke_from {layouts} {now} {s} {line} {store} {slots} {a} {b} counter counter' same broke =
     subst (λ (k : Option ℕ). BrokeOff layouts k now s line store slots a b) same broke
+
+-- no line of these was read, where there is one
+unread_by : (layouts : Layouts) (counter : Option ℕ) (limits : Limits) (s : State) (bytes : List ℕ) (ls : List (List ℕ)) (store : StoreView) (slots : RunnerView) (held : Option (List ℕ)) → lines bytes ≡ ls → HoldsState layouts store slots s → RanSome layouts counter limits s bytes store store slots held held
+unread_by layouts counter limits s bytes [] store slots held is holds = inr (limits, ran_none layouts counter limits s bytes store slots held is holds)
+unread_by layouts counter limits s bytes (l ∷ ls) store slots held is holds = inl (stopped_first layouts counter limits s bytes l ls store slots held held is (not_read holds (keeps_same held)))
+
+pub unread : (layouts : Layouts) (counter : Option ℕ) (limits : Limits) (s : State) (bytes : List ℕ) (store : StoreView) (slots : RunnerView) (held : Option (List ℕ)) → HoldsState layouts store slots s → RanSome layouts counter limits s bytes store store slots held held
+unread layouts counter limits s bytes store slots held holds = unread_by layouts counter limits s bytes (lines bytes) store slots held refl holds

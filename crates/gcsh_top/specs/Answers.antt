@@ -8,9 +8,9 @@ use Rattle.gcsh_top.specs.declared.status.Status.TheVariants.{Done, Usage, ReadF
 use Rattle.gcsh_top.specs.declared.stores.Stores.{Stores}
 use Rattle.gcsh_top.specs.declared.words.Form.{Form}
 use Rattle.gcsh_top.specs.Chosen.{AreSameStores, OthersStay, chosen}
-use Rattle.gcsh_top.specs.Ends.{Gave, SinkRun, SourceRun}
-use Rattle.gcsh_top.specs.Input.{ReadWhole, max_input}
-use Rattle.gcsh_top.specs.Runs.{IsReady, RanForm, StoppedForm}
+use Rattle.gcsh_top.specs.Ends.{SinkRun, SourceRun}
+use Rattle.gcsh_top.specs.Input.{GaveLines, GaveWhole, ReadWhole, max_input}
+use Rattle.gcsh_top.specs.Runs.{RanForm, StoppedForm}
 use Rattle.gcsh_top.specs.Words.{IsForm, layouts_of}
 
 -- Every line of the input has its reply: the input was read to its end; its lines are commands whose replies are a run
@@ -22,28 +22,29 @@ pub record Completed (layouts : Layouts) (form : Form) (source : SourceRun) (sin
   pub ran : RanForm layouts form input sink.before.held sink.after.held store
   pub flushed : IsTrue sink.after.flushed
 
--- The input was read to its end, and its run stopped before all was written and flushed.
+-- The run stopped somewhere in the lines that the source gave whole, or behind them.
 pub record Stopped (layouts : Layouts) (form : Form) (source : SourceRun) (sink : SinkRun) (store : StoreView) : Type 0 where
   pub input : List ℕ
-  pub whole : ReadWhole source input
+  pub gave : GaveWhole source input
   pub stopped : StoppedForm layouts form input sink.before.held sink.after.held store
 
--- Nothing was run and nothing written: the input was not read to its end, of which these bytes were given.
-pub record Unrun (layouts : Layouts) (form : Form) (source : SourceRun) (sink : SinkRun) (store : StoreView) (bytes : List ℕ) : Type 0 where
-  pub gave : Gave source bytes
-  pub ready : IsReady layouts form store
-  pub unwritten : sink.after ≡ sink.before
+-- Every line that the source gave whole has its reply, and no other line was run: the source gave these bytes, and those
+-- within the limit end their whole lines with the last line feed. What was written was flushed.
+pub record RanFront (layouts : Layouts) (form : Form) (source : SourceRun) (sink : SinkRun) (store : StoreView) (bytes : List ℕ) : Type 0 where
+  pub whole : List ℕ
+  pub gave : GaveLines source bytes whole
+  pub ran : RanForm layouts form whole sink.before.held sink.after.held store
+  pub flushed : (sink.after ≡ sink.before) ⊎ IsTrue sink.after.flushed
 
 -- How the run of a form on its new store ended, and what it left.
 abbrev pub RanOn : Layouts → Form → SourceRun → SinkRun → StoreView → Status → Type 0
 RanOn layouts form source sink store Done = Completed layouts form source sink store
 RanOn layouts form source sink store Usage = ⊥
 RanOn layouts form source sink store ReadFault =
-    ((bytes : List ℕ) × Unrun layouts form source sink store bytes × (length bytes ≤ max_input)) × Rose source.before.faults source.after.faults
+    ((bytes : List ℕ) × RanFront layouts form source sink store bytes × (length bytes ≤ max_input)) × Rose source.before.faults source.after.faults
 RanOn layouts form source sink store WriteFault = Stopped layouts form source sink store × Rose sink.before.faults sink.after.faults
-RanOn layouts form source sink store TooLong = (bytes : List ℕ) × Unrun layouts form source sink store bytes × (length bytes ≡ max_input + 1)
-RanOn layouts form source sink store NoMemory =
-    ((bytes : List ℕ) × Unrun layouts form source sink store bytes × (length bytes ≤ max_input)) ⊎ Stopped layouts form source sink store
+RanOn layouts form source sink store TooLong = (bytes : List ℕ) × RanFront layouts form source sink store bytes × (length bytes ≡ max_input + 1)
+RanOn layouts form source sink store NoMemory = Stopped layouts form source sink store
 
 -- The words are those of a form, whose run on the store that they choose ended so. The other store is as it was, and
 -- each has its id still.

@@ -25,6 +25,11 @@ longer line bytes = record { bytes = take max_line (line.bytes ++ bytes); is_lon
 abbrev pub has_feed : List ℕ → Bool
 has_feed bytes = list_any (λ b. b == line_feed) bytes
 
+-- the bytes are an unfinished line, of which that is kept
+pub record IsUnfinished (line : KeptLine) (bytes : List ℕ) : Type 0 where
+  pub plain : has_feed bytes ≡ false
+  pub kept_is : line ≡ kept_of bytes
+
 -- The line goes on with all bytes up to the first line feed of the piece, and n bytes, that line feed among them, are
 -- taken.
 pub record EndsLine (old new : KeptLine) (piece : List ℕ) (n : ℕ) : Type 0 where

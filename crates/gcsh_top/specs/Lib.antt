@@ -1,8 +1,8 @@
 pub mod Counts
 pub mod Ends
 pub mod Memory
-pub mod Input
 pub mod Cutting
+pub mod Input
 pub mod Words
 pub mod Statuses
 pub mod Chosen

@@ -1,8 +1,8 @@
 -- What running lines leaves.
-use Rattle.std.specs.Prelude.{◌≡◌, ℕ, List, [], ◌∷◌, ◌++◌, Option, Some, None, codes, IsTrue}
+use Rattle.std.specs.Prelude.{◌≡◌, ℕ, List, [], ◌∷◌, ◌++◌, ◌⊎◌, Option, Some, None, codes}
 use Rattle.std.specs.Io.KnownBytes.{Appends, Keeps}
 use Rattle.gc_types.specs.declared.kind.Layouts.{Layouts}
-use Rattle.gc_model.specs.Allocation.{Limits, Rose}
+use Rattle.gc_model.specs.Allocation.{Limits}
 use Rattle.gc_model.specs.Table.{Table, start, usual_roots}
 use Rattle.gc_model.specs.Holds.{HoldsKept}
 use Rattle.gc_model.specs.Stores.{StoreView}
@@ -16,10 +16,9 @@ use Rattle.gc_store.specs.Accounts.{HoldsAccount, no_account}
 use Rattle.gc_store.specs.Limiters.{fresh_limits}
 use Rattle.gc_script.specs.Run.{Ran, WantsMemory}
 use Rattle.gc_script.specs.Session.{Session, SessionFrom, reply_line}
-use Rattle.gcsh_top.specs.declared.status.Status.{Status}
-use Rattle.gcsh_top.specs.declared.status.Status.TheVariants.{Done, Usage, ReadFault, WriteFault, TooLong, NoMemory}
 use Rattle.gcsh_top.specs.declared.words.Form.{Form}
-use Rattle.gcsh_top.specs.Ends.{SinkRun, TookPart}
+use Rattle.gcsh_top.specs.Cutting.{IsCut, KeptLine, kept_of}
+use Rattle.gcsh_top.specs.Ends.{TookPart}
 use Rattle.gc_script.specs.Lines.{lines}
 
 -- the line is a command that was run, and the sink took its reply
@@ -35,13 +34,18 @@ pub record RanLine (layouts : Layouts) (counter : Option ℕ) (limits limits' : 
 abbrev pub EndsInGc : List (List ℕ) → Type 0
 EndsInGc lines = (before : List (List ℕ)) × (lines ≡ before ++ codes "gc" ∷ [])
 
--- the lines of the input are commands that were run, and the sink took their replies
-pub record RanLines (layouts : Layouts) (counter : Option ℕ) (limits limits' : Limits) (s : State) (input : List ℕ) (store : StoreView) (runner : RunnerView) (held held' : Option (List ℕ)) : Type 0 where
+-- where the last of some lines is `gc`, the store holds the kept objects of the table and no others
+abbrev pub KeptBehind : Layouts → List (List ℕ) → StoreView → Table ℕ → Type 0
+KeptBehind layouts lines store table = EndsInGc lines → HoldsKept layouts store table
+
+-- The lines of the input are commands that were run, and the sink took their replies. What a last `gc` leaves is left
+-- whatever lines stand before, whose store was `old`.
+pub record RanLines (layouts : Layouts) (counter : Option ℕ) (limits limits' : Limits) (s : State) (input : List ℕ) (old store : StoreView) (runner : RunnerView) (held held' : Option (List ℕ)) : Type 0 where
   pub output : List ℕ
   pub after : State
   pub session : SessionFrom layouts counter limits s (lines input) output after limits'
   pub holds : HoldsState layouts store runner after
-  pub kept : EndsInGc (lines input) → HoldsKept layouts store after.table
+  pub kept : (before : List (List ℕ)) → KeptBehind layouts before old s.table → KeptBehind layouts (before ++ lines input) store after.table
   pub replied : Appends held held' output
 
 -- A line without its whole reply: for want of memory its command was not read or not run, or it was run and a front
@@ -67,6 +71,26 @@ pub record StoppedLines (layouts : Layouts) (counter : Option ℕ) (limits : Lim
   pub written : Appends held between output
   pub broke_off : BrokeOff layouts counter mid_limits mid line store runner between held'
 
+-- The lines of the input were run and replied to up to one that broke off, or all of them.
+abbrev pub RanSome : Layouts → Option ℕ → Limits → State → List ℕ → StoreView → StoreView → RunnerView → Option (List ℕ) → Option (List ℕ) → Type 0
+RanSome layouts counter limits s input old store runner held held' =
+    StoppedLines layouts counter limits s input store runner held held' ⊎ ((limits' : Limits) × RanLines layouts counter limits limits' s input old store runner held held')
+
+-- Of bytes that begin with a line, those up to their last line feed were run, and the line behind them is kept.
+pub record RanPiece (layouts : Layouts) (counter : Option ℕ) (limits limits' : Limits) (s : State) (bytes : List ℕ) (line : KeptLine) (old store : StoreView) (runner : RunnerView) (held held' : Option (List ℕ)) : Type 0 where
+  pub whole : List ℕ
+  pub rest : List ℕ
+  pub cut : IsCut bytes whole rest
+  pub kept_is : line ≡ kept_of rest
+  pub ran : RanLines layouts counter limits limits' s whole old store runner held held'
+
+-- of such bytes, those up to their last line feed were run in part, or were all run and not flushed
+pub record StoppedPiece (layouts : Layouts) (counter : Option ℕ) (limits : Limits) (s : State) (bytes : List ℕ) (old store : StoreView) (runner : RunnerView) (held held' : Option (List ℕ)) : Type 0 where
+  pub whole : List ℕ
+  pub rest : List ℕ
+  pub cut : IsCut bytes whole rest
+  pub some : RanSome layouts counter limits s whole old store runner held held'
+
 -- An input was run on a store whose heap is of that kind: it holds the table and the account at the end. Where the last
 -- line is `gc`, the heap holds the kept objects and no others.
 pub record RanForm (layouts : Layouts) (form : Form) (input : List ℕ) (held held' : Option (List ℕ)) (store : StoreView) : Type 0 where
@@ -88,16 +112,7 @@ pub record IsReady (layouts : Layouts) (form : Form) (store : StoreView) : Type 
   pub holds : HoldsAccount layouts store (first_table form) no_account
   pub no_counter : store.alloc_counter ≡ None
 
--- How the run of an input ended before its end: a line broke off, or all was written and not flushed.
+-- How far an input was run: up to a line that broke off, or to its end.
 pub data StoppedForm (layouts : Layouts) (form : Form) (input : List ℕ) (held held' : Option (List ℕ)) (store : StoreView) : Type 0 where
   in_lines : (runner : RunnerView) → store.alloc_counter ≡ None → StoppedLines layouts None (fresh_limits (Some form.most)) (begin (first_table form) no_account) input store runner held held' → StoppedForm layouts form input held held' store
-  unflushed : RanForm layouts form input held held' store → StoppedForm layouts form input held held' store
-
--- how the run of an input that was read ended
-abbrev pub EndsRun : Layouts → Form → List ℕ → SinkRun → StoreView → Status → Type 0
-EndsRun layouts form input sink store Done = RanForm layouts form input sink.before.held sink.after.held store × IsTrue sink.after.flushed
-EndsRun layouts form input sink store Usage = ⊥
-EndsRun layouts form input sink store ReadFault = ⊥
-EndsRun layouts form input sink store WriteFault = StoppedForm layouts form input sink.before.held sink.after.held store × Rose sink.before.faults sink.after.faults
-EndsRun layouts form input sink store TooLong = ⊥
-EndsRun layouts form input sink store NoMemory = StoppedForm layouts form input sink.before.held sink.after.held store
+  behind_lines : RanForm layouts form input held held' store → StoppedForm layouts form input held held' store

@@ -1,13 +1,15 @@
 //! Cuts bytes into lines as they come, in pieces of any length.
 
-ghost use Rattle.std.specs.Prelude.{◌≡◌, ℕ, List, IfOk, OnErr, OnOk, length};
+ghost use Rattle.std.specs.Prelude.{◌≡◌, ◌==◌, ℕ, List, IfOk, OnErr, OnOk, length, position};
 ghost use Rattle.std.specs.List.{concat};
 ghost use Rattle.gcsh_top.specs.Cutting.{Feeds, FeedsAll, GivesLines, KeptLine, longer, no_line};
 
-use crate::lines::first_line_feed;
 use gc_commands::MAX_LINE;
 use std::alloc::{AllocError, Global};
 use std::marker::Model;
+
+/// Ends a line.
+const LINE_FEED: u8 = b'\n';
 
 /// What is kept of an unfinished line: its first `MAX_LINE` bytes at most, and whether there were more.
 #[derive(Debug, Drop)]
@@ -100,6 +102,13 @@ impl LineCutter {
         self.kept.clear();
         self.is_long = false;
     }
+}
+
+/// Where the first line feed stands.
+fn first_line_feed(bytes: &[u8]) -> Option<usize>
+    ensures { result ≡ position (λ b. b == 10) bytes.now }
+{
+    bytes.iter().position(|byte| *byte == LINE_FEED)
 }
 
 /// Whatever pieces bytes come in: where a cutter is fed them all and cleared behind each line that ended, the

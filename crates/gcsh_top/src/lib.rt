@@ -5,12 +5,12 @@
 //! `MemSource` and `MemSink` tell their bytes, so that all that a run does can be stated of them;
 //! `StdSource` and `StdSink` stand before standard input and output, and tell counts alone.
 //! The definitions are in `specs/`: `Ends` (what sources and sinks tell, and what reads and writes do),
-//! `Memory` (the ends in memory), `Cutting` (pieces of bytes cut into lines), `Words` (the words of the
-//! program), `Runs` (what running lines leaves), `Answers` (what the top call answers).
+//! `Memory` (the ends in memory), `Cutting` (pieces of bytes cut into lines), `Input` (what reading an
+//! input comes to), `Words` (the words of the program), `Runs` (what running lines leaves), `Answers` (what
+//! the top call answers).
 #![tactic(auto)]
 
 pub mod cutter;
-pub mod lines;
 pub mod memory;
 pub mod program;
 pub mod read;
@@ -20,17 +20,14 @@ pub mod source;
 pub mod standard;
 pub mod status;
 pub mod stores;
-#[cfg(test)]
-mod tests;
 pub mod top;
 pub mod words;
 pub mod write;
 
 pub use cutter::{LineCutter, pieces_give_lines};
-pub use lines::next_line;
 pub use memory::{MemSink, MemSource};
 pub use program::{Exit, HELP, VERSION, gcsh_main, run_program};
-pub use read::{MAX_INPUT, ReadFault, read_all};
+pub use read::MAX_INPUT;
 pub use sink::{Sink, SinkFault};
 pub use source::{Source, SourceFault};
 pub use standard::{StdSink, StdSource};

@@ -1,19 +1,23 @@
-//! Runs the lines of an input.
+//! Runs the lines of an input as they come.
 
-ghost use Rattle.std.specs.Prelude.{◌≡◌, ◌≤◌, IfOk, IsErrOf, OnErr, OnOk};
+ghost use Rattle.std.specs.Prelude.{◌≡◌, ◌≤◌, ◌⊎◌, ◌++◌, ℕ, false, IfOk, IsErrOf, IsTrue, List, OnErr, OnOk};
+ghost use Rattle.gc_commands.specs.Spelling.{IsCommandOf};
 ghost use Rattle.gc_model.specs.Allocation.{Rose};
+ghost use Rattle.gcsh_top.specs.Cutting.{IsUnfinished, kept_of};
 ghost use Rattle.gcsh_top.specs.Ends.{TookPart};
-ghost use Rattle.gcsh_top.specs.Runs.{BrokeOff, RanLine, RanLines, StoppedLines};
+ghost use Rattle.gcsh_top.specs.Runs.{BrokeOff, RanLine, RanLines, RanPiece, RanSome, StoppedPiece};
+ghost use Rattle.gcsh_top.specs.Statuses.{status_of};
 ghost use Rattle.gc_script.specs.State.{State, HoldsState};
 ghost use Rattle.gc_script.specs.Session.{reply_line};
 ghost use Rattle.gc_store.specs.Stores.{IsSameStore};
-ghost use Rattle.std.specs.Io.KnownBytes.{Appends};
+ghost use Rattle.std.specs.Io.KnownBytes.{Appends, Keeps};
 
-use crate::lines::next_line;
-use crate::sink::{Sink, SinkFault};
+use crate::cutter::LineCutter;
+use crate::sink::Sink;
+use crate::status::Status;
 use crate::write::write_all;
 use gc_heap::GcHeap;
-use gc_script::{Reply, RunError, Runner, parse_line, push_reply};
+use gc_script::{Command, Reply, RunError, Runner, parse_line, push_reply};
 use gc_store::{ResourceLimiter, Store};
 use std::alloc::{AllocError, Global};
 use thiserror::Error;
@@ -25,6 +29,29 @@ pub(crate) enum LineFault {
     Sink,
     #[error("out of memory")]
     Memory,
+}
+
+impl From<AllocError> for LineFault {
+    ghost use Rattle.std.specs.Prelude.{◌≡◌};
+    ghost use Rattle.gcsh_top.specs.declared.run.LineFault.TheVariants.{Memory};
+
+    ghost from_gives = { λ _ fault. fault ≡ Memory };
+
+    fn from(_: AllocError) -> LineFault {
+        LineFault::Memory
+    }
+}
+
+impl LineFault {
+    /// The status of a run that ends so.
+    pub(crate) fn status(self) -> Status
+        ensures { result ≡ status_of self }
+    {
+        match self {
+            LineFault::Sink => Status::WriteFault,
+            LineFault::Memory => Status::NoMemory,
+        }
+    }
 }
 
 /// Writes a reply with its line feed. The text is a buffer that is used again.
@@ -44,23 +71,37 @@ fn write_reply<K: Sink>(text: &mut String, sink: &mut K, reply: &Reply) -> Resul
     }
 }
 
-/// Runs one line, and writes its reply.
+/// The command of a line of which that is kept.
+fn command_of(alloc: Global, kept: &LineCutter) -> Result<Command, AllocError>
+    ensures { IfOk result (λ command. (line : List ℕ) → kept.now ≡ kept_of line → IsCommandOf line command) }
+{
+    if kept.is_long() {
+        return Ok(Command::Bad);
+    }
+    parse_line(alloc, kept.line())
+}
+
+/// Runs the line of which that is kept, and writes its reply.
 fn run_line<H: GcHeap, L: ResourceLimiter, K: Sink>(
     alloc: Global,
     runner: &mut Runner,
     store: &mut Store<H, u64>,
     limiter: &mut L,
-    line: &[u8],
+    kept: &LineCutter,
     text: &mut String,
     sink: &mut K,
 ) -> Result<(), LineFault>
-    ensures ran { OnOk result ((s : State) → HoldsState H.KIND store.old runner.old s → RanLine H.KIND store.old.alloc_counter (L.limits limiter.old) (L.limits limiter.new) s line.now store.new runner.new (K.tells sink.old).held (K.tells sink.new).held) }
-    ensures broke_off { OnErr result ((s : State) → HoldsState H.KIND store.old runner.old s → BrokeOff H.KIND store.old.alloc_counter (L.limits limiter.old) s line.now store.new runner.new (K.tells sink.old).held (K.tells sink.new).held) }
+    ensures ran { OnOk result ((line : List ℕ) (s : State) → kept.now ≡ kept_of line → HoldsState H.KIND store.old runner.old s
+        → RanLine H.KIND store.old.alloc_counter (L.limits limiter.old) (L.limits limiter.new) s line store.new runner.new
+        (K.tells sink.old).held (K.tells sink.new).held) }
+    ensures broke_off { OnErr result ((line : List ℕ) (s : State) → kept.now ≡ kept_of line → HoldsState H.KIND store.old runner.old s
+        → BrokeOff H.KIND store.old.alloc_counter (L.limits limiter.old) s line store.new runner.new
+        (K.tells sink.old).held (K.tells sink.new).held) }
     ensures failed { IsErrOf result LineFault.Sink → Rose (K.tells sink.old).faults (K.tells sink.new).faults }
     ensures faults { (K.tells sink.old).faults ≤ (K.tells sink.new).faults }
     ensures same { IsSameStore store.old store.new }
 {
-    let Ok(command) = parse_line(alloc, line) else {
+    let Ok(command) = command_of(alloc, kept) else {
         return Err(LineFault::Memory);
     };
     match runner.run_one(store, limiter, &command) {
@@ -69,26 +110,133 @@ fn run_line<H: GcHeap, L: ResourceLimiter, K: Sink>(
     }
 }
 
-/// Runs the lines of the input, one after the other, and writes their replies.
-pub(crate) fn run_lines<H: GcHeap, L: ResourceLimiter, K: Sink>(
+/// Runs each line that ends in the next piece of an input, and writes its reply as soon as the line is
+/// whole. Answers whether there was one. The cutter keeps the line behind them.
+fn run_lines<H: GcHeap, L: ResourceLimiter, K: Sink>(
     alloc: Global,
     runner: &mut Runner,
     store: &mut Store<H, u64>,
     limiter: &mut L,
-    input: &[u8],
+    cutter: &mut LineCutter,
+    piece: &[u8],
     sink: &mut K,
-) -> Result<(), LineFault>
-    ensures ran { OnOk result ((s : State) → HoldsState H.KIND store.old runner.old s → RanLines H.KIND store.old.alloc_counter (L.limits limiter.old) (L.limits limiter.new) s input.now store.new runner.new (K.tells sink.old).held (K.tells sink.new).held) }
-    ensures stopped { OnErr result ((s : State) → HoldsState H.KIND store.old runner.old s → StoppedLines H.KIND store.old.alloc_counter (L.limits limiter.old) s input.now store.new runner.new (K.tells sink.old).held (K.tells sink.new).held) }
+) -> Result<bool, LineFault>
+    ensures ran { OnOk result ((bytes : List ℕ) (s : State) → IsUnfinished cutter.old bytes → HoldsState H.KIND store.old runner.old s
+        → RanPiece H.KIND store.old.alloc_counter (L.limits limiter.old) (L.limits limiter.new) s (bytes ++ piece.now) cutter.new store.old store.new runner.new
+        (K.tells sink.old).held (K.tells sink.new).held) }
+    ensures stopped { OnErr result ((bytes : List ℕ) (s : State) → IsUnfinished cutter.old bytes → HoldsState H.KIND store.old runner.old s
+        → StoppedPiece H.KIND store.old.alloc_counter (L.limits limiter.old) s (bytes ++ piece.now) store.old store.new runner.new
+        (K.tells sink.old).held (K.tells sink.new).held) }
+    ensures unwritten { IfOk result (λ replied. replied ≡ false → K.tells sink.new ≡ K.tells sink.old) }
     ensures failed { IsErrOf result LineFault.Sink → Rose (K.tells sink.old).faults (K.tells sink.new).faults }
     ensures faults { (K.tells sink.old).faults ≤ (K.tells sink.new).faults }
     ensures same { IsSameStore store.old store.new }
 {
     let mut text = String::new(alloc);
-    let mut rest = input;
-    while let Some((line, behind)) = next_line(rest) {
-        run_line(alloc, runner, store, limiter, line, &mut text, sink)?;
-        rest = behind;
+    let mut rest = piece;
+    let mut replied = false;
+    while !rest.is_empty() {
+        let (taken, is_ended) = cutter.feed(rest)?;
+        rest = &rest[taken..];
+        if is_ended {
+            run_line(alloc, runner, store, limiter, cutter, &mut text, sink)?;
+            cutter.clear();
+            replied = true;
+        }
     }
-    Ok(())
+    Ok(replied)
+}
+
+/// Runs each line that ends in the next piece of an input, writes their replies, and flushes these.
+/// The cutter keeps the line behind them.
+pub(crate) fn run_piece<H: GcHeap, L: ResourceLimiter, K: Sink>(
+    alloc: Global,
+    runner: &mut Runner,
+    store: &mut Store<H, u64>,
+    limiter: &mut L,
+    cutter: &mut LineCutter,
+    piece: &[u8],
+    sink: &mut K,
+) -> Result<(), LineFault>
+    ensures ran { OnOk result ((bytes : List ℕ) (s : State) → IsUnfinished cutter.old bytes → HoldsState H.KIND store.old runner.old s
+        → RanPiece H.KIND store.old.alloc_counter (L.limits limiter.old) (L.limits limiter.new) s (bytes ++ piece.now) cutter.new store.old store.new runner.new
+        (K.tells sink.old).held (K.tells sink.new).held) }
+    ensures stopped { OnErr result ((bytes : List ℕ) (s : State) → IsUnfinished cutter.old bytes → HoldsState H.KIND store.old runner.old s
+        → StoppedPiece H.KIND store.old.alloc_counter (L.limits limiter.old) s (bytes ++ piece.now) store.old store.new runner.new
+        (K.tells sink.old).held (K.tells sink.new).held) }
+    ensures flushed { OnOk result ((K.tells sink.new ≡ K.tells sink.old) ⊎ IsTrue (K.tells sink.new).flushed) }
+    ensures failed { IsErrOf result LineFault.Sink → Rose (K.tells sink.old).faults (K.tells sink.new).faults }
+    ensures faults { (K.tells sink.old).faults ≤ (K.tells sink.new).faults }
+    ensures same { IsSameStore store.old store.new }
+{
+    match run_lines(alloc, runner, store, limiter, cutter, piece, sink) {
+        Ok(false) => Ok(()),
+        Ok(true) => flush(sink),
+        Err(fault) => Err(fault),
+    }
+}
+
+/// Runs the last line of an input, which its end ends, where that isn't empty.
+fn run_rest<H: GcHeap, L: ResourceLimiter, K: Sink>(
+    alloc: Global,
+    runner: &mut Runner,
+    store: &mut Store<H, u64>,
+    limiter: &mut L,
+    cutter: &LineCutter,
+    sink: &mut K,
+) -> Result<(), LineFault>
+    ensures ran { OnOk result ((bytes : List ℕ) (s : State) → IsUnfinished cutter.now bytes → HoldsState H.KIND store.old runner.old s
+        → RanLines H.KIND store.old.alloc_counter (L.limits limiter.old) (L.limits limiter.new) s bytes store.old store.new runner.new
+        (K.tells sink.old).held (K.tells sink.new).held) }
+    ensures stopped { OnErr result ((bytes : List ℕ) (s : State) → IsUnfinished cutter.now bytes → HoldsState H.KIND store.old runner.old s
+        → RanSome H.KIND store.old.alloc_counter (L.limits limiter.old) s bytes store.old store.new runner.new
+        (K.tells sink.old).held (K.tells sink.new).held) }
+    ensures failed { IsErrOf result LineFault.Sink → Rose (K.tells sink.old).faults (K.tells sink.new).faults }
+    ensures faults { (K.tells sink.old).faults ≤ (K.tells sink.new).faults }
+    ensures same { IsSameStore store.old store.new }
+{
+    if cutter.held() == 0 {
+        return Ok(());
+    }
+    let mut text = String::new(alloc);
+    run_line(alloc, runner, store, limiter, cutter, &mut text, sink)
+}
+
+/// Runs the last line of an input, and flushes.
+pub(crate) fn run_last<H: GcHeap, L: ResourceLimiter, K: Sink>(
+    alloc: Global,
+    runner: &mut Runner,
+    store: &mut Store<H, u64>,
+    limiter: &mut L,
+    cutter: &LineCutter,
+    sink: &mut K,
+) -> Result<(), LineFault>
+    ensures ran { OnOk result ((bytes : List ℕ) (s : State) → IsUnfinished cutter.now bytes → HoldsState H.KIND store.old runner.old s
+        → RanLines H.KIND store.old.alloc_counter (L.limits limiter.old) (L.limits limiter.new) s bytes store.old store.new runner.new
+        (K.tells sink.old).held (K.tells sink.new).held) }
+    ensures stopped { OnErr result ((bytes : List ℕ) (s : State) → IsUnfinished cutter.now bytes → HoldsState H.KIND store.old runner.old s
+        → RanSome H.KIND store.old.alloc_counter (L.limits limiter.old) s bytes store.old store.new runner.new
+        (K.tells sink.old).held (K.tells sink.new).held) }
+    ensures flushed { OnOk result (IsTrue (K.tells sink.new).flushed) }
+    ensures failed { IsErrOf result LineFault.Sink → Rose (K.tells sink.old).faults (K.tells sink.new).faults }
+    ensures faults { (K.tells sink.old).faults ≤ (K.tells sink.new).faults }
+    ensures same { IsSameStore store.old store.new }
+{
+    match run_rest(alloc, runner, store, limiter, cutter, sink) {
+        Ok(()) => flush(sink),
+        Err(fault) => Err(fault),
+    }
+}
+
+/// Flushes what was written.
+fn flush<K: Sink>(sink: &mut K) -> Result<(), LineFault>
+    ensures bytes { Keeps (K.tells sink.old).held (K.tells sink.new).held }
+    ensures flushed { OnOk result (IsTrue (K.tells sink.new).flushed) }
+    ensures failed { IsErrOf result LineFault.Sink → Rose (K.tells sink.old).faults (K.tells sink.new).faults }
+    ensures faults { (K.tells sink.old).faults ≤ (K.tells sink.new).faults }
+{
+    match sink.flush() {
+        Ok(()) => Ok(()),
+        Err(_) => Err(LineFault::Sink),
+    }
 }

@@ -10,11 +10,11 @@ pub enum Status {
     Done,
     /// The words are of no form that is built. Nothing was read or written.
     Usage,
-    /// The source failed. Nothing was written.
+    /// The source failed. Every line that it had given whole has its reply.
     ReadFault,
     /// The sink failed.
     WriteFault,
-    /// The input has more bytes than `MAX_INPUT`. Nothing was written.
+    /// The input has more bytes than `MAX_INPUT`. Every line that is whole within these has its reply.
     TooLong,
     /// There was no memory.
     NoMemory,

@@ -6,7 +6,7 @@ ghost use Rattle.gc_view.specs.Pages.{max_pages};
 ghost use Rattle.gc_model.specs.Allocation.{Rose};
 ghost use Rattle.gcsh_top.specs.Answers.{Answers, IsShort, RanOn, RanWords};
 ghost use Rattle.gcsh_top.specs.Chosen.{AreNew, HasSameId};
-ghost use Rattle.gcsh_top.specs.Runs.{EndsRun, IsReady};
+ghost use Rattle.gcsh_top.specs.Runs.{IsReady};
 ghost use Rattle.gcsh_top.specs.Statuses.{code_of};
 ghost use Rattle.gcsh_top.specs.Ends.{Gave, SinkRun, SourceRun};
 ghost use Rattle.gcsh_top.specs.Input.{max_input};
@@ -15,8 +15,9 @@ ghost use Rattle.gcsh_top.specs.declared.status.Status.{Status};
 ghost use Rattle.gcsh_top.specs.declared.stores.Stores.{Stores};
 ghost use Rattle.gcsh_top.specs.declared.words.Form.{Form};
 
-use crate::read::{ReadFault, read_all};
-use crate::run::{LineFault, run_lines};
+use crate::cutter::LineCutter;
+use crate::read::{ReadFault, read_piece};
+use crate::run::{run_last, run_piece};
 use crate::sink::Sink;
 use crate::source::Source;
 use crate::status::Status;
@@ -27,9 +28,13 @@ use gc_script::Runner;
 use gc_store::{HeapConfig, PageLimit, Store};
 use std::alloc::Global;
 
+/// A read asks for this many bytes at most.
+const PIECE: usize = 65_536;
+
 /// Runs the program: `words` are those behind its name. The chosen store begins with FIRST pages,
-/// and has at most MOST. The input is read to its end, then each line is run and its reply written,
-/// with a line feed. The answer is the number of a [`Status`], which the program ends with.
+/// and has at most MOST. Each line of the input is run as soon as it is whole, and its reply written,
+/// with a line feed; what was written is flushed before more is read. The answer is the number of a
+/// [`Status`], which the program ends with.
 pub fn gcsh_top<S: Source, K: Sink>(
     alloc: Global,
     words: &[String],
@@ -41,7 +46,6 @@ pub fn gcsh_top<S: Source, K: Sink>(
     ensures answers { (status : Status) × (result ≡ code_of status) × Answers (map string_bytes words.now)
         (record { before = S.tells source.old; after = S.tells source.new }) (record { before = K.tells sink.old; after = K.tells sink.new }) stores.old stores.new status }
     ensures untouched { result ≡ 1 → (source.new ≡ source.old) × (sink.new ≡ sink.old) × (stores.new ≡ stores.old) }
-    ensures unwritten { (result ≡ 2) ⊎ (result ≡ 4) → sink.new ≡ sink.old }
 {
     run_words(alloc, words, source, sink, stores).code()
 }
@@ -58,7 +62,6 @@ pub(crate) fn run_words<S: Source, K: Sink>(
     ensures answers { Answers (map string_bytes words.now) (record { before = S.tells source.old; after = S.tells source.new })
         (record { before = K.tells sink.old; after = K.tells sink.new }) stores.old stores.new result }
     ensures untouched { result ≡ Status.Usage → (source.new ≡ source.old) × (sink.new ≡ sink.old) × (stores.new ≡ stores.old) }
-    ensures unwritten { (result ≡ Status.ReadFault) ⊎ (result ≡ Status.TooLong) → sink.new ≡ sink.old }
 {
     let Some(form) = parse_words(words) else {
         return Status::Usage;
@@ -83,17 +86,10 @@ fn run_on<H: GcHeap, S: Source, K: Sink>(
     requires start { HoldsStart ℕ H.KIND store.old }
     ensures ran { RanOn H.KIND form (record { before = S.tells source.old; after = S.tells source.new })
         (record { before = K.tells sink.old; after = K.tells sink.new }) store.new result }
-    ensures unwritten { (result ≡ Status.ReadFault) ⊎ (result ≡ Status.TooLong) → sink.new ≡ sink.old }
     ensures same { HasSameId store.old store.new }
 {
     configure(form, store);
-    let input = match read_all(alloc, source) {
-        Ok(input) => input,
-        Err(ReadFault::Source) => return Status::ReadFault,
-        Err(ReadFault::TooLong) => return Status::TooLong,
-        Err(ReadFault::Memory) => return Status::NoMemory,
-    };
-    run_form(alloc, form, input.as_slice(), sink, store)
+    run_form(alloc, form, source, sink, store)
 }
 
 /// Lets a new store begin with the pages of the form.
@@ -109,27 +105,52 @@ fn configure<H: GcHeap>(form: Form, store: &mut Store<H, u64>)
     store.configure(config);
 }
 
-/// Runs an input on the store that the form chooses.
-fn run_form<H: GcHeap, K: Sink>(
+/// Runs an input, piece by piece, on the store that the form chooses.
+fn run_form<H: GcHeap, S: Source, K: Sink>(
     alloc: Global,
     form: Form,
-    input: &[u8],
+    source: &mut S,
     sink: &mut K,
     store: &mut Store<H, u64>,
 ) -> Status
     requires { IsReady H.KIND form store.old }
-    ensures ends { EndsRun H.KIND form input.now (record { before = K.tells sink.old; after = K.tells sink.new }) store.new result }
+    ensures ran { RanOn H.KIND form (record { before = S.tells source.old; after = S.tells source.new })
+        (record { before = K.tells sink.old; after = K.tells sink.new }) store.new result }
     ensures same { HasSameId store.old store.new }
 {
     let mut limiter = PageLimit::new(form.most);
     let mut runner = Runner::new(alloc);
-    match run_lines(alloc, &mut runner, store, &mut limiter, input, sink) {
-        Err(LineFault::Sink) => Status::WriteFault,
-        Err(LineFault::Memory) => Status::NoMemory,
-        Ok(()) => match sink.flush() {
-            Ok(()) => Status::Done,
-            Err(_) => Status::WriteFault,
-        },
+    let mut cutter = LineCutter::new(alloc);
+    let Ok(mut piece) = vec![in alloc; 0u8; PIECE] else {
+        return Status::NoMemory;
+    };
+    let mut given = 0;
+    loop {
+        let count = match read_piece(source, &mut piece, given) {
+            Ok(count) => count,
+            Err(ReadFault::Source) => return Status::ReadFault,
+            Err(ReadFault::TooLong) => return Status::TooLong,
+        };
+        if count == 0 {
+            break;
+        }
+        given += count;
+        let front = &piece[..count];
+        if let Err(fault) = run_piece(
+            alloc,
+            &mut runner,
+            store,
+            &mut limiter,
+            &mut cutter,
+            front,
+            sink,
+        ) {
+            return fault.status();
+        }
+    }
+    match run_last(alloc, &mut runner, store, &mut limiter, &cutter, sink) {
+        Ok(()) => Status::Done,
+        Err(fault) => fault.status(),
     }
 }
 

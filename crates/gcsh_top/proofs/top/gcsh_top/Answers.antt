@@ -1,5 +1,5 @@
 use Rattle.std.proofs.Common.{sym, ◌∙◌}
-use Rattle.gcsh_top.proofs.FormAnswers.{unread_of, usage_of}
+use Rattle.gcsh_top.proofs.FormAnswers.{usage_of}
 use Rattle.gcsh_top.proofs.top.gcsh_top.Goals as goal
 
 pub returns-clause-answers : goal.returns-clause-answers
@@ -7,6 +7,3 @@ returns-clause-answers g c = (c.run_words.result, c.code.ensures, c.run_words.en
 
 pub returns-clause-untouched : goal.returns-clause-untouched
 returns-clause-untouched g c is = c.run_words.ensures.untouched (usage_of c.run_words.result (sym c.code.ensures ∙ is))
-
-pub returns-clause-unwritten : goal.returns-clause-unwritten
-returns-clause-unwritten g c is = c.run_words.ensures.unwritten (unread_of c.run_words.result c.code.result c.code.ensures is)
