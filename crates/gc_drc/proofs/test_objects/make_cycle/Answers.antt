@@ -6,7 +6,7 @@ use Rattle.gc_refs.specs.LittleEndian.{unsigned_bytes}
 use Rattle.gc_heap.specs.Heap.{IsWritable}
 use Rattle.gc_heap.specs.Access.{WritesData}
 use Rattle.gc_drc.proofs.RunLemmas.{can_write_new, named_new}
-use Rattle.gc_drc.proofs.collection_tests.make_cycle.Goals as goal
+use Rattle.gc_drc.proofs.test_objects.make_cycle.Goals as goal
 
 pub write_u32-requires-clause-inside : goal.write_u32-requires-clause-inside
 write_u32-requires-clause-inside g c =

@@ -1,7 +1,7 @@
 use Rattle.std.proofs.Common.{subst}
 use Rattle.gc_types.specs.declared.kind.Layouts.{Layouts}
 use Rattle.gc_heap.specs.Heap.{AddsObject, new_struct}
-use Rattle.gc_drc.proofs.collection_tests.make_struct.Goals as goal
+use Rattle.gc_drc.proofs.test_objects.make_struct.Goals as goal
 
 pub returns-in-Ok-clause-made : goal.returns-in-Ok-clause-made
 returns-in-Ok-clause-made g c =
