@@ -1,4 +1,5 @@
-//! Graphs of objects that tests make in a heap that copies. After each step a collection may begin.
+//! Structs of undeclared type that a test makes in a heap that copies. After each step a collection may
+//! begin.
 
 ghost use Rattle.std.specs.Prelude.{◌≡◌, ◌≤◌, ◌<◌, ◌*◌, ◌^◌, ◌+◌, OnOk, All, IfSome, Some};
 ghost use Rattle.std.specs.FinMap as finite;
@@ -19,7 +20,7 @@ use gc_heap::{GcHeap, HeapMemory, RefKinds};
 use gc_refs::{I31, VMGcRef};
 use gc_roots::{GcRootsList, RootPlace};
 use gc_tables::ExternRefHostDataTable;
-use gc_types::{GcArrayLayout, Layouts, Types, VMGcKind, VMSharedTypeIndex};
+use gc_types::{Layouts, Types, VMGcKind, VMSharedTypeIndex};
 use std::alloc::Global;
 use std::test::Fail;
 
@@ -32,29 +33,8 @@ pub(crate) struct Around {
     pub(crate) hosts: ExternRefHostDataTable<u8>,
 }
 
-/// An object of a graph. Only the types of objects that are traced by them are declared.
-#[derive(Clone, Copy, Debug)]
-pub(crate) enum Node {
-    /// A struct of one reference.
-    One,
-    /// A struct of a reference and a number.
-    Numbered,
-    /// A struct of two references.
-    Two,
-    /// An array of so many references.
-    Array(u32),
-    /// An external object with that host value.
-    Host(u8),
-}
-
 /// The root of an object, and offsets of references to follow from it, up to a 0.
 pub(crate) type Path = (usize, u32, u32, u32);
-
-const REFERENCES: GcArrayLayout = GcArrayLayout {
-    base_size: 16,
-    elem_size: 4,
-    elems_are_gc_refs: true,
-};
 
 /// Gives a new heap so many pages.
 pub(crate) fn attach_pages<H: GcHeap>(heap: &mut H, alloc: Global, pages: u32) -> Result<(), Fail>
@@ -98,103 +78,6 @@ pub(crate) fn add_struct<H: GcHeap>(
             Ok(())
         }
         Err(_) => Err("no room")?,
-    }
-}
-
-/// Adds an array of so many references, all null.
-pub(crate) fn add_array<H: GcHeap>(
-    heap: &mut H,
-    around: &mut Around,
-    length: u32,
-) -> Result<(), Fail>
-    requires copying { H.KIND ≡ Layouts.Copying }
-    requires sound { H.sound heap.old }
-    requires can { CanCollect H.KIND (start_at (H.seen heap.old) around.old.roots.roots around.old.types.declarations around.old.hosts.entries) }
-    ensures sound { H.sound heap.new }
-    ensures can { OnOk result (CanCollect H.KIND (start_at (H.seen heap.new) around.new.roots.roots around.new.types.declarations around.new.hosts.entries)) }
-{
-    around.roots.reserve(1)?;
-    match heap.alloc_uninit_array(VMSharedTypeIndex::new(8), length, &REFERENCES)? {
-        Ok(array) => {
-            around
-                .roots
-                .add_vmgcref_root(RootPlace { number: 0 }, VMGcRef::from(array));
-            Ok(())
-        }
-        Err(_) => Err("no room")?,
-    }
-}
-
-/// Adds a struct of a declared type, all references null.
-pub(crate) fn add_declared<H: GcHeap>(
-    heap: &mut H,
-    around: &mut Around,
-    ty: VMSharedTypeIndex,
-) -> Result<(), Fail>
-    requires copying { H.KIND ≡ Layouts.Copying }
-    requires sound { H.sound heap.old }
-    requires can { CanCollect H.KIND (start_at (H.seen heap.old) around.old.roots.roots around.old.types.declarations around.old.hosts.entries) }
-    ensures sound { H.sound heap.new }
-    ensures can { OnOk result (CanCollect H.KIND (start_at (H.seen heap.new) around.new.roots.roots around.new.types.declarations around.new.hosts.entries)) }
-{
-    around.roots.reserve(1)?;
-    let layout = match around.types.struct_layout(Layouts::Copying, ty) {
-        Some(layout) => layout,
-        None => return Err("no such type")?,
-    };
-    if layout.is_exception {
-        return Err("no struct")?;
-    }
-    match heap.alloc_uninit_struct_or_exn(ty, layout)? {
-        Ok(object) => {
-            around
-                .roots
-                .add_vmgcref_root(RootPlace { number: 0 }, object);
-            Ok(())
-        }
-        Err(_) => Err("no room")?,
-    }
-}
-
-/// Adds an external object with that host value.
-pub(crate) fn add_host<H: GcHeap>(heap: &mut H, around: &mut Around, value: u8) -> Result<(), Fail>
-    requires copying { H.KIND ≡ Layouts.Copying }
-    requires sound { H.sound heap.old }
-    requires can { CanCollect H.KIND (start_at (H.seen heap.old) around.old.roots.roots around.old.types.declarations around.old.hosts.entries) }
-    ensures sound { H.sound heap.new }
-    ensures can { OnOk result (CanCollect H.KIND (start_at (H.seen heap.new) around.new.roots.roots around.new.types.declarations around.new.hosts.entries)) }
-{
-    around.roots.reserve(1)?;
-    let id = match around.hosts.alloc(value) {
-        Ok(id) => id,
-        Err(_) => return Err("no host value")?,
-    };
-    let _bounded = id.into_raw();
-    match heap.alloc_externref(id)? {
-        Ok(external) => {
-            around
-                .roots
-                .add_vmgcref_root(RootPlace { number: 0 }, VMGcRef::from(external));
-            Ok(())
-        }
-        Err(_) => Err("no room")?,
-    }
-}
-
-/// Adds an object of a graph.
-pub(crate) fn add<H: GcHeap>(heap: &mut H, around: &mut Around, node: Node) -> Result<(), Fail>
-    requires copying { H.KIND ≡ Layouts.Copying }
-    requires sound { H.sound heap.old }
-    requires can { CanCollect H.KIND (start_at (H.seen heap.old) around.old.roots.roots around.old.types.declarations around.old.hosts.entries) }
-    ensures sound { H.sound heap.new }
-    ensures can { OnOk result (CanCollect H.KIND (start_at (H.seen heap.new) around.new.roots.roots around.new.types.declarations around.new.hosts.entries)) }
-{
-    match node {
-        Node::One => add_struct(heap, around, 16, 0b1),
-        Node::Numbered => add_struct(heap, around, 32, 0b1),
-        Node::Two => add_struct(heap, around, 20, 0b11),
-        Node::Array(length) => add_array(heap, around, length),
-        Node::Host(value) => add_host(heap, around, value),
     }
 }
 
@@ -273,27 +156,6 @@ pub(crate) fn link<H: GcHeap>(
     let Some(word) = holder_at(heap, around, to) else {
         return Err("no object")?;
     };
-    write_word(heap, around, &holder, offset, &word)
-}
-
-/// Writes a 31-bit number into an object.
-pub(crate) fn put_number<H: GcHeap>(
-    heap: &mut H,
-    around: &Around,
-    from: usize,
-    offset: u32,
-    number: u32,
-) -> Result<(), Fail>
-    requires copying { H.KIND ≡ Layouts.Copying }
-    requires sound { H.sound heap.old }
-    requires can { CanCollect H.KIND (start_at (H.seen heap.old) around.now.roots.roots around.now.types.declarations around.now.hosts.entries) }
-    ensures sound { H.sound heap.new }
-    ensures can { OnOk result (CanCollect H.KIND (start_at (H.seen heap.new) around.now.roots.roots around.now.types.declarations around.now.hosts.entries)) }
-{
-    let Some(holder) = holder_at(heap, around, from) else {
-        return Err("no holder")?;
-    };
-    let word = VMGcRef::from_i31(I31::wrapping_u32(number));
     write_word(heap, around, &holder, offset, &word)
 }
 

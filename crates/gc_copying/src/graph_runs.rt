@@ -1,33 +1,19 @@
-//! Whole graphs that tests make, and their collection.
+//! The heap of a test, and its collections.
 
-ghost use Rattle.std.specs.Prelude.{ℕ, Bool, ◌≡◌, ◌<◌, ◌≤◌, ◌^◌, OnOk, IfOk};
+ghost use Rattle.std.specs.Prelude.{ℕ, Bool, ◌≡◌, ◌≤◌, OnOk, IfOk};
 ghost use Rattle.gc_copying.specs.declared.graph.Around.{Around};
-ghost use Rattle.gc_types.specs.declared.kind.Layouts.TheVariants.{Copying};
 ghost use Rattle.gc_view.specs.Pages.{max_pages};
 ghost use Rattle.gc_view.specs.Heaps.{detached_in};
-ghost use Rattle.gc_heap.specs.Collection.{Start, CanCollect, Collected, has_host, IsPartOf, stage};
+ghost use Rattle.gc_heap.specs.Collection.{Start, CanCollect, Collected, has_host, stage};
 ghost use Rattle.gc_heap.specs.Run.{start_at};
 
-use crate::alloc::header_with;
-use crate::graph::{
-    Around, Node, add, add_array, attach_pages, forget, holder_at, link, put_number, write_word,
-};
+use crate::graph::{Around, attach_pages, forget};
 use gc_heap::{GcHeap, GcProgress, GcStoreTraceState};
 use gc_roots::GcRootsList;
 use gc_tables::ExternRefHostDataTable;
-use gc_types::{Layouts, Types, VMGcKind, VMSharedTypeIndex};
+use gc_types::{Layouts, Types};
 use std::alloc::Global;
 use std::test::Fail;
-
-/// What is written at an offset of an object of a graph.
-#[derive(Clone, Copy, Debug)]
-pub(crate) enum Target {
-    Node(usize),
-    Number(u32),
-}
-
-/// A word of an object of a graph: the object, the offset, and what is written there.
-pub(crate) type Edge = (usize, u32, Target);
 
 /// Gives a heap so many pages; around it stands nothing.
 pub(crate) fn begin<H: GcHeap>(
@@ -51,57 +37,6 @@ pub(crate) fn begin<H: GcHeap>(
     })
 }
 
-/// Writes a word of an object.
-fn draw<H: GcHeap>(heap: &mut H, around: &Around, edge: Edge) -> Result<(), Fail>
-    requires copying { H.KIND ≡ Layouts.Copying }
-    requires sound { H.sound heap.old }
-    requires can { CanCollect H.KIND (start_at (H.seen heap.old) around.now.roots.roots around.now.types.declarations around.now.hosts.entries) }
-    ensures sound { H.sound heap.new }
-    ensures can { OnOk result (CanCollect H.KIND (start_at (H.seen heap.new) around.now.roots.roots around.now.types.declarations around.now.hosts.entries)) }
-{
-    let (from, offset, target) = edge;
-    match target {
-        Target::Node(to) => link(heap, around, from, offset, to),
-        Target::Number(number) => put_number(heap, around, from, offset, number),
-    }
-}
-
-/// Makes the objects of a graph, each with a root.
-pub(crate) fn make_nodes<H: GcHeap>(
-    heap: &mut H,
-    around: &mut Around,
-    nodes: &[Node],
-) -> Result<(), Fail>
-    requires copying { H.KIND ≡ Layouts.Copying }
-    requires sound { H.sound heap.old }
-    requires can { CanCollect H.KIND (start_at (H.seen heap.old) around.old.roots.roots around.old.types.declarations around.old.hosts.entries) }
-    ensures sound { H.sound heap.new }
-    ensures can { OnOk result (CanCollect H.KIND (start_at (H.seen heap.new) around.new.roots.roots around.new.types.declarations around.new.hosts.entries)) }
-{
-    for node in nodes {
-        add(heap, around, *node)?;
-    }
-    Ok(())
-}
-
-/// Writes the words of a graph.
-pub(crate) fn draw_edges<H: GcHeap>(
-    heap: &mut H,
-    around: &Around,
-    edges: &[Edge],
-) -> Result<(), Fail>
-    requires copying { H.KIND ≡ Layouts.Copying }
-    requires sound { H.sound heap.old }
-    requires can { CanCollect H.KIND (start_at (H.seen heap.old) around.now.roots.roots around.now.types.declarations around.now.hosts.entries) }
-    ensures sound { H.sound heap.new }
-    ensures can { OnOk result (CanCollect H.KIND (start_at (H.seen heap.new) around.now.roots.roots around.now.types.declarations around.now.hosts.entries)) }
-{
-    for edge in edges {
-        draw(heap, around, *edge)?;
-    }
-    Ok(())
-}
-
 /// Lets the roots of these objects hold numbers.
 pub(crate) fn forget_nodes<H: GcHeap>(
     heap: &H,
@@ -114,41 +49,6 @@ pub(crate) fn forget_nodes<H: GcHeap>(
 {
     for index in lost {
         forget(heap, around, *index)?;
-    }
-    Ok(())
-}
-
-/// Makes a struct of one reference that the array of the first root names alone.
-fn add_element<H: GcHeap>(heap: &mut H, around: &Around, index: u32) -> Result<(), Fail>
-    requires copying { H.KIND ≡ Layouts.Copying }
-    requires sound { H.sound heap.old }
-    requires can { CanCollect H.KIND (start_at (H.seen heap.old) around.now.roots.roots around.now.types.declarations around.now.hosts.entries) }
-    requires few { index < 2 ^ 24 }
-    ensures sound { H.sound heap.new }
-    ensures can { OnOk result (CanCollect H.KIND (start_at (H.seen heap.new) around.now.roots.roots around.now.types.declarations around.now.hosts.entries)) }
-{
-    let Some(array) = holder_at(heap, around, 0) else {
-        return Err("no array")?;
-    };
-    let header = header_with(VMGcKind::StructRef, VMSharedTypeIndex::new(7), 0b1);
-    match heap.alloc_raw(header, 16)? {
-        Ok(object) => write_word(heap, around, &array, 16 + 4 * index, &object),
-        Err(_) => Err("no room")?,
-    }
-}
-
-/// Makes an array of references to so many structs of 16 bytes; the first root names it.
-pub(crate) fn fill<H: GcHeap>(heap: &mut H, around: &mut Around, count: u32) -> Result<(), Fail>
-    requires copying { H.KIND ≡ Layouts.Copying }
-    requires sound { H.sound heap.old }
-    requires can { CanCollect H.KIND (start_at (H.seen heap.old) around.old.roots.roots around.old.types.declarations around.old.hosts.entries) }
-    requires few { count ≤ 2 ^ 24 }
-    ensures sound { H.sound heap.new }
-    ensures can { OnOk result (CanCollect H.KIND (start_at (H.seen heap.new) around.new.roots.roots around.new.types.declarations around.new.hosts.entries)) }
-{
-    add_array(heap, around, count)?;
-    for index in 0..count {
-        add_element(heap, around, index)?;
     }
     Ok(())
 }

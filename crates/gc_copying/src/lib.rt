@@ -27,8 +27,6 @@ pub mod heap;
 pub mod layout;
 mod place;
 mod read;
-#[cfg(test)]
-mod room_tests;
 pub(crate) mod space;
 pub(crate) mod ticks;
 mod trace;

@@ -10,7 +10,7 @@ use Rattle.gc_roots.specs.Roots.{Root, root}
 use Rattle.gc_view.specs.Heaps.{HeapObject, HeapView}
 use Rattle.gc_heap.specs.Content.{IsHeld, IsHeap}
 use Rattle.gc_heap.specs.Heap.{AddsObject, new_struct, exn_or_struct}
-use Rattle.gc_heap.specs.Barriers.{raise, lower, cloned, dropped, exposed, overwritten, CanName, CanUnname}
+use Rattle.gc_heap.specs.Barriers.{raise, lower, cloned, dropped, exposed, CanName, CanUnname}
 use Rattle.gc_heap.specs.Collection.{Start, CanCollect, moved_root, Collected}
 use Rattle.gc_heap.proofs.AddedLemmas.{start, blank_struct, owns_none}
 use Rattle.gc_heap.proofs.MadeLemmas.{can_collect_made}
@@ -45,10 +45,6 @@ can_unname_counted h place n held is some = record {
 pub twice : (h h1 h2 : HeapView) (object word : ℕ) → word ≡ object → h1 ≡ dropped h object → h2 ≡ cloned h1 word → h2 ≡ cloned (dropped h object) object
 twice h h1 h2 object word is drops clones = clones ∙ ap₂ (λ (v : HeapView) (w : ℕ). cloned v w) drops is
 
--- a slot was overwritten by its own word
-pub over_itself : (h h2 : HeapView) (object word : ℕ) → word ≡ object → h2 ≡ overwritten h (Some object) (Some word) → h2 ≡ dropped (cloned h object) object
-over_itself h h2 object word is writes = writes ∙ ap (λ (w : ℕ). dropped (cloned h w) object) is
-
 -- A NEW OBJECT
 
 module _ (h made : HeapView) (place size : ℕ) (o : HeapObject) (added : AddsObject Counting h made place o size) where
@@ -58,10 +54,7 @@ module _ (h made : HeapView) (place size : ℕ) (o : HeapObject) (added : AddsOb
   count_made : get made.counts.counted place ≡ Some 1
   count_made = ap (λ (x : HeapView). get x.counts.counted place) added.added ∙ get-insert-same h.counts.counted place 1
 
-  -- its word may be copied, and given up
-  pub can_name_made : CanName made place
-  can_name_made = can_name_counted made place 1 held_made count_made (omega arith)
-
+  -- its word may be given up
   pub can_unname_made : CanUnname made place
   can_unname_made = can_unname_counted made place 1 held_made count_made (omega arith)
 
@@ -98,10 +91,6 @@ module _ (types : List Declaration) (h made : HeapView) (place ty : ℕ) (layout
   -- it was copied again, and shown to a frame slot
   pub shown_again : IsHeap Counting (cloned (dropped made place) place) → CanCollect Counting (start (exposed (cloned (dropped made place) place) place) (root 0 true place ∷ []) types hosts)
   shown_again middle = can_collect_exposed Counting types (cloned (dropped made place) place) [] one (root 0 true place) [] hosts middle copied_again refl refl refl
-
-  -- it was copied into the slot that held it
-  pub written_over : CanCollect Counting (start (dropped (cloned made place) place) (one ∷ []) types hosts)
-  written_over = can_collect_dropped Counting types (cloned made place) [] one (one ∷ []) hosts (can_collect_cloned Counting types made [] one (one ∷ []) hosts rooted refl (inr (inr is_held))) refl
 
 -- A frame slot was the one root, and was left after a collection.
 pub slot_left : (s : Start) (h : HeapView) (roots : List Root) (hosts : ℕ → Bool) (word : ℕ) → IsHeap Counting s.heap → CanCollect Counting s → s.roots ≡ root 0 true word ∷ [] → Collected Counting s h roots hosts

@@ -1,6 +1,6 @@
 -- Starts of a collection for which the objects of a heap are known.
-use Rattle.std.proofs.Common.{◌≡◌, ℕ, ◌+◌, ◌-◌, ◌<◌, ◌≤◌, ◌^◌, Bool, true, List, [], ◌∷◌, map, replicate, false, Option, Some, None, refl, sym, ap, ap₂, subst, ◌∙◌, inl, inr, arith, Contains}
-use Rattle.std.specs.Int.{w32, to_le_bytes}
+use Rattle.std.proofs.Common.{◌≡◌, ℕ, ◌+◌, ◌<◌, ◌≤◌, ◌^◌, Bool, List, [], ◌∷◌, map, replicate, false, Some, None, refl, sym, ap, ap₂, subst, ◌∙◌, inl, inr, arith, Contains}
+use Rattle.std.specs.Int.{w32}
 use Rattle.gc_refs.specs.LittleEndian.{unsigned_bytes}
 use Rattle.gc_view.specs.Bytes.{put_bytes}
 use Rattle.std.specs.Ordering.{nat_cmp}
@@ -19,14 +19,13 @@ use Rattle.gc_types.specs.Declarations.{Declaration}
 use Rattle.gc_types.specs.Layouts.{layout_at, trace_at}
 use Rattle.gc_view.specs.Bytes.{u32_at}
 use Rattle.gc_view.specs.Heaps.{HeapObject, HeapView}
-use Rattle.gc_heap.specs.Objects.{external, zeroed, host_id, held_size, writable_offset}
+use Rattle.gc_heap.specs.Objects.{zeroed, held_size, writable_offset}
 use Rattle.gc_heap.specs.References.{references, word_in, info_offsets, HoldsType}
 use Rattle.gc_heap.specs.Content.{IsHeld, total}
 use Rattle.gc_heap.specs.Totals.{total-empty, total-insert}
 use Rattle.gc_heap.specs.Heap.{empty_heap, with_object, put_object, with_data, AddsObject, IsWritable, new_struct, exn_or_struct}
-use Rattle.gc_heap.specs.Barriers.{lower, dropped, CanUnname}
 use Rattle.gc_heap.specs.Access.{WritesData}
-use Rattle.gc_heap.specs.Collection.{Start, CanCollect, IsWordOf, occurrences}
+use Rattle.gc_heap.specs.Collection.{CanCollect, IsWordOf, occurrences}
 use Rattle.gc_drc.proofs.SeenLemmas.{get-insert-same, get-insert-other}
 use Rattle.gc_drc.proofs.ObjectsRoots.{only_item}
 
@@ -46,16 +45,6 @@ only_entry {X} place q x y got = elim (cases_eq q place) [
 -- an entry that is put in twice
 put_again : (m : FinMap nat_cmp HeapObject) (k : ℕ) (x y : HeapObject) → insert (insert m k x) k y ≡ insert m k y
 put_again m k x y = same_map nat_cmp_total nat_cmp-IsAntisymmetric _ _ (λ q. grind (arith, common_steps, gets))
-
--- the name of a new object may be given up
-pub can_unname_new : (h h' : HeapView) (place : ℕ) (o : HeapObject) (size : ℕ) → AddsObject Counting h h' place o size → CanUnname h' place
-can_unname_new h h' place o size added = subst (λ (x : HeapView). CanUnname x place) (sym added.added) (record {
-  named = inr (o, get-insert-same h.content place o);
-  counted = λ n got. some_count n (sym (get-insert-same h.counts.counted place 1) ∙ got);
-})
-  where
-    some_count : (n : ℕ) → Some 1 ≡ Some n → 0 < n
-    some_count n e = let one : n ≡ 1 = cc in omega arith
 
 held_new : (h h' : HeapView) (place : ℕ) (o : HeapObject) (size : ℕ) → AddsObject Counting h h' place o size → get h'.content place ≡ Some o
 held_new h h' place o size added = ap (λ (x : HeapView). get x.content place) added.added ∙ get-insert-same h.content place o
@@ -80,61 +69,6 @@ named_new h h' h'' place word ty layout added is empty_is writes =
     let seen : h' ≡ with_object Counting (empty_heap Counting 65536 0) place o layout.size = added.added ∙ ap (λ (x : HeapView). with_object Counting x place o layout.size) empty_is in
     writes o (held_new h h' place o layout.size added)
     ∙ ap₂ (λ (x : HeapView) (w : ℕ). put_object x place (with_data Counting o 28 (unsigned_bytes w32 w))) seen is
-
--- an external object, whose one name was given up
-module _ (types : List Declaration) (bytes place id : ℕ) (hosts : ℕ → Bool) where
-  abbrev made : HeapView
-  made = with_object Counting (empty_heap Counting bytes 0) place (external id) 32
-
-  abbrev with_counts : Option ℕ → HeapView
-  with_counts o = record made { counts = lower o place made.counts }
-
-  abbrev start : HeapView → Start
-  start h = record { heap = h; roots = []; types = types; hosts = hosts }
-
-  is_external : (q : ℕ) (o : HeapObject) → get made.content q ≡ Some o → (q ≡ place) × (o ≡ external id)
-  is_external q o got = only_entry place q (external id) o got
-
-  no_references : (o : HeapObject) → o ≡ external id → references Counting types o ≡ []
-  no_references o e = ap (references Counting types) e
-
-  host_is : (o : HeapObject) → o ≡ external id → id + 1 < 2 ^ 32 → host_id o ≡ id
-  host_is o e small =
-      let number : u32_at (to_le_bytes w32 (id + 1)) 0 ≡ id + 1 = from_le_bytes-to_le_bytes_4 (id + 1) small in
-      let less : id + 1 - 1 ≡ id = omega arith in
-      ap host_id e ∙ ap (λ (n : ℕ). n - 1) number ∙ less
-
-  no_names : (q : ℕ) → total (λ (o : HeapObject). occurrences q (references Counting types o)) made.content ≡ 0
-  no_names q =
-      let f : HeapObject → ℕ = λ (o : HeapObject). occurrences q (references Counting types o) in
-      total-insert f (empty {X = HeapObject} {R = nat_cmp}) place (external id) (finite.get-empty nat_cmp place) ∙ ap (λ (n : ℕ). n + 0) (total-empty f)
-
-  can_collect_with : (o : Option ℕ) → o ≡ Some 1 → id + 1 < 2 ^ 32 → hosts id ≡ true → CanCollect Counting (start (with_counts o))
-  can_collect_with o is small host = subst (λ (c : Option ℕ). CanCollect Counting (start (with_counts c))) (sym is) (record {
-    attached = refl;
-    open_scopes = refl;
-    roots = λ r c. absurd (omega (arith, c.1));
-    fields = λ q x word got has.
-        let none : Contains [] word = subst (λ (ws : List ℕ). Contains ws word) (no_references x (is_external q x got).1) has in
-        absurd (omega (arith, none.1));
-    typed = λ q x got. subst (λ (y : HeapObject). HoldsType Counting types y y.kind) (sym (is_external q x got).1) tt;
-    hosts = λ q x e. ap hosts (host_is x (is_external q x e.held).1 small) ∙ host;
-    own_hosts = λ p q x y e f same. (is_external p x e.held).0 ∙ sym (is_external q y f.held).0;
-    counts = record {
-      counted = λ q n got. counted_by q n got;
-      shown = λ q h c. absurd (omega (arith, c.1));
-    };
-  })
-    where
-      counted_by : (q n : ℕ) → get (insert (insert (empty {X = ℕ} {R = nat_cmp}) place 1) place 0) q ≡ Some n
-          → n ≡ total (λ (o : HeapObject). occurrences q (references Counting types o)) made.content + 0
-      counted_by q n got =
-          let zero_is : n ≡ 0 = grind (arith, common_steps, gets, finite.get-empty {X = ℕ} nat_cmp q) in
-          zero_is ∙ sym (ap (λ (k : ℕ). k + 0) (no_names q))
-
-  -- a collection may begin then
-  pub can_collect_dropped : id + 1 < 2 ^ 32 → hosts id ≡ true → CanCollect Counting (start (dropped made place))
-  can_collect_dropped small host = can_collect_with (get made.counts.counted place) (get-insert-same (empty {X = ℕ} {R = nat_cmp}) place 1) small host
 
 -- a struct with one reference, which names the struct itself and which nothing else names
 module _ (types : List Declaration) (bytes place ty : ℕ) (layout : GcStructLayout) (hosts : ℕ → Bool) (plain : layout.is_exception ≡ false) (size : layout.size ≡ 32)

@@ -10,7 +10,7 @@ ghost use Rattle.gc_heap.specs.Collection.{CanCollect};
 
 use crate::DrcHeap;
 use crate::client_tests::attach_first;
-use crate::collection_tests::make_struct;
+use crate::test_objects::make_struct;
 use gc_heap::collect::run;
 use gc_heap::{GcHeap, GcStoreTraceState};
 use gc_refs::VMGcRef;
@@ -58,29 +58,6 @@ fn show_queued<H: GcHeap>(
     Ok(word)
 }
 
-/// Makes a struct whose one word lies in a slot, and overwrites the slot with that word.
-fn overwrite_by_itself<H: GcHeap>(
-    heap: &mut H,
-    ty: VMSharedTypeIndex,
-    layout: &GcStructLayout,
-) -> Result<VMGcRef, Fail>
-    requires counting { H.KIND ≡ Layouts.Counting }
-    requires sound { H.sound heap.old }
-    requires attached { (H.seen heap.old).attached ≡ true }
-    requires plain { layout.now.is_exception ≡ false }
-    requires size { 28 ≤ layout.now.size }
-    ensures sound { H.sound heap.new }
-    ensures can { IfOk result (λ (word : ℕ). (types : List Declaration) (hosts : ℕ → Bool) → layout_at Counting types ty ≡ Some layout.now
-        → CanCollect Counting (record { heap = H.seen heap.old; roots = []; types = types; hosts = hosts })
-        → CanCollect Counting (record { heap = H.seen heap.new; roots = root 0 false word ∷ []; types = types; hosts = hosts })) }
-{
-    let object = make_struct(heap, ty, layout)?;
-    let word = object.unchecked_copy();
-    let mut slot = Some(object);
-    heap.write_gc_ref(&mut slot, Some(&word));
-    Ok(word)
-}
-
 /// Collects twice: while a frame slot holds an object that was queued before it was shown, and when
 /// the slot was left. Tells the object's own words before and after the first collection, and how many
 /// objects and bytes are left by the second.
@@ -116,37 +93,6 @@ fn collects_a_shown_one<H: GcHeap>(
     Ok((queued, shown, heap.object_count(), heap.allocated_bytes()))
 }
 
-/// Collects while a root holds an object whose only word was overwritten by itself. Tells the object's
-/// own words before and after the collection, and how many objects are left.
-fn keeps_an_overwritten_one<H: GcHeap>(
-    heap: &mut H,
-    alloc: Global,
-) -> Result<(OwnWords, OwnWords, u64), Fail>
-    requires counting { H.KIND ≡ Layouts.Counting }
-    requires sound { H.sound heap.old }
-    requires detached { H.seen heap.old ≡ detached_in 0 }
-    ensures sound { H.sound heap.new }
-{
-    attach_first(heap, alloc)?;
-    let mut types = Types::new(alloc, 1, 1);
-    let ty = types.declare_struct(&[], None, true)?.index();
-    let layout = types
-        .struct_layout(Layouts::Counting, ty)
-        .ok_or("no layout")?;
-    let word = overwrite_by_itself(heap, ty, layout)?;
-    let written = own_words(heap, &word);
-    let mut roots = GcRootsList::new(alloc);
-    roots.reserve(1)?;
-    roots.add_vmgcref_root(RootPlace { number: 0 }, word.unchecked_copy());
-    let mut hosts: ExternRefHostDataTable<u8> = ExternRefHostDataTable::new(alloc);
-    let mut trace = GcStoreTraceState {
-        host_data_table: &mut hosts,
-        types: &types,
-    };
-    run(heap, &mut roots, &mut trace);
-    Ok((written, own_words(heap, &word), heap.object_count()))
-}
-
 #[test]
 fn an_object_that_is_queued_and_shown_is_freed_once(rt: HostRuntime) -> Result<(), Fail> {
     let mut heap = DrcHeap::new(rt.alloc());
@@ -155,17 +101,6 @@ fn an_object_that_is_queued_and_shown_is_freed_once(rt: HostRuntime) -> Result<(
     assert_eq!(&rt;
         collects_a_shown_one(&mut heap, rt.alloc())?,
         (queued_and_shown, shown, 0, 0)
-    );
-    Ok(())
-}
-
-#[test]
-fn a_word_that_overwrites_itself_still_counts(rt: HostRuntime) -> Result<(), Fail> {
-    let mut heap = DrcHeap::new(rt.alloc());
-    let counted = Some((1, 0));
-    assert_eq!(&rt;
-        keeps_an_overwritten_one(&mut heap, rt.alloc())?,
-        (counted, counted, 1)
     );
     Ok(())
 }

@@ -1,13 +1,12 @@
 //! A client of any heap, over the counting heap.
 
-ghost use Rattle.std.specs.Prelude.{Bool, ◌≡◌, OnOk};
+ghost use Rattle.std.specs.Prelude.{◌≡◌, OnOk};
 ghost use Rattle.gc_view.specs.Heaps.{detached_in};
 ghost use Rattle.gc_heap.specs.Heap.{empty_heap};
-ghost use Rattle.gc_heap.specs.Collection.{Start, stage};
 
 use crate::DrcHeap;
 use gc_heap::client::keep_number;
-use gc_heap::{GcHeap, GcProgress, GcStoreTraceState, HeapMemory};
+use gc_heap::{GcHeap, GcStoreTraceState, HeapMemory};
 use gc_roots::GcRootsList;
 use gc_tables::ExternRefHostDataTable;
 use gc_types::{FieldType, Layouts, Mutability, StorageType, Types, ValType};
@@ -55,54 +54,6 @@ fn keeps_a_number<H: GcHeap>(heap: &mut H, alloc: Global) -> Result<u32, Fail>
     };
     let kept = keep_number(heap, ty, layout, 28, 77, &mut roots, &mut trace)?;
     Ok(kept.ok().ok_or("no room")?)
-}
-
-/// Does a collection of which nothing was done, and counts its increments.
-fn count_increments<H: GcHeap, D: Drop>(
-    heap: &mut H,
-    state: &mut H::State,
-    roots: &mut GcRootsList,
-    trace: &mut GcStoreTraceState<'_, D>,
-) -> u32
-    requires counting { H.KIND ≡ Layouts.Counting }
-    requires begun { (s : Start) × ((c : Bool) × H.under_way s 0 c (stage heap.old state.old roots.old.roots trace.old.types.now.declarations trace.old.host_data_table.now.entries)) }
-    ensures sound { H.sound heap.new }
-    ensures three { result ≡ 3 }
-{
-    let mut done = 0;
-    'increments: loop {
-        match heap.step(state, roots, trace) {
-            GcProgress::Continue => done += 1,
-            GcProgress::Complete => return done + 1,
-        }
-    }
-}
-
-/// How many increments a collection of an empty heap takes.
-fn empty_increments<H: GcHeap>(heap: &mut H, alloc: Global) -> Result<u32, Fail>
-    requires counting { H.KIND ≡ Layouts.Counting }
-    requires sound { H.sound heap.old }
-    requires detached { H.seen heap.old ≡ detached_in 0 }
-    ensures sound { H.sound heap.new }
-{
-    attach_first(heap, alloc)?;
-    let types = Types::new(alloc, 1, 1);
-    let mut roots = GcRootsList::new(alloc);
-    let mut hosts: ExternRefHostDataTable<u8> = ExternRefHostDataTable::new(alloc);
-    let mut trace = GcStoreTraceState {
-        host_data_table: &mut hosts,
-        types: &types,
-    };
-    let mut state = heap.begin();
-    Ok(count_increments(heap, &mut state, &mut roots, &mut trace))
-}
-
-#[test]
-fn a_collection_takes_three_increments(rt: HostRuntime) -> Result<(), Fail> {
-    let mut heap = DrcHeap::new(rt.alloc());
-    assert_eq!(&rt; empty_increments(&mut heap, rt.alloc())?, 3);
-    assert_eq!(&rt; heap.object_count(), 0);
-    Ok(())
 }
 
 #[test]

@@ -29,8 +29,6 @@ mod barriers;
 mod client_tests;
 pub(crate) mod collect;
 pub mod collection;
-#[cfg(test)]
-mod collection_tests;
 mod counting;
 mod give;
 mod growth;
@@ -40,7 +38,7 @@ mod place;
 mod read;
 pub(crate) mod space;
 #[cfg(test)]
-mod tests;
+mod test_objects;
 #[cfg(test)]
 mod unheld_tests;
 mod write;

@@ -11,7 +11,7 @@ ghost use Rattle.gc_drc.specs.States.{IsDrcSound, drc_seen};
 
 use crate::DrcHeap;
 use crate::client_tests::attach_first;
-use crate::collection_tests::{make_cycle, make_struct};
+use crate::test_objects::{make_cycle, make_struct};
 use gc_heap::{GcHeap, GcProgress, GcStoreTraceState};
 use gc_roots::GcRootsList;
 use gc_tables::ExternRefHostDataTable;

@@ -1,11 +1,12 @@
 -- Roots that come and go leave a heap in which a collection may begin.
-use Rattle.std.proofs.Common.{◌≡◌, ℕ, suc, ◌+◌, ◌<◌, ◌^◌, inr, Bool, true, false, List, [], ◌∷◌, ◌++◌, length, take, drop, refl, sym, ap, ap₂, ◌∙◌, subst, arith}
+use Rattle.std.proofs.Common.{◌≡◌, ℕ, suc, ◌+◌, ◌<◌, ◌^◌, ◌%◌, inr, Bool, true, false, List, [], ◌∷◌, ◌++◌, length, take, drop, refl, sym, ap, ap₂, ◌∙◌, subst, arith}
 use Rattle.std.specs.Prelude.{slice_set}
 use Rattle.std.proofs.lemmas.List.{take-append-drop, take-set, drop-set, append-nil}
 use Rattle.std.proofs.lemmas.List.Elements.{Contains-get_or}
 use Rattle.std.proofs.Math.Seq.{drop-cons}
 use Rattle.gc_types.specs.declared.kind.Layouts.{Layouts}
 use Rattle.gc_types.specs.Declarations.{Declaration}
+use Rattle.gc_refs.specs.Words.{i31_word}
 use Rattle.gc_roots.specs.Roots.{Root, root, no_root, root_at, with_word, with_word_at}
 use Rattle.gc_view.specs.Heaps.{HeapView}
 use Rattle.gc_heap.specs.Content.{IsHeap}
@@ -54,6 +55,13 @@ module _ (layouts : Layouts) (types : List Declaration) (h : HeapView) (roots : 
   copied h' roots' word is seen rooted =
       subst (λ (v : HeapView). CanCollect layouts (start v roots' types hosts)) (sym seen) (subst (λ rs. CanCollect layouts (start (cloned h word) rs types hosts)) (sym rooted)
       (can_collect_cloned layouts types h roots (root 0 false word) [] hosts (subst (λ rs. CanCollect layouts (start h rs types hosts)) (sym (append-nil roots)) can) refl is))
+
+  -- a number is a root
+  pub numbered : (roots' : List Root) (number : ℕ) → roots' ≡ roots ++ root 0 false (i31_word number) ∷ [] → CanCollect layouts (start h roots' types hosts)
+  numbered roots' number rooted =
+      let odd : i31_word number % 2 ≡ 1 = omega arith in
+      subst (λ rs. CanCollect layouts (start h rs types hosts)) (sym rooted)
+      (can_collect_number_root layouts types h roots (root 0 false (i31_word number)) [] hosts heap (subst (λ rs. CanCollect layouts (start h rs types hosts)) (sym (append-nil roots)) can) (inr odd))
 
   -- a root was dropped, and holds a number
   pub given_up : (h' : HeapView) (roots' : List Root) (index word last : ℕ) → index < length roots → (root_at roots index).on_stack ≡ false → word ≡ (root_at roots index).word → h' ≡ dropped h word

@@ -1,9 +1,10 @@
 //! Roots and frame slots: copied, given up, shown, left.
 
-ghost use Rattle.std.specs.Prelude.{◌≡◌, ◌≤◌, ◌<◌, ◌^◌, ◌↔◌, OnOk, OnErr, IfOk, IfErr, IsErrOf, IsOkUnless, true, false, length};
+ghost use Rattle.std.specs.Prelude.{◌≡◌, ◌≤◌, ◌<◌, ◌^◌, ◌%◌, ◌↔◌, OnOk, OnErr, IfOk, IfErr, IsErrOf, IsOkUnless, true, false, length};
+ghost use Rattle.gc_refs.specs.Words.{i31_word, i31_numbers};
 ghost use Rattle.gc_roots.specs.Roots.{root_at};
 ghost use Rattle.gc_heap.specs.Barriers.{cloned, dropped, exposed};
-ghost use Rattle.gc_mutator.specs.Mutators.{word_of, with_root, without_root, gone_word, IsRoot};
+ghost use Rattle.gc_mutator.specs.Mutators.{max_roots, word_of, with_root, without_root, gone_word, IsRoot};
 ghost use Rattle.gc_mutator.specs.Refusals.{RefusesRoot, CanCopy, RefusesCopy};
 
 use crate::fault::MutatorFault;
@@ -63,6 +64,24 @@ impl<H: GcHeap> Mutator<H> {
         let copy = self.heap.clone_gc_ref(&word);
         let at = self.roots.len();
         self.roots.add_vmgcref_root(OBJECT, copy);
+        Ok(at)
+    }
+
+    /// Makes a root that is a 31-bit number, the lowest 31 bits of the given one, and answers its index.
+    /// `Full` exactly where there are 2^31 roots.
+    pub fn make_number(&mut self, number: u32) -> Result<usize, MutatorFault>
+        ensures made { IfOk result (λ index. (index ≡ length self.old.roots) × (self.new ≡ with_root self.old self.old.heap false (i31_word (number % i31_numbers)))) }
+        ensures can { OnOk result (length self.old.roots < max_roots) }
+        ensures why { IfErr result (RefusesRoot self.old.roots) }
+        ensures err { OnErr result (self.new ≡ self.old) }
+    {
+        match make_room(&mut self.roots) {
+            Ok(()) => {}
+            Err(fault) => return Err(fault),
+        }
+        let at = self.roots.len();
+        self.roots
+            .add_vmgcref_root(OBJECT, VMGcRef::from_i31(I31::wrapping_u32(number)));
         Ok(at)
     }
 

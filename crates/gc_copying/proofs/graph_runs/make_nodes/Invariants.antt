@@ -1,9 +1,0 @@
-use Rattle.gc_heap.specs.Collection.{CanCollect}
-use Rattle.gc_heap.specs.Run.{start_at}
-use Rattle.gc_copying.proofs.graph_runs.make_nodes.Given as goal
-
-abbrev pub invariant-loop-node : goal.invariant-loop-node
-invariant-loop-node g l = record {
-  sound : g.H.GcHeap.sound l.heap;
-  can : CanCollect g.H.GcHeap.KIND (start_at (g.H.GcHeap.seen l.heap) l.around.roots.roots l.around.types.declarations l.around.hosts.entries);
-}

@@ -1,0 +1,77 @@
+//! The declared types, by their names.
+
+use crate::fault::CaseFault;
+use gc_types::{
+    FieldType, HeapType, Mutability, RefType, StorageType, TypeFault, Types, VMSharedTypeIndex,
+    ValType,
+};
+use std::alloc::Global;
+
+/// A mutable field.
+fn mutable(element_type: StorageType) -> FieldType {
+    FieldType {
+        mutability: Mutability::Var,
+        element_type,
+    }
+}
+
+/// A field that holds any reference.
+fn reference() -> FieldType {
+    mutable(StorageType::ValType(ValType::Ref(RefType {
+        nullable: true,
+        heap_type: HeapType::Any,
+    })))
+}
+
+/// A field that holds a number of 32 bits.
+fn number() -> FieldType {
+    mutable(StorageType::ValType(ValType::I32))
+}
+
+/// Declares a struct of so many numbers and a reference behind them.
+fn declare_spread(alloc: Global, types: &mut Types, numbers: u32) -> Result<(), CaseFault> {
+    let mut fields: Vec<FieldType> = Vec::new(alloc);
+    for _ in 0..numbers {
+        fields.extend_from_slice(&[number()])?;
+    }
+    fields.extend_from_slice(&[reference()])?;
+    types.declare_struct(fields.as_slice(), None, true)?;
+    Ok(())
+}
+
+/// Declares the types that `type_named` knows, in the order of their indexes.
+pub(crate) fn declare(alloc: Global) -> Result<Types, CaseFault> {
+    let mut types = Types::new(alloc, 1, 1);
+    types.declare_struct(&[reference()], None, true)?;
+    types.declare_struct(&[reference(), reference()], None, true)?;
+    types.declare_struct(&[number(), number(), number()], None, true)?;
+    types.declare_exn(&[ValType::I32])?;
+    types.declare_array(reference(), None, true)?;
+    types.declare_array(number(), None, true)?;
+    types.declare_array(mutable(StorageType::I8), None, true)?;
+    for numbers in [0, 3, 22, 23] {
+        declare_spread(alloc, &mut types, numbers)?;
+    }
+    types.declare_struct(&[reference(); 30], None, true)?;
+    Ok(types)
+}
+
+/// The type of that name.
+pub(crate) fn type_named(name: &str) -> Result<VMSharedTypeIndex, CaseFault> {
+    let index = match name {
+        "cell" => 0,
+        "pair" => 1,
+        "triple" => 2,
+        "exception" => 3,
+        "references" => 4,
+        "numbers" => 5,
+        "bytes" => 6,
+        "spread0" => 7,
+        "spread3" => 8,
+        "spread22" => 9,
+        "spread23" => 10,
+        "thirty" => 11,
+        _ => return Err(CaseFault::BadCase),
+    };
+    Ok(VMSharedTypeIndex::new(index))
+}

@@ -1,0 +1,3 @@
+mod GiveLemmas
+mod RootLemmas
+mod StepLemmas
