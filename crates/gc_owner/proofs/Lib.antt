@@ -1,9 +1,20 @@
-mod Begins
-mod GrowthLemmas
-mod ListedRoots
-mod Names
-mod TakenColumns
-mod WordBarriers
-mod OwnerLemmas
-mod AllRoots
-mod CollectedRoots
+pub mod Begins
+pub mod GrowLemmas
+pub mod GrowthLemmas
+pub mod HostLemmas
+pub mod ListedRoots
+pub mod MakeLemmas
+pub mod Names
+pub mod RetryLemmas
+pub mod TakenColumns
+pub mod TryLemmas
+pub mod WordBarriers
+pub mod OwnerLemmas
+pub mod AllRoots
+pub mod FollowedOffsets
+pub mod WriteLemmas
+pub mod DeclareLemmas
+pub mod ScopeLemmas
+pub mod OwnedLemmas
+pub mod FrameLemmas
+pub mod CollectedRoots

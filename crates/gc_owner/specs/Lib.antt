@@ -1,6 +1,14 @@
+pub mod Declares
+pub mod DroppedRoots
 pub mod Growing
+pub mod HostSteps
+pub mod HostValues
 pub mod Limiters
+pub mod Makes
 pub mod Owners
 pub mod Retry
 pub mod RootColumns
+pub mod ShownWords
 pub mod Tracing
+pub mod Tries
+pub mod Writes

@@ -1,5 +1,5 @@
 -- The roots of an owner by their kinds, and the list of them that a collection is given.
-use Rattle.std.specs.Prelude.{◌≡◌, ℕ, ◌+◌, ◌-◌, ◌^◌, ◌<◌, ◌≤◌, ◌==◌, min, not, nat_le, if◌then◌else◌, Bool, true, false, List, [], ◌∷◌, ◌++◌, length, map, filter, take, drop, slice_set, slice_index_or, replicate, All}
+use Rattle.std.specs.Prelude.{◌≡◌, ℕ, ◌+◌, ◌-◌, ◌^◌, ◌<◌, ◌≤◌, ◌==◌, min, not, nat_le, if◌then◌else◌, Bool, true, false, List, [], ◌∷◌, ◌++◌, length, map, filter, take, drop, slice_set, slice_index_or, replicate}
 use Rattle.gc_roots.specs.Roots.{Root, root}
 use Rattle.gc_heap.specs.Collection.{moved, moved_root}
 use Rattle.gc_owner.specs.declared.entry.GcClass.TheVariants.{Any}
@@ -106,10 +106,16 @@ Follow from roots to place on_stack words behind = drop from roots ≡ map (move
 abbrev pub root_count : RootsView → ℕ
 root_count r = length r.scoped + length r.owned + length r.slots + global_count + 1
 
--- Each open frame begins where the one before it ends, or behind that.
+-- starts of frames from a place on, each at or behind the one before it, and none behind the end of the slots
+abbrev pub RiseFrom : ℕ → List ℕ → ℕ → Type 0
+RiseFrom place [] end = place ≤ end
+RiseFrom place (start ∷ starts) end = (place ≤ start) × RiseFrom start starts end
+
+-- The first open frame begins at the first slot, and each later one at or behind the one before it; with no
+-- frame there are no slots.
 abbrev pub AreFrames : List ℕ → ℕ → Type 0
-AreFrames [] end = Unit {0}
-AreFrames (start ∷ starts) end = (start ≤ end) × (All (λ later. start ≤ later) starts × AreFrames starts end)
+AreFrames [] end = end ≡ 0
+AreFrames (start ∷ starts) end = (start ≡ 0) × RiseFrom start starts end
 
 -- there are no more scoped and owned roots than a u32 numbers
 pub record AreFew (r : RootsView) : Type 0 where

@@ -1,7 +1,8 @@
 //! What the owner lends for reading.
 
-ghost use Rattle.std.specs.Prelude.{◌≡◌, true, false};
+ghost use Rattle.std.specs.Prelude.{◌≡◌, length, true, false};
 ghost use Rattle.gc_heap.specs.Content.{IsHeap};
+ghost use Rattle.gc_owner.specs.RootColumns.{AreFrames};
 ghost use Rattle.gc_owner.specs.Owners.{CanBegin};
 
 use crate::owner::HeapOwner;
@@ -16,8 +17,9 @@ impl<H: GcHeap, D: Drop> HeapOwner<H, D> {
         ensures heap { IsHeap H.KIND self.now.seen.heap }
         ensures can { CanBegin H.KIND self.now.seen }
         ensures unused { self.now.seen.heap.attached ≡ false → self.now.seen.last ≡ 0 }
+        ensures frames { AreFrames self.now.seen.roots.frames (length self.now.seen.roots.slots) }
     {
-        let _heap = &self.heap;
+        self.roots.are_few();
     }
 
     /// The heap, for reading.

@@ -8,21 +8,29 @@
 #![tactic(auto)]
 
 mod access;
+pub mod allocate;
 mod barriers;
 mod collect;
 mod columns;
+mod declare;
 pub mod entry;
+mod frames;
 mod grow;
+pub mod host;
 pub mod limiter;
+mod owned;
 pub mod owner;
 pub mod pages;
 mod roots;
 mod scopes;
 pub mod scripted;
 mod slots;
+mod write;
 
+pub use allocate::{AllocateFault, Description};
 pub use entry::{GcClass, OwnedEntry, RootEntry, SlotEntry};
 pub use grow::should_collect_first;
+pub use host::HostFault;
 pub use limiter::{PageLimit, ResourceLimiter};
 pub use owner::HeapOwner;
 pub use pages::PagesFault;

@@ -1,8 +1,10 @@
 //! The roots of an owner, and the room that a collection takes for them.
 
-ghost use Rattle.std.specs.Prelude.{◌≡◌, ◌+◌, ◌<◌, ◌≤◌, ◌^◌, [], ℕ, length, map, IfOk, OnOk, slice_index_or, true};
+ghost use Rattle.std.specs.Prelude.{◌≡◌, ◌+◌, ◌-◌, ◌<◌, ◌≤◌, ◌^◌, [], ◌∷◌, ◌++◌, ℕ, length, map, min, IfOk, OnOk, OnErr, slice_index_or, slice_set, true, false};
 ghost use Rattle.gc_heap.specs.Collection.{has_host, IsPartOf, moved_root};
-ghost use Rattle.gc_owner.specs.RootColumns.{no_roots, AreFew, with_scoped, with_room, with_global, global_count, empty_slot, roots_of, all_roots, MovesAll};
+ghost use Rattle.gc_owner.specs.declared.entry.OwnedEntry as Owned;
+ghost use Rattle.gc_owner.specs.RootColumns.{no_roots, with_handles, with_frame, without_frame, with_slot, newest_start, HasSlot, AreFrames, AreFew, with_scoped, with_room, with_global, global_count, empty_slot, roots_of, all_roots, MovesAll};
+ghost use Rattle.gc_owner.specs.DroppedRoots.{PopsPast};
 ghost use Rattle.gc_owner.specs.Tracing.{IsCollectable};
 ghost use Rattle.gc_owner.specs.Owners.{CollectsRoots};
 
@@ -28,6 +30,12 @@ const PENDING: RootPlace = RootPlace { number: 4 };
 /// How many globals there are.
 const GLOBAL_COUNT: usize = 16;
 
+/// A slot that holds nothing.
+const NOTHING: SlotEntry = SlotEntry {
+    class: GcClass::Any,
+    word: 0,
+};
+
 /// The roots of all kinds. Whenever a root is made there is also room for it in the list that a collection
 /// is given, so that a collection takes no memory.
 #[derive(Drop)]
@@ -50,7 +58,7 @@ pub(crate) struct Roots {
 
 impl Model for Roots {
     ghost use Rattle.std.specs.Prelude.{◌≡◌, ◌≤◌, ◌-◌, ◌+◌, ◌^◌, [], min, vec_len, vec_capacity};
-    ghost use Rattle.gc_owner.specs.RootColumns.{RootsView, global_count};
+    ghost use Rattle.gc_owner.specs.RootColumns.{RootsView, global_count, AreFrames};
 
     ghost Value = { RootsView };
 
@@ -68,7 +76,7 @@ impl Model for Roots {
     } };
 
     ghost invariant = { λ s. (s.list.roots ≡ []) × (vec_len s.scoped + vec_len s.owned + vec_len s.slots + global_count + 1 ≤ s.list.spare)
-        × (vec_len s.scoped ≤ 2 ^ 32) × (vec_len s.owned ≤ 2 ^ 32) × (vec_len s.globals ≡ global_count) };
+        × (vec_len s.scoped ≤ 2 ^ 32) × (vec_len s.owned ≤ 2 ^ 32) × (vec_len s.globals ≡ global_count) × AreFrames s.frames.items (vec_len s.slots) };
 }
 
 /// Puts all roots into the list of a collection, which is empty.
@@ -119,13 +127,7 @@ impl Roots {
         ensures { IfOk result (λ r. r ≡ no_roots r.spare r.list_spare) }
     {
         let mut globals = Vec::new(alloc);
-        globals.resize(
-            GLOBAL_COUNT,
-            SlotEntry {
-                class: GcClass::Any,
-                word: 0,
-            },
-        )?;
+        globals.resize(GLOBAL_COUNT, NOTHING)?;
         let mut list = GcRootsList::new(alloc);
         list.reserve(GLOBAL_COUNT + 1)?;
         Ok(Roots {
@@ -140,10 +142,11 @@ impl Roots {
         })
     }
 
-    /// There are no more scoped and owned roots than a u32 numbers, and no list is in use. At run time it
-    /// does nothing.
+    /// There are no more scoped and owned roots than a u32 numbers, frames lie in the slots, and no list is
+    /// in use. At run time it does nothing.
     pub(crate) fn are_few(&self)
         ensures few { AreFew self.now }
+        ensures frames { AreFrames self.now.frames (length self.now.slots) }
         ensures unlisted { self.now.listed ≡ [] }
     {
         let _entries = &self.scoped;
@@ -184,6 +187,110 @@ impl Roots {
         let generation = self.generation;
         self.scoped.push_reserved(RootEntry { generation, word });
         index
+    }
+
+    /// Takes the newest scoped root off, if there are more than so many, and answers its word.
+    pub(crate) fn pop_past(&mut self, mark: usize) -> Option<u32>
+        ensures { PopsPast mark self.old self.new result }
+    {
+        if self.scoped.len() <= mark {
+            return None;
+        }
+        match self.scoped.pop() {
+            Some(entry) => Some(entry.word),
+            None => None,
+        }
+    }
+
+    /// A scope ended that dropped a root: the next ones are of another generation, which is counted up to
+    /// the greatest u64.
+    pub(crate) fn end_generation(&mut self)
+        ensures { self.new ≡ record self.old { generation = min (self.old.generation + 1) (2 ^ 64 - 1) } }
+    {
+        self.generation = self.generation.saturating_add(1);
+    }
+
+    /// The owned roots, from the oldest on.
+    pub(crate) fn owned(&self) -> &[OwnedEntry]
+        ensures { result.now ≡ self.now.owned }
+    {
+        self.owned.as_slice()
+    }
+
+    /// Adds an owned root, and makes room for it in the list of a collection.
+    pub(crate) fn own(&mut self, entry: OwnedEntry) -> Result<(), AllocError>
+        requires few { length self.old.owned < 2 ^ 32 }
+        ensures ok { OnOk result (self.new ≡ with_room self.new (record self.old { owned = self.old.owned ++ entry ∷ [] })) }
+        ensures err { OnErr result (self.new ≡ with_room self.new self.old) }
+    {
+        let count = self.scoped.len() + self.owned.len() + self.slots.len() + GLOBAL_COUNT + 1;
+        self.list.reserve(count.saturating_add(1))?;
+        self.owned.reserve(1)?;
+        self.owned.push_reserved(entry);
+        Ok(())
+    }
+
+    /// Sets how many handles the owned root at that place has.
+    pub(crate) fn set_handles(&mut self, index: usize, handles: u32)
+        requires { index < length self.old.owned }
+        ensures { (e : Owned.OwnedEntry) → self.new ≡ record self.old { owned = slice_set self.old.owned index (record (slice_index_or self.old.owned index e) { handles = handles }) } }
+    {
+        self.owned[index].handles = handles;
+    }
+
+    /// Forgets the owned roots without handles.
+    pub(crate) fn forget_unheld(&mut self)
+        ensures { self.new ≡ with_room self.new (record self.old { owned = with_handles self.old.owned }) }
+    {
+        self.owned.retain(|entry| entry.handles != 0);
+    }
+
+    /// Opens a frame of so many slots, each of which holds nothing, and makes room for them in the list of a
+    /// collection.
+    pub(crate) fn push_frame(&mut self, slots: u32) -> Result<(), AllocError>
+        ensures ok { OnOk result (self.new ≡ with_room self.new (with_frame slots self.old)) }
+        ensures err { OnErr result (self.new ≡ with_room self.new self.old) }
+    {
+        let start = self.slots.len();
+        let end = start + slots as usize;
+        let count = self.scoped.len() + self.owned.len() + end + GLOBAL_COUNT + 1;
+        self.list.reserve(count)?;
+        self.frames.reserve(1)?;
+        self.slots.resize(end, NOTHING)?;
+        self.frames.push_reserved(start);
+        Ok(())
+    }
+
+    /// Closes the newest frame, and answers whether there was one.
+    pub(crate) fn pop_frame(&mut self) -> bool
+        ensures closed { result ≡ true → (0 < length self.old.frames) × (self.new ≡ with_room self.new (without_frame self.old)) }
+        ensures none { result ≡ false → (self.old.frames ≡ []) × (self.new ≡ self.old) }
+    {
+        match self.frames.pop() {
+            Some(start) => {
+                self.slots.truncate(start);
+                true
+            }
+            None => false,
+        }
+    }
+
+    /// The slot of that index in the newest frame.
+    pub(crate) fn slot(&self, index: u32) -> SlotEntry
+        requires { HasSlot self.now index }
+        ensures { result ≡ slice_index_or self.now.slots (newest_start self.now + index) empty_slot }
+    {
+        let start = self.frames[self.frames.len() - 1];
+        self.slots[start + index as usize]
+    }
+
+    /// Overwrites the slot of that index in the newest frame.
+    pub(crate) fn set_slot(&mut self, index: u32, entry: SlotEntry)
+        requires { HasSlot self.old index }
+        ensures { self.new ≡ with_slot index entry self.old }
+    {
+        let start = self.frames[self.frames.len() - 1];
+        self.slots[start + index as usize] = entry;
     }
 
     /// The global of that index.

@@ -1,15 +1,34 @@
 //! Scoped roots.
 
-ghost use Rattle.std.specs.Prelude.{◌≡◌, ◌<◌, ◌≤◌, ◌^◌, true, length, OnOk};
+ghost use Rattle.std.specs.Prelude.{◌≡◌, ◌<◌, ◌≤◌, ◌^◌, ℕ, Bool, List, true, length, take, OnOk};
+ghost use Rattle.gc_types.specs.Declarations.{Declaration};
+ghost use Rattle.gc_view.specs.Heaps.{SameHeld};
 ghost use Rattle.gc_heap.specs.Collection.{IsWordOf};
-ghost use Rattle.gc_owner.specs.RootColumns.{with_scoped, with_room};
-ghost use Rattle.gc_owner.specs.Owners.{raised};
+ghost use Rattle.gc_owner.specs.RootColumns.{with_scoped, with_room, left_scope, roots_of};
+ghost use Rattle.gc_owner.specs.DroppedRoots.{CanDropRoots};
+ghost use Rattle.gc_owner.specs.Tracing.{IsCollectable};
+ghost use Rattle.gc_owner.specs.Owners.{raised, ChangesRoots};
 
-use crate::barriers::copy_word;
+use crate::barriers::{copy_word, drop_word};
 use crate::entry::RootEntry;
 use crate::owner::HeapOwner;
+use crate::roots::Roots;
 use gc_heap::GcHeap;
 use std::alloc::AllocError;
+
+/// Drops the scoped roots past so many, the newest first, and tells the heap of each.
+fn drop_past<H: GcHeap>(heap: &mut H, roots: &mut Roots, mark: usize)
+    requires sound { H.sound heap.old }
+    requires can { CanDropRoots H.KIND (H.seen heap.old) roots.old }
+    ensures sound { H.sound heap.new }
+    ensures held { SameHeld (H.seen heap.old) (H.seen heap.new) }
+    ensures keeps { (types : List Declaration) (hosts : ℕ → Bool) → IsCollectable H.KIND types (H.seen heap.old) (roots_of roots.old) hosts → IsCollectable H.KIND types (H.seen heap.new) (roots_of roots.new) hosts }
+    ensures roots { roots.new ≡ record roots.old { scoped = take mark roots.old.scoped; spare = roots.new.spare } }
+{
+    while let Some(word) = roots.pop_past(mark) {
+        drop_word(heap, word);
+    }
+}
 
 impl<H: GcHeap, D: Drop> HeapOwner<H, D> {
     /// The scoped roots, from the oldest on.
@@ -51,5 +70,18 @@ impl<H: GcHeap, D: Drop> HeapOwner<H, D> {
         self.roots.are_few();
         copy_word(&mut self.heap, word);
         self.roots.push(word)
+    }
+
+    /// Leaves a scope that was entered with so many scoped roots: those past them are dropped, the newest
+    /// first, and the heap is told of each. It takes no memory, and its time is linear in what it drops.
+    pub fn leave_scope(&mut self, mark: usize)
+        requires idle { self.old.seen.idle ≡ true }
+        ensures { ChangesRoots self.old.seen self.new.seen (left_scope mark self.new.seen.roots.spare self.old.seen.roots) }
+    {
+        if self.roots.scoped().len() <= mark {
+            return;
+        }
+        drop_past(&mut self.heap, &mut self.roots, mark);
+        self.roots.end_generation();
     }
 }

@@ -1,5 +1,6 @@
-use Rattle.std.proofs.Common.{sym, ap, ◌∙◌, subst, false, ◌≡◌}
+use Rattle.std.proofs.Common.{sym, ap, ◌∙◌, subst, false, length, ◌≡◌}
 use Rattle.gc_heap.specs.Content.{IsHeap}
+use Rattle.gc_owner.specs.RootColumns.{AreFrames}
 use Rattle.gc_owner.specs.Owners.{CanBegin}
 use Rattle.gc_owner.proofs.OwnerLemmas.{ready_at}
 use Rattle.gc_owner.proofs.owner.HeapOwner.is_ready.Goals as goal
@@ -12,3 +13,6 @@ returns-clause-can g c = subst (λ v. CanBegin g.H.GcHeap.KIND v.seen) c.self.vi
 
 pub returns-clause-unused : goal.returns-clause-unused
 returns-clause-unused g c = subst (λ v. v.seen.heap.attached ≡ false → v.seen.last ≡ 0) c.self.view_is (ready_at g.H.GcHeap.KIND g.H.GcHeap.seen g.H.GcHeap.sound g.H.GcHeap.under_way c.self.inside.heap c.self.inside.types c.self.inside.hosts.entries c.self.inside.roots c.self.inside.last c.self.inside.state c.args.self.now c.self.invariant c.self.view_is c.requires.idle).unused
+
+pub returns-clause-frames : goal.returns-clause-frames
+returns-clause-frames g c = subst (λ v. AreFrames v.seen.roots.frames (length v.seen.roots.slots)) c.self.view_is c.are_few.ensures.frames

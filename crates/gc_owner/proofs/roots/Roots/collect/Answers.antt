@@ -66,7 +66,7 @@ pub invariant_of-self : goal.invariant_of-self
 invariant_of-self g c =
     let at = (goal.at.invariant_of-self g c).After-clear in
     let same = list_spare g at in
-    (c.clear.ensures.roots, omega (arith, c.self.invariant.1), c.self.invariant.2, c.self.invariant.3, c.self.invariant.4)
+    (c.clear.ensures.roots, omega (arith, c.self.invariant.1), c.self.invariant.2, c.self.invariant.3, c.self.invariant.4, c.self.invariant.5)
 
 pub returns-clause-collected : goal.returns-clause-collected
 returns-clause-collected g c =

@@ -1,0 +1,87 @@
+//! Owned roots.
+
+ghost use Rattle.std.specs.Prelude.{◌≡◌, ◌<◌, ◌^◌, ℕ, Bool, List, true, length, slice_set, slice_index_or, OnOk, OnErr};
+ghost use Rattle.gc_types.specs.Declarations.{Declaration};
+ghost use Rattle.gc_view.specs.Heaps.{SameHeld};
+ghost use Rattle.gc_heap.specs.Collection.{IsWordOf};
+ghost use Rattle.gc_owner.specs.declared.entry.OwnedEntry as Owned;
+ghost use Rattle.gc_owner.specs.RootColumns.{roots_of, with_room, with_handles};
+ghost use Rattle.gc_owner.specs.Owners.{ChangesRoots, OwnsRoot, CanDropWord};
+ghost use Rattle.gc_owner.specs.DroppedRoots.{CanDropRoots, released};
+ghost use Rattle.gc_owner.specs.Tracing.{IsCollectable};
+
+use crate::barriers::{copy_word, drop_word};
+use crate::entry::OwnedEntry;
+use crate::owner::HeapOwner;
+use crate::roots::Roots;
+use gc_heap::GcHeap;
+use std::alloc::AllocError;
+
+/// Tells the heap that a word is given up, if its owned root has no handles.
+fn release<H: GcHeap>(heap: &mut H, entry: &OwnedEntry)
+    requires sound { H.sound heap.old }
+    requires can { entry.now.handles ≡ 0 → CanDropWord (H.seen heap.old) entry.now.word }
+    ensures sound { H.sound heap.new }
+    ensures seen { H.seen heap.new ≡ released (H.seen heap.old) entry.now }
+{
+    if entry.handles == 0 {
+        drop_word(heap, entry.word);
+    }
+}
+
+/// Tells the heap of each owned root without handles that its word is given up.
+fn drop_unheld<H: GcHeap>(heap: &mut H, roots: &Roots)
+    requires sound { H.sound heap.old }
+    requires can { CanDropRoots H.KIND (H.seen heap.old) roots.now }
+    ensures sound { H.sound heap.new }
+    ensures held { SameHeld (H.seen heap.old) (H.seen heap.new) }
+    ensures keeps { (types : List Declaration) (hosts : ℕ → Bool) → IsCollectable H.KIND types (H.seen heap.old) (roots_of roots.now) hosts
+        → IsCollectable H.KIND types (H.seen heap.new) (roots_of (record roots.now { owned = with_handles roots.now.owned })) hosts }
+{
+    let entries = roots.owned();
+    for entry in entries {
+        release(heap, entry);
+    }
+}
+
+impl<H: GcHeap, D: Drop> HeapOwner<H, D> {
+    /// The owned roots, from the oldest on; those without handles stand until the next trim.
+    pub fn owned(&self) -> &[OwnedEntry]
+        ensures { result.now ≡ self.now.seen.roots.owned }
+    {
+        let _heap = &self.heap;
+        self.roots.owned()
+    }
+
+    /// Adds an owned root for a copy of a word. An error is want of memory.
+    pub fn own(&mut self, entry: OwnedEntry) -> Result<(), AllocError>
+        requires idle { self.old.seen.idle ≡ true }
+        requires few { length self.old.seen.roots.owned < 2 ^ 32 }
+        requires word { IsWordOf self.old.seen.heap entry.word }
+        ensures ok { OnOk result (OwnsRoot self.old.seen self.new.seen entry) }
+        ensures err { OnErr result (self.new.seen ≡ record self.old.seen { roots = with_room self.new.seen.roots self.old.seen.roots }) }
+    {
+        self.roots.are_few();
+        self.roots.own(entry)?;
+        copy_word(&mut self.heap, entry.word);
+        Ok(())
+    }
+
+    /// Sets how many handles an owned root has, by its place in the list.
+    pub fn set_handles(&mut self, index: usize, handles: u32)
+        requires idle { self.old.seen.idle ≡ true }
+        requires index { index < length self.old.seen.roots.owned }
+        ensures { (e : Owned.OwnedEntry) → self.new.seen ≡ record self.old.seen { roots = record self.old.seen.roots { owned = slice_set self.old.seen.roots.owned index (record (slice_index_or self.old.seen.roots.owned index e) { handles = handles }) } } }
+    {
+        self.roots.set_handles(index, handles);
+    }
+
+    /// Drops the owned roots without handles; the others stay in order. Its time is linear in the owned roots.
+    pub fn trim(&mut self)
+        requires idle { self.old.seen.idle ≡ true }
+        ensures { ChangesRoots self.old.seen self.new.seen (with_room self.new.seen.roots (record self.old.seen.roots { owned = with_handles self.old.seen.roots.owned })) }
+    {
+        drop_unheld(&mut self.heap, &self.roots);
+        self.roots.forget_unheld();
+    }
+}
