@@ -3,7 +3,7 @@ use Rattle.std.proofs.Common.{◌≡◌, ℕ, ◌+◌, Bool, true, false, List, 
 use Rattle.std.proofs.lemmas.List.Sums.{sum-map, sum_by_push}
 use Rattle.gc_types.specs.declared.kind.Layouts.TheVariants.{Copying}
 use Rattle.gc_types.specs.Declarations.{Declaration}
-use Rattle.gc_model.specs.declared.GcClass.{GcClass}
+use Rattle.gc_owner.specs.declared.entry.GcClass.{GcClass}
 use Rattle.gc_model.specs.Values.{Object}
 use Rattle.gc_model.specs.Table.{Table, declare, make}
 use Rattle.gc_model.specs.Sizes.{object_size}
@@ -13,8 +13,8 @@ use Rattle.gc_commands.specs.declared.reply.Reply.{Reply}
 use Rattle.gc_commands.specs.declared.reply.Reply.TheVariants as reply
 use Rattle.gc_commands.specs.declared.reply.Refusal.{Refusal}
 use Rattle.gc_commands.specs.declared.reply.Refusal.TheVariants as refusal
-use Rattle.gc_store.specs.Accounts.{Account, with_held}
-use Rattle.gc_store.specs.Policy.{PolicyState, Prepares, Expands}
+use Rattle.gc_policy.specs.Accounts.{Account, with_held}
+use Rattle.gc_policy.specs.Policy.{PolicyState, Prepares, Expands}
 use Rattle.gc_script.specs.State.{State, reference, with_heap, with_account, with_table, set_register, visible, over}
 use Rattle.gc_script.specs.Shapes.{Shape, plain, declaring, making, growing, collecting, showing, shape}
 use Rattle.gc_script.specs.Steps.{Step, Answers, Does, Declares, declared, bad, MakesNew, made, lacks, AnswersGrow, grown, refused, tests, first_failing}

@@ -1,6 +1,6 @@
 -- The rule of retry decides: from alike states it ends alike.
 use Rattle.std.proofs.Common.{◌≡◌, Bool, true, false, refl, sym, ◌∙◌}
-use Rattle.gc_store.specs.Retry.{Rules, Retry, Ends, at_once, after_collection, after_both, after_growth, after_refusal}
+use Rattle.gc_owner.specs.Retry.{Rules, Retry, Ends, at_once, after_collection, after_both, after_growth, after_refusal}
 
 -- what makes the rule decide, where some states are alike
 pub record Decides {S : Type 0} (rules : Rules S) (Alike : S → S → Type 0) : Type 0 where

@@ -5,16 +5,16 @@ use Rattle.std.specs.Fmt.{decimal}
 use Rattle.std.proofs.lemmas.Fmt.{decimal_digit}
 use Rattle.gc_types.specs.declared.kind.Layouts.TheVariants.{Null}
 use Rattle.gc_types.specs.Declarable.{Declarable}
-use Rattle.gc_model.specs.declared.GcClass.TheVariants as class
+use Rattle.gc_owner.specs.declared.entry.GcClass.TheVariants as class
 use Rattle.gc_model.specs.Values.{numeric, i32, Object, struct}
 use Rattle.gc_model.specs.Table.{Table, start, usual_roots, declare, make, make_heap, with_pages}
 use Rattle.gc_model.specs.Allocation.{Limits, no_heap, no_room, FitsIn, same}
 use Rattle.gc_model.specs.Sizes.{object_size}
-use Rattle.gc_store.specs.Accounts.{Account, no_account, counted, with_held}
-use Rattle.gc_store.specs.Limiters.{fresh_limits}
-use Rattle.gc_store.specs.Growth as growth
-use Rattle.gc_store.specs.Policy.{PolicyState, policy_state, Prepares, tried}
-use Rattle.gc_store.specs.Retry.{at_once}
+use Rattle.gc_policy.specs.Accounts.{Account, no_account, counted, with_held}
+use Rattle.gc_owner.specs.Limiters.{fresh_limits}
+use Rattle.gc_owner.specs.Growing as growth
+use Rattle.gc_policy.specs.Policy.{PolicyState, policy_state, Prepares, tried}
+use Rattle.gc_owner.specs.Retry.{at_once}
 use Rattle.gc_commands.specs.declared.command.Command.{Command}
 use Rattle.gc_commands.specs.declared.command.Command.TheVariants.{Bad, Struct, New, Field}
 use Rattle.gc_commands.specs.declared.command.FieldWord.{FieldWord}

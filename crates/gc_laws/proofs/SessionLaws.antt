@@ -3,8 +3,8 @@ use Rattle.std.proofs.Common.{◌≡◌, ℕ, List, [], ◌∷◌, Some, None, r
 use Rattle.std.specs.List.{flat_map}
 use Rattle.gc_types.specs.declared.kind.Layouts.TheVariants.{Copying}
 use Rattle.gc_model.specs.Table.{Table, start, usual_roots}
-use Rattle.gc_store.specs.Accounts.{no_account}
-use Rattle.gc_store.specs.Limiters.{fresh_limits}
+use Rattle.gc_policy.specs.Accounts.{no_account}
+use Rattle.gc_owner.specs.Limiters.{fresh_limits}
 use Rattle.gc_commands.specs.declared.command.Command.{Command}
 use Rattle.gc_commands.specs.declared.command.Command.TheVariants.{Bad}
 use Rattle.gc_commands.specs.Spelling.{IsCommandOf}

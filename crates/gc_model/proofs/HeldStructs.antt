@@ -24,7 +24,7 @@ use Rattle.gc_model.proofs.Live.{rooted_word}
 use Rattle.gc_model.proofs.ReadingBack.{lies_fits}
 
 -- the heap's object at a placed struct stands for it
-pub struct_stands : {D : Type 0} (layouts : Layouts) (s : StoreView) (t : Table D) (place : Placing) → Holds layouts s t place → (position word ty : ℕ) (values : List Value) (h : HeapObject) → place position ≡ Some word → get s.heap.content word ≡ Some h → slice_get t.objects position ≡ Some (struct ty values) → StructStands layouts t.types place ty values h
+pub struct_stands : {D : Type 0} (layouts : Layouts) (s : StoreView D) (t : Table D) (place : Placing) → Holds layouts s t place → (position word ty : ℕ) (values : List Value) (h : HeapObject) → place position ≡ Some word → get s.heap.content word ≡ Some h → slice_get t.objects position ≡ Some (struct ty values) → StructStands layouts t.types place ty values h
 struct_stands {D} layouts s t place holds position word ty values h placed in_heap in_table =
     let held = holds.objects.placed position word placed in
     let entry_same : held.entry ≡ struct ty values = grind (arith, sym held.in_table ∙ in_table) in
@@ -98,13 +98,13 @@ typed_entry layouts t place position (host value) h e built stands = absurd stan
 typed_entry layouts t place position (exception ty tag values) h e built stands = absurd stands
 
 -- a placed position is such a struct
-pub placed_typed : {D : Type 0} (layouts : Layouts) (s : StoreView) (t : Table D) (place : Placing) → Holds layouts s t place → (position word : ℕ) → place position ≡ Some word → IsTypedStruct t position
+pub placed_typed : {D : Type 0} (layouts : Layouts) (s : StoreView D) (t : Table D) (place : Placing) → Holds layouts s t place → (position word : ℕ) → place position ≡ Some word → IsTypedStruct t position
 placed_typed layouts s t place holds position word placed =
     let held = holds.objects.placed position word placed in
     typed_entry layouts t place position held.entry held.object held.in_table holds.only_built held.stands
 
 -- and so is what a live root names
-pub holds_typed : {D : Type 0} (layouts : Layouts) (s : StoreView) (t : Table D) → HoldsTable layouts s t → (serial position : ℕ) → rooted t serial ≡ Some (at position) → IsTypedStruct t position
+pub holds_typed : {D : Type 0} (layouts : Layouts) (s : StoreView D) (t : Table D) → HoldsTable layouts s t → (serial position : ℕ) → rooted t serial ≡ Some (at position) → IsTypedStruct t position
 holds_typed layouts s t holds serial position live =
     let word = rooted_word layouts s t holds.0 holds.1 serial (at position) live in
     placed_typed layouts s t holds.0 holds.1 position word.0 word.1.0

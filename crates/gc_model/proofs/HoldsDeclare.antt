@@ -14,7 +14,7 @@ use Rattle.gc_model.proofs.Types.{struct_fields_at-push, IsTyped, next_after-pus
 use Rattle.gc_model.proofs.HoldsParts.{types_changed}
 
 -- the store with one more type
-abbrev pub with_type : Declaration → StoreView → StoreView
+abbrev pub with_type : {D : Type 0} → Declaration → StoreView D → StoreView D
 with_type d s = record s { types = s.types ++ d ∷ [] }
 
 -- an object stands for the same in a longer table of types
@@ -69,7 +69,7 @@ objects-declared layouts d t place heap objects = record {
   even = objects.even;
 }
 
-pub holds_declare : {D : Type 0} (layouts : Layouts) (s : StoreView) (t : Table D) (place : Placing) (d : Declaration) → IsBuiltDeclaration d → Holds layouts s t place → Holds layouts (with_type d s) (declare d t) place
+pub holds_declare : {D : Type 0} (layouts : Layouts) (s : StoreView D) (t : Table D) (place : Placing) (d : Declaration) → IsBuiltDeclaration d → Holds layouts s t place → Holds layouts (with_type d s) (declare d t) place
 holds_declare layouts s t place d built holds =
     types_changed holds
     (ap (λ types. types ++ d ∷ []) holds.types)

@@ -12,7 +12,8 @@ use Rattle.gc_model.specs.Sizes.{next_after}
 use Rattle.gc_view.specs.Heaps.{HeapView}
 use Rattle.gc_model.specs.Stores.{StoreView}
 use Rattle.gc_model.specs.Holds.{Placing, Holds, KindHolds, ObjectsHold}
-use Rattle.gc_model.proofs.HoldsParts.{objects-same, heap_changed}
+use Rattle.gc_model.proofs.HoldsParts.{objects-same, hosts-same, heap_changed}
+use Rattle.gc_model.proofs.Hosts.{no_hosts-nil, hosts-moved}
 
 -- a heap that was just made with so many pages
 pub record IsMadeHeap (layouts : Layouts) (heap : HeapView) (pages : ℕ) : Type 0 where
@@ -22,7 +23,7 @@ pub record IsMadeHeap (layouts : Layouts) (heap : HeapView) (pages : ℕ) : Type
   pub allocated : layouts ≡ Null → heap.allocated ≡ 0
 
 -- the store with another heap
-abbrev pub with_heap : HeapView → StoreView → StoreView
+abbrev pub with_heap : {D : Type 0} → HeapView → StoreView D → StoreView D
 with_heap heap s = record s { heap = heap }
 
 -- nothing is placed where there are no objects
@@ -39,7 +40,7 @@ made_by_kind Null t place heap pages none made = record {
 made_by_kind Counting t place heap pages none made = tt
 made_by_kind Copying t place heap pages none made = tt
 
-pub holds_heap : {D : Type 0} (layouts : Layouts) (s : StoreView) (t : Table D) (place : Placing) (heap : HeapView) → t.made ≡ false → IsMadeHeap layouts heap t.first → Holds layouts s t place → Holds layouts (with_heap heap s) (make_heap t) place
+pub holds_heap : {D : Type 0} (layouts : Layouts) (s : StoreView D) (t : Table D) (place : Placing) (heap : HeapView) → t.made ≡ false → IsMadeHeap layouts heap t.first → Holds layouts s t place → Holds layouts (with_heap heap s) (make_heap t) place
 holds_heap layouts s t place heap unmade made holds =
     let none : t.objects ≡ [] = holds.memory.no_objects unmade in
     let nowhere = nothing_placed layouts t place s.heap holds.objects none in
@@ -57,6 +58,8 @@ holds_heap layouts s t place heap unmade made holds =
       even = λ word object e. absurd (none-some object (sym (get-empty nat_cmp word) ∙ ap (λ (m : _). Rattle.std.specs.FinMap.get m word) (sym made.content) ∙ e));
     })
     (made_by_kind layouts t place heap t.first none made)
+    (hosts-moved t.objects t.objects place place s.heap.content heap.content s.hosts (no_hosts-nil t.objects none) (no_hosts-nil t.objects none) holds.hosts)
+    holds.nothing_else
 
 -- a heap with the same objects and so many pages
 pub record IsGrownHeap (layouts : Layouts) (old new : HeapView) (pages : ℕ) : Type 0 where
@@ -74,9 +77,11 @@ grown_by_kind Counting t place old new pages grown holds = tt
 grown_by_kind Copying t place old new pages grown holds = tt
 
 -- a store holds the table with other pages, once its heap has as many
-pub holds_pages : {D : Type 0} (layouts : Layouts) (s : StoreView) (t : Table D) (place : Placing) (heap : HeapView) (pages : ℕ) → IsGrownHeap layouts s.heap heap pages → Holds layouts s t place → Holds layouts (with_heap heap s) (with_pages pages t) place
+pub holds_pages : {D : Type 0} (layouts : Layouts) (s : StoreView D) (t : Table D) (place : Placing) (heap : HeapView) (pages : ℕ) → IsGrownHeap layouts s.heap heap pages → Holds layouts s t place → Holds layouts (with_heap heap s) (with_pages pages t) place
 holds_pages layouts s t place heap pages grown holds =
     heap_changed holds
     (record { made = grown.attached; capacity = grown.capacity; no_pages = λ h. absurd (cc); no_objects = λ h. absurd (cc) })
     (objects-same layouts t place s.heap heap grown.content holds.objects)
     (grown_by_kind layouts t place s.heap heap pages grown holds.by_kind)
+    (hosts-same t place s.heap heap s.hosts grown.content holds.hosts)
+    holds.nothing_else

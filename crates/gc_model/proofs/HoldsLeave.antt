@@ -17,7 +17,7 @@ abbrev pub drops_after : ℕ → ℕ → ℕ → ℕ
 drops_after mark roots drops = cond (nat_lt mark roots) (min (drops + 1) (2 ^ 64 - 1)) drops
 
 -- the store with another heap, and without the roots behind so many
-abbrev pub without_roots : HeapView → ℕ → StoreView → StoreView
+abbrev pub without_roots : {D : Type 0} → HeapView → ℕ → StoreView D → StoreView D
 without_roots heap mark s = record s { heap = heap; scoped = take mark s.scoped; generation = drops_after mark (length s.scoped) s.generation }
 
 drops_after-within : (mark roots drops : ℕ) → drops ≤ 2 ^ 64 - 1 → drops_after mark roots drops ≤ 2 ^ 64 - 1
@@ -38,7 +38,7 @@ past-left mark roots drops generation index early past =
       ]
     ] refl
 
-module _ {D : Type 0} (layouts : Layouts) (s : StoreView) (t : Table D) (place : Placing) (heap : HeapView) (mark : ℕ) (holds : Holds layouts s t place) where
+module _ {D : Type 0} (layouts : Layouts) (s : StoreView D) (t : Table D) (place : Placing) (heap : HeapView) (mark : ℕ) (holds : Holds layouts s t place) where
   -- the roots in front are as they were
   scoped : ScopedHold (leave mark t) place (take mark s.scoped)
   scoped = record {

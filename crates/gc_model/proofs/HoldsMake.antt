@@ -14,12 +14,13 @@ use Rattle.gc_view.specs.Sizes.{alignment}
 use Rattle.gc_model.specs.Sizes.{object_size}
 use Rattle.gc_view.specs.Heaps.{HeapView, HeapObject}
 use Rattle.gc_model.specs.Stores.{StoreView}
-use Rattle.gc_model.specs.Holds.{Placing, Holds, KindHolds, HeldAt, Stands}
+use Rattle.gc_model.specs.Holds.{Placing, Holds, KindHolds, HeldAt, Stands, NoHostObjects}
 use Rattle.gc_model.proofs.Lists.{slice_get-push_old, slice_get-push_new}
 use Rattle.gc_model.proofs.Types.{next_after-push}
 use Rattle.gc_model.proofs.Placings.{IsWithin, stands-more}
 use Rattle.gc_model.proofs.RootsMoved.{scoped-more, frames-more, globals-more, owned-more, pending-more}
 use Rattle.gc_model.proofs.HoldsParts.{same_held-itself, places_changed}
+use Rattle.gc_model.proofs.Hosts.{stands-no_host, no_hosts-push, hosts-moved, nothing-objects}
 use Rattle.gc_model.proofs.HoldsPush.{with_root, holds_push}
 
 -- the placing with one more position
@@ -48,7 +49,7 @@ pub record IsMadeObject {D : Type 0} (layouts : Layouts) (t : Table D) (place : 
   pub capacity : new.capacity ≡ old.capacity
   pub allocated : layouts ≡ Null → new.allocated + 1 ≡ round_up (old.allocated + 1) alignment + object_size Null t.types o
 
-module _ {D : Type 0} (layouts : Layouts) (s : StoreView) (t : Table D) (place : Placing) (o : Object D) (heap : HeapView) (word : ℕ) (holds : Holds layouts s t place) (made : IsMadeObject layouts t place o s.heap heap word) where
+module _ {D : Type 0} (layouts : Layouts) (s : StoreView D) (t : Table D) (place : Placing) (o : Object D) (heap : HeapView) (word : ℕ) (holds : Holds layouts s t place) (made : IsMadeObject layouts t place o s.heap heap word) where
   abbrev place' : Placing
   place' = placed_at place (length t.objects) word
 
@@ -146,6 +147,9 @@ module _ {D : Type 0} (layouts : Layouts) (s : StoreView) (t : Table D) (place :
   made_by_kind Counting is kind = tt
   made_by_kind Copying is kind = tt
 
+  no_hosts : NoHostObjects (add_object o t).objects
+  no_hosts = no_hosts-push t.objects o holds.nothing_else.hosts (stands-no_host layouts t.types place o made.object made.stands)
+
   -- the store holds the table with the object, which no root names yet
   pub holds_add : t.made ≡ true → Holds layouts (record s { heap = heap }) (add_object o t) place'
   holds_add is_made =
@@ -163,6 +167,8 @@ module _ {D : Type 0} (layouts : Layouts) (s : StoreView) (t : Table D) (place :
       (globals-more place place' within t.globals s.globals holds.globals)
       (owned-more place place' within t.owns s.owns t.owned s.owned holds.owned)
       (pending-more place place' within t.pending s.pending holds.pending)
+      (hosts-moved t.objects (add_object o t).objects place place' s.heap.content heap.content s.hosts holds.nothing_else.hosts no_hosts holds.hosts)
+      (nothing-objects holds.nothing_else no_hosts)
 
   -- the store holds the table with the object, and a new root that names it
   pub holds_make : t.made ≡ true → roots_full t ≡ false → Holds layouts (with_root heap word s) (make o t) place'

@@ -7,16 +7,16 @@ use Rattle.gc_model.specs.Table.{Table}
 pub use Rattle.gc_view.specs.Heaps.{SameHeld}
 use Rattle.gc_view.specs.Heaps.{HeapView, HeapObject}
 use Rattle.gc_model.specs.Stores.{StoreView}
-use Rattle.gc_model.specs.Holds.{Placing, Points, Holds, KindHolds, KindBy, ObjectsHold, ObjectsBy, MemoryHolds}
+use Rattle.gc_model.specs.Holds.{Placing, Points, Holds, KindHolds, KindBy, ObjectsHold, ObjectsBy, HostsHold, HostsBy, MemoryHolds}
 
 pub same_held-itself : (heap : HeapView) → SameHeld heap heap
 same_held-itself heap = record { content = refl; attached = refl; capacity = refl; allocated = refl; needs_gc = refl }
 
 -- other facts at some points, and the same at all others
-module _ {Types Settings Memory Objects Kind Scopes Scoped Pushes Frames Globals Owned Pending Functions NoHosts Nothing Built : Type 0} (p : Points Types Settings Memory Objects Kind Scopes Scoped Pushes Frames Globals Owned Pending Functions NoHosts Nothing Built) where
+module _ {Types Settings Memory Objects Kind Scopes Scoped Pushes Frames Globals Owned Pending Functions Hosts Nothing Built : Type 0} (p : Points Types Settings Memory Objects Kind Scopes Scoped Pushes Frames Globals Owned Pending Functions Hosts Nothing Built) where
   -- at those on the heap
-  pub heap_changed : {Memory' Objects' Kind' : Type 0} → Memory' → Objects' → Kind' → Points Types Settings Memory' Objects' Kind' Scopes Scoped Pushes Frames Globals Owned Pending Functions NoHosts Nothing Built
-  heap_changed memory objects kind = record {
+  pub heap_changed : {Memory' Objects' Kind' Hosts' Nothing' : Type 0} → Memory' → Objects' → Kind' → Hosts' → Nothing' → Points Types Settings Memory' Objects' Kind' Scopes Scoped Pushes Frames Globals Owned Pending Functions Hosts' Nothing' Built
+  heap_changed memory objects kind hosts nothing_else = record {
     types = p.types;
     settings = p.settings;
     memory = memory;
@@ -30,13 +30,13 @@ module _ {Types Settings Memory Objects Kind Scopes Scoped Pushes Frames Globals
     owned = p.owned;
     pending = p.pending;
     funcs = p.funcs;
-    no_hosts = p.no_hosts;
-    nothing_else = p.nothing_else;
+    hosts = hosts;
+    nothing_else = nothing_else;
     only_built = p.only_built;
   }
 
   -- at those on scoped roots
-  pub scoped_changed : {Scopes' Scoped' Pushes' : Type 0} → Scopes' → Scoped' → Pushes' → Points Types Settings Memory Objects Kind Scopes' Scoped' Pushes' Frames Globals Owned Pending Functions NoHosts Nothing Built
+  pub scoped_changed : {Scopes' Scoped' Pushes' : Type 0} → Scopes' → Scoped' → Pushes' → Points Types Settings Memory Objects Kind Scopes' Scoped' Pushes' Frames Globals Owned Pending Functions Hosts Nothing Built
   scoped_changed scopes scoped pushes = record {
     types = p.types;
     settings = p.settings;
@@ -51,13 +51,13 @@ module _ {Types Settings Memory Objects Kind Scopes Scoped Pushes Frames Globals
     owned = p.owned;
     pending = p.pending;
     funcs = p.funcs;
-    no_hosts = p.no_hosts;
+    hosts = p.hosts;
     nothing_else = p.nothing_else;
     only_built = p.only_built;
   }
 
   -- at those on types
-  pub types_changed : {Types' Objects' Kind' Built' : Type 0} → Types' → Objects' → Kind' → Built' → Points Types' Settings Memory Objects' Kind' Scopes Scoped Pushes Frames Globals Owned Pending Functions NoHosts Nothing Built'
+  pub types_changed : {Types' Objects' Kind' Built' : Type 0} → Types' → Objects' → Kind' → Built' → Points Types' Settings Memory Objects' Kind' Scopes Scoped Pushes Frames Globals Owned Pending Functions Hosts Nothing Built'
   types_changed types objects kind built = record {
     types = types;
     settings = p.settings;
@@ -72,15 +72,15 @@ module _ {Types Settings Memory Objects Kind Scopes Scoped Pushes Frames Globals
     owned = p.owned;
     pending = p.pending;
     funcs = p.funcs;
-    no_hosts = p.no_hosts;
+    hosts = p.hosts;
     nothing_else = p.nothing_else;
     only_built = built;
   }
 
   -- at those on what is placed
-  pub places_changed : {Memory' Objects' Kind' Scoped' Frames' Globals' Owned' Pending' : Type 0} → Memory' → Objects' → Kind' → Scoped' → Frames' → Globals' → Owned' → Pending'
-      → Points Types Settings Memory' Objects' Kind' Scopes Scoped' Pushes Frames' Globals' Owned' Pending' Functions NoHosts Nothing Built
-  places_changed memory objects kind scoped frames globals owned pending = record {
+  pub places_changed : {Memory' Objects' Kind' Scoped' Frames' Globals' Owned' Pending' Hosts' Nothing' : Type 0} → Memory' → Objects' → Kind' → Scoped' → Frames' → Globals' → Owned' → Pending' → Hosts' → Nothing'
+      → Points Types Settings Memory' Objects' Kind' Scopes Scoped' Pushes Frames' Globals' Owned' Pending' Functions Hosts' Nothing' Built
+  places_changed memory objects kind scoped frames globals owned pending hosts nothing_else = record {
     types = p.types;
     settings = p.settings;
     memory = memory;
@@ -94,8 +94,8 @@ module _ {Types Settings Memory Objects Kind Scopes Scoped Pushes Frames Globals
     owned = owned;
     pending = pending;
     funcs = p.funcs;
-    no_hosts = p.no_hosts;
-    nothing_else = p.nothing_else;
+    hosts = hosts;
+    nothing_else = nothing_else;
     only_built = p.only_built;
   }
 
@@ -106,8 +106,12 @@ objects-same layouts t place old new same objects = subst (λ (m : FinMap nat_cm
 pub kind-same : {D : Type 0} (layouts : Layouts) (t : Table D) (place : Placing) (old new : HeapView) → new.allocated ≡ old.allocated → KindHolds layouts t place old → KindHolds layouts t place new
 kind-same layouts t place old new same kind = subst (λ n. KindBy layouts t.types t.objects place n) (sym same) kind
 
+-- the host values, in a heap with the same content
+pub hosts-same : {D : Type 0} (t : Table D) (place : Placing) (old new : HeapView) (hosts : FinMap nat_cmp D) → new.content ≡ old.content → HostsHold t place old hosts → HostsHold t place new hosts
+hosts-same t place old new hosts same held = subst (λ (m : FinMap nat_cmp HeapObject). HostsBy t.objects place m hosts) (sym same) held
+
 -- the memory, in a heap with as much of it
-pub memory-same : {D : Type 0} (s : StoreView) (t : Table D) (heap : HeapView) → SameHeld s.heap heap → MemoryHolds s t → MemoryHolds (record s { heap = heap }) t
+pub memory-same : {D : Type 0} (s : StoreView D) (t : Table D) (heap : HeapView) → SameHeld s.heap heap → MemoryHolds s t → MemoryHolds (record s { heap = heap }) t
 memory-same s t heap same memory = record {
   made = same.attached ∙ memory.made;
   capacity = same.capacity ∙ memory.capacity;
@@ -116,6 +120,6 @@ memory-same s t heap same memory = record {
 }
 
 -- a store that holds a table holds it with a heap that holds the same
-pub holds_same : {D : Type 0} (layouts : Layouts) (s : StoreView) (t : Table D) (place : Placing) (heap : HeapView) → Holds layouts s t place → SameHeld s.heap heap → Holds layouts (record s { heap = heap }) t place
+pub holds_same : {D : Type 0} (layouts : Layouts) (s : StoreView D) (t : Table D) (place : Placing) (heap : HeapView) → Holds layouts s t place → SameHeld s.heap heap → Holds layouts (record s { heap = heap }) t place
 holds_same layouts s t place heap holds same =
-    heap_changed holds (memory-same s t heap same holds.memory) (objects-same layouts t place s.heap heap same.content holds.objects) (kind-same layouts t place s.heap heap same.allocated holds.by_kind)
+    heap_changed holds (memory-same s t heap same holds.memory) (objects-same layouts t place s.heap heap same.content holds.objects) (kind-same layouts t place s.heap heap same.allocated holds.by_kind) (hosts-same t place s.heap heap s.hosts same.content holds.hosts) holds.nothing_else

@@ -5,7 +5,7 @@ use Rattle.std.specs.List.{slice_get}
 use Rattle.std.proofs.lemmas.Option.{slice_get_within}
 use Rattle.std.proofs.lemmas.List.{length_push}
 use Rattle.gc_types.specs.declared.kind.Layouts.{Layouts}
-use Rattle.gc_model.specs.declared.RootEntry.{RootEntry}
+use Rattle.gc_owner.specs.declared.entry.RootEntry.{RootEntry}
 use Rattle.gc_model.specs.Values.{Reference}
 use Rattle.gc_model.specs.Table.{Table, Scoped, Push, push}
 use Rattle.gc_model.specs.Live.{roots_full}
@@ -16,14 +16,14 @@ use Rattle.gc_model.proofs.Lists.{slice_get-push_old, slice_get-push_new, slice_
 use Rattle.gc_model.proofs.HoldsParts.{SameHeld, scoped_changed, holds_same}
 
 -- the store with another heap and one more scoped root
-abbrev pub with_root : HeapView → ℕ → StoreView → StoreView
+abbrev pub with_root : {D : Type 0} → HeapView → ℕ → StoreView D → StoreView D
 with_root heap word s = record s { heap = heap; scoped = s.scoped ++ (record { generation = s.generation; word = word }) ∷ [] }
 
 -- where one more root may be made, fewer stand than may, and the count of scope ends goes on
 pub room_for_root : {D : Type 0} (t : Table D) → roots_full t ≡ false → t.drops ≤ 2 ^ 64 - 1 → (length t.scoped < t.max_scoped) × (t.drops < 2 ^ 64 - 1)
 room_for_root t room within = (grind (arith, nat_tests, room), grind (arith, nat_tests, room, within))
 
-module _ {D : Type 0} (layouts : Layouts) (s : StoreView) (t : Table D) (place : Placing) (r : Reference) (heap : HeapView) (word : ℕ) (holds : Holds layouts s t place) (room : roots_full t ≡ false) where
+module _ {D : Type 0} (layouts : Layouts) (s : StoreView D) (t : Table D) (place : Placing) (r : Reference) (heap : HeapView) (word : ℕ) (holds : Holds layouts s t place) (room : roots_full t ≡ false) where
   abbrev entry : RootEntry
   entry = record { generation = s.generation; word = word }
 

@@ -2,7 +2,7 @@
 use Rattle.std.specs.Prelude.{replicate}
 use Rattle.std.proofs.Common.{List, ◌≡◌, ℕ, ◌+◌, ◌≤◌, ◌^◌, [], Option, Some, None, sym, ap, ◌∙◌, refl, arith, false, length, subst}
 use Rattle.std.specs.Ordering.{nat_cmp}
-use Rattle.std.specs.FinMap.{get, get-empty}
+use Rattle.std.specs.FinMap.{empty, get, get-empty}
 use Rattle.std.proofs.lemmas.Option.{none-some}
 use Rattle.std.proofs.lemmas.List.{nil_from_length}
 use Rattle.gc_types.specs.declared.kind.Layouts.{Layouts}
@@ -17,13 +17,14 @@ use Rattle.gc_model.specs.Holds.{Placing, Holds, KindHolds}
 use Rattle.gc_model.specs.RootPoints.{FramesBy, GlobalsBy, OwnedBy, PendingBy}
 use Rattle.gc_model.proofs.RootsMoved.{frames-none, globals-unset, globals-empty, owned-none}
 use Rattle.gc_model.proofs.HoldsHeap.{nothing_placed}
+use Rattle.gc_model.proofs.Hosts.{no_hosts-nil, hosts-none, holds-no_hosts}
 
 -- no position is placed
 abbrev pub nowhere : Placing
 nowhere position = None
 
 -- nothing was done with the store yet
-pub record IsUntouched (layouts : Layouts) (s : StoreView) : Type 0 where
+pub record IsUntouched {D : Type 0} (layouts : Layouts) (s : StoreView D) : Type 0 where
   pub types : s.types ≡ []
   pub scoped : s.scoped ≡ []
   pub generation : s.generation ≡ 0
@@ -38,15 +39,15 @@ pub record IsUntouched (layouts : Layouts) (s : StoreView) : Type 0 where
   pub owned : OwnedBy nowhere 0 s.owns [] s.owned
   pub pending : s.pending ≡ 0
   pub funcs : s.funcs ≡ []
-  pub no_hosts : s.hosts ≡ 0
+  pub no_hosts : s.hosts ≡ empty
 
-start_by_kind : (D : Type 0) (layouts k : Layouts) (s : StoreView) → layouts ≡ k → IsUntouched layouts s → KindHolds {D = D} k (start s.first s.max_scoped s.max_owned) nowhere s.heap
+start_by_kind : (D : Type 0) (layouts k : Layouts) (s : StoreView D) → layouts ≡ k → IsUntouched layouts s → KindHolds {D = D} k (start s.first s.max_scoped s.max_owned) nowhere s.heap
 start_by_kind D layouts Null s is untouched = record { all_held = λ position h. absurd (omega arith); allocated = ap (λ n. n + 1) (untouched.allocated is) }
 start_by_kind D layouts Counting s is untouched = tt
 start_by_kind D layouts Copying s is untouched = tt
 
 -- such a store holds the empty table with its numbers
-pub holds_untouched : (D : Type 0) (layouts : Layouts) (s : StoreView) → IsUntouched layouts s → Holds {D = D} layouts s (start s.first s.max_scoped s.max_owned) nowhere
+pub holds_untouched : (D : Type 0) (layouts : Layouts) (s : StoreView D) → IsUntouched layouts s → Holds {D = D} layouts s (start s.first s.max_scoped s.max_owned) nowhere
 holds_untouched D layouts s untouched = record {
   types = untouched.types;
   settings = record { first = refl; max_scoped = refl; max_owned = refl; first_fits = untouched.first_fits; few_roots = untouched.few_roots };
@@ -66,8 +67,8 @@ holds_untouched D layouts s untouched = record {
   owned = untouched.owned;
   pending = untouched.pending;
   funcs = untouched.funcs;
-  no_hosts = untouched.no_hosts;
-  nothing_else = record { owns = refl; frames = refl; globals = refl; owned = refl; pending = refl; funcs = refl; blocks = refl };
+  hosts = hosts-none [] nowhere s.heap.content s.hosts (no_hosts-nil {D = D} [] refl) untouched.no_hosts;
+  nothing_else = record { owns = refl; frames = refl; globals = refl; owned = refl; pending = refl; funcs = refl; blocks = refl; hosts = no_hosts-nil {D = D} [] refl };
   only_built = λ ty fields e. absurd (none-some fields e);
 }
 
@@ -77,7 +78,7 @@ untouched_allocated Counting t place heap none kind is = absurd (cc)
 untouched_allocated Copying t place heap none kind is = absurd (cc)
 
 -- a store that holds some table, and shows no type, root, generation or memory, is untouched
-pub untouched_from_parts : {D : Type 0} (layouts : Layouts) (s : StoreView) (t : Table D) (place : Placing) → Holds layouts s t place → s.types ≡ [] → s.scoped ≡ [] → s.generation ≡ 0 → s.heap.attached ≡ false → IsUntouched layouts s
+pub untouched_from_parts : {D : Type 0} (layouts : Layouts) (s : StoreView D) (t : Table D) (place : Placing) → Holds layouts s t place → s.types ≡ [] → s.scoped ≡ [] → s.generation ≡ 0 → s.heap.attached ≡ false → IsUntouched layouts s
 untouched_from_parts layouts s t place holds no_types no_roots first_generation unmade =
     let nothing = holds.nothing_else in
     let not_made : t.made ≡ false = sym holds.memory.made ∙ unmade in
@@ -98,16 +99,16 @@ untouched_from_parts layouts s t place holds no_types no_roots first_generation 
           (subst (λ (os : List Owned). OwnedBy nowhere t.owns s.owns os s.owned) nothing.owned (owned-none place nowhere t.owns s.owns t.owned s.owned nothing.owned holds.owned));
       pending = subst (λ (r : Option Reference). PendingBy place r s.pending) nothing.pending holds.pending;
       funcs = holds.funcs ∙ nothing.funcs;
-      no_hosts = holds.no_hosts;
+      no_hosts = holds-no_hosts layouts s t place holds;
     }
 
 -- a store that holds the empty table is untouched
-pub untouched_from_start : (D : Type 0) (layouts : Layouts) (s : StoreView) (place : Placing) → Holds {D = D} layouts s (start s.first s.max_scoped s.max_owned) place → IsUntouched layouts s
+pub untouched_from_start : (D : Type 0) (layouts : Layouts) (s : StoreView D) (place : Placing) → Holds {D = D} layouts s (start s.first s.max_scoped s.max_owned) place → IsUntouched layouts s
 untouched_from_start D layouts s place holds =
     untouched_from_parts layouts s (start s.first s.max_scoped s.max_owned) place holds holds.types (nil_from_length s.scoped holds.scoped.same_count) holds.scopes.generation holds.memory.made
 
 -- what is seen of a new store is untouched
-pub untouched_new : (layouts : Layouts) (engine number first max_scoped max_owned : ℕ) (alloc_counter : Option ℕ) → first ≤ max_pages → max_scoped ≤ 2 ^ 31 → IsUntouched layouts (empty_store engine number first max_scoped max_owned alloc_counter)
+pub untouched_new : {D : Type 0} (layouts : Layouts) (engine number first max_scoped max_owned : ℕ) (alloc_counter : Option ℕ) → first ≤ max_pages → max_scoped ≤ 2 ^ 31 → IsUntouched {D = D} layouts (empty_store engine number first max_scoped max_owned alloc_counter)
 untouched_new layouts engine number first max_scoped max_owned alloc_counter few few_roots = record {
   types = refl;
   scoped = refl;

@@ -18,12 +18,13 @@ use Rattle.gc_view.specs.Sizes.{stored_size}
 use Rattle.gc_view.specs.Bytes.{put_bytes}
 use Rattle.gc_view.specs.Heaps.{HeapView, HeapObject}
 use Rattle.gc_model.specs.Stores.{StoreView}
-use Rattle.gc_model.specs.Holds.{Placing, Holds, KindHolds, HeldAt, Stands, StructStands, ValuesLie, ObjectsHold}
+use Rattle.gc_model.specs.Holds.{Placing, Holds, KindHolds, HeldAt, Stands, StructStands, ValuesLie, ObjectsHold, NoHostObjects}
 use Rattle.gc_model.specs.Encoded.{IsEncoded}
 use Rattle.gc_view.proofs.ByteLemmas.{length-put_bytes}
 use Rattle.gc_model.proofs.Changes.{length-change_at, slice_get-change_at_same, slice_get-change_at_other, slice_get-set_same, slice_get-set_other, next_after-with_value}
 use Rattle.gc_model.proofs.FieldsLie.{IsField, field_within, other_lies, written_lies}
 use Rattle.gc_model.proofs.HoldsParts.{heap_changed}
+use Rattle.gc_model.proofs.Hosts.{no_hosts-write, hosts-moved, nothing-objects}
 use Rattle.gc_view.proofs.Layouts.{stored_size-le}
 
 -- What a write of some bytes to an object's data left of a heap.
@@ -76,7 +77,7 @@ stands-write layouts types place ty values h fields index field layout v ws stan
       values_lie = values_lie-write place (struct_base layouts) fields values h.bytes index field layout v ws lie is encoded room;
     }
 
-module _ {D : Type 0} (layouts : Layouts) (s : StoreView) (t : Table D) (place : Placing) (heap : HeapView) (word position index : ℕ) (v : Value) (ty : ℕ) (values : List Value) (fields : List FieldType) (field : FieldType) (layout : FieldLayout) (ws : List ℕ) (holds : Holds layouts s t place) (placed : place position ≡ Some word) (object : slice_get t.objects position ≡ Some (struct ty values)) (declared : struct_fields_at t.types ty ≡ Some fields) (is : IsField (struct_base layouts) fields index field layout) (encoded : IsEncoded place field.element_type v ws) (written : IsWrittenObject s.heap heap word (layout.offset - struct_base layouts) ws) where
+module _ {D : Type 0} (layouts : Layouts) (s : StoreView D) (t : Table D) (place : Placing) (heap : HeapView) (word position index : ℕ) (v : Value) (ty : ℕ) (values : List Value) (fields : List FieldType) (field : FieldType) (layout : FieldLayout) (ws : List ℕ) (holds : Holds layouts s t place) (placed : place position ≡ Some word) (object : slice_get t.objects position ≡ Some (struct ty values)) (declared : struct_fields_at t.types ty ≡ Some fields) (is : IsField (struct_base layouts) fields index field layout) (encoded : IsEncoded place field.element_type v ws) (written : IsWrittenObject s.heap heap word (layout.offset - struct_base layouts) ws) where
   -- the struct that was written
   held_here : HeldAt layouts (write position index v t) place heap.content position word
   held_here =
@@ -141,6 +142,9 @@ module _ {D : Type 0} (layouts : Layouts) (s : StoreView) (t : Table D) (place :
   written_by_kind Counting kind = tt
   written_by_kind Copying kind = tt
 
+  no_hosts : NoHostObjects (write position index v t).objects
+  no_hosts = no_hosts-write position index v t.objects holds.nothing_else.hosts
+
   pub holds_write : Holds layouts (record s { heap = heap }) (write position index v t) place
   holds_write =
       heap_changed holds
@@ -152,3 +156,5 @@ module _ {D : Type 0} (layouts : Layouts) (s : StoreView) (t : Table D) (place :
       })
       objects
       (written_by_kind layouts holds.by_kind)
+      (hosts-moved t.objects (write position index v t).objects place place s.heap.content heap.content s.hosts holds.nothing_else.hosts no_hosts holds.hosts)
+      (nothing-objects holds.nothing_else no_hosts)

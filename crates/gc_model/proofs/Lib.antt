@@ -3,6 +3,7 @@ pub mod Types
 pub mod Placings
 pub mod RootsMoved
 pub mod HoldsParts
+pub mod Hosts
 pub mod HoldsStart
 pub mod HoldsDeclare
 pub mod HoldsHeap

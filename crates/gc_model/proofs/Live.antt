@@ -4,7 +4,7 @@ use Rattle.std.specs.List.{slice_get}
 use Rattle.std.proofs.lemmas.Grind.{common_steps}
 use Rattle.std.proofs.lemmas.Option.{none-some, slice_get_within, slice_get_cases}
 use Rattle.gc_types.specs.declared.kind.Layouts.{Layouts}
-use Rattle.gc_model.specs.declared.RootEntry.{RootEntry}
+use Rattle.gc_owner.specs.declared.entry.RootEntry.{RootEntry}
 use Rattle.gc_model.specs.Values.{Reference}
 use Rattle.gc_model.specs.Table.{Table, Scoped, Push}
 use Rattle.gc_model.specs.Live.{rooted, rooted_among}
@@ -46,7 +46,7 @@ rooted_among-none serial (x ∷ roots) differ =
     let test : eqb x.serial serial ≡ false = grind (arith, common_steps) in
     ap (λ b. cond b (Some x.reference) (rooted_among serial roots)) test ∙ below
 
-module _ {D : Type 0} (layouts : Layouts) (s : StoreView) (t : Table D) (place : Placing) (holds : Holds layouts s t place) (serial : ℕ) (push : Push) (pushed : slice_get t.pushes serial ≡ Some push) where
+module _ {D : Type 0} (layouts : Layouts) (s : StoreView D) (t : Table D) (place : Placing) (holds : Holds layouts s t place) (serial : ℕ) (push : Push) (pushed : slice_get t.pushes serial ≡ Some push) where
   -- the entry that stands beside a root of the table
   entry_at : (i : ℕ) (root : Scoped) → slice_get t.scoped i ≡ Some root → (entry : RootEntry) × (slice_get s.scoped i ≡ Some entry)
   entry_at i root e =
@@ -87,7 +87,7 @@ module _ {D : Type 0} (layouts : Layouts) (s : StoreView) (t : Table D) (place :
       differs entry.0 (ap (slice_get s.scoped) (sym (ap (λ (p : Push). p.index) is)) ∙ entry.1) (ap (λ (p : Push). p.generation) is))
 
 -- an entry of the store stands beside a root of the table
-pub entry_stands : {D : Type 0} (layouts : Layouts) (s : StoreView) (t : Table D) (place : Placing) → Holds layouts s t place → (i : ℕ) (entry : RootEntry) → slice_get s.scoped i ≡ Some entry → (root : Scoped) × ((slice_get t.scoped i ≡ Some root) × EntryStands t place i entry root)
+pub entry_stands : {D : Type 0} (layouts : Layouts) (s : StoreView D) (t : Table D) (place : Placing) → Holds layouts s t place → (i : ℕ) (entry : RootEntry) → slice_get s.scoped i ≡ Some entry → (root : Scoped) × ((slice_get t.scoped i ≡ Some root) × EntryStands t place i entry root)
 entry_stands layouts s t place holds i entry e =
     elim ((slice_get_cases t.scoped i).1) [
       | inl found ↦ (found.0, (found.2, holds.scoped.each i entry found.0 e found.2))
@@ -104,7 +104,7 @@ rooted_among-some serial (x ∷ roots) r e =
     ] e
 
 -- what a live root names has a word, which is not null
-pub rooted_word : {D : Type 0} (layouts : Layouts) (s : StoreView) (t : Table D) (place : Placing) → Holds layouts s t place → (serial : ℕ) (r : Reference) → rooted t serial ≡ Some r → (word : ℕ) × (IsWord place r word × (0 < word))
+pub rooted_word : {D : Type 0} (layouts : Layouts) (s : StoreView D) (t : Table D) (place : Placing) → Holds layouts s t place → (serial : ℕ) (r : Reference) → rooted t serial ≡ Some r → (word : ℕ) × (IsWord place r word × (0 < word))
 rooted_word layouts s t place holds serial r live =
     let found = rooted_among-some serial t.scoped r live in
     let entry : (e : RootEntry) × (slice_get s.scoped found.0 ≡ Some e) =

@@ -8,8 +8,8 @@ use Rattle.gc_types.specs.declared.value.HeapType.{HeapType}
 use Rattle.gc_types.specs.declared.value.HeapType.TheVariants as heap
 use Rattle.gc_types.specs.Values.{heap_top}
 use Rattle.gc_types.specs.Layouts.{storage_width, is_gc_storage, is_gc_heap_type}
-use Rattle.gc_model.specs.declared.GcClass.{GcClass}
-use Rattle.gc_model.specs.declared.GcClass.TheVariants.{Any}
+use Rattle.gc_owner.specs.declared.entry.GcClass.{GcClass}
+use Rattle.gc_owner.specs.declared.entry.GcClass.TheVariants.{Any}
 use Rattle.gc_model.specs.Values.{NumberKind, i32, i64, Value, numeric, function, reference, Reference}
 use Rattle.gc_model.specs.Words.{Placing, IsWord}
 use Rattle.gc_model.specs.Fits.{is_any, is_built_value, is_built_storage, fits, is_i32, is_i64, is_any_reference}

@@ -3,11 +3,13 @@ use Rattle.std.proofs.Common.{◌≡◌, ℕ, List, [], Some, None, Option, sym,
 use Rattle.std.specs.List.{slice_get}
 use Rattle.std.specs.Prelude.{replicate}
 use Rattle.std.proofs.lemmas.Option.{none-some}
-use Rattle.gc_model.specs.declared.RootEntry.{RootEntry}
-use Rattle.gc_model.specs.declared.SlotEntry.{SlotEntry}
+use Rattle.gc_owner.specs.declared.entry.RootEntry.{RootEntry}
+use Rattle.gc_owner.specs.declared.entry.SlotEntry.{SlotEntry}
 use Rattle.gc_model.specs.Values.{Reference}
 use Rattle.gc_model.specs.Table.{Slot, Owned, Scoped, Push, empty_slot, global_count}
-use Rattle.gc_model.specs.Stores.{OwnedEntry, empty_entry, unset_globals}
+use Rattle.gc_model.specs.Stores.{unset_globals}
+use Rattle.gc_owner.specs.RootColumns.{empty_slot as empty_entry}
+use Rattle.gc_owner.specs.declared.entry.OwnedEntry.{OwnedEntry}
 use Rattle.gc_model.specs.Words.{Placing, IsWord}
 use Rattle.gc_model.specs.RootPoints.{ScopedBy, SlotBy, SlotsBy, FramesBy, GlobalsBy, OwnedBy, PendingBy}
 use Rattle.gc_model.proofs.Placings.{IsWithin, is_word-more}

@@ -5,8 +5,8 @@ use Rattle.std.specs.Prelude.{slice_set}
 use Rattle.std.proofs.lemmas.Bool.{cases_eq}
 use Rattle.std.proofs.lemmas.List.{length-set}
 use Rattle.std.proofs.lemmas.Option.{slice_get_within}
-use Rattle.gc_model.specs.declared.GcClass.{GcClass}
-use Rattle.gc_model.specs.declared.SlotEntry.{SlotEntry}
+use Rattle.gc_owner.specs.declared.entry.GcClass.{GcClass}
+use Rattle.gc_owner.specs.declared.entry.SlotEntry.{SlotEntry}
 use Rattle.gc_model.specs.Values.{Reference}
 use Rattle.gc_model.specs.Table.{Slot}
 use Rattle.gc_model.specs.Words.{Placing, IsWord}

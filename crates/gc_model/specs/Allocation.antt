@@ -8,15 +8,10 @@ use Rattle.gc_model.specs.Values.{Object}
 use Rattle.gc_model.specs.Table.{Table, make, make_heap, made_pages, with_pages}
 use Rattle.gc_view.specs.Sizes.{alignment, need_of}
 pub use Rattle.gc_view.specs.Sizes.{too_large}
+pub use Rattle.gc_owner.specs.Limiters.{Limits, MayHave, MayRefuse}
+pub use Rattle.gc_owner.specs.Growing.{pages_for, asked, MayGrow}
 use Rattle.gc_model.specs.Sizes.{object_size, rounded_size, next_place}
 use Rattle.gc_model.specs.Reach.{IsReached, AreAll}
-
--- what a limiter tells: the greatest number of pages that it grants, where it tells it; how many
--- asks it refused; and the last of these, as pages before and after
-pub record Limits : Type 0 where
-  pub limit : Option ℕ
-  pub refusals : ℕ
-  pub last_refused : Option (ℕ × ℕ)
 
 -- a count of 64 bits rose, or stands at its greatest value
 abbrev pub Rose : ℕ → ℕ → Type 0
@@ -53,23 +48,6 @@ LacksFit Null t size = Fits t size → ⊥
 LacksFit Counting t size = Unit {0}
 LacksFit Copying t size = HasRoom t size → ⊥
 
--- the pages that hold so many bytes
-abbrev pub pages_for : ℕ → ℕ
-pages_for bytes = (bytes + (page - 1)) / page
-
--- The pages that a growth by so many bytes asks for: as many as there are, as far as the greatest number
--- allows, and no fewer than hold the bytes.
-abbrev pub asked : ℕ → ℕ → ℕ
-asked pages bytes = max (min pages (max_pages - pages)) (pages_for bytes)
-
--- a limit grants so many pages, where it is told
-abbrev pub MayHave : Option ℕ → ℕ → Type 0
-MayHave limit pages = IfSome limit (λ most. pages ≤ most)
-
--- a limit refuses so many pages, where it is told
-abbrev pub MayRefuse : Option ℕ → ℕ → Type 0
-MayRefuse limit pages = IfSome limit (λ most. most < pages)
-
 -- The first pages may be had: the heap is made, or a limit that is told grants them.
 abbrev pub MayMakeHeap : {D : Type 0} → Option ℕ → Table D → Type 0
 MayMakeHeap limit t = t.made ≡ false → MayHave limit t.first
@@ -79,11 +57,6 @@ pub record IsRefusedHeap {D : Type 0} (limit : Option ℕ) (t : Table D) : Type 
   pub unmade : t.made ≡ false
   pub wanted : 0 < t.first
   pub above : MayRefuse limit t.first
-
--- A growth by so many bytes may be had by a heap of so many pages.
-pub record MayGrow (limit : Option ℕ) (pages bytes : ℕ) : Type 0 where
-  pub within : pages + asked pages bytes ≤ max_pages
-  pub granted : MayHave limit (pages + asked pages bytes)
 
 -- A growth by so many bytes was refused of a heap of so many pages: it would pass the greatest number of
 -- pages, or a limit that is told is below.

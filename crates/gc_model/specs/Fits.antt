@@ -7,8 +7,8 @@ use Rattle.gc_types.specs.declared.value.ValType.{ValType}
 use Rattle.gc_types.specs.declared.value.ValType.TheVariants as val
 use Rattle.gc_types.specs.declared.value.HeapType.{HeapType}
 use Rattle.gc_types.specs.declared.value.HeapType.TheVariants as heap
-use Rattle.gc_model.specs.declared.GcClass.{GcClass}
-use Rattle.gc_model.specs.declared.GcClass.TheVariants.{Any, Extern, Exn}
+use Rattle.gc_owner.specs.declared.entry.GcClass.{GcClass}
+use Rattle.gc_owner.specs.declared.entry.GcClass.TheVariants.{Any, Extern, Exn}
 use Rattle.gc_model.specs.Values.{i32, i64, Value, numeric, reference}
 
 -- the heap type of every reference of class Any

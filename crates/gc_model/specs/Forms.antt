@@ -11,8 +11,8 @@ use Rattle.gc_types.specs.declared.value.HeapTopType.{HeapTopType}
 use Rattle.gc_types.specs.declared.value.HeapTopType.TheVariants as top
 use Rattle.gc_types.specs.Values.{heap_top}
 use Rattle.gc_types.specs.Layouts.{storage_width}
-use Rattle.gc_model.specs.declared.GcClass.{GcClass}
-use Rattle.gc_model.specs.declared.GcClass.TheVariants.{Any, Extern, Exn}
+use Rattle.gc_owner.specs.declared.entry.GcClass.{GcClass}
+use Rattle.gc_owner.specs.declared.entry.GcClass.TheVariants.{Any, Extern, Exn}
 use Rattle.gc_model.specs.Values.{NumberKind, i32, i64, f32, f64, v128, Value, numeric, function, reference}
 use Rattle.gc_model.specs.Words.{Placing, IsWord}
 

@@ -1,6 +1,6 @@
 -- Globals are roots: setting one and reading it.
 use Rattle.std.specs.Prelude.{ℕ, Option, slice_get, slice_set}
-use Rattle.gc_model.specs.declared.GcClass.{GcClass}
+use Rattle.gc_owner.specs.declared.entry.GcClass.{GcClass}
 use Rattle.gc_model.specs.Values.{Reference}
 use Rattle.gc_model.specs.Table.{Table, Slot}
 

@@ -11,7 +11,7 @@ use Rattle.gc_types.specs.Declarations.{Declaration, struct_fields_at}
 use Rattle.gc_types.specs.Layouts.{struct_base, field_layouts, fields_end}
 use Rattle.gc_model.specs.Values.{Reference, Value, Object, struct, array, host, exception}
 use Rattle.gc_model.specs.Fits.{is_built_field}
-use Rattle.gc_model.specs.Reach.{IsKept}
+use Rattle.gc_model.specs.Reach.{IsKept, IsHost}
 use Rattle.gc_types.specs.declared.value.Func.{Func}
 use Rattle.gc_model.specs.Table.{Table, Scoped, Push, Slot, Owned, Block, empty_slot, global_count}
 pub use Rattle.gc_model.specs.Words.{Placing, IsWord}
@@ -19,11 +19,13 @@ pub use Rattle.gc_model.specs.Encoded.{Lies}
 pub use Rattle.gc_model.specs.RootPoints.{EntryBy, ScopedBy, IsPastBy, PushesBy, SlotBy, SlotsBy, FramesBy, GlobalsBy, OwnedRootBy, OwnedBy, PendingBy}
 use Rattle.gc_view.specs.Sizes.{stored_size}
 use Rattle.gc_model.specs.Sizes.{next_after}
+pub use Rattle.gc_model.specs.Standing.{HostStands, IsHostAt, HasHostValue, HostsBy}
 use Rattle.gc_view.specs.Pages.{page, max_pages}
-use Rattle.gc_model.specs.declared.RootEntry.{RootEntry}
+use Rattle.gc_owner.specs.declared.entry.RootEntry.{RootEntry}
 use Rattle.gc_view.specs.Heaps.{HeapObject, HeapView}
-use Rattle.gc_model.specs.declared.SlotEntry.{SlotEntry}
-use Rattle.gc_model.specs.Stores.{StoreView, OwnedEntry}
+use Rattle.gc_owner.specs.declared.entry.SlotEntry.{SlotEntry}
+use Rattle.gc_model.specs.Stores.{StoreView}
+use Rattle.gc_owner.specs.declared.entry.OwnedEntry.{OwnedEntry}
 
 -- each value lies at its field's offset, which counts from the object's header on
 pub record ValuesLie (place : Placing) (base : ℕ) (fields : List FieldType) (values : List Value) (bytes : List ℕ) : Type 0 where
@@ -102,8 +104,12 @@ pub record BlocksBy (place : Placing) (blocks : List Block) : Type 0 where
   pub each : (i : ℕ) (block : Block) → slice_get blocks i ≡ Some block → place block.position ≡ Some block.place
   pub all : (position word : ℕ) → place position ≡ Some word → (i : ℕ) × (slice_get blocks i ≡ Some (record { position = position; place = word }))
 
+-- none of these objects is a host object
+abbrev pub NoHostObjects : {D : Type 0} → List (Object D) → Type 0
+NoHostObjects objects = (position : ℕ) → ¬ IsHost (slice_get objects position)
+
 -- What no call makes yet is empty: one line each.
-pub record NotBuilt (made : ℕ) (slots : List (List Slot)) (set : List Slot) (roots : List Owned) (exception : Option Reference) (functions : List (Option Func)) (held : List Block) : Type 0 where
+pub record NotBuilt {D : Type 0} (made : ℕ) (slots : List (List Slot)) (set : List Slot) (roots : List Owned) (exception : Option Reference) (functions : List (Option Func)) (held : List Block) (objects : List (Object D)) : Type 0 where
   pub owns : made ≡ 0
   pub frames : slots ≡ []
   pub globals : set ≡ replicate global_count empty_slot
@@ -111,6 +117,7 @@ pub record NotBuilt (made : ℕ) (slots : List (List Slot)) (set : List Slot) (r
   pub pending : exception ≡ None
   pub funcs : functions ≡ []
   pub blocks : held ≡ []
+  pub hosts : NoHostObjects objects
 
 -- the fields of every struct type are of types that are built
 abbrev pub OnlyBuilt : List Declaration → Type 0
@@ -118,7 +125,7 @@ OnlyBuilt types = (ty : ℕ) (fields : List FieldType) → struct_fields_at type
 
 -- A fact at each point: as the types of the facts are parameters, a change of one part of a store hands the
 -- other points on as they are.
-pub record Points (Types Settings Memory Objects Kind Scopes Scoped Pushes Frames Globals Owned Pending Functions NoHosts Nothing Built : Type 0) : Type 0 where
+pub record Points (Types Settings Memory Objects Kind Scopes Scoped Pushes Frames Globals Owned Pending Functions Hosts Nothing Built : Type 0) : Type 0 where
   pub types : Types
   pub settings : Settings
   pub memory : Memory
@@ -132,7 +139,7 @@ pub record Points (Types Settings Memory Objects Kind Scopes Scoped Pushes Frame
   pub owned : Owned
   pub pending : Pending
   pub funcs : Functions
-  pub no_hosts : NoHosts
+  pub hosts : Hosts
   pub nothing_else : Nothing
   pub only_built : Built
 
@@ -150,13 +157,13 @@ module _ {D : Type 0} where
   abbrev pub KindHolds : Layouts → Table D → Placing → HeapView → Type 0
   KindHolds layouts t place heap = KindBy layouts t.types t.objects place heap.allocated
 
-  abbrev pub SettingsHold : StoreView → Table D → Type 0
+  abbrev pub SettingsHold : StoreView D → Table D → Type 0
   SettingsHold s t = SettingsBy s.first t.first s.max_scoped t.max_scoped s.max_owned t.max_owned
 
-  abbrev pub MemoryHolds : StoreView → Table D → Type 0
+  abbrev pub MemoryHolds : StoreView D → Table D → Type 0
   MemoryHolds s t = MemoryBy s.heap.attached s.heap.capacity t.made t.pages t.objects
 
-  abbrev pub ScopesHold : StoreView → Table D → Type 0
+  abbrev pub ScopesHold : StoreView D → Table D → Type 0
   ScopesHold s t = ScopesBy s.generation t.drops (length t.scoped) t.max_scoped
 
   abbrev pub EntryStands : Table D → Placing → ℕ → RootEntry → Scoped → Type 0
@@ -183,11 +190,14 @@ module _ {D : Type 0} where
   abbrev pub PendingHolds : Table D → Placing → ℕ → Type 0
   PendingHolds t place word = PendingBy place t.pending word
 
+  abbrev pub HostsHold : Table D → Placing → HeapView → map.FinMap nat_cmp D → Type 0
+  HostsHold t place heap hosts = HostsBy t.objects place heap.content hosts
+
   abbrev pub NothingElse : Table D → Type 0
-  NothingElse t = NotBuilt t.owns t.frames t.globals t.owned t.pending t.funcs t.blocks
+  NothingElse t = NotBuilt t.owns t.frames t.globals t.owned t.pending t.funcs t.blocks t.objects
 
   -- the store holds the table under that placing
-  abbrev pub Holds : Layouts → StoreView → Table D → Placing → Type 0
+  abbrev pub Holds : Layouts → StoreView D → Table D → Placing → Type 0
   Holds layouts s t place = Points
       (s.types ≡ t.types)
       (SettingsHold s t)
@@ -202,14 +212,14 @@ module _ {D : Type 0} where
       (OwnedHold t place s.owns s.owned)
       (PendingHolds t place s.pending)
       (s.funcs ≡ t.funcs)
-      (s.hosts ≡ 0)
+      (HostsHold t place s.heap s.hosts)
       (NothingElse t)
       (OnlyBuilt t.types)
 
 -- the store holds the table, wherever its objects lie
-abbrev pub HoldsTable : {D : Type 0} → Layouts → StoreView → Table D → Type 0
+abbrev pub HoldsTable : {D : Type 0} → Layouts → StoreView D → Table D → Type 0
 HoldsTable layouts s t = (place : Placing) × Holds layouts s t place
 
 -- the same, and the heap holds no other object than a collection would keep
-abbrev pub HoldsKept : {D : Type 0} → Layouts → StoreView → Table D → Type 0
+abbrev pub HoldsKept : {D : Type 0} → Layouts → StoreView D → Table D → Type 0
 HoldsKept layouts s t = (place : Placing) × (Holds layouts s t place × ((p word : ℕ) → place p ≡ Some word → IsKept layouts t p))

@@ -11,8 +11,8 @@ use Rattle.gc_types.specs.declared.value.ValType.TheVariants as val
 use Rattle.gc_types.specs.Declarations.{Declaration}
 use Rattle.gc_types.specs.Subtyping.{MatchesHeap, supertypes_of}
 use Rattle.gc_types.specs.Values.{heap_top}
-use Rattle.gc_model.specs.declared.GcClass.{GcClass}
-use Rattle.gc_model.specs.declared.GcClass.TheVariants.{Any, Extern, Exn}
+use Rattle.gc_owner.specs.declared.entry.GcClass.{GcClass}
+use Rattle.gc_owner.specs.declared.entry.GcClass.TheVariants.{Any, Extern, Exn}
 use Rattle.gc_model.specs.Values.{Reference, null, small, at, i32, i64, f32, f64, v128, Value, numeric, function, reference, Object, struct, array, host, exception}
 use Rattle.gc_model.specs.Table.{Table}
 use Rattle.gc_model.specs.Forms.{top_form, function_of, reference_of}

@@ -1,11 +1,11 @@
 -- The roots of a store are the table's, in order: scoped ones, slots of frames, globals, owned ones and the
 -- pending exception. Each point speaks of its own part of the table alone.
 use Rattle.std.specs.Prelude.{◌≡◌, ℕ, ◌-◌, ◌^◌, ◌<◌, ◌⊎◌, List, Option, Some, None, length, slice_get}
-use Rattle.gc_model.specs.declared.RootEntry.{RootEntry}
-use Rattle.gc_model.specs.declared.SlotEntry.{SlotEntry}
+use Rattle.gc_owner.specs.declared.entry.RootEntry.{RootEntry}
+use Rattle.gc_owner.specs.declared.entry.SlotEntry.{SlotEntry}
 use Rattle.gc_model.specs.Values.{Reference}
 use Rattle.gc_model.specs.Table.{Scoped, Push, Slot, Owned, global_count}
-use Rattle.gc_model.specs.Stores.{OwnedEntry}
+use Rattle.gc_owner.specs.declared.entry.OwnedEntry.{OwnedEntry}
 use Rattle.gc_model.specs.Words.{Placing, IsWord}
 
 -- a scoped root of the store is the table's: its push, and its word, which is not null

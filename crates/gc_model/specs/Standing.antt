@@ -46,36 +46,41 @@ pub record ExceptionStands (layouts : Layouts) (types : List Declaration) (names
   pub index : u32_at h.bytes 4 ≡ tag.index
   pub stands : ShapeStands layouts types names kinds.Exn ty values h
 
--- an external object of a heap: the host table has its value under the id that is one below the number in it
-pub record HostStands {D : Type 0} (hosts : map.FinMap nat_cmp D) (value : D) (h : HeapObject) : Type 0 where
+-- an external object of a heap: the number in it is one above the id of its host value
+pub record HostStands (id : ℕ) (h : HeapObject) : Type 0 where
   pub kind : h.kind ≡ ExternRef
-  pub id : ℕ
   pub id_is : u32_at h.bytes 0 ≡ id + 1
-  pub held : map.get hosts id ≡ Some value
 
 -- a struct of a heap
 pub record StructStandsIn (layouts : Layouts) (types : List Declaration) (names : Names) (ty : ℕ) (values : List Value) (h : HeapObject) : Type 0 where
   pub kind : h.kind ≡ StructRef
   pub stands : ShapeStands layouts types names kinds.Struct ty values h
 
--- an object of a heap stands for one of the table
-abbrev pub StandsFor : {D : Type 0} → Layouts → List Declaration → Names → map.FinMap nat_cmp D → Object D → HeapObject → Type 0
-StandsFor layouts types names hosts (struct ty values) h = StructStandsIn layouts types names ty values h
-StandsFor layouts types names hosts (array ty values) h = ArrayStands layouts types names ty values h
-StandsFor layouts types names hosts (host value) h = HostStands hosts value h
-StandsFor layouts types names hosts (exception ty tag values) h = ExceptionStands layouts types names ty tag values h
+-- An object of a heap stands for one of the table. Which value a host object has is told by the host table (`HostsBy`).
+abbrev pub StandsFor : {D : Type 0} → Layouts → List Declaration → Names → Object D → HeapObject → Type 0
+StandsFor layouts types names (struct ty values) h = StructStandsIn layouts types names ty values h
+StandsFor layouts types names (array ty values) h = ArrayStands layouts types names ty values h
+StandsFor layouts types names (host value) h = (id : ℕ) × HostStands id h
+StandsFor layouts types names (exception ty tag values) h = ExceptionStands layouts types names ty tag values h
 
--- an external object with that id is placed there
-pub record IsHostAt (place : Placing) (content : map.FinMap nat_cmp HeapObject) (id word : ℕ) : Type 0 where
-  pub position : ℕ
-  pub placed : place position ≡ Some word
+-- the host object of that position and value is placed, and its id is this
+pub record IsHostAt {D : Type 0} (objects : List (Object D)) (place : Placing) (content : map.FinMap nat_cmp HeapObject) (position id : ℕ) (value : D) : Type 0 where
+  pub word : ℕ
   pub object : HeapObject
-  pub held : map.get content word ≡ Some object
-  pub kind : object.kind ≡ ExternRef
-  pub id_is : u32_at object.bytes 0 ≡ id + 1
+  pub in_table : slice_get objects position ≡ Some (host value)
+  pub placed : place position ≡ Some word
+  pub in_heap : map.get content word ≡ Some object
+  pub stands : HostStands id object
 
--- The host table has one entry for each external object that is placed, under the id in that object, and no other.
--- That each external object's value is there is what `HostStands` says.
-pub record HostsBy {D : Type 0} (place : Placing) (content : map.FinMap nat_cmp HeapObject) (hosts : map.FinMap nat_cmp D) : Type 0 where
-  pub all : (id : ℕ) (value : D) → map.get hosts id ≡ Some value → (word : ℕ) × IsHostAt place content id word
-  pub apart : (id word other : ℕ) → IsHostAt place content id word → IsHostAt place content id other → word ≡ other
+-- a host object that is placed has an id, under which its value stands in the host table
+pub record HasHostValue {D : Type 0} (objects : List (Object D)) (place : Placing) (content : map.FinMap nat_cmp HeapObject) (hosts : map.FinMap nat_cmp D) (position : ℕ) (value : D) : Type 0 where
+  pub id : ℕ
+  pub is_at : IsHostAt objects place content position id value
+  pub held : map.get hosts id ≡ Some value
+
+-- The host table has exactly one entry for each host object that is placed, under the id in that object, with its value:
+-- each has one, each entry is that of one, and no two have the same id.
+pub record HostsBy {D : Type 0} (objects : List (Object D)) (place : Placing) (content : map.FinMap nat_cmp HeapObject) (hosts : map.FinMap nat_cmp D) : Type 0 where
+  pub each : (position word : ℕ) (value : D) → place position ≡ Some word → slice_get objects position ≡ Some (host value) → HasHostValue objects place content hosts position value
+  pub only : (id : ℕ) (value : D) → map.get hosts id ≡ Some value → (position : ℕ) × IsHostAt objects place content position id value
+  pub apart : (p q id : ℕ) (v w : D) → IsHostAt objects place content p id v → IsHostAt objects place content q id w → p ≡ q

@@ -1,38 +1,29 @@
 -- What contracts see of a store.
 use Rattle.std.specs.Prelude.{ℕ, List, [], Option, replicate}
+use Rattle.std.specs.Ordering.{nat_cmp}
+use Rattle.std.specs.FinMap as map
 use Rattle.gc_types.specs.declared.value.Func.{Func}
 use Rattle.gc_types.specs.Declarations.{Declaration}
 use Rattle.gc_view.specs.Heaps.{HeapView, detached}
-use Rattle.gc_model.specs.declared.GcClass.TheVariants.{Any}
-use Rattle.gc_model.specs.declared.RootEntry.{RootEntry}
-use Rattle.gc_model.specs.declared.SlotEntry.{SlotEntry}
-use Rattle.gc_model.specs.Table.{global_count}
-
--- an owned root of a store: its id, how many were made before it, the word of what it names, and its handles
-pub record OwnedEntry : Type 0 where
-  pub id : ℕ
-  pub number : ℕ
-  pub word : ℕ
-  pub handles : ℕ
-
--- a slot that names nothing
-abbrev pub empty_entry : SlotEntry
-empty_entry = record { class = Any; word = 0 }
+use Rattle.gc_owner.specs.declared.entry.RootEntry.{RootEntry}
+use Rattle.gc_owner.specs.declared.entry.OwnedEntry.{OwnedEntry}
+use Rattle.gc_owner.specs.declared.entry.SlotEntry.{SlotEntry}
+use Rattle.gc_owner.specs.RootColumns.{global_count, empty_slot}
 
 -- the globals of which none was set
 abbrev pub unset_globals : List SlotEntry
-unset_globals = replicate global_count empty_entry
+unset_globals = replicate global_count empty_slot
 
--- A store: its id, its types, its heap, how many host values it has, its scoped roots, its generation,
+-- A store: its id, its types, its heap, its host values by their ids, its scoped roots, its generation,
 -- its frames and globals, its owned roots and how many were made, the word of the pending exception (0 where
 -- there is none), its function values by their ids, the bytes that were allocated after its last collection,
 -- how many allocations it counted, and its configuration.
-pub record StoreView : Type 0 where
+pub record StoreView (D : Type 0) : Type 0 where
   pub engine : ℕ
   pub number : ℕ
   pub types : List Declaration
   pub heap : HeapView
-  pub hosts : ℕ
+  pub hosts : map.FinMap nat_cmp D
   pub scoped : List RootEntry
   pub generation : ℕ
   pub frames : List (List SlotEntry)
@@ -49,13 +40,13 @@ pub record StoreView : Type 0 where
   pub alloc_counter : Option ℕ
 
 -- what is seen of a store with nothing in it
-abbrev pub empty_store : ℕ → ℕ → ℕ → ℕ → ℕ → Option ℕ → StoreView
+abbrev pub empty_store : {D : Type 0} → ℕ → ℕ → ℕ → ℕ → ℕ → Option ℕ → StoreView D
 empty_store engine number first max_scoped max_owned alloc_counter = record {
   engine = engine;
   number = number;
   types = [];
   heap = detached;
-  hosts = 0;
+  hosts = map.empty;
   scoped = [];
   generation = 0;
   frames = [];

@@ -2,9 +2,10 @@
 use Rattle.std.specs.Prelude.{ℕ, zero, suc, ◌+◌, ◌-◌, ◌^◌, min, nat_lt, Bool, true, false, List, [], ◌∷◌, ◌++◌, Option, None, length, replicate, take, slice_set, if◌then◌else◌}
 use Rattle.gc_types.specs.declared.value.Func.{Func}
 use Rattle.gc_types.specs.Declarations.{Declaration}
-use Rattle.gc_model.specs.declared.GcClass.{GcClass}
-use Rattle.gc_model.specs.declared.GcClass.TheVariants.{Any}
+use Rattle.gc_owner.specs.declared.entry.GcClass.{GcClass}
+use Rattle.gc_owner.specs.declared.entry.GcClass.TheVariants.{Any}
 use Rattle.gc_model.specs.Values.{Reference, null, at, Value, Object, struct, array, host, exception}
+pub use Rattle.gc_owner.specs.RootColumns.{global_count}
 
 -- a slot of a frame or a global
 pub record Slot : Type 0 where
@@ -53,10 +54,6 @@ pub record Table (D : Type 0) : Type 0 where
   pub first : ℕ
   pub max_scoped : ℕ
   pub max_owned : ℕ
-
--- how many globals there are
-abbrev pub global_count : ℕ
-global_count = 16
 
 abbrev pub empty_slot : Slot
 empty_slot = record { class = Any; reference = null }

@@ -6,12 +6,12 @@ use Rattle.gc_model.specs.Table.{Table}
 use Rattle.gc_view.specs.Sizes.{need_of}
 use Rattle.gc_view.specs.Pages.{max_pages}
 use Rattle.gc_model.specs.Allocation.{Limits, asked}
-use Rattle.gc_store.specs.Limiters.{Refuses}
-use Rattle.gc_store.specs.Growth.{AsksFirst, AsksPages}
-use Rattle.gc_store.specs.Growth as growth
-use Rattle.gc_store.specs.Retry.{Retry, at_once, after_collection, after_both, after_growth, after_refusal}
-use Rattle.gc_store.specs.Policy.{PolicyState, CollectsTable, GrowsTable, MakesTable, Prepares, Expands, table_after, table_made, table_rules}
-use Rattle.gc_store.specs.Policy as policy
+use Rattle.gc_owner.specs.Limiters.{Refuses}
+use Rattle.gc_owner.specs.Growing.{AsksFirst, AsksPages}
+use Rattle.gc_owner.specs.Growing as growth
+use Rattle.gc_owner.specs.Retry.{Retry, at_once, after_collection, after_both, after_growth, after_refusal}
+use Rattle.gc_policy.specs.Policy.{PolicyState, CollectsTable, GrowsTable, MakesTable, Prepares, Expands, table_after, table_made, table_rules}
+use Rattle.gc_policy.specs.Policy as policy
 
 -- A limiter was asked for nothing that it refused, which is so where all went well, or more pages would be more than
 -- a heap may have; or it refused more pages; or the first ones. The numbers are those of the heap afterwards.

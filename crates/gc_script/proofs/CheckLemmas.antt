@@ -51,13 +51,13 @@ cases_le_suc j i lt =
     ]
 
 -- The first values are checked: they may be stored, and whatever refusal there is comes from those left.
-pub record CheckedSoFar (layouts : Layouts) (store : StoreView) (ty : ℕ) (raws : List RawValue) (i : ℕ) : Type 0 where
+pub record CheckedSoFar (layouts : Layouts) (store : StoreView ℕ) (ty : ℕ) (raws : List RawValue) (i : ℕ) : Type 0 where
   pub stores : (fields : List FieldType) → struct_fields_at store.types ty ≡ Some fields → (j : ℕ) (field : FieldType) (r : RawValue) → j < i → slice_get fields j ≡ Some field → slice_get raws j ≡ Some r → CanStore ℕ layouts store field r
   pub passed : (fields : List FieldType) → struct_fields_at store.types ty ≡ Some fields → (s : State) (vs : List Operand) → HoldsTable layouts store s.table → AllHeld store s vs raws → first_failing (all_value_tests s fields vs) ≡ first_failing (all_value_tests s (drop i fields) (drop i vs))
   pub stand : (s : State) (vs : List Operand) → HoldsTable layouts store s.table → AllHeld store s vs raws → (j : ℕ) (r : RawValue) (v : Operand) → j < i → slice_get raws j ≡ Some r → slice_get vs j ≡ Some v → RawStands store s.table r (given_value (given s v))
 
 -- nothing is checked yet
-pub checked_none : (layouts : Layouts) (store : StoreView) (ty : ℕ) (raws : List RawValue) → CheckedSoFar layouts store ty raws 0
+pub checked_none : (layouts : Layouts) (store : StoreView ℕ) (ty : ℕ) (raws : List RawValue) → CheckedSoFar layouts store ty raws 0
 checked_none layouts store ty raws = record {
   stores = λ fields declared j field r lt e f. absurd (omega (arith, lt));
   passed = λ fields declared s vs holds all. refl;
@@ -65,7 +65,7 @@ checked_none layouts store ty raws = record {
 }
 
 -- the operand that a value is of
-hold_operand : (store : StoreView) (s : State) (vs : List Operand) (raws : List RawValue) (i : ℕ) (r : RawValue) → AllHeld store s vs raws → slice_get raws i ≡ Some r → (v : Operand) × ((slice_get vs i ≡ Some v) × Stands store s.table (Some r) (held_operand s v))
+hold_operand : (store : StoreView ℕ) (s : State) (vs : List Operand) (raws : List RawValue) (i : ℕ) (r : RawValue) → AllHeld store s vs raws → slice_get raws i ≡ Some r → (v : Operand) × ((slice_get vs i ≡ Some v) × Stands store s.table (Some r) (held_operand s v))
 hold_operand store s [] [] i r all e = absurd (none-some r e)
 hold_operand store s [] (x ∷ raws) i r all e = absurd all
 hold_operand store s (v ∷ vs) [] i r all e = absurd all
@@ -80,7 +80,7 @@ tests_here s fields vs i field v e f =
     ap (λ (fs : List FieldType). all_value_tests s fs (drop i vs)) (drop_here fields i field e)
     ∙ ap (all_value_tests s (field ∷ drop (suc i) fields)) (drop_here vs i v f)
 
-module _ (layouts : Layouts) (store : StoreView) (ty : ℕ) (raws : List RawValue) (i : ℕ) (so_far : CheckedSoFar layouts store ty raws i) (field : FieldType) (r : RawValue) (field_is : (fields : List FieldType) → struct_fields_at store.types ty ≡ Some fields → slice_get fields i ≡ Some field) (r_is : slice_get raws i ≡ Some r) where
+module _ (layouts : Layouts) (store : StoreView ℕ) (ty : ℕ) (raws : List RawValue) (i : ℕ) (so_far : CheckedSoFar layouts store ty raws i) (field : FieldType) (r : RawValue) (field_is : (fields : List FieldType) → struct_fields_at store.types ty ≡ Some fields → slice_get fields i ≡ Some field) (r_is : slice_get raws i ≡ Some r) where
   -- one more value passes
   pub checked_more : (done : Unit {0}) → CanStore ℕ layouts store field r → ((s : State) (v : Operand) → HoldsTable layouts store s.table → Stands store s.table (Some r) (held_operand s v) → ChecksValue store s field v r (Ok done)) → CheckedSoFar layouts store ty raws (suc i)
   checked_more done can checks = record {
@@ -133,7 +133,7 @@ no_field_missing types ty n i o counted lt is none =
     ]
 
 -- all values are checked, so the struct may be placed
-pub checked_place : (layouts : Layouts) (store : StoreView) (ty : ℕ) (raws : List RawValue) (i : ℕ) → option_map length (struct_fields_at store.types ty) ≡ Some (length raws) → length raws ≤ i → CheckedSoFar layouts store ty raws i → CanPlace ℕ layouts store ty raws
+pub checked_place : (layouts : Layouts) (store : StoreView ℕ) (ty : ℕ) (raws : List RawValue) (i : ℕ) → option_map length (struct_fields_at store.types ty) ≡ Some (length raws) → length raws ≤ i → CheckedSoFar layouts store ty raws i → CanPlace ℕ layouts store ty raws
 checked_place layouts store ty raws i counted all so_far =
     let fields = counted_fields (struct_fields_at store.types ty) (length raws) counted in
     record {
@@ -148,12 +148,12 @@ no_tests s [] = refl
 no_tests s (v ∷ vs) = refl
 
 -- the tests of the values, by the store's types
-value_tests_are : (layouts : Layouts) (store : StoreView) (s : State) (ty : ℕ) (fields : List FieldType) (vs : List Operand) → HoldsTable layouts store s.table → struct_fields_at store.types ty ≡ Some fields → struct_value_tests s ty vs ≡ all_value_tests s fields vs
+value_tests_are : (layouts : Layouts) (store : StoreView ℕ) (s : State) (ty : ℕ) (fields : List FieldType) (vs : List Operand) → HoldsTable layouts store s.table → struct_fields_at store.types ty ≡ Some fields → struct_value_tests s ty vs ≡ all_value_tests s fields vs
 value_tests_are layouts store s ty fields vs holds declared =
     ap (λ (ts : List Declaration). all_value_tests s (unwrap_or (struct_fields_at ts ty) []) vs) (sym holds.1.types)
     ∙ ap (λ (o : Option (List FieldType)). all_value_tests s (unwrap_or o []) vs) declared
 
-module _ (layouts : Layouts) (store : StoreView) (ty : ℕ) (raws : List RawValue) (i : ℕ) (so_far : CheckedSoFar layouts store ty raws i) (field : FieldType) (r : RawValue) (field_is : (fields : List FieldType) → struct_fields_at store.types ty ≡ Some fields → slice_get fields i ≡ Some field) (r_is : slice_get raws i ≡ Some r) where
+module _ (layouts : Layouts) (store : StoreView ℕ) (ty : ℕ) (raws : List RawValue) (i : ℕ) (so_far : CheckedSoFar layouts store ty raws i) (field : FieldType) (r : RawValue) (field_is : (fields : List FieldType) → struct_fields_at store.types ty ≡ Some fields → slice_get fields i ≡ Some field) (r_is : slice_get raws i ≡ Some r) where
   -- a value is refused
   pub checked_refused : (why : Refusal) → option_map length (struct_fields_at store.types ty) ≡ Some (length raws) → ((s : State) (v : Operand) → HoldsTable layouts store s.table → Stands store s.table (Some r) (held_operand s v) → ChecksValue store s field v r (Err why)) → (s : State) (vs : List Operand) → HoldsTable layouts store s.table → AllHeld store s vs raws → ChecksValues store s ty vs raws (Err why)
   checked_refused why counted checks s vs holds are =
@@ -165,7 +165,7 @@ module _ (layouts : Layouts) (store : StoreView) (ty : ℕ) (raws : List RawValu
       ∙ stops_all (value_tests s (Some field) v.0) (all_value_tests s (drop (suc i) fields.0) (drop (suc i) vs)) why (checks s v.0 holds v.1.1)
 
 -- what the values stand for, all checked
-checked_stand : (layouts : Layouts) (store : StoreView) (ty : ℕ) (raws : List RawValue) (i : ℕ) → length raws ≤ i → CheckedSoFar layouts store ty raws i → (s : State) (vs : List Operand) → HoldsTable layouts store s.table → AllHeld store s vs raws → AllStand store s.table raws (given_values s vs)
+checked_stand : (layouts : Layouts) (store : StoreView ℕ) (ty : ℕ) (raws : List RawValue) (i : ℕ) → length raws ≤ i → CheckedSoFar layouts store ty raws i → (s : State) (vs : List Operand) → HoldsTable layouts store s.table → AllHeld store s vs raws → AllStand store s.table raws (given_values s vs)
 checked_stand layouts store ty raws i all so_far s vs holds are = record {
   same_count = AllZip-long (λ (v : Operand) (r : RawValue). Stands store s.table (Some r) (held_operand s v)) vs raws are ∙ sym (length-map vs (λ (v : Operand). given_value (given s v)));
   each = λ j r value e f.
@@ -177,7 +177,7 @@ checked_stand layouts store ty raws i all so_far s vs holds are = record {
 }
 
 -- all values pass their tests, and stand for what is given
-pub checked_all : (layouts : Layouts) (store : StoreView) (ty : ℕ) (raws : List RawValue) (i : ℕ) (done : Unit {0}) → option_map length (struct_fields_at store.types ty) ≡ Some (length raws) → length raws ≤ i → CheckedSoFar layouts store ty raws i → (s : State) (vs : List Operand) → HoldsTable layouts store s.table → AllHeld store s vs raws → ChecksValues store s ty vs raws (Ok done)
+pub checked_all : (layouts : Layouts) (store : StoreView ℕ) (ty : ℕ) (raws : List RawValue) (i : ℕ) (done : Unit {0}) → option_map length (struct_fields_at store.types ty) ≡ Some (length raws) → length raws ≤ i → CheckedSoFar layouts store ty raws i → (s : State) (vs : List Operand) → HoldsTable layouts store s.table → AllHeld store s vs raws → ChecksValues store s ty vs raws (Ok done)
 checked_all layouts store ty raws i done counted all so_far s vs holds are =
     let fields = counted_fields (struct_fields_at store.types ty) (length raws) counted in (
       ap first_failing (value_tests_are layouts store s ty fields.0 vs holds fields.1.0)

@@ -6,7 +6,7 @@ use Rattle.gc_model.specs.Table.{Table}
 use Rattle.gc_model.specs.Reach.{KeepsNumber}
 use Rattle.gc_model.specs.Allocation.{Limits}
 use Rattle.gc_model.specs.Stores.{StoreView}
-use Rattle.gc_store.specs.Accounts.{Account, HoldsAccount}
+use Rattle.gc_policy.specs.Accounts.{Account, HoldsAccount}
 use Rattle.gc_store.specs.Expansion.{CollectsStore, MayCollectTable}
 use Rattle.gc_store.specs.Stores.{IsSameStore}
 use Rattle.gc_commands.specs.declared.command.Command.TheVariants as command
@@ -18,7 +18,7 @@ use Rattle.gc_script.specs.Run.{RunsOne}
 use Rattle.gc_script.proofs.StandLemmas.{holds_kept}
 use Rattle.gc_script.proofs.CountLemmas.{says_other, counts_nothing}
 
-module _ (layouts : Layouts) (counter : Option ℕ) (limits : Limits) (old new : StoreView) (runner : RunnerView) (s : State) (objects hosts : ℕ) (same : IsSameStore old new) (holds : HoldsState layouts old runner s) (keeps : KeepsNumber layouts s.table objects hosts) where
+module _ (layouts : Layouts) (counter : Option ℕ) (limits : Limits) (old new : StoreView ℕ) (runner : RunnerView) (s : State) (objects hosts : ℕ) (same : IsSameStore old new) (holds : HoldsState layouts old runner s) (keeps : KeepsNumber layouts s.table objects hosts) where
   -- the account is another one
   gone_to : (a : Account) → HoldsAccount layouts new s.table a → MayCollectTable layouts (policy_of s limits) (policy_of (with_account a s) limits) → RunsOne layouts counter limits limits s command.Gc (Ok (reply.Held objects hosts)) new runner
   gone_to a table follows = record {
@@ -41,6 +41,6 @@ module _ (layouts : Layouts) (counter : Option ℕ) (limits : Limits) (old new :
               record { held = did.collects.held; last = did.collects.last; tries = did.collects.tries; upper = did.collects.upper; table = refl; limits = refl },
             ))
         | false ↦ λ is.
-            gone_to s.account (subst (λ (store : StoreView). HoldsAccount layouts store s.table s.account) (sym (unmade is)) holds.table)
+            gone_to s.account (subst (λ (store : StoreView ℕ). HoldsAccount layouts store s.table s.account) (sym (unmade is)) holds.table)
             (inr (sym holds.table.holds.memory.made ∙ is, refl))
       ] refl

@@ -1,7 +1,7 @@
 -- What a command leaves of the limiter's count.
 use Rattle.std.proofs.Common.{inl, inr, ◌≡◌, ℕ, ◌+◌, ◌++◌, if◌then◌else◌, List, [], ◌∷◌, Some, Bool, true, false, cond, sym, ap, ◌∙◌, refl, subst, arith}
 use Rattle.gc_model.specs.Allocation.{Limits, asked}
-use Rattle.gc_store.specs.Limiters.{Refuses}
+use Rattle.gc_owner.specs.Limiters.{Refuses}
 use Rattle.gc_commands.specs.declared.reply.Reply.{Reply}
 use Rattle.gc_commands.specs.declared.reply.Reply.TheVariants as reply
 use Rattle.gc_commands.specs.declared.reply.Refusal.{Refusal}

@@ -58,7 +58,7 @@ built_form true supertype fs built = absurd (cc built)
 built_form false None fs built = (refl, (refl, built))
 built_form false (Some n) fs built = absurd (cc built)
 
-module _ (layouts : Layouts) (old new : StoreView) (runner : RunnerView) (s : State) (is_final : Bool) (supertype : Option ℕ) (fs : List FieldWord) (types : List FieldType) (is_form : is_built (Struct is_final supertype fs) ≡ true) (types_are : types ≡ map field_type fs) (same : IsSameStore old new) (holds : HoldsState layouts old runner s) where
+module _ (layouts : Layouts) (old new : StoreView ℕ) (runner : RunnerView) (s : State) (is_final : Bool) (supertype : Option ℕ) (fs : List FieldWord) (types : List FieldType) (is_form : is_built (Struct is_final supertype fs) ≡ true) (types_are : types ≡ map field_type fs) (same : IsSameStore old new) (holds : HoldsState layouts old runner s) where
   passes_form : first_failing (tests layouts s (Struct is_final supertype fs)) ≡ None
   passes_form = passes (not (is_built (Struct is_final supertype fs))) refusal.BadLine [] (ap not is_form)
 

@@ -3,7 +3,7 @@ use Rattle.std.proofs.Common.{◌≡◌, ℕ, ◌&&◌, List, [], ◌∷◌, ◌
 use Rattle.std.specs.Prelude.{Ok, unwrap_or}
 use Rattle.std.specs.List.{slice_get}
 use Rattle.gc_types.specs.declared.kind.Layouts.{Layouts}
-use Rattle.gc_model.specs.declared.GcClass.TheVariants as class
+use Rattle.gc_owner.specs.declared.entry.GcClass.TheVariants as class
 use Rattle.gc_model.specs.Values.{Value, null}
 use Rattle.gc_model.specs.Values as values
 use Rattle.gc_model.specs.Live.{roots_full}
@@ -15,7 +15,7 @@ use Rattle.gc_commands.specs.declared.reply.ReplyValue.{ReplyValue}
 use Rattle.gc_commands.specs.declared.reply.Refusal.{Refusal}
 use Rattle.gc_commands.specs.declared.reply.Refusal.TheVariants as refusal
 use Rattle.gc_store.specs.declared.root.RawValue.{RawValue}
-use Rattle.gc_store.specs.Accounts.{HoldsAccount}
+use Rattle.gc_policy.specs.Accounts.{HoldsAccount}
 use Rattle.gc_store.specs.Stores.{IsSameStore}
 use Rattle.gc_store.specs.Values.{RawStands, IsReadAs}
 use Rattle.gc_script.specs.declared.targets.FieldPlace.{FieldPlace}
@@ -40,7 +40,7 @@ not_both : (a b : Bool) → (a ≡ true → b ≡ false) → (a && b) ≡ false
 not_both true b other = other refl
 not_both false b other = refl
 
-module _ (layouts : Layouts) (store : StoreView) (runner : RunnerView) (s : State) (r i : ℕ) (into : Option ℕ) (holds : HoldsState layouts store runner s) (set : is_unset (given_register s r) ≡ false) where
+module _ (layouts : Layouts) (store : StoreView ℕ) (runner : RunnerView) (s : State) (r i : ℕ) (into : Option ℕ) (holds : HoldsState layouts store runner s) (set : is_unset (given_register s r) ≡ false) where
   abbrev full_test : List (Bool × Refusal)
   full_test = (reads_root (slice_get (target_values (target s r)) i) && roots_full s.table, refusal.RootsFull) ∷ []
 
@@ -60,7 +60,7 @@ module _ (layouts : Layouts) (store : StoreView) (runner : RunnerView) (s : Stat
         to_target ∙ passes_all (target_tests s r i) full_test found.passes
         ∙ ap (λ (o : Option Value). first_failing ((reads_root o && roots_full s.table, refusal.RootsFull) ∷ [])) value_there
 
-    module _ (new : StoreView) (runner' : RunnerView) (same : IsSameStore store new) (marks_are : runner'.marks ≡ runner.marks) where
+    module _ (new : StoreView ℕ) (runner' : RunnerView) (same : IsSameStore store new) (marks_are : runner'.marks ≡ runner.marks) where
       -- no further root may be made
       pub full : ((d : ℕ) → register_at runner'.registers d ≡ register_at runner.registers d) → makes_root found.value ≡ true → roots_full s.table ≡ true → HoldsAccount layouts new s.table s.account → GoesOn layouts s (command.Field r i into) (Ok (reply.Refused refusal.RootsFull)) new runner'
       full slots_are makes is_full table = refuses layouts new runner' s (command.Field r i into) refusal.RootsFull

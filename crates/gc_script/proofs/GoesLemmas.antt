@@ -6,7 +6,7 @@ use Rattle.gc_types.specs.declared.value.FieldType.{FieldType}
 use Rattle.gc_types.specs.Declarations.{struct_fields_at}
 use Rattle.gc_model.specs.Allocation.{Limits}
 use Rattle.gc_model.specs.Stores.{StoreView}
-use Rattle.gc_store.specs.Policy as policy
+use Rattle.gc_policy.specs.Policy as policy
 use Rattle.gc_commands.specs.declared.command.Command.{Command}
 use Rattle.gc_commands.specs.declared.command.Command.TheVariants.{Bad, New}
 use Rattle.gc_commands.specs.declared.command.Operand.{Operand}
@@ -94,7 +94,7 @@ module _ (layouts : Layouts) (counter : Option ℕ) (s : State) (limits : Limits
   not_begun showing None = refl
 
 -- want of memory that leaves all
-pub wants_nothing : (layouts : Layouts) (counter : Option ℕ) (limits : Limits) (s : State) (sh : Shape) (found : Option Refusal) (new : StoreView) (runner : RunnerView) → HoldsState layouts new runner s → WantsAfter layouts counter limits limits s sh found new runner
+pub wants_nothing : (layouts : Layouts) (counter : Option ℕ) (limits : Limits) (s : State) (sh : Shape) (found : Option Refusal) (new : StoreView ℕ) (runner : RunnerView) → HoldsState layouts new runner s → WantsAfter layouts counter limits limits s sh found new runner
 wants_nothing layouts counter limits s sh found new runner holds = record {
   after = policy_of s limits;
   came = not_begun layouts counter s limits sh found;
@@ -104,7 +104,7 @@ wants_nothing layouts counter limits s sh found new runner holds = record {
 }
 
 -- a refusal by a test leaves all
-pub refused_runs : (layouts : Layouts) (counter : Option ℕ) (limits : Limits) (s : State) (c : Command) (why : Refusal) (store : StoreView) (runner : RunnerView) → HoldsState layouts store runner s → first_failing (tests layouts s c) ≡ Some why → RunsOne layouts counter limits limits s c (Ok (reply.Refused why)) store runner
+pub refused_runs : (layouts : Layouts) (counter : Option ℕ) (limits : Limits) (s : State) (c : Command) (why : Refusal) (store : StoreView ℕ) (runner : RunnerView) → HoldsState layouts store runner s → first_failing (tests layouts s c) ≡ Some why → RunsOne layouts counter limits limits s c (Ok (reply.Refused why)) store runner
 refused_runs layouts counter limits s c why store runner holds found = record {
   after = s;
   step = answers_by layouts limits.limit s (shape c) (first_failing (tests layouts s c)) (Some why) (reply.Refused why) s found (refl, refl);
@@ -114,12 +114,12 @@ refused_runs layouts counter limits s c why store runner holds found = record {
 }
 
 -- so of a command that is not built
-pub unbuilt_runs : (layouts : Layouts) (counter : Option ℕ) (limits : Limits) (s : State) (c : Command) (store : StoreView) (runner : RunnerView) → HoldsState layouts store runner s → is_built c ≡ false → RunsOne layouts counter limits limits s c (Ok (reply.Refused refusal.BadLine)) store runner
+pub unbuilt_runs : (layouts : Layouts) (counter : Option ℕ) (limits : Limits) (s : State) (c : Command) (store : StoreView ℕ) (runner : RunnerView) → HoldsState layouts store runner s → is_built c ≡ false → RunsOne layouts counter limits limits s c (Ok (reply.Refused refusal.BadLine)) store runner
 unbuilt_runs layouts counter limits s c store runner holds unbuilt =
     refused_runs layouts counter limits s c refusal.BadLine store runner holds (stops (not (is_built c)) refusal.BadLine (built_tests layouts (visible s) c) (ap not unbuilt))
 
 -- a command that asks no limiter runs
-pub goes_runs : (layouts : Layouts) (counter : Option ℕ) (limits : Limits) (s : State) (c : Command) (result : Result Reply RunError) (new : StoreView) (runner : RunnerView) → AsksNone (shape c) → GoesOn layouts s c result new runner → RunsOne layouts counter limits limits s c result new runner
+pub goes_runs : (layouts : Layouts) (counter : Option ℕ) (limits : Limits) (s : State) (c : Command) (result : Result Reply RunError) (new : StoreView ℕ) (runner : RunnerView) → AsksNone (shape c) → GoesOn layouts s c result new runner → RunsOne layouts counter limits limits s c result new runner
 goes_runs layouts counter limits s c (Ok answer) new runner asks goes =
     let did = answers_any layouts limits.limit s answer goes.after c (first_failing (tests layouts s c)) asks refl goes.answers in
     record {
@@ -132,6 +132,6 @@ goes_runs layouts counter limits s c (Ok answer) new runner asks goes =
 goes_runs layouts counter limits s c (Err e) new runner asks goes = record { wants = wants_nothing layouts counter limits s (shape c) (first_failing (tests layouts s c)) new runner goes }
 
 -- the same of a command that is known
-pub runs_as : (layouts : Layouts) (counter : Option ℕ) (limits : Limits) (s : State) (c known : Command) (result : Result Reply RunError) (new : StoreView) (runner : RunnerView) → c ≡ known → AsksNone (shape known) → GoesOn layouts s known result new runner → RunsOne layouts counter limits limits s c result new runner
+pub runs_as : (layouts : Layouts) (counter : Option ℕ) (limits : Limits) (s : State) (c known : Command) (result : Result Reply RunError) (new : StoreView ℕ) (runner : RunnerView) → c ≡ known → AsksNone (shape known) → GoesOn layouts s known result new runner → RunsOne layouts counter limits limits s c result new runner
 runs_as layouts counter limits s c known result new runner is asks goes =
     subst (λ (x : Command). RunsOne layouts counter limits limits s x result new runner) (sym is) (goes_runs layouts counter limits s known result new runner asks goes)

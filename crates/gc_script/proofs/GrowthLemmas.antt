@@ -35,7 +35,7 @@ pub paged_pushes : (limit : Option ℕ) (bytes : ℕ) (t t' : Table ℕ) → May
 paged_pushes limit bytes t t' (inl is) = ap (λ (x : Table ℕ). x.pushes) is
 paged_pushes limit bytes t t' (inr got) = ap (λ (x : Table ℕ). x.pushes) got.1.1
 
-module _ (layouts : Layouts) (counter : Option ℕ) (limits limits' : Limits) (old new : StoreView) (runner : RunnerView) (s : State) (n : ℕ) (same : IsSameStore old new) (holds : HoldsState layouts old runner s) where
+module _ (layouts : Layouts) (counter : Option ℕ) (limits limits' : Limits) (old new : StoreView ℕ) (runner : RunnerView) (s : State) (n : ℕ) (same : IsSameStore old new) (holds : HoldsState layouts old runner s) where
   -- the heap grew
   pub heap_grew : (done : Unit {0}) → GrowsStore layouts n (policy_of s limits) limits' (Ok done) new → RunsOne layouts counter limits limits' s (command.Grow n) (Ok reply.Done) new runner
   heap_grew done grew =

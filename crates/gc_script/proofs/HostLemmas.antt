@@ -8,7 +8,7 @@ use Rattle.std.proofs.lemmas.Option.{slice_get_within, slice_get-get_or, slice_g
 use Rattle.gc_types.specs.declared.kind.Layouts.{Layouts}
 use Rattle.gc_types.specs.declared.kind.Layouts.TheVariants.{Null, Counting, Copying}
 use Rattle.gc_types.specs.declared.value.StorageType.{StorageType}
-use Rattle.gc_model.specs.declared.RootEntry.{RootEntry}
+use Rattle.gc_owner.specs.declared.entry.RootEntry.{RootEntry}
 use Rattle.gc_model.specs.Values.{Reference, at, Value, numeric, function, reference, Object, struct, array, host, exception}
 use Rattle.gc_model.specs.Table.{Table, Scoped, Slot, Owned, empty_slot, global_count}
 use Rattle.gc_model.specs.Reach.{Reached, by_start, by_step, IsKept, IsHost, HasNumber, root_references, references_in, value_references, slot_references, owned_references, present}
@@ -30,7 +30,7 @@ All-flat_map P f (x ∷ xs) all = subst (All P) (sym (flat_map-cons f x xs)) (Al
 All-by_get : {X : Type 0} (P : X → Type 0) (xs : List X) → ((i : ℕ) (x : X) → slice_get xs i ≡ Some x → P x) → All P xs
 All-by_get P xs all k d below = all k (slice_index_or xs k d) (slice_get-get_or xs k d below)
 
-module _ {D : Type 0} (layouts : Layouts) (s : StoreView) (t : Table D) (place : Placing) (holds : Holds layouts s t place) where
+module _ {D : Type 0} (layouts : Layouts) (s : StoreView D) (t : Table D) (place : Placing) (holds : Holds layouts s t place) where
   -- scoped roots name what has a word
   scoped_words : (i : ℕ) (root : Scoped) → slice_get t.scoped i ≡ Some root → HasWord place root.reference
   scoped_words i root e =
@@ -70,7 +70,7 @@ entry_words layouts t place (host value) h stands = absurd stands
 entry_words layouts t place (exception ty tag values) h stands = absurd stands
 
 -- what is reached has a place
-reached_placed : {D : Type 0} (layouts : Layouts) (s : StoreView) (t : Table D) (place : Placing) → Holds layouts s t place → (p : ℕ) → Reached t.objects (root_references t) p → (word : ℕ) × (place p ≡ Some word)
+reached_placed : {D : Type 0} (layouts : Layouts) (s : StoreView D) (t : Table D) (place : Placing) → Holds layouts s t place → (p : ℕ) → Reached t.objects (root_references t) p → (word : ℕ) × (place p ≡ Some word)
 reached_placed layouts s t place holds p (by_start named) = All-contains (HasWord place) (root_references t) (at p) (root_words layouts s t place holds) named
 reached_placed {D} layouts s t place holds p (by_step {y = q} reached names) =
     let from = reached_placed layouts s t place holds q reached in
@@ -80,7 +80,7 @@ reached_placed {D} layouts s t place holds p (by_step {y = q} reached names) =
     All-contains (HasWord place) (references_in names.object) (at p) (entry_words layouts t place names.object held.object (subst (λ (e : Object D). Stands layouts t.types place e held.object) same held.stands)) names.among
 
 -- what is kept has a place
-kept_placed : {D : Type 0} (layouts : Layouts) (s : StoreView) (t : Table D) (place : Placing) → Holds layouts s t place → (p : ℕ) → IsKept layouts t p → (word : ℕ) × (place p ≡ Some word)
+kept_placed : {D : Type 0} (layouts : Layouts) (s : StoreView D) (t : Table D) (place : Placing) → Holds layouts s t place → (p : ℕ) → IsKept layouts t p → (word : ℕ) × (place p ≡ Some word)
 kept_placed Null s t place holds p kept = holds.by_kind.all_held p kept
 kept_placed Counting s t place holds p kept = reached_placed Counting s t place holds p kept
 kept_placed Copying s t place holds p kept = reached_placed Copying s t place holds p kept
@@ -90,7 +90,7 @@ unfolding IsDistinct
 none_distinct = tt
 
 -- so a collection keeps no host object
-pub no_hosts : {D : Type 0} (layouts : Layouts) (s : StoreView) (t : Table D) → HoldsTable layouts s t → HasNumber (λ (p : ℕ). IsKept layouts t p × IsHost (slice_get t.objects p)) 0
+pub no_hosts : {D : Type 0} (layouts : Layouts) (s : StoreView D) (t : Table D) → HoldsTable layouts s t → HasNumber (λ (p : ℕ). IsKept layouts t p × IsHost (slice_get t.objects p)) 0
 no_hosts {D} layouts s t holds =
     let none : (p : ℕ) → IsKept layouts t p → ¬ IsHost (slice_get t.objects p) =
     λ p kept is_host.

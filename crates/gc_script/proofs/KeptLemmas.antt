@@ -13,7 +13,7 @@ use Rattle.gc_script.specs.Steps.{Step}
 use Rattle.gc_script.specs.Run.{Ran}
 
 -- a collection leaves the table, so what it kept is kept behind it
-pub kept_after : (layouts : Layouts) (counter : Option ℕ) (limits limits' : Limits) (s : State) (c : Command) (answer : Reply) {new : StoreView} {runner : RunnerView} (ran : Ran layouts counter limits limits' s c answer new runner) → c ≡ Gc → HoldsKept layouts new s.table → HoldsKept layouts new ran.after.table
+pub kept_after : (layouts : Layouts) (counter : Option ℕ) (limits limits' : Limits) (s : State) (c : Command) (answer : Reply) {new : StoreView ℕ} {runner : RunnerView} (ran : Ran layouts counter limits limits' s c answer new runner) → c ≡ Gc → HoldsKept layouts new s.table → HoldsKept layouts new ran.after.table
 kept_after layouts counter limits limits' s c answer {new} {runner} ran is kept =
     let step : Step layouts limits.limit s Gc answer ran.after = subst (λ (c : Command). Step layouts limits.limit s c answer ran.after) is ran.step in
     subst (λ (after : State). HoldsKept layouts new after.table) (sym step.1.1) kept

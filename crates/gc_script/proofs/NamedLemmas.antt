@@ -3,7 +3,7 @@ use Rattle.std.proofs.Common.{◌≡◌, ℕ, [], ◌∷◌, Option, Some, None,
 use Rattle.std.specs.Prelude.{is_none, unwrap_or, Ok, Err}
 use Rattle.std.proofs.lemmas.Option.{none-some}
 use Rattle.gc_types.specs.declared.kind.Layouts.{Layouts}
-use Rattle.gc_model.specs.declared.GcClass.{GcClass}
+use Rattle.gc_owner.specs.declared.entry.GcClass.{GcClass}
 use Rattle.gc_model.specs.Values.{Reference, null, small, at, Value}
 use Rattle.gc_model.specs.Values as values
 use Rattle.gc_model.specs.Table.{Table}
@@ -35,14 +35,14 @@ use Rattle.gc_script.proofs.TestLemmas.{answers_by}
 use Rattle.gc_script.proofs.TargetLemmas.{names_root}
 
 -- a register that is unset holds nothing
-pub unset_held : (s : StoreView) (t : Table ℕ) (held : Option Held) → Stands s t None held → given_held t held ≡ unset
+pub unset_held : (s : StoreView ℕ) (t : Table ℕ) (held : Option Held) → Stands s t None held → given_held t held ≡ unset
 unset_held s t None stands = refl
 unset_held s t (Some (number v)) stands = absurd stands
 unset_held s t (Some (reference c None)) stands = absurd stands
 unset_held s t (Some (reference c (Some serial))) stands = absurd stands
 
 -- a value that is no handle names nothing
-plain_unnamed : (s : StoreView) (t : Table ℕ) (r : RawValue) (v : Value) → raw_handle r ≡ None → RawStands s t r v → value_named v ≡ None
+plain_unnamed : (s : StoreView ℕ) (t : Table ℕ) (r : RawValue) (v : Value) → raw_handle r ≡ None → RawStands s t r v → value_named v ≡ None
 plain_unnamed s t (raw.I32 n) v e stands = ap value_named stands
 plain_unnamed s t (raw.I64 n) v e stands = ap value_named stands
 plain_unnamed s t (raw.F32 n) v e stands = ap value_named stands
@@ -53,12 +53,12 @@ plain_unnamed s t (raw.Ref class None) v e stands = ap value_named stands
 plain_unnamed s t (raw.Ref class (Some handle)) v e stands = absurd (none-some handle (sym e))
 
 -- a register that is found and has no handle names nothing
-pub names_nothing : (store : StoreView) (s : State) (r : ℕ) (value : RawValue) → raw_handle value ≡ None → IsFound store s.table value (given_register s r) true → named s r ≡ None
+pub names_nothing : (store : StoreView ℕ) (s : State) (r : ℕ) (value : RawValue) → raw_handle value ≡ None → IsFound store s.table value (given_register s r) true → named s r ≡ None
 names_nothing store s r value plain found =
     ap (λ (g : Given). value_named (given_value g)) found.1.0 ∙ plain_unnamed store s.table value found.0 plain found.1.1
 
 -- what a register names that has a handle
-pub record NamedRoot (store : StoreView) (s : State) (r : ℕ) (handle : GcRootIndex) : Type 0 where
+pub record NamedRoot (store : StoreView ℕ) (s : State) (r : ℕ) (handle : GcRootIndex) : Type 0 where
   pub serial : ℕ
   pub names : Names store s.table handle serial
   pub root : Reference
@@ -66,12 +66,12 @@ pub record NamedRoot (store : StoreView) (s : State) (r : ℕ) (handle : GcRootI
   pub named_is : named s r ≡ Some root
 
 -- a live root is not null
-not_null : (layouts : Layouts) (store : StoreView) (t : Table ℕ) → HoldsTable layouts store t → (serial : ℕ) (root : Reference) → rooted t serial ≡ Some root → (c : GcClass) → value_named (values.reference c root) ≡ Some root
+not_null : (layouts : Layouts) (store : StoreView ℕ) (t : Table ℕ) → HoldsTable layouts store t → (serial : ℕ) (root : Reference) → rooted t serial ≡ Some root → (c : GcClass) → value_named (values.reference c root) ≡ Some root
 not_null layouts store t holds serial null live c = let word = rooted_word layouts store t holds.0 holds.1 serial null live in absurd (omega (arith, word.1.0, word.1.1))
 not_null layouts store t holds serial (small n) live c = refl
 not_null layouts store t holds serial (at p) live c = refl
 
-pub named_root : (layouts : Layouts) (store : StoreView) (s : State) (r : ℕ) (value : RawValue) (handle : GcRootIndex) → HoldsTable layouts store s.table → raw_handle value ≡ Some handle → IsFound store s.table value (given_register s r) true → NamedRoot store s r handle
+pub named_root : (layouts : Layouts) (store : StoreView ℕ) (s : State) (r : ℕ) (value : RawValue) (handle : GcRootIndex) → HoldsTable layouts store s.table → raw_handle value ≡ Some handle → IsFound store s.table value (given_register s r) true → NamedRoot store s r handle
 named_root layouts store s r value handle holds is_handle found =
     let it = names_root store s.table value found.0 handle is_handle found.1.1 in
     record {
@@ -104,7 +104,7 @@ eq_tests_by layouts s r q g h x y g_is h_is x_is y_is =
     ∙ ap (λ (a : Option Reference). compared_by g h x a) y_is
 
 -- two roots were compared
-pub compared : (layouts : Layouts) (store : StoreView) (runner : RunnerView) (s : State) (r q : ℕ) (first second : RawValue) (a b : GcRootIndex) (same : Bool) → HoldsState layouts store runner s → raw_handle first ≡ Some a → raw_handle second ≡ Some b → IsFound store s.table first (given_register s r) true → IsFound store s.table second (given_register s q) true → ((x y : ℕ) → Names store s.table a x → Names store s.table b y → TellsSame (rooted s.table x) (rooted s.table y) (Ok same)) → GoesOn layouts s (command.Eq r q) (Ok (reply.Same same)) store runner
+pub compared : (layouts : Layouts) (store : StoreView ℕ) (runner : RunnerView) (s : State) (r q : ℕ) (first second : RawValue) (a b : GcRootIndex) (same : Bool) → HoldsState layouts store runner s → raw_handle first ≡ Some a → raw_handle second ≡ Some b → IsFound store s.table first (given_register s r) true → IsFound store s.table second (given_register s q) true → ((x y : ℕ) → Names store s.table a x → Names store s.table b y → TellsSame (rooted s.table x) (rooted s.table y) (Ok same)) → GoesOn layouts s (command.Eq r q) (Ok (reply.Same same)) store runner
 compared layouts store runner s r q first second a b same holds is_a is_b found_first found_second tells =
     let x = named_root layouts store s r first a (holds_table holds.table) is_a found_first in
     let y = named_root layouts store s q second b (holds_table holds.table) is_b found_second in
@@ -122,7 +122,7 @@ compared layouts store runner s r q first second a b same holds is_a is_b found_
     }
 
 -- the store tells the same of live roots
-pub never_unrooted : (layouts : Layouts) (store : StoreView) (s : State) (r q : ℕ) (first second : RawValue) (a b : GcRootIndex) (e : RootFault) → HoldsTable layouts store s.table → raw_handle first ≡ Some a → raw_handle second ≡ Some b → IsFound store s.table first (given_register s r) true → IsFound store s.table second (given_register s q) true → ((x y : ℕ) → Names store s.table a x → Names store s.table b y → TellsSame (rooted s.table x) (rooted s.table y) (Err e)) → ⊥
+pub never_unrooted : (layouts : Layouts) (store : StoreView ℕ) (s : State) (r q : ℕ) (first second : RawValue) (a b : GcRootIndex) (e : RootFault) → HoldsTable layouts store s.table → raw_handle first ≡ Some a → raw_handle second ≡ Some b → IsFound store s.table first (given_register s r) true → IsFound store s.table second (given_register s q) true → ((x y : ℕ) → Names store s.table a x → Names store s.table b y → TellsSame (rooted s.table x) (rooted s.table y) (Err e)) → ⊥
 never_unrooted layouts store s r q first second a b e holds is_a is_b found_first found_second tells =
     let x = named_root layouts store s r first a holds is_a found_first in
     let y = named_root layouts store s q second b holds is_b found_second in

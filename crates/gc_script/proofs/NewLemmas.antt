@@ -33,7 +33,7 @@ use Rattle.gc_script.proofs.GoesLemmas.{refused_runs}
 use Rattle.gc_script.proofs.WriteLemmas.{is_set}
 
 -- no operand is unset where all are held
-pub all_set : (store : StoreView) (s : State) (vs : List Operand) (raws : List RawValue) → AllHeld store s vs raws → any_unset s vs ≡ false
+pub all_set : (store : StoreView ℕ) (s : State) (vs : List Operand) (raws : List RawValue) → AllHeld store s vs raws → any_unset s vs ≡ false
 all_set store s [] raws all = refl
 all_set store s (v ∷ vs) [] all = absurd all
 all_set store s (v ∷ vs) (r ∷ raws) all =
@@ -44,11 +44,11 @@ known_fields None count e = absurd (none-some count e)
 known_fields (Some fields) count e = let is : length fields ≡ count = grind (arith, e) in (refl, is)
 
 -- a type that the store knows is one of the state
-known_type : (layouts : Layouts) (store : StoreView) (s : State) (t count : ℕ) → HoldsTable layouts store s.table → option_map length (struct_fields_at store.types t) ≡ Some count → (is_none (struct_fields_at s.table.types t) ≡ false) × (field_count s.table t ≡ count)
+known_type : (layouts : Layouts) (store : StoreView ℕ) (s : State) (t count : ℕ) → HoldsTable layouts store s.table → option_map length (struct_fields_at store.types t) ≡ Some count → (is_none (struct_fields_at s.table.types t) ≡ false) × (field_count s.table t ≡ count)
 known_type layouts store s t count holds e =
     known_fields (struct_fields_at s.table.types t) count (ap (λ (ts : List Declaration). option_map length (struct_fields_at ts t)) (sym holds.1.types) ∙ e)
 
-module _ (layouts : Layouts) (counter : Option ℕ) (limits : Limits) (store : StoreView) (s : State) (d t : ℕ) (vs : List Operand) (table : HoldsTable layouts store s.table) (built : list_all is_built_operand vs ≡ true) (count : ℕ) (counted : option_map length (struct_fields_at store.types t) ≡ Some count) where
+module _ (layouts : Layouts) (counter : Option ℕ) (limits : Limits) (store : StoreView ℕ) (s : State) (d t : ℕ) (vs : List Operand) (table : HoldsTable layouts store s.table) (built : list_all is_built_operand vs ≡ true) (count : ℕ) (counted : option_map length (struct_fields_at store.types t) ≡ Some count) where
   abbrev from_count : List (Bool × Refusal)
   from_count = (not (length vs == field_count s.table t), refusal.FieldCount) ∷ (struct_value_tests s t vs ++ heap_tests layouts s (new_struct s t vs))
 
@@ -92,7 +92,7 @@ module _ (layouts : Layouts) (counter : Option ℕ) (limits : Limits) (store : S
           (past_count ∙ stops_all (struct_value_tests s t vs) (heap_tests layouts s (new_struct s t vs)) why found)
 
       -- what is left is up to the heap
-      pub new_runs : (limits' : Limits) (result : Result Reply RunError) (new : StoreView) (runner : RunnerView) → first_failing (struct_value_tests s t vs) ≡ None → RunsOn layouts counter limits limits' s (shape (New d t vs)) (heap_tests layouts s (new_struct s t vs)) result new runner → RunsOne layouts counter limits limits' s (New d t vs) result new runner
+      pub new_runs : (limits' : Limits) (result : Result Reply RunError) (new : StoreView ℕ) (runner : RunnerView) → first_failing (struct_value_tests s t vs) ≡ None → RunsOn layouts counter limits limits' s (shape (New d t vs)) (heap_tests layouts s (new_struct s t vs)) result new runner → RunsOne layouts counter limits limits' s (New d t vs) result new runner
       new_runs limits' (Ok answer) new runner pass ran = record {
         after = ran.after;
         step = answers_by layouts limits.limit s (shape (New d t vs)) (first_failing (tests layouts s (New d t vs))) (first_failing (heap_tests layouts s (new_struct s t vs))) answer ran.after

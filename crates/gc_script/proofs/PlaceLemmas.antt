@@ -3,7 +3,7 @@ use Rattle.std.proofs.Common.{inl, inr, ◌≡◌, ◌≢◌, ℕ, [], ◌∷◌
 use Rattle.std.specs.Prelude.{◌⊎◌, Ok, Err}
 use Rattle.std.proofs.lemmas.List.{length-append}
 use Rattle.gc_types.specs.declared.kind.Layouts.{Layouts}
-use Rattle.gc_model.specs.declared.GcClass.{GcClass}
+use Rattle.gc_owner.specs.declared.entry.GcClass.{GcClass}
 use Rattle.gc_model.specs.Values.{Object}
 use Rattle.gc_model.specs.Table.{Table, make}
 use Rattle.gc_model.specs.Allocation.{Limits, Allocates, LacksMemory, no_heap, no_room, too_large}
@@ -14,7 +14,7 @@ use Rattle.gc_model.specs.Stores.{StoreView}
 use Rattle.gc_store.specs.declared.root.GcRootIndex.{GcRootIndex}
 use Rattle.gc_store.specs.declared.root.RawValue.TheVariants as raw
 use Rattle.gc_store.specs.declared.store.PlaceFault.TheVariants as fault
-use Rattle.gc_store.specs.Accounts.{Account, HoldsAccount, with_held}
+use Rattle.gc_policy.specs.Accounts.{Account, HoldsAccount, with_held}
 use Rattle.gc_store.specs.Stores.{IsSameStore}
 use Rattle.gc_store.specs.Places.{Places, LacksPlace}
 use Rattle.gc_commands.specs.declared.reply.Reply.TheVariants as reply
@@ -25,7 +25,7 @@ use Rattle.gc_script.specs.Slots.{register_at, RunnerView}
 use Rattle.gc_script.specs.State.{State, reference, HoldsState, with_heap, set_register, visible}
 use Rattle.gc_script.specs.Shapes.{Shape, making}
 use Rattle.gc_script.specs.Steps.{first_failing, heap_tests, made, lacks}
-use Rattle.gc_store.specs.Policy.{PolicyState}
+use Rattle.gc_policy.specs.Policy.{PolicyState}
 use Rattle.gc_script.specs.Policy.{policy_of, Came, CameDoing}
 use Rattle.gc_script.specs.Policy as policy
 use Rattle.gc_script.specs.Run.{RunsOn}
@@ -56,7 +56,7 @@ came_there layouts counter s limits sh None q came begun pass = came
 came_there layouts counter s limits sh (Some why) q came (inl same) pass = same
 came_there layouts counter s limits sh (Some why) q came (inr both) pass = absurd (cc (pass both.0 both.1))
 
-module _ (layouts : Layouts) (counter : Option ℕ) (limits limits' : Limits) (old new : StoreView) (runner runner' : RunnerView) (s : State) (d : ℕ) (class : GcClass) (object : State → Object ℕ) (same : IsSameStore old new) (holds : HoldsState layouts old runner s) (marks : runner'.marks ≡ runner.marks) where
+module _ (layouts : Layouts) (counter : Option ℕ) (limits limits' : Limits) (old new : StoreView ℕ) (runner runner' : RunnerView) (s : State) (d : ℕ) (class : GcClass) (object : State → Object ℕ) (same : IsSameStore old new) (holds : HoldsState layouts old runner s) (marks : runner'.marks ≡ runner.marks) where
   -- no test on the heap refuses
   heap_tests_pass : too_large layouts (object_size layouts s.table.types (object (visible s))) ≡ false → roots_full s.table ≡ false → first_failing (heap_tests layouts s (object (visible s))) ≡ None
   heap_tests_pass small not_full =

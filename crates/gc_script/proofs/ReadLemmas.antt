@@ -9,8 +9,8 @@ use Rattle.gc_types.specs.declared.value.StorageType.TheVariants as storage
 use Rattle.gc_types.specs.declared.value.ValType.TheVariants as val
 use Rattle.gc_types.specs.declared.value.Func.{Func}
 use Rattle.gc_types.specs.declared.value.ValType.{ValType}
-use Rattle.gc_model.specs.declared.GcClass.{GcClass}
-use Rattle.gc_model.specs.declared.RootEntry.{RootEntry}
+use Rattle.gc_owner.specs.declared.entry.GcClass.{GcClass}
+use Rattle.gc_owner.specs.declared.entry.RootEntry.{RootEntry}
 use Rattle.gc_model.specs.Values.{Reference, null, small, at, Value, numeric, i32, i64, f32, f64, v128, function}
 use Rattle.gc_model.specs.Values as values
 use Rattle.gc_model.specs.Table.{Table, Scoped, push}
@@ -25,7 +25,7 @@ use Rattle.gc_store.specs.declared.root.RawValue.{RawValue}
 use Rattle.gc_commands.specs.declared.reply.Reply.TheVariants as reply
 use Rattle.gc_commands.specs.declared.reply.ReplyValue.{ReplyValue}
 use Rattle.gc_commands.specs.declared.reply.Refusal.{Refusal}
-use Rattle.gc_store.specs.Accounts.{HoldsAccount}
+use Rattle.gc_policy.specs.Accounts.{HoldsAccount}
 use Rattle.gc_store.specs.Stores.{IsSameStore}
 use Rattle.gc_store.specs.Roots.{Names, HasField, handle_of}
 use Rattle.gc_store.specs.Values.{RawStands, RootStands, IsReadAs}
@@ -50,7 +50,7 @@ rooted_at_end serial (x ∷ roots) r differ =
     ap (λ b. cond b (Some x.reference) (rooted_among serial (roots ++ record { serial = serial; reference = r } ∷ []))) test
     ∙ rooted_at_end serial roots r (λ i. differ (suc i))
 
-module _ (layouts : Layouts) (s : StoreView) (t : Table ℕ) (holds : HoldsTable layouts s t) where
+module _ (layouts : Layouts) (s : StoreView ℕ) (t : Table ℕ) (holds : HoldsTable layouts s t) where
   -- the roots that stand are of pushes that were made
   serial_before : (i : ℕ) (root : Scoped) → slice_get t.scoped i ≡ Some root → root.serial < length t.pushes
   serial_before i root e =
@@ -66,7 +66,7 @@ module _ (layouts : Layouts) (s : StoreView) (t : Table ℕ) (holds : HoldsTable
   rooted_push r = rooted_at_end (length t.pushes) t.scoped r (λ i root e is. let before = serial_before i root e in omega (arith, before, is))
 
   -- the handle of a new root names it
-  names_pushed : (new : StoreView) (r : Reference) → Names new (push r t) (handle_of new (length t.scoped) t.drops) (length t.pushes)
+  names_pushed : (new : StoreView ℕ) (r : Reference) → Names new (push r t) (handle_of new (length t.scoped) t.drops) (length t.pushes)
   names_pushed new r = record {
     push = record { index = length t.scoped; generation = t.drops };
     pushed = slice_get-push_new t.pushes (record { index = length t.scoped; generation = t.drops });
@@ -74,7 +74,7 @@ module _ (layouts : Layouts) (s : StoreView) (t : Table ℕ) (holds : HoldsTable
   }
 
   -- and stands for what it was pushed for
-  root_pushed : (new : StoreView) (class : GcClass) (r : Reference) → RootStands new (push r t) class (handle_of new (length t.scoped) t.drops) (values.reference class r)
+  root_pushed : (new : StoreView ℕ) (class : GcClass) (r : Reference) → RootStands new (push r t) class (handle_of new (length t.scoped) t.drops) (values.reference class r)
   root_pushed new class r = record {
     serial = length t.pushes;
     names = names_pushed new r;
@@ -84,7 +84,7 @@ module _ (layouts : Layouts) (s : StoreView) (t : Table ℕ) (holds : HoldsTable
   }
 
   -- what is read stands for the value in the table after
-  pub read_stands : (new : StoreView) (v : Value) (r : RawValue) → IsReadAs new t v r → RawStands new (after_read v t) r v
+  pub read_stands : (new : StoreView ℕ) (v : Value) (r : RawValue) → IsReadAs new t v r → RawStands new (after_read v t) r v
   read_stands new (numeric i32 n) r is = subst (λ (x : RawValue). RawStands new t x (numeric i32 n)) (sym is.1.0) (ap (numeric i32) is.1.1)
   read_stands new (numeric i64 n) r is = subst (λ (x : RawValue). RawStands new t x (numeric i64 n)) (sym is.1.0) (ap (numeric i64) is.1.1)
   read_stands new (numeric f32 n) r is = subst (λ (x : RawValue). RawStands new t x (numeric f32 n)) (sym is) refl
@@ -96,7 +96,7 @@ module _ (layouts : Layouts) (s : StoreView) (t : Table ℕ) (holds : HoldsTable
   read_stands new (values.reference c (at p)) r is = subst (λ (x : RawValue). RawStands new (push (at p) t) x (values.reference c (at p))) (sym is) (root_pushed new c (at p))
 
   -- what a register holds of it
-  pub register_stands : (new : StoreView) (v : Value) (r : RawValue) → ((f : Option Func) → ¬ (v ≡ function f)) → IsReadAs new t v r → Stands new (after_read v t) (Some r) (Some (held_value t v))
+  pub register_stands : (new : StoreView ℕ) (v : Value) (r : RawValue) → ((f : Option Func) → ¬ (v ≡ function f)) → IsReadAs new t v r → Stands new (after_read v t) (Some r) (Some (held_value t v))
   register_stands new (numeric i32 n) r other is = subst (λ (x : RawValue). Stands new t (Some x) (Some (number (numeric i32 n)))) (sym is.1.0) (ap (numeric i32) is.1.1)
   register_stands new (numeric i64 n) r other is = subst (λ (x : RawValue). Stands new t (Some x) (Some (number (numeric i64 n)))) (sym is.1.0) (ap (numeric i64) is.1.1)
   register_stands new (numeric f32 n) r other is = subst (λ (x : RawValue). Stands new t (Some x) (Some (number (numeric f32 n)))) (sym is) refl
@@ -145,7 +145,7 @@ no_function storage.I16 v e f is = cc e
 no_function (storage.ValType ty) v e f is = no_function_fits ty v e f is
 
 -- no field of a struct holds a function
-pub field_no_function : (layouts : Layouts) (s : StoreView) (t : Table ℕ) → HoldsTable layouts s t → (root : GcRootIndex) (index : ℕ) (v : Value) → HasField s t root index v → (f : Option Func) → ¬ (v ≡ function f)
+pub field_no_function : (layouts : Layouts) (s : StoreView ℕ) (t : Table ℕ) → HoldsTable layouts s t → (root : GcRootIndex) (index : ℕ) (v : Value) → HasField s t root index v → (f : Option Func) → ¬ (v ≡ function f)
 field_no_function layouts s t holds root index v has =
     let typed = typed_struct layouts s t holds has.serial has.position has.ty has.values has.live has.object in
     let field = slice_get-same_length has.values typed.fields index v typed.same_count has.value_at in
@@ -157,7 +157,7 @@ register_with-same None r slots slots' same d = same d
 register_with-same (Some k) r slots slots' same d = ap (cond (d == k) (Some r)) (same d)
 
 -- registers stand once a value was put into one
-pub put_stands : (new : StoreView) (t : Table ℕ) (slots : List (Option RawValue)) (s : State) (into : Option ℕ) (r : RawValue) (held : Held) → ((d : ℕ) → Stands new t (register_at slots d) (s.registers d)) → Stands new t (Some r) (Some held) → (d : ℕ) → Stands new t (register_with into r slots d) ((put_into into held s).registers d)
+pub put_stands : (new : StoreView ℕ) (t : Table ℕ) (slots : List (Option RawValue)) (s : State) (into : Option ℕ) (r : RawValue) (held : Held) → ((d : ℕ) → Stands new t (register_at slots d) (s.registers d)) → Stands new t (Some r) (Some held) → (d : ℕ) → Stands new t (register_with into r slots d) ((put_into into held s).registers d)
 put_stands new t slots s None r held stand stands d = stand d
 put_stands new t slots s (Some k) r held stand stands d =
     elim (d == k) as (λ b. Stands new t (cond b (Some r) (register_at slots d)) (cond b (Some held) (s.registers d))) [ true ↦ stands | false ↦ stand d ]
@@ -170,7 +170,7 @@ read_over (values.reference c (at p)) into s = refl
 read_over v into s = refl
 
 -- A value was read by a command whose tests pass.
-pub read_goes : (layouts : Layouts) (store new : StoreView) (runner runner' : RunnerView) (s : State) (value_of : State → Value) (into : Option ℕ) (v : Value) (r : RawValue) (shows : ReplyValue) (left : List (Bool × Refusal)) → first_failing left ≡ None → value_of (visible s) ≡ v → ((f : Option Func) → ¬ (v ≡ function f)) → IsSameStore store new → HoldsState layouts store runner s → runner'.marks ≡ runner.marks → ((d : ℕ) → register_at runner'.registers d ≡ register_with into r runner.registers d) → IsReadAs new s.table v r → HoldsAccount layouts new (after_read v s.table) s.account → (RawStands new (after_read v s.table) r v → shows ≡ shown (after_read v s.table) v) → Goes layouts s (plain (λ (x : State). reads (value_of x) into x)) left (reply.Value shows) new runner'
+pub read_goes : (layouts : Layouts) (store new : StoreView ℕ) (runner runner' : RunnerView) (s : State) (value_of : State → Value) (into : Option ℕ) (v : Value) (r : RawValue) (shows : ReplyValue) (left : List (Bool × Refusal)) → first_failing left ≡ None → value_of (visible s) ≡ v → ((f : Option Func) → ¬ (v ≡ function f)) → IsSameStore store new → HoldsState layouts store runner s → runner'.marks ≡ runner.marks → ((d : ℕ) → register_at runner'.registers d ≡ register_with into r runner.registers d) → IsReadAs new s.table v r → HoldsAccount layouts new (after_read v s.table) s.account → (RawStands new (after_read v s.table) r v → shows ≡ shown (after_read v s.table) v) → Goes layouts s (plain (λ (x : State). reads (value_of x) into x)) left (reply.Value shows) new runner'
 read_goes layouts store new runner runner' s value_of into v r shows left pass value_is other same holds marks_are slots_are is_read table shows_it =
     let held = held_value s.table v in
     let t = after_read v s.table in

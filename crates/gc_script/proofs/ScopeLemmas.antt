@@ -6,7 +6,7 @@ use Rattle.std.proofs.lemmas.Bool.Decides.{nat_tests}
 use Rattle.gc_types.specs.declared.kind.Layouts.{Layouts}
 use Rattle.gc_model.specs.Table.{Table, Scoped, leave}
 use Rattle.gc_model.specs.Stores.{StoreView}
-use Rattle.gc_store.specs.Accounts.{HoldsAccount}
+use Rattle.gc_policy.specs.Accounts.{HoldsAccount}
 use Rattle.gc_store.specs.Stores.{IsSameStore}
 use Rattle.gc_commands.specs.declared.command.Command.TheVariants as command
 use Rattle.gc_commands.specs.declared.reply.Reply.TheVariants as reply
@@ -47,7 +47,7 @@ older-push olds mark =
     ap (λ (n : ℕ). take n (olds ++ mark ∷ [])) last ∙ take-append-le (length olds) olds (mark ∷ []) (omega arith) ∙ take_all (length olds) olds (omega arith)
 
 -- the newest scope was left
-pub left : (layouts : Layouts) (old new : StoreView) (runner runner' : RunnerView) (s : State) (olds : List ℕ) (mark scope : ℕ) → IsSameStore old new → HoldsState layouts old runner s → runner.marks ≡ olds ++ mark ∷ [] → runner'.registers ≡ runner.registers → runner'.marks ≡ olds → scope ≡ min mark (length s.table.scoped) → HoldsAccount layouts new (leave scope s.table) s.account → GoesOn layouts s command.Leave (Ok reply.Done) new runner'
+pub left : (layouts : Layouts) (old new : StoreView ℕ) (runner runner' : RunnerView) (s : State) (olds : List ℕ) (mark scope : ℕ) → IsSameStore old new → HoldsState layouts old runner s → runner.marks ≡ olds ++ mark ∷ [] → runner'.registers ≡ runner.registers → runner'.marks ≡ olds → scope ≡ min mark (length s.table.scoped) → HoldsAccount layouts new (leave scope s.table) s.account → GoesOn layouts s command.Leave (Ok reply.Done) new runner'
 left layouts old new runner runner' s olds mark scope same holds marks registers_are marks_are scope_is table =
     let before : s.marks ≡ olds ++ mark ∷ [] = sym holds.marks ∙ marks in
     let is_left : leave scope s.table ≡ leave mark s.table = ap (λ n. leave n s.table) scope_is ∙ leave-min mark s.table in

@@ -32,7 +32,7 @@ CountedSo limits now refused = min (limits.refusals + refused) (2 ^ 64 - 1) ≤ 
 
 -- The first commands were run from s: whatever run some commands are from here, the commands done and those
 -- are that run from s.
-pub record Along (layouts : Layouts) (counter : Option ℕ) (limits now : Limits) (s : State) (done : List Command) (replies : List Reply) (store : StoreView) (runner : RunnerView) : Type 0 where
+pub record Along (layouts : Layouts) (counter : Option ℕ) (limits now : Limits) (s : State) (done : List Command) (replies : List Reply) (store : StoreView ℕ) (runner : RunnerView) : Type 0 where
   pub mid : State
   pub refused : ℕ
   pub goes_on : (cs : List Command) (rs : List Reply) (after : State) (last : Limits) (n : ℕ) → CountedRun layouts counter now last mid cs rs after n → CountedRun layouts counter limits last s (done ++ cs) (replies ++ rs) after (refused + n)
@@ -42,7 +42,7 @@ pub record Along (layouts : Layouts) (counter : Option ℕ) (limits now : Limits
 
 module _ (layouts : Layouts) (counter : Option ℕ) (limits : Limits) (s : State) where
   -- nothing was run yet
-  pub along_start : (done : List Command) (replies : List Reply) (store : StoreView) (runner : RunnerView) → done ≡ [] → replies ≡ [] → HoldsState layouts store runner s → Along layouts counter limits limits s done replies store runner
+  pub along_start : (done : List Command) (replies : List Reply) (store : StoreView ℕ) (runner : RunnerView) → done ≡ [] → replies ≡ [] → HoldsState layouts store runner s → Along layouts counter limits limits s done replies store runner
   along_start done replies store runner none none_yet holds = record {
     mid = s;
     refused = 0;
@@ -89,9 +89,9 @@ one_more layouts counter limits between last s mid c r step follows cs rs after 
   refused = (n, (counted.refused, adds));
 }
 
-module _ (layouts : Layouts) (counter : Option ℕ) (limits now : Limits) (s : State) (done : List Command) (replies : List Reply) (store : StoreView) (runner : RunnerView) (so_far : Along layouts counter limits now s done replies store runner) where
+module _ (layouts : Layouts) (counter : Option ℕ) (limits now : Limits) (s : State) (done : List Command) (replies : List Reply) (store : StoreView ℕ) (runner : RunnerView) (so_far : Along layouts counter limits now s done replies store runner) where
   -- one more command was run
-  pub along_more : (next : Limits) (c : Command) (replies' : List Reply) (store' : StoreView) (runner' : RunnerView) → RanNext layouts counter now next so_far.mid c replies replies' store' runner' → Along layouts counter limits next s (done ++ c ∷ []) replies' store' runner'
+  pub along_more : (next : Limits) (c : Command) (replies' : List Reply) (store' : StoreView ℕ) (runner' : RunnerView) → RanNext layouts counter now next so_far.mid c replies replies' store' runner' → Along layouts counter limits next s (done ++ c ∷ []) replies' store' runner'
   along_more next c replies' store' runner' did =
       let more : Adds did.answer did.ran.after (wanted_bytes layouts so_far.mid c) limits next so_far.refused = adds_by (wanted_bytes layouts so_far.mid c) limits now next so_far.refused did.answer did.ran.after so_far.counted did.ran.counts in
       record {
@@ -132,7 +132,7 @@ module _ (layouts : Layouts) (counter : Option ℕ) (limits now : Limits) (s : S
   }
 
   -- the next command wanted memory
-  pub along_stopped : (next : Limits) (c : Command) (rest commands : List Command) (store' : StoreView) (runner' : RunnerView) → commands ≡ done ++ c ∷ rest → WantsMemory layouts counter now next so_far.mid c store' runner' → StoppedScript layouts counter limits next s commands store'
+  pub along_stopped : (next : Limits) (c : Command) (rest commands : List Command) (store' : StoreView ℕ) (runner' : RunnerView) → commands ≡ done ++ c ∷ rest → WantsMemory layouts counter now next so_far.mid c store' runner' → StoppedScript layouts counter limits next s commands store'
   along_stopped next c rest commands store' runner' cut wants = record {
     done = done;
     wanting = c;

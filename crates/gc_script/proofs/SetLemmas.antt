@@ -3,7 +3,7 @@ use Rattle.std.proofs.Common.{◌≡◌, ◌≢◌, ℕ, ◌==◌, List, [], ◌
 use Rattle.std.specs.List.{slice_get}
 use Rattle.std.proofs.lemmas.Bool.Decides.{nat_tests}
 use Rattle.gc_types.specs.declared.kind.Layouts.{Layouts}
-use Rattle.gc_model.specs.declared.GcClass.{GcClass}
+use Rattle.gc_owner.specs.declared.entry.GcClass.{GcClass}
 use Rattle.gc_model.specs.Table.{Table, Push}
 use Rattle.gc_model.specs.Stores.{StoreView}
 use Rattle.gc_model.proofs.Lists.{slice_get-push_new}
@@ -12,7 +12,7 @@ use Rattle.gc_store.specs.declared.root.RawValue.{RawValue}
 use Rattle.gc_store.specs.declared.root.RawValue.TheVariants as raw
 use Rattle.gc_store.specs.Roots.{Names, handle_of}
 use Rattle.gc_store.specs.Stores.{IsSameStore}
-use Rattle.gc_store.specs.Accounts.{Account, HoldsAccount}
+use Rattle.gc_policy.specs.Accounts.{Account, HoldsAccount}
 use Rattle.gc_script.specs.Slots.{register_at, RunnerView}
 use Rattle.gc_script.specs.State.{State, Held, reference, Stands, HoldsState, with_heap, set_register}
 use Rattle.gc_script.proofs.StandLemmas.{Keeps, keeps_pushed, holds_kept}
@@ -22,14 +22,14 @@ abbrev pub next_push : Table ℕ → Push
 next_push t = record { index = length t.scoped; generation = t.drops }
 
 -- the handle of a root that was just pushed names it
-pub pushed_names : (new : StoreView) (t t' : Table ℕ) (handle : GcRootIndex) → t'.pushes ≡ t.pushes ++ next_push t ∷ [] → handle ≡ handle_of new (length t.scoped) t.drops → Names new t' handle (length t.pushes)
+pub pushed_names : (new : StoreView ℕ) (t t' : Table ℕ) (handle : GcRootIndex) → t'.pushes ≡ t.pushes ++ next_push t ∷ [] → handle ≡ handle_of new (length t.scoped) t.drops → Names new t' handle (length t.pushes)
 pushed_names new t t' handle pushes is = record {
   push = next_push t;
   pushed = ap (λ (ps : List Push). slice_get ps (length t.pushes)) pushes ∙ slice_get-push_new t.pushes (next_push t);
   is = is;
 }
 
-set_stands : (new : StoreView) (t' : Table ℕ) (slots slots' : List (Option RawValue)) (registers : ℕ → Option Held) (d : ℕ) (value : RawValue) (held : Held) → Stands new t' (Some value) (Some held) → register_at slots' d ≡ Some value → ((k : ℕ) → k ≢ d → register_at slots' k ≡ register_at slots k) → ((k : ℕ) → Stands new t' (register_at slots k) (registers k)) → (k : ℕ) → Stands new t' (register_at slots' k) (cond (k == d) (Some held) (registers k))
+set_stands : (new : StoreView ℕ) (t' : Table ℕ) (slots slots' : List (Option RawValue)) (registers : ℕ → Option Held) (d : ℕ) (value : RawValue) (held : Held) → Stands new t' (Some value) (Some held) → register_at slots' d ≡ Some value → ((k : ℕ) → k ≢ d → register_at slots' k ≡ register_at slots k) → ((k : ℕ) → Stands new t' (register_at slots k) (registers k)) → (k : ℕ) → Stands new t' (register_at slots' k) (cond (k == d) (Some held) (registers k))
 set_stands new t' slots slots' registers d value held stands set others stand k =
     elim (k == d) as (λ b. (k == d) ≡ b → Stands new t' (register_at slots' k) (cond b (Some held) (registers k))) [
       | true ↦ λ e.
@@ -41,7 +41,7 @@ set_stands new t' slots slots' registers d value held stands set others stand k 
     ] refl
 
 -- a register was set to what stands in the store after
-pub holds_set : (layouts : Layouts) (old new : StoreView) (runner runner' : RunnerView) (s : State) (t' : Table ℕ) (a : Account) (d : ℕ) (value : RawValue) (held : Held) → IsSameStore old new → Keeps s.table.pushes t'.pushes → HoldsState layouts old runner s → HoldsAccount layouts new t' a → Stands new t' (Some value) (Some held) → register_at runner'.registers d ≡ Some value → ((k : ℕ) → k ≢ d → register_at runner'.registers k ≡ register_at runner.registers k) → runner'.marks ≡ runner.marks → HoldsState layouts new runner' (set_register d held (with_heap t' a s))
+pub holds_set : (layouts : Layouts) (old new : StoreView ℕ) (runner runner' : RunnerView) (s : State) (t' : Table ℕ) (a : Account) (d : ℕ) (value : RawValue) (held : Held) → IsSameStore old new → Keeps s.table.pushes t'.pushes → HoldsState layouts old runner s → HoldsAccount layouts new t' a → Stands new t' (Some value) (Some held) → register_at runner'.registers d ≡ Some value → ((k : ℕ) → k ≢ d → register_at runner'.registers k ≡ register_at runner.registers k) → runner'.marks ≡ runner.marks → HoldsState layouts new runner' (set_register d held (with_heap t' a s))
 holds_set layouts old new runner runner' s t' a d value held same keeps holds table stands set others marks =
     let mid = holds_kept layouts old new runner runner s t' a same keeps (λ k. refl) refl holds table in
     record {
@@ -52,7 +52,7 @@ holds_set layouts old new runner runner' s t' a d value held same keeps holds ta
     }
 
 -- so of the handle of a root that was just pushed
-pub holds_pushed : (layouts : Layouts) (old new : StoreView) (runner runner' : RunnerView) (s : State) (t' : Table ℕ) (a : Account) (d : ℕ) (class : GcClass) (handle : GcRootIndex) → IsSameStore old new → t'.pushes ≡ s.table.pushes ++ next_push s.table ∷ [] → HoldsState layouts old runner s → HoldsAccount layouts new t' a → handle ≡ handle_of new (length s.table.scoped) s.table.drops → register_at runner'.registers d ≡ Some (raw.Ref class (Some handle)) → ((k : ℕ) → k ≢ d → register_at runner'.registers k ≡ register_at runner.registers k) → runner'.marks ≡ runner.marks → HoldsState layouts new runner' (set_register d (reference class (Some (length s.table.pushes))) (with_heap t' a s))
+pub holds_pushed : (layouts : Layouts) (old new : StoreView ℕ) (runner runner' : RunnerView) (s : State) (t' : Table ℕ) (a : Account) (d : ℕ) (class : GcClass) (handle : GcRootIndex) → IsSameStore old new → t'.pushes ≡ s.table.pushes ++ next_push s.table ∷ [] → HoldsState layouts old runner s → HoldsAccount layouts new t' a → handle ≡ handle_of new (length s.table.scoped) s.table.drops → register_at runner'.registers d ≡ Some (raw.Ref class (Some handle)) → ((k : ℕ) → k ≢ d → register_at runner'.registers k ≡ register_at runner.registers k) → runner'.marks ≡ runner.marks → HoldsState layouts new runner' (set_register d (reference class (Some (length s.table.pushes))) (with_heap t' a s))
 holds_pushed layouts old new runner runner' s t' a d class handle same pushes holds table is set others marks =
     holds_set layouts old new runner runner' s t' a d (raw.Ref class (Some handle)) (reference class (Some (length s.table.pushes))) same
     (keeps_pushed s.table.pushes t'.pushes (next_push s.table) pushes) holds table

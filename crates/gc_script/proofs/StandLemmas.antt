@@ -12,12 +12,12 @@ use Rattle.gc_store.specs.declared.root.RawValue.{RawValue}
 use Rattle.gc_store.specs.declared.root.RawValue.TheVariants as raw
 use Rattle.gc_store.specs.Roots.{Names}
 use Rattle.gc_store.specs.Stores.{IsSameStore}
-use Rattle.gc_store.specs.Accounts.{Account, HoldsAccount}
+use Rattle.gc_policy.specs.Accounts.{Account, HoldsAccount}
 use Rattle.gc_script.specs.Slots.{register_at, RunnerView}
 use Rattle.gc_script.specs.State.{State, Held, number, reference, Stands, HoldsState, begin, with_heap}
 
 -- a store holds the table, whatever its account is
-pub holds_table : {D : Type 0} {layouts : Layouts} {s : StoreView} {t : Table D} {a : Account} → HoldsAccount layouts s t a → HoldsTable layouts s t
+pub holds_table : {D : Type 0} {layouts : Layouts} {s : StoreView D} {t : Table D} {a : Account} → HoldsAccount layouts s t a → HoldsTable layouts s t
 holds_table holds = (holds.place, holds.holds)
 
 -- pushes that were there are still there
@@ -40,7 +40,7 @@ handle_in engine store_number index generation = record {
 }
 
 -- a handle names the same root in the store after
-pub names_kept : (s new : StoreView) (t t' : Table ℕ) (handle : GcRootIndex) (serial : ℕ) → IsSameStore s new → Keeps t.pushes t'.pushes → Names s t handle serial → Names new t' handle serial
+pub names_kept : (s new : StoreView ℕ) (t t' : Table ℕ) (handle : GcRootIndex) (serial : ℕ) → IsSameStore s new → Keeps t.pushes t'.pushes → Names s t handle serial → Names new t' handle serial
 names_kept s new t t' handle serial same keeps names = record {
   push = names.push;
   pushed = keeps serial names.push names.pushed;
@@ -50,15 +50,15 @@ names_kept s new t t' handle serial same keeps names = record {
 }
 
 -- a store is the same as itself
-pub same_store : (s : StoreView) → IsSameStore s s
+pub same_store : (s : StoreView ℕ) → IsSameStore s s
 same_store s = record { engine = refl; number = refl; counter = refl }
 
 -- a store that is the same as one that is the same as another
-pub same_twice : (a b c : StoreView) → IsSameStore a b → IsSameStore b c → IsSameStore a c
+pub same_twice : (a b c : StoreView ℕ) → IsSameStore a b → IsSameStore b c → IsSameStore a c
 same_twice a b c one two = record { engine = two.engine ∙ one.engine; number = two.number ∙ one.number; counter = two.counter ∙ one.counter }
 
 -- what a register holds stands in the store after
-pub stands_kept : (s new : StoreView) (t t' : Table ℕ) (found : Option RawValue) (held : Option Held) → IsSameStore s new → Keeps t.pushes t'.pushes → Stands s t found held → Stands new t' found held
+pub stands_kept : (s new : StoreView ℕ) (t t' : Table ℕ) (found : Option RawValue) (held : Option Held) → IsSameStore s new → Keeps t.pushes t'.pushes → Stands s t found held → Stands new t' found held
 stands_kept s new t t' None None same keeps stands = tt
 stands_kept s new t t' None (Some (number v)) same keeps stands = absurd stands
 stands_kept s new t t' None (Some (reference c None)) same keeps stands = absurd stands
@@ -97,7 +97,7 @@ stands_kept s new t t' (Some (raw.Ref c' (Some handle))) (Some (reference c None
 stands_kept s new t t' (Some (raw.Ref c' (Some handle))) (Some (reference c (Some serial))) same keeps stands = (stands.0, names_kept s new t t' handle serial same keeps stands.1)
 
 -- the registers stand for the same ones in the store after
-pub holds_kept : (layouts : Layouts) (s new : StoreView) (runner runner' : RunnerView) (state : State) (t' : Table ℕ) (a : Account) → IsSameStore s new → Keeps state.table.pushes t'.pushes → ((d : ℕ) → register_at runner'.registers d ≡ register_at runner.registers d) → runner'.marks ≡ runner.marks → HoldsState layouts s runner state → HoldsAccount layouts new t' a → HoldsState layouts new runner' (with_heap t' a state)
+pub holds_kept : (layouts : Layouts) (s new : StoreView ℕ) (runner runner' : RunnerView) (state : State) (t' : Table ℕ) (a : Account) → IsSameStore s new → Keeps state.table.pushes t'.pushes → ((d : ℕ) → register_at runner'.registers d ≡ register_at runner.registers d) → runner'.marks ≡ runner.marks → HoldsState layouts s runner state → HoldsAccount layouts new t' a → HoldsState layouts new runner' (with_heap t' a state)
 holds_kept layouts s new runner runner' state t' a same keeps slots_are marks_are holds table = record {
   table = table;
   registers = λ d. subst (λ (o : Option RawValue). Stands new t' o (state.registers d)) (sym (slots_are d)) (stands_kept s new state.table t' (register_at runner.registers d) (state.registers d) same keeps (holds.registers d));
@@ -106,11 +106,11 @@ holds_kept layouts s new runner runner' state t' a same keeps slots_are marks_ar
 }
 
 -- so where the table and the account are the same
-pub holds_same : (layouts : Layouts) (s new : StoreView) (runner runner' : RunnerView) (state : State) → IsSameStore s new → ((d : ℕ) → register_at runner'.registers d ≡ register_at runner.registers d) → runner'.marks ≡ runner.marks → HoldsState layouts s runner state → HoldsAccount layouts new state.table state.account → HoldsState layouts new runner' state
+pub holds_same : (layouts : Layouts) (s new : StoreView ℕ) (runner runner' : RunnerView) (state : State) → IsSameStore s new → ((d : ℕ) → register_at runner'.registers d ≡ register_at runner.registers d) → runner'.marks ≡ runner.marks → HoldsState layouts s runner state → HoldsAccount layouts new state.table state.account → HoldsState layouts new runner' state
 holds_same layouts s new runner runner' state same slots_are marks_are holds table = holds_kept layouts s new runner runner' state state.table state.account same (λ i p e. e) slots_are marks_are holds table
 
 -- a store with a new runner is in the state at the beginning
-pub begins : (layouts : Layouts) (store : StoreView) (runner : RunnerView) (t : Table ℕ) (a : Account) → HoldsAccount layouts store t a → runner ≡ record { registers = []; marks = [] } → HoldsState layouts store runner (begin t a)
+pub begins : (layouts : Layouts) (store : StoreView ℕ) (runner : RunnerView) (t : Table ℕ) (a : Account) → HoldsAccount layouts store t a → runner ≡ record { registers = []; marks = [] } → HoldsState layouts store runner (begin t a)
 begins layouts store runner t a holds none = record {
   table = holds;
   registers = λ d. subst (λ (r : RunnerView). Stands store t (register_at r.registers d) None) (sym none) tt;

@@ -7,7 +7,7 @@ use Rattle.std.proofs.lemmas.Option.{none-some, slice_get_within, slice_get_case
 use Rattle.gc_types.specs.declared.kind.Layouts.{Layouts}
 use Rattle.gc_types.specs.declared.value.FieldType.{FieldType}
 use Rattle.gc_types.specs.Declarations.{Declaration, struct_fields_at}
-use Rattle.gc_model.specs.declared.GcClass.{GcClass}
+use Rattle.gc_owner.specs.declared.entry.GcClass.{GcClass}
 use Rattle.gc_model.specs.Values.{Reference, null, small, at, Value, Object, struct}
 use Rattle.gc_model.specs.Values as values
 use Rattle.gc_model.specs.Table.{Table}
@@ -31,7 +31,7 @@ use Rattle.gc_script.specs.Values.{raw_handle, IsFound}
 use Rattle.gc_script.specs.Named.{IsStructRoot, TellsStruct, IsFieldPlace, FoundField}
 
 -- what a root that a value is names
-pub record NamesRoot (s : StoreView) (t : Table ℕ) (handle : GcRootIndex) (v : Value) : Type 0 where
+pub record NamesRoot (s : StoreView ℕ) (t : Table ℕ) (handle : GcRootIndex) (v : Value) : Type 0 where
   pub class : GcClass
   pub serial : ℕ
   pub names : Names s t handle serial
@@ -40,7 +40,7 @@ pub record NamesRoot (s : StoreView) (t : Table ℕ) (handle : GcRootIndex) (v :
   pub is_root : v ≡ values.reference class root
 
 -- a value that is a handle stands for what its root names
-pub names_root : (s : StoreView) (t : Table ℕ) (r : RawValue) (v : Value) (handle : GcRootIndex) → raw_handle r ≡ Some handle → RawStands s t r v → NamesRoot s t handle v
+pub names_root : (s : StoreView ℕ) (t : Table ℕ) (r : RawValue) (v : Value) (handle : GcRootIndex) → raw_handle r ≡ Some handle → RawStands s t r v → NamesRoot s t handle v
 names_root s t (raw.I32 n) v handle e stands = absurd (none-some handle e)
 names_root s t (raw.I64 n) v handle e stands = absurd (none-some handle e)
 names_root s t (raw.F32 n) v handle e stands = absurd (none-some handle e)
@@ -66,14 +66,14 @@ target_of_root t class (small n) = refl
 target_of_root t class (at p) = refl
 
 -- a live struct has as many values as its type has fields
-pub record TypedStruct (s : StoreView) (t : Table ℕ) (ty : ℕ) (vs : List Value) : Type 0 where
+pub record TypedStruct (s : StoreView ℕ) (t : Table ℕ) (ty : ℕ) (vs : List Value) : Type 0 where
   pub fields : List FieldType
   pub declared : struct_fields_at t.types ty ≡ Some fields
   pub in_store : struct_fields_at s.types ty ≡ Some fields
   pub same_count : length vs ≡ length fields
   pub fit : (i : ℕ) (field : FieldType) (v : Value) → slice_get fields i ≡ Some field → slice_get vs i ≡ Some v → fits field.element_type v ≡ true
 
-pub typed_struct : (layouts : Layouts) (s : StoreView) (t : Table ℕ) → HoldsTable layouts s t → (serial position ty : ℕ) (vs : List Value) → rooted t serial ≡ Some (at position) → slice_get t.objects position ≡ Some (struct ty vs) → TypedStruct s t ty vs
+pub typed_struct : (layouts : Layouts) (s : StoreView ℕ) (t : Table ℕ) → HoldsTable layouts s t → (serial position ty : ℕ) (vs : List Value) → rooted t serial ≡ Some (at position) → slice_get t.objects position ≡ Some (struct ty vs) → TypedStruct s t ty vs
 typed_struct layouts s t holds serial position ty vs live object =
     let typed = holds_typed layouts s t holds serial position live in
     let both : ◌≡◌ {A = Option (Object ℕ)} (Some (struct typed.ty typed.values)) (Some (struct ty vs)) = sym typed.object ∙ object in
@@ -89,7 +89,7 @@ typed_struct layouts s t holds serial position ty vs live object =
     }
 
 -- the place of a field that the type has
-pub field_place : (layouts : Layouts) (s : StoreView) (index ty : ℕ) (root : GcRootIndex) (field : FieldType) → IsStructRoot layouts s root ty → ((fields : List FieldType) → struct_fields_at s.types ty ≡ Some fields → Some field ≡ slice_get fields index) → IsFieldPlace layouts s index (record { root = root; field = field })
+pub field_place : (layouts : Layouts) (s : StoreView ℕ) (index ty : ℕ) (root : GcRootIndex) (field : FieldType) → IsStructRoot layouts s root ty → ((fields : List FieldType) → struct_fields_at s.types ty ≡ Some fields → Some field ≡ slice_get fields index) → IsFieldPlace layouts s index (record { root = root; field = field })
 field_place layouts s index ty root field is_struct e =
     let typed = typed_struct layouts s is_struct.table is_struct.holds is_struct.serial is_struct.position ty is_struct.values is_struct.live is_struct.object in
     let field_is : slice_get typed.fields index ≡ Some field = sym (e typed.fields typed.in_store) in
@@ -124,7 +124,7 @@ refusal_by g x i = first_failing (
 tests_by : (s : State) (r i : ℕ) (g : Given) (x : Option Target) → given_register s r ≡ g → target s r ≡ x → first_failing (target_tests s r i) ≡ refusal_by g x i
 tests_by s r i g x given_is target_is = ap (λ (h : Given). refusal_by h (target s r) i) given_is ∙ ap (λ (y : Option Target). refusal_by g y i) target_is
 
-module _ (layouts : Layouts) (store : StoreView) (s : State) (r index ty : ℕ) (value : RawValue) (root : GcRootIndex) (holds : HoldsTable layouts store s.table) (found : IsFound store s.table value (given_register s r) true) (handle : raw_handle value ≡ Some root) (tells : (serial : ℕ) (q : Reference) → Names store s.table root serial → rooted s.table serial ≡ Some q → TellsStruct s.table q (Some ty)) where
+module _ (layouts : Layouts) (store : StoreView ℕ) (s : State) (r index ty : ℕ) (value : RawValue) (root : GcRootIndex) (holds : HoldsTable layouts store s.table) (found : IsFound store s.table value (given_register s r) true) (handle : raw_handle value ≡ Some root) (tells : (serial : ℕ) (q : Reference) → Names store s.table root serial → rooted s.table serial ≡ Some q → TellsStruct s.table q (Some ty)) where
   names_it : NamesRoot store s.table root found.0
   names_it = names_root store s.table value found.0 root handle found.1.1
 

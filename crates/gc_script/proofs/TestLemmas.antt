@@ -43,7 +43,7 @@ pub follows_by : (layouts : Layouts) (counter : Option ℕ) (s : State) (limits 
 follows_by layouts counter s limits sh found known answer s' limits' e follows = subst (λ (o : Option Refusal). FollowsTested layouts counter s limits sh o answer s' limits') (sym e) follows
 
 -- a command that is refused changes nothing
-pub refuses : (layouts : Layouts) (store : StoreView) (runner : RunnerView) (s : State) (c : Command) (why : Refusal) → HoldsState layouts store runner s → first_failing (tests layouts s c) ≡ Some why → Goes layouts s (shape c) (tests layouts s c) (reply.Refused why) store runner
+pub refuses : (layouts : Layouts) (store : StoreView ℕ) (runner : RunnerView) (s : State) (c : Command) (why : Refusal) → HoldsState layouts store runner s → first_failing (tests layouts s c) ≡ Some why → Goes layouts s (shape c) (tests layouts s c) (reply.Refused why) store runner
 refuses layouts store runner s c why holds e = record {
   after = s;
   answers = answers_by layouts None s (shape c) (first_failing (tests layouts s c)) (Some why) (reply.Refused why) s e (refl, refl);

@@ -2,7 +2,7 @@
 use Rattle.std.proofs.Common.{◌≡◌, ℕ, Option, Some, None, true, sym, ap, refl, subst, arith}
 use Rattle.std.specs.Prelude.{Result, Ok, Err, is_ok}
 use Rattle.std.proofs.lemmas.Option.{none-some}
-use Rattle.gc_model.specs.declared.GcClass.{GcClass}
+use Rattle.gc_owner.specs.declared.entry.GcClass.{GcClass}
 use Rattle.gc_model.specs.Values.{Reference, null, Value, numeric, i32, i64, f32, f64, v128, function}
 use Rattle.gc_model.specs.Values as values
 use Rattle.gc_model.specs.Table.{Table}
@@ -19,7 +19,7 @@ use Rattle.gc_script.specs.Given.{gone, is, given_held, given_root}
 use Rattle.gc_script.specs.Values.{raw_handle, IsFound}
 
 -- what is no handle stands for a value
-pub found_plain : (s : StoreView) (t : Table ℕ) (r : RawValue) (held : Option Held) → raw_handle r ≡ None → Stands s t (Some r) held → IsFound s t r (given_held t held) true
+pub found_plain : (s : StoreView ℕ) (t : Table ℕ) (r : RawValue) (held : Option Held) → raw_handle r ≡ None → Stands s t (Some r) held → IsFound s t r (given_held t held) true
 found_plain s t (raw.I32 n) None plain stands = absurd stands
 found_plain s t (raw.I32 n) (Some (number v)) plain stands = (v, (refl, stands))
 found_plain s t (raw.I32 n) (Some (reference c None)) plain stands = absurd stands
@@ -51,7 +51,7 @@ found_plain s t (raw.Ref class None) (Some (reference c (Some k))) plain stands 
 found_plain s t (raw.Ref class (Some handle)) held plain stands = absurd (none-some handle (sym plain))
 
 -- a root is gone, or it stands for what it names
-found_root : (s : StoreView) (t : Table ℕ) (class class' : GcClass) (handle : GcRootIndex) (serial : ℕ) (o : Option Reference) (answer : Result RootedObject RootFault) → class ≡ class' → Names s t handle serial → rooted t serial ≡ o → TellsRoot t o answer → IsFound s t (raw.Ref class (Some handle)) (given_root class' o) (is_ok answer)
+found_root : (s : StoreView ℕ) (t : Table ℕ) (class class' : GcClass) (handle : GcRootIndex) (serial : ℕ) (o : Option Reference) (answer : Result RootedObject RootFault) → class ≡ class' → Names s t handle serial → rooted t serial ≡ o → TellsRoot t o answer → IsFound s t (raw.Ref class (Some handle)) (given_root class' o) (is_ok answer)
 found_root s t class class' handle serial None answer same names live tells =
     subst (λ (x : Result RootedObject RootFault). IsFound s t (raw.Ref class (Some handle)) gone (is_ok x)) (sym tells) refl
 found_root s t class class' handle serial (Some r) (Ok x) same names live tells =
@@ -59,7 +59,7 @@ found_root s t class class' handle serial (Some r) (Ok x) same names live tells 
 found_root s t class class' handle serial (Some r) (Err e) same names live tells = absurd tells
 
 -- so of a handle, by what the store answers
-pub found_handle : (s : StoreView) (t : Table ℕ) (r : RawValue) (held : Option Held) (handle : GcRootIndex) (answer : Result RootedObject RootFault) → raw_handle r ≡ Some handle → ((serial : ℕ) → Names s t handle serial → TellsRoot t (rooted t serial) answer) → Stands s t (Some r) held → IsFound s t r (given_held t held) (is_ok answer)
+pub found_handle : (s : StoreView ℕ) (t : Table ℕ) (r : RawValue) (held : Option Held) (handle : GcRootIndex) (answer : Result RootedObject RootFault) → raw_handle r ≡ Some handle → ((serial : ℕ) → Names s t handle serial → TellsRoot t (rooted t serial) answer) → Stands s t (Some r) held → IsFound s t r (given_held t held) (is_ok answer)
 found_handle s t (raw.I32 n) held handle answer is_handle tells stands = absurd (none-some handle is_handle)
 found_handle s t (raw.I64 n) held handle answer is_handle tells stands = absurd (none-some handle is_handle)
 found_handle s t (raw.F32 n) held handle answer is_handle tells stands = absurd (none-some handle is_handle)

@@ -5,7 +5,7 @@ use Rattle.gc_types.specs.declared.kind.Layouts.{Layouts}
 use Rattle.gc_types.specs.declared.value.FieldType.{FieldType}
 use Rattle.gc_types.specs.declared.value.Mutability.{Mutability}
 use Rattle.gc_types.specs.declared.value.Mutability.TheVariants.{Const, Var}
-use Rattle.gc_model.specs.declared.GcClass.{GcClass}
+use Rattle.gc_owner.specs.declared.entry.GcClass.{GcClass}
 use Rattle.gc_model.specs.Values.{Reference}
 use Rattle.gc_model.specs.Table.{Table, write}
 use Rattle.gc_model.specs.Live.{rooted}
@@ -17,7 +17,7 @@ use Rattle.gc_commands.specs.declared.reply.Refusal.{Refusal}
 use Rattle.gc_commands.specs.declared.reply.Refusal.TheVariants as refusal
 use Rattle.gc_store.specs.declared.root.RawValue.{RawValue}
 use Rattle.gc_store.specs.declared.root.RawValue.TheVariants as raw
-use Rattle.gc_store.specs.Accounts.{HoldsAccount}
+use Rattle.gc_policy.specs.Accounts.{HoldsAccount}
 use Rattle.gc_store.specs.Stores.{IsSameStore}
 use Rattle.gc_store.specs.Values.{CanStore, CanWrite, RawStands, WritesValue}
 use Rattle.gc_script.specs.declared.targets.FieldPlace.{FieldPlace}
@@ -37,7 +37,7 @@ root_set c None = refl
 root_set c (Some r) = refl
 
 -- what a value stands for is set
-pub is_set : (s : StoreView) (t : Table ℕ) (r : RawValue) (held : Option Held) → Stands s t (Some r) held → is_unset (given_held t held) ≡ false
+pub is_set : (s : StoreView ℕ) (t : Table ℕ) (r : RawValue) (held : Option Held) → Stands s t (Some r) held → is_unset (given_held t held) ≡ false
 is_set s t (raw.I32 n) None stands = absurd stands
 is_set s t (raw.I64 n) None stands = absurd stands
 is_set s t (raw.F32 n) None stands = absurd stands
@@ -55,7 +55,7 @@ pub const_not_var : (m : Mutability) → ¬ (m ≡ Var) → is_const m ≡ true
 const_not_var Const other = refl
 const_not_var Var other = absurd (other refl)
 
-module _ (layouts : Layouts) (store : StoreView) (runner : RunnerView) (s : State) (r i : ℕ) (v : Operand) (holds : HoldsState layouts store runner s) (built : is_built_operand v ≡ true) (set : is_unset (given_register s r) ≡ false) where
+module _ (layouts : Layouts) (store : StoreView ℕ) (runner : RunnerView) (s : State) (r i : ℕ) (v : Operand) (holds : HoldsState layouts store runner s) (built : is_built_operand v ≡ true) (set : is_unset (given_register s r) ≡ false) where
   abbrev value_rest : List (Bool × Refusal)
   value_rest = (is_constant (field_of s.table (target s r) i), refusal.Immutable) ∷ value_tests s (field_of s.table (target s r) i) v
 
@@ -96,7 +96,7 @@ module _ (layouts : Layouts) (store : StoreView) (runner : RunnerView) (s : Stat
       no_fit var why e = refuses layouts store runner s (command.SetField r i v) why holds (to_check var ∙ e)
 
       -- the field was written
-      pub written : (new : StoreView) (value : RawValue) → place.field.mutability ≡ Var → first_failing (value_tests s (Some place.field) v) ≡ None → IsSameStore store new → RawStands store s.table value (given_value (given s v)) → WritesValue layouts store new s.table s.account place.root i value → GoesOn layouts s (command.SetField r i v) (Ok reply.Done) new runner
+      pub written : (new : StoreView ℕ) (value : RawValue) → place.field.mutability ≡ Var → first_failing (value_tests s (Some place.field) v) ≡ None → IsSameStore store new → RawStands store s.table value (given_value (given s v)) → WritesValue layouts store new s.table s.account place.root i value → GoesOn layouts s (command.SetField r i v) (Ok reply.Done) new runner
       written new value var fits same stands writes =
           let table : HoldsAccount layouts new (write found.found.position i (given_value (given s v)) s.table) s.account =
           subst (λ (p : ℕ). HoldsAccount layouts new (write p i (given_value (given s v)) s.table) s.account) found.position (writes found.value (given_value (given s v)) found.has stands) in
@@ -109,7 +109,7 @@ module _ (layouts : Layouts) (store : StoreView) (runner : RunnerView) (s : Stat
           }
 
 -- a value that goes into a field that was found may be written
-pub can_write : (layouts : Layouts) (store : StoreView) (i : ℕ) (place : FieldPlace) (value : RawValue) → IsFieldPlace layouts store i place → CanStore ℕ layouts store place.field value → CanWrite ℕ layouts store place.root i value
+pub can_write : (layouts : Layouts) (store : StoreView ℕ) (i : ℕ) (place : FieldPlace) (value : RawValue) → IsFieldPlace layouts store i place → CanStore ℕ layouts store place.field value → CanWrite ℕ layouts store place.root i value
 can_write layouts store i place value is_place can_store = record {
   table = is_place.table;
   holds = is_place.holds;

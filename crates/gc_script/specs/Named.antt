@@ -19,7 +19,7 @@ use Rattle.gc_script.specs.Given.{Target, target, reference_target, field_of}
 use Rattle.gc_script.specs.Steps.{first_failing, target_tests}
 
 -- the root is live in some table that the store holds, and names a struct of that type
-pub record IsStructRoot (layouts : Layouts) (s : StoreView) (root : GcRootIndex) (ty : ℕ) : Type 0 where
+pub record IsStructRoot (layouts : Layouts) (s : StoreView ℕ) (root : GcRootIndex) (ty : ℕ) : Type 0 where
   pub table : Table ℕ
   pub holds : HoldsTable layouts s table
   pub serial : ℕ
@@ -35,7 +35,7 @@ TellsStruct t r (Some ty) = (position : ℕ) × (values : List Value) × ((r ≡
 TellsStruct t r None = reference_target t (Some r) ≡ None
 
 -- the place is that of a field of some table that the store holds
-pub record IsFieldPlace (layouts : Layouts) (s : StoreView) (index : ℕ) (place : FieldPlace) : Type 0 where
+pub record IsFieldPlace (layouts : Layouts) (s : StoreView ℕ) (index : ℕ) (place : FieldPlace) : Type 0 where
   pub table : Table ℕ
   pub holds : HoldsTable layouts s table
   pub value : Value
@@ -45,7 +45,7 @@ pub record IsFieldPlace (layouts : Layouts) (s : StoreView) (index : ℕ) (place
   pub field_is : slice_get fields index ≡ Some place.field
 
 -- the field that a register names in a state, whose tests pass
-pub record FoundField (store : StoreView) (s : State) (r index : ℕ) (place : FieldPlace) : Type 0 where
+pub record FoundField (store : StoreView ℕ) (s : State) (r index : ℕ) (place : FieldPlace) : Type 0 where
   pub passes : first_failing (target_tests s r index) ≡ None
   pub found : Target
   pub is_target : target s r ≡ Some found
@@ -56,7 +56,7 @@ pub record FoundField (store : StoreView) (s : State) (r index : ℕ) (place : F
   pub field_is : field_of s.table (target s r) index ≡ Some place.field
 
 -- a register names a field, or the tests say why not
-abbrev pub FindsField : StoreView → State → ℕ → ℕ → Result FieldPlace Refusal → Type 0
+abbrev pub FindsField : StoreView ℕ → State → ℕ → ℕ → Result FieldPlace Refusal → Type 0
 FindsField store s r index (Ok place) = FoundField store s r index place
 FindsField store s r index (Err why) = first_failing (target_tests s r index) ≡ Some why
 

@@ -6,9 +6,9 @@ use Rattle.gc_model.specs.Sizes.{object_size}
 use Rattle.gc_view.specs.Pages.{max_pages}
 use Rattle.gc_model.specs.Allocation.{Limits, asked}
 use Rattle.gc_model.specs.Stores.{StoreView}
-use Rattle.gc_store.specs.Limiters.{Refuses}
+use Rattle.gc_owner.specs.Limiters.{Refuses}
 use Rattle.gc_store.specs.Places.{MayGetPages}
-use Rattle.gc_store.specs.Policy.{PolicyState}
+use Rattle.gc_policy.specs.Policy.{PolicyState}
 use Rattle.gc_commands.specs.declared.command.Command.{Command}
 use Rattle.gc_commands.specs.declared.command.Command.TheVariants.{Struct, New, I31, Field, Enter, Grow}
 use Rattle.gc_commands.specs.declared.reply.Reply.{Reply}
@@ -61,7 +61,7 @@ pub data Counts (bytes : ℕ) (limits limits' : Limits) (answer : Reply) (after 
   nothing : ¬ IsAsked answer after bytes → limits' ≡ limits → Counts bytes limits limits' answer after
 
 -- A command was a step of the state that follows the policy of growth, and the limiter counted what it refused.
-pub record Ran (layouts : Layouts) (counter : Option ℕ) (limits limits' : Limits) (s : State) (c : Command) (answer : Reply) (new : StoreView) (runner : RunnerView) : Type 0 where
+pub record Ran (layouts : Layouts) (counter : Option ℕ) (limits limits' : Limits) (s : State) (c : Command) (answer : Reply) (new : StoreView ℕ) (runner : RunnerView) : Type 0 where
   pub after : State
   pub step : Step layouts limits.limit s c answer after
   pub follows : Follows layouts counter s limits c answer after limits'
@@ -70,7 +70,7 @@ pub record Ran (layouts : Layouts) (counter : Option ℕ) (limits limits' : Limi
 
 -- Want of memory leaves the state, but that a collection may have run, and that the heap may have got pages which the
 -- limit grants: where a command makes an object or grows the heap alone, as the policy says, and where no test refuses it.
-pub record WantsAfter (layouts : Layouts) (counter : Option ℕ) (limits limits' : Limits) (s : State) (sh : Shape) (found : Option Refusal) (new : StoreView) (runner : RunnerView) : Type 0 where
+pub record WantsAfter (layouts : Layouts) (counter : Option ℕ) (limits limits' : Limits) (s : State) (sh : Shape) (found : Option Refusal) (new : StoreView ℕ) (runner : RunnerView) : Type 0 where
   pub after : PolicyState ℕ
   pub came : Came layouts counter s sh found (policy_of s limits) after
   pub pages : MayGetPages limits.limit (shape_bytes layouts s sh) s.table after.table
@@ -78,11 +78,11 @@ pub record WantsAfter (layouts : Layouts) (counter : Option ℕ) (limits limits'
   pub limits_are : limits' ≡ after.limits
 
 -- the same of a command, with its shape and the refusal that its tests find
-pub record WantsMemory (layouts : Layouts) (counter : Option ℕ) (limits limits' : Limits) (s : State) (c : Command) (new : StoreView) (runner : RunnerView) : Type 0 where
+pub record WantsMemory (layouts : Layouts) (counter : Option ℕ) (limits limits' : Limits) (s : State) (c : Command) (new : StoreView ℕ) (runner : RunnerView) : Type 0 where
   pub wants : WantsAfter layouts counter limits limits' s (shape c) (first_failing (tests layouts s c)) new runner
 
 -- what running one command answers and leaves
-abbrev pub RunsOne : Layouts → Option ℕ → Limits → Limits → State → Command → Result Reply RunError → StoreView → RunnerView → Type 0
+abbrev pub RunsOne : Layouts → Option ℕ → Limits → Limits → State → Command → Result Reply RunError → StoreView ℕ → RunnerView → Type 0
 RunsOne layouts counter limits limits' s c (Ok answer) new runner = Ran layouts counter limits limits' s c answer new runner
 RunsOne layouts counter limits limits' s c (Err e) new runner = WantsMemory layouts counter limits limits' s c new runner
 
@@ -101,7 +101,7 @@ abbrev pub TakesMemory : Command → Type 0
 TakesMemory c = (is_built c ≡ true) × (takes_memory c ≡ true)
 
 -- What a command of that shape answers and leaves, once the tests up to these passed.
-pub record RunsRest (layouts : Layouts) (counter : Option ℕ) (limits limits' : Limits) (s : State) (sh : Shape) (left : List (Bool × Refusal)) (answer : Reply) (new : StoreView) (runner : RunnerView) : Type 0 where
+pub record RunsRest (layouts : Layouts) (counter : Option ℕ) (limits limits' : Limits) (s : State) (sh : Shape) (left : List (Bool × Refusal)) (answer : Reply) (new : StoreView ℕ) (runner : RunnerView) : Type 0 where
   pub after : State
   pub answers : Answers layouts limits.limit s sh (first_failing left) answer after
   pub follows : FollowsTested layouts counter s limits sh (first_failing left) answer after limits'
@@ -109,18 +109,18 @@ pub record RunsRest (layouts : Layouts) (counter : Option ℕ) (limits limits' :
   pub holds : HoldsState layouts new runner after
 
 -- the same, or memory is wanting
-abbrev pub RunsOn : Layouts → Option ℕ → Limits → Limits → State → Shape → List (Bool × Refusal) → Result Reply RunError → StoreView → RunnerView → Type 0
+abbrev pub RunsOn : Layouts → Option ℕ → Limits → Limits → State → Shape → List (Bool × Refusal) → Result Reply RunError → StoreView ℕ → RunnerView → Type 0
 RunsOn layouts counter limits limits' s sh left (Ok answer) new runner = RunsRest layouts counter limits limits' s sh left answer new runner
 RunsOn layouts counter limits limits' s sh left (Err e) new runner = WantsAfter layouts counter limits limits' s sh (first_failing left) new runner
 
 -- the same of a shape that asks no limiter and leaves it and the account as they are
-pub record Goes (layouts : Layouts) (s : State) (sh : Shape) (left : List (Bool × Refusal)) (answer : Reply) (new : StoreView) (runner : RunnerView) : Type 0 where
+pub record Goes (layouts : Layouts) (s : State) (sh : Shape) (left : List (Bool × Refusal)) (answer : Reply) (new : StoreView ℕ) (runner : RunnerView) : Type 0 where
   pub after : State
   pub answers : Answers layouts None s sh (first_failing left) answer after
   pub account : after.account ≡ s.account
   pub holds : HoldsState layouts new runner after
 
 -- what a command of such a shape answers and leaves
-abbrev pub GoesOn : Layouts → State → Command → Result Reply RunError → StoreView → RunnerView → Type 0
+abbrev pub GoesOn : Layouts → State → Command → Result Reply RunError → StoreView ℕ → RunnerView → Type 0
 GoesOn layouts s c (Ok answer) new runner = Goes layouts s (shape c) (tests layouts s c) answer new runner
 GoesOn layouts s c (Err e) new runner = HoldsState layouts new runner s

@@ -4,7 +4,7 @@ use Rattle.gc_types.specs.declared.kind.Layouts.{Layouts}
 use Rattle.gc_model.specs.Allocation.{Limits}
 use Rattle.gc_model.specs.Stores.{StoreView}
 use Rattle.gc_model.specs.Holds.{HoldsKept}
-use Rattle.gc_store.specs.Accounts.{HoldsAccount}
+use Rattle.gc_policy.specs.Accounts.{HoldsAccount}
 use Rattle.gc_commands.specs.declared.command.Command.{Command}
 use Rattle.gc_commands.specs.declared.command.Command.TheVariants.{Gc}
 use Rattle.gc_commands.specs.declared.reply.Reply.{Reply}
@@ -34,14 +34,14 @@ pub record RanScript (layouts : Layouts) (counter : Option ℕ) (limits limits' 
   pub counted : min (limits.refusals + refused) (2 ^ 64 - 1) ≤ limits'.refusals
 
 -- The store holds the table at the end; where the last command is `gc`, its heap holds the kept objects alone.
-pub record EndedScript (layouts : Layouts) (counter : Option ℕ) (limits limits' : Limits) (s : State) (cs : List Command) (rs : List Reply) (new : StoreView) : Type 0 where
+pub record EndedScript (layouts : Layouts) (counter : Option ℕ) (limits limits' : Limits) (s : State) (cs : List Command) (rs : List Reply) (new : StoreView ℕ) : Type 0 where
   pub after : State
   pub ran : RanScript layouts counter limits limits' s cs rs after
   pub holds : HoldsAccount layouts new after.table after.account
   pub kept : (before : List Command) → cs ≡ before ++ Gc ∷ [] → HoldsKept layouts new after.table
 
 -- Some command wanted memory, after those before it were run.
-pub record StoppedScript (layouts : Layouts) (counter : Option ℕ) (limits limits' : Limits) (s : State) (cs : List Command) (new : StoreView) : Type 0 where
+pub record StoppedScript (layouts : Layouts) (counter : Option ℕ) (limits limits' : Limits) (s : State) (cs : List Command) (new : StoreView ℕ) : Type 0 where
   pub done : List Command
   pub wanting : Command
   pub rest : List Command
@@ -54,7 +54,7 @@ pub record StoppedScript (layouts : Layouts) (counter : Option ℕ) (limits limi
   pub wants : WantsMemory layouts counter between limits' after wanting new runner
 
 -- one more command ran, whose reply stands behind the others
-pub record RanNext (layouts : Layouts) (counter : Option ℕ) (limits limits' : Limits) (s : State) (c : Command) (before now : List Reply) (new : StoreView) (runner : RunnerView) : Type 0 where
+pub record RanNext (layouts : Layouts) (counter : Option ℕ) (limits limits' : Limits) (s : State) (c : Command) (before now : List Reply) (new : StoreView ℕ) (runner : RunnerView) : Type 0 where
   pub answer : Reply
   pub ran : Ran layouts counter limits limits' s c answer new runner
   pub kept : c ≡ Gc → HoldsKept layouts new ran.after.table

@@ -2,8 +2,8 @@
 use Rattle.std.specs.Prelude.{ℕ, ◌-◌, ◌%◌, ◌^◌, List, [], ◌∷◌, ◌++◌, Option, Some, None, length, get_or, take, slice_get, unwrap_or}
 use Rattle.std.specs.Int.{w32, w64, cast_signed}
 use Rattle.gc_types.specs.Declarations.{Declaration}
-use Rattle.gc_model.specs.declared.GcClass.{GcClass}
-use Rattle.gc_model.specs.declared.GcClass.TheVariants as class
+use Rattle.gc_owner.specs.declared.entry.GcClass.{GcClass}
+use Rattle.gc_owner.specs.declared.entry.GcClass.TheVariants as class
 use Rattle.gc_model.specs.Values.{Reference, null, small, at, Value, numeric, i32, i64, f32, f64, v128, function, Object, struct, array, host, exception}
 use Rattle.gc_model.specs.Values as values
 use Rattle.gc_model.specs.Table.{Table, push, leave, write}

@@ -2,11 +2,11 @@
 use Rattle.std.specs.Prelude.{◌≡◌, ℕ, ◌==◌, Bool, false, List, [], Option, Some, None, if◌then◌else◌}
 use Rattle.std.specs.Int.{w32, w64}
 use Rattle.gc_types.specs.declared.kind.Layouts.{Layouts}
-use Rattle.gc_model.specs.declared.GcClass.{GcClass}
+use Rattle.gc_owner.specs.declared.entry.GcClass.{GcClass}
 use Rattle.gc_model.specs.Values.{Value, numeric, i32, i64, f32, f64, v128, number_bits}
 use Rattle.gc_model.specs.Table.{Table}
 use Rattle.gc_model.specs.Stores.{StoreView}
-use Rattle.gc_store.specs.Accounts.{Account, no_account, HoldsAccount}
+use Rattle.gc_policy.specs.Accounts.{Account, no_account, HoldsAccount}
 use Rattle.gc_store.specs.Roots.{Names}
 use Rattle.gc_store.specs.declared.root.RawValue.{RawValue}
 use Rattle.gc_store.specs.declared.root.RawValue.TheVariants as raw
@@ -93,7 +93,7 @@ abbrev pub over : State → State → State
 over s v = with_hidden (hidden s) v
 
 -- What a register of the runner holds is what one of the table holds: a handle is that of the serial.
-abbrev pub Stands : StoreView → Table ℕ → Option RawValue → Option Held → Type 0
+abbrev pub Stands : StoreView ℕ → Table ℕ → Option RawValue → Option Held → Type 0
 Stands s t None None = Unit {0}
 Stands s t (Some (raw.I32 n)) (Some (number v)) = v ≡ numeric i32 (number_bits w32 n)
 Stands s t (Some (raw.I64 n)) (Some (number v)) = v ≡ numeric i64 (number_bits w64 n)
@@ -105,7 +105,7 @@ Stands s t (Some (raw.Ref class None)) (Some (reference class' None)) = class �
 Stands s t _ _ = ⊥
 
 -- the store and the runner are in that state
-pub record HoldsState (layouts : Layouts) (s : StoreView) (runner : RunnerView) (state : State) : Type 0 where
+pub record HoldsState (layouts : Layouts) (s : StoreView ℕ) (runner : RunnerView) (state : State) : Type 0 where
   pub table : HoldsAccount layouts s state.table state.account
   pub registers : (d : ℕ) → Stands s state.table (register_at runner.registers d) (state.registers d)
   pub no_owned : (o : ℕ) → state.owned_registers o ≡ None

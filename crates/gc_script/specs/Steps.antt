@@ -5,7 +5,7 @@ use Rattle.gc_types.specs.declared.value.FieldType.{FieldType}
 use Rattle.gc_types.specs.declared.kind.Layouts.{Layouts}
 use Rattle.gc_types.specs.Declarable.{Declarable}
 use Rattle.gc_types.specs.Declarations.{Declaration, struct_fields_at}
-use Rattle.gc_model.specs.declared.GcClass.{GcClass}
+use Rattle.gc_owner.specs.declared.entry.GcClass.{GcClass}
 use Rattle.gc_model.specs.Values.{Value, Object}
 use Rattle.gc_model.specs.Table.{Table, declare}
 use Rattle.gc_model.specs.Live.{roots_full}
@@ -21,7 +21,7 @@ use Rattle.gc_commands.specs.declared.reply.Reply.{Reply}
 use Rattle.gc_commands.specs.declared.reply.Reply.TheVariants as reply
 use Rattle.gc_commands.specs.declared.reply.Refusal.{Refusal}
 use Rattle.gc_commands.specs.declared.reply.Refusal.TheVariants as refusal
-use Rattle.gc_store.specs.Accounts.{Account}
+use Rattle.gc_policy.specs.Accounts.{Account}
 use Rattle.gc_script.specs.State.{State, reference, with_table, with_account, with_heap, set_register, visible, over}
 use Rattle.gc_script.specs.Built.{is_built}
 use Rattle.gc_script.specs.Given.{Given, given, given_register, given_value, is_unset, is_gone, named, target, target_values, field_of, is_constant, fits_field}

@@ -17,25 +17,25 @@ use Rattle.gc_script.specs.Given.{held_operand, Given, gone, is, given, given_va
 use Rattle.gc_script.specs.Steps.{any_unset, first_failing, value_tests, struct_value_tests}
 
 -- the registers are those of the state
-abbrev pub AreRegisters : StoreView → List (Option RawValue) → State → Type 0
+abbrev pub AreRegisters : StoreView ℕ → List (Option RawValue) → State → Type 0
 AreRegisters store slots s = (d : ℕ) → Stands store s.table (register_at slots d) (s.registers d)
 
 -- what an operand holds, in each state that has these registers
 abbrev pub HoldsOperand : List (Option RawValue) → Operand → Option RawValue → Type 0
 HoldsOperand slots operand found =
-    (store : StoreView) (s : State) → AreRegisters store slots s → Stands store s.table found (held_operand s operand)
+    (store : StoreView ℕ) (s : State) → AreRegisters store slots s → Stands store s.table found (held_operand s operand)
 
 -- the values are what the operands hold
-abbrev pub AllHeld : StoreView → State → List Operand → List RawValue → Type 0
+abbrev pub AllHeld : StoreView ℕ → State → List Operand → List RawValue → Type 0
 AllHeld store s = AllZip (λ (v : Operand) (r : RawValue). Stands store s.table (Some r) (held_operand s v))
 
 -- so in each state that has these registers
 abbrev pub HoldsOperands : List (Option RawValue) → List Operand → List RawValue → Type 0
-HoldsOperands slots operands found = (store : StoreView) (s : State) → AreRegisters store slots s → AllHeld store s operands found
+HoldsOperands slots operands found = (store : StoreView ℕ) (s : State) → AreRegisters store slots s → AllHeld store s operands found
 
 -- some operand is a register that is unset, in each state that has these registers
 abbrev pub HasUnset : List (Option RawValue) → List Operand → Type 0
-HasUnset slots operands = (store : StoreView) (s : State) → AreRegisters store slots s → any_unset s operands ≡ true
+HasUnset slots operands = (store : StoreView ℕ) (s : State) → AreRegisters store slots s → any_unset s operands ≡ true
 
 -- the handle that a value is, where it is one
 abbrev pub raw_handle : RawValue → Option GcRootIndex
@@ -48,18 +48,18 @@ raw_handle (raw.Func f) = None
 raw_handle (raw.Ref class handle) = handle
 
 -- A value that is found live stands for what is given; else its root is gone.
-abbrev pub IsFound : StoreView → Table ℕ → RawValue → Given → Bool → Type 0
+abbrev pub IsFound : StoreView ℕ → Table ℕ → RawValue → Given → Bool → Type 0
 IsFound store t r g true = (v : Value) × ((g ≡ is v) × RawStands store t r v)
 IsFound store t r g false = g ≡ gone
 
 -- A value may go into a field of that type, where the tests say so; else it is refused as they say.
-abbrev pub ChecksValue : StoreView → State → FieldType → Operand → RawValue → Result (Unit {0}) Refusal → Type 0
+abbrev pub ChecksValue : StoreView ℕ → State → FieldType → Operand → RawValue → Result (Unit {0}) Refusal → Type 0
 ChecksValue store s field v r (Ok done) =
     (first_failing (value_tests s (Some field) v) ≡ None) × RawStands store s.table r (given_value (given s v))
 ChecksValue store s field v r (Err why) = first_failing (value_tests s (Some field) v) ≡ Some why
 
 -- the same of the values of a struct of that type
-abbrev pub ChecksValues : StoreView → State → ℕ → List Operand → List RawValue → Result (Unit {0}) Refusal → Type 0
+abbrev pub ChecksValues : StoreView ℕ → State → ℕ → List Operand → List RawValue → Result (Unit {0}) Refusal → Type 0
 ChecksValues store s ty vs raws (Ok done) =
     (first_failing (struct_value_tests s ty vs) ≡ None) × AllStand store s.table raws (given_values s vs)
 ChecksValues store s ty vs raws (Err why) = first_failing (struct_value_tests s ty vs) ≡ Some why

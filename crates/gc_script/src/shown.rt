@@ -1,7 +1,7 @@
 //! Values as replies show them.
 
 ghost use Rattle.std.specs.Prelude.{◌≡◌, ℕ};
-ghost use Rattle.gc_model.specs.declared.GcClass.{GcClass};
+ghost use Rattle.gc_owner.specs.declared.entry.GcClass.{GcClass};
 ghost use Rattle.gc_model.specs.Holds.{HoldsTable};
 ghost use Rattle.gc_model.specs.Table.{Table};
 ghost use Rattle.gc_model.specs.Values.{Reference, Value, reference};

@@ -9,12 +9,13 @@ use Rattle.gc_types.specs.declared.value.StorageType.{StorageType}
 use Rattle.gc_types.specs.declared.value.StorageType.TheVariants as storage
 use Rattle.gc_types.specs.declared.value.ValType.TheVariants as val
 use Rattle.gc_types.specs.declared.kind.Layouts.{Layouts}
+use Rattle.gc_types.specs.declared.kind.VMGcKind.TheVariants.{StructRef}
 use Rattle.gc_types.specs.Declarations.{Declaration, struct_fields_at}
-use Rattle.gc_model.specs.declared.GcClass.TheVariants.{Any, Extern, Exn}
-use Rattle.gc_model.specs.Values.{Reference, at, Value, numeric, i32, i64, f32, f64, v128, function, reference}
+use Rattle.gc_owner.specs.declared.entry.GcClass.TheVariants.{Any}
+use Rattle.gc_model.specs.Values.{Reference, at, Value, i32, i64}
 use Rattle.gc_model.specs.Fits.{is_built_field, is_built_storage}
 use Rattle.gc_model.specs.Table.{Table}
-use Rattle.gc_view.specs.Bytes.{u32_at, u64_at}
+use Rattle.gc_view.specs.Bytes.{u32_at}
 use Rattle.gc_view.specs.Heaps.{HeapObject}
 use Rattle.gc_model.specs.Stores.{StoreView}
 use Rattle.gc_model.specs.Holds.{Placing, IsWord, Holds, Lies}
@@ -30,11 +31,12 @@ use Rattle.gc_store.specs.Roots.{HasField, word_of}
 use Rattle.gc_store.proofs.Roots.{named_live, named_dead}
 
 -- where a value of the table lies in the heap
-pub record FieldAt (layouts : Layouts) (s : StoreView) (place : Placing) (word position ty index : ℕ) (value : Value) : Type 0 where
+pub record FieldAt {D : Type 0} (layouts : Layouts) (s : StoreView D) (place : Placing) (word position ty index : ℕ) (value : Value) : Type 0 where
   pub placed : place position ≡ Some word
   pub positive : 0 < word
   pub object : HeapObject
   pub held : finite.get s.heap.content word ≡ Some object
+  pub kind : object.kind ≡ StructRef
   pub fields : List FieldType
   pub of_type : object.ty ≡ ty
   pub declared : struct_fields_at s.types object.ty ≡ Some fields
@@ -45,7 +47,7 @@ pub record FieldAt (layouts : Layouts) (s : StoreView) (place : Placing) (word p
 pub all_at : (P : FieldType → Type 0) (fields : List FieldType) (index : ℕ) (field : FieldType) → All P fields → slice_get fields index ≡ Some field → P field
 all_at P fields index field all e = subst P (get_or_from_slice_get fields index field field e) (all index field (slice_get_within fields index field e))
 
-module _ {D : Type 0} (layouts : Layouts) (s : StoreView) (t : Table D) (place : Placing) (holds : Holds layouts s t place) (handle : GcRootIndex) (index : ℕ) (value : Value) (has : HasField s t handle index value) where
+module _ {D : Type 0} (layouts : Layouts) (s : StoreView D) (t : Table D) (place : Placing) (holds : Holds layouts s t place) (handle : GcRootIndex) (index : ℕ) (value : Value) (has : HasField s t handle index value) where
   -- the handle's word is the place of the struct
   placed_word : (word : ℕ) → word_of s handle ≡ Ok word → (place has.position ≡ Some word) × (0 < word)
   placed_word word e =
@@ -64,6 +66,7 @@ module _ {D : Type 0} (layouts : Layouts) (s : StoreView) (t : Table D) (place :
         positive = placed.1;
         object = held.object;
         held = held.in_heap;
+        kind = stands.kind;
         fields = stands.fields;
         of_type = stands.same_type;
         declared = ap (λ (ts : List Declaration). struct_fields_at ts held.object.ty) holds.types ∙ ap (struct_fields_at t.types) stands.same_type ∙ stands.declared;

@@ -1,5 +1,5 @@
 -- A value is written into a field of the struct that a handle names.
-use Rattle.std.proofs.Common.{inl, inr, ◌≡◌, ◌⊎◌, ℕ, ◌-◌, Bool, true, List, Some, None, Result, Ok, Err, sym, ap, ◌∙◌, refl, subst, arith, ℤ}
+use Rattle.std.proofs.Common.{inl, inr, ◌≡◌, ◌⊎◌, ℕ, ◌-◌, true, List, Some, None, Result, Ok, Err, sym, ap, ◌∙◌, refl, subst, arith, ℤ}
 use Rattle.std.specs.List.{slice_get}
 use Rattle.std.specs.FinMap.{get, gets}
 use Rattle.std.specs.Int.{w32, w64, cast_unsigned}
@@ -12,9 +12,9 @@ use Rattle.gc_types.specs.declared.value.StorageType.TheVariants as storage
 use Rattle.gc_types.specs.declared.value.ValType.TheVariants as val
 use Rattle.gc_types.specs.declared.value.RefType.{RefType}
 use Rattle.gc_types.specs.declared.kind.Layouts.{Layouts}
-use Rattle.gc_types.specs.Declarations.{Declaration, TypeTable, struct_fields_at}
+use Rattle.gc_types.specs.Declarations.{Declaration, struct_fields_at}
 use Rattle.gc_types.specs.Layouts.{struct_base}
-use Rattle.gc_model.specs.declared.GcClass.TheVariants.{Any}
+use Rattle.gc_owner.specs.declared.entry.GcClass.TheVariants.{Any}
 use Rattle.gc_model.specs.Values.{Reference, null, Value, numeric, i32, i64, reference, number_bits}
 use Rattle.gc_model.specs.Table.{Table, write}
 use Rattle.gc_view.specs.Heaps.{HeapView, HeapObject}
@@ -22,7 +22,7 @@ use Rattle.gc_model.specs.Stores.{StoreView}
 use Rattle.gc_model.specs.Encoded.{IsEncoded}
 use Rattle.gc_model.specs.Fits.{is_built_storage}
 use Rattle.gc_model.specs.Holds.{Placing, IsWord, Holds}
-use Rattle.gc_store.specs.Accounts.{Account, HoldsAccount}
+use Rattle.gc_policy.specs.Accounts.{Account, HoldsAccount}
 use Rattle.gc_model.proofs.HoldsWrite.{IsWrittenObject, holds_write}
 use Rattle.gc_heap.specs.Heap.{put_object, with_data}
 use Rattle.gc_heap.specs.Collection.{IsWordOf}
@@ -33,15 +33,13 @@ use Rattle.gc_store.specs.declared.root.RootFault.{RootFault}
 use Rattle.gc_store.specs.declared.root.RawValue.{RawValue}
 use Rattle.gc_store.specs.declared.root.RawValue.TheVariants as raw
 use Rattle.gc_store.specs.Fields.{KeptAs, StoredFits, StoredStands, IsFieldOf, FitsBytes, stored_bytes}
-use Rattle.gc_store.specs.RootSets.{slot_word}
+use Rattle.gc_store.specs.Words.{slot_word}
 use Rattle.gc_store.specs.Roots.{HasField, word_of, is_of_store}
 use Rattle.gc_store.specs.Values.{raw_fits, NamesLive, IsLive, RawStands, CanWrite, WritesValue}
-use Rattle.gc_store.specs.Stores.{IsSound}
-use Rattle.gc_store.specs.Tracing.{IsCollectable, roots_of}
 use Rattle.gc_store.proofs.Roots.{named_live, named_dead, names-store, names-entry, own_word, word_of-ok, root_word}
-use Rattle.gc_store.proofs.AccountLemmas.{account_kept, some_account}
-use Rattle.gc_store.proofs.Pushing.{root_named, named_word}
-use Rattle.gc_store.proofs.HeapValues.{stored_encoded}
+use Rattle.gc_policy.proofs.AccountLemmas.{account_kept, some_account}
+use Rattle.gc_store.proofs.Pushing.{word_in_heap}
+use Rattle.gc_store.proofs.FieldValues.{stored_encoded}
 use Rattle.gc_store.proofs.FieldReads.{FieldAt, field_at}
 
 -- a value of a field's type
@@ -62,7 +60,7 @@ word_cases : (r : Result ℕ RootFault) → ((word : ℕ) × (r ≡ Ok word)) �
 word_cases (Ok word) = inl (word, refl)
 word_cases (Err f) = inr (f, refl)
 
-module _ (D : Type 0) (layouts : Layouts) (s : StoreView) where
+module _ (D : Type 0) (layouts : Layouts) (s : StoreView D) where
   -- a live handle has a word
   live_word : (handle : GcRootIndex) → IsLive D layouts s handle → (word : ℕ) × (word_of s handle ≡ Ok word)
   live_word handle live = elim (word_cases (word_of s handle)) [
@@ -87,7 +85,7 @@ module _ (D : Type 0) (layouts : Layouts) (s : StoreView) where
     word_named : (handle : GcRootIndex) (word : ℕ) → word_of s handle ≡ Ok word → IsWordOf s.heap word
     word_named handle word e =
         let is = root_word layouts s t place holds handle word e in
-        named_word s.heap word (root_named layouts s is.table is.place is.root word is.holds is.is_word is.not_null)
+        word_in_heap layouts s is.table is.place is.root word is.holds is.is_word
 
     -- what is kept is of the field's type
     pub stored_fits : (st : StorageType) (r : RawValue) (x : Stored) → Fitting st r → NamesLive D layouts s r → KeptAs s.scoped r x → StoredFits s.heap st x
@@ -137,7 +135,7 @@ written_object layouts old new word offset object ws held is = record {
   allocated = ap (λ (h : HeapView). h.allocated) is;
 }
 
-module _ {D : Type 0} (layouts : Layouts) (s : StoreView) (t : Table D) (place : Placing) (holds : Holds layouts s t place) (handle : GcRootIndex) (index : ℕ) (before : Value) (has : HasField s t handle index before) (word : ℕ) (e : word_of s handle ≡ Ok word) where
+module _ {D : Type 0} (layouts : Layouts) (s : StoreView D) (t : Table D) (place : Placing) (holds : Holds layouts s t place) (handle : GcRootIndex) (index : ℕ) (before : Value) (has : HasField s t handle index before) (word : ℕ) (e : word_of s handle ≡ Ok word) where
   abbrev lies : FieldAt layouts s place word has.position has.ty index before
   lies = field_at layouts s t place holds handle index before has word e
 
@@ -151,14 +149,14 @@ module _ {D : Type 0} (layouts : Layouts) (s : StoreView) (t : Table D) (place :
       (written_object layouts s.heap heap word lies.holds.layout.offset lies.object (stored_bytes x) lies.held is)
 
 -- a field of one object is one field
-pub same_field : (layouts : Layouts) (s : StoreView) (place : Placing) (word position ty index : ℕ) (value : Value) (a : FieldAt layouts s place word position ty index value) (object : HeapObject) (fields : List FieldType) (field : FieldType)
+pub same_field : {D : Type 0} (layouts : Layouts) (s : StoreView D) (place : Placing) (word position ty index : ℕ) (value : Value) (a : FieldAt layouts s place word position ty index value) (object : HeapObject) (fields : List FieldType) (field : FieldType)
     → get s.heap.content word ≡ Some object → struct_fields_at s.types object.ty ≡ Some fields → slice_get fields index ≡ Some field → a.holds.field ≡ field
 same_field layouts s place word position ty index value a object fields field held declared field_is =
     let same : a.object ≡ object = grind (arith, sym a.held ∙ held) in
     let fields_same : a.fields ≡ fields = grind (arith, sym a.declared ∙ ap (λ (o : HeapObject). struct_fields_at s.types o.ty) same ∙ declared) in
     grind (arith, sym a.holds.is_field.type_is ∙ ap (λ (fs : List FieldType). slice_get fs index) fields_same ∙ field_is)
 
-module _ (D : Type 0) (layouts : Layouts) (s : StoreView) (handle : GcRootIndex) (index : ℕ) (r : RawValue) (can : CanWrite D layouts s handle index r) (word : ℕ) (e : word_of s handle ≡ Ok word) where
+module _ (D : Type 0) (layouts : Layouts) (s : StoreView D) (handle : GcRootIndex) (index : ℕ) (r : RawValue) (can : CanWrite D layouts s handle index r) (word : ℕ) (e : word_of s handle ≡ Ok word) where
   -- where the value goes, in some table that the store holds
   abbrev pub spot : FieldAt layouts s can.holds.0 word can.has.position can.has.ty index can.before
   spot = field_at layouts s can.table can.holds.0 can.holds.1 handle index can.before can.has word e
@@ -177,6 +175,7 @@ module _ (D : Type 0) (layouts : Layouts) (s : StoreView) (handle : GcRootIndex)
 
   pub spot_field : (offset : ℕ) → offset ≡ spot.holds.layout.offset → IsFieldOf layouts s.types spot.object offset spot.holds.field.element_type
   spot_field offset at = record {
+    kind = spot.kind;
     fields = spot.fields;
     declared = spot.declared;
     index = index;
@@ -202,19 +201,9 @@ module _ (D : Type 0) (layouts : Layouts) (s : StoreView) (handle : GcRootIndex)
           account = account_kept s (record s { heap = heap }) holds.place a refl refl (ap (λ (h : HeapView). h.needs_gc) is) holds.account;
         }
 
-    -- so the store is sound
-    pub sound_written : (old_sound new_sound : Type 0) (types : TypeTable) (hosts : ℕ → Bool) → IsSound D layouts old_sound types hosts s → new_sound → IsCollectable layouts s.types heap (roots_of s.scoped) hosts → IsSound D layouts new_sound types hosts (record s { heap = heap })
-    sound_written old_sound new_sound types hosts sound now collectable =
+    -- so some table is held
+    pub some_written : (t : Table D) × ((a : Account) × HoldsAccount layouts (record s { heap = heap }) t a)
+    some_written =
         let v = value_of D layouts s can.table can.holds.0 can.holds.1 spot.holds.field.element_type r (spot_fits can.holds.0 can.has.position can.has.ty can.before spot) can.can_store.live in
         let some = some_account layouts s can.table can.holds in
-        let same = ap (λ (h : HeapView). h.attached) (written can.holds.0 can.has.position can.has.ty can.before spot) in
-        record {
-          heap = now;
-          engine = sound.engine;
-          number = sound.number;
-          collectable = collectable;
-          unused = λ unmade. sound.unused (sym same ∙ unmade);
-          table = write can.has.position index v.0 can.table;
-          account = some.0;
-          holds = writes_value can.table some.0 some.1 can.before v.0 can.has v.1;
-        }
+        (write can.has.position index v.0 can.table, (some.0, writes_value can.table some.0 some.1 can.before v.0 can.has v.1))

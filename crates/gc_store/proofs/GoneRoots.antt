@@ -4,7 +4,7 @@ use Rattle.std.proofs.lemmas.Bool.Decides.{nat_tests}
 use Rattle.std.specs.List.{slice_get}
 use Rattle.std.proofs.lemmas.Option.{slice_get_within}
 use Rattle.gc_types.specs.declared.kind.Layouts.{Layouts}
-use Rattle.gc_model.specs.declared.RootEntry.{RootEntry}
+use Rattle.gc_owner.specs.declared.entry.RootEntry.{RootEntry}
 use Rattle.gc_model.specs.Table.{Table, Scoped, Push, leave}
 use Rattle.gc_model.specs.Live.{rooted, rooted_among}
 use Rattle.gc_model.specs.Stores.{StoreView}
@@ -52,7 +52,7 @@ pub not_same : (a b : ℕ) → (a ≡ b → ⊥) → (a == b) ≡ false
 not_same a b ne = grind (arith, nat_tests, ne)
 
 -- the roots past the mark of a scope are gone when it is left
-pub left_gone : {D : Type 0} (layouts : Layouts) (s : StoreView) (t : Table D) (mark i : ℕ) (root : Scoped) → HoldsTable layouts s t → mark ≤ i → slice_get t.scoped i ≡ Some root → rooted (leave mark t) root.serial ≡ None
+pub left_gone : {D : Type 0} (layouts : Layouts) (s : StoreView D) (t : Table D) (mark i : ℕ) (root : Scoped) → HoldsTable layouts s t → mark ≤ i → slice_get t.scoped i ≡ Some root → rooted (leave mark t) root.serial ≡ None
 left_gone layouts s t mark i root holds past here =
     let scoped = holds.1.scoped in
     let stands : (j : ℕ) (r : Scoped) → slice_get t.scoped j ≡ Some r → (g : ℕ) × (slice_get t.pushes r.serial ≡ Some (record { index = j; generation = g })) =

@@ -1,47 +1,53 @@
 -- What the end of a scope leaves of a store.
-use Rattle.std.proofs.Common.{◌≡◌, ℕ, ◌+◌, ◌-◌, ◌^◌, ◌<◌, Bool, cond, min, length, take, refl, sym, ap, ◌∙◌, subst}
+use Rattle.std.proofs.Common.{◌≡◌, ℕ, ◌+◌, ◌-◌, ◌^◌, ◌≤◌, true, false, cond, min, nat_le, length, take, refl, sym, ap, ◌∙◌, subst, arith}
+use Rattle.std.specs.Prelude.{nat_lt}
 use Rattle.std.proofs.lemmas.Bool.{lt-ltb}
+use Rattle.std.proofs.lemmas.Bool.Decides.{nat_tests}
 use Rattle.gc_types.specs.declared.kind.Layouts.{Layouts}
-use Rattle.gc_types.specs.Declarations.{TypeTable}
 use Rattle.gc_model.specs.Table.{Table, leave}
-use Rattle.gc_view.specs.Heaps.{HeapView, SameHeld}
 use Rattle.gc_model.specs.Stores.{StoreView}
-use Rattle.gc_model.specs.Holds.{Holds}
 use Rattle.gc_model.proofs.HoldsLeave.{without_roots, holds_leave}
-use Rattle.gc_store.specs.Accounts.{Account, HoldsAccount}
-use Rattle.gc_store.specs.RootSets.{RootSetView}
-use Rattle.gc_store.specs.Stores.{IsSound}
-use Rattle.gc_store.specs.Tracing.{IsCollectable, roots_of}
-use Rattle.gc_store.proofs.AccountLemmas.{account_kept}
-use Rattle.gc_store.proofs.Pushing.{pushed_view}
+use Rattle.gc_owner.specs.RootColumns.{left_scope}
+use Rattle.gc_owner.specs.Owners.{OwnerView, ChangesRoots}
+use Rattle.gc_policy.specs.Accounts.{Account, HoldsAccount}
+use Rattle.gc_policy.proofs.AccountLemmas.{account_kept}
+use Rattle.gc_store.specs.declared.config.HeapConfig.{HeapConfig}
+use Rattle.gc_store.specs.declared.engine.StoreId.{StoreId}
+use Rattle.gc_store.specs.Stores.{store_view, IsSound}
 
--- the roots are those of the store up to a mark, and the scope end is counted
-pub record LosesRoots (s : StoreView) (roots : RootSetView) (mark : ℕ) : Type 0 where
-  pub entries : roots.entries ≡ take mark s.scoped
-  pub generation : roots.generation ≡ min (s.generation + 1) (2 ^ 64 - 1)
-  pub last : roots.last ≡ s.last
+-- scope ends are counted alike by the owner and by the table
+counted_alike : (mark count generation : ℕ) → cond (nat_lt mark count) (min (generation + 1) (2 ^ 64 - 1)) generation ≡ cond (nat_le count mark) generation (min (generation + 1) (2 ^ 64 - 1))
+counted_alike mark count generation = elim (nat_le count mark) as (λ b. nat_le count mark ≡ b → cond (nat_lt mark count) (min (generation + 1) (2 ^ 64 - 1)) generation ≡ cond b generation (min (generation + 1) (2 ^ 64 - 1))) [
+  | true ↦ λ e. ap (λ b. cond b (min (generation + 1) (2 ^ 64 - 1)) generation) (let le : count ≤ mark = grind (arith, nat_tests, e) in not_less le)
+  | false ↦ λ e. ap (λ b. cond b (min (generation + 1) (2 ^ 64 - 1)) generation) (lt-ltb mark count (grind (arith, nat_tests, e)))
+] refl
+  where
+    not_less : count ≤ mark → nat_lt mark count ≡ false
+    not_less le = grind (arith, nat_tests, le)
 
-module _ (layouts : Layouts) (s : StoreView) (heap : HeapView) (roots : RootSetView) (mark : ℕ) (same : SameHeld s.heap heap) (loses : LosesRoots s roots mark) (less : mark < length s.scoped) where
-  left_view : without_roots heap mark s ≡ pushed_view s heap roots
+module _ {D : Type 0} (layouts : Layouts) (id : StoreId) (config : HeapConfig) (tries : ℕ) (old new : OwnerView D) (mark spare : ℕ) (changes : ChangesRoots old new (left_scope mark spare old.roots)) where
+  abbrev before : StoreView D
+  before = store_view id config old tries
+
+  left_view : without_roots new.heap mark before ≡ store_view id config new tries
   left_view =
-      let counted = sym (loses.generation ∙ sym (ap (λ b. cond b (min (s.generation + 1) (2 ^ 64 - 1)) s.generation) (lt-ltb mark (length s.scoped) less))) in
-      λ i. record s { heap = heap; scoped = sym loses.entries i; generation = counted i; last = sym loses.last i }
+      (λ i. record before { heap = new.heap; scoped = take mark old.roots.scoped; generation = counted_alike mark (length old.roots.scoped) old.roots.generation i })
+      ∙ sym (ap (λ (v : OwnerView D). store_view id config v tries) changes.rest)
 
   -- the store holds the table without the roots
-  pub holds_left : {D : Type 0} (t : Table D) (a : Account) → HoldsAccount layouts s t a → HoldsAccount layouts (pushed_view s heap roots) (leave mark t) a
-  holds_left t a holds = record {
-    place = holds.place;
-    holds = subst (λ (v : StoreView). Holds layouts v (leave mark t) holds.place) left_view (holds_leave layouts s t holds.place heap mark holds.holds same);
-    account = account_kept s (pushed_view s heap roots) holds.place a loses.last refl same.needs_gc holds.account;
-  }
+  pub holds_left : (t : Table D) (a : Account) → HoldsAccount layouts before t a → HoldsAccount layouts (store_view id config new tries) (leave mark t) a
+  holds_left t a holds =
+      subst (λ (s : StoreView D). HoldsAccount layouts s (leave mark t) a) left_view (record {
+        place = holds.place;
+        holds = holds_leave layouts before t holds.place new.heap mark holds.holds changes.held;
+        account = account_kept before (without_roots new.heap mark before) holds.place a refl refl changes.held.needs_gc holds.account;
+      })
 
-  pub sound_left : (D : Type 0) (old_sound new_sound : Type 0) (types : TypeTable) (hosts : ℕ → Bool) → IsSound D layouts old_sound types hosts s → new_sound → IsCollectable layouts s.types heap (roots_of roots.entries) hosts → IsSound D layouts new_sound types hosts (pushed_view s heap roots)
-  sound_left D old_sound new_sound types hosts sound now collectable = record {
-    heap = now;
-    engine = sound.engine;
-    number = sound.number;
-    collectable = collectable;
-    unused = λ unmade. loses.last ∙ sound.unused (sym same.attached ∙ unmade);
+  pub sound_left : IsSound D layouts old before → IsSound D layouts new (store_view id config new tries)
+  sound_left sound = record {
+    idle = ap (λ (v : OwnerView D). v.idle) changes.rest ∙ sound.idle;
+    engine = ap (λ (v : OwnerView D). v.types.engine) changes.rest ∙ sound.engine;
+    number = ap (λ (v : OwnerView D). v.types.number) changes.rest ∙ sound.number;
     table = leave mark sound.table;
     account = sound.account;
     holds = holds_left sound.table sound.account sound.holds;

@@ -5,28 +5,28 @@ use Rattle.gc_model.specs.Table.{Table}
 use Rattle.gc_model.specs.Allocation.{Limits}
 use Rattle.gc_model.specs.Stores.{StoreView}
 use Rattle.gc_heap.specs.Content.{IsHeap}
-use Rattle.gc_store.specs.Accounts.{Account, HoldsAccount}
+use Rattle.gc_policy.specs.Accounts.{Account, HoldsAccount}
 use Rattle.gc_store.specs.Expansion.{CollectsStore, CollectsFor, ExpandsStore, WantsPages, MayCollectTable, enough, grows, unused_bytes}
 use Rattle.gc_store.specs.Places.{MayGetPages}
-use Rattle.gc_store.specs.Policy.{PolicyState, policy_state}
-use Rattle.gc_store.proofs.AccountLemmas.{allocated_is}
+use Rattle.gc_policy.specs.Policy.{PolicyState, policy_state}
+use Rattle.gc_policy.proofs.AccountLemmas.{allocated_is}
 use Rattle.gc_store.proofs.Expanding.{grows_pages}
 
 -- the bytes of the heap beside the allocated ones are those by the account
-pub unused_is : {D : Type 0} (layouts : Layouts) (s : StoreView) (t : Table D) (a : Account) (limits : Limits) → IsHeap layouts s.heap → HoldsAccount layouts s t a → s.heap.capacity - s.heap.allocated ≡ unused_bytes layouts (policy_state t a limits)
+pub unused_is : {D : Type 0} (layouts : Layouts) (s : StoreView D) (t : Table D) (a : Account) (limits : Limits) → IsHeap layouts s.heap → HoldsAccount layouts s t a → s.heap.capacity - s.heap.allocated ≡ unused_bytes layouts (policy_state t a limits)
 unused_is layouts s t a limits heap holds i = holds.holds.memory.capacity i - allocated_is layouts s t holds.place a.held holds.holds holds.account.held heap i
 
 -- what the table came to by a collection, where its heap is made
-pub record FollowsGc {D : Type 0} (layouts : Layouts) (p : PolicyState D) (new : StoreView) : Type 0 where
+pub record FollowsGc {D : Type 0} (layouts : Layouts) (p : PolicyState D) (new : StoreView D) : Type 0 where
   pub after : PolicyState D
   pub collects : MayCollectTable layouts p after
   pub holds : HoldsAccount layouts new after.table after.account
   pub table : after.table ≡ p.table
   pub limits : after.limits ≡ p.limits
 
-pub gc_follows : {D : Type 0} (layouts : Layouts) (old new : StoreView) (p : PolicyState D) → HoldsAccount layouts old p.table p.account → (old.heap.attached ≡ true → CollectsStore layouts p new) → (old.heap.attached ≡ false → new ≡ old)
+pub gc_follows : {D : Type 0} (layouts : Layouts) (old new : StoreView D) (p : PolicyState D) → HoldsAccount layouts old p.table p.account → (old.heap.attached ≡ true → CollectsStore layouts p new) → (old.heap.attached ≡ false → new ≡ old)
     → FollowsGc layouts p new
-gc_follows layouts old new p holds ran same =
+gc_follows {D} layouts old new p holds ran same =
     elim (old.heap.attached) as (λ b. old.heap.attached ≡ b → FollowsGc layouts p new) [
       | true ↦ λ made.
           let collected = ran made in
@@ -40,18 +40,18 @@ gc_follows layouts old new p holds ran same =
       | false ↦ λ unmade. record {
         after = p;
         collects = inr (sym holds.holds.memory.made ∙ unmade, refl);
-        holds = subst (λ (s : StoreView). HoldsAccount layouts s p.table p.account) (sym (same unmade)) holds;
+        holds = subst (λ (s : StoreView D). HoldsAccount layouts s p.table p.account) (sym (same unmade)) holds;
         table = refl;
         limits = refl;
       }
     ] refl
 
-module _ {D : Type 0} (E : Type 0) (layouts : Layouts) (need : ℕ) (p : PolicyState D) (mid : StoreView) (gc : FollowsGc layouts p mid) where
+module _ {D : Type 0} (E : Type 0) (layouts : Layouts) (need : ℕ) (p : PolicyState D) (mid : StoreView D) (gc : FollowsGc layouts p mid) where
   -- the heap has as many bytes as are needed
   pub has_room : need ≤ unused_bytes layouts gc.after → CollectsFor {E = E} layouts need p p.limits (Ok tt) mid
   has_room least = record { after = gc.after; room = enough gc.collects least; pages = inl gc.table; holds = gc.holds; limits = sym gc.limits }
 
-  module _ (limits' : Limits) (new : StoreView) (wants : unused_bytes layouts gc.after < need) where
+  module _ (limits' : Limits) (new : StoreView D) (wants : unused_bytes layouts gc.after < need) where
     pages_after : (t : Table D) → MayGetPages gc.after.limits.limit need gc.after.table t → MayGetPages p.limits.limit need p.table t
     pages_after t may = subst (λ (u : Table D). MayGetPages p.limits.limit need u t) gc.table (subst (λ (l : Limits). MayGetPages l.limit need gc.after.table t) gc.limits may)
 

@@ -1,13 +1,10 @@
 -- The values of a struct that is to be made.
-use Rattle.std.proofs.Common.{◌≡◌, ℕ, zero, suc, List, [], ◌∷◌, Some, None, sym, ap, ◌∙◌, refl, subst, arith}
+use Rattle.std.proofs.Common.{◌≡◌, ℕ, zero, suc, List, [], ◌∷◌, Some, None, sym, ap, ◌∙◌, refl, subst}
 use Rattle.std.specs.List.{slice_get}
-use Rattle.std.proofs.lemmas.List.{length-map}
 use Rattle.std.proofs.lemmas.Option.{none-some, same_Some}
 use Rattle.gc_types.specs.declared.value.FieldType.{FieldType}
 use Rattle.gc_types.specs.declared.value.StorageType.{StorageType}
 use Rattle.gc_types.specs.declared.kind.Layouts.{Layouts}
-use Rattle.gc_types.specs.Declarations.{Declaration, struct_fields_at}
-use Rattle.gc_model.specs.declared.RootEntry.{RootEntry}
 use Rattle.gc_model.specs.Values.{Value}
 use Rattle.gc_model.specs.Table.{Table, with_pages}
 use Rattle.gc_model.specs.Stores.{StoreView}
@@ -16,15 +13,13 @@ use Rattle.gc_model.proofs.Lists.{slice_get-same_length}
 use Rattle.gc_store.specs.declared.root.RawValue.{RawValue}
 use Rattle.gc_store.specs.declared.root.RawValue.TheVariants as raw
 use Rattle.gc_store.specs.declared.root.RootSlot.TheVariants as slot
-use Rattle.gc_store.specs.Fields.{KeptStands, AllKept}
-use Rattle.gc_store.specs.Places.{CanPlace, CanCreate}
-use Rattle.gc_store.specs.Tracing.{root_of}
+use Rattle.gc_store.specs.Fields.{KeptStands, AllKept, AllFit}
+use Rattle.gc_store.specs.Places.{CanPlace}
 use Rattle.gc_store.specs.Values.{RawStands, AllStand, NamesLive}
-use Rattle.gc_store.proofs.HeapBarriers.{few_roots}
 use Rattle.gc_store.proofs.FieldWrites.{Fitting, is_i32, is_i64, is_null, is_handle, fitting, is_kept, value_of, kept_stands}
 
 -- a list of values, one for each that is given
-values_with : {D : Type 0} (s : StoreView) (t : Table D) (raws : List RawValue) → ((i : ℕ) (r : RawValue) → slice_get raws i ≡ Some r → (v : Value) × RawStands s t r v) → (vs : List Value) × AllStand s t raws vs
+values_with : {D : Type 0} (s : StoreView D) (t : Table D) (raws : List RawValue) → ((i : ℕ) (r : RawValue) → slice_get raws i ≡ Some r → (v : Value) × RawStands s t r v) → (vs : List Value) × AllStand s t raws vs
 values_with s t [] each = ([], record { same_count = refl; each = λ i r v e. absurd (none-some r e) })
 values_with {D} s t (x ∷ raws) each =
     let first = each 0 x refl in
@@ -35,7 +30,7 @@ values_with {D} s t (x ∷ raws) each =
     at first {vs} rest zero r v e f = subst (λ (v : Value). RawStands s t r v) (same_Some first.0 v f) (subst (λ (r : RawValue). RawStands s t r first.0) (same_Some x r e) first.1)
     at first {vs} rest (suc i) r v e f = rest.each i r v e f
 
-module _ {D : Type 0} (layouts : Layouts) (s : StoreView) (ty : ℕ) (raws : List RawValue) (can : CanPlace D layouts s ty raws) where
+module _ {D : Type 0} (layouts : Layouts) (s : StoreView D) (ty : ℕ) (raws : List RawValue) (can : CanPlace D layouts s ty raws) where
   -- each value is of its field's type
   field_fits : (i : ℕ) (field : FieldType) (r : RawValue) → slice_get can.fields i ≡ Some field → slice_get raws i ≡ Some r → Fitting field.element_type r
   field_fits i field r e f = fitting field.element_type r (can.each i field r e f).fits
@@ -48,21 +43,15 @@ module _ {D : Type 0} (layouts : Layouts) (s : StoreView) (ty : ℕ) (raws : Lis
       let field = field_of i r e in
       value_of D layouts s t place holds field.0.element_type r (field_fits i field.0 r field.1 e) (can.each i field.0 r field.1 e).live)
 
-  -- so a struct may be made of them
-  pub can_create : (t : Table D) (place : Placing) → Holds layouts s t place → CanCreate layouts s.types ty s.scoped raws
-  can_create t place holds = record {
-    fields = can.fields;
-    declared = can.declared;
-    built = holds.only_built ty can.fields (ap (λ (ts : List Declaration). struct_fields_at ts ty) (sym holds.types) ∙ can.declared);
-    fit = record {
-      same_count = can.same_count;
-      each = λ i field r e f. ((can.each i field r e f).fits, is_kept D layouts s field.element_type r (field_fits i field r e f) (can.each i field r e f).live);
-    };
-    few = let few = few_roots layouts s t place holds in omega (arith, few, length-map s.scoped (λ (e : RootEntry). root_of e.word));
+  -- so each is kept by the words of the roots
+  pub all_fit : AllFit s.scoped can.fields raws
+  all_fit = record {
+    same_count = can.same_count;
+    each = λ i field r e f. ((can.each i field r e f).fits, is_kept D layouts s field.element_type r (field_fits i field r e f) (can.each i field r e f).live);
   }
 
   -- The values stand in another store that holds the table with other pages, which has the same id.
-  module _ (after : StoreView) (engine : after.engine ≡ s.engine) (number : after.number ≡ s.number) (t : Table D) (pages : ℕ) where
+  module _ (after : StoreView D) (engine : after.engine ≡ s.engine) (number : after.number ≡ s.number) (t : Table D) (pages : ℕ) where
     raw_after : (r : RawValue) (v : Value) → RawStands s t r v → RawStands after (with_pages pages t) r v
     raw_after (raw.I32 n) v stands = stands
     raw_after (raw.I64 n) v stands = stands

@@ -1,32 +1,35 @@
 -- A struct that was not placed is refused as the table says.
 use Rattle.std.proofs.Common.{inl, inr, ◌≡◌, ℕ, ◌+◌, ◌-◌, ◌^◌, min, Bool, false, List, Err, sym, ap, ◌∙◌, refl, subst}
 use Rattle.gc_types.specs.declared.kind.Layouts.{Layouts}
+use Rattle.gc_types.specs.Layouts.{struct_layout}
 use Rattle.gc_model.specs.Values.{Value, struct}
 use Rattle.gc_model.specs.Table.{Table, make_heap, made_pages}
 use Rattle.gc_model.specs.Live.{roots_full}
 use Rattle.gc_view.specs.Sizes.{need_of}
 use Rattle.gc_model.specs.Allocation as allocation
 use Rattle.gc_model.specs.Allocation.{Limits, too_large, LacksFit, IsRefusedGrowth}
-use Rattle.gc_view.specs.Heaps.{HeapView}
 use Rattle.gc_model.specs.Stores.{StoreView}
-use Rattle.gc_heap.specs.Content.{IsHeap}
-use Rattle.gc_heap.specs.Heap.{HasRoom}
+use Rattle.gc_heap.specs.Heap.{HasRoom, new_struct}
+use Rattle.gc_owner.specs.Owners.{OwnerView}
+use Rattle.gc_owner.specs.Growing.{OwnerState, state_of, owner_rules, NotBegun}
+use Rattle.gc_owner.specs.Makes.{LacksSpace}
+use Rattle.gc_owner.specs.Retry.{Rules, Retry, at_once, after_collection, after_both, after_growth, after_refusal, Ends}
 use Rattle.gc_store.specs.declared.root.RawValue.{RawValue}
 use Rattle.gc_store.specs.declared.store.PlaceFault.{PlaceFault}
 use Rattle.gc_store.specs.declared.store.PlaceFault.TheVariants as fault
-use Rattle.gc_store.specs.Accounts.{Account, HoldsAccount, counted, is_due}
-use Rattle.gc_store.specs.Growth.{HeapState, heap_rules}
-use Rattle.gc_store.specs.Places.{Begins, CanPlace, PlacesIn, Places, LacksPlace, LacksSpace, MayGetPages, bytes_of, size_of}
-use Rattle.gc_store.specs.Policy as policy
-use Rattle.gc_store.specs.Policy.{PolicyState, policy_state, count_try, Prepares, Prepared}
-use Rattle.gc_store.specs.Retry.{Rules, Retry, at_once, after_collection, after_both, after_growth, after_refusal, Ends}
+use Rattle.gc_policy.specs.Accounts.{Account, HoldsAccount, counted, is_due}
+use Rattle.gc_policy.specs.Policy as policy
+use Rattle.gc_policy.specs.Policy.{PolicyState, policy_state, count_try, Prepares, Prepared}
+use Rattle.gc_policy.specs.Shown.{shown}
+use Rattle.gc_store.specs.Making.{BeginsMaking, MakesRooted, size_of}
+use Rattle.gc_store.specs.Places.{CanPlace, Places, LacksPlace, MayGetPages, bytes_of}
 use Rattle.gc_store.specs.Stores.{is_full}
-use Rattle.gc_store.specs.Tracing.{IsCollectable, roots_of}
-use Rattle.gc_store.proofs.CountedTries.{counted_store}
-use Rattle.gc_store.proofs.MakingSimulation.{Shows, FollowsBeginning, refusal_follows, no_heap_follows, got_pages, LeavesStore, agrees_leaves, same_leaves, same_holds}
-use Rattle.gc_store.proofs.Placing.{too_large_is, start_state, shows, size_in, begun, not_full}
-use Rattle.gc_store.proofs.RetrySimulation.{MayHaveGrown, retry_follows, pause_follows}
-use Rattle.gc_store.proofs.Simulation.{view_at}
+use Rattle.gc_policy.proofs.CountedTries.{counted_store, counted_holds}
+use Rattle.gc_policy.proofs.MakingSimulation.{Shows, FollowsBeginning, refusal_follows, no_heap_follows, got_pages}
+use Rattle.gc_policy.proofs.RetrySimulation.{MayHaveGrown, retry_follows, pause_follows}
+use Rattle.gc_view.specs.Heaps.{HeapObject}
+use Rattle.gc_store.proofs.Keeping.{Keeps, keeps-trans, keeps-making, keeps-retried, keeps-paused}
+use Rattle.gc_store.proofs.Placing.{IsStart, KeepsRest, too_large_is, shows, size_in, begun, not_full}
 
 -- where the rule of retry ends without room, there is none
 ends_lacking : {S : Type 0} (rules : Rules S) (s e : S) (ok : Bool) → Retry rules s ok e → ok ≡ false → rules.Lacks e
@@ -36,18 +39,20 @@ ends_lacking rules s e ok (after_both lacks first collects lacks_still grows may
 ends_lacking rules s e ok (after_growth lacks first grows fits) none = absurd (cc none)
 ends_lacking rules s e ok (after_refusal lacks first grows collects ends) none = subst (λ (b : Bool). Ends rules b e) none ends
 
--- what a refusal leaves of the heap and of the store
-pub record FollowsFault {D : Type 0} (layouts : Layouts) (s : StoreView) (ty : ℕ) (vs : List Value) (p : PolicyState D) (e : HeapState) (new : StoreView) (f : PlaceFault) : Type 0 where
-  pub places : Places layouts s.alloc_counter (struct ty vs) p e.limits (Err f) new
-  pub left : LeavesStore D layouts (counted_store s) e
+-- what a refusal leaves: the answer, and a table that the store holds
+pub record FollowsFault {D : Type 0} (layouts : Layouts) (s : StoreView D) (ty : ℕ) (vs : List Value) (p : PolicyState D) (e : OwnerState D) (f : PlaceFault) : Type 0 where
+  pub places : Places layouts s.alloc_counter (struct ty vs) p e.limits (Err f) (shown (counted_store s) e.owner)
+  pub table : Table D
+  pub account : Account
+  pub holds : HoldsAccount layouts (shown (counted_store s) e.owner) table account
 
-module _ {D : Type 0} (layouts : Layouts) (s : StoreView) (ty : ℕ) (raws : List RawValue) (can : CanPlace D layouts s ty raws) (heap : IsHeap layouts s.heap) (hosts : ℕ → Bool) (collectable : IsCollectable layouts s.types s.heap (roots_of s.scoped) hosts)
-    (limits : Limits) (t : Table D) (a : Account) (holds : HoldsAccount layouts s t a) (small : too_large layouts (size_of layouts can.fields) ≡ false) (room : is_full s ≡ false) (unused : s.heap.attached ≡ false → s.last ≡ 0) where
+module _ {D : Type 0} (layouts : Layouts) (s : StoreView D) (v : OwnerView D) (ty : ℕ) (raws : List RawValue) (can : CanPlace D layouts (shown s v) ty raws) (limits : Limits) (t : Table D) (a : Account) (is : IsStart layouts s v t a)
+    (small : too_large layouts (size_of layouts can.fields) ≡ false) (room : is_full (shown s v) ≡ false) where
   abbrev p : PolicyState D
   p = policy_state t a limits
 
-  abbrev h : HeapState
-  h = start_state s hosts limits
+  abbrev h : OwnerState D
+  h = state_of v limits
 
   abbrev size : ℕ
   size = size_of layouts can.fields
@@ -55,80 +60,83 @@ module _ {D : Type 0} (layouts : Layouts) (s : StoreView) (ty : ℕ) (raws : Lis
   abbrev need : ℕ
   need = need_of layouts size
 
-  shown : Shows layouts (counted_store s) h (count_try p)
-  shown = shows layouts s ty raws can heap hosts collectable limits t a holds
+  started : Shows layouts (counted_store s) h (count_try p)
+  started = shows layouts s v ty raws can limits t a is
 
   sizes : (vs : List Value) → size ≡ bytes_of {D = D} layouts (struct ty vs) t
-  sizes vs = sym (size_in layouts s ty raws can heap hosts collectable limits t a holds vs layouts)
+  sizes vs = sym (size_in layouts s v ty raws can limits t a is vs layouts)
 
   is_small : (vs : List Value) → too_large layouts (bytes_of {D = D} layouts (struct ty vs) t) ≡ false
   is_small vs = ap (too_large layouts) (sym (sizes vs)) ∙ small
 
   full : roots_full t ≡ false
-  full = not_full layouts s ty raws can heap hosts collectable limits t a holds small room
+  full = not_full layouts s v ty raws can limits t a is small room
 
-  begun_at : (due : Bool) → due ≡ is_due s.alloc_counter (min (s.tries + 1) (2 ^ 64 - 1)) → (b : HeapState) → Begins layouts s.types s.first due h b → FollowsBeginning layouts (counted_store s) s.alloc_counter b (count_try p)
-  begun_at = begun layouts s ty raws can heap hosts collectable limits t a holds
+  module _ (due : Bool) (due_is : due ≡ is_due s.alloc_counter (min (s.tries + 1) (2 ^ 64 - 1))) (vs : List Value) (e : OwnerState D) where
+    begun_at : (b : OwnerState D) → BeginsMaking layouts s.first due h b → FollowsBeginning layouts (counted_store s) s.alloc_counter b (count_try p)
+    begun_at b begins = begun layouts s v ty raws can limits t a is due due_is b begins
 
-  module _ (due : Bool) (due_is : due ≡ is_due s.alloc_counter (min (s.tries + 1) (2 ^ 64 - 1))) (vs : List Value) (e : HeapState) (new : StoreView)
-      (keeps : (u : Table D) (a' : Account) → HoldsAccount layouts (view_at (counted_store s) e) u a' → HoldsAccount layouts new u a') (same_heap : new.heap ≡ e.heap) where
+    -- the owner as it was, or with pages refused, holds what it held
+    same_holds : e.owner ≡ v → HoldsAccount layouts (shown (counted_store s) e.owner) t (counted a)
+    same_holds same = subst (λ (x : OwnerView D). HoldsAccount layouts (shown (counted_store s) x) t (counted a)) (sym same) (counted_holds layouts (shown s v) t a is.holds)
+
     -- no room, and no more pages
-    no_room_follows : (b : HeapState) (asked : ℕ) → Begins layouts s.types s.first due h b → LacksSpace layouts s.types size b e asked → LacksPlace layouts s.alloc_counter (struct ty vs) p e.limits asked new × LeavesStore D layouts (counted_store s) e
+    no_room_follows : (b : OwnerState D) (asked : ℕ) → BeginsMaking layouts s.first due h b → LacksSpace layouts size b e asked → LacksPlace layouts s.alloc_counter (struct ty vs) p e.limits asked (shown (counted_store s) e.owner)
     no_room_follows b asked begins lacks =
-        let beginning = begun_at due due_is b begins in
+        let beginning = begun_at b begins in
         let retried = retry_follows layouts (counted_store s) size b beginning.after beginning.agrees false e lacks.retried in
-        let is : retried.after.table ≡ make_heap t = retried.tried.same ∙ beginning.table in
+        let table_is : retried.after.table ≡ make_heap t = retried.tried.same ∙ beginning.table in
         let refused : IsRefusedGrowth limits.limit (made_pages t) need =
         subst (λ (u : Table D). IsRefusedGrowth limits.limit u.pages need) beginning.table (subst (λ (l : Limits). IsRefusedGrowth l.limit beginning.after.table.pages need) beginning.limits retried.tried.refused) in
-        let none : LacksFit layouts (make_heap t) size = subst (λ (u : Table D). LacksFit layouts u size) is retried.tried.lacks in (
-          record {
-            small = is_small vs;
-            not_full = full;
-            asked = lacks.asked ∙ ap (need_of layouts) (sizes vs);
-            after = retried.after;
-            prepares = subst (λ (k : ℕ). Prepares layouts s.alloc_counter k p false retried.after) (sizes vs) (policy.tried beginning.makes beginning.dues retried.retried);
-            lacks = allocation.no_room beginning.may (subst (λ (k : ℕ). IsRefusedGrowth limits.limit (made_pages t) (need_of layouts k)) (sizes vs) refused) (subst (LacksFit layouts (make_heap t)) (sizes vs) none) is;
-            no_room = λ made. subst (λ (k : ℕ). HasRoom layouts new.heap k → ⊥) (sizes vs) (subst (λ (x : HeapView). HasRoom layouts x size → ⊥) (sym same_heap) (ends_lacking (heap_rules layouts s.types size) b e false lacks.retried refl));
-            holds = keeps retried.after.table retried.after.account retried.agrees.holds;
-            limits = sym retried.agrees.limits;
-          },
-          agrees_leaves layouts (counted_store s) e retried.after retried.agrees,
-        )
+        let none : LacksFit layouts (make_heap t) size = subst (λ (u : Table D). LacksFit layouts u size) table_is retried.tried.lacks in
+        record {
+          small = is_small vs;
+          not_full = full;
+          asked = lacks.asked ∙ ap (need_of layouts) (sizes vs);
+          after = retried.after;
+          prepares = subst (λ (k : ℕ). Prepares layouts s.alloc_counter k p false retried.after) (sizes vs) (policy.tried beginning.makes beginning.dues retried.retried);
+          lacks = allocation.no_room beginning.may (subst (λ (k : ℕ). IsRefusedGrowth limits.limit (made_pages t) (need_of layouts k)) (sizes vs) refused) (subst (LacksFit layouts (make_heap t)) (sizes vs) none) table_is;
+          no_room = λ made. subst (λ (k : ℕ). HasRoom layouts e.owner.heap k → ⊥) (sizes vs) (ends_lacking (owner_rules layouts size) b e false lacks.retried refl);
+          holds = retried.agrees.holds;
+          limits = sym retried.agrees.limits;
+        }
 
-    pub fault_follows : (f : PlaceFault) → PlacesIn layouts s.types can.fields ty raws s.first due h e (Err f) → FollowsFault layouts s ty vs p e new f
-    fault_follows fault.FuncTableFull places = absurd places
-    fault_follows fault.TooLarge places = absurd (cc (sym small ∙ too_large_is layouts size places))
-    fault_follows fault.RootsFull places = absurd places
-    fault_follows (fault.HeapOutOfMemory f) (inl (no_pages, (asked, is))) = record {
-      places = record {
-        small = is_small vs;
-        not_full = full;
-        asked = asked ∙ ap (need_of layouts) (sizes vs);
-        after = record (count_try p) { limits = e.limits };
-        prepares = policy.no_heap (refusal_follows layouts (counted_store s) h (count_try p) shown e no_pages);
-        lacks = allocation.no_heap (no_heap_follows layouts (counted_store s) h (count_try p) shown e no_pages) refl;
-        no_room = (let unmade = (no_heap_follows layouts (counted_store s) h (count_try p) shown e no_pages).unmade in λ made. absurd (cc (unmade, made)));
-        holds = keeps t (counted a) (same_holds layouts (counted_store s) h e (count_try p) shown is);
-        limits = refl;
-      };
-      left = same_leaves layouts (counted_store s) h e (count_try p) shown unused is;
+    no_pages_follows : (asked : ℕ) → NotBegun s.first h e → asked ≡ need → LacksPlace layouts s.alloc_counter (struct ty vs) p e.limits asked (shown (counted_store s) e.owner)
+    no_pages_follows asked no_pages asked_is = record {
+      small = is_small vs;
+      not_full = full;
+      asked = asked_is ∙ ap (need_of layouts) (sizes vs);
+      after = record (count_try p) { limits = e.limits };
+      prepares = policy.no_heap (refusal_follows layouts (counted_store s) h (count_try p) started e no_pages);
+      lacks = allocation.no_heap (no_heap_follows layouts (counted_store s) h (count_try p) started e no_pages) refl;
+      no_room = (let unmade = (no_heap_follows layouts (counted_store s) h (count_try p) started e no_pages).unmade in λ made. absurd (cc (unmade, made)));
+      holds = same_holds no_pages.same;
+      limits = refl;
     }
-    fault_follows (fault.HeapOutOfMemory f) (inr (b, (begins, lacks))) = let both = no_room_follows b f.bytes_needed begins lacks in record { places = both.0; left = both.1 }
-    fault_follows fault.Memory (inl is) =
-        let is_same : e ≡ record h { limits = e.limits } = is ∙ (λ i. record h { limits = ap (λ (x : HeapState). x.limits) (sym is) i }) in
+
+    pub fault_follows : (f : PlaceFault) → MakesRooted layouts (new_struct layouts ty (struct_layout layouts can.fields)) size s.first due h e (Err f) → FollowsFault layouts s ty vs p e f
+    fault_follows fault.FuncTableFull makes = absurd makes
+    fault_follows fault.TooLarge makes = absurd (cc (sym small ∙ too_large_is layouts size makes))
+    fault_follows fault.RootsFull makes = absurd makes
+    fault_follows (fault.HeapOutOfMemory f) (inl (no_pages, asked)) = let places = no_pages_follows f.bytes_needed no_pages asked in record { places = places; table = _; account = _; holds = places.holds }
+    fault_follows (fault.HeapOutOfMemory f) (inr (b, (begins, lacks))) = let places = no_room_follows b f.bytes_needed begins lacks in record { places = places; table = _; account = _; holds = places.holds }
+    fault_follows fault.Memory (inl same) =
+        let holds = same_holds (ap (λ (x : OwnerState D). x.owner) same) in
         record {
           places = record {
             after = count_try p;
             prepared = policy.not_made;
             begun = inr (is_small vs, full);
             pages = inl refl;
-            holds = keeps t (counted a) (same_holds layouts (counted_store s) h e (count_try p) shown is_same);
-            limits = ap (λ (x : HeapState). x.limits) is;
+            holds = holds;
+            limits = ap (λ (x : OwnerState D). x.limits) same;
           };
-          left = same_leaves layouts (counted_store s) h e (count_try p) shown unused is_same;
+          table = t;
+          account = counted a;
+          holds = holds;
         }
     fault_follows fault.Memory (inr (b, (begins, pause))) =
-        let beginning = begun_at due due_is b begins in
+        let beginning = begun_at b begins in
         let paused = pause_follows layouts (counted_store s) size b beginning.after beginning.agrees e pause in
         let got = got_pages limits.limit need t beginning.after.table paused.after.table beginning.may beginning.table
         (subst (λ (l : Limits). MayHaveGrown l.limit need beginning.after.table paused.after.table) beginning.limits paused.grown) in
@@ -138,8 +146,24 @@ module _ {D : Type 0} (layouts : Layouts) (s : StoreView) (ty : ℕ) (raws : Lis
             prepared = subst (λ (k : ℕ). Prepared layouts s.alloc_counter k p paused.after) (sizes vs) (policy.paused beginning.makes beginning.dues paused.paused);
             begun = inr (is_small vs, full);
             pages = subst (λ (k : ℕ). MayGetPages limits.limit (need_of layouts k) t paused.after.table) (sizes vs) (inr (got.pages, (got.gets, got.is)));
-            holds = keeps paused.after.table paused.after.account paused.agrees.holds;
+            holds = paused.agrees.holds;
             limits = sym paused.agrees.limits;
           };
-          left = agrees_leaves layouts (counted_store s) e paused.after paused.agrees;
+          table = paused.after.table;
+          account = paused.after.account;
+          holds = paused.agrees.holds;
         }
+
+-- what a refusal leaves of the rest of the owner
+pub fault_keeps : {D : Type 0} (layouts : Layouts) (o : HeapObject) (size first : ℕ) (due : Bool) (s e : OwnerState D) (f : PlaceFault) → too_large layouts size ≡ false → MakesRooted layouts o size first due s e (Err f) → KeepsRest s.owner e.owner
+fault_keeps layouts o size first due s e fault.FuncTableFull small makes = absurd makes
+fault_keeps layouts o size first due s e fault.TooLarge small makes = absurd (cc (sym small ∙ too_large_is layouts size makes))
+fault_keeps layouts o size first due s e fault.RootsFull small makes = absurd makes
+fault_keeps {D} layouts o size first due s e (fault.HeapOutOfMemory f) small (inl (no_pages, asked)) = record { idle = ap (λ (v : OwnerView D). v.idle) no_pages.same; types = ap (λ (v : OwnerView D). v.types) no_pages.same }
+fault_keeps {D} layouts o size first due s e (fault.HeapOutOfMemory f) small (inr (b, (begins, lacks))) =
+    let keeps : Keeps s.owner e.owner = keeps-trans s.owner b.owner e.owner (keeps-making layouts first due s b begins) (keeps-retried layouts size b false e lacks.retried) in
+    record { idle = keeps.idle; types = keeps.types }
+fault_keeps {D} layouts o size first due s e fault.Memory small (inl same) = record { idle = ap (λ (x : OwnerState D). x.owner.idle) same; types = ap (λ (x : OwnerState D). x.owner.types) same }
+fault_keeps {D} layouts o size first due s e fault.Memory small (inr (b, (begins, pause))) =
+    let keeps : Keeps s.owner e.owner = keeps-trans s.owner b.owner e.owner (keeps-making layouts first due s b begins) (keeps-paused layouts size b e pause) in
+    record { idle = keeps.idle; types = keeps.types }

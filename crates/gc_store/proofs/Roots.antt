@@ -6,7 +6,7 @@ use Rattle.std.proofs.lemmas.Grind.{common_steps}
 use Rattle.std.specs.FinMap as map
 use Rattle.gc_types.specs.declared.kind.Layouts.{Layouts}
 use Rattle.gc_refs.specs.Words.{i31_word, IsHeapWord}
-use Rattle.gc_model.specs.declared.RootEntry.{RootEntry}
+use Rattle.gc_owner.specs.declared.entry.RootEntry.{RootEntry}
 use Rattle.gc_model.specs.Values.{Reference, null, small, at, Object, struct, array, host, exception}
 use Rattle.gc_model.specs.Table.{Table}
 use Rattle.gc_model.specs.Live.{rooted}
@@ -22,10 +22,10 @@ use Rattle.gc_store.specs.declared.root.RootFault.TheVariants as fault
 use Rattle.gc_store.specs.declared.root.RootedObject.{RootedObject}
 use Rattle.gc_store.specs.declared.root.RootedObject.TheVariants as rooted_object
 use Rattle.gc_store.specs.Roots.{word_of, is_of_store, Names, IsRootWord, IsReference, IsObject, TellsRoot}
-use Rattle.gc_store.specs.RootSets.{slot_word, entry_word}
+use Rattle.gc_store.specs.Words.{slot_word, entry_word}
 
 -- the entry of a handle that has a word
-pub record HasEntry (s : StoreView) (handle : GcRootIndex) (word : ℕ) : Type 0 where
+pub record HasEntry {D : Type 0} (s : StoreView D) (handle : GcRootIndex) (word : ℕ) : Type 0 where
   pub store : is_of_store s handle ≡ true
   pub index : ℕ
   pub slot : handle.slot ≡ slot.Scoped index
@@ -35,7 +35,7 @@ pub record HasEntry (s : StoreView) (handle : GcRootIndex) (word : ℕ) : Type 0
   pub word_is : entry.word ≡ word
 
 -- why a handle of the store has no word
-pub record HasNoEntry (s : StoreView) (handle : GcRootIndex) (f : RootFault) : Type 0 where
+pub record HasNoEntry {D : Type 0} (s : StoreView D) (handle : GcRootIndex) (f : RootFault) : Type 0 where
   pub unrooted : f ≡ fault.Unrooted
   pub none : (index : ℕ) → handle.slot ≡ slot.Scoped index → (entry : RootEntry) → slice_get s.scoped index ≡ Some entry → entry.generation ≢ handle.generation
 
@@ -48,13 +48,13 @@ entry_word-err None generation f e = (grind (arith, e), λ entry h. absurd (cc))
 entry_word-err (Some entry) generation f e =
     (grind (arith, common_steps, e), λ other h same. let is : entry ≡ other = grind (arith, h) in let g : entry.generation ≡ generation = ap (λ (x : RootEntry). x.generation) is ∙ same in absurd (grind (arith, common_steps, e, g)))
 
-has_entry : (s : StoreView) (handle : GcRootIndex) (word : ℕ) (sl : RootSlot) → is_of_store s handle ≡ true → handle.slot ≡ sl → slot_word s.scoped sl handle.generation ≡ Ok word → HasEntry s handle word
+has_entry : {D : Type 0} (s : StoreView D) (handle : GcRootIndex) (word : ℕ) (sl : RootSlot) → is_of_store s handle ≡ true → handle.slot ≡ sl → slot_word s.scoped sl handle.generation ≡ Ok word → HasEntry s handle word
 has_entry s handle word (slot.Scoped index) store is e =
     let found = entry_word-ok (slice_get s.scoped index) handle.generation word e in
     record { store = store; index = index; slot = is; entry = found.0; entry_at = found.1.0; generation = found.1.1.0; word_is = found.1.1.1 }
 has_entry s handle word (slot.Owned id) store is e = absurd (cc)
 
-has_no_entry : (s : StoreView) (handle : GcRootIndex) (f : RootFault) (sl : RootSlot) → handle.slot ≡ sl → slot_word s.scoped sl handle.generation ≡ Err f → HasNoEntry s handle f
+has_no_entry : {D : Type 0} (s : StoreView D) (handle : GcRootIndex) (f : RootFault) (sl : RootSlot) → handle.slot ≡ sl → slot_word s.scoped sl handle.generation ≡ Err f → HasNoEntry s handle f
 has_no_entry s handle f (slot.Scoped i) is e =
     let no = entry_word-err (slice_get s.scoped i) handle.generation f e in
     record { unrooted = no.0; none = λ index h entry at_index. let same : i ≡ index = grind (arith, sym is ∙ h) in no.1 entry (ap (slice_get s.scoped) same ∙ at_index) }
@@ -65,22 +65,22 @@ chosen_word true x word e = (refl, e)
 chosen_word false x word e = absurd (cc)
 
 -- a handle that has a word has an entry with it
-pub word_of-ok : (s : StoreView) (handle : GcRootIndex) (word : ℕ) → word_of s handle ≡ Ok word → HasEntry s handle word
+pub word_of-ok : {D : Type 0} (s : StoreView D) (handle : GcRootIndex) (word : ℕ) → word_of s handle ≡ Ok word → HasEntry s handle word
 word_of-ok s handle word e =
     let chose = chosen_word (is_of_store s handle) (slot_word s.scoped handle.slot handle.generation) word e in
     has_entry s handle word handle.slot chose.0 refl chose.1
 
 -- a handle of the store that has no word has no entry of its generation
-pub word_of-err : (s : StoreView) (handle : GcRootIndex) (f : RootFault) → is_of_store s handle ≡ true → word_of s handle ≡ Err f → HasNoEntry s handle f
+pub word_of-err : {D : Type 0} (s : StoreView D) (handle : GcRootIndex) (f : RootFault) → is_of_store s handle ≡ true → word_of s handle ≡ Err f → HasNoEntry s handle f
 word_of-err s handle f store e =
     has_no_entry s handle f handle.slot refl (sym (ap (λ b. cond b (slot_word s.scoped handle.slot handle.generation) (Err fault.WrongStore)) store) ∙ e)
 
 -- another store's handle
-pub word_of-wrong : (s : StoreView) (handle : GcRootIndex) → is_of_store s handle ≡ false → word_of s handle ≡ Err fault.WrongStore
+pub word_of-wrong : {D : Type 0} (s : StoreView D) (handle : GcRootIndex) → is_of_store s handle ≡ false → word_of s handle ≡ Err fault.WrongStore
 word_of-wrong s handle wrong = ap (λ b. cond b (slot_word s.scoped handle.slot handle.generation) (Err fault.WrongStore)) wrong
 
 -- a handle that has a word is that of some push
-pub names-entry : {D : Type 0} (layouts : Layouts) (s : StoreView) (t : Table D) (place : Placing) → Holds layouts s t place → (handle : GcRootIndex) (word : ℕ) → HasEntry s handle word → (serial : ℕ) × Names s t handle serial
+pub names-entry : {D : Type 0} (layouts : Layouts) (s : StoreView D) (t : Table D) (place : Placing) → Holds layouts s t place → (handle : GcRootIndex) (word : ℕ) → HasEntry s handle word → (serial : ℕ) × Names s t handle serial
 names-entry layouts s t place holds handle word has =
     let stands = entry_stands layouts s t place holds has.index has.entry has.entry_at in (
       stands.0.serial,
@@ -102,7 +102,7 @@ names-entry layouts s t place holds handle word has =
     same_number = grind (arith, common_steps, has.store)
 
 -- the word of a handle is that of a root
-pub root_word : {D : Type 0} (layouts : Layouts) (s : StoreView) (t : Table D) (place : Placing) → Holds layouts s t place → (handle : GcRootIndex) (word : ℕ) → word_of s handle ≡ Ok word → IsRootWord D layouts s word
+pub root_word : {D : Type 0} (layouts : Layouts) (s : StoreView D) (t : Table D) (place : Placing) → Holds layouts s t place → (handle : GcRootIndex) (word : ℕ) → word_of s handle ≡ Ok word → IsRootWord D layouts s word
 root_word layouts s t place holds handle word e =
     let has = word_of-ok s handle word e in
     let stands = entry_stands layouts s t place holds has.index has.entry has.entry_at in
@@ -116,11 +116,11 @@ root_word layouts s t place holds handle word e =
     }
 
 -- a named handle is of the store
-pub names-store : {D : Type 0} (s : StoreView) (t : Table D) (handle : GcRootIndex) (serial : ℕ) → Names s t handle serial → is_of_store s handle ≡ true
+pub names-store : {D : Type 0} (s : StoreView D) (t : Table D) (handle : GcRootIndex) (serial : ℕ) → Names s t handle serial → is_of_store s handle ≡ true
 names-store s t handle serial names = ap (is_of_store s) names.is ∙ grind (arith, common_steps)
 
 -- what a named handle's word tells: the root is live, and has that word
-pub named_live : {D : Type 0} (layouts : Layouts) (s : StoreView) (t : Table D) (place : Placing) → Holds layouts s t place → (handle : GcRootIndex) (serial word : ℕ) → Names s t handle serial → word_of s handle ≡ Ok word → (r : Reference) × ((rooted t serial ≡ Some r) × (IsWord place r word) × (0 < word))
+pub named_live : {D : Type 0} (layouts : Layouts) (s : StoreView D) (t : Table D) (place : Placing) → Holds layouts s t place → (handle : GcRootIndex) (serial word : ℕ) → Names s t handle serial → word_of s handle ≡ Ok word → (r : Reference) × ((rooted t serial ≡ Some r) × (IsWord place r word) × (0 < word))
 named_live layouts s t place holds handle serial word names e =
     let has = word_of-ok s handle word e in
     let index_is : has.index ≡ names.push.index = grind (arith, sym has.slot ∙ ap (λ (h : GcRootIndex). h.slot) names.is) in
@@ -128,7 +128,7 @@ named_live layouts s t place holds handle serial word names e =
     (live.0, (live.1.0, subst (IsWord place live.0) has.word_is live.1.1, subst (λ w. 0 < w) has.word_is live.1.2))
 
 -- where a named handle has no word, its root is gone
-pub named_dead : {D : Type 0} (layouts : Layouts) (s : StoreView) (t : Table D) (place : Placing) → Holds layouts s t place → (handle : GcRootIndex) (serial : ℕ) (f : RootFault) → Names s t handle serial → word_of s handle ≡ Err f → (rooted t serial ≡ None) × (f ≡ fault.Unrooted)
+pub named_dead : {D : Type 0} (layouts : Layouts) (s : StoreView D) (t : Table D) (place : Placing) → Holds layouts s t place → (handle : GcRootIndex) (serial : ℕ) (f : RootFault) → Names s t handle serial → word_of s handle ≡ Err f → (rooted t serial ≡ None) × (f ≡ fault.Unrooted)
 named_dead layouts s t place holds handle serial f names e =
     let no = word_of-err s handle f (names-store s t handle serial names) e in (
       dead_word layouts s t place holds serial names.push names.pushed
@@ -151,7 +151,7 @@ stands_struct layouts types place (host value) h ty stands is = absurd stands
 stands_struct layouts types place (exception ty' tag values) h ty stands is = absurd stands
 
 -- an odd word is that of a small number
-pub describes_small : {D : Type 0} (layouts : Layouts) (s : StoreView) (t : Table D) (place : Placing) (r : Reference) (word number : ℕ) → Holds layouts s t place → IsWord place r word → word ≡ i31_word number → IsReference t r (rooted_object.I31 number)
+pub describes_small : {D : Type 0} (layouts : Layouts) (s : StoreView D) (t : Table D) (place : Placing) (r : Reference) (word number : ℕ) → Holds layouts s t place → IsWord place r word → word ≡ i31_word number → IsReference t r (rooted_object.I31 number)
 describes_small layouts s t place null word number holds is odd = absurd (omega (arith, is, odd))
 describes_small layouts s t place (small n) word number holds is odd = ap rooted_object.I31 (omega (arith, is, odd))
 describes_small layouts s t place (at p) word number holds is odd =
@@ -159,7 +159,7 @@ describes_small layouts s t place (at p) word number holds is odd =
     absurd (omega (arith, odd, (holds.objects.even word held.object held.in_heap).0))
 
 -- an even word is that of an object, which its header tells
-pub describes_object : {D : Type 0} (layouts : Layouts) (s : StoreView) (t : Table D) (place : Placing) (r : Reference) (word ty : ℕ) → Holds layouts s t place → IsWord place r word → 0 < word → (word % 2 ≡ 1 → ⊥) → ((object : HeapObject) → map.get s.heap.content word ≡ Some object → object.ty ≡ ty) → IsReference t r (rooted_object.Struct ty)
+pub describes_object : {D : Type 0} (layouts : Layouts) (s : StoreView D) (t : Table D) (place : Placing) (r : Reference) (word ty : ℕ) → Holds layouts s t place → IsWord place r word → 0 < word → (word % 2 ≡ 1 → ⊥) → ((object : HeapObject) → map.get s.heap.content word ≡ Some object → object.ty ≡ ty) → IsReference t r (rooted_object.Struct ty)
 describes_object layouts s t place null word ty holds is positive even tells = absurd (omega (arith, is))
 describes_object layouts s t place (small n) word ty holds is positive even tells = absurd (even (omega (arith, is)))
 describes_object layouts s t place (at p) word ty holds is positive even tells =
@@ -167,7 +167,7 @@ describes_object layouts s t place (at p) word ty holds is positive even tells =
     subst (λ o. IsObject o (rooted_object.Struct ty)) (sym held.in_table) (stands_struct layouts t.types place held.entry held.object ty held.stands (tells held.object held.in_heap))
 
 -- there is an object at an even word of a root
-pub held_object : {D : Type 0} (layouts : Layouts) (s : StoreView) (t : Table D) (place : Placing) (r : Reference) (word : ℕ) → Holds layouts s t place → IsWord place r word → 0 < word → (word % 2 ≡ 1 → ⊥) → (object : HeapObject) × (map.get s.heap.content word ≡ Some object)
+pub held_object : {D : Type 0} (layouts : Layouts) (s : StoreView D) (t : Table D) (place : Placing) (r : Reference) (word : ℕ) → Holds layouts s t place → IsWord place r word → 0 < word → (word % 2 ≡ 1 → ⊥) → (object : HeapObject) × (map.get s.heap.content word ≡ Some object)
 held_object layouts s t place null word holds is positive even = absurd (omega (arith, is))
 held_object layouts s t place (small n) word holds is positive even = absurd (even (omega (arith, is)))
 held_object layouts s t place (at p) word holds is positive even = let held = holds.objects.placed p word is in (held.object, held.in_heap)
@@ -183,7 +183,7 @@ is_even None word even other odd = omega (arith, even, odd)
 is_even (Some n) word number other odd = other n refl
 
 -- the word of one of the store's own handles
-pub own_word : (s : StoreView) (handle : GcRootIndex) → is_of_store s handle ≡ true → word_of s handle ≡ slot_word s.scoped handle.slot handle.generation
+pub own_word : {D : Type 0} (s : StoreView D) (handle : GcRootIndex) → is_of_store s handle ≡ true → word_of s handle ≡ slot_word s.scoped handle.slot handle.generation
 own_word s handle own = ap (λ b. cond b (slot_word s.scoped handle.slot handle.generation) (Err fault.WrongStore)) own
 
 pub SomeIff-some : (P : Type 0) (o : Option ℕ) (v : ℕ) → SomeIff o P v → P → IsSome o

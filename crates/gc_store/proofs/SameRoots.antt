@@ -58,7 +58,7 @@ pub same_err : {A : Type 0} (r : Result A RootFault) (f : RootFault) → IsErrAn
 same_err (Ok x) f is = absurd is
 same_err (Err e) f is = ap Err is
 
-module _ {D : Type 0} (layouts : Layouts) (s : StoreView) (t : Table D) (place : Placing) (holds : Holds layouts s t place) (a b : GcRootIndex) where
+module _ {D : Type 0} (layouts : Layouts) (s : StoreView D) (t : Table D) (place : Placing) (holds : Holds layouts s t place) (a b : GcRootIndex) where
   pub both_live : (x y u v : ℕ) → Names s t a x → Names s t b y → word_of s a ≡ Ok u → word_of s b ≡ Ok v → TellsSame (rooted t x) (rooted t y) (Ok (nat_eq u v))
   both_live x y u v first second first_word second_word =
       let r = named_live layouts s t place holds a x u first first_word in

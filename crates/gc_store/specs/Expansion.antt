@@ -6,12 +6,12 @@ use Rattle.gc_model.specs.Allocation.{Limits, Grows}
 use Rattle.gc_model.specs.Stores.{StoreView}
 use Rattle.gc_store.specs.declared.grow.GrowFault.{GrowFault}
 use Rattle.gc_store.specs.declared.grow.GrowFault.TheVariants as fault
-use Rattle.gc_store.specs.Accounts.{HoldsAccount}
+use Rattle.gc_policy.specs.Accounts.{HoldsAccount}
 use Rattle.gc_store.specs.Places.{MayGetPages}
-use Rattle.gc_store.specs.Policy.{PolicyState, Expands, Expanded, CollectsTable, allocated_bytes}
+use Rattle.gc_policy.specs.Policy.{PolicyState, Expands, Expanded, CollectsTable, allocated_bytes}
 
 -- a growth by so many bytes was granted or refused
-pub record ExpandsStore {D : Type 0} (layouts : Layouts) (bytes : ℕ) (p : PolicyState D) (limits' : Limits) (granted : Bool) (new : StoreView) : Type 0 where
+pub record ExpandsStore {D : Type 0} (layouts : Layouts) (bytes : ℕ) (p : PolicyState D) (limits' : Limits) (granted : Bool) (new : StoreView D) : Type 0 where
   pub after : PolicyState D
   pub expands : Expands layouts bytes p granted after
   pub grows : Grows p.limits.limit bytes p.table granted after.table
@@ -19,7 +19,7 @@ pub record ExpandsStore {D : Type 0} (layouts : Layouts) (bytes : ℕ) (p : Poli
   pub limits : limits' ≡ after.limits
 
 -- memory was wanting on the way
-pub record WantsPages {D : Type 0} (layouts : Layouts) (bytes : ℕ) (p : PolicyState D) (limits' : Limits) (new : StoreView) : Type 0 where
+pub record WantsPages {D : Type 0} (layouts : Layouts) (bytes : ℕ) (p : PolicyState D) (limits' : Limits) (new : StoreView D) : Type 0 where
   pub after : PolicyState D
   pub expanded : Expanded layouts bytes p after
   pub pages : MayGetPages p.limits.limit bytes p.table after.table
@@ -27,7 +27,7 @@ pub record WantsPages {D : Type 0} (layouts : Layouts) (bytes : ℕ) (p : Policy
   pub limits : limits' ≡ after.limits
 
 -- what a growth by so many bytes answers and leaves
-abbrev pub GrowsStore : {D : Type 0} → Layouts → ℕ → PolicyState D → Limits → Result (Unit {0}) GrowFault → StoreView → Type 0
+abbrev pub GrowsStore : {D : Type 0} → Layouts → ℕ → PolicyState D → Limits → Result (Unit {0}) GrowFault → StoreView D → Type 0
 GrowsStore layouts bytes p limits' (Ok done) new = ExpandsStore layouts bytes p limits' true new
 GrowsStore layouts bytes p limits' (Err fault.GcHeapGrowthFailed) new = ExpandsStore layouts bytes p limits' false new
 GrowsStore layouts bytes p limits' (Err fault.Memory) new = WantsPages layouts bytes p limits' new
@@ -37,7 +37,7 @@ abbrev pub MayCollectTable : {D : Type 0} → Layouts → PolicyState D → Poli
 MayCollectTable layouts p q = ((p.table.made ≡ true) × CollectsTable layouts p q) ⊎ ((p.table.made ≡ false) × (q ≡ p))
 
 -- the heap was collected
-pub record CollectsStore {D : Type 0} (layouts : Layouts) (p : PolicyState D) (new : StoreView) : Type 0 where
+pub record CollectsStore {D : Type 0} (layouts : Layouts) (p : PolicyState D) (new : StoreView D) : Type 0 where
   pub after : PolicyState D
   pub collects : CollectsTable layouts p after
   pub holds : HoldsAccount layouts new after.table after.account
@@ -63,7 +63,7 @@ RoomOr layouts need p (Ok done) q = MakesRoom layouts need p q
 RoomOr layouts need p (Err e) q = MadeRoom layouts need p q
 
 -- what a collection for want of so many bytes answers and leaves
-pub record CollectsFor {D E : Type 0} (layouts : Layouts) (need : ℕ) (p : PolicyState D) (limits' : Limits) (result : Result (Unit {0}) E) (new : StoreView) : Type 0 where
+pub record CollectsFor {D E : Type 0} (layouts : Layouts) (need : ℕ) (p : PolicyState D) (limits' : Limits) (result : Result (Unit {0}) E) (new : StoreView D) : Type 0 where
   pub after : PolicyState D
   pub room : RoomOr layouts need p result after
   pub pages : MayGetPages p.limits.limit need p.table after.table

@@ -1,5 +1,5 @@
 -- Fields of structs in a heap.
-use Rattle.std.specs.Prelude.{◌≡◌, ℕ, ◌^◌, ◌<◌, ◌≤◌, All, Bool, true, List, Some, None, Ok, length, slice_get}
+use Rattle.std.specs.Prelude.{◌≡◌, ℕ, ◌^◌, ◌<◌, All, Bool, true, List, Option, Some, None, Ok, length, slice_get}
 use Rattle.std.specs.FinMap as finite
 use Rattle.std.specs.Int.{w32, w64, cast_unsigned, to_le_bytes}
 use Rattle.gc_types.specs.declared.value.FieldType.{FieldType}
@@ -8,24 +8,28 @@ use Rattle.gc_types.specs.declared.value.StorageType.TheVariants as storage
 use Rattle.gc_types.specs.declared.value.ValType.{ValType}
 use Rattle.gc_types.specs.declared.value.ValType.TheVariants as val
 use Rattle.gc_types.specs.declared.kind.Layouts.{Layouts}
+use Rattle.gc_types.specs.declared.kind.VMGcKind.TheVariants.{StructRef}
 use Rattle.gc_types.specs.declared.layout.FieldLayout.{FieldLayout}
 use Rattle.gc_types.specs.Declarations.{Declaration, struct_fields_at}
-use Rattle.gc_types.specs.Layouts.{struct_base, field_layouts}
+use Rattle.gc_types.specs.declared.layout.GcStructLayout.{GcStructLayout}
+use Rattle.gc_types.specs.Layouts.{struct_base, field_layouts, layout_at}
 use Rattle.gc_roots.specs.Roots.{Root}
-use Rattle.gc_model.specs.declared.GcClass.TheVariants.{Any}
-use Rattle.gc_model.specs.declared.RootEntry.{RootEntry}
+use Rattle.gc_owner.specs.declared.entry.GcClass.TheVariants.{Any}
+use Rattle.gc_owner.specs.declared.entry.RootEntry.{RootEntry}
 use Rattle.gc_model.specs.Fits.{is_built_field}
 use Rattle.gc_model.specs.Values.{Reference, Value, numeric, i32, i64, reference}
 use Rattle.gc_view.specs.Bytes.{u32_at, u64_at}
 use Rattle.gc_view.specs.Heaps.{HeapView, HeapObject}
 use Rattle.gc_model.specs.Holds.{Placing, IsWord, ValuesLie}
 use Rattle.gc_heap.specs.Collection.{IsWordOf}
+use Rattle.gc_heap.specs.Heap.{put_object, with_data}
+use Rattle.gc_owner.specs.Owners.{OwnerView}
 use Rattle.gc_store.specs.declared.field.Stored.{Stored}
 use Rattle.gc_store.specs.declared.field.Stored.TheVariants as stored
 use Rattle.gc_store.specs.declared.root.RawValue.{RawValue}
 use Rattle.gc_store.specs.declared.root.RawValue.TheVariants as raw
-use Rattle.gc_store.specs.RootSets.{slot_word}
-use Rattle.gc_store.specs.Tracing.{IsCollectable}
+use Rattle.gc_store.specs.Words.{slot_word}
+use Rattle.gc_owner.specs.Tracing.{IsCollectable}
 use Rattle.gc_store.specs.Values.{raw_fits}
 
 -- the bytes that a field of an object has
@@ -54,6 +58,7 @@ StoredFits h (storage.ValType ty) x = StoredOfType h ty x
 
 -- a field of a struct lies at that offset, of a type that is built
 pub record IsFieldOf (layouts : Layouts) (types : List Declaration) (object : HeapObject) (offset : ℕ) (st : StorageType) : Type 0 where
+  pub kind : object.kind ≡ StructRef
   pub fields : List FieldType
   pub declared : struct_fields_at types object.ty ≡ Some fields
   pub index : ℕ
@@ -65,18 +70,27 @@ pub record IsFieldOf (layouts : Layouts) (types : List Declaration) (object : He
   pub type_is : field.element_type ≡ st
   pub built : is_built_field field ≡ true
 
--- a field of a held struct may be written
-pub record CanWriteField (layouts : Layouts) (h : HeapView) (place offset : ℕ) (x : Stored) : Type 0 where
-  pub types : List Declaration
-  pub roots : List Root
-  pub hosts : ℕ → Bool
-  pub collectable : IsCollectable layouts types h roots hosts
+-- a field of a held struct of an owner may be written
+pub record CanWriteField {D : Type 0} (layouts : Layouts) (v : OwnerView D) (place offset : ℕ) (x : Stored) : Type 0 where
   pub object : HeapObject
-  pub held : finite.get h.content place ≡ Some object
+  pub held : finite.get v.heap.content place ≡ Some object
   pub st : StorageType
-  pub field : IsFieldOf layouts types object offset st
-  pub fits : StoredFits h st x
-  pub few : length roots ≤ 2 ^ 32
+  pub field : IsFieldOf layouts v.types.declarations object offset st
+  pub fits : StoredFits v.heap st x
+
+-- the owner with these bytes in the object at a place, and nothing else changed but counts
+abbrev pub WritesField : {D : Type 0} → Layouts → OwnerView D → OwnerView D → ℕ → ℕ → List ℕ → Type 0
+WritesField layouts old new place offset bytes =
+    (o : HeapObject) → finite.get old.heap.content place ≡ Some o
+    → new ≡ record old { heap = record (put_object old.heap place (with_data layouts o offset bytes)) { counts = new.heap.counts } }
+
+-- the layout of a field of a struct of a declared type
+abbrev pub field_in : Option GcStructLayout → ℕ → Option FieldLayout
+field_in None index = None
+field_in (Some layout) index = slice_get layout.fields index
+
+abbrev pub layout_in : Layouts → List Declaration → ℕ → ℕ → Option FieldLayout
+layout_in layouts types ty index = field_in (layout_at layouts types ty) index
 
 -- a field of a held struct may be read
 pub record CanReadField (layouts : Layouts) (h : HeapView) (types : List Declaration) (place index : ℕ) : Type 0 where
@@ -85,6 +99,7 @@ pub record CanReadField (layouts : Layouts) (h : HeapView) (types : List Declara
   pub collectable : IsCollectable layouts types h roots hosts
   pub object : HeapObject
   pub held : finite.get h.content place ≡ Some object
+  pub kind : object.kind ≡ StructRef
   pub fields : List FieldType
   pub declared : struct_fields_at types object.ty ≡ Some fields
   pub field : FieldType
@@ -141,35 +156,30 @@ pub record AllFit (entries : List RootEntry) (fields : List FieldType) (raws : L
   pub each : (i : ℕ) (field : FieldType) (r : RawValue) → slice_get fields i ≡ Some field → slice_get raws i ≡ Some r
       → (raw_fits field.element_type r ≡ true) × IsKept entries r
 
--- the roots' words are roots of the collection that may begin
-abbrev pub AreRoots : List RootEntry → List Root → Type 0
-AreRoots entries roots = (e : RootEntry) → Rattle.std.specs.List.Contains entries e → Rattle.std.specs.List.Contains roots (Rattle.gc_store.specs.Tracing.root_of e.word)
+-- The fields of the struct at a place are those of its type, which is built, and the values fit them.
+pub record Writes {D : Type 0} (layouts : Layouts) (v : OwnerView D) (place ty : ℕ) (raws : List RawValue) (object : HeapObject) (fields : List FieldType) : Type 0 where
+  pub held : finite.get v.heap.content place ≡ Some object
+  pub kind : object.kind ≡ StructRef
+  pub of_type : object.ty ≡ ty
+  pub declared : struct_fields_at v.types.declarations ty ≡ Some fields
+  pub fit : AllFit v.roots.scoped fields raws
+  pub built : All (λ (f : FieldType). is_built_field f ≡ true) fields
 
 -- all fields of a held struct may be written
-pub record CanWriteValues (layouts : Layouts) (h : HeapView) (entries : List RootEntry) (place : ℕ) (places : List FieldLayout) (raws : List RawValue) : Type 0 where
-  pub types : List Declaration
-  pub roots : List Root
-  pub hosts : ℕ → Bool
-  pub collectable : IsCollectable layouts types h roots hosts
-  pub are_roots : AreRoots entries roots
+pub record CanWriteValues {D : Type 0} (layouts : Layouts) (v : OwnerView D) (place ty : ℕ) (raws : List RawValue) : Type 0 where
   pub object : HeapObject
-  pub held : finite.get h.content place ≡ Some object
   pub fields : List FieldType
-  pub declared : struct_fields_at types object.ty ≡ Some fields
-  pub laid_out : places ≡ field_layouts (struct_base layouts) fields
-  pub fit : AllFit entries fields raws
-  pub built : All (λ (f : FieldType). is_built_field f ≡ true) fields
-  pub few : length roots ≤ 2 ^ 32
+  pub writes : Writes layouts v place ty raws object fields
 
--- the object at a place has these values now, and every other object is as it was
-pub record WritesValues (layouts : Layouts) (types : List Declaration) (roots : List Root) (hosts : ℕ → Bool) (entries : List RootEntry) (fields : List FieldType) (raws : List RawValue) (old new : HeapView) (place : ℕ) (before : HeapObject) : Type 0 where
+-- The object at a place has these values now; every other object, and all else of the owner, is as it was.
+pub record WritesValues {D : Type 0} (layouts : Layouts) (fields : List FieldType) (raws : List RawValue) (old new : OwnerView D) (place : ℕ) (before : HeapObject) : Type 0 where
   pub bytes : List ℕ
-  pub written : finite.get new.content place ≡ Some (record before { bytes = bytes })
-  pub others : (q : ℕ) → ¬ (q ≡ place) → finite.get new.content q ≡ finite.get old.content q
-  pub attached : new.attached ≡ old.attached
-  pub capacity : new.capacity ≡ old.capacity
-  pub allocated : new.allocated ≡ old.allocated
-  pub needs_gc : new.needs_gc ≡ old.needs_gc
+  pub written : finite.get new.heap.content place ≡ Some (record before { bytes = bytes })
+  pub others : (q : ℕ) → ¬ (q ≡ place) → finite.get new.heap.content q ≡ finite.get old.heap.content q
+  pub attached : new.heap.attached ≡ old.heap.attached
+  pub capacity : new.heap.capacity ≡ old.heap.capacity
+  pub allocated : new.heap.allocated ≡ old.heap.allocated
+  pub needs_gc : new.heap.needs_gc ≡ old.heap.needs_gc
   pub same_length : length bytes ≡ length before.bytes
-  pub collectable : IsCollectable layouts types new roots hosts
-  pub lie : (placing : Placing) (values : List Value) → AllKept placing entries raws values → ValuesLie placing (struct_base layouts) fields values bytes
+  pub lie : (placing : Placing) (values : List Value) → AllKept placing old.roots.scoped raws values → ValuesLie placing (struct_base layouts) fields values bytes
+  pub rest : new ≡ record old { heap = new.heap }

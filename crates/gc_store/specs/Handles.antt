@@ -9,11 +9,11 @@ use Rattle.gc_model.specs.Stores.{StoreView}
 use Rattle.gc_store.specs.declared.root.GcRootIndex.{GcRootIndex}
 use Rattle.gc_store.specs.declared.root.RootFault.{RootFault}
 use Rattle.gc_store.specs.declared.root.RootFault.TheVariants as fault
-use Rattle.gc_store.specs.Accounts.{Account, HoldsAccount}
+use Rattle.gc_policy.specs.Accounts.{Account, HoldsAccount}
 use Rattle.gc_store.specs.Roots.{handle_of}
 
 -- a new scoped root for a reference, whose handle is answered
-abbrev pub PushesRoot : {D : Type 0} → Layouts → Table D → Account → Reference → Result GcRootIndex RootFault → StoreView → Type 0
+abbrev pub PushesRoot : {D : Type 0} → Layouts → Table D → Account → Reference → Result GcRootIndex RootFault → StoreView D → Type 0
 PushesRoot layouts t a r (Ok handle) new =
     (roots_full t ≡ false) × ((handle ≡ handle_of new (length t.scoped) t.drops) × HoldsAccount layouts new (push r t) a)
 PushesRoot layouts t a r (Err fault.WrongStore) new = ⊥

@@ -12,7 +12,7 @@ use Rattle.gc_store.specs.Places.{CanPlace}
 use Rattle.gc_store.specs.Values.{AllStand}
 
 -- an object that is requested so may be placed; structs alone so far
-abbrev pub CanPlaceIn : (D : Type 0) → Layouts → StoreView → Place → Contents → Type 0
+abbrev pub CanPlaceIn : (D : Type 0) → Layouts → StoreView D → Place → Contents → Type 0
 CanPlaceIn D layouts s (place.Struct ty) (contents.Each values) = CanPlace D layouts s ty values.now
 CanPlaceIn D layouts s (place.Struct ty) (contents.Same value) = ⊥
 CanPlaceIn D layouts s (place.Struct ty) (contents.Bytes bytes) = ⊥
@@ -20,7 +20,7 @@ CanPlaceIn D layouts s (place.Exn ty tag) c = ⊥
 CanPlaceIn D layouts s (place.Array ty length) c = ⊥
 
 -- the object of the table that is requested so
-abbrev pub IsObjectOf : {D : Type 0} → StoreView → Table D → Place → Contents → Object D → Type 0
+abbrev pub IsObjectOf : {D : Type 0} → StoreView D → Table D → Place → Contents → Object D → Type 0
 IsObjectOf s t (place.Struct ty) (contents.Each values) o = (vs : List Value) × (AllStand s t values.now vs × (o ≡ struct ty vs))
 IsObjectOf s t (place.Struct ty) (contents.Same value) o = ⊥
 IsObjectOf s t (place.Struct ty) (contents.Bytes bytes) o = ⊥

@@ -12,14 +12,14 @@ use Rattle.gc_store.specs.declared.root.RootFault.{RootFault}
 use Rattle.gc_store.specs.declared.root.RootFault.TheVariants as fault
 use Rattle.gc_store.specs.declared.root.RootedObject.{RootedObject}
 use Rattle.gc_store.specs.declared.root.RootedObject.TheVariants as rooted_object
-use Rattle.gc_store.specs.RootSets.{slot_word}
+use Rattle.gc_store.specs.Words.{slot_word}
 
 -- whether a handle carries the store's id
-abbrev pub is_of_store : StoreView → GcRootIndex → Bool
+abbrev pub is_of_store : {D : Type 0} → StoreView D → GcRootIndex → Bool
 is_of_store s handle = (handle.store_id.engine == s.engine) && (handle.store_id.number == s.number)
 
 -- the handle of the push with that index and generation in a store
-abbrev pub handle_of : StoreView → ℕ → ℕ → GcRootIndex
+abbrev pub handle_of : {D : Type 0} → StoreView D → ℕ → ℕ → GcRootIndex
 handle_of s index generation = record {
   store_id = record { engine = s.engine; number = s.number };
   generation = generation;
@@ -27,7 +27,7 @@ handle_of s index generation = record {
 }
 
 -- the handle is of the push with that serial
-pub record Names {D : Type 0} (s : StoreView) (t : Table D) (handle : GcRootIndex) (serial : ℕ) : Type 0 where
+pub record Names {D : Type 0} (s : StoreView D) (t : Table D) (handle : GcRootIndex) (serial : ℕ) : Type 0 where
   pub push : Push
   pub pushed : slice_get t.pushes serial ≡ Some push
   pub is : handle ≡ handle_of s push.index push.generation
@@ -53,7 +53,7 @@ TellsRoot t (Some r) (Ok answer) = IsReference t r answer
 TellsRoot t (Some r) (Err e) = ⊥
 
 -- the handle is live and names a struct with that value at that index
-pub record HasField {D : Type 0} (s : StoreView) (t : Table D) (handle : GcRootIndex) (index : ℕ) (value : Value) : Type 0 where
+pub record HasField {D : Type 0} (s : StoreView D) (t : Table D) (handle : GcRootIndex) (index : ℕ) (value : Value) : Type 0 where
   pub serial : ℕ
   pub names : Names s t handle serial
   pub position : ℕ
@@ -64,11 +64,11 @@ pub record HasField {D : Type 0} (s : StoreView) (t : Table D) (handle : GcRootI
   pub value_at : slice_get values index ≡ Some value
 
 -- The word that a handle has in the store, or why it has none.
-abbrev pub word_of : StoreView → GcRootIndex → Result ℕ RootFault
+abbrev pub word_of : {D : Type 0} → StoreView D → GcRootIndex → Result ℕ RootFault
 word_of s handle = if is_of_store s handle then slot_word s.scoped handle.slot handle.generation else Err fault.WrongStore
 
 -- the word is that of a root of some table that the store holds
-pub record IsRootWord (D : Type 0) (layouts : Layouts) (s : StoreView) (word : ℕ) : Type 0 where
+pub record IsRootWord (D : Type 0) (layouts : Layouts) (s : StoreView D) (word : ℕ) : Type 0 where
   pub table : Table D
   pub place : Placing
   pub holds : Holds layouts s table place
@@ -77,14 +77,14 @@ pub record IsRootWord (D : Type 0) (layouts : Layouts) (s : StoreView) (word : �
   pub not_null : 0 < word
 
 -- the handle is live and names a struct with a value at that index, in some table that the store holds
-pub record CanRead (D : Type 0) (layouts : Layouts) (s : StoreView) (handle : GcRootIndex) (index : ℕ) : Type 0 where
+pub record CanRead (D : Type 0) (layouts : Layouts) (s : StoreView D) (handle : GcRootIndex) (index : ℕ) : Type 0 where
   pub table : Table D
   pub holds : HoldsTable layouts s table
   pub value : Value
   pub field : HasField s table handle index value
 
 -- the handle is live in some table that the store holds, and names what the answer says
-pub record FindsRoot (D : Type 0) (layouts : Layouts) (s : StoreView) (handle : GcRootIndex) (answer : RootedObject) : Type 0 where
+pub record FindsRoot (D : Type 0) (layouts : Layouts) (s : StoreView D) (handle : GcRootIndex) (answer : RootedObject) : Type 0 where
   pub table : Table D
   pub holds : HoldsTable layouts s table
   pub serial : ℕ

@@ -8,7 +8,7 @@ use Rattle.gc_types.specs.declared.value.ValType.{ValType}
 use Rattle.gc_types.specs.declared.value.ValType.TheVariants as val
 use Rattle.gc_types.specs.declared.kind.Layouts.{Layouts}
 use Rattle.gc_types.specs.Declarations.{struct_fields_at}
-use Rattle.gc_model.specs.declared.GcClass.{GcClass}
+use Rattle.gc_owner.specs.declared.entry.GcClass.{GcClass}
 use Rattle.gc_model.specs.Values.{Reference, null, small, at, Value, numeric, i32, i64, f32, f64, v128, function, reference, number_bits}
 use Rattle.gc_model.specs.Fits.{is_class_any}
 use Rattle.gc_model.specs.Table.{Table, write}
@@ -21,11 +21,11 @@ use Rattle.gc_store.specs.declared.root.RawValue.{RawValue}
 use Rattle.gc_store.specs.declared.root.RawValue.TheVariants as raw
 use Rattle.gc_store.specs.declared.root.RootFault.{RootFault}
 use Rattle.gc_store.specs.declared.root.RootFault.TheVariants as fault
-use Rattle.gc_store.specs.Accounts.{Account, HoldsAccount}
+use Rattle.gc_policy.specs.Accounts.{Account, HoldsAccount}
 use Rattle.gc_store.specs.Roots.{Names, handle_of, HasField}
 
 -- the handle is live, and the value is what its root names
-pub record RootStands {D : Type 0} (s : StoreView) (t : Table D) (class : GcClass) (handle : GcRootIndex) (v : Value) : Type 0 where
+pub record RootStands {D : Type 0} (s : StoreView D) (t : Table D) (class : GcClass) (handle : GcRootIndex) (v : Value) : Type 0 where
   pub serial : ℕ
   pub names : Names s t handle serial
   pub root : Reference
@@ -33,7 +33,7 @@ pub record RootStands {D : Type 0} (s : StoreView) (t : Table D) (class : GcClas
   pub is : v ≡ reference class root
 
 -- a value that is given to the store stands for one of the table
-abbrev pub RawStands : {D : Type 0} → StoreView → Table D → RawValue → Value → Type 0
+abbrev pub RawStands : {D : Type 0} → StoreView D → Table D → RawValue → Value → Type 0
 RawStands s t (raw.I32 n) v = v ≡ numeric i32 (number_bits w32 n)
 RawStands s t (raw.I64 n) v = v ≡ numeric i64 (number_bits w64 n)
 RawStands s t (raw.F32 n) v = v ≡ numeric f32 n
@@ -44,12 +44,12 @@ RawStands s t (raw.Ref class None) v = v ≡ reference class null
 RawStands s t (raw.Ref class (Some handle)) v = RootStands s t class handle v
 
 -- the same of lists
-pub record AllStand {D : Type 0} (s : StoreView) (t : Table D) (raws : List RawValue) (values : List Value) : Type 0 where
+pub record AllStand {D : Type 0} (s : StoreView D) (t : Table D) (raws : List RawValue) (values : List Value) : Type 0 where
   pub same_count : length raws ≡ length values
   pub each : (i : ℕ) (r : RawValue) (v : Value) → slice_get raws i ≡ Some r → slice_get values i ≡ Some v → RawStands s t r v
 
 -- the handle is live in a table that the store holds
-pub record IsLive (D : Type 0) (layouts : Layouts) (s : StoreView) (handle : GcRootIndex) : Type 0 where
+pub record IsLive (D : Type 0) (layouts : Layouts) (s : StoreView D) (handle : GcRootIndex) : Type 0 where
   pub table : Table D
   pub holds : HoldsTable layouts s table
   pub serial : ℕ
@@ -69,7 +69,7 @@ raw_fits storage.I8 r = false
 raw_fits storage.I16 r = false
 raw_fits (storage.ValType ty) r = raw_fits_type ty r
 
-abbrev pub NamesLive : (D : Type 0) → Layouts → StoreView → RawValue → Type 0
+abbrev pub NamesLive : (D : Type 0) → Layouts → StoreView D → RawValue → Type 0
 NamesLive D layouts s (raw.I32 n) = Unit {0}
 NamesLive D layouts s (raw.I64 n) = Unit {0}
 NamesLive D layouts s (raw.F32 n) = Unit {0}
@@ -80,12 +80,12 @@ NamesLive D layouts s (raw.Ref class None) = Unit {0}
 NamesLive D layouts s (raw.Ref class (Some handle)) = IsLive D layouts s handle
 
 -- a value may be written into a field of that type: its handle is live, and it fits
-pub record CanStore (D : Type 0) (layouts : Layouts) (s : StoreView) (field : FieldType) (r : RawValue) : Type 0 where
+pub record CanStore (D : Type 0) (layouts : Layouts) (s : StoreView D) (field : FieldType) (r : RawValue) : Type 0 where
   pub live : NamesLive D layouts s r
   pub fits : raw_fits field.element_type r ≡ true
 
 -- the value that a read answers, whose new root is the newest one
-abbrev pub IsReadAs : {D : Type 0} → StoreView → Table D → Value → RawValue → Type 0
+abbrev pub IsReadAs : {D : Type 0} → StoreView D → Table D → Value → RawValue → Type 0
 IsReadAs s t (numeric i32 n) r = (z : ℤ) × ((r ≡ raw.I32 z) × (n ≡ number_bits w32 z))
 IsReadAs s t (numeric i64 n) r = (z : ℤ) × ((r ≡ raw.I64 z) × (n ≡ number_bits w64 z))
 IsReadAs s t (numeric f32 n) r = r ≡ raw.F32 n
@@ -97,7 +97,7 @@ IsReadAs s t (reference class (small n)) r = r ≡ raw.Ref class (Some (handle_o
 IsReadAs s t (reference class (at p)) r = r ≡ raw.Ref class (Some (handle_of s (length t.scoped) t.drops))
 
 -- What reading that value of the table answers and leaves. Only a read that makes a root can be refused.
-abbrev pub ReadsValue : {D : Type 0} → Layouts → Table D → Account → Value → Result RawValue RootFault → StoreView → Type 0
+abbrev pub ReadsValue : {D : Type 0} → Layouts → Table D → Account → Value → Result RawValue RootFault → StoreView D → Type 0
 ReadsValue layouts t a v (Ok r) new =
     (makes_root v ≡ true → roots_full t ≡ false) × (IsReadAs new t v r × HoldsAccount layouts new (after_read v t) a)
 ReadsValue layouts t a v (Err fault.WrongStore) new = ⊥
@@ -106,7 +106,7 @@ ReadsValue layouts t a v (Err fault.RootsFull) new = (makes_root v ≡ true) × 
 ReadsValue layouts t a v (Err fault.Memory) new = (makes_root v ≡ true) × HoldsAccount layouts new t a
 
 -- a value may be written there: the handle is live and names a struct with a field of that index, which the value fits
-pub record CanWrite (D : Type 0) (layouts : Layouts) (s : StoreView) (handle : GcRootIndex) (index : ℕ) (r : RawValue) : Type 0 where
+pub record CanWrite (D : Type 0) (layouts : Layouts) (s : StoreView D) (handle : GcRootIndex) (index : ℕ) (r : RawValue) : Type 0 where
   pub table : Table D
   pub holds : HoldsTable layouts s table
   pub before : Value
@@ -118,6 +118,6 @@ pub record CanWrite (D : Type 0) (layouts : Layouts) (s : StoreView) (handle : G
   pub can_store : CanStore D layouts s field r
 
 -- the struct that the handle names in a table that the store held has the value there now
-abbrev pub WritesValue : {D : Type 0} → Layouts → StoreView → StoreView → Table D → Account → GcRootIndex → ℕ → RawValue → Type 0
+abbrev pub WritesValue : {D : Type 0} → Layouts → StoreView D → StoreView D → Table D → Account → GcRootIndex → ℕ → RawValue → Type 0
 WritesValue layouts old new t a handle index r =
     (before v : Value) (has : HasField old t handle index before) → RawStands old t r v → HoldsAccount layouts new (write has.position index v t) a

@@ -1,26 +1,22 @@
 //! Fields of a struct, read and written through its layout.
 
-ghost use Rattle.std.specs.Prelude.{◌≡◌, ◌-◌, ℕ, All, Bool, Some, true, List, slice_get};
+ghost use Rattle.std.specs.Prelude.{◌≡◌, ◌-◌, IsSome, Some, true, List, slice_get};
 ghost use Rattle.std.specs.FinMap as finite;
 ghost use Rattle.gc_types.specs.declared.value.FieldType.{FieldType};
-ghost use Rattle.gc_types.specs.declared.value.StorageType.{StorageType};
 ghost use Rattle.gc_types.specs.declared.layout.FieldLayout.{FieldLayout};
-ghost use Rattle.gc_types.specs.Declarations.{Declaration, struct_fields_at};
+ghost use Rattle.gc_types.specs.Declarations.{struct_fields_at};
 ghost use Rattle.gc_types.specs.Layouts.{struct_base, field_layouts};
-ghost use Rattle.gc_roots.specs.Roots.{Root};
-ghost use Rattle.gc_model.specs.Fits.{is_built_field};
 ghost use Rattle.gc_view.specs.Heaps.{HeapObject};
-ghost use Rattle.gc_heap.specs.Heap.{put_object, with_data};
 ghost use Rattle.gc_store.specs.declared.field.Stored as FieldValue;
-ghost use Rattle.gc_store.specs.Tracing.{IsCollectable};
-ghost use Rattle.gc_store.specs.Fields.{stored_bytes, FitsBytes, StoredFits, IsFieldOf, CanWriteField, CanReadField, ReadsStored, KeptAs, IsKept, AreRoots, AllFit, CanWriteValues, WritesValues};
+ghost use Rattle.gc_store.specs.Fields.{stored_bytes, FitsBytes, CanWriteField, WritesField, CanReadField, ReadsStored, KeptAs, IsKept, layout_in, CanWriteValues, Writes, WritesValues};
 
 use crate::root::RawValue;
-use crate::root_set::RootSet;
+use crate::word::slot_word;
 use gc_heap::GcHeap;
-use gc_heap::access::{read_u32, read_u64, write_u32, write_u64};
+use gc_heap::access::{read_u32, read_u64};
+use gc_owner::{HeapOwner, RootEntry};
 use gc_refs::VMGcRef;
-use gc_types::{FieldLayout, StorageType, Types, ValType};
+use gc_types::{Layouts, StorageType, Types, VMSharedTypeIndex, ValType};
 
 /// What a field of an object keeps: the bits of a number, or the word of a reference, which is 0 for
 /// null.
@@ -32,81 +28,70 @@ pub(crate) enum Stored {
 }
 
 /// How a field keeps a value; a reference by the word that its root has now.
-pub(crate) fn stored_value(roots: &RootSet, value: RawValue) -> Stored
-    requires { IsKept roots.now.entries value }
-    ensures kept { (x : FieldValue.Stored) → KeptAs roots.now.entries value x → result ≡ x }
+pub(crate) fn stored_value(entries: &[RootEntry], value: RawValue) -> Stored
+    requires { IsKept entries.now value }
+    ensures kept { (x : FieldValue.Stored) → KeptAs entries.now value x → result ≡ x }
     ensures small { FitsBytes result }
 {
     match value {
         RawValue::I32(number) => Stored::I32(number.cast_unsigned()),
         RawValue::I64(number) => Stored::I64(number.cast_unsigned()),
         RawValue::Ref(_, None) => Stored::Ref(0),
-        RawValue::Ref(_, Some(handle)) => match roots.word(handle.slot, handle.generation) {
-            Ok(word) => Stored::Ref(word),
-            Err(_) => unreachable!(),
-        },
+        RawValue::Ref(_, Some(handle)) => {
+            match slot_word(entries, handle.slot, handle.generation) {
+                Ok(word) => Stored::Ref(word),
+                Err(_) => unreachable!(),
+            }
+        }
         _ => unreachable!(),
     }
 }
 
-/// Puts the word of a reference into a field, by the heap's barrier.
-fn write_reference<H: GcHeap>(heap: &mut H, gc_ref: &VMGcRef, offset: u32, word: u32)
-    requires sound { H.sound heap.old }
-    requires can { CanWriteField H.KIND (H.seen heap.old) gc_ref.now offset (Stored.Ref word) }
-    ensures sound { H.sound heap.new }
-    ensures written { (object : HeapObject) → finite.get (H.seen heap.old).content gc_ref.now ≡ Some object
-        → H.seen heap.new ≡ record (put_object (H.seen heap.old) gc_ref.now (with_data H.KIND object offset (stored_bytes (Stored.Ref word)))) { counts = (H.seen heap.new).counts } }
-    ensures keeps { (types : List Declaration) (roots : List Root) (hosts : ℕ → Bool) (object : HeapObject) (st : StorageType)
-        → IsCollectable H.KIND types (H.seen heap.old) roots hosts → finite.get (H.seen heap.old).content gc_ref.now ≡ Some object → IsFieldOf H.KIND types object offset st → StoredFits (H.seen heap.old) st (Stored.Ref word)
-        → IsCollectable H.KIND types (H.seen heap.new) roots hosts }
+/// Writes a field of a held struct.
+pub(crate) fn write_field<H: GcHeap, D: Drop>(
+    owner: &mut HeapOwner<H, D>,
+    gc_ref: &VMGcRef,
+    offset: u32,
+    stored: Stored,
+)
+    requires idle { owner.old.seen.idle ≡ true }
+    requires can { CanWriteField H.KIND owner.old.seen gc_ref.now offset stored }
+    ensures { WritesField H.KIND owner.old.seen owner.new.seen gc_ref.now offset (stored_bytes stored) }
 {
-    let mut slot = VMGcRef::from_raw_u32(read_u32(heap, gc_ref, offset));
-    let source = VMGcRef::from_raw_u32(word);
-    heap.write_gc_ref(&mut slot, source.as_ref());
-    write_u32(heap, gc_ref, offset, word);
-}
-
-/// Writes a field of an object.
-pub(crate) fn write_field<H: GcHeap>(heap: &mut H, gc_ref: &VMGcRef, offset: u32, stored: Stored)
-    requires sound { H.sound heap.old }
-    requires can { CanWriteField H.KIND (H.seen heap.old) gc_ref.now offset stored }
-    ensures sound { H.sound heap.new }
-    ensures written { (object : HeapObject) → finite.get (H.seen heap.old).content gc_ref.now ≡ Some object
-        → H.seen heap.new ≡ record (put_object (H.seen heap.old) gc_ref.now (with_data H.KIND object offset (stored_bytes stored))) { counts = (H.seen heap.new).counts } }
-    ensures keeps { (types : List Declaration) (roots : List Root) (hosts : ℕ → Bool) (object : HeapObject) (st : StorageType)
-        → IsCollectable H.KIND types (H.seen heap.old) roots hosts → finite.get (H.seen heap.old).content gc_ref.now ≡ Some object → IsFieldOf H.KIND types object offset st → StoredFits (H.seen heap.old) st stored
-        → IsCollectable H.KIND types (H.seen heap.new) roots hosts }
-{
+    owner.is_ready();
     match stored {
-        Stored::I32(number) => write_u32(heap, gc_ref, offset, number),
-        Stored::I64(number) => write_u64(heap, gc_ref, offset, number),
-        Stored::Ref(word) => write_reference(heap, gc_ref, offset, word),
+        Stored::I32(number) => owner.write_number(gc_ref, offset, &number.to_le_bytes()),
+        Stored::I64(number) => owner.write_number(gc_ref, offset, &number.to_le_bytes()),
+        Stored::Ref(word) => owner.write_reference(gc_ref, offset, word),
     }
 }
 
+/// Where that field of a struct of a declared type lies.
+fn field_offset(types: &Types, layouts: Layouts, ty: VMSharedTypeIndex, index: usize) -> u32
+    requires { IsSome (layout_in layouts types.now.declarations ty index) }
+    ensures { (layout : FieldLayout) → layout_in layouts types.now.declarations ty index ≡ Some layout → result ≡ layout.offset }
+{
+    let layout = types.struct_layout(layouts, ty).unwrap();
+    layout.fields.as_slice()[index].offset
+}
+
 /// Writes each value at its field's offset.
-pub(crate) fn write_values<H: GcHeap>(
-    heap: &mut H,
-    roots: &RootSet,
+pub(crate) fn write_values<H: GcHeap, D: Drop>(
+    owner: &mut HeapOwner<H, D>,
     gc_ref: &VMGcRef,
-    layouts: &[FieldLayout],
+    ty: VMSharedTypeIndex,
     values: &[RawValue],
 )
-    requires sound { H.sound heap.old }
-    requires values { CanWriteValues H.KIND (H.seen heap.old) roots.now.entries gc_ref.now layouts.now values.now }
-    ensures sound { H.sound heap.new }
-    ensures written { (types : List Declaration) (known : List Root) (hosts : ℕ → Bool) (object : HeapObject) (fields : List FieldType)
-        → IsCollectable H.KIND types (H.seen heap.old) known hosts → AreRoots roots.now.entries known → finite.get (H.seen heap.old).content gc_ref.now ≡ Some object
-        → struct_fields_at types object.ty ≡ Some fields → layouts.now ≡ field_layouts (struct_base H.KIND) fields → AllFit roots.now.entries fields values.now → All (λ (f : FieldType). is_built_field f ≡ true) fields
-        → WritesValues H.KIND types known hosts roots.now.entries fields values.now (H.seen heap.old) (H.seen heap.new) gc_ref.now object }
+    requires idle { owner.old.seen.idle ≡ true }
+    requires values { CanWriteValues H.KIND owner.old.seen gc_ref.now ty values.now }
+    ensures { (object : HeapObject) (fields : List FieldType) → Writes H.KIND owner.old.seen gc_ref.now ty values.now object fields
+        → WritesValues H.KIND fields values.now owner.old.seen owner.new.seen gc_ref.now object }
 {
     for (index, value) in values.iter().enumerate() {
-        write_field(
-            heap,
-            gc_ref,
-            layouts[index].offset,
-            stored_value(roots, *value),
-        );
+        owner.is_ready();
+        let offset = field_offset(owner.types(), H::KIND, ty, index);
+        let stored = stored_value(owner.scoped(), *value);
+        write_field(owner, gc_ref, offset, stored);
     }
 }
 

@@ -13,7 +13,7 @@ ghost use Rattle.gc_view.specs.Heaps.{HeapView};
 ghost use Rattle.gc_model.specs.Holds.{HoldsTable};
 ghost use Rattle.gc_heap.specs.Content.{IsHeap};
 ghost use Rattle.gc_heap.specs.Heap.{HasRoom, grown};
-ghost use Rattle.gc_store.specs.Growth.{pages_of};
+ghost use Rattle.gc_owner.specs.Growing.{pages_of};
 ghost use Rattle.gc_store.specs.Roots.{Names};
 ghost use Rattle.gc_store.specs.declared.root.GcRootIndex.{GcRootIndex};
 

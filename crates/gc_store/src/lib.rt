@@ -6,7 +6,6 @@
 //! the table's. No place and no byte of the heap shows.
 #![tactic(auto)]
 
-mod allocate;
 pub mod collect;
 pub mod config;
 pub mod engine;
@@ -15,29 +14,25 @@ pub mod grow;
 #[cfg(test)]
 mod growth_tests;
 pub mod laws;
-pub mod limiter;
-mod pages;
+mod make;
 pub mod place;
 pub mod read;
 pub mod request;
 pub mod root;
-mod root_set;
 pub mod rooted;
 pub mod scope;
-pub mod scripted;
 pub mod store;
 #[cfg(test)]
 mod tests;
+mod word;
 pub mod write;
 
 pub use config::HeapConfig;
 pub use engine::{Engine, StoreId};
-pub use gc_model::GcClass;
-pub use grow::{GrowFault, should_collect_first};
-pub use limiter::{PageLimit, ResourceLimiter};
+pub use gc_owner::{GcClass, PageLimit, ResourceLimiter, Scripted, should_collect_first};
+pub use grow::GrowFault;
 pub use request::{Contents, Place};
 pub use root::{GcRootIndex, RawValue, RootFault, RootSlot, RootedObject};
 pub use rooted::{GcRef, Rooted, RootedGcRef, ref_eq};
-pub use scripted::Scripted;
 pub use store::{GcHeapOutOfMemory, PlaceFault, Store};
 pub use write::WriteFault;

@@ -1,41 +1,31 @@
 //! Making objects of the table.
 
-ghost use Rattle.std.specs.Prelude.{◌≡◌, ◌+◌, ◌-◌, ◌<◌, ◌^◌, min, ◌++◌, ◌∷◌, [], List, length, IsSome};
+ghost use Rattle.std.specs.Prelude.{◌≡◌, ◌+◌, ◌-◌, ◌<◌, ◌^◌, min, List, length, IsSome, slice_index_or};
+ghost use Rattle.gc_owner.specs.declared.entry.RootEntry as Root;
 ghost use Rattle.std.specs.Option.{option_map};
 ghost use Rattle.std.specs.Int.NonZero.{non_zero_u32_get};
 ghost use Rattle.gc_types.specs.Declarations.{struct_fields_at};
 ghost use Rattle.gc_model.specs.Sizes.{fields_size};
-ghost use Rattle.gc_model.specs.Allocation.{too_large};
 ghost use Rattle.gc_model.specs.Table.{Table};
 ghost use Rattle.gc_model.specs.Values.{Value, Object, struct};
-ghost use Rattle.gc_store.specs.Accounts.{Account, HoldsAccount, is_due};
-ghost use Rattle.gc_store.specs.Policy.{policy_state};
+ghost use Rattle.gc_policy.specs.Accounts.{Account, HoldsAccount, is_due};
+ghost use Rattle.gc_policy.specs.Policy.{policy_state};
 ghost use Rattle.gc_store.specs.Values.{AllStand};
 ghost use Rattle.gc_store.specs.Places.{CanPlace, Places};
 ghost use Rattle.gc_store.specs.Requests.{CanPlaceIn, IsObjectOf};
 ghost use Rattle.gc_store.specs.Stores.{is_full, IsSameStore};
 
-use crate::allocate::place_in;
 use crate::engine::StoreId;
-use crate::limiter::ResourceLimiter;
+use crate::field::write_values;
+use crate::make::make_struct;
 use crate::request::{Contents, Place};
 use crate::root::{GcRootIndex, RawValue, RootSlot};
-use crate::root_set::RootSet;
 use crate::store::{PlaceFault, Store};
 use gc_heap::GcHeap;
+use gc_owner::{ResourceLimiter, RootEntry};
+use gc_refs::VMGcRef;
 use gc_types::{Layouts, Types, VMSharedTypeIndex};
 use std::num::NonZeroU32;
-
-/// Whether no heap of the kind can hold an object of that size.
-fn is_too_large(layouts: Layouts, size: u32) -> bool
-    ensures { result ≡ too_large layouts size }
-{
-    match layouts {
-        Layouts::Null => size >= 67_108_864,
-        Layouts::Counting => size >= 4_294_967_280,
-        Layouts::Copying => size >= 4_294_967_281,
-    }
-}
 
 /// The bytes of a struct of a declared type.
 fn struct_size(types: &Types, layouts: Layouts, ty: VMSharedTypeIndex) -> u32
@@ -45,22 +35,24 @@ fn struct_size(types: &Types, layouts: Layouts, ty: VMSharedTypeIndex) -> u32
     types.struct_layout(layouts, ty).unwrap().size
 }
 
-/// Pushes a scoped root, for which there is room, and gives its handle.
-pub(crate) fn push_root(roots: &mut RootSet, store_id: StoreId, word: u32) -> GcRootIndex
-    requires room { 0 < roots.old.spare }
-    requires small { length roots.old.entries < 2 ^ 32 }
-    requires present { 0 < word }
-    ensures entries { roots.new.entries ≡ roots.old.entries ++ (record { generation = roots.old.generation; word = word }) ∷ [] }
-    ensures generation { roots.new.generation ≡ roots.old.generation }
-    ensures last { roots.new.last ≡ roots.old.last }
-    ensures handle { result ≡ record { store_id = store_id; generation = roots.old.generation; slot = RootSlot.Scoped (length roots.old.entries) } }
+/// The handle of a scoped root.
+pub(crate) fn scoped_handle(store_id: StoreId, generation: u64, index: u32) -> GcRootIndex
+    ensures { result ≡ record { store_id = store_id; generation = generation; slot = RootSlot.Scoped index } }
 {
-    let generation = roots.generation();
     GcRootIndex {
         store_id,
         generation,
-        slot: RootSlot::Scoped(roots.push(word)),
+        slot: RootSlot::Scoped(index),
     }
+}
+
+/// The reference that a scoped root has, which isn't null.
+fn holder_of(entries: &[RootEntry], index: u32) -> VMGcRef
+    requires inside { index < length entries.now }
+    requires present { (e : Root.RootEntry) → 0 < (slice_index_or entries.now index e).word }
+    ensures { (e : Root.RootEntry) → result ≡ (slice_index_or entries.now index e).word }
+{
+    VMGcRef::from_raw_u32(entries[index as usize].word).unwrap()
 }
 
 /// Counts one more allocation, and tells whether it is due for a collection.
@@ -80,7 +72,8 @@ impl<H: GcHeap, D: Drop> Store<H, D> {
     pub(crate) fn roots_full(&self) -> bool
         ensures { result ≡ is_full self.now }
     {
-        self.roots.len() >= self.config.max_scoped as usize || self.roots.generation() == u64::MAX
+        self.owner.scoped().len() >= self.config.max_scoped as usize
+            || self.owner.generation() == u64::MAX
     }
 
     /// Places an object of a declared type with these values, and pushes a scoped root for it. Structs
@@ -128,32 +121,25 @@ impl<H: GcHeap, D: Drop> Store<H, D> {
         ensures places { (t : Table D) (a : Account) (vs : List Value) → HoldsAccount H.KIND self.old t a → AllStand self.old t values.now vs
             → Places H.KIND self.old.alloc_counter (struct ty vs) (policy_state t a (L.limits limiter.old)) (L.limits limiter.new) result self.new }
     {
-        let size = struct_size(&self.types, H::KIND, ty);
-        if is_too_large(H::KIND, size) {
+        self.owner.is_ready();
+        let size = struct_size(self.owner.types(), H::KIND, ty);
+        if H::is_too_large(size) {
             return Err(PlaceFault::TooLarge);
         }
         if self.roots_full() {
             return Err(PlaceFault::RootsFull);
         }
-        if self.roots.reserve().is_err() {
+        if self.owner.reserve(1).is_err() {
             return Err(PlaceFault::Memory);
         }
         let is_due = count_allocation(&mut self.tries, self.config.alloc_counter);
         let first_pages = self.config.first_pages;
-        let alloc = self.alloc;
-        match place_in(
-            alloc,
-            &mut self.heap,
-            &mut self.roots,
-            &mut self.hosts,
-            &self.types,
-            limiter,
-            first_pages,
-            is_due,
-            ty,
-            values,
-        ) {
-            Ok(gc_ref) => Ok(push_root(&mut self.roots, self.id, gc_ref.as_raw_u32())),
+        match make_struct(&mut self.owner, limiter, first_pages, is_due, ty) {
+            Ok(index) => {
+                let holder = holder_of(self.owner.scoped(), index);
+                write_values(&mut self.owner, &holder, ty, values);
+                Ok(scoped_handle(self.id, self.owner.generation(), index))
+            }
             Err(fault) => Err(fault),
         }
     }

@@ -5,7 +5,7 @@ ghost use Rattle.gc_model.specs.Table.{Table};
 ghost use Rattle.gc_model.specs.Live.{rooted};
 ghost use Rattle.gc_model.specs.Values.{Value, Reference, small};
 ghost use Rattle.gc_model.specs.Holds.{HoldsTable, Holds, Placing, IsWord};
-ghost use Rattle.gc_store.specs.Accounts.{Account, IsAccount, HoldsAccount};
+ghost use Rattle.gc_policy.specs.Accounts.{Account, IsAccount, HoldsAccount};
 ghost use Rattle.gc_store.specs.Roots.{word_of, IsRootWord, IsReference, Names, TellsRoot, is_of_store, HasField, CanRead, FindsRoot};
 ghost use Rattle.gc_store.specs.Handles.{PushesRoot, TellsSame};
 ghost use Rattle.gc_store.specs.Values.{ReadsValue};
@@ -13,11 +13,12 @@ ghost use Rattle.gc_store.specs.Reading.{ReadsStoredValue};
 ghost use Rattle.gc_store.specs.Stores.{IsSameStore};
 
 use crate::field::{Stored, read_field};
-use crate::place::push_root;
+use crate::place::scoped_handle;
 use crate::root::{GcRootIndex, RawValue, RootFault, RootedObject};
 use crate::store::Store;
+use crate::word::slot_word;
 use gc_heap::GcHeap;
-use gc_model::GcClass;
+use gc_owner::GcClass;
 use gc_refs::{I31, VMGcRef};
 
 impl<H: GcHeap, D: Drop> Store<H, D> {
@@ -28,7 +29,7 @@ impl<H: GcHeap, D: Drop> Store<H, D> {
         if handle.store_id != self.id {
             return Err(RootFault::WrongStore);
         }
-        self.roots.word(handle.slot, handle.generation)
+        slot_word(self.owner.scoped(), handle.slot, handle.generation)
     }
 
     /// What the reference with that word is.
@@ -40,7 +41,7 @@ impl<H: GcHeap, D: Drop> Store<H, D> {
         if let Some(number) = gc_ref.as_i31() {
             return RootedObject::I31(number);
         }
-        match self.heap.header(&gc_ref) {
+        match self.owner.heap().header(&gc_ref) {
             Ok(header) => RootedObject::Struct(header.type_index()),
             Err(_) => unreachable!(),
         }
@@ -54,7 +55,7 @@ impl<H: GcHeap, D: Drop> Store<H, D> {
         ensures found { IfOk result (FindsRoot D H.KIND self.now handle) }
         ensures unnamed { is_of_store self.now handle ≡ true → (t : Table D) → HoldsTable H.KIND self.now t → ((serial : ℕ) → ¬ Names self.now t handle serial) → result ≡ Err RootFault.Unrooted }
     {
-        let _heap = &self.heap;
+        self.owner.is_ready();
         match self.word_of(handle) {
             Ok(word) => Ok(self.describe(word)),
             Err(fault) => Err(fault),
@@ -71,26 +72,27 @@ impl<H: GcHeap, D: Drop> Store<H, D> {
         if a.store_id != self.id || b.store_id != self.id {
             return Err(RootFault::WrongStore);
         }
-        let first = self.roots.word(a.slot, a.generation)?;
-        let second = self.roots.word(b.slot, b.generation)?;
+        let first = slot_word(self.owner.scoped(), a.slot, a.generation)?;
+        let second = slot_word(self.owner.scoped(), b.slot, b.generation)?;
         Ok(first == second)
     }
 
     /// Pushes a scoped root for a copy of a word of the store.
-    fn push_clone(&mut self, gc_ref: &VMGcRef) -> Result<GcRootIndex, RootFault>
-        requires { IsRootWord D H.KIND self.old gc_ref.now }
-        ensures pushes { (t : Table D) (place : Placing) (a : Account) (r : Reference) → Holds H.KIND self.old t place → IsAccount self.old place a → IsWord place r gc_ref.now → PushesRoot H.KIND t a r result self.new }
+    fn push_word(&mut self, word: u32) -> Result<GcRootIndex, RootFault>
+        requires { IsRootWord D H.KIND self.old word }
+        ensures pushes { (t : Table D) (place : Placing) (a : Account) (r : Reference) → Holds H.KIND self.old t place → IsAccount self.old place a → IsWord place r word → PushesRoot H.KIND t a r result self.new }
         ensures err { OnErr result (self.new ≡ self.old) }
         ensures same { IsSameStore self.old self.new }
     {
         if self.roots_full() {
             return Err(RootFault::RootsFull);
         }
-        if self.roots.reserve().is_err() {
+        if self.owner.reserve(1).is_err() {
             return Err(RootFault::Memory);
         }
-        let word = self.heap.clone_gc_ref(gc_ref).as_raw_u32();
-        Ok(push_root(&mut self.roots, self.id, word))
+        let generation = self.owner.generation();
+        let index = self.owner.push(word);
+        Ok(scoped_handle(self.id, generation, index))
     }
 
     /// Pushes a scoped root for a 31-bit number. `RootsFull` where no further one may be made.
@@ -99,8 +101,8 @@ impl<H: GcHeap, D: Drop> Store<H, D> {
         ensures err { OnErr result (self.new ≡ self.old) }
         ensures same { IsSameStore self.old self.new }
     {
-        let _heap = &self.heap;
-        self.push_clone(&VMGcRef::from_i31(value))
+        self.owner.is_ready();
+        self.push_word(VMGcRef::from_i31(value).as_raw_u32())
     }
 
     /// What a field of the struct keeps that the handle names.
@@ -108,10 +110,11 @@ impl<H: GcHeap, D: Drop> Store<H, D> {
         requires { CanRead D H.KIND self.now handle index }
         ensures { ReadsStoredValue D H.KIND self.now handle index result }
     {
+        self.owner.is_ready();
         match self.word_of(handle) {
             Ok(word) => {
                 let gc_ref = VMGcRef::from_raw_u32(word).unwrap();
-                read_field(&self.heap, &self.types, &gc_ref, index)
+                read_field(self.owner.heap(), self.owner.types(), &gc_ref, index)
             }
             Err(_) => unreachable!(),
         }
@@ -128,13 +131,15 @@ impl<H: GcHeap, D: Drop> Store<H, D> {
         match self.stored_at(handle, index) {
             Stored::I32(bits) => Ok(RawValue::I32(bits.cast_signed())),
             Stored::I64(bits) => Ok(RawValue::I64(bits.cast_signed())),
-            Stored::Ref(word) => match VMGcRef::from_raw_u32(word) {
-                None => Ok(RawValue::Ref(GcClass::Any, None)),
-                Some(gc_ref) => match self.push_clone(&gc_ref) {
+            Stored::Ref(word) => {
+                if word == 0 {
+                    return Ok(RawValue::Ref(GcClass::Any, None));
+                }
+                match self.push_word(word) {
                     Ok(found) => Ok(RawValue::Ref(GcClass::Any, Some(found))),
                     Err(fault) => Err(fault),
-                },
-            },
+                }
+            }
         }
     }
 }

@@ -1,7 +1,7 @@
 //! Handles of roots, and the values that go in and out of a store.
 
 use crate::engine::StoreId;
-use gc_model::GcClass;
+use gc_owner::GcClass;
 use gc_refs::{I31, V128};
 use gc_types::{Func, Tag, VMSharedTypeIndex};
 use thiserror::Error;

@@ -10,7 +10,7 @@ ghost use Rattle.gc_store.specs.Handles.{TellsSame};
 use crate::root::{GcRootIndex, RootFault};
 use crate::store::Store;
 use gc_heap::GcHeap;
-use gc_model::GcClass;
+use gc_owner::GcClass;
 use gc_types::VMGcKind;
 use std::marker::PhantomData;
 

@@ -8,14 +8,13 @@ ghost use Rattle.gc_model.specs.Fits.{is_built_field};
 ghost use Rattle.gc_model.specs.Table.{Table};
 ghost use Rattle.gc_view.specs.Heaps.{detached};
 ghost use Rattle.gc_model.specs.Stores.{empty_store};
-ghost use Rattle.gc_store.specs.Accounts.{Account, HoldsAccount};
+ghost use Rattle.gc_policy.specs.Accounts.{Account, HoldsAccount};
 ghost use Rattle.gc_store.specs.Stores.{HoldsStart, ShowsNothing, DeclaresStruct, IsSameStore, configured};
 
 use crate::config::HeapConfig;
 use crate::engine::StoreId;
-use crate::root_set::RootSet;
 use gc_heap::GcHeap;
-use gc_tables::ExternRefHostDataTable;
+use gc_owner::HeapOwner;
 use gc_types::{FieldType, StructType, TypeFault, Types, VMSharedTypeIndex};
 use std::alloc::{AllocError, Global};
 use std::fmt;
@@ -85,13 +84,9 @@ pub enum PlaceFault {
 /// A heap with its types and its roots. `D` is the type of the embedder's host values.
 #[derive(Drop)]
 pub struct Store<H: GcHeap, D: Drop> {
-    pub(crate) alloc: Global,
     pub(crate) id: StoreId,
     pub(crate) config: HeapConfig,
-    pub(crate) heap: H,
-    pub(crate) hosts: ExternRefHostDataTable<D>,
-    pub(crate) types: Types,
-    pub(crate) roots: RootSet,
+    pub(crate) owner: HeapOwner<H, D>,
     /// How many allocations were counted, up to the greatest u64.
     pub(crate) tries: u64,
 }
@@ -102,19 +97,18 @@ impl<H: GcHeap, D: Drop> Model for Store<H, D> {
     ghost use Rattle.std.specs.FinMap as map;
     ghost use Rattle.gc_model.specs.Stores.{StoreView};
 
-    ghost Value = { StoreView };
+    ghost Value = { StoreView D };
 
-    ghost coded = { Prim.hlevel (codes, map.code) };
+    ghost coded = { Prim.hlevel (codes, map.code, D.code) };
 
-    ghost use Rattle.gc_heap.specs.Collection.{has_host};
     ghost use Rattle.gc_store.specs.Stores.{store_view, IsSound};
 
-    ghost view = { λ s. store_view s.id s.config s.types.declarations (H.seen s.heap) (map.len s.hosts.entries) s.roots s.tries };
+    ghost view = { λ s. store_view s.id s.config s.owner.seen s.tries };
 
-    ghost invariant = { λ s. IsSound D H.KIND (H.sound s.heap) s.types (has_host s.hosts.entries) (store_view s.id s.config s.types.declarations (H.seen s.heap) (map.len s.hosts.entries) s.roots s.tries) };
+    ghost invariant = { λ s. IsSound D H.KIND s.owner.seen (store_view s.id s.config s.owner.seen s.tries) };
 }
 
-impl<H: GcHeap, D: Drop> Store<H, D> {
+impl<H: GcHeap + Drop, D: Drop> Store<H, D> {
     /// A store over that heap, which is not attached.
     pub fn new(
         alloc: Global,
@@ -128,23 +122,21 @@ impl<H: GcHeap, D: Drop> Store<H, D> {
         ensures seen { IfOk result (λ s. s ≡ empty_store id.engine id.number config.first_pages config.max_scoped config.max_owned (option_map non_zero_u32_get config.alloc_counter)) }
     {
         Ok(Store {
-            alloc,
             id,
             config,
-            heap,
-            hosts: ExternRefHostDataTable::new(alloc),
-            types: Types::new(alloc, id.engine, id.number),
-            roots: RootSet::new(alloc),
+            owner: HeapOwner::new(alloc, heap, id.engine, id.number)?,
             tries: 0,
         })
     }
+}
 
+impl<H: GcHeap, D: Drop> Store<H, D> {
     /// Whether nothing was done with the store yet and no allocation was counted, so that it may be
     /// configured.
     pub fn is_new(&self) -> bool
         ensures { IsTrue result ↔ HoldsStart D H.KIND self.now }
     {
-        let _heap = &self.heap;
+        self.owner.is_ready();
         self.is_untouched()
     }
 
@@ -152,10 +144,10 @@ impl<H: GcHeap, D: Drop> Store<H, D> {
     fn is_untouched(&self) -> bool
         ensures { IsTrue result ↔ ShowsNothing self.now }
     {
-        self.roots.len() == 0
-            && self.roots.generation() == 0
-            && self.types.is_empty()
-            && !self.heap.is_attached()
+        self.owner.scoped().is_empty()
+            && self.owner.generation() == 0
+            && self.owner.types().is_empty()
+            && !self.owner.is_made()
             && self.tries == 0
     }
 
@@ -172,7 +164,7 @@ impl<H: GcHeap, D: Drop> Store<H, D> {
     pub fn types(&self) -> &Types
         ensures { result.now ≡ record { engine = self.now.engine; number = self.now.number; declarations = self.now.types } }
     {
-        &self.types
+        self.owner.types()
     }
 
     /// Declares a struct type, as `Types::declare_struct` does.
@@ -189,6 +181,6 @@ impl<H: GcHeap, D: Drop> Store<H, D> {
         ensures err { OnErr result (self.new ≡ self.old) }
         ensures same { IsSameStore self.old self.new }
     {
-        self.types.declare_struct(fields, supertype, is_final)
+        self.owner.declare_struct(fields, supertype, is_final)
     }
 }

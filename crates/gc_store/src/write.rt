@@ -2,7 +2,7 @@
 
 ghost use Rattle.std.specs.Prelude.{◌≡◌, IsOk};
 ghost use Rattle.gc_model.specs.Table.{Table};
-ghost use Rattle.gc_store.specs.Accounts.{Account, HoldsAccount};
+ghost use Rattle.gc_policy.specs.Accounts.{Account, HoldsAccount};
 ghost use Rattle.gc_store.specs.Values.{CanWrite, WritesValue};
 ghost use Rattle.gc_store.specs.Stores.{IsSameStore};
 
@@ -36,12 +36,13 @@ impl<H: GcHeap, D: Drop> Store<H, D> {
         ensures writes { (t : Table D) (a : Account) → HoldsAccount H.KIND self.old t a → WritesValue H.KIND self.old self.new t a handle index value }
         ensures same { IsSameStore self.old self.new }
     {
+        self.owner.is_ready();
         match self.word_of(handle) {
             Ok(word) => {
                 let gc_ref = VMGcRef::from_raw_u32(word).unwrap();
-                let place = field_place(&self.heap, &self.types, &gc_ref, index);
-                let stored = stored_value(&self.roots, value);
-                write_field(&mut self.heap, &gc_ref, place.offset, stored);
+                let place = field_place(self.owner.heap(), self.owner.types(), &gc_ref, index);
+                let stored = stored_value(self.owner.scoped(), value);
+                write_field(&mut self.owner, &gc_ref, place.offset, stored);
                 Ok(())
             }
             Err(_) => unreachable!(),

@@ -5,8 +5,8 @@ use Rattle.gc_model.specs.Table.{start, usual_roots}
 use Rattle.gc_model.specs.Stores.{StoreView}
 use Rattle.gc_model.specs.Allocation.{Limits}
 use Rattle.gc_store.specs.declared.config.HeapConfig.{HeapConfig}
-use Rattle.gc_store.specs.Accounts.{HoldsAccount, no_account}
-use Rattle.gc_store.specs.Limiters.{fresh_limits}
+use Rattle.gc_policy.specs.Accounts.{HoldsAccount, no_account}
+use Rattle.gc_owner.specs.Limiters.{fresh_limits}
 use Rattle.gc_store.specs.Stores.{HoldsStart}
 use Rattle.gc_script.specs.Slots.{RunnerView, new_runner}
 use Rattle.gc_script.specs.State.{HoldsState, begin}
@@ -18,7 +18,7 @@ use Rattle.gcsh_top.specs.Runs.{RanLines, RanForm, RanSome, StoppedLines, Stoppe
 use Rattle.gcsh_top.proofs.GcLemmas.{no_last_gc}
 
 -- a store that was configured holds the empty table with the form's numbers
-pub started : (layouts : Layouts) (config : HeapConfig) (new : StoreView) (form : Form) → HoldsStart ℕ layouts new → new.first ≡ config.first_pages → new.max_scoped ≡ config.max_scoped → new.max_owned ≡ config.max_owned → new.alloc_counter ≡ None
+pub started : (layouts : Layouts) (config : HeapConfig) (new : StoreView ℕ) (form : Form) → HoldsStart ℕ layouts new → new.first ≡ config.first_pages → new.max_scoped ≡ config.max_scoped → new.max_owned ≡ config.max_owned → new.alloc_counter ≡ None
     → config.first_pages ≡ form.first → config.max_scoped ≡ usual_roots → config.max_owned ≡ usual_roots → IsReady layouts form new
 started layouts config new form holds is_first is_scoped is_owned none firsts scopeds owneds = record {
   holds =
@@ -29,11 +29,11 @@ started layouts config new form holds is_first is_scoped is_owned none firsts sc
 }
 
 -- such a store, with no register set, is in the state at the beginning
-pub ready_state : (layouts : Layouts) (form : Form) (store : StoreView) (slots : RunnerView) → IsReady layouts form store → slots ≡ new_runner → HoldsState layouts store slots (begin (first_table form) no_account)
+pub ready_state : (layouts : Layouts) (form : Form) (store : StoreView ℕ) (slots : RunnerView) → IsReady layouts form store → slots ≡ new_runner → HoldsState layouts store slots (begin (first_table form) no_account)
 ready_state layouts form store slots ready none = begins layouts store slots (first_table form) no_account ready.holds none
 
 -- what was run is the run of the form
-pub ran_form : (layouts : Layouts) (form : Form) (counter : Option ℕ) (limits : Limits) (input : List ℕ) (old store : StoreView) (slots : RunnerView) (a b : Option (List ℕ)) → counter ≡ None → store.alloc_counter ≡ counter
+pub ran_form : (layouts : Layouts) (form : Form) (counter : Option ℕ) (limits : Limits) (input : List ℕ) (old store : StoreView ℕ) (slots : RunnerView) (a b : Option (List ℕ)) → counter ≡ None → store.alloc_counter ≡ counter
     → RanLines layouts counter (fresh_limits (Some form.most)) limits (begin (first_table form) no_account) input old store slots a b → RanForm layouts form input a b store
 ran_form layouts form counter limits input old store slots a b none same ran = record {
   output = ran.output;
@@ -51,7 +51,7 @@ ran_form layouts form counter limits input old store slots a b none same ran = r
 }
 
 -- what was run in part
-pub stopped_form : (layouts : Layouts) (form : Form) (counter : Option ℕ) (input : List ℕ) (old store : StoreView) (slots : RunnerView) (a b : Option (List ℕ)) → counter ≡ None → store.alloc_counter ≡ counter
+pub stopped_form : (layouts : Layouts) (form : Form) (counter : Option ℕ) (input : List ℕ) (old store : StoreView ℕ) (slots : RunnerView) (a b : Option (List ℕ)) → counter ≡ None → store.alloc_counter ≡ counter
     → RanSome layouts counter (fresh_limits (Some form.most)) (begin (first_table form) no_account) input old store slots a b → StoppedForm layouts form input a b store
 stopped_form layouts form counter input old store slots a b none same (inl stopped) =
     in_lines slots (same ∙ none) (subst (λ (c : Option ℕ). StoppedLines layouts c (fresh_limits (Some form.most)) (begin (first_table form) no_account) input store slots a b) none stopped)

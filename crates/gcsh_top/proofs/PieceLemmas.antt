@@ -31,7 +31,7 @@ no_bytes (b ∷ bytes) none = absurd (omega (arith, none))
 
 -- What was run of the bytes of an input that came so far, of which some are left to be taken: whole lines, and an
 -- unfinished one that is kept.
-pub record Piecewise (layouts : Layouts) (counter : Option ℕ) (limits now : Limits) (s : State) (bytes left : List ℕ) (line : KeptLine) (old store : StoreView) (slots : RunnerView) (held held' : Option (List ℕ)) : Type 0 where
+pub record Piecewise (layouts : Layouts) (counter : Option ℕ) (limits now : Limits) (s : State) (bytes left : List ℕ) (line : KeptLine) (old store : StoreView ℕ) (slots : RunnerView) (held held' : Option (List ℕ)) : Type 0 where
   pub whole : List ℕ
   pub tail : List ℕ
   pub parts : bytes ≡ whole ++ (tail ++ left)
@@ -53,7 +53,7 @@ lines_whole : (line whole : List ℕ) → EndsWhole whole → EndsWhole (line ++
 lines_whole line whole ends = subst EndsWhole (append_assoc line (line_feed ∷ []) whole) (ends_on (line ++ line_feed ∷ []) whole (line_whole line) ends)
 
 module _ (layouts : Layouts) (counter : Option ℕ) where
-  pub piece_start : (limits : Limits) (s : State) (bytes left : List ℕ) (line : KeptLine) (store : StoreView) (slots : RunnerView) (held : Option (List ℕ)) → IsUnfinished line bytes → HoldsState layouts store slots s → Piecewise layouts counter limits limits s (bytes ++ left) left line store store slots held held
+  pub piece_start : (limits : Limits) (s : State) (bytes left : List ℕ) (line : KeptLine) (store : StoreView ℕ) (slots : RunnerView) (held : Option (List ℕ)) → IsUnfinished line bytes → HoldsState layouts store slots s → Piecewise layouts counter limits limits s (bytes ++ left) left line store store slots held held
   piece_start limits s bytes left line store slots held unfinished holds = record {
     whole = [];
     tail = bytes;
@@ -63,7 +63,7 @@ module _ (layouts : Layouts) (counter : Option ℕ) where
     ran = ran_none layouts counter limits s [] store slots held refl holds;
   }
 
-  module _ (limits now : Limits) (s : State) (bytes left : List ℕ) (line : KeptLine) (old store : StoreView) (slots : RunnerView) (a b : Option (List ℕ)) (so_far : Piecewise layouts counter limits now s bytes left line old store slots a b) where
+  module _ (limits now : Limits) (s : State) (bytes left : List ℕ) (line : KeptLine) (old store : StoreView ℕ) (slots : RunnerView) (a b : Option (List ℕ)) (so_far : Piecewise layouts counter limits now s bytes left line old store slots a b) where
     -- no line ended
     pub piece_longer : (line' : KeptLine) (n : ℕ) → GoesOn line line' left n → Piecewise layouts counter limits now s bytes (drop n left) line' old store slots a b
     piece_longer line' n fed = record {
@@ -83,7 +83,7 @@ module _ (layouts : Layouts) (counter : Option ℕ) where
     line_kept mid n fed = fed.goes_on ∙ ap (λ l. longer l fed.bytes) so_far.unfinished.kept_is ∙ longer_kept so_far.tail fed.bytes
 
     -- a line ended and was run
-    pub piece_more : (next : Limits) (mid line' : KeptLine) (n : ℕ) (store' : StoreView) (slots' : RunnerView) (c : Option (List ℕ)) → line' ≡ no_line → (fed : EndsLine line mid left n) → RanLine layouts counter now next so_far.ran.after (so_far.tail ++ fed.bytes) store' slots' b c
+    pub piece_more : (next : Limits) (mid line' : KeptLine) (n : ℕ) (store' : StoreView ℕ) (slots' : RunnerView) (c : Option (List ℕ)) → line' ≡ no_line → (fed : EndsLine line mid left n) → RanLine layouts counter now next so_far.ran.after (so_far.tail ++ fed.bytes) store' slots' b c
         → Piecewise layouts counter limits next s bytes (drop n left) line' old store' slots' a c
     piece_more next mid line' n store' slots' c cleared fed did = record {
       whole = so_far.whole ++ ((so_far.tail ++ fed.bytes) ++ line_feed ∷ []);
@@ -96,7 +96,7 @@ module _ (layouts : Layouts) (counter : Option ℕ) where
     }
 
     -- a line ended and broke off
-    pub piece_broken : (mid : KeptLine) (n : ℕ) (store' : StoreView) (slots' : RunnerView) (c : Option (List ℕ)) → (fed : EndsLine line mid left n) → BrokeOff layouts counter now so_far.ran.after (so_far.tail ++ fed.bytes) store' slots' b c
+    pub piece_broken : (mid : KeptLine) (n : ℕ) (store' : StoreView ℕ) (slots' : RunnerView) (c : Option (List ℕ)) → (fed : EndsLine line mid left n) → BrokeOff layouts counter now so_far.ran.after (so_far.tail ++ fed.bytes) store' slots' b c
         → StoppedPiece layouts counter limits s bytes old store' slots' a c
     piece_broken mid n store' slots' c fed broke =
         let behind = cut_of (drop n left) in
@@ -140,7 +140,7 @@ module _ (layouts : Layouts) (counter : Option ℕ) where
     }
 
   -- what was flushed behind a piece
-  pub piece_flushed : (limits now : Limits) (s : State) (bytes : List ℕ) (line : KeptLine) (old store : StoreView) (slots : RunnerView) (a b c : Option (List ℕ)) → RanPiece layouts counter limits now s bytes line old store slots a b → Keeps b c → RanPiece layouts counter limits now s bytes line old store slots a c
+  pub piece_flushed : (limits now : Limits) (s : State) (bytes : List ℕ) (line : KeptLine) (old store : StoreView ℕ) (slots : RunnerView) (a b c : Option (List ℕ)) → RanPiece layouts counter limits now s bytes line old store slots a b → Keeps b c → RanPiece layouts counter limits now s bytes line old store slots a c
   piece_flushed limits now s bytes line old store slots a b c ran keeps = record {
     whole = ran.whole;
     rest = ran.rest;
@@ -149,7 +149,7 @@ module _ (layouts : Layouts) (counter : Option ℕ) where
     ran = ran_kept layouts counter limits now s ran.whole old store slots a b c ran.ran keeps;
   }
 
-  pub piece_unflushed : (limits now : Limits) (s : State) (bytes : List ℕ) (line : KeptLine) (old store : StoreView) (slots : RunnerView) (a b c : Option (List ℕ)) → RanPiece layouts counter limits now s bytes line old store slots a b → Keeps b c → StoppedPiece layouts counter limits s bytes old store slots a c
+  pub piece_unflushed : (limits now : Limits) (s : State) (bytes : List ℕ) (line : KeptLine) (old store : StoreView ℕ) (slots : RunnerView) (a b c : Option (List ℕ)) → RanPiece layouts counter limits now s bytes line old store slots a b → Keeps b c → StoppedPiece layouts counter limits s bytes old store slots a c
   piece_unflushed limits now s bytes line old store slots a b c ran keeps = record {
     whole = ran.whole;
     rest = ran.rest;
@@ -157,7 +157,7 @@ module _ (layouts : Layouts) (counter : Option ℕ) where
     some = inr (now, ran_kept layouts counter limits now s ran.whole old store slots a b c ran.ran keeps);
   }
 
-  module _ (limits now : Limits) (s : State) (bytes : List ℕ) (line : KeptLine) (old mid : StoreView) (slots : RunnerView) (a b : Option (List ℕ)) (so_far : RanPiece layouts counter limits now s bytes line old mid slots a b) where
+  module _ (limits now : Limits) (s : State) (bytes : List ℕ) (line : KeptLine) (old mid : StoreView ℕ) (slots : RunnerView) (a b : Option (List ℕ)) (so_far : RanPiece layouts counter limits now s bytes line old mid slots a b) where
     -- how a piece ends what is before it
     joined_parts : (piece whole rest : List ℕ) → so_far.rest ++ piece ≡ whole ++ rest → bytes ++ piece ≡ (so_far.whole ++ whole) ++ rest
     joined_parts piece whole rest parts = ap (λ l. l ++ piece) so_far.cut.parts ∙ append_assoc so_far.whole so_far.rest piece ∙ ap (λ l. so_far.whole ++ l) parts ∙ sym (append_assoc so_far.whole whole rest)
@@ -169,7 +169,7 @@ module _ (layouts : Layouts) (counter : Option ℕ) where
     unfinished_rest = record { plain = so_far.cut.plain; kept_is = so_far.kept_is }
 
     -- one more piece was run
-    pub pieces_more : (last : Limits) (piece : List ℕ) (line' : KeptLine) (store : StoreView) (slots' : RunnerView) (c : Option (List ℕ)) → RanPiece layouts counter now last so_far.ran.after (so_far.rest ++ piece) line' mid store slots' b c → RanPiece layouts counter limits last s (bytes ++ piece) line' old store slots' a c
+    pub pieces_more : (last : Limits) (piece : List ℕ) (line' : KeptLine) (store : StoreView ℕ) (slots' : RunnerView) (c : Option (List ℕ)) → RanPiece layouts counter now last so_far.ran.after (so_far.rest ++ piece) line' mid store slots' b c → RanPiece layouts counter limits last s (bytes ++ piece) line' old store slots' a c
     pieces_more last piece line' store slots' c more = record {
       whole = so_far.whole ++ more.whole;
       rest = more.rest;
@@ -179,7 +179,7 @@ module _ (layouts : Layouts) (counter : Option ℕ) where
     }
 
     -- one more piece was run in part
-    pub pieces_stopped : (piece : List ℕ) (store : StoreView) (slots' : RunnerView) (c : Option (List ℕ)) → StoppedPiece layouts counter now so_far.ran.after (so_far.rest ++ piece) mid store slots' b c → StoppedPiece layouts counter limits s (bytes ++ piece) old store slots' a c
+    pub pieces_stopped : (piece : List ℕ) (store : StoreView ℕ) (slots' : RunnerView) (c : Option (List ℕ)) → StoppedPiece layouts counter now so_far.ran.after (so_far.rest ++ piece) mid store slots' b c → StoppedPiece layouts counter limits s (bytes ++ piece) old store slots' a c
     pieces_stopped piece store slots' c more = record {
       whole = so_far.whole ++ more.whole;
       rest = more.rest;
@@ -188,12 +188,12 @@ module _ (layouts : Layouts) (counter : Option ℕ) where
     }
 
     -- the end of the input ended the last line, which was run
-    pub pieces_end : (last : Limits) (store : StoreView) (slots' : RunnerView) (c : Option (List ℕ)) → RanLines layouts counter now last so_far.ran.after so_far.rest mid store slots' b c → RanLines layouts counter limits last s bytes old store slots' a c
+    pub pieces_end : (last : Limits) (store : StoreView ℕ) (slots' : RunnerView) (c : Option (List ℕ)) → RanLines layouts counter now last so_far.ran.after so_far.rest mid store slots' b c → RanLines layouts counter limits last s bytes old store slots' a c
     pieces_end last store slots' c more =
         subst (λ (l : List ℕ). RanLines layouts counter limits last s l old store slots' a c) (sym so_far.cut.parts)
         (ran_on layouts counter limits now last s so_far.whole so_far.rest old mid store slots slots' a b c so_far.cut.ends so_far.ran more)
 
-    pub pieces_end_some : (store : StoreView) (slots' : RunnerView) (c : Option (List ℕ)) → RanSome layouts counter now so_far.ran.after so_far.rest mid store slots' b c → RanSome layouts counter limits s bytes old store slots' a c
+    pub pieces_end_some : (store : StoreView ℕ) (slots' : RunnerView) (c : Option (List ℕ)) → RanSome layouts counter now so_far.ran.after so_far.rest mid store slots' b c → RanSome layouts counter limits s bytes old store slots' a c
     pieces_end_some store slots' c more =
         subst (λ (l : List ℕ). RanSome layouts counter limits s l old store slots' a c) (sym so_far.cut.parts)
         (some_on layouts counter limits now s so_far.whole so_far.rest old mid store slots slots' a b c so_far.cut.ends so_far.ran more)

@@ -8,8 +8,8 @@ use Rattle.gc_model.specs.Stores.{StoreView}
 use Rattle.gc_script.specs.Slots.{RunnerView, new_runner}
 use Rattle.gc_script.specs.State.{State, HoldsState, begin}
 use Rattle.gc_script.proofs.StandLemmas.{same_twice}
-use Rattle.gc_store.specs.Accounts.{no_account}
-use Rattle.gc_store.specs.Limiters.{fresh_limits}
+use Rattle.gc_policy.specs.Accounts.{no_account}
+use Rattle.gc_owner.specs.Limiters.{fresh_limits}
 use Rattle.gc_store.specs.Stores.{IsSameStore}
 use Rattle.gcsh_top.specs.declared.read.ReadFault.{ReadFault as read_fault}
 use Rattle.gcsh_top.specs.declared.run.LineFault.{LineFault}
@@ -45,7 +45,7 @@ abbrev pub took : SinkTold → SinkTold → SinkRun
 took a b = record { before = a; after = b }
 
 -- The bytes that the source gave so far are run up to their last line feed, and the line behind it is kept.
-pub record Reading (layouts : Layouts) (form : Form) (source : SourceRun) (sink : SinkRun) (given : ℕ) (line : KeptLine) (limits : Limits) (old store : StoreView) (slots : RunnerView) : Type 0 where
+pub record Reading (layouts : Layouts) (form : Form) (source : SourceRun) (sink : SinkRun) (given : ℕ) (line : KeptLine) (limits : Limits) (old store : StoreView ℕ) (slots : RunnerView) : Type 0 where
   pub bytes : List ℕ
   pub gave : Gave source bytes
   pub count : given ≡ length bytes
@@ -57,7 +57,7 @@ pub record Reading (layouts : Layouts) (form : Form) (source : SourceRun) (sink 
   pub same : IsSameStore old store
 
 module _ (layouts : Layouts) (form : Form) where
-  pub reading_start : (source : SourceTold) (sink : SinkTold) (line : KeptLine) (limits : Limits) (store : StoreView) (slots : RunnerView) → IsReady layouts form store → slots ≡ new_runner → line ≡ no_line → limits ≡ fresh_limits (Some form.most)
+  pub reading_start : (source : SourceTold) (sink : SinkTold) (line : KeptLine) (limits : Limits) (store : StoreView ℕ) (slots : RunnerView) → IsReady layouts form store → slots ≡ new_runner → line ≡ no_line → limits ≡ fresh_limits (Some form.most)
       → Reading layouts form (told source source) (took sink sink) 0 line limits store store slots
   reading_start source sink line limits store slots ready none no_bytes fresh = record {
     bytes = [];
@@ -92,7 +92,7 @@ module _ (layouts : Layouts) (form : Form) where
   flushed_since x y z (inl same) (inl still) = inl (still ∙ same)
   flushed_since x y z (inr flushed) (inl still) = inr (subst (λ (t : SinkTold). IsTrue t.flushed) (sym still) flushed)
 
-  module _ (a b : SourceTold) (x y : SinkTold) (given : ℕ) (line : KeptLine) (limits : Limits) (old mid : StoreView) (slots : RunnerView) (none : old.alloc_counter ≡ None) (reading : Reading layouts form (told a b) (took x y) given line limits old mid slots) where
+  module _ (a b : SourceTold) (x y : SinkTold) (given : ℕ) (line : KeptLine) (limits : Limits) (old mid : StoreView ℕ) (slots : RunnerView) (none : old.alloc_counter ≡ None) (reading : Reading layouts form (told a b) (took x y) given line limits old mid slots) where
     -- all bytes so far are no more than an input may have
     short_bytes : length reading.bytes ≤ max_input
     short_bytes = subst (λ n. n ≤ max_input) reading.count reading.short
@@ -138,7 +138,7 @@ module _ (layouts : Layouts) (form : Form) where
         length-append reading.bytes (byte ∷ []) ∙ ap (λ n. n + 1) (sym reading.count ∙ full),
       )
 
-      module _ (n : ℕ) (piece : List ℕ) (gave : GavePiece (told b c) given n piece) (z : SinkTold) (store : StoreView) (slots' : RunnerView) (same : IsSameStore mid store) where
+      module _ (n : ℕ) (piece : List ℕ) (gave : GavePiece (told b c) given n piece) (z : SinkTold) (store : StoreView ℕ) (slots' : RunnerView) (same : IsSameStore mid store) where
         gave_all : Gave (told a c) (reading.bytes ++ piece)
         gave_all = gave_on a b c reading.bytes piece reading.gave gave.gave
 
@@ -213,10 +213,10 @@ module _ (layouts : Layouts) (form : Form) where
           }
 
 -- the status of a run that stopped
-stops_by : (layouts : Layouts) (form : Form) (source : SourceRun) (sink : SinkRun) (store : StoreView) (f : LineFault) → Stopped layouts form source sink store → (f ≡ fault.Sink → Rose sink.before.faults sink.after.faults) → RanOn layouts form source sink store (status_of f)
+stops_by : (layouts : Layouts) (form : Form) (source : SourceRun) (sink : SinkRun) (store : StoreView ℕ) (f : LineFault) → Stopped layouts form source sink store → (f ≡ fault.Sink → Rose sink.before.faults sink.after.faults) → RanOn layouts form source sink store (status_of f)
 stops_by layouts form source sink store fault.Sink stopped rose = (stopped, rose refl)
 stops_by layouts form source sink store fault.Memory stopped rose = stopped
 
-pub stops_with : (layouts : Layouts) (form : Form) (source : SourceRun) (sink : SinkRun) (store : StoreView) (f : LineFault) (status : Status) → status ≡ status_of f → Stopped layouts form source sink store → (f ≡ fault.Sink → Rose sink.before.faults sink.after.faults)
+pub stops_with : (layouts : Layouts) (form : Form) (source : SourceRun) (sink : SinkRun) (store : StoreView ℕ) (f : LineFault) (status : Status) → status ≡ status_of f → Stopped layouts form source sink store → (f ≡ fault.Sink → Rose sink.before.faults sink.after.faults)
     → RanOn layouts form source sink store status
 stops_with layouts form source sink store f status is stopped rose = subst (RanOn layouts form source sink store) (sym is) (stops_by layouts form source sink store f stopped rose)

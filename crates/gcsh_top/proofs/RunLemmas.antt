@@ -52,7 +52,7 @@ session_none : (layouts : Layouts) (counter : Option ℕ) (limits : Limits) (s :
 session_none layouts counter limits s = record { commands = []; replies = []; are_commands = tt; run = (refl, refl); output_is = refl }
 
 -- one line
-session_one : (layouts : Layouts) (counter : Option ℕ) (limits limits' : Limits) (s : State) (line : List ℕ) (store : StoreView) (slots : RunnerView) (held held' : Option (List ℕ)) (did : RanLine layouts counter limits limits' s line store slots held held') → SessionFrom layouts counter limits s (line ∷ []) (reply_line did.answer) did.ran.after limits'
+session_one : (layouts : Layouts) (counter : Option ℕ) (limits limits' : Limits) (s : State) (line : List ℕ) (store : StoreView ℕ) (slots : RunnerView) (held held' : Option (List ℕ)) (did : RanLine layouts counter limits limits' s line store slots held held') → SessionFrom layouts counter limits s (line ∷ []) (reply_line did.answer) did.ran.after limits'
 session_one layouts counter limits limits' s line store slots held held' did = record {
   commands = did.command ∷ [];
   replies = did.answer ∷ [];
@@ -63,7 +63,7 @@ session_one layouts counter limits limits' s line store slots held held' did = r
 
 module _ (layouts : Layouts) (counter : Option ℕ) where
   -- bytes without a line were run, and nothing was done
-  pub ran_none : (limits : Limits) (s : State) (bytes : List ℕ) (store : StoreView) (slots : RunnerView) (held : Option (List ℕ)) → lines bytes ≡ [] → HoldsState layouts store slots s → RanLines layouts counter limits limits s bytes store store slots held held
+  pub ran_none : (limits : Limits) (s : State) (bytes : List ℕ) (store : StoreView ℕ) (slots : RunnerView) (held : Option (List ℕ)) → lines bytes ≡ [] → HoldsState layouts store slots s → RanLines layouts counter limits limits s bytes store store slots held held
   ran_none limits s bytes store slots held none holds = record {
     output = [];
     after = s;
@@ -74,7 +74,7 @@ module _ (layouts : Layouts) (counter : Option ℕ) where
   }
 
   -- bytes of one line were run
-  pub ran_one : (limits limits' : Limits) (s : State) (bytes line : List ℕ) (old store : StoreView) (slots : RunnerView) (held held' : Option (List ℕ)) → lines bytes ≡ line ∷ [] → RanLine layouts counter limits limits' s line store slots held held' → RanLines layouts counter limits limits' s bytes old store slots held held'
+  pub ran_one : (limits limits' : Limits) (s : State) (bytes line : List ℕ) (old store : StoreView ℕ) (slots : RunnerView) (held held' : Option (List ℕ)) → lines bytes ≡ line ∷ [] → RanLine layouts counter limits limits' s line store slots held held' → RanLines layouts counter limits limits' s bytes old store slots held held'
   ran_one limits limits' s bytes line old store slots held held' one did = record {
     output = reply_line did.answer;
     after = did.ran.after;
@@ -85,7 +85,7 @@ module _ (layouts : Layouts) (counter : Option ℕ) where
   }
 
   -- bytes behind whole lines were run as well
-  pub ran_on : (limits now last : Limits) (s : State) (whole x : List ℕ) (old mid store : StoreView) (slots slots' : RunnerView) (a b c : Option (List ℕ)) → EndsWhole whole → (one : RanLines layouts counter limits now s whole old mid slots a b)
+  pub ran_on : (limits now last : Limits) (s : State) (whole x : List ℕ) (old mid store : StoreView ℕ) (slots slots' : RunnerView) (a b c : Option (List ℕ)) → EndsWhole whole → (one : RanLines layouts counter limits now s whole old mid slots a b)
       → RanLines layouts counter now last one.after x mid store slots' b c → RanLines layouts counter limits last s (whole ++ x) old store slots' a c
   ran_on limits now last s whole x old mid store slots slots' a b c ends one two = record {
     output = one.output ++ two.output;
@@ -98,7 +98,7 @@ module _ (layouts : Layouts) (counter : Option ℕ) where
   }
 
   -- what was flushed behind it
-  pub ran_kept : (limits last : Limits) (s : State) (bytes : List ℕ) (old store : StoreView) (slots : RunnerView) (a b c : Option (List ℕ)) → RanLines layouts counter limits last s bytes old store slots a b → Keeps b c → RanLines layouts counter limits last s bytes old store slots a c
+  pub ran_kept : (limits last : Limits) (s : State) (bytes : List ℕ) (old store : StoreView ℕ) (slots : RunnerView) (a b c : Option (List ℕ)) → RanLines layouts counter limits last s bytes old store slots a b → Keeps b c → RanLines layouts counter limits last s bytes old store slots a c
   ran_kept limits last s bytes old store slots a b c ran keeps = record {
     output = ran.output;
     after = ran.after;
@@ -109,7 +109,7 @@ module _ (layouts : Layouts) (counter : Option ℕ) where
   }
 
   -- a line broke off that is the first of the bytes
-  pub stopped_first : (limits : Limits) (s : State) (bytes line : List ℕ) (rest : List (List ℕ)) (store : StoreView) (slots : RunnerView) (a b : Option (List ℕ)) → lines bytes ≡ line ∷ rest → BrokeOff layouts counter limits s line store slots a b → StoppedLines layouts counter limits s bytes store slots a b
+  pub stopped_first : (limits : Limits) (s : State) (bytes line : List ℕ) (rest : List (List ℕ)) (store : StoreView ℕ) (slots : RunnerView) (a b : Option (List ℕ)) → lines bytes ≡ line ∷ rest → BrokeOff layouts counter limits s line store slots a b → StoppedLines layouts counter limits s bytes store slots a b
   stopped_first limits s bytes line rest store slots a b cut broke = record {
     done = [];
     line = line;
@@ -125,7 +125,7 @@ module _ (layouts : Layouts) (counter : Option ℕ) where
   }
 
   -- a line broke off that is behind whole lines
-  stopped_on : (limits now : Limits) (s : State) (whole x : List ℕ) (old mid store : StoreView) (slots slots' : RunnerView) (a b c : Option (List ℕ)) → EndsWhole whole → (one : RanLines layouts counter limits now s whole old mid slots a b)
+  stopped_on : (limits now : Limits) (s : State) (whole x : List ℕ) (old mid store : StoreView ℕ) (slots slots' : RunnerView) (a b c : Option (List ℕ)) → EndsWhole whole → (one : RanLines layouts counter limits now s whole old mid slots a b)
       → StoppedLines layouts counter now one.after x store slots' b c → StoppedLines layouts counter limits s (whole ++ x) store slots' a c
   stopped_on limits now s whole x old mid store slots slots' a b c ends one two = record {
     done = lines whole ++ two.done;
@@ -142,7 +142,7 @@ module _ (layouts : Layouts) (counter : Option ℕ) where
   }
 
   -- some bytes behind whole lines were run
-  pub some_on : (limits now : Limits) (s : State) (whole x : List ℕ) (old mid store : StoreView) (slots slots' : RunnerView) (a b c : Option (List ℕ)) → EndsWhole whole → (one : RanLines layouts counter limits now s whole old mid slots a b)
+  pub some_on : (limits now : Limits) (s : State) (whole x : List ℕ) (old mid store : StoreView ℕ) (slots slots' : RunnerView) (a b c : Option (List ℕ)) → EndsWhole whole → (one : RanLines layouts counter limits now s whole old mid slots a b)
       → RanSome layouts counter now one.after x mid store slots' b c → RanSome layouts counter limits s (whole ++ x) old store slots' a c
   some_on limits now s whole x old mid store slots slots' a b c ends one (inl two) = inl (stopped_on limits now s whole x old mid store slots slots' a b c ends one two)
   some_on limits now s whole x old mid store slots slots' a b c ends one (inr two) = inr (two.0, ran_on limits now two.0 s whole x old mid store slots slots' a b c ends one two.1)
@@ -157,18 +157,18 @@ keeps_same None = tt
 keeps_same (Some bytes) = refl
 
 -- a line that ran, or where a run broke off, at the counter of the store it began with
-pub ran_from : {layouts : Layouts} {now next : Limits} {s : State} {line : List ℕ} {store : StoreView} {slots : RunnerView} {a b : Option (List ℕ)} (counter counter' : Option ℕ) → counter' ≡ counter → RanLine layouts counter' now next s line store slots a b → RanLine layouts counter now next s line store slots a b
+pub ran_from : {layouts : Layouts} {now next : Limits} {s : State} {line : List ℕ} {store : StoreView ℕ} {slots : RunnerView} {a b : Option (List ℕ)} (counter counter' : Option ℕ) → counter' ≡ counter → RanLine layouts counter' now next s line store slots a b → RanLine layouts counter now next s line store slots a b
 ran_from {layouts} {now} {next} {s} {line} {store} {slots} {a} {b} counter counter' same ran =
     subst (λ (k : Option ℕ). RanLine layouts k now next s line store slots a b) same ran
 
-pub broke_from : {layouts : Layouts} {now : Limits} {s : State} {line : List ℕ} {store : StoreView} {slots : RunnerView} {a b : Option (List ℕ)} (counter counter' : Option ℕ) → counter' ≡ counter → BrokeOff layouts counter' now s line store slots a b → BrokeOff layouts counter now s line store slots a b
+pub broke_from : {layouts : Layouts} {now : Limits} {s : State} {line : List ℕ} {store : StoreView ℕ} {slots : RunnerView} {a b : Option (List ℕ)} (counter counter' : Option ℕ) → counter' ≡ counter → BrokeOff layouts counter' now s line store slots a b → BrokeOff layouts counter now s line store slots a b
 broke_from {layouts} {now} {s} {line} {store} {slots} {a} {b} counter counter' same broke =
     subst (λ (k : Option ℕ). BrokeOff layouts k now s line store slots a b) same broke
 
 -- no line of these was read, where there is one
-unread_by : (layouts : Layouts) (counter : Option ℕ) (limits : Limits) (s : State) (bytes : List ℕ) (ls : List (List ℕ)) (store : StoreView) (slots : RunnerView) (held : Option (List ℕ)) → lines bytes ≡ ls → HoldsState layouts store slots s → RanSome layouts counter limits s bytes store store slots held held
+unread_by : (layouts : Layouts) (counter : Option ℕ) (limits : Limits) (s : State) (bytes : List ℕ) (ls : List (List ℕ)) (store : StoreView ℕ) (slots : RunnerView) (held : Option (List ℕ)) → lines bytes ≡ ls → HoldsState layouts store slots s → RanSome layouts counter limits s bytes store store slots held held
 unread_by layouts counter limits s bytes [] store slots held is holds = inr (limits, ran_none layouts counter limits s bytes store slots held is holds)
 unread_by layouts counter limits s bytes (l ∷ ls) store slots held is holds = inl (stopped_first layouts counter limits s bytes l ls store slots held held is (not_read holds (keeps_same held)))
 
-pub unread : (layouts : Layouts) (counter : Option ℕ) (limits : Limits) (s : State) (bytes : List ℕ) (store : StoreView) (slots : RunnerView) (held : Option (List ℕ)) → HoldsState layouts store slots s → RanSome layouts counter limits s bytes store store slots held held
+pub unread : (layouts : Layouts) (counter : Option ℕ) (limits : Limits) (s : State) (bytes : List ℕ) (store : StoreView ℕ) (slots : RunnerView) (held : Option (List ℕ)) → HoldsState layouts store slots s → RanSome layouts counter limits s bytes store store slots held held
 unread layouts counter limits s bytes store slots held holds = unread_by layouts counter limits s bytes (lines bytes) store slots held refl holds

@@ -16,28 +16,28 @@ use Rattle.gcsh_top.specs.Words.{IsForm, layouts_of}
 -- Every line of the input has its reply: the input was read to its end; its lines are commands whose replies are a run
 -- of the table that begins empty; the output is the replies' texts, and was flushed; the store holds the table at the
 -- end.
-pub record Completed (layouts : Layouts) (form : Form) (source : SourceRun) (sink : SinkRun) (store : StoreView) : Type 0 where
+pub record Completed (layouts : Layouts) (form : Form) (source : SourceRun) (sink : SinkRun) (store : StoreView ℕ) : Type 0 where
   pub input : List ℕ
   pub whole : ReadWhole source input
   pub ran : RanForm layouts form input sink.before.held sink.after.held store
   pub flushed : IsTrue sink.after.flushed
 
 -- The run stopped somewhere in the lines that the source gave whole, or behind them.
-pub record Stopped (layouts : Layouts) (form : Form) (source : SourceRun) (sink : SinkRun) (store : StoreView) : Type 0 where
+pub record Stopped (layouts : Layouts) (form : Form) (source : SourceRun) (sink : SinkRun) (store : StoreView ℕ) : Type 0 where
   pub input : List ℕ
   pub gave : GaveWhole source input
   pub stopped : StoppedForm layouts form input sink.before.held sink.after.held store
 
 -- Every line that the source gave whole has its reply, and no other line was run: the source gave these bytes, and those
 -- within the limit end their whole lines with the last line feed. What was written was flushed.
-pub record RanFront (layouts : Layouts) (form : Form) (source : SourceRun) (sink : SinkRun) (store : StoreView) (bytes : List ℕ) : Type 0 where
+pub record RanFront (layouts : Layouts) (form : Form) (source : SourceRun) (sink : SinkRun) (store : StoreView ℕ) (bytes : List ℕ) : Type 0 where
   pub whole : List ℕ
   pub gave : GaveLines source bytes whole
   pub ran : RanForm layouts form whole sink.before.held sink.after.held store
   pub flushed : (sink.after ≡ sink.before) ⊎ IsTrue sink.after.flushed
 
 -- How the run of a form on its new store ended, and what it left.
-abbrev pub RanOn : Layouts → Form → SourceRun → SinkRun → StoreView → Status → Type 0
+abbrev pub RanOn : Layouts → Form → SourceRun → SinkRun → StoreView ℕ → Status → Type 0
 RanOn layouts form source sink store Done = Completed layouts form source sink store
 RanOn layouts form source sink store Usage = ⊥
 RanOn layouts form source sink store ReadFault =

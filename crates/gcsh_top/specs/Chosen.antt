@@ -13,7 +13,7 @@ pub record AreNew (stores : Stores) : Type 0 where
   pub null : HoldsStart ℕ Null stores.null
 
 -- the store that a collector chooses; no store stands for a collector that isn't built
-abbrev pub chosen : Collector → Stores → StoreView
+abbrev pub chosen : Collector → Stores → StoreView ℕ
 chosen collector.Copying stores = stores.copying
 chosen collector.Counting stores = stores.null
 chosen collector.Null stores = stores.null
@@ -25,7 +25,7 @@ OthersStay collector.Counting old new = new ≡ old
 OthersStay collector.Null old new = new.copying ≡ old.copying
 
 -- the store has its id still
-pub record HasSameId (old new : StoreView) : Type 0 where
+pub record HasSameId (old new : StoreView ℕ) : Type 0 where
   pub engine : new.engine ≡ old.engine
   pub number : new.number ≡ old.number
 

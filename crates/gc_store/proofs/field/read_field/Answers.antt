@@ -10,7 +10,7 @@ use Rattle.gc_model.proofs.Lists.{slice_get-same_length}
 use Rattle.gc_heap.specs.Access.{IsReadable}
 use Rattle.gc_model.specs.Fits.{is_built_storage}
 use Rattle.gc_store.proofs.HeapLayouts.{built_storage, built_value}
-use Rattle.gc_store.proofs.HeapFields.{HeldField, readable}
+use Rattle.gc_store.proofs.HeldFields.{readable}
 use Rattle.gc_store.proofs.field.read_field.Given.{Over}
 use Rattle.gc_store.proofs.field.read_field.Goals.{After-field_place-offset}
 use Rattle.gc_store.proofs.field.read_field.Goals as goal
@@ -32,24 +32,20 @@ field_read g c count is =
     let has = c.requires.field in
     let h : HeapView = g.H.GcHeap.seen c.args.heap.now in
     let at = field_at g c in
-    let f : HeldField g.H.GcHeap.KIND c.args.types.now.declarations h has.roots has.hosts c.args.gc_ref.now has.object c.field_place-offset.result.offset c.field_place-offset.result.storage = record {
-      heap = g.met.H.GcHeap.is_heap c.args.heap.now c.requires.sound;
-      can = has.collectable;
-      held = has.held;
-      field = record {
-        fields = has.fields;
-        declared = has.declared;
-        index = c.args.index;
-        field = has.field;
-        field_is = has.field_is;
-        layout = at.0;
-        layout_is = at.1;
-        at = at.2;
-        type_is = sym at.3;
-        built = has.built;
-      };
-    } in
-    readable g.H.GcHeap.KIND c.args.types.now.declarations h has.roots has.hosts c.args.gc_ref.now has.object c.field_place-offset.result.offset c.field_place-offset.result.storage f count is
+    readable g.H.GcHeap.KIND c.args.types.now.declarations has.object c.field_place-offset.result.offset c.field_place-offset.result.storage (has.collectable.traced c.args.gc_ref.now has.object has.held)
+    (record {
+      kind = has.kind;
+      fields = has.fields;
+      declared = has.declared;
+      index = c.args.index;
+      field = has.field;
+      field_is = has.field_is;
+      layout = at.0;
+      layout_is = at.1;
+      at = at.2;
+      type_is = sym at.3;
+      built = has.built;
+    }) h c.args.gc_ref.now count has.held is
 
 built : (g : Over) (c : After-field_place-offset g) → is_built_storage c.field_place-offset.result.storage ≡ true
 built g c = ap is_built_storage (field_at g c).3 ∙ c.requires.field.built

@@ -1,6 +1,6 @@
 use Rattle.std.proofs.Common.{◌≡◌, ◌%◌, ap, sym, ◌∙◌, Some}
 use Rattle.std.specs.FinMap as map
-use Rattle.gc_view.specs.Heaps.{HeapObject}
+use Rattle.gc_view.specs.Heaps.{HeapObject, HeapView}
 use Rattle.gc_model.specs.Stores.{StoreView}
 use Rattle.gc_store.proofs.Roots.{SomeIff-value, describes_small, describes_object, held_object, is_even}
 use Rattle.gc_store.proofs.store.Store.describe.Given as given
@@ -17,9 +17,9 @@ returns-in-Some g c t place r holds is positive =
     describes_small g.H.GcHeap.KIND c.args.self.now t place r c.args.word c.in-Some.number holds is (sym same ∙ c.in-Some.ensures)
 
 -- an object of the store's heap is one of the heap that is asked
-found : (g : given.Over) (c : After-header g) → c.unwrap-gc_ref.result ≡ c.args.word → (object : HeapObject) → map.get c.args.self.now.heap.content c.args.word ≡ Some object → map.get (g.H.GcHeap.seen c.self.inside.heap).content c.unwrap-gc_ref.result ≡ Some object
+found : (g : given.Over) (c : After-header g) → c.unwrap-gc_ref.result ≡ c.args.word → (object : HeapObject) → map.get c.args.self.now.heap.content c.args.word ≡ Some object → map.get (g.H.GcHeap.seen c.heap.result.now).content c.unwrap-gc_ref.result ≡ Some object
 found g c same object e =
-    ap (λ (s : StoreView). map.get s.heap.content c.unwrap-gc_ref.result) c.self.view_is ∙ ap (map.get c.args.self.now.heap.content) same ∙ e
+    ap (λ (h : HeapView). map.get h.content c.unwrap-gc_ref.result) c.heap.ensures.seen ∙ ap (λ (s : StoreView g.row.D.Denot). map.get s.heap.content c.unwrap-gc_ref.result) c.self.view_is ∙ ap (map.get c.args.self.now.heap.content) same ∙ e
 
 pub unreachable-requires : goal.unreachable-requires
 unreachable-requires g c =

@@ -7,9 +7,9 @@ use Rattle.gc_store.proofs.store.Store.object.Goals as goal
 
 pub describe-requires : goal.describe-requires
 describe-requires g c =
-    subst (λ (s : StoreView). IsRootWord g.row.D.Denot g.H.GcHeap.KIND s c.in-Ok.word) c.self.view_is
+    subst (λ (s : StoreView g.row.D.Denot). IsRootWord g.row.D.Denot g.H.GcHeap.KIND s c.in-Ok.word) c.self.view_is
     (root_word _ _ c.self.invariant.table c.self.invariant.holds.place c.self.invariant.holds.holds c.args.handle c.in-Ok.word
-    (ap (λ (s : StoreView). word_of s c.args.handle) c.self.view_is ∙ sym c.word_of.ensures ∙ c.in-Ok.is))
+    (ap (λ (s : StoreView g.row.D.Denot). word_of s c.args.handle) c.self.view_is ∙ sym c.word_of.ensures ∙ c.in-Ok.is))
 
 pub returns-in-Ok-clause-named : goal.returns-in-Ok-clause-named
 returns-in-Ok-clause-named g c t serial holds names =
@@ -31,7 +31,7 @@ returns-in-Ok-clause-found g c =
     let word = sym c.word_of.ensures ∙ c.in-Ok.is in
     let t = c.self.invariant.table in
     let place = c.self.invariant.holds.place in
-    let holds : Holds g.H.GcHeap.KIND c.args.self.now t place = subst (λ (s : StoreView). Holds g.H.GcHeap.KIND s t place) c.self.view_is c.self.invariant.holds.holds in
+    let holds : Holds g.H.GcHeap.KIND c.args.self.now t place = subst (λ (s : StoreView g.row.D.Denot). Holds g.H.GcHeap.KIND s t place) c.self.view_is c.self.invariant.holds.holds in
     let named = names-entry g.H.GcHeap.KIND c.args.self.now t place holds c.args.handle c.in-Ok.word (word_of-ok _ c.args.handle c.in-Ok.word word) in
     let live = named_live g.H.GcHeap.KIND c.args.self.now t place holds c.args.handle named.0 c.in-Ok.word named.1 word in
     record {

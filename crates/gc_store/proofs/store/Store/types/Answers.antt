@@ -5,5 +5,6 @@ use Rattle.gc_store.proofs.store.Store.types.Goals as goal
 
 pub returns : goal.returns
 returns g c =
-    own_types c.self.inside.types c.self.inside.id.engine c.self.inside.id.number c.self.invariant.engine c.self.invariant.number
-    ∙ ap (λ (s : StoreView). record { engine = s.engine; number = s.number; declarations = s.types }) c.self.view_is
+    c.types.ensures
+    ∙ own_types c.self.inside.owner.seen.types c.self.inside.id.engine c.self.inside.id.number c.self.invariant.engine c.self.invariant.number
+    ∙ ap (λ (s : StoreView g.row.D.Denot). record { engine = s.engine; number = s.number; declarations = s.types }) c.self.view_is

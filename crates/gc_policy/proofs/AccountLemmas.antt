@@ -1,0 +1,111 @@
+-- What a collection leaves of a store's table and account, and room by the account.
+use Rattle.std.proofs.Common.{◌≡◌, ℕ, ◌+◌, Bool, true, not, if◌then◌else◌, ◌==◌, List, refl, sym, ap, ◌∙◌, arith}
+use Rattle.gc_types.specs.declared.kind.Layouts.{Layouts}
+use Rattle.gc_types.specs.declared.kind.Layouts.TheVariants.{Null, Counting, Copying}
+use Rattle.gc_model.specs.Table.{Table}
+use Rattle.gc_model.specs.Reach.{AreAll}
+use Rattle.gc_model.specs.Allocation.{Limits}
+use Rattle.gc_view.specs.Heaps.{HeapView}
+use Rattle.gc_model.specs.Stores.{StoreView}
+use Rattle.gc_model.specs.Holds.{Placing, Holds, HoldsTable, HoldsKept}
+use Rattle.gc_heap.specs.Content.{IsHeap, total, block_size}
+use Rattle.gc_heap.specs.Heap.{HasRoom}
+use Rattle.gc_policy.specs.Accounts.{Account, IsAccount, HoldsAccount}
+use Rattle.gc_policy.specs.Collects.{IsPlaced}
+use Rattle.gc_policy.specs.Policy.{PolicyState, policy_state, allocated_bytes, FitsNow, LacksNow, turned, CollectsTable}
+use Rattle.gc_owner.specs.Owners.{OwnerView, CanBegin, Collects}
+use Rattle.gc_policy.specs.Shown.{shown}
+use Rattle.gc_policy.proofs.RootsShown.{SlotsInFrames}
+use Rattle.gc_policy.proofs.CollectedHolds.{CollectsHeld, collected_holds, frames_after}
+use Rattle.gc_policy.proofs.HeldBlocks.{held_blocks, no_capacity}
+use Rattle.gc_policy.proofs.HeldNumber.{positions, are_placed, are_kept}
+
+-- an account goes by the placing and by three numbers of the store
+pub account_kept : {D : Type 0} (s s' : StoreView D) (place : Placing) (a : Account) → s'.last ≡ s.last → s'.tries ≡ s.tries → s'.heap.needs_gc ≡ s.heap.needs_gc → IsAccount s place a → IsAccount s' place a
+account_kept s s' place a last tries upper is = record { held = is.held; last = last ∙ is.last; tries = tries ∙ is.tries; upper = upper ∙ is.upper }
+
+-- a table goes by none of the numbers of an account
+pub holds_counted : {D : Type 0} (layouts : Layouts) (s : StoreView D) (t : Table D) (place : Placing) (last tries : ℕ) → Holds layouts s t place → Holds layouts (record s { last = last; tries = tries }) t place
+holds_counted layouts s t place last tries holds = holds
+
+-- The bytes allocated in a heap are those of the positions it holds.
+pub allocated_is : {D : Type 0} (layouts : Layouts) (s : StoreView D) (t : Table D) (place : Placing) (held : List ℕ) → Holds layouts s t place → AreAll (IsPlaced place) held → IsHeap layouts s.heap
+    → s.heap.allocated ≡ allocated_bytes layouts t held
+allocated_is Null s t place held holds all heap = let next = holds.by_kind.allocated in omega arith
+allocated_is Counting s t place held holds all heap = heap.allocated ∙ sym (held_blocks Counting s t place holds held all)
+allocated_is Copying s t place held holds all heap =
+    heap.allocated
+    ∙ ap (λ (b : Bool). if b then 0 else 16 + total (block_size Copying) s.heap.content) (no_capacity s.heap.capacity t.pages holds.memory.capacity)
+    ∙ ap (λ (n : ℕ). if t.pages == 0 then 0 else 16 + n) (sym (held_blocks Copying s t place holds held all))
+
+-- room of the heap is room by the account
+pub fits_now : {D : Type 0} (layouts : Layouts) (s : StoreView D) (t : Table D) (a : Account) (limits : Limits) (size : ℕ) → IsHeap layouts s.heap → HoldsAccount layouts s t a → HasRoom layouts s.heap size
+    → FitsNow layouts size (policy_state t a limits)
+fits_now Null s t a limits size heap holds room = let next = holds.holds.by_kind.allocated in let capacity = holds.holds.memory.capacity in omega arith
+fits_now Counting s t a limits size heap holds room = tt
+fits_now Copying s t a limits size heap holds room =
+    let blocks = held_blocks Copying s t holds.place holds.holds a.held holds.account.held in
+    let capacity = holds.holds.memory.capacity in
+    omega arith
+
+-- and so is its lack
+pub lacks_now : {D : Type 0} (layouts : Layouts) (s : StoreView D) (t : Table D) (a : Account) (limits : Limits) (size : ℕ) → IsHeap layouts s.heap → HoldsAccount layouts s t a → (HasRoom layouts s.heap size → ⊥)
+    → LacksNow layouts size (policy_state t a limits)
+lacks_now Null s t a limits size heap holds none = λ fits. none (let next = holds.holds.by_kind.allocated in let capacity = holds.holds.memory.capacity in omega arith)
+lacks_now Counting s t a limits size heap holds none = tt
+lacks_now Copying s t a limits size heap holds none = λ fits. none (
+    let blocks = held_blocks Copying s t holds.place holds.holds a.held holds.account.held in
+    let capacity = holds.holds.memory.capacity in
+    omega arith)
+
+-- which half is active after a collection
+upper_after : {D : Type 0} (layouts : Layouts) (v w : OwnerView D) (upper : Bool) → IsHeap layouts v.heap → Collects layouts v w → v.heap.needs_gc ≡ upper → w.heap.needs_gc ≡ turned layouts upper
+upper_after Null v w upper heap is e = ap (λ (h : HeapView). h.needs_gc) is.collected.by_kind.0 ∙ e
+upper_after Counting v w upper heap is e = is.collected.by_kind.1.1 ∙ sym heap.by_kind.1 ∙ e
+upper_after Copying v w upper heap is e = is.collected.by_kind ∙ ap (λ b. not b) e
+
+-- what a collection of the owner leaves of its store's table and account
+pub record AfterCollection {D : Type 0} (layouts : Layouts) (s : StoreView D) (t : Table D) (a : Account) (limits : Limits) (w : OwnerView D) : Type 0 where
+  pub after : PolicyState D
+  pub collects : CollectsTable layouts (policy_state t a limits) after
+  pub holds : HoldsAccount layouts (shown s w) after.table after.account
+  pub kept : HoldsKept layouts (shown s w) after.table
+  pub in_frames : SlotsInFrames w.roots
+
+pub collected_account : {D : Type 0} (layouts : Layouts) (s : StoreView D) (t : Table D) (a : Account) (limits : Limits) (v w : OwnerView D)
+    → HoldsAccount layouts (shown s v) t a → CanBegin layouts v → SlotsInFrames v.roots → IsHeap layouts v.heap → v.heap.attached ≡ true → Collects layouts v w → AfterCollection layouts s t a limits w
+collected_account {D} layouts s t a limits v w holds can in_frames was_heap attached collects =
+    let held_before : CollectsHeld layouts s t holds.place v w = record { holds = holds.holds; can = can; in_frames = in_frames; was_heap = was_heap; attached = attached; collects = collects } in
+    let kept : HoldsKept layouts (shown s w) t = collected_holds layouts s t holds.place v w held_before in
+    let held : List ℕ = positions layouts t kept.0 w.heap kept.1.0.objects in
+    let placed : AreAll (IsPlaced kept.0) held = are_placed layouts t kept.0 w.heap kept.1.0.objects in
+    let account : Account = record { held = held; last = w.heap.allocated; tries = a.tries; upper = w.heap.needs_gc } in
+    record {
+      after = policy_state t account limits;
+      collects = record {
+        held = are_kept layouts (shown s w) t kept.0 kept.1.0 kept.1.1;
+        last = allocated_is layouts (shown s w) t kept.0 held kept.1.0 placed collects.is_heap;
+        tries = refl;
+        upper = upper_after layouts v w a.upper was_heap collects holds.account.upper;
+        table = refl;
+        limits = refl;
+      };
+      holds = record {
+        place = kept.0;
+        holds = kept.1.0;
+        account = record { held = placed; last = ap (λ (x : OwnerView D). x.last) collects.rest; tries = holds.account.tries; upper = refl };
+      };
+      kept = kept;
+      in_frames = frames_after layouts s t holds.place v w held_before;
+    }
+
+-- a store that holds a table has some account beside it
+pub own_account : {D : Type 0} (layouts : Layouts) (s : StoreView D) (t : Table D) (place : Placing) → Holds layouts s t place → (a : Account) × IsAccount s place a
+own_account layouts s t place holds = (
+  record { held = positions layouts t place s.heap holds.objects; last = s.last; tries = s.tries; upper = s.heap.needs_gc },
+  record { held = are_placed layouts t place s.heap holds.objects; last = refl; tries = refl; upper = refl },
+)
+
+-- the same, whatever the placing is
+pub some_account : {D : Type 0} (layouts : Layouts) (s : StoreView D) (t : Table D) → HoldsTable layouts s t → (a : Account) × HoldsAccount layouts s t a
+some_account layouts s t holds = let own = own_account layouts s t holds.0 holds.1 in (own.0, record { place = holds.0; holds = holds.1; account = own.1 })

@@ -1,0 +1,94 @@
+-- Room in a copying heap: beside all its objects, and beside those that the roots of the table reach.
+use Rattle.std.proofs.Common.{◌≡◌, ℕ, ◌+◌, List, length, filter, Some, sym, ap, ◌∙◌, arith}
+use Rattle.std.specs.List.{sum_by}
+use Rattle.std.specs.FinMap.{get, entries}
+use Rattle.std.proofs.lemmas.List.Sums.{sum-map}
+use Rattle.gc_types.specs.declared.kind.Layouts.{Layouts}
+use Rattle.gc_types.specs.declared.kind.Layouts.TheVariants.{Null, Counting, Copying}
+use Rattle.gc_types.specs.Layouts.{fields_end, round_up}
+use Rattle.gc_model.specs.Table.{Table}
+use Rattle.gc_model.specs.Sizes.{fields_size, rounded_size}
+use Rattle.gc_model.specs.Reach.{IsReached, AreAll, root_references}
+use Rattle.gc_model.specs.Allocation as allocation
+use Rattle.gc_model.specs.Allocation.{copied_size, FitsIn, LacksFit}
+use Rattle.gc_view.specs.Heaps.{HeapObject}
+use Rattle.gc_model.specs.Stores.{StoreView}
+use Rattle.gc_model.specs.Holds.{Placing, Holds, HoldsKept}
+use Rattle.gc_heap.specs.Objects.{size_with}
+use Rattle.gc_heap.specs.Content.{total, block_size}
+use Rattle.gc_heap.specs.Heap.{HasRoom}
+use Rattle.gc_policy.proofs.CollectedKept.{placed_struct, reached_placed}
+use Rattle.gc_policy.proofs.HeldEntries.{held_entry}
+use Rattle.gc_policy.proofs.HeldNumber.{position_of, placed_of, positions, are_placed, are_kept}
+use Rattle.gc_policy.proofs.HeldPaths.{is_reached, is_reached-true, true-is_reached}
+use Rattle.gc_policy.proofs.HeldSums.{sum_part, passing, passes, distinct_passing, same_sums}
+
+module _ {D : Type 0} (s : StoreView D) (t : Table D) (place : Placing) (holds : Holds Copying s t place) where
+  -- an object takes as many bytes as the table says
+  block_is : (word : ℕ) (o : HeapObject) → get s.heap.content word ≡ Some o → copied_size t (position_of Copying t place s.heap holds.objects word) ≡ block_size Copying o
+  block_is word o e =
+      let p : ℕ = position_of Copying t place s.heap holds.objects word in
+      let there = placed_struct Copying s t place holds p word (placed_of Copying t place s.heap holds.objects word o e) in
+      let same : there.object ≡ o = (let both : Some there.object ≡ Some o = sym there.in_heap ∙ e in grind (arith, both)) in
+      let stands = there.stands in
+      let size : copied_size t p ≡ round_up (fields_end 12 stands.fields) 16 = ap (rounded_size t.types) there.in_table ∙ ap (λ fs. round_up (fields_size Copying fs) 16) stands.declared in
+      let block : block_size Copying there.object ≡ round_up (12 + length there.object.bytes) 16 = ap (λ k. round_up (size_with Copying k (length there.object.bytes)) 16) stands.kind in
+      let whole : 12 + length there.object.bytes ≡ round_up (fields_end 12 stands.fields) 16 = stands.size in
+      let equal : copied_size t p ≡ block_size Copying there.object = omega arith in
+      equal ∙ ap (block_size Copying) same
+
+  abbrev all_positions : List ℕ
+  all_positions = positions Copying t place s.heap holds.objects
+
+  total_is : sum_by (copied_size t) all_positions ≡ total (block_size Copying) s.heap.content
+  total_is =
+      same_sums (copied_size t) (λ (e : ℕ × HeapObject). position_of Copying t place s.heap holds.objects e.0) (λ (e : ℕ × HeapObject). block_size Copying e.1) (entries s.heap.content)
+      (λ i e there. block_is e.0 e.1 (held_entry s.heap.content i e there))
+      ∙ sym (sum-map (λ (e : ℕ × HeapObject). block_size Copying e.1) (entries s.heap.content))
+
+  abbrev reached : List ℕ
+  reached = filter (is_reached t.objects (root_references t)) all_positions
+
+  reached_are : AreAll (IsReached t) reached
+  reached_are =
+      let placed = are_placed Copying t place s.heap holds.objects in
+      record {
+        distinct = distinct_passing (is_reached t.objects (root_references t)) all_positions placed.distinct;
+        all = λ p. (
+          λ c. is_reached-true t.objects (root_references t) p (passing (is_reached t.objects (root_references t)) all_positions p c).1,
+          λ r. passes (is_reached t.objects (root_references t)) all_positions p ((placed.all p).1 (reached_placed Copying s t place holds p r)) (true-is_reached t.objects (root_references t) p r),
+        );
+      }
+
+  -- Room beside all objects of the heap is room beside those that are reached.
+  pub held_room : (size : ℕ) → HasRoom Copying s.heap size → allocation.HasRoom t size
+  held_room size room =
+      let capacity = holds.memory.capacity in
+      let part = sum_part (copied_size t) reached all_positions reached_are.distinct (λ p c. (passing (is_reached t.objects (root_references t)) all_positions p c).0) in
+      let all = total_is in
+      let as_sum = sum-map (copied_size t) reached in
+      record { reached = reached; are_reached = reached_are; room = omega arith }
+
+-- After a collection these are the same.
+pub collected_room : {D : Type 0} (s : StoreView D) (t : Table D) (size : ℕ) → HoldsKept Copying s t → allocation.HasRoom t size → HasRoom Copying s.heap size
+collected_room s t size kept has =
+    let holds = kept.1.0 in
+    let capacity = holds.memory.capacity in
+    let are = are_kept Copying s t kept.0 holds kept.1.1 in
+    let part = sum_part (copied_size t) (positions Copying t kept.0 s.heap holds.objects) has.reached are.distinct (λ p c. (has.are_reached.all p).1 ((are.all p).0 c)) in
+    let all : sum_by (copied_size t) (positions Copying t kept.0 s.heap holds.objects) ≡ total (block_size Copying) s.heap.content = total_is s t kept.0 holds in
+    let as_sum = sum-map (copied_size t) has.reached in
+    let room = has.room in
+    omega arith
+
+-- where a heap has room for so many bytes, the table has
+pub fits_in : {D : Type 0} (layouts : Layouts) (s : StoreView D) (t : Table D) (place : Placing) (size : ℕ) → Holds layouts s t place → HasRoom layouts s.heap size → FitsIn layouts t size
+fits_in Null s t place size holds room = let next = holds.by_kind.allocated in let capacity = holds.memory.capacity in omega arith
+fits_in Counting s t place size holds room = tt
+fits_in Copying s t place size holds room = held_room s t place holds size room
+
+-- where a heap has none after a collection, the table has none
+pub lacks_fit : {D : Type 0} (layouts : Layouts) (s : StoreView D) (t : Table D) (size : ℕ) → HoldsKept layouts s t → (HasRoom layouts s.heap size → ⊥) → LacksFit layouts t size
+lacks_fit Null s t size kept none = λ fits. none (let next = kept.1.0.by_kind.allocated in let capacity = kept.1.0.memory.capacity in omega arith)
+lacks_fit Counting s t size kept none = tt
+lacks_fit Copying s t size kept none = λ has. none (collected_room s t size kept has)

@@ -1,0 +1,184 @@
+-- The roots of an owner are those of the table that its store holds: what they list is what the table's roots name.
+use Rattle.std.proofs.Common.{◌≡◌, ℕ, ◌<◌, inl, inr, true, false, List, [], ◌∷◌, ◌++◌, length, map, Option, Some, None, Contains, refl, sym, ap, ◌∙◌, subst, arith}
+use Rattle.std.specs.List.{slice_get, flat_map}
+use Rattle.std.proofs.lemmas.List.Elements.{Contains-append_cases, Contains-append_left, Contains-append_right}
+use Rattle.gc_types.specs.declared.kind.Layouts.{Layouts}
+use Rattle.gc_roots.specs.Roots.{Root}
+use Rattle.gc_owner.specs.declared.entry.RootEntry.{RootEntry}
+use Rattle.gc_owner.specs.declared.entry.SlotEntry.{SlotEntry}
+use Rattle.gc_owner.specs.declared.entry.OwnedEntry.{OwnedEntry}
+use Rattle.gc_owner.specs.RootColumns.{RootsView, scoped_words, owned_words, slot_words, global_words, listed_as, roots_of, AreFrames}
+use Rattle.gc_owner.specs.Owners.{OwnerView}
+use Rattle.gc_model.specs.Values.{Reference}
+use Rattle.gc_model.specs.Table.{Table, Scoped, Slot}
+use Rattle.gc_model.specs.Reach.{root_references, slot_references, owned_references, present}
+use Rattle.gc_model.specs.Stores.{StoreView}
+use Rattle.gc_model.specs.Words.{Placing, IsWord}
+use Rattle.gc_model.specs.RootPoints.{PendingBy}
+use Rattle.gc_model.specs.Holds.{Holds}
+use Rattle.gc_model.proofs.Lists.{slice_get-same_length}
+use Rattle.gc_heap.proofs.SpacedLemmas.{only_item}
+use Rattle.gc_policy.specs.Shown.{shown, frames_of}
+use Rattle.gc_policy.proofs.CollectedLists.{get_contains, contains_map, map_get}
+use Rattle.gc_policy.proofs.Columns.{Names, none_in, is_first, listed_word, word_listed}
+
+-- lists of roots and entries, which stand for each other one by one
+names-each : {A B : Type 0} (place : Placing) (reference_of : A → Reference) (word_of : B → ℕ) (roots : List A) (entries : List B) → length entries ≡ length roots
+    → ((i : ℕ) (e : B) (root : A) → slice_get entries i ≡ Some e → slice_get roots i ≡ Some root → IsWord place (reference_of root) (word_of e)) → Names place (map reference_of roots) (map word_of entries)
+names-each place reference_of word_of roots entries count each = record {
+  back = λ w c above.
+      let found = contains_map word_of entries w c in
+      let root = slice_get-same_length entries roots found.index found.element count found.there in (
+        reference_of root.0,
+        (
+          get_contains (map reference_of roots) found.index (reference_of root.0) (map_get reference_of roots found.index root.0 root.1),
+          subst (IsWord place (reference_of root.0)) found.is (each found.index found.element root.0 found.there root.1),
+        ),
+      );
+  forth = λ r c.
+      let found = contains_map reference_of roots r c in
+      let entry = slice_get-same_length roots entries found.index found.element (sym count) found.there in (
+        word_of entry.0,
+        (
+          get_contains (map word_of entries) found.index (word_of entry.0) (map_get word_of entries found.index entry.0 entry.1),
+          subst (λ (q : Reference). IsWord place q (word_of entry.0)) found.is (each found.index entry.0 found.element entry.1 found.there),
+        ),
+      );
+}
+
+-- a list as long as an empty one is empty
+no_length : {X : Type 0} (xs : List X) → length xs ≡ 0 → xs ≡ []
+no_length [] e = refl
+no_length (x ∷ xs) e = absurd (omega (arith, e))
+
+none_left : {X Y : Type 0} (xs : List X) (ys : List Y) → length xs ≡ length ys → ys ≡ [] → xs ≡ []
+none_left xs ys count none = no_length xs (count ∙ ap length none)
+
+no_frames : (starts : List ℕ) (slots : List SlotEntry) → frames_of starts slots ≡ [] → starts ≡ []
+no_frames [] slots e = refl
+no_frames (start ∷ starts) slots e = absurd (omega (arith, ap length e))
+
+pending-names : (place : Placing) (pending : Option Reference) (word : ℕ) → PendingBy place pending word → Names place (present pending) (word ∷ [])
+pending-names place None word null = record {
+  back = λ w c above. absurd (omega (arith, only_item word w c));
+  forth = λ r c. absurd (none_in r c);
+}
+pending-names place (Some r) word stands = record {
+  back = λ w c above. (r, (is_first r [], subst (IsWord place r) (only_item word w c) stands.0));
+  forth = λ q c. (word, (is_first word [], subst (λ (x : Reference). IsWord place x word) (only_item r q c) stands.0));
+}
+
+-- the columns of an owner's roots, in the order of their list
+module _ (r : RootsView) where
+  abbrev behind_slots : List Root
+  behind_slots = listed_as 3 false (global_words r) ++ listed_as 4 false (r.pending ∷ [])
+
+  abbrev behind_owned : List Root
+  behind_owned = listed_as 2 true (slot_words r) ++ behind_slots
+
+  abbrev behind_scoped : List Root
+  behind_scoped = listed_as 1 false (owned_words r) ++ behind_owned
+
+  -- A word is that of a root.
+  abbrev pub IsRooted : ℕ → Type 0
+  IsRooted w = (x : Root) × (Contains (roots_of r) x × (x.word ≡ w))
+
+  pub scoped_rooted : (w : ℕ) → Contains (scoped_words r) w → 0 < w → IsRooted w
+  scoped_rooted w c above = let found = word_listed 0 false (scoped_words r) w c above in (found.0, (Contains-append_left (listed_as 0 false (scoped_words r)) behind_scoped found.0 found.1.0, found.1.1))
+
+  behind_rooted : (x : Root) → Contains behind_scoped x → Contains (roots_of r) x
+  behind_rooted x c = Contains-append_right (listed_as 0 false (scoped_words r)) behind_scoped x c
+
+  slots_behind : (x : Root) → Contains behind_slots x → Contains (roots_of r) x
+  slots_behind x c = behind_rooted x (Contains-append_right (listed_as 1 false (owned_words r)) behind_owned x (Contains-append_right (listed_as 2 true (slot_words r)) behind_slots x c))
+
+  pub global_rooted : (w : ℕ) → Contains (global_words r) w → 0 < w → IsRooted w
+  global_rooted w c above = let found = word_listed 3 false (global_words r) w c above in (found.0, (slots_behind found.0 (Contains-append_left (listed_as 3 false (global_words r)) (listed_as 4 false (r.pending ∷ [])) found.0 found.1.0), found.1.1))
+
+  pub pending_rooted : 0 < r.pending → IsRooted r.pending
+  pending_rooted above = let found = word_listed 4 false (r.pending ∷ []) r.pending (is_first r.pending []) above in (found.0, (slots_behind found.0 (Contains-append_right (listed_as 3 false (global_words r)) (listed_as 4 false (r.pending ∷ [])) found.0 found.1.0), found.1.1))
+
+-- the references of the table's roots, in order
+module _ {D : Type 0} (t : Table D) where
+  abbrev owned_and_pending : List Reference
+  owned_and_pending = flat_map owned_references t.owned ++ present t.pending
+
+  abbrev from_globals : List Reference
+  from_globals = slot_references t.globals ++ owned_and_pending
+
+  abbrev from_frames : List Reference
+  from_frames = flat_map slot_references t.frames ++ from_globals
+
+  abbrev scoped_references : List Reference
+  scoped_references = map (λ (root : Scoped). root.reference) t.scoped
+
+module _ {D : Type 0} (layouts : Layouts) (s : StoreView D) (t : Table D) (place : Placing) (holds : Holds layouts s t place) where
+  scoped_named : Names place (scoped_references t) (map (λ (e : RootEntry). e.word) s.scoped)
+  scoped_named = names-each place (λ (root : Scoped). root.reference) (λ (e : RootEntry). e.word) t.scoped s.scoped holds.scoped.same_count (λ i e root f g. (holds.scoped.each i e root f g).word)
+
+  globals_named : Names place (slot_references t.globals) (map (λ (e : SlotEntry). e.word) s.globals)
+  globals_named = names-each place (λ (slot : Slot). slot.reference) (λ (e : SlotEntry). e.word) t.globals s.globals holds.globals.slots.same_count (λ i e slot f g. (holds.globals.slots.each i e slot f g).word)
+
+  pending_named : Names place (present t.pending) (s.pending ∷ [])
+  pending_named = pending-names place t.pending s.pending holds.pending
+
+  -- what a root of the table names has a word
+  pub root_word : (r : Reference) → Contains (root_references t) r → (w : ℕ) × IsWord place r w
+  root_word r c = elim (Contains-append_cases (scoped_references t) (from_frames t) r c) [
+    | inl scoped ↦ let found = scoped_named.forth r scoped in (found.0, found.1.1)
+    | inr behind ↦ elim (Contains-append_cases (flat_map slot_references t.frames) (from_globals t) r behind) [
+      | inl slot ↦ absurd (none_in r (subst (λ fs. Contains (flat_map slot_references fs) r) holds.nothing_else.frames slot))
+      | inr rest ↦ elim (Contains-append_cases (slot_references t.globals) (owned_and_pending t) r rest) [
+        | inl global ↦ let found = globals_named.forth r global in (found.0, found.1.1)
+        | inr last ↦ elim (Contains-append_cases (flat_map owned_references t.owned) (present t.pending) r last) [
+          | inl one ↦ absurd (none_in r (subst (λ os. Contains (flat_map owned_references os) r) holds.nothing_else.owned one))
+          | inr pending ↦ let found = pending_named.forth r pending in (found.0, found.1.1)
+        ]
+      ]
+    ]
+  ]
+
+-- an owner has slots only in frames
+abbrev pub SlotsInFrames : RootsView → Type 0
+SlotsInFrames r = r.frames ≡ [] → r.slots ≡ []
+
+pub slots_in_frames : (r : RootsView) → AreFrames r.frames (length r.slots) → SlotsInFrames r
+slots_in_frames r frames none = no_length r.slots (subst (λ (starts : List ℕ). AreFrames starts (length r.slots)) none frames)
+
+module _ {D : Type 0} (layouts : Layouts) (s : StoreView D) (v : OwnerView D) (t : Table D) (place : Placing) (holds : Holds layouts (shown s v) t place) (in_frames : SlotsInFrames v.roots) where
+  pub slots_empty : v.roots.slots ≡ []
+  slots_empty = in_frames (no_frames v.roots.frames v.roots.slots (none_left (frames_of v.roots.frames v.roots.slots) t.frames holds.frames.same_count holds.nothing_else.frames))
+
+  pub owned_empty : v.roots.owned ≡ []
+  owned_empty = none_left v.roots.owned t.owned holds.owned.same_count holds.nothing_else.owned
+
+  abbrev store : StoreView D
+  store = shown s v
+
+  -- a root that is listed has the word of a reference that is a root of the table
+  pub listed_named : (x : Root) → Contains (roots_of v.roots) x → (r : Reference) × (Contains (root_references t) r × IsWord place r x.word)
+  listed_named x c = elim (Contains-append_cases (listed_as 0 false (scoped_words v.roots)) (behind_scoped v.roots) x c) [
+    | inl scoped ↦
+        let w = listed_word 0 false (scoped_words v.roots) x scoped in
+        let found = (scoped_named layouts store t place holds).back x.word w.0 w.1 in
+        (found.0, (Contains-append_left (scoped_references t) (from_frames t) found.0 found.1.0, found.1.1))
+    | inr behind ↦ elim (Contains-append_cases (listed_as 1 false (owned_words v.roots)) (behind_owned v.roots) x behind) [
+      | inl one ↦ absurd (none_in x (subst (λ (es : List OwnedEntry). Contains (listed_as 1 false (map (λ (e : OwnedEntry). e.word) es)) x) owned_empty one))
+      | inr rest ↦ elim (Contains-append_cases (listed_as 2 true (slot_words v.roots)) (behind_slots v.roots) x rest) [
+        | inl slot ↦ absurd (none_in x (subst (λ (es : List SlotEntry). Contains (listed_as 2 true (map (λ (e : SlotEntry). e.word) es)) x) slots_empty slot))
+        | inr last ↦ elim (Contains-append_cases (listed_as 3 false (global_words v.roots)) (listed_as 4 false (v.roots.pending ∷ [])) x last) [
+          | inl global ↦
+              let w = listed_word 3 false (global_words v.roots) x global in
+              let found = (globals_named layouts store t place holds).back x.word w.0 w.1 in
+              (found.0, (globals_in found.0 (Contains-append_left (slot_references t.globals) (owned_and_pending t) found.0 found.1.0), found.1.1))
+          | inr pending ↦
+              let w = listed_word 4 false (v.roots.pending ∷ []) x pending in
+              let found = (pending_named layouts store t place holds).back x.word w.0 w.1 in
+              (found.0, (globals_in found.0 (Contains-append_right (slot_references t.globals) (owned_and_pending t) found.0 (Contains-append_right (flat_map owned_references t.owned) (present t.pending) found.0 found.1.0)), found.1.1))
+        ]
+      ]
+    ]
+  ]
+    where
+      globals_in : (r : Reference) → Contains (from_globals t) r → Contains (root_references t) r
+      globals_in r c = Contains-append_right (scoped_references t) (from_frames t) r (Contains-append_right (flat_map slot_references t.frames) (from_globals t) r c)

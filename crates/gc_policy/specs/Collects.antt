@@ -1,0 +1,15 @@
+-- What a heap holds.
+use Rattle.std.specs.Prelude.{◌≡◌, ℕ, Some}
+use Rattle.gc_types.specs.declared.kind.Layouts.{Layouts}
+use Rattle.gc_model.specs.Table.{Table}
+use Rattle.gc_model.specs.Reach.{HasNumber}
+use Rattle.gc_model.specs.Stores.{StoreView}
+use Rattle.gc_model.specs.Holds.{Holds, Placing}
+
+-- the heap holds the object of that position
+abbrev pub IsPlaced : Placing → ℕ → Type 0
+IsPlaced place p = (word : ℕ) × (place p ≡ Some word)
+
+-- the heap holds so many objects, wherever they lie
+abbrev pub HoldsNumber : (D : Type 0) → Layouts → StoreView D → ℕ → Type 0
+HoldsNumber D layouts s n = (t : Table D) (place : Placing) → Holds layouts s t place → HasNumber (IsPlaced place) n

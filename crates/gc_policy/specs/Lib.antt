@@ -1,0 +1,4 @@
+pub mod Accounts
+pub mod Collects
+pub mod Policy
+pub mod Shown

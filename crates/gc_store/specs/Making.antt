@@ -1,0 +1,45 @@
+-- What making an object of an owner answers and leaves.
+use Rattle.std.specs.Prelude.{◌≡◌, ◌⊎◌, ℕ, Bool, List, Result, Ok, Err}
+use Rattle.gc_types.specs.declared.value.FieldType.{FieldType}
+use Rattle.gc_types.specs.declared.kind.Layouts.{Layouts}
+use Rattle.gc_types.specs.Layouts.{struct_base, fields_end}
+use Rattle.gc_view.specs.Sizes.{IsTooLarge, need_of}
+use Rattle.gc_view.specs.Heaps.{HeapObject}
+use Rattle.gc_owner.specs.Growing.{OwnerState, Begins, NotBegun, owner_rules}
+use Rattle.gc_owner.specs.Makes.{AllocatesRooted, LacksSpace}
+use Rattle.gc_owner.specs.Retry.{Paused}
+use Rattle.gc_policy.specs.Shown.{DuesOwner}
+use Rattle.gc_store.specs.declared.store.PlaceFault.{PlaceFault}
+use Rattle.gc_store.specs.declared.store.PlaceFault.TheVariants as fault
+
+-- the bytes of a struct with these fields
+abbrev pub size_of : Layouts → List FieldType → ℕ
+size_of layouts fields = fields_end (struct_base layouts) fields
+
+-- what allocating an object of an owner answers and leaves
+abbrev pub AllocatesObject : {D : Type 0} → Layouts → HeapObject → ℕ → OwnerState D → OwnerState D → Result ℕ PlaceFault → Type 0
+AllocatesObject layouts o size s e (Ok index) = AllocatesRooted layouts o size s e index
+AllocatesObject layouts o size s e (Err fault.FuncTableFull) = ⊥
+AllocatesObject layouts o size s e (Err fault.TooLarge) = IsTooLarge layouts size
+AllocatesObject layouts o size s e (Err fault.RootsFull) = ⊥
+AllocatesObject layouts o size s e (Err (fault.HeapOutOfMemory f)) = LacksSpace layouts size s e f.bytes_needed
+AllocatesObject layouts o size s e (Err fault.Memory) = Paused (owner_rules layouts size) s e
+
+-- the heap was made, and a collection ran where one is due
+pub record BeginsMaking {D : Type 0} (layouts : Layouts) (first : ℕ) (due : Bool) (s e : OwnerState D) : Type 0 where
+  pub made : OwnerState D
+  pub begins : Begins layouts first s made
+  pub dues : DuesOwner layouts due made e
+
+-- what making a heap and an object in it answers and leaves
+abbrev pub MakesRooted : {D : Type 0} → Layouts → HeapObject → ℕ → ℕ → Bool → OwnerState D → OwnerState D → Result ℕ PlaceFault → Type 0
+MakesRooted {D} layouts o size first due s e (Ok index) =
+    (b : OwnerState D) × (BeginsMaking layouts first due s b × AllocatesRooted layouts o size b e index)
+MakesRooted layouts o size first due s e (Err fault.FuncTableFull) = ⊥
+MakesRooted layouts o size first due s e (Err fault.TooLarge) = IsTooLarge layouts size
+MakesRooted layouts o size first due s e (Err fault.RootsFull) = ⊥
+MakesRooted {D} layouts o size first due s e (Err (fault.HeapOutOfMemory f)) =
+    (NotBegun first s e × (f.bytes_needed ≡ need_of layouts size))
+    ⊎ ((b : OwnerState D) × (BeginsMaking layouts first due s b × LacksSpace layouts size b e f.bytes_needed))
+MakesRooted {D} layouts o size first due s e (Err fault.Memory) =
+    (e ≡ s) ⊎ ((b : OwnerState D) × (BeginsMaking layouts first due s b × Paused (owner_rules layouts size) b e))

@@ -1,0 +1,89 @@
+//! New objects, with the heap's first pages where it isn't made.
+
+ghost use Rattle.std.specs.Prelude.{◌≡◌, ◌<◌, ◌≤◌, ◌^◌, Some, IsSome, true, length};
+ghost use Rattle.gc_types.specs.declared.layout.GcStructLayout.{GcStructLayout};
+ghost use Rattle.gc_types.specs.Layouts.{layout_at};
+ghost use Rattle.gc_view.specs.Pages.{max_pages};
+ghost use Rattle.gc_heap.specs.Heap.{new_struct};
+ghost use Rattle.gc_owner.specs.Growing.{state_of};
+ghost use Rattle.gc_policy.specs.Shown.{DuesOwner};
+ghost use Rattle.gc_model.specs.Allocation.{Limits};
+ghost use Rattle.gc_store.specs.Making.{AllocatesObject, MakesRooted};
+
+use crate::store::{GcHeapOutOfMemory, PlaceFault};
+use gc_heap::GcHeap;
+use gc_owner::{AllocateFault, Description, HeapOwner, PagesFault, ResourceLimiter};
+use gc_types::VMSharedTypeIndex;
+
+/// There is no room for an object that needs so many bytes.
+fn out_of_memory(bytes_needed: u64) -> PlaceFault
+    ensures { result ≡ PlaceFault.HeapOutOfMemory (record { inner = tt; bytes_needed = bytes_needed }) }
+{
+    PlaceFault::HeapOutOfMemory(GcHeapOutOfMemory {
+        inner: (),
+        bytes_needed,
+    })
+}
+
+/// Collects where an allocation is due for it.
+fn collect_if_due<H: GcHeap, D: Drop>(owner: &mut HeapOwner<H, D>, is_due: bool)
+    requires idle { owner.old.seen.idle ≡ true }
+    requires attached { owner.old.seen.heap.attached ≡ true }
+    ensures { (limits : Limits) → DuesOwner H.KIND is_due (state_of owner.old.seen limits) (state_of owner.new.seen limits) }
+{
+    if is_due {
+        owner.collect();
+    }
+}
+
+/// Makes a struct of a declared type, whose fields are 0, and its scoped root, of which it answers the index.
+fn allocate_struct<H: GcHeap, D: Drop, L: ResourceLimiter>(
+    owner: &mut HeapOwner<H, D>,
+    limiter: &mut L,
+    ty: VMSharedTypeIndex,
+) -> Result<u32, PlaceFault>
+    requires idle { owner.old.seen.idle ≡ true }
+    requires attached { owner.old.seen.heap.attached ≡ true }
+    requires room { 0 < owner.old.seen.roots.spare }
+    requires few { length owner.old.seen.roots.scoped < 2 ^ 32 }
+    requires declared { IsSome (layout_at H.KIND owner.old.seen.types.declarations ty) }
+    ensures { (layout : GcStructLayout) → layout_at H.KIND owner.old.seen.types.declarations ty ≡ Some layout
+        → AllocatesObject H.KIND (new_struct H.KIND ty layout) layout.size (state_of owner.old.seen (L.limits limiter.old)) (state_of owner.new.seen (L.limits limiter.new)) result }
+{
+    match owner.allocate(limiter, Description::Object(ty)) {
+        Ok(index) => Ok(index),
+        Err(AllocateFault::TooLarge) => Err(PlaceFault::TooLarge),
+        Err(AllocateFault::HeapOutOfMemory(bytes_needed)) => Err(out_of_memory(bytes_needed)),
+        Err(AllocateFault::Memory) => Err(PlaceFault::Memory),
+    }
+}
+
+/// Makes the heap where it isn't made, collects where the allocation is due for it, and then makes a
+/// struct of a declared type, whose fields are 0, and its scoped root, of which it answers the index.
+pub(crate) fn make_struct<H: GcHeap, D: Drop, L: ResourceLimiter>(
+    owner: &mut HeapOwner<H, D>,
+    limiter: &mut L,
+    first_pages: u32,
+    is_due: bool,
+    ty: VMSharedTypeIndex,
+) -> Result<u32, PlaceFault>
+    requires idle { owner.old.seen.idle ≡ true }
+    requires pages { first_pages ≤ max_pages }
+    requires room { 0 < owner.old.seen.roots.spare }
+    requires few { length owner.old.seen.roots.scoped < 2 ^ 32 }
+    requires declared { IsSome (layout_at H.KIND owner.old.seen.types.declarations ty) }
+    ensures { (layout : GcStructLayout) → layout_at H.KIND owner.old.seen.types.declarations ty ≡ Some layout
+        → MakesRooted H.KIND (new_struct H.KIND ty layout) layout.size first_pages is_due (state_of owner.old.seen (L.limits limiter.old)) (state_of owner.new.seen (L.limits limiter.new)) result }
+{
+    match owner.make_heap(limiter, first_pages) {
+        Ok(()) => {
+            collect_if_due(owner, is_due);
+            allocate_struct(owner, limiter, ty)
+        }
+        Err(PagesFault::Refused) => {
+            let size = owner.types().struct_layout(H::KIND, ty).unwrap().size;
+            Err(out_of_memory(H::need(size)))
+        }
+        Err(PagesFault::Memory) => Err(PlaceFault::Memory),
+    }
+}
