@@ -1,5 +1,5 @@
 -- What a collection, a growth and a write leave of the condition of the next collection.
-use Rattle.std.proofs.Common.{◌≡◌, ℕ, ◌+◌, ◌%◌, ◌<◌, ◌⊎◌, inl, inr, Bool, true, false, List, [], ◌∷◌, ◌++◌, length, map, Option, Some, None, Result, Ok, Err, Contains, refl, sym, ap, ◌∙◌, subst, arith}
+use Rattle.std.proofs.Common.{◌≡◌, ℕ, ◌+◌, ◌%◌, ◌<◌, ◌⊎◌, inl, inr, Bool, true, false, List, Some, Result, Ok, Err, Contains, refl, sym, ap, ◌∙◌, subst, arith}
 use Rattle.std.specs.Prelude.{OnOk, OnErr}
 use Rattle.std.specs.FinMap.{get, insert}
 use Rattle.std.proofs.lemmas.Bool.{cases_eq}
@@ -15,11 +15,11 @@ use Rattle.gc_view.specs.Heaps.{HeapObject, HeapView, detached_in}
 use Rattle.gc_view.proofs.Content.{get-put_same, get-put_other}
 use Rattle.gc_heap.specs.Content.{IsHeap, AllocatedIs, KindIs}
 use Rattle.gc_heap.specs.Heap.{empty_heap, put_object, array_size}
-use Rattle.gc_heap.specs.Collection.{Start, CanCollect, Collected, AreCounted, IsMoved, moved}
+use Rattle.gc_heap.specs.Collection.{Start, CanCollect, Collected, AreCounted, moved}
 use Rattle.gc_heap.proofs.AddedLemmas.{start}
 use Rattle.gc_heap.proofs.ReferenceLemmas.{HasSameShape, references_spaced}
 use Rattle.gc_heap.proofs.AgainLemmas.{origin, can_collect_again, kept_by_root, moved-place, moved_shape}
-use Rattle.gc_owner.specs.Tracing.{start_from, IsTracedStruct, IsTracedArray, IsTraced, AreTraced, IsCollectable}
+use Rattle.gc_owner.specs.Tracing.{IsTraced, AreTraced, IsCollectable}
 
 -- the heap as a collection takes it
 abbrev pub with_memory : HeapView → HeapView

@@ -1,17 +1,17 @@
 -- What a collection makes of the roots.
-use Rattle.std.proofs.Common.{◌≡◌, ℕ, ◌+◌, ◌<◌, ◌≤◌, Bool, true, List, [], ◌∷◌, ◌++◌, length, map, take, drop, Contains, refl, sym, ap, ◌∙◌, subst, arith}
+use Rattle.std.proofs.Common.{◌≡◌, ℕ, Bool, true, List, ◌++◌, length, take, drop, sym, ap, ◌∙◌, subst}
 use Rattle.std.proofs.Math.Seq.{take-append_seam}
 use Rattle.gc_types.specs.declared.kind.Layouts.{Layouts}
 use Rattle.gc_types.specs.Declarations.{Declaration}
 use Rattle.gc_roots.specs.Roots.{Root}
 use Rattle.gc_view.specs.Heaps.{HeapView}
 use Rattle.gc_heap.specs.Content.{IsHeap}
-use Rattle.gc_heap.specs.Collection.{Collected, moved_root}
+use Rattle.gc_heap.specs.Collection.{Collected}
 use Rattle.gc_heap.proofs.AddedLemmas.{start}
 use Rattle.gc_owner.specs.RootColumns.{RootsView, roots_of, moved_roots}
 use Rattle.gc_owner.specs.Owners.{CollectsRoots}
 use Rattle.gc_owner.specs.Tracing.{IsCollectable}
-use Rattle.gc_owner.proofs.Begins.{with_memory, memory_same, again, present_moved}
+use Rattle.gc_owner.proofs.Begins.{memory_same, again, present_moved}
 use Rattle.gc_owner.proofs.AllRoots.{all_moved}
 
 -- a list that was written through a loan of all of it

@@ -1,7 +1,7 @@
 -- One more type leaves what a collection follows.
-use Rattle.std.proofs.Common.{◌≡◌, ℕ, zero, suc, ◌+◌, ◌%◌, nat_eq, inl, inr, Bool, true, false, List, [], ◌∷◌, ◌++◌, length, Option, None, Some, Result, Ok, Err, OnOk, OnErr, IfOk, map, cond, Contains, refl, sym, ap, ap₂, ◌∙◌, subst}
+use Rattle.std.proofs.Common.{◌≡◌, ℕ, zero, suc, ◌+◌, ◌%◌, nat_eq, inl, inr, Bool, true, false, List, [], ◌∷◌, ◌++◌, length, Option, None, Some, Result, Ok, Err, OnOk, OnErr, IfOk, map, cond, Contains, refl, sym, ap, ◌∙◌, subst}
 use Rattle.std.specs.List.{slice_get}
-use Rattle.std.specs.Option.{option_map, is_none}
+use Rattle.std.specs.Option.{option_map}
 use Rattle.std.specs.FinMap.{FinMap, get}
 use Rattle.std.specs.Ordering.{nat_cmp}
 use Rattle.std.proofs.lemmas.Option.{none-some}
@@ -27,7 +27,7 @@ use Rattle.gc_heap.specs.Totals.{total-same}
 use Rattle.gc_heap.specs.Collection.{Stage, Start, AreCounted, names_of, occurrences, held_words, has_host}
 use Rattle.gc_heap.proofs.AgainLemmas.{external_offsets}
 use Rattle.gc_owner.specs.RootColumns.{RootsView, roots_of}
-use Rattle.gc_owner.specs.Owners.{OwnerView, OwnerValue, IsReady, InOrder, owner_value}
+use Rattle.gc_owner.specs.Owners.{OwnerView, OwnerValue, InOrder, owner_value}
 use Rattle.gc_owner.specs.Declares.{Declares}
 use Rattle.gc_owner.specs.Tracing.{IsTraced, IsCollectable}
 use Rattle.gc_owner.proofs.OwnerLemmas.{kind_of, ready_at, idle_at, in_order}

@@ -20,13 +20,13 @@ use Rattle.gc_types.specs.declared.layout.GcArrayLayout.{GcArrayLayout}
 use Rattle.gc_types.specs.declared.layout.TraceInfo.{TraceInfo}
 use Rattle.gc_types.specs.declared.layout.TraceInfo.TheVariants as trace
 use Rattle.gc_types.specs.Declarations.{Shape, struct_of, array_of, exn_of, func_of, Declaration, constant_field, shape_elem, declaration_elem}
-use Rattle.gc_types.specs.Layouts.{field_layouts, ref_offsets, array_layout, shape_layout, shape_trace, declaration_layout, declaration_trace, trace_at}
+use Rattle.gc_types.specs.Layouts.{field_layouts, ref_offsets, array_layout, shape_layout, shape_trace, declaration_layout, declaration_trace}
 use Rattle.gc_refs.specs.Trace.{form_unit, form_of}
 use Rattle.gc_memory.specs.Lists.{In, here, there}
 use Rattle.gc_view.specs.Heaps.{HeapObject}
 use Rattle.gc_heap.specs.Extents.{HasFields}
 use Rattle.gc_heap.specs.References.{bit_offsets, bitmap_of, bitmap_offsets, is_past_bitmap, element_offsets, info_offsets, typed_offsets, traced_offsets, reference_offsets}
-use Rattle.gc_heap.proofs.SpacedLemmas.{bit_set, bit_clear, bit_is_0, first_or_later, contains_in, Spaced-in, spaced_fields, aligned_fields}
+use Rattle.gc_heap.proofs.SpacedLemmas.{bit_set, bit_clear, bit_is_0, first_or_later, Spaced-in, spaced_fields, aligned_fields}
 use Rattle.gc_heap.proofs.ReferenceLemmas.{content_by_form, typed_is}
 use Rattle.gc_owner.specs.Tracing.{IsTracedStruct, IsTracedArray, IsTraced}
 

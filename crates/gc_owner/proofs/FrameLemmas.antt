@@ -1,24 +1,24 @@
 -- What frames and their slots leave of the condition of the next collection.
-use Rattle.std.proofs.Common.{◌≡◌, ℕ, zero, suc, ◌+◌, ◌-◌, ◌<◌, ◌≤◌, inl, inr, Bool, true, false, List, [], ◌∷◌, ◌++◌, length, map, take, drop, get_or, set, replicate, Option, Some, None, Result, Ok, Err, OnOk, OnErr, refl, sym, ap, ap₂, ◌∙◌, subst, arith}
+use Rattle.std.proofs.Common.{◌≡◌, ℕ, zero, suc, ◌+◌, ◌<◌, ◌≤◌, Bool, true, false, List, [], ◌∷◌, ◌++◌, length, map, take, drop, get_or, set, replicate, Option, Some, None, Result, Ok, Err, OnOk, OnErr, refl, sym, ap, ◌∙◌, subst, arith}
 use Rattle.std.specs.Option.{SomeIff}
 use Rattle.std.specs.FinMap.{FinMap, get, insert, gets}
 use Rattle.std.specs.Ordering.{nat_cmp}
 use Rattle.std.specs.declared.alloc.AllocError.{AllocError}
 use Rattle.std.proofs.lemmas.Grind.{common_steps}
 use Rattle.std.proofs.lemmas.Option.{none-some}
-use Rattle.std.proofs.lemmas.List.{map-append, append-nil, append_assoc, length-append, length-take, take-append-drop, drop_more, set_at}
+use Rattle.std.proofs.lemmas.List.{map-append, append-nil, append_assoc, length-take, take-append-drop, drop_more, set_at}
 use Rattle.gc_types.specs.declared.kind.Layouts.{Layouts}
 use Rattle.gc_types.specs.Declarations.{Declaration}
 use Rattle.gc_roots.specs.Roots.{Root, root}
-use Rattle.gc_view.specs.Heaps.{HeapObject, HeapView, Counts, SameHeld}
+use Rattle.gc_view.specs.Heaps.{HeapView, Counts, SameHeld}
 use Rattle.gc_heap.specs.Content.{IsHeap}
 use Rattle.gc_heap.specs.Barriers.{CanName, CanUnname, cloned, exposed, raise}
 use Rattle.gc_heap.specs.Collection.{CanCollect, IsWordOf}
 use Rattle.gc_heap.proofs.AddedLemmas.{start}
 use Rattle.gc_heap.proofs.RootedLemmas.{can_collect_cloned, can_collect_exposed, can_collect_unstacked}
 use Rattle.gc_owner.specs.declared.entry.SlotEntry.{SlotEntry}
-use Rattle.gc_owner.specs.RootColumns.{RootsView, scoped_words, owned_words, slot_words, global_words, listed_as, roots_of, empty_slot, newest_start, with_slot, with_frame, without_frame, with_room, RiseFrom, AreFrames}
-use Rattle.gc_owner.specs.Owners.{raised, CanCopyWord}
+use Rattle.gc_owner.specs.RootColumns.{RootsView, scoped_words, owned_words, slot_words, global_words, listed_as, roots_of, empty_slot, newest_start, with_frame, without_frame, with_room, RiseFrom, AreFrames}
+use Rattle.gc_owner.specs.Owners.{raised}
 use Rattle.gc_owner.specs.ShownWords.{copied_to_slot}
 use Rattle.gc_owner.specs.Tracing.{IsCollectable}
 use Rattle.gc_owner.proofs.Begins.{with_memory, memory_heap}

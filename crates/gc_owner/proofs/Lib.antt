@@ -17,4 +17,6 @@ pub mod DeclareLemmas
 pub mod ScopeLemmas
 pub mod OwnedLemmas
 pub mod FrameLemmas
+pub mod ListUse
+pub mod IncrementLemmas
 pub mod CollectedRoots

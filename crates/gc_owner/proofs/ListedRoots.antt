@@ -1,17 +1,16 @@
 -- Roots of one kind in the list of a collection.
-use Rattle.std.proofs.Common.{◌≡◌, ◌≢◌, ℕ, zero, ◌+◌, ◌<◌, ◌≤◌, ◌^◌, inl, inr, Bool, true, false, not, cond, nat_eq, List, [], ◌∷◌, ◌++◌, length, map, filter, take, drop, Option, Some, None, Contains, refl, sym, ap, ap₂, ◌∙◌, subst, arith}
+use Rattle.std.proofs.Common.{◌≡◌, ℕ, ◌+◌, ◌<◌, ◌≤◌, ◌^◌, inl, inr, Bool, true, false, not, cond, nat_eq, List, [], ◌∷◌, ◌++◌, length, map, Option, Some, None, Contains, refl, sym, ap, ◌∙◌, subst, arith}
 use Rattle.std.specs.Option.{SomeIff}
 use Rattle.std.proofs.lemmas.Bool.{cases_eq, ne_eqb, eq-eqb}
 use Rattle.std.proofs.lemmas.List.{map-append, length-append, length-map}
-use Rattle.std.proofs.lemmas.List.Elements.{filter-append, Contains-append_right, Contains-append_left}
-use Rattle.std.proofs.lemmas.Simd.{map-map}
+use Rattle.std.proofs.lemmas.List.Elements.{filter-append, Contains-append_right}
 use Rattle.gc_roots.specs.Roots.{Root, root}
 use Rattle.gc_heap.specs.Collection.{moved, moved_root, held_words}
 use Rattle.gc_heap.proofs.CountLemmas.{words-append}
 use Rattle.gc_owner.specs.declared.entry.RootEntry.{RootEntry}
 use Rattle.gc_owner.specs.declared.entry.OwnedEntry.{OwnedEntry}
 use Rattle.gc_owner.specs.declared.entry.SlotEntry.{SlotEntry}
-use Rattle.gc_owner.specs.RootColumns.{RootsView, scoped_words, owned_words, slot_words, global_words, present, listed_as, roots_of, moved_roots, AreFew, Follow}
+use Rattle.gc_owner.specs.RootColumns.{RootsView, scoped_words, owned_words, slot_words, global_words, present, listed_as, roots_of, AreFew}
 
 -- a word in front is a root where it isn't null
 pub listed_present : (place : ℕ) (b : Bool) (w : ℕ) (ws : List ℕ) → 0 < w → listed_as place b (w ∷ ws) ≡ root place b w ∷ listed_as place b ws

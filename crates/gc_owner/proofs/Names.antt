@@ -1,10 +1,10 @@
 -- How often a place is named, and which words barriers may be given.
-use Rattle.std.proofs.Common.{◌≡◌, ℕ, ◌+◌, ◌-◌, ◌<◌, ◌≤◌, ◌^◌, inl, inr, Bool, true, false, not, cond, nat_eq, min, List, [], ◌∷◌, ◌++◌, length, map, filter, Option, Some, None, option_map, refl, sym, ap, ◌∙◌, subst, arith}
+use Rattle.std.proofs.Common.{◌≡◌, ℕ, ◌+◌, ◌-◌, ◌<◌, ◌≤◌, ◌^◌, inl, inr, Bool, true, false, cond, nat_eq, min, List, [], ◌∷◌, ◌++◌, length, filter, Option, Some, None, option_map, refl, sym, ap, ◌∙◌, arith}
 use Rattle.std.specs.Prelude.{sum_by}
 use Rattle.std.specs.Ordering.{nat_cmp}
 use Rattle.std.specs.FinMap.{FinMap, entries, get, get-empty}
 use Rattle.std.proofs.lemmas.Option.{none-some}
-use Rattle.std.proofs.lemmas.List.{length-map, map-append, append-nil}
+use Rattle.std.proofs.lemmas.List.{length-map}
 use Rattle.std.proofs.lemmas.List.Sums.{sum-map, sum_by-cons}
 use Rattle.gc_types.specs.declared.kind.Layouts.{Layouts}
 use Rattle.gc_types.specs.declared.kind.Layouts.TheVariants.{Null, Counting, Copying}
@@ -15,13 +15,13 @@ use Rattle.gc_heap.specs.Objects.{held_size}
 use Rattle.gc_heap.specs.References.{references, reference_offsets, word_in}
 use Rattle.gc_heap.specs.Content.{IsHeap, total}
 use Rattle.gc_heap.specs.Totals.{total-same}
-use Rattle.gc_heap.specs.Barriers.{CanName, CanUnname, IsNamed, dropped}
+use Rattle.gc_heap.specs.Barriers.{CanName, CanUnname, IsNamed}
 use Rattle.gc_heap.specs.Collection.{CanCollect, AreCounted, IsWordOf, names_of, occurrences, held_words}
 use Rattle.gc_heap.proofs.SpacedLemmas.{Spaced}
 use Rattle.gc_heap.proofs.ReferenceLemmas.{references_spaced}
 use Rattle.gc_heap.proofs.AddedLemmas.{start}
 use Rattle.gc_heap.proofs.CountLemmas.{held-between, held_one, once}
-use Rattle.gc_heap.proofs.RootedLemmas.{is_among, can_collect_dropped}
+use Rattle.gc_heap.proofs.RootedLemmas.{is_among}
 use Rattle.gc_owner.specs.Tracing.{start_from}
 use Rattle.gc_owner.proofs.Begins.{with_memory, memory_heap}
 

@@ -1,7 +1,7 @@
 -- What an owner's calls keep.
-use Rattle.std.proofs.Common.{◌≡◌, ℕ, ◌+◌, ◌<◌, ◌≤◌, ◌^◌, inl, inr, Bool, true, false, List, [], ◌∷◌, ◌++◌, length, map, take, drop, get_or, set, Option, Some, None, Result, Ok, Err, refl, sym, ap, ap₂, ◌∙◌, subst, arith}
+use Rattle.std.proofs.Common.{◌≡◌, ℕ, ◌+◌, ◌<◌, inl, inr, Bool, true, false, List, [], ◌∷◌, ◌++◌, length, map, take, drop, get_or, set, Option, Some, None, Result, Ok, Err, refl, sym, ap, ap₂, ◌∙◌, subst, arith}
 use Rattle.std.specs.Prelude.{is_none}
-use Rattle.std.specs.FinMap.{FinMap, get, get-empty}
+use Rattle.std.specs.FinMap.{FinMap, get-empty}
 use Rattle.std.specs.Ordering.{nat_cmp}
 use Rattle.std.proofs.lemmas.Option.{none-some}
 use Rattle.std.proofs.lemmas.List.{map-append, append_assoc, append-nil, length-take, take-append-drop, drop_more, set_at}
@@ -9,7 +9,7 @@ use Rattle.gc_types.specs.declared.kind.Layouts.{Layouts}
 use Rattle.gc_types.specs.declared.kind.Layouts.TheVariants.{Null, Counting, Copying}
 use Rattle.gc_types.specs.Declarations.{Declaration, TypeTable}
 use Rattle.gc_roots.specs.Roots.{Root}
-use Rattle.gc_view.specs.Heaps.{HeapObject, HeapView, detached, SameHeld}
+use Rattle.gc_view.specs.Heaps.{HeapView, detached, SameHeld}
 use Rattle.gc_heap.specs.Content.{IsHeap}
 use Rattle.gc_heap.specs.Heap.{empty_heap}
 use Rattle.gc_heap.specs.Collection.{Stage, Start, CanCollect, IsWordOf, has_host, IsPartOf}
@@ -17,8 +17,9 @@ use Rattle.gc_heap.proofs.AddedLemmas.{start}
 use Rattle.gc_heap.proofs.ClientLemmas.{can_collect_empty}
 use Rattle.gc_owner.specs.declared.entry.RootEntry.{RootEntry}
 use Rattle.gc_owner.specs.declared.entry.SlotEntry.{SlotEntry}
-use Rattle.gc_owner.specs.RootColumns.{RootsView, scoped_words, owned_words, slot_words, global_words, listed_as, roots_of, no_roots, empty_slot, global_count, with_scoped, with_global, AreFew}
-use Rattle.gc_owner.specs.Owners.{OwnerView, OwnerValue, Kind, IsReady, InOrder, owner_value, raised, lowered, CanDropWord, Collects, CollectsRoots}
+use Rattle.gc_owner.specs.RootColumns.{RootsView, scoped_words, owned_words, slot_words, global_words, listed_as, roots_of, no_roots, empty_slot, with_scoped, with_global}
+pub use Rattle.gc_owner.specs.Owners.{kind_of}
+use Rattle.gc_owner.specs.Owners.{OwnerValue, Kind, IsReady, InOrder, owner_value, raised, lowered, CanDropWord, Collects, CollectsRoots}
 use Rattle.gc_owner.specs.Tracing.{IsCollectable}
 use Rattle.gc_owner.specs.Limiters.{Limits}
 use Rattle.gc_owner.specs.Growing.{MakesHeap}
@@ -139,9 +140,6 @@ module _ (r : RootsView) (layouts : Layouts) (types : List Declaration) (h : Hea
       (word_replaced layouts types (before_pending r) 4 [] hosts h [] [] r.pending word can_pending is)
 
 -- Owners by their parts
-
-abbrev pub kind_of : {H S : Type 0} → Layouts → (H → HeapView) → (H → Type 0) → (Start → ℕ → Bool → Stage H S → Type 0) → Kind H S
-kind_of layouts seen sound under_way = record { layouts = layouts; seen = seen; sound = sound; under_way = under_way }
 
 module _ {H S D : Type 0} (layouts : Layouts) (seen : H → HeapView) (sound : H → Type 0) (under_way : Start → ℕ → Bool → Stage H S → Type 0)
     (heap : H) (types : TypeTable) (hosts : FinMap nat_cmp D) (roots : RootsView) (last : ℕ) (state : Option S) where

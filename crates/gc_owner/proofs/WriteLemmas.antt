@@ -1,11 +1,10 @@
 -- What writes to held objects leave of the condition of the next collection.
-use Rattle.std.proofs.Common.{◌≡◌, ℕ, zero, suc, ◌+◌, ◌<◌, ◌≤◌, ◌^◌, ◌⊎◌, inl, inr, Bool, true, false, List, [], ◌∷◌, length, Option, Some, None, Contains, refl, sym, ap, ◌∙◌, subst, arith}
+use Rattle.std.proofs.Common.{◌≡◌, ℕ, zero, suc, ◌+◌, ◌<◌, ◌≤◌, ◌^◌, ◌⊎◌, Bool, true, false, List, [], ◌∷◌, length, Option, Some, None, Contains, refl, sym, ap, ◌∙◌, subst, arith}
 use Rattle.std.specs.Int.{w32, to_le_bytes}
 use Rattle.std.specs.FinMap.{FinMap, get}
 use Rattle.std.specs.Ordering.{nat_cmp}
 use Rattle.gc_types.specs.declared.kind.Layouts.{Layouts}
 use Rattle.gc_types.specs.Declarations.{Declaration, TypeTable}
-use Rattle.gc_types.specs.Layouts.{struct_base}
 use Rattle.gc_roots.specs.Roots.{Root}
 use Rattle.gc_memory.specs.Lists.{In, here, there}
 use Rattle.gc_view.specs.Heaps.{HeapObject, HeapView, Counts}
@@ -24,9 +23,9 @@ use Rattle.gc_heap.proofs.CountLemmas.{occurrences-append, once}
 use Rattle.gc_heap.proofs.WrittenLemmas.{FitsData, fits_data, written_shape, writable_from}
 use Rattle.gc_heap.proofs.StoredLemmas.{IsSlotOf, IsWrite, can_collect_number, can_collect_stored}
 use Rattle.gc_owner.specs.RootColumns.{RootsView, roots_of}
-use Rattle.gc_owner.specs.Owners.{OwnerView, OwnerValue, IsReady, InOrder, owner_value, raised, lowered, CanDropWord}
+use Rattle.gc_owner.specs.Owners.{OwnerValue, IsReady, InOrder, owner_value, raised, lowered, CanDropWord}
 use Rattle.gc_owner.specs.Writes.{IsNumberPlace, IsReferencePlace, WritesBytes, WritesWord}
-use Rattle.gc_owner.specs.Tracing.{IsTraced, IsCollectable}
+use Rattle.gc_owner.specs.Tracing.{IsCollectable}
 use Rattle.gc_owner.proofs.Begins.{with_memory, memory_heap, traced_put}
 use Rattle.gc_owner.proofs.Names.{counted_is, is_named}
 use Rattle.gc_owner.proofs.OwnerLemmas.{kind_of, ready_at, idle_at, word_at, made_order}

@@ -1,6 +1,6 @@
 -- What making an external object answers and leaves.
 use Rattle.std.specs.Prelude.{◌≡◌, ◌⊎◌, ℕ, Result, Ok, Err, None}
-use Rattle.std.specs.FinMap.{FinMap, get, insert}
+use Rattle.std.specs.FinMap.{get, insert}
 use Rattle.std.specs.FinMap as map
 use Rattle.gc_types.specs.declared.kind.Layouts.{Layouts}
 use Rattle.gc_view.specs.Sizes.{external_size}

@@ -1,5 +1,6 @@
 pub mod Declares
 pub mod DroppedRoots
+pub mod Going
 pub mod Growing
 pub mod HostSteps
 pub mod HostValues

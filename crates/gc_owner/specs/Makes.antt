@@ -1,6 +1,5 @@
 -- What making an object answers and leaves.
 use Rattle.std.specs.Prelude.{◌≡◌, ℕ, ◌+◌, ◌^◌, ◌<◌, true, false, Some, Result, Ok, Err, length}
-use Rattle.std.specs.FinMap.{FinMap}
 use Rattle.gc_types.specs.declared.kind.Layouts.{Layouts}
 use Rattle.gc_types.specs.declared.layout.GcStructLayout.{GcStructLayout}
 use Rattle.gc_types.specs.declared.layout.GcArrayLayout.{GcArrayLayout}
@@ -9,7 +8,7 @@ use Rattle.gc_view.specs.Sizes.{IsTooLarge, external_size, need_of}
 use Rattle.gc_view.specs.Heaps.{HeapObject}
 use Rattle.gc_heap.specs.Extents.{host_id}
 use Rattle.gc_heap.specs.Objects.{external}
-use Rattle.gc_heap.specs.Heap.{AddsObject, LacksRoom, new_struct, new_array, array_size}
+use Rattle.gc_heap.specs.Heap.{AddsObject, new_struct, new_array, array_size}
 use Rattle.gc_heap.specs.Collection.{has_host, IsExternal}
 use Rattle.gc_owner.specs.declared.allocate.Description.{Description}
 use Rattle.gc_owner.specs.declared.allocate.Description.TheVariants as of

@@ -1,5 +1,5 @@
 -- What contracts see of an owner.
-use Rattle.std.specs.Prelude.{◌≡◌, ℕ, ◌+◌, ◌<◌, ◌⊎◌, Bool, true, false, List, [], ◌∷◌, ◌++◌, Option, Some, None, zero, suc, is_none}
+use Rattle.std.specs.Prelude.{◌≡◌, ℕ, ◌<◌, Bool, true, false, List, [], ◌∷◌, ◌++◌, length, Option, Some, None, zero, suc, is_none}
 use Rattle.std.specs.Ordering.{nat_cmp}
 use Rattle.std.specs.FinMap.{FinMap, empty}
 use Rattle.gc_types.specs.declared.kind.Layouts.{Layouts}
@@ -12,7 +12,7 @@ use Rattle.gc_heap.specs.Collection.{Stage, stage, Start, CanCollect, Collected,
 use Rattle.gc_heap.specs.declared.collection.GcProgress.{GcProgress}
 use Rattle.gc_heap.specs.declared.collection.GcProgress.TheVariants as progress
 use Rattle.gc_owner.specs.declared.entry.OwnedEntry.{OwnedEntry}
-use Rattle.gc_owner.specs.RootColumns.{RootsView, no_roots, roots_of, moved_roots, with_room}
+use Rattle.gc_owner.specs.RootColumns.{RootsView, no_roots, roots_of, moved_roots, with_room, without_list}
 use Rattle.gc_owner.specs.Tracing.{start_from, AreTraced, IsCollectable}
 
 -- An owner: its heap, its types, the host values by their ids, the roots, the bytes that were allocated after
@@ -63,7 +63,7 @@ CanBegin layouts v = IsCollectable layouts v.types.declarations v.heap (roots_of
 pub record IsReady {D : Type 0} (layouts : Layouts) (heap_is_sound : Type 0) (v : OwnerView D) : Type 0 where
   pub sound : heap_is_sound
   pub can : CanBegin layouts v
-  pub unlisted : v.roots.listed ≡ []
+  pub unlisted : v.roots.listed ≡ None
   pub unused : v.heap.attached ≡ false → v.last ≡ 0
 
 -- what is under way at a heap that is a type of its own: the trait's ghost members, in one record
@@ -73,10 +73,16 @@ pub record Kind (H S : Type 0) : Type 1 where
   pub sound : H → Type 0
   pub under_way : Start → ℕ → Bool → Stage H S → Type 0
 
+abbrev pub kind_of : {H S : Type 0} → Layouts → (H → HeapView) → (H → Type 0) → (Start → ℕ → Bool → Stage H S → Type 0) → Kind H S
+kind_of layouts seen sound under_way = record { layouts = layouts; seen = seen; sound = sound; under_way = under_way }
+
 -- A collection is under way that began there: so many increments were done, each of them counted or not. The
 -- roots have the words that they had where it began, and the list has them as far as they have moved.
 pub record Goes {H S D : Type 0} (k : Kind H S) (s : Start) (n : ℕ) (c : Bool) (v : OwnerValue H S D) (state : S) : Type 0 where
-  pub goes : k.under_way s n c (stage v.heap state v.seen.roots.listed v.seen.types.declarations v.seen.hosts)
+  pub listed : List Root
+  pub listed_is : v.seen.roots.listed ≡ Some listed
+  pub given : v.seen.roots.given ≡ length s.roots
+  pub goes : k.under_way s n c (stage v.heap state listed v.seen.types.declarations v.seen.hosts)
   pub heap : IsHeap k.layouts s.heap
   pub can : CanCollect k.layouts s
   pub traced : AreTraced k.layouts s.types s.heap
@@ -133,7 +139,8 @@ pub record IsUnderWay {H S D : Type 0} (k : Kind H S) (s : Start) (n : ℕ) (c :
   pub goes : Goes k s n c now state
   pub start : s ≡ start_of begun.seen
   pub values : IsPartOf now.seen.hosts begun.seen.hosts
-  pub rest : now.seen ≡ record begun.seen { heap = now.seen.heap; hosts = now.seen.hosts; idle = false; roots = record begun.seen.roots { listed = now.seen.roots.listed; spare = now.seen.roots.spare; list_spare = now.seen.roots.list_spare } }
+  pub rest : begun.seen
+      ≡ record now.seen { heap = begun.seen.heap; hosts = begun.seen.hosts; idle = true; roots = without_list now.seen.roots }
 
 -- A collection that began at an owner has ended.
 abbrev pub IsEnded : {H S D : Type 0} → Layouts → OwnerValue H S D → OwnerValue H S D → Type 0

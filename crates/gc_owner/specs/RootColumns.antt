@@ -1,5 +1,5 @@
 -- The roots of an owner by their kinds, and the list of them that a collection is given.
-use Rattle.std.specs.Prelude.{◌≡◌, ℕ, ◌+◌, ◌-◌, ◌^◌, ◌<◌, ◌≤◌, ◌==◌, min, not, nat_le, if◌then◌else◌, Bool, true, false, List, [], ◌∷◌, ◌++◌, length, map, filter, take, drop, slice_set, slice_index_or, replicate}
+use Rattle.std.specs.Prelude.{◌≡◌, ℕ, ◌+◌, ◌-◌, ◌^◌, ◌<◌, ◌≤◌, ◌==◌, min, not, nat_le, if◌then◌else◌, Bool, true, false, Option, Some, None, List, [], ◌∷◌, ◌++◌, length, map, filter, take, drop, slice_set, slice_index_or, replicate}
 use Rattle.gc_roots.specs.Roots.{Root, root}
 use Rattle.gc_heap.specs.Collection.{moved, moved_root}
 use Rattle.gc_owner.specs.declared.entry.GcClass.TheVariants.{Any}
@@ -9,8 +9,9 @@ use Rattle.gc_owner.specs.declared.entry.SlotEntry.{SlotEntry}
 
 -- The roots: the scoped ones from the oldest on, the owned ones by their ids, the slots of all open frames
 -- from the oldest on with the places where the frames begin, the globals, and the pending exception (0 for
--- none); the generation of the next scoped root; for how many more scoped roots there is room; and the list
--- that a collection under way was given, which is empty while none is, with its spare places.
+-- none); the generation of the next scoped root; for how many more scoped roots there is room; the list that a
+-- collection under way has of the roots, and how many it was given, which is 0 while none is; and how many places
+-- the list has in all.
 pub record RootsView : Type 0 where
   pub scoped : List RootEntry
   pub owned : List OwnedEntry
@@ -20,7 +21,8 @@ pub record RootsView : Type 0 where
   pub pending : ℕ
   pub generation : ℕ
   pub spare : ℕ
-  pub listed : List Root
+  pub listed : Option (List Root)
+  pub given : ℕ
   pub list_spare : ℕ
 
 -- how many globals there are
@@ -42,7 +44,8 @@ no_roots spare list_spare = record {
   pending = 0;
   generation = 0;
   spare = spare;
-  listed = [];
+  listed = None;
+  given = 0;
   list_spare = list_spare;
 }
 
@@ -123,31 +126,17 @@ pub record AreFew (r : RootsView) : Type 0 where
   pub owned : length r.owned ≤ 2 ^ 32
   pub globals : length r.globals ≡ global_count
 
--- the roots as their parts tell them; there is room for as many more scoped ones as fit their own list and that of
--- a collection
-abbrev pub roots_view : List RootEntry → List OwnedEntry → List SlotEntry → List ℕ → List SlotEntry → ℕ → ℕ → ℕ → List Root → ℕ → RootsView
-roots_view scoped owned slots frames globals pending generation capacity listed list_spare = record {
-  scoped = scoped;
-  owned = owned;
-  slots = slots;
-  frames = frames;
-  globals = globals;
-  pending = pending;
-  generation = generation;
-  spare = min (capacity - length scoped) (list_spare - (length scoped + length owned + length slots + global_count + 1));
-  listed = listed;
-  list_spare = list_spare;
-}
-
--- They are few, frames lie in the slots, and while no list is in use it has room for all.
-pub record IsRoomy (r : RootsView) : Type 0 where
-  pub few : AreFew r
-  pub frames : AreFrames r.frames (length r.slots)
-  pub room : r.listed ≡ [] → root_count r ≤ r.list_spare
-
 -- the roots with as much room as others have
 abbrev pub with_room : RootsView → RootsView → RootsView
 with_room other r = record r { spare = other.spare; list_spare = other.list_spare }
+
+-- the roots while the list of a collection has these of them
+abbrev pub with_list : List Root → RootsView → RootsView
+with_list listed r = record r { listed = Some listed; given = length (roots_of r) }
+
+-- the roots with no list in use
+abbrev pub without_list : RootsView → RootsView
+without_list r = record r { listed = None; given = 0 }
 
 -- the roots after a scope was left with so many scoped ones
 abbrev pub left_scope : ℕ → ℕ → RootsView → RootsView

@@ -1,6 +1,6 @@
 //! Collections from all roots.
 
-ghost use Rattle.std.specs.Prelude.{◌≡◌, true};
+ghost use Rattle.std.specs.Prelude.{◌≡◌, None, true};
 ghost use Rattle.gc_heap.specs.Collection.{has_host, IsPartOf};
 ghost use Rattle.gc_owner.specs.RootColumns.{roots_of};
 ghost use Rattle.gc_owner.specs.Tracing.{IsCollectable};
@@ -19,6 +19,7 @@ fn collect_in<H: GcHeap, D: Drop>(
     hosts: &mut ExternRefHostDataTable<D>,
     types: &Types,
 ) -> usize
+    requires unlisted { roots.old.listed ≡ None }
     requires sound { H.sound heap.old }
     requires attached { (H.seen heap.old).attached ≡ true }
     requires collectable { IsCollectable H.KIND types.now.declarations (H.seen heap.old) (roots_of roots.old) (has_host hosts.old.entries) }

@@ -17,6 +17,7 @@ pub mod entry;
 mod frames;
 mod grow;
 pub mod host;
+mod increments;
 pub mod limiter;
 mod owned;
 pub mod owner;

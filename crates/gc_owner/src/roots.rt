@@ -1,17 +1,20 @@
 //! The roots of an owner, and the room that a collection takes for them.
 
-ghost use Rattle.std.specs.Prelude.{◌≡◌, ◌+◌, ◌-◌, ◌<◌, ◌≤◌, ◌^◌, [], ◌∷◌, ◌++◌, ℕ, length, map, min, IfOk, OnOk, OnErr, slice_index_or, slice_set, true, false};
-ghost use Rattle.gc_heap.specs.Collection.{has_host, IsPartOf, moved_root};
+ghost use Rattle.std.specs.Prelude.{◌≡◌, ◌+◌, ◌-◌, ◌<◌, ◌≤◌, ◌^◌, [], ◌∷◌, ◌++◌, ℕ, length, map, min, IfOk, OnOk, OnErr, slice_index_or, slice_set, true, false, Bool, List, Some, None};
+ghost use Rattle.gc_types.specs.Declarations.{Declaration};
+ghost use Rattle.gc_roots.specs.Roots.{Root};
+ghost use Rattle.gc_heap.specs.Collection.{Start, stage, has_host, IsPartOf, moved_root};
 ghost use Rattle.gc_owner.specs.declared.entry.OwnedEntry as Owned;
-ghost use Rattle.gc_owner.specs.RootColumns.{no_roots, with_handles, with_frame, without_frame, with_slot, newest_start, HasSlot, AreFrames, AreFew, with_scoped, with_room, with_global, global_count, empty_slot, roots_of, all_roots, MovesAll};
+ghost use Rattle.gc_owner.specs.RootColumns.{no_roots, with_list, without_list, moved_roots, with_handles, with_frame, without_frame, with_slot, newest_start, HasSlot, AreFrames, AreFew, with_scoped, with_room, with_global, global_count, empty_slot, roots_of, all_roots, MovesAll};
 ghost use Rattle.gc_owner.specs.DroppedRoots.{PopsPast};
+ghost use Rattle.gc_owner.specs.Going.{IsListed, StepsRoots, HasMovedList};
 ghost use Rattle.gc_owner.specs.Tracing.{IsCollectable};
 ghost use Rattle.gc_owner.specs.Owners.{CollectsRoots};
 
 use crate::columns::{list_column, list_word, take_column, word_from};
 use crate::entry::{GcClass, OwnedEntry, RootEntry, SlotEntry};
 use gc_heap::collect::run;
-use gc_heap::{GcHeap, GcStoreTraceState};
+use gc_heap::{GcHeap, GcProgress, GcStoreTraceState};
 use gc_roots::{GcRootsList, RootPlace};
 use std::alloc::{AllocError, Global};
 use std::marker::Model;
@@ -54,10 +57,14 @@ pub(crate) struct Roots {
     generation: u64,
     /// The list that a collection is given; empty while none is under way.
     list: GcRootsList,
+    /// Whether a collection is under way.
+    is_listing: bool,
+    /// How many roots the list was given; 0 while no collection is under way.
+    given: usize,
 }
 
 impl Model for Roots {
-    ghost use Rattle.std.specs.Prelude.{◌≡◌, ◌≤◌, ◌-◌, ◌+◌, ◌^◌, [], min, vec_len, vec_capacity};
+    ghost use Rattle.std.specs.Prelude.{◌≡◌, ◌≤◌, ◌-◌, ◌+◌, ◌^◌, [], false, Some, None, if◌then◌else◌, min, vec_len, vec_capacity};
     ghost use Rattle.gc_owner.specs.RootColumns.{RootsView, global_count, AreFrames};
 
     ghost Value = { RootsView };
@@ -70,12 +77,13 @@ impl Model for Roots {
       globals = s.globals.items;
       pending = s.pending;
       generation = s.generation;
-      spare = min (vec_capacity s.scoped - vec_len s.scoped) (s.list.spare - (vec_len s.scoped + vec_len s.owned + vec_len s.slots + global_count + 1));
-      listed = s.list.roots;
-      list_spare = s.list.spare;
+      spare = min (vec_capacity s.scoped - vec_len s.scoped) (s.list.spare + s.given - (vec_len s.scoped + vec_len s.owned + vec_len s.slots + global_count + 1));
+      listed = if s.is_listing then Some s.list.roots else None;
+      given = s.given;
+      list_spare = s.list.spare + s.given;
     } };
 
-    ghost invariant = { λ s. (s.list.roots ≡ []) × (vec_len s.scoped + vec_len s.owned + vec_len s.slots + global_count + 1 ≤ s.list.spare)
+    ghost invariant = { λ s. (s.is_listing ≡ false → (s.list.roots ≡ []) × (s.given ≡ 0)) × (vec_len s.scoped + vec_len s.owned + vec_len s.slots + global_count + 1 ≤ s.list.spare + s.given)
         × (vec_len s.scoped ≤ 2 ^ 32) × (vec_len s.owned ≤ 2 ^ 32) × (vec_len s.globals ≡ global_count) × AreFrames s.frames.items (vec_len s.slots) };
 }
 
@@ -139,15 +147,16 @@ impl Roots {
             pending: 0,
             generation: 0,
             list,
+            is_listing: false,
+            given: 0,
         })
     }
 
-    /// There are no more scoped and owned roots than a u32 numbers, frames lie in the slots, and no list is
-    /// in use. At run time it does nothing.
+    /// There are no more scoped and owned roots than a u32 numbers, and frames lie in the slots. At run time
+    /// it does nothing.
     pub(crate) fn are_few(&self)
         ensures few { AreFew self.now }
         ensures frames { AreFrames self.now.frames (length self.now.slots) }
-        ensures unlisted { self.now.listed ≡ [] }
     {
         let _entries = &self.scoped;
     }
@@ -329,6 +338,7 @@ impl Roots {
         heap: &mut H,
         trace: &mut GcStoreTraceState<'_, D>,
     )
+        requires unlisted { self.old.listed ≡ None }
         requires sound { H.sound heap.old }
         requires attached { (H.seen heap.old).attached ≡ true }
         requires collectable { IsCollectable H.KIND trace.old.types.now.declarations (H.seen heap.old) (roots_of self.old) (has_host trace.old.host_data_table.now.entries) }
@@ -356,5 +366,61 @@ impl Roots {
             &self.list,
         );
         self.list.clear();
+    }
+
+    /// Gives a collection that begins all roots, in its list.
+    pub(crate) fn list_roots(&mut self)
+        requires unlisted { self.old.listed ≡ None }
+        ensures listed { self.new ≡ with_list (roots_of self.old) self.old }
+        ensures unused { self.old.given ≡ 0 }
+    {
+        list_all(
+            &mut self.list,
+            self.scoped.as_slice(),
+            self.owned.as_slice(),
+            self.slots.as_slice(),
+            self.globals.as_slice(),
+            self.pending,
+        );
+        self.given = self.list.len();
+        self.is_listing = true;
+    }
+
+    /// Does an increment of the collection that was given the roots.
+    pub(crate) fn step<H: GcHeap, D: Drop>(
+        &mut self,
+        heap: &mut H,
+        state: &mut H::State,
+        trace: &mut GcStoreTraceState<'_, D>,
+    ) -> GcProgress
+        requires { IsListed H.under_way self.old heap.old state.old trace.old.types.now.declarations trace.old.host_data_table.now.entries }
+        ensures step { (s : Start) (n : ℕ) (c : Bool) (listed : List Root) → self.old.listed ≡ Some listed
+            → H.under_way s n c (stage heap.old state.old listed trace.old.types.now.declarations trace.old.host_data_table.now.entries)
+            → StepsRoots H.KIND H.under_way H.sound s n self.old self.new heap.new (H.seen heap.new) state.new
+            trace.old.types.now.declarations trace.new.host_data_table.now.entries result }
+        ensures less { result ≡ GcProgress.Continue → H.left heap.new state.new < H.left heap.old state.old }
+        ensures values { IsPartOf trace.new.host_data_table.now.entries trace.old.host_data_table.now.entries }
+        ensures hosts { trace.new.host_data_table.ghost_name ≡ trace.old.host_data_table.ghost_name }
+        ensures types { trace.new.types ≡ trace.old.types }
+    {
+        heap.step(state, &mut self.list, trace)
+    }
+
+    /// Takes the words of the roots from the list of a collection that is complete.
+    pub(crate) fn take_roots(&mut self)
+        requires { HasMovedList self.old }
+        ensures { (to : ℕ → ℕ) → self.old.listed ≡ Some (map (moved_root to) (roots_of self.old)) → self.new ≡ moved_roots to (without_list self.old) }
+    {
+        self.pending = take_all(
+            self.scoped.as_mut_slice(),
+            self.owned.as_mut_slice(),
+            self.slots.as_mut_slice(),
+            self.globals.as_mut_slice(),
+            self.pending,
+            &self.list,
+        );
+        self.list.clear();
+        self.is_listing = false;
+        self.given = 0;
     }
 }

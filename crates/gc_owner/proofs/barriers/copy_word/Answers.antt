@@ -1,4 +1,4 @@
-use Rattle.std.proofs.Common.{sym, ◌∙◌}
+use Rattle.std.proofs.Common.{◌∙◌}
 use Rattle.gc_owner.proofs.WordBarriers.{copy_named, copy_raised, none_raised}
 use Rattle.gc_owner.proofs.barriers.copy_word.Goals as goal
 

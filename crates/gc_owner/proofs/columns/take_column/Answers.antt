@@ -1,4 +1,4 @@
-use Rattle.std.proofs.Common.{rules, ℕ, Bool, List, length, get_or, set, ◌≡◌, ◌+◌, ◌<◌, ◌≤◌, sym, ap, ◌∙◌, subst, arith}
+use Rattle.std.proofs.Common.{rules, length, get_or, set, ◌≡◌, ◌+◌, ◌<◌, ◌≤◌, sym, ap, ◌∙◌, subst, arith}
 use Rattle.gc_owner.proofs.TakenColumns.{Taken, entry_is, taken_more, all_taken}
 use Rattle.gc_owner.proofs.columns.take_column.Goals as goal
 

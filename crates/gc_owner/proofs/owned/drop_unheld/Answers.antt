@@ -1,4 +1,4 @@
-use Rattle.std.proofs.Common.{◌≡◌, ◌+◌, ◌≤◌, length, get_or, sym, subst, arith}
+use Rattle.std.proofs.Common.{◌+◌, get_or, sym, subst}
 use Rattle.gc_view.specs.Heaps.{HeapView, SameHeld}
 use Rattle.gc_owner.specs.declared.entry.OwnedEntry.{OwnedEntry}
 use Rattle.gc_owner.specs.RootColumns.{RootsView, roots_of}

@@ -1,4 +1,4 @@
-use Rattle.std.proofs.Common.{◌≡◌, ℕ, Bool, List}
+use Rattle.std.proofs.Common.{ℕ, Bool, List}
 use Rattle.gc_types.specs.Declarations.{Declaration}
 use Rattle.gc_view.specs.Heaps.{SameHeld}
 use Rattle.gc_owner.specs.RootColumns.{roots_of}

@@ -1,4 +1,3 @@
-use Rattle.std.proofs.Common.{◌+◌, ap, sym, ◌∙◌, length}
 use Rattle.gc_owner.proofs.AllRoots.{five_listed}
 use Rattle.gc_owner.proofs.roots.list_all.Goals as goal
 

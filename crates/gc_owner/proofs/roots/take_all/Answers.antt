@@ -1,4 +1,4 @@
-use Rattle.std.proofs.Common.{ℕ, false, true, ◌≡◌, List}
+use Rattle.std.proofs.Common.{false, true}
 use Rattle.gc_owner.proofs.AllRoots.{behind0, behind1, behind2, behind3, follow0, follow1, follow2, follow3, pending_readable, pending_moved}
 use Rattle.gc_owner.proofs.roots.take_all.Goals as goal
 

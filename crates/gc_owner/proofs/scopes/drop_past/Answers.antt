@@ -1,4 +1,4 @@
-use Rattle.std.proofs.Common.{◌≡◌, refl, sym, ap, ◌∙◌, subst, arith}
+use Rattle.std.proofs.Common.{refl, sym, ◌∙◌, subst, arith}
 use Rattle.gc_view.specs.Heaps.{HeapView, SameHeld}
 use Rattle.gc_owner.specs.RootColumns.{RootsView, roots_of}
 use Rattle.gc_owner.specs.Tracing.{IsCollectable}

@@ -1,6 +1,9 @@
-use Rattle.std.proofs.Common.{sym, ap, ◌∙◌}
+use Rattle.std.proofs.Common.{ap, ◌∙◌}
 use Rattle.gc_owner.proofs.OwnerLemmas.{ready_at, idle_at, collected_order, collected_seen}
 use Rattle.gc_owner.proofs.owner.HeapOwner.collect.Goals as goal
+
+pub collect_in-last-requires-clause-unlisted : goal.collect_in-last-requires-clause-unlisted
+collect_in-last-requires-clause-unlisted g c = (ready_at g.H.GcHeap.KIND g.H.GcHeap.seen g.H.GcHeap.sound g.H.GcHeap.under_way c.self.inside.heap c.self.inside.types c.self.inside.hosts.entries c.self.inside.roots c.self.inside.last c.self.inside.state c.args.self.now c.self.invariant c.self.view_is c.requires.idle).unlisted
 
 pub collect_in-last-requires-clause-sound : goal.collect_in-last-requires-clause-sound
 collect_in-last-requires-clause-sound g c = (ready_at g.H.GcHeap.KIND g.H.GcHeap.seen g.H.GcHeap.sound g.H.GcHeap.under_way c.self.inside.heap c.self.inside.types c.self.inside.hosts.entries c.self.inside.roots c.self.inside.last c.self.inside.state c.args.self.now c.self.invariant c.self.view_is c.requires.idle).sound

@@ -1,4 +1,3 @@
-use Rattle.std.proofs.Common.{sym, ap, ◌∙◌, subst}
 use Rattle.gc_owner.proofs.OwnerLemmas.{ready_at}
 use Rattle.gc_owner.proofs.owner.HeapOwner.heap.Goals as goal
 

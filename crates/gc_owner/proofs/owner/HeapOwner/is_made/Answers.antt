@@ -1,4 +1,4 @@
-use Rattle.std.proofs.Common.{sym, ap, ◌∙◌}
+use Rattle.std.proofs.Common.{ap, ◌∙◌}
 use Rattle.gc_owner.proofs.owner.HeapOwner.is_made.Goals as goal
 
 pub returns : goal.returns

@@ -1,4 +1,4 @@
-use Rattle.std.proofs.Common.{sym, ap, ◌∙◌, subst, false, length, ◌≡◌}
+use Rattle.std.proofs.Common.{subst, false, length, ◌≡◌}
 use Rattle.gc_heap.specs.Content.{IsHeap}
 use Rattle.gc_owner.specs.RootColumns.{AreFrames}
 use Rattle.gc_owner.specs.Owners.{CanBegin}

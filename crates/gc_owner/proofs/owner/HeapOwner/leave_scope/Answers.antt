@@ -1,4 +1,4 @@
-use Rattle.std.proofs.Common.{◌≡◌, ◌<◌, ◌≤◌, List, length, refl, sym, ap, ◌∙◌, subst, arith}
+use Rattle.std.proofs.Common.{◌<◌, ◌≤◌, List, length, refl, sym, ap, ◌∙◌, subst, arith}
 use Rattle.gc_view.specs.Heaps.{SameHeld}
 use Rattle.gc_heap.specs.Collection.{has_host}
 use Rattle.gc_owner.specs.declared.entry.RootEntry.{RootEntry}

@@ -1,4 +1,3 @@
-use Rattle.std.proofs.Common.{sym, ap, ◌∙◌, subst}
 use Rattle.gc_heap.specs.Collection.{has_host}
 use Rattle.gc_owner.specs.RootColumns.{roots_of}
 use Rattle.gc_owner.proofs.OwnerLemmas.{ready_at, idle_at, made_order, made_stays}

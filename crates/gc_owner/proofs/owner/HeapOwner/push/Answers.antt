@@ -1,4 +1,4 @@
-use Rattle.std.proofs.Common.{◌≡◌, ◌<◌, length, sym, ap, ◌∙◌, subst, arith}
+use Rattle.std.proofs.Common.{length, sym, ap, subst, arith}
 use Rattle.gc_view.specs.Heaps.{HeapView, SameHeld}
 use Rattle.gc_heap.specs.Collection.{has_host}
 use Rattle.gc_owner.specs.RootColumns.{RootsView, roots_of}
@@ -6,7 +6,7 @@ use Rattle.gc_owner.specs.Owners.{raised}
 use Rattle.gc_owner.specs.Tracing.{IsCollectable}
 use Rattle.gc_owner.proofs.ListedRoots.{few_held}
 use Rattle.gc_owner.proofs.WordBarriers.{word_copyable, raised_held}
-use Rattle.gc_owner.proofs.OwnerLemmas.{ready_at, idle_at, word_at, changed_order, changed_seen, pushed_kept}
+use Rattle.gc_owner.proofs.OwnerLemmas.{ready_at, idle_at, word_at, changed_order, pushed_kept}
 use Rattle.gc_owner.proofs.owner.HeapOwner.push.Goals as goal
 
 pub copy_word-requires-clause-sound : goal.copy_word-requires-clause-sound

@@ -1,9 +1,8 @@
-use Rattle.std.proofs.Common.{◌≡◌, ◌+◌, ◌<◌, length, refl, sym, ap, ◌∙◌, subst, arith}
-use Rattle.gc_view.specs.Heaps.{HeapView, SameHeld}
+use Rattle.std.proofs.Common.{ap, ◌∙◌}
+use Rattle.gc_view.specs.Heaps.{HeapView}
 use Rattle.gc_heap.specs.Collection.{has_host}
-use Rattle.gc_owner.specs.RootColumns.{RootsView, roots_of, with_room, with_frame}
-use Rattle.gc_owner.specs.Tracing.{IsCollectable}
-use Rattle.gc_owner.proofs.OwnerLemmas.{ready_at, idle_at, word_at, changed_order, changed_seen}
+use Rattle.gc_owner.specs.RootColumns.{with_room, with_frame}
+use Rattle.gc_owner.proofs.OwnerLemmas.{ready_at, idle_at, changed_order, changed_seen}
 use Rattle.gc_owner.proofs.ScopeLemmas.{same_held}
 use Rattle.gc_owner.proofs.FrameLemmas.{Opens, opened_kept, opened_listed, along_ok, along_err}
 use Rattle.gc_owner.proofs.owner.HeapOwner.push_frame.Goals as goal

@@ -1,4 +1,4 @@
-use Rattle.std.proofs.Common.{◌≡◌, ◌<◌, length, refl, sym, ap, ◌∙◌, subst, arith}
+use Rattle.std.proofs.Common.{refl, sym, ap, ◌∙◌, subst}
 use Rattle.gc_view.specs.Heaps.{HeapView, SameHeld}
 use Rattle.gc_heap.specs.Collection.{has_host}
 use Rattle.gc_owner.specs.RootColumns.{RootsView, roots_of}

@@ -1,10 +1,9 @@
-use Rattle.std.proofs.Common.{◌≡◌, ◌<◌, ◌++◌, ◌∷◌, [], length, refl, sym, ap, ◌∙◌, subst, arith}
-use Rattle.gc_view.specs.Heaps.{HeapView, SameHeld}
+use Rattle.std.proofs.Common.{refl, sym, ap, ◌∙◌, subst}
+use Rattle.gc_view.specs.Heaps.{SameHeld}
 use Rattle.gc_heap.specs.Collection.{has_host}
 use Rattle.gc_owner.specs.RootColumns.{RootsView, roots_of, with_room, with_handles}
 use Rattle.gc_owner.specs.Tracing.{IsCollectable}
-use Rattle.gc_owner.proofs.OwnerLemmas.{ready_at, idle_at, word_at, changed_order, changed_seen}
-use Rattle.gc_owner.proofs.ScopeLemmas.{same_held}
+use Rattle.gc_owner.proofs.OwnerLemmas.{ready_at, idle_at, changed_order, changed_seen}
 use Rattle.gc_owner.proofs.owner.HeapOwner.trim.Goals as goal
 
 pub drop_unheld-requires-clause-can : goal.drop_unheld-requires-clause-can

@@ -1,4 +1,4 @@
-use Rattle.std.proofs.Common.{◌≡◌, ℕ, ◌+◌, ◌-◌, ◌≤◌, min, List, length, map, sym, ap, ◌∙◌, subst, arith}
+use Rattle.std.proofs.Common.{◌≡◌, ◌+◌, ◌-◌, min, cond, Some, None, List, length, map, sym, ap, ◌∙◌, subst, arith}
 use Rattle.std.proofs.lemmas.List.{length-map}
 use Rattle.gc_roots.specs.Roots.{Root}
 use Rattle.gc_view.specs.Heaps.{HeapView}
@@ -8,8 +8,8 @@ use Rattle.gc_owner.specs.declared.entry.RootEntry.{RootEntry}
 use Rattle.gc_owner.specs.declared.entry.OwnedEntry.{OwnedEntry}
 use Rattle.gc_owner.specs.declared.entry.SlotEntry.{SlotEntry}
 use Rattle.gc_owner.specs.RootColumns.{RootsView, roots_of, all_roots, moved_roots, global_count, MovesAll}
-use Rattle.gc_owner.specs.Owners.{CollectsRoots}
 use Rattle.gc_owner.proofs.Begins.{memory_same}
+use Rattle.gc_owner.proofs.ListUse.{unused_list}
 use Rattle.gc_owner.proofs.CollectedRoots.{refilled, collects_roots}
 use Rattle.gc_owner.proofs.roots.Roots.collect.Given.{Over}
 use Rattle.gc_owner.proofs.roots.Roots.collect.Goals.{After-list_all, After-run, After-clear}
@@ -20,6 +20,16 @@ listed g c =
     c.list_all.ensures.roots
     ∙ (λ i. all_roots (c.as_slice.ensures.value i) (c.as_slice-2.ensures.value i) (c.as_slice-3.ensures.value i) (c.as_slice-4.ensures.value i) c.self.inside.pending)
     ∙ ap roots_of c.self.view_is
+
+pub list_all-requires-clause-empty : goal.list_all-requires-clause-empty
+list_all-requires-clause-empty g c = (unused_list c.self.inside.is_listing c.self.inside.list.roots c.self.inside.given c.args.self.now c.self.invariant.0 (ap (λ (r : RootsView). r.listed) c.self.view_is) c.requires.unlisted).0
+
+pub list_all-requires-clause-room : goal.list_all-requires-clause-room
+list_all-requires-clause-room g c =
+    let none = unused_list c.self.inside.is_listing c.self.inside.list.roots c.self.inside.given c.args.self.now c.self.invariant.0 (ap (λ (r : RootsView). r.listed) c.self.view_is) c.requires.unlisted in
+    let room = c.self.invariant.1 in
+    let globals = c.self.invariant.4 in
+    omega arith
 
 pub run-requires-clause-can : goal.run-requires-clause-can
 run-requires-clause-can g c =
@@ -48,7 +58,7 @@ moves g c d =
 
 list_spare : (g : Over) (c : After-clear g) → c.clear.new.self.spare ≡ c.self.inside.list.spare
 list_spare g c =
-    let before : length c.self.inside.list.roots ≡ 0 = ap (λ (rs : List Root). length rs) c.self.invariant.0 in
+    let before : length c.self.inside.list.roots ≡ 0 = ap (λ (rs : List Root). length rs) (unused_list c.self.inside.is_listing c.self.inside.list.roots c.self.inside.given c.args.self.now c.self.invariant.0 (ap (λ (r : RootsView). r.listed) c.self.view_is) c.requires.unlisted).0 in
     let counts : length c.run.new.roots.roots ≡ length c.list_all.new.list.roots =
     ap (λ (rs : List Root). length rs) c.run.ensures.collected.roots_moved ∙ length-map c.list_all.new.list.roots (moved_root c.run.ensures.collected.to) in
     omega (arith, c.clear.ensures.spare, c.run.ensures.spare, c.list_all.ensures.total)
@@ -66,7 +76,7 @@ pub invariant_of-self : goal.invariant_of-self
 invariant_of-self g c =
     let at = (goal.at.invariant_of-self g c).After-clear in
     let same = list_spare g at in
-    (c.clear.ensures.roots, omega (arith, c.self.invariant.1), c.self.invariant.2, c.self.invariant.3, c.self.invariant.4, c.self.invariant.5)
+    (λ is. (c.clear.ensures.roots, (c.self.invariant.0 is).1), omega (arith, c.self.invariant.1), c.self.invariant.2, c.self.invariant.3, c.self.invariant.4, c.self.invariant.5)
 
 pub returns-clause-collected : goal.returns-clause-collected
 returns-clause-collected g c =
@@ -82,7 +92,7 @@ returns-clause-collected g c =
     let p2 = refilled c.take_all-self-inside.new.slots c.self.inside.slots.items c.self.inside.slots.len n2 ∙ m.slots_moved ∙ ap (map (λ (e : SlotEntry). record e { word = moved d.to e.word })) c.as_mut_slice-3.ensures.value in
     let p3 = refilled c.take_all-self-inside.new.globals c.self.inside.globals.items c.self.inside.globals.len n3 ∙ m.globals_moved ∙ ap (map (λ (e : SlotEntry). record e { word = moved d.to e.word })) c.as_mut_slice-4.ensures.value in
     let ls = list_spare g at in
-    let li = c.clear.ensures.roots ∙ sym c.self.invariant.0 in
+    let li = c.clear.ensures.roots ∙ sym (unused_list c.self.inside.is_listing c.self.inside.list.roots c.self.inside.given c.args.self.now c.self.invariant.0 (ap (λ (r : RootsView). r.listed) c.self.view_is) c.requires.unlisted).0 in
     collects_roots g.H.GcHeap.KIND c.args.trace.now.types.now.declarations (g.H.GcHeap.seen c.args.heap.now) (g.H.GcHeap.seen c.run.new.heap) c.args.self.now _ c.run.new.roots.roots
     (has_host c.args.trace.now.host_data_table.now.entries) (has_host c.run.new.trace.host_data_table.now.entries)
     (g.met.H.GcHeap.is_heap c.args.heap.now c.requires.sound) c.requires.attached (g.met.H.GcHeap.is_heap c.run.new.heap c.run.ensures.sound) c.requires.collectable d
@@ -94,8 +104,9 @@ returns-clause-collected g c =
       globals = p3 i;
       pending = m.pending_moved i;
       generation = c.self.inside.generation;
-      spare = min (c.self.inside.scoped.cap - c.self.inside.scoped.len) (ls i - (c.self.inside.scoped.len + c.self.inside.owned.len + c.self.inside.slots.len + global_count + 1));
-      listed = li i;
-      list_spare = ls i;
+      spare = min (c.self.inside.scoped.cap - c.self.inside.scoped.len) (ls i + c.self.inside.given - (c.self.inside.scoped.len + c.self.inside.owned.len + c.self.inside.slots.len + global_count + 1));
+      listed = cond c.self.inside.is_listing (Some (li i)) None;
+      given = c.self.inside.given;
+      list_spare = ls i + c.self.inside.given;
     })
     ∙ ap (moved_roots d.to) c.self.view_is)

@@ -1,6 +1,6 @@
-use Rattle.std.proofs.Common.{◌≡◌, ◌+◌, ◌≤◌, sym, subst, arith, ℕ, List}
+use Rattle.std.proofs.Common.{◌≡◌, sym, subst, arith, ℕ, List}
 use Rattle.std.specs.Vec.{vec_len}
-use Rattle.gc_owner.specs.RootColumns.{AreFrames, global_count}
+use Rattle.gc_owner.specs.RootColumns.{AreFrames}
 use Rattle.gc_owner.proofs.FrameLemmas.{frames_less}
 use Rattle.gc_owner.proofs.roots.Roots.pop_frame.Goals as goal
 

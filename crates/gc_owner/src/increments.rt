@@ -1,0 +1,107 @@
+//! Collections in increments.
+
+ghost use Rattle.std.specs.Prelude.{◌≡◌, ◌+◌, ◌<◌, ℕ, Bool, List, Some, true};
+ghost use Rattle.gc_roots.specs.Roots.{Root};
+ghost use Rattle.gc_heap.specs.Collection.{Start, stage, IsPartOf};
+ghost use Rattle.gc_owner.specs.Going.{IsListed, StepsRoots, left_of};
+ghost use Rattle.gc_owner.specs.Owners.{OwnerValue, Increments, IsEnded, IsUnderWay, kind_of, start_of};
+
+use crate::owner::HeapOwner;
+use crate::roots::Roots;
+use gc_heap::{GcHeap, GcProgress, GcStoreTraceState};
+use gc_tables::ExternRefHostDataTable;
+use gc_types::Types;
+
+/// Does one increment of the collection that was given the roots.
+fn step_in<H: GcHeap, D: Drop>(
+    heap: &mut H,
+    state: &mut H::State,
+    roots: &mut Roots,
+    hosts: &mut ExternRefHostDataTable<D>,
+    types: &Types,
+) -> GcProgress
+    requires { IsListed H.under_way roots.old heap.old state.old types.now.declarations hosts.old.entries }
+    ensures step { (s : Start) (n : ℕ) (c : Bool) (listed : List Root) → roots.old.listed ≡ Some listed
+        → H.under_way s n c (stage heap.old state.old listed types.now.declarations hosts.old.entries)
+        → StepsRoots H.KIND H.under_way H.sound s n roots.old roots.new heap.new (H.seen heap.new) state.new
+        types.now.declarations hosts.new.entries result }
+    ensures less { result ≡ GcProgress.Continue → H.left heap.new state.new < H.left heap.old state.old }
+    ensures values { IsPartOf hosts.new.entries hosts.old.entries }
+{
+    let mut trace = GcStoreTraceState {
+        host_data_table: hosts,
+        types,
+    };
+    roots.step(heap, state, &mut trace)
+}
+
+impl<H: GcHeap, D: Drop> HeapOwner<H, D> {
+    /// Whether no collection is under way.
+    pub fn is_idle(&self) -> bool
+        ensures { result ≡ self.now.seen.idle }
+    {
+        let _heap = &self.heap;
+        self.state.is_none()
+    }
+
+    /// Begins a collection, which increments then do. Until it is complete the owner is not idle. It takes no
+    /// memory.
+    pub fn begin(&mut self)
+        requires idle { self.old.seen.idle ≡ true }
+        requires attached { self.old.seen.heap.attached ≡ true }
+        ensures { IsUnderWay (kind_of H.KIND H.seen H.sound H.under_way) (start_of self.old.seen) 0 true self.old self.new }
+    {
+        let state = self.heap.begin();
+        self.roots.list_roots();
+        self.state = Some(state);
+    }
+
+    /// Does one increment of the collection that is under way, and answers whether it is complete; with none
+    /// under way it does nothing. It takes no memory.
+    pub fn increment(&mut self) -> GcProgress
+        ensures goes { (s : Start) (n : ℕ) (c : Bool) (begun : OwnerValue H H.State D)
+            → IsUnderWay (kind_of H.KIND H.seen H.sound H.under_way) s n c begun self.old
+            → Increments (kind_of H.KIND H.seen H.sound H.under_way) s (n + 1) begun self.new result }
+        ensures none { self.old.seen.idle ≡ true → (result ≡ GcProgress.Complete) × (self.new ≡ self.old) }
+        ensures complete { result ≡ GcProgress.Complete → self.new.seen.idle ≡ true }
+        ensures less { result ≡ GcProgress.Continue → left_of H.left self.new.heap self.new.state < left_of H.left self.old.heap self.old.state }
+    {
+        match self.state.take() {
+            Some(mut state) => match step_in(
+                &mut self.heap,
+                &mut state,
+                &mut self.roots,
+                &mut self.hosts,
+                &self.types,
+            ) {
+                GcProgress::Continue => {
+                    self.state = Some(state);
+                    GcProgress::Continue
+                }
+                GcProgress::Complete => {
+                    self.roots.take_roots();
+                    self.last = self.heap.allocated_bytes();
+                    GcProgress::Complete
+                }
+            },
+            None => GcProgress::Complete,
+        }
+    }
+
+    /// Does the increments that the collection that is under way has left; with none under way it does
+    /// nothing. It takes no memory.
+    pub fn finish(&mut self)
+        ensures idle { self.new.seen.idle ≡ true }
+        ensures same { self.old.seen.idle ≡ true → self.new ≡ self.old }
+        ensures ended { (s : Start) (n : ℕ) (c : Bool) (begun : OwnerValue H H.State D)
+            → IsUnderWay (kind_of H.KIND H.seen H.sound H.under_way) s n c begun self.old
+            → IsEnded H.KIND begun self.new }
+    {
+        'increments: loop {
+            match self.increment() {
+                GcProgress::Continue => {}
+                GcProgress::Complete => return,
+            }
+        }
+    }
+}
