@@ -82,12 +82,11 @@ module _ {D : Type 0} where
   hosts-moved objects objects' place place' content content' hosts none none' by = hosts-none objects' place' content' hosts none' (hosts-empty objects place content hosts none by)
 
   -- what isn't built stays so with other objects, of which none is a host object
-  pub nothing-objects : {owns : ℕ} {frames : List (List Slot)} {globals : List Slot} {owned : List Owned} {pending : Option Reference} {funcs : List (Option Func)} {blocks : List Block} {objects objects' : List (Object D)}
-      → NotBuilt owns frames globals owned pending funcs blocks objects → NoHostObjects objects' → NotBuilt owns frames globals owned pending funcs blocks objects'
+  pub nothing-objects : {owns : ℕ} {frames : List (List Slot)} {owned : List Owned} {pending : Option Reference} {funcs : List (Option Func)} {blocks : List Block} {objects objects' : List (Object D)}
+      → NotBuilt owns frames owned pending funcs blocks objects → NoHostObjects objects' → NotBuilt owns frames owned pending funcs blocks objects'
   nothing-objects nothing none = record {
     owns = nothing.owns;
     frames = nothing.frames;
-    globals = nothing.globals;
     owned = nothing.owned;
     pending = nothing.pending;
     funcs = nothing.funcs;

@@ -22,4 +22,5 @@ pub mod SlotWrites
 pub mod SlotObjects
 pub mod StructSlots
 pub mod SlotsSet
+pub mod HoldsGlobals
 pub mod FieldsLie

@@ -1,5 +1,6 @@
 -- Elements of a list with one more at its end, of the front of a list, and of lists of one length.
-use Rattle.std.proofs.Common.{◌≡◌, ℕ, ◌⊎◌, inl, inr, List, [], ◌∷◌, ◌++◌, length, take, Some, ap, refl, arith, suc, zero}
+use Rattle.std.proofs.Common.{◌≡◌, ℕ, ◌⊎◌, inl, inr, List, [], ◌∷◌, ◌++◌, length, take, Some, ap, ap₂, refl, arith, suc, zero}
+use Rattle.std.specs.Prelude.{replicate}
 use Rattle.std.specs.List.{slice_get}
 use Rattle.std.proofs.lemmas.Option.{none-some, slice_get_within, slice_get_cases}
 
@@ -36,3 +37,10 @@ slice_get-same_length xs ys i x same e =
       | inl found ↦ (found.0, found.2)
       | inr past ↦ absurd (omega (arith, past.0, same, slice_get_within xs i x e))
     ]
+
+-- a list whose elements each are one and the same is it that many times
+pub all_replicated : {X : Type 0} (x : X) (n : ℕ) (xs : List X) → length xs ≡ n → ((i : ℕ) (y : X) → slice_get xs i ≡ Some y → y ≡ x) → xs ≡ replicate n x
+all_replicated x zero [] count each = refl
+all_replicated x (suc n) [] count each = absurd (omega (arith, count))
+all_replicated x zero (y ∷ xs) count each = absurd (omega (arith, count))
+all_replicated x (suc n) (y ∷ xs) count each = ap₂ (λ z zs. z ∷ zs) (each 0 y refl) (all_replicated x n xs (omega (arith, count)) (λ i. each (suc i)))

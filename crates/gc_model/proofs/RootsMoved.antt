@@ -12,6 +12,7 @@ use Rattle.gc_owner.specs.RootColumns.{empty_slot as empty_entry}
 use Rattle.gc_owner.specs.declared.entry.OwnedEntry.{OwnedEntry}
 use Rattle.gc_model.specs.Words.{Placing, IsWord}
 use Rattle.gc_model.specs.RootPoints.{ScopedBy, SlotBy, SlotsBy, FramesBy, GlobalsBy, OwnedBy, PendingBy}
+use Rattle.gc_model.proofs.Lists.{slice_get-same_length, all_replicated}
 use Rattle.gc_model.proofs.Placings.{IsWithin, is_word-more}
 
 -- each word of the reference under one placing is its word under the other
@@ -96,16 +97,6 @@ replicated zero x i y e = absurd (none-some y e)
 replicated (suc n) x zero y e = grind (arith, e)
 replicated (suc n) x (suc i) y e = replicated n x i y e
 
--- a null reference has the same word under each placing
-carries-null : (place place' : Placing) (slot : Slot) → empty_slot ≡ slot → Carries place place' slot.reference
-carries-null place place' slot is = subst (λ (s : Slot). Carries place place' s.reference) is (λ word null. null)
-
--- globals that name nothing stand under every placing
-pub globals-unset : (place place' : Placing) (n : ℕ) (globals : List Slot) (entries : List SlotEntry) → globals ≡ replicate n empty_slot → GlobalsBy place globals entries → GlobalsBy place' globals entries
-globals-unset place place' n globals entries unset by =
-    globals-moved place place' globals entries
-    (λ i slot e. carries-null place place' slot (replicated n empty_slot i slot (ap (λ gs. slice_get gs i) (sym unset) ∙ e))) by
-
 -- globals of which none was set are the table's empty slots
 pub globals-empty : (place : Placing) → GlobalsBy place (replicate global_count empty_slot) unset_globals
 globals-empty place = record {
@@ -117,3 +108,15 @@ globals-empty place = record {
         (subst (λ (x : SlotEntry). SlotBy place x empty_slot) (replicated global_count empty_entry i entry e) (record { class = refl; word = refl }));
   };
 }
+
+-- a slot that stands for the empty one is empty
+empty_entry-only : (place : Placing) (entry : SlotEntry) → SlotBy place entry empty_slot → entry ≡ empty_entry
+empty_entry-only place entry by i = record { class = by.class i; word = by.word i }
+
+-- and the table's empty slots are globals of which none was set
+pub unset_from_table : (place : Placing) (entries : List SlotEntry) → GlobalsBy place (replicate global_count empty_slot) entries → entries ≡ unset_globals
+unset_from_table place entries by =
+    all_replicated empty_entry global_count entries by.slots.same_count (λ i entry e.
+    let slot = slice_get-same_length entries (replicate global_count empty_slot) i entry by.slots.same_count e in
+    empty_entry-only place entry
+    (subst (λ (x : Slot). SlotBy place entry x) (sym (replicated global_count empty_slot i slot.0 slot.1)) (by.slots.each i entry slot.0 e slot.1)))

@@ -1,5 +1,5 @@
 -- A store holds a table: its heap, its roots and its numbers stand for the table's.
-use Rattle.std.specs.Prelude.{◌≡◌, Bool, ℕ, ◌+◌, ◌-◌, ◌*◌, ◌%◌, ◌<◌, ◌≤◌, ◌^◌, true, false, List, [], Option, Some, None, length, slice_get, replicate, All}
+use Rattle.std.specs.Prelude.{◌≡◌, Bool, ℕ, ◌+◌, ◌-◌, ◌*◌, ◌%◌, ◌<◌, ◌≤◌, ◌^◌, true, false, List, [], Option, Some, None, length, slice_get, All}
 use Rattle.std.specs.Ordering.{nat_cmp}
 use Rattle.std.specs.FinMap as map
 use Rattle.gc_types.specs.declared.value.FieldType.{FieldType}
@@ -13,7 +13,7 @@ use Rattle.gc_model.specs.Values.{Reference, Value, Object, struct, array, host,
 use Rattle.gc_model.specs.Fits.{is_built_field}
 use Rattle.gc_model.specs.Reach.{IsKept, IsHost}
 use Rattle.gc_types.specs.declared.value.Func.{Func}
-use Rattle.gc_model.specs.Table.{Table, Scoped, Push, Slot, Owned, Block, empty_slot, global_count}
+use Rattle.gc_model.specs.Table.{Table, Scoped, Push, Slot, Owned, Block}
 pub use Rattle.gc_model.specs.Words.{Placing, IsWord}
 pub use Rattle.gc_model.specs.Encoded.{Lies}
 pub use Rattle.gc_model.specs.RootPoints.{EntryBy, ScopedBy, IsPastBy, PushesBy, SlotBy, SlotsBy, FramesBy, GlobalsBy, OwnedRootBy, OwnedBy, PendingBy}
@@ -109,10 +109,9 @@ abbrev pub NoHostObjects : {D : Type 0} → List (Object D) → Type 0
 NoHostObjects objects = (position : ℕ) → ¬ IsHost (slice_get objects position)
 
 -- What no call makes yet is empty: one line each.
-pub record NotBuilt {D : Type 0} (made : ℕ) (slots : List (List Slot)) (set : List Slot) (roots : List Owned) (exception : Option Reference) (functions : List (Option Func)) (held : List Block) (objects : List (Object D)) : Type 0 where
+pub record NotBuilt {D : Type 0} (made : ℕ) (slots : List (List Slot)) (roots : List Owned) (exception : Option Reference) (functions : List (Option Func)) (held : List Block) (objects : List (Object D)) : Type 0 where
   pub owns : made ≡ 0
   pub frames : slots ≡ []
-  pub globals : set ≡ replicate global_count empty_slot
   pub owned : roots ≡ []
   pub pending : exception ≡ None
   pub funcs : functions ≡ []
@@ -194,7 +193,7 @@ module _ {D : Type 0} where
   HostsHold t place heap hosts = HostsBy t.objects place heap.content hosts
 
   abbrev pub NothingElse : Table D → Type 0
-  NothingElse t = NotBuilt t.owns t.frames t.globals t.owned t.pending t.funcs t.blocks t.objects
+  NothingElse t = NotBuilt t.owns t.frames t.owned t.pending t.funcs t.blocks t.objects
 
   -- the store holds the table under that placing
   abbrev pub Holds : Layouts → StoreView D → Table D → Placing → Type 0

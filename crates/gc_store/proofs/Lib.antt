@@ -17,4 +17,5 @@ pub mod Pushing
 pub mod ReadValues
 pub mod Roots
 pub mod SameRoots
+pub mod SlotLemmas
 pub mod Sound

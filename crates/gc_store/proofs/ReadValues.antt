@@ -3,6 +3,7 @@ use Rattle.std.proofs.Common.{◌≡◌, ℕ, ◌^◌, ◌<◌, true, Some, None
 use Rattle.std.specs.Int.{Width, w32, w64, cast_signed, cast_unsigned}
 use Rattle.std.proofs.lemmas.Int.{of_z-to_z}
 use Rattle.gc_types.specs.declared.kind.Layouts.{Layouts}
+use Rattle.gc_owner.specs.declared.entry.GcClass.{GcClass}
 use Rattle.gc_owner.specs.declared.entry.GcClass.TheVariants.{Any}
 use Rattle.gc_model.specs.Values.{Reference, null, small, at, Value, reference}
 use Rattle.gc_model.specs.Table.{Table}
@@ -36,7 +37,7 @@ reads_i64 {D} layouts s t a place number answer v fits is stands holds =
     (λ makes. absurd (cc makes), ((answer, (refl, sym (ap (λ z. cast_unsigned w64 (cast_signed w64 (cast_unsigned w64 z))) is ∙ ap (λ n. cast_unsigned w64 (cast_signed w64 n)) (of_z-to_z w64 number fits) ∙ of_z-to_z w64 number fits))), holds))
 
 module _ {D : Type 0} (layouts : Layouts) (s : StoreView D) (t : Table D) (a : Account) (holds : HoldsAccount layouts s t a) where
-  null_word : (r : Reference) → IsWord holds.place r 0 → r ≡ null
+  pub null_word : (r : Reference) → IsWord holds.place r 0 → r ≡ null
   null_word null is = refl
   null_word (small n) is = absurd (omega (arith, is))
   null_word (at p) is = absurd (omega (arith, (place_even layouts t holds.place s.heap holds.holds.objects p 0 is).1))
@@ -48,28 +49,30 @@ module _ {D : Type 0} (layouts : Layouts) (s : StoreView D) (t : Table D) (a : A
       subst (λ (v : Value). ReadsValue layouts t a v (Ok (raw.Ref Any None)) s) (sym (stands.1.1 ∙ ap (reference Any) is_null))
       (λ makes. absurd (cc makes), (refl, holds))
 
-reads_pushed : {D : Type 0} (layouts : Layouts) (t : Table D) (a : Account) (place : Placing) (r : Reference) (word : ℕ) (handle : GcRootIndex) (new : StoreView D) → IsWord place r word → 0 < word → PushesRoot layouts t a r (Ok handle) new → ReadsValue layouts t a (reference Any r) (Ok (raw.Ref Any (Some handle))) new
-reads_pushed layouts t a place null word handle new is positive pushes = absurd (omega (arith, is, positive))
-reads_pushed layouts t a place (small n) word handle new is positive pushes = (λ makes. pushes.0, (ap (λ h. raw.Ref Any (Some h)) pushes.1.0, pushes.1.1))
-reads_pushed layouts t a place (at p) word handle new is positive pushes = (λ makes. pushes.0, (ap (λ h. raw.Ref Any (Some h)) pushes.1.0, pushes.1.1))
+-- the word of any class that is not 0 is read as a handle of a new root
+pub reads_pushed : {D : Type 0} (layouts : Layouts) (t : Table D) (a : Account) (place : Placing) (class : GcClass) (r : Reference) (word : ℕ) (handle : GcRootIndex) (new : StoreView D) → IsWord place r word → 0 < word → PushesRoot layouts t a r (Ok handle) new → ReadsValue layouts t a (reference class r) (Ok (raw.Ref class (Some handle))) new
+reads_pushed layouts t a place class null word handle new is positive pushes = absurd (omega (arith, is, positive))
+reads_pushed layouts t a place class (small n) word handle new is positive pushes = (λ makes. pushes.0, (ap (λ h. raw.Ref class (Some h)) pushes.1.0, pushes.1.1))
+reads_pushed layouts t a place class (at p) word handle new is positive pushes = (λ makes. pushes.0, (ap (λ h. raw.Ref class (Some h)) pushes.1.0, pushes.1.1))
 
--- another word is read as a handle of a new root
+-- so of a field
 pub reads_reference : {D : Type 0} (layouts : Layouts) (t : Table D) (a : Account) (place : Placing) (word : ℕ) (v : Value) (handle : GcRootIndex) (new : StoreView D) → (stands : StoredStands place (stored.Ref word) v) → 0 < word → PushesRoot layouts t a stands.0 (Ok handle) new → ReadsValue layouts t a v (Ok (raw.Ref Any (Some handle))) new
 reads_reference layouts t a place word v handle new stands positive pushes =
-    subst (λ (v : Value). ReadsValue layouts t a v (Ok (raw.Ref Any (Some handle))) new) (sym stands.1.1) (reads_pushed layouts t a place stands.0 word handle new stands.1.0 positive pushes)
+    subst (λ (v : Value). ReadsValue layouts t a v (Ok (raw.Ref Any (Some handle))) new) (sym stands.1.1) (reads_pushed layouts t a place Any stands.0 word handle new stands.1.0 positive pushes)
 
-makes_one : (place : Placing) (r : Reference) (word : ℕ) → IsWord place r word → 0 < word → makes_root (reference Any r) ≡ true
-makes_one place null word is positive = absurd (omega (arith, is, positive))
-makes_one place (small n) word is positive = refl
-makes_one place (at p) word is positive = refl
-
-reads_refused : {D : Type 0} (layouts : Layouts) (t : Table D) (a : Account) (place : Placing) (r : Reference) (word : ℕ) (f : RootFault) (new : StoreView D) → IsWord place r word → 0 < word → PushesRoot layouts t a r (Err f) new → ReadsValue layouts t a (reference Any r) (Err f) new
-reads_refused layouts t a place r word fault.WrongStore new is positive pushes = absurd pushes
-reads_refused layouts t a place r word fault.Unrooted new is positive pushes = absurd pushes
-reads_refused layouts t a place r word fault.RootsFull new is positive pushes = (makes_one place r word is positive, (pushes.0, pushes.1))
-reads_refused layouts t a place r word fault.Memory new is positive pushes = (makes_one place r word is positive, pushes)
+makes_one : (place : Placing) (class : GcClass) (r : Reference) (word : ℕ) → IsWord place r word → 0 < word → makes_root (reference class r) ≡ true
+makes_one place class null word is positive = absurd (omega (arith, is, positive))
+makes_one place class (small n) word is positive = refl
+makes_one place class (at p) word is positive = refl
 
 -- or it is refused one
+pub reads_refused : {D : Type 0} (layouts : Layouts) (t : Table D) (a : Account) (place : Placing) (class : GcClass) (r : Reference) (word : ℕ) (f : RootFault) (new : StoreView D) → IsWord place r word → 0 < word → PushesRoot layouts t a r (Err f) new → ReadsValue layouts t a (reference class r) (Err f) new
+reads_refused layouts t a place class r word fault.WrongStore new is positive pushes = absurd pushes
+reads_refused layouts t a place class r word fault.Unrooted new is positive pushes = absurd pushes
+reads_refused layouts t a place class r word fault.RootsFull new is positive pushes = (makes_one place class r word is positive, (pushes.0, pushes.1))
+reads_refused layouts t a place class r word fault.Memory new is positive pushes = (makes_one place class r word is positive, pushes)
+
+-- and of a refusal
 pub reads_fault : {D : Type 0} (layouts : Layouts) (t : Table D) (a : Account) (place : Placing) (word : ℕ) (v : Value) (f : RootFault) (new : StoreView D) → (stands : StoredStands place (stored.Ref word) v) → 0 < word → PushesRoot layouts t a stands.0 (Err f) new → ReadsValue layouts t a v (Err f) new
 reads_fault layouts t a place word v f new stands positive pushes =
-    subst (λ (v : Value). ReadsValue layouts t a v (Err f) new) (sym stands.1.1) (reads_refused layouts t a place stands.0 word f new stands.1.0 positive pushes)
+    subst (λ (v : Value). ReadsValue layouts t a v (Err f) new) (sym stands.1.1) (reads_refused layouts t a place Any stands.0 word f new stands.1.0 positive pushes)

@@ -7,6 +7,7 @@ pub mod Places
 pub mod Reading
 pub mod Requests
 pub mod Roots
+pub mod Slots
 pub mod Stores
 pub mod Values
 pub mod Words

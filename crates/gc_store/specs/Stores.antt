@@ -9,7 +9,7 @@ use Rattle.gc_types.specs.declared.types.TypeFault.TheVariants as type_fault
 use Rattle.gc_types.specs.Declarable.{Declarable}
 use Rattle.gc_types.specs.Declarations.{TypeName, plain_struct}
 use Rattle.gc_model.specs.Table.{Table, start, declare}
-use Rattle.gc_model.specs.Stores.{StoreView}
+use Rattle.gc_model.specs.Stores.{StoreView, unset_globals}
 use Rattle.gc_policy.specs.Accounts.{Account, no_account, HoldsAccount}
 use Rattle.gc_owner.specs.Owners.{OwnerView}
 use Rattle.gc_policy.specs.Shown.{frames_of}
@@ -57,12 +57,13 @@ pub record IsSound (D : Type 0) (layouts : Layouts) (v : OwnerView D) (s : Store
 abbrev pub HoldsStart : (D : Type 0) → Layouts → StoreView D → Type 0
 HoldsStart D layouts s = HoldsAccount layouts s (start {D = D} s.first s.max_scoped s.max_owned) no_account
 
--- the store shows no type, root, scope end, memory or allocation
+-- the store shows no type, root, scope end, set global, memory or allocation
 pub record ShowsNothing {D : Type 0} (s : StoreView D) : Type 0 where
   pub tries : s.tries ≡ 0
   pub types : s.types ≡ []
   pub scoped : s.scoped ≡ []
   pub generation : s.generation ≡ 0
+  pub globals : s.globals ≡ unset_globals
   pub attached : s.heap.attached ≡ false
 
 -- the store has the same id, and collects at every so many allocations as before

@@ -10,6 +10,7 @@ pub mod collect;
 pub mod config;
 pub mod engine;
 mod field;
+pub mod globals;
 pub mod grow;
 #[cfg(test)]
 mod growth_tests;
@@ -30,6 +31,7 @@ pub mod write;
 pub use config::HeapConfig;
 pub use engine::{Engine, StoreId};
 pub use gc_owner::{GcClass, PageLimit, ResourceLimiter, Scripted, should_collect_first};
+pub use globals::{GLOBAL_COUNT, SlotFault};
 pub use grow::GrowFault;
 pub use request::{Contents, Place};
 pub use root::{GcRootIndex, RawValue, RootFault, RootSlot, RootedObject};

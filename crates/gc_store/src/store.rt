@@ -140,7 +140,7 @@ impl<H: GcHeap, D: Drop> Store<H, D> {
         self.is_untouched()
     }
 
-    /// Whether there is no type, root, generation, memory or allocation.
+    /// Whether there is no type, root, generation, set global, memory or allocation.
     fn is_untouched(&self) -> bool
         ensures { IsTrue result ↔ ShowsNothing self.now }
     {
@@ -149,6 +149,7 @@ impl<H: GcHeap, D: Drop> Store<H, D> {
             && self.owner.types().is_empty()
             && !self.owner.is_made()
             && self.tries == 0
+            && self.has_unset_globals()
     }
 
     /// Gives a new store another configuration.

@@ -1,0 +1,129 @@
+-- Slots that are set and read, and globals among them.
+use Rattle.std.proofs.Common.{◌≡◌, ℕ, ◌<◌, Bool, true, false, List, length, Option, Some, None, Ok, Err, refl, sym, ap, ◌∙◌, subst, arith}
+use Rattle.std.specs.Prelude.{slice_index_or}
+use Rattle.std.proofs.lemmas.Option.{slice_get_within, slice_get-get_or, get_or_from_slice_get}
+use Rattle.gc_types.specs.declared.kind.Layouts.{Layouts}
+use Rattle.gc_owner.specs.declared.entry.GcClass.{GcClass}
+use Rattle.gc_owner.specs.declared.entry.SlotEntry.{SlotEntry}
+use Rattle.gc_owner.specs.RootColumns.{with_global, empty_slot}
+use Rattle.gc_owner.specs.Owners.{OwnerView, ChangesRoots}
+use Rattle.gc_model.specs.Values.{Reference, null, reference}
+use Rattle.gc_model.specs.Table.{Table, Slot, global_count}
+use Rattle.gc_model.specs.Globals.{set_global, global_at}
+use Rattle.gc_model.specs.RootPoints.{SlotBy}
+use Rattle.gc_model.specs.Stores.{StoreView, unset_globals}
+use Rattle.gc_model.specs.Holds.{Placing, IsWord, Holds}
+use Rattle.gc_model.proofs.Lists.{all_replicated}
+use Rattle.gc_model.proofs.SlotsSet.{slot_beside}
+use Rattle.gc_model.proofs.HoldsGlobals.{holds_global_set}
+use Rattle.gc_policy.specs.Accounts.{Account, IsAccount, HoldsAccount}
+use Rattle.gc_policy.proofs.AccountLemmas.{account_kept}
+use Rattle.gc_store.specs.declared.config.HeapConfig.{HeapConfig}
+use Rattle.gc_store.specs.declared.engine.StoreId.{StoreId}
+use Rattle.gc_store.specs.declared.root.GcRootIndex.{GcRootIndex}
+use Rattle.gc_store.specs.declared.root.RawValue.TheVariants as raw
+use Rattle.gc_store.specs.declared.root.RootFault.{RootFault}
+use Rattle.gc_store.specs.declared.root.RootFault.TheVariants as fault
+use Rattle.gc_store.specs.Handles.{PushesRoot}
+use Rattle.gc_store.specs.Roots.{is_of_store, word_of, IsRootWord}
+use Rattle.gc_store.specs.Slots.{told_of_slot, FindsWord, ReadsSlot}
+use Rattle.gc_store.specs.Stores.{store_view, IsSound}
+use Rattle.gc_store.specs.Values.{ReadsValue}
+use Rattle.gc_store.proofs.Roots.{word_of-ok, word_of-err, word_of-wrong, names-entry, named_live, named_dead}
+use Rattle.gc_store.proofs.ReadValues.{null_word, reads_pushed, reads_refused}
+
+module _ {D : Type 0} (layouts : Layouts) (s : StoreView D) (t : Table D) (place : Placing) (holds : Holds layouts s t place) (handle : GcRootIndex) where
+  finds_fault : (own : Bool) (f : RootFault) → is_of_store s handle ≡ own → word_of s handle ≡ Err f → FindsWord s t place (Some handle) (Err f)
+  finds_fault true f own is =
+      subst (λ (x : RootFault). FindsWord s t place (Some handle) (Err x)) (sym (word_of-err s handle f own is).unrooted)
+      (own, λ serial names. (named_dead layouts s t place holds handle serial f names is).0)
+  finds_fault false f other is =
+      let both : Err fault.WrongStore ≡ Err f = sym (word_of-wrong s handle other) ∙ is in
+      let wrong : fault.WrongStore ≡ f = grind (arith, both) in
+      subst (λ (x : RootFault). FindsWord s t place (Some handle) (Err x)) wrong other
+
+  -- a handle has the word of what it names, or a fault says why not
+  pub finds_word : (answer : _) → word_of s handle ≡ answer → FindsWord s t place (Some handle) answer
+  finds_word (Ok word) is =
+      let named = names-entry layouts s t place holds handle word (word_of-ok s handle word is) in
+      let live = named_live layouts s t place holds handle named.0 word named.1 is in
+      (live.0, ((named.0, (named.1, live.1.0)), live.1.1))
+  finds_word (Err f) is = finds_fault (is_of_store s handle) f refl is
+
+-- an owner set a global
+module _ {D : Type 0} (layouts : Layouts) (id : StoreId) (config : HeapConfig) (tries : ℕ) (old new : OwnerView D) (index : ℕ) (class : GcClass) (word : ℕ)
+    (changes : ChangesRoots old new (with_global index (record { class = class; word = word }) old.roots)) where
+  abbrev before : StoreView D
+  before = store_view id config old tries
+
+  abbrev after : StoreView D
+  after = store_view id config new tries
+
+  -- so the store holds the table with that global set, and the same account
+  pub global_was_set : (t : Table D) (place : Placing) (a : Account) (r : Reference) → Holds layouts before t place → IsAccount before place a → IsWord place r word → HoldsAccount layouts after (set_global index class r t) a
+  global_was_set t place a r holds account is =
+      subst (λ (v : OwnerView D). HoldsAccount layouts (store_view id config v tries) (set_global index class r t) a) (sym changes.rest) (record {
+        place = place;
+        holds = holds_global_set layouts before t place index class r word new.heap holds is changes.held;
+        account = account_kept before _ place a refl refl changes.held.needs_gc account;
+      })
+
+  -- and is sound
+  pub sound_global_set : (handle : Option GcRootIndex) (sound : IsSound D layouts old before) → FindsWord before sound.table sound.holds.place handle (Ok word) → IsSound D layouts new after
+  sound_global_set handle sound finds = record {
+    idle = ap (λ (v : OwnerView D). v.idle) changes.rest ∙ sound.idle;
+    engine = ap (λ (v : OwnerView D). v.types.engine) changes.rest ∙ sound.engine;
+    number = ap (λ (v : OwnerView D). v.types.number) changes.rest ∙ sound.number;
+    table = set_global index class finds.0 sound.table;
+    account = sound.account;
+    holds = global_was_set sound.table sound.holds.place sound.account finds.0 sound.holds.holds sound.holds.account finds.1.1;
+  }
+
+-- the entry of a global of the store
+abbrev pub entry_of : List SlotEntry → ℕ → SlotEntry
+entry_of globals index = slice_index_or globals index empty_slot
+
+module _ {D : Type 0} (layouts : Layouts) (s : StoreView D) (t : Table D) (place : Placing) (holds : Holds layouts s t place) (index : ℕ) where
+  -- stands for that of the table
+  pub global_stands : (slot : Slot) → global_at t index ≡ Some slot → SlotBy place (entry_of s.globals index) slot
+  global_stands slot e =
+      holds.globals.slots.each index (entry_of s.globals index) slot (slice_get-get_or s.globals index empty_slot (omega (arith, slice_get_within t.globals index slot e, holds.globals.slots.same_count))) e
+
+  -- so its word is that of a root, where it is not null
+  pub global_word : index < global_count → 0 < (entry_of s.globals index).word → IsRootWord D layouts s (entry_of s.globals index).word
+  global_word below positive =
+      let there = slice_get-get_or s.globals index empty_slot (omega (arith, below, holds.globals.count, holds.globals.slots.same_count)) in
+      let beside = slot_beside place t.globals s.globals holds.globals.slots index (entry_of s.globals index) there in
+      record { table = t; place = place; holds = holds; root = beside.0.reference; is_word = beside.1.1.word; not_null = positive }
+
+module _ {D : Type 0} (layouts : Layouts) (t : Table D) (a : Account) (entry : SlotEntry) (slot : Slot) where
+  -- a slot whose word is 0 is read as null
+  pub reads_empty : (s : StoreView D) (holds : HoldsAccount layouts s t a) → SlotBy holds.place entry slot → entry.word ≡ 0 → ReadsSlot layouts t a slot (Ok (entry.class, None)) s
+  reads_empty s holds stands zero =
+      let is_null : slot.reference ≡ null = null_word layouts s t a holds slot.reference (subst (IsWord holds.place slot.reference) zero stands.word) in
+      subst (λ (c : GcClass). ReadsSlot layouts t a slot (Ok (c, None)) s) (sym stands.class)
+      (subst (λ (r : Reference). ReadsValue layouts t a (reference slot.class r) (Ok (raw.Ref slot.class None)) s) (sym is_null) (λ makes. absurd (cc makes), (refl, holds)))
+
+  module _ (place : Placing) (stands : SlotBy place entry slot) (new : StoreView D) (positive : 0 < entry.word) where
+    -- another one as a new root
+    pub reads_root : (handle : GcRootIndex) → PushesRoot layouts t a slot.reference (Ok handle) new → ReadsSlot layouts t a slot (Ok (entry.class, Some handle)) new
+    reads_root handle pushes =
+        subst (λ (c : GcClass). ReadsSlot layouts t a slot (Ok (c, Some handle)) new) (sym stands.class)
+        (reads_pushed layouts t a place slot.class slot.reference entry.word handle new stands.word positive pushes)
+
+    -- or it is refused one
+    pub reads_no_root : (f : RootFault) → PushesRoot layouts t a slot.reference (Err f) new → ReadsSlot layouts t a slot (Err (told_of_slot f)) new
+    reads_no_root fault.WrongStore pushes = absurd pushes
+    reads_no_root fault.Unrooted pushes = absurd pushes
+    reads_no_root fault.RootsFull pushes = reads_refused layouts t a place slot.class slot.reference entry.word fault.RootsFull new stands.word positive pushes
+    reads_no_root fault.Memory pushes = reads_refused layouts t a place slot.class slot.reference entry.word fault.Memory new stands.word positive pushes
+
+-- there are as many globals as there are
+pub globals_count : {D : Type 0} (layouts : Layouts) (s : StoreView D) (t : Table D) (place : Placing) → Holds layouts s t place → length s.globals ≡ global_count
+globals_count layouts s t place holds = holds.globals.slots.same_count ∙ holds.globals.count
+
+-- globals that each are empty are unset
+pub are_unset : (globals : List SlotEntry) → length globals ≡ global_count → ((k : ℕ) → k < global_count → entry_of globals k ≡ empty_slot) → globals ≡ unset_globals
+are_unset globals count each =
+    all_replicated empty_slot global_count globals count (λ i entry e.
+    sym (get_or_from_slice_get globals i entry empty_slot e) ∙ each i (omega (arith, slice_get_within globals i entry e, count)))
