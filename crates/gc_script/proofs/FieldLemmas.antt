@@ -31,12 +31,12 @@ use Rattle.gc_script.proofs.TestLemmas.{passes, stops, passes_all, stops_all, re
 use Rattle.gc_script.proofs.ReadLemmas.{read_goes, field_no_function}
 
 -- both tests are true, or the second is false where the first is true
-both_true : (a b : Bool) → a ≡ true → b ≡ true → (a && b) ≡ true
+pub both_true : (a b : Bool) → a ≡ true → b ≡ true → (a && b) ≡ true
 both_true true true e f = refl
 both_true true false e f = absurd (cc f)
 both_true false b e f = absurd (cc e)
 
-not_both : (a b : Bool) → (a ≡ true → b ≡ false) → (a && b) ≡ false
+pub not_both : (a b : Bool) → (a ≡ true → b ≡ false) → (a && b) ≡ false
 not_both true b other = other refl
 not_both false b other = refl
 

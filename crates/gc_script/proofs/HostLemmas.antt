@@ -1,22 +1,23 @@
 -- No object that a collection keeps is a host object.
-use Rattle.std.proofs.Common.{inl, inr, ◌≡◌, ℕ, List, [], ◌∷◌, map, replicate, Option, Some, suc, sym, ◌∙◌, refl, subst, arith}
+use Rattle.std.proofs.Common.{inl, inr, ◌≡◌, ℕ, List, [], ◌∷◌, map, Option, Some, suc, sym, ◌∙◌, refl, subst, arith}
 use Rattle.std.specs.Prelude.{All, nat_eq}
 use Rattle.std.specs.List.{slice_get, flat_map, slice_index_or, IsDistinct}
 use Rattle.std.proofs.lemmas.List.Concat.{flat_map-cons}
-use Rattle.std.proofs.lemmas.List.Elements.{All-nil, All-append, All-cons, All-map, All-replicate, All-contains}
+use Rattle.std.proofs.lemmas.List.Elements.{All-nil, All-append, All-cons, All-map, All-contains}
 use Rattle.std.proofs.lemmas.Option.{slice_get_within, slice_get-get_or, slice_get_cases}
 use Rattle.gc_types.specs.declared.kind.Layouts.{Layouts}
 use Rattle.gc_types.specs.declared.kind.Layouts.TheVariants.{Null, Counting, Copying}
 use Rattle.gc_types.specs.declared.value.StorageType.{StorageType}
 use Rattle.gc_owner.specs.declared.entry.RootEntry.{RootEntry}
 use Rattle.gc_model.specs.Values.{Reference, at, Value, numeric, function, reference, Object, struct, array, host, exception}
-use Rattle.gc_model.specs.Table.{Table, Scoped, Slot, Owned, empty_slot, global_count}
+use Rattle.gc_model.specs.Table.{Table, Scoped, Slot, Owned}
 use Rattle.gc_model.specs.Reach.{Reached, by_start, by_step, IsKept, IsHost, HasNumber, root_references, references_in, value_references, slot_references, owned_references, present}
 use Rattle.gc_model.specs.Stores.{StoreView}
 use Rattle.gc_model.specs.Holds.{Placing, IsWord, Holds, HoldsTable, Stands, Lies}
 use Rattle.gc_types.specs.Layouts.{storage_width}
 use Rattle.gc_model.specs.Forms.{IsCode, no_functions, number_at}
 use Rattle.gc_view.specs.Heaps.{HeapObject}
+use Rattle.gc_model.proofs.Lists.{slice_get-same_length}
 use Rattle.gc_model.proofs.HeldStructs.{read_lies, placed_typed}
 
 -- a reference has a word
@@ -41,12 +42,18 @@ module _ {D : Type 0} (layouts : Layouts) (s : StoreView D) (t : Table D) (place
       ] in
       (entry.0.word, (holds.scoped.each i entry.0 root entry.1 e).word)
 
+  -- and so do globals
+  global_words : (i : ℕ) (slot : Slot) → slice_get t.globals i ≡ Some slot → HasWord place slot.reference
+  global_words i slot e =
+      let entry = slice_get-same_length t.globals s.globals i slot (sym holds.globals.slots.same_count) e in
+      (entry.0.word, (holds.globals.slots.each i entry.0 slot entry.1 e).word)
+
   -- and so does all that roots name
   root_words : All (HasWord place) (root_references t)
   root_words =
       All-append (HasWord place) (map (λ (root : Scoped). root.reference) t.scoped) _ (All-map (HasWord place) (λ (root : Scoped). root.reference) t.scoped (All-by_get (λ (root : Scoped). HasWord place root.reference) t.scoped scoped_words))
       (All-append (HasWord place) (flat_map slot_references t.frames) _ (subst (λ (fs : List (List Slot)). All (HasWord place) (flat_map slot_references fs)) (sym holds.nothing_else.frames) (All-nil (HasWord place)))
-      (All-append (HasWord place) (slot_references t.globals) _ (subst (λ (gs : List Slot). All (HasWord place) (slot_references gs)) (sym holds.nothing_else.globals) (All-map (HasWord place) (λ (slot : Slot). slot.reference) (replicate global_count empty_slot) (All-replicate (λ (slot : Slot). HasWord place slot.reference) global_count empty_slot (0, refl))))
+      (All-append (HasWord place) (slot_references t.globals) _ (All-map (HasWord place) (λ (slot : Slot). slot.reference) t.globals (All-by_get (λ (slot : Slot). HasWord place slot.reference) t.globals global_words))
       (All-append (HasWord place) (flat_map owned_references t.owned) _ (subst (λ (os : List Owned). All (HasWord place) (flat_map owned_references os)) (sym holds.nothing_else.owned) (All-nil (HasWord place)))
       (subst (λ (o : Option Reference). All (HasWord place) (present o)) (sym holds.nothing_else.pending) (All-nil (HasWord place))))))
 

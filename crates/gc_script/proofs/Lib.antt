@@ -25,3 +25,4 @@ pub mod ShownLemmas
 pub mod ReadLemmas
 pub mod FieldLemmas
 pub mod KeptLemmas
+pub mod GlobalLemmas

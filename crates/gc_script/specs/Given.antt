@@ -67,6 +67,12 @@ is_gone unset = false
 is_gone gone = true
 is_gone (is v) = false
 
+-- the value is a reference, null too
+abbrev pub is_reference : Value → Bool
+is_reference (numeric kind n) = false
+is_reference (function f) = false
+is_reference (values.reference c r) = true
+
 -- the value that is given; a null where there is none
 abbrev pub given_value : Given → Value
 given_value unset = values.reference class.Any null

@@ -10,7 +10,7 @@ use Rattle.gc_owner.specs.Limiters.{Refuses}
 use Rattle.gc_store.specs.Places.{MayGetPages}
 use Rattle.gc_policy.specs.Policy.{PolicyState}
 use Rattle.gc_commands.specs.declared.command.Command.{Command}
-use Rattle.gc_commands.specs.declared.command.Command.TheVariants.{Struct, New, I31, Field, Enter, Grow}
+use Rattle.gc_commands.specs.declared.command.Command.TheVariants.{Struct, New, I31, Field, Enter, GetGlobal, Grow}
 use Rattle.gc_commands.specs.declared.reply.Reply.{Reply}
 use Rattle.gc_commands.specs.declared.reply.Reply.TheVariants as reply
 use Rattle.gc_commands.specs.declared.reply.Refusal.{Refusal}
@@ -93,6 +93,7 @@ takes_memory (New d t vs) = true
 takes_memory (I31 d n) = true
 takes_memory (Field r i into) = true
 takes_memory Enter = true
+takes_memory (GetGlobal g d) = true
 takes_memory (Grow n) = true
 takes_memory _ = false
 

@@ -6,19 +6,21 @@ use Rattle.gc_owner.specs.declared.entry.GcClass.{GcClass}
 use Rattle.gc_owner.specs.declared.entry.GcClass.TheVariants as class
 use Rattle.gc_model.specs.Values.{Reference, null, small, at, Value, numeric, i32, i64, f32, f64, v128, function, Object, struct, array, host, exception}
 use Rattle.gc_model.specs.Values as values
-use Rattle.gc_model.specs.Table.{Table, push, leave, write}
+use Rattle.gc_model.specs.Table.{Table, Slot, empty_slot, push, leave, write}
+use Rattle.gc_model.specs.Globals.{set_global, global_at}
 use Rattle.gc_model.specs.Reads.{after_read, same_reference}
 use Rattle.gc_commands.specs.declared.command.Command.{Command}
-use Rattle.gc_commands.specs.declared.command.Command.TheVariants.{Struct, New, I31, Field, SetField, Eq, Enter, Leave, Gc, Grow, Cap}
+use Rattle.gc_commands.specs.declared.command.Command.TheVariants.{Struct, New, I31, Field, SetField, Eq, Enter, Leave, SetGlobal, GetGlobal, Gc, Grow, Cap}
 use Rattle.gc_commands.specs.declared.command.Operand.{Operand}
 use Rattle.gc_commands.specs.declared.reply.Reply.{Reply}
 use Rattle.gc_commands.specs.declared.reply.Reply.TheVariants as reply
 use Rattle.gc_commands.specs.declared.reply.ReplyValue.{ReplyValue}
 use Rattle.gc_commands.specs.declared.reply.ReplyValue.TheVariants as reply_value
 use Rattle.gc_commands.specs.declared.reply.Refusal.TheVariants as refusal
+use Rattle.gc_store.specs.Slots.{slot_value}
 use Rattle.gc_script.specs.State.{State, Held, number, reference, with_table, with_marks, set_register, put_into}
 use Rattle.gc_script.specs.Built.{built_struct}
-use Rattle.gc_script.specs.Given.{given, given_value, given_values, named, Target, target, target_values}
+use Rattle.gc_script.specs.Given.{given, given_register, given_value, given_values, named, Target, target, target_values}
 
 -- the object that `new` makes
 abbrev pub new_struct : State → ℕ → List Operand → Object ℕ
@@ -102,6 +104,26 @@ older marks = take (length marks - 1) marks
 abbrev pub leaves : State → Reply × State
 leaves s = (reply.Done, with_marks (older s.marks) (with_table (leave (newest s.marks) s.table) s))
 
+-- the slot that a reference is put into
+abbrev pub slot_of : Value → Slot
+slot_of (numeric kind n) = empty_slot
+slot_of (function f) = empty_slot
+slot_of (values.reference c r) = record { class = c; reference = r }
+
+-- a global is set to what a register gives
+abbrev pub set_to : ℕ → Slot → Table ℕ → Table ℕ
+set_to g slot t = set_global g slot.class slot.reference t
+
+abbrev pub sets_global : ℕ → ℕ → State → Reply × State
+sets_global g r s = (reply.Done, with_table (set_to g (slot_of (given_value (given_register s r))) s.table) s)
+
+-- what a global holds, which is read into a register
+abbrev pub global_value : State → ℕ → Value
+global_value s g = slot_value (unwrap_or (global_at s.table g) empty_slot)
+
+abbrev pub gets_global : ℕ → ℕ → State → Reply × State
+gets_global g d s = reads (global_value s g) (Some d) s
+
 -- What a command does, in so far as heap and limiter have to do with it:
 -- `plain` answers and leaves what the function says of what is visible of the state, and nothing hidden changes;
 -- `declaring` declares a type;
@@ -127,6 +149,8 @@ shape (SetField r i v) = plain (writes_field r i v)
 shape (Eq r q) = plain (compares r q)
 shape Enter = plain enters
 shape Leave = plain leaves
+shape (SetGlobal g r) = plain (sets_global g r)
+shape (GetGlobal g d) = plain (gets_global g d)
 shape Gc = collecting
 shape (Grow n) = growing n
 shape Cap = showing

@@ -8,6 +8,7 @@ use Rattle.gc_types.specs.Declarations.{Declaration, struct_fields_at}
 use Rattle.gc_owner.specs.declared.entry.GcClass.{GcClass}
 use Rattle.gc_model.specs.Values.{Value, Object}
 use Rattle.gc_model.specs.Table.{Table, declare}
+use Rattle.gc_model.specs.Globals.{global_at}
 use Rattle.gc_model.specs.Live.{roots_full}
 use Rattle.gc_model.specs.Reach.{KeepsNumber}
 use Rattle.gc_model.specs.Reads.{makes_root}
@@ -15,16 +16,17 @@ use Rattle.gc_model.specs.Sizes.{object_size}
 use Rattle.gc_view.specs.Pages.{page}
 use Rattle.gc_model.specs.Allocation.{too_large, Allocates, LacksMemory, Grows}
 use Rattle.gc_commands.specs.declared.command.Command.{Command}
-use Rattle.gc_commands.specs.declared.command.Command.TheVariants.{New, I31, Field, SetField, Eq, Leave}
+use Rattle.gc_commands.specs.declared.command.Command.TheVariants.{New, I31, Field, SetField, Eq, Leave, SetGlobal, GetGlobal}
 use Rattle.gc_commands.specs.declared.command.Operand.{Operand}
 use Rattle.gc_commands.specs.declared.reply.Reply.{Reply}
 use Rattle.gc_commands.specs.declared.reply.Reply.TheVariants as reply
 use Rattle.gc_commands.specs.declared.reply.Refusal.{Refusal}
 use Rattle.gc_commands.specs.declared.reply.Refusal.TheVariants as refusal
 use Rattle.gc_policy.specs.Accounts.{Account}
+use Rattle.gc_store.specs.Slots.{slot_value}
 use Rattle.gc_script.specs.State.{State, reference, with_table, with_account, with_heap, set_register, visible, over}
 use Rattle.gc_script.specs.Built.{is_built}
-use Rattle.gc_script.specs.Given.{Given, given, given_register, given_value, is_unset, is_gone, named, target, target_values, field_of, is_constant, fits_field}
+use Rattle.gc_script.specs.Given.{Given, given, given_register, given_value, is_unset, is_gone, is_reference, named, target, target_values, field_of, is_constant, fits_field}
 use Rattle.gc_script.specs.Shapes.{Shape, plain, declaring, making, growing, collecting, showing, shape, new_struct}
 
 -- how many fields the struct type has; 0 where it isn't declared
@@ -118,6 +120,22 @@ abbrev pub is_empty_list : List ℕ → Bool
 is_empty_list [] = true
 is_empty_list (m ∷ ms) = false
 
+-- the tests of setting a global to what a register gives
+abbrev pub set_global_tests : State → ℕ → ℕ → List (Bool × Refusal)
+set_global_tests s g r =
+    (is_none (global_at s.table g), refusal.NoSuchName)
+    ∷ (is_unset (given_register s r), refusal.NoSuchName)
+    ∷ (is_gone (given_register s r), refusal.Unrooted)
+    ∷ (not (is_reference (given_value (given_register s r))), refusal.WrongKind)
+    ∷ []
+
+-- the tests of reading a global
+abbrev pub get_global_tests : State → ℕ → List (Bool × Refusal)
+get_global_tests s g =
+    (is_none (global_at s.table g), refusal.NoSuchName)
+    ∷ (reads_root (option_map slot_value (global_at s.table g)) && roots_full s.table, refusal.RootsFull)
+    ∷ []
+
 -- The tests of a command of a built form, in their order; the first that is true refuses it. Whether a type
 -- may be declared is tested by `Declares`.
 abbrev pub built_tests : Layouts → State → Command → List (Bool × Refusal)
@@ -127,6 +145,8 @@ built_tests layouts s (Field r i into) = field_tests s r i
 built_tests layouts s (SetField r i v) = set_tests s r i v
 built_tests layouts s (Eq r q) = eq_tests s r q
 built_tests layouts s Leave = (is_empty_list s.marks, refusal.NoSuchName) ∷ []
+built_tests layouts s (SetGlobal g r) = set_global_tests s g r
+built_tests layouts s (GetGlobal g d) = get_global_tests s g
 built_tests layouts s _ = []
 
 -- the tests of a command, which see what is visible of the state

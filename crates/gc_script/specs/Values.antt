@@ -2,6 +2,7 @@
 use Rattle.std.specs.Prelude.{◌≡◌, ℕ, Bool, true, false, List, Option, Some, None, Result, Ok, Err}
 use Rattle.std.specs.List.{AllZip}
 use Rattle.gc_types.specs.declared.value.FieldType.{FieldType}
+use Rattle.gc_owner.specs.declared.entry.GcClass.{GcClass}
 use Rattle.gc_model.specs.Stores.{StoreView}
 use Rattle.gc_model.specs.Table.{Table}
 use Rattle.gc_model.specs.Values.{Value}
@@ -46,6 +47,16 @@ raw_handle (raw.F64 n) = None
 raw_handle (raw.V128 n) = None
 raw_handle (raw.Func f) = None
 raw_handle (raw.Ref class handle) = handle
+
+-- the class and the handle of a value, where it is a reference
+abbrev pub raw_slot : RawValue → Option (GcClass × Option GcRootIndex)
+raw_slot (raw.I32 n) = None
+raw_slot (raw.I64 n) = None
+raw_slot (raw.F32 n) = None
+raw_slot (raw.F64 n) = None
+raw_slot (raw.V128 n) = None
+raw_slot (raw.Func f) = None
+raw_slot (raw.Ref class handle) = Some (class, handle)
 
 -- A value that is found live stands for what is given; else its root is gone.
 abbrev pub IsFound : StoreView ℕ → Table ℕ → RawValue → Given → Bool → Type 0

@@ -70,6 +70,8 @@ pub(crate) fn is_built(command: &Command) -> bool
         | Command::Eq { .. }
         | Command::Enter
         | Command::Leave
+        | Command::SetGlobal { .. }
+        | Command::GetGlobal { .. }
         | Command::Gc
         | Command::Grow { .. }
         | Command::Cap => true,

@@ -20,7 +20,7 @@ use gc_store::{RawValue, RootFault, Store};
 use std::alloc::AllocError;
 
 /// Makes room for a register, where one is named.
-fn make_room(registers: &mut Registers, into: Option<u16>) -> Result<(), AllocError>
+pub(crate) fn make_room(registers: &mut Registers, into: Option<u16>) -> Result<(), AllocError>
     ensures room { OnOk result (HasRoom into registers.new) }
     ensures same { (d : ℕ) → register_at registers.new d ≡ register_at registers.old d }
 {
@@ -31,7 +31,7 @@ fn make_room(registers: &mut Registers, into: Option<u16>) -> Result<(), AllocEr
 }
 
 /// Puts a value into a register, where one is named.
-fn put_into(registers: &mut Registers, into: Option<u16>, value: RawValue)
+pub(crate) fn put_into(registers: &mut Registers, into: Option<u16>, value: RawValue)
     requires { HasRoom into registers.old }
     ensures { (d : ℕ) → register_at registers.new d ≡ register_with into value registers.old d }
 {

@@ -7,6 +7,7 @@
 
 mod built;
 mod fields;
+mod globals;
 mod growth;
 mod make;
 mod registers;

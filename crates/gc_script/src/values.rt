@@ -13,7 +13,7 @@ ghost use Rattle.gc_store.specs.Places.{CanPlace};
 ghost use Rattle.gc_script.specs.State.{State, Held, Stands};
 ghost use Rattle.gc_script.specs.Built.{is_built_operand};
 ghost use Rattle.gc_script.specs.Given.{held_operand, given_held};
-ghost use Rattle.gc_script.specs.Values.{HoldsOperand, HoldsOperands, HasUnset, AllHeld, raw_handle, IsFound, ChecksValue, ChecksValues};
+ghost use Rattle.gc_script.specs.Values.{HoldsOperand, HoldsOperands, HasUnset, AllHeld, raw_handle, raw_slot, IsFound, ChecksValue, ChecksValues};
 
 use crate::registers::Registers;
 use gc_commands::{Operand, Refusal};
@@ -74,6 +74,16 @@ pub(crate) fn handle_of(value: &RawValue) -> Option<GcRootIndex>
 {
     match value {
         RawValue::Ref(_, handle) => *handle,
+        _ => None,
+    }
+}
+
+/// The class and the handle of a value, where it is a reference.
+pub(crate) fn slot_of(value: &RawValue) -> Option<(GcClass, Option<GcRootIndex>)>
+    ensures { result ≡ raw_slot value.now }
+{
+    match value {
+        RawValue::Ref(class, handle) => Some((*class, *handle)),
         _ => None,
     }
 }

@@ -41,6 +41,14 @@ pub returns-in-Leave-clause-runs : goal.returns-in-Leave-clause-runs
 returns-in-Leave-clause-runs g c s holds =
     runs_as g.H.GcHeap.KIND c.args.store.now.alloc_counter (g.L.ResourceLimiter.limits c.args.limiter.now) s c.args.command.now command.Leave (Ok c.leave.result) c.leave.new.store c.leave.new.self c.in-Leave.is tt (c.leave.ensures.goes s holds)
 
+pub returns-in-SetGlobal-clause-runs : goal.returns-in-SetGlobal-clause-runs
+returns-in-SetGlobal-clause-runs g c s holds =
+    runs_as g.H.GcHeap.KIND c.args.store.now.alloc_counter (g.L.ResourceLimiter.limits c.args.limiter.now) s c.args.command.now (command.SetGlobal c.in-SetGlobal.g c.in-SetGlobal.r) (Ok c.set_global.result) c.set_global.new.store c.args.self.now c.in-SetGlobal.is tt (c.set_global.ensures.goes s holds)
+
+pub returns-in-GetGlobal-clause-runs : goal.returns-in-GetGlobal-clause-runs
+returns-in-GetGlobal-clause-runs g c s holds =
+    runs_as g.H.GcHeap.KIND c.args.store.now.alloc_counter (g.L.ResourceLimiter.limits c.args.limiter.now) s c.args.command.now (command.GetGlobal c.in-GetGlobal.g c.in-GetGlobal.d) c.get_global.result c.get_global.new.store c.get_global.new.self c.in-GetGlobal.is tt (c.get_global.ensures.goes s holds)
+
 pub returns-in-Gc-clause-runs : goal.returns-in-Gc-clause-runs
 returns-in-Gc-clause-runs g c s holds =
     subst (λ (x : Command). RunsOne g.H.GcHeap.KIND c.args.store.now.alloc_counter (g.L.ResourceLimiter.limits c.args.limiter.now) (g.L.ResourceLimiter.limits c.args.limiter.now) s x (Ok c.collect.result) c.collect.new.store c.args.self.now) (sym c.in-Gc.is)
