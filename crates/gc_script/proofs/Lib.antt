@@ -26,3 +26,5 @@ pub mod ReadLemmas
 pub mod FieldLemmas
 pub mod KeptLemmas
 pub mod GlobalLemmas
+pub mod LineLemmas
+pub mod CutLemmas

@@ -9,5 +9,6 @@ pub mod Named
 pub mod Values
 pub mod Run
 pub mod Lines
+pub mod Cutting
 pub mod Session
 pub mod Script

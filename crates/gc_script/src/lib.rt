@@ -3,9 +3,11 @@
 //! A `Runner` has the registers of a session and runs one command after another; each is a step of
 //! the object table, and the replies to a list of commands are a run of it. `specs/` says what a
 //! step is: `Steps` has the tests of each command in their order and what it does, `Run` a whole run.
+//! `LineCutter` cuts the bytes of a script into lines as they come (`Cutting`).
 #![tactic(auto)]
 
 mod built;
+pub mod cutter;
 mod fields;
 mod globals;
 mod growth;
@@ -18,6 +20,7 @@ mod shown;
 mod targets;
 mod values;
 
+pub use cutter::{LineCutter, pieces_give_lines};
 pub use gc_commands::{
     ByteText, Command, FieldWord, FieldWords, HeapWord, Operand, Operands, Refusal, Reply,
     ReplyValue, StorageWord, ValueWord, parse_line, push_reply, reply_text,

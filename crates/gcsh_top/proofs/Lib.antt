@@ -1,4 +1,3 @@
-pub mod LineLemmas
 pub mod FormLemmas
 pub mod EndLemmas
 pub mod InputLemmas
@@ -9,5 +8,4 @@ pub mod FormRun
 pub mod ReadingLemmas
 pub mod FormAnswers
 pub mod StatusLaws
-pub mod CutLemmas
 pub mod ProgramLemmas

@@ -1,6 +1,6 @@
 -- Pieces of an input, one after the other, whose lines are run as they end.
-use Rattle.std.proofs.Common.{◌≡◌, ℕ, ◌+◌, ◌<◌, ◌≤◌, Bool, false, List, [], ◌∷◌, ◌++◌, length, take, drop, Option, Result, Ok, Err, IfOk, inl, inr, refl, sym, ap, subst, ◌∙◌, append_assoc, append-nil, length-take, arith}
-use Rattle.std.proofs.lemmas.Bool.{ltb-false}
+use Rattle.std.proofs.Common.{◌≡◌, ◌==◌, ℕ, ◌+◌, ◌<◌, ◌≤◌, Bool, true, false, List, [], ◌∷◌, ◌++◌, length, take, drop, Option, Result, Ok, Err, IfOk, inl, inr, refl, sym, ap, subst, ◌∙◌, append_assoc, append-nil, length-take, arith}
+use Rattle.std.proofs.lemmas.Bool.{ltb-false, or_right, false≢true}
 use Rattle.std.proofs.lemmas.List.{drop_all, take_all}
 use Rattle.std.specs.Io.KnownBytes.{Keeps}
 use Rattle.gc_types.specs.declared.kind.Layouts.{Layouts}
@@ -11,9 +11,9 @@ use Rattle.gc_model.specs.Stores.{StoreView}
 use Rattle.gc_script.specs.Lines.{line_feed, lines}
 use Rattle.gc_script.specs.Slots.{RunnerView}
 use Rattle.gc_script.specs.State.{State, HoldsState}
-use Rattle.gcsh_top.specs.Cutting.{EndsLine, EndsWhole, GoesOn, IsCut, IsUnfinished, KeptLine, kept_of, longer, no_line}
+use Rattle.gc_script.specs.Cutting.{has_feed, EndsLine, EndsWhole, GoesOn, IsCut, IsUnfinished, KeptLine, kept_of, longer, no_line}
 use Rattle.gcsh_top.specs.Runs.{BrokeOff, RanLine, RanLines, RanPiece, RanSome, StoppedPiece}
-use Rattle.gcsh_top.proofs.CutLemmas.{cut_of, ends_on, line_ends, line_unended, longer_kept, plain_both}
+use Rattle.gc_script.proofs.CutLemmas.{cut_of, ends_on, line_ends, line_unended, longer_kept, plain_both}
 use Rattle.gcsh_top.proofs.RunLemmas.{ran_kept, ran_none, ran_on, ran_one, some_on, stopped_first, unread}
 
 -- a line of which all is kept is the command of what is kept
@@ -28,6 +28,17 @@ short_command (Ok c) kept is_long bytes marked short are command = λ line is.
 pub no_bytes : (bytes : List ℕ) → length bytes ≡ 0 → bytes ≡ []
 no_bytes [] none = refl
 no_bytes (b ∷ bytes) none = absurd (omega (arith, none))
+
+-- behind a whole line a line feed is among the bytes
+fed_inside : (before rest : List ℕ) → has_feed ((before ++ line_feed ∷ []) ++ rest) ≡ true
+fed_inside [] rest = refl
+fed_inside (b ∷ before) rest = or_right (b == line_feed) (has_feed ((before ++ line_feed ∷ []) ++ rest)) (fed_inside before rest)
+
+-- bytes without a line feed have no whole line
+pub none_whole : (bytes whole rest : List ℕ) → has_feed bytes ≡ false → bytes ≡ whole ++ rest → EndsWhole whole → whole ≡ []
+none_whole bytes whole rest plain parts (inl none) = none
+none_whole bytes whole rest plain parts (inr (before, is)) =
+    absurd (false≢true (sym plain ∙ ap has_feed (parts ∙ ap (λ w. w ++ rest) is) ∙ fed_inside before rest))
 
 -- What was run of the bytes of an input that came so far, of which some are left to be taken: whole lines, and an
 -- unfinished one that is kept.

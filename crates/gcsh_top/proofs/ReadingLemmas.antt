@@ -1,5 +1,5 @@
 -- The run of a form as its input comes.
-use Rattle.std.proofs.Common.{◌≡◌, ℕ, ◌+◌, ◌≤◌, List, [], ◌∷◌, ◌++◌, length, take, Option, Some, None, IsTrue, inl, inr, refl, sym, ap, subst, ◌∙◌, length-append, length-take, arith}
+use Rattle.std.proofs.Common.{◌≡◌, ℕ, ◌+◌, ◌≤◌, false, List, [], ◌∷◌, ◌++◌, length, take, Option, Some, None, IsTrue, inl, inr, refl, sym, ap, subst, ◌∙◌, length-append, length-take, arith}
 use Rattle.std.specs.Prelude.{◌⊎◌}
 use Rattle.std.proofs.lemmas.List.{take_all, take_at, take-take, take-append-le}
 use Rattle.gc_types.specs.declared.kind.Layouts.{Layouts}
@@ -18,7 +18,7 @@ use Rattle.gcsh_top.specs.declared.status.Status.{Status}
 use Rattle.gcsh_top.specs.declared.status.Status.TheVariants.{ReadFault, TooLong}
 use Rattle.gcsh_top.specs.declared.words.Form.{Form}
 use Rattle.gcsh_top.specs.Answers.{Completed, RanOn, Stopped}
-use Rattle.gcsh_top.specs.Cutting.{IsCut, IsUnfinished, KeptLine, no_line}
+use Rattle.gc_script.specs.Cutting.{has_feed, IsCut, IsUnfinished, KeptLine, no_line}
 use Rattle.gcsh_top.specs.Ends.{Gave, SinkRun, SinkTold, SourceRun, SourceTold}
 use Rattle.gcsh_top.specs.Input.{GaveLines, GavePiece, ReadWhole, Unread, max_input, so_far, to_its_end}
 use Rattle.gcsh_top.specs.Runs.{IsReady, RanForm, RanLines, RanPiece, RanSome, StoppedPiece, first_table}
@@ -26,7 +26,8 @@ use Rattle.gcsh_top.specs.Statuses.{status_of}
 use Rattle.gcsh_top.proofs.EndLemmas.{gave_no_more, gave_none, gave_on, told}
 use Rattle.gcsh_top.proofs.FormRun.{ran_form, ready_state, stopped_form}
 use Rattle.gcsh_top.proofs.InputLemmas.{not_fallen, rose_since}
-use Rattle.gcsh_top.proofs.PieceLemmas.{no_bytes, pieces_end, pieces_end_some, pieces_more, pieces_stopped, unfinished_rest}
+use Rattle.gc_script.proofs.CutLemmas.{plain_both}
+use Rattle.gcsh_top.proofs.PieceLemmas.{no_bytes, none_whole, pieces_end, pieces_end_some, pieces_more, pieces_stopped, unfinished_rest}
 use Rattle.gcsh_top.proofs.RunLemmas.{ran_none}
 
 -- why no bytes were given, where the fault is known
@@ -51,7 +52,7 @@ pub record Reading (layouts : Layouts) (form : Form) (source : SourceRun) (sink 
   pub count : given ≡ length bytes
   pub short : given ≤ max_input
   pub ran : RanPiece layouts old.alloc_counter (fresh_limits (Some form.most)) limits (begin (first_table form) no_account) bytes line old store slots sink.before.held sink.after.held
-  pub flushed : (sink.after ≡ sink.before) ⊎ IsTrue sink.after.flushed
+  pub flushed : (has_feed bytes ≡ false) ⊎ IsTrue sink.after.flushed
   pub read_faults : source.before.faults ≤ source.after.faults
   pub write_faults : sink.before.faults ≤ sink.after.faults
   pub same : IsSameStore old store
@@ -87,10 +88,16 @@ module _ (layouts : Layouts) (form : Form) where
   lines_within source bytes whole rest b gave full cut = record { gave = gave; rest = rest; cut = subst (λ (l : List ℕ). IsCut l whole rest) (sym (take_at bytes (b ∷ []) max_input full)) cut }
 
   -- what was written so far was flushed
-  flushed_since : (x y z : SinkTold) → (y ≡ x) ⊎ IsTrue y.flushed → (z ≡ y) ⊎ IsTrue z.flushed → (z ≡ x) ⊎ IsTrue z.flushed
-  flushed_since x y z before (inr flushed) = inr flushed
-  flushed_since x y z (inl same) (inl still) = inl (still ∙ same)
-  flushed_since x y z (inr flushed) (inl still) = inr (subst (λ (t : SinkTold). IsTrue t.flushed) (sym still) flushed)
+  flushed_since : (bytes piece : List ℕ) (y z : SinkTold) → (has_feed bytes ≡ false) ⊎ IsTrue y.flushed → ((has_feed piece ≡ false) × (z ≡ y)) ⊎ IsTrue z.flushed
+      → (has_feed (bytes ++ piece) ≡ false) ⊎ IsTrue z.flushed
+  flushed_since bytes piece y z before (inr flushed) = inr flushed
+  flushed_since bytes piece y z (inl plain) (inl (more, still)) = inl (plain_both bytes piece plain more)
+  flushed_since bytes piece y z (inr flushed) (inl (more, still)) = inr (subst (λ (t : SinkTold). IsTrue t.flushed) (sym still) flushed)
+
+  -- where a line was whole, what was written was flushed
+  flushed_whole : (bytes whole rest : List ℕ) (y : SinkTold) → IsCut bytes whole rest → (has_feed bytes ≡ false) ⊎ IsTrue y.flushed → (whole ≡ []) ⊎ IsTrue y.flushed
+  flushed_whole bytes whole rest y cut (inl plain) = inl (none_whole bytes whole rest plain cut.parts cut.ends)
+  flushed_whole bytes whole rest y cut (inr flushed) = inr flushed
 
   module _ (a b : SourceTold) (x y : SinkTold) (given : ℕ) (line : KeptLine) (limits : Limits) (old mid : StoreView ℕ) (slots : RunnerView) (none : old.alloc_counter ≡ None) (reading : Reading layouts form (told a b) (took x y) given line limits old mid slots) where
     -- all bytes so far are no more than an input may have
@@ -118,7 +125,7 @@ module _ (layouts : Layouts) (form : Form) where
             whole = reading.ran.whole;
             gave = lines_given (told a c) reading.bytes reading.ran.whole reading.ran.rest (gave_no_more a b c reading.bytes [] reading.gave gave refl) short_bytes reading.ran.cut;
             ran = ran_so_far;
-            flushed = reading.flushed;
+            flushed = flushed_whole reading.bytes reading.ran.whole reading.ran.rest y reading.ran.cut reading.flushed;
           },
           short_bytes,
         ),
@@ -133,7 +140,7 @@ module _ (layouts : Layouts) (form : Form) where
           whole = reading.ran.whole;
           gave = lines_within (told a c) reading.bytes reading.ran.whole reading.ran.rest byte (gave_on a b c reading.bytes (byte ∷ []) reading.gave gave) (sym reading.count ∙ full) reading.ran.cut;
           ran = ran_so_far;
-          flushed = reading.flushed;
+          flushed = flushed_whole reading.bytes reading.ran.whole reading.ran.rest y reading.ran.cut reading.flushed;
         },
         length-append reading.bytes (byte ∷ []) ∙ ap (λ n. n + 1) (sym reading.count ∙ full),
       )
@@ -151,7 +158,7 @@ module _ (layouts : Layouts) (form : Form) where
         -- a piece was given and run
         pub reading_more : (line' : KeptLine) (last : Limits)
             → ((bytes : List ℕ) (s : State) → IsUnfinished line bytes → HoldsState layouts mid slots s → RanPiece layouts mid.alloc_counter limits last s (bytes ++ piece) line' mid store slots' y.held z.held)
-            → (z ≡ y) ⊎ IsTrue z.flushed → b.faults ≤ c.faults → y.faults ≤ z.faults → Reading layouts form (told a c) (took x z) (given + n) line' last old store slots'
+            → ((has_feed piece ≡ false) × (z ≡ y)) ⊎ IsTrue z.flushed → b.faults ≤ c.faults → y.faults ≤ z.faults → Reading layouts form (told a c) (took x z) (given + n) line' last old store slots'
         reading_more line' last ran flushed read_faults write_faults = record {
           bytes = reading.bytes ++ piece;
           gave = gave_all;
@@ -160,7 +167,7 @@ module _ (layouts : Layouts) (form : Form) where
           ran = pieces_more layouts old.alloc_counter (fresh_limits (Some form.most)) limits (begin (first_table form) no_account) reading.bytes line old mid slots x.held y.held reading.ran last piece line' store slots' z.held
               (subst (λ (k : Option ℕ). RanPiece layouts k limits last reading.ran.ran.after (reading.ran.rest ++ piece) line' mid store slots' y.held z.held) reading.same.counter
               (ran reading.ran.rest reading.ran.ran.after (unfinished_rest layouts old.alloc_counter (fresh_limits (Some form.most)) limits (begin (first_table form) no_account) reading.bytes line old mid slots x.held y.held reading.ran) reading.ran.ran.holds));
-          flushed = flushed_since x y z reading.flushed flushed;
+          flushed = flushed_since reading.bytes piece y z reading.flushed flushed;
           read_faults = not_fallen a.faults b.faults c.faults reading.read_faults read_faults;
           write_faults = not_fallen x.faults y.faults z.faults reading.write_faults write_faults;
           same = same_all;

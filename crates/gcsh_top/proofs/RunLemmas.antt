@@ -13,12 +13,12 @@ use Rattle.gc_script.specs.Policy.{RunByPolicy}
 use Rattle.gc_script.specs.Slots.{RunnerView}
 use Rattle.gc_script.specs.State.{State, HoldsState}
 use Rattle.gc_script.specs.Session.{AreCommandsOf, SessionFrom, reply_line}
-use Rattle.gcsh_top.specs.Cutting.{EndsWhole}
+use Rattle.gc_script.specs.Cutting.{EndsWhole}
 use Rattle.gcsh_top.specs.Ends.{TookPart}
 use Rattle.gc_script.specs.Lines.{lines}
 use Rattle.gcsh_top.specs.Runs.{BrokeOff, not_read, EndsInGc, RanLine, RanLines, RanSome, StoppedLines}
 use Rattle.gcsh_top.proofs.GcLemmas.{is_gc_line, last_line}
-use Rattle.gcsh_top.proofs.CutLemmas.{lines_behind}
+use Rattle.gc_script.proofs.CutLemmas.{lines_behind}
 
 -- two runs, one behind the other
 runs_on : (layouts : Layouts) (counter : Option ℕ) (s mid after : State) (limits now last : Limits) (cs ds : List Command) (rs qs : List Reply) → RunByPolicy layouts counter s limits cs rs mid now → RunByPolicy layouts counter mid now ds qs after last

@@ -1,5 +1,5 @@
 -- What the top call answers: one relation by its status.
-use Rattle.std.specs.Prelude.{◌≡◌, ℕ, ◌+◌, ◌-◌, ◌^◌, ◌<◌, ◌≤◌, ◌⊎◌, IsTrue, List, Option, Some, None, length}
+use Rattle.std.specs.Prelude.{◌≡◌, ℕ, ◌+◌, ◌-◌, ◌^◌, ◌<◌, ◌≤◌, ◌⊎◌, IsTrue, List, [], Option, Some, None, length}
 use Rattle.gc_types.specs.declared.kind.Layouts.{Layouts}
 use Rattle.gc_model.specs.Allocation.{Rose}
 use Rattle.gc_model.specs.Stores.{StoreView}
@@ -29,12 +29,12 @@ pub record Stopped (layouts : Layouts) (form : Form) (source : SourceRun) (sink 
   pub stopped : StoppedForm layouts form input sink.before.held sink.after.held store
 
 -- Every line that the source gave whole has its reply, and no other line was run: the source gave these bytes, and those
--- within the limit end their whole lines with the last line feed. What was written was flushed.
+-- within the limit end their whole lines with the last line feed. Where there was one, what was written was flushed.
 pub record RanFront (layouts : Layouts) (form : Form) (source : SourceRun) (sink : SinkRun) (store : StoreView ℕ) (bytes : List ℕ) : Type 0 where
   pub whole : List ℕ
   pub gave : GaveLines source bytes whole
   pub ran : RanForm layouts form whole sink.before.held sink.after.held store
-  pub flushed : (sink.after ≡ sink.before) ⊎ IsTrue sink.after.flushed
+  pub flushed : (whole ≡ []) ⊎ IsTrue sink.after.flushed
 
 -- How the run of a form on its new store ended, and what it left.
 abbrev pub RanOn : Layouts → Form → SourceRun → SinkRun → StoreView ℕ → Status → Type 0

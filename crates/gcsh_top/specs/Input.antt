@@ -4,7 +4,7 @@ use Rattle.std.specs.Io.KnownBytes.{IsAtEnd}
 use Rattle.gc_model.specs.Allocation.{Rose}
 use Rattle.gcsh_top.specs.declared.read.ReadFault.{ReadFault}
 use Rattle.gcsh_top.specs.declared.read.ReadFault.TheVariants.{Source, TooLong}
-use Rattle.gcsh_top.specs.Cutting.{IsCut}
+use Rattle.gc_script.specs.Cutting.{IsCut}
 use Rattle.gcsh_top.specs.Ends.{Gave, SourceRun}
 
 -- an input may have this many bytes

@@ -1,7 +1,6 @@
 pub mod Counts
 pub mod Ends
 pub mod Memory
-pub mod Cutting
 pub mod Input
 pub mod Words
 pub mod Statuses

@@ -17,7 +17,7 @@ use Rattle.gc_owner.specs.Limiters.{fresh_limits}
 use Rattle.gc_script.specs.Run.{Ran, WantsMemory}
 use Rattle.gc_script.specs.Session.{Session, SessionFrom, reply_line}
 use Rattle.gcsh_top.specs.declared.words.Form.{Form}
-use Rattle.gcsh_top.specs.Cutting.{IsCut, KeptLine, kept_of}
+use Rattle.gc_script.specs.Cutting.{IsCut, KeptLine, kept_of}
 use Rattle.gcsh_top.specs.Ends.{TookPart}
 use Rattle.gc_script.specs.Lines.{lines}
 

@@ -5,12 +5,10 @@
 //! `MemSource` and `MemSink` tell their bytes, so that all that a run does can be stated of them;
 //! `StdSource` and `StdSink` stand before standard input and output, and tell counts alone.
 //! The definitions are in `specs/`: `Ends` (what sources and sinks tell, and what reads and writes do),
-//! `Memory` (the ends in memory), `Cutting` (pieces of bytes cut into lines), `Input` (what reading an
-//! input comes to), `Words` (the words of the program), `Runs` (what running lines leaves), `Answers` (what
-//! the top call answers).
+//! `Memory` (the ends in memory), `Input` (what reading an input comes to), `Words` (the words of the
+//! program), `Runs` (what running lines leaves), `Answers` (what the top call answers).
 #![tactic(auto)]
 
-pub mod cutter;
 pub mod memory;
 pub mod program;
 pub mod read;
@@ -24,7 +22,6 @@ pub mod top;
 pub mod words;
 pub mod write;
 
-pub use cutter::{LineCutter, pieces_give_lines};
 pub use memory::{MemSink, MemSource};
 pub use program::{Exit, HELP, VERSION, gcsh_main, run_program};
 pub use read::MAX_INPUT;

@@ -3,7 +3,7 @@
 ghost use Rattle.std.specs.Prelude.{◌≡◌, ◌≤◌, ◌⊎◌, ◌++◌, ℕ, false, IfOk, IsErrOf, IsTrue, List, OnErr, OnOk};
 ghost use Rattle.gc_commands.specs.Spelling.{IsCommandOf};
 ghost use Rattle.gc_model.specs.Allocation.{Rose};
-ghost use Rattle.gcsh_top.specs.Cutting.{IsUnfinished, kept_of};
+ghost use Rattle.gc_script.specs.Cutting.{IsUnfinished, has_feed, kept_of};
 ghost use Rattle.gcsh_top.specs.Ends.{TookPart};
 ghost use Rattle.gcsh_top.specs.Runs.{BrokeOff, RanLine, RanLines, RanPiece, RanSome, StoppedPiece};
 ghost use Rattle.gcsh_top.specs.Statuses.{status_of};
@@ -12,12 +12,11 @@ ghost use Rattle.gc_script.specs.Session.{reply_line};
 ghost use Rattle.gc_store.specs.Stores.{IsSameStore};
 ghost use Rattle.std.specs.Io.KnownBytes.{Appends, Keeps};
 
-use crate::cutter::LineCutter;
 use crate::sink::Sink;
 use crate::status::Status;
 use crate::write::write_all;
 use gc_heap::GcHeap;
-use gc_script::{Command, Reply, RunError, Runner, parse_line, push_reply};
+use gc_script::{Command, LineCutter, Reply, RunError, Runner, parse_line, push_reply};
 use gc_store::{ResourceLimiter, Store};
 use std::alloc::{AllocError, Global};
 use thiserror::Error;
@@ -127,7 +126,7 @@ fn run_lines<H: GcHeap, L: ResourceLimiter, K: Sink>(
     ensures stopped { OnErr result ((bytes : List ℕ) (s : State) → IsUnfinished cutter.old bytes → HoldsState H.KIND store.old runner.old s
         → StoppedPiece H.KIND store.old.alloc_counter (L.limits limiter.old) s (bytes ++ piece.now) store.old store.new runner.new
         (K.tells sink.old).held (K.tells sink.new).held) }
-    ensures unwritten { IfOk result (λ replied. replied ≡ false → K.tells sink.new ≡ K.tells sink.old) }
+    ensures unwritten { IfOk result (λ replied. replied ≡ false → (has_feed piece.now ≡ false) × (K.tells sink.new ≡ K.tells sink.old)) }
     ensures failed { IsErrOf result LineFault.Sink → Rose (K.tells sink.old).faults (K.tells sink.new).faults }
     ensures faults { (K.tells sink.old).faults ≤ (K.tells sink.new).faults }
     ensures same { IsSameStore store.old store.new }
@@ -164,7 +163,7 @@ pub(crate) fn run_piece<H: GcHeap, L: ResourceLimiter, K: Sink>(
     ensures stopped { OnErr result ((bytes : List ℕ) (s : State) → IsUnfinished cutter.old bytes → HoldsState H.KIND store.old runner.old s
         → StoppedPiece H.KIND store.old.alloc_counter (L.limits limiter.old) s (bytes ++ piece.now) store.old store.new runner.new
         (K.tells sink.old).held (K.tells sink.new).held) }
-    ensures flushed { OnOk result ((K.tells sink.new ≡ K.tells sink.old) ⊎ IsTrue (K.tells sink.new).flushed) }
+    ensures flushed { OnOk result (((has_feed piece.now ≡ false) × (K.tells sink.new ≡ K.tells sink.old)) ⊎ IsTrue (K.tells sink.new).flushed) }
     ensures failed { IsErrOf result LineFault.Sink → Rose (K.tells sink.old).faults (K.tells sink.new).faults }
     ensures faults { (K.tells sink.old).faults ≤ (K.tells sink.new).faults }
     ensures same { IsSameStore store.old store.new }

@@ -15,7 +15,6 @@ ghost use Rattle.gcsh_top.specs.declared.status.Status.{Status};
 ghost use Rattle.gcsh_top.specs.declared.stores.Stores.{Stores};
 ghost use Rattle.gcsh_top.specs.declared.words.Form.{Form};
 
-use crate::cutter::LineCutter;
 use crate::read::{ReadFault, read_piece};
 use crate::run::{run_last, run_piece};
 use crate::sink::Sink;
@@ -24,7 +23,7 @@ use crate::status::Status;
 use crate::stores::Stores;
 use crate::words::{Collector, Form, parse_words};
 use gc_heap::GcHeap;
-use gc_script::Runner;
+use gc_script::{LineCutter, Runner};
 use gc_store::{HeapConfig, PageLimit, Store};
 use std::alloc::Global;
 

@@ -7,8 +7,8 @@ use Rattle.std.proofs.lemmas.List.Folds.{list_any-append, list_any_none}
 use Rattle.std.proofs.lemmas.List.Sums.{fails_before_first, passes_at_first}
 use Rattle.gc_commands.specs.Spelling.{max_line}
 use Rattle.gc_script.specs.Lines.{line_feed, lines}
-use Rattle.gcsh_top.proofs.LineLemmas.{none_found}
-use Rattle.gcsh_top.specs.Cutting.{KeptLine, no_line, kept_of, longer, has_feed, IsCut, EndsLine, GoesOn, FeedsAll, no_pieces, line_ended, line_goes_on, EndsWhole, last_piece, GivesLines}
+use Rattle.gc_script.proofs.LineLemmas.{none_found}
+use Rattle.gc_script.specs.Cutting.{KeptLine, no_line, kept_of, longer, has_feed, IsCut, EndsLine, GoesOn, FeedsAll, no_pieces, line_ended, line_goes_on, EndsWhole, last_piece, GivesLines}
 
 -- the place is that of the first line feed
 record IsFirstFeed (piece : List ℕ) (k : ℕ) : Type 0 where

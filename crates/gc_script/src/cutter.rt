@@ -1,8 +1,9 @@
 //! Cuts bytes into lines as they come, in pieces of any length.
 
-ghost use Rattle.std.specs.Prelude.{◌≡◌, ◌==◌, ℕ, List, IfOk, OnErr, OnOk, length, position};
+ghost use Rattle.std.specs.Prelude.{◌≡◌, ◌≤◌, ◌==◌, ℕ, List, IfOk, OnErr, OnOk, length, position};
 ghost use Rattle.std.specs.List.{concat};
-ghost use Rattle.gcsh_top.specs.Cutting.{Feeds, FeedsAll, GivesLines, KeptLine, longer, no_line};
+ghost use Rattle.gc_commands.specs.Spelling.{max_line};
+ghost use Rattle.gc_script.specs.Cutting.{Feeds, FeedsAll, GivesLines, KeptLine, longer, no_line};
 
 use gc_commands::MAX_LINE;
 use std::alloc::{AllocError, Global};
@@ -21,7 +22,7 @@ pub struct LineCutter {
 impl Model for LineCutter {
     ghost use Rattle.std.specs.Prelude.{◌≤◌, vec_len};
     ghost use Rattle.gc_commands.specs.Spelling.{max_line};
-    ghost use Rattle.gcsh_top.specs.Cutting.{KeptLine};
+    ghost use Rattle.gc_script.specs.Cutting.{KeptLine};
 
     ghost Value = { KeptLine };
 
@@ -76,7 +77,8 @@ impl LineCutter {
 
     /// The bytes of the line that are kept.
     pub fn line(&self) -> &[u8]
-        ensures { result.now ≡ self.now.bytes }
+        ensures kept { result.now ≡ self.now.bytes }
+        ensures bound { length result.now ≤ max_line }
     {
         self.kept.as_slice()
     }
@@ -88,9 +90,10 @@ impl LineCutter {
         self.is_long
     }
 
-    /// How many bytes are kept, at most `MAX_LINE`.
+    /// How many bytes are kept.
     pub fn held(&self) -> usize
-        ensures { result ≡ length self.now.bytes }
+        ensures kept { result ≡ length self.now.bytes }
+        ensures bound { result ≤ max_line }
     {
         self.kept.len()
     }

@@ -1,7 +1,7 @@
 use Rattle.std.proofs.Common.{◌≤◌, refl, ap, ◌∙◌, min, ◌-◌, length, subst}
-use Rattle.gcsh_top.specs.Cutting.{longer}
-use Rattle.gcsh_top.proofs.CutLemmas.{kept_all, kept_over}
-use Rattle.gcsh_top.proofs.cutter.LineCutter.keep.Goals as goal
+use Rattle.gc_script.specs.Cutting.{longer}
+use Rattle.gc_script.proofs.CutLemmas.{kept_all, kept_over}
+use Rattle.gc_script.proofs.cutter.LineCutter.keep.Goals as goal
 
 pub returns-then-front-bytes-clause-kept : goal.returns-then-front-bytes-clause-kept
 returns-then-front-bytes-clause-kept c =
