@@ -35,10 +35,10 @@ with, and the most that it gets.
   new D T V..    make a struct        setf R I V     write a field
   i31 D N        a small integer      eq R S         whether they are the same
   enter, leave   a scope of roots     gc, grow N     collect, grow by N bytes
-  cap            the heap's bytes
-D, R, S are registers, 0 to 65535; T a type, counted from 0; I a field. F is m:
-or c:, mutable or constant, and i32, i64 or any. V is i32:N, i64:N, any:null, or
-r and a register. Any other line has the reply BadLine. An example:
+  cap            the heap's bytes     gset, gget G R set, read a global
+D, R, S are registers, 0 to 65535; G a global, 0 to 15; T a type, counted from
+0; I a field. F is m: or c:, mutable or constant, and i32, i64 or any. V is
+i32:N, i64:N, any:null, or r and a register. Other lines get BadLine. Example:
 
   printf 'struct m:i32\\nnew 1 0 i32:5\\nfield 1 0\\n' | gcsh null 1 64
 
