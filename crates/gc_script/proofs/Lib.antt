@@ -24,5 +24,6 @@ pub mod ScriptLemmas
 pub mod ShownLemmas
 pub mod ReadLemmas
 pub mod FieldLemmas
+pub mod FrameLemmas
 pub mod KeptLemmas
 pub mod GlobalLemmas

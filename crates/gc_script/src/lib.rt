@@ -7,6 +7,7 @@
 
 mod built;
 mod fields;
+mod frames;
 mod globals;
 mod growth;
 mod make;
