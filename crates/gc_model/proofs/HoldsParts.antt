@@ -77,6 +77,27 @@ module _ {Types Settings Memory Objects Kind Scopes Scoped Pushes Frames Globals
     only_built = built;
   }
 
+  -- at those on frames
+  pub frames_changed : {Frames' : Type 0} → Frames' → Points Types Settings Memory Objects Kind Scopes Scoped Pushes Frames' Globals Owned Pending Functions Hosts Nothing Built
+  frames_changed frames = record {
+    types = p.types;
+    settings = p.settings;
+    memory = p.memory;
+    objects = p.objects;
+    by_kind = p.by_kind;
+    scopes = p.scopes;
+    scoped = p.scoped;
+    pushes = p.pushes;
+    frames = frames;
+    globals = p.globals;
+    owned = p.owned;
+    pending = p.pending;
+    funcs = p.funcs;
+    hosts = p.hosts;
+    nothing_else = p.nothing_else;
+    only_built = p.only_built;
+  }
+
   -- at those on globals
   pub globals_changed : {Globals' : Type 0} → Globals' → Points Types Settings Memory Objects Kind Scopes Scoped Pushes Frames Globals' Owned Pending Functions Hosts Nothing Built
   globals_changed globals = record {

@@ -10,13 +10,13 @@ use Rattle.gc_types.specs.declared.kind.Layouts.TheVariants.{Null, Counting, Cop
 use Rattle.gc_view.specs.Pages.{max_pages}
 use Rattle.gc_model.specs.Sizes.{next_after}
 use Rattle.gc_model.specs.Values.{Reference}
-use Rattle.gc_model.specs.Table.{Table, Slot, Owned, start, global_count, empty_slot}
+use Rattle.gc_model.specs.Table.{Table, Owned, start, global_count, empty_slot}
 use Rattle.gc_view.specs.Heaps.{HeapView, HeapObject}
 use Rattle.gc_owner.specs.declared.entry.SlotEntry.{SlotEntry}
 use Rattle.gc_model.specs.Stores.{StoreView, empty_store, unset_globals}
 use Rattle.gc_model.specs.Holds.{Placing, Holds, KindHolds}
 use Rattle.gc_model.specs.RootPoints.{FramesBy, GlobalsBy, OwnedBy, PendingBy}
-use Rattle.gc_model.proofs.RootsMoved.{frames-none, globals-empty, unset_from_table, owned-none}
+use Rattle.gc_model.proofs.RootsMoved.{frames-empty, globals-empty, unset_from_table, owned-none}
 use Rattle.gc_model.proofs.HoldsHeap.{nothing_placed}
 use Rattle.gc_model.proofs.Hosts.{no_hosts-nil, hosts-none, holds-no_hosts}
 
@@ -35,7 +35,7 @@ pub record IsUntouched {D : Type 0} (layouts : Layouts) (s : StoreView D) : Type
   pub allocated : layouts ≡ Null → s.heap.allocated ≡ 0
   pub first_fits : s.first ≤ max_pages
   pub few_roots : s.max_scoped ≤ 2 ^ 31
-  pub frames : FramesBy nowhere [] s.frames
+  pub frames : s.frames ≡ []
   pub globals : s.globals ≡ unset_globals
   pub owned : OwnedBy nowhere 0 s.owns [] s.owned
   pub pending : s.pending ≡ 0
@@ -63,13 +63,13 @@ holds_untouched D layouts s untouched = record {
   by_kind = start_by_kind D layouts layouts s refl untouched;
   scoped = record { same_count = ap length untouched.scoped; each = λ i entry root e f. absurd (none-some root f) };
   pushes = record { past = λ serial p e. absurd (none-some p e); early = λ serial p e. absurd (none-some p e); apart = λ a b p e f. absurd (none-some p e) };
-  frames = untouched.frames;
+  frames = subst (λ (es : List (List SlotEntry)). FramesBy nowhere [] es) (sym untouched.frames) (frames-empty nowhere);
   globals = subst (λ (es : List SlotEntry). GlobalsBy nowhere (replicate global_count empty_slot) es) (sym untouched.globals) (globals-empty nowhere);
   owned = untouched.owned;
   pending = untouched.pending;
   funcs = untouched.funcs;
   hosts = hosts-none [] nowhere s.heap.content s.hosts (no_hosts-nil {D = D} [] refl) untouched.no_hosts;
-  nothing_else = record { owns = refl; frames = refl; owned = refl; pending = refl; funcs = refl; blocks = refl; hosts = no_hosts-nil {D = D} [] refl };
+  nothing_else = record { owns = refl; owned = refl; pending = refl; funcs = refl; blocks = refl; hosts = no_hosts-nil {D = D} [] refl };
   only_built = λ ty fields e. absurd (none-some fields e);
 }
 
@@ -78,9 +78,9 @@ untouched_allocated Null t place heap none kind is = let e : heap.allocated + 1 
 untouched_allocated Counting t place heap none kind is = absurd (cc)
 untouched_allocated Copying t place heap none kind is = absurd (cc)
 
--- a store that holds some table, and shows no type, root, generation, set global or memory, is untouched
-pub untouched_from_parts : {D : Type 0} (layouts : Layouts) (s : StoreView D) (t : Table D) (place : Placing) → Holds layouts s t place → s.types ≡ [] → s.scoped ≡ [] → s.generation ≡ 0 → s.globals ≡ unset_globals → s.heap.attached ≡ false → IsUntouched layouts s
-untouched_from_parts layouts s t place holds no_types no_roots first_generation unset unmade =
+-- a store that holds some table, and shows no type, root, generation, frame, set global or memory, is untouched
+pub untouched_from_parts : {D : Type 0} (layouts : Layouts) (s : StoreView D) (t : Table D) (place : Placing) → Holds layouts s t place → s.types ≡ [] → s.scoped ≡ [] → s.generation ≡ 0 → s.frames ≡ [] → s.globals ≡ unset_globals → s.heap.attached ≡ false → IsUntouched layouts s
+untouched_from_parts layouts s t place holds no_types no_roots first_generation no_frames unset unmade =
     let nothing = holds.nothing_else in
     let not_made : t.made ≡ false = sym holds.memory.made ∙ unmade in
     let none : t.objects ≡ [] = holds.memory.no_objects not_made in
@@ -94,7 +94,7 @@ untouched_from_parts layouts s t place holds no_types no_roots first_generation 
       allocated = untouched_allocated layouts t place s.heap none holds.by_kind;
       first_fits = subst (λ n. n ≤ max_pages) (sym holds.settings.first) holds.settings.first_fits;
       few_roots = subst (λ n. n ≤ 2 ^ 31) (sym holds.settings.max_scoped) holds.settings.few_roots;
-      frames = subst (λ (fs : List (List Slot)). FramesBy nowhere fs s.frames) nothing.frames (frames-none place nowhere t.frames s.frames nothing.frames holds.frames);
+      frames = no_frames;
       globals = unset;
       owned = subst (λ (n : ℕ). OwnedBy nowhere n s.owns [] s.owned) nothing.owns
           (subst (λ (os : List Owned). OwnedBy nowhere t.owns s.owns os s.owned) nothing.owned (owned-none place nowhere t.owns s.owns t.owned s.owned nothing.owned holds.owned));
@@ -106,7 +106,7 @@ untouched_from_parts layouts s t place holds no_types no_roots first_generation 
 -- a store that holds the empty table is untouched
 pub untouched_from_start : (D : Type 0) (layouts : Layouts) (s : StoreView D) (place : Placing) → Holds {D = D} layouts s (start s.first s.max_scoped s.max_owned) place → IsUntouched layouts s
 untouched_from_start D layouts s place holds =
-    untouched_from_parts layouts s (start s.first s.max_scoped s.max_owned) place holds holds.types (nil_from_length s.scoped holds.scoped.same_count) holds.scopes.generation (unset_from_table place s.globals holds.globals) holds.memory.made
+    untouched_from_parts layouts s (start s.first s.max_scoped s.max_owned) place holds holds.types (nil_from_length s.scoped holds.scoped.same_count) holds.scopes.generation (nil_from_length s.frames holds.frames.same_count) (unset_from_table place s.globals holds.globals) holds.memory.made
 
 -- what is seen of a new store is untouched
 pub untouched_new : {D : Type 0} (layouts : Layouts) (engine number first max_scoped max_owned : ℕ) (alloc_counter : Option ℕ) → first ≤ max_pages → max_scoped ≤ 2 ^ 31 → IsUntouched {D = D} layouts (empty_store engine number first max_scoped max_owned alloc_counter)
@@ -120,7 +120,7 @@ untouched_new layouts engine number first max_scoped max_owned alloc_counter few
   allocated = λ _. refl;
   first_fits = few;
   few_roots = few_roots;
-  frames = record { same_count = refl; each = λ i slots frame e f. absurd (none-some frame f) };
+  frames = refl;
   globals = refl;
   owned = record {
     same_owns = refl;

@@ -9,7 +9,7 @@ use Rattle.gc_types.specs.declared.kind.Layouts.{Layouts}
 use Rattle.gc_types.specs.Declarations.{Declaration}
 use Rattle.gc_model.specs.Values.{Reference, Value, Object, struct, array, host, exception}
 use Rattle.gc_model.specs.Reach.{IsHost}
-use Rattle.gc_model.specs.Table.{Table, Slot, Owned, Block, with_value, change_at}
+use Rattle.gc_model.specs.Table.{Table, Owned, Block, with_value, change_at}
 use Rattle.gc_types.specs.declared.value.Func.{Func}
 use Rattle.gc_view.specs.Heaps.{HeapObject}
 use Rattle.gc_model.specs.Stores.{StoreView}
@@ -82,11 +82,10 @@ module _ {D : Type 0} where
   hosts-moved objects objects' place place' content content' hosts none none' by = hosts-none objects' place' content' hosts none' (hosts-empty objects place content hosts none by)
 
   -- what isn't built stays so with other objects, of which none is a host object
-  pub nothing-objects : {owns : ℕ} {frames : List (List Slot)} {owned : List Owned} {pending : Option Reference} {funcs : List (Option Func)} {blocks : List Block} {objects objects' : List (Object D)}
-      → NotBuilt owns frames owned pending funcs blocks objects → NoHostObjects objects' → NotBuilt owns frames owned pending funcs blocks objects'
+  pub nothing-objects : {owns : ℕ} {owned : List Owned} {pending : Option Reference} {funcs : List (Option Func)} {blocks : List Block} {objects objects' : List (Object D)}
+      → NotBuilt owns owned pending funcs blocks objects → NoHostObjects objects' → NotBuilt owns owned pending funcs blocks objects'
   nothing-objects nothing none = record {
     owns = nothing.owns;
-    frames = nothing.frames;
     owned = nothing.owned;
     pending = nothing.pending;
     funcs = nothing.funcs;

@@ -23,4 +23,6 @@ pub mod SlotObjects
 pub mod StructSlots
 pub mod SlotsSet
 pub mod HoldsGlobals
+pub mod FramesSet
+pub mod HoldsFrames
 pub mod FieldsLie

@@ -2,6 +2,7 @@
 use Rattle.std.proofs.Common.{◌≡◌, ℕ, List, [], Some, None, Option, sym, ap, ◌∙◌, refl, subst, arith, zero, suc}
 use Rattle.std.specs.List.{slice_get}
 use Rattle.std.specs.Prelude.{replicate}
+use Rattle.std.proofs.lemmas.List.{length-replicate}
 use Rattle.std.proofs.lemmas.Option.{none-some}
 use Rattle.gc_owner.specs.declared.entry.RootEntry.{RootEntry}
 use Rattle.gc_owner.specs.declared.entry.SlotEntry.{SlotEntry}
@@ -82,9 +83,6 @@ module _ (place place' : Placing) where
     pending-more pending word by = pending-moved pending word (λ r e. carries-more r) by
 
   -- where there are none, nothing is to be carried
-  pub frames-none : (frames : List (List Slot)) (entries : List (List SlotEntry)) → frames ≡ [] → FramesBy place frames entries → FramesBy place' frames entries
-  frames-none frames entries none by = frames-moved frames entries (λ i frame e. absurd (none-some frame (ap (λ fs. slice_get fs i) (sym none) ∙ e))) by
-
   pub owned-none : (owns count : ℕ) (owned : List Owned) (entries : List OwnedEntry) → owned ≡ [] → OwnedBy place owns count owned entries → OwnedBy place' owns count owned entries
   owned-none owns count owned entries none by = owned-moved owns count owned entries (λ i root e. absurd (none-some root (ap (λ rs. slice_get rs i) (sym none) ∙ e))) by
 
@@ -97,17 +95,22 @@ replicated zero x i y e = absurd (none-some y e)
 replicated (suc n) x zero y e = grind (arith, e)
 replicated (suc n) x (suc i) y e = replicated n x i y e
 
--- globals of which none was set are the table's empty slots
-pub globals-empty : (place : Placing) → GlobalsBy place (replicate global_count empty_slot) unset_globals
-globals-empty place = record {
-  count = refl;
-  slots = record {
-    same_count = refl;
-    each = λ i entry slot e f.
-        subst (λ (x : Slot). SlotBy place entry x) (replicated global_count empty_slot i slot f)
-        (subst (λ (x : SlotEntry). SlotBy place x empty_slot) (replicated global_count empty_entry i entry e) (record { class = refl; word = refl }));
-  };
+-- slots that hold nothing are the table's empty slots
+pub slots-empty : (place : Placing) (count : ℕ) → SlotsBy place (replicate count empty_slot) (replicate count empty_entry)
+slots-empty place count = record {
+  same_count = length-replicate count empty_entry ∙ sym (length-replicate count empty_slot);
+  each = λ i entry slot e f.
+      subst (λ (x : Slot). SlotBy place entry x) (replicated count empty_slot i slot f)
+      (subst (λ (x : SlotEntry). SlotBy place x empty_slot) (replicated count empty_entry i entry e) (record { class = refl; word = refl }));
 }
+
+-- and so are globals of which none was set
+pub globals-empty : (place : Placing) → GlobalsBy place (replicate global_count empty_slot) unset_globals
+globals-empty place = record { count = refl; slots = slots-empty place global_count }
+
+-- where no frame is open there is none
+pub frames-empty : (place : Placing) → FramesBy place [] []
+frames-empty place = record { same_count = refl; each = λ i slots frame e f. absurd (none-some frame f) }
 
 -- a slot that stands for the empty one is empty
 empty_entry-only : (place : Placing) (entry : SlotEntry) → SlotBy place entry empty_slot → entry ≡ empty_entry

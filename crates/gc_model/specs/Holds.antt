@@ -13,7 +13,7 @@ use Rattle.gc_model.specs.Values.{Reference, Value, Object, struct, array, host,
 use Rattle.gc_model.specs.Fits.{is_built_field}
 use Rattle.gc_model.specs.Reach.{IsKept, IsHost}
 use Rattle.gc_types.specs.declared.value.Func.{Func}
-use Rattle.gc_model.specs.Table.{Table, Scoped, Push, Slot, Owned, Block}
+use Rattle.gc_model.specs.Table.{Table, Scoped, Push, Owned, Block}
 pub use Rattle.gc_model.specs.Words.{Placing, IsWord}
 pub use Rattle.gc_model.specs.Encoded.{Lies}
 pub use Rattle.gc_model.specs.RootPoints.{EntryBy, ScopedBy, IsPastBy, PushesBy, SlotBy, SlotsBy, FramesBy, GlobalsBy, OwnedRootBy, OwnedBy, PendingBy}
@@ -109,9 +109,8 @@ abbrev pub NoHostObjects : {D : Type 0} → List (Object D) → Type 0
 NoHostObjects objects = (position : ℕ) → ¬ IsHost (slice_get objects position)
 
 -- What no call makes yet is empty: one line each.
-pub record NotBuilt {D : Type 0} (made : ℕ) (slots : List (List Slot)) (roots : List Owned) (exception : Option Reference) (functions : List (Option Func)) (held : List Block) (objects : List (Object D)) : Type 0 where
+pub record NotBuilt {D : Type 0} (made : ℕ) (roots : List Owned) (exception : Option Reference) (functions : List (Option Func)) (held : List Block) (objects : List (Object D)) : Type 0 where
   pub owns : made ≡ 0
-  pub frames : slots ≡ []
   pub owned : roots ≡ []
   pub pending : exception ≡ None
   pub funcs : functions ≡ []
@@ -193,7 +192,7 @@ module _ {D : Type 0} where
   HostsHold t place heap hosts = HostsBy t.objects place heap.content hosts
 
   abbrev pub NothingElse : Table D → Type 0
-  NothingElse t = NotBuilt t.owns t.frames t.owned t.pending t.funcs t.blocks t.objects
+  NothingElse t = NotBuilt t.owns t.owned t.pending t.funcs t.blocks t.objects
 
   -- the store holds the table under that placing
   abbrev pub Holds : Layouts → StoreView D → Table D → Placing → Type 0

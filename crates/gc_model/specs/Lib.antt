@@ -12,6 +12,7 @@ pub mod Encoded
 pub mod Matching
 pub mod Standing
 pub mod Globals
+pub mod Frames
 pub mod Stores
 pub mod RootPoints
 pub mod Holds

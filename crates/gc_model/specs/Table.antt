@@ -35,7 +35,7 @@ pub record Block : Type 0 where
   pub place : ℕ
 
 -- The table. Objects are only added, or changed in one value; garbage is only "not reached".
--- Frames, owned roots, the pending exception, function values and blocks are empty so far.
+-- Owned roots, the pending exception, function values and blocks are empty so far.
 pub record Table (D : Type 0) : Type 0 where
   pub types : List Declaration
   pub objects : List (Object D)

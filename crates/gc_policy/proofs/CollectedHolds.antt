@@ -3,12 +3,13 @@ use Rattle.std.proofs.Common.{◌≡◌, ℕ, ◌+◌, ◌%◌, ◌<◌, true, L
 use Rattle.std.specs.Ordering.{nat_cmp}
 use Rattle.std.specs.FinMap.{FinMap, get, empty, get-empty, same_map, nat_cmp-IsAntisymmetric}
 use Rattle.std.specs.Cmp.{nat_cmp_total}
+use Rattle.std.proofs.lemmas.List.{length-map}
 use Rattle.std.proofs.lemmas.Option.{none-some}
 use Rattle.gc_types.specs.declared.kind.Layouts.{Layouts}
 use Rattle.gc_types.specs.declared.kind.Layouts.TheVariants.{Null, Counting, Copying}
 use Rattle.gc_owner.specs.declared.entry.SlotEntry.{SlotEntry}
 use Rattle.gc_owner.specs.declared.entry.OwnedEntry.{OwnedEntry}
-use Rattle.gc_owner.specs.RootColumns.{RootsView, roots_of, moved_roots}
+use Rattle.gc_owner.specs.RootColumns.{RootsView, AreFrames, roots_of, moved_roots}
 use Rattle.gc_owner.specs.Owners.{OwnerView, CanBegin, Collects, start_of}
 use Rattle.gc_model.specs.Values.{Reference, null, small, at, struct}
 use Rattle.gc_model.specs.Table.{Table}
@@ -17,15 +18,16 @@ use Rattle.gc_view.specs.Heaps.{HeapView, HeapObject}
 use Rattle.gc_model.specs.Stores.{StoreView}
 use Rattle.gc_model.proofs.HoldsParts.{places_changed}
 use Rattle.gc_model.proofs.Hosts.{holds-no_hosts, hosts-none, nothing-objects}
-use Rattle.gc_model.proofs.RootsMoved.{frames-none, owned-none}
+use Rattle.gc_model.proofs.RootsMoved.{owned-none}
 use Rattle.gc_model.specs.Holds.{Placing, IsWord, HeldAt, ObjectsHold, KindHolds, Holds, HoldsKept, FramesBy, OwnedBy}
 use Rattle.gc_heap.specs.References.{references}
 use Rattle.gc_heap.specs.Content.{IsHeld, IsHeap}
 use Rattle.gc_heap.specs.Collection.{Start, Kept, moved, IsMoved, Collected, has_host, IsPartOf}
 use Rattle.gc_heap.proofs.AgainLemmas.{kept_by_root, kept_by_field, kept_held}
 use Rattle.gc_policy.specs.Shown.{shown, frames_of}
-use Rattle.gc_policy.proofs.RootsShown.{SlotsInFrames, IsRooted, scoped_rooted, global_rooted, pending_rooted, slots_empty, owned_empty}
-use Rattle.gc_policy.proofs.CollectedRoots.{StaysPresent, scoped-carried, globals-carried, pending-carried}
+use Rattle.gc_policy.proofs.RootsShown.{SlotsInFrames, IsRooted, scoped_rooted, slot_rooted, global_rooted, pending_rooted, owned_empty}
+use Rattle.gc_policy.proofs.Frames.{frame_words, frames-mapped}
+use Rattle.gc_policy.proofs.CollectedRoots.{StaysPresent, scoped-carried, frames-carried, globals-carried, pending-carried}
 use Rattle.gc_policy.proofs.CollectedValues.{MovedStruct, stands_moved}
 use Rattle.gc_policy.proofs.CollectedPlacing.{place_after, placed_after, placed_before, word_carried}
 use Rattle.gc_policy.proofs.CollectedKept.{placed_struct, traced_struct, kept_position}
@@ -121,16 +123,17 @@ module _ {D : Type 0} (layouts : Layouts) (s : StoreView D) (t : Table D) (place
   abbrev roots_after : RootsView
   roots_after = moved_roots done.to v.roots
 
-  -- no frame has a slot, and there is no owned root
-  frames_same : frames_of roots_after.frames roots_after.slots ≡ frames_of v.roots.frames v.roots.slots
-  frames_same =
-      let none : v.roots.slots ≡ [] = slots_empty layouts s v t place c.holds c.in_frames in
-      let moved_none : roots_after.slots ≡ [] = ap (map (λ (e : SlotEntry). record e { word = moved done.to e.word })) none in
-      ap (λ (es : List SlotEntry). frames_of v.roots.frames es) (moved_none ∙ sym none)
+  -- the words of the frames are those of roots
+  frames_moved : FramesBy after t.frames (frames_of roots_after.frames roots_after.slots)
+  frames_moved =
+      subst (λ (es : List (List SlotEntry)). FramesBy after t.frames es) (sym (frames-mapped (λ (e : SlotEntry). record e { word = moved done.to e.word }) v.roots.slots v.roots.frames))
+      (frames-carried done.to place after t.frames (frames_of v.roots.frames v.roots.slots)
+      (λ r x among is. carried r x (kept_rooted x (slot_rooted v.roots x (subst (λ (ws : List ℕ). Contains ws x) (frame_words v.roots.slots v.roots.frames c.in_frames) among))) is) c.holds.frames)
 
+  -- there is no owned root
   owned_same : roots_after.owned ≡ v.roots.owned
   owned_same =
-      let none : v.roots.owned ≡ [] = owned_empty layouts s v t place c.holds c.in_frames in
+      let none : v.roots.owned ≡ [] = owned_empty layouts s v t place c.holds in
       ap (map (λ (e : OwnedEntry). record e { word = moved done.to e.word })) none ∙ sym none
 
   -- what the store shows after the collection
@@ -151,7 +154,7 @@ module _ {D : Type 0} (layouts : Layouts) (s : StoreView D) (t : Table D) (place
       objects_after
       kind
       (scoped-carried done.to place after t.pushes t.scoped v.roots.scoped (λ r x among is. carried r x (kept_rooted x (scoped_rooted v.roots x among)) is) present c.holds.scoped)
-      (subst (λ (fs : List (List SlotEntry)). FramesBy after t.frames fs) (sym frames_same) (frames-none place after t.frames (frames_of v.roots.frames v.roots.slots) nothing.frames c.holds.frames))
+      frames_moved
       (globals-carried done.to place after t.globals v.roots.globals (λ r x among is. carried r x (kept_rooted x (global_rooted v.roots x among)) is) c.holds.globals)
       (subst (λ (es : List OwnedEntry). OwnedBy after t.owns s.owns t.owned es) (sym owned_same) (owned-none place after t.owns s.owns t.owned v.roots.owned nothing.owned c.holds.owned))
       (pending-carried done.to place after t.pending v.roots.pending (λ r above is. carried r v.roots.pending (kept_rooted v.roots.pending (λ x. pending_rooted v.roots x)) is) present c.holds.pending)
@@ -169,9 +172,9 @@ module _ {D : Type 0} (layouts : Layouts) (s : StoreView D) (t : Table D) (place
       kept_position layouts s v t place c.holds c.in_frames c.can.traced (has_host v.hosts) was.word was.kept p was.placed
 
   pub frames_after : SlotsInFrames w.roots
-  frames_after none =
-      let same_frames : w.roots.frames ≡ v.roots.frames = ap (λ (r : RootsView). r.frames) c.collects.roots in
-      ap (λ (r : RootsView). r.slots) c.collects.roots ∙ ap (map (λ (e : SlotEntry). record e { word = moved done.to e.word })) (c.in_frames (sym same_frames ∙ none))
+  frames_after =
+      subst SlotsInFrames (sym c.collects.roots)
+      (subst (AreFrames v.roots.frames) (sym (length-map v.roots.slots (λ (e : SlotEntry). record e { word = moved done.to e.word }))) c.in_frames)
 
 -- what one kind of heap owes alone
 kind_after : {D : Type 0} (layouts : Layouts) (s : StoreView D) (t : Table D) (place : Placing) (v w : OwnerView D) (c : CollectsHeld layouts s t place v w) → KindHolds layouts t (after layouts s t place v w c) w.heap

@@ -1,14 +1,16 @@
 -- The roots of a store stand for the table's after their words were moved.
 use Rattle.std.proofs.Common.{ℕ, ◌<◌, List, map, Option, Some, None, Contains, sym, ap, ◌∙◌, subst}
+use Rattle.std.specs.List.{flat_map}
 use Rattle.std.proofs.lemmas.List.{length-map}
 use Rattle.gc_owner.specs.declared.entry.RootEntry.{RootEntry}
 use Rattle.gc_owner.specs.declared.entry.SlotEntry.{SlotEntry}
 use Rattle.gc_model.specs.Values.{Reference}
 use Rattle.gc_model.specs.Table.{Scoped, Push, Slot}
 use Rattle.gc_model.specs.Words.{Placing, IsWord}
-use Rattle.gc_model.specs.RootPoints.{ScopedBy, SlotsBy, GlobalsBy, PendingBy}
+use Rattle.gc_model.specs.RootPoints.{ScopedBy, SlotsBy, FramesBy, GlobalsBy, PendingBy}
 use Rattle.gc_heap.specs.Collection.{moved}
-use Rattle.gc_policy.proofs.CollectedLists.{get_contains, map_get, map_source}
+use Rattle.gc_policy.proofs.CollectedLists.{get_contains, flat_contains, map_get, map_source}
+use Rattle.gc_policy.proofs.Frames.{words_of}
 
 module _ (to : ℕ → ℕ) (place place' : Placing) where
   -- the word of each reference that has one of these is, moved, its word under the other placing
@@ -52,6 +54,15 @@ module _ (to : ℕ → ℕ) (place place' : Placing) where
           class = ap (λ (x : SlotEntry). x.class) (sym was.1.1) ∙ stands.class;
           word = subst (λ (x : SlotEntry). IsWord place' slot.reference x.word) was.1.1 (carried slot.reference was.0.word among stands.word);
         };
+  }
+
+  pub frames-carried : (frames : List (List Slot)) (entries : List (List SlotEntry)) → Carried (flat_map words_of entries) → FramesBy place frames entries → FramesBy place' frames (map (map moved_slot) entries)
+  frames-carried frames entries carried by = record {
+    same_count = length-map entries (map moved_slot) ∙ by.same_count;
+    each = λ i slots frame e f.
+        let was = map_source (map moved_slot) entries i slots e in
+        subst (λ (es : List SlotEntry). SlotsBy place' frame es) was.1.1
+        (slots-carried frame was.0 (λ r w c. carried r w (flat_contains words_of entries i was.0 w was.1.0 c)) (by.each i was.0 frame was.1.0 f));
   }
 
   pub globals-carried : (globals : List Slot) (entries : List SlotEntry) → Carried (map (λ (e : SlotEntry). e.word) entries) → GlobalsBy place globals entries → GlobalsBy place' globals (map moved_slot entries)

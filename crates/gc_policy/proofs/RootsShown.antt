@@ -14,12 +14,13 @@ use Rattle.gc_model.specs.Table.{Table, Scoped, Slot}
 use Rattle.gc_model.specs.Reach.{root_references, slot_references, owned_references, present}
 use Rattle.gc_model.specs.Stores.{StoreView}
 use Rattle.gc_model.specs.Words.{Placing, IsWord}
-use Rattle.gc_model.specs.RootPoints.{PendingBy}
+use Rattle.gc_model.specs.RootPoints.{SlotsBy, PendingBy}
 use Rattle.gc_model.specs.Holds.{Holds}
 use Rattle.gc_model.proofs.Lists.{slice_get-same_length}
 use Rattle.gc_heap.proofs.SpacedLemmas.{only_item}
-use Rattle.gc_policy.specs.Shown.{shown, frames_of}
-use Rattle.gc_policy.proofs.CollectedLists.{get_contains, contains_map, map_get}
+use Rattle.gc_policy.specs.Shown.{shown}
+use Rattle.gc_policy.proofs.Frames.{words_of, frame_words}
+use Rattle.gc_policy.proofs.CollectedLists.{get_contains, contains_map, contains_flat, flat_contains, map_get}
 use Rattle.gc_policy.proofs.Columns.{Names, none_in, is_first, listed_word, word_listed}
 
 -- lists of roots and entries, which stand for each other one by one
@@ -46,6 +47,10 @@ names-each place reference_of word_of roots entries count each = record {
       );
 }
 
+-- slots name what they stand for
+slots_named : (place : Placing) (slots : List Slot) (entries : List SlotEntry) → SlotsBy place slots entries → Names place (slot_references slots) (words_of entries)
+slots_named place slots entries by = names-each place (λ (slot : Slot). slot.reference) (λ (e : SlotEntry). e.word) slots entries by.same_count (λ i e slot f g. (by.each i e slot f g).word)
+
 -- a list as long as an empty one is empty
 no_length : {X : Type 0} (xs : List X) → length xs ≡ 0 → xs ≡ []
 no_length [] e = refl
@@ -53,10 +58,6 @@ no_length (x ∷ xs) e = absurd (omega (arith, e))
 
 none_left : {X Y : Type 0} (xs : List X) (ys : List Y) → length xs ≡ length ys → ys ≡ [] → xs ≡ []
 none_left xs ys count none = no_length xs (count ∙ ap length none)
-
-no_frames : (starts : List ℕ) (slots : List SlotEntry) → frames_of starts slots ≡ [] → starts ≡ []
-no_frames [] slots e = refl
-no_frames (start ∷ starts) slots e = absurd (omega (arith, ap length e))
 
 pending-names : (place : Placing) (pending : Option Reference) (word : ℕ) → PendingBy place pending word → Names place (present pending) (word ∷ [])
 pending-names place None word null = record {
@@ -89,6 +90,16 @@ module _ (r : RootsView) where
   behind_rooted : (x : Root) → Contains behind_scoped x → Contains (roots_of r) x
   behind_rooted x c = Contains-append_right (listed_as 0 false (scoped_words r)) behind_scoped x c
 
+  pub slot_rooted : (w : ℕ) → Contains (slot_words r) w → 0 < w → IsRooted w
+  slot_rooted w c above =
+      let found = word_listed 2 true (slot_words r) w c above in (
+        found.0,
+        (
+          behind_rooted found.0 (Contains-append_right (listed_as 1 false (owned_words r)) behind_owned found.0 (Contains-append_left (listed_as 2 true (slot_words r)) behind_slots found.0 found.1.0)),
+          found.1.1,
+        ),
+      )
+
   slots_behind : (x : Root) → Contains behind_slots x → Contains (roots_of r) x
   slots_behind x c = behind_rooted x (Contains-append_right (listed_as 1 false (owned_words r)) behind_owned x (Contains-append_right (listed_as 2 true (slot_words r)) behind_slots x c))
 
@@ -116,8 +127,22 @@ module _ {D : Type 0} (layouts : Layouts) (s : StoreView D) (t : Table D) (place
   scoped_named : Names place (scoped_references t) (map (λ (e : RootEntry). e.word) s.scoped)
   scoped_named = names-each place (λ (root : Scoped). root.reference) (λ (e : RootEntry). e.word) t.scoped s.scoped holds.scoped.same_count (λ i e root f g. (holds.scoped.each i e root f g).word)
 
+  frames_named : Names place (flat_map slot_references t.frames) (flat_map words_of s.frames)
+  frames_named = record {
+    back = λ w c above.
+        let among = contains_flat words_of s.frames w c in
+        let frame = slice_get-same_length s.frames t.frames among.index among.element holds.frames.same_count among.there in
+        let found = (slots_named place frame.0 among.element (holds.frames.each among.index among.element frame.0 among.there frame.1)).back w among.among above in
+        (found.0, (flat_contains slot_references t.frames among.index frame.0 found.0 frame.1 found.1.0, found.1.1));
+    forth = λ r c.
+        let among = contains_flat slot_references t.frames r c in
+        let slots = slice_get-same_length t.frames s.frames among.index among.element (sym holds.frames.same_count) among.there in
+        let found = (slots_named place among.element slots.0 (holds.frames.each among.index slots.0 among.element slots.1 among.there)).forth r among.among in
+        (found.0, (flat_contains words_of s.frames among.index slots.0 found.0 slots.1 found.1.0, found.1.1));
+  }
+
   globals_named : Names place (slot_references t.globals) (map (λ (e : SlotEntry). e.word) s.globals)
-  globals_named = names-each place (λ (slot : Slot). slot.reference) (λ (e : SlotEntry). e.word) t.globals s.globals holds.globals.slots.same_count (λ i e slot f g. (holds.globals.slots.each i e slot f g).word)
+  globals_named = slots_named place t.globals s.globals holds.globals.slots
 
   pending_named : Names place (present t.pending) (s.pending ∷ [])
   pending_named = pending-names place t.pending s.pending holds.pending
@@ -127,7 +152,7 @@ module _ {D : Type 0} (layouts : Layouts) (s : StoreView D) (t : Table D) (place
   root_word r c = elim (Contains-append_cases (scoped_references t) (from_frames t) r c) [
     | inl scoped ↦ let found = scoped_named.forth r scoped in (found.0, found.1.1)
     | inr behind ↦ elim (Contains-append_cases (flat_map slot_references t.frames) (from_globals t) r behind) [
-      | inl slot ↦ absurd (none_in r (subst (λ fs. Contains (flat_map slot_references fs) r) holds.nothing_else.frames slot))
+      | inl slot ↦ let found = frames_named.forth r slot in (found.0, found.1.1)
       | inr rest ↦ elim (Contains-append_cases (slot_references t.globals) (owned_and_pending t) r rest) [
         | inl global ↦ let found = globals_named.forth r global in (found.0, found.1.1)
         | inr last ↦ elim (Contains-append_cases (flat_map owned_references t.owned) (present t.pending) r last) [
@@ -138,17 +163,11 @@ module _ {D : Type 0} (layouts : Layouts) (s : StoreView D) (t : Table D) (place
     ]
   ]
 
--- an owner has slots only in frames
+-- the slots of an owner are those of its frames
 abbrev pub SlotsInFrames : RootsView → Type 0
-SlotsInFrames r = r.frames ≡ [] → r.slots ≡ []
+SlotsInFrames r = AreFrames r.frames (length r.slots)
 
-pub slots_in_frames : (r : RootsView) → AreFrames r.frames (length r.slots) → SlotsInFrames r
-slots_in_frames r frames none = no_length r.slots (subst (λ (starts : List ℕ). AreFrames starts (length r.slots)) none frames)
-
-module _ {D : Type 0} (layouts : Layouts) (s : StoreView D) (v : OwnerView D) (t : Table D) (place : Placing) (holds : Holds layouts (shown s v) t place) (in_frames : SlotsInFrames v.roots) where
-  pub slots_empty : v.roots.slots ≡ []
-  slots_empty = in_frames (no_frames v.roots.frames v.roots.slots (none_left (frames_of v.roots.frames v.roots.slots) t.frames holds.frames.same_count holds.nothing_else.frames))
-
+module _ {D : Type 0} (layouts : Layouts) (s : StoreView D) (v : OwnerView D) (t : Table D) (place : Placing) (holds : Holds layouts (shown s v) t place) where
   pub owned_empty : v.roots.owned ≡ []
   owned_empty = none_left v.roots.owned t.owned holds.owned.same_count holds.nothing_else.owned
 
@@ -156,8 +175,8 @@ module _ {D : Type 0} (layouts : Layouts) (s : StoreView D) (v : OwnerView D) (t
   store = shown s v
 
   -- a root that is listed has the word of a reference that is a root of the table
-  pub listed_named : (x : Root) → Contains (roots_of v.roots) x → (r : Reference) × (Contains (root_references t) r × IsWord place r x.word)
-  listed_named x c = elim (Contains-append_cases (listed_as 0 false (scoped_words v.roots)) (behind_scoped v.roots) x c) [
+  pub listed_named : SlotsInFrames v.roots → (x : Root) → Contains (roots_of v.roots) x → (r : Reference) × (Contains (root_references t) r × IsWord place r x.word)
+  listed_named in_frames x c = elim (Contains-append_cases (listed_as 0 false (scoped_words v.roots)) (behind_scoped v.roots) x c) [
     | inl scoped ↦
         let w = listed_word 0 false (scoped_words v.roots) x scoped in
         let found = (scoped_named layouts store t place holds).back x.word w.0 w.1 in
@@ -165,7 +184,11 @@ module _ {D : Type 0} (layouts : Layouts) (s : StoreView D) (v : OwnerView D) (t
     | inr behind ↦ elim (Contains-append_cases (listed_as 1 false (owned_words v.roots)) (behind_owned v.roots) x behind) [
       | inl one ↦ absurd (none_in x (subst (λ (es : List OwnedEntry). Contains (listed_as 1 false (map (λ (e : OwnedEntry). e.word) es)) x) owned_empty one))
       | inr rest ↦ elim (Contains-append_cases (listed_as 2 true (slot_words v.roots)) (behind_slots v.roots) x rest) [
-        | inl slot ↦ absurd (none_in x (subst (λ (es : List SlotEntry). Contains (listed_as 2 true (map (λ (e : SlotEntry). e.word) es)) x) slots_empty slot))
+        | inl slot ↦
+            let w = listed_word 2 true (slot_words v.roots) x slot in
+            let among = subst (λ (ws : List ℕ). Contains ws x.word) (sym (frame_words v.roots.slots v.roots.frames in_frames)) w.0 in
+            let found = (frames_named layouts store t place holds).back x.word among w.1 in
+            (found.0, (Contains-append_right (scoped_references t) (from_frames t) found.0 (Contains-append_left (flat_map slot_references t.frames) (from_globals t) found.0 found.1.0), found.1.1))
         | inr last ↦ elim (Contains-append_cases (listed_as 3 false (global_words v.roots)) (listed_as 4 false (v.roots.pending ∷ [])) x last) [
           | inl global ↦
               let w = listed_word 3 false (global_words v.roots) x global in

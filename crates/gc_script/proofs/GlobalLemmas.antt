@@ -32,7 +32,7 @@ use Rattle.gc_script.specs.Slots.{RunnerView, register_at}
 use Rattle.gc_script.specs.State.{State, HoldsState, with_table}
 use Rattle.gc_script.specs.Given.{Given, is, given_register, given_value, is_unset, is_gone, is_reference}
 use Rattle.gc_script.specs.Shapes.{shape, shown, slot_of, set_to, global_value}
-use Rattle.gc_script.specs.Steps.{first_failing, tests, reads_root}
+use Rattle.gc_script.specs.Steps.{first_failing, tests, setting_tests, getting_tests}
 use Rattle.gc_script.specs.Run.{GoesOn}
 use Rattle.gc_script.specs.Named.{register_with}
 use Rattle.gc_script.specs.Values.{raw_slot, IsFound}
@@ -42,7 +42,7 @@ use Rattle.gc_script.proofs.StandLemmas.{holds_kept, holds_same, holds_table}
 use Rattle.gc_script.proofs.TestLemmas.{passes, stops, answers_by, refuses}
 
 -- a value that is a reference stands as that
-slot_stands : (s : StoreView ℕ) (t : Table ℕ) (r : RawValue) (v : Value) (c : GcClass) (h : Option GcRootIndex) → raw_slot r ≡ Some (c, h) → RawStands s t r v → RawStands s t (raw.Ref c h) v
+pub slot_stands : (s : StoreView ℕ) (t : Table ℕ) (r : RawValue) (v : Value) (c : GcClass) (h : Option GcRootIndex) → raw_slot r ≡ Some (c, h) → RawStands s t r v → RawStands s t (raw.Ref c h) v
 slot_stands s t (raw.I32 n) v c h e stands = absurd (none-some (c, h) e)
 slot_stands s t (raw.I64 n) v c h e stands = absurd (none-some (c, h) e)
 slot_stands s t (raw.F32 n) v c h e stands = absurd (none-some (c, h) e)
@@ -62,7 +62,7 @@ names_one layouts s t holds handle x y a b =
     holds.1.pushes.apart x y a.push a.pushed (b.pushed ∙ (λ i. Some (record { index = index i; generation = (same i).generation })))
 
 -- so what it stands for is one
-stands_one : (layouts : Layouts) (s : StoreView ℕ) (t : Table ℕ) → HoldsTable layouts s t → (c : GcClass) (handle : Option GcRootIndex) (r : Reference) (v : Value) → RawStands s t (raw.Ref c handle) v → HandleStands s t handle r → v ≡ values.reference c r
+pub stands_one : (layouts : Layouts) (s : StoreView ℕ) (t : Table ℕ) → HoldsTable layouts s t → (c : GcClass) (handle : Option GcRootIndex) (r : Reference) (v : Value) → RawStands s t (raw.Ref c handle) v → HandleStands s t handle r → v ≡ values.reference c r
 stands_one layouts s t holds c None r v stands is_null = stands ∙ ap (values.reference c) (sym is_null)
 stands_one layouts s t holds c (Some h) r v stands named =
     let both : Some stands.root ≡ Some r = sym stands.live ∙ ap (rooted t) (names_one layouts s t holds h stands.serial named.0 stands.names named.1.0) ∙ named.1.1 in
@@ -70,7 +70,7 @@ stands_one layouts s t holds c (Some h) r v stands named =
     stands.is ∙ ap (values.reference c) root
 
 -- the store refuses no handle that stands for something
-never_refused : (layouts : Layouts) (s new : StoreView ℕ) (t : Table ℕ) (a : Account) (c : GcClass) (handle : Option GcRootIndex) (v : Value) (set : Reference → Table ℕ) (f : SlotFault) → RawStands s t (raw.Ref c handle) v → SetsSlot layouts s t a handle set (Err f) new → ⊥
+pub never_refused : (layouts : Layouts) (s new : StoreView ℕ) (t : Table ℕ) (a : Account) (c : GcClass) (handle : Option GcRootIndex) (v : Value) (set : Reference → Table ℕ) (f : SlotFault) → RawStands s t (raw.Ref c handle) v → SetsSlot layouts s t a handle set (Err f) new → ⊥
 never_refused layouts s new t a c handle v set fault.NoSlot stands told = told
 never_refused layouts s new t a c None v set fault.WrongStore stands told = told
 never_refused layouts s new t a c (Some h) v set fault.WrongStore stands told = cc (sym told ∙ names-store s t h stands.serial stands.names)
@@ -87,20 +87,12 @@ global_there layouts s t holds g below =
       | inr past ↦ absurd (omega (arith, past.0, below, holds.1.globals.count))
     ]
 
--- the refusal by the global and by what is given or by whether roots are full
-abbrev set_refusal : Option Slot → Given → Option Refusal
-set_refusal x g = first_failing (
-    (is_none x, refusal.NoSuchName)
-    ∷ (is_unset g, refusal.NoSuchName)
-    ∷ (is_gone g, refusal.Unrooted)
-    ∷ (not (is_reference (given_value g)), refusal.WrongKind)
-    ∷ [])
+-- the refusal by the slot and by what is given or by whether roots are full
+abbrev pub set_refusal : Option Slot → Given → Option Refusal
+set_refusal x g = first_failing (setting_tests x g)
 
-abbrev get_refusal : Option Slot → Bool → Option Refusal
-get_refusal x full = first_failing (
-    (is_none x, refusal.NoSuchName)
-    ∷ (reads_root (option_map slot_value x) && full, refusal.RootsFull)
-    ∷ [])
+abbrev pub get_refusal : Option Slot → Bool → Option Refusal
+get_refusal x full = first_failing (getting_tests x full)
 
 module _ (layouts : Layouts) (store : StoreView ℕ) (runner : RunnerView) (s : State) (g : ℕ) (holds : HoldsState layouts store runner s) (below : g < global_count) where
   abbrev there : (slot : Slot) × (global_at s.table g ≡ Some slot)

@@ -19,6 +19,7 @@ use Rattle.gc_model.specs.Forms.{IsCode, no_functions, number_at}
 use Rattle.gc_view.specs.Heaps.{HeapObject}
 use Rattle.gc_model.proofs.Lists.{slice_get-same_length}
 use Rattle.gc_model.proofs.HeldStructs.{read_lies, placed_typed}
+use Rattle.gc_policy.proofs.RootsShown.{root_word}
 
 -- a reference has a word
 abbrev HasWord : Placing → Reference → Type 0
@@ -30,32 +31,6 @@ All-flat_map P f (x ∷ xs) all = subst (All P) (sym (flat_map-cons f x xs)) (Al
 
 All-by_get : {X : Type 0} (P : X → Type 0) (xs : List X) → ((i : ℕ) (x : X) → slice_get xs i ≡ Some x → P x) → All P xs
 All-by_get P xs all k d below = all k (slice_index_or xs k d) (slice_get-get_or xs k d below)
-
-module _ {D : Type 0} (layouts : Layouts) (s : StoreView D) (t : Table D) (place : Placing) (holds : Holds layouts s t place) where
-  -- scoped roots name what has a word
-  scoped_words : (i : ℕ) (root : Scoped) → slice_get t.scoped i ≡ Some root → HasWord place root.reference
-  scoped_words i root e =
-      let entry : (entry : RootEntry) × (slice_get s.scoped i ≡ Some entry) =
-      elim ((slice_get_cases s.scoped i).1) [
-        | inl found ↦ (found.0, found.2)
-        | inr past ↦ absurd (omega (arith, past.0, holds.scoped.same_count, slice_get_within t.scoped i root e))
-      ] in
-      (entry.0.word, (holds.scoped.each i entry.0 root entry.1 e).word)
-
-  -- and so do globals
-  global_words : (i : ℕ) (slot : Slot) → slice_get t.globals i ≡ Some slot → HasWord place slot.reference
-  global_words i slot e =
-      let entry = slice_get-same_length t.globals s.globals i slot (sym holds.globals.slots.same_count) e in
-      (entry.0.word, (holds.globals.slots.each i entry.0 slot entry.1 e).word)
-
-  -- and so does all that roots name
-  root_words : All (HasWord place) (root_references t)
-  root_words =
-      All-append (HasWord place) (map (λ (root : Scoped). root.reference) t.scoped) _ (All-map (HasWord place) (λ (root : Scoped). root.reference) t.scoped (All-by_get (λ (root : Scoped). HasWord place root.reference) t.scoped scoped_words))
-      (All-append (HasWord place) (flat_map slot_references t.frames) _ (subst (λ (fs : List (List Slot)). All (HasWord place) (flat_map slot_references fs)) (sym holds.nothing_else.frames) (All-nil (HasWord place)))
-      (All-append (HasWord place) (slot_references t.globals) _ (All-map (HasWord place) (λ (slot : Slot). slot.reference) t.globals (All-by_get (λ (slot : Slot). HasWord place slot.reference) t.globals global_words))
-      (All-append (HasWord place) (flat_map owned_references t.owned) _ (subst (λ (os : List Owned). All (HasWord place) (flat_map owned_references os)) (sym holds.nothing_else.owned) (All-nil (HasWord place)))
-      (subst (λ (o : Option Reference). All (HasWord place) (present o)) (sym holds.nothing_else.pending) (All-nil (HasWord place))))))
 
 -- what lies in a field has a word where it is a reference
 code_words : (place : Placing) (v : Value) (code : ℕ) → IsCode (no_functions place) v code → All (HasWord place) (value_references v)
@@ -78,7 +53,7 @@ entry_words layouts t place (exception ty tag values) h stands = absurd stands
 
 -- what is reached has a place
 reached_placed : {D : Type 0} (layouts : Layouts) (s : StoreView D) (t : Table D) (place : Placing) → Holds layouts s t place → (p : ℕ) → Reached t.objects (root_references t) p → (word : ℕ) × (place p ≡ Some word)
-reached_placed layouts s t place holds p (by_start named) = All-contains (HasWord place) (root_references t) (at p) (root_words layouts s t place holds) named
+reached_placed layouts s t place holds p (by_start named) = root_word layouts s t place holds (at p) named
 reached_placed {D} layouts s t place holds p (by_step {y = q} reached names) =
     let from = reached_placed layouts s t place holds q reached in
     let held = holds.objects.placed q from.0 from.1 in

@@ -24,6 +24,7 @@ pub mod ScriptLemmas
 pub mod ShownLemmas
 pub mod ReadLemmas
 pub mod FieldLemmas
+pub mod FrameLemmas
 pub mod KeptLemmas
 pub mod GlobalLemmas
 pub mod LineLemmas

@@ -10,7 +10,7 @@ use Rattle.gc_types.specs.declared.value.ValType.TheVariants as val_type
 use Rattle.gc_types.specs.declared.value.HeapType.TheVariants as heap_type
 use Rattle.gc_types.specs.Declarations.{Declaration, plain_struct}
 use Rattle.gc_commands.specs.declared.command.Command.{Command}
-use Rattle.gc_commands.specs.declared.command.Command.TheVariants.{Struct, New, I31, Field, SetField, Eq, Enter, Leave, SetGlobal, GetGlobal, Gc, Grow, Cap}
+use Rattle.gc_commands.specs.declared.command.Command.TheVariants.{Struct, New, I31, Field, SetField, Eq, Enter, Leave, Push, Pop, Store, Load, SetGlobal, GetGlobal, Gc, Grow, Cap}
 use Rattle.gc_commands.specs.declared.command.FieldWord.{FieldWord}
 use Rattle.gc_commands.specs.declared.command.HeapWord.{HeapWord}
 use Rattle.gc_commands.specs.declared.command.HeapWord.TheVariants as heap
@@ -72,6 +72,10 @@ is_built (SetField r i v) = is_built_operand v
 is_built (Eq r q) = true
 is_built Enter = true
 is_built Leave = true
+is_built (Push k) = true
+is_built Pop = true
+is_built (Store k r) = true
+is_built (Load k d) = true
 is_built (SetGlobal g r) = true
 is_built (GetGlobal g d) = true
 is_built Gc = true

@@ -7,10 +7,11 @@ use Rattle.gc_owner.specs.declared.entry.GcClass.TheVariants as class
 use Rattle.gc_model.specs.Values.{Reference, null, small, at, Value, numeric, i32, i64, f32, f64, v128, function, Object, struct, array, host, exception}
 use Rattle.gc_model.specs.Values as values
 use Rattle.gc_model.specs.Table.{Table, Slot, empty_slot, push, leave, write}
+use Rattle.gc_model.specs.Frames.{push_frame, pop_frame, set_slot, slot_at}
 use Rattle.gc_model.specs.Globals.{set_global, global_at}
 use Rattle.gc_model.specs.Reads.{after_read, same_reference}
 use Rattle.gc_commands.specs.declared.command.Command.{Command}
-use Rattle.gc_commands.specs.declared.command.Command.TheVariants.{Struct, New, I31, Field, SetField, Eq, Enter, Leave, SetGlobal, GetGlobal, Gc, Grow, Cap}
+use Rattle.gc_commands.specs.declared.command.Command.TheVariants.{Struct, New, I31, Field, SetField, Eq, Enter, Leave, Push, Pop, Store, Load, SetGlobal, GetGlobal, Gc, Grow, Cap}
 use Rattle.gc_commands.specs.declared.command.Operand.{Operand}
 use Rattle.gc_commands.specs.declared.reply.Reply.{Reply}
 use Rattle.gc_commands.specs.declared.reply.Reply.TheVariants as reply
@@ -110,6 +111,27 @@ slot_of (numeric kind n) = empty_slot
 slot_of (function f) = empty_slot
 slot_of (values.reference c r) = record { class = c; reference = r }
 
+-- a frame is opened, and the newest is closed
+abbrev pub opens_frame : ℕ → State → Reply × State
+opens_frame k s = (reply.Done, with_table (push_frame k s.table) s)
+
+abbrev pub closes_frame : State → Reply × State
+closes_frame s = (reply.Done, with_table (pop_frame s.table) s)
+
+-- a slot of the newest frame is set to what a register gives
+abbrev pub slot_to : ℕ → Slot → Table ℕ → Table ℕ
+slot_to k slot t = set_slot k slot.class slot.reference t
+
+abbrev pub sets_slot : ℕ → ℕ → State → Reply × State
+sets_slot k r s = (reply.Done, with_table (slot_to k (slot_of (given_value (given_register s r))) s.table) s)
+
+-- what a slot of the newest frame holds, which is read into a register
+abbrev pub frame_value : State → ℕ → Value
+frame_value s k = slot_value (unwrap_or (slot_at s.table k) empty_slot)
+
+abbrev pub gets_slot : ℕ → ℕ → State → Reply × State
+gets_slot k d s = reads (frame_value s k) (Some d) s
+
 -- a global is set to what a register gives
 abbrev pub set_to : ℕ → Slot → Table ℕ → Table ℕ
 set_to g slot t = set_global g slot.class slot.reference t
@@ -149,6 +171,10 @@ shape (SetField r i v) = plain (writes_field r i v)
 shape (Eq r q) = plain (compares r q)
 shape Enter = plain enters
 shape Leave = plain leaves
+shape (Push k) = plain (opens_frame k)
+shape Pop = plain closes_frame
+shape (Store k r) = plain (sets_slot k r)
+shape (Load k d) = plain (gets_slot k d)
 shape (SetGlobal g r) = plain (sets_global g r)
 shape (GetGlobal g d) = plain (gets_global g d)
 shape Gc = collecting

@@ -7,7 +7,8 @@ use Rattle.gc_types.specs.Declarable.{Declarable}
 use Rattle.gc_types.specs.Declarations.{Declaration, struct_fields_at}
 use Rattle.gc_owner.specs.declared.entry.GcClass.{GcClass}
 use Rattle.gc_model.specs.Values.{Value, Object}
-use Rattle.gc_model.specs.Table.{Table, declare}
+use Rattle.gc_model.specs.Table.{Table, Slot, declare}
+use Rattle.gc_model.specs.Frames.{slot_at}
 use Rattle.gc_model.specs.Globals.{global_at}
 use Rattle.gc_model.specs.Live.{roots_full}
 use Rattle.gc_model.specs.Reach.{KeepsNumber}
@@ -16,7 +17,7 @@ use Rattle.gc_model.specs.Sizes.{object_size}
 use Rattle.gc_view.specs.Pages.{page}
 use Rattle.gc_model.specs.Allocation.{too_large, Allocates, LacksMemory, Grows}
 use Rattle.gc_commands.specs.declared.command.Command.{Command}
-use Rattle.gc_commands.specs.declared.command.Command.TheVariants.{New, I31, Field, SetField, Eq, Leave, SetGlobal, GetGlobal}
+use Rattle.gc_commands.specs.declared.command.Command.TheVariants.{New, I31, Field, SetField, Eq, Leave, Pop, Store, Load, SetGlobal, GetGlobal}
 use Rattle.gc_commands.specs.declared.command.Operand.{Operand}
 use Rattle.gc_commands.specs.declared.reply.Reply.{Reply}
 use Rattle.gc_commands.specs.declared.reply.Reply.TheVariants as reply
@@ -120,20 +121,20 @@ abbrev pub is_empty_list : List ℕ → Bool
 is_empty_list [] = true
 is_empty_list (m ∷ ms) = false
 
--- the tests of setting a global to what a register gives
-abbrev pub set_global_tests : State → ℕ → ℕ → List (Bool × Refusal)
-set_global_tests s g r =
-    (is_none (global_at s.table g), refusal.NoSuchName)
-    ∷ (is_unset (given_register s r), refusal.NoSuchName)
-    ∷ (is_gone (given_register s r), refusal.Unrooted)
-    ∷ (not (is_reference (given_value (given_register s r))), refusal.WrongKind)
+-- the tests of setting a slot, of a frame or a global, to what a register gives
+abbrev pub setting_tests : Option Slot → Given → List (Bool × Refusal)
+setting_tests slot g =
+    (is_none slot, refusal.NoSuchName)
+    ∷ (is_unset g, refusal.NoSuchName)
+    ∷ (is_gone g, refusal.Unrooted)
+    ∷ (not (is_reference (given_value g)), refusal.WrongKind)
     ∷ []
 
--- the tests of reading a global
-abbrev pub get_global_tests : State → ℕ → List (Bool × Refusal)
-get_global_tests s g =
-    (is_none (global_at s.table g), refusal.NoSuchName)
-    ∷ (reads_root (option_map slot_value (global_at s.table g)) && roots_full s.table, refusal.RootsFull)
+-- the tests of reading one, where roots are full or not
+abbrev pub getting_tests : Option Slot → Bool → List (Bool × Refusal)
+getting_tests slot full =
+    (is_none slot, refusal.NoSuchName)
+    ∷ (reads_root (option_map slot_value slot) && full, refusal.RootsFull)
     ∷ []
 
 -- The tests of a command of a built form, in their order; the first that is true refuses it. Whether a type
@@ -145,8 +146,11 @@ built_tests layouts s (Field r i into) = field_tests s r i
 built_tests layouts s (SetField r i v) = set_tests s r i v
 built_tests layouts s (Eq r q) = eq_tests s r q
 built_tests layouts s Leave = (is_empty_list s.marks, refusal.NoSuchName) ∷ []
-built_tests layouts s (SetGlobal g r) = set_global_tests s g r
-built_tests layouts s (GetGlobal g d) = get_global_tests s g
+built_tests layouts s Pop = (length s.table.frames == 0, refusal.NoSuchName) ∷ []
+built_tests layouts s (Store k r) = setting_tests (slot_at s.table k) (given_register s r)
+built_tests layouts s (Load k d) = getting_tests (slot_at s.table k) (roots_full s.table)
+built_tests layouts s (SetGlobal g r) = setting_tests (global_at s.table g) (given_register s r)
+built_tests layouts s (GetGlobal g d) = getting_tests (global_at s.table g) (roots_full s.table)
 built_tests layouts s _ = []
 
 -- the tests of a command, which see what is visible of the state

@@ -70,6 +70,10 @@ pub(crate) fn is_built(command: &Command) -> bool
         | Command::Eq { .. }
         | Command::Enter
         | Command::Leave
+        | Command::Push { .. }
+        | Command::Pop
+        | Command::Store { .. }
+        | Command::Load { .. }
         | Command::SetGlobal { .. }
         | Command::GetGlobal { .. }
         | Command::Gc

@@ -9,6 +9,7 @@
 mod built;
 pub mod cutter;
 mod fields;
+mod frames;
 mod globals;
 mod growth;
 mod make;

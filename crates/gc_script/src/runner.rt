@@ -57,7 +57,7 @@ impl Runner {
     /// Runs one command. What it refuses is a reply, and so is a command that is not built (`BadLine`); an
     /// error is want of memory, which leaves the table as it was, but that `new` and `grow` may have
     /// collected and got the heap pages. It comes of no command that takes no memory: `setf`, `eq`,
-    /// `leave`, `gset`, `gc`, `cap`, and those that are not built.
+    /// `leave`, `pop`, `store`, `gset`, `gc`, `cap`, and those that are not built.
     /// The time is linear in the command's length and in the number of the register that it sets, beside
     /// that of a collection and of new memory, and for `leave` in the roots that it drops.
     pub fn run_one<H: GcHeap, L: ResourceLimiter>(
@@ -89,6 +89,10 @@ impl Runner {
             Command::Eq { r, s } => Ok(self.compare(store, *r, *s)),
             Command::Enter => self.enter(store),
             Command::Leave => Ok(self.leave(store)),
+            Command::Push { slots } => self.push_frame(store, *slots),
+            Command::Pop => Ok(self.pop_frame(store)),
+            Command::Store { k, r } => Ok(self.store_slot(store, *k, *r)),
+            Command::Load { k, d } => self.load_slot(store, *k, *d),
             Command::SetGlobal { g, r } => Ok(self.set_global(store, *g, *r)),
             Command::GetGlobal { g, d } => self.get_global(store, *g, *d),
             Command::Gc => Ok(self.collect(store)),

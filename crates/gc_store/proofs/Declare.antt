@@ -20,6 +20,7 @@ use Rattle.gc_policy.proofs.AccountLemmas.{account_kept}
 use Rattle.gc_store.specs.declared.engine.StoreId.{StoreId}
 use Rattle.gc_store.specs.declared.config.HeapConfig.{HeapConfig}
 use Rattle.gc_store.specs.Stores.{store_view, IsSound, DeclaresStruct}
+use Rattle.gc_store.proofs.Keeping.{counts_of}
 
 -- what the owner did of a struct that is not final and has no supertype
 pub declares_plain : {D : Type 0} (fields : List FieldType) (supertype : Option ℕ) (is_final : Bool) (old new : OwnerView D) (r : Result TypeName TypeFault) → supertype ≡ None → is_final ≡ false
@@ -46,29 +47,30 @@ module _ {D : Type 0} (layouts : Layouts) (id : StoreId) (config : HeapConfig) (
   same_account : (t : Table D) (a : Account) → new ≡ old → HoldsAccount layouts before t a → HoldsAccount layouts after t a
   same_account t a e holds = subst (λ (v : OwnerView D). HoldsAccount layouts (store_view id config v tries) t a) (sym e) holds
 
-  pub declared_step : (r : Result TypeName TypeFault) → Declares old new (plain_struct fields) r → IsSound D layouts old before → (t : Table D) (a : Account) → HoldsAccount layouts before t a → DeclaresStruct layouts fields t a r after
-  declared_step (Ok ty) did sound t a holds = (
+  pub declared_step : (r : Result TypeName TypeFault) → Declares old new (plain_struct fields) r → (counts : List ℕ) → IsSound D layouts counts old before → (t : Table D) (a : Account) → HoldsAccount layouts before t a → DeclaresStruct layouts fields t a r after
+  declared_step (Ok ty) did counts sound t a holds = (
     subst (λ (ts : List Declaration). Declarable ts (plain_struct fields)) holds.holds.types did.0,
     did.1.0 ∙ (λ i. record { engine = sound.engine i; number = sound.number i; index = length (holds.holds.types i) }),
     holds_new t a did.1.1 holds,
   )
-  declared_step (Err BadType) did sound t a holds = (
+  declared_step (Err BadType) did counts sound t a holds = (
     λ may. did.0 (subst (λ (ts : List Declaration). Declarable ts (plain_struct fields)) (sym holds.holds.types) may),
     same_account t a did.1 holds,
   )
-  declared_step (Err Memory) did sound t a holds = same_account t a did holds
+  declared_step (Err Memory) did counts sound t a holds = same_account t a did holds
 
-  same_sound : new ≡ old → IsSound D layouts old before → IsSound D layouts new after
-  same_sound e sound = subst (λ (v : OwnerView D). IsSound D layouts v (store_view id config v tries)) (sym e) sound
+  same_sound : new ≡ old → (counts : List ℕ) → IsSound D layouts counts old before → IsSound D layouts counts new after
+  same_sound e counts sound = subst (λ (v : OwnerView D). IsSound D layouts counts v (store_view id config v tries)) (sym e) sound
 
-  pub sound_declared : (r : Result TypeName TypeFault) → Declares old new (plain_struct fields) r → IsSound D layouts old before → IsSound D layouts new after
-  sound_declared (Ok ty) did sound = record {
+  pub sound_declared : (r : Result TypeName TypeFault) → Declares old new (plain_struct fields) r → (counts : List ℕ) → IsSound D layouts counts old before → IsSound D layouts counts new after
+  sound_declared (Ok ty) did counts sound = record {
     idle = ap (λ (v : OwnerView D). v.idle) did.1.1 ∙ sound.idle;
     engine = ap (λ (v : OwnerView D). v.types.engine) did.1.1 ∙ sound.engine;
     number = ap (λ (v : OwnerView D). v.types.number) did.1.1 ∙ sound.number;
+    frames = sound.frames ∙ ap counts_of (sym did.1.1);
     table = declare (plain_struct fields) sound.table;
     account = sound.account;
     holds = holds_new sound.table sound.account did.1.1 sound.holds;
   }
-  sound_declared (Err BadType) did sound = same_sound did.1 sound
-  sound_declared (Err Memory) did sound = same_sound did sound
+  sound_declared (Err BadType) did counts sound = same_sound did.1 counts sound
+  sound_declared (Err Memory) did counts sound = same_sound did counts sound

@@ -1,5 +1,5 @@
 -- A growth that was asked for.
-use Rattle.std.proofs.Common.{◌≡◌, ℕ, ◌<◌, inl, inr, Bool, true, false, Option, Result, Ok, Err, refl, sym, ap, ◌∙◌, subst}
+use Rattle.std.proofs.Common.{◌≡◌, ℕ, List, ◌<◌, inl, inr, Bool, true, false, Option, Result, Ok, Err, refl, sym, ap, ◌∙◌, subst}
 use Rattle.gc_types.specs.declared.kind.Layouts.{Layouts}
 use Rattle.gc_types.specs.Declarations.{TypeTable}
 use Rattle.gc_model.specs.Table.{Table, make_heap, made_pages}
@@ -25,11 +25,12 @@ use Rattle.gc_store.specs.Stores.{IsSound}
 use Rattle.gc_store.proofs.Keeping.{Keeps, keeps-trans, keeps-begins, keeps-readies, keeps-grows}
 
 -- a store is sound again where it holds a table
-pub sound_again : {D : Type 0} (layouts : Layouts) (s : StoreView D) (v w : OwnerView D) (t : Table D) (a : Account) → IsSound D layouts v (shown s v) → Keeps v w → HoldsAccount layouts (shown s w) t a → IsSound D layouts w (shown s w)
-sound_again layouts s v w t a sound keeps holds = record {
+pub sound_again : {D : Type 0} (layouts : Layouts) (s : StoreView D) (v w : OwnerView D) (t : Table D) (a : Account) (counts : List ℕ) → IsSound D layouts counts v (shown s v) → Keeps v w → HoldsAccount layouts (shown s w) t a → IsSound D layouts counts w (shown s w)
+sound_again layouts s v w t a counts sound keeps holds = record {
   idle = keeps.idle ∙ sound.idle;
   engine = ap (λ (x : TypeTable). x.engine) keeps.types ∙ sound.engine;
   number = ap (λ (x : TypeTable). x.number) keeps.types ∙ sound.number;
+  frames = sound.frames ∙ sym keeps.counts;
   table = t;
   account = a;
   holds = holds;
@@ -49,13 +50,13 @@ answer_of (Err pages_fault.Refused) = Err fault.GcHeapGrowthFailed
 answer_of (Err pages_fault.Memory) = Err fault.Memory
 
 -- what a growth leaves of the store
-pub record FollowsExpansion {D : Type 0} (layouts : Layouts) (s : StoreView D) (bytes : ℕ) (e : OwnerState D) (p : PolicyState D) (r : Result (Unit {0}) PagesFault) : Type 0 where
+pub record FollowsExpansion {D : Type 0} (layouts : Layouts) (s : StoreView D) (bytes : ℕ) (e : OwnerState D) (p : PolicyState D) (r : Result (Unit {0}) PagesFault) (counts : List ℕ) : Type 0 where
   pub grows : GrowsStore layouts bytes p e.limits (answer_of r) (shown s e.owner)
-  pub sound : IsSound D layouts e.owner (shown s e.owner)
+  pub sound : IsSound D layouts counts e.owner (shown s e.owner)
 
-module _ {D : Type 0} (layouts : Layouts) (s : StoreView D) (h : OwnerState D) (p : PolicyState D) (shows : Shows layouts s h p) (sound : IsSound D layouts h.owner (shown s h.owner)) (bytes : ℕ) (some : 0 < bytes) (e : OwnerState D) where
+module _ {D : Type 0} (layouts : Layouts) (s : StoreView D) (h : OwnerState D) (p : PolicyState D) (shows : Shows layouts s h p) (counts : List ℕ) (sound : IsSound D layouts counts h.owner (shown s h.owner)) (bytes : ℕ) (some : 0 < bytes) (e : OwnerState D) where
   -- the heap was made, and its growth granted or refused
-  grown : (b : OwnerState D) (ok : Bool) → Begins layouts s.first h b → Grows layouts bytes b ok e → ExpandsStore layouts bytes p e.limits ok (shown s e.owner) × IsSound D layouts e.owner (shown s e.owner)
+  grown : (b : OwnerState D) (ok : Bool) → Begins layouts s.first h b → Grows layouts bytes b ok e → ExpandsStore layouts bytes p e.limits ok (shown s e.owner) × IsSound D layouts counts e.owner (shown s e.owner)
   grown b ok begins grew =
       let making = making_follows layouts s h p shows b begins in
       let grown = growth_follows layouts s bytes b making.after making.agrees ok e grew in
@@ -68,7 +69,7 @@ module _ {D : Type 0} (layouts : Layouts) (s : StoreView D) (h : OwnerState D) (
           holds = grown.agrees.holds;
           limits = sym grown.agrees.limits;
         },
-        sound_again layouts s h.owner e.owner grown.after.table grown.after.account sound
+        sound_again layouts s h.owner e.owner grown.after.table grown.after.account counts sound
             (keeps-trans h.owner b.owner e.owner (keeps-begins layouts s.first h b begins) (keeps-grows layouts bytes b ok e grew)) grown.agrees.holds,
       )
 
@@ -76,10 +77,10 @@ module _ {D : Type 0} (layouts : Layouts) (s : StoreView D) (h : OwnerState D) (
   same_holds : e.owner ≡ h.owner → HoldsAccount layouts (shown s e.owner) p.table p.account
   same_holds is = subst (λ (v : OwnerView D). HoldsAccount layouts (shown s v) p.table p.account) (sym is) shows.holds
 
-  same_sound : e.owner ≡ h.owner → IsSound D layouts e.owner (shown s e.owner)
-  same_sound is = subst (λ (v : OwnerView D). IsSound D layouts v (shown s v)) (sym is) sound
+  same_sound : e.owner ≡ h.owner → IsSound D layouts counts e.owner (shown s e.owner)
+  same_sound is = subst (λ (v : OwnerView D). IsSound D layouts counts v (shown s v)) (sym is) sound
 
-  pub expansion_follows : (r : Result (Unit {0}) PagesFault) → Expands layouts s.first bytes h e r → FollowsExpansion layouts s bytes e p r
+  pub expansion_follows : (r : Result (Unit {0}) PagesFault) → Expands layouts s.first bytes h e r → FollowsExpansion layouts s bytes e p r counts
   expansion_follows (Ok done) (b, (begins, grew)) = let both = grown b true begins grew in record { grows = both.0; sound = both.1 }
   expansion_follows (Err pages_fault.Refused) (inl no_pages) = record {
     grows = record {
@@ -115,7 +116,7 @@ module _ {D : Type 0} (layouts : Layouts) (s : StoreView D) (h : OwnerState D) (
           holds = ready.agrees.holds;
           limits = sym ready.agrees.limits;
         };
-        sound = sound_again layouts s h.owner e.owner ready.after.table ready.after.account sound
+        sound = sound_again layouts s h.owner e.owner ready.after.table ready.after.account counts sound
             (keeps-trans h.owner b.owner e.owner (keeps-begins layouts s.first h b begins) (keeps-readies layouts b e readied)) ready.agrees.holds;
       }
 

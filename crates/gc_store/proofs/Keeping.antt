@@ -1,20 +1,28 @@
--- What an owner keeps on the way of an allocation: the generations of its roots, the room for them, its types.
-use Rattle.std.proofs.Common.{◌≡◌, ℕ, ◌⊎◌, inl, inr, Bool, true, false, List, [], ◌∷◌, length, map, refl, sym, ap, ◌∙◌}
+-- What an owner keeps on the way of an allocation: the generations of its roots, the room for them, how many slots its
+-- frames have, its types.
+use Rattle.std.proofs.Common.{◌≡◌, ℕ, ◌⊎◌, inl, inr, Bool, true, false, List, [], ◌∷◌, length, map, refl, sym, ap, ap₂, ◌∙◌}
 use Rattle.std.proofs.lemmas.List.{length-map}
 use Rattle.gc_types.specs.declared.kind.Layouts.{Layouts}
 use Rattle.gc_view.specs.Sizes.{need_of}
 use Rattle.gc_view.specs.Heaps.{HeapView}
 use Rattle.gc_heap.specs.Collection.{moved}
 use Rattle.gc_owner.specs.declared.entry.RootEntry.{RootEntry}
+use Rattle.gc_owner.specs.declared.entry.SlotEntry.{SlotEntry}
 use Rattle.gc_owner.specs.RootColumns.{RootsView}
 use Rattle.gc_owner.specs.Owners.{OwnerView, Collects}
 use Rattle.gc_owner.specs.Growing.{OwnerState, GetsFirst, Begins, Readies, Grows, owner_rules}
 use Rattle.gc_owner.specs.Retry.{Retry, Paused, Growing}
-use Rattle.gc_policy.specs.Shown.{DuesOwner}
+use Rattle.gc_policy.specs.Shown.{DuesOwner, frames_of}
+use Rattle.gc_policy.proofs.Frames.{frames-mapped}
 use Rattle.gc_store.specs.Making.{BeginsMaking}
+use Rattle.gc_store.specs.Stores.{slot_counts}
 
 abbrev pub generations_of : List RootEntry → List ℕ
 generations_of entries = map (λ (e : RootEntry). e.generation) entries
+
+-- how many slots each frame of an owner has
+abbrev pub counts_of : {D : Type 0} → OwnerView D → List ℕ
+counts_of v = slot_counts (frames_of v.roots.frames v.roots.slots)
 
 -- one owner has kept these of the other
 pub record Keeps {D : Type 0} (v w : OwnerView D) : Type 0 where
@@ -22,11 +30,21 @@ pub record Keeps {D : Type 0} (v w : OwnerView D) : Type 0 where
   pub types : w.types ≡ v.types
   pub spare : w.roots.spare ≡ v.roots.spare
   pub generation : w.roots.generation ≡ v.roots.generation
+  pub counts : counts_of w ≡ counts_of v
   pub generations : generations_of w.roots.scoped ≡ generations_of v.roots.scoped
 
 moved_generations : (to : ℕ → ℕ) (entries : List RootEntry) → generations_of (map (λ (e : RootEntry). record e { word = moved to e.word }) entries) ≡ generations_of entries
 moved_generations to [] = refl
 moved_generations to (e ∷ entries) = ap (λ (gs : List ℕ). e.generation ∷ gs) (moved_generations to entries)
+
+moved_lengths : (change : SlotEntry → SlotEntry) (frames : List (List SlotEntry)) → slot_counts (map (map change) frames) ≡ slot_counts frames
+moved_lengths change [] = refl
+moved_lengths change (slots ∷ frames) = ap₂ (λ (n : ℕ) (ns : List ℕ). n ∷ ns) (length-map slots change) (moved_lengths change frames)
+
+moved_counts : (to : ℕ → ℕ) (starts : List ℕ) (slots : List SlotEntry) → slot_counts (frames_of starts (map (λ (e : SlotEntry). record e { word = moved to e.word }) slots)) ≡ slot_counts (frames_of starts slots)
+moved_counts to starts slots =
+    ap slot_counts (frames-mapped (λ (e : SlotEntry). record e { word = moved to e.word }) slots starts)
+    ∙ moved_lengths (λ (e : SlotEntry). record e { word = moved to e.word }) (frames_of starts slots)
 
 module _ {D : Type 0} where
   pub keeps-itself : (v w : OwnerView D) → w ≡ v → Keeps v w
@@ -35,6 +53,7 @@ module _ {D : Type 0} where
     types = ap (λ (x : OwnerView D). x.types) is;
     spare = ap (λ (x : OwnerView D). x.roots.spare) is;
     generation = ap (λ (x : OwnerView D). x.roots.generation) is;
+    counts = ap counts_of is;
     generations = ap (λ (x : OwnerView D). generations_of x.roots.scoped) is;
   }
 
@@ -44,6 +63,7 @@ module _ {D : Type 0} where
     types = then.types ∙ first.types;
     spare = then.spare ∙ first.spare;
     generation = then.generation ∙ first.generation;
+    counts = then.counts ∙ first.counts;
     generations = then.generations ∙ first.generations;
   }
 
@@ -60,6 +80,7 @@ module _ {D : Type 0} where
     types = ap (λ (x : OwnerView D). x.types) is.rest;
     spare = ap (λ (r : RootsView). r.spare) is.roots;
     generation = ap (λ (r : RootsView). r.generation) is.roots;
+    counts = ap (λ (r : RootsView). slot_counts (frames_of r.frames r.slots)) is.roots ∙ moved_counts is.collected.to v.roots.frames v.roots.slots;
     generations = ap (λ (r : RootsView). generations_of r.scoped) is.roots ∙ moved_generations is.collected.to v.roots.scoped;
   }
 
@@ -73,6 +94,7 @@ module _ {D : Type 0} where
     types = ap (λ (x : OwnerView D). x.types) is.rest;
     spare = ap (λ (x : OwnerView D). x.roots.spare) is.rest;
     generation = ap (λ (x : OwnerView D). x.roots.generation) is.rest;
+    counts = ap counts_of is.rest;
     generations = ap (λ (x : OwnerView D). generations_of x.roots.scoped) is.rest;
   }
 
@@ -91,6 +113,7 @@ module _ {D : Type 0} where
         types = ap (λ (x : OwnerView D). x.types) after;
         spare = ap (λ (x : OwnerView D). x.roots.spare) after;
         generation = ap (λ (x : OwnerView D). x.roots.generation) after;
+        counts = ap counts_of after;
         generations = ap (λ (x : OwnerView D). generations_of x.roots.scoped) after;
       })
 

@@ -1,5 +1,5 @@
 -- What the end of a scope leaves of a store.
-use Rattle.std.proofs.Common.{◌≡◌, ℕ, ◌+◌, ◌-◌, ◌^◌, ◌≤◌, true, false, cond, min, nat_le, length, take, refl, sym, ap, ◌∙◌, subst, arith}
+use Rattle.std.proofs.Common.{List, ◌≡◌, ℕ, ◌+◌, ◌-◌, ◌^◌, ◌≤◌, true, false, cond, min, nat_le, length, take, refl, sym, ap, ◌∙◌, subst, arith}
 use Rattle.std.specs.Prelude.{nat_lt}
 use Rattle.std.proofs.lemmas.Bool.{lt-ltb}
 use Rattle.std.proofs.lemmas.Bool.Decides.{nat_tests}
@@ -14,6 +14,7 @@ use Rattle.gc_policy.proofs.AccountLemmas.{account_kept}
 use Rattle.gc_store.specs.declared.config.HeapConfig.{HeapConfig}
 use Rattle.gc_store.specs.declared.engine.StoreId.{StoreId}
 use Rattle.gc_store.specs.Stores.{store_view, IsSound}
+use Rattle.gc_store.proofs.Keeping.{counts_of}
 
 -- scope ends are counted alike by the owner and by the table
 counted_alike : (mark count generation : ℕ) → cond (nat_lt mark count) (min (generation + 1) (2 ^ 64 - 1)) generation ≡ cond (nat_le count mark) generation (min (generation + 1) (2 ^ 64 - 1))
@@ -43,11 +44,12 @@ module _ {D : Type 0} (layouts : Layouts) (id : StoreId) (config : HeapConfig) (
         account = account_kept before (without_roots new.heap mark before) holds.place a refl refl changes.held.needs_gc holds.account;
       })
 
-  pub sound_left : IsSound D layouts old before → IsSound D layouts new (store_view id config new tries)
-  sound_left sound = record {
+  pub sound_left : (counts : List ℕ) → IsSound D layouts counts old before → IsSound D layouts counts new (store_view id config new tries)
+  sound_left counts sound = record {
     idle = ap (λ (v : OwnerView D). v.idle) changes.rest ∙ sound.idle;
     engine = ap (λ (v : OwnerView D). v.types.engine) changes.rest ∙ sound.engine;
     number = ap (λ (v : OwnerView D). v.types.number) changes.rest ∙ sound.number;
+    frames = sound.frames ∙ ap counts_of (sym changes.rest);
     table = leave mark sound.table;
     account = sound.account;
     holds = holds_left sound.table sound.account sound.holds;

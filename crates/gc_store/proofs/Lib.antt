@@ -1,5 +1,6 @@
 pub mod Declare
 pub mod Expanding
+pub mod FrameLemmas
 pub mod FieldReads
 pub mod FieldValues
 pub mod FieldWrites

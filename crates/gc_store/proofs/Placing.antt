@@ -54,7 +54,7 @@ use Rattle.gc_policy.proofs.HeldMore.{held_more}
 use Rattle.gc_policy.proofs.MakingSimulation.{Shows, FollowsBeginning, beginning_follows, got_pages}
 use Rattle.gc_policy.proofs.RetrySimulation.{MayHaveGrown, retry_follows}
 use Rattle.gc_policy.proofs.RootsShown.{SlotsInFrames}
-use Rattle.gc_store.proofs.Keeping.{Keeps, generations_of, keeps-making, keeps-retried, keeps-trans}
+use Rattle.gc_store.proofs.Keeping.{counts_of, Keeps, generations_of, keeps-making, keeps-retried, keeps-trans}
 use Rattle.gc_store.proofs.PlacedValues.{all_kept, all_fit}
 use Rattle.gc_store.proofs.Pushing.{full_is}
 
@@ -329,10 +329,11 @@ pub last_entry : (entries : List RootEntry) (e d : RootEntry) → slice_index_or
 last_entry [] e d = refl
 last_entry (x ∷ entries) e d = last_entry entries e d
 
--- An owner that made a struct is idle as it was, and has the types that it had.
+-- An owner that made a struct is idle as it was, and has the types and the frames that it had.
 pub record KeepsRest {D : Type 0} (v w : OwnerView D) : Type 0 where
   pub idle : w.idle ≡ v.idle
   pub types : w.types ≡ v.types
+  pub counts : counts_of w ≡ counts_of v
 
 pub made_keeps : {D : Type 0} (layouts : Layouts) (first : ℕ) (due : Bool) (size : ℕ) (o : HeapObject) (s b e : OwnerState D) (index : ℕ) → BeginsMaking layouts first due s b → AllocatesRooted layouts o size b e index → KeepsRest s.owner e.owner
 made_keeps {D} layouts first due size o s b e index begins made =
@@ -340,6 +341,7 @@ made_keeps {D} layouts first due size o s b e index begins made =
     record {
       idle = ap (λ (x : OwnerView D). x.idle) made.adds.rest ∙ keeps.idle;
       types = ap (λ (x : OwnerView D). x.types) made.adds.rest ∙ keeps.types;
+      counts = ap counts_of made.adds.rest ∙ keeps.counts;
     }
 
 -- where the new root stands, and what it is

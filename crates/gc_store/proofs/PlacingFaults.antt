@@ -28,7 +28,7 @@ use Rattle.gc_policy.proofs.CountedTries.{counted_store, counted_holds}
 use Rattle.gc_policy.proofs.MakingSimulation.{Shows, FollowsBeginning, refusal_follows, no_heap_follows, got_pages}
 use Rattle.gc_policy.proofs.RetrySimulation.{MayHaveGrown, retry_follows, pause_follows}
 use Rattle.gc_view.specs.Heaps.{HeapObject}
-use Rattle.gc_store.proofs.Keeping.{Keeps, keeps-trans, keeps-making, keeps-retried, keeps-paused}
+use Rattle.gc_store.proofs.Keeping.{counts_of, Keeps, keeps-trans, keeps-making, keeps-retried, keeps-paused}
 use Rattle.gc_store.proofs.Placing.{IsStart, KeepsRest, too_large_is, shows, size_in, begun, not_full}
 
 -- where the rule of retry ends without room, there is none
@@ -159,11 +159,11 @@ pub fault_keeps : {D : Type 0} (layouts : Layouts) (o : HeapObject) (size first 
 fault_keeps layouts o size first due s e fault.FuncTableFull small makes = absurd makes
 fault_keeps layouts o size first due s e fault.TooLarge small makes = absurd (cc (sym small ∙ too_large_is layouts size makes))
 fault_keeps layouts o size first due s e fault.RootsFull small makes = absurd makes
-fault_keeps {D} layouts o size first due s e (fault.HeapOutOfMemory f) small (inl (no_pages, asked)) = record { idle = ap (λ (v : OwnerView D). v.idle) no_pages.same; types = ap (λ (v : OwnerView D). v.types) no_pages.same }
+fault_keeps {D} layouts o size first due s e (fault.HeapOutOfMemory f) small (inl (no_pages, asked)) = record { idle = ap (λ (v : OwnerView D). v.idle) no_pages.same; types = ap (λ (v : OwnerView D). v.types) no_pages.same; counts = ap counts_of no_pages.same }
 fault_keeps {D} layouts o size first due s e (fault.HeapOutOfMemory f) small (inr (b, (begins, lacks))) =
     let keeps : Keeps s.owner e.owner = keeps-trans s.owner b.owner e.owner (keeps-making layouts first due s b begins) (keeps-retried layouts size b false e lacks.retried) in
-    record { idle = keeps.idle; types = keeps.types }
-fault_keeps {D} layouts o size first due s e fault.Memory small (inl same) = record { idle = ap (λ (x : OwnerState D). x.owner.idle) same; types = ap (λ (x : OwnerState D). x.owner.types) same }
+    record { idle = keeps.idle; types = keeps.types; counts = keeps.counts }
+fault_keeps {D} layouts o size first due s e fault.Memory small (inl same) = record { idle = ap (λ (x : OwnerState D). x.owner.idle) same; types = ap (λ (x : OwnerState D). x.owner.types) same; counts = ap (λ (x : OwnerState D). counts_of x.owner) same }
 fault_keeps {D} layouts o size first due s e fault.Memory small (inr (b, (begins, pause))) =
     let keeps : Keeps s.owner e.owner = keeps-trans s.owner b.owner e.owner (keeps-making layouts first due s b begins) (keeps-paused layouts size b e pause) in
-    record { idle = keeps.idle; types = keeps.types }
+    record { idle = keeps.idle; types = keeps.types; counts = keeps.counts }

@@ -1,5 +1,5 @@
 -- What a new scoped root leaves of a store.
-use Rattle.std.proofs.Common.{◌≡◌, ℕ, zero, suc, ◌-◌, ◌^◌, ◌<◌, inl, inr, false, Ok, length, nat_le, ◌||◌, ◌==◌, refl, sym, ap, ◌∙◌, subst, arith}
+use Rattle.std.proofs.Common.{List, ◌≡◌, ℕ, zero, suc, ◌-◌, ◌^◌, ◌<◌, inl, inr, false, Ok, length, nat_le, ◌||◌, ◌==◌, refl, sym, ap, ◌∙◌, subst, arith}
 use Rattle.gc_types.specs.declared.kind.Layouts.{Layouts}
 use Rattle.gc_model.specs.Values.{Reference, null, small, at}
 use Rattle.gc_model.specs.Table.{Table, push}
@@ -80,13 +80,14 @@ module _ {D : Type 0} (layouts : Layouts) (id : StoreId) (config : HeapConfig) (
       )
 
   -- the store is sound after it
-  pub sound_pushed : IsSound D layouts old before → IsRootWord D layouts before word → IsSound D layouts new (store_view id config new tries)
-  sound_pushed sound is =
+  pub sound_pushed : (counts : List ℕ) → IsSound D layouts counts old before → IsRootWord D layouts before word → IsSound D layouts counts new (store_view id config new tries)
+  sound_pushed counts sound is =
       let own = own_account layouts before is.table is.place is.holds in
-      subst (λ (v : OwnerView D). IsSound D layouts v (store_view id config v tries)) owner_is (record {
+      subst (λ (v : OwnerView D). IsSound D layouts counts v (store_view id config v tries)) owner_is (record {
         idle = sound.idle;
         engine = sound.engine;
         number = sound.number;
+        frames = sound.frames;
         table = push is.root is.table;
         account = own.0;
         holds = account_pushed is.table is.place own.0 is.root is.holds own.1 is.is_word;

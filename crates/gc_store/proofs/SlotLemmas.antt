@@ -29,6 +29,7 @@ use Rattle.gc_store.specs.Roots.{is_of_store, word_of, IsRootWord}
 use Rattle.gc_store.specs.Slots.{told_of_slot, FindsWord, ReadsSlot}
 use Rattle.gc_store.specs.Stores.{store_view, IsSound}
 use Rattle.gc_store.specs.Values.{ReadsValue}
+use Rattle.gc_store.proofs.Keeping.{counts_of}
 use Rattle.gc_store.proofs.Roots.{word_of-ok, word_of-err, word_of-wrong, names-entry, named_live, named_dead}
 use Rattle.gc_store.proofs.ReadValues.{null_word, reads_pushed, reads_refused}
 
@@ -69,11 +70,12 @@ module _ {D : Type 0} (layouts : Layouts) (id : StoreId) (config : HeapConfig) (
       })
 
   -- and is sound
-  pub sound_global_set : (handle : Option GcRootIndex) (sound : IsSound D layouts old before) → FindsWord before sound.table sound.holds.place handle (Ok word) → IsSound D layouts new after
-  sound_global_set handle sound finds = record {
+  pub sound_global_set : (counts : List ℕ) (handle : Option GcRootIndex) (sound : IsSound D layouts counts old before) → FindsWord before sound.table sound.holds.place handle (Ok word) → IsSound D layouts counts new after
+  sound_global_set counts handle sound finds = record {
     idle = ap (λ (v : OwnerView D). v.idle) changes.rest ∙ sound.idle;
     engine = ap (λ (v : OwnerView D). v.types.engine) changes.rest ∙ sound.engine;
     number = ap (λ (v : OwnerView D). v.types.number) changes.rest ∙ sound.number;
+    frames = sound.frames ∙ ap counts_of (sym changes.rest);
     table = set_global index class finds.0 sound.table;
     account = sound.account;
     holds = global_was_set sound.table sound.holds.place sound.account finds.0 sound.holds.holds sound.holds.account finds.1.1;

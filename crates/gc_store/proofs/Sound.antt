@@ -1,5 +1,5 @@
 -- That a store is sound: it holds some table.
-use Rattle.std.proofs.Common.{◌≡◌, ℕ, true, false, refl, sym, ap, subst, arith}
+use Rattle.std.proofs.Common.{◌≡◌, ℕ, List, [], true, false, refl, sym, ap, ◌∙◌, subst, arith}
 use Rattle.std.specs.List.{IsDistinct}
 use Rattle.std.specs.Option.{option_map}
 use Rattle.std.specs.Int.NonZero.{non_zero_u32_get}
@@ -15,7 +15,7 @@ use Rattle.gc_owner.specs.Owners.{OwnerView, new_owner}
 use Rattle.gc_policy.specs.Accounts.{no_account}
 use Rattle.gc_store.specs.declared.engine.StoreId.{StoreId}
 use Rattle.gc_store.specs.declared.config.HeapConfig.{HeapConfig}
-use Rattle.gc_store.specs.Stores.{store_view, IsSound, HoldsStart, ShowsNothing, configured}
+use Rattle.gc_store.specs.Stores.{store_view, slot_counts, IsSound, HoldsStart, ShowsNothing, configured}
 
 -- The store has no account to speak of: nothing was allocated, counted or moved to an upper half.
 pub record CountsNothing {D : Type 0} (s : StoreView D) : Type 0 where
@@ -38,11 +38,12 @@ starts_untouched D layouts s untouched counts = record {
 }
 
 -- and is sound
-pub sound_start : (D : Type 0) (layouts : Layouts) (v : OwnerView D) (s : StoreView D) → v.idle ≡ true → v.types.engine ≡ s.engine → v.types.number ≡ s.number → HoldsStart D layouts s → IsSound D layouts v s
-sound_start D layouts v s idle engine number holds = record {
+pub sound_start : (D : Type 0) (layouts : Layouts) (counts : List ℕ) (v : OwnerView D) (s : StoreView D) → v.idle ≡ true → v.types.engine ≡ s.engine → v.types.number ≡ s.number → counts ≡ slot_counts s.frames → HoldsStart D layouts s → IsSound D layouts counts v s
+sound_start D layouts counts v s idle engine number frames holds = record {
   idle = idle;
   engine = engine;
   number = number;
+  frames = frames;
   table = start s.first s.max_scoped s.max_owned;
   account = no_account;
   holds = holds;
@@ -62,9 +63,10 @@ module _ {D : Type 0} (id : StoreId) (config : HeapConfig) (v : OwnerView D) (fr
       (record { last = refl; tries = refl; upper = refl }))
 
   -- and is sound
-  pub sound_new : (layouts : Layouts) → IsSound D layouts v (store_view id config v 0)
-  sound_new layouts =
-      sound_start D layouts v (store_view id config v 0) (ap (λ (o : OwnerView D). o.idle) fresh) (ap (λ (o : OwnerView D). o.types.engine) fresh) (ap (λ (o : OwnerView D). o.types.number) fresh) (starts_fresh layouts)
+  pub sound_new : (layouts : Layouts) (counts : List ℕ) → counts ≡ [] → IsSound D layouts counts v (store_view id config v 0)
+  sound_new layouts counts none =
+      sound_start D layouts counts v (store_view id config v 0) (ap (λ (o : OwnerView D). o.idle) fresh) (ap (λ (o : OwnerView D). o.types.engine) fresh) (ap (λ (o : OwnerView D). o.types.number) fresh)
+      (none ∙ ap (λ (s : StoreView D). slot_counts s.frames) (sym new_view)) (starts_fresh layouts)
 
 -- another configuration leaves a store untouched, and so it holds the empty table with the new numbers
 pub starts_configured : (D : Type 0) (layouts : Layouts) (config : HeapConfig) (s : StoreView D) → HoldsStart D layouts s → HoldsStart D layouts (configured config s)
@@ -90,16 +92,16 @@ starts_configured D layouts config s holds =
     starts_untouched D layouts (configured config s) still (record { last = holds.account.last; tries = holds.account.tries; upper = holds.account.upper })
 
 -- a sound store that shows nothing holds the empty table, where no collection ran without a heap
-pub starts_nothing : (D : Type 0) (layouts : Layouts) (v : OwnerView D) (s : StoreView D) → IsHeap layouts s.heap → (s.heap.attached ≡ false → s.last ≡ 0) → IsSound D layouts v s → ShowsNothing s → HoldsStart D layouts s
-starts_nothing D layouts v s heap unused sound nothing =
-    starts_untouched D layouts s (untouched_from_parts layouts s sound.table sound.holds.place sound.holds.holds nothing.types nothing.scoped nothing.generation nothing.globals nothing.attached)
+pub starts_nothing : (D : Type 0) (layouts : Layouts) (counts : List ℕ) (v : OwnerView D) (s : StoreView D) → IsHeap layouts s.heap → (s.heap.attached ≡ false → s.last ≡ 0) → IsSound D layouts counts v s → ShowsNothing s → HoldsStart D layouts s
+starts_nothing D layouts counts v s heap unused sound nothing =
+    starts_untouched D layouts s (untouched_from_parts layouts s sound.table sound.holds.place sound.holds.holds nothing.types nothing.scoped nothing.generation nothing.frames nothing.globals nothing.attached)
     (record { last = unused nothing.attached; tries = nothing.tries; upper = ap (λ (h : HeapView). h.needs_gc) (heap.detached nothing.attached) })
 
 -- a store that holds the empty table shows nothing
 pub nothing_starts : (D : Type 0) (layouts : Layouts) (s : StoreView D) → HoldsStart D layouts s → ShowsNothing s
 nothing_starts D layouts s holds =
     let untouched = untouched_from_start D layouts s holds.place holds.holds in
-    record { tries = holds.account.tries; types = untouched.types; scoped = untouched.scoped; generation = untouched.generation; globals = untouched.globals; attached = untouched.attached }
+    record { tries = holds.account.tries; types = untouched.types; scoped = untouched.scoped; generation = untouched.generation; frames = untouched.frames; globals = untouched.globals; attached = untouched.attached }
 
 -- a table of types with that id
 pub own_types : (types : TypeTable) (e n : ℕ) → types.engine ≡ e → types.number ≡ n → types ≡ record { engine = e; number = n; declarations = types.declarations }

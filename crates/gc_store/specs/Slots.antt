@@ -1,9 +1,10 @@
--- What setting and reading a slot, as a global is one, answer and leave.
-use Rattle.std.specs.Prelude.{◌≡◌, ℕ, true, false, Option, Some, None, Result, Ok, Err}
+-- What setting and reading a slot, of a frame or a global, and closing a frame answer and leave.
+use Rattle.std.specs.Prelude.{◌≡◌, ◌<◌, ℕ, Bool, true, false, [], length, Option, Some, None, Result, Ok, Err}
 use Rattle.gc_types.specs.declared.kind.Layouts.{Layouts}
 use Rattle.gc_owner.specs.declared.entry.GcClass.{GcClass}
 use Rattle.gc_model.specs.Values.{Reference, null, Value, reference}
 use Rattle.gc_model.specs.Table.{Table, Slot}
+use Rattle.gc_model.specs.Frames.{pop_frame}
 use Rattle.gc_model.specs.Live.{rooted}
 use Rattle.gc_model.specs.Stores.{StoreView}
 use Rattle.gc_model.specs.Holds.{Placing, IsWord}
@@ -55,6 +56,11 @@ SetsSlot layouts old t a handle set (Err slot_fault.WrongStore) new = IsForeign 
 SetsSlot layouts old t a handle set (Err slot_fault.Unrooted) new = IsGone old t handle
 SetsSlot layouts old t a handle set (Err slot_fault.RootsFull) new = ⊥
 SetsSlot layouts old t a handle set (Err slot_fault.Memory) new = ⊥
+
+-- What closing the newest frame answers and leaves: true, or false where no frame is open.
+abbrev pub PopsFrame : {D : Type 0} → Layouts → Table D → Account → Bool → StoreView D → Type 0
+PopsFrame layouts t a true new = (0 < length t.frames) × HoldsAccount layouts new (pop_frame t) a
+PopsFrame layouts t a false new = (t.frames ≡ []) × HoldsAccount layouts new t a
 
 -- what a slot holds, as a value that is read
 abbrev pub slot_value : Slot → Value

@@ -1,5 +1,5 @@
 -- What a store's calls do, for every table that it held.
-use Rattle.std.specs.Prelude.{◌≡◌, ℕ, ◌-◌, ◌^◌, ◌==◌, ◌||◌, nat_le, Bool, true, false, List, [], Result, Ok, Err, length}
+use Rattle.std.specs.Prelude.{◌≡◌, ℕ, ◌-◌, ◌^◌, ◌==◌, ◌||◌, nat_le, Bool, true, false, List, [], Result, Ok, Err, length, map}
 use Rattle.std.specs.Option.{option_map}
 use Rattle.std.specs.Int.NonZero.{non_zero_u32_get}
 use Rattle.gc_types.specs.declared.kind.Layouts.{Layouts}
@@ -11,6 +11,7 @@ use Rattle.gc_types.specs.Declarations.{TypeName, plain_struct}
 use Rattle.gc_model.specs.Table.{Table, start, declare}
 use Rattle.gc_model.specs.Stores.{StoreView, unset_globals}
 use Rattle.gc_policy.specs.Accounts.{Account, no_account, HoldsAccount}
+use Rattle.gc_owner.specs.declared.entry.SlotEntry.{SlotEntry}
 use Rattle.gc_owner.specs.Owners.{OwnerView}
 use Rattle.gc_policy.specs.Shown.{frames_of}
 use Rattle.gc_store.specs.declared.engine.StoreId.{StoreId}
@@ -44,11 +45,17 @@ store_view id config v tries = record {
 abbrev pub configured : {D : Type 0} → HeapConfig → StoreView D → StoreView D
 configured config s = record s { first = config.first_pages; max_scoped = config.max_scoped; max_owned = config.max_owned; alloc_counter = option_map non_zero_u32_get config.alloc_counter }
 
--- No collection is under way, the store holds some table with some account, and its types carry its id.
-pub record IsSound (D : Type 0) (layouts : Layouts) (v : OwnerView D) (s : StoreView D) : Type 0 where
+-- how many slots each frame has
+abbrev pub slot_counts : List (List SlotEntry) → List ℕ
+slot_counts frames = map length frames
+
+-- No collection is under way, the store holds some table with some account, its types carry its id, and its open
+-- frames have so many slots each.
+pub record IsSound (D : Type 0) (layouts : Layouts) (counts : List ℕ) (v : OwnerView D) (s : StoreView D) : Type 0 where
   pub idle : v.idle ≡ true
   pub engine : v.types.engine ≡ s.engine
   pub number : v.types.number ≡ s.number
+  pub frames : counts ≡ slot_counts s.frames
   pub table : Table D
   pub account : Account
   pub holds : HoldsAccount layouts s table account
@@ -57,12 +64,13 @@ pub record IsSound (D : Type 0) (layouts : Layouts) (v : OwnerView D) (s : Store
 abbrev pub HoldsStart : (D : Type 0) → Layouts → StoreView D → Type 0
 HoldsStart D layouts s = HoldsAccount layouts s (start {D = D} s.first s.max_scoped s.max_owned) no_account
 
--- the store shows no type, root, scope end, set global, memory or allocation
+-- the store shows no type, root, scope end, frame, set global, memory or allocation
 pub record ShowsNothing {D : Type 0} (s : StoreView D) : Type 0 where
   pub tries : s.tries ≡ 0
   pub types : s.types ≡ []
   pub scoped : s.scoped ≡ []
   pub generation : s.generation ≡ 0
+  pub frames : s.frames ≡ []
   pub globals : s.globals ≡ unset_globals
   pub attached : s.heap.attached ≡ false
 

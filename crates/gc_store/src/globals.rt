@@ -49,7 +49,7 @@ impl From<RootFault> for SlotFault {
 
 impl<H: GcHeap, D: Drop> Store<H, D> {
     /// The word that a slot has for what the handle names; 0 for null.
-    fn handle_word(&self, handle: Option<GcRootIndex>) -> Result<u32, RootFault>
+    pub(crate) fn handle_word(&self, handle: Option<GcRootIndex>) -> Result<u32, RootFault>
         ensures { (t : Table D) (place : Placing) → Holds H.KIND self.now t place → FindsWord self.now t place handle result }
     {
         match handle {

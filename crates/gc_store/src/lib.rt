@@ -10,6 +10,7 @@ pub mod collect;
 pub mod config;
 pub mod engine;
 mod field;
+pub mod frames;
 pub mod globals;
 pub mod grow;
 #[cfg(test)]

@@ -87,6 +87,8 @@ pub struct Store<H: GcHeap, D: Drop> {
     pub(crate) id: StoreId,
     pub(crate) config: HeapConfig,
     pub(crate) owner: HeapOwner<H, D>,
+    /// How many slots each open frame has, the oldest first.
+    pub(crate) slot_counts: Vec<u32>,
     /// How many allocations were counted, up to the greatest u64.
     pub(crate) tries: u64,
 }
@@ -105,7 +107,7 @@ impl<H: GcHeap, D: Drop> Model for Store<H, D> {
 
     ghost view = { λ s. store_view s.id s.config s.owner.seen s.tries };
 
-    ghost invariant = { λ s. IsSound D H.KIND s.owner.seen (store_view s.id s.config s.owner.seen s.tries) };
+    ghost invariant = { λ s. IsSound D H.KIND s.slot_counts.items s.owner.seen (store_view s.id s.config s.owner.seen s.tries) };
 }
 
 impl<H: GcHeap + Drop, D: Drop> Store<H, D> {
@@ -125,6 +127,7 @@ impl<H: GcHeap + Drop, D: Drop> Store<H, D> {
             id,
             config,
             owner: HeapOwner::new(alloc, heap, id.engine, id.number)?,
+            slot_counts: Vec::new(alloc),
             tries: 0,
         })
     }
@@ -140,7 +143,7 @@ impl<H: GcHeap, D: Drop> Store<H, D> {
         self.is_untouched()
     }
 
-    /// Whether there is no type, root, generation, set global, memory or allocation.
+    /// Whether there is no type, root, generation, frame, set global, memory or allocation.
     fn is_untouched(&self) -> bool
         ensures { IsTrue result ↔ ShowsNothing self.now }
     {
@@ -149,6 +152,7 @@ impl<H: GcHeap, D: Drop> Store<H, D> {
             && self.owner.types().is_empty()
             && !self.owner.is_made()
             && self.tries == 0
+            && self.has_no_frame()
             && self.has_unset_globals()
     }
 

@@ -41,6 +41,22 @@ pub returns-in-Leave-clause-runs : goal.returns-in-Leave-clause-runs
 returns-in-Leave-clause-runs g c s holds =
     runs_as g.H.GcHeap.KIND c.args.store.now.alloc_counter (g.L.ResourceLimiter.limits c.args.limiter.now) s c.args.command.now command.Leave (Ok c.leave.result) c.leave.new.store c.leave.new.self c.in-Leave.is tt (c.leave.ensures.goes s holds)
 
+pub returns-in-Push-clause-runs : goal.returns-in-Push-clause-runs
+returns-in-Push-clause-runs g c s holds =
+    runs_as g.H.GcHeap.KIND c.args.store.now.alloc_counter (g.L.ResourceLimiter.limits c.args.limiter.now) s c.args.command.now (command.Push c.in-Push.slots) c.push_frame.result c.push_frame.new.store c.args.self.now c.in-Push.is tt (c.push_frame.ensures.goes s holds)
+
+pub returns-in-Pop-clause-runs : goal.returns-in-Pop-clause-runs
+returns-in-Pop-clause-runs g c s holds =
+    runs_as g.H.GcHeap.KIND c.args.store.now.alloc_counter (g.L.ResourceLimiter.limits c.args.limiter.now) s c.args.command.now command.Pop (Ok c.pop_frame.result) c.pop_frame.new.store c.args.self.now c.in-Pop.is tt (c.pop_frame.ensures.goes s holds)
+
+pub returns-in-Store-clause-runs : goal.returns-in-Store-clause-runs
+returns-in-Store-clause-runs g c s holds =
+    runs_as g.H.GcHeap.KIND c.args.store.now.alloc_counter (g.L.ResourceLimiter.limits c.args.limiter.now) s c.args.command.now (command.Store c.in-Store.k c.in-Store.r) (Ok c.store_slot.result) c.store_slot.new.store c.args.self.now c.in-Store.is tt (c.store_slot.ensures.goes s holds)
+
+pub returns-in-Load-clause-runs : goal.returns-in-Load-clause-runs
+returns-in-Load-clause-runs g c s holds =
+    runs_as g.H.GcHeap.KIND c.args.store.now.alloc_counter (g.L.ResourceLimiter.limits c.args.limiter.now) s c.args.command.now (command.Load c.in-Load.k c.in-Load.d) c.load_slot.result c.load_slot.new.store c.load_slot.new.self c.in-Load.is tt (c.load_slot.ensures.goes s holds)
+
 pub returns-in-SetGlobal-clause-runs : goal.returns-in-SetGlobal-clause-runs
 returns-in-SetGlobal-clause-runs g c s holds =
     runs_as g.H.GcHeap.KIND c.args.store.now.alloc_counter (g.L.ResourceLimiter.limits c.args.limiter.now) s c.args.command.now (command.SetGlobal c.in-SetGlobal.g c.in-SetGlobal.r) (Ok c.set_global.result) c.set_global.new.store c.args.self.now c.in-SetGlobal.is tt (c.set_global.ensures.goes s holds)

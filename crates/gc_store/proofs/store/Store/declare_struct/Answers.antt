@@ -17,9 +17,9 @@ did g c =
 pub invariant_of-self : goal.invariant_of-self
 invariant_of-self g c =
     sound_declared g.H.GcHeap.KIND c.self.inside.id c.self.inside.config c.self.inside.tries c.args.fields.now c.requires.built c.self.inside.owner.seen c.declare_struct.new.self.seen c.declare_struct.result
-    (did g (goal.at.invariant_of-self g c).After-declare_struct) c.self.invariant
+    (did g (goal.at.invariant_of-self g c).After-declare_struct) c.self.inside.slot_counts.items c.self.invariant
 
 pub returns-clause-step : goal.returns-clause-step
 returns-clause-step g c t a holds =
     declared_step g.H.GcHeap.KIND c.self.inside.id c.self.inside.config c.self.inside.tries c.args.fields.now c.requires.built c.self.inside.owner.seen c.declare_struct.new.self.seen c.declare_struct.result
-    (did g (goal.at.returns-clause-step g c).After-declare_struct) c.self.invariant t a (subst (λ (v : StoreView g.row.D.Denot). HoldsAccount g.H.GcHeap.KIND v t a) (sym c.self.view_is) holds)
+    (did g (goal.at.returns-clause-step g c).After-declare_struct) c.self.inside.slot_counts.items c.self.invariant t a (subst (λ (v : StoreView g.row.D.Denot). HoldsAccount g.H.GcHeap.KIND v t a) (sym c.self.view_is) holds)

@@ -4,7 +4,6 @@ use Rattle.gc_model.specs.Allocation.{Limits}
 use Rattle.gc_model.specs.Stores.{StoreView}
 use Rattle.gc_model.specs.Holds.{HoldsKept}
 use Rattle.gc_policy.specs.Accounts.{Account, HoldsAccount}
-use Rattle.gc_policy.proofs.RootsShown.{slots_in_frames}
 use Rattle.gc_policy.proofs.AccountLemmas.{AfterCollection, collected_account, some_account}
 use Rattle.gc_policy.proofs.CollectedStore.{unmade_kept}
 use Rattle.gc_store.specs.Stores.{store_view}
@@ -24,7 +23,7 @@ now g c = store_view c.self.inside.id c.self.inside.config c.collect.new.self.se
 after : (g : Over) (c : After-collect g) (t : Table g.row.D.Denot) (a : Account) (limits : Limits) → HoldsAccount g.H.GcHeap.KIND (before g c) t a
     → AfterCollection g.H.GcHeap.KIND (before g c) t a limits c.collect.new.self.seen
 after g c t a limits holds =
-    collected_account g.H.GcHeap.KIND (before g c) t a limits c.self.inside.owner.seen c.collect.new.self.seen holds c.is_ready.ensures.can (slots_in_frames c.self.inside.owner.seen.roots c.is_ready.ensures.frames) c.is_ready.ensures.heap
+    collected_account g.H.GcHeap.KIND (before g c) t a limits c.self.inside.owner.seen c.collect.new.self.seen holds c.is_ready.ensures.can c.is_ready.ensures.frames c.is_ready.ensures.heap
     (sym c.is_made.ensures ∙ c.if-is_made.true) c.collect.ensures
 
 -- what no limiter is asked for
@@ -34,7 +33,7 @@ unasked = record { limit = None; refusals = 0; last_refused = None }
 pub invariant_of-self : goal.invariant_of-self
 invariant_of-self g c =
     let is = after g c c.self.invariant.table c.self.invariant.account unasked c.self.invariant.holds in
-    sound_again g.H.GcHeap.KIND (before g c) c.self.inside.owner.seen c.collect.new.self.seen is.after.table is.after.account c.self.invariant (keeps-collected g.H.GcHeap.KIND c.self.inside.owner.seen c.collect.new.self.seen c.collect.ensures)
+    sound_again g.H.GcHeap.KIND (before g c) c.self.inside.owner.seen c.collect.new.self.seen is.after.table is.after.account c.self.inside.slot_counts.items c.self.invariant (keeps-collected g.H.GcHeap.KIND c.self.inside.owner.seen c.collect.new.self.seen c.collect.ensures)
     is.holds
 
 pub returns-then-is_made-clause-kept : goal.returns-then-is_made-clause-kept

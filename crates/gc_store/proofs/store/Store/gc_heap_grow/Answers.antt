@@ -7,7 +7,6 @@ use Rattle.gc_owner.specs.Growing.{OwnerState, state_of}
 use Rattle.gc_policy.specs.Accounts.{Account, HoldsAccount}
 use Rattle.gc_policy.specs.Policy as policy
 use Rattle.gc_policy.specs.Policy.{policy_state}
-use Rattle.gc_policy.proofs.RootsShown.{slots_in_frames}
 use Rattle.gc_store.specs.declared.grow.GrowFault.{GrowFault}
 use Rattle.gc_store.specs.Expansion.{GrowsStore}
 use Rattle.gc_store.specs.Stores.{store_view}
@@ -30,10 +29,10 @@ abbrev now : (g : Over) → After-expand g → StoreView g.row.D.Denot
 now g c = store_view c.self.inside.id c.self.inside.config c.expand.new.self.seen c.self.inside.tries
 
 expanded : (g : Over) (c : After-expand g) (t : Table g.row.D.Denot) (a : Account) → HoldsAccount g.H.GcHeap.KIND (view g c) t a
-    → FollowsExpansion g.H.GcHeap.KIND (view g c) c.args.bytes (end g c) (policy_state t a (g.L.ResourceLimiter.limits c.args.limiter.now)) c.expand.result
+    → FollowsExpansion g.H.GcHeap.KIND (view g c) c.args.bytes (end g c) (policy_state t a (g.L.ResourceLimiter.limits c.args.limiter.now)) c.expand.result c.self.inside.slot_counts.items
 expanded g c t a holds =
     expansion_follows g.H.GcHeap.KIND (view g c) (start g c) (policy_state t a (g.L.ResourceLimiter.limits c.args.limiter.now))
-    (record { holds = holds; limits = refl; is_heap = c.is_ready.ensures.heap; can = c.is_ready.ensures.can; in_frames = slots_in_frames c.self.inside.owner.seen.roots c.is_ready.ensures.frames }) c.self.invariant c.args.bytes
+    (record { holds = holds; limits = refl; is_heap = c.is_ready.ensures.heap; can = c.is_ready.ensures.can; in_frames = c.is_ready.ensures.frames }) c.self.inside.slot_counts.items c.self.invariant c.args.bytes
     (omega (arith, c.if-bytes-eq0.false)) (end g c) c.expand.result c.expand.ensures
 
 pub returns-then-bytes-eq0-clause-grows : goal.returns-then-bytes-eq0-clause-grows

@@ -31,7 +31,7 @@ pub invariant_of-self : goal.invariant_of-self
 invariant_of-self g c =
     let at = (goal.at.invariant_of-self g c).In-Ok in
     sound_global_set g.H.GcHeap.KIND c.self.inside.id c.self.inside.config c.self.inside.tries c.self.inside.owner.seen c.set_global.new.self.seen c.args.global c.args.class c.in-Ok.word c.set_global.ensures
-    c.args.r c.self.invariant (found g at)
+    c.self.inside.slot_counts.items c.args.r c.self.invariant (found g at)
 
 pub returns-clause-sets : goal.returns-clause-sets
 returns-clause-sets g c = λ t a slot holds there.

@@ -7,6 +7,6 @@ pub returns : goal.returns
 returns g c = (
   λ yes.
       subst (HoldsStart g.row.D.Denot g.H.GcHeap.KIND) c.self.view_is
-      (starts_nothing _ _ _ _ c.is_ready.ensures.heap c.is_ready.ensures.unused c.self.invariant (subst ShowsNothing (sym c.self.view_is) (c.is_untouched.ensures.0 yes))),
+      (starts_nothing _ _ _ _ _ c.is_ready.ensures.heap c.is_ready.ensures.unused c.self.invariant (subst ShowsNothing (sym c.self.view_is) (c.is_untouched.ensures.0 yes))),
   λ holds. c.is_untouched.ensures.1 (nothing_starts _ _ _ holds),
 )

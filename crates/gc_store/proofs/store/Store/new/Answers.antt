@@ -2,7 +2,7 @@ use Rattle.gc_store.proofs.Sound.{sound_new, starts_fresh, new_view}
 use Rattle.gc_store.proofs.store.Store.new.Goals as goal
 
 pub invariant_of-result : goal.invariant_of-result
-invariant_of-result g c = sound_new c.args.id c.args.config c.in_ok-new.field-0.seen c.in_ok-new.ensures.seen g.H.GcHeap.KIND
+invariant_of-result g c = sound_new c.args.id c.args.config c.in_ok-new.field-0.seen c.in_ok-new.ensures.seen g.H.GcHeap.KIND c.new-2.result.items c.new-2.ensures.items
 
 pub returns-clause-start : goal.returns-clause-start
 returns-clause-start g c = starts_fresh c.args.id c.args.config c.in_ok-new.field-0.seen c.in_ok-new.ensures.seen g.H.GcHeap.KIND

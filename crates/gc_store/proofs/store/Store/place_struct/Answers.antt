@@ -21,7 +21,6 @@ use Rattle.gc_policy.specs.Policy as policy
 use Rattle.gc_policy.specs.Policy.{policy_state}
 use Rattle.gc_policy.specs.Shown.{shown}
 use Rattle.gc_policy.proofs.CollectedOffsets.{declared_laid_out}
-use Rattle.gc_policy.proofs.RootsShown.{slots_in_frames}
 use Rattle.gc_store.specs.Making.{BeginsMaking, MakesRooted, size_of}
 use Rattle.gc_store.specs.Places.{CanPlace, Places, PlacesObject}
 use Rattle.gc_store.specs.Stores.{store_view, is_full}
@@ -31,6 +30,7 @@ use Rattle.gc_store.specs.Fields.{Writes, WritesValues}
 use Rattle.gc_types.specs.declared.value.FieldType.{FieldType}
 use Rattle.gc_view.specs.Heaps.{HeapObject}
 use Rattle.std.specs.List.{slice_get}
+use Rattle.gc_store.proofs.Keeping.{counts_of}
 use Rattle.gc_store.proofs.PlacedValues.{values_of}
 use Rattle.gc_store.proofs.PlacingFaults.{FollowsFault, fault_follows, fault_keeps}
 use Rattle.gc_store.proofs.store.Store.place_struct.Given as given
@@ -42,7 +42,7 @@ abbrev view : (g : given.Over) (c : After-is_ready g) → StoreView g.row.D.Deno
 view g c = store_view c.self.inside.id c.self.inside.config c.self.inside.owner.seen c.self.inside.tries
 
 ready : (g : given.Over) (c : After-is_ready g) (t : Table g.row.D.Denot) (a : Account) → HoldsAccount g.H.GcHeap.KIND (view g c) t a → IsStart g.H.GcHeap.KIND (view g c) c.self.inside.owner.seen t a
-ready g c t a holds = record { heap = c.is_ready.ensures.heap; can = c.is_ready.ensures.can; in_frames = slots_in_frames c.self.inside.owner.seen.roots c.is_ready.ensures.frames; holds = holds }
+ready g c t a holds = record { heap = c.is_ready.ensures.heap; can = c.is_ready.ensures.can; in_frames = c.is_ready.ensures.frames; holds = holds }
 
 -- each table that the store held, by its parts
 held : (g : given.Over) (c : After-is_ready g) (t : Table g.row.D.Denot) (a : Account) → HoldsAccount g.H.GcHeap.KIND c.args.self.now t a → HoldsAccount g.H.GcHeap.KIND (view g c) t a
@@ -237,6 +237,7 @@ invariant_of-self-in-Ok g c =
       idle = ap (λ (v : OwnerView g.row.D.Denot). v.idle) rest ∙ idle_now g ok;
       engine = ap (λ (x : TypeTable). x.engine) types ∙ c.self.invariant.engine;
       number = ap (λ (x : TypeTable). x.number) types ∙ c.self.invariant.number;
+      frames = c.self.invariant.frames ∙ sym (ap counts_of rest ∙ (keeps g ok).counts ∙ ap counts_of c.reserve.ensures.rest);
       table = _;
       account = _;
       holds = places.holds;
@@ -281,6 +282,7 @@ invariant_of-self-in-Err g c =
       idle = rest.idle ∙ ap (λ (v : OwnerView g.row.D.Denot). v.idle) c.reserve.ensures.rest ∙ c.self.invariant.idle;
       engine = ap (λ (x : TypeTable). x.engine) types ∙ c.self.invariant.engine;
       number = ap (λ (x : TypeTable). x.number) types ∙ c.self.invariant.number;
+      frames = c.self.invariant.frames ∙ sym (rest.counts ∙ ap counts_of c.reserve.ensures.rest);
       table = after.table;
       account = after.account;
       holds = subst (λ (n : ℕ). HoldsAccount g.H.GcHeap.KIND (store_view c.self.inside.id c.self.inside.config c.make_struct.new.owner.seen n) after.table after.account) (sym c.count_allocation-is_due.ensures.counted) after.holds;

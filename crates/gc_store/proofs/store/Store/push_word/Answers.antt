@@ -36,7 +36,7 @@ invariant_of-self-2 g c =
     let at = (goal.at.invariant_of-self-2 g c).After-push-index in
     let before = (goal.at.After-push-index g at).After-reserve in
     sound_pushed g.H.GcHeap.KIND c.self.inside.id c.self.inside.config c.self.inside.tries c.self.inside.owner.seen c.reserve.new.self.seen c.push-index.new.self.seen c.args.word
-    (pushes g at) (root_word g before).not_null (free g before) c.self.invariant (root_word g before)
+    (pushes g at) (root_word g before).not_null (free g before) c.self.inside.slot_counts.items c.self.invariant (root_word g before)
 
 pub returns-clause-pushes : goal.returns-clause-pushes
 returns-clause-pushes g c t place a r holds account is =

@@ -17,6 +17,7 @@ use Rattle.gc_store.specs.Fields.{StoredFits, FitsBytes, KeptAs, IsKept, CanRead
 use Rattle.gc_store.specs.Roots.{word_of}
 use Rattle.gc_store.specs.Values.{CanWrite, WritesValue}
 use Rattle.gc_store.specs.Stores.{store_view}
+use Rattle.gc_store.proofs.Keeping.{counts_of}
 use Rattle.gc_store.proofs.Roots.{SomeIff-value, SomeIff-some}
 use Rattle.gc_store.proofs.FieldReads.{FieldAt, never_dead}
 use Rattle.gc_store.proofs.FieldWrites.{spot, spot_kept, spot_stored, spot_field, writes_value, some_written}
@@ -152,6 +153,7 @@ invariant_of-self g c =
       idle = ap (λ (v : OwnerView g.row.D.Denot). v.idle) (rest_is g written_at) ∙ c.self.invariant.idle;
       engine = ap (λ (v : OwnerView g.row.D.Denot). v.types.engine) (rest_is g written_at) ∙ c.self.invariant.engine;
       number = ap (λ (v : OwnerView g.row.D.Denot). v.types.number) (rest_is g written_at) ∙ c.self.invariant.number;
+      frames = c.self.invariant.frames ∙ ap counts_of (sym (rest_is g written_at));
       table = some.0;
       account = some.1.0;
       holds = subst (λ (s : StoreView g.row.D.Denot). HoldsAccount g.H.GcHeap.KIND s some.0 some.1.0) (sym (later_is g written_at)) some.1.1;

@@ -1,0 +1,102 @@
+//! The commands that open and close frames, and set and read their slots.
+
+ghost use Rattle.std.specs.Prelude.{◌≡◌, Ok};
+ghost use Rattle.gc_commands.specs.declared.command.Command.TheVariants as Command;
+ghost use Rattle.gc_script.specs.State.{State, HoldsState};
+ghost use Rattle.gc_script.specs.Run.{GoesOn};
+ghost use Rattle.gc_store.specs.Stores.{IsSameStore};
+
+use crate::fields::{make_room, put_into};
+use crate::runner::{RunError, Runner};
+use crate::shown::shown;
+use crate::values::{is_live, slot_of};
+use gc_commands::{Refusal, Reply};
+use gc_heap::GcHeap;
+use gc_store::{RawValue, SlotFault, Store};
+
+impl Runner {
+    /// Opens a frame of that many slots.
+    pub(crate) fn push_frame<H: GcHeap>(
+        &self,
+        store: &mut Store<H, u64>,
+        slots: u16,
+    ) -> Result<Reply, RunError>
+        ensures goes { (s : State) → HoldsState H.KIND store.old self.now s → GoesOn H.KIND s (Command.Push slots) result store.new self.now }
+        ensures same { IsSameStore store.old store.new }
+    {
+        match store.push_frame(u32::from(slots)) {
+            Ok(()) => Ok(Reply::Done),
+            Err(_) => Err(RunError::OutOfMemory),
+        }
+    }
+
+    /// Closes the newest frame. Takes no memory.
+    pub(crate) fn pop_frame<H: GcHeap>(&self, store: &mut Store<H, u64>) -> Reply
+        ensures goes { (s : State) → HoldsState H.KIND store.old self.now s → GoesOn H.KIND s Command.Pop (Ok result) store.new self.now }
+        ensures same { IsSameStore store.old store.new }
+    {
+        if store.pop_frame() {
+            Reply::Done
+        } else {
+            Reply::Refused(Refusal::NoSuchName)
+        }
+    }
+
+    /// Sets slot `k` of the newest frame to the reference in register `r`. Takes no memory.
+    pub(crate) fn store_slot<H: GcHeap>(&self, store: &mut Store<H, u64>, k: u16, r: u16) -> Reply
+        ensures goes { (s : State) → HoldsState H.KIND store.old self.now s → GoesOn H.KIND s (Command.Store k r) (Ok result) store.new self.now }
+        ensures same { IsSameStore store.old store.new }
+    {
+        let slot = u32::from(k);
+        if !store.has_slot(slot) {
+            return Reply::Refused(Refusal::NoSuchName);
+        }
+        let value = match self.registers.get(r) {
+            Some(value) => value,
+            None => return Reply::Refused(Refusal::NoSuchName),
+        };
+        if !is_live(store, &value) {
+            return Reply::Refused(Refusal::Unrooted);
+        }
+        let (class, handle) = match slot_of(&value) {
+            Some(slot) => slot,
+            None => return Reply::Refused(Refusal::WrongKind),
+        };
+        match store.slot_set(slot, class, handle) {
+            Ok(()) => Reply::Done,
+            // The slot is there and the root is live, so the store never answers this.
+            Err(_) => Reply::Refused(Refusal::Unrooted),
+        }
+    }
+
+    /// The value of slot `k` of the newest frame, which goes into register `d`.
+    pub(crate) fn load_slot<H: GcHeap>(
+        &mut self,
+        store: &mut Store<H, u64>,
+        k: u16,
+        d: u16,
+    ) -> Result<Reply, RunError>
+        ensures goes { (s : State) → HoldsState H.KIND store.old self.old s → GoesOn H.KIND s (Command.Load k d) result store.new self.new }
+        ensures same { IsSameStore store.old store.new }
+    {
+        let slot = u32::from(k);
+        if !store.has_slot(slot) {
+            return Ok(Reply::Refused(Refusal::NoSuchName));
+        }
+        let into = Some(d);
+        if make_room(&mut self.registers, into).is_err() {
+            return Err(RunError::OutOfMemory);
+        }
+        match store.slot_get(slot) {
+            Ok((class, handle)) => {
+                let value = RawValue::Ref(class, handle);
+                let reply = shown(store, &value);
+                put_into(&mut self.registers, into, value);
+                Ok(Reply::Value(reply))
+            }
+            Err(SlotFault::RootsFull) => Ok(Reply::Refused(Refusal::RootsFull)),
+            // The slot is there, so only memory is wanting.
+            Err(_) => Err(RunError::OutOfMemory),
+        }
+    }
+}

@@ -1,0 +1,62 @@
+use Rattle.std.proofs.Common.{◌<◌, length, Ok, sym, subst}
+use Rattle.gc_model.specs.Frames.{newest}
+use Rattle.gc_model.specs.Stores.{StoreView}
+use Rattle.gc_model.specs.Holds.{Holds}
+use Rattle.gc_policy.specs.Accounts.{IsAccount}
+use Rattle.gc_store.specs.Slots.{FindsWord}
+use Rattle.gc_store.specs.Stores.{store_view}
+use Rattle.gc_store.proofs.Pushing.{word_in_heap}
+use Rattle.gc_store.proofs.FrameLemmas.{found_within, never_there, slot_there, slot_was_set, sound_slot_set}
+use Rattle.gc_store.proofs.store.Store.slot_set.Given as given
+use Rattle.gc_store.proofs.store.Store.slot_set.Goals as goal
+use Rattle.gc_store.proofs.store.Store.slot_set.Goals.{In-Ok}
+
+pub returns-then-not-has_slot-clause-sets : goal.returns-then-not-has_slot-clause-sets
+returns-then-not-has_slot-clause-sets g c = λ t a there holds e.
+    never_there g.H.GcHeap.KIND c.args.self.now t holds.place holds.holds c.args.slot there c.has_slot.result e c.has_slot.ensures c.if-not-has_slot.true
+
+-- the store's view, by its parts
+abbrev view : (g : given.Over) (c : In-Ok g) → StoreView g.row.D.Denot
+view g c = store_view c.self.inside.id c.self.inside.config c.self.inside.owner.seen c.self.inside.tries
+
+within : (g : given.Over) (c : In-Ok g) → c.args.slot < length (newest (view g c).frames)
+within g c = found_within (view g c) c.args.self.now c.args.slot c.has_slot.result c.self.view_is c.has_slot.ensures c.if-not-has_slot.false
+
+-- the word is that of what the handle names in the table by which the store is sound
+found : (g : given.Over) (c : In-Ok g) → FindsWord (view g c) c.self.invariant.table c.self.invariant.holds.place c.args.r (Ok c.in-Ok.word)
+found g c =
+    subst (λ (s : StoreView g.row.D.Denot). FindsWord s c.self.invariant.table c.self.invariant.holds.place c.args.r (Ok c.in-Ok.word)) (sym c.self.view_is)
+    (c.in-Ok.ensures c.self.invariant.table c.self.invariant.holds.place
+    (subst (λ (s : StoreView g.row.D.Denot). Holds g.H.GcHeap.KIND s c.self.invariant.table c.self.invariant.holds.place) c.self.view_is c.self.invariant.holds.holds))
+
+pub set_slot-requires-clause-slot : goal.set_slot-requires-clause-slot
+set_slot-requires-clause-slot g c =
+    let at = (goal.at.set_slot-requires-clause-slot g c).In-Ok in
+    slot_there c.self.inside.owner.seen c.is_ready.ensures.frames c.args.slot (within g at)
+
+pub set_slot-requires-clause-word : goal.set_slot-requires-clause-word
+set_slot-requires-clause-word g c =
+    let at = (goal.at.set_slot-requires-clause-word g c).In-Ok in
+    let finds = found g at in
+    word_in_heap g.H.GcHeap.KIND (view g at) c.self.invariant.table c.self.invariant.holds.place finds.0 c.in-Ok.word c.self.invariant.holds.holds finds.1.1
+
+pub invariant_of-self : goal.invariant_of-self
+invariant_of-self g c =
+    let at = (goal.at.invariant_of-self g c).In-Ok in
+    sound_slot_set g.H.GcHeap.KIND c.self.inside.id c.self.inside.config c.self.inside.tries c.self.inside.owner.seen c.set_slot.new.self.seen c.is_ready.ensures.frames c.args.slot c.args.class c.in-Ok.word (within g at) c.set_slot.ensures
+    c.self.inside.slot_counts.items c.args.r c.self.invariant (found g at)
+
+pub returns-clause-sets : goal.returns-clause-sets
+returns-clause-sets g c = λ t a there holds e.
+    let at = (goal.at.returns-clause-sets g c).In-Ok in
+    let finds = c.in-Ok.ensures t holds.place holds.holds in (
+      finds.0,
+      (
+        finds.1.0,
+        slot_was_set g.H.GcHeap.KIND c.self.inside.id c.self.inside.config c.self.inside.tries c.self.inside.owner.seen c.set_slot.new.self.seen c.is_ready.ensures.frames c.args.slot c.args.class c.in-Ok.word (within g at) c.set_slot.ensures
+            t holds.place a finds.0
+            (subst (λ (s : StoreView g.row.D.Denot). Holds g.H.GcHeap.KIND s t holds.place) (sym c.self.view_is) holds.holds)
+            (subst (λ (s : StoreView g.row.D.Denot). IsAccount s holds.place a) (sym c.self.view_is) holds.account)
+            finds.1.1,
+      ),
+    )
