@@ -35,11 +35,12 @@ with, and the most that it gets.
   new D T V..    make a struct        setf R I V     write a field
   i31 D N        a small integer      eq R S         whether they are the same
   enter, leave   a scope of roots     gc, grow N     collect, grow by N bytes
-  cap            the heap's bytes     gset, gget G R set, read a global
-D, R, S are registers, 0 to 65535; G a global, 0 to 15; T a type, counted from
-0; I a field. F is m: or c:, mutable or constant, and i32, i64 or any. V is
-i32:N, i64:N, any:null, or r and a register. Other lines get BadLine. Example:
-
+  push K, pop    a frame of K slots   cap            the heap's bytes
+  store K R      set a frame's slot   load K D       read it, into D
+  gset G R       set a global         gget G D       read it, into D
+D, R, S are registers, 0 to 65535; K a slot; G a global, 0 to 15; T a type,
+counted from 0; I a field. F is m: or c:, mutable or constant, and i32, i64 or
+any. V is i32:N, i64:N, any:null, or r and a register. Else: BadLine. Example:
   printf 'struct m:i32\\nnew 1 0 i32:5\\nfield 1 0\\n' | gcsh null 1 64
 
 Status: 0 all was replied to; 1 the words are of no form above, and nothing is
