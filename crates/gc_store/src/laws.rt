@@ -31,16 +31,16 @@ pub fn left_roots_are_gone<H: GcHeap, D: Drop>(store: &Store<H, D>)
 {}
 
 /// A value that was written into an object is read back, and every other value is as it was.
-pub fn written_is_read()
-    ensures written { (o : Object ℕ) (index : ℕ) (v : Value) → index < length (object_values o) → slice_get (object_values (with_value index v o)) index ≡ Some v }
-    ensures others { (o : Object ℕ) (index other : ℕ) (v : Value) → ¬ (other ≡ index) → slice_get (object_values (with_value index v o)) other ≡ slice_get (object_values o) other }
+pub fn written_is_read<D: Drop>()
+    ensures written { (o : Object D) (index : ℕ) (v : Value) → index < length (object_values o) → slice_get (object_values (with_value index v o)) index ≡ Some v }
+    ensures others { (o : Object D) (index other : ℕ) (v : Value) → ¬ (other ≡ index) → slice_get (object_values (with_value index v o)) other ≡ slice_get (object_values o) other }
 {}
 
 /// A root that is gone is gone for ever: no later push, and no scope that is left, makes it live again.
-pub fn roots_stay_gone()
-    ensures push { (t : Table ℕ) (x : ℕ) (r : Reference) → x < length t.pushes → rooted t x ≡ None → rooted (push r t) x ≡ None }
-    ensures make { (t : Table ℕ) (x : ℕ) (o : Object ℕ) → x < length t.pushes → rooted t x ≡ None → rooted (make o t) x ≡ None }
-    ensures leave { (t : Table ℕ) (x mark : ℕ) → rooted t x ≡ None → rooted (leave mark t) x ≡ None }
+pub fn roots_stay_gone<D: Drop>()
+    ensures push { (t : Table D) (x : ℕ) (r : Reference) → x < length t.pushes → rooted t x ≡ None → rooted (push r t) x ≡ None }
+    ensures make { (t : Table D) (x : ℕ) (o : Object D) → x < length t.pushes → rooted t x ≡ None → rooted (make o t) x ≡ None }
+    ensures leave { (t : Table D) (x mark : ℕ) → rooted t x ≡ None → rooted (leave mark t) x ≡ None }
 {}
 
 /// A growth by the bytes that an object needs makes room for it, in a heap of any kind.

@@ -22,6 +22,8 @@ pub mod read;
 pub mod request;
 pub mod root;
 pub mod rooted;
+#[cfg(test)]
+mod rooted_tests;
 pub mod scope;
 pub mod store;
 #[cfg(test)]

@@ -52,7 +52,7 @@ impl<T: GcRef> RootedGcRef<T> for Rooted<T> {
 
 impl<T: GcRef> Rooted<T> {
     /// A handle of that root, whose reference the caller knows to be of this type.
-    pub fn from_gc_root_index(index: GcRootIndex) -> Rooted<T>
+    pub(crate) fn from_gc_root_index(index: GcRootIndex) -> Rooted<T>
         ensures { result.index ≡ index }
     {
         Rooted {
