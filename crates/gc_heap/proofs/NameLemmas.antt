@@ -55,7 +55,7 @@ total_below f g m le =
     omega arith
 
 -- a sum is at most another where each held object's number is
-total-le : (f g : HeapObject → ℕ) (m : FinMap nat_cmp HeapObject) → ((q : ℕ) (o : HeapObject) → get m q ≡ Some o → f o ≤ g o) → total f m ≤ total g m
+pub total-le : (f g : HeapObject → ℕ) (m : FinMap nat_cmp HeapObject) → ((q : ℕ) (o : HeapObject) → get m q ≡ Some o → f o ≤ g o) → total f m ≤ total g m
 total-le f g m le =
     let same : total f m ≡ total (λ o. min (f o) (g o)) m = total-same f (λ o. min (f o) (g o)) m m (λ q. alike (get m q) (le q)) in
     let below = total_below (λ o. min (f o) (g o)) g m (λ o. omega arith) in

@@ -1,5 +1,5 @@
 -- Laws of sums over a heap's content.
-use Rattle.std.specs.Prelude.{◌≡◌, ℕ, ◌+◌, ◌≤◌, ◌&&◌, List, [], ◌∷◌, true, false, cond, Option, Some, None, length, map, sum, sum_by, option_map, is_some, T}
+use Rattle.std.specs.Prelude.{◌≡◌, ℕ, ◌+◌, ◌≤◌, ◌&&◌, List, [], ◌∷◌, true, false, cond, Option, Some, None, length, map, sum, sum_by, option_map, T}
 use Rattle.std.specs.Ordering.{nat_cmp, eq_by_cmp, is_eq, is_lt}
 use Rattle.std.specs.FinMap.{FinMap, entries, entries_sorted, get, insert, remove, empty, len, put, find, is_sorted, entries-insert, get-entries, len-entries, len-empty, same_map, nat_cmp-IsAntisymmetric, gets}
 use Rattle.std.specs.Cmp.{nat_cmp_total}
@@ -129,16 +129,3 @@ len-total m = len-entries m ∙ ones (entries m) ∙ sym (total-entries (λ _. 1
 -- how many objects are held after a change
 pub len_with : (m : FinMap nat_cmp HeapObject) (k : ℕ) (v : HeapObject) → get m k ≡ None → len (insert m k v) ≡ len m + 1
 len_with m k v none = len-total (insert m k v) ∙ total-insert (λ _. 1) m k v none ∙ ap (λ n. n + 1) (sym (len-total m))
-
-pub len_without : (m : FinMap nat_cmp HeapObject) (k : ℕ) (v : HeapObject) → get m k ≡ Some v → len (remove m k) + 1 ≡ len m
-len_without m k v is = ap (λ n. n + 1) (len-total (remove m k)) ∙ total-remove (λ _. 1) m k v is ∙ sym (len-total m)
-
-pub len_replaced : (m : FinMap nat_cmp HeapObject) (k : ℕ) (v v' : HeapObject) → get m k ≡ Some v → len (insert m k v') ≡ len m
-len_replaced m k v v' is = let replaced = total-replace (λ _. 1) m k v v' is in len-total (insert m k v') ∙ omega arith ∙ sym (len-total m)
-
-pub len_same : (m n : FinMap nat_cmp HeapObject) → ((q : ℕ) → is_some (get m q) ≡ is_some (get n q)) → len m ≡ len n
-len_same m n same = len-total m ∙ total-same (λ _. 1) (λ _. 1) m n (λ q. ones (get m q) ∙ ap (λ b. cond b (Some 1) None) (same q) ∙ sym (ones (get n q))) ∙ sym (len-total n)
-  where
-    ones : (o : Option HeapObject) → option_map {U = ℕ} (λ _. 1) o ≡ cond (is_some o) (Some 1) None
-    ones None = refl
-    ones (Some v) = refl

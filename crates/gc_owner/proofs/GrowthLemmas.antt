@@ -18,7 +18,7 @@ use Rattle.gc_owner.specs.declared.pages.PagesFault.{PagesFault}
 use Rattle.gc_owner.specs.declared.pages.PagesFault.TheVariants as pages_fault
 use Rattle.gc_owner.specs.Growing.{AsksPages, asked, pages_of, GrowsMemory}
 use Rattle.gc_owner.specs.Tracing.{IsCollectable}
-use Rattle.gc_owner.proofs.Names.{total-le}
+use Rattle.gc_heap.proofs.NameLemmas.{total-le}
 use Rattle.gc_owner.proofs.Begins.{numbers_kept}
 
 -- The limiter's answer

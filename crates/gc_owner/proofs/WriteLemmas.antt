@@ -27,7 +27,7 @@ use Rattle.gc_owner.specs.Owners.{OwnerValue, IsReady, InOrder, owner_value, rai
 use Rattle.gc_owner.specs.Writes.{IsNumberPlace, IsReferencePlace, WritesBytes, WritesWord}
 use Rattle.gc_owner.specs.Tracing.{IsCollectable}
 use Rattle.gc_owner.proofs.Begins.{with_memory, memory_heap, traced_put}
-use Rattle.gc_owner.proofs.Names.{counted_is, is_named}
+use Rattle.gc_heap.proofs.NameLemmas.{counted_is, is_named}
 use Rattle.gc_owner.proofs.OwnerLemmas.{kind_of, ready_at, idle_at, word_at, made_order}
 use Rattle.gc_owner.proofs.FollowedOffsets.{followed_offsets, reference_holder}
 

@@ -105,10 +105,6 @@ newest_start r = slice_index_or r.frames (length r.frames - 1) 0
 abbrev pub Follow : ℕ → List Root → (ℕ → ℕ) → ℕ → Bool → List ℕ → List Root → Type 0
 Follow from roots to place on_stack words behind = drop from roots ≡ map (moved_root to) (listed_as place on_stack words) ++ behind
 
--- how many roots there are, nulls among them
-abbrev pub root_count : RootsView → ℕ
-root_count r = length r.scoped + length r.owned + length r.slots + global_count + 1
-
 -- starts of frames from a place on, each at or behind the one before it, and none behind the end of the slots
 abbrev pub RiseFrom : ℕ → List ℕ → ℕ → Type 0
 RiseFrom place [] end = place ≤ end
