@@ -1,83 +1,117 @@
--- Which values fit a field, of the types of fields that are built.
-use Rattle.std.specs.Prelude.{Bool, true, false, if◌then◌else◌}
-use Rattle.gc_types.specs.declared.value.FieldType.{FieldType}
+-- Which values fit a type: a number by its kind, null by the type's top, an object by its own type (WebAssembly GC proposal).
+use Rattle.std.specs.Prelude.{ℕ, zero, suc, ◌==◌, ◌&&◌, ◌||◌, Bool, true, false, List, Option, Some, None, slice_get}
+use Rattle.gc_types.specs.declared.value.Func.{Func}
+use Rattle.gc_types.specs.declared.value.HeapType.{HeapType}
+use Rattle.gc_types.specs.declared.value.HeapType.TheVariants as heap
+use Rattle.gc_types.specs.declared.value.HeapTopType.{HeapTopType}
+use Rattle.gc_types.specs.declared.value.HeapTopType.TheVariants as top
+use Rattle.gc_types.specs.declared.value.RefType.{RefType}
 use Rattle.gc_types.specs.declared.value.StorageType.{StorageType}
 use Rattle.gc_types.specs.declared.value.StorageType.TheVariants as storage
 use Rattle.gc_types.specs.declared.value.ValType.{ValType}
 use Rattle.gc_types.specs.declared.value.ValType.TheVariants as val
-use Rattle.gc_types.specs.declared.value.HeapType.{HeapType}
-use Rattle.gc_types.specs.declared.value.HeapType.TheVariants as heap
+use Rattle.gc_types.specs.Declarations.{Declaration}
+use Rattle.gc_types.specs.HeapTypes.{is_under}
+use Rattle.gc_types.specs.Subtyping.{supertypes_of}
+use Rattle.gc_types.specs.Values.{heap_top}
 use Rattle.gc_owner.specs.declared.entry.GcClass.{GcClass}
 use Rattle.gc_owner.specs.declared.entry.GcClass.TheVariants.{Any, Extern, Exn}
-use Rattle.gc_model.specs.Values.{i32, i64, Value, numeric, reference}
+use Rattle.gc_model.specs.Values.{Reference, null, small, at, Value, numeric, i32, i64, f32, f64, v128, function, reference, Object, struct, array, host, exception}
 
--- the heap type of every reference of class Any
-abbrev pub is_any : HeapType → Bool
-is_any heap.Any = true
-is_any heap.Eq = false
-is_any heap.I31 = false
-is_any heap.Struct = false
-is_any heap.Array = false
-is_any heap.None = false
-is_any (heap.ConcreteStruct ty) = false
-is_any (heap.ConcreteArray ty) = false
-is_any heap.Extern = false
-is_any heap.NoExtern = false
-is_any heap.Func = false
-is_any heap.NoFunc = false
-is_any (heap.ConcreteFunc ty) = false
-is_any heap.Exn = false
-is_any heap.NoExn = false
-is_any (heap.ConcreteExn ty) = false
-is_any heap.Cont = false
-is_any heap.NoCont = false
+-- Whether following supertypes from the first type meets the second, in fewer than so many steps.
+abbrev pub climbs : ℕ → List (Option ℕ) → ℕ → ℕ → Bool
+abbrev pub climbs_from : ℕ → List (Option ℕ) → Option (Option ℕ) → ℕ → ℕ → Bool
 
-abbrev pub is_built_value : ValType → Bool
-is_built_value val.I32 = true
-is_built_value val.I64 = true
-is_built_value val.F32 = false
-is_built_value val.F64 = false
-is_built_value val.V128 = false
-is_built_value (val.Ref ty) = if ty.nullable then is_any ty.heap_type else false
+climbs zero supers a b = false
+climbs (suc n) supers a b = climbs_from n supers (slice_get supers a) a b
 
-abbrev pub is_built_storage : StorageType → Bool
-is_built_storage storage.I8 = false
-is_built_storage storage.I16 = false
-is_built_storage (storage.ValType ty) = is_built_value ty
+climbs_from n supers None a b = false
+climbs_from n supers (Some None) a b = a == b
+climbs_from n supers (Some (Some p)) a b = (a == b) || climbs n supers p b
 
--- Whether fields of the type are built: mutable or constant ones of 32-bit or 64-bit numbers, or of any
--- reference, which may be null.
-abbrev pub is_built_field : FieldType → Bool
-is_built_field f = is_built_storage f.element_type
+-- Whether the first type is the second or one of its subtypes, by the supertypes of the declared types. A supertype is
+-- older than its subtypes, so a climb has no more steps than the first type's index.
+abbrev pub is_subtype : List (Option ℕ) → ℕ → ℕ → Bool
+is_subtype supers a b = climbs (suc a) supers a b
 
-abbrev pub is_class_any : GcClass → Bool
-is_class_any Any = true
-is_class_any Extern = false
-is_class_any Exn = false
+-- whether a heap type matches another: two concrete ones of a kind by subtyping, any others by the diagram of heap types
+abbrev pub matches : List (Option ℕ) → HeapType → HeapType → Bool
+matches supers (heap.ConcreteStruct a) (heap.ConcreteStruct b) = is_subtype supers a b
+matches supers (heap.ConcreteArray a) (heap.ConcreteArray b) = is_subtype supers a b
+matches supers (heap.ConcreteFunc a) (heap.ConcreteFunc b) = is_subtype supers a b
+matches supers (heap.ConcreteExn a) (heap.ConcreteExn b) = is_subtype supers a b
+matches supers x y = is_under x y
 
-abbrev pub is_i32 : Value → Bool
-is_i32 (numeric i32 n) = true
-is_i32 _ = false
+abbrev pub is_extern : HeapType → Bool
+is_extern heap.Extern = true
+is_extern _ = false
 
-abbrev pub is_i64 : Value → Bool
-is_i64 (numeric i64 n) = true
-is_i64 _ = false
+-- an object, as a reference of class Any, fits what its own type matches; structs and arrays have this class
+abbrev pub object_fits_any : {D : Type 0} → List Declaration → HeapType → Option (Object D) → Bool
+object_fits_any types ty None = false
+object_fits_any types ty (Some (struct own values)) = matches (supertypes_of types) (heap.ConcreteStruct own) ty
+object_fits_any types ty (Some (array own values)) = matches (supertypes_of types) (heap.ConcreteArray own) ty
+object_fits_any types ty (Some (host value)) = false
+object_fits_any types ty (Some (exception own tag values)) = false
 
--- a reference of class Any, null among them
-abbrev pub is_any_reference : Value → Bool
-is_any_reference (reference class r) = is_class_any class
-is_any_reference _ = false
+-- as one of class Extern it fits that type alone, where it is no exception
+abbrev pub object_fits_extern : {D : Type 0} → HeapType → Option (Object D) → Bool
+object_fits_extern ty None = false
+object_fits_extern ty (Some (struct own values)) = is_extern ty
+object_fits_extern ty (Some (array own values)) = is_extern ty
+object_fits_extern ty (Some (host value)) = is_extern ty
+object_fits_extern ty (Some (exception own tag values)) = false
 
-abbrev pub fits_type : ValType → Value → Bool
-fits_type val.I32 v = is_i32 v
-fits_type val.I64 v = is_i64 v
-fits_type val.F32 v = false
-fits_type val.F64 v = false
-fits_type val.V128 v = false
-fits_type (val.Ref ty) v = is_any_reference v
+-- as one of class Exn it fits what its own type matches, where it is an exception
+abbrev pub object_fits_exn : {D : Type 0} → List Declaration → HeapType → Option (Object D) → Bool
+object_fits_exn types ty None = false
+object_fits_exn types ty (Some (struct own values)) = false
+object_fits_exn types ty (Some (array own values)) = false
+object_fits_exn types ty (Some (host value)) = false
+object_fits_exn types ty (Some (exception own tag values)) = matches (supertypes_of types) (heap.ConcreteExn own) ty
 
--- whether a value fits a field of a type that is built
-abbrev pub fits : StorageType → Value → Bool
-fits storage.I8 v = false
-fits storage.I16 v = false
-fits (storage.ValType ty) v = fits_type ty v
+-- whether references whose types lie under that top have the class
+abbrev pub has_class : HeapTopType → GcClass → Bool
+has_class top.Any Any = true
+has_class top.Extern Extern = true
+has_class top.Exn Exn = true
+has_class _ _ = false
+
+abbrev pub is_function_top : HeapTopType → Bool
+is_function_top top.Func = true
+is_function_top _ = false
+
+-- null fits a type that takes it, in the class of the type's top
+abbrev pub null_fits : RefType → GcClass → Bool
+null_fits ty class = ty.nullable && has_class (heap_top ty.heap_type) class
+
+abbrev pub reference_fits : {D : Type 0} → List Declaration → List (Object D) → RefType → GcClass → Reference → Bool
+reference_fits types objects ty class null = null_fits ty class
+reference_fits types objects ty Any (small n) = matches (supertypes_of types) heap.I31 ty.heap_type
+reference_fits types objects ty Extern (small n) = is_extern ty.heap_type
+reference_fits types objects ty Exn (small n) = false
+reference_fits types objects ty Any (at p) = object_fits_any types ty.heap_type (slice_get objects p)
+reference_fits types objects ty Extern (at p) = object_fits_extern ty.heap_type (slice_get objects p)
+reference_fits types objects ty Exn (at p) = object_fits_exn types ty.heap_type (slice_get objects p)
+
+-- a function fits what its own type matches; none fits a nullable type of functions
+abbrev pub function_fits : List Declaration → RefType → Option Func → Bool
+function_fits types ty None = ty.nullable && is_function_top (heap_top ty.heap_type)
+function_fits types ty (Some f) = matches (supertypes_of types) (heap.ConcreteFunc f.ty) ty.heap_type
+
+-- whether a value fits a type, by the declared types and the objects
+abbrev pub fits_type : {D : Type 0} → List Declaration → List (Object D) → ValType → Value → Bool
+fits_type types objects val.I32 (numeric i32 n) = true
+fits_type types objects val.I64 (numeric i64 n) = true
+fits_type types objects val.F32 (numeric f32 n) = true
+fits_type types objects val.F64 (numeric f64 n) = true
+fits_type types objects val.V128 (numeric v128 n) = true
+fits_type types objects (val.Ref ty) (function f) = function_fits types ty f
+fits_type types objects (val.Ref ty) (reference class r) = reference_fits types objects ty class r
+fits_type types objects _ _ = false
+
+-- whether it fits a field or an element of that type; small integers are given as 32-bit numbers
+abbrev pub fits : {D : Type 0} → List Declaration → List (Object D) → StorageType → Value → Bool
+fits types objects storage.I8 v = fits_type types objects val.I32 v
+fits types objects storage.I16 v = fits_type types objects val.I32 v
+fits types objects (storage.ValType ty) v = fits_type types objects ty v

@@ -1,6 +1,6 @@
 -- Which form a value has, which form a field holds, and the bytes that hold a value in a field: a number with its
 -- lowest byte first at every width, a function as its id, a reference as its word.
-use Rattle.std.specs.Prelude.{◌≡◌, ℕ, Bool, true, false, ◌-◌, ◌<◌, ◌^◌, List, [], Option, Some, take, drop, slice_get, slice_index}
+use Rattle.std.specs.Prelude.{◌≡◌, ℕ, Bool, true, false, ◌-◌, ◌<◌, ◌^◌, List, Option, Some, take, drop, slice_get, slice_index}
 use Rattle.std.specs.Int.{sum_through, byte_worth, bytes_low_first}
 use Rattle.gc_types.specs.declared.value.Func.{Func}
 use Rattle.gc_types.specs.declared.value.StorageType.{StorageType}
@@ -65,9 +65,9 @@ pub record Names : Type 0 where
   pub place : Placing
   pub funcs : List (Option Func)
 
--- no function has an id
-abbrev pub no_functions : Placing → Names
-no_functions place = record { place = place; funcs = [] }
+-- the names under a placing, with the functions by their ids
+abbrev pub naming : Placing → List (Option Func) → Names
+naming place funcs = record { place = place; funcs = funcs }
 
 -- the number that stands in a heap for a value
 abbrev pub IsCode : Names → Value → ℕ → Type 0

@@ -10,16 +10,15 @@ use Rattle.gc_types.specs.declared.layout.FieldLayout.{FieldLayout}
 use Rattle.gc_types.specs.Declarations.{Declaration, struct_fields_at}
 use Rattle.gc_types.specs.Layouts.{struct_base, field_layouts, fields_end}
 use Rattle.gc_model.specs.Values.{Reference, Value, Object, struct, array, host, exception}
-use Rattle.gc_model.specs.Fits.{is_built_field}
 use Rattle.gc_model.specs.Reach.{IsKept, IsHost}
 use Rattle.gc_types.specs.declared.value.Func.{Func}
 use Rattle.gc_model.specs.Table.{Table, Scoped, Push, Owned, Block}
 pub use Rattle.gc_model.specs.Words.{Placing, IsWord}
-pub use Rattle.gc_model.specs.Encoded.{Lies}
+pub use Rattle.gc_model.specs.Forms.{Names, naming}
 pub use Rattle.gc_model.specs.RootPoints.{EntryBy, ScopedBy, IsPastBy, PushesBy, SlotBy, SlotsBy, FramesBy, GlobalsBy, OwnedRootBy, OwnedBy, PendingBy}
 use Rattle.gc_view.specs.Sizes.{stored_size}
 use Rattle.gc_model.specs.Sizes.{next_after}
-pub use Rattle.gc_model.specs.Standing.{HostStands, IsHostAt, HasHostValue, HostsBy}
+pub use Rattle.gc_model.specs.Standing.{Stands, HostStands, IsHostAt, HasHostValue, HostsBy}
 use Rattle.gc_view.specs.Pages.{page, max_pages}
 use Rattle.gc_owner.specs.declared.entry.RootEntry.{RootEntry}
 use Rattle.gc_view.specs.Heaps.{HeapObject, HeapView}
@@ -27,43 +26,20 @@ use Rattle.gc_owner.specs.declared.entry.SlotEntry.{SlotEntry}
 use Rattle.gc_model.specs.Stores.{StoreView}
 use Rattle.gc_owner.specs.declared.entry.OwnedEntry.{OwnedEntry}
 
--- each value lies at its field's offset, which counts from the object's header on
-pub record ValuesLie (place : Placing) (base : ℕ) (fields : List FieldType) (values : List Value) (bytes : List ℕ) : Type 0 where
-  pub same_count : length values ≡ length fields
-  pub each : (i : ℕ) (field : FieldType) (layout : FieldLayout) (value : Value)
-      → slice_get fields i ≡ Some field → slice_get (field_layouts base fields) i ≡ Some layout → slice_get values i ≡ Some value
-      → Lies place field.element_type value bytes (layout.offset - base)
-
--- a struct of a heap stands for one of the table
-pub record StructStands (layouts : Layouts) (types : List Declaration) (place : Placing) (ty : ℕ) (values : List Value) (h : HeapObject) : Type 0 where
-  pub fields : List FieldType
-  pub declared : struct_fields_at types ty ≡ Some fields
-  pub kind : h.kind ≡ StructRef
-  pub same_type : h.ty ≡ ty
-  pub size : struct_base layouts + length h.bytes ≡ stored_size layouts (fields_end (struct_base layouts) fields)
-  pub values_lie : ValuesLie place (struct_base layouts) fields values h.bytes
-
--- an object of a heap stands for one of the table; structs alone so far
-abbrev pub Stands : {D : Type 0} → Layouts → List Declaration → Placing → Object D → HeapObject → Type 0
-Stands layouts types place (struct ty values) h = StructStands layouts types place ty values h
-Stands layouts types place (array ty values) h = ⊥
-Stands layouts types place (host value) h = ⊥
-Stands layouts types place (exception ty tag values) h = ⊥
-
 -- what stands at the place of a position
-pub record HeldBy {D : Type 0} (layouts : Layouts) (types : List Declaration) (objects : List (Object D)) (place : Placing) (content : map.FinMap nat_cmp HeapObject) (position word : ℕ) : Type 0 where
+pub record HeldBy {D : Type 0} (layouts : Layouts) (types : List Declaration) (objects : List (Object D)) (names : Names) (content : map.FinMap nat_cmp HeapObject) (position word : ℕ) : Type 0 where
   pub object : HeapObject
   pub entry : Object D
   pub in_heap : map.get content word ≡ Some object
   pub in_table : slice_get objects position ≡ Some entry
-  pub stands : Stands layouts types place entry object
+  pub stands : Stands layouts types names entry object
 
 -- The heap's objects are the table's: each placed position is held, each held place is some
 -- position's, no two positions share a place, and places are even and not 0.
-pub record ObjectsBy {D : Type 0} (layouts : Layouts) (types : List Declaration) (objects : List (Object D)) (place : Placing) (content : map.FinMap nat_cmp HeapObject) : Type 0 where
-  pub placed : (position word : ℕ) → place position ≡ Some word → HeldBy layouts types objects place content position word
-  pub only : (word : ℕ) (object : HeapObject) → map.get content word ≡ Some object → (position : ℕ) × (place position ≡ Some word)
-  pub injective : (p q word : ℕ) → place p ≡ Some word → place q ≡ Some word → p ≡ q
+pub record ObjectsBy {D : Type 0} (layouts : Layouts) (types : List Declaration) (objects : List (Object D)) (names : Names) (content : map.FinMap nat_cmp HeapObject) : Type 0 where
+  pub placed : (position word : ℕ) → names.place position ≡ Some word → HeldBy layouts types objects names content position word
+  pub only : (word : ℕ) (object : HeapObject) → map.get content word ≡ Some object → (position : ℕ) × (names.place position ≡ Some word)
+  pub injective : (p q word : ℕ) → names.place p ≡ Some word → names.place q ≡ Some word → p ≡ q
   pub even : (word : ℕ) (object : HeapObject) → map.get content word ≡ Some object → (word % 2 ≡ 0) × (0 < word)
 
 -- a null heap holds every object, and goes on where the table says
@@ -117,13 +93,9 @@ pub record NotBuilt {D : Type 0} (made : ℕ) (roots : List Owned) (exception : 
   pub blocks : held ≡ []
   pub hosts : NoHostObjects objects
 
--- the fields of every struct type are of types that are built
-abbrev pub OnlyBuilt : List Declaration → Type 0
-OnlyBuilt types = (ty : ℕ) (fields : List FieldType) → struct_fields_at types ty ≡ Some fields → All (λ (f : FieldType). is_built_field f ≡ true) fields
-
 -- A fact at each point: as the types of the facts are parameters, a change of one part of a store hands the
 -- other points on as they are.
-pub record Points (Types Settings Memory Objects Kind Scopes Scoped Pushes Frames Globals Owned Pending Functions Hosts Nothing Built : Type 0) : Type 0 where
+pub record Points (Types Settings Memory Objects Kind Scopes Scoped Pushes Frames Globals Owned Pending Functions Hosts Nothing : Type 0) : Type 0 where
   pub types : Types
   pub settings : Settings
   pub memory : Memory
@@ -139,15 +111,14 @@ pub record Points (Types Settings Memory Objects Kind Scopes Scoped Pushes Frame
   pub funcs : Functions
   pub hosts : Hosts
   pub nothing_else : Nothing
-  pub only_built : Built
 
 module _ {D : Type 0} where
   -- the points at a table, each over the parts that it speaks of
   abbrev pub HeldAt : Layouts → Table D → Placing → map.FinMap nat_cmp HeapObject → ℕ → ℕ → Type 0
-  HeldAt layouts t place content position word = HeldBy layouts t.types t.objects place content position word
+  HeldAt layouts t place content position word = HeldBy layouts t.types t.objects (naming place t.funcs) content position word
 
   abbrev pub ObjectsHold : Layouts → Table D → Placing → HeapView → Type 0
-  ObjectsHold layouts t place heap = ObjectsBy layouts t.types t.objects place heap.content
+  ObjectsHold layouts t place heap = ObjectsBy layouts t.types t.objects (naming place t.funcs) heap.content
 
   abbrev pub NullHolds : Table D → Placing → HeapView → Type 0
   NullHolds t place heap = NullBy t.types t.objects place heap.allocated
@@ -212,7 +183,6 @@ module _ {D : Type 0} where
       (s.funcs ≡ t.funcs)
       (HostsHold t place s.heap s.hosts)
       (NothingElse t)
-      (OnlyBuilt t.types)
 
 -- the store holds the table, wherever its objects lie
 abbrev pub HoldsTable : {D : Type 0} → Layouts → StoreView D → Table D → Type 0

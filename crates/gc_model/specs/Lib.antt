@@ -5,11 +5,10 @@ pub mod Reach
 pub mod Reads
 pub mod Live
 pub mod Sizes
+pub mod Stored
 pub mod Allocation
 pub mod Words
 pub mod Forms
-pub mod Encoded
-pub mod Matching
 pub mod Standing
 pub mod Globals
 pub mod Frames

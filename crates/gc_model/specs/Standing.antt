@@ -18,7 +18,7 @@ use Rattle.gc_model.specs.Forms.{Names, LiesAs}
 use Rattle.gc_model.specs.Words.{Placing}
 
 -- each value lies in the slot of its index; the bytes are those from an offset of the object on
-pub record ValuesLieIn (names : Names) (base : ℕ) (slots : List StorageSlot) (values : List Value) (bytes : List ℕ) : Type 0 where
+pub record ValuesLie (names : Names) (base : ℕ) (slots : List StorageSlot) (values : List Value) (bytes : List ℕ) : Type 0 where
   pub same_count : length values ≡ length slots
   pub each : (i : ℕ) (slot : StorageSlot) (value : Value) → slice_get slots i ≡ Some slot → slice_get values i ≡ Some value → LiesAs names slot.storage value bytes (slot.offset - base)
 
@@ -31,7 +31,7 @@ pub record ShapeStands (layouts : Layouts) (types : List Declaration) (names : N
   pub count : ℕ
   pub counted : length values ≡ count
   pub size : struct_base layouts + length h.bytes ≡ stored_size layouts (shape_size layouts shape count)
-  pub values_lie : ValuesLieIn names (struct_base layouts) (shape_slots layouts shape count) values h.bytes
+  pub values_lie : ValuesLie names (struct_base layouts) (shape_slots layouts shape count) values h.bytes
 
 -- an array of a heap, with its length in front of its elements
 pub record ArrayStands (layouts : Layouts) (types : List Declaration) (names : Names) (ty : ℕ) (values : List Value) (h : HeapObject) : Type 0 where
@@ -52,16 +52,16 @@ pub record HostStands (id : ℕ) (h : HeapObject) : Type 0 where
   pub id_is : u32_at h.bytes 0 ≡ id + 1
 
 -- a struct of a heap
-pub record StructStandsIn (layouts : Layouts) (types : List Declaration) (names : Names) (ty : ℕ) (values : List Value) (h : HeapObject) : Type 0 where
+pub record StructStands (layouts : Layouts) (types : List Declaration) (names : Names) (ty : ℕ) (values : List Value) (h : HeapObject) : Type 0 where
   pub kind : h.kind ≡ StructRef
   pub stands : ShapeStands layouts types names kinds.Struct ty values h
 
 -- An object of a heap stands for one of the table. Which value a host object has is told by the host table (`HostsBy`).
-abbrev pub StandsFor : {D : Type 0} → Layouts → List Declaration → Names → Object D → HeapObject → Type 0
-StandsFor layouts types names (struct ty values) h = StructStandsIn layouts types names ty values h
-StandsFor layouts types names (array ty values) h = ArrayStands layouts types names ty values h
-StandsFor layouts types names (host value) h = (id : ℕ) × HostStands id h
-StandsFor layouts types names (exception ty tag values) h = ExceptionStands layouts types names ty tag values h
+abbrev pub Stands : {D : Type 0} → Layouts → List Declaration → Names → Object D → HeapObject → Type 0
+Stands layouts types names (struct ty values) h = StructStands layouts types names ty values h
+Stands layouts types names (array ty values) h = ArrayStands layouts types names ty values h
+Stands layouts types names (host value) h = (id : ℕ) × HostStands id h
+Stands layouts types names (exception ty tag values) h = ExceptionStands layouts types names ty tag values h
 
 -- the host object of that position and value is placed, and its id is this
 pub record IsHostAt {D : Type 0} (objects : List (Object D)) (place : Placing) (content : map.FinMap nat_cmp HeapObject) (position id : ℕ) (value : D) : Type 0 where

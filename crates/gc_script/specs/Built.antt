@@ -1,74 +1,42 @@
--- What is built of the commands.
-use Rattle.std.specs.Prelude.{Bool, true, false, List, map, is_some, if◌then◌else◌}
-use Rattle.std.specs.List.{list_all}
+-- What is built of the commands, and the types that a declaration spells.
+use Rattle.std.specs.Prelude.{ℕ, ◌==◌, Bool, true, false, List, [], ◌∷◌, Option, Some, None, option_map, length, if◌then◌else◌}
 use Rattle.gc_types.specs.declared.value.FieldType.{FieldType}
+use Rattle.gc_types.specs.declared.value.HeapType.{HeapType}
+use Rattle.gc_types.specs.declared.value.HeapType.TheVariants as heap_type
+use Rattle.gc_types.specs.declared.value.Mutability.{Mutability}
 use Rattle.gc_types.specs.declared.value.Mutability.TheVariants.{Const, Var}
 use Rattle.gc_types.specs.declared.value.StorageType.{StorageType}
 use Rattle.gc_types.specs.declared.value.StorageType.TheVariants as storage_type
 use Rattle.gc_types.specs.declared.value.ValType.{ValType}
 use Rattle.gc_types.specs.declared.value.ValType.TheVariants as val_type
-use Rattle.gc_types.specs.declared.value.HeapType.TheVariants as heap_type
-use Rattle.gc_types.specs.Declarations.{Declaration, plain_struct}
+use Rattle.gc_types.specs.declared.kind.TypeKind.{TypeKind}
+use Rattle.gc_types.specs.declared.kind.TypeKind.TheVariants as kinds
+use Rattle.gc_types.specs.Declarations.{Declaration, kind_at, struct_type, array_type}
 use Rattle.gc_commands.specs.declared.command.Command.{Command}
-use Rattle.gc_commands.specs.declared.command.Command.TheVariants.{Struct, New, I31, Field, SetField, Eq, Enter, Leave, Push, Pop, Store, Load, SetGlobal, GetGlobal, Gc, Grow, Cap}
+use Rattle.gc_commands.specs.declared.command.Command.TheVariants.{Struct, Array, New, NewArr, Fixed, NewBytes, ReadBytes, I31, Field, Elem, Len, SetField, SetElem, Eq, Enter, Leave, Push, Pop, Store, Load, SetGlobal, GetGlobal, Gc, Grow, Cap}
 use Rattle.gc_commands.specs.declared.command.FieldWord.{FieldWord}
 use Rattle.gc_commands.specs.declared.command.HeapWord.{HeapWord}
 use Rattle.gc_commands.specs.declared.command.HeapWord.TheVariants as heap
-use Rattle.gc_commands.specs.declared.command.Operand.{Operand}
-use Rattle.gc_commands.specs.declared.command.Operand.TheVariants as operand
 use Rattle.gc_commands.specs.declared.command.StorageWord.{StorageWord}
 use Rattle.gc_commands.specs.declared.command.StorageWord.TheVariants as storage
 use Rattle.gc_commands.specs.declared.command.ValueWord.{ValueWord}
 use Rattle.gc_commands.specs.declared.command.ValueWord.TheVariants as value
 
-abbrev pub is_any_word : HeapWord → Bool
-is_any_word heap.Any = true
-is_any_word heap.Eq = false
-is_any_word heap.I31 = false
-is_any_word heap.Struct = false
-is_any_word heap.Array = false
-is_any_word heap.None = false
-is_any_word heap.Extern = false
-is_any_word heap.NoExtern = false
-is_any_word heap.Exn = false
-is_any_word heap.NoExn = false
-is_any_word (heap.Named n) = false
-
--- the value types that are built: numbers of 32 and 64 bits, and any reference or null
-abbrev pub is_built_value : ValueWord → Bool
-is_built_value value.I32 = true
-is_built_value value.I64 = true
-is_built_value value.F32 = false
-is_built_value value.F64 = false
-is_built_value value.V128 = false
-is_built_value (value.Ref h nullable) = if nullable then is_any_word h else false
-
-abbrev pub is_built_storage : StorageWord → Bool
-is_built_storage storage.I8 = false
-is_built_storage storage.I16 = false
-is_built_storage (storage.Value v) = is_built_value v
-
-abbrev pub is_built_field : FieldWord → Bool
-is_built_field f = is_built_storage f.storage
-
-abbrev pub is_built_operand : Operand → Bool
-is_built_operand (operand.I32 n) = true
-is_built_operand (operand.I64 n) = true
-is_built_operand (operand.F32 n) = false
-is_built_operand (operand.F64 n) = false
-is_built_operand (operand.V128 n) = false
-is_built_operand operand.AnyNull = true
-is_built_operand operand.ExternNull = false
-is_built_operand operand.ExnNull = false
-is_built_operand (operand.Register r) = true
-
--- What is built of the commands: those of these forms. Every other one is refused as a bad line.
+-- What is built of the commands. Every other one is refused as a bad line.
 abbrev pub is_built : Command → Bool
-is_built (Struct is_final supertype fields) = if is_final then false else (if is_some supertype then false else list_all is_built_field fields)
-is_built (New d t vs) = list_all is_built_operand vs
+is_built (Struct is_final supertype fields) = true
+is_built (Array is_final supertype element) = true
+is_built (New d t vs) = true
+is_built (NewArr d t n v) = true
+is_built (Fixed d t vs) = true
+is_built (NewBytes d t bytes) = true
+is_built (ReadBytes r n) = true
 is_built (I31 d n) = true
 is_built (Field r i into) = true
-is_built (SetField r i v) = is_built_operand v
+is_built (Elem r i into) = true
+is_built (Len r) = true
+is_built (SetField r i v) = true
+is_built (SetElem r i v) = true
 is_built (Eq r q) = true
 is_built Enter = true
 is_built Leave = true
@@ -83,24 +51,74 @@ is_built (Grow n) = true
 is_built Cap = true
 is_built _ = false
 
--- the type of a value that is built
-abbrev pub value_type : ValueWord → ValType
-value_type value.I32 = val_type.I32
-value_type value.I64 = val_type.I64
-value_type value.F32 = val_type.F32
-value_type value.F64 = val_type.F64
-value_type value.V128 = val_type.V128
-value_type (value.Ref h nullable) = val_type.Ref (record { nullable = true; heap_type = heap_type.Any })
+-- The kinds of types by their indexes as a declaration reads them: those of the declared types, and its own for the next
+-- index.
+abbrev pub kinds_with : List Declaration → TypeKind → ℕ → Option TypeKind
+kinds_with types own n = if n == length types then Some own else kind_at types n
 
-abbrev pub storage_of : StorageWord → StorageType
-storage_of storage.I8 = storage_type.I8
-storage_of storage.I16 = storage_type.I16
-storage_of (storage.Value v) = storage_type.ValType (value_type v)
+-- the concrete heap type of an index, by the kind of its type; a function type can't be named
+abbrev pub named_type : ℕ → Option TypeKind → Option HeapType
+named_type n None = None
+named_type n (Some kinds.Struct) = Some (heap_type.ConcreteStruct n)
+named_type n (Some kinds.Array) = Some (heap_type.ConcreteArray n)
+named_type n (Some kinds.Exn) = Some (heap_type.ConcreteExn n)
+named_type n (Some kinds.Func) = None
 
--- the type of a field that is built
-abbrev pub field_type : FieldWord → FieldType
-field_type f = record { mutability = (if f.mutable then Var else Const); element_type = storage_of f.storage }
+abbrev pub heap_of : (ℕ → Option TypeKind) → HeapWord → Option HeapType
+heap_of kind heap.Any = Some heap_type.Any
+heap_of kind heap.Eq = Some heap_type.Eq
+heap_of kind heap.I31 = Some heap_type.I31
+heap_of kind heap.Struct = Some heap_type.Struct
+heap_of kind heap.Array = Some heap_type.Array
+heap_of kind heap.None = Some heap_type.None
+heap_of kind heap.Extern = Some heap_type.Extern
+heap_of kind heap.NoExtern = Some heap_type.NoExtern
+heap_of kind heap.Exn = Some heap_type.Exn
+heap_of kind heap.NoExn = Some heap_type.NoExn
+heap_of kind (heap.Named n) = named_type n (kind n)
 
--- the declaration of a struct of fields that are built
-abbrev pub built_struct : List FieldWord → Declaration
-built_struct fields = plain_struct (map field_type fields)
+-- a reference type
+abbrev pub reference_to : Bool → HeapType → ValType
+reference_to nullable ty = val_type.Ref (record { nullable = nullable; heap_type = ty })
+
+-- the value type that a word spells; none where it names no type that it may
+abbrev pub value_of : (ℕ → Option TypeKind) → ValueWord → Option ValType
+value_of kind value.I32 = Some val_type.I32
+value_of kind value.I64 = Some val_type.I64
+value_of kind value.F32 = Some val_type.F32
+value_of kind value.F64 = Some val_type.F64
+value_of kind value.V128 = Some val_type.V128
+value_of kind (value.Ref h nullable) = option_map (reference_to nullable) (heap_of kind h)
+
+abbrev pub storage_of : (ℕ → Option TypeKind) → StorageWord → Option StorageType
+storage_of kind storage.I8 = Some storage_type.I8
+storage_of kind storage.I16 = Some storage_type.I16
+storage_of kind (storage.Value v) = option_map (λ (ty : ValType). storage_type.ValType ty) (value_of kind v)
+
+abbrev pub mutability_of : Bool → Mutability
+mutability_of mutable = if mutable then Var else Const
+
+-- the field that a word spells
+abbrev pub field_of : (ℕ → Option TypeKind) → FieldWord → Option FieldType
+field_of kind f = option_map (λ (ty : StorageType). record { mutability = mutability_of f.mutable; element_type = ty }) (storage_of kind f.storage)
+
+-- a list with one more in front, where both are there
+abbrev pub onto : {A : Type 0} → Option A → Option (List A) → Option (List A)
+onto None rest = None
+onto (Some x) None = None
+onto (Some x) (Some xs) = Some (x ∷ xs)
+
+-- the fields that words spell, in order
+abbrev pub fields_of : (ℕ → Option TypeKind) → List FieldWord → Option (List FieldType)
+fields_of kind [] = Some []
+fields_of kind (f ∷ fs) = onto (field_of kind f) (fields_of kind fs)
+
+-- the struct type and the array type that a declaration spells, among these types; none where some word names no type that
+-- it may
+abbrev pub declared_struct : Bool → Option ℕ → List FieldWord → List Declaration → Option Declaration
+declared_struct is_final supertype fields types =
+    option_map (λ (fs : List FieldType). struct_type fs supertype is_final) (fields_of (kinds_with types kinds.Struct) fields)
+
+abbrev pub declared_array : Bool → Option ℕ → FieldWord → List Declaration → Option Declaration
+declared_array is_final supertype element types =
+    option_map (λ (f : FieldType). array_type f supertype is_final) (field_of (kinds_with types kinds.Array) element)

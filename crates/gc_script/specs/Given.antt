@@ -4,12 +4,16 @@ use Rattle.std.specs.Int.{w32, w64}
 use Rattle.gc_types.specs.declared.value.FieldType.{FieldType}
 use Rattle.gc_types.specs.declared.value.Mutability.{Mutability}
 use Rattle.gc_types.specs.declared.value.Mutability.TheVariants.{Const, Var}
-use Rattle.gc_types.specs.Declarations.{Declaration, struct_fields_at}
+use Rattle.gc_types.specs.declared.value.StorageType.{StorageType}
+use Rattle.gc_types.specs.declared.value.StorageType.TheVariants as storage
+use Rattle.gc_types.specs.Declarations.{Declaration}
 use Rattle.gc_owner.specs.declared.entry.GcClass.{GcClass}
 use Rattle.gc_owner.specs.declared.entry.GcClass.TheVariants as class
 use Rattle.gc_model.specs.Values.{Reference, null, small, at, Value, numeric, i32, i64, f32, f64, v128, function, Object, struct, array, host, exception, number_bits}
 use Rattle.gc_model.specs.Values as values
 use Rattle.gc_model.specs.Fits.{fits}
+use Rattle.gc_model.specs.Reach.{object_values}
+use Rattle.gc_model.specs.Stored.{value_type}
 use Rattle.gc_model.specs.Table.{Table, Scoped}
 use Rattle.gc_model.specs.Live.{rooted_among}
 use Rattle.gc_commands.specs.declared.command.Operand.{Operand}
@@ -95,18 +99,14 @@ value_named (values.reference c (at p)) = Some (at p)
 abbrev pub named : State → ℕ → Option Reference
 named s r = value_named (given_value (given_register s r))
 
--- a struct: its position, its type and its values
+-- what a register names of the objects: its position, and what it is
 pub record Target : Type 0 where
   pub position : ℕ
-  pub ty : ℕ
-  pub values : List Value
+  pub object : Object ℕ
 
 abbrev pub object_target : ℕ → Option (Object ℕ) → Option Target
 object_target p None = None
-object_target p (Some (struct ty vs)) = Some (record { position = p; ty = ty; values = vs })
-object_target p (Some (array ty vs)) = None
-object_target p (Some (host v)) = None
-object_target p (Some (exception ty tag vs)) = None
+object_target p (Some o) = Some (record { position = p; object = o })
 
 abbrev pub target_among : List (Object ℕ) → Option Reference → Option Target
 target_among objects None = None
@@ -117,22 +117,43 @@ target_among objects (Some (at p)) = object_target p (slice_get objects p)
 abbrev pub reference_target : Table ℕ → Option Reference → Option Target
 reference_target t r = target_among t.objects r
 
--- the struct that a register names, where it does
+-- the object that a register names, where it does
 abbrev pub target : State → ℕ → Option Target
 target s r = reference_target s.table (named s r)
 
+-- the kinds of objects that commands are for
+abbrev pub is_struct : Object ℕ → Bool
+is_struct (struct ty vs) = true
+is_struct (array ty vs) = false
+is_struct (host v) = false
+is_struct (exception ty tag vs) = false
+
+abbrev pub is_array : Object ℕ → Bool
+is_array (struct ty vs) = false
+is_array (array ty vs) = true
+is_array (host v) = false
+is_array (exception ty tag vs) = false
+
+-- a struct or an exception
+abbrev pub has_fields : Object ℕ → Bool
+has_fields (struct ty vs) = true
+has_fields (array ty vs) = false
+has_fields (host v) = false
+has_fields (exception ty tag vs) = true
+
+-- a register names an object of that kind
+abbrev pub names_kind : (Object ℕ → Bool) → Option Target → Bool
+names_kind of_kind None = false
+names_kind of_kind (Some found) = of_kind found.object
+
 abbrev pub target_values : Option Target → List Value
 target_values None = []
-target_values (Some found) = found.values
+target_values (Some found) = object_values found.object
 
-abbrev pub list_field : Option (List FieldType) → ℕ → Option FieldType
-list_field None i = None
-list_field (Some fields) i = slice_get fields i
-
--- the type of a field of a struct
+-- the type of the value at an index of what a register names
 abbrev pub field_among : List Declaration → Option Target → ℕ → Option FieldType
 field_among types None i = None
-field_among types (Some found) i = list_field (struct_fields_at types found.ty) i
+field_among types (Some found) i = value_type types found.object i
 
 abbrev pub field_of : Table ℕ → Option Target → ℕ → Option FieldType
 field_of t found i = field_among t.types found i
@@ -145,6 +166,17 @@ abbrev pub is_constant : Option FieldType → Bool
 is_constant None = false
 is_constant (Some f) = is_const f.mutability
 
-abbrev pub fits_field : Option FieldType → Value → Bool
-fits_field None v = false
-fits_field (Some f) v = fits f.element_type v
+-- whether the elements are 8 bits wide
+abbrev pub is_byte : StorageType → Bool
+is_byte storage.I8 = true
+is_byte storage.I16 = false
+is_byte (storage.ValType ty) = false
+
+abbrev pub holds_bytes : Option FieldType → Bool
+holds_bytes None = false
+holds_bytes (Some f) = is_byte f.element_type
+
+-- whether a value fits a field, by the types and the objects
+abbrev pub fits_field : List Declaration → List (Object ℕ) → Option FieldType → Value → Bool
+fits_field types objects None v = false
+fits_field types objects (Some f) v = fits types objects f.element_type v

@@ -10,7 +10,7 @@ use Rattle.gc_owner.specs.Limiters.{Refuses}
 use Rattle.gc_store.specs.Places.{MayGetPages}
 use Rattle.gc_policy.specs.Policy.{PolicyState}
 use Rattle.gc_commands.specs.declared.command.Command.{Command}
-use Rattle.gc_commands.specs.declared.command.Command.TheVariants.{Struct, New, I31, Field, Enter, Push, Load, GetGlobal, Grow}
+use Rattle.gc_commands.specs.declared.command.Command.TheVariants.{Struct, Array, New, NewArr, Fixed, NewBytes, ReadBytes, I31, Field, Elem, Enter, Push, Load, GetGlobal, Grow}
 use Rattle.gc_commands.specs.declared.reply.Reply.{Reply}
 use Rattle.gc_commands.specs.declared.reply.Reply.TheVariants as reply
 use Rattle.gc_commands.specs.declared.reply.Refusal.{Refusal}
@@ -86,12 +86,18 @@ abbrev pub RunsOne : Layouts → Option ℕ → Limits → Limits → State → 
 RunsOne layouts counter limits limits' s c (Ok answer) new runner = Ran layouts counter limits limits' s c answer new runner
 RunsOne layouts counter limits limits' s c (Err e) new runner = WantsMemory layouts counter limits limits' s c new runner
 
--- the commands that take memory: for a type, a register, a root, a scope mark, a frame, or pages
+-- the commands that take memory: for a type, a register, a root, a scope mark, a frame, bytes that are told, or pages
 abbrev pub takes_memory : Command → Bool
 takes_memory (Struct is_final supertype fs) = true
+takes_memory (Array is_final supertype element) = true
 takes_memory (New d t vs) = true
+takes_memory (NewArr d t n v) = true
+takes_memory (Fixed d t vs) = true
+takes_memory (NewBytes d t bytes) = true
+takes_memory (ReadBytes r n) = true
 takes_memory (I31 d n) = true
 takes_memory (Field r i into) = true
+takes_memory (Elem r i into) = true
 takes_memory Enter = true
 takes_memory (Push k) = true
 takes_memory (Load k d) = true

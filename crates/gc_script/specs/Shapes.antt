@@ -1,6 +1,7 @@
 -- What commands do, and the shapes in which they do it.
-use Rattle.std.specs.Prelude.{ℕ, ◌-◌, ◌%◌, ◌^◌, List, [], ◌∷◌, ◌++◌, Option, Some, None, length, get_or, take, slice_get, unwrap_or}
+use Rattle.std.specs.Prelude.{ℕ, ◌-◌, ◌%◌, ◌^◌, List, [], ◌∷◌, ◌++◌, Option, Some, None, map, length, get_or, take, replicate, slice_get, unwrap_or}
 use Rattle.std.specs.Int.{w32, w64, cast_signed}
+use Rattle.gc_types.specs.declared.value.FieldType.{FieldType}
 use Rattle.gc_types.specs.Declarations.{Declaration}
 use Rattle.gc_owner.specs.declared.entry.GcClass.{GcClass}
 use Rattle.gc_owner.specs.declared.entry.GcClass.TheVariants as class
@@ -11,21 +12,32 @@ use Rattle.gc_model.specs.Frames.{push_frame, pop_frame, set_slot, slot_at}
 use Rattle.gc_model.specs.Globals.{set_global, global_at}
 use Rattle.gc_model.specs.Reads.{after_read, same_reference}
 use Rattle.gc_commands.specs.declared.command.Command.{Command}
-use Rattle.gc_commands.specs.declared.command.Command.TheVariants.{Struct, New, I31, Field, SetField, Eq, Enter, Leave, Push, Pop, Store, Load, SetGlobal, GetGlobal, Gc, Grow, Cap}
+use Rattle.gc_commands.specs.declared.command.Command.TheVariants.{Struct, Array, New, NewArr, Fixed, NewBytes, ReadBytes, I31, Field, Elem, Len, SetField, SetElem, Eq, Enter, Leave, Push, Pop, Store, Load, SetGlobal, GetGlobal, Gc, Grow, Cap}
 use Rattle.gc_commands.specs.declared.command.Operand.{Operand}
 use Rattle.gc_commands.specs.declared.reply.Reply.{Reply}
 use Rattle.gc_commands.specs.declared.reply.Reply.TheVariants as reply
 use Rattle.gc_commands.specs.declared.reply.ReplyValue.{ReplyValue}
 use Rattle.gc_commands.specs.declared.reply.ReplyValue.TheVariants as reply_value
 use Rattle.gc_commands.specs.declared.reply.Refusal.TheVariants as refusal
+use Rattle.gc_model.specs.Stored.{stored, stored_in, byte_value}
 use Rattle.gc_store.specs.Slots.{slot_value}
+use Rattle.gc_store.specs.Requests.{fields_of, element_of}
 use Rattle.gc_script.specs.State.{State, Held, number, reference, with_table, with_marks, set_register, put_into}
-use Rattle.gc_script.specs.Built.{built_struct}
-use Rattle.gc_script.specs.Given.{given, given_register, given_value, given_values, named, Target, target, target_values}
+use Rattle.gc_script.specs.Built.{declared_struct, declared_array}
+use Rattle.gc_script.specs.Given.{given, given_register, given_value, given_values, named, Target, target, target_values, field_of}
 
--- the object that `new` makes
+-- the objects that `new`, `newarr`, `fixed` and `bytes` make
 abbrev pub new_struct : State → ℕ → List Operand → Object ℕ
-new_struct s t vs = struct t (given_values s vs)
+new_struct s t vs = struct t (stored_in (fields_of s.table.types t) (given_values s vs))
+
+abbrev pub new_array : State → ℕ → ℕ → Operand → Object ℕ
+new_array s t n v = array t (replicate n (stored (element_of s.table.types t) (given_value (given s v))))
+
+abbrev pub new_fixed : State → ℕ → List Operand → Object ℕ
+new_fixed s t vs = array t (map (stored (element_of s.table.types t)) (given_values s vs))
+
+abbrev pub new_bytes : ℕ → List ℕ → Object ℕ
+new_bytes t bytes = array t (map byte_value bytes)
 
 abbrev pub shown_object : Option (Object ℕ) → ReplyValue
 shown_object None = reply_value.Null
@@ -71,20 +83,38 @@ makes_small d n s = (reply.Done, set_register d (reference class.Any (Some (leng
 abbrev pub reads : Value → Option ℕ → State → Reply × State
 reads v into s = (reply.Value (shown s.table v), put_into into (held_value s.table v) (with_table (after_read v s.table) s))
 
--- the value of a field of what a register names
-abbrev pub field_value : State → ℕ → ℕ → Value
-field_value s r i = unwrap_or (slice_get (target_values (target s r)) i) (values.reference class.Any null)
+-- the value at an index of what a register names: of a field, or of an element
+abbrev pub value_in : State → ℕ → ℕ → Value
+value_in s r i = unwrap_or (slice_get (target_values (target s r)) i) (values.reference class.Any null)
 
-abbrev pub reads_field : ℕ → ℕ → Option ℕ → State → Reply × State
-reads_field r i into s = reads (field_value s r i) into s
+abbrev pub reads_value : ℕ → ℕ → Option ℕ → State → Reply × State
+reads_value r i into s = reads (value_in s r i) into s
 
--- a value of a struct is written
+-- a value of an object is written, as its type keeps it
+abbrev pub kept_as : Option FieldType → Value → Value
+kept_as None v = v
+kept_as (Some f) v = stored f.element_type v
+
 abbrev pub write_target : Option Target → ℕ → Value → Table ℕ → Table ℕ
 write_target None i v t = t
 write_target (Some found) i v t = write found.position i v t
 
-abbrev pub writes_field : ℕ → ℕ → Operand → State → Reply × State
-writes_field r i v s = (reply.Done, with_table (write_target (target s r) i (given_value (given s v)) s.table) s)
+abbrev pub writes_value : ℕ → ℕ → Operand → State → Reply × State
+writes_value r i v s =
+    (reply.Done, with_table (write_target (target s r) i (kept_as (field_of s.table (target s r) i) (given_value (given s v))) s.table) s)
+
+-- the length of an array is told
+abbrev pub tells_length : ℕ → State → Reply × State
+tells_length r s = (reply.Length (length (target_values (target s r))), s)
+
+-- the bytes of an array are told
+abbrev pub byte_of : Value → ℕ
+byte_of (numeric kind n) = n
+byte_of (function f) = 0
+byte_of (values.reference c r) = 0
+
+abbrev pub tells_bytes : ℕ → State → Reply × State
+tells_bytes r s = (reply.Bytes (map byte_of (target_values (target s r))), s)
 
 -- what two registers name is compared
 abbrev pub compares : ℕ → ℕ → State → Reply × State
@@ -148,14 +178,14 @@ gets_global g d s = reads (global_value s g) (Some d) s
 
 -- What a command does, in so far as heap and limiter have to do with it:
 -- `plain` answers and leaves what the function says of what is visible of the state, and nothing hidden changes;
--- `declaring` declares a type;
+-- `declaring` declares the type that the declared types make of it, where they make one;
 -- `making` makes an object, told by what is visible, and puts it into a register with a class;
 -- `growing` lets the heap grow by so many bytes;
 -- `collecting` collects, and tells what the heap holds;
 -- `showing` tells the heap's pages.
 pub data Shape : Type 0 where
   plain : (State → Reply × State) → Shape
-  declaring : Declaration → Shape
+  declaring : (List Declaration → Option Declaration) → Shape
   making : ℕ → GcClass → (State → Object ℕ) → Shape
   growing : ℕ → Shape
   collecting : Shape
@@ -163,11 +193,19 @@ pub data Shape : Type 0 where
 
 -- the shape of a command; one that is not built is never run
 abbrev pub shape : Command → Shape
-shape (Struct is_final supertype fs) = declaring (built_struct fs)
+shape (Struct is_final supertype fs) = declaring (declared_struct is_final supertype fs)
+shape (Array is_final supertype element) = declaring (declared_array is_final supertype element)
 shape (New d t vs) = making d class.Any (λ (s : State). new_struct s t vs)
+shape (NewArr d t n v) = making d class.Any (λ (s : State). new_array s t n v)
+shape (Fixed d t vs) = making d class.Any (λ (s : State). new_fixed s t vs)
+shape (NewBytes d t bytes) = making d class.Any (λ (s : State). new_bytes t bytes)
+shape (ReadBytes r n) = plain (tells_bytes r)
 shape (I31 d n) = plain (makes_small d n)
-shape (Field r i into) = plain (reads_field r i into)
-shape (SetField r i v) = plain (writes_field r i v)
+shape (Field r i into) = plain (reads_value r i into)
+shape (Elem r i into) = plain (reads_value r i into)
+shape (Len r) = plain (tells_length r)
+shape (SetField r i v) = plain (writes_value r i v)
+shape (SetElem r i v) = plain (writes_value r i v)
 shape (Eq r q) = plain (compares r q)
 shape Enter = plain enters
 shape Leave = plain leaves

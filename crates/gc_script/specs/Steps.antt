@@ -1,10 +1,10 @@
 -- One step of a session.
 use Rattle.std.specs.Prelude.{◌≡◌, ℕ, ◌*◌, ◌==◌, ◌&&◌, nat_le, Bool, true, false, not, List, [], ◌∷◌, ◌++◌, Option, Some, None, is_none, length, slice_get, if◌then◌else◌, unwrap_or, option_map}
-use Rattle.std.specs.List.{list_any}
+use Rattle.std.specs.List.{list_any, flat_map}
 use Rattle.gc_types.specs.declared.value.FieldType.{FieldType}
 use Rattle.gc_types.specs.declared.kind.Layouts.{Layouts}
 use Rattle.gc_types.specs.Declarable.{Declarable}
-use Rattle.gc_types.specs.Declarations.{Declaration, struct_fields_at}
+use Rattle.gc_types.specs.Declarations.{Declaration, struct_fields_at, elem_at}
 use Rattle.gc_owner.specs.declared.entry.GcClass.{GcClass}
 use Rattle.gc_model.specs.Values.{Value, Object}
 use Rattle.gc_model.specs.Table.{Table, Slot, declare}
@@ -17,7 +17,7 @@ use Rattle.gc_model.specs.Sizes.{object_size}
 use Rattle.gc_view.specs.Pages.{page}
 use Rattle.gc_model.specs.Allocation.{too_large, Allocates, LacksMemory, Grows}
 use Rattle.gc_commands.specs.declared.command.Command.{Command}
-use Rattle.gc_commands.specs.declared.command.Command.TheVariants.{New, I31, Field, SetField, Eq, Leave, Pop, Store, Load, SetGlobal, GetGlobal}
+use Rattle.gc_commands.specs.declared.command.Command.TheVariants.{New, NewArr, Fixed, NewBytes, ReadBytes, I31, Field, Elem, Len, SetField, SetElem, Eq, Leave, Pop, Store, Load, SetGlobal, GetGlobal}
 use Rattle.gc_commands.specs.declared.command.Operand.{Operand}
 use Rattle.gc_commands.specs.declared.reply.Reply.{Reply}
 use Rattle.gc_commands.specs.declared.reply.Reply.TheVariants as reply
@@ -25,34 +25,35 @@ use Rattle.gc_commands.specs.declared.reply.Refusal.{Refusal}
 use Rattle.gc_commands.specs.declared.reply.Refusal.TheVariants as refusal
 use Rattle.gc_policy.specs.Accounts.{Account}
 use Rattle.gc_store.specs.Slots.{slot_value}
+use Rattle.gc_store.specs.Requests.{fields_of}
 use Rattle.gc_script.specs.State.{State, reference, with_table, with_account, with_heap, set_register, visible, over}
 use Rattle.gc_script.specs.Built.{is_built}
-use Rattle.gc_script.specs.Given.{Given, given, given_register, given_value, is_unset, is_gone, is_reference, named, target, target_values, field_of, is_constant, fits_field}
-use Rattle.gc_script.specs.Shapes.{Shape, plain, declaring, making, growing, collecting, showing, shape, new_struct}
+use Rattle.gc_script.specs.Given.{Given, given, given_register, given_value, is_unset, is_gone, is_reference, named, is_struct, is_array, has_fields, names_kind, target, target_values, field_of, is_constant, holds_bytes, fits_field}
+use Rattle.gc_script.specs.Shapes.{Shape, plain, declaring, making, growing, collecting, showing, shape, new_struct, new_array, new_fixed, new_bytes}
 
 -- how many fields the struct type has; 0 where it isn't declared
 abbrev pub field_count : Table ℕ → ℕ → ℕ
 field_count t ty = unwrap_or (option_map length (struct_fields_at t.types ty)) 0
 
--- the tests of a value that goes into a field
-abbrev pub given_tests : Option FieldType → Given → List (Bool × Refusal)
-given_tests field g =
+-- the tests of a value that goes into a field, by the types and the objects
+abbrev pub given_tests : List Declaration → List (Object ℕ) → Option FieldType → Given → List (Bool × Refusal)
+given_tests types objects field g =
     (is_gone g, refusal.Unrooted)
-    ∷ (not (fits_field field (given_value g)), refusal.TypeMismatch)
+    ∷ (not (fits_field types objects field (given_value g)), refusal.TypeMismatch)
     ∷ []
 
 abbrev pub value_tests : State → Option FieldType → Operand → List (Bool × Refusal)
-value_tests s field v = given_tests field (given s v)
+value_tests s field v = given_tests s.table.types s.table.objects field (given s v)
 
--- the same of each value in order, by what the operands give
-abbrev pub tests_of_values : (Operand → Given) → List FieldType → List Operand → List (Bool × Refusal)
-tests_of_values gives [] [] = []
-tests_of_values gives [] (v ∷ vs) = []
-tests_of_values gives (f ∷ fs) [] = []
-tests_of_values gives (f ∷ fs) (v ∷ vs) = given_tests (Some f) (gives v) ++ tests_of_values gives fs vs
-
+-- the same of each value in order, each for a field of its own
 abbrev pub all_value_tests : State → List FieldType → List Operand → List (Bool × Refusal)
-all_value_tests s fs vs = tests_of_values (given s) fs vs
+all_value_tests s [] vs = []
+all_value_tests s (f ∷ fs) [] = []
+all_value_tests s (f ∷ fs) (v ∷ vs) = value_tests s (Some f) v ++ all_value_tests s fs vs
+
+-- and of elements, each of the same type
+abbrev pub element_tests : State → Option FieldType → List Operand → List (Bool × Refusal)
+element_tests s element vs = flat_map (value_tests s element) vs
 
 -- the tests of an allocation that come before the heap is asked
 abbrev pub heap_tests : Layouts → State → Object ℕ → List (Bool × Refusal)
@@ -66,29 +67,60 @@ abbrev pub reads_root : Option Value → Bool
 reads_root None = false
 reads_root (Some v) = makes_root v
 
--- the tests of what a register names before a field of it is looked at
-abbrev pub target_tests : State → ℕ → ℕ → List (Bool × Refusal)
-target_tests s r i =
+-- the tests of what a register names, which has to be of a kind
+abbrev pub target_tests : (Object ℕ → Bool) → State → ℕ → List (Bool × Refusal)
+target_tests of_kind s r =
     (is_gone (given_register s r), refusal.Unrooted)
-    ∷ (is_none (target s r), refusal.WrongKind)
-    ∷ (nat_le (length (target_values (target s r))) i, refusal.OutOfBounds)
+    ∷ (not (names_kind of_kind (target s r)), refusal.WrongKind)
     ∷ []
 
--- the tests of reading a field of what a register names
-abbrev pub field_tests : State → ℕ → ℕ → List (Bool × Refusal)
-field_tests s r i =
-    (is_unset (given_register s r), refusal.NoSuchName)
-    ∷ (target_tests s r i
-    ++ (reads_root (slice_get (target_values (target s r)) i) && roots_full s.table, refusal.RootsFull) ∷ [])
+-- the test of an index among its values
+abbrev pub bound_test : State → ℕ → ℕ → Bool × Refusal
+bound_test s r i = (nat_le (length (target_values (target s r))) i, refusal.OutOfBounds)
 
--- the tests of writing a field of what a register names
-abbrev pub set_tests : State → ℕ → ℕ → Operand → List (Bool × Refusal)
-set_tests s r i v =
+-- the tests of reading a value of what a register names: of a field, or of an element
+abbrev pub reading_tests : (Object ℕ → Bool) → State → ℕ → ℕ → List (Bool × Refusal)
+reading_tests of_kind s r i =
+    (is_unset (given_register s r), refusal.NoSuchName)
+    ∷ (target_tests of_kind s r
+    ++ (bound_test s r i
+    ∷ (reads_root (slice_get (target_values (target s r)) i) && roots_full s.table, refusal.RootsFull)
+    ∷ []))
+
+-- the test of whether a value may be written there
+abbrev pub constant_test : State → ℕ → ℕ → Bool × Refusal
+constant_test s r i = (is_constant (field_of s.table (target s r) i), refusal.Immutable)
+
+-- the tests of names and of the target that come first where a value is written
+abbrev pub writing_tests : (Object ℕ → Bool) → State → ℕ → Operand → List (Bool × Refusal)
+writing_tests of_kind s r v =
     (is_unset (given_register s r), refusal.NoSuchName)
     ∷ (is_unset (given s v), refusal.NoSuchName)
-    ∷ (target_tests s r i
-    ++ ((is_constant (field_of s.table (target s r) i), refusal.Immutable)
-    ∷ value_tests s (field_of s.table (target s r) i) v))
+    ∷ target_tests of_kind s r
+
+-- the tests of writing a field: its index is tested before the value
+abbrev pub set_tests : State → ℕ → ℕ → Operand → List (Bool × Refusal)
+set_tests s r i v =
+    writing_tests is_struct s r v
+    ++ (bound_test s r i ∷ constant_test s r i ∷ value_tests s (field_of s.table (target s r) i) v)
+
+-- the tests of writing an element: its index is tested last
+abbrev pub set_elem_tests : State → ℕ → ℕ → Operand → List (Bool × Refusal)
+set_elem_tests s r i v =
+    writing_tests is_array s r v
+    ++ (constant_test s r i ∷ (value_tests s (field_of s.table (target s r) i) v ++ bound_test s r i ∷ []))
+
+-- the tests of asking for the length of an array
+abbrev pub len_tests : State → ℕ → List (Bool × Refusal)
+len_tests s r = (is_unset (given_register s r), refusal.NoSuchName) ∷ target_tests is_array s r
+
+-- the tests of reading so many bytes of an array
+abbrev pub bytes_tests : State → ℕ → ℕ → List (Bool × Refusal)
+bytes_tests s r n =
+    len_tests s r
+    ++ ((not (holds_bytes (field_of s.table (target s r) 0)), refusal.NotI8Array)
+    ∷ (not (length (target_values (target s r)) == n), refusal.LengthMismatch)
+    ∷ [])
 
 -- the tests of comparing what two registers name
 abbrev pub eq_tests : State → ℕ → ℕ → List (Bool × Refusal)
@@ -101,10 +133,6 @@ eq_tests s r q =
     ∷ (is_none (named s q), refusal.WrongKind)
     ∷ []
 
--- the tests of the values of a struct of that type
-abbrev pub struct_value_tests : State → ℕ → List Operand → List (Bool × Refusal)
-struct_value_tests s t vs = all_value_tests s (unwrap_or (struct_fields_at s.table.types t) []) vs
-
 -- some operand is a register that is unset
 abbrev pub any_unset : State → List Operand → Bool
 any_unset s vs = list_any (λ (v : Operand). is_unset (given s v)) vs
@@ -115,7 +143,32 @@ new_tests s t vs =
     (is_none (struct_fields_at s.table.types t), refusal.NoSuchName)
     ∷ (any_unset s vs, refusal.NoSuchName)
     ∷ (not (length vs == field_count s.table t), refusal.FieldCount)
-    ∷ struct_value_tests s t vs
+    ∷ all_value_tests s (fields_of s.table.types t) vs
+
+-- the test of an array type's name
+abbrev pub array_test : State → ℕ → Bool × Refusal
+array_test s t = (is_none (elem_at s.table.types t), refusal.NoSuchName)
+
+-- the tests of `newarr`, up to those of the heap; where it has no elements its value isn't tested
+abbrev pub new_array_tests : State → ℕ → ℕ → Operand → List (Bool × Refusal)
+new_array_tests s t n v =
+    array_test s t
+    ∷ (is_unset (given s v), refusal.NoSuchName)
+    ∷ (if n == 0 then [] else value_tests s (elem_at s.table.types t) v)
+
+-- the tests of `fixed`
+abbrev pub new_fixed_tests : State → ℕ → List Operand → List (Bool × Refusal)
+new_fixed_tests s t vs =
+    array_test s t
+    ∷ (any_unset s vs, refusal.NoSuchName)
+    ∷ element_tests s (elem_at s.table.types t) vs
+
+-- the tests of `bytes` with a type
+abbrev pub new_bytes_tests : State → ℕ → List (Bool × Refusal)
+new_bytes_tests s t =
+    array_test s t
+    ∷ (not (holds_bytes (elem_at s.table.types t)), refusal.NotI8Array)
+    ∷ []
 
 abbrev pub is_empty_list : List ℕ → Bool
 is_empty_list [] = true
@@ -141,9 +194,16 @@ getting_tests slot full =
 -- may be declared is tested by `Declares`.
 abbrev pub built_tests : Layouts → State → Command → List (Bool × Refusal)
 built_tests layouts s (New d t vs) = new_tests s t vs ++ heap_tests layouts s (new_struct s t vs)
+built_tests layouts s (NewArr d t n v) = new_array_tests s t n v ++ heap_tests layouts s (new_array s t n v)
+built_tests layouts s (Fixed d t vs) = new_fixed_tests s t vs ++ heap_tests layouts s (new_fixed s t vs)
+built_tests layouts s (NewBytes d t bytes) = new_bytes_tests s t ++ heap_tests layouts s (new_bytes t bytes)
+built_tests layouts s (ReadBytes r n) = bytes_tests s r n
 built_tests layouts s (I31 d n) = (roots_full s.table, refusal.RootsFull) ∷ []
-built_tests layouts s (Field r i into) = field_tests s r i
+built_tests layouts s (Field r i into) = reading_tests has_fields s r i
+built_tests layouts s (Elem r i into) = reading_tests is_array s r i
+built_tests layouts s (Len r) = len_tests s r
 built_tests layouts s (SetField r i v) = set_tests s r i v
+built_tests layouts s (SetElem r i v) = set_elem_tests s r i v
 built_tests layouts s (Eq r q) = eq_tests s r q
 built_tests layouts s Leave = (is_empty_list s.marks, refusal.NoSuchName) ∷ []
 built_tests layouts s Pop = (length s.table.frames == 0, refusal.NoSuchName) ∷ []
@@ -162,12 +222,12 @@ abbrev pub first_failing : List (Bool × Refusal) → Option Refusal
 first_failing [] = None
 first_failing (t ∷ ts) = if t.0 then Some t.1 else first_failing ts
 
--- A type was declared, or it may not be.
-pub data Declares (d : Declaration) (s : State) (answer : Reply) (s' : State) : Type 0 where
-  declared : Declarable s.table.types d → answer ≡ reply.Declared (length s.table.types)
-      → s' ≡ with_table (declare d s.table) s
+-- A type was declared that a declaration spells, or it may not be.
+pub data Declares (d : Option Declaration) (s : State) (answer : Reply) (s' : State) : Type 0 where
+  declared : (new : Declaration) → d ≡ Some new → Declarable s.table.types new → answer ≡ reply.Declared (length s.table.types)
+      → s' ≡ with_table (declare new s.table) s
       → Declares d s answer s'
-  bad : ¬ Declarable s.table.types d → answer ≡ reply.Refused refusal.BadType → s' ≡ s
+  bad : ((new : Declaration) → d ≡ Some new → ¬ Declarable s.table.types new) → answer ≡ reply.Refused refusal.BadType → s' ≡ s
       → Declares d s answer s'
 
 -- An object was made and put into a register, or the heap had no room for it.
@@ -196,7 +256,7 @@ pub record Keeps (layouts : Layouts) (s : State) (answer : Reply) : Type 0 where
 -- what a command of that shape does whose tests all passed
 abbrev pub Does : Layouts → Option ℕ → State → Shape → Reply → State → Type 0
 Does layouts limit s (plain effect) answer s' = (answer ≡ (effect (visible s)).0) × (s' ≡ over s (effect (visible s)).1)
-Does layouts limit s (declaring d) answer s' = Declares d s answer s'
+Does layouts limit s (declaring d) answer s' = Declares (d s.table.types) s answer s'
 Does layouts limit s (making d class object) answer s' = MakesNew layouts limit d class (object (visible s)) s answer s'
 Does layouts limit s (growing n) answer s' = AnswersGrow limit n s answer s'
 Does layouts limit s collecting answer s' = Keeps layouts s answer × ((a : Account) × (s' ≡ with_account a s))

@@ -1,10 +1,9 @@
 -- What calls on handles and roots answer and leave, for a table that the store held.
-use Rattle.std.specs.Prelude.{◌≡◌, Bool, true, false, Option, Some, None, Result, Ok, Err, length}
+use Rattle.std.specs.Prelude.{◌≡◌, true, false, Result, Ok, Err, length}
 use Rattle.gc_types.specs.declared.kind.Layouts.{Layouts}
 use Rattle.gc_model.specs.Values.{Reference}
 use Rattle.gc_model.specs.Table.{Table, push}
 use Rattle.gc_model.specs.Live.{roots_full}
-use Rattle.gc_model.specs.Reads.{same_reference}
 use Rattle.gc_model.specs.Stores.{StoreView}
 use Rattle.gc_store.specs.declared.root.GcRootIndex.{GcRootIndex}
 use Rattle.gc_store.specs.declared.root.RootFault.{RootFault}
@@ -20,10 +19,3 @@ PushesRoot layouts t a r (Err fault.WrongStore) new = ⊥
 PushesRoot layouts t a r (Err fault.Unrooted) new = ⊥
 PushesRoot layouts t a r (Err fault.RootsFull) new = (roots_full t ≡ true) × HoldsAccount layouts new t a
 PushesRoot layouts t a r (Err fault.Memory) new = HoldsAccount layouts new t a
-
--- whether two roots name the same reference, or that one is gone
-abbrev pub TellsSame : Option Reference → Option Reference → Result Bool RootFault → Type 0
-TellsSame (Some r) (Some q) answer = answer ≡ Ok (same_reference r q)
-TellsSame (Some r) None answer = answer ≡ Err fault.Unrooted
-TellsSame None (Some q) answer = answer ≡ Err fault.Unrooted
-TellsSame None None answer = answer ≡ Err fault.Unrooted

@@ -1,3 +1,4 @@
+pub mod Bytes
 pub mod Expansion
 pub mod Fields
 pub mod Handles

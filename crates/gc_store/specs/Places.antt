@@ -1,8 +1,6 @@
 -- What placing an object answers and leaves.
-use Rattle.std.specs.Prelude.{◌≡◌, ℕ, ◌⊎◌, true, false, List, Option, Some, Result, Ok, Err, length, slice_get}
-use Rattle.gc_types.specs.declared.value.FieldType.{FieldType}
+use Rattle.std.specs.Prelude.{◌≡◌, ℕ, ◌⊎◌, true, false, Option, Result, Ok, Err, length}
 use Rattle.gc_types.specs.declared.kind.Layouts.{Layouts}
-use Rattle.gc_types.specs.Declarations.{struct_fields_at}
 use Rattle.gc_model.specs.Values.{Object}
 use Rattle.gc_model.specs.Table.{Table, make, with_pages}
 use Rattle.gc_model.specs.Live.{roots_full}
@@ -12,26 +10,17 @@ use Rattle.gc_model.specs.Allocation.{Limits, too_large, Allocates, LacksMemory,
 use Rattle.gc_model.specs.Stores.{StoreView}
 use Rattle.gc_heap.specs.Heap.{HasRoom}
 use Rattle.gc_store.specs.declared.root.GcRootIndex.{GcRootIndex}
-use Rattle.gc_store.specs.declared.root.RawValue.{RawValue}
 use Rattle.gc_store.specs.declared.store.PlaceFault.{PlaceFault}
 use Rattle.gc_store.specs.declared.store.PlaceFault.TheVariants as fault
 use Rattle.gc_store.specs.Roots.{handle_of}
 use Rattle.gc_policy.specs.Accounts.{HoldsAccount, with_held}
 use Rattle.gc_policy.specs.Policy.{PolicyState, Prepares, Prepared}
-use Rattle.gc_store.specs.Values.{CanStore}
-
--- a struct of a store's type may be placed with these values
-pub record CanPlace (D : Type 0) (layouts : Layouts) (s : StoreView D) (ty : ℕ) (raws : List RawValue) : Type 0 where
-  pub fields : List FieldType
-  pub declared : struct_fields_at s.types ty ≡ Some fields
-  pub same_count : length raws ≡ length fields
-  pub each : (i : ℕ) (field : FieldType) (r : RawValue) → slice_get fields i ≡ Some field → slice_get raws i ≡ Some r → CanStore D layouts s field r
 
 -- the bytes of an object of the table, as its heap lays it out
 abbrev pub bytes_of : {D : Type 0} → Layouts → Object D → Table D → ℕ
 bytes_of layouts o t = object_size layouts t.types o
 
--- the struct is in the table, and the handle is that of its push
+-- the object is in the table, and the handle is that of its push
 pub record PlacesObject {D : Type 0} (layouts : Layouts) (counter : Option ℕ) (o : Object D) (p : PolicyState D) (limits' : Limits) (handle : GcRootIndex) (new : StoreView D) : Type 0 where
   pub small : too_large layouts (bytes_of layouts o p.table) ≡ false
   pub not_full : roots_full p.table ≡ false

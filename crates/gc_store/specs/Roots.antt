@@ -3,6 +3,7 @@ use Rattle.std.specs.Prelude.{◌≡◌, ℕ, ◌<◌, ◌==◌, ◌&&◌, Bool,
 use Rattle.gc_model.specs.Values.{Reference, null, small, at, Value, Object, struct, array, host, exception}
 use Rattle.gc_model.specs.Table.{Table, Push}
 use Rattle.gc_model.specs.Live.{rooted}
+use Rattle.gc_model.specs.Reach.{object_values}
 use Rattle.gc_model.specs.Stores.{StoreView}
 use Rattle.gc_model.specs.Holds.{Placing, Holds, HoldsTable, IsWord}
 use Rattle.gc_types.specs.declared.kind.Layouts.{Layouts}
@@ -46,22 +47,28 @@ IsReference t null answer = ⊥
 IsReference t (small n) answer = answer ≡ rooted_object.I31 n
 IsReference t (at p) answer = IsObject (slice_get t.objects p) answer
 
--- What the store answers of a root: that it is gone, or what it is.
-abbrev pub TellsRoot : {D : Type 0} → Table D → Option Reference → Result RootedObject RootFault → Type 0
-TellsRoot t None answer = answer ≡ Err fault.Unrooted
-TellsRoot t (Some r) (Ok answer) = IsReference t r answer
-TellsRoot t (Some r) (Err e) = ⊥
+-- what the store answers of a live root
+abbrev pub TellsReference : {D : Type 0} → Table D → Reference → Result RootedObject RootFault → Type 0
+TellsReference t r (Ok answer) = IsReference t r answer
+TellsReference t r (Err e) = ⊥
 
--- the handle is live and names a struct with that value at that index
-pub record HasField {D : Type 0} (s : StoreView D) (t : Table D) (handle : GcRootIndex) (index : ℕ) (value : Value) : Type 0 where
+-- the handle is live and names that reference
+pub record NamesReference {D : Type 0} (s : StoreView D) (t : Table D) (handle : GcRootIndex) (r : Reference) : Type 0 where
   pub serial : ℕ
   pub names : Names s t handle serial
+  pub live : rooted t serial ≡ Some r
+
+-- the handle is not live: its root is gone, or never was
+abbrev pub NamesNothing : {D : Type 0} → StoreView D → Table D → GcRootIndex → Type 0
+NamesNothing s t handle = (r : Reference) → ¬ NamesReference s t handle r
+
+-- the handle names an object with that value at that index: a field of a struct or an exception, or an element of an array
+pub record HasValue {D : Type 0} (s : StoreView D) (t : Table D) (handle : GcRootIndex) (index : ℕ) (value : Value) : Type 0 where
   pub position : ℕ
-  pub live : rooted t serial ≡ Some (at position)
-  pub ty : ℕ
-  pub values : List Value
-  pub object : slice_get t.objects position ≡ Some (struct ty values)
-  pub value_at : slice_get values index ≡ Some value
+  pub named : NamesReference s t handle (at position)
+  pub object : Object D
+  pub object_is : slice_get t.objects position ≡ Some object
+  pub value_at : slice_get (object_values object) index ≡ Some value
 
 -- The word that a handle has in the store, or why it has none.
 abbrev pub word_of : {D : Type 0} → StoreView D → GcRootIndex → Result ℕ RootFault
@@ -76,19 +83,17 @@ pub record IsRootWord (D : Type 0) (layouts : Layouts) (s : StoreView D) (word :
   pub is_word : IsWord place root word
   pub not_null : 0 < word
 
--- the handle is live and names a struct with a value at that index, in some table that the store holds
+-- the handle names an object with a value at that index, in some table that the store holds
 pub record CanRead (D : Type 0) (layouts : Layouts) (s : StoreView D) (handle : GcRootIndex) (index : ℕ) : Type 0 where
   pub table : Table D
   pub holds : HoldsTable layouts s table
   pub value : Value
-  pub field : HasField s table handle index value
+  pub has : HasValue s table handle index value
 
 -- the handle is live in some table that the store holds, and names what the answer says
 pub record FindsRoot (D : Type 0) (layouts : Layouts) (s : StoreView D) (handle : GcRootIndex) (answer : RootedObject) : Type 0 where
   pub table : Table D
   pub holds : HoldsTable layouts s table
-  pub serial : ℕ
-  pub names : Names s table handle serial
   pub root : Reference
-  pub live : rooted table serial ≡ Some root
+  pub named : NamesReference s table handle root
   pub is : IsReference table root answer

@@ -5,7 +5,6 @@ use Rattle.gc_owner.specs.declared.entry.GcClass.{GcClass}
 use Rattle.gc_model.specs.Values.{Reference, null, Value, reference}
 use Rattle.gc_model.specs.Table.{Table, Slot}
 use Rattle.gc_model.specs.Frames.{pop_frame}
-use Rattle.gc_model.specs.Live.{rooted}
 use Rattle.gc_model.specs.Stores.{StoreView}
 use Rattle.gc_model.specs.Holds.{Placing, IsWord}
 use Rattle.gc_store.specs.declared.root.GcRootIndex.{GcRootIndex}
@@ -15,7 +14,7 @@ use Rattle.gc_store.specs.declared.root.RootFault.TheVariants as root_fault
 use Rattle.gc_store.specs.declared.globals.SlotFault.{SlotFault}
 use Rattle.gc_store.specs.declared.globals.SlotFault.TheVariants as slot_fault
 use Rattle.gc_policy.specs.Accounts.{Account, HoldsAccount}
-use Rattle.gc_store.specs.Roots.{is_of_store, Names}
+use Rattle.gc_store.specs.Roots.{is_of_store, NamesReference, NamesNothing}
 use Rattle.gc_store.specs.Values.{ReadsValue}
 
 -- the fault of a root, told by a call on slots
@@ -28,7 +27,7 @@ told_of_slot root_fault.Memory = slot_fault.Memory
 -- the handle is live and names the reference, or there is no handle and it is null
 abbrev pub HandleStands : {D : Type 0} → StoreView D → Table D → Option GcRootIndex → Reference → Type 0
 HandleStands s t None r = r ≡ null
-HandleStands s t (Some handle) r = (serial : ℕ) × (Names s t handle serial × (rooted t serial ≡ Some r))
+HandleStands s t (Some handle) r = NamesReference s t handle r
 
 -- the handle is another store's
 abbrev pub IsForeign : {D : Type 0} → StoreView D → Option GcRootIndex → Type 0
@@ -38,7 +37,7 @@ IsForeign s (Some handle) = is_of_store s handle ≡ false
 -- the handle is the store's, and its root is gone or never was
 abbrev pub IsGone : {D : Type 0} → StoreView D → Table D → Option GcRootIndex → Type 0
 IsGone s t None = ⊥
-IsGone s t (Some handle) = (is_of_store s handle ≡ true) × ((serial : ℕ) → Names s t handle serial → rooted t serial ≡ None)
+IsGone s t (Some handle) = (is_of_store s handle ≡ true) × NamesNothing s t handle
 
 -- the word of what a handle names, 0 for none, or why it has none
 abbrev pub FindsWord : {D : Type 0} → StoreView D → Table D → Placing → Option GcRootIndex → Result ℕ RootFault → Type 0

@@ -3,11 +3,10 @@ use Rattle.std.specs.Prelude.{◌≡◌, ℕ, ◌-◌, ◌^◌, ◌==◌, ◌||�
 use Rattle.std.specs.Option.{option_map}
 use Rattle.std.specs.Int.NonZero.{non_zero_u32_get}
 use Rattle.gc_types.specs.declared.kind.Layouts.{Layouts}
-use Rattle.gc_types.specs.declared.value.FieldType.{FieldType}
 use Rattle.gc_types.specs.declared.types.TypeFault.{TypeFault}
 use Rattle.gc_types.specs.declared.types.TypeFault.TheVariants as type_fault
 use Rattle.gc_types.specs.Declarable.{Declarable}
-use Rattle.gc_types.specs.Declarations.{TypeName, plain_struct}
+use Rattle.gc_types.specs.Declarations.{Declaration, TypeName}
 use Rattle.gc_model.specs.Table.{Table, start, declare}
 use Rattle.gc_model.specs.Stores.{StoreView, unset_globals}
 use Rattle.gc_policy.specs.Accounts.{Account, no_account, HoldsAccount}
@@ -84,11 +83,9 @@ pub record IsSameStore {D : Type 0} (old new : StoreView D) : Type 0 where
 abbrev pub is_full : {D : Type 0} → StoreView D → Bool
 is_full s = nat_le s.max_scoped (length s.scoped) || (s.generation == 2 ^ 64 - 1)
 
--- what the declaration of a struct answers and leaves
-abbrev pub DeclaresStruct : {D : Type 0} → Layouts → List FieldType → Table D → Account → Result TypeName TypeFault → StoreView D → Type 0
-DeclaresStruct layouts fields t a (Ok ty) new =
-    Declarable t.types (plain_struct fields)
-    × (ty ≡ record { engine = new.engine; number = new.number; index = length t.types })
-    × HoldsAccount layouts new (declare (plain_struct fields) t) a
-DeclaresStruct layouts fields t a (Err type_fault.BadType) new = (¬ Declarable t.types (plain_struct fields)) × HoldsAccount layouts new t a
-DeclaresStruct layouts fields t a (Err type_fault.Memory) new = HoldsAccount layouts new t a
+-- what the declaration of a type answers and leaves
+abbrev pub Declares : {D : Type 0} → Layouts → Declaration → Table D → Account → Result TypeName TypeFault → StoreView D → Type 0
+Declares layouts d t a (Ok ty) new =
+    Declarable t.types d × ((ty ≡ record { engine = new.engine; number = new.number; index = length t.types }) × HoldsAccount layouts new (declare d t) a)
+Declares layouts d t a (Err type_fault.BadType) new = (¬ Declarable t.types d) × HoldsAccount layouts new t a
+Declares layouts d t a (Err type_fault.Memory) new = HoldsAccount layouts new t a

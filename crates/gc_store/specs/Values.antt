@@ -1,18 +1,15 @@
 -- The values that go in and out of a store.
-use Rattle.std.specs.Prelude.{◌≡◌, ℕ, ℤ, Bool, true, false, List, Some, None, Result, Ok, Err, length, slice_get}
+use Rattle.std.specs.Prelude.{◌≡◌, ℕ, ℤ, true, false, List, Some, None, Result, Ok, Err, length, slice_get}
 use Rattle.std.specs.Int.{w32, w64}
 use Rattle.gc_types.specs.declared.value.FieldType.{FieldType}
 use Rattle.gc_types.specs.declared.value.StorageType.{StorageType}
-use Rattle.gc_types.specs.declared.value.StorageType.TheVariants as storage
-use Rattle.gc_types.specs.declared.value.ValType.{ValType}
-use Rattle.gc_types.specs.declared.value.ValType.TheVariants as val
 use Rattle.gc_types.specs.declared.kind.Layouts.{Layouts}
-use Rattle.gc_types.specs.Declarations.{struct_fields_at}
 use Rattle.gc_owner.specs.declared.entry.GcClass.{GcClass}
 use Rattle.gc_model.specs.Values.{Reference, null, small, at, Value, numeric, i32, i64, f32, f64, v128, function, reference, number_bits}
-use Rattle.gc_model.specs.Fits.{is_class_any}
+use Rattle.gc_model.specs.Forms.{Form, number_of, function_of, reference_of, storage_form}
+use Rattle.gc_model.specs.Stored.{stored, value_type}
 use Rattle.gc_model.specs.Table.{Table, write}
-use Rattle.gc_model.specs.Live.{rooted, roots_full}
+use Rattle.gc_model.specs.Live.{roots_full}
 use Rattle.gc_model.specs.Reads.{makes_root, after_read}
 use Rattle.gc_model.specs.Stores.{StoreView}
 use Rattle.gc_model.specs.Holds.{HoldsTable}
@@ -22,14 +19,12 @@ use Rattle.gc_store.specs.declared.root.RawValue.TheVariants as raw
 use Rattle.gc_store.specs.declared.root.RootFault.{RootFault}
 use Rattle.gc_store.specs.declared.root.RootFault.TheVariants as fault
 use Rattle.gc_policy.specs.Accounts.{Account, HoldsAccount}
-use Rattle.gc_store.specs.Roots.{Names, handle_of, HasField}
+use Rattle.gc_store.specs.Roots.{NamesReference, HasValue, handle_of}
 
 -- the handle is live, and the value is what its root names
 pub record RootStands {D : Type 0} (s : StoreView D) (t : Table D) (class : GcClass) (handle : GcRootIndex) (v : Value) : Type 0 where
-  pub serial : ℕ
-  pub names : Names s t handle serial
   pub root : Reference
-  pub live : rooted t serial ≡ Some root
+  pub named : NamesReference s t handle root
   pub is : v ≡ reference class root
 
 -- a value that is given to the store stands for one of the table
@@ -52,37 +47,35 @@ pub record AllStand {D : Type 0} (s : StoreView D) (t : Table D) (raws : List Ra
 pub record IsLive (D : Type 0) (layouts : Layouts) (s : StoreView D) (handle : GcRootIndex) : Type 0 where
   pub table : Table D
   pub holds : HoldsTable layouts s table
-  pub serial : ℕ
-  pub names : Names s table handle serial
   pub root : Reference
-  pub live : rooted table serial ≡ Some root
+  pub named : NamesReference s table handle root
 
-abbrev pub raw_fits_type : ValType → RawValue → Bool
-raw_fits_type val.I32 (raw.I32 n) = true
-raw_fits_type val.I64 (raw.I64 n) = true
-raw_fits_type (val.Ref ty) (raw.Ref class handle) = is_class_any class
-raw_fits_type _ _ = false
+-- what a value is that is given to the store
+abbrev pub raw_form : RawValue → Form
+raw_form (raw.I32 n) = number_of i32
+raw_form (raw.I64 n) = number_of i64
+raw_form (raw.F32 n) = number_of f32
+raw_form (raw.F64 n) = number_of f64
+raw_form (raw.V128 n) = number_of v128
+raw_form (raw.Func f) = function_of
+raw_form (raw.Ref class handle) = reference_of class
 
--- whether a value fits a field of a type that is built
-abbrev pub raw_fits : StorageType → RawValue → Bool
-raw_fits storage.I8 r = false
-raw_fits storage.I16 r = false
-raw_fits (storage.ValType ty) r = raw_fits_type ty r
-
+-- a value's handle is live; no function is taken so far
 abbrev pub NamesLive : (D : Type 0) → Layouts → StoreView D → RawValue → Type 0
 NamesLive D layouts s (raw.I32 n) = Unit {0}
 NamesLive D layouts s (raw.I64 n) = Unit {0}
 NamesLive D layouts s (raw.F32 n) = Unit {0}
 NamesLive D layouts s (raw.F64 n) = Unit {0}
 NamesLive D layouts s (raw.V128 n) = Unit {0}
-NamesLive D layouts s (raw.Func f) = Unit {0}
+NamesLive D layouts s (raw.Func f) = ⊥
 NamesLive D layouts s (raw.Ref class None) = Unit {0}
 NamesLive D layouts s (raw.Ref class (Some handle)) = IsLive D layouts s handle
 
--- a value may be written into a field of that type: its handle is live, and it fits
-pub record CanStore (D : Type 0) (layouts : Layouts) (s : StoreView D) (field : FieldType) (r : RawValue) : Type 0 where
+-- A value may be put into a field or an element of that type: its handle is live, and it is of the type's form. Whether
+-- it fits the type, as the types of its object say, is for the caller to test.
+pub record CanStore (D : Type 0) (layouts : Layouts) (s : StoreView D) (ty : StorageType) (r : RawValue) : Type 0 where
   pub live : NamesLive D layouts s r
-  pub fits : raw_fits field.element_type r ≡ true
+  pub form : storage_form ty ≡ raw_form r
 
 -- the value that a read answers, whose new root is the newest one
 abbrev pub IsReadAs : {D : Type 0} → StoreView D → Table D → Value → RawValue → Type 0
@@ -105,19 +98,18 @@ ReadsValue layouts t a v (Err fault.Unrooted) new = ⊥
 ReadsValue layouts t a v (Err fault.RootsFull) new = (makes_root v ≡ true) × ((roots_full t ≡ true) × HoldsAccount layouts new t a)
 ReadsValue layouts t a v (Err fault.Memory) new = (makes_root v ≡ true) × HoldsAccount layouts new t a
 
--- a value may be written there: the handle is live and names a struct with a field of that index, which the value fits
+-- a value may be written there: the handle names an object with a value at that index, of whose type it is
 pub record CanWrite (D : Type 0) (layouts : Layouts) (s : StoreView D) (handle : GcRootIndex) (index : ℕ) (r : RawValue) : Type 0 where
   pub table : Table D
   pub holds : HoldsTable layouts s table
   pub before : Value
-  pub has : HasField s table handle index before
-  pub fields : List FieldType
-  pub declared : struct_fields_at s.types has.ty ≡ Some fields
+  pub has : HasValue s table handle index before
   pub field : FieldType
-  pub field_is : slice_get fields index ≡ Some field
-  pub can_store : CanStore D layouts s field r
+  pub field_is : value_type table.types has.object index ≡ Some field
+  pub can_store : CanStore D layouts s field.element_type r
 
--- the struct that the handle names in a table that the store held has the value there now
+-- the object that the handle names in a table that the store held keeps the value there now, as its type says
 abbrev pub WritesValue : {D : Type 0} → Layouts → StoreView D → StoreView D → Table D → Account → GcRootIndex → ℕ → RawValue → Type 0
 WritesValue layouts old new t a handle index r =
-    (before v : Value) (has : HasField old t handle index before) → RawStands old t r v → HoldsAccount layouts new (write has.position index v t) a
+    (before v : Value) (has : HasValue old t handle index before) (field : FieldType) → value_type t.types has.object index ≡ Some field
+    → RawStands old t r v → HoldsAccount layouts new (write has.position index (stored field.element_type v) t) a

@@ -1,13 +1,13 @@
 //! What a handle names, and what lies in it.
 
-ghost use Rattle.std.specs.Prelude.{◌≡◌, ◌⊎◌, ℕ, ◌<◌, true, false, Err, Some, List, slice_get, IfOk, OnErr};
+ghost use Rattle.std.specs.Prelude.{◌≡◌, ◌⊎◌, ◌<◌, true, false, Ok, Err, IfOk, OnErr};
 ghost use Rattle.gc_model.specs.Table.{Table};
-ghost use Rattle.gc_model.specs.Live.{rooted};
-ghost use Rattle.gc_model.specs.Values.{Value, Reference, small};
+ghost use Rattle.gc_model.specs.Reads.{same_reference};
+ghost use Rattle.gc_model.specs.Values.{Reference, Value, small};
 ghost use Rattle.gc_model.specs.Holds.{HoldsTable, Holds, Placing, IsWord};
 ghost use Rattle.gc_policy.specs.Accounts.{Account, IsAccount, HoldsAccount};
-ghost use Rattle.gc_store.specs.Roots.{word_of, IsRootWord, IsReference, Names, TellsRoot, is_of_store, HasField, CanRead, FindsRoot};
-ghost use Rattle.gc_store.specs.Handles.{PushesRoot, TellsSame};
+ghost use Rattle.gc_store.specs.Roots.{word_of, IsRootWord, IsReference, NamesReference, NamesNothing, TellsReference, is_of_store, HasValue, CanRead, FindsRoot};
+ghost use Rattle.gc_store.specs.Handles.{PushesRoot};
 ghost use Rattle.gc_store.specs.Values.{ReadsValue};
 ghost use Rattle.gc_store.specs.Reading.{ReadsStoredValue};
 ghost use Rattle.gc_store.specs.Stores.{IsSameStore};
@@ -51,9 +51,9 @@ impl<H: GcHeap, D: Drop> Store<H, D> {
     /// where it isn't live.
     pub fn object(&self, handle: GcRootIndex) -> Result<RootedObject, RootFault>
         ensures wrong_store { is_of_store self.now handle ≡ false → result ≡ Err RootFault.WrongStore }
-        ensures named { (t : Table D) (serial : ℕ) → HoldsTable H.KIND self.now t → Names self.now t handle serial → TellsRoot t (rooted t serial) result }
+        ensures live { (t : Table D) (r : Reference) → HoldsTable H.KIND self.now t → NamesReference self.now t handle r → TellsReference t r result }
         ensures found { IfOk result (FindsRoot D H.KIND self.now handle) }
-        ensures unnamed { is_of_store self.now handle ≡ true → (t : Table D) → HoldsTable H.KIND self.now t → ((serial : ℕ) → ¬ Names self.now t handle serial) → result ≡ Err RootFault.Unrooted }
+        ensures gone { is_of_store self.now handle ≡ true → (t : Table D) → HoldsTable H.KIND self.now t → NamesNothing self.now t handle → result ≡ Err RootFault.Unrooted }
     {
         self.owner.is_ready();
         match self.word_of(handle) {
@@ -66,8 +66,8 @@ impl<H: GcHeap, D: Drop> Store<H, D> {
     /// `WrongStore` where one of them is another store's, then `Unrooted` where one isn't live.
     pub fn index_eq(&self, a: GcRootIndex, b: GcRootIndex) -> Result<bool, RootFault>
         ensures wrong_store { (is_of_store self.now a ≡ false) ⊎ (is_of_store self.now b ≡ false) → result ≡ Err RootFault.WrongStore }
-        ensures named { (t : Table D) (x y : ℕ) → HoldsTable H.KIND self.now t → Names self.now t a x → Names self.now t b y → TellsSame (rooted t x) (rooted t y) result }
-        ensures unnamed { is_of_store self.now a ≡ true → is_of_store self.now b ≡ true → (t : Table D) → HoldsTable H.KIND self.now t → ((x : ℕ) → ¬ Names self.now t a x) ⊎ ((y : ℕ) → ¬ Names self.now t b y) → result ≡ Err RootFault.Unrooted }
+        ensures live { (t : Table D) (r q : Reference) → HoldsTable H.KIND self.now t → NamesReference self.now t a r → NamesReference self.now t b q → result ≡ Ok (same_reference r q) }
+        ensures gone { is_of_store self.now a ≡ true → is_of_store self.now b ≡ true → (t : Table D) → HoldsTable H.KIND self.now t → NamesNothing self.now t a ⊎ NamesNothing self.now t b → result ≡ Err RootFault.Unrooted }
     {
         if a.store_id != self.id || b.store_id != self.id {
             return Err(RootFault::WrongStore);
@@ -124,7 +124,7 @@ impl<H: GcHeap, D: Drop> Store<H, D> {
     /// scoped root: `RootsFull` where no further one may be made.
     pub fn read_value(&mut self, handle: GcRootIndex, index: u32) -> Result<RawValue, RootFault>
         requires { CanRead D H.KIND self.old handle index }
-        ensures reads { (t : Table D) (a : Account) (value : Value) → HoldsAccount H.KIND self.old t a → HasField self.old t handle index value → ReadsValue H.KIND t a value result self.new }
+        ensures reads { (t : Table D) (a : Account) (value : Value) → HoldsAccount H.KIND self.old t a → HasValue self.old t handle index value → ReadsValue H.KIND t a value result self.new }
         ensures err { OnErr result (self.new ≡ self.old) }
         ensures same { IsSameStore self.old self.new }
     {

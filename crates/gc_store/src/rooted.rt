@@ -1,11 +1,11 @@
 //! Handles that say of which type what they name is.
 
-ghost use Rattle.std.specs.Prelude.{◌≡◌, ◌↔◌, ◌⊎◌, ℕ, IsTrue, true, false, Err};
+ghost use Rattle.std.specs.Prelude.{◌≡◌, ◌↔◌, ◌⊎◌, IsTrue, true, false, Ok, Err};
+ghost use Rattle.gc_model.specs.Values.{Reference};
 ghost use Rattle.gc_model.specs.Table.{Table};
-ghost use Rattle.gc_model.specs.Live.{rooted};
+ghost use Rattle.gc_model.specs.Reads.{same_reference};
 ghost use Rattle.gc_model.specs.Holds.{HoldsTable};
-ghost use Rattle.gc_store.specs.Roots.{is_of_store, Names};
-ghost use Rattle.gc_store.specs.Handles.{TellsSame};
+ghost use Rattle.gc_store.specs.Roots.{is_of_store, NamesReference, NamesNothing};
 
 use crate::root::{GcRootIndex, RootFault};
 use crate::store::Store;
@@ -84,8 +84,8 @@ pub fn ref_eq<H: GcHeap, D: Drop, T: GcRef, R: RootedGcRef<T>, Q: RootedGcRef<T>
     b: &Q,
 ) -> Result<bool, RootFault>
     ensures wrong_store { (is_of_store store.now (R.index a.now) ≡ false) ⊎ (is_of_store store.now (Q.index b.now) ≡ false) → result ≡ Err RootFault.WrongStore }
-    ensures named { (t : Table D) (x y : ℕ) → HoldsTable H.KIND store.now t → Names store.now t (R.index a.now) x → Names store.now t (Q.index b.now) y → TellsSame (rooted t x) (rooted t y) result }
-    ensures unnamed { is_of_store store.now (R.index a.now) ≡ true → is_of_store store.now (Q.index b.now) ≡ true → (t : Table D) → HoldsTable H.KIND store.now t → ((x : ℕ) → ¬ Names store.now t (R.index a.now) x) ⊎ ((y : ℕ) → ¬ Names store.now t (Q.index b.now) y) → result ≡ Err RootFault.Unrooted }
+    ensures live { (t : Table D) (r q : Reference) → HoldsTable H.KIND store.now t → NamesReference store.now t (R.index a.now) r → NamesReference store.now t (Q.index b.now) q → result ≡ Ok (same_reference r q) }
+    ensures gone { is_of_store store.now (R.index a.now) ≡ true → is_of_store store.now (Q.index b.now) ≡ true → (t : Table D) → HoldsTable H.KIND store.now t → NamesNothing store.now t (R.index a.now) ⊎ NamesNothing store.now t (Q.index b.now) → result ≡ Err RootFault.Unrooted }
 {
     store.index_eq(a.root_index(), b.root_index())
 }
