@@ -1,4 +1,4 @@
-pub mod Declare
+pub mod Declaring
 pub mod Expanding
 pub mod FrameLemmas
 pub mod FieldReads
@@ -6,7 +6,7 @@ pub mod FieldValues
 pub mod FieldWrites
 pub mod Finding
 pub mod GoneRoots
-pub mod HeapLayouts
+pub mod ShapeSlots
 pub mod HeldFields
 pub mod Keeping
 pub mod Leaving

@@ -2,7 +2,7 @@
 
 ghost use Rattle.std.specs.Prelude.{◌≡◌, ◌<◌, ◌*◌, ◌/◌, true, length, take};
 ghost use Rattle.gc_store.specs.declared.stored.Stored.TheVariants as kept;
-ghost use Rattle.gc_store.specs.HeldSlots.{slot_of, WritesAt};
+ghost use Rattle.gc_store.specs.HeldSlots.{storage_slot, WritesAt};
 ghost use Rattle.gc_store.specs.Kept.{code_of};
 ghost use Rattle.gc_store.specs.Filling.{CanFill, FillsNew, EachFits, EachStands, SameFits, SameStands, BytesFit, BytesStand, ContentsFit, ContentsStand, asked_type, AreElements, IsWidth, repeated, slot_bytes};
 
@@ -58,7 +58,7 @@ fn write_numbers<H: GcHeap, D: Drop>(
     number: u128,
 )
     requires idle { owner.old.seen.idle ≡ true }
-    requires can { AreElements H.KIND owner.old.seen gc_ref.now (slot_of first.now) count (kept.Number number) }
+    requires can { AreElements H.KIND owner.old.seen gc_ref.now (storage_slot first.now) count (kept.Number number) }
     ensures { WritesAt H.KIND owner.old.seen owner.new.seen gc_ref.now first.now.offset (repeated (slot_bytes first.now.storage number) count) }
 {
     let width = first.storage.width();
@@ -86,7 +86,7 @@ fn write_references<H: GcHeap, D: Drop>(
     word: u32,
 )
     requires idle { owner.old.seen.idle ≡ true }
-    requires can { AreElements H.KIND owner.old.seen gc_ref.now (slot_of first.now) count (kept.Ref word) }
+    requires can { AreElements H.KIND owner.old.seen gc_ref.now (storage_slot first.now) count (kept.Ref word) }
     ensures { WritesAt H.KIND owner.old.seen owner.new.seen gc_ref.now first.now.offset (repeated (slot_bytes first.now.storage word) count) }
 {
     if word == 0 {
@@ -110,7 +110,7 @@ fn write_elements<H: GcHeap, D: Drop>(
     stored: Stored,
 )
     requires idle { owner.old.seen.idle ≡ true }
-    requires can { AreElements H.KIND owner.old.seen gc_ref.now (slot_of first.now) count stored }
+    requires can { AreElements H.KIND owner.old.seen gc_ref.now (storage_slot first.now) count stored }
     ensures { WritesAt H.KIND owner.old.seen owner.new.seen gc_ref.now first.now.offset (repeated (slot_bytes first.now.storage (code_of stored)) count) }
 {
     match stored {
