@@ -7,6 +7,8 @@ pub mod FieldWrites
 pub mod Finding
 pub mod GoneRoots
 pub mod ShapeSlots
+pub mod SlotPlaces
+pub mod SlotWrites
 pub mod HeldFields
 pub mod Keeping
 pub mod Leaving
