@@ -20,6 +20,7 @@ pub mod Live
 pub mod HeldObjects
 pub mod Words
 pub mod Encoding
+pub mod StoredBytes
 pub mod ReadingBack
 pub mod Lying
 pub mod SlotWrites
@@ -29,3 +30,6 @@ pub mod SlotsSet
 pub mod HoldsGlobals
 pub mod FramesSet
 pub mod HoldsFrames
+pub mod StoredValues
+pub mod Elements
+pub mod MadeObjects

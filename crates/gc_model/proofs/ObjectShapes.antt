@@ -1,13 +1,13 @@
 -- The shape of an object's type, and the slot of each of its values.
-use Rattle.std.proofs.Common.{◌≡◌, ℕ, ◌+◌, ◌*◌, ◌<◌, List, [], ◌∷◌, ◌++◌, map, length, Option, Some, None, refl, sym, ap, ◌∙◌, subst, arith, zero, suc}
+use Rattle.std.proofs.Common.{◌≡◌, ℕ, ◌+◌, ◌*◌, ◌<◌, List, [], ◌∷◌, map, length, Option, Some, None, refl, sym, ap, ◌∙◌, arith, zero, suc}
 use Rattle.std.specs.List.{slice_get}
 use Rattle.std.specs.Prelude.{option_map, option_and_then}
 use Rattle.std.proofs.lemmas.Option.{none-some}
 use Rattle.gc_types.specs.declared.value.FieldType.{FieldType}
 use Rattle.gc_types.specs.declared.value.StorageType.{StorageType}
+use Rattle.gc_types.specs.declared.value.ValType.{ValType}
 use Rattle.gc_types.specs.declared.value.Tag.{Tag}
 use Rattle.gc_types.specs.declared.kind.Layouts.{Layouts}
-use Rattle.gc_types.specs.declared.kind.TypeKind.{TypeKind}
 use Rattle.gc_types.specs.declared.kind.TypeKind.TheVariants as kinds
 use Rattle.gc_types.specs.declared.layout.FieldLayout.{FieldLayout}
 use Rattle.gc_types.specs.Declarations.{Declaration, Shape, struct_of, array_of, exn_of, func_of, shape_kind, constant_field, shape_struct_fields, declaration_struct_fields, shape_elem, declaration_elem, struct_fields_at, elem_at}
@@ -209,6 +209,17 @@ element_shape (Some d) element e = by d.shape e
     by (exn_of params) f = absurd (none-some element f)
     by (func_of params results) f = absurd (none-some element f)
 
+params_shape : (d : Option Declaration) (fields : List FieldType) → option_and_then (λ (x : Declaration). shape_exn_fields x.shape) d ≡ Some fields
+    → (params : List ValType) × ((option_map (λ (x : Declaration). x.shape) d ≡ Some (exn_of params)) × (map constant_field params ≡ fields))
+params_shape None fields e = absurd (none-some fields e)
+params_shape (Some d) fields e = by d.shape e
+  where
+    by : (shape : Shape) → shape_exn_fields shape ≡ Some fields → (params : List ValType) × ((Some shape ≡ Some (exn_of params)) × (map constant_field params ≡ fields))
+    by (struct_of fs) f = absurd (none-some fields f)
+    by (array_of x) f = absurd (none-some fields f)
+    by (exn_of params) f = let same : map constant_field params ≡ fields = grind (arith, f) in (params, (refl, same))
+    by (func_of params results) f = absurd (none-some fields f)
+
 pub struct_shape : (types : List Declaration) (ty : ℕ) (fields : List FieldType) → struct_fields_at types ty ≡ Some fields → shape_at types ty ≡ Some (struct_of fields)
 struct_shape types ty fields e = fields_shape (slice_get types ty) fields e
 
@@ -233,3 +244,17 @@ array_slot layouts types ty values element index declared below = record {
   declared = array_shape types ty element declared;
   slot_is = element_slot_at element.element_type (length values) (elements_from layouts element) index below;
 }
+
+-- and a field of an exception
+pub exception_slot : {D : Type 0} (layouts : Layouts) (types : List Declaration) (ty : ℕ) (tag : Tag) (values : List Value) (fields : List FieldType) (index : ℕ) (field : FieldType) (layout : FieldLayout)
+    → exn_fields_at types ty ≡ Some fields → slice_get fields index ≡ Some field → slice_get (field_layouts (exception_base layouts) fields) index ≡ Some layout
+    → IsSlotOf {D = D} layouts types (exception ty tag values) index (slot_of field layout)
+exception_slot layouts types ty tag values fields index field layout declared e f =
+    let params = params_shape (slice_get types ty) fields declared in
+    record {
+      shape = exn_of params.0;
+      declared = params.1.0;
+      slot_is =
+          ap (λ (fs : List FieldType). slice_get (field_slots (exception_base layouts) fs) index) params.1.1
+          ∙ field_slot (exception_base layouts) fields index field layout e f;
+    }
