@@ -4,8 +4,12 @@ pub mod FrameLemmas
 pub mod FieldReads
 pub mod FieldValues
 pub mod FieldWrites
+pub mod Filled
 pub mod Finding
 pub mod GoneRoots
+pub mod EachValue
+pub mod Rewriting
+pub mod SameValue
 pub mod ShapeSlots
 pub mod SlotPlaces
 pub mod SlotWrites

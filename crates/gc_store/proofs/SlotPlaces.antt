@@ -10,16 +10,16 @@ use Rattle.gc_types.specs.declared.kind.Layouts.{Layouts}
 use Rattle.gc_types.specs.declared.kind.Layouts.TheVariants.{Null, Counting, Copying}
 use Rattle.gc_types.specs.declared.kind.VMGcKind.TheVariants.{ArrayRef, ExternRef}
 use Rattle.gc_types.specs.declared.layout.GcStructLayout.{GcStructLayout}
-use Rattle.gc_types.specs.declared.layout.TraceInfo.TheVariants as trace
-use Rattle.gc_types.specs.Declarations.{Declaration, Shape, struct_of, array_of, exn_of, func_of, constant_field, shape_elem}
+use Rattle.gc_types.specs.declared.kind.TypeKind.TheVariants as kinds
+use Rattle.gc_types.specs.Declarations.{Declaration, Shape, struct_of, array_of, exn_of, func_of, shape_elem, shape_kind}
 use Rattle.gc_types.specs.Layouts.{struct_base, exception_base, array_base, storage_width, is_gc_storage, shape_trace, declaration_trace, declaration_layout, shape_layout, struct_layout, exn_layout, array_layout, round_up}
-use Rattle.gc_memory.specs.Lists.{In, here, there}
+use Rattle.gc_memory.specs.Lists.{In}
 use Rattle.gc_view.specs.Heaps.{HeapObject, HeapView}
 use Rattle.gc_view.specs.Slots.{StorageSlot, slot_end, element_slots, elements_from, shape_slots, shape_first, shape_size, followed_slots, slot_offsets}
 use Rattle.gc_view.proofs.Layouts.{stored_size-le}
-use Rattle.gc_view.proofs.SlotLemmas.{SlotRange, shape_spaced, slot_range, slots_apart, fields_followed, elements_followed, elements_not_followed}
+use Rattle.gc_view.proofs.SlotLemmas.{SlotRange, shape_spaced, slot_range, slots_apart}
 use Rattle.gc_heap.specs.Extents.{held_size, size_with, writable_offset, HasFields, array_length}
-use Rattle.gc_heap.specs.References.{typed_offsets, info_offsets, word_offsets}
+use Rattle.gc_heap.specs.References.{typed_offsets}
 use Rattle.gc_heap.specs.Access.{IsReadable}
 use Rattle.gc_heap.specs.Content.{IsHeap}
 use Rattle.gc_heap.specs.Heap.{array_size}
@@ -28,88 +28,13 @@ use Rattle.gc_owner.specs.Owners.{OwnerView, CanBegin}
 use Rattle.gc_owner.specs.Tracing.{IsTraced}
 use Rattle.gc_owner.specs.Writes.{IsNumberPlace, IsReferencePlace}
 use Rattle.gc_model.proofs.ObjectShapes.{shape_at, element_is}
+use Rattle.gc_policy.proofs.CollectedOffsets.{shape_offsets, RefSlot, ref_slot, slot_followed}
 use Rattle.gc_store.specs.HeldSlots.{HasShape, IsHeldOf}
 
 -- what the type table says by a shape
 laid_out : (layouts : Layouts) (d : Option Declaration) (shape : Shape) → option_map (λ (x : Declaration). x.shape) d ≡ Some shape → declaration_layout layouts d ≡ shape_layout layouts shape
 laid_out layouts None shape e = absurd (none-some shape e)
 laid_out layouts (Some d) shape e = ap (shape_layout layouts) (same_Some d.shape shape e)
-
-traced_as : (layouts : Layouts) (d : Option Declaration) (shape : Shape) → option_map (λ (x : Declaration). x.shape) d ≡ Some shape → declaration_trace layouts d ≡ shape_trace layouts shape
-traced_as layouts None shape e = absurd (none-some shape e)
-traced_as layouts (Some d) shape e = ap (shape_trace layouts) (same_Some d.shape shape e)
-
--- Offsets
-
--- elements that are references follow each other as words
-words_are : (ty : StorageType) (n p : ℕ) → storage_width ty ≡ 4 → word_offsets p n ≡ map (λ (s : StorageSlot). s.offset) (element_slots ty n p)
-words_are ty zero p wide = refl
-words_are ty (suc n) p wide = ap (λ os. p ∷ os) (ap (λ w. word_offsets (p + w) n) (sym wide) ∙ words_are ty n (p + storage_width ty) wide)
-
--- and begin where arrays do
-word_elements : (layouts : Layouts) → round_up (array_base layouts) 4 ≡ array_base layouts
-word_elements Null = refl
-word_elements Counting = refl
-word_elements Copying = refl
-
--- the offsets of an array's references
-elements_are : (layouts : Layouts) (o : HeapObject) (element : FieldType) (n : ℕ) → n ≡ array_length o → info_offsets layouts o (Some (trace.Array (is_gc_storage element.element_type))) ≡ slot_offsets (shape_slots layouts (array_of element) n)
-elements_are layouts o element n count = by (is_gc_storage element.element_type) refl
-  where
-    by : (b : Bool) → is_gc_storage element.element_type ≡ b → info_offsets layouts o (Some (trace.Array b)) ≡ slot_offsets (shape_slots layouts (array_of element) n)
-    by true is =
-        let wide = ref_width element.element_type is in
-        ap (word_offsets (array_base layouts)) (sym count)
-        ∙ ap (λ from. word_offsets from n) (sym (ap (round_up (array_base layouts)) wide ∙ word_elements layouts))
-        ∙ words_are element.element_type n (elements_from layouts element) wide
-        ∙ sym (elements_followed element.element_type n (elements_from layouts element) is)
-    by false is = sym (elements_not_followed element.element_type n (elements_from layouts element) is)
-
--- The references that an object's type tells are those of its slots.
-pub offsets_are : (layouts : Layouts) (types : List Declaration) (o : HeapObject) (shape : Shape) (n : ℕ) → shape_at types o.ty ≡ Some shape → HasShape o shape n → typed_offsets layouts types o o.kind ≡ slot_offsets (shape_slots layouts shape n)
-offsets_are layouts types o (struct_of fields) n declared has =
-    ap (typed_offsets layouts types o) has ∙ ap (info_offsets layouts o) (traced_as layouts (slice_get types o.ty) (struct_of fields) declared) ∙ sym (fields_followed (struct_base layouts) fields)
-offsets_are layouts types o (array_of element) n declared has =
-    ap (typed_offsets layouts types o) has.0 ∙ ap (info_offsets layouts o) (traced_as layouts (slice_get types o.ty) (array_of element) declared) ∙ elements_are layouts o element n has.1
-offsets_are layouts types o (exn_of params) n declared has =
-    ap (typed_offsets layouts types o) has ∙ ap (info_offsets layouts o) (traced_as layouts (slice_get types o.ty) (exn_of params) declared) ∙ sym (fields_followed (exception_base layouts) (map constant_field params))
-offsets_are layouts types o (func_of params results) n declared has = absurd has
-
--- the offset of a slot that is followed is among them
-offset_in : (slots : List StorageSlot) (i : ℕ) (slot : StorageSlot) → slice_get slots i ≡ Some slot → is_gc_storage slot.storage ≡ true → In slot.offset (slot_offsets slots)
-offset_in [] i slot e is = absurd (none-some slot e)
-offset_in (s ∷ slots) zero slot e is =
-    let same : s ≡ slot = same_Some s slot e in
-    subst (λ (x : StorageSlot). In x.offset (slot_offsets (s ∷ slots))) same
-    (subst (λ (b : Bool). In s.offset (map (λ (x : StorageSlot). x.offset) (cond b (s ∷ followed_slots slots) (followed_slots slots)))) (sym (ap (λ (x : StorageSlot). is_gc_storage x.storage) same ∙ is)) here)
-offset_in (s ∷ slots) (suc i) slot e is = behind (is_gc_storage s.storage) (offset_in slots i slot e is)
-  where
-    behind : (b : Bool) → In slot.offset (slot_offsets slots) → In slot.offset (map (λ (x : StorageSlot). x.offset) (cond b (s ∷ followed_slots slots) (followed_slots slots)))
-    behind true later = there later
-    behind false later = later
-
--- each of them is that of such a slot
-pub record FollowedSlot (slots : List StorageSlot) (x : ℕ) : Type 0 where
-  pub index : ℕ
-  pub slot : StorageSlot
-  pub slot_is : slice_get slots index ≡ Some slot
-  pub followed : is_gc_storage slot.storage ≡ true
-  pub at : slot.offset ≡ x
-
-later_slot : (s : StorageSlot) (slots : List StorageSlot) (x : ℕ) → FollowedSlot slots x → FollowedSlot (s ∷ slots) x
-later_slot s slots x f = record { index = suc f.index; slot = f.slot; slot_is = f.slot_is; followed = f.followed; at = f.at }
-
-first_slot : (s : StorageSlot) (slots : List StorageSlot) (x : ℕ) (os : List ℕ) → is_gc_storage s.storage ≡ true → (In x os → FollowedSlot slots x) → In x (s.offset ∷ os) → FollowedSlot (s ∷ slots) x
-first_slot s slots _ os is rest here = record { index = 0; slot = s; slot_is = refl; followed = is; at = refl }
-first_slot s slots x os is rest (there j) = later_slot s slots x (rest j)
-
-followed_slot : (slots : List StorageSlot) (x : ℕ) → In x (slot_offsets slots) → FollowedSlot slots x
-followed_slot [] x i = elim i [ ]
-followed_slot (s ∷ slots) x i = by (is_gc_storage s.storage) refl (followed_slot slots x) i
-  where
-    by : (b : Bool) → is_gc_storage s.storage ≡ b → (In x (slot_offsets slots) → FollowedSlot slots x) → In x (map (λ (y : StorageSlot). y.offset) (cond b (s ∷ followed_slots slots) (followed_slots slots))) → FollowedSlot (s ∷ slots) x
-    by true is rest j = first_slot s slots x (slot_offsets slots) is rest j
-    by false is rest j = later_slot s slots x (rest j)
 
 -- Sizes
 
@@ -177,6 +102,17 @@ first_above layouts o (array_of element) n has = array_above layouts
 first_above layouts o (exn_of params) n has = exception_above layouts
 first_above layouts o (func_of params results) n has = absurd has
 
+-- an array has as many elements as it tells
+counted : (o : HeapObject) (shape : Shape) (n : ℕ) → HasShape o shape n → shape_kind shape ≡ kinds.Array → array_length o ≡ n
+counted o (struct_of fields) n has of_array = absurd (cc)
+counted o (array_of element) n has of_array = sym has.1
+counted o (exn_of params) n has of_array = absurd (cc)
+counted o (func_of params results) n has of_array = absurd (cc)
+
+-- The references that an object's type tells are those of its slots.
+offsets_are : (layouts : Layouts) (types : List Declaration) (o : HeapObject) (shape : Shape) (n : ℕ) → shape_at types o.ty ≡ Some shape → HasShape o shape n → typed_offsets layouts types o o.kind ≡ slot_offsets (shape_slots layouts shape n)
+offsets_are layouts types o shape n declared has = shape_offsets layouts types o shape n declared (has_fields o shape n has) (counted o shape n has)
+
 module _ (layouts : Layouts) (types : List Declaration) (h : HeapView) (place : ℕ) (o : HeapObject) (shape : Shape) (n : ℕ) (is : IsHeldOf types h place o shape n) (traced : IsTraced layouts types o) where
   abbrev slots : List StorageSlot
   slots = shape_slots layouts shape n
@@ -202,17 +138,17 @@ module _ (layouts : Layouts) (types : List Declaration) (h : HeapView) (place : 
   -- no reference lies across a slot that isn't followed
   slot_apart : (index : ℕ) (slot : StorageSlot) → slice_get slots index ≡ Some slot → is_gc_storage slot.storage ≡ false → (x : ℕ) → Contains (typed_offsets layouts types o o.kind) x → (x + 4 ≤ slot.offset) ⊎ (slot_end slot ≤ x)
   slot_apart index slot e number x among =
-      let f = followed_slot slots x (subst (In x) (offsets_are layouts types o shape n is.declared is.has) (contains_in (typed_offsets layouts types o o.kind) x among)) in
-      let wide = ref_width f.slot.storage f.followed in
+      let f = ref_slot slots x (subst (In x) (offsets_are layouts types o shape n is.declared is.has) (contains_in (typed_offsets layouts types o o.kind) x among)) in
+      let wide = ref_width f.slot.storage f.is_reference in
       elim (slots_apart (shape_first layouts shape) (shape_size layouts shape n) slots (shape_spaced layouts shape n) f.index index f.slot slot f.slot_is e (differ f)) [
         | inl before ↦ inl (omega (arith, before, wide, f.at))
         | inr behind ↦ inr (omega (arith, behind, f.at))
       ]
     where
-      differ : (f : FollowedSlot slots x) → f.index ≢ index
+      differ : (f : RefSlot slots x) → f.index ≢ index
       differ f same =
           let slots_same : f.slot ≡ slot = same_Some f.slot slot (sym f.slot_is ∙ ap (slice_get slots) same ∙ e) in
-          let both : true ≡ false = sym f.followed ∙ ap (λ (s : StorageSlot). is_gc_storage s.storage) slots_same ∙ number in
+          let both : true ≡ false = sym f.is_reference ∙ ap (λ (s : StorageSlot). is_gc_storage s.storage) slots_same ∙ number in
           absurd (cc)
 
 module _ {D : Type 0} (layouts : Layouts) (v : OwnerView D) (place : ℕ) (o : HeapObject) (shape : Shape) (n : ℕ) (is : IsHeldOf v.types.declarations v.heap place o shape n) (can : CanBegin layouts v) where
@@ -242,7 +178,7 @@ module _ {D : Type 0} (layouts : Layouts) (v : OwnerView D) (place : ℕ) (o : H
     object = o;
     held = is.held;
     among = in_contains (typed_offsets layouts types o o.kind) slot.offset
-        (subst (In slot.offset) (sym (offsets_are layouts types o shape n is.declared is.has)) (offset_in (shape_slots layouts shape n) index slot e followed));
+        (subst (In slot.offset) (sym (offsets_are layouts types o shape n is.declared is.has)) (slot_followed (shape_slots layouts shape n) index slot e followed));
   }
 
   -- bytes may be written across slots none of which is followed

@@ -25,6 +25,12 @@ described_by (place.Struct ty) = of.Object ty
 described_by (place.Exn ty tag) = of.Object ty
 described_by (place.Array ty count) = of.Array ty count
 
+-- what is described is of a declared type
+abbrev pub IsOfTypes : Description → Type 0
+IsOfTypes (of.Object ty) = Unit {0}
+IsOfTypes (of.Array ty count) = Unit {0}
+IsOfTypes (of.External id) = ⊥
+
 -- the bytes of an object of that request, whose type is declared
 abbrev pub IsSizeOf : Layouts → List Declaration → Place → ℕ → Type 0
 IsSizeOf layouts types (place.Struct ty) size = (layout : GcStructLayout) × ((layout_at layouts types ty ≡ Some layout) × (size ≡ layout.size))

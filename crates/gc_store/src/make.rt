@@ -7,7 +7,7 @@ ghost use Rattle.gc_owner.specs.Growing.{state_of};
 ghost use Rattle.gc_owner.specs.Makes.{CanMake, Describes};
 ghost use Rattle.gc_policy.specs.Shown.{DuesOwner};
 ghost use Rattle.gc_model.specs.Allocation.{Limits};
-ghost use Rattle.gc_store.specs.Making.{AllocatesObject, MakesRooted};
+ghost use Rattle.gc_store.specs.Making.{AllocatesObject, IsOfTypes, MakesRooted};
 
 use crate::store::{GcHeapOutOfMemory, PlaceFault};
 use gc_heap::GcHeap;
@@ -66,6 +66,7 @@ pub(crate) fn make_object<H: GcHeap, D: Drop, L: ResourceLimiter>(
     requires pages { first_pages ≤ max_pages }
     requires room { 0 < owner.old.seen.roots.spare }
     requires few { length owner.old.seen.roots.scoped < 2 ^ 32 }
+    requires of_types { IsOfTypes description.now }
     requires described { (o : HeapObject) × Describes H.KIND owner.old.seen description.now o size }
     ensures { (o : HeapObject) → Describes H.KIND owner.old.seen description.now o size
         → MakesRooted H.KIND o size first_pages is_due (state_of owner.old.seen (L.limits limiter.old)) (state_of owner.new.seen (L.limits limiter.new)) result }

@@ -1,16 +1,21 @@
-use Rattle.std.proofs.Common.{ℕ, ◌<◌, ◌^◌, Result, Ok, Err, inr, IsSome, sym, ap, ◌∙◌, subst}
+use Rattle.std.proofs.Common.{◌≡◌, ℕ, ◌<◌, ◌^◌, Result, Ok, Err, inr, sym, ap, ◌∙◌, subst}
 use Rattle.gc_types.specs.Declarations.{TypeTable}
-use Rattle.gc_types.specs.Layouts.{layout_at}
-use Rattle.gc_heap.specs.Heap.{new_struct}
+use Rattle.gc_types.specs.declared.kind.Layouts.{Layouts}
+use Rattle.gc_types.specs.Layouts.{layout_at, array_layout_at}
+use Rattle.gc_view.specs.Heaps.{HeapObject}
+use Rattle.gc_owner.specs.declared.allocate.Description.{Description}
+use Rattle.gc_owner.specs.declared.allocate.Description.TheVariants as of
+use Rattle.gc_owner.specs.Makes.{Describes}
+use Rattle.gc_owner.specs.Owners.{OwnerView}
 use Rattle.gc_owner.specs.declared.pages.PagesFault.{PagesFault}
 use Rattle.gc_owner.specs.Growing.{OwnerState, state_of, MakesHeap}
 use Rattle.gc_store.specs.declared.store.PlaceFault.{PlaceFault}
 use Rattle.gc_store.specs.declared.store.PlaceFault.TheVariants as fault
-use Rattle.gc_store.specs.Making.{AllocatesObject, BeginsMaking, MakesRooted}
+use Rattle.gc_store.specs.Making.{AllocatesObject, IsOfTypes, BeginsMaking, MakesRooted}
 use Rattle.gc_store.proofs.Keeping.{Keeps, keeps-making, same_count, making_attached}
-use Rattle.gc_store.proofs.make.make_struct.Given.{Over}
-use Rattle.gc_store.proofs.make.make_struct.Goals.{After-collect_if_due}
-use Rattle.gc_store.proofs.make.make_struct.Goals as goal
+use Rattle.gc_store.proofs.make.make_object.Given.{Over}
+use Rattle.gc_store.proofs.make.make_object.Goals.{After-collect_if_due}
+use Rattle.gc_store.proofs.make.make_object.Goals as goal
 
 abbrev before : (g : Over) (c : After-collect_if_due g) → OwnerState g.row.D.Denot
 before g c = state_of c.args.owner.now.seen (g.L.ResourceLimiter.limits c.args.limiter.now)
@@ -35,30 +40,30 @@ begun g c = record {
 keeps : (g : Over) (c : After-collect_if_due g) → Keeps c.args.owner.now.seen c.collect_if_due.new.owner.seen
 keeps g c = keeps-making g.H.GcHeap.KIND c.args.first_pages c.args.is_due (before g c) (due g c) (begun g c)
 
-pub allocate_struct-requires-clause-idle : goal.allocate_struct-requires-clause-idle
-allocate_struct-requires-clause-idle g c =
-    let at = (goal.at.allocate_struct-requires-clause-idle g c).After-collect_if_due in
-    (keeps g at).idle ∙ c.requires.idle
+-- what is described is so still
+described_as : {D : Type 0} (layouts : Layouts) (v w : OwnerView D) (d : Description) (o : HeapObject) (size : ℕ) → w.types ≡ v.types → IsOfTypes d → Describes layouts v d o size → Describes layouts w d o size
+described_as layouts v w (of.Object ty) o size same types is = (is.0, (ap (λ (ts : TypeTable). layout_at layouts ts.declarations ty) same ∙ is.1.0, is.1.1))
+described_as layouts v w (of.Array ty count) o size same types is = (is.0, (ap (λ (ts : TypeTable). array_layout_at layouts ts.declarations ty) same ∙ is.1.0, is.1.1))
+described_as layouts v w (of.External id) o size same types is = absurd types
 
-pub allocate_struct-requires-clause-attached : goal.allocate_struct-requires-clause-attached
-allocate_struct-requires-clause-attached g c =
-    let at = (goal.at.allocate_struct-requires-clause-attached g c).After-collect_if_due in
-    making_attached g.H.GcHeap.KIND c.args.first_pages c.args.is_due (before g at) (due g at) (begun g at)
+described_again : (g : Over) (c : After-collect_if_due g) (o : HeapObject) → Describes g.H.GcHeap.KIND c.args.owner.now.seen c.args.description.now o c.args.size → Describes g.H.GcHeap.KIND c.collect_if_due.new.owner.seen c.args.description.now o c.args.size
+described_again g c o is = described_as g.H.GcHeap.KIND c.args.owner.now.seen c.collect_if_due.new.owner.seen c.args.description.now o c.args.size (keeps g c).types c.requires.of_types is
 
-pub allocate_struct-requires-clause-room : goal.allocate_struct-requires-clause-room
-allocate_struct-requires-clause-room g c =
-    let at = (goal.at.allocate_struct-requires-clause-room g c).After-collect_if_due in
-    subst (λ (n : ℕ). 0 < n) (sym (keeps g at).spare) c.requires.room
-
-pub allocate_struct-requires-clause-few : goal.allocate_struct-requires-clause-few
-allocate_struct-requires-clause-few g c =
-    let at = (goal.at.allocate_struct-requires-clause-few g c).After-collect_if_due in
-    subst (λ (n : ℕ). n < 2 ^ 32) (sym (same_count c.args.owner.now.seen c.collect_if_due.new.owner.seen (keeps g at))) c.requires.few
-
-pub allocate_struct-requires-clause-declared : goal.allocate_struct-requires-clause-declared
-allocate_struct-requires-clause-declared g c =
-    let at = (goal.at.allocate_struct-requires-clause-declared g c).After-collect_if_due in
-    subst (λ (types : TypeTable). IsSome (layout_at g.H.GcHeap.KIND types.declarations c.args.ty)) (sym (keeps g at).types) c.requires.declared
+pub allocate_object-requires : goal.allocate_object-requires
+allocate_object-requires g c =
+    let at = (goal.at.allocate_object-requires g c).After-collect_if_due in
+    let kept = keeps g at in
+    record {
+      can = record {
+        idle = kept.idle ∙ c.requires.idle;
+        attached = making_attached g.H.GcHeap.KIND c.args.first_pages c.args.is_due (before g at) (due g at) (begun g at);
+        spare = subst (λ (n : ℕ). 0 < n) (sym kept.spare) c.requires.room;
+        few = subst (λ (n : ℕ). n < 2 ^ 32) (sym (same_count c.args.owner.now.seen c.collect_if_due.new.owner.seen kept)) c.requires.few;
+        object = c.requires.described.0;
+        size = c.args.size;
+        described = described_again g at c.requires.described.0 c.requires.described.1;
+      };
+    }
 
 -- what allocating it answered, as what the whole does
 answers : {D : Type 0} (layouts : _) (o : _) (size first : ℕ) (is_due : _) (s b e : OwnerState D) (r : Result ℕ PlaceFault) → BeginsMaking layouts first is_due s b → AllocatesObject layouts o size b e r → MakesRooted layouts o size first is_due s e r
@@ -70,8 +75,8 @@ answers layouts o size first is_due s b e (Err (fault.HeapOutOfMemory f)) begins
 answers layouts o size first is_due s b e (Err fault.Memory) begins made = inr (b, (begins, made))
 
 pub returns-in-Ok : goal.returns-in-Ok
-returns-in-Ok g c layout is =
+returns-in-Ok g c o is =
     let at = (goal.at.returns-in-Ok g c).After-collect_if_due in
-    answers g.H.GcHeap.KIND (new_struct g.H.GcHeap.KIND c.args.ty layout) layout.size c.args.first_pages c.args.is_due (before g at) (due g at)
-    (state_of c.allocate_struct.new.owner.seen (g.L.ResourceLimiter.limits c.allocate_struct.new.limiter)) c.allocate_struct.result (begun g at)
-    (c.allocate_struct.ensures layout (ap (λ (types : TypeTable). layout_at g.H.GcHeap.KIND types.declarations c.args.ty) (keeps g at).types ∙ is))
+    answers g.H.GcHeap.KIND o c.args.size c.args.first_pages c.args.is_due (before g at) (due g at)
+    (state_of c.allocate_object.new.owner.seen (g.L.ResourceLimiter.limits c.allocate_object.new.limiter)) c.allocate_object.result (begun g at)
+    (c.allocate_object.ensures o c.args.size (described_again g at o is))
