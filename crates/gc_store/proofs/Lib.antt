@@ -1,4 +1,5 @@
 pub mod Declaring
+pub mod Describing
 pub mod Expanding
 pub mod FrameLemmas
 pub mod FieldReads
