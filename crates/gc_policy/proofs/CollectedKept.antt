@@ -1,6 +1,6 @@
 -- What a collection of the heap keeps are the objects that the roots of the table reach.
-use Rattle.std.proofs.Common.{◌≡◌, ℕ, Bool, List, Some, Contains, sym, ap, ◌∙◌, subst, arith}
-use Rattle.std.specs.List.{slice_get, flat_map}
+use Rattle.std.proofs.Common.{◌≡◌, ℕ, Bool, Some, Contains, sym, ◌∙◌, subst, arith}
+use Rattle.std.specs.List.{slice_get}
 use Rattle.std.specs.FinMap.{get}
 use Rattle.std.proofs.lemmas.Option.{slice_get_within}
 use Rattle.gc_types.specs.declared.kind.Layouts.{Layouts}

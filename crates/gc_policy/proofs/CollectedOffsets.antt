@@ -6,11 +6,9 @@ use Rattle.gc_types.specs.declared.value.StorageType.{StorageType}
 use Rattle.gc_types.specs.declared.kind.Layouts.{Layouts}
 use Rattle.gc_types.specs.declared.kind.Layouts.TheVariants.{Null, Counting, Copying}
 use Rattle.gc_types.specs.declared.kind.TypeKind.TheVariants as kinds
-use Rattle.gc_types.specs.declared.kind.VMGcKind.TheVariants.{StructRef, ArrayRef, ExnRef}
-use Rattle.gc_types.specs.declared.layout.TraceInfo.{TraceInfo}
 use Rattle.gc_types.specs.declared.layout.TraceInfo.TheVariants as trace
 use Rattle.gc_types.specs.Declarations.{Shape, struct_of, array_of, exn_of, func_of, shape_kind, Declaration, constant_field}
-use Rattle.gc_types.specs.Layouts.{struct_base, exception_base, array_base, round_up, storage_width, is_gc_storage, shape_trace, declaration_trace, trace_at}
+use Rattle.gc_types.specs.Layouts.{struct_base, exception_base, array_base, round_up, storage_width, is_gc_storage, shape_trace, declaration_trace}
 use Rattle.gc_view.specs.Heaps.{HeapObject}
 use Rattle.gc_view.specs.Slots.{StorageSlot, element_slots, elements_from, shape_slots, followed_slots, slot_offsets}
 use Rattle.gc_view.proofs.SlotLemmas.{fields_followed, elements_followed, elements_not_followed}
@@ -59,6 +57,14 @@ traced_as : (layouts : Layouts) (d : Option Declaration) (shape : Shape) → opt
 traced_as layouts None shape e = absurd (none-some shape e)
 traced_as layouts (Some d) shape e = let same : d.shape ≡ shape = grind (arith, e) in ap (shape_trace layouts) same
 
+-- The references of an object of a type with that shape, as its type tells them, are those in its slots.
+pub shape_offsets : (layouts : Layouts) (types : List Declaration) (h : HeapObject) (shape : Shape) (count : ℕ) → shape_at types h.ty ≡ Some shape → HasFields h.kind → (shape_kind shape ≡ kinds.Array → array_length h ≡ count)
+    → typed_offsets layouts types h h.kind ≡ slot_offsets (shape_slots layouts shape count)
+shape_offsets layouts types h shape count declared fields counted =
+    typed_is layouts types h h.kind fields
+    ∙ ap (info_offsets layouts h) (traced_as layouts (slice_get types h.ty) shape declared)
+    ∙ shape_traced layouts h shape count counted
+
 module _ {D : Type 0} (layouts : Layouts) (types : List Declaration) (names : Names) where
   -- what stands for an object with values has fields or elements
   pub stands_fields : (o : Object D) (h : HeapObject) → ¬ IsHost (Some o) → Stands layouts types names o h → HasFields h.kind
@@ -80,11 +86,10 @@ module _ {D : Type 0} (layouts : Layouts) (types : List Declaration) (names : Na
   traced_slots o h not_host is traced by =
       let shape : Shape = by.stands.shape in
       let fields = stands_fields o h not_host is in
-      let info : trace_at layouts types h.ty ≡ shape_trace layouts shape = ap (trace_at layouts types) by.stands.same_type ∙ traced_as layouts (slice_get types by.ty) shape by.stands.declared in
-      let same : typed_offsets layouts types h h.kind ≡ slot_offsets (shape_slots layouts shape by.stands.count) =
-      typed_is layouts types h h.kind fields ∙ ap (info_offsets layouts h) info
-      ∙ shape_traced layouts h shape by.stands.count (λ of_array. array_counted o h shape is by.of_shape of_array ∙ by.stands.counted) in
-      subst (SameElements (reference_offsets layouts types h)) same (followed_offsets layouts types h fields traced)
+      let declared : shape_at types h.ty ≡ Some shape = ap (shape_at types) by.stands.same_type ∙ by.stands.declared in
+      subst (SameElements (reference_offsets layouts types h))
+      (shape_offsets layouts types h shape by.stands.count declared fields (λ of_array. array_counted o h shape is by.of_shape of_array ∙ by.stands.counted))
+      (followed_offsets layouts types h fields traced)
 
 -- A reference slot whose offset is x.
 pub record RefSlot (slots : List StorageSlot) (x : ℕ) : Type 0 where

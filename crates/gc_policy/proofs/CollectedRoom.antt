@@ -1,5 +1,5 @@
 -- Room in a copying heap: beside all its objects, and beside those that the roots of the table reach.
-use Rattle.std.proofs.Common.{◌≡◌, ℕ, ◌+◌, List, filter, Option, Some, None, refl, sym, ◌∙◌, arith}
+use Rattle.std.proofs.Common.{◌≡◌, ℕ, List, filter, Option, Some, None, refl, sym, ◌∙◌, arith}
 use Rattle.std.specs.List.{sum_by, slice_get}
 use Rattle.std.specs.FinMap.{get, entries}
 use Rattle.std.proofs.lemmas.List.Sums.{sum-map}

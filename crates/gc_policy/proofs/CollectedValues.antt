@@ -25,7 +25,7 @@ use Rattle.gc_heap.specs.Collection.{moved, IsNoReference, IsMoved}
 use Rattle.gc_heap.proofs.SpacedLemmas.{contains_in, in_contains, map_in, ref_width}
 use Rattle.gc_owner.specs.Tracing.{IsTraced}
 use Rattle.gc_owner.proofs.FollowedOffsets.{SameElements}
-use Rattle.gc_policy.proofs.CollectedOffsets.{RefSlot, ref_slot, slot_followed, traced_slots}
+use Rattle.gc_policy.proofs.CollectedOffsets.{ref_slot, slot_followed, traced_slots}
 
 -- an object whose references were moved, and the slots of its values, among which a collection follows the references
 module _ (layouts : Layouts) (types : List Declaration) (to : ℕ → ℕ) (old new : HeapObject) (is_moved : IsMoved layouts types to old new) (from end : ℕ) (slots : List StorageSlot) (spaced : AreSpaced from slots end) (offsets_are : SameElements (reference_offsets layouts types old) (slot_offsets slots)) where
