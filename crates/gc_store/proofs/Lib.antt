@@ -2,11 +2,7 @@ pub mod Declaring
 pub mod Describing
 pub mod Expanding
 pub mod FrameLemmas
-pub mod FieldReads
-pub mod FieldValues
-pub mod FieldWrites
 pub mod Filled
-pub mod Finding
 pub mod GoneRoots
 pub mod EachValue
 pub mod Rewriting
@@ -14,9 +10,9 @@ pub mod SameValue
 pub mod ShapeSlots
 pub mod SlotPlaces
 pub mod SlotWrites
-pub mod HeldFields
 pub mod Keeping
 pub mod Leaving
+pub mod LyingAt
 pub mod MakingRoom
 pub mod PlacedValues
 pub mod Placing

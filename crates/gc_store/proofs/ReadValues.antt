@@ -1,64 +1,47 @@
 -- A value as a read answers it.
-use Rattle.std.proofs.Common.{◌≡◌, ℕ, ◌^◌, ◌<◌, true, Some, None, Ok, Err, sym, ap, ◌∙◌, refl, subst, arith, ℤ}
-use Rattle.std.specs.Int.{Width, w32, w64, cast_signed, cast_unsigned}
+use Rattle.std.proofs.Common.{◌≡◌, ℕ, ℤ, ◌^◌, ◌<◌, true, Some, None, Ok, Err, sym, ap, ◌∙◌, refl, subst, arith}
+use Rattle.std.specs.Prelude.{Option, Result}
+use Rattle.std.specs.Int.{w32, w64, cast_signed, cast_unsigned}
 use Rattle.std.proofs.lemmas.Int.{of_z-to_z}
 use Rattle.gc_types.specs.declared.kind.Layouts.{Layouts}
 use Rattle.gc_owner.specs.declared.entry.GcClass.{GcClass}
-use Rattle.gc_owner.specs.declared.entry.GcClass.TheVariants.{Any}
-use Rattle.gc_model.specs.Values.{Reference, null, small, at, Value, reference}
+use Rattle.gc_model.specs.Values.{Reference, null, small, at, Value, numeric, i32, i64, f32, f64, v128, function, reference, number_bits}
 use Rattle.gc_model.specs.Table.{Table}
 use Rattle.gc_model.specs.Reads.{makes_root}
 use Rattle.gc_model.specs.Stores.{StoreView}
-use Rattle.gc_model.specs.Holds.{Placing, IsWord}
+use Rattle.gc_model.specs.Forms.{Names, IsCode, value_form}
+use Rattle.gc_model.specs.Holds.{Placing, IsWord, Holds}
 use Rattle.gc_model.proofs.Words.{place_even}
-use Rattle.gc_policy.specs.Accounts.{Account, HoldsAccount}
+use Rattle.gc_policy.specs.Accounts.{Account, HoldsAccount, IsAccount}
 use Rattle.gc_store.specs.declared.root.GcRootIndex.{GcRootIndex}
+use Rattle.gc_store.specs.declared.root.RawValue.{RawValue}
 use Rattle.gc_store.specs.declared.root.RawValue.TheVariants as raw
 use Rattle.gc_store.specs.declared.root.RootFault.{RootFault}
 use Rattle.gc_store.specs.declared.root.RootFault.TheVariants as fault
-use Rattle.gc_store.specs.declared.field.Stored.TheVariants as stored
-use Rattle.gc_store.specs.Fields.{StoredStands}
+use Rattle.gc_store.specs.declared.stored.Found.TheVariants as found
+use Rattle.gc_store.specs.Kept.{IsFound, FitsForm, FoundStands}
 use Rattle.gc_store.specs.Handles.{PushesRoot}
-use Rattle.gc_store.specs.Values.{ReadsValue}
+use Rattle.gc_store.specs.Reading.{ReadsReference, reference_value}
+use Rattle.gc_store.specs.Values.{IsReadAs, ReadsValue}
 
--- a signed number, and back
-pub signed_again : (w : Width) (n : ℕ) (answer : ℤ) → cast_unsigned w (cast_signed w n) ≡ n → answer ≡ cast_signed w n → cast_signed w (cast_unsigned w answer) ≡ cast_signed w n
-signed_again w n answer back is = ap (λ z. cast_signed w (cast_unsigned w z)) is ∙ ap (cast_signed w) back
-
--- a number is read as its bits, signed
-pub reads_i32 : {D : Type 0} (layouts : Layouts) (s : StoreView D) (t : Table D) (a : Account) (place : Placing) (number : ℕ) (answer : ℤ) (v : Value) → number < 2 ^ 32 → answer ≡ cast_signed w32 number → StoredStands place (stored.I32 number) v → HoldsAccount layouts s t a → ReadsValue layouts t a v (Ok (raw.I32 answer)) s
-reads_i32 {D} layouts s t a place number answer v fits is stands holds =
-    subst (λ (v : Value). ReadsValue layouts t a v (Ok (raw.I32 answer)) s) (sym stands)
-    (λ makes. absurd (cc makes), ((answer, (refl, sym (ap (λ z. cast_unsigned w32 (cast_signed w32 (cast_unsigned w32 z))) is ∙ ap (λ n. cast_unsigned w32 (cast_signed w32 n)) (of_z-to_z w32 number fits) ∙ of_z-to_z w32 number fits))), holds))
-
-pub reads_i64 : {D : Type 0} (layouts : Layouts) (s : StoreView D) (t : Table D) (a : Account) (place : Placing) (number : ℕ) (answer : ℤ) (v : Value) → number < 2 ^ 64 → answer ≡ cast_signed w64 number → StoredStands place (stored.I64 number) v → HoldsAccount layouts s t a → ReadsValue layouts t a v (Ok (raw.I64 answer)) s
-reads_i64 {D} layouts s t a place number answer v fits is stands holds =
-    subst (λ (v : Value). ReadsValue layouts t a v (Ok (raw.I64 answer)) s) (sym stands)
-    (λ makes. absurd (cc makes), ((answer, (refl, sym (ap (λ z. cast_unsigned w64 (cast_signed w64 (cast_unsigned w64 z))) is ∙ ap (λ n. cast_unsigned w64 (cast_signed w64 n)) (of_z-to_z w64 number fits) ∙ of_z-to_z w64 number fits))), holds))
-
-module _ {D : Type 0} (layouts : Layouts) (s : StoreView D) (t : Table D) (a : Account) (holds : HoldsAccount layouts s t a) where
-  pub null_word : (r : Reference) → IsWord holds.place r 0 → r ≡ null
+module _ {D : Type 0} (layouts : Layouts) (s : StoreView D) (t : Table D) (place : Placing) (holds : Holds layouts s t place) where
+  pub null_word : (r : Reference) → IsWord place r 0 → r ≡ null
   null_word null is = refl
   null_word (small n) is = absurd (omega (arith, is))
-  null_word (at p) is = absurd (omega (arith, (place_even layouts t holds.place s.heap holds.holds.objects p 0 is).1))
+  null_word (at p) is = absurd (omega (arith, (place_even layouts t place s.heap holds.objects p 0 is).1))
 
-  -- the word 0 is read as null
-  pub reads_null : (word : ℕ) (v : Value) → word ≡ 0 → StoredStands holds.place (stored.Ref word) v → ReadsValue layouts t a v (Ok (raw.Ref Any None)) s
-  reads_null word v zero stands =
-      let is_null : stands.0 ≡ null = null_word stands.0 (subst (IsWord holds.place stands.0) zero stands.1.0) in
-      subst (λ (v : Value). ReadsValue layouts t a v (Ok (raw.Ref Any None)) s) (sym (stands.1.1 ∙ ap (reference Any) is_null))
-      (λ makes. absurd (cc makes), (refl, holds))
+-- the word 0 is read as null
+pub reads_null : {D : Type 0} (layouts : Layouts) (s : StoreView D) (word : ℕ) → word ≡ 0 → ReadsReference layouts s word (Ok None) s
+reads_null {D} layouts s word zero t place a class r holds account is =
+    let none : r ≡ null = null_word layouts s t place holds r (subst (IsWord place r) zero is) in
+    subst (λ (x : Reference). ReadsValue layouts t a (reference class x) (Ok (raw.Ref class None)) s) (sym none)
+    (λ makes. absurd (cc makes), (refl, record { place = place; holds = holds; account = account }))
 
 -- the word of any class that is not 0 is read as a handle of a new root
 pub reads_pushed : {D : Type 0} (layouts : Layouts) (t : Table D) (a : Account) (place : Placing) (class : GcClass) (r : Reference) (word : ℕ) (handle : GcRootIndex) (new : StoreView D) → IsWord place r word → 0 < word → PushesRoot layouts t a r (Ok handle) new → ReadsValue layouts t a (reference class r) (Ok (raw.Ref class (Some handle))) new
 reads_pushed layouts t a place class null word handle new is positive pushes = absurd (omega (arith, is, positive))
 reads_pushed layouts t a place class (small n) word handle new is positive pushes = (λ makes. pushes.0, (ap (λ h. raw.Ref class (Some h)) pushes.1.0, pushes.1.1))
 reads_pushed layouts t a place class (at p) word handle new is positive pushes = (λ makes. pushes.0, (ap (λ h. raw.Ref class (Some h)) pushes.1.0, pushes.1.1))
-
--- so of a field
-pub reads_reference : {D : Type 0} (layouts : Layouts) (t : Table D) (a : Account) (place : Placing) (word : ℕ) (v : Value) (handle : GcRootIndex) (new : StoreView D) → (stands : StoredStands place (stored.Ref word) v) → 0 < word → PushesRoot layouts t a stands.0 (Ok handle) new → ReadsValue layouts t a v (Ok (raw.Ref Any (Some handle))) new
-reads_reference layouts t a place word v handle new stands positive pushes =
-    subst (λ (v : Value). ReadsValue layouts t a v (Ok (raw.Ref Any (Some handle))) new) (sym stands.1.1) (reads_pushed layouts t a place Any stands.0 word handle new stands.1.0 positive pushes)
 
 makes_one : (place : Placing) (class : GcClass) (r : Reference) (word : ℕ) → IsWord place r word → 0 < word → makes_root (reference class r) ≡ true
 makes_one place class null word is positive = absurd (omega (arith, is, positive))
@@ -72,7 +55,50 @@ reads_refused layouts t a place class r word fault.Unrooted new is positive push
 reads_refused layouts t a place class r word fault.RootsFull new is positive pushes = (makes_one place class r word is positive, (pushes.0, pushes.1))
 reads_refused layouts t a place class r word fault.Memory new is positive pushes = (makes_one place class r word is positive, pushes)
 
--- and of a refusal
-pub reads_fault : {D : Type 0} (layouts : Layouts) (t : Table D) (a : Account) (place : Placing) (word : ℕ) (v : Value) (f : RootFault) (new : StoreView D) → (stands : StoredStands place (stored.Ref word) v) → 0 < word → PushesRoot layouts t a stands.0 (Err f) new → ReadsValue layouts t a v (Err f) new
-reads_fault layouts t a place word v f new stands positive pushes =
-    subst (λ (v : Value). ReadsValue layouts t a v (Err f) new) (sym stands.1.1) (reads_refused layouts t a place Any stands.0 word f new stands.1.0 positive pushes)
+-- What was found is read as it is
+
+signed_32 : (n code : ℕ) (z : ℤ) → code < 2 ^ 32 → code ≡ n → z ≡ cast_signed w32 code → n ≡ number_bits w32 z
+signed_32 n code z below is same =
+    sym is ∙ sym (ap (λ y. cast_unsigned w32 (cast_signed w32 (cast_unsigned w32 y))) same ∙ ap (λ m. cast_unsigned w32 (cast_signed w32 m)) (of_z-to_z w32 code below) ∙ of_z-to_z w32 code below)
+
+signed_64 : (n code : ℕ) (z : ℤ) → code < 2 ^ 64 → code ≡ n → z ≡ cast_signed w64 code → n ≡ number_bits w64 z
+signed_64 n code z below is same =
+    sym is ∙ sym (ap (λ y. cast_unsigned w64 (cast_signed w64 (cast_unsigned w64 y))) same ∙ ap (λ m. cast_unsigned w64 (cast_signed w64 m)) (of_z-to_z w64 code below) ∙ of_z-to_z w64 code below)
+
+same_number : (r q : RawValue) → found.Number r ≡ found.Number q → r ≡ q
+same_number r q e = grind (arith, e)
+
+module _ {D : Type 0} (layouts : Layouts) (s : StoreView D) (t : Table D) (a : Account) (holds : HoldsAccount layouts s t a) (names : Names) where
+  -- a number
+  pub reads_number : (v : Value) (r : RawValue) → FoundStands names (found.Number r) v → ReadsValue layouts t a v (Ok r) s
+  reads_number (numeric i32 n) r is = (λ makes. absurd (cc makes), ((cast_signed w32 is.code, (same_number r _ is.found, signed_32 n is.code _ is.small is.is_code refl)), holds))
+  reads_number (numeric i64 n) r is = (λ makes. absurd (cc makes), ((cast_signed w64 is.code, (same_number r _ is.found, signed_64 n is.code _ is.small is.is_code refl)), holds))
+  reads_number (numeric f32 n) r is = (λ makes. absurd (cc makes), (same_number r _ is.found ∙ ap raw.F32 is.is_code, holds))
+  reads_number (numeric f64 n) r is = (λ makes. absurd (cc makes), (same_number r _ is.found ∙ ap raw.F64 is.is_code, holds))
+  reads_number (numeric v128 n) r is = (λ makes. absurd (cc makes), (same_number r _ is.found ∙ ap raw.V128 is.is_code, holds))
+  reads_number (function f) r is = absurd is.found
+  reads_number (reference class p) r is = absurd (cc (is.found))
+
+-- or a reference of some class
+pub record FoundReference (place : Placing) (class : GcClass) (word : ℕ) (v : Value) : Type 0 where
+  pub root : Reference
+  pub is : v ≡ reference class root
+  pub is_word : IsWord place root word
+
+pub found_reference : (names : Names) (class : GcClass) (word : ℕ) (v : Value) → FoundStands names (found.Ref class word) v → FoundReference names.place class word v
+found_reference names class word (numeric i32 n) is = absurd (cc (is.found))
+found_reference names class word (numeric i64 n) is = absurd (cc (is.found))
+found_reference names class word (numeric f32 n) is = absurd (cc (is.found))
+found_reference names class word (numeric f64 n) is = absurd (cc (is.found))
+found_reference names class word (numeric v128 n) is = absurd (cc (is.found))
+found_reference names class word (function f) is = absurd is.found
+found_reference names class word (reference c r) is = record {
+  root = r;
+  is = ap (λ (x : GcClass). reference x r) (grind (arith, sym is.found));
+  is_word = subst (IsWord names.place r) (grind (arith, sym is.found)) is.is_code;
+}
+
+pub reads_found : {D : Type 0} (layouts : Layouts) (old new : StoreView D) (t : Table D) (place : Placing) (a : Account) (class : GcClass) (word : ℕ) (v : Value) (answer : Result (Option GcRootIndex) RootFault) → Holds layouts old t place → IsAccount old place a
+    → FoundReference place class word v → ReadsReference layouts old word answer new → ReadsValue layouts t a v (reference_value class answer) new
+reads_found layouts old new t place a class word v answer holds account is reads =
+    subst (λ (x : Value). ReadsValue layouts t a x (reference_value class answer) new) (sym is.is) (reads t place a class is.root holds account is.is_word)

@@ -15,7 +15,7 @@ use Rattle.gc_model.proofs.ObjectShapes.{shape_at}
 use Rattle.gc_store.specs.declared.slot.Slot.{Slot}
 use Rattle.gc_store.specs.declared.stored.Stored.{Stored}
 use Rattle.gc_store.specs.declared.stored.Found.{Found}
-use Rattle.gc_store.specs.Kept.{OfForm, IsFound}
+use Rattle.gc_store.specs.Kept.{OfForm, IsFound, FitsForm}
 
 -- a slot as the code has it
 abbrev pub storage_slot : Slot → StorageSlot
@@ -79,3 +79,8 @@ WritesAt layouts old new place offset bytes =
 abbrev pub FindsAt : Layouts → HeapView → ℕ → Form → ℕ → ℕ → Found → Type 0
 FindsAt layouts h place form width offset x =
     (object : HeapObject) → finite.get h.content place ≡ Some object → IsFound form (number_at width object.bytes (offset - struct_base layouts)) x
+
+-- and is no wider than such values are
+abbrev pub FitsAt : Layouts → HeapView → ℕ → Form → ℕ → ℕ → Type 0
+FitsAt layouts h place form width offset =
+    (object : HeapObject) → finite.get h.content place ≡ Some object → FitsForm form (number_at width object.bytes (offset - struct_base layouts))

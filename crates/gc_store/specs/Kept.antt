@@ -103,5 +103,8 @@ IsReadForm continuation_of = ⊥
 IsReadForm (reference_of class) = Unit {0}
 
 -- what was found is a value of the table
-abbrev pub FoundStands : Names → Found → Value → Type 0
-FoundStands names x v = (code : ℕ) × (IsFound (value_form v) code x × IsCode names v code)
+pub record FoundStands (names : Names) (x : Found) (v : Value) : Type 0 where
+  pub code : ℕ
+  pub found : IsFound (value_form v) code x
+  pub small : FitsForm (value_form v) code
+  pub is_code : IsCode names v code

@@ -6,7 +6,7 @@ ghost use Rattle.gc_types.specs.Layouts.{storage_width, value_width};
 ghost use Rattle.gc_model.specs.Forms.{top_form, type_form, storage_form, reference_of};
 ghost use Rattle.gc_heap.specs.Access.{IsReadable};
 ghost use Rattle.gc_store.specs.Kept.{code_of, raw_form, KeptAs, IsKept, FitsForm, IsReadForm};
-ghost use Rattle.gc_store.specs.HeldSlots.{storage_slot, CanWriteSlot, WritesAt, FindsAt};
+ghost use Rattle.gc_store.specs.HeldSlots.{storage_slot, CanWriteSlot, WritesAt, FindsAt, FitsAt};
 
 use crate::root::RawValue;
 use crate::slot::Slot;
@@ -94,7 +94,8 @@ fn read_typed<H: GcHeap>(heap: &H, gc_ref: &VMGcRef, offset: u32, ty: ValType) -
     requires sound { H.sound heap.now }
     requires inside { IsReadable H.KIND (H.seen heap.now) gc_ref.now offset (value_width ty) }
     requires form { IsReadForm (type_form ty) }
-    ensures { FindsAt H.KIND (H.seen heap.now) gc_ref.now (type_form ty) (value_width ty) offset result }
+    ensures small { FitsAt H.KIND (H.seen heap.now) gc_ref.now (type_form ty) (value_width ty) offset }
+    ensures finds { FindsAt H.KIND (H.seen heap.now) gc_ref.now (type_form ty) (value_width ty) offset result }
 {
     match ty {
         ValType::I32 => Found::Number(RawValue::I32(
@@ -118,7 +119,8 @@ pub(crate) fn read_slot<H: GcHeap>(heap: &H, gc_ref: &VMGcRef, slot: &Slot) -> F
     requires sound { H.sound heap.now }
     requires inside { IsReadable H.KIND (H.seen heap.now) gc_ref.now slot.now.offset (storage_width slot.now.storage) }
     requires form { IsReadForm (storage_form slot.now.storage) }
-    ensures { FindsAt H.KIND (H.seen heap.now) gc_ref.now (storage_form slot.now.storage) (storage_width slot.now.storage) slot.now.offset result }
+    ensures small { FitsAt H.KIND (H.seen heap.now) gc_ref.now (storage_form slot.now.storage) (storage_width slot.now.storage) slot.now.offset }
+    ensures finds { FindsAt H.KIND (H.seen heap.now) gc_ref.now (storage_form slot.now.storage) (storage_width slot.now.storage) slot.now.offset result }
 {
     match slot.storage {
         StorageType::I8 => {

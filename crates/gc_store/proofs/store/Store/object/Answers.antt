@@ -2,7 +2,7 @@ use Rattle.std.proofs.Common.{◌≡◌, ℕ, Err, ap, sym, ◌∙◌, subst}
 use Rattle.gc_store.specs.declared.root.RootFault.TheVariants as fault
 use Rattle.gc_model.specs.Stores.{StoreView}
 use Rattle.gc_store.specs.Roots.{IsRootWord, word_of}
-use Rattle.gc_store.proofs.Roots.{root_word, named_word, word_names, nothing_word}
+use Rattle.gc_store.proofs.Roots.{root_word, named_word, word_names, word_of-err}
 use Rattle.gc_store.proofs.SameRoots.{never_gone}
 use Rattle.gc_model.specs.Holds.{Holds}
 use Rattle.gc_store.proofs.store.Store.object.Goals as goal
@@ -29,9 +29,7 @@ returns-in-Ok-clause-gone g c own t holds nothing =
 
 pub returns-in-Err-clause-gone : goal.returns-in-Err-clause-gone
 returns-in-Err-clause-gone g c own t holds nothing =
-    let both : Err {A = ℕ} fault.Unrooted ≡ Err c.in-Err.fault = sym (nothing_word g.H.GcHeap.KIND c.args.self.now t holds.0 holds.1 c.args.handle own nothing) ∙ sym c.word_of.ensures ∙ c.in-Err.is in
-    let same : fault.Unrooted ≡ c.in-Err.fault = cc in
-    ap Err (sym same)
+    ap Err (word_of-err c.args.self.now c.args.handle c.in-Err.fault own (sym c.word_of.ensures ∙ c.in-Err.is)).unrooted
 
 pub returns-in-Ok-clause-found : goal.returns-in-Ok-clause-found
 returns-in-Ok-clause-found g c =
