@@ -23,3 +23,4 @@ pub mod Roots
 pub mod SameRoots
 pub mod SlotLemmas
 pub mod Sound
+pub mod WritingAt

@@ -1,29 +1,29 @@
-use Rattle.std.proofs.Common.{◌≡◌, ℕ, List, Ok, Some, sym, ap, ◌∙◌, subst}
+use Rattle.std.proofs.Common.{◌≡◌, ℕ, List, Ok, Err, Some, sym, ap, ◌∙◌, subst}
 use Rattle.std.specs.FinMap as finite
-use Rattle.gc_types.specs.Declarations.{TypeTable, struct_fields_at}
-use Rattle.gc_owner.specs.declared.entry.RootEntry.{RootEntry}
-use Rattle.gc_model.specs.Values.{Value}
-use Rattle.gc_model.specs.Table.{Table, write}
+use Rattle.gc_types.specs.Declarations.{TypeTable, Declaration}
 use Rattle.gc_view.specs.Heaps.{HeapObject, HeapView}
-use Rattle.gc_owner.specs.RootColumns.{roots_of}
-use Rattle.gc_owner.specs.Owners.{OwnerView}
-use Rattle.gc_model.specs.Stores.{StoreView}
-use Rattle.gc_model.specs.Holds.{Placing}
 use Rattle.gc_heap.specs.Heap.{put_object, with_data}
-use Rattle.gc_heap.specs.Collection.{has_host}
+use Rattle.gc_owner.specs.declared.entry.RootEntry.{RootEntry}
+use Rattle.gc_owner.specs.Owners.{OwnerView}
 use Rattle.gc_policy.specs.Accounts.{Account, HoldsAccount}
-use Rattle.gc_store.specs.declared.field.Stored.{Stored}
-use Rattle.gc_store.specs.Fields.{StoredFits, FitsBytes, KeptAs, IsKept, CanReadField, stored_bytes}
+use Rattle.gc_model.specs.Stored.{stored}
+use Rattle.gc_model.specs.Table.{Table, write}
+use Rattle.gc_model.specs.Stores.{StoreView}
+use Rattle.gc_store.specs.declared.stored.Stored.{Stored}
+use Rattle.gc_store.specs.Filling.{slot_bytes}
+use Rattle.gc_store.specs.Kept.{code_of, KeptAs, IsKept}
+use Rattle.gc_store.specs.HeldSlots.{storage_slot, FindsHeldSlot, IsHeldWithSlot}
 use Rattle.gc_store.specs.Roots.{word_of}
 use Rattle.gc_store.specs.Values.{CanWrite, WritesValue}
 use Rattle.gc_store.specs.Stores.{store_view}
+use Rattle.gc_store.proofs.EachValue.{are_words, kept_of_form}
 use Rattle.gc_store.proofs.Keeping.{counts_of}
 use Rattle.gc_store.proofs.Roots.{SomeIff-value, SomeIff-some}
-use Rattle.gc_store.proofs.FieldReads.{FieldAt, never_dead}
-use Rattle.gc_store.proofs.FieldWrites.{spot, spot_kept, spot_stored, spot_field, writes_value, some_written}
+use Rattle.gc_store.proofs.LyingAt.{value_live, has_slot}
+use Rattle.gc_store.proofs.WritingAt.{spot, spot_slot, spot_form, spot_kept, writes_value, some_written}
 use Rattle.gc_store.proofs.store.Store.write_value.Given as given
 use Rattle.gc_store.proofs.store.Store.write_value.Goals as goal
-use Rattle.gc_store.proofs.store.Store.write_value.Goals.{In-Ok, After-unwrap-gc_ref, After-types, After-field_place-place, After-stored_value-stored, After-write_field}
+use Rattle.gc_store.proofs.store.Store.write_value.Goals.{In-Ok, After-unwrap-gc_ref, After-types, After-slot_in-slot, After-stored_value-stored, After-write_slot}
 
 -- the store's view, by its parts
 abbrev view : (g : given.Over) (c : In-Ok g) → StoreView g.row.D.Denot
@@ -35,136 +35,137 @@ can g c = subst (λ (s : StoreView g.row.D.Denot). CanWrite g.row.D.Denot g.H.Gc
 word_at : (g : given.Over) (c : In-Ok g) → word_of (view g c) c.args.handle ≡ Ok c.in-Ok.word
 word_at g c = ap (λ (s : StoreView g.row.D.Denot). word_of s c.args.handle) c.self.view_is ∙ sym c.word_of.ensures ∙ c.in-Ok.is
 
-abbrev at_word : (g : given.Over) (c : In-Ok g) → Placing → ℕ → ℕ → Value → Type 0
-at_word g c place position ty before = FieldAt g.H.GcHeap.KIND (view g c) place c.in-Ok.word position ty c.args.index before
-
 pub unwrap-gc_ref-requires : goal.unwrap-gc_ref-requires
 unwrap-gc_ref-requires g c =
     let at = (goal.at.unwrap-gc_ref-requires g c).In-Ok in
-    SomeIff-some _ c.from_raw_u32.result c.in-Ok.word c.from_raw_u32.ensures (spot _ _ (view g at) c.args.handle c.args.index c.args.value (can g at) c.in-Ok.word (word_at g at)).positive
+    SomeIff-some _ c.from_raw_u32.result c.in-Ok.word c.from_raw_u32.ensures (spot _ _ (view g at) c.args.handle c.args.index c.args.value (can g at) c.in-Ok.word (word_at g at)).not_zero
 
 pub unreachable-requires : goal.unreachable-requires
 unreachable-requires g c =
-    never_dead _ _ c.requires.table c.requires.holds.0 c.requires.holds.1 c.args.handle c.args.index c.requires.before c.requires.has c.in-Err.field-0 (sym c.word_of.ensures ∙ c.in-Err.is)
+    value_live g.H.GcHeap.KIND c.args.self.now c.requires.table c.requires.holds.0 c.requires.holds.1 c.args.handle c.args.index c.requires.before c.requires.has c.in-Err.field-0 (sym c.word_of.ensures ∙ c.in-Err.is)
 
 -- the reference has the word
 same_word : (g : given.Over) (c : After-unwrap-gc_ref g) → c.unwrap-gc_ref.result ≡ c.in-Ok.word
 same_word g c = SomeIff-value _ c.from_raw_u32.result c.in-Ok.word c.unwrap-gc_ref.result c.from_raw_u32.ensures c.unwrap-gc_ref.ensures
 
-held_in : (g : given.Over) (c : After-unwrap-gc_ref g) (object : HeapObject) → finite.get c.self.inside.owner.seen.heap.content c.in-Ok.word ≡ Some object → finite.get c.self.inside.owner.seen.heap.content c.unwrap-gc_ref.result ≡ Some object
-held_in g c object e = ap (finite.get c.self.inside.owner.seen.heap.content) (same_word g c) ∙ e
-
 -- what the owner lends is what it has
-lent : (g : given.Over) (c : After-types g) → (P : HeapView → TypeTable → Type 0) → P c.self.inside.owner.seen.heap c.self.inside.owner.seen.types → P (g.H.GcHeap.seen c.heap.result.now) c.types.result.now
-lent g c P p = subst (λ (h : HeapView). P h c.types.result.now) (sym c.heap.ensures.seen) (subst (λ (n : TypeTable). P c.self.inside.owner.seen.heap n) (sym c.types.ensures) p)
+lent : (g : given.Over) (c : After-types g) → (P : List Declaration → HeapView → ℕ → Type 0) → P c.self.inside.owner.seen.types.declarations c.self.inside.owner.seen.heap c.in-Ok.word → P c.types.result.now.declarations (g.H.GcHeap.seen c.heap.result.now) c.unwrap-gc_ref.result
+lent g c P p =
+    subst (λ (n : TypeTable). P n.declarations (g.H.GcHeap.seen c.heap.result.now) c.unwrap-gc_ref.result) (sym c.types.ensures)
+    (subst (λ (h : HeapView). P c.self.inside.owner.seen.types.declarations h c.unwrap-gc_ref.result) (sym c.heap.ensures.seen)
+    (subst (λ (w : ℕ). P c.self.inside.owner.seen.types.declarations c.self.inside.owner.seen.heap w) (sym (same_word g (goal.at.After-types g c).After-unwrap-gc_ref)) p))
 
-pub field_place-place-requires-clause-field : goal.field_place-place-requires-clause-field
-field_place-place-requires-clause-field g c =
-    let types = (goal.at.field_place-place-requires-clause-field g c).After-types in
-    let after = (goal.at.field_place-place-requires-clause-field g c).After-unwrap-gc_ref in
-    let at = (goal.at.After-unwrap-gc_ref g after).In-Ok in
+pub slot_in-slot-requires-clause-has : goal.slot_in-slot-requires-clause-has
+slot_in-slot-requires-clause-has g c =
+    let types = (goal.at.slot_in-slot-requires-clause-has g c).After-types in
+    let at = (goal.at.slot_in-slot-requires-clause-has g c).In-Ok in
     let lies = spot _ _ (view g at) c.args.handle c.args.index c.args.value (can g at) c.in-Ok.word (word_at g at) in
-    lent g types (λ (h : HeapView) (n : TypeTable). CanReadField g.H.GcHeap.KIND h n.declarations c.unwrap-gc_ref.result c.args.index) (record {
-      roots = roots_of c.self.inside.owner.seen.roots;
-      hosts = has_host c.self.inside.owner.seen.hosts;
-      collectable = c.is_ready.ensures.can;
-      object = lies.object;
-      kind = lies.kind;
-      held = held_in g after lies.object lies.held;
-      fields = lies.fields;
-      declared = lies.declared;
-      field = lies.holds.field;
-      field_is = lies.holds.is_field.type_is;
-      built = lies.built;
-    })
+    lent g types (λ (ts : List Declaration) (h : HeapView) (w : ℕ). IsHeldWithSlot g.H.GcHeap.KIND ts h w c.args.index)
+    (has_slot g.H.GcHeap.KIND (view g at) _ _ _ c.in-Ok.word _ c.args.index _ lies (c.is_ready.ensures.can.traced c.in-Ok.word lies.object lies.is.held) c.is_ready.ensures.heap)
 
--- where the field lies
-offset_is : (g : given.Over) (c : After-field_place-place g) (place : Placing) (position ty : ℕ) (before : Value) (lies : at_word g (goal.at.After-field_place-place g c).In-Ok place position ty before) → c.field_place-place.result.offset ≡ lies.holds.layout.offset
-offset_is g c place position ty before lies =
-    let types = (goal.at.After-field_place-place g c).After-types in
-    (c.field_place-place.ensures lies.object lies.fields lies.holds.field lies.holds.layout
-    (lent g types (λ (h : HeapView) (n : TypeTable). finite.get h.content c.unwrap-gc_ref.result ≡ Some lies.object) (held_in g (goal.at.After-field_place-place g c).After-unwrap-gc_ref lies.object lies.held))
-    (lent g types (λ (h : HeapView) (n : TypeTable). struct_fields_at n.declarations lies.object.ty ≡ Some lies.fields) lies.declared) lies.holds.is_field.type_is lies.holds.is_field.layout_is).0
+-- the slot that was found, as the store has it
+finds : (g : given.Over) (c : After-slot_in-slot g) → FindsHeldSlot g.H.GcHeap.KIND c.self.inside.owner.seen.types.declarations c.self.inside.owner.seen.heap c.in-Ok.word c.args.index c.slot_in-slot.result
+finds g c =
+    subst (λ (w : ℕ). FindsHeldSlot g.H.GcHeap.KIND c.self.inside.owner.seen.types.declarations c.self.inside.owner.seen.heap w c.args.index c.slot_in-slot.result) (same_word g (goal.at.After-slot_in-slot g c).After-unwrap-gc_ref)
+    (subst (λ (h : HeapView). FindsHeldSlot g.H.GcHeap.KIND c.self.inside.owner.seen.types.declarations h c.unwrap-gc_ref.result c.args.index c.slot_in-slot.result) c.heap.ensures.seen
+    (subst (λ (n : TypeTable). FindsHeldSlot g.H.GcHeap.KIND n.declarations (g.H.GcHeap.seen c.heap.result.now) c.unwrap-gc_ref.result c.args.index c.slot_in-slot.result) c.types.ensures c.slot_in-slot.ensures))
 
 pub stored_value-stored-requires : goal.stored_value-stored-requires
 stored_value-stored-requires g c =
-    let at = (goal.at.stored_value-stored-requires g c).In-Ok in
-    subst (λ (es : List RootEntry). IsKept es c.args.value) (sym c.scoped.ensures) (spot_kept _ _ (view g at) c.args.handle c.args.index c.args.value (can g at) c.in-Ok.word (word_at g at))
+    let slot = (goal.at.stored_value-stored-requires g c).After-slot_in-slot in
+    let at = (goal.at.After-slot_in-slot g slot).In-Ok in
+    subst (λ (es : List RootEntry). IsKept es c.args.value) (sym c.scoped.ensures)
+    (spot_kept _ _ (view g at) c.args.handle c.args.index c.args.value (can g at) c.in-Ok.word (word_at g at) c.slot_in-slot.result (finds g slot))
 
--- what is stored
-stored_is : (g : given.Over) (c : After-stored_value-stored g) → c.stored_value-stored.result ≡ (spot_kept _ _ (view g (goal.at.After-stored_value-stored g c).In-Ok) c.args.handle c.args.index c.args.value (can g (goal.at.After-stored_value-stored g c).In-Ok) c.in-Ok.word (word_at g (goal.at.After-stored_value-stored g c).In-Ok)).0
-stored_is g c =
-    let at = (goal.at.After-stored_value-stored g c).In-Ok in
-    let kept = spot_kept _ _ (view g at) c.args.handle c.args.index c.args.value (can g at) c.in-Ok.word (word_at g at) in
-    c.stored_value-stored.ensures.kept kept.0 (subst (λ (es : List RootEntry). KeptAs es c.args.value kept.0) (sym c.scoped.ensures) kept.1)
+kept_is : (g : given.Over) (c : After-stored_value-stored g) → KeptAs c.self.inside.owner.seen.roots.scoped c.args.value c.stored_value-stored.result
+kept_is g c = subst (λ (es : List RootEntry). KeptAs es c.args.value c.stored_value-stored.result) c.scoped.ensures c.stored_value-stored.ensures.kept
 
-small : (g : given.Over) (c : After-stored_value-stored g) → FitsBytes c.stored_value-stored.result
-small g c = c.stored_value-stored.ensures.small
+pub write_slot-requires-clause-idle : goal.write_slot-requires-clause-idle
+write_slot-requires-clause-idle g c = c.self.invariant.idle
 
-pub write_field-requires-clause-idle : goal.write_field-requires-clause-idle
-write_field-requires-clause-idle g c = c.self.invariant.idle
-
-pub write_field-requires-clause-can : goal.write_field-requires-clause-can
-write_field-requires-clause-can g c =
-    let after = (goal.at.write_field-requires-clause-can g c).After-stored_value-stored in
-    let placed = (goal.at.After-stored_value-stored g after).After-field_place-place in
-    let at = (goal.at.After-field_place-place g placed).In-Ok in
+pub write_slot-requires-clause-can : goal.write_slot-requires-clause-can
+write_slot-requires-clause-can g c =
+    let stored = (goal.at.write_slot-requires-clause-can g c).After-stored_value-stored in
+    let slot = (goal.at.After-stored_value-stored g stored).After-slot_in-slot in
+    let at = (goal.at.After-slot_in-slot g slot).In-Ok in
     let lies = spot _ _ (view g at) c.args.handle c.args.index c.args.value (can g at) c.in-Ok.word (word_at g at) in
+    let heap = c.self.inside.owner.seen.heap in
     record {
       object = lies.object;
-      held = held_in g (goal.at.After-field_place-place g placed).After-unwrap-gc_ref lies.object lies.held;
-      st = lies.holds.field.element_type;
-      field = spot_field _ _ (view g at) c.args.handle c.args.index c.args.value (can g at) c.in-Ok.word (word_at g at) _ (offset_is g placed _ _ _ _ lies);
-      fits = subst (λ (x : Stored). StoredFits c.self.inside.owner.seen.heap lies.holds.field.element_type x) (sym (stored_is g after)) (spot_stored _ _ (view g at) c.args.handle c.args.index c.args.value (can g at) c.in-Ok.word (word_at g at));
+      shape = lies.shape;
+      count = lies.count;
+      is = record {
+        held = ap (finite.get heap.content) (same_word g (goal.at.After-slot_in-slot g slot).After-unwrap-gc_ref) ∙ lies.is.held;
+        declared = lies.is.declared;
+        has = lies.is.has;
+      };
+      index = c.args.index;
+      slot_is = lies.slot_is ∙ ap Some (sym (spot_slot _ _ (view g at) c.args.handle c.args.index c.args.value (can g at) c.in-Ok.word (word_at g at) c.slot_in-slot.result (finds g slot)));
+      of_form = kept_of_form heap c.self.inside.owner.seen.roots.scoped c.slot_in-slot.result.storage c.args.value c.stored_value-stored.result
+          (are_words g.H.GcHeap.KIND c.self.inside.owner.seen c.is_ready.ensures.can)
+          (spot_form _ _ (view g at) c.args.handle c.args.index c.args.value (can g at) c.in-Ok.word (word_at g at) c.slot_in-slot.result (finds g slot))
+          (kept_is g stored);
     }
 
--- the heap has the new bytes
-written : (g : given.Over) (c : After-write_field g) (place : Placing) (position ty : ℕ) (before : Value) (lies : at_word g (goal.at.After-write_field g c).In-Ok place position ty before)
-    → c.write_field.new.owner.seen.heap ≡ record (put_object c.self.inside.owner.seen.heap c.in-Ok.word (with_data g.H.GcHeap.KIND lies.object lies.holds.layout.offset (stored_bytes (spot_kept _ _ (view g (goal.at.After-write_field g c).In-Ok) c.args.handle c.args.index c.args.value (can g (goal.at.After-write_field g c).In-Ok) c.in-Ok.word (word_at g (goal.at.After-write_field g c).In-Ok)).0))) { counts = c.write_field.new.owner.seen.heap.counts }
-written g c place position ty before lies =
-    let after = (goal.at.After-write_field g c).After-stored_value-stored in
-    let placed = (goal.at.After-stored_value-stored g after).After-field_place-place in
-    let unwrapped = (goal.at.After-field_place-place g placed).After-unwrap-gc_ref in
-    ap (λ (v : OwnerView g.row.D.Denot). v.heap) (c.write_field.ensures lies.object (held_in g unwrapped lies.object lies.held))
-    ∙ (λ i. record (put_object c.self.inside.owner.seen.heap (same_word g unwrapped i) (with_data g.H.GcHeap.KIND lies.object (offset_is g placed place position ty before lies i) (stored_bytes (stored_is g after i)))) { counts = c.write_field.new.owner.seen.heap.counts })
+-- the owner has the new bytes
+written : (g : given.Over) (c : After-write_slot g) (object : HeapObject) → finite.get c.self.inside.owner.seen.heap.content c.in-Ok.word ≡ Some object
+    → c.write_slot.new.owner.seen ≡ record c.self.inside.owner.seen { heap = record (put_object c.self.inside.owner.seen.heap c.in-Ok.word (with_data g.H.GcHeap.KIND object c.slot_in-slot.result.offset (slot_bytes c.slot_in-slot.result.storage (code_of c.stored_value-stored.result)))) { counts = c.write_slot.new.owner.seen.heap.counts } }
+written g c object held =
+    let stored = (goal.at.After-write_slot g c).After-stored_value-stored in
+    let slot = (goal.at.After-stored_value-stored g stored).After-slot_in-slot in
+    let same = same_word g (goal.at.After-slot_in-slot g slot).After-unwrap-gc_ref in
+    c.write_slot.ensures object (ap (finite.get c.self.inside.owner.seen.heap.content) same ∙ held)
+    ∙ ap (λ (w : ℕ). record c.self.inside.owner.seen { heap = record (put_object c.self.inside.owner.seen.heap w (with_data g.H.GcHeap.KIND object c.slot_in-slot.result.offset (slot_bytes c.slot_in-slot.result.storage (code_of c.stored_value-stored.result)))) { counts = c.write_slot.new.owner.seen.heap.counts } }) same
+
+heap_written : (g : given.Over) (c : After-write_slot g) (object : HeapObject) → finite.get c.self.inside.owner.seen.heap.content c.in-Ok.word ≡ Some object
+    → c.write_slot.new.owner.seen.heap ≡ record (put_object c.self.inside.owner.seen.heap c.in-Ok.word (with_data g.H.GcHeap.KIND object c.slot_in-slot.result.offset (slot_bytes c.slot_in-slot.result.storage (code_of c.stored_value-stored.result)))) { counts = c.write_slot.new.owner.seen.heap.counts }
+heap_written g c object held = ap (λ (v : OwnerView g.row.D.Denot). v.heap) (written g c object held)
 
 -- nothing but the heap changed
-rest_is : (g : given.Over) (c : After-write_field g) → c.write_field.new.owner.seen ≡ record c.self.inside.owner.seen { heap = c.write_field.new.owner.seen.heap }
+rest_is : (g : given.Over) (c : After-write_slot g) → c.write_slot.new.owner.seen ≡ record c.self.inside.owner.seen { heap = c.write_slot.new.owner.seen.heap }
 rest_is g c =
-    let at = (goal.at.After-write_field g c).In-Ok in
-    let unwrapped = (goal.at.After-write_field g c).After-unwrap-gc_ref in
+    let stored = (goal.at.After-write_slot g c).After-stored_value-stored in
+    let slot = (goal.at.After-stored_value-stored g stored).After-slot_in-slot in
+    let at = (goal.at.After-slot_in-slot g slot).In-Ok in
     let lies = spot _ _ (view g at) c.args.handle c.args.index c.args.value (can g at) c.in-Ok.word (word_at g at) in
-    let e = c.write_field.ensures lies.object (held_in g unwrapped lies.object lies.held) in
+    let e = written g c lies.object lies.is.held in
     e ∙ ap (λ (h : HeapView). record c.self.inside.owner.seen { heap = h }) (sym (ap (λ (v : OwnerView g.row.D.Denot). v.heap) e))
 
-abbrev later : (g : given.Over) (c : After-write_field g) → StoreView g.row.D.Denot
-later g c = store_view c.self.inside.id c.self.inside.config c.write_field.new.owner.seen c.self.inside.tries
+abbrev later : (g : given.Over) (c : After-write_slot g) → StoreView g.row.D.Denot
+later g c = store_view c.self.inside.id c.self.inside.config c.write_slot.new.owner.seen c.self.inside.tries
 
-later_is : (g : given.Over) (c : After-write_field g) → later g c ≡ record (view g (goal.at.After-write_field g c).In-Ok) { heap = c.write_field.new.owner.seen.heap }
+abbrev at_of : (g : given.Over) (c : After-write_slot g) → In-Ok g
+at_of g c = (goal.at.After-slot_in-slot g (goal.at.After-stored_value-stored g (goal.at.After-write_slot g c).After-stored_value-stored).After-slot_in-slot).In-Ok
+
+later_is : (g : given.Over) (c : After-write_slot g) → later g c ≡ record (view g (at_of g c)) { heap = c.write_slot.new.owner.seen.heap }
 later_is g c = ap (λ (v : OwnerView g.row.D.Denot). store_view c.self.inside.id c.self.inside.config v c.self.inside.tries) (rest_is g c)
 
 pub invariant_of-self : goal.invariant_of-self
 invariant_of-self g c =
-    let written_at = (goal.at.invariant_of-self g c).After-write_field in
-    let after = (goal.at.After-write_field g written_at).After-stored_value-stored in
-    let at = (goal.at.After-write_field g written_at).In-Ok in
-    let some = some_written g.row.D.Denot g.H.GcHeap.KIND (view g at) c.args.handle c.args.index c.args.value (can g at) c.in-Ok.word (word_at g at) c.write_field.new.owner.seen.heap (subst FitsBytes (stored_is g after) (small g after)) (written g written_at) in
+    let after = (goal.at.invariant_of-self g c).After-write_slot in
+    let stored = (goal.at.After-write_slot g after).After-stored_value-stored in
+    let slot = (goal.at.After-stored_value-stored g stored).After-slot_in-slot in
+    let at = (goal.at.After-slot_in-slot g slot).In-Ok in
+    let some = some_written g.row.D.Denot g.H.GcHeap.KIND (view g at) c.args.handle c.args.index c.args.value (can g at) c.in-Ok.word (word_at g at) c.slot_in-slot.result (finds g slot) c.write_slot.new.owner.seen.heap c.stored_value-stored.result (kept_is g stored) c.stored_value-stored.ensures.small (heap_written g after) in
     record {
-      idle = ap (λ (v : OwnerView g.row.D.Denot). v.idle) (rest_is g written_at) ∙ c.self.invariant.idle;
-      engine = ap (λ (v : OwnerView g.row.D.Denot). v.types.engine) (rest_is g written_at) ∙ c.self.invariant.engine;
-      number = ap (λ (v : OwnerView g.row.D.Denot). v.types.number) (rest_is g written_at) ∙ c.self.invariant.number;
-      frames = c.self.invariant.frames ∙ ap counts_of (sym (rest_is g written_at));
+      idle = ap (λ (v : OwnerView g.row.D.Denot). v.idle) (rest_is g after) ∙ c.self.invariant.idle;
+      engine = ap (λ (v : OwnerView g.row.D.Denot). v.types.engine) (rest_is g after) ∙ c.self.invariant.engine;
+      number = ap (λ (v : OwnerView g.row.D.Denot). v.types.number) (rest_is g after) ∙ c.self.invariant.number;
+      frames = c.self.invariant.frames ∙ ap counts_of (sym (rest_is g after));
       table = some.0;
       account = some.1.0;
-      holds = subst (λ (s : StoreView g.row.D.Denot). HoldsAccount g.H.GcHeap.KIND s some.0 some.1.0) (sym (later_is g written_at)) some.1.1;
+      holds = subst (λ (s : StoreView g.row.D.Denot). HoldsAccount g.H.GcHeap.KIND s some.0 some.1.0) (sym (later_is g after)) some.1.1;
     }
 
 pub returns-clause-writes : goal.returns-clause-writes
-returns-clause-writes g c t a holds before v has stands =
-    let written_at = (goal.at.returns-clause-writes g c).After-write_field in
-    let after = (goal.at.After-write_field g written_at).After-stored_value-stored in
-    let at = (goal.at.After-write_field g written_at).In-Ok in
-    let writes : (s : StoreView g.row.D.Denot) → view g at ≡ s → (t : Table g.row.D.Denot) (a : Account) → HoldsAccount g.H.GcHeap.KIND s t a → WritesValue g.H.GcHeap.KIND s (record (view g at) { heap = c.write_field.new.owner.seen.heap }) t a c.args.handle c.args.index c.args.value =
-    λ s e. subst (λ (s : StoreView g.row.D.Denot). (t : Table g.row.D.Denot) (a : Account) → HoldsAccount g.H.GcHeap.KIND s t a → WritesValue g.H.GcHeap.KIND s (record (view g at) { heap = c.write_field.new.owner.seen.heap }) t a c.args.handle c.args.index c.args.value) e
-    (writes_value g.row.D.Denot g.H.GcHeap.KIND (view g at) c.args.handle c.args.index c.args.value (can g at) c.in-Ok.word (word_at g at) c.write_field.new.owner.seen.heap (subst FitsBytes (stored_is g after) (small g after)) (written g written_at)) in
-    subst (λ (s : StoreView g.row.D.Denot). HoldsAccount g.H.GcHeap.KIND s (write has.position c.args.index v t) a) (sym (later_is g written_at)) (writes c.args.self.now c.self.view_is t a holds before v has stands)
+returns-clause-writes g c t a holds before v has field field_is stands =
+    let after = (goal.at.returns-clause-writes g c).After-write_slot in
+    let kept = (goal.at.After-write_slot g after).After-stored_value-stored in
+    let slot = (goal.at.After-stored_value-stored g kept).After-slot_in-slot in
+    let at = (goal.at.After-slot_in-slot g slot).In-Ok in
+    let later_heap : StoreView g.row.D.Denot = record (view g at) { heap = c.write_slot.new.owner.seen.heap } in
+    let writes : (t : Table g.row.D.Denot) (a : Account) → HoldsAccount g.H.GcHeap.KIND c.args.self.now t a → WritesValue g.H.GcHeap.KIND c.args.self.now later_heap t a c.args.handle c.args.index c.args.value =
+    subst (λ (s : StoreView g.row.D.Denot). (t : Table g.row.D.Denot) (a : Account) → HoldsAccount g.H.GcHeap.KIND s t a → WritesValue g.H.GcHeap.KIND s later_heap t a c.args.handle c.args.index c.args.value) c.self.view_is
+    (writes_value g.row.D.Denot g.H.GcHeap.KIND (view g at) c.args.handle c.args.index c.args.value (can g at) c.in-Ok.word (word_at g at) c.slot_in-slot.result (finds g slot) c.write_slot.new.owner.seen.heap c.stored_value-stored.result (kept_is g kept) c.stored_value-stored.ensures.small (heap_written g after)) in
+    subst (λ (s : StoreView g.row.D.Denot). HoldsAccount g.H.GcHeap.KIND s (write has.position c.args.index (stored field.element_type v) t) a) (sym (later_is g after))
+    (writes t a holds before v has field field_is stands)
