@@ -11,14 +11,16 @@ pub mod ShapeSlots
 pub mod SlotPlaces
 pub mod SlotWrites
 pub mod Keeping
+pub mod KeptAgain
 pub mod Leaving
 pub mod LyingAt
 pub mod MakingRoom
-pub mod PlacedValues
+pub mod NewObjects
 pub mod Placing
 pub mod PlacingFaults
 pub mod Pushing
 pub mod ReadValues
+pub mod Requested
 pub mod Roots
 pub mod SameRoots
 pub mod SlotLemmas

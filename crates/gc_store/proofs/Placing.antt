@@ -1,62 +1,71 @@
--- A struct that was made and got its values is the table's.
-use Rattle.std.proofs.Common.{◌≡◌, ℕ, zero, suc, ◌+◌, ◌-◌, ◌^◌, ◌<◌, min, Bool, true, false, cond, nat_eq, List, [], ◌∷◌, ◌++◌, length, replicate, Option, Some, None, Ok, Err, option_map, slice_index_or, sym, ap, ◌∙◌, refl, subst, arith, le-leb}
-use Rattle.std.specs.Prelude.{All}
+-- An object that was made and got its values is the table's.
+use Rattle.std.proofs.Common.{◌≡◌, ℕ, ◌+◌, ◌-◌, ◌^◌, ◌<◌, min, Bool, true, false, List, [], ◌∷◌, ◌++◌, length, Option, Some, None, slice_index_or, sym, ap, ◌∙◌, refl, subst, arith, le-leb}
 use Rattle.std.specs.List.{slice_get}
 use Rattle.std.specs.FinMap.{get}
-use Rattle.std.proofs.lemmas.List.{length-append, length-replicate}
-use Rattle.std.proofs.lemmas.Option.{slice_get_within, none-some, same_Some, slice_get-map}
-use Rattle.gc_types.specs.declared.value.FieldType.{FieldType}
+use Rattle.std.proofs.lemmas.List.{length-append}
+use Rattle.std.proofs.lemmas.Option.{slice_get_within}
 use Rattle.gc_types.specs.declared.kind.Layouts.{Layouts}
 use Rattle.gc_types.specs.declared.kind.Layouts.TheVariants.{Null, Counting, Copying}
-use Rattle.gc_types.specs.Declarations.{Declaration, struct_fields_at}
-use Rattle.gc_types.specs.Layouts.{round_up, struct_base, struct_layout, fields_end}
+use Rattle.gc_types.specs.declared.value.StorageType.{StorageType}
+use Rattle.gc_types.specs.Declarations.{Declaration, TypeTable}
+use Rattle.gc_types.specs.Layouts.{round_up, struct_base}
 use Rattle.gc_owner.specs.declared.entry.RootEntry.{RootEntry}
 use Rattle.gc_owner.specs.RootColumns.{with_scoped, with_room}
 use Rattle.gc_owner.specs.Owners.{OwnerView, CanBegin}
 use Rattle.gc_owner.specs.Growing.{OwnerState, state_of, owner_rules}
 use Rattle.gc_owner.specs.Makes.{AddsRooted, AllocatesRooted}
 use Rattle.gc_owner.specs.Retry.{Retry}
-use Rattle.gc_model.specs.Fits.{is_built_field}
-use Rattle.gc_model.specs.Values.{Value, struct}
+use Rattle.gc_model.specs.Values.{Value, Object}
+use Rattle.gc_model.specs.Reach.{object_values}
+use Rattle.gc_model.specs.Stored.{stored}
 use Rattle.gc_model.specs.Table.{Table, make, with_pages}
 use Rattle.gc_model.specs.Live.{roots_full}
-use Rattle.gc_view.specs.Sizes.{alignment, need_of, size_rules, stored_size}
-use Rattle.gc_model.specs.Sizes.{object_size, fields_size}
+use Rattle.gc_view.specs.Sizes.{alignment, need_of, size_rules}
+use Rattle.gc_view.specs.Slots.{shape_slots, shape_size}
+use Rattle.gc_model.specs.Sizes.{object_size}
 use Rattle.gc_model.specs.Allocation.{Limits, too_large, FitsIn, GetsPages}
 use Rattle.gc_view.specs.Heaps.{HeapView, HeapObject}
 use Rattle.gc_view.proofs.Content.{get-put_other}
 use Rattle.gc_model.specs.Stores.{StoreView}
+use Rattle.gc_model.specs.Forms.{naming}
 use Rattle.gc_model.specs.Holds.{Placing, Holds}
+use Rattle.gc_model.proofs.Fitting.{fits-form}
 use Rattle.gc_model.proofs.HoldsMake.{IsMadeObject, holds_make, placed_at}
-use Rattle.gc_view.proofs.Layouts.{round_up-le, stored_size-le, fields_end-le}
+use Rattle.gc_view.proofs.Layouts.{round_up-le}
 use Rattle.gc_heap.specs.Content.{IsHeap}
-use Rattle.gc_heap.specs.Heap.{IsTooLarge, allocated_after, new_struct}
+use Rattle.gc_heap.specs.Heap.{IsTooLarge, allocated_after}
 use Rattle.gc_heap.proofs.NumberLemmas.{held_added}
-use Rattle.gc_store.specs.declared.root.GcRootIndex.{GcRootIndex}
-use Rattle.gc_store.specs.declared.root.RawValue.{RawValue}
-use Rattle.gc_store.specs.declared.root.RawValue.TheVariants as raw
-use Rattle.gc_store.specs.declared.root.RootSlot.{RootSlot}
-use Rattle.gc_store.specs.declared.root.RootSlot.TheVariants as slot
-use Rattle.gc_store.specs.declared.root.RootFault.TheVariants as fault
-use Rattle.gc_store.specs.declared.field.Stored.TheVariants as stored
-use Rattle.gc_store.specs.Words.{entry_word, slot_word}
+use Rattle.gc_model.proofs.ObjectShapes.{shape_at}
 use Rattle.gc_policy.specs.Accounts.{Account, HoldsAccount, is_due, with_held}
 use Rattle.gc_policy.specs.Policy as policy
 use Rattle.gc_policy.specs.Policy.{PolicyState, policy_state, count_try, Prepares}
 use Rattle.gc_policy.specs.Shown.{shown}
-use Rattle.gc_store.specs.Fields.{KeptAs, IsKept, KeptStands, AllKept, AllFit, Writes, WritesValues}
-use Rattle.gc_store.specs.Making.{BeginsMaking, size_of}
-use Rattle.gc_store.specs.Places.{CanPlace, PlacesObject}
-use Rattle.gc_store.specs.Stores.{is_full}
-use Rattle.gc_store.specs.Values.{AllStand}
 use Rattle.gc_policy.proofs.CountedTries.{counted_store, counted_holds}
 use Rattle.gc_policy.proofs.HeldMore.{held_more}
 use Rattle.gc_policy.proofs.MakingSimulation.{Shows, FollowsBeginning, beginning_follows, got_pages}
 use Rattle.gc_policy.proofs.RetrySimulation.{MayHaveGrown, retry_follows}
 use Rattle.gc_policy.proofs.RootsShown.{SlotsInFrames}
-use Rattle.gc_store.proofs.Keeping.{counts_of, Keeps, generations_of, keeps-making, keeps-retried, keeps-trans}
-use Rattle.gc_store.proofs.PlacedValues.{all_kept, all_fit}
+use Rattle.gc_store.specs.declared.request.Contents.{Contents}
+use Rattle.gc_store.specs.declared.request.Place.{Place}
+use Rattle.gc_store.specs.declared.root.GcRootIndex.{GcRootIndex}
+use Rattle.gc_store.specs.declared.root.RawValue.{RawValue}
+use Rattle.gc_store.specs.declared.root.RawValue.TheVariants as raw
+use Rattle.gc_store.specs.declared.root.RootSlot.TheVariants as slot
+use Rattle.gc_store.specs.Filling.{asked_type, ContentsFit, ContentsStand, Fills, IsToFill}
+use Rattle.gc_store.specs.HeldSlots.{HasShape, IsHeldOf}
+use Rattle.gc_store.specs.Kept.{IsKept, KeptStands}
+use Rattle.gc_store.specs.Making.{BeginsMaking}
+use Rattle.gc_store.specs.Places.{PlacesObject}
+use Rattle.gc_store.specs.Requests.{IsObjectOf}
+use Rattle.gc_store.specs.Stores.{is_full}
+use Rattle.gc_store.specs.Values.{RawStands}
+use Rattle.gc_store.proofs.Keeping.{counts_of, Keeps, keeps-making, keeps-retried, keeps-trans}
+use Rattle.gc_store.proofs.KeptAgain.{is_kept_more, kept_again, stands_more}
+use Rattle.gc_store.proofs.NewObjects.{IsNew}
 use Rattle.gc_store.proofs.Pushing.{full_is}
+use Rattle.gc_store.proofs.Requested.{Asks, AsksFor, StandsFor}
+use Rattle.gc_store.proofs.Rewriting.{held_again}
+use Rattle.gc_store.proofs.WritingAt.{is_kept, kept_stands, raw_form_is}
 
 -- the entry of a new root
 abbrev entry_of : ℕ → ℕ → RootEntry
@@ -72,91 +81,37 @@ allocated_next Null allocated after size is null = omega (arith, is, round_up-le
 allocated_next Counting allocated after size is null = absurd (cc)
 allocated_next Copying allocated after size is null = absurd (cc)
 
-new_size : (layouts : Layouts) (fields : List FieldType) → struct_base layouts + length (replicate {A = ℕ} (stored_size layouts (fields_end (struct_base layouts) fields) - struct_base layouts) 0) ≡ stored_size layouts (fields_end (struct_base layouts) fields)
-new_size layouts fields =
-    let size : ℕ = stored_size layouts (fields_end (struct_base layouts) fields) in
-    let least = stored_size-le layouts (fields_end (struct_base layouts) fields) in
-    let base = fields_end-le (struct_base layouts) fields in
-    let count : length (replicate {A = ℕ} (size - struct_base layouts) 0) ≡ size - struct_base layouts = length-replicate {A = ℕ} (size - struct_base layouts) 0 in
-    omega arith
+-- The values stand in another store that holds the table with other pages, which has the same id.
+raw_after : {D : Type 0} (s after : StoreView D) (t : Table D) (pages : ℕ) → after.engine ≡ s.engine → after.number ≡ s.number → (r : RawValue) (v : Value) → RawStands s t r v → RawStands after (with_pages pages t) r v
+raw_after s after t pages engine number (raw.I32 n) v stands = stands
+raw_after s after t pages engine number (raw.I64 n) v stands = stands
+raw_after s after t pages engine number (raw.F32 n) v stands = stands
+raw_after s after t pages engine number (raw.F64 n) v stands = stands
+raw_after s after t pages engine number (raw.V128 n) v stands = stands
+raw_after s after t pages engine number (raw.Func f) v stands = stands
+raw_after s after t pages engine number (raw.Ref class None) v stands = stands
+raw_after s after t pages engine number (raw.Ref class (Some handle)) v stands = record {
+  root = stands.root;
+  named = record {
+    serial = stands.named.serial;
+    names = record {
+      push = stands.named.names.push;
+      pushed = stands.named.names.pushed;
+      is = stands.named.names.is
+          ∙ (λ i. record { store_id = record { engine = sym engine i; number = sym number i }; generation = stands.named.names.push.generation; slot = slot.Scoped stands.named.names.push.index });
+    };
+    live = stands.named.live;
+  };
+  is = stands.is;
+}
 
--- Roots that moved, and one more
-
--- an entry with the same generation has a word where the other had one
-word_again : (found found' : Option RootEntry) (generation word : ℕ) → option_map (λ (e : RootEntry). e.generation) found' ≡ option_map (λ (e : RootEntry). e.generation) found → entry_word found generation ≡ Ok word
-    → (word' : ℕ) × (entry_word found' generation ≡ Ok word')
-word_again None found' generation word same is = absurd (cc)
-word_again (Some e) None generation word same is = absurd (cc)
-word_again (Some e) (Some e') generation word same is =
-    let equal : e'.generation ≡ e.generation = same_Some e'.generation e.generation same in
-    elim (nat_eq e.generation generation) as (λ b. nat_eq e.generation generation ≡ b → cond b (Ok e.word) (Err fault.Unrooted) ≡ Ok word → (word' : ℕ) × (entry_word (Some e') generation ≡ Ok word')) [
-      | true ↦ λ test same. (e'.word, ap (λ n. cond (nat_eq n generation) (Ok e'.word) (Err fault.Unrooted)) equal ∙ ap (λ b. cond b (Ok e'.word) (Err fault.Unrooted)) test)
-      | false ↦ λ test same. absurd (cc)
-    ] refl is
-
-slot_again : (entries entries' : List RootEntry) (s : RootSlot) (generation word : ℕ) → generations_of entries' ≡ generations_of entries → slot_word entries s generation ≡ Ok word → (word' : ℕ) × (slot_word entries' s generation ≡ Ok word')
-slot_again entries entries' (slot.Scoped index) generation word same is =
-    word_again (slice_get entries index) (slice_get entries' index) generation word
-    (sym (slice_get-map (λ (e : RootEntry). e.generation) entries' index) ∙ ap (λ (gs : List ℕ). slice_get gs index) same ∙ slice_get-map (λ (e : RootEntry). e.generation) entries index) is
-slot_again entries entries' (slot.Owned id) generation word same is = absurd (cc)
-
--- a value is kept also by the words that the roots have after a collection
-kept_again : (entries entries' : List RootEntry) (r : RawValue) → generations_of entries' ≡ generations_of entries → IsKept entries r → IsKept entries' r
-kept_again entries entries' (raw.I32 n) same kept = kept
-kept_again entries entries' (raw.I64 n) same kept = kept
-kept_again entries entries' (raw.F32 n) same kept = kept
-kept_again entries entries' (raw.F64 n) same kept = kept
-kept_again entries entries' (raw.V128 n) same kept = kept
-kept_again entries entries' (raw.Func f) same kept = kept
-kept_again entries entries' (raw.Ref class None) same kept = kept
-kept_again entries entries' (raw.Ref class (Some handle)) same kept =
-    let now = slot_again entries entries' handle.slot handle.generation kept.1.0 same kept.1.1.0 in
-    (stored.Ref now.0, (now.0, (now.1, refl)))
-
--- a word that is found is found where one more entry stands behind
-got_more : (entries : List RootEntry) (e : RootEntry) (index : ℕ) (found : Option RootEntry) (generation word : ℕ) → slice_get entries index ≡ found → entry_word found generation ≡ Ok word → entry_word (slice_get (entries ++ e ∷ []) index) generation ≡ Ok word
-got_more entries e index None generation word there is = absurd (cc)
-got_more entries e index (Some x) generation word there is = ap (λ (o : Option RootEntry). entry_word o generation) (slice_get-more entries e index x there) ∙ is
-  where
-    slice_get-more : (entries : List RootEntry) (e : RootEntry) (index : ℕ) (x : RootEntry) → slice_get entries index ≡ Some x → slice_get (entries ++ e ∷ []) index ≡ Some x
-    slice_get-more [] e index x there = absurd (none-some x there)
-    slice_get-more (y ∷ entries) e zero x there = there
-    slice_get-more (y ∷ entries) e (suc index) x there = slice_get-more entries e index x there
-
-slot_more : (entries : List RootEntry) (e : RootEntry) (s : RootSlot) (generation word : ℕ) → slot_word entries s generation ≡ Ok word → slot_word (entries ++ e ∷ []) s generation ≡ Ok word
-slot_more entries e (slot.Scoped index) generation word is = got_more entries e index (slice_get entries index) generation word refl is
-slot_more entries e (slot.Owned id) generation word is = absurd (cc)
-
-kept_more : (place : Placing) (entries : List RootEntry) (e : RootEntry) (r : RawValue) (v : Value) → KeptStands place entries r v → KeptStands place (entries ++ e ∷ []) r v
-kept_more place entries e r v kept = (kept.0, (as_more r kept.0 kept.1.0, kept.1.1))
-  where
-    as_more : (r : RawValue) (x : _) → KeptAs entries r x → KeptAs (entries ++ e ∷ []) r x
-    as_more (raw.I32 n) x is = is
-    as_more (raw.I64 n) x is = is
-    as_more (raw.F32 n) x is = is
-    as_more (raw.F64 n) x is = is
-    as_more (raw.V128 n) x is = is
-    as_more (raw.Func f) x is = is
-    as_more (raw.Ref class None) x is = is
-    as_more (raw.Ref class (Some handle)) x is = (is.0, (slot_more entries e handle.slot handle.generation is.0 is.1.0, is.1.1))
-
-is_kept_more : (entries : List RootEntry) (e : RootEntry) (r : RawValue) → IsKept entries r → IsKept (entries ++ e ∷ []) r
-is_kept_more entries e (raw.I32 n) kept = kept
-is_kept_more entries e (raw.I64 n) kept = kept
-is_kept_more entries e (raw.F32 n) kept = kept
-is_kept_more entries e (raw.F64 n) kept = kept
-is_kept_more entries e (raw.V128 n) kept = kept
-is_kept_more entries e (raw.Func f) kept = kept
-is_kept_more entries e (raw.Ref class None) kept = kept
-is_kept_more entries e (raw.Ref class (Some handle)) kept = (kept.0, (kept.1.0, (slot_more entries e handle.slot handle.generation kept.1.0 kept.1.1.0, kept.1.1.1)))
-
--- One more struct is in the owner's heap, with these values and a root.
-pub record Creates {D : Type 0} (layouts : Layouts) (fields : List FieldType) (ty : ℕ) (raws : List RawValue) (b e : OwnerState D) (index : ℕ) : Type 0 where
+-- One more object is in the owner's heap, with values that stand for what was given, and a root.
+pub record Creates {D : Type 0} (layouts : Layouts) (types : List Declaration) (request : Place) (given : Contents) (new : IsNew D layouts types request) (b e : OwnerState D) (index : ℕ) : Type 0 where
   pub mid : OwnerState D
-  pub retried : Retry (owner_rules layouts (size_of layouts fields)) b true mid
+  pub retried : Retry (owner_rules layouts (shape_size layouts new.shape new.count)) b true mid
   pub added : OwnerView D
-  pub adds : AddsRooted layouts mid.owner added (new_struct layouts ty (struct_layout layouts fields)) (size_of layouts fields) index
-  pub writes : WritesValues layouts fields raws added e.owner adds.word (new_struct layouts ty (struct_layout layouts fields))
+  pub adds : AddsRooted layouts mid.owner added new.blank (shape_size layouts new.shape new.count) index
+  pub fills : Fills layouts (ContentsStand given) added e.owner adds.word new.blank new.shape new.count
   pub limits : e.limits ≡ mid.limits
 
 -- an owner that is ready, whose store holds a table
@@ -170,7 +125,7 @@ pub record IsStart {D : Type 0} (layouts : Layouts) (s : StoreView D) (v : Owner
 pub reserved_start : {D : Type 0} (layouts : Layouts) (s : StoreView D) (v w : OwnerView D) (t : Table D) (a : Account) → IsStart layouts s v t a → w ≡ record v { roots = with_room w.roots v.roots } → IsStart layouts s w t a
 reserved_start {D} layouts s v w t a is same = subst (λ (x : OwnerView D). IsStart layouts s x t a) (sym same) (record { heap = is.heap; can = is.can; in_frames = is.in_frames; holds = is.holds })
 
-module _ {D : Type 0} (layouts : Layouts) (s : StoreView D) (v : OwnerView D) (ty : ℕ) (raws : List RawValue) (can : CanPlace D layouts (shown s v) ty raws) (limits : Limits) (t : Table D) (a : Account) (is : IsStart layouts s v t a) where
+module _ {D : Type 0} (layouts : Layouts) (s : StoreView D) (v : OwnerView D) (request : Place) (given : Contents) (new : IsNew D layouts v.types.declarations request) (limits : Limits) (t : Table D) (a : Account) (is : IsStart layouts s v t a) (asked : Asks layouts (shown s v) t request given new) where
   abbrev before : PolicyState D
   before = policy_state t a limits
 
@@ -179,6 +134,9 @@ module _ {D : Type 0} (layouts : Layouts) (s : StoreView D) (v : OwnerView D) (t
 
   abbrev counted : StoreView D
   counted = counted_store s
+
+  abbrev size : ℕ
+  size = shape_size layouts new.shape new.count
 
   pub shows : Shows layouts counted start (count_try before)
   shows = record {
@@ -189,147 +147,157 @@ module _ {D : Type 0} (layouts : Layouts) (s : StoreView D) (v : OwnerView D) (t
     in_frames = is.in_frames;
   }
 
-  pub size_in : (vs : List Value) (k : Layouts) → object_size {D = D} k t.types (struct ty vs) ≡ size_of k can.fields
-  size_in vs k = ap (fields_size k) (ap (λ (ts : List Declaration). struct_fields_at ts ty) (sym is.holds.holds.types) ∙ can.declared)
-
   -- what comes before the first try
   pub begun : (due : Bool) → due ≡ is_due s.alloc_counter (min (s.tries + 1) (2 ^ 64 - 1)) → (b : OwnerState D) → BeginsMaking layouts s.first due start b → FollowsBeginning layouts counted s.alloc_counter b (count_try before)
   begun due due_is b begins = beginning_follows layouts counted start (count_try before) shows s.alloc_counter due (due_is ∙ ap (λ (n : ℕ). is_due s.alloc_counter (min (n + 1) (2 ^ 64 - 1))) is.holds.account.tries) begins.made b begins.begins begins.dues
 
-  abbrev blank : HeapObject
-  blank = new_struct layouts ty (struct_layout layouts can.fields)
-
-  built : All (λ (f : FieldType). is_built_field f ≡ true) can.fields
-  built = is.holds.holds.only_built ty can.fields (ap (λ (ts : List Declaration). struct_fields_at ts ty) (sym is.holds.holds.types) ∙ can.declared)
-
-  -- The struct that was added may get its values.
-  pub may_write : (due : Bool) (b : OwnerState D) → BeginsMaking layouts s.first due start b → (e : OwnerState D) (index : ℕ) (made : AllocatesRooted layouts blank (size_of layouts can.fields) b e index) → Writes layouts e.owner made.adds.word ty raws blank can.fields
-  may_write due b begins e index made =
-      let keeps : Keeps v made.mid.owner = keeps-trans v b.owner made.mid.owner (keeps-making layouts s.first due start b begins) (keeps-retried layouts (size_of layouts can.fields) b true made.mid made.retried) in
-      let fit = all_fit layouts (shown s v) ty raws can in
+  -- The object that was added may get its values.
+  pub may_fill : (due : Bool) (b : OwnerState D) → BeginsMaking layouts s.first due start b → (e : OwnerState D) (index : ℕ) (made : AllocatesRooted layouts new.blank size b e index)
+      → IsToFill layouts e.owner made.adds.word (asked_type request) (ContentsFit request given) new.blank new.shape new.count
+  may_fill due b begins e index made =
+      let keeps : Keeps v made.mid.owner = keeps-trans v b.owner made.mid.owner (keeps-making layouts s.first due start b begins) (keeps-retried layouts size b true made.mid made.retried) in
+      let entry : RootEntry = entry_of made.mid.owner.roots.generation made.adds.word in
+      let roots_are : e.owner.roots.scoped ≡ made.mid.owner.roots.scoped ++ entry ∷ [] = ap (λ (x : OwnerView D). x.roots.scoped) made.adds.rest in
       record {
-        held = held_added layouts made.mid.owner.heap e.owner.heap made.adds.word blank (size_of layouts can.fields) made.adds.adds;
-        kind = refl;
-        of_type = refl;
-        declared = ap (λ (x : OwnerView D). struct_fields_at x.types.declarations ty) made.adds.rest ∙ ap (λ (ts : _). struct_fields_at ts.declarations ty) keeps.types ∙ can.declared;
-        fit = subst (λ (es : List RootEntry). AllFit es can.fields raws) (sym (ap (λ (x : OwnerView D). x.roots.scoped) made.adds.rest)) (record {
-          same_count = fit.same_count;
-          each = λ i field r f g.
-              let both = fit.each i field r f g in
-              (both.0, is_kept_more made.mid.owner.roots.scoped (entry_of made.mid.owner.roots.generation made.adds.word) r (kept_again v.roots.scoped made.mid.owner.roots.scoped r keeps.generations both.1));
-        });
-        built = built;
-      }
-
-  -- the object that was made stands for the table's
-  made_object : (vs : List Value) (b e : OwnerState D) (index : ℕ) (made : Creates layouts can.fields ty raws b e index) (pages : ℕ) (place : Placing) → Holds layouts (shown counted made.mid.owner) (with_pages pages t) place
-      → AllStand (shown s v) t raws vs → IsMadeObject layouts (with_pages pages t) place (struct ty vs) made.mid.owner.heap e.owner.heap made.adds.word
-  made_object vs b e index made pages place after all =
-      let word : ℕ = made.adds.word in
-      let added = made.adds.adds.added in
-      let kept = all_kept layouts (shown s v) ty raws can (shown counted made.mid.owner) refl refl t pages place after vs all in
-      let more : AllKept place made.added.roots.scoped raws vs =
-      subst (λ (es : List RootEntry). AllKept place es raws vs) (sym (ap (λ (x : OwnerView D). x.roots.scoped) made.adds.rest)) (record {
-        same_count = kept.same_count;
-        each = λ i r value f g. kept_more place made.mid.owner.roots.scoped (entry_of made.mid.owner.roots.generation word) r value (kept.each i r value f g);
-      }) in
-      record {
-        object = record blank { bytes = made.writes.bytes };
-        stands = record {
-          fields = can.fields;
-          declared = ap (λ (ts : List Declaration). struct_fields_at ts ty) (sym is.holds.holds.types) ∙ can.declared;
-          kind = refl;
-          same_type = refl;
-          size = ap (λ n. struct_base layouts + n) made.writes.same_length ∙ new_size layouts can.fields;
-          values_lie = made.writes.lie place vs more;
+        is = record {
+          held = held_added layouts made.mid.owner.heap e.owner.heap made.adds.word new.blank size made.adds.adds;
+          declared =
+              ap (λ (x : OwnerView D). shape_at x.types.declarations new.blank.ty) made.adds.rest ∙ ap (λ (ts : TypeTable). shape_at ts.declarations new.blank.ty) keeps.types
+              ∙ ap (shape_at v.types.declarations) new.of_type ∙ new.declared;
+          has = new.has;
         };
-        free = made.adds.adds.fresh.free;
-        is_even = let aligned = made.adds.adds.fresh.aligned in omega arith;
-        not_null = made.adds.adds.fresh.not_null;
-        here = made.writes.written;
-        others = λ q other. made.writes.others q other ∙ ap (λ (h : HeapView). get h.content q) added ∙ get-put_other made.mid.owner.heap.content word q blank other;
-        attached = made.writes.attached ∙ ap (λ (h : HeapView). h.attached) added;
-        capacity = made.writes.capacity ∙ ap (λ (h : HeapView). h.capacity) added;
-        allocated = λ null.
-            allocated_next layouts made.mid.owner.heap.allocated e.owner.heap.allocated (size_of layouts can.fields) (made.writes.allocated ∙ ap (λ (h : HeapView). h.allocated) added) null
-            ∙ ap (λ k. round_up (made.mid.owner.heap.allocated + 1) alignment + k) (ap (λ k. size_of k can.fields) null ∙ sym (size_in vs Null));
+        of_type = new.of_type;
+        blank = new.are_blank;
+        fit = asked.fit e.owner.roots.scoped (λ r kept.
+            subst (λ (es : List RootEntry). IsKept es r) (sym roots_are)
+            (is_kept_more made.mid.owner.roots.scoped entry r (kept_again v.roots.scoped made.mid.owner.roots.scoped r keeps.generations kept)));
       }
 
-  -- the owner afterwards
-  owner_is : (b e : OwnerState D) (index : ℕ) (made : Creates layouts can.fields ty raws b e index) → e.owner ≡ record made.mid.owner { heap = e.owner.heap; roots = with_scoped made.adds.word made.mid.owner.roots }
-  owner_is b e index made = made.writes.rest ∙ ap (λ (x : OwnerView D). record x { heap = e.owner.heap }) made.adds.rest
+  -- what is given stands for the same values by the roots with the new one
+  stand_after : (due : Bool) (b : OwnerState D) → BeginsMaking layouts s.first due start b → (e : OwnerState D) (index : ℕ) (made : Creates layouts v.types.declarations request given new b e index) (pages : ℕ) (place : Placing) → Holds layouts (shown counted made.mid.owner) (with_pages pages t) place
+      → StandsFor layouts (shown s v) t (naming place t.funcs) made.added.roots.scoped
+  stand_after due b begins e index made pages place after ty r value can stands =
+      let keeps : Keeps v made.mid.owner = keeps-trans v b.owner made.mid.owner (keeps-making layouts s.first due start b begins) (keeps-retried layouts size b true made.mid made.retried) in
+      let entries : List RootEntry = made.mid.owner.roots.scoped in
+      let entry : RootEntry = entry_of made.mid.owner.roots.generation made.adds.word in
+      let roots_are : made.added.roots.scoped ≡ entries ++ entry ∷ [] = ap (λ (x : OwnerView D). x.roots.scoped) made.adds.rest in
+      let form = fits-form t.types t.objects ty value (can.fits t value (is.holds.place, is.holds.holds) stands) in
+      let kept : IsKept entries r = kept_again v.roots.scoped entries r keeps.generations (is_kept D layouts (shown s v) r can.live) in
+      let now = kept_stands D layouts (shown counted made.mid.owner) (with_pages pages t) place after r value (raw_after (shown s v) (shown counted made.mid.owner) t pages refl refl r value stands) in
+      record {
+        value = value;
+        stored_is = refl;
+        form = form;
+        stands = subst (λ (es : List RootEntry). KeptStands (naming place t.funcs) es r value) (sym roots_are) (stands_more (naming place t.funcs) entries entry r value kept now);
+        raw_form_is = raw_form_is (shown s v) t r value stands ∙ sym form;
+      }
 
-  module _ (small : too_large layouts (size_of layouts can.fields) ≡ false) (room : is_full (shown s v) ≡ false) where
-    pub not_full : roots_full t ≡ false
-    not_full = sym (full_is layouts (shown s v) t is.holds.place is.holds.holds) ∙ room
-
-    -- the table with the object is held, with its root pushed
-    made_holds : (vs : List Value) (b e : OwnerState D) (index : ℕ) (made : Creates layouts can.fields ty raws b e index) (pages : ℕ) (account : Account) → HoldsAccount layouts (shown counted made.mid.owner) (with_pages pages t) account
-        → AllStand (shown s v) t raws vs → HoldsAccount layouts (shown counted e.owner) (make (struct ty vs) (with_pages pages t)) (with_held (length t.objects) account)
-    made_holds vs b e index made pages account after all =
-        let object = made_object vs b e index made pages after.place after.holds all in
+  module _ (o : Object D) (for : AsksFor layouts (shown s v) t request given new.shape new.count o) where
+    -- the object that was made stands for the table's
+    made_object : (due : Bool) (b : OwnerState D) → BeginsMaking layouts s.first due start b → (e : OwnerState D) (index : ℕ) (made : Creates layouts v.types.declarations request given new b e index) (pages : ℕ) (place : Placing) → Holds layouts (shown counted made.mid.owner) (with_pages pages t) place
+        → IsMadeObject layouts (with_pages pages t) place o made.mid.owner.heap e.owner.heap made.adds.word
+    made_object due b begins e index made pages place after =
         let word : ℕ = made.adds.word in
-        subst (λ (x : OwnerView D). HoldsAccount layouts (shown counted x) (make (struct ty vs) (with_pages pages t)) (with_held (length t.objects) account)) (sym (owner_is b e index made))
-        (record {
-          place = placed_at after.place (length t.objects) word;
-          holds = holds_make layouts (shown counted made.mid.owner) (with_pages pages t) after.place (struct ty vs) e.owner.heap word after.holds object refl not_full;
-          account = record {
-            held = held_more after.place account.held (length t.objects) word (λ p w placed. let held = after.holds.objects.placed p w placed in slice_get_within t.objects p held.entry held.in_table) after.account.held;
-            last = after.account.last;
-            tries = after.account.tries;
-            upper = made.writes.needs_gc ∙ ap (λ (h : HeapView). h.needs_gc) made.adds.adds.added ∙ after.account.upper;
-          };
-        })
-
-    -- no more roots stand than a store may have
-    pub few_roots : length v.roots.scoped < 2 ^ 32
-    few_roots =
-        let count = is.holds.holds.scoped.same_count in
-        let within = is.holds.holds.scopes.scoped_within in
-        let few = is.holds.holds.settings.few_roots in
-        omega arith
-
-    -- A struct that was made and has its values is in the table, under the handle of its root; and its heap is made.
-    pub placing_follows : (due : Bool) → due ≡ is_due s.alloc_counter (min (s.tries + 1) (2 ^ 64 - 1)) → (vs : List Value) (b e : OwnerState D) (index : ℕ) → AllStand (shown s v) t raws vs
-        → BeginsMaking layouts s.first due start b → Creates layouts can.fields ty raws b e index → (handle : GcRootIndex)
-        → handle ≡ record { store_id = record { engine = s.engine; number = s.number }; generation = e.owner.roots.generation; slot = slot.Scoped index }
-        → PlacesObject layouts s.alloc_counter (struct ty vs) before e.limits handle (shown counted e.owner)
-    placing_follows due due_is vs b e index all begins made handle handle_is =
-        let beginning = begun due due_is b begins in
-        let retried = retry_follows layouts counted (size_of layouts can.fields) b beginning.after beginning.agrees true made.mid made.retried in
-        let got = got_pages limits.limit (need_of layouts (size_of layouts can.fields)) t beginning.after.table retried.after.table beginning.may beginning.table
-        (subst (λ (l : Limits). MayHaveGrown l.limit (need_of layouts (size_of layouts can.fields)) beginning.after.table retried.after.table) beginning.limits retried.tried.0) in
-        let after : HoldsAccount layouts (shown counted made.mid.owner) (with_pages got.pages t) retried.after.account =
-        subst (λ (u : Table D). HoldsAccount layouts (shown counted made.mid.owner) u retried.after.account) got.is retried.agrees.holds in
-        let generation_is : e.owner.roots.generation ≡ t.drops = ap (λ (x : OwnerView D). x.roots.generation) (owner_is b e index made) ∙ after.holds.scopes.generation in
-        let index_is : index ≡ length t.scoped = made.adds.index_is ∙ after.holds.scoped.same_count in
+        let added = made.adds.adds.added in
+        let fills = made.fills in
+        let bytes : List ℕ = fills.bytes in
+        let declared_there : shape_at made.added.types.declarations new.blank.ty ≡ Some new.shape =
+        ap (λ (x : OwnerView D). shape_at x.types.declarations new.blank.ty) made.adds.rest ∙ ap (λ (ts : TypeTable). shape_at ts.declarations new.blank.ty) (keeps-trans v b.owner made.mid.owner (keeps-making layouts s.first due start b begins) (keeps-retried layouts size b true made.mid made.retried)).types
+        ∙ ap (shape_at v.types.declarations) new.of_type ∙ new.declared in
+        let held : get made.added.heap.content word ≡ Some new.blank = held_added layouts made.mid.owner.heap made.added.heap word new.blank size made.adds.adds in
+        let now : IsHeldOf e.owner.types.declarations e.owner.heap word (record new.blank { bytes = bytes }) new.shape new.count =
+        held_again layouts new.shape made.added word new.blank held e.owner new.count bytes (record { held = held; declared = declared_there; has = new.has }) fills.rewrites in
         record {
-          small = ap (too_large layouts) (size_in vs layouts) ∙ small;
-          not_full = not_full;
-          after = retried.after;
-          prepares = subst (λ (k : ℕ). Prepares layouts s.alloc_counter k before true retried.after) (sym (size_in vs layouts)) (policy.tried beginning.makes beginning.dues retried.retried);
-          allocates = record {
-            pages = got.pages;
-            gets = subst (λ (k : ℕ). GetsPages limits.limit t (need_of layouts k) got.pages) (sym (size_in vs layouts)) got.gets;
-            fits = subst (FitsIn layouts (with_pages got.pages t)) (sym (size_in vs layouts)) (subst (λ (u : Table D). FitsIn layouts u (size_of layouts can.fields)) got.is retried.tried.1);
-            made = ap (make (struct ty vs)) got.is;
-          };
-          holds = subst (λ (u : Table D). HoldsAccount layouts (shown counted e.owner) (make (struct ty vs) u) (with_held (length t.objects) retried.after.account)) (sym got.is)
-              (made_holds vs b e index made got.pages retried.after.account after all);
-          limits = made.limits ∙ sym retried.agrees.limits;
-          handle_is = handle_is ∙ (λ i. record {
-            store_id = record { engine = s.engine; number = s.number };
-            generation = generation_is i;
-            slot = slot.Scoped (index_is i);
-          });
+          object = record new.blank { bytes = bytes };
+          not_host = for.not_host;
+          stands = for.stands (naming place t.funcs) (record new.blank { bytes = bytes }) new.of_type now.has (ap (λ n. struct_base layouts + n) fills.rewrites.same_length ∙ new.stored)
+              (fills.lie (naming place t.funcs) (object_values o) (for.contents (naming place t.funcs) made.added.roots.scoped (stand_after due b begins e index made pages place after)));
+          typed = for.typed;
+          free = made.adds.adds.fresh.free;
+          is_even = let aligned = made.adds.adds.fresh.aligned in omega arith;
+          not_null = made.adds.adds.fresh.not_null;
+          here = fills.rewrites.written;
+          others = λ q other. fills.rewrites.others q other ∙ ap (λ (h : HeapView). get h.content q) added ∙ get-put_other made.mid.owner.heap.content word q new.blank other;
+          attached = fills.rewrites.attached ∙ ap (λ (h : HeapView). h.attached) added;
+          capacity = fills.rewrites.capacity ∙ ap (λ (h : HeapView). h.capacity) added;
+          allocated = λ null.
+              allocated_next layouts made.mid.owner.heap.allocated e.owner.heap.allocated size (fills.rewrites.allocated ∙ ap (λ (h : HeapView). h.allocated) added) null
+              ∙ ap (λ k. round_up (made.mid.owner.heap.allocated + 1) alignment + k) (ap (λ k. shape_size k new.shape new.count) null ∙ sym (for.of_size Null));
         }
 
+    -- the owner afterwards
+    owner_is : (b e : OwnerState D) (index : ℕ) (made : Creates layouts v.types.declarations request given new b e index) → e.owner ≡ record made.mid.owner { heap = e.owner.heap; roots = with_scoped made.adds.word made.mid.owner.roots }
+    owner_is b e index made = made.fills.rewrites.rest ∙ ap (λ (x : OwnerView D). record x { heap = e.owner.heap }) made.adds.rest
+
+    module _ (small : too_large layouts size ≡ false) (room : is_full (shown s v) ≡ false) where
+      not_full : roots_full t ≡ false
+      not_full = sym (full_is layouts (shown s v) t is.holds.place is.holds.holds) ∙ room
+
+      -- the table with the object is held, with its root pushed
+      made_holds : (due : Bool) (b : OwnerState D) → BeginsMaking layouts s.first due start b → (e : OwnerState D) (index : ℕ) (made : Creates layouts v.types.declarations request given new b e index) (pages : ℕ) (account : Account) → HoldsAccount layouts (shown counted made.mid.owner) (with_pages pages t) account
+          → HoldsAccount layouts (shown counted e.owner) (make o (with_pages pages t)) (with_held (length t.objects) account)
+      made_holds due b begins e index made pages account after =
+          let object = made_object due b begins e index made pages after.place after.holds in
+          let word : ℕ = made.adds.word in
+          subst (λ (x : OwnerView D). HoldsAccount layouts (shown counted x) (make o (with_pages pages t)) (with_held (length t.objects) account)) (sym (owner_is b e index made))
+          (record {
+            place = placed_at after.place (length t.objects) word;
+            holds = holds_make layouts (shown counted made.mid.owner) (with_pages pages t) after.place o e.owner.heap word after.holds object refl not_full;
+            account = record {
+              held = held_more after.place account.held (length t.objects) word (λ p w placed. let held = after.holds.objects.placed p w placed in slice_get_within t.objects p held.entry held.in_table) after.account.held;
+              last = after.account.last;
+              tries = after.account.tries;
+              upper = made.fills.rewrites.needs_gc ∙ ap (λ (h : HeapView). h.needs_gc) made.adds.adds.added ∙ after.account.upper;
+            };
+          })
+
+      -- An object that was made and has its values is in the table, under the handle of its root; and its heap is made.
+      pub placing_follows : (due : Bool) → due ≡ is_due s.alloc_counter (min (s.tries + 1) (2 ^ 64 - 1)) → (b e : OwnerState D) (index : ℕ)
+          → BeginsMaking layouts s.first due start b → Creates layouts v.types.declarations request given new b e index → (handle : GcRootIndex)
+          → handle ≡ record { store_id = record { engine = s.engine; number = s.number }; generation = e.owner.roots.generation; slot = slot.Scoped index }
+          → PlacesObject layouts s.alloc_counter o before e.limits handle (shown counted e.owner)
+      placing_follows due due_is b e index begins made handle handle_is =
+          let beginning = begun due due_is b begins in
+          let retried = retry_follows layouts counted size b beginning.after beginning.agrees true made.mid made.retried in
+          let got = got_pages limits.limit (need_of layouts size) t beginning.after.table retried.after.table beginning.may beginning.table
+          (subst (λ (l : Limits). MayHaveGrown l.limit (need_of layouts size) beginning.after.table retried.after.table) beginning.limits retried.tried.0) in
+          let after : HoldsAccount layouts (shown counted made.mid.owner) (with_pages got.pages t) retried.after.account =
+          subst (λ (u : Table D). HoldsAccount layouts (shown counted made.mid.owner) u retried.after.account) got.is retried.agrees.holds in
+          let generation_is : e.owner.roots.generation ≡ t.drops = ap (λ (x : OwnerView D). x.roots.generation) (owner_is b e index made) ∙ after.holds.scopes.generation in
+          let index_is : index ≡ length t.scoped = made.adds.index_is ∙ after.holds.scoped.same_count in
+          let sized : size ≡ object_size layouts t.types o = sym (for.of_size layouts) in
+          record {
+            small = ap (too_large layouts) (for.of_size layouts) ∙ small;
+            not_full = not_full;
+            after = retried.after;
+            prepares = subst (λ (k : ℕ). Prepares layouts s.alloc_counter k before true retried.after) sized (policy.tried beginning.makes beginning.dues retried.retried);
+            allocates = record {
+              pages = got.pages;
+              gets = subst (λ (k : ℕ). GetsPages limits.limit t (need_of layouts k) got.pages) sized got.gets;
+              fits = subst (FitsIn layouts (with_pages got.pages t)) sized (subst (λ (u : Table D). FitsIn layouts u size) got.is retried.tried.1);
+              made = ap (make o) got.is;
+            };
+            holds = subst (λ (u : Table D). HoldsAccount layouts (shown counted e.owner) (make o u) (with_held (length t.objects) retried.after.account)) (sym got.is)
+                (made_holds due b begins e index made got.pages retried.after.account after);
+            limits = made.limits ∙ sym retried.agrees.limits;
+            handle_is = handle_is ∙ (λ i. record {
+              store_id = record { engine = s.engine; number = s.number };
+              generation = generation_is i;
+              slot = slot.Scoped (index_is i);
+            });
+          }
+
 -- the last entry is the one that was added
-pub last_entry : (entries : List RootEntry) (e d : RootEntry) → slice_index_or (entries ++ e ∷ []) (length entries) d ≡ e
+last_entry : (entries : List RootEntry) (e d : RootEntry) → slice_index_or (entries ++ e ∷ []) (length entries) d ≡ e
 last_entry [] e d = refl
 last_entry (x ∷ entries) e d = last_entry entries e d
 
--- An owner that made a struct is idle as it was, and has the types and the frames that it had.
+-- no more roots stand than a store may have
+pub few_roots : {D : Type 0} (layouts : Layouts) (s : StoreView D) (v : OwnerView D) (t : Table D) (a : Account) → IsStart layouts s v t a → length v.roots.scoped < 2 ^ 32
+few_roots layouts s v t a is =
+    omega (arith, is.holds.holds.scoped.same_count, is.holds.holds.scopes.scoped_within, is.holds.holds.settings.few_roots)
+
+-- An owner that made an object is idle as it was, and has the types and the frames that it had.
 pub record KeepsRest {D : Type 0} (v w : OwnerView D) : Type 0 where
   pub idle : w.idle ≡ v.idle
   pub types : w.types ≡ v.types

@@ -1,35 +1,40 @@
--- A struct that was not placed is refused as the table says.
+-- An object that was not placed is refused as the table says.
 use Rattle.std.proofs.Common.{inl, inr, ◌≡◌, ℕ, ◌+◌, ◌-◌, ◌^◌, min, Bool, false, List, Err, sym, ap, ◌∙◌, refl, subst}
 use Rattle.gc_types.specs.declared.kind.Layouts.{Layouts}
-use Rattle.gc_types.specs.Layouts.{struct_layout}
-use Rattle.gc_model.specs.Values.{Value, struct}
+use Rattle.gc_model.specs.Values.{Object}
+use Rattle.gc_model.specs.Sizes.{object_size}
 use Rattle.gc_model.specs.Table.{Table, make_heap, made_pages}
 use Rattle.gc_model.specs.Live.{roots_full}
 use Rattle.gc_view.specs.Sizes.{need_of}
 use Rattle.gc_model.specs.Allocation as allocation
 use Rattle.gc_model.specs.Allocation.{Limits, too_large, LacksFit, IsRefusedGrowth}
 use Rattle.gc_model.specs.Stores.{StoreView}
-use Rattle.gc_heap.specs.Heap.{HasRoom, new_struct}
+use Rattle.gc_view.specs.Slots.{shape_size}
+use Rattle.gc_heap.specs.Heap.{HasRoom}
 use Rattle.gc_owner.specs.Owners.{OwnerView}
 use Rattle.gc_owner.specs.Growing.{OwnerState, state_of, owner_rules, NotBegun}
 use Rattle.gc_owner.specs.Makes.{LacksSpace}
 use Rattle.gc_owner.specs.Retry.{Rules, Retry, at_once, after_collection, after_both, after_growth, after_refusal, Ends}
-use Rattle.gc_store.specs.declared.root.RawValue.{RawValue}
+use Rattle.gc_store.specs.declared.request.Contents.{Contents}
+use Rattle.gc_store.specs.declared.request.Place.{Place}
 use Rattle.gc_store.specs.declared.store.PlaceFault.{PlaceFault}
 use Rattle.gc_store.specs.declared.store.PlaceFault.TheVariants as fault
 use Rattle.gc_policy.specs.Accounts.{Account, HoldsAccount, counted, is_due}
 use Rattle.gc_policy.specs.Policy as policy
 use Rattle.gc_policy.specs.Policy.{PolicyState, policy_state, count_try, Prepares, Prepared}
 use Rattle.gc_policy.specs.Shown.{shown}
-use Rattle.gc_store.specs.Making.{BeginsMaking, MakesRooted, size_of}
-use Rattle.gc_store.specs.Places.{CanPlace, Places, LacksPlace, MayGetPages, bytes_of}
+use Rattle.gc_store.specs.Making.{BeginsMaking, MakesRooted}
+use Rattle.gc_store.specs.Places.{Places, LacksPlace, MayGetPages, bytes_of}
 use Rattle.gc_store.specs.Stores.{is_full}
 use Rattle.gc_policy.proofs.CountedTries.{counted_store, counted_holds}
 use Rattle.gc_policy.proofs.MakingSimulation.{Shows, FollowsBeginning, refusal_follows, no_heap_follows, got_pages}
 use Rattle.gc_policy.proofs.RetrySimulation.{MayHaveGrown, retry_follows, pause_follows}
 use Rattle.gc_view.specs.Heaps.{HeapObject}
 use Rattle.gc_store.proofs.Keeping.{counts_of, Keeps, keeps-trans, keeps-making, keeps-retried, keeps-paused}
-use Rattle.gc_store.proofs.Placing.{IsStart, KeepsRest, too_large_is, shows, size_in, begun, not_full}
+use Rattle.gc_store.proofs.NewObjects.{IsNew}
+use Rattle.gc_store.proofs.Placing.{IsStart, KeepsRest, too_large_is, shows, begun}
+use Rattle.gc_store.proofs.Pushing.{full_is}
+use Rattle.gc_store.proofs.Requested.{Asks, AsksFor}
 
 -- where the rule of retry ends without room, there is none
 ends_lacking : {S : Type 0} (rules : Rules S) (s e : S) (ok : Bool) → Retry rules s ok e → ok ≡ false → rules.Lacks e
@@ -40,14 +45,14 @@ ends_lacking rules s e ok (after_growth lacks first grows fits) none = absurd (c
 ends_lacking rules s e ok (after_refusal lacks first grows collects ends) none = subst (λ (b : Bool). Ends rules b e) none ends
 
 -- what a refusal leaves: the answer, and a table that the store holds
-pub record FollowsFault {D : Type 0} (layouts : Layouts) (s : StoreView D) (ty : ℕ) (vs : List Value) (p : PolicyState D) (e : OwnerState D) (f : PlaceFault) : Type 0 where
-  pub places : Places layouts s.alloc_counter (struct ty vs) p e.limits (Err f) (shown (counted_store s) e.owner)
+pub record FollowsFault {D : Type 0} (layouts : Layouts) (s : StoreView D) (o : Object D) (p : PolicyState D) (e : OwnerState D) (f : PlaceFault) : Type 0 where
+  pub places : Places layouts s.alloc_counter o p e.limits (Err f) (shown (counted_store s) e.owner)
   pub table : Table D
   pub account : Account
   pub holds : HoldsAccount layouts (shown (counted_store s) e.owner) table account
 
-module _ {D : Type 0} (layouts : Layouts) (s : StoreView D) (v : OwnerView D) (ty : ℕ) (raws : List RawValue) (can : CanPlace D layouts (shown s v) ty raws) (limits : Limits) (t : Table D) (a : Account) (is : IsStart layouts s v t a)
-    (small : too_large layouts (size_of layouts can.fields) ≡ false) (room : is_full (shown s v) ≡ false) where
+module _ {D : Type 0} (layouts : Layouts) (s : StoreView D) (v : OwnerView D) (request : Place) (given : Contents) (new : IsNew D layouts v.types.declarations request) (limits : Limits) (t : Table D) (a : Account) (is : IsStart layouts s v t a) (asked : Asks layouts (shown s v) t request given new)
+    (o : Object D) (for : AsksFor layouts (shown s v) t request given new.shape new.count o) (small : too_large layouts (shape_size layouts new.shape new.count) ≡ false) (room : is_full (shown s v) ≡ false) where
   abbrev p : PolicyState D
   p = policy_state t a limits
 
@@ -55,33 +60,33 @@ module _ {D : Type 0} (layouts : Layouts) (s : StoreView D) (v : OwnerView D) (t
   h = state_of v limits
 
   abbrev size : ℕ
-  size = size_of layouts can.fields
+  size = shape_size layouts new.shape new.count
 
   abbrev need : ℕ
   need = need_of layouts size
 
   started : Shows layouts (counted_store s) h (count_try p)
-  started = shows layouts s v ty raws can limits t a is
+  started = shows layouts s v request given new limits t a is asked
 
-  sizes : (vs : List Value) → size ≡ bytes_of {D = D} layouts (struct ty vs) t
-  sizes vs = sym (size_in layouts s v ty raws can limits t a is vs layouts)
+  sizes : size ≡ bytes_of layouts o t
+  sizes = sym (for.of_size layouts)
 
-  is_small : (vs : List Value) → too_large layouts (bytes_of {D = D} layouts (struct ty vs) t) ≡ false
-  is_small vs = ap (too_large layouts) (sym (sizes vs)) ∙ small
+  is_small : too_large layouts (bytes_of layouts o t) ≡ false
+  is_small = ap (too_large layouts) (for.of_size layouts) ∙ small
 
   full : roots_full t ≡ false
-  full = not_full layouts s v ty raws can limits t a is small room
+  full = sym (full_is layouts (shown s v) t is.holds.place is.holds.holds) ∙ room
 
-  module _ (due : Bool) (due_is : due ≡ is_due s.alloc_counter (min (s.tries + 1) (2 ^ 64 - 1))) (vs : List Value) (e : OwnerState D) where
+  module _ (due : Bool) (due_is : due ≡ is_due s.alloc_counter (min (s.tries + 1) (2 ^ 64 - 1))) (e : OwnerState D) where
     begun_at : (b : OwnerState D) → BeginsMaking layouts s.first due h b → FollowsBeginning layouts (counted_store s) s.alloc_counter b (count_try p)
-    begun_at b begins = begun layouts s v ty raws can limits t a is due due_is b begins
+    begun_at b begins = begun layouts s v request given new limits t a is asked due due_is b begins
 
     -- the owner as it was, or with pages refused, holds what it held
     same_holds : e.owner ≡ v → HoldsAccount layouts (shown (counted_store s) e.owner) t (counted a)
     same_holds same = subst (λ (x : OwnerView D). HoldsAccount layouts (shown (counted_store s) x) t (counted a)) (sym same) (counted_holds layouts (shown s v) t a is.holds)
 
     -- no room, and no more pages
-    no_room_follows : (b : OwnerState D) (asked : ℕ) → BeginsMaking layouts s.first due h b → LacksSpace layouts size b e asked → LacksPlace layouts s.alloc_counter (struct ty vs) p e.limits asked (shown (counted_store s) e.owner)
+    no_room_follows : (b : OwnerState D) (asked : ℕ) → BeginsMaking layouts s.first due h b → LacksSpace layouts size b e asked → LacksPlace layouts s.alloc_counter o p e.limits asked (shown (counted_store s) e.owner)
     no_room_follows b asked begins lacks =
         let beginning = begun_at b begins in
         let retried = retry_follows layouts (counted_store s) size b beginning.after beginning.agrees false e lacks.retried in
@@ -90,22 +95,22 @@ module _ {D : Type 0} (layouts : Layouts) (s : StoreView D) (v : OwnerView D) (t
         subst (λ (u : Table D). IsRefusedGrowth limits.limit u.pages need) beginning.table (subst (λ (l : Limits). IsRefusedGrowth l.limit beginning.after.table.pages need) beginning.limits retried.tried.refused) in
         let none : LacksFit layouts (make_heap t) size = subst (λ (u : Table D). LacksFit layouts u size) table_is retried.tried.lacks in
         record {
-          small = is_small vs;
+          small = is_small;
           not_full = full;
-          asked = lacks.asked ∙ ap (need_of layouts) (sizes vs);
+          asked = lacks.asked ∙ ap (need_of layouts) sizes;
           after = retried.after;
-          prepares = subst (λ (k : ℕ). Prepares layouts s.alloc_counter k p false retried.after) (sizes vs) (policy.tried beginning.makes beginning.dues retried.retried);
-          lacks = allocation.no_room beginning.may (subst (λ (k : ℕ). IsRefusedGrowth limits.limit (made_pages t) (need_of layouts k)) (sizes vs) refused) (subst (LacksFit layouts (make_heap t)) (sizes vs) none) table_is;
-          no_room = λ made. subst (λ (k : ℕ). HasRoom layouts e.owner.heap k → ⊥) (sizes vs) (ends_lacking (owner_rules layouts size) b e false lacks.retried refl);
+          prepares = subst (λ (k : ℕ). Prepares layouts s.alloc_counter k p false retried.after) sizes (policy.tried beginning.makes beginning.dues retried.retried);
+          lacks = allocation.no_room beginning.may (subst (λ (k : ℕ). IsRefusedGrowth limits.limit (made_pages t) (need_of layouts k)) sizes refused) (subst (LacksFit layouts (make_heap t)) sizes none) table_is;
+          no_room = λ made. subst (λ (k : ℕ). HasRoom layouts e.owner.heap k → ⊥) sizes (ends_lacking (owner_rules layouts size) b e false lacks.retried refl);
           holds = retried.agrees.holds;
           limits = sym retried.agrees.limits;
         }
 
-    no_pages_follows : (asked : ℕ) → NotBegun s.first h e → asked ≡ need → LacksPlace layouts s.alloc_counter (struct ty vs) p e.limits asked (shown (counted_store s) e.owner)
+    no_pages_follows : (asked : ℕ) → NotBegun s.first h e → asked ≡ need → LacksPlace layouts s.alloc_counter o p e.limits asked (shown (counted_store s) e.owner)
     no_pages_follows asked no_pages asked_is = record {
-      small = is_small vs;
+      small = is_small;
       not_full = full;
-      asked = asked_is ∙ ap (need_of layouts) (sizes vs);
+      asked = asked_is ∙ ap (need_of layouts) sizes;
       after = record (count_try p) { limits = e.limits };
       prepares = policy.no_heap (refusal_follows layouts (counted_store s) h (count_try p) started e no_pages);
       lacks = allocation.no_heap (no_heap_follows layouts (counted_store s) h (count_try p) started e no_pages) refl;
@@ -114,7 +119,7 @@ module _ {D : Type 0} (layouts : Layouts) (s : StoreView D) (v : OwnerView D) (t
       limits = refl;
     }
 
-    pub fault_follows : (f : PlaceFault) → MakesRooted layouts (new_struct layouts ty (struct_layout layouts can.fields)) size s.first due h e (Err f) → FollowsFault layouts s ty vs p e f
+    pub fault_follows : (f : PlaceFault) → MakesRooted layouts new.blank size s.first due h e (Err f) → FollowsFault layouts s o p e f
     fault_follows fault.FuncTableFull makes = absurd makes
     fault_follows fault.TooLarge makes = absurd (cc (sym small ∙ too_large_is layouts size makes))
     fault_follows fault.RootsFull makes = absurd makes
@@ -126,7 +131,7 @@ module _ {D : Type 0} (layouts : Layouts) (s : StoreView D) (v : OwnerView D) (t
           places = record {
             after = count_try p;
             prepared = policy.not_made;
-            begun = inr (is_small vs, full);
+            begun = inr (is_small, full);
             pages = inl refl;
             holds = holds;
             limits = ap (λ (x : OwnerState D). x.limits) same;
@@ -143,9 +148,9 @@ module _ {D : Type 0} (layouts : Layouts) (s : StoreView D) (v : OwnerView D) (t
         record {
           places = record {
             after = paused.after;
-            prepared = subst (λ (k : ℕ). Prepared layouts s.alloc_counter k p paused.after) (sizes vs) (policy.paused beginning.makes beginning.dues paused.paused);
-            begun = inr (is_small vs, full);
-            pages = subst (λ (k : ℕ). MayGetPages limits.limit (need_of layouts k) t paused.after.table) (sizes vs) (inr (got.pages, (got.gets, got.is)));
+            prepared = subst (λ (k : ℕ). Prepared layouts s.alloc_counter k p paused.after) sizes (policy.paused beginning.makes beginning.dues paused.paused);
+            begun = inr (is_small, full);
+            pages = subst (λ (k : ℕ). MayGetPages limits.limit (need_of layouts k) t paused.after.table) sizes (inr (got.pages, (got.gets, got.is)));
             holds = paused.agrees.holds;
             limits = sym paused.agrees.limits;
           };

@@ -58,7 +58,7 @@ pub record FieldsFound (layouts : Layouts) (types : List Declaration) (ty index 
   pub layouts_are : layout.fields ≡ field_layouts base fields
   pub placed : FieldPlaced base fields index slot
 
-laid_out : (layouts : Layouts) (d : Option Declaration) (shape : Shape) → option_map (λ (x : Declaration). x.shape) d ≡ Some shape → declaration_layout layouts d ≡ shape_layout layouts shape
+pub laid_out : (layouts : Layouts) (d : Option Declaration) (shape : Shape) → option_map (λ (x : Declaration). x.shape) d ≡ Some shape → declaration_layout layouts d ≡ shape_layout layouts shape
 laid_out layouts None shape e = absurd (none-some shape e)
 laid_out layouts (Some d) shape e = ap (shape_layout layouts) (same_Some d.shape shape e)
 

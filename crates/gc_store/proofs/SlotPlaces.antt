@@ -30,11 +30,7 @@ use Rattle.gc_owner.specs.Writes.{IsNumberPlace, IsReferencePlace}
 use Rattle.gc_model.proofs.ObjectShapes.{shape_at, element_is}
 use Rattle.gc_policy.proofs.CollectedOffsets.{shape_offsets, RefSlot, ref_slot, slot_followed}
 use Rattle.gc_store.specs.HeldSlots.{HasShape, IsHeldOf}
-
--- what the type table says by a shape
-laid_out : (layouts : Layouts) (d : Option Declaration) (shape : Shape) → option_map (λ (x : Declaration). x.shape) d ≡ Some shape → declaration_layout layouts d ≡ shape_layout layouts shape
-laid_out layouts None shape e = absurd (none-some shape e)
-laid_out layouts (Some d) shape e = ap (shape_layout layouts) (same_Some d.shape shape e)
+use Rattle.gc_store.proofs.ShapeSlots.{laid_out}
 
 -- Sizes
 

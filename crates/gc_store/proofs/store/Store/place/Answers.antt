@@ -1,0 +1,382 @@
+use Rattle.std.proofs.Common.{inl, ◌≡◌, ℕ, ◌+◌, ◌-◌, ◌<◌, ◌^◌, min, true, false, List, length, Some, Result, Ok, Err, slice_index_or, refl, sym, ap, ◌∙◌, subst}
+use Rattle.std.specs.Option.{option_map}
+use Rattle.std.specs.Int.NonZero.{non_zero_u32_get}
+use Rattle.gc_types.specs.Declarations.{Declaration, TypeTable}
+use Rattle.gc_view.specs.Heaps.{HeapObject}
+use Rattle.gc_view.specs.Slots.{shape_size}
+use Rattle.gc_model.specs.Allocation.{too_large}
+use Rattle.gc_model.specs.Table.{Table}
+use Rattle.gc_model.specs.Values.{Object}
+use Rattle.gc_model.specs.Stores.{StoreView}
+use Rattle.gc_model.specs.Holds.{Placing, Holds}
+use Rattle.gc_owner.specs.declared.allocate.Description.{Description}
+use Rattle.gc_owner.specs.declared.entry.RootEntry.{RootEntry}
+use Rattle.gc_owner.specs.Owners.{OwnerView}
+use Rattle.gc_owner.specs.Growing.{OwnerState, state_of}
+use Rattle.gc_owner.specs.Makes.{AllocatesRooted, Describes}
+use Rattle.gc_policy.specs.Accounts.{Account, HoldsAccount, is_due}
+use Rattle.gc_policy.specs.Policy as policy
+use Rattle.gc_policy.specs.Policy.{policy_state}
+use Rattle.gc_policy.specs.Shown.{shown}
+use Rattle.gc_store.specs.declared.store.PlaceFault.{PlaceFault}
+use Rattle.gc_store.specs.declared.root.GcRootIndex.{GcRootIndex}
+use Rattle.gc_store.specs.declared.root.RootSlot.TheVariants as slot
+use Rattle.gc_store.specs.Filling.{asked_type, CanFill, ContentsFit, ContentsStand, Fills, IsToFill}
+use Rattle.gc_store.specs.Making.{BeginsMaking, IsOfTypes, IsSizeOf, MakesRooted, TellsSize, described_by}
+use Rattle.gc_store.specs.Places.{Places, PlacesObject}
+use Rattle.gc_store.specs.Requests.{CanPlaceIn, IsObjectOf}
+use Rattle.gc_store.specs.Stores.{store_view, is_full}
+use Rattle.gc_store.proofs.Keeping.{counts_of}
+use Rattle.gc_store.proofs.NewObjects.{IsNew}
+use Rattle.gc_store.proofs.Placing.{IsStart, reserved_start, Creates, IsLastRoot, last_root, few_roots, KeepsRest, made_keeps, may_fill, placing_follows}
+use Rattle.gc_store.proofs.PlacingFaults.{FollowsFault, fault_follows, fault_keeps}
+use Rattle.gc_store.proofs.Pushing.{full_is}
+use Rattle.gc_store.proofs.Requested.{Asks, AsksFor, IsCounted, Sized, sized, few_elements, new_of, asks}
+use Rattle.gc_store.proofs.store.Store.place.Given as given
+use Rattle.gc_store.proofs.store.Store.place.Goals.{After-is_ready, After-is_err, After-make_object, In-Ok, After-holder_of-holder, After-fill, In-Err}
+use Rattle.gc_store.proofs.store.Store.place.Goals as goal
+
+-- the store before the call, and its owner with room for one more root
+abbrev view : (g : given.Over) (c : After-is_ready g) → StoreView g.row.D.Denot
+view g c = store_view c.self.inside.id c.self.inside.config c.self.inside.owner.seen c.self.inside.tries
+
+fits_view : (g : given.Over) (c : After-is_ready g) → CanPlaceIn g.row.D.Denot g.H.GcHeap.KIND (view g c) c.args.request c.args.contents
+fits_view g c = subst (λ (x : StoreView g.row.D.Denot). CanPlaceIn g.row.D.Denot g.H.GcHeap.KIND x c.args.request c.args.contents) (sym c.self.view_is) c.requires
+
+-- the size of what is requested
+size_at : (g : given.Over) (c : After-is_ready g) → Sized g.H.GcHeap.KIND (view g c) c.args.request c.args.contents
+size_at g c = sized g.row.D.Denot g.H.GcHeap.KIND (view g c) c.self.invariant.table c.self.invariant.holds.place c.self.invariant.holds.holds c.args.request c.args.contents (fits_view g c)
+
+pub object_size-requires : goal.object_size-requires
+object_size-requires g c =
+    let is = size_at g (goal.at.object_size-requires g c).After-is_ready in
+    (is.size, subst (λ (ts : TypeTable). IsSizeOf g.H.GcHeap.KIND ts.declarations c.args.request is.size) (sym c.types.ensures) is.is_size)
+
+ready : (g : given.Over) (c : After-is_ready g) (t : Table g.row.D.Denot) (a : Account) → HoldsAccount g.H.GcHeap.KIND (view g c) t a → IsStart g.H.GcHeap.KIND (view g c) c.self.inside.owner.seen t a
+ready g c t a holds = record { heap = c.is_ready.ensures.heap; can = c.is_ready.ensures.can; in_frames = c.is_ready.ensures.frames; holds = holds }
+
+-- each table that the store held, by its parts
+held : (g : given.Over) (c : After-is_ready g) (t : Table g.row.D.Denot) (a : Account) → HoldsAccount g.H.GcHeap.KIND c.args.self.now t a → HoldsAccount g.H.GcHeap.KIND (view g c) t a
+held g c t a holds = subst (λ (s : StoreView g.row.D.Denot). HoldsAccount g.H.GcHeap.KIND s t a) (sym c.self.view_is) holds
+
+asked_view : (g : given.Over) (c : After-is_ready g) (t : Table g.row.D.Denot) (o : Object g.row.D.Denot) → IsObjectOf c.args.self.now t c.args.request c.args.contents o → IsObjectOf (view g c) t c.args.request c.args.contents o
+asked_view g c t o is = subst (λ (s : StoreView g.row.D.Denot). IsObjectOf s t c.args.request c.args.contents o) (sym c.self.view_is) is
+
+pub returns-in_default-clause-places : goal.returns-in_default-clause-places
+returns-in_default-clause-places g c t a o holds asked =
+    let first = (goal.at.returns-in_default-clause-places g c).After-is_ready in
+    let is = size_at g first in
+    let before = held g first t a holds in
+    let large : too_large g.H.GcHeap.KIND is.size ≡ true =
+    subst (TellsSize g.H.GcHeap.KIND is.size) c.in_default.is (c.object_size.ensures is.size (subst (λ (ts : TypeTable). IsSizeOf g.H.GcHeap.KIND ts.declarations c.args.request is.size) (sym c.types.ensures) is.is_size)) in
+    (ap (too_large g.H.GcHeap.KIND) (is.of_object t before.place o before.holds (asked_view g first t o asked)) ∙ large, record { holds = holds; limits = refl })
+
+pub returns-then-roots_full-clause-places : goal.returns-then-roots_full-clause-places
+returns-then-roots_full-clause-places g c t a o holds asked =
+    let first = (goal.at.returns-then-roots_full-clause-places g c).After-is_ready in
+    let is = size_at g first in
+    let before = held g first t a holds in
+    let told : (c.in-Some.size ≡ is.size) × (too_large g.H.GcHeap.KIND is.size ≡ false) =
+    subst (TellsSize g.H.GcHeap.KIND is.size) c.in-Some.is (c.object_size.ensures is.size (subst (λ (ts : TypeTable). IsSizeOf g.H.GcHeap.KIND ts.declarations c.args.request is.size) (sym c.types.ensures) is.is_size)) in (
+      ap (too_large g.H.GcHeap.KIND) (is.of_object t before.place o before.holds (asked_view g first t o asked)) ∙ told.1,
+      sym (full_is g.H.GcHeap.KIND c.args.self.now t holds.place holds.holds) ∙ sym c.roots_full.ensures ∙ c.if-roots_full.true,
+      record { holds = holds; limits = refl },
+    )
+
+abbrev now : (g : given.Over) (c : After-is_err g) → OwnerView g.row.D.Denot
+now g c = c.reserve.new.self.seen
+
+abbrev first_of : (g : given.Over) (c : After-is_err g) → After-is_ready g
+first_of g c = (goal.at.After-is_err g c).After-is_ready
+
+reserved : (g : given.Over) (c : After-is_err g) (t : Table g.row.D.Denot) (a : Account) → HoldsAccount g.H.GcHeap.KIND (view g (first_of g c)) t a → IsStart g.H.GcHeap.KIND (view g (first_of g c)) (now g c) t a
+reserved g c t a holds = reserved_start g.H.GcHeap.KIND (view g (first_of g c)) c.self.inside.owner.seen (now g c) t a (ready g (first_of g c) t a holds) c.reserve.ensures.rest
+
+pub returns-then-is_err-clause-places : goal.returns-then-is_err-clause-places
+returns-then-is_err-clause-places g c t a o holds asked =
+    let at = (goal.at.returns-then-is_err-clause-places g c).After-is_err in
+    let first = (goal.at.returns-then-is_err-clause-places g c).After-is_ready in
+    record {
+      after = policy_state t a (g.L.ResourceLimiter.limits c.args.limiter.now);
+      prepared = policy.not_begun;
+      begun = inl refl;
+      pages = inl refl;
+      holds = (reserved g at t a (held g first t a holds)).holds;
+      limits = refl;
+    }
+
+-- the store with room for one more root
+abbrev store_now : (g : given.Over) (c : After-is_err g) → StoreView g.row.D.Denot
+store_now g c = shown (view g (first_of g c)) (now g c)
+
+can : (g : given.Over) (c : After-is_err g) → CanPlaceIn g.row.D.Denot g.H.GcHeap.KIND (store_now g c) c.args.request c.args.contents
+can g c =
+    subst (λ (v : OwnerView g.row.D.Denot). CanPlaceIn g.row.D.Denot g.H.GcHeap.KIND (shown (view g (first_of g c)) v) c.args.request c.args.contents) (sym c.reserve.ensures.rest)
+    (fits_view g (first_of g c))
+
+asked_now : (g : given.Over) (c : After-is_err g) (t : Table g.row.D.Denot) (o : Object g.row.D.Denot) → IsObjectOf (view g (first_of g c)) t c.args.request c.args.contents o → IsObjectOf (store_now g c) t c.args.request c.args.contents o
+asked_now g c t o is = subst (λ (v : OwnerView g.row.D.Denot). IsObjectOf (shown (view g (first_of g c)) v) t c.args.request c.args.contents o) (sym c.reserve.ensures.rest) is
+
+-- what the size is said to be, for each size by the types
+tells : (g : given.Over) (c : After-is_err g) (size : ℕ) → IsSizeOf g.H.GcHeap.KIND (now g c).types.declarations c.args.request size → (c.in-Some.size ≡ size) × (too_large g.H.GcHeap.KIND size ≡ false)
+tells g c size is =
+    subst (TellsSize g.H.GcHeap.KIND size) c.in-Some.is (c.object_size.ensures size
+    (subst (λ (ts : TypeTable). IsSizeOf g.H.GcHeap.KIND ts.declarations c.args.request size) (ap (λ (v : OwnerView g.row.D.Denot). v.types) c.reserve.ensures.rest ∙ sym c.types.ensures) is))
+
+start_of : (g : given.Over) (c : After-is_err g) → IsStart g.H.GcHeap.KIND (view g (first_of g c)) (now g c) c.self.invariant.table c.self.invariant.account
+start_of g c = reserved g c c.self.invariant.table c.self.invariant.account c.self.invariant.holds
+
+few : (g : given.Over) (c : After-is_err g) → IsCounted c.args.request
+few g c =
+    let holds = (start_of g c).holds in
+    let is = sized g.row.D.Denot g.H.GcHeap.KIND (store_now g c) c.self.invariant.table holds.place holds.holds c.args.request c.args.contents (can g c) in
+    few_elements g.H.GcHeap.KIND (now g c).types.declarations c.args.request is.size is.is_size (tells g c is.size is.is_size).1
+
+-- what is made
+abbrev new : (g : given.Over) (c : After-is_err g) → IsNew g.row.D.Denot g.H.GcHeap.KIND (now g c).types.declarations c.args.request
+new g c = new_of g.row.D.Denot g.H.GcHeap.KIND (store_now g c) c.args.request c.args.contents (few g c) (can g c)
+
+abbrev size : (g : given.Over) (c : After-is_err g) → ℕ
+size g c = shape_size g.H.GcHeap.KIND (new g c).shape (new g c).count
+
+asked_of : (g : given.Over) (c : After-is_err g) (t : Table g.row.D.Denot) (p : Placing) → Holds g.H.GcHeap.KIND (store_now g c) t p → Asks g.H.GcHeap.KIND (store_now g c) t c.args.request c.args.contents (new g c)
+asked_of g c t p holds = asks g.row.D.Denot g.H.GcHeap.KIND (store_now g c) t p holds c.args.request c.args.contents (few g c) (can g c)
+
+told : (g : given.Over) (c : After-is_err g) → (c.in-Some.size ≡ size g c) × (too_large g.H.GcHeap.KIND (size g c) ≡ false)
+told g c = tells g c (size g c) (new g c).is_size
+
+-- a root may be pushed
+room : (g : given.Over) (c : After-is_err g) → is_full (store_now g c) ≡ false
+room g c =
+    ap (λ (v : OwnerView g.row.D.Denot). is_full (shown (view g (first_of g c)) v)) c.reserve.ensures.rest ∙ ap is_full c.self.view_is ∙ sym c.roots_full.ensures ∙ c.if-roots_full.false
+
+-- what was made, where the owner stood in one state and came to another
+abbrev start : (g : given.Over) (c : After-make_object g) → OwnerState g.row.D.Denot
+start g c = state_of c.reserve.new.self.seen (g.L.ResourceLimiter.limits c.args.limiter.now)
+
+abbrev made_state : (g : given.Over) (c : After-make_object g) → OwnerState g.row.D.Denot
+made_state g c = state_of c.make_object.new.owner.seen (g.L.ResourceLimiter.limits c.make_object.new.limiter)
+
+abbrev err_of : (g : given.Over) (c : After-make_object g) → After-is_err g
+err_of g c = (goal.at.After-make_object g c).After-is_err
+
+abbrev blank : (g : given.Over) (c : After-make_object g) → HeapObject
+blank g c = (new g (err_of g c)).blank
+
+described : (g : given.Over) (c : After-is_err g) (d : Description) → d ≡ described_by c.args.request → Describes g.H.GcHeap.KIND c.reserve.new.self.seen d (new g c).blank c.in-Some.size
+described g c d is =
+    subst (λ (x : Description). Describes g.H.GcHeap.KIND c.reserve.new.self.seen x (new g c).blank c.in-Some.size) (sym is)
+    (subst (λ (n : ℕ). Describes g.H.GcHeap.KIND c.reserve.new.self.seen (described_by c.args.request) (new g c).blank n) (sym (told g c).0) ((new g c).described (now g c) refl))
+
+pub make_object-requires-clause-described : goal.make_object-requires-clause-described
+make_object-requires-clause-described g c =
+    let err = (goal.at.make_object-requires-clause-described g c).After-is_err in
+    ((new g err).blank, described g err c.description_of-description.result c.description_of-description.ensures)
+
+made : (g : given.Over) (c : After-make_object g) (r : Result ℕ PlaceFault) → c.make_object.result ≡ r
+    → MakesRooted g.H.GcHeap.KIND (blank g c) (size g (err_of g c)) c.self.inside.config.first_pages c.count_allocation-is_due.result (start g c) (made_state g c) r
+made g c r is =
+    subst (λ (n : ℕ). MakesRooted g.H.GcHeap.KIND (blank g c) n c.self.inside.config.first_pages c.count_allocation-is_due.result (start g c) (made_state g c) r) (told g (err_of g c)).0
+    (subst (λ (x : Result ℕ PlaceFault). MakesRooted g.H.GcHeap.KIND (blank g c) c.in-Some.size c.self.inside.config.first_pages c.count_allocation-is_due.result (start g c) (made_state g c) x) is
+    (c.make_object.ensures (blank g c) (described g (err_of g c) c.description_of-description.result c.description_of-description.ensures)))
+
+due_is : (g : given.Over) (c : After-make_object g) → c.count_allocation-is_due.result ≡ is_due (option_map non_zero_u32_get c.self.inside.config.alloc_counter) (min (c.self.inside.tries + 1) (2 ^ 64 - 1))
+due_is g c = c.count_allocation-is_due.ensures.due ∙ ap (is_due (option_map non_zero_u32_get c.self.inside.config.alloc_counter)) c.count_allocation-is_due.ensures.counted
+
+abbrev made_of : (g : given.Over) (c : In-Ok g) → After-make_object g
+made_of g c = (goal.at.In-Ok g c).After-make_object
+
+-- the state in which the object was made, and its root
+in_ok : (g : given.Over) (c : In-Ok g) → (b : OwnerState g.row.D.Denot) × (BeginsMaking g.H.GcHeap.KIND c.self.inside.config.first_pages c.count_allocation-is_due.result (start g (made_of g c)) b
+    × AllocatesRooted g.H.GcHeap.KIND (blank g (made_of g c)) (size g (err_of g (made_of g c))) b (made_state g (made_of g c)) c.in-Ok.index)
+in_ok g c = made g (made_of g c) (Ok c.in-Ok.index) c.in-Ok.is
+
+root_is : (g : given.Over) (c : In-Ok g) → IsLastRoot c.make_object.new.owner.seen c.in-Ok.index (in_ok g c).1.1.adds.word
+root_is g c =
+    let at = made_of g c in
+    let p = in_ok g c in
+    last_root g.H.GcHeap.KIND (blank g at) (size g (err_of g at)) p.0 (made_state g at) c.in-Ok.index p.1.1
+
+pub holder_of-holder-requires-clause-inside : goal.holder_of-holder-requires-clause-inside
+holder_of-holder-requires-clause-inside g c =
+    let at = (goal.at.holder_of-holder-requires-clause-inside g c).In-Ok in
+    subst (λ (es : List RootEntry). c.in-Ok.index < length es) (sym c.scoped.ensures) (root_is g at).inside
+
+pub holder_of-holder-requires-clause-present : goal.holder_of-holder-requires-clause-present
+holder_of-holder-requires-clause-present g c = λ d.
+    let at = (goal.at.holder_of-holder-requires-clause-present g c).In-Ok in
+    let root = root_is g at in
+    subst (λ (es : List RootEntry). 0 < (slice_index_or es c.in-Ok.index d).word) (sym c.scoped.ensures) (subst (λ (n : ℕ). 0 < n) (sym (root.is d)) root.not_null)
+
+keeps : (g : given.Over) (c : In-Ok g) → KeepsRest c.reserve.new.self.seen c.make_object.new.owner.seen
+keeps g c =
+    let at = made_of g c in
+    let p = in_ok g c in
+    made_keeps g.H.GcHeap.KIND c.self.inside.config.first_pages c.count_allocation-is_due.result (size g (err_of g at)) (blank g at) (start g at) p.0 (made_state g at) c.in-Ok.index p.1.0 p.1.1
+
+idle_now : (g : given.Over) (c : In-Ok g) → c.make_object.new.owner.seen.idle ≡ true
+idle_now g c = (keeps g c).idle ∙ ap (λ (v : OwnerView g.row.D.Denot). v.idle) c.reserve.ensures.rest ∙ c.self.invariant.idle
+
+pub fill-requires-clause-idle : goal.fill-requires-clause-idle
+fill-requires-clause-idle g c = idle_now g (goal.at.fill-requires-clause-idle g c).In-Ok
+
+holder_is : (g : given.Over) (c : After-holder_of-holder g) → c.holder_of-holder.result ≡ (in_ok g (goal.at.After-holder_of-holder g c).In-Ok).1.1.adds.word
+holder_is g c =
+    let at = (goal.at.After-holder_of-holder g c).In-Ok in
+    let d : RootEntry = record { generation = 0; word = 0 } in
+    c.holder_of-holder.ensures d ∙ ap (λ (es : List RootEntry). (slice_index_or es c.in-Ok.index d).word) c.scoped.ensures ∙ (root_is g at).is d
+
+abbrev err_at : (g : given.Over) (c : After-holder_of-holder g) → After-is_err g
+err_at g c = err_of g (made_of g (goal.at.After-holder_of-holder g c).In-Ok)
+
+fills_of : (g : given.Over) (c : After-holder_of-holder g)
+    → IsToFill g.H.GcHeap.KIND c.make_object.new.owner.seen c.holder_of-holder.result (asked_type c.args.request) (ContentsFit c.args.request c.args.contents) (new g (err_at g c)).blank (new g (err_at g c)).shape (new g (err_at g c)).count
+fills_of g c =
+    let ok = (goal.at.After-holder_of-holder g c).In-Ok in
+    let err = err_at g c in
+    let p = in_ok g ok in
+    let is = start_of g err in
+    subst (λ (n : ℕ). IsToFill g.H.GcHeap.KIND c.make_object.new.owner.seen n (asked_type c.args.request) (ContentsFit c.args.request c.args.contents) (new g err).blank (new g err).shape (new g err).count) (sym (holder_is g c))
+    (may_fill g.H.GcHeap.KIND (view g (first_of g err)) c.reserve.new.self.seen c.args.request c.args.contents (new g err) (g.L.ResourceLimiter.limits c.args.limiter.now) c.self.invariant.table c.self.invariant.account is
+    (asked_of g err c.self.invariant.table is.holds.place is.holds.holds) c.count_allocation-is_due.result p.0 p.1.0 (made_state g (made_of g ok)) c.in-Ok.index p.1.1)
+
+pub fill-requires-clause-can : goal.fill-requires-clause-can
+fill-requires-clause-can g c =
+    let at = (goal.at.fill-requires-clause-can g c).After-holder_of-holder in
+    let err = err_at g at in
+    record { object = (new g err).blank; shape = (new g err).shape; count = (new g err).count; to_fill = fills_of g at }
+
+abbrev holder_at : (g : given.Over) (c : After-fill g) → After-holder_of-holder g
+holder_at g c = (goal.at.After-fill g c).After-holder_of-holder
+
+abbrev ok_at : (g : given.Over) (c : After-fill g) → In-Ok g
+ok_at g c = (goal.at.After-holder_of-holder g (holder_at g c)).In-Ok
+
+-- the owner at the end, and what was created
+abbrev last_state : (g : given.Over) (c : After-fill g) → OwnerState g.row.D.Denot
+last_state g c = state_of c.fill.new.owner.seen (g.L.ResourceLimiter.limits c.make_object.new.limiter)
+
+filled : (g : given.Over) (c : After-fill g)
+    → Fills g.H.GcHeap.KIND (ContentsStand c.args.contents) c.make_object.new.owner.seen c.fill.new.owner.seen c.holder_of-holder.result (new g (err_at g (holder_at g c))).blank (new g (err_at g (holder_at g c))).shape (new g (err_at g (holder_at g c))).count
+filled g c =
+    let err = err_at g (holder_at g c) in
+    c.fill.ensures (new g err).blank (new g err).shape (new g err).count (fills_of g (holder_at g c))
+
+created : (g : given.Over) (c : After-fill g) → Creates g.H.GcHeap.KIND (now g (err_at g (holder_at g c))).types.declarations c.args.request c.args.contents (new g (err_at g (holder_at g c))) (in_ok g (ok_at g c)).0 (last_state g c) c.in-Ok.index
+created g c =
+    let err = err_at g (holder_at g c) in
+    let p = in_ok g (ok_at g c) in
+    record {
+      mid = p.1.1.mid;
+      retried = p.1.1.retried;
+      added = c.make_object.new.owner.seen;
+      adds = p.1.1.adds;
+      fills = subst (λ (n : ℕ). Fills g.H.GcHeap.KIND (ContentsStand c.args.contents) c.make_object.new.owner.seen c.fill.new.owner.seen n (new g err).blank (new g err).shape (new g err).count) (holder_is g (holder_at g c)) (filled g c);
+      limits = p.1.1.limits;
+    }
+
+-- the store afterwards
+abbrev later : (g : given.Over) (c : After-fill g) → StoreView g.row.D.Denot
+later g c = store_view c.self.inside.id c.self.inside.config c.fill.new.owner.seen c.count_allocation-is_due.new.tries
+
+-- what an object that was made and has its values leaves
+placed : (g : given.Over) (c : After-fill g) (t : Table g.row.D.Denot) (a : Account) (o : Object g.row.D.Denot) → HoldsAccount g.H.GcHeap.KIND (view g (first_of g (err_at g (holder_at g c)))) t a
+    → IsObjectOf (store_now g (err_at g (holder_at g c))) t c.args.request c.args.contents o
+    → (handle : GcRootIndex) → handle ≡ record { store_id = c.self.inside.id; generation = c.fill.new.owner.seen.roots.generation; slot = slot.Scoped c.in-Ok.index }
+    → PlacesObject g.H.GcHeap.KIND (option_map non_zero_u32_get c.self.inside.config.alloc_counter) o (policy_state t a (g.L.ResourceLimiter.limits c.args.limiter.now)) (g.L.ResourceLimiter.limits c.make_object.new.limiter) handle (later g c)
+placed g c t a o holds is_asked handle handle_is =
+    let err = err_at g (holder_at g c) in
+    let at = made_of g (ok_at g c) in
+    let p = in_ok g (ok_at g c) in
+    let is = reserved g err t a holds in
+    let asked = asked_of g err t is.holds.place is.holds.holds in
+    subst (λ (n : ℕ). PlacesObject g.H.GcHeap.KIND (option_map non_zero_u32_get c.self.inside.config.alloc_counter) o (policy_state t a (g.L.ResourceLimiter.limits c.args.limiter.now)) (g.L.ResourceLimiter.limits c.make_object.new.limiter) handle (store_view c.self.inside.id c.self.inside.config c.fill.new.owner.seen n))
+    (sym c.count_allocation-is_due.ensures.counted)
+    (placing_follows g.H.GcHeap.KIND (view g (first_of g err)) c.reserve.new.self.seen c.args.request c.args.contents (new g err) (g.L.ResourceLimiter.limits c.args.limiter.now) t a is asked
+    o (asked.asks_for t is.holds.place o is.holds.holds is_asked) (told g err).1 (room g err)
+    c.count_allocation-is_due.result (due_is g at) p.0 (last_state g c) c.in-Ok.index p.1.0 (created g c) handle handle_is)
+
+pub invariant_of-self-in-Ok : goal.invariant_of-self-in-Ok
+invariant_of-self-in-Ok g c =
+    let at = (goal.at.invariant_of-self-in-Ok g c).After-fill in
+    let err = err_at g (holder_at g at) in
+    let ok = ok_at g at in
+    let rest = (filled g at).rewrites.rest in
+    let is = start_of g err in
+    let some = (asked_of g err c.self.invariant.table is.holds.place is.holds.holds).some in
+    let types : c.fill.new.owner.seen.types ≡ c.self.inside.owner.seen.types =
+    ap (λ (v : OwnerView g.row.D.Denot). v.types) rest ∙ (keeps g ok).types ∙ ap (λ (v : OwnerView g.row.D.Denot). v.types) c.reserve.ensures.rest in
+    let places = placed g at c.self.invariant.table c.self.invariant.account some.0 c.self.invariant.holds some.1 (record { store_id = c.self.inside.id; generation = c.fill.new.owner.seen.roots.generation; slot = slot.Scoped c.in-Ok.index }) refl in
+    record {
+      idle = ap (λ (v : OwnerView g.row.D.Denot). v.idle) rest ∙ idle_now g ok;
+      engine = ap (λ (x : TypeTable). x.engine) types ∙ c.self.invariant.engine;
+      number = ap (λ (x : TypeTable). x.number) types ∙ c.self.invariant.number;
+      frames = c.self.invariant.frames ∙ sym (ap counts_of rest ∙ (keeps g ok).counts ∙ ap counts_of c.reserve.ensures.rest);
+      table = _;
+      account = _;
+      holds = places.holds;
+    }
+
+pub returns-in-Ok-clause-places : goal.returns-in-Ok-clause-places
+returns-in-Ok-clause-places g c t a o holds is_asked =
+    let at = (goal.at.returns-in-Ok-clause-places g c).After-fill in
+    let err = err_at g (holder_at g at) in
+    let first = first_of g err in
+    subst (λ (n : _). PlacesObject g.H.GcHeap.KIND n o (policy_state t a (g.L.ResourceLimiter.limits c.args.limiter.now)) (g.L.ResourceLimiter.limits c.make_object.new.limiter) c.scoped_handle.result (later g at)) (ap (λ (s : StoreView g.row.D.Denot). s.alloc_counter) c.self.view_is)
+    (placed g at t a o (held g first t a holds) (asked_now g err t o (asked_view g first t o is_asked)) c.scoped_handle.result
+    (c.scoped_handle.ensures ∙ ap (λ (n : ℕ). record { store_id = c.self.inside.id; generation = n; slot = slot.Scoped c.in-Ok.index }) c.generation.ensures))
+
+-- the store where none was made
+abbrev left : (g : given.Over) (c : In-Err g) → StoreView g.row.D.Denot
+left g c = store_view c.self.inside.id c.self.inside.config c.make_object.new.owner.seen c.count_allocation-is_due.new.tries
+
+abbrev failed_of : (g : given.Over) (c : In-Err g) → After-make_object g
+failed_of g c = (goal.at.In-Err g c).After-make_object
+
+-- what an object that was not made leaves
+refused : (g : given.Over) (c : In-Err g) (t : Table g.row.D.Denot) (a : Account) (o : Object g.row.D.Denot) → HoldsAccount g.H.GcHeap.KIND (view g (first_of g (err_of g (failed_of g c)))) t a
+    → IsObjectOf (store_now g (err_of g (failed_of g c))) t c.args.request c.args.contents o
+    → FollowsFault g.H.GcHeap.KIND (view g (first_of g (err_of g (failed_of g c)))) o (policy_state t a (g.L.ResourceLimiter.limits c.args.limiter.now)) (made_state g (failed_of g c)) c.in-Err.fault
+refused g c t a o holds is_asked =
+    let at = failed_of g c in
+    let err = err_of g at in
+    let is = reserved g err t a holds in
+    let asked = asked_of g err t is.holds.place is.holds.holds in
+    fault_follows g.H.GcHeap.KIND (view g (first_of g err)) c.reserve.new.self.seen c.args.request c.args.contents (new g err) (g.L.ResourceLimiter.limits c.args.limiter.now) t a is asked
+    o (asked.asks_for t is.holds.place o is.holds.holds is_asked) (told g err).1 (room g err)
+    c.count_allocation-is_due.result (due_is g at) (made_state g at) c.in-Err.fault (made g at (Err c.in-Err.fault) c.in-Err.is)
+
+-- the owner is as it was but for heap, roots, host values and last usage
+rest_kept : (g : given.Over) (c : In-Err g) → KeepsRest c.reserve.new.self.seen c.make_object.new.owner.seen
+rest_kept g c =
+    let at = failed_of g c in
+    fault_keeps g.H.GcHeap.KIND (blank g at) (size g (err_of g at)) c.self.inside.config.first_pages c.count_allocation-is_due.result (start g at) (made_state g at) c.in-Err.fault
+    (told g (err_of g at)).1 (made g at (Err c.in-Err.fault) c.in-Err.is)
+
+pub invariant_of-self-in-Err : goal.invariant_of-self-in-Err
+invariant_of-self-in-Err g c =
+    let fault = (goal.at.invariant_of-self-in-Err g c).In-Err in
+    let err = err_of g (failed_of g fault) in
+    let rest = rest_kept g fault in
+    let is = start_of g err in
+    let some = (asked_of g err c.self.invariant.table is.holds.place is.holds.holds).some in
+    let after = refused g fault c.self.invariant.table c.self.invariant.account some.0 c.self.invariant.holds some.1 in
+    let types : c.make_object.new.owner.seen.types ≡ c.self.inside.owner.seen.types = rest.types ∙ ap (λ (v : OwnerView g.row.D.Denot). v.types) c.reserve.ensures.rest in
+    record {
+      idle = rest.idle ∙ ap (λ (v : OwnerView g.row.D.Denot). v.idle) c.reserve.ensures.rest ∙ c.self.invariant.idle;
+      engine = ap (λ (x : TypeTable). x.engine) types ∙ c.self.invariant.engine;
+      number = ap (λ (x : TypeTable). x.number) types ∙ c.self.invariant.number;
+      frames = c.self.invariant.frames ∙ sym (rest.counts ∙ ap counts_of c.reserve.ensures.rest);
+      table = after.table;
+      account = after.account;
+      holds = subst (λ (n : ℕ). HoldsAccount g.H.GcHeap.KIND (store_view c.self.inside.id c.self.inside.config c.make_object.new.owner.seen n) after.table after.account) (sym c.count_allocation-is_due.ensures.counted) after.holds;
+    }
+
+pub returns-in-Err-clause-places : goal.returns-in-Err-clause-places
+returns-in-Err-clause-places g c t a o holds is_asked =
+    let fault = (goal.at.returns-in-Err-clause-places g c).In-Err in
+    let err = err_of g (failed_of g fault) in
+    let first = first_of g err in
+    subst (λ (n : _). Places g.H.GcHeap.KIND n o (policy_state t a (g.L.ResourceLimiter.limits c.args.limiter.now)) (g.L.ResourceLimiter.limits c.make_object.new.limiter) (Err c.in-Err.fault) (left g fault)) (ap (λ (s : StoreView g.row.D.Denot). s.alloc_counter) c.self.view_is)
+    (subst (λ (n : ℕ). Places g.H.GcHeap.KIND (option_map non_zero_u32_get c.self.inside.config.alloc_counter) o (policy_state t a (g.L.ResourceLimiter.limits c.args.limiter.now)) (g.L.ResourceLimiter.limits c.make_object.new.limiter) (Err c.in-Err.fault) (store_view c.self.inside.id c.self.inside.config c.make_object.new.owner.seen n))
+    (sym c.count_allocation-is_due.ensures.counted) (refused g fault t a o (held g first t a holds) (asked_now g err t o (asked_view g first t o is_asked))).places)
