@@ -6,6 +6,7 @@ pub mod Shapes
 pub mod Steps
 pub mod Policy
 pub mod Named
+pub mod OwnTypes
 pub mod Values
 pub mod Run
 pub mod Lines
