@@ -10,7 +10,9 @@ use Rattle.gc_types.specs.declared.layout.FieldLayout.{FieldLayout}
 use Rattle.gc_types.specs.Declarations.{Declaration, struct_fields_at}
 use Rattle.gc_types.specs.Layouts.{struct_base, field_layouts, fields_end}
 use Rattle.gc_model.specs.Values.{Reference, Value, Object, struct, array, host, exception}
-use Rattle.gc_model.specs.Reach.{IsKept, IsHost}
+use Rattle.gc_model.specs.Reach.{IsKept, IsHost, object_values}
+use Rattle.gc_model.specs.Stored.{value_type}
+use Rattle.gc_model.specs.Fits.{fits}
 use Rattle.gc_types.specs.declared.value.Func.{Func}
 use Rattle.gc_model.specs.Table.{Table, Scoped, Push, Owned, Block}
 pub use Rattle.gc_model.specs.Words.{Placing, IsWord}
@@ -93,9 +95,15 @@ pub record NotBuilt {D : Type 0} (made : ℕ) (roots : List Owned) (exception : 
   pub blocks : held ≡ []
   pub hosts : NoHostObjects objects
 
+-- Each value of an object fits the type of its field or element, as the declared types and the objects say.
+abbrev pub TypedBy : {D : Type 0} → List Declaration → List (Object D) → Type 0
+TypedBy {D} types objects = (position index : ℕ) (object : Object D) (value : Value) (field : FieldType)
+    → slice_get objects position ≡ Some object → slice_get (object_values object) index ≡ Some value → value_type types object index ≡ Some field
+    → fits types objects field.element_type value ≡ true
+
 -- A fact at each point: as the types of the facts are parameters, a change of one part of a store hands the
 -- other points on as they are.
-pub record Points (Types Settings Memory Objects Kind Scopes Scoped Pushes Frames Globals Owned Pending Functions Hosts Nothing : Type 0) : Type 0 where
+pub record Points (Types Settings Memory Objects Kind Scopes Scoped Pushes Frames Globals Owned Pending Functions Hosts Nothing Typed : Type 0) : Type 0 where
   pub types : Types
   pub settings : Settings
   pub memory : Memory
@@ -111,6 +119,7 @@ pub record Points (Types Settings Memory Objects Kind Scopes Scoped Pushes Frame
   pub funcs : Functions
   pub hosts : Hosts
   pub nothing_else : Nothing
+  pub typed : Typed
 
 module _ {D : Type 0} where
   -- the points at a table, each over the parts that it speaks of
@@ -183,6 +192,7 @@ module _ {D : Type 0} where
       (s.funcs ≡ t.funcs)
       (HostsHold t place s.heap s.hosts)
       (NothingElse t)
+      (TypedBy t.types t.objects)
 
 -- the store holds the table, wherever its objects lie
 abbrev pub HoldsTable : {D : Type 0} → Layouts → StoreView D → Table D → Type 0

@@ -6,7 +6,7 @@ use Rattle.gc_types.specs.declared.value.StorageType.{StorageType}
 use Rattle.gc_types.specs.declared.kind.Layouts.{Layouts}
 use Rattle.gc_owner.specs.declared.entry.GcClass.{GcClass}
 use Rattle.gc_model.specs.Values.{Reference, null, small, at, Value, numeric, i32, i64, f32, f64, v128, function, reference, number_bits}
-use Rattle.gc_model.specs.Forms.{Form, number_of, function_of, reference_of, storage_form}
+use Rattle.gc_model.specs.Fits.{fits}
 use Rattle.gc_model.specs.Stored.{stored, value_type}
 use Rattle.gc_model.specs.Table.{Table, write}
 use Rattle.gc_model.specs.Live.{roots_full}
@@ -50,16 +50,6 @@ pub record IsLive (D : Type 0) (layouts : Layouts) (s : StoreView D) (handle : G
   pub root : Reference
   pub named : NamesReference s table handle root
 
--- what a value is that is given to the store
-abbrev pub raw_form : RawValue → Form
-raw_form (raw.I32 n) = number_of i32
-raw_form (raw.I64 n) = number_of i64
-raw_form (raw.F32 n) = number_of f32
-raw_form (raw.F64 n) = number_of f64
-raw_form (raw.V128 n) = number_of v128
-raw_form (raw.Func f) = function_of
-raw_form (raw.Ref class handle) = reference_of class
-
 -- a value's handle is live; no function is taken so far
 abbrev pub NamesLive : (D : Type 0) → Layouts → StoreView D → RawValue → Type 0
 NamesLive D layouts s (raw.I32 n) = Unit {0}
@@ -71,11 +61,11 @@ NamesLive D layouts s (raw.Func f) = ⊥
 NamesLive D layouts s (raw.Ref class None) = Unit {0}
 NamesLive D layouts s (raw.Ref class (Some handle)) = IsLive D layouts s handle
 
--- A value may be put into a field or an element of that type: its handle is live, and it is of the type's form. Whether
--- it fits the type, as the types of its object say, is for the caller to test.
+-- A value may be put into a field or an element of that type: its handle is live, and it fits the type, in each table
+-- that the store holds.
 pub record CanStore (D : Type 0) (layouts : Layouts) (s : StoreView D) (ty : StorageType) (r : RawValue) : Type 0 where
   pub live : NamesLive D layouts s r
-  pub form : storage_form ty ≡ raw_form r
+  pub fits : (t : Table D) (v : Value) → HoldsTable layouts s t → RawStands s t r v → fits t.types t.objects ty v ≡ true
 
 -- the value that a read answers, whose new root is the newest one
 abbrev pub IsReadAs : {D : Type 0} → StoreView D → Table D → Value → RawValue → Type 0

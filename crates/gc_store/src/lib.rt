@@ -6,10 +6,12 @@
 //! the table's. No place and no byte of the heap shows.
 #![tactic(auto)]
 
+pub mod bytes;
 pub mod collect;
 pub mod config;
+pub mod declare;
 pub mod engine;
-mod field;
+mod fill;
 pub mod frames;
 pub mod globals;
 pub mod grow;
@@ -25,7 +27,9 @@ pub mod rooted;
 #[cfg(test)]
 mod rooted_tests;
 pub mod scope;
+mod slot;
 pub mod store;
+mod stored;
 #[cfg(test)]
 mod tests;
 mod word;

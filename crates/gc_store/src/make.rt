@@ -36,21 +36,17 @@ fn collect_if_due<H: GcHeap, D: Drop>(owner: &mut HeapOwner<H, D>, is_due: bool)
     }
 }
 
-/// Makes a struct of a declared type, whose fields are 0, and its scoped root, of which it answers the index.
-fn allocate_struct<H: GcHeap, D: Drop, L: ResourceLimiter>(
+/// Makes an object, whose values are 0, and its scoped root, of which it answers the index.
+fn allocate_object<H: GcHeap, D: Drop, L: ResourceLimiter>(
     owner: &mut HeapOwner<H, D>,
     limiter: &mut L,
-    ty: VMSharedTypeIndex,
+    description: &Description,
 ) -> Result<u32, PlaceFault>
-    requires idle { owner.old.seen.idle ≡ true }
-    requires attached { owner.old.seen.heap.attached ≡ true }
-    requires room { 0 < owner.old.seen.roots.spare }
-    requires few { length owner.old.seen.roots.scoped < 2 ^ 32 }
-    requires declared { IsSome (layout_at H.KIND owner.old.seen.types.declarations ty) }
-    ensures { (layout : GcStructLayout) → layout_at H.KIND owner.old.seen.types.declarations ty ≡ Some layout
-        → AllocatesObject H.KIND (new_struct H.KIND ty layout) layout.size (state_of owner.old.seen (L.limits limiter.old)) (state_of owner.new.seen (L.limits limiter.new)) result }
+    requires can { CanMake H.KIND owner.old.seen description.now }
+    ensures { (o : HeapObject) (size : ℕ) → Describes H.KIND owner.old.seen description.now o size
+        → AllocatesObject H.KIND o size (state_of owner.old.seen (L.limits limiter.old)) (state_of owner.new.seen (L.limits limiter.new)) result }
 {
-    match owner.allocate(limiter, Description::Object(ty)) {
+    match owner.allocate(limiter, *description) {
         Ok(index) => Ok(index),
         Err(AllocateFault::TooLarge) => Err(PlaceFault::TooLarge),
         Err(AllocateFault::HeapOutOfMemory(bytes_needed)) => Err(out_of_memory(bytes_needed)),
@@ -58,32 +54,30 @@ fn allocate_struct<H: GcHeap, D: Drop, L: ResourceLimiter>(
     }
 }
 
-/// Makes the heap where it isn't made, collects where the allocation is due for it, and then makes a
-/// struct of a declared type, whose fields are 0, and its scoped root, of which it answers the index.
-pub(crate) fn make_struct<H: GcHeap, D: Drop, L: ResourceLimiter>(
+/// Makes the heap where it isn't made, collects where the allocation is due for it, and then makes an object of so
+/// many bytes, whose values are 0, and its scoped root, of which it answers the index.
+pub(crate) fn make_object<H: GcHeap, D: Drop, L: ResourceLimiter>(
     owner: &mut HeapOwner<H, D>,
     limiter: &mut L,
     first_pages: u32,
     is_due: bool,
-    ty: VMSharedTypeIndex,
+    description: &Description,
+    size: u32,
 ) -> Result<u32, PlaceFault>
     requires idle { owner.old.seen.idle ≡ true }
     requires pages { first_pages ≤ max_pages }
     requires room { 0 < owner.old.seen.roots.spare }
     requires few { length owner.old.seen.roots.scoped < 2 ^ 32 }
-    requires declared { IsSome (layout_at H.KIND owner.old.seen.types.declarations ty) }
-    ensures { (layout : GcStructLayout) → layout_at H.KIND owner.old.seen.types.declarations ty ≡ Some layout
-        → MakesRooted H.KIND (new_struct H.KIND ty layout) layout.size first_pages is_due (state_of owner.old.seen (L.limits limiter.old)) (state_of owner.new.seen (L.limits limiter.new)) result }
+    requires described { (o : HeapObject) × Describes H.KIND owner.old.seen description.now o size }
+    ensures { (o : HeapObject) → Describes H.KIND owner.old.seen description.now o size
+        → MakesRooted H.KIND o size first_pages is_due (state_of owner.old.seen (L.limits limiter.old)) (state_of owner.new.seen (L.limits limiter.new)) result }
 {
     match owner.make_heap(limiter, first_pages) {
         Ok(()) => {
             collect_if_due(owner, is_due);
-            allocate_struct(owner, limiter, ty)
+            allocate_object(owner, limiter, description)
         }
-        Err(PagesFault::Refused) => {
-            let size = owner.types().struct_layout(H::KIND, ty).unwrap().size;
-            Err(out_of_memory(H::need(size)))
-        }
+        Err(PagesFault::Refused) => Err(out_of_memory(H::need(size))),
         Err(PagesFault::Memory) => Err(PlaceFault::Memory),
     }
 }

@@ -16,23 +16,37 @@ ghost use Rattle.gc_store.specs.Requests.{CanPlaceIn, IsObjectOf};
 ghost use Rattle.gc_store.specs.Stores.{is_full, IsSameStore};
 
 use crate::engine::StoreId;
-use crate::field::write_values;
-use crate::make::make_struct;
+use crate::fill::fill;
+use crate::make::make_object;
 use crate::request::{Contents, Place};
-use crate::root::{GcRootIndex, RawValue, RootSlot};
+use crate::root::{GcRootIndex, RootSlot};
 use crate::store::{PlaceFault, Store};
 use gc_heap::GcHeap;
-use gc_owner::{ResourceLimiter, RootEntry};
+use gc_owner::{Description, ResourceLimiter, RootEntry};
 use gc_refs::VMGcRef;
-use gc_types::{Layouts, Types, VMSharedTypeIndex};
+use gc_types::Types;
 use std::num::NonZeroU32;
 
-/// The bytes of a struct of a declared type.
-fn struct_size(types: &Types, layouts: Layouts, ty: VMSharedTypeIndex) -> u32
-    requires { IsSome (struct_fields_at types.now.declarations ty) }
-    ensures { result ≡ fields_size layouts (struct_fields_at types.now.declarations ty) }
-{
-    types.struct_layout(layouts, ty).unwrap().size
+/// What an object of that request is made by.
+fn description_of(request: &Place) -> Description {
+    match *request {
+        Place::Struct(ty) => Description::Object(ty),
+        Place::Exn(ty, _) => Description::Object(ty),
+        Place::Array(ty, length) => Description::Array(ty, length),
+    }
+}
+
+/// The bytes of an object of a declared type; None exactly where no heap of the kind can hold it.
+fn object_size<H: GcHeap>(types: &Types, request: &Place) -> Option<u32> {
+    let size = match *request {
+        Place::Struct(ty) => types.struct_layout(H::KIND, ty).unwrap().size,
+        Place::Exn(ty, _) => types.struct_layout(H::KIND, ty).unwrap().size,
+        Place::Array(ty, length) => types.array_layout(H::KIND, ty).unwrap().size(length)?,
+    };
+    if H::is_too_large(size) {
+        return None;
+    }
+    Some(size)
 }
 
 /// The handle of a scoped root.
@@ -98,34 +112,10 @@ impl<H: GcHeap, D: Drop> Store<H, D> {
         ensures places { (t : Table D) (a : Account) (o : Object D) → HoldsAccount H.KIND self.old t a → IsObjectOf self.old t request contents.entry o
             → Places H.KIND self.old.alloc_counter o (policy_state t a (L.limits limiter.old)) (L.limits limiter.new) result self.new }
     {
-        match request {
-            Place::Struct(ty) => match contents {
-                Contents::Each(values) => self.place_struct(limiter, ty, values),
-                Contents::Same(_) => unreachable!(),
-                Contents::Bytes(_) => unreachable!(),
-            },
-            Place::Exn(..) => unreachable!(),
-            Place::Array(..) => unreachable!(),
-        }
-    }
-
-    /// Places a struct, as `place` does.
-    fn place_struct<L: ResourceLimiter>(
-        &mut self,
-        limiter: &mut L,
-        ty: VMSharedTypeIndex,
-        values: &[RawValue],
-    ) -> Result<GcRootIndex, PlaceFault>
-        requires { CanPlace D H.KIND self.old ty values.now }
-        ensures same { IsSameStore self.old self.new }
-        ensures places { (t : Table D) (a : Account) (vs : List Value) → HoldsAccount H.KIND self.old t a → AllStand self.old t values.now vs
-            → Places H.KIND self.old.alloc_counter (struct ty vs) (policy_state t a (L.limits limiter.old)) (L.limits limiter.new) result self.new }
-    {
         self.owner.is_ready();
-        let size = struct_size(self.owner.types(), H::KIND, ty);
-        if H::is_too_large(size) {
+        let Some(size) = object_size::<H>(self.owner.types(), &request) else {
             return Err(PlaceFault::TooLarge);
-        }
+        };
         if self.roots_full() {
             return Err(PlaceFault::RootsFull);
         }
@@ -134,10 +124,18 @@ impl<H: GcHeap, D: Drop> Store<H, D> {
         }
         let is_due = count_allocation(&mut self.tries, self.config.alloc_counter);
         let first_pages = self.config.first_pages;
-        match make_struct(&mut self.owner, limiter, first_pages, is_due, ty) {
+        let description = description_of(&request);
+        match make_object(
+            &mut self.owner,
+            limiter,
+            first_pages,
+            is_due,
+            &description,
+            size,
+        ) {
             Ok(index) => {
                 let holder = holder_of(self.owner.scoped(), index);
-                write_values(&mut self.owner, &holder, ty, values);
+                fill(&mut self.owner, &holder, &request, contents);
                 Ok(scoped_handle(self.id, self.owner.generation(), index))
             }
             Err(fault) => Err(fault),

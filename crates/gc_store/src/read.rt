@@ -12,14 +12,43 @@ ghost use Rattle.gc_store.specs.Values.{ReadsValue};
 ghost use Rattle.gc_store.specs.Reading.{ReadsStoredValue};
 ghost use Rattle.gc_store.specs.Stores.{IsSameStore};
 
-use crate::field::{Stored, read_field};
 use crate::place::scoped_handle;
 use crate::root::{GcRootIndex, RawValue, RootFault, RootedObject};
+use crate::slot::slot_in;
 use crate::store::Store;
+use crate::stored::{Found, read_slot};
 use crate::word::slot_word;
 use gc_heap::GcHeap;
-use gc_owner::GcClass;
-use gc_refs::{I31, VMGcRef};
+use gc_heap::access::read_u32;
+use gc_refs::{I31, VMArrayRef, VMGcHeader, VMGcRef};
+use gc_types::{Tag, VMGcKind};
+
+/// What a held object is, of which this is the header.
+fn described<H: GcHeap>(heap: &H, gc_ref: &VMGcRef, header: VMGcHeader) -> RootedObject {
+    let ty = header.type_index();
+    match header.kind().unwrap() {
+        VMGcKind::StructRef => RootedObject::Struct(ty),
+        VMGcKind::ArrayRef => RootedObject::Array(ty, length_of(heap, gc_ref)),
+        VMGcKind::ExnRef => RootedObject::Exn(ty, tag_of(heap, gc_ref)),
+        VMGcKind::ExternRef => RootedObject::Host,
+        _ => unreachable!(),
+    }
+}
+
+/// The length of a held array.
+fn length_of<H: GcHeap>(heap: &H, gc_ref: &VMGcRef) -> u32 {
+    let array = VMArrayRef::new_unchecked(gc_ref.unchecked_copy());
+    heap.array_len(&array).unwrap()
+}
+
+/// The tag of a held exception, whose two words stand in front of its fields.
+fn tag_of<H: GcHeap>(heap: &H, gc_ref: &VMGcRef) -> Tag {
+    let base = H::KIND.struct_base();
+    Tag {
+        instance: read_u32(heap, gc_ref, base),
+        index: read_u32(heap, gc_ref, base + 4),
+    }
+}
 
 impl<H: GcHeap, D: Drop> Store<H, D> {
     /// The word that the handle's root has.
@@ -42,7 +71,7 @@ impl<H: GcHeap, D: Drop> Store<H, D> {
             return RootedObject::I31(number);
         }
         match self.owner.heap().header(&gc_ref) {
-            Ok(header) => RootedObject::Struct(header.type_index()),
+            Ok(header) => described(self.owner.heap(), &gc_ref, header),
             Err(_) => unreachable!(),
         }
     }
@@ -105,41 +134,47 @@ impl<H: GcHeap, D: Drop> Store<H, D> {
         self.push_word(VMGcRef::from_i31(value).as_raw_u32())
     }
 
-    /// What a field of the struct keeps that the handle names.
-    fn stored_at(&self, handle: GcRootIndex, index: u32) -> Stored
+    /// What lies at that index of the object that the handle names.
+    fn found_at(&self, handle: GcRootIndex, index: u32) -> Found
         requires { CanRead D H.KIND self.now handle index }
-        ensures { ReadsStoredValue D H.KIND self.now handle index result }
     {
         self.owner.is_ready();
         match self.word_of(handle) {
             Ok(word) => {
                 let gc_ref = VMGcRef::from_raw_u32(word).unwrap();
-                read_field(self.owner.heap(), self.owner.types(), &gc_ref, index)
+                let slot = slot_in(self.owner.heap(), self.owner.types(), &gc_ref, index);
+                read_slot(self.owner.heap(), &gc_ref, &slot)
             }
             Err(_) => unreachable!(),
         }
     }
 
-    /// The value of that field of the struct that the handle names. A reference that isn't null gets a
-    /// scoped root: `RootsFull` where no further one may be made.
+    /// A reference as a value, by its class and its word. One that isn't null gets a scoped root: `RootsFull` where no
+    /// further one may be made.
+    pub(crate) fn push_reference(&mut self, word: u32) -> Result<Option<GcRootIndex>, RootFault> {
+        if word == 0 {
+            return Ok(None);
+        }
+        match self.push_word(word) {
+            Ok(found) => Ok(Some(found)),
+            Err(fault) => Err(fault),
+        }
+    }
+
+    /// The value at that index of the object that the handle names: a field of a struct or an exception, or an element
+    /// of an array. A reference that isn't null gets a scoped root: `RootsFull` where no further one may be made.
     pub fn read_value(&mut self, handle: GcRootIndex, index: u32) -> Result<RawValue, RootFault>
         requires { CanRead D H.KIND self.old handle index }
         ensures reads { (t : Table D) (a : Account) (value : Value) → HoldsAccount H.KIND self.old t a → HasValue self.old t handle index value → ReadsValue H.KIND t a value result self.new }
         ensures err { OnErr result (self.new ≡ self.old) }
         ensures same { IsSameStore self.old self.new }
     {
-        match self.stored_at(handle, index) {
-            Stored::I32(bits) => Ok(RawValue::I32(bits.cast_signed())),
-            Stored::I64(bits) => Ok(RawValue::I64(bits.cast_signed())),
-            Stored::Ref(word) => {
-                if word == 0 {
-                    return Ok(RawValue::Ref(GcClass::Any, None));
-                }
-                match self.push_word(word) {
-                    Ok(found) => Ok(RawValue::Ref(GcClass::Any, Some(found))),
-                    Err(fault) => Err(fault),
-                }
-            }
+        match self.found_at(handle, index) {
+            Found::Number(value) => Ok(value),
+            Found::Ref(class, word) => match self.push_reference(word) {
+                Ok(found) => Ok(RawValue::Ref(class, found)),
+                Err(fault) => Err(fault),
+            },
         }
     }
 }

@@ -1,21 +1,17 @@
 //! The store.
 
-ghost use Rattle.std.specs.Prelude.{◌≡◌, ◌↔◌, false, IfOk, OnOk, OnErr, All, IsTrue, None, MatchResult, true};
+ghost use Rattle.std.specs.Prelude.{◌≡◌, ◌↔◌, IfOk, IsTrue};
 ghost use Rattle.std.specs.Option.{option_map};
 ghost use Rattle.std.specs.Int.NonZero.{non_zero_u32_get};
-ghost use Rattle.gc_types.specs.declared.value.FieldType.{FieldType};
-ghost use Rattle.gc_model.specs.Fits.{is_built_field};
-ghost use Rattle.gc_model.specs.Table.{Table};
 ghost use Rattle.gc_view.specs.Heaps.{detached};
 ghost use Rattle.gc_model.specs.Stores.{empty_store};
-ghost use Rattle.gc_policy.specs.Accounts.{Account, HoldsAccount};
-ghost use Rattle.gc_store.specs.Stores.{HoldsStart, ShowsNothing, DeclaresStruct, IsSameStore, configured};
+ghost use Rattle.gc_store.specs.Stores.{HoldsStart, ShowsNothing, configured};
 
 use crate::config::HeapConfig;
 use crate::engine::StoreId;
 use gc_heap::GcHeap;
 use gc_owner::HeapOwner;
-use gc_types::{FieldType, StructType, TypeFault, Types, VMSharedTypeIndex};
+use gc_types::Types;
 use std::alloc::{AllocError, Global};
 use std::fmt;
 use std::marker::Model;
@@ -170,22 +166,5 @@ impl<H: GcHeap, D: Drop> Store<H, D> {
         ensures { result.now ≡ record { engine = self.now.engine; number = self.now.number; declarations = self.now.types } }
     {
         self.owner.types()
-    }
-
-    /// Declares a struct type, as `Types::declare_struct` does.
-    pub fn declare_struct(
-        &mut self,
-        fields: &[FieldType],
-        supertype: Option<VMSharedTypeIndex>,
-        is_final: bool,
-    ) -> Result<StructType, TypeFault>
-        requires no_supertype { supertype ≡ None }
-        requires open { is_final ≡ false }
-        requires built { All (λ (f : FieldType). is_built_field f ≡ true) fields.now }
-        ensures step { (t : Table D) (a : Account) → HoldsAccount H.KIND self.old t a → DeclaresStruct H.KIND fields.now t a result self.new }
-        ensures err { OnErr result (self.new ≡ self.old) }
-        ensures same { IsSameStore self.old self.new }
-    {
-        self.owner.declare_struct(fields, supertype, is_final)
     }
 }

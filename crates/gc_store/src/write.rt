@@ -6,9 +6,10 @@ ghost use Rattle.gc_policy.specs.Accounts.{Account, HoldsAccount};
 ghost use Rattle.gc_store.specs.Values.{CanWrite, WritesValue};
 ghost use Rattle.gc_store.specs.Stores.{IsSameStore};
 
-use crate::field::{field_place, stored_value, write_field};
 use crate::root::{GcRootIndex, RawValue};
+use crate::slot::slot_in;
 use crate::store::Store;
+use crate::stored::{stored_value, write_slot};
 use gc_heap::GcHeap;
 use gc_refs::VMGcRef;
 use thiserror::Error;
@@ -23,7 +24,8 @@ pub enum WriteFault {
 }
 
 impl<H: GcHeap, D: Drop> Store<H, D> {
-    /// Writes a value into that field of the struct that the handle names. It takes no memory, and no
+    /// Writes a value at that index into the object that the handle names: into a field of a struct or an exception, or
+    /// an element of an array. Of a number that is wider than its slot the low bits are kept. It takes no memory, and no
     /// function is among the values so far, so that it always succeeds.
     pub fn write_value(
         &mut self,
@@ -40,9 +42,9 @@ impl<H: GcHeap, D: Drop> Store<H, D> {
         match self.word_of(handle) {
             Ok(word) => {
                 let gc_ref = VMGcRef::from_raw_u32(word).unwrap();
-                let place = field_place(self.owner.heap(), self.owner.types(), &gc_ref, index);
+                let slot = slot_in(self.owner.heap(), self.owner.types(), &gc_ref, index);
                 let stored = stored_value(self.owner.scoped(), value);
-                write_field(&mut self.owner, &gc_ref, place.offset, stored);
+                write_slot(&mut self.owner, &gc_ref, &slot, stored);
                 Ok(())
             }
             Err(_) => unreachable!(),

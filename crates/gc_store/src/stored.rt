@@ -1,0 +1,105 @@
+//! What a slot of an object keeps of a value.
+
+use crate::root::RawValue;
+use crate::slot::Slot;
+use crate::word::slot_word;
+use gc_heap::GcHeap;
+use gc_heap::access::{read_u8, read_u16, read_u32, read_u64, read_v128};
+use gc_owner::{GcClass, HeapOwner, RootEntry};
+use gc_refs::VMGcRef;
+use gc_types::{HeapTopType, StorageType, ValType};
+
+/// What is kept of a value: a number, of which a slot has the low bytes, or the word of a reference, which is 0
+/// for null.
+#[derive(Clone, Copy)]
+pub(crate) enum Stored {
+    Number(u128),
+    Ref(u32),
+}
+
+/// What lies in a slot: a number, or a reference's class and word.
+#[derive(Clone, Copy)]
+pub(crate) enum Found {
+    Number(RawValue),
+    Ref(GcClass, u32),
+}
+
+/// What is kept of a value; of a reference the word that its root has now.
+pub(crate) fn stored_value(entries: &[RootEntry], value: RawValue) -> Stored {
+    match value {
+        RawValue::I32(number) => Stored::Number(u128::from(number.cast_unsigned())),
+        RawValue::I64(number) => Stored::Number(u128::from(number.cast_unsigned())),
+        RawValue::F32(bits) => Stored::Number(u128::from(bits)),
+        RawValue::F64(bits) => Stored::Number(u128::from(bits)),
+        RawValue::V128(vector) => Stored::Number(vector.as_u128()),
+        RawValue::Func(_) => unreachable!(),
+        RawValue::Ref(_, None) => Stored::Ref(0),
+        RawValue::Ref(_, Some(handle)) => {
+            match slot_word(entries, handle.slot, handle.generation) {
+                Ok(word) => Stored::Ref(word),
+                Err(_) => unreachable!(),
+            }
+        }
+    }
+}
+
+/// Writes a slot of a held object.
+pub(crate) fn write_slot<H: GcHeap, D: Drop>(
+    owner: &mut HeapOwner<H, D>,
+    gc_ref: &VMGcRef,
+    slot: &Slot,
+    stored: Stored,
+) {
+    owner.is_ready();
+    match stored {
+        Stored::Number(number) => {
+            let bytes = number.to_le_bytes();
+            owner.write_number(gc_ref, slot.offset, &bytes[..slot.storage.width() as usize]);
+        }
+        Stored::Ref(word) => owner.write_reference(gc_ref, slot.offset, word),
+    }
+}
+
+/// The class of references of the types under that one.
+fn class_of(top: HeapTopType) -> GcClass {
+    match top {
+        HeapTopType::Any => GcClass::Any,
+        HeapTopType::Extern => GcClass::Extern,
+        HeapTopType::Exn => GcClass::Exn,
+        HeapTopType::Func | HeapTopType::Cont => unreachable!(),
+    }
+}
+
+/// What lies at an offset of a held object, by its type.
+fn read_typed<H: GcHeap>(heap: &H, gc_ref: &VMGcRef, offset: u32, ty: ValType) -> Found {
+    match ty {
+        ValType::I32 => Found::Number(RawValue::I32(
+            read_u32(heap, gc_ref, offset).cast_signed(),
+        )),
+        ValType::I64 => Found::Number(RawValue::I64(
+            read_u64(heap, gc_ref, offset).cast_signed(),
+        )),
+        ValType::F32 => Found::Number(RawValue::F32(read_u32(heap, gc_ref, offset))),
+        ValType::F64 => Found::Number(RawValue::F64(read_u64(heap, gc_ref, offset))),
+        ValType::V128 => Found::Number(RawValue::V128(read_v128(heap, gc_ref, offset))),
+        ValType::Ref(ty) => Found::Ref(
+            class_of(ty.heap_type.top()),
+            read_u32(heap, gc_ref, offset),
+        ),
+    }
+}
+
+/// What lies in a slot of a held object. Small integers are read as unsigned ones.
+pub(crate) fn read_slot<H: GcHeap>(heap: &H, gc_ref: &VMGcRef, slot: &Slot) -> Found {
+    match slot.storage {
+        StorageType::I8 => {
+            let number = u32::from(read_u8(heap, gc_ref, slot.offset));
+            Found::Number(RawValue::I32(number.cast_signed()))
+        }
+        StorageType::I16 => {
+            let number = u32::from(read_u16(heap, gc_ref, slot.offset));
+            Found::Number(RawValue::I32(number.cast_signed()))
+        }
+        StorageType::ValType(ty) => read_typed(heap, gc_ref, slot.offset, ty),
+    }
+}
