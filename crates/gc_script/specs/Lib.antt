@@ -8,6 +8,7 @@ pub mod Policy
 pub mod Named
 pub mod OwnTypes
 pub mod Values
+pub mod Writing
 pub mod Run
 pub mod Lines
 pub mod Cutting

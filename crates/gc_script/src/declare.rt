@@ -4,7 +4,6 @@ ghost use Rattle.std.specs.Prelude.{◌≡◌};
 ghost use Rattle.gc_commands.specs.declared.command.Command.TheVariants as Command;
 ghost use Rattle.gc_script.specs.State.{State, HoldsState};
 ghost use Rattle.gc_script.specs.Run.{GoesOn};
-ghost use Rattle.gc_script.specs.Declared.{told_of_type};
 ghost use Rattle.gc_store.specs.Stores.{IsSameStore};
 
 use crate::runner::{RunError, Runner};
@@ -21,16 +20,6 @@ fn index_of(supertype: Option<u32>) -> Option<VMSharedTypeIndex>
     match supertype {
         Some(index) => Some(VMSharedTypeIndex::new(index)),
         None => None,
-    }
-}
-
-/// What a declaration that failed replies.
-fn told_of_type(fault: TypeFault) -> Result<Reply, RunError>
-    ensures { result ≡ told_of_type fault }
-{
-    match fault {
-        TypeFault::BadType => Ok(Reply::Refused(Refusal::BadType)),
-        TypeFault::Memory => Err(RunError::OutOfMemory),
     }
 }
 
@@ -53,7 +42,8 @@ impl Runner {
         };
         match store.declare_struct(fields.as_slice(), index_of(supertype), is_final) {
             Ok(ty) => Ok(Reply::Declared(ty.index().as_u32())),
-            Err(fault) => told_of_type(fault),
+            Err(TypeFault::BadType) => Ok(Reply::Refused(Refusal::BadType)),
+            Err(TypeFault::Memory) => Err(RunError::OutOfMemory),
         }
     }
 
@@ -73,7 +63,8 @@ impl Runner {
         };
         match store.declare_array(element, index_of(supertype), is_final) {
             Ok(ty) => Ok(Reply::Declared(ty.index().as_u32())),
-            Err(fault) => told_of_type(fault),
+            Err(TypeFault::BadType) => Ok(Reply::Refused(Refusal::BadType)),
+            Err(TypeFault::Memory) => Err(RunError::OutOfMemory),
         }
     }
 }

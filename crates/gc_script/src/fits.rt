@@ -1,13 +1,12 @@
 //! Which values fit a type.
 
-ghost use Rattle.std.specs.Prelude.{◌≡◌, ℕ, IsTrue};
+ghost use Rattle.std.specs.Prelude.{◌≡◌, ℕ};
 ghost use Rattle.gc_types.specs.Subtyping.{supertypes_of};
 ghost use Rattle.gc_model.specs.Fits.{has_class, null_fits, matches, fits_type, fits};
-ghost use Rattle.gc_model.specs.Forms.{type_form, storage_form, reference_of};
 ghost use Rattle.gc_model.specs.Holds.{HoldsTable};
 ghost use Rattle.gc_model.specs.Table.{Table};
 ghost use Rattle.gc_model.specs.Values.{Value};
-ghost use Rattle.gc_store.specs.Values.{RawStands, NamesLive, raw_form};
+ghost use Rattle.gc_store.specs.Values.{RawStands, NamesLive};
 ghost use Rattle.gc_script.specs.OwnTypes.{own_type, own_fits, number_fits};
 
 use crate::values::slot_of;
@@ -100,8 +99,7 @@ fn reference_fits<H: GcHeap>(
     class: GcClass,
     handle: Option<GcRootIndex>,
 ) -> bool
-    ensures fits { (t : Table ℕ) (v : Value) → HoldsTable H.KIND store.now t → RawStands store.now t (RawValue.Ref class handle) v → result ≡ fits_type t.types t.objects (ValType.Ref ty.now) v }
-    ensures form { IsTrue result → type_form (ValType.Ref ty.now) ≡ reference_of class }
+    ensures { (t : Table ℕ) (v : Value) → HoldsTable H.KIND store.now t → RawStands store.now t (RawValue.Ref class handle) v → result ≡ fits_type t.types t.objects (ValType.Ref ty.now) v }
 {
     let handle = match handle {
         Some(handle) => handle,
@@ -129,8 +127,7 @@ fn number_fits(ty: ValType, value: &RawValue) -> bool
 
 /// Whether a value, whose root is live, fits the type of a field or an element.
 pub(crate) fn fits<H: GcHeap>(store: &Store<H, u64>, ty: StorageType, value: &RawValue) -> bool
-    ensures fits { (t : Table ℕ) (v : Value) → HoldsTable H.KIND store.now t → NamesLive ℕ H.KIND store.now value.now → RawStands store.now t value.now v → result ≡ fits t.types t.objects ty v }
-    ensures form { IsTrue result → storage_form ty ≡ raw_form value.now }
+    ensures { (t : Table ℕ) (v : Value) → HoldsTable H.KIND store.now t → NamesLive ℕ H.KIND store.now value.now → RawStands store.now t value.now v → result ≡ fits t.types t.objects ty v }
 {
     let ty = ty.unpack();
     let (class, handle) = match slot_of(value) {
