@@ -22,7 +22,7 @@ put_bytes-apart bytes p ws o n within (inl before) = put_bytes-below bytes p ws 
 put_bytes-apart bytes p ws o n within (inr behind) = put_bytes-above bytes p ws o (o + n) within behind
 
 -- the number that some bytes are, their lowest first
-abbrev number_in : ℕ → List ℕ → ℕ
+abbrev pub number_in : ℕ → List ℕ → ℕ
 number_in width bytes = sum_through (λ i. byte_worth i (slice_index bytes i)) (width - 1)
 
 -- a number that lies in equal bytes is the same
@@ -46,7 +46,7 @@ same_sums f g (suc k) same =
     ap (λ n. n + f (suc k)) (same_sums f g k (λ i h. same i (omega (arith, h)))) ∙ ap (λ n. sum_through g k + n) (same (suc k) (omega arith))
 
 -- the bytes of a number are the number
-number_of_bytes : (width n : ℕ) → 0 < width → n < 256 ^ width → number_in width (bytes_low_first 0 width n) ≡ n
+pub number_of_bytes : (width n : ℕ) → 0 < width → n < 256 ^ width → number_in width (bytes_low_first 0 width n) ≡ n
 number_of_bytes width n positive small =
     let last : suc (width - 1) ≡ width = omega (arith, positive) in
     same_sums (λ i. byte_worth i (slice_index (bytes_low_first 0 width n) i)) (λ i. byte_worth i (byte_at i n)) (width - 1)

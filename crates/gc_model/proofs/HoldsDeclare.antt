@@ -1,16 +1,19 @@
 -- A store that holds a table holds it with one more type.
-use Rattle.std.proofs.Common.{◌≡◌, ℕ, List, [], ◌∷◌, ◌++◌, Some, sym, ap, ◌∙◌, subst, arith}
+use Rattle.std.proofs.Common.{◌≡◌, ℕ, List, [], ◌∷◌, ◌++◌, Option, Some, None, refl, sym, ap, ◌∙◌, subst, arith}
 use Rattle.std.specs.List.{slice_get}
-use Rattle.std.proofs.lemmas.Option.{slice_get_within}
+use Rattle.std.specs.Prelude.{option_map}
+use Rattle.std.proofs.lemmas.Option.{none-some, slice_get_within}
 use Rattle.gc_types.specs.declared.kind.Layouts.{Layouts}
 use Rattle.gc_types.specs.declared.kind.Layouts.TheVariants.{Null, Counting, Copying}
-use Rattle.gc_types.specs.Declarations.{Declaration}
+use Rattle.gc_types.specs.Declarations.{Declaration, Shape}
 use Rattle.gc_model.specs.Values.{Object, struct, array, host, exception}
 use Rattle.gc_model.specs.Table.{Table, declare}
 use Rattle.gc_view.specs.Heaps.{HeapView, HeapObject}
 use Rattle.gc_model.specs.Stores.{StoreView}
-use Rattle.gc_model.specs.Holds.{Placing, Holds, KindHolds, NullHolds, Stands, ObjectsHold}
-use Rattle.gc_model.proofs.Types.{struct_fields_at-push, IsTyped, next_after-push_type, IsBuiltDeclaration, OnlyBuilt-push}
+use Rattle.gc_model.specs.Holds.{Placing, Names, naming, Holds, KindHolds, NullHolds, Stands, ObjectsHold}
+use Rattle.gc_model.proofs.Types.{shape_at-push, IsTyped, next_after-push_type}
+use Rattle.gc_model.proofs.ObjectStands.{stands_renamed}
+use Rattle.gc_model.proofs.Typing.{typed-declared}
 use Rattle.gc_model.proofs.HoldsParts.{types_changed}
 
 -- the store with one more type
@@ -18,25 +21,20 @@ abbrev pub with_type : {D : Type 0} → Declaration → StoreView D → StoreVie
 with_type d s = record s { types = s.types ++ d ∷ [] }
 
 -- an object stands for the same in a longer table of types
-stands-push_type : {D : Type 0} (layouts : Layouts) (types : List Declaration) (d : Declaration) (place : Placing) (entry : Object D) (h : HeapObject) → Stands layouts types place entry h → Stands layouts (types ++ d ∷ []) place entry h
-stands-push_type layouts types d place (struct ty values) h stands = record {
-  fields = stands.fields;
-  declared = struct_fields_at-push types d ty stands.fields stands.declared;
-  kind = stands.kind;
-  same_type = stands.same_type;
-  size = stands.size;
-  values_lie = stands.values_lie;
-}
-stands-push_type layouts types d place (array ty values) h stands = stands
-stands-push_type layouts types d place (host value) h stands = stands
-stands-push_type layouts types d place (exception ty tag values) h stands = stands
+stands-push_type : {D : Type 0} (layouts : Layouts) (types : List Declaration) (d : Declaration) (names : Names) (entry : Object D) (h : HeapObject) → Stands layouts types names entry h → Stands layouts (types ++ d ∷ []) names entry h
+stands-push_type layouts types d names entry h stands = stands_renamed layouts types (types ++ d ∷ []) names names entry h (shape_at-push types d) (λ slots values lie. lie) stands
+
+-- a type of a shape is declared
+declared_type : (d : Option Declaration) (shape : Shape) → option_map (λ (x : Declaration). x.shape) d ≡ Some shape → (x : Declaration) × (d ≡ Some x)
+declared_type None shape e = absurd (none-some shape e)
+declared_type (Some d) shape e = (d, refl)
 
 -- what stands for an object has its type
-pub typed-stands : {D : Type 0} (layouts : Layouts) (types : List Declaration) (place : Placing) (entry : Object D) (h : HeapObject) → Stands layouts types place entry h → IsTyped types entry
-typed-stands layouts types place (struct ty values) h stands = (stands.fields, stands.declared)
-typed-stands layouts types place (array ty values) h stands = absurd stands
-typed-stands layouts types place (host value) h stands = tt
-typed-stands layouts types place (exception ty tag values) h stands = absurd stands
+pub typed-stands : {D : Type 0} (layouts : Layouts) (types : List Declaration) (names : Names) (entry : Object D) (h : HeapObject) → Stands layouts types names entry h → IsTyped types entry
+typed-stands layouts types names (struct ty values) h stands = declared_type (slice_get types ty) stands.stands.shape stands.stands.declared
+typed-stands layouts types names (array ty values) h stands = declared_type (slice_get types ty) stands.stands.shape stands.stands.declared
+typed-stands layouts types names (host value) h stands = tt
+typed-stands layouts types names (exception ty tag values) h stands = declared_type (slice_get types ty) stands.stands.shape stands.stands.declared
 
 -- in a null heap each object's type is declared
 pub all_typed : {D : Type 0} (t : Table D) (place : Placing) (heap : HeapView) → ObjectsHold Null t place heap → NullHolds t place heap → (i : ℕ) (o : Object D) → slice_get t.objects i ≡ Some o → IsTyped t.types o
@@ -44,7 +42,7 @@ all_typed {D} t place heap objects null i o e =
     let placed = null.all_held i (slice_get_within t.objects i o e) in
     let held = objects.placed i placed.0 placed.1 in
     let same : held.entry ≡ o = grind (arith, sym held.in_table ∙ e) in
-    subst (IsTyped t.types) same (typed-stands Null t.types place held.entry held.object held.stands)
+    subst (IsTyped t.types) same (typed-stands Null t.types (naming place t.funcs) held.entry held.object held.stands)
 
 declare_by_kind : {D : Type 0} (layouts : Layouts) (d : Declaration) (t : Table D) (place : Placing) (heap : HeapView) → ObjectsHold layouts t place heap → KindHolds layouts t place heap → KindHolds layouts (declare d t) place heap
 declare_by_kind Null d t place heap objects null = record {
@@ -62,17 +60,17 @@ objects-declared layouts d t place heap objects = record {
     entry = held.entry;
     in_heap = held.in_heap;
     in_table = held.in_table;
-    stands = stands-push_type layouts t.types d place held.entry held.object held.stands;
+    stands = stands-push_type layouts t.types d (naming place t.funcs) held.entry held.object held.stands;
   };
   only = objects.only;
   injective = objects.injective;
   even = objects.even;
 }
 
-pub holds_declare : {D : Type 0} (layouts : Layouts) (s : StoreView D) (t : Table D) (place : Placing) (d : Declaration) → IsBuiltDeclaration d → Holds layouts s t place → Holds layouts (with_type d s) (declare d t) place
-holds_declare layouts s t place d built holds =
+pub holds_declare : {D : Type 0} (layouts : Layouts) (s : StoreView D) (t : Table D) (place : Placing) (d : Declaration) → Holds layouts s t place → Holds layouts (with_type d s) (declare d t) place
+holds_declare layouts s t place d holds =
     types_changed holds
     (ap (λ types. types ++ d ∷ []) holds.types)
     (objects-declared layouts d t place s.heap holds.objects)
     (declare_by_kind layouts d t place s.heap holds.objects holds.by_kind)
-    (OnlyBuilt-push t.types d holds.only_built built)
+    (typed-declared t.types t.objects holds.typed d)

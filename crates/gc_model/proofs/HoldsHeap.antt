@@ -60,6 +60,7 @@ holds_heap layouts s t place heap unmade made holds =
     (made_by_kind layouts t place heap t.first none made)
     (hosts-moved t.objects t.objects place place s.heap.content heap.content s.hosts (no_hosts-nil t.objects none) (no_hosts-nil t.objects none) holds.hosts)
     holds.nothing_else
+    holds.typed
 
 -- a heap with the same objects and so many pages
 pub record IsGrownHeap (layouts : Layouts) (old new : HeapView) (pages : ℕ) : Type 0 where
@@ -85,3 +86,4 @@ holds_pages layouts s t place heap pages grown holds =
     (grown_by_kind layouts t place s.heap heap pages grown holds.by_kind)
     (hosts-same t place s.heap heap s.hosts grown.content holds.hosts)
     holds.nothing_else
+    holds.typed

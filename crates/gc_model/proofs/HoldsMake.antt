@@ -1,4 +1,4 @@
--- A store that holds a table holds it with one more struct, named by a new scoped root.
+-- A store that holds a table holds it with one more object, named by a new scoped root.
 use Rattle.std.proofs.Common.{◌≡◌, ◌≢◌, ℕ, ◌+◌, ◌%◌, ◌<◌, ◌⊎◌, inl, inr, true, false, cond, nat_eq, eqb, Some, None, length, sym, ap, ◌∙◌, refl, subst, arith}
 use Rattle.std.specs.FinMap.{get}
 use Rattle.std.proofs.lemmas.Grind.{common_steps}
@@ -10,17 +10,19 @@ use Rattle.gc_types.specs.Layouts.{round_up}
 use Rattle.gc_model.specs.Values.{at, Object}
 use Rattle.gc_model.specs.Table.{Table, make, add_object}
 use Rattle.gc_model.specs.Live.{roots_full}
+use Rattle.gc_model.specs.Reach.{IsHost}
 use Rattle.gc_view.specs.Sizes.{alignment}
 use Rattle.gc_model.specs.Sizes.{object_size}
 use Rattle.gc_view.specs.Heaps.{HeapView, HeapObject}
 use Rattle.gc_model.specs.Stores.{StoreView}
-use Rattle.gc_model.specs.Holds.{Placing, Holds, KindHolds, HeldAt, Stands, NoHostObjects}
+use Rattle.gc_model.specs.Holds.{Placing, naming, Holds, KindHolds, HeldAt, Stands, NoHostObjects}
 use Rattle.gc_model.proofs.Lists.{slice_get-push_old, slice_get-push_new}
 use Rattle.gc_model.proofs.Types.{next_after-push}
-use Rattle.gc_model.proofs.Placings.{IsWithin, stands-more}
+use Rattle.gc_model.proofs.Typing.{IsTypedObject, typed-made}
+use Rattle.gc_model.proofs.Placings.{IsWithin, AreWithin, placed_within, stands-more}
 use Rattle.gc_model.proofs.RootsMoved.{scoped-more, frames-more, globals-more, owned-more, pending-more}
 use Rattle.gc_model.proofs.HoldsParts.{same_held-itself, places_changed}
-use Rattle.gc_model.proofs.Hosts.{stands-no_host, no_hosts-push, hosts-moved, nothing-objects}
+use Rattle.gc_model.proofs.Hosts.{no_hosts-push, hosts-moved, nothing-objects}
 use Rattle.gc_model.proofs.HoldsPush.{with_root, holds_push}
 
 -- the placing with one more position
@@ -36,10 +38,12 @@ placed_at-old place n word position ne = grind (arith, common_steps)
 placed_at-cases : (place : Placing) (n word position w : ℕ) → placed_at place n word position ≡ Some w → ((position ≡ n) × (word ≡ w)) ⊎ ((position ≢ n) × (place position ≡ Some w))
 placed_at-cases place n word position w e = grind (arith, common_steps)
 
--- What an allocation and its writes left: one more object, which stands for the new one.
+-- What an allocation and its writes left: one more object, which stands for the new one. No host objects are made so far.
 pub record IsMadeObject {D : Type 0} (layouts : Layouts) (t : Table D) (place : Placing) (o : Object D) (old new : HeapView) (word : ℕ) : Type 0 where
   pub object : HeapObject
-  pub stands : Stands layouts t.types place o object
+  pub not_host : ¬ IsHost (Some o)
+  pub stands : Stands layouts t.types (naming place t.funcs) o object
+  pub typed : IsTypedObject t.types t.objects o
   pub free : get old.content word ≡ None
   pub is_even : word % 2 ≡ 0
   pub not_null : 0 < word
@@ -63,6 +67,9 @@ module _ {D : Type 0} (layouts : Layouts) (s : StoreView D) (t : Table D) (place
       let ne : position ≢ length t.objects = λ same. absurd (omega arith) in
       placed_at-old place (length t.objects) word position ne ∙ e
 
+  names_within : AreWithin (naming place t.funcs) (naming place' t.funcs)
+  names_within = placed_within place place' t.funcs within
+
   -- an object that was held is held where it was
   held_old : (position w : ℕ) → place position ≡ Some w → HeldAt layouts (add_object o t) place' heap.content position w
   held_old position w e =
@@ -73,7 +80,7 @@ module _ {D : Type 0} (layouts : Layouts) (s : StoreView D) (t : Table D) (place
         entry = held.entry;
         in_heap = made.others w ne ∙ held.in_heap;
         in_table = slice_get-push_old t.objects o position held.entry held.in_table;
-        stands = stands-more layouts t.types place place' held.entry held.object within held.stands;
+        stands = stands-more (naming place t.funcs) (naming place' t.funcs) names_within layouts t.types held.entry held.object held.stands;
       }
 
   held_new : HeldAt layouts (add_object o t) place' heap.content (length t.objects) word
@@ -82,7 +89,7 @@ module _ {D : Type 0} (layouts : Layouts) (s : StoreView D) (t : Table D) (place
     entry = o;
     in_heap = made.here;
     in_table = slice_get-push_new t.objects o;
-    stands = stands-more layouts t.types place place' o made.object within made.stands;
+    stands = stands-more (naming place t.funcs) (naming place' t.funcs) names_within layouts t.types o made.object made.stands;
   }
 
   held : (position w : ℕ) → place' position ≡ Some w → HeldAt layouts (add_object o t) place' heap.content position w
@@ -148,7 +155,7 @@ module _ {D : Type 0} (layouts : Layouts) (s : StoreView D) (t : Table D) (place
   made_by_kind Copying is kind = tt
 
   no_hosts : NoHostObjects (add_object o t).objects
-  no_hosts = no_hosts-push t.objects o holds.nothing_else.hosts (stands-no_host layouts t.types place o made.object made.stands)
+  no_hosts = no_hosts-push t.objects o holds.nothing_else.hosts made.not_host
 
   -- the store holds the table with the object, which no root names yet
   pub holds_add : t.made ≡ true → Holds layouts (record s { heap = heap }) (add_object o t) place'
@@ -169,6 +176,7 @@ module _ {D : Type 0} (layouts : Layouts) (s : StoreView D) (t : Table D) (place
       (pending-more place place' within t.pending s.pending holds.pending)
       (hosts-moved t.objects (add_object o t).objects place place' s.heap.content heap.content s.hosts holds.nothing_else.hosts no_hosts holds.hosts)
       (nothing-objects holds.nothing_else no_hosts)
+      (typed-made t.types t.objects holds.typed o made.typed)
 
   -- the store holds the table with the object, and a new root that names it
   pub holds_make : t.made ≡ true → roots_full t ≡ false → Holds layouts (with_root heap word s) (make o t) place'

@@ -7,16 +7,17 @@ use Rattle.gc_model.specs.Table.{Table}
 pub use Rattle.gc_view.specs.Heaps.{SameHeld}
 use Rattle.gc_view.specs.Heaps.{HeapView, HeapObject}
 use Rattle.gc_model.specs.Stores.{StoreView}
-use Rattle.gc_model.specs.Holds.{Placing, Points, Holds, KindHolds, KindBy, ObjectsHold, ObjectsBy, HostsHold, HostsBy, MemoryHolds}
+use Rattle.gc_model.specs.Holds.{Placing, naming, Points, Holds, KindHolds, KindBy, ObjectsHold, ObjectsBy, HostsHold, HostsBy, MemoryHolds}
 
 pub same_held-itself : (heap : HeapView) → SameHeld heap heap
 same_held-itself heap = record { content = refl; attached = refl; capacity = refl; allocated = refl; needs_gc = refl }
 
 -- other facts at some points, and the same at all others
-module _ {Types Settings Memory Objects Kind Scopes Scoped Pushes Frames Globals Owned Pending Functions Hosts Nothing Built : Type 0} (p : Points Types Settings Memory Objects Kind Scopes Scoped Pushes Frames Globals Owned Pending Functions Hosts Nothing Built) where
+module _ {Types Settings Memory Objects Kind Scopes Scoped Pushes Frames Globals Owned Pending Functions Hosts Nothing Typed : Type 0} (p : Points Types Settings Memory Objects Kind Scopes Scoped Pushes Frames Globals Owned Pending Functions Hosts Nothing Typed) where
   -- at those on the heap
-  pub heap_changed : {Memory' Objects' Kind' Hosts' Nothing' : Type 0} → Memory' → Objects' → Kind' → Hosts' → Nothing' → Points Types Settings Memory' Objects' Kind' Scopes Scoped Pushes Frames Globals Owned Pending Functions Hosts' Nothing' Built
-  heap_changed memory objects kind hosts nothing_else = record {
+  pub heap_changed : {Memory' Objects' Kind' Hosts' Nothing' Typed' : Type 0} → Memory' → Objects' → Kind' → Hosts' → Nothing' → Typed'
+      → Points Types Settings Memory' Objects' Kind' Scopes Scoped Pushes Frames Globals Owned Pending Functions Hosts' Nothing' Typed'
+  heap_changed memory objects kind hosts nothing_else typed = record {
     types = p.types;
     settings = p.settings;
     memory = memory;
@@ -32,11 +33,11 @@ module _ {Types Settings Memory Objects Kind Scopes Scoped Pushes Frames Globals
     funcs = p.funcs;
     hosts = hosts;
     nothing_else = nothing_else;
-    only_built = p.only_built;
+    typed = typed;
   }
 
   -- at those on scoped roots
-  pub scoped_changed : {Scopes' Scoped' Pushes' : Type 0} → Scopes' → Scoped' → Pushes' → Points Types Settings Memory Objects Kind Scopes' Scoped' Pushes' Frames Globals Owned Pending Functions Hosts Nothing Built
+  pub scoped_changed : {Scopes' Scoped' Pushes' : Type 0} → Scopes' → Scoped' → Pushes' → Points Types Settings Memory Objects Kind Scopes' Scoped' Pushes' Frames Globals Owned Pending Functions Hosts Nothing Typed
   scoped_changed scopes scoped pushes = record {
     types = p.types;
     settings = p.settings;
@@ -53,12 +54,12 @@ module _ {Types Settings Memory Objects Kind Scopes Scoped Pushes Frames Globals
     funcs = p.funcs;
     hosts = p.hosts;
     nothing_else = p.nothing_else;
-    only_built = p.only_built;
+    typed = p.typed;
   }
 
   -- at those on types
-  pub types_changed : {Types' Objects' Kind' Built' : Type 0} → Types' → Objects' → Kind' → Built' → Points Types' Settings Memory Objects' Kind' Scopes Scoped Pushes Frames Globals Owned Pending Functions Hosts Nothing Built'
-  types_changed types objects kind built = record {
+  pub types_changed : {Types' Objects' Kind' Typed' : Type 0} → Types' → Objects' → Kind' → Typed' → Points Types' Settings Memory Objects' Kind' Scopes Scoped Pushes Frames Globals Owned Pending Functions Hosts Nothing Typed'
+  types_changed types objects kind typed = record {
     types = types;
     settings = p.settings;
     memory = p.memory;
@@ -74,11 +75,11 @@ module _ {Types Settings Memory Objects Kind Scopes Scoped Pushes Frames Globals
     funcs = p.funcs;
     hosts = p.hosts;
     nothing_else = p.nothing_else;
-    only_built = built;
+    typed = typed;
   }
 
   -- at those on frames
-  pub frames_changed : {Frames' : Type 0} → Frames' → Points Types Settings Memory Objects Kind Scopes Scoped Pushes Frames' Globals Owned Pending Functions Hosts Nothing Built
+  pub frames_changed : {Frames' : Type 0} → Frames' → Points Types Settings Memory Objects Kind Scopes Scoped Pushes Frames' Globals Owned Pending Functions Hosts Nothing Typed
   frames_changed frames = record {
     types = p.types;
     settings = p.settings;
@@ -95,11 +96,11 @@ module _ {Types Settings Memory Objects Kind Scopes Scoped Pushes Frames Globals
     funcs = p.funcs;
     hosts = p.hosts;
     nothing_else = p.nothing_else;
-    only_built = p.only_built;
+    typed = p.typed;
   }
 
   -- at those on globals
-  pub globals_changed : {Globals' : Type 0} → Globals' → Points Types Settings Memory Objects Kind Scopes Scoped Pushes Frames Globals' Owned Pending Functions Hosts Nothing Built
+  pub globals_changed : {Globals' : Type 0} → Globals' → Points Types Settings Memory Objects Kind Scopes Scoped Pushes Frames Globals' Owned Pending Functions Hosts Nothing Typed
   globals_changed globals = record {
     types = p.types;
     settings = p.settings;
@@ -116,13 +117,13 @@ module _ {Types Settings Memory Objects Kind Scopes Scoped Pushes Frames Globals
     funcs = p.funcs;
     hosts = p.hosts;
     nothing_else = p.nothing_else;
-    only_built = p.only_built;
+    typed = p.typed;
   }
 
   -- at those on what is placed
-  pub places_changed : {Memory' Objects' Kind' Scoped' Frames' Globals' Owned' Pending' Hosts' Nothing' : Type 0} → Memory' → Objects' → Kind' → Scoped' → Frames' → Globals' → Owned' → Pending' → Hosts' → Nothing'
-      → Points Types Settings Memory' Objects' Kind' Scopes Scoped' Pushes Frames' Globals' Owned' Pending' Functions Hosts' Nothing' Built
-  places_changed memory objects kind scoped frames globals owned pending hosts nothing_else = record {
+  pub places_changed : {Memory' Objects' Kind' Scoped' Frames' Globals' Owned' Pending' Hosts' Nothing' Typed' : Type 0} → Memory' → Objects' → Kind' → Scoped' → Frames' → Globals' → Owned' → Pending' → Hosts' → Nothing' → Typed'
+      → Points Types Settings Memory' Objects' Kind' Scopes Scoped' Pushes Frames' Globals' Owned' Pending' Functions Hosts' Nothing' Typed'
+  places_changed memory objects kind scoped frames globals owned pending hosts nothing_else typed = record {
     types = p.types;
     settings = p.settings;
     memory = memory;
@@ -138,12 +139,12 @@ module _ {Types Settings Memory Objects Kind Scopes Scoped Pushes Frames Globals
     funcs = p.funcs;
     hosts = hosts;
     nothing_else = nothing_else;
-    only_built = p.only_built;
+    typed = typed;
   }
 
 -- the objects, in a heap with the same content
 pub objects-same : {D : Type 0} (layouts : Layouts) (t : Table D) (place : Placing) (old new : HeapView) → new.content ≡ old.content → ObjectsHold layouts t place old → ObjectsHold layouts t place new
-objects-same layouts t place old new same objects = subst (λ (m : FinMap nat_cmp HeapObject). ObjectsBy layouts t.types t.objects place m) (sym same) objects
+objects-same layouts t place old new same objects = subst (λ (m : FinMap nat_cmp HeapObject). ObjectsBy layouts t.types t.objects (naming place t.funcs) m) (sym same) objects
 
 pub kind-same : {D : Type 0} (layouts : Layouts) (t : Table D) (place : Placing) (old new : HeapView) → new.allocated ≡ old.allocated → KindHolds layouts t place old → KindHolds layouts t place new
 kind-same layouts t place old new same kind = subst (λ n. KindBy layouts t.types t.objects place n) (sym same) kind
@@ -164,4 +165,4 @@ memory-same s t heap same memory = record {
 -- a store that holds a table holds it with a heap that holds the same
 pub holds_same : {D : Type 0} (layouts : Layouts) (s : StoreView D) (t : Table D) (place : Placing) (heap : HeapView) → Holds layouts s t place → SameHeld s.heap heap → Holds layouts (record s { heap = heap }) t place
 holds_same layouts s t place heap holds same =
-    heap_changed holds (memory-same s t heap same holds.memory) (objects-same layouts t place s.heap heap same.content holds.objects) (kind-same layouts t place s.heap heap same.allocated holds.by_kind) (hosts-same t place s.heap heap s.hosts same.content holds.hosts) holds.nothing_else
+    heap_changed holds (memory-same s t heap same holds.memory) (objects-same layouts t place s.heap heap same.content holds.objects) (kind-same layouts t place s.heap heap same.allocated holds.by_kind) (hosts-same t place s.heap heap s.hosts same.content holds.hosts) holds.nothing_else holds.typed

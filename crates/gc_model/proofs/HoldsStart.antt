@@ -70,7 +70,7 @@ holds_untouched D layouts s untouched = record {
   funcs = untouched.funcs;
   hosts = hosts-none [] nowhere s.heap.content s.hosts (no_hosts-nil {D = D} [] refl) untouched.no_hosts;
   nothing_else = record { owns = refl; owned = refl; pending = refl; funcs = refl; blocks = refl; hosts = no_hosts-nil {D = D} [] refl };
-  only_built = λ ty fields e. absurd (none-some fields e);
+  typed = λ position index object value e f. absurd (none-some object e);
 }
 
 untouched_allocated : {D : Type 0} (layouts : Layouts) (t : Table D) (place : Placing) (heap : HeapView) → t.objects ≡ [] → KindHolds layouts t place heap → layouts ≡ Null → heap.allocated ≡ 0

@@ -6,14 +6,13 @@ use Rattle.std.specs.FinMap.{FinMap, get, empty, get-empty, same_map, nat_cmp-Is
 use Rattle.std.specs.Cmp.{nat_cmp_total}
 use Rattle.std.proofs.lemmas.Option.{none-some}
 use Rattle.gc_types.specs.declared.kind.Layouts.{Layouts}
-use Rattle.gc_types.specs.Declarations.{Declaration}
 use Rattle.gc_model.specs.Values.{Reference, Value, Object, struct, array, host, exception}
 use Rattle.gc_model.specs.Reach.{IsHost}
 use Rattle.gc_model.specs.Table.{Table, Owned, Block, with_value, change_at}
 use Rattle.gc_types.specs.declared.value.Func.{Func}
 use Rattle.gc_view.specs.Heaps.{HeapObject}
 use Rattle.gc_model.specs.Stores.{StoreView}
-use Rattle.gc_model.specs.Holds.{Placing, Holds, Stands, HostsBy, NoHostObjects, NotBuilt}
+use Rattle.gc_model.specs.Holds.{Placing, Holds, HostsBy, NoHostObjects, NotBuilt}
 use Rattle.gc_model.proofs.Lists.{slice_get-push_cases}
 
 host_value : {D : Type 0} (o : Option (Object D)) → IsHost o → (value : D) × (o ≡ Some (host value))
@@ -30,13 +29,6 @@ module _ {D : Type 0} where
 
   pub no_hosts-nil : (objects : List (Object D)) → objects ≡ [] → NoHostObjects objects
   no_hosts-nil objects is = subst (λ (os : List (Object D)). NoHostObjects os) (sym is) (λ position h. h)
-
-  -- what stands for an object so far is no host object
-  pub stands-no_host : (layouts : Layouts) (types : List Declaration) (place : Placing) (o : Object D) (h : HeapObject) → Stands layouts types place o h → ¬ IsHost (Some o)
-  stands-no_host layouts types place (struct ty values) h stands is = is
-  stands-no_host layouts types place (array ty values) h stands is = is
-  stands-no_host layouts types place (host value) h stands is = stands
-  stands-no_host layouts types place (exception ty tag values) h stands is = is
 
   -- with one more object
   pub no_hosts-push : (objects : List (Object D)) (o : Object D) → NoHostObjects objects → ¬ IsHost (Some o) → NoHostObjects (objects ++ o ∷ [])

@@ -1,43 +1,53 @@
--- What lies under a placing lies under each placing with more positions.
-use Rattle.std.proofs.Common.{◌≡◌, ℕ, List, Some}
+-- What lies by some names lies by each names with more places and functions.
+use Rattle.std.proofs.Common.{◌≡◌, ℕ, ◌-◌, List, Option, Some}
+use Rattle.std.specs.List.{slice_get}
+use Rattle.gc_types.specs.declared.value.Func.{Func}
 use Rattle.gc_types.specs.declared.value.StorageType.{StorageType}
 use Rattle.gc_types.specs.declared.kind.Layouts.{Layouts}
 use Rattle.gc_types.specs.Declarations.{Declaration}
-use Rattle.gc_model.specs.Values.{Reference, null, small, at, Value, numeric, function, reference, Object, struct, array, host, exception}
+use Rattle.gc_types.specs.Layouts.{storage_width, struct_base}
 use Rattle.gc_view.specs.Heaps.{HeapObject}
-use Rattle.gc_model.specs.Holds.{Placing, IsWord, Lies, Stands}
-use Rattle.gc_model.specs.Forms.{IsCode, number_at, no_functions}
-use Rattle.gc_types.specs.Layouts.{storage_width}
+use Rattle.gc_view.specs.Slots.{StorageSlot}
+use Rattle.gc_model.specs.Values.{Reference, null, small, at, Value, numeric, function, reference, Object}
+use Rattle.gc_model.specs.Forms.{Names, naming, IsCode, LiesAs, number_at}
+use Rattle.gc_model.specs.Holds.{Placing, IsWord}
+use Rattle.gc_model.specs.Standing.{Stands, ValuesLie}
+use Rattle.gc_model.proofs.ObjectStands.{stands_renamed}
 
 -- each position that is placed before is placed alike after
 abbrev pub IsWithin : Placing → Placing → Type 0
 IsWithin place place' = (position word : ℕ) → place position ≡ Some word → place' position ≡ Some word
+
+-- and each function keeps its id
+pub record AreWithin (names names' : Names) : Type 0 where
+  pub places : IsWithin names.place names'.place
+  pub functions : (id : ℕ) (f : Option Func) → slice_get names.funcs id ≡ Some f → slice_get names'.funcs id ≡ Some f
 
 pub is_word-more : (place place' : Placing) (r : Reference) (word : ℕ) → IsWithin place place' → IsWord place r word → IsWord place' r word
 is_word-more place place' null word within is = is
 is_word-more place place' (small n) word within is = is
 is_word-more place place' (at p) word within is = within p word is
 
-is_code-more : (place place' : Placing) (v : Value) (code : ℕ) → IsWithin place place' → IsCode (no_functions place) v code → IsCode (no_functions place') v code
-is_code-more place place' (numeric kind n) code within is = is
-is_code-more place place' (function f) code within is = is
-is_code-more place place' (reference class r) code within is = is_word-more place place' r code within is
+module _ (names names' : Names) (within : AreWithin names names') where
+  is_code-more : (v : Value) (code : ℕ) → IsCode names v code → IsCode names' v code
+  is_code-more (numeric kind n) code is = is
+  is_code-more (function f) code is = within.functions code f is
+  is_code-more (reference class r) code is = is_word-more names.place names'.place r code within.places is
 
-pub lies-more : (place place' : Placing) (ty : StorageType) (v : Value) (bytes : List ℕ) (offset : ℕ) → IsWithin place place' → Lies place ty v bytes offset → Lies place' ty v bytes offset
-lies-more place place' ty v bytes offset within lies = record { form = lies.form; code = is_code-more place place' v (number_at (storage_width ty) bytes offset) within lies.code }
+  pub lies-more : (ty : StorageType) (v : Value) (bytes : List ℕ) (offset : ℕ) → LiesAs names ty v bytes offset → LiesAs names' ty v bytes offset
+  lies-more ty v bytes offset lies = record { form = lies.form; code = is_code-more v (number_at (storage_width ty) bytes offset) lies.code }
 
-pub stands-more : {D : Type 0} (layouts : Layouts) (types : List Declaration) (place place' : Placing) (entry : Object D) (h : HeapObject) → IsWithin place place' → Stands layouts types place entry h → Stands layouts types place' entry h
-stands-more layouts types place place' (struct ty values) h within stands = record {
-  fields = stands.fields;
-  declared = stands.declared;
-  kind = stands.kind;
-  same_type = stands.same_type;
-  size = stands.size;
-  values_lie = record {
-    same_count = stands.values_lie.same_count;
-    each = λ i field layout value e f g. lies-more place place' field.element_type value h.bytes _ within (stands.values_lie.each i field layout value e f g);
-  };
-}
-stands-more layouts types place place' (array ty values) h within stands = stands
-stands-more layouts types place place' (host value) h within stands = stands
-stands-more layouts types place place' (exception ty tag values) h within stands = stands
+  pub values_lie-more : (base : ℕ) (slots : List StorageSlot) (values : List Value) (bytes : List ℕ) → ValuesLie names base slots values bytes → ValuesLie names' base slots values bytes
+  values_lie-more base slots values bytes lie = record {
+    same_count = lie.same_count;
+    each = λ i slot value e f. lies-more slot.storage value bytes (slot.offset - base) (lie.each i slot value e f);
+  }
+
+  pub stands-more : {D : Type 0} (layouts : Layouts) (types : List Declaration) (o : Object D) (h : HeapObject) → Stands layouts types names o h → Stands layouts types names' o h
+  stands-more layouts types o h stands =
+      stands_renamed layouts types types names names' o h (λ ty shape declared. declared)
+      (λ slots values. values_lie-more (struct_base layouts) slots values h.bytes) stands
+
+-- more positions, and the same functions
+pub placed_within : (place place' : Placing) (funcs : List (Option Func)) → IsWithin place place' → AreWithin (naming place funcs) (naming place' funcs)
+placed_within place place' funcs within = record { places = within; functions = λ id f is. is }

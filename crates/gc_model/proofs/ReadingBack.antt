@@ -1,19 +1,18 @@
 -- What lies in a field, by the form of the field, and what a change of words leaves of it.
-use Rattle.std.proofs.Common.{◌≡◌, ℕ, List, true, false, Bool, cond, refl, sym, ap, ◌∙◌, subst, arith}
+use Rattle.std.proofs.Common.{◌≡◌, ℕ, List, Option, Some, true, false, refl, sym, ap, ◌∙◌, subst, arith}
+use Rattle.std.specs.List.{slice_get}
+use Rattle.gc_types.specs.declared.value.Func.{Func}
 use Rattle.gc_types.specs.declared.value.StorageType.{StorageType}
 use Rattle.gc_types.specs.declared.value.StorageType.TheVariants as storage
 use Rattle.gc_types.specs.declared.value.ValType.TheVariants as val
-use Rattle.gc_types.specs.declared.value.RefType.{RefType}
 use Rattle.gc_types.specs.declared.value.HeapType.{HeapType}
 use Rattle.gc_types.specs.declared.value.HeapType.TheVariants as heap
 use Rattle.gc_types.specs.Values.{heap_top}
 use Rattle.gc_types.specs.Layouts.{storage_width, is_gc_storage, is_gc_heap_type}
 use Rattle.gc_owner.specs.declared.entry.GcClass.{GcClass}
-use Rattle.gc_owner.specs.declared.entry.GcClass.TheVariants.{Any}
-use Rattle.gc_model.specs.Values.{NumberKind, i32, i64, Value, numeric, function, reference, Reference}
+use Rattle.gc_model.specs.Values.{NumberKind, Value, numeric, function, reference, Reference}
 use Rattle.gc_model.specs.Words.{Placing, IsWord}
-use Rattle.gc_model.specs.Fits.{is_any, is_built_value, is_built_storage, fits, is_i32, is_i64, is_any_reference}
-use Rattle.gc_model.specs.Forms.{Form, number_of, function_of, continuation_of, reference_of, top_form, type_form, storage_form, value_form, is_reference, Names, no_functions, IsCode, LiesAs, number_at}
+use Rattle.gc_model.specs.Forms.{Form, number_of, function_of, continuation_of, reference_of, top_form, storage_form, value_form, is_reference, Names, naming, IsCode, LiesAs, number_at}
 
 number_of_form : (kind : NumberKind) (v : Value) → number_of kind ≡ value_form v → (n : ℕ) × (v ≡ numeric kind n)
 number_of_form kind (numeric k n) e = let same : k ≡ kind = grind (arith, e) in (n, ap (λ j. numeric j n) same)
@@ -25,11 +24,22 @@ reference_of_form class (numeric k n) e = absurd (cc)
 reference_of_form class (function f) e = absurd (cc)
 reference_of_form class (reference c r) e = let same : c ≡ class = grind (arith, e) in (r, ap (λ j. reference j r) same)
 
+function_of_form : (v : Value) → function_of ≡ value_form v → (f : Option Func) × (v ≡ function f)
+function_of_form (numeric k n) e = absurd (cc)
+function_of_form (function f) e = (f, refl)
+function_of_form (reference class r) e = absurd (cc)
+
 -- A reference of the class, with its word.
 pub record ReferenceAs (place : Placing) (class : GcClass) (v : Value) (word : ℕ) : Type 0 where
   pub reference_is : Reference
   pub value_is : v ≡ reference class reference_is
   pub is_word : IsWord place reference_is word
+
+-- A function or none, with its id.
+pub record FunctionAs (funcs : List (Option Func)) (v : Value) (id : ℕ) : Type 0 where
+  pub function_is : Option Func
+  pub value_is : v ≡ function function_is
+  pub is_id : slice_get funcs id ≡ Some function_is
 
 module _ (names : Names) (ty : StorageType) (v : Value) (bytes : List ℕ) (o : ℕ) where
   abbrev code : ℕ
@@ -47,6 +57,12 @@ module _ (names : Names) (ty : StorageType) (v : Value) (bytes : List ℕ) (o : 
   reference_lying class is lies =
       let r = reference_of_form class v (sym is ∙ lies.form) in
       record { reference_is = r.0; value_is = r.1; is_word = subst (λ (x : Value). IsCode names x code) r.1 lies.code }
+
+  -- and in one of functions a function or none
+  pub function_lying : storage_form ty ≡ function_of → LiesAs names ty v bytes o → FunctionAs names.funcs v (number_at (storage_width ty) bytes o)
+  function_lying is lies =
+      let f = function_of_form v (sym is ∙ lies.form) in
+      record { function_is = f.0; value_is = f.1; is_id = subst (λ (x : Value). IsCode names x code) f.1 lies.code }
 
 heap_reference : (ty : HeapType) → is_gc_heap_type ty ≡ is_reference (top_form (heap_top ty))
 heap_reference heap.Any = refl
@@ -97,35 +113,11 @@ reference_class function_of e = absurd (cc)
 reference_class continuation_of e = absurd (cc)
 reference_class (reference_of class) e = (class, refl)
 
-any_form : (ty : HeapType) → is_any ty ≡ true → top_form (heap_top ty) ≡ reference_of Any
-any_form heap.Any e = refl
-any_form _ e = absurd (cc)
-
-nullable_form : (nullable : Bool) (ty : HeapType) → cond nullable (is_any ty) false ≡ true → top_form (heap_top ty) ≡ reference_of Any
-nullable_form true ty e = any_form ty e
-nullable_form false ty e = absurd (cc)
-
--- a field of references that is of a type that is built holds references of class Any
-pub built_form : (ty : RefType) → is_built_value (val.Ref ty) ≡ true → type_form (val.Ref ty) ≡ reference_of Any
-built_form ty e = nullable_form ty.nullable ty.heap_type e
-
--- a value that lies in a field of a type that is built fits it
-pub lies_fits : (names : Names) (ty : StorageType) (v : Value) (bytes : List ℕ) (o : ℕ) → is_built_storage ty ≡ true → LiesAs names ty v bytes o → fits ty v ≡ true
-lies_fits names storage.I8 v bytes o built lies = absurd (cc)
-lies_fits names storage.I16 v bytes o built lies = absurd (cc)
-lies_fits names (storage.ValType val.I32) v bytes o built lies = ap is_i32 (number_lying names (storage.ValType val.I32) v bytes o i32 refl lies)
-lies_fits names (storage.ValType val.I64) v bytes o built lies = ap is_i64 (number_lying names (storage.ValType val.I64) v bytes o i64 refl lies)
-lies_fits names (storage.ValType val.F32) v bytes o built lies = absurd (cc)
-lies_fits names (storage.ValType val.F64) v bytes o built lies = absurd (cc)
-lies_fits names (storage.ValType val.V128) v bytes o built lies = absurd (cc)
-lies_fits names (storage.ValType (val.Ref ty)) v bytes o built lies =
-    ap is_any_reference (reference_lying names (storage.ValType (val.Ref ty)) v bytes o Any (built_form ty built) lies).value_is
-
 -- A value stands for itself under another placing and another number, where the number of one that is no
 -- reference is the same, and a reference's word is carried along.
-pub value_moved : (place place' : Placing) (v : Value) (was now : ℕ) → (is_reference (value_form v) ≡ false → now ≡ was)
+pub value_moved : (place place' : Placing) (funcs : List (Option Func)) (v : Value) (was now : ℕ) → (is_reference (value_form v) ≡ false → now ≡ was)
     → ((r : Reference) → is_reference (value_form v) ≡ true → IsWord place r was → IsWord place' r now)
-    → IsCode (no_functions place) v was → IsCode (no_functions place') v now
-value_moved place place' (numeric kind n) was now same carried is = same refl ∙ is
-value_moved place place' (function f) was now same carried is = subst (λ (c : ℕ). IsCode (no_functions place') (function f) c) (sym (same refl)) is
-value_moved place place' (reference class r) was now same carried is = carried r refl is
+    → IsCode (naming place funcs) v was → IsCode (naming place' funcs) v now
+value_moved place place' funcs (numeric kind n) was now same carried is = same refl ∙ is
+value_moved place place' funcs (function f) was now same carried is = subst (λ (c : ℕ). IsCode (naming place' funcs) (function f) c) (sym (same refl)) is
+value_moved place place' funcs (reference class r) was now same carried is = carried r refl is

@@ -6,8 +6,6 @@ use Rattle.std.proofs.lemmas.List.{length-set}
 use Rattle.std.proofs.lemmas.List.Concat.{flat_map-cons}
 use Rattle.gc_types.specs.declared.kind.Layouts.{Layouts}
 use Rattle.gc_types.specs.declared.kind.TypeKind.{TypeKind}
-use Rattle.gc_types.specs.declared.kind.TypeKind.TheVariants as kinds
-use Rattle.gc_types.specs.declared.value.Tag.{Tag}
 use Rattle.gc_types.specs.Declarations.{Declaration}
 use Rattle.gc_types.specs.Layouts.{struct_base, is_gc_storage}
 use Rattle.gc_view.specs.Bytes.{put_bytes, u32_at}
@@ -16,12 +14,15 @@ use Rattle.gc_view.specs.Slots.{StorageSlot, shape_slots, shape_first, shape_siz
 use Rattle.gc_view.proofs.ByteLemmas.{length-put_bytes, put_bytes-below, u32_in_same}
 use Rattle.gc_view.proofs.Layouts.{stored_size-le}
 use Rattle.gc_view.proofs.SlotLemmas.{shape_spaced, first_behind, slot_range}
-use Rattle.gc_model.specs.Values.{Value, numeric, function, reference, Reference}
+use Rattle.gc_model.specs.Values.{Value, numeric, function, reference, Reference, Object}
+use Rattle.gc_model.specs.Table.{with_value}
 use Rattle.gc_model.specs.Words.{Placing, IsWord}
 use Rattle.gc_model.specs.Forms.{Names, LiesAs, IsEncodedAs, is_reference, number_at}
-use Rattle.gc_model.specs.Reach.{value_references}
-use Rattle.gc_model.specs.Standing.{ValuesLieIn, ShapeStands, StructStandsIn, ArrayStands, ExceptionStands}
+use Rattle.gc_model.specs.Reach.{value_references, object_values}
+use Rattle.gc_model.specs.Standing.{ValuesLie, ShapeStands, Stands}
 use Rattle.gc_model.proofs.SlotWrites.{shape_write, slot_within}
+use Rattle.gc_model.proofs.ObjectShapes.{IsSlotOf}
+use Rattle.gc_model.proofs.ObjectStands.{changed_values, slot_not_host, slot_stands, stands_again}
 use Rattle.gc_model.proofs.ReadingBack.{storage_reference, reference_width}
 
 -- the object with other bytes in a slot
@@ -42,9 +43,9 @@ module _ (layouts : Layouts) (types : List Declaration) (names : Names) (ty : �
       (first_behind layouts stands.shape stands.count k slot is) (shape_spaced layouts stands.shape stands.count) k slot v h.bytes ws is encoded (room kind stands)
 
   -- a shape stands with the value written
-  pub stands_write : (kind : TypeKind) (stands : ShapeStands layouts types names kind ty values h) → slice_get (shape_slots layouts stands.shape stands.count) k ≡ Some slot
+  shape_stands_write : (kind : TypeKind) (stands : ShapeStands layouts types names kind ty values h) → slice_get (shape_slots layouts stands.shape stands.count) k ≡ Some slot
       → ShapeStands layouts types names kind ty (slice_set values k v) (slot_written layouts h slot ws)
-  stands_write kind stands is = record {
+  shape_stands_write kind stands is = record {
     shape = stands.shape;
     declared = stands.declared;
     of_kind = stands.of_kind;
@@ -64,28 +65,19 @@ module _ (layouts : Layouts) (types : List Declaration) (names : Names) (ty : �
       let low = (slot_range (shape_first layouts stands.shape) (shape_size layouts stands.shape stands.count) (shape_slots layouts stands.shape stands.count) (shape_spaced layouts stands.shape stands.count) k slot is).low in
       u32_in_same h.bytes (put_bytes h.bytes (slot.offset - base) ws) o (put_bytes-below h.bytes (slot.offset - base) ws o (o + 4) (within kind stands is) (omega (arith, low, before)))
 
-  pub struct_write : (stands : StructStandsIn layouts types names ty values h) → slice_get (shape_slots layouts stands.stands.shape stands.stands.count) k ≡ Some slot
-      → StructStandsIn layouts types names ty (slice_set values k v) (slot_written layouts h slot ws)
-  struct_write stands is = record { kind = stands.kind; stands = stands_write kinds.Struct stands.stands is }
-
-  -- an array keeps its length
-  pub array_write : (stands : ArrayStands layouts types names ty values h) → slice_get (shape_slots layouts stands.stands.shape stands.stands.count) k ≡ Some slot → base + 4 ≤ shape_first layouts stands.stands.shape
-      → ArrayStands layouts types names ty (slice_set values k v) (slot_written layouts h slot ws)
-  array_write stands is behind = record {
-    kind = stands.kind;
-    elements = word_kept kinds.Array stands.stands is 0 behind ∙ stands.elements ∙ sym (length-set values k v);
-    stands = stands_write kinds.Array stands.stands is;
-  }
-
-  -- an exception keeps its tag
-  pub exception_write : (tag : Tag) (stands : ExceptionStands layouts types names ty tag values h) → slice_get (shape_slots layouts stands.stands.shape stands.stands.count) k ≡ Some slot → base + 8 ≤ shape_first layouts stands.stands.shape
-      → ExceptionStands layouts types names ty tag (slice_set values k v) (slot_written layouts h slot ws)
-  exception_write tag stands is behind = record {
-    kind = stands.kind;
-    instance = word_kept kinds.Exn stands.stands is 0 (omega (arith, behind)) ∙ stands.instance;
-    index = word_kept kinds.Exn stands.stands is 4 (omega (arith, behind)) ∙ stands.index;
-    stands = stands_write kinds.Exn stands.stands is;
-  }
+-- An object stands for the changed one after a value was written into its slot.
+pub stands_write : {D : Type 0} (layouts : Layouts) (types : List Declaration) (names : Names) (o : Object D) (h : HeapObject) (k : ℕ) (slot : StorageSlot) (v : Value) (ws : List ℕ)
+    → IsSlotOf layouts types o k slot → IsEncodedAs names slot.storage v ws → Stands layouts types names o h → Stands layouts types names (with_value k v o) (slot_written layouts h slot ws)
+stands_write {D} layouts types names o h k slot v ws is encoded stands =
+    subst (λ (x : Object D). Stands layouts types names x (slot_written layouts h slot ws)) (changed_values k v o)
+    (stands_again layouts types types names names (slice_set (object_values o) k v) h (slot_written layouts h slot ws) refl o (slot_not_host layouts types o k slot is) (length-set (object_values o) k v)
+    (λ by.
+    let at = slot_stands layouts types names o h by k slot is in
+    record {
+      stands = shape_stands_write layouts types names by.ty (object_values o) h k slot v ws encoded by.type_kind by.stands at;
+      front = word_kept layouts types names by.ty (object_values o) h k slot v ws encoded by.type_kind by.stands at;
+    })
+    stands)
 
 -- words are those of references, in order
 abbrev pub AreWordsOf : Placing → List Reference → List ℕ → Type 0
@@ -109,13 +101,13 @@ first_word names slot (reference class r) bytes o rs ws true is lies rest =
 first_word names slot (reference class r) bytes o rs ws false is lies rest = absurd (cc (sym is ∙ storage_reference slot.storage ∙ ap is_reference lies.form))
 
 -- The words at the offsets that a collection follows are, in order, those of the values' references.
-pub references_are_words : (names : Names) (base : ℕ) (slots : List StorageSlot) (values : List Value) (bytes : List ℕ) → ValuesLieIn names base slots values bytes
+pub references_are_words : (names : Names) (base : ℕ) (slots : List StorageSlot) (values : List Value) (bytes : List ℕ) → ValuesLie names base slots values bytes
     → AreWordsOf names.place (flat_map value_references values) (words_at base bytes slots)
 references_are_words names base [] [] bytes lie = tt
 references_are_words names base [] (v ∷ values) bytes lie = absurd (omega (arith, lie.same_count))
 references_are_words names base (slot ∷ slots) [] bytes lie = absurd (omega (arith, lie.same_count))
 references_are_words names base (slot ∷ slots) (v ∷ values) bytes lie =
-    let rest : ValuesLieIn names base slots values bytes = record { same_count = omega (arith, lie.same_count); each = λ i s w e f. lie.each (suc i) s w e f } in
+    let rest : ValuesLie names base slots values bytes = record { same_count = omega (arith, lie.same_count); each = λ i s w e f. lie.each (suc i) s w e f } in
     let words = references_are_words names base slots values bytes rest in
     let first = first_word names slot v bytes (slot.offset - base) (flat_map value_references values) (words_at base bytes slots) (is_gc_storage slot.storage) refl (lie.each 0 slot v refl refl) words in
     subst (λ (rs : List Reference). AreWordsOf names.place rs (words_at base bytes (slot ∷ slots))) (sym (flat_map-cons value_references v values))

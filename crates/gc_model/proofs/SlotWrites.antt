@@ -11,7 +11,7 @@ use Rattle.gc_view.specs.Slots.{StorageSlot, AreSpaced}
 use Rattle.gc_view.proofs.SlotLemmas.{slot_range, slots_apart}
 use Rattle.gc_model.specs.Values.{Value}
 use Rattle.gc_model.specs.Forms.{Names, LiesAs, IsEncodedAs}
-use Rattle.gc_model.specs.Standing.{ValuesLieIn}
+use Rattle.gc_model.specs.Standing.{ValuesLie}
 use Rattle.gc_model.proofs.Changes.{slice_get-set_same, slice_get-set_other}
 use Rattle.gc_model.proofs.Encoding.{IsApart, encoded_width, encoded_lies}
 use Rattle.gc_model.proofs.Lying.{lies_apart}
@@ -49,8 +49,8 @@ module _ (names : Names) (base from to : ℕ) (slots : List StorageSlot) (behind
       (encoded_lies names slot.storage v bytes (slot.offset - base) ws encoded (slot_within k slot v bytes ws is encoded room)))
 
   -- the values lie after one of them was written
-  pub shape_write : (values : List Value) (bytes : List ℕ) (k : ℕ) (slot : StorageSlot) (v : Value) (ws : List ℕ) → ValuesLieIn names base slots values bytes → slice_get slots k ≡ Some slot
-      → IsEncodedAs names slot.storage v ws → to ≤ base + length bytes → ValuesLieIn names base slots (slice_set values k v) (put_bytes bytes (slot.offset - base) ws)
+  pub shape_write : (values : List Value) (bytes : List ℕ) (k : ℕ) (slot : StorageSlot) (v : Value) (ws : List ℕ) → ValuesLie names base slots values bytes → slice_get slots k ≡ Some slot
+      → IsEncodedAs names slot.storage v ws → to ≤ base + length bytes → ValuesLie names base slots (slice_set values k v) (put_bytes bytes (slot.offset - base) ws)
   shape_write values bytes k slot v ws lie is encoded room = record {
     same_count = length-set values k v ∙ lie.same_count;
     each = λ i other w here w_is.
@@ -87,7 +87,7 @@ lie_up_to-step names base from to slots behind spaced values bytes k slot v ws b
 }
 
 -- all values lie, once as many were written as there are slots
-pub lie_up_to-all : (names : Names) (base : ℕ) (slots : List StorageSlot) (values : List Value) (bytes : List ℕ) (k : ℕ) → k ≡ length slots → LieUpTo names base slots values bytes k → ValuesLieIn names base slots values bytes
+pub lie_up_to-all : (names : Names) (base : ℕ) (slots : List StorageSlot) (values : List Value) (bytes : List ℕ) (k : ℕ) → k ≡ length slots → LieUpTo names base slots values bytes k → ValuesLie names base slots values bytes
 lie_up_to-all names base slots values bytes k all lie = record {
   same_count = lie.same_count;
   each = λ i slot value e f. lie.each i slot value (omega (arith, all, slice_get_within slots i slot e)) e f;

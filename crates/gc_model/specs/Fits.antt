@@ -18,16 +18,17 @@ use Rattle.gc_owner.specs.declared.entry.GcClass.{GcClass}
 use Rattle.gc_owner.specs.declared.entry.GcClass.TheVariants.{Any, Extern, Exn}
 use Rattle.gc_model.specs.Values.{Reference, null, small, at, Value, numeric, i32, i64, f32, f64, v128, function, reference, Object, struct, array, host, exception}
 
+-- Where a climb goes on by a type's supertype: the type is the second, or the climb on from its supertype meets it. A type
+-- that isn't declared meets none.
+abbrev pub meets_from : (ℕ → Bool) → Option (Option ℕ) → ℕ → ℕ → Bool
+meets_from goes_on None a b = false
+meets_from goes_on (Some None) a b = a == b
+meets_from goes_on (Some (Some p)) a b = (a == b) || goes_on p
+
 -- Whether following supertypes from the first type meets the second, in fewer than so many steps.
 abbrev pub climbs : ℕ → List (Option ℕ) → ℕ → ℕ → Bool
-abbrev pub climbs_from : ℕ → List (Option ℕ) → Option (Option ℕ) → ℕ → ℕ → Bool
-
 climbs zero supers a b = false
-climbs (suc n) supers a b = climbs_from n supers (slice_get supers a) a b
-
-climbs_from n supers None a b = false
-climbs_from n supers (Some None) a b = a == b
-climbs_from n supers (Some (Some p)) a b = (a == b) || climbs n supers p b
+climbs (suc n) supers a b = meets_from (λ p. climbs n supers p b) (slice_get supers a) a b
 
 -- Whether the first type is the second or one of its subtypes, by the supertypes of the declared types. A supertype is
 -- older than its subtypes, so a climb has no more steps than the first type's index.

@@ -1,15 +1,12 @@
 -- A store holds a table: its heap, its roots and its numbers stand for the table's.
-use Rattle.std.specs.Prelude.{◌≡◌, Bool, ℕ, ◌+◌, ◌-◌, ◌*◌, ◌%◌, ◌<◌, ◌≤◌, ◌^◌, true, false, List, [], Option, Some, None, length, slice_get, All}
+use Rattle.std.specs.Prelude.{◌≡◌, Bool, ℕ, ◌+◌, ◌-◌, ◌*◌, ◌%◌, ◌<◌, ◌≤◌, ◌^◌, true, false, List, [], Option, Some, None, length, slice_get}
 use Rattle.std.specs.Ordering.{nat_cmp}
 use Rattle.std.specs.FinMap as map
 use Rattle.gc_types.specs.declared.value.FieldType.{FieldType}
 use Rattle.gc_types.specs.declared.kind.Layouts.{Layouts}
 use Rattle.gc_types.specs.declared.kind.Layouts.TheVariants.{Null, Counting, Copying}
-use Rattle.gc_types.specs.declared.kind.VMGcKind.TheVariants.{StructRef}
-use Rattle.gc_types.specs.declared.layout.FieldLayout.{FieldLayout}
-use Rattle.gc_types.specs.Declarations.{Declaration, struct_fields_at}
-use Rattle.gc_types.specs.Layouts.{struct_base, field_layouts, fields_end}
-use Rattle.gc_model.specs.Values.{Reference, Value, Object, struct, array, host, exception}
+use Rattle.gc_types.specs.Declarations.{Declaration}
+use Rattle.gc_model.specs.Values.{Reference, Value, Object}
 use Rattle.gc_model.specs.Reach.{IsKept, IsHost, object_values}
 use Rattle.gc_model.specs.Stored.{value_type}
 use Rattle.gc_model.specs.Fits.{fits}
@@ -18,7 +15,6 @@ use Rattle.gc_model.specs.Table.{Table, Scoped, Push, Owned, Block}
 pub use Rattle.gc_model.specs.Words.{Placing, IsWord}
 pub use Rattle.gc_model.specs.Forms.{Names, naming}
 pub use Rattle.gc_model.specs.RootPoints.{EntryBy, ScopedBy, IsPastBy, PushesBy, SlotBy, SlotsBy, FramesBy, GlobalsBy, OwnedRootBy, OwnedBy, PendingBy}
-use Rattle.gc_view.specs.Sizes.{stored_size}
 use Rattle.gc_model.specs.Sizes.{next_after}
 pub use Rattle.gc_model.specs.Standing.{Stands, HostStands, IsHostAt, HasHostValue, HostsBy}
 use Rattle.gc_view.specs.Pages.{page, max_pages}
@@ -95,11 +91,16 @@ pub record NotBuilt {D : Type 0} (made : ℕ) (roots : List Owned) (exception : 
   pub blocks : held ≡ []
   pub hosts : NoHostObjects objects
 
--- Each value of an object fits the type of its field or element, as the declared types and the objects say.
+-- a value of an object has a declared type, of a field or of the elements, and fits it, by the types and the objects
+pub record IsTypedValue {D : Type 0} (types : List Declaration) (objects : List (Object D)) (object : Object D) (index : ℕ) (value : Value) : Type 0 where
+  pub field : FieldType
+  pub field_is : value_type types object index ≡ Some field
+  pub is_fit : fits types objects field.element_type value ≡ true
+
+-- each value of each object does
 abbrev pub TypedBy : {D : Type 0} → List Declaration → List (Object D) → Type 0
-TypedBy {D} types objects = (position index : ℕ) (object : Object D) (value : Value) (field : FieldType)
-    → slice_get objects position ≡ Some object → slice_get (object_values object) index ≡ Some value → value_type types object index ≡ Some field
-    → fits types objects field.element_type value ≡ true
+TypedBy {D} types objects = (position index : ℕ) (object : Object D) (value : Value)
+    → slice_get objects position ≡ Some object → slice_get (object_values object) index ≡ Some value → IsTypedValue types objects object index value
 
 -- A fact at each point: as the types of the facts are parameters, a change of one part of a store hands the
 -- other points on as they are.
