@@ -1,8 +1,10 @@
 pub mod Bytes
 pub mod Expansion
-pub mod Fields
+pub mod Filling
 pub mod Handles
+pub mod HeldSlots
 pub mod Ids
+pub mod Kept
 pub mod Making
 pub mod Places
 pub mod Reading

@@ -1,5 +1,11 @@
 //! The values of a new object, which are all 0 before.
 
+ghost use Rattle.std.specs.Prelude.{◌≡◌, ◌<◌, ◌*◌, ◌/◌, true, length, take};
+ghost use Rattle.gc_store.specs.declared.stored.Stored.TheVariants as kept;
+ghost use Rattle.gc_store.specs.HeldSlots.{slot_of, WritesAt};
+ghost use Rattle.gc_store.specs.Kept.{code_of};
+ghost use Rattle.gc_store.specs.Filling.{CanFill, FillsNew, EachFits, EachStands, SameFits, SameStands, BytesFit, BytesStand, ContentsFit, ContentsStand, asked_type, AreElements, IsWidth, repeated, slot_bytes};
+
 use crate::request::{Contents, Place};
 use crate::root::RawValue;
 use crate::slot::{Slot, slot_at};
@@ -18,7 +24,11 @@ fn write_values<H: GcHeap, D: Drop>(
     gc_ref: &VMGcRef,
     ty: VMSharedTypeIndex,
     values: &[RawValue],
-) {
+)
+    requires idle { owner.old.seen.idle ≡ true }
+    requires can { CanFill H.KIND owner.old.seen gc_ref.now ty (EachFits values.now) }
+    ensures { FillsNew H.KIND owner.old.seen owner.new.seen gc_ref.now ty (EachFits values.now) (EachStands values.now) }
+{
     for (index, value) in values.iter().enumerate() {
         owner.is_ready();
         let slot = slot_at(owner.types(), H::KIND, ty, index as u32);
@@ -28,7 +38,10 @@ fn write_values<H: GcHeap, D: Drop>(
 }
 
 /// The first bytes, over and over.
-fn repeated(bytes: &[u8; 16], width: usize) -> [u8; CHUNK] {
+fn repeat(bytes: &[u8; 16], width: usize) -> [u8; CHUNK]
+    requires { IsWidth width }
+    ensures { result ≡ repeated (take width bytes.now) (256 / width) }
+{
     let mut chunk = [0; CHUNK];
     for at in 0..CHUNK {
         chunk[at] = bytes[at % width];
@@ -43,13 +56,17 @@ fn write_numbers<H: GcHeap, D: Drop>(
     first: &Slot,
     count: u32,
     number: u128,
-) {
+)
+    requires idle { owner.old.seen.idle ≡ true }
+    requires can { AreElements H.KIND owner.old.seen gc_ref.now (slot_of first.now) count (kept.Number number) }
+    ensures { WritesAt H.KIND owner.old.seen owner.new.seen gc_ref.now first.now.offset (repeated (slot_bytes first.now.storage number) count) }
+{
     let width = first.storage.width();
     let bytes = number.to_le_bytes();
     if bytes[..width as usize] == [0; 16][..width as usize] {
         return;
     }
-    let chunk = repeated(&bytes, width as usize);
+    let chunk = repeat(&bytes, width as usize);
     let most = CHUNK as u32 / width;
     let mut done = 0;
     while done < count {
@@ -64,43 +81,80 @@ fn write_numbers<H: GcHeap, D: Drop>(
 fn write_references<H: GcHeap, D: Drop>(
     owner: &mut HeapOwner<H, D>,
     gc_ref: &VMGcRef,
-    first: u32,
+    first: &Slot,
     count: u32,
     word: u32,
-) {
+)
+    requires idle { owner.old.seen.idle ≡ true }
+    requires can { AreElements H.KIND owner.old.seen gc_ref.now (slot_of first.now) count (kept.Ref word) }
+    ensures { WritesAt H.KIND owner.old.seen owner.new.seen gc_ref.now first.now.offset (repeated (slot_bytes first.now.storage word) count) }
+{
     if word == 0 {
         return;
     }
     for index in 0..count {
-        owner.write_reference(gc_ref, first + 4 * index, word);
+        let slot = Slot {
+            storage: first.storage,
+            offset: first.offset + 4 * index,
+        };
+        write_slot(owner, gc_ref, &slot, Stored::Ref(word));
     }
 }
 
-/// Writes one value into all elements of an array, of which there are so many.
+/// Writes what is kept of a value into so many elements of an array that follow each other from one on.
+fn write_elements<H: GcHeap, D: Drop>(
+    owner: &mut HeapOwner<H, D>,
+    gc_ref: &VMGcRef,
+    first: &Slot,
+    count: u32,
+    stored: Stored,
+)
+    requires idle { owner.old.seen.idle ≡ true }
+    requires can { AreElements H.KIND owner.old.seen gc_ref.now (slot_of first.now) count stored }
+    ensures { WritesAt H.KIND owner.old.seen owner.new.seen gc_ref.now first.now.offset (repeated (slot_bytes first.now.storage (code_of stored)) count) }
+{
+    match stored {
+        Stored::Number(number) => write_numbers(owner, gc_ref, first, count, number),
+        Stored::Ref(word) => write_references(owner, gc_ref, first, count, word),
+    }
+}
+
+/// Writes one value into all elements of a new array, of which there are so many.
 fn write_same<H: GcHeap, D: Drop>(
     owner: &mut HeapOwner<H, D>,
     gc_ref: &VMGcRef,
     ty: VMSharedTypeIndex,
     count: u32,
     value: RawValue,
-) {
+)
+    requires idle { owner.old.seen.idle ≡ true }
+    requires can { CanFill H.KIND owner.old.seen gc_ref.now ty (SameFits value count) }
+    ensures { FillsNew H.KIND owner.old.seen owner.new.seen gc_ref.now ty (SameFits value count) (SameStands value) }
+{
     if count == 0 {
         return;
     }
+    owner.is_ready();
     let first = slot_at(owner.types(), H::KIND, ty, 0);
-    match stored_value(owner.scoped(), value) {
-        Stored::Number(number) => write_numbers(owner, gc_ref, &first, count, number),
-        Stored::Ref(word) => write_references(owner, gc_ref, first.offset, count, word),
-    }
+    let stored = stored_value(owner.scoped(), value);
+    write_elements(owner, gc_ref, &first, count, stored);
 }
 
-/// Writes the elements of an array of bytes.
+/// Writes the elements of a new array of bytes.
 fn write_bytes<H: GcHeap, D: Drop>(
     owner: &mut HeapOwner<H, D>,
     gc_ref: &VMGcRef,
     ty: VMSharedTypeIndex,
     bytes: &[u8],
-) {
+)
+    requires idle { owner.old.seen.idle ≡ true }
+    requires can { CanFill H.KIND owner.old.seen gc_ref.now ty (BytesFit bytes.now) }
+    ensures { FillsNew H.KIND owner.old.seen owner.new.seen gc_ref.now ty (BytesFit bytes.now) (BytesStand bytes.now) }
+{
+    if bytes.is_empty() {
+        return;
+    }
+    owner.is_ready();
     let first = slot_at(owner.types(), H::KIND, ty, 0);
     owner.write_number(gc_ref, first.offset, bytes);
 }
@@ -111,7 +165,11 @@ pub(crate) fn fill<H: GcHeap, D: Drop>(
     gc_ref: &VMGcRef,
     request: &Place,
     contents: Contents<'_>,
-) {
+)
+    requires idle { owner.old.seen.idle ≡ true }
+    requires can { CanFill H.KIND owner.old.seen gc_ref.now (asked_type request.now) (ContentsFit request.now contents) }
+    ensures { FillsNew H.KIND owner.old.seen owner.new.seen gc_ref.now (asked_type request.now) (ContentsFit request.now contents.entry) (ContentsStand contents.entry) }
+{
     match *request {
         Place::Struct(ty) => match contents {
             Contents::Each(values) => write_values(owner, gc_ref, ty, values),

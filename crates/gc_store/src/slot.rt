@@ -1,8 +1,12 @@
 //! Where the values of an object lie.
 
+ghost use Rattle.std.specs.Prelude.{◌≡◌, None};
+ghost use Rattle.gc_types.specs.Declarations.{elem_at};
+ghost use Rattle.gc_store.specs.HeldSlots.{HasSlot, FindsSlot, IsHeldWithSlot, FindsHeldSlot};
+
 use gc_heap::GcHeap;
 use gc_refs::VMGcRef;
-use gc_types::{Layouts, StorageType, TypeKind, Types, VMSharedTypeIndex};
+use gc_types::{Layouts, StorageType, Types, VMSharedTypeIndex};
 
 /// A place for one value in an object.
 #[derive(Clone, Copy)]
@@ -14,20 +18,15 @@ pub(crate) struct Slot {
 }
 
 /// The slot of a field of a struct or an exception of a declared type.
-fn field_slot(types: &Types, layouts: Layouts, ty: VMSharedTypeIndex, index: u32) -> Slot {
+fn field_slot(types: &Types, layouts: Layouts, ty: VMSharedTypeIndex, index: u32) -> Slot
+    requires has { HasSlot layouts types.now.declarations ty index }
+    requires no_array { elem_at types.now.declarations ty ≡ None }
+    ensures { FindsSlot layouts types.now.declarations ty index result }
+{
     let layout = types.struct_layout(layouts, ty).unwrap();
     Slot {
         storage: types.field(ty, index as usize).unwrap().element_type,
         offset: layout.fields.as_slice()[index as usize].offset,
-    }
-}
-
-/// The slot of an element of an array of a declared type.
-fn element_slot(types: &Types, layouts: Layouts, ty: VMSharedTypeIndex, index: u32) -> Slot {
-    let layout = types.array_layout(layouts, ty).unwrap();
-    Slot {
-        storage: types.array_elem(ty).unwrap().element_type,
-        offset: layout.elem_offset(index).unwrap(),
     }
 }
 
@@ -37,15 +36,28 @@ pub(crate) fn slot_at(
     layouts: Layouts,
     ty: VMSharedTypeIndex,
     index: u32,
-) -> Slot {
-    match types.kind_of(ty) {
-        Some(TypeKind::Array) => element_slot(types, layouts, ty, index),
-        _ => field_slot(types, layouts, ty, index),
+) -> Slot
+    requires { HasSlot layouts types.now.declarations ty index }
+    ensures { FindsSlot layouts types.now.declarations ty index result }
+{
+    match types.array_elem(ty) {
+        Some(element) => {
+            let layout = types.array_layout(layouts, ty).unwrap();
+            Slot {
+                storage: element.element_type,
+                offset: layout.elem_offset(index).unwrap(),
+            }
+        }
+        None => field_slot(types, layouts, ty, index),
     }
 }
 
 /// The slot of the value at that index of a held object.
-pub(crate) fn slot_in<H: GcHeap>(heap: &H, types: &Types, gc_ref: &VMGcRef, index: u32) -> Slot {
+pub(crate) fn slot_in<H: GcHeap>(heap: &H, types: &Types, gc_ref: &VMGcRef, index: u32) -> Slot
+    requires sound { H.sound heap.now }
+    requires has { IsHeldWithSlot H.KIND types.now.declarations (H.seen heap.now) gc_ref.now index }
+    ensures { FindsHeldSlot H.KIND types.now.declarations (H.seen heap.now) gc_ref.now index result }
+{
     let Ok(header) = heap.header(gc_ref) else {
         unreachable!()
     };

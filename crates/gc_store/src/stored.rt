@@ -1,5 +1,13 @@
 //! What a slot of an object keeps of a value.
 
+ghost use Rattle.std.specs.Prelude.{◌≡◌, true};
+ghost use Rattle.std.specs.Int.{bytes_low_first};
+ghost use Rattle.gc_types.specs.Layouts.{storage_width, value_width};
+ghost use Rattle.gc_model.specs.Forms.{top_form, type_form, storage_form, reference_of};
+ghost use Rattle.gc_heap.specs.Access.{IsReadable};
+ghost use Rattle.gc_store.specs.Kept.{code_of, raw_form, KeptAs, IsKept, FitsForm, IsReadForm};
+ghost use Rattle.gc_store.specs.HeldSlots.{slot_of, CanWriteSlot, WritesAt, FindsAt};
+
 use crate::root::RawValue;
 use crate::slot::Slot;
 use crate::word::slot_word;
@@ -25,7 +33,11 @@ pub(crate) enum Found {
 }
 
 /// What is kept of a value; of a reference the word that its root has now.
-pub(crate) fn stored_value(entries: &[RootEntry], value: RawValue) -> Stored {
+pub(crate) fn stored_value(entries: &[RootEntry], value: RawValue) -> Stored
+    requires { IsKept entries.now value }
+    ensures kept { KeptAs entries.now value result }
+    ensures small { FitsForm (raw_form value) (code_of result) }
+{
     match value {
         RawValue::I32(number) => Stored::Number(u128::from(number.cast_unsigned())),
         RawValue::I64(number) => Stored::Number(u128::from(number.cast_unsigned())),
@@ -49,7 +61,11 @@ pub(crate) fn write_slot<H: GcHeap, D: Drop>(
     gc_ref: &VMGcRef,
     slot: &Slot,
     stored: Stored,
-) {
+)
+    requires idle { owner.old.seen.idle ≡ true }
+    requires can { CanWriteSlot H.KIND owner.old.seen gc_ref.now (slot_of slot.now) stored }
+    ensures { WritesAt H.KIND owner.old.seen owner.new.seen gc_ref.now slot.now.offset (bytes_low_first 0 (storage_width slot.now.storage) (code_of stored)) }
+{
     owner.is_ready();
     match stored {
         Stored::Number(number) => {
@@ -61,7 +77,10 @@ pub(crate) fn write_slot<H: GcHeap, D: Drop>(
 }
 
 /// The class of references of the types under that one.
-fn class_of(top: HeapTopType) -> GcClass {
+fn class_of(top: HeapTopType) -> GcClass
+    requires { IsReadForm (top_form top) }
+    ensures { top_form top ≡ reference_of result }
+{
     match top {
         HeapTopType::Any => GcClass::Any,
         HeapTopType::Extern => GcClass::Extern,
@@ -71,7 +90,12 @@ fn class_of(top: HeapTopType) -> GcClass {
 }
 
 /// What lies at an offset of a held object, by its type.
-fn read_typed<H: GcHeap>(heap: &H, gc_ref: &VMGcRef, offset: u32, ty: ValType) -> Found {
+fn read_typed<H: GcHeap>(heap: &H, gc_ref: &VMGcRef, offset: u32, ty: ValType) -> Found
+    requires sound { H.sound heap.now }
+    requires inside { IsReadable H.KIND (H.seen heap.now) gc_ref.now offset (value_width ty) }
+    requires form { IsReadForm (type_form ty) }
+    ensures { FindsAt H.KIND (H.seen heap.now) gc_ref.now (type_form ty) (value_width ty) offset result }
+{
     match ty {
         ValType::I32 => Found::Number(RawValue::I32(
             read_u32(heap, gc_ref, offset).cast_signed(),
@@ -90,7 +114,12 @@ fn read_typed<H: GcHeap>(heap: &H, gc_ref: &VMGcRef, offset: u32, ty: ValType) -
 }
 
 /// What lies in a slot of a held object. Small integers are read as unsigned ones.
-pub(crate) fn read_slot<H: GcHeap>(heap: &H, gc_ref: &VMGcRef, slot: &Slot) -> Found {
+pub(crate) fn read_slot<H: GcHeap>(heap: &H, gc_ref: &VMGcRef, slot: &Slot) -> Found
+    requires sound { H.sound heap.now }
+    requires inside { IsReadable H.KIND (H.seen heap.now) gc_ref.now slot.now.offset (storage_width slot.now.storage) }
+    requires form { IsReadForm (storage_form slot.now.storage) }
+    ensures { FindsAt H.KIND (H.seen heap.now) gc_ref.now (storage_form slot.now.storage) (storage_width slot.now.storage) slot.now.offset result }
+{
     match slot.storage {
         StorageType::I8 => {
             let number = u32::from(read_u8(heap, gc_ref, slot.offset));

@@ -1,0 +1,145 @@
+-- The values of new objects.
+use Rattle.std.specs.Prelude.{◌≡◌, ℕ, ◌+◌, ◌-◌, ◌<◌, zero, suc, false, List, [], ◌++◌, Some, length, map, take, drop, replicate, slice_get}
+use Rattle.std.specs.Int.{bytes_low_first}
+use Rattle.std.specs.FinMap as finite
+use Rattle.gc_types.specs.declared.value.StorageType.{StorageType}
+use Rattle.gc_types.specs.declared.value.StorageType.TheVariants as storage
+use Rattle.gc_types.specs.declared.kind.Layouts.{Layouts}
+use Rattle.gc_types.specs.Declarations.{Shape}
+use Rattle.gc_types.specs.Layouts.{storage_width, struct_base}
+use Rattle.gc_view.specs.Heaps.{HeapObject}
+use Rattle.gc_view.specs.Slots.{StorageSlot, shape_slots, element_slots}
+use Rattle.gc_owner.specs.declared.entry.RootEntry.{RootEntry}
+use Rattle.gc_owner.specs.Owners.{OwnerView}
+use Rattle.gc_model.specs.Values.{Value}
+use Rattle.gc_model.specs.Stored.{byte_value}
+use Rattle.gc_model.specs.Forms.{Names, storage_form}
+use Rattle.gc_model.specs.Standing.{ValuesLie}
+use Rattle.gc_model.proofs.ObjectStands.{KeepsFront}
+use Rattle.gc_store.specs.declared.stored.Stored.{Stored}
+use Rattle.gc_store.specs.declared.request.Place.{Place}
+use Rattle.gc_store.specs.declared.request.Place.TheVariants as place
+use Rattle.gc_store.specs.declared.request.Contents.{Contents}
+use Rattle.gc_store.specs.declared.request.Contents.TheVariants as contents
+use Rattle.gc_store.specs.declared.root.RawValue.{RawValue}
+use Rattle.gc_store.specs.Kept.{IsKept, OfForm, raw_form, StoredStands}
+use Rattle.gc_store.specs.HeldSlots.{IsHeldOf}
+
+-- values fit slots, one for each
+pub record EachFits (raws : List RawValue) (entries : List RootEntry) (slots : List StorageSlot) : Type 0 where
+  pub same_count : length raws ≡ length slots
+  pub forms : (i : ℕ) (slot : StorageSlot) (r : RawValue) → slice_get slots i ≡ Some slot → slice_get raws i ≡ Some r → raw_form r ≡ storage_form slot.storage
+  pub kept : (i : ℕ) (r : RawValue) → slice_get raws i ≡ Some r → IsKept entries r
+
+-- one value fits so many slots, which follow each other
+pub record SameFits (r : RawValue) (count : ℕ) (entries : List RootEntry) (slots : List StorageSlot) : Type 0 where
+  pub ty : StorageType
+  pub from : ℕ
+  pub slots_are : slots ≡ element_slots ty count from
+  pub form : 0 < count → raw_form r ≡ storage_form ty
+  pub kept : 0 < count → IsKept entries r
+
+-- bytes fit slots, which follow each other
+pub record BytesFit (bytes : List ℕ) (entries : List RootEntry) (slots : List StorageSlot) : Type 0 where
+  pub from : ℕ
+  pub slots_are : slots ≡ element_slots storage.I8 (length bytes) from
+
+-- what slots keep of values that are given, one for each
+pub record EachStands (raws : List RawValue) (names : Names) (entries : List RootEntry) (slots : List StorageSlot) (values : List Value) : Type 0 where
+  pub same_count : length raws ≡ length values
+  pub each : (i : ℕ) (slot : StorageSlot) (r : RawValue) (w : Value) → slice_get slots i ≡ Some slot → slice_get raws i ≡ Some r → slice_get values i ≡ Some w → StoredStands names entries slot.storage r w
+
+-- what they keep of one value
+pub record SameStands (r : RawValue) (names : Names) (entries : List RootEntry) (slots : List StorageSlot) (values : List Value) : Type 0 where
+  pub same_count : length values ≡ length slots
+  pub each : (i : ℕ) (slot : StorageSlot) (w : Value) → slice_get slots i ≡ Some slot → slice_get values i ≡ Some w → StoredStands names entries slot.storage r w
+
+-- what they keep of bytes
+abbrev pub BytesStand : List ℕ → Names → List RootEntry → List StorageSlot → List Value → Type 0
+BytesStand bytes names entries slots values = values ≡ map byte_value bytes
+
+-- the type of what is requested
+abbrev pub asked_type : Place → ℕ
+asked_type (place.Struct ty) = ty
+asked_type (place.Exn ty tag) = ty
+asked_type (place.Array ty count) = ty
+
+-- the contents of a request fit slots
+abbrev pub ContentsFit : Place → Contents → List RootEntry → List StorageSlot → Type 0
+ContentsFit (place.Struct ty) (contents.Each raws) entries slots = EachFits raws.now entries slots
+ContentsFit (place.Array ty count) (contents.Each raws) entries slots = EachFits raws.now entries slots
+ContentsFit (place.Array ty count) (contents.Same r) entries slots = SameFits r.now count entries slots
+ContentsFit (place.Array ty count) (contents.Bytes bytes) entries slots = BytesFit bytes.now entries slots
+ContentsFit _ _ entries slots = ⊥
+
+-- what slots keep of the contents of a request
+abbrev pub ContentsStand : Contents → Names → List RootEntry → List StorageSlot → List Value → Type 0
+ContentsStand (contents.Each raws) names entries slots values = EachStands raws.now names entries slots values
+ContentsStand (contents.Same r) names entries slots values = SameStands r.now names entries slots values
+ContentsStand (contents.Bytes bytes) names entries slots values = BytesStand bytes.now names entries slots values
+
+-- each slot has bytes that are 0
+abbrev pub AreBlank : ℕ → List StorageSlot → List ℕ → Type 0
+AreBlank base slots bytes =
+    (i : ℕ) (slot : StorageSlot) → slice_get slots i ≡ Some slot → take (storage_width slot.storage) (drop (slot.offset - base) bytes) ≡ replicate (storage_width slot.storage) 0
+
+-- A new object of an owner is of that type, and what is given fits it.
+pub record IsToFill {D : Type 0} (layouts : Layouts) (v : OwnerView D) (place ty : ℕ) (Fit : List RootEntry → List StorageSlot → Type 0) (object : HeapObject) (shape : Shape) (count : ℕ) : Type 0 where
+  pub is : IsHeldOf v.types.declarations v.heap place object shape count
+  pub of_type : object.ty ≡ ty
+  pub blank : AreBlank (struct_base layouts) (shape_slots layouts shape count) object.bytes
+  pub fit : Fit v.roots.scoped (shape_slots layouts shape count)
+
+pub record CanFill {D : Type 0} (layouts : Layouts) (v : OwnerView D) (place ty : ℕ) (Fit : List RootEntry → List StorageSlot → Type 0) : Type 0 where
+  pub object : HeapObject
+  pub shape : Shape
+  pub count : ℕ
+  pub to_fill : IsToFill layouts v place ty Fit object shape count
+
+-- The object at a place has other bytes now, but not in front of its slots; every other object, and all else of the owner but
+-- counts, is as it was.
+pub record Rewrites {D : Type 0} (layouts : Layouts) (shape : Shape) (old new : OwnerView D) (place : ℕ) (before : HeapObject) (bytes : List ℕ) : Type 0 where
+  pub written : finite.get new.heap.content place ≡ Some (record before { bytes = bytes })
+  pub others : (q : ℕ) → ¬ (q ≡ place) → finite.get new.heap.content q ≡ finite.get old.heap.content q
+  pub attached : new.heap.attached ≡ old.heap.attached
+  pub capacity : new.heap.capacity ≡ old.heap.capacity
+  pub allocated : new.heap.allocated ≡ old.heap.allocated
+  pub needs_gc : new.heap.needs_gc ≡ old.heap.needs_gc
+  pub same_length : length bytes ≡ length before.bytes
+  pub front : KeepsFront layouts shape before.bytes bytes
+  pub rest : new ≡ record old { heap = new.heap }
+
+-- The object at a place has the values now that stand for what was given.
+pub record Fills {D : Type 0} (layouts : Layouts) (Stand : Names → List RootEntry → List StorageSlot → List Value → Type 0) (old new : OwnerView D) (place : ℕ) (before : HeapObject) (shape : Shape) (count : ℕ) : Type 0 where
+  pub bytes : List ℕ
+  pub rewrites : Rewrites layouts shape old new place before bytes
+  pub lie : (names : Names) (values : List Value) → Stand names old.roots.scoped (shape_slots layouts shape count) values
+      → ValuesLie names (struct_base layouts) (shape_slots layouts shape count) values bytes
+
+-- a new object that was to be filled is
+abbrev pub FillsNew : {D : Type 0} → Layouts → OwnerView D → OwnerView D → ℕ → ℕ → (List RootEntry → List StorageSlot → Type 0) → (Names → List RootEntry → List StorageSlot → List Value → Type 0) → Type 0
+FillsNew layouts old new place ty Fit Stand =
+    (object : HeapObject) (shape : Shape) (count : ℕ) → IsToFill layouts old place ty Fit object shape count → Fills layouts Stand old new place object shape count
+
+-- some bytes, so many times
+abbrev pub repeated : List ℕ → ℕ → List ℕ
+repeated ws zero = []
+repeated ws (suc n) = ws ++ repeated ws n
+
+-- a width of slots
+abbrev pub IsWidth : ℕ → Type 0
+IsWidth width = (ty : StorageType) × (width ≡ storage_width ty)
+
+-- the low bytes of a number that a slot has
+abbrev pub slot_bytes : StorageType → ℕ → List ℕ
+slot_bytes ty n = bytes_low_first 0 (storage_width ty) n
+
+-- So many slots of a new object of an owner follow each other, from that one on, and may have what is kept.
+pub record AreElements {D : Type 0} (layouts : Layouts) (v : OwnerView D) (place : ℕ) (slot : StorageSlot) (count : ℕ) (x : Stored) : Type 0 where
+  pub object : HeapObject
+  pub shape : Shape
+  pub n : ℕ
+  pub is : IsHeldOf v.types.declarations v.heap place object shape n
+  pub slots_are : shape_slots layouts shape n ≡ element_slots slot.storage count slot.offset
+  pub blank : AreBlank (struct_base layouts) (shape_slots layouts shape n) object.bytes
+  pub of_form : OfForm v.heap (storage_form slot.storage) x

@@ -1,0 +1,107 @@
+-- What slots keep of the values that are given to a store, and what is found in them.
+use Rattle.std.specs.Prelude.{◌≡◌, ℕ, ◌^◌, ◌<◌, List, Option, Some, None, Ok}
+use Rattle.std.specs.Int.{w32, w64, cast_unsigned, cast_signed}
+use Rattle.gc_types.specs.declared.value.StorageType.{StorageType}
+use Rattle.gc_owner.specs.declared.entry.GcClass.{GcClass}
+use Rattle.gc_owner.specs.declared.entry.RootEntry.{RootEntry}
+use Rattle.gc_model.specs.Values.{Value, numeric, i32, i64, f32, f64, v128}
+use Rattle.gc_model.specs.Forms.{Form, number_of, function_of, continuation_of, reference_of, storage_form, value_form, Names, IsCode}
+use Rattle.gc_model.specs.Stored.{stored}
+use Rattle.gc_heap.specs.Collection.{IsWordOf}
+use Rattle.gc_view.specs.Heaps.{HeapView}
+use Rattle.gc_store.specs.declared.stored.Stored.{Stored}
+use Rattle.gc_store.specs.declared.stored.Stored.TheVariants as kept
+use Rattle.gc_store.specs.declared.stored.Found.{Found}
+use Rattle.gc_store.specs.declared.stored.Found.TheVariants as found
+use Rattle.gc_store.specs.declared.root.RawValue.{RawValue}
+use Rattle.gc_store.specs.declared.root.RawValue.TheVariants as raw
+use Rattle.gc_store.specs.Words.{slot_word}
+
+-- the number that stands in a heap for what is kept
+abbrev pub code_of : Stored → ℕ
+code_of (kept.Number n) = n
+code_of (kept.Ref word) = word
+
+-- how a value that is given to the store is kept, by the words that the roots have; no function is taken so far
+abbrev pub KeptAs : List RootEntry → RawValue → Stored → Type 0
+KeptAs entries (raw.I32 n) x = x ≡ kept.Number (cast_unsigned w32 n)
+KeptAs entries (raw.I64 n) x = x ≡ kept.Number (cast_unsigned w64 n)
+KeptAs entries (raw.F32 n) x = x ≡ kept.Number n
+KeptAs entries (raw.F64 n) x = x ≡ kept.Number n
+KeptAs entries (raw.V128 n) x = x ≡ kept.Number n
+KeptAs entries (raw.Func f) x = ⊥
+KeptAs entries (raw.Ref class None) x = x ≡ kept.Ref 0
+KeptAs entries (raw.Ref class (Some handle)) x = (word : ℕ) × ((slot_word entries handle.slot handle.generation ≡ Ok word) × (x ≡ kept.Ref word))
+
+-- a value is kept in some way
+abbrev pub IsKept : List RootEntry → RawValue → Type 0
+IsKept entries r = (x : Stored) × KeptAs entries r x
+
+-- what a value is that is given to the store
+abbrev pub raw_form : RawValue → Form
+raw_form (raw.I32 n) = number_of i32
+raw_form (raw.I64 n) = number_of i64
+raw_form (raw.F32 n) = number_of f32
+raw_form (raw.F64 n) = number_of f64
+raw_form (raw.V128 n) = number_of v128
+raw_form (raw.Func f) = function_of
+raw_form (raw.Ref class handle) = reference_of class
+
+-- how many bytes the code of a value of a form takes at most
+abbrev pub form_width : Form → ℕ
+form_width (number_of i32) = 4
+form_width (number_of i64) = 8
+form_width (number_of f32) = 4
+form_width (number_of f64) = 8
+form_width (number_of v128) = 16
+form_width function_of = 4
+form_width continuation_of = 4
+form_width (reference_of class) = 4
+
+-- the code is no wider than that of a value of the form
+abbrev pub FitsForm : Form → ℕ → Type 0
+FitsForm form code = code < 256 ^ form_width form
+
+-- What is kept is of a form: a number, or a reference's word, which is null, a 31-bit number or the place of an object.
+abbrev pub OfForm : HeapView → Form → Stored → Type 0
+OfForm h (number_of kind) (kept.Number n) = Unit {0}
+OfForm h (number_of kind) (kept.Ref word) = ⊥
+OfForm h function_of x = ⊥
+OfForm h continuation_of x = ⊥
+OfForm h (reference_of class) (kept.Number n) = ⊥
+OfForm h (reference_of class) (kept.Ref word) = IsWordOf h word
+
+-- A value that is given to the store is one of the table: whatever is kept of it is that value's code, where the code is no
+-- wider than such values are, as that of every number is.
+abbrev pub KeptStands : Names → List RootEntry → RawValue → Value → Type 0
+KeptStands names entries r v = (x : Stored) → KeptAs entries r x → FitsForm (raw_form r) (code_of x) → IsCode names v (code_of x)
+
+-- a value of the table is what a slot of that type keeps of one that is given to the store
+pub record StoredStands (names : Names) (entries : List RootEntry) (ty : StorageType) (r : RawValue) (w : Value) : Type 0 where
+  pub value : Value
+  pub stored_is : w ≡ stored ty value
+  pub form : storage_form ty ≡ value_form value
+  pub stands : KeptStands names entries r value
+  pub raw_form_is : raw_form r ≡ storage_form ty
+
+-- what is found in a slot of a form, by the number that lies there; no slot of functions is read so far
+abbrev pub IsFound : Form → ℕ → Found → Type 0
+IsFound (number_of i32) n x = x ≡ found.Number (raw.I32 (cast_signed w32 n))
+IsFound (number_of i64) n x = x ≡ found.Number (raw.I64 (cast_signed w64 n))
+IsFound (number_of f32) n x = x ≡ found.Number (raw.F32 n)
+IsFound (number_of f64) n x = x ≡ found.Number (raw.F64 n)
+IsFound (number_of v128) n x = x ≡ found.Number (raw.V128 n)
+IsFound function_of n x = ⊥
+IsFound continuation_of n x = ⊥
+IsFound (reference_of class) n x = x ≡ found.Ref class n
+
+-- a slot of the form can be read
+abbrev pub IsReadForm : Form → Type 0
+IsReadForm (number_of kind) = Unit {0}
+IsReadForm function_of = ⊥
+IsReadForm continuation_of = ⊥
+IsReadForm (reference_of class) = Unit {0}
+
+-- what was found is a value of the table
+abbrev pub FoundStands : Names → Found → Value → Type 0
+FoundStands names x v = (code : ℕ) × (IsFound (value_form v) code x × IsCode names v code)
