@@ -10,7 +10,6 @@ pub mod ScopeLemmas
 pub mod HostLemmas
 pub mod GoesLemmas
 pub mod NamedLemmas
-pub mod TargetLemmas
 pub mod WriteLemmas
 pub mod ValueLemmas
 pub mod OperandLemmas
@@ -23,9 +22,14 @@ pub mod ResultLemmas
 pub mod ScriptLemmas
 pub mod ShownLemmas
 pub mod ReadLemmas
-pub mod FieldLemmas
-pub mod FrameLemmas
 pub mod KeptLemmas
-pub mod GlobalLemmas
 pub mod LineLemmas
 pub mod CutLemmas
+pub mod WordLemmas
+pub mod FitLemmas
+pub mod ObjectLemmas
+pub mod FoundLemmas
+pub mod ValueReads
+pub mod LengthLemmas
+pub mod SlotGoes
+pub mod FrameGoes

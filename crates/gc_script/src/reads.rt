@@ -108,7 +108,7 @@ impl Runner {
 
     /// The length of the array in register `r`.
     pub(crate) fn length<H: GcHeap>(&self, store: &Store<H, u64>, r: u16) -> Reply
-        ensures goes { (s : State) → HoldsState H.KIND store.now self.now s → GoesOn H.KIND s (Command.Len r) (Ok result) store.now self.now }
+        ensures { (s : State) → HoldsState H.KIND store.now self.now s → GoesOn H.KIND s (Command.Len r) (Ok result) store.now self.now }
     {
         let value = match self.registers.get(r) {
             Some(value) => value,
@@ -127,7 +127,7 @@ impl Runner {
         r: u16,
         len: u32,
     ) -> Result<Reply, RunError>
-        ensures goes { (s : State) → HoldsState H.KIND store.now self.now s → GoesOn H.KIND s (Command.ReadBytes r len) result store.now self.now }
+        ensures { (s : State) → HoldsState H.KIND store.now self.now s → GoesOn H.KIND s (Command.ReadBytes r len) result store.now self.now }
     {
         let value = match self.registers.get(r) {
             Some(value) => value,
