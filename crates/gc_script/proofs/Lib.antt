@@ -17,7 +17,6 @@ pub mod CheckLemmas
 pub mod DeclareLemmas
 pub mod MakeLemmas
 pub mod PlaceLemmas
-pub mod NewLemmas
 pub mod ResultLemmas
 pub mod ScriptLemmas
 pub mod ShownLemmas
@@ -33,3 +32,5 @@ pub mod ValueReads
 pub mod LengthLemmas
 pub mod SlotGoes
 pub mod FrameGoes
+pub mod MakeTests
+pub mod RequestLemmas
