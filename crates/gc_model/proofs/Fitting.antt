@@ -1,5 +1,5 @@
 -- What fits a type has its form, and fits it still once more is declared, made or written.
-use Rattle.std.proofs.Common.{◌≡◌, ℕ, zero, suc, ◌<◌, ◌&&◌, ◌||◌, Bool, true, false, List, [], ◌∷◌, ◌++◌, Option, Some, None, map, inl, inr, refl, sym, ap, ◌∙◌, subst, arith, eq-eqb}
+use Rattle.std.proofs.Common.{◌≡◌, ℕ, zero, suc, ◌&&◌, ◌||◌, Bool, true, false, List, [], ◌∷◌, ◌++◌, Option, Some, None, inl, inr, refl, sym, ap, ◌∙◌}
 use Rattle.std.specs.List.{slice_get}
 use Rattle.std.specs.Prelude.{◌==◌, option_map, slice_set}
 use Rattle.std.proofs.lemmas.Bool.{cases_eq}
@@ -20,7 +20,7 @@ use Rattle.gc_types.specs.Values.{heap_top}
 use Rattle.gc_owner.specs.declared.entry.GcClass.{GcClass}
 use Rattle.gc_owner.specs.declared.entry.GcClass.TheVariants.{Any, Extern, Exn}
 use Rattle.gc_model.specs.Values.{Reference, null, small, at, Value, numeric, i32, i64, f32, f64, v128, function, reference, Object, struct, array, host, exception}
-use Rattle.gc_model.specs.Fits.{meets_from, climbs, is_subtype, matches, is_extern, object_fits_any, object_fits_extern, object_fits_exn, has_class, is_function_top, reference_fits, function_fits, fits_type, fits}
+use Rattle.gc_model.specs.Fits.{meets_from, climbs, matches, is_extern, object_fits_any, object_fits_extern, object_fits_exn, has_class, is_function_top, reference_fits, function_fits, fits_type, fits}
 use Rattle.gc_model.specs.Forms.{top_form, type_form, storage_form, value_form, function_of, reference_of}
 use Rattle.gc_model.specs.Reach.{object_values}
 use Rattle.gc_model.specs.Stored.{stored}

@@ -1,13 +1,14 @@
 -- What stands for an object with values, whichever its kind is, and when it stands still.
-use Rattle.std.proofs.Common.{◌≡◌, ℕ, ◌+◌, ◌-◌, ◌<◌, ◌≤◌, inl, inr, List, length, Option, Some, refl, sym, ap, ◌∙◌, subst, arith}
+use Rattle.std.proofs.Common.{◌≡◌, ℕ, ◌+◌, ◌-◌, ◌<◌, ◌≤◌, inl, inr, List, length, Option, Some, None, refl, sym, ap, ◌∙◌, subst, arith}
 use Rattle.std.specs.List.{slice_get}
 use Rattle.std.specs.Prelude.{slice_set}
-use Rattle.std.proofs.lemmas.Option.{none-some, slice_get_within, slice_get_cases}
+use Rattle.std.proofs.lemmas.Option.{none-some, same_Some, slice_get_cases}
 use Rattle.gc_types.specs.declared.value.FieldType.{FieldType}
-use Rattle.gc_types.specs.declared.value.Tag.{Tag}
 use Rattle.gc_types.specs.declared.kind.Layouts.{Layouts}
 use Rattle.gc_types.specs.declared.kind.Layouts.TheVariants.{Null, Counting, Copying}
 use Rattle.gc_types.specs.declared.kind.TypeKind.{TypeKind}
+use Rattle.gc_types.specs.declared.kind.VMGcKind.{VMGcKind}
+use Rattle.gc_types.specs.declared.kind.VMGcKind.TheVariants.{StructRef, ArrayRef, ExnRef, ExternRef}
 use Rattle.gc_types.specs.declared.kind.TypeKind.TheVariants as kinds
 use Rattle.gc_types.specs.Declarations.{Declaration, Shape, struct_of, array_of, exn_of, func_of, shape_kind}
 use Rattle.gc_types.specs.Layouts.{struct_base, exception_base, array_base, storage_width}
@@ -24,6 +25,35 @@ use Rattle.gc_model.specs.Forms.{Names, LiesAs}
 use Rattle.gc_model.specs.Standing.{Stands, ShapeStands, ValuesLie}
 use Rattle.gc_model.proofs.Lists.{slice_get-same_length}
 use Rattle.gc_model.proofs.ObjectShapes.{shape_at, IsOfShape, IsSlotOf, shape_declared, type_of_slot, value_type_is, slot_alone}
+
+-- the kind that an object has in a heap
+abbrev pub object_kind : {D : Type 0} → Object D → VMGcKind
+object_kind (struct ty values) = StructRef
+object_kind (array ty values) = ArrayRef
+object_kind (host value) = ExternRef
+object_kind (exception ty tag values) = ExnRef
+
+-- the index of its type; a host object has none
+abbrev pub object_type : {D : Type 0} → Object D → Option ℕ
+object_type (struct ty values) = Some ty
+object_type (array ty values) = Some ty
+object_type (host value) = None
+object_type (exception ty tag values) = Some ty
+
+module _ {D : Type 0} (layouts : Layouts) (types : List Declaration) (names : Names) where
+  -- what stands for it is of that kind
+  pub stands_kind : (o : Object D) (h : HeapObject) → Stands layouts types names o h → h.kind ≡ object_kind o
+  stands_kind (struct ty values) h is = is.kind
+  stands_kind (array ty values) h is = is.kind
+  stands_kind (host value) h is = is.1.kind
+  stands_kind (exception ty tag values) h is = is.kind
+
+  -- and of that type
+  pub stands_type : (o : Object D) (h : HeapObject) (ty : ℕ) → object_type o ≡ Some ty → Stands layouts types names o h → h.ty ≡ ty
+  stands_type (struct own values) h ty e is = is.stands.same_type ∙ same_Some own ty e
+  stands_type (array own values) h ty e is = is.stands.same_type ∙ same_Some own ty e
+  stands_type (host value) h ty e is = absurd (none-some ty e)
+  stands_type (exception own tag values) h ty e is = is.stands.same_type ∙ same_Some own ty e
 
 -- What stands for an object that is no host object: the shape of its type.
 pub record StandsByShape {D : Type 0} (layouts : Layouts) (types : List Declaration) (names : Names) (o : Object D) (h : HeapObject) : Type 0 where

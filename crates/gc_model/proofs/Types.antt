@@ -9,7 +9,7 @@ use Rattle.gc_types.specs.Layouts.{round_up}
 use Rattle.gc_model.specs.Values.{Object, struct, array, host, exception}
 use Rattle.gc_view.specs.Sizes.{alignment}
 use Rattle.gc_model.specs.Sizes.{object_size, next_after, fields_size, elements_size, exception_size, shape_exn_fields}
-use Rattle.gc_model.proofs.Lists.{slice_get-push_old, slice_get-push_new}
+use Rattle.gc_model.proofs.Lists.{slice_get-push_old}
 use Rattle.gc_model.proofs.ObjectShapes.{shape_at}
 
 -- a type of the table is one of the longer table
@@ -21,10 +21,6 @@ pub shape_at-push : (types : List Declaration) (d : Declaration) (ty : ℕ) (sha
 shape_at-push [] d ty shape e = absurd (none-some shape e)
 shape_at-push (x ∷ types) d zero shape e = e
 shape_at-push (x ∷ types) d (suc ty) shape e = shape_at-push types d ty shape e
-
--- the type that was declared last
-pub slice_get-last : (types : List Declaration) (d : Declaration) → slice_get (types ++ d ∷ []) (length types) ≡ Some d
-slice_get-last types d = slice_get-push_new types d
 
 -- an object's type is declared
 abbrev pub IsTyped : {D : Type 0} → List Declaration → Object D → Type 0

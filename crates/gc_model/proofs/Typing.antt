@@ -1,5 +1,5 @@
 -- The values of a table's objects fit their types after each change of the table.
-use Rattle.std.proofs.Common.{◌≡◌, ◌≢◌, ℕ, ◌<◌, inl, inr, List, [], ◌∷◌, ◌++◌, length, true, Option, Some, None, refl, sym, ap, ◌∙◌, subst, arith}
+use Rattle.std.proofs.Common.{◌≡◌, ℕ, ◌<◌, inl, inr, List, [], ◌∷◌, ◌++◌, length, Option, Some, None, refl, sym, ap, ◌∙◌, subst, arith}
 use Rattle.std.specs.List.{slice_get}
 use Rattle.std.specs.Prelude.{slice_set, option_and_then}
 use Rattle.std.proofs.lemmas.Bool.{cases_eq}
@@ -8,7 +8,6 @@ use Rattle.std.proofs.lemmas.Option.{none-some, slice_get_within}
 use Rattle.gc_types.specs.declared.value.FieldType.{FieldType}
 use Rattle.gc_types.specs.Declarations.{Declaration, declaration_struct_fields, declaration_elem}
 use Rattle.gc_model.specs.Values.{Value, Object, struct, array, host, exception}
-use Rattle.gc_model.specs.Fits.{fits}
 use Rattle.gc_model.specs.Holds.{IsTypedValue, TypedBy}
 use Rattle.gc_model.specs.Reach.{object_values}
 use Rattle.gc_model.specs.Sizes.{shape_exn_fields}

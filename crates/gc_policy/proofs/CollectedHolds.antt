@@ -11,11 +11,12 @@ use Rattle.gc_owner.specs.declared.entry.SlotEntry.{SlotEntry}
 use Rattle.gc_owner.specs.declared.entry.OwnedEntry.{OwnedEntry}
 use Rattle.gc_owner.specs.RootColumns.{RootsView, AreFrames, roots_of, moved_roots}
 use Rattle.gc_owner.specs.Owners.{OwnerView, CanBegin, Collects, start_of}
-use Rattle.gc_model.specs.Values.{Reference, null, small, at, struct}
+use Rattle.gc_model.specs.Values.{Reference, null, small, at}
 use Rattle.gc_model.specs.Table.{Table}
 use Rattle.gc_model.specs.Reach.{IsKept}
 use Rattle.gc_view.specs.Heaps.{HeapView, HeapObject}
 use Rattle.gc_model.specs.Stores.{StoreView}
+use Rattle.gc_model.proofs.HeldObjects.{held_no_host}
 use Rattle.gc_model.proofs.HoldsParts.{places_changed}
 use Rattle.gc_model.proofs.Hosts.{holds-no_hosts, hosts-none, nothing-objects}
 use Rattle.gc_model.proofs.RootsMoved.{owned-none}
@@ -28,9 +29,9 @@ use Rattle.gc_policy.specs.Shown.{shown, frames_of}
 use Rattle.gc_policy.proofs.RootsShown.{SlotsInFrames, IsRooted, scoped_rooted, slot_rooted, global_rooted, pending_rooted, owned_empty}
 use Rattle.gc_policy.proofs.Frames.{frame_words, frames-mapped}
 use Rattle.gc_policy.proofs.CollectedRoots.{StaysPresent, scoped-carried, frames-carried, globals-carried, pending-carried}
-use Rattle.gc_policy.proofs.CollectedValues.{MovedStruct, stands_moved}
+use Rattle.gc_policy.proofs.CollectedValues.{stands_moved}
 use Rattle.gc_policy.proofs.CollectedPlacing.{place_after, placed_after, placed_before, word_carried}
-use Rattle.gc_policy.proofs.CollectedKept.{placed_struct, traced_struct, kept_position}
+use Rattle.gc_policy.proofs.CollectedKept.{traced_here, kept_position}
 
 -- a part of a table of host values that has none has none
 pub part_has_none : {D : Type 0} (part whole : FinMap nat_cmp D) → IsPartOf part whole → whole ≡ empty → part ≡ empty
@@ -71,30 +72,28 @@ module _ {D : Type 0} (layouts : Layouts) (s : StoreView D) (t : Table D) (place
   held_of : (p x : ℕ) → place p ≡ Some x → IsHeld begin.heap x
   held_of p x e = let held = c.holds.objects.placed p x e in (held.object, held.in_heap)
 
-  struct_after : (p word : ℕ) → place p ≡ Some word → Kept layouts begin word → HeldAt layouts t after w.heap.content p (done.to word)
-  struct_after p word e kept =
-      let there = placed_struct layouts (shown s v) t place c.holds p word e in
+  object_after : (p word : ℕ) → place p ≡ Some word → Kept layouts begin word → HeldAt layouts t after w.heap.content p (done.to word)
+  object_after p word e kept =
+      let there = c.holds.objects.placed p word e in
       let now = done.kept word there.object kept there.in_heap in
-      let is : MovedStruct layouts t.types done.to there.object now.0 = record {
-        traced = traced_struct layouts s v t place c.holds c.in_frames c.can.traced (has_host v.hosts) p word there;
-        is_moved = subst (λ types. IsMoved layouts types done.to there.object now.0) c.holds.types now.1.1;
-      } in
       record {
         object = now.0;
-        entry = struct there.ty there.values;
+        entry = there.entry;
         in_heap = now.1.0;
         in_table = there.in_table;
-        stands = stands_moved layouts t.types done.to there.object now.0 is place after
+        stands = stands_moved layouts t.types done.to there.object now.0 place after t.funcs
+            (subst (λ types. IsMoved layouts types done.to there.object now.0) c.holds.types now.1.1)
+            (traced_here layouts s v t place c.holds c.in_frames c.can.traced (has_host v.hosts) word there.object there.in_heap)
             (λ r x among is_word. carried r x
             (λ q placed. kept_by_field layouts begin x word there.object (held_of q x placed) kept there.in_heap (subst (λ types. Contains (references layouts types there.object) x) (sym c.holds.types) among)) is_word)
-            there.ty there.values there.stands;
+            there.entry (held_no_host layouts (shown s v) t place c.holds p there.entry there.in_table) there.stands;
       }
 
   objects_after : ObjectsHold layouts t after w.heap
   objects_after = record {
     placed = λ p q e.
         let was = placed_before layouts begin w.heap (roots_of w.roots) (has_host w.hosts) done place p q e in
-        subst (λ x. HeldAt layouts t after w.heap.content p x) was.moves (struct_after p was.word was.placed was.kept);
+        subst (λ x. HeldAt layouts t after w.heap.content p x) was.moves (object_after p was.word was.placed was.kept);
     only = λ q o e.
         let from = done.only q (o, e) in
         let held = kept_held layouts begin from.0 from.1.0 in
@@ -160,6 +159,7 @@ module _ {D : Type 0} (layouts : Layouts) (s : StoreView D) (t : Table D) (place
       (pending-carried done.to place after t.pending v.roots.pending (λ r above is. carried r v.roots.pending (kept_rooted v.roots.pending (λ x. pending_rooted v.roots x)) is) present c.holds.pending)
       (hosts-none t.objects after w.heap.content w.hosts nothing.hosts (part_has_none w.hosts v.hosts c.collects.values none))
       (nothing-objects nothing nothing.hosts)
+      c.holds.typed
 
   holds_after : KindHolds layouts t after w.heap → Holds layouts (shown s w) t after
   holds_after kind =

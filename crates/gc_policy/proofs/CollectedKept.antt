@@ -1,18 +1,18 @@
 -- What a collection of the heap keeps are the objects that the roots of the table reach.
-use Rattle.std.proofs.Common.{◌≡◌, ℕ, Bool, List, Some, Contains, sym, ap, ◌∙◌, subst, arith}
-use Rattle.std.specs.List.{slice_get, flat_map}
+use Rattle.std.proofs.Common.{◌≡◌, ℕ, Bool, Some, Contains, sym, ◌∙◌, subst, arith}
+use Rattle.std.specs.List.{slice_get}
 use Rattle.std.specs.FinMap.{get}
 use Rattle.std.proofs.lemmas.Option.{slice_get_within}
 use Rattle.gc_types.specs.declared.kind.Layouts.{Layouts}
 use Rattle.gc_types.specs.declared.kind.Layouts.TheVariants.{Null, Counting, Copying}
-use Rattle.gc_model.specs.Values.{Reference, at, Value, Object, struct, array, host, exception}
-use Rattle.gc_types.specs.Declarations.{struct_fields_at}
+use Rattle.gc_model.specs.Values.{Reference, at, Object}
 use Rattle.gc_model.specs.Table.{Table}
 use Rattle.gc_model.specs.Reach as reach
-use Rattle.gc_model.specs.Reach.{value_references, references_in, IsReached, IsKept}
+use Rattle.gc_model.specs.Reach.{references_in, IsReached, IsKept}
 use Rattle.gc_view.specs.Heaps.{HeapObject}
 use Rattle.gc_model.specs.Stores.{StoreView}
-use Rattle.gc_model.specs.Holds.{Placing, IsWord, Stands, StructStands, Holds}
+use Rattle.gc_model.specs.Holds.{Placing, IsWord, naming, Holds}
+use Rattle.gc_model.proofs.HeldObjects.{held_no_host}
 use Rattle.gc_model.proofs.Words.{word_names}
 use Rattle.gc_heap.specs.References.{reference_offsets, references, word_in}
 use Rattle.gc_heap.specs.Collection.{Reached, by_root, by_field, Kept}
@@ -22,49 +22,26 @@ use Rattle.gc_owner.specs.RootColumns.{roots_of}
 use Rattle.gc_owner.specs.Owners.{OwnerView}
 use Rattle.gc_policy.specs.Shown.{shown}
 use Rattle.gc_policy.proofs.RootsShown.{SlotsInFrames, root_word, listed_named}
-use Rattle.gc_policy.proofs.CollectedOffsets.{IsTracedStruct, traced_fields}
 use Rattle.gc_policy.proofs.CollectedReach.{reference_word, reference_of_word}
 
--- A placed position: its struct, and the heap's object that stands for it.
-pub record PlacedStruct {D : Type 0} (layouts : Layouts) (s : StoreView D) (t : Table D) (place : Placing) (p word : ℕ) : Type 0 where
-  pub ty : ℕ
-  pub values : List Value
-  pub in_table : slice_get t.objects p ≡ Some (struct ty values)
-  pub object : HeapObject
-  pub in_heap : get s.heap.content word ≡ Some object
-  pub stands : StructStands layouts t.types place ty values object
-
 module _ {D : Type 0} (layouts : Layouts) (s : StoreView D) (t : Table D) (place : Placing) (holds : Holds layouts s t place) where
-  struct_of : (p word : ℕ) (entry : Object D) (h : HeapObject) → slice_get t.objects p ≡ Some entry → get s.heap.content word ≡ Some h → Stands layouts t.types place entry h → PlacedStruct layouts s t place p word
-  struct_of p word (struct ty values) h e f stands = record { ty = ty; values = values; in_table = e; object = h; in_heap = f; stands = stands }
-  struct_of p word (array ty values) h e f stands = absurd stands
-  struct_of p word (host value) h e f stands = absurd stands
-  struct_of p word (exception ty tag values) h e f stands = absurd stands
-
-  pub placed_struct : (p word : ℕ) → place p ≡ Some word → PlacedStruct layouts s t place p word
-  placed_struct p word e = let held = holds.objects.placed p word e in struct_of p word held.entry held.object held.in_table held.in_heap held.stands
-
   -- what is reached is placed
   pub reached_placed : (p : ℕ) → reach.Reached t.objects (reach.root_references t) p → (word : ℕ) × (place p ≡ Some word)
   reached_placed p (reach.by_start c) = root_word layouts s t place holds (at p) c
   reached_placed p (reach.by_step {y = q} reached named) =
       let before = reached_placed q reached in
-      let there = placed_struct q before.0 before.1 in
-      let same : named.object ≡ struct there.ty there.values = (let both : Some named.object ≡ Some (struct there.ty there.values) = sym named.there ∙ there.in_table in grind (arith, both)) in
-      reference_word layouts t.types place there.ty there.values there.object there.stands (at p) (subst (λ (x : Object D). Contains (references_in x) (at p)) same named.among)
+      let there = holds.objects.placed q before.0 before.1 in
+      let both : Some named.object ≡ Some there.entry = sym named.there ∙ there.in_table in
+      let same : named.object ≡ there.entry = grind (arith, both) in
+      reference_word layouts t.types (naming place t.funcs) there.entry there.object there.stands (at p) (subst (λ (x : Object D). Contains (references_in x) (at p)) same named.among)
 
-  value_reached : (q ty : ℕ) (values : List Value) → IsReached t q → slice_get t.objects q ≡ Some (struct ty values) → (r : Reference) (p : ℕ) → r ≡ at p → Contains (flat_map value_references values) r → IsReached t p
-  value_reached q ty values reached e r p is c = reach.by_step reached (record { object = struct ty values; there = e; among = subst (λ (x : Reference). Contains (flat_map value_references values) x) is c })
+  value_reached : (q : ℕ) (o : Object D) → IsReached t q → slice_get t.objects q ≡ Some o → (r : Reference) (p : ℕ) → r ≡ at p → Contains (references_in o) r → IsReached t p
+  value_reached q o reached e r p is c = reach.by_step reached (record { object = o; there = e; among = subst (λ (x : Reference). Contains (references_in o) x) is c })
 
 module _ {D : Type 0} (layouts : Layouts) (s : StoreView D) (v : OwnerView D) (t : Table D) (place : Placing) (holds : Holds layouts (shown s v) t place) (in_frames : SlotsInFrames v.roots) (traced : AreTraced layouts v.types.declarations v.heap) (hosts : ℕ → Bool) where
-  abbrev store : StoreView D
-  store = shown s v
-
-  -- a struct that is placed is traced by the table's types
-  pub traced_struct : (p word : ℕ) (there : PlacedStruct layouts store t place p word) → IsTracedStruct layouts t.types there.object
-  traced_struct p word there =
-      traced_fields layouts t.types there.object there.stands.fields (subst (λ types. IsTraced layouts types there.object) holds.types (traced word there.object there.in_heap)) there.stands.kind
-      (ap (struct_fields_at t.types) there.stands.same_type ∙ there.stands.declared)
+  -- an object of the heap is traced by the table's types
+  pub traced_here : (word : ℕ) (h : HeapObject) → get v.heap.content word ≡ Some h → IsTraced layouts t.types h
+  traced_here word h got = subst (λ types. IsTraced layouts types h) holds.types (traced word h got)
 
   -- an object that the heap's roots reach is one that the table's roots reach
   pub reached_position : (word : ℕ) → Reached layouts (start_from v.types.declarations v.heap (roots_of v.roots) hosts) word → (p : ℕ) → place p ≡ Some word → IsReached t p
@@ -74,18 +51,20 @@ module _ {D : Type 0} (layouts : Layouts) (s : StoreView D) (v : OwnerView D) (t
       reach.by_start (subst (λ (x : Reference). Contains (reach.root_references t) x) names found.1.0)
   reached_position word (by_field held {from = from} reached o got among) p e =
       let before = holds.objects.only from o got in
-      let there = placed_struct layouts store t place holds before.0 from before.1 in
-      let same : there.object ≡ o = (let both : Some there.object ≡ Some o = sym there.in_heap ∙ got in grind (arith, both)) in
+      let there = holds.objects.placed before.0 from before.1 in
+      let both : Some there.object ≡ Some o = sym there.in_heap ∙ got in
+      let same : there.object ≡ o = grind (arith, both) in
       let found = in_map (word_in layouts there.object) (reference_offsets layouts t.types there.object) word
       (contains_in (references layouts t.types there.object) word (subst (λ x. Contains (references layouts t.types x) word) (sym same) (subst (λ types. Contains (references layouts types o) word) holds.types among))) in
-      let named = reference_of_word layouts t.types place there.ty there.values there.object there.stands (traced_struct before.0 from there) found.0 found.1.0 in
+      let not_host = held_no_host layouts (shown s v) t place holds before.0 there.entry there.in_table in
+      let named = reference_of_word layouts t.types (naming place t.funcs) there.entry there.object not_host there.stands (traced_here from there.object there.in_heap) found.0 found.1.0 in
       let names : named.reference_is ≡ at p = word_names layouts t place v.heap holds.objects named.reference_is (at p) word (subst (IsWord place named.reference_is) found.1.1 named.is_word) e in
-      value_reached layouts store t place holds before.0 there.ty there.values (reached_position from reached before.0 before.1) there.in_table named.reference_is p names named.among
+      value_reached layouts (shown s v) t place holds before.0 there.entry (reached_position from reached before.0 before.1) there.in_table named.reference_is p names named.among
 
 -- What a collection of the heap keeps, one of the table keeps.
 pub kept_position : {D : Type 0} (layouts : Layouts) (s : StoreView D) (v : OwnerView D) (t : Table D) (place : Placing) → Holds layouts (shown s v) t place → SlotsInFrames v.roots → AreTraced layouts v.types.declarations v.heap → (hosts : ℕ → Bool) (word : ℕ) → Kept layouts (start_from v.types.declarations v.heap (roots_of v.roots) hosts) word
     → (p : ℕ) → place p ≡ Some word → IsKept layouts t p
-kept_position Null s v t place holds in_frames traced hosts word kept p e = let there = placed_struct Null (shown s v) t place holds p word e in slice_get_within t.objects p (struct there.ty there.values) there.in_table
+kept_position Null s v t place holds in_frames traced hosts word kept p e = let there = holds.objects.placed p word e in slice_get_within t.objects p there.entry there.in_table
 kept_position Counting s v t place holds in_frames traced hosts word kept p e = reached_position Counting s v t place holds in_frames traced hosts word kept p e
 kept_position Copying s v t place holds in_frames traced hosts word kept p e = reached_position Copying s v t place holds in_frames traced hosts word kept p e
 

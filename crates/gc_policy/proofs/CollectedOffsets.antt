@@ -1,126 +1,134 @@
--- In every kind of heap a collection follows the reference fields of a struct that is traced by its type.
-use Rattle.std.proofs.Common.{◌≡◌, ℕ, zero, suc, ◌+◌, true, false, List, [], ◌∷◌, length, Some, None, Option, inl, inr, refl, sym, ap, ◌∙◌, subst, arith}
+-- In every kind of heap a collection follows the reference slots of an object that is traced.
+use Rattle.std.proofs.Common.{◌≡◌, ℕ, zero, suc, ◌+◌, true, false, cond, List, [], ◌∷◌, map, length, Some, None, Option, option_map, inl, inr, refl, sym, ap, ◌∙◌, subst, arith}
 use Rattle.std.specs.List.{slice_get}
-use Rattle.std.proofs.lemmas.Option.{none-some, same_Some}
-use Rattle.gc_types.specs.declared.value.FieldType.{FieldType}
+use Rattle.std.proofs.lemmas.Option.{none-some}
+use Rattle.gc_types.specs.declared.value.StorageType.{StorageType}
 use Rattle.gc_types.specs.declared.kind.Layouts.{Layouts}
-use Rattle.gc_types.specs.declared.layout.FieldLayout.{FieldLayout}
+use Rattle.gc_types.specs.declared.kind.Layouts.TheVariants.{Null, Counting, Copying}
+use Rattle.gc_types.specs.declared.kind.TypeKind.TheVariants as kinds
 use Rattle.gc_types.specs.declared.layout.TraceInfo.TheVariants as trace
-use Rattle.gc_types.specs.Declarations.{Shape, struct_of, array_of, exn_of, func_of, Declaration, shape_struct_fields, declaration_struct_fields, struct_fields_at}
-use Rattle.gc_types.specs.Layouts.{struct_base, struct_layout, fields_end, shape_layout, declaration_layout, field_layouts, field_offset, storage_width, is_gc_storage, ref_offsets, shape_trace, declaration_trace}
-use Rattle.gc_memory.specs.Lists.{In, here, there}
+use Rattle.gc_types.specs.Declarations.{Shape, struct_of, array_of, exn_of, func_of, shape_kind, Declaration, constant_field}
+use Rattle.gc_types.specs.Layouts.{struct_base, exception_base, array_base, round_up, storage_width, is_gc_storage, shape_trace, declaration_trace}
 use Rattle.gc_view.specs.Heaps.{HeapObject}
-use Rattle.gc_model.proofs.FieldsLie.{IsField}
-use Rattle.gc_heap.specs.References.{info_offsets, typed_offsets, reference_offsets}
-use Rattle.gc_heap.proofs.SpacedLemmas.{first_or_later, refs-take, refs-skip}
-use Rattle.gc_types.specs.declared.kind.VMGcKind.TheVariants.{StructRef}
-use Rattle.gc_types.specs.declared.layout.GcStructLayout.{GcStructLayout}
-use Rattle.gc_view.specs.Sizes.{stored_size}
-use Rattle.gc_heap.specs.Extents.{HasFields}
+use Rattle.gc_view.specs.Slots.{StorageSlot, element_slots, elements_from, shape_slots, followed_slots, slot_offsets}
+use Rattle.gc_view.proofs.SlotLemmas.{fields_followed, elements_followed, elements_not_followed}
+use Rattle.gc_memory.specs.Lists.{In, here, there}
+use Rattle.gc_heap.specs.Extents.{HasFields, array_length}
+use Rattle.gc_heap.specs.References.{word_offsets, info_offsets, typed_offsets, reference_offsets}
+use Rattle.gc_heap.proofs.SpacedLemmas.{first_or_later, ref_width}
+use Rattle.gc_heap.proofs.ReferenceLemmas.{typed_is}
 use Rattle.gc_owner.specs.Tracing.{IsTraced}
 use Rattle.gc_owner.proofs.FollowedOffsets.{SameElements, followed_offsets}
+use Rattle.gc_model.specs.Values.{Object, struct, array, host, exception}
+use Rattle.gc_model.specs.Reach.{object_values, IsHost}
+use Rattle.gc_model.specs.Forms.{Names}
+use Rattle.gc_model.specs.Standing.{Stands}
+use Rattle.gc_model.proofs.ObjectShapes.{shape_at, IsOfShape}
+use Rattle.gc_model.proofs.ObjectStands.{StandsByShape}
 
--- a struct of a declared type, whose references a collection follows
-pub record IsTracedStruct (layouts : Layouts) (types : List Declaration) (o : HeapObject) : Type 0 where
-  pub fields : List FieldType
-  pub declared : struct_fields_at types o.ty ≡ Some fields
-  pub kind : o.kind ≡ StructRef
-  pub size : struct_base layouts + length o.bytes ≡ stored_size layouts (fields_end (struct_base layouts) fields)
-  pub traced : IsTraced layouts types o
+-- the offsets of elements of four bytes are those of words
+word_elements : (ty : StorageType) (n p : ℕ) → storage_width ty ≡ 4 → map (λ (s : StorageSlot). s.offset) (element_slots ty n p) ≡ word_offsets p n
+word_elements ty zero p wide = refl
+word_elements ty (suc n) p wide = ap (λ os. p ∷ os) (word_elements ty n (p + storage_width ty) wide ∙ ap (λ w. word_offsets (p + w) n) wide)
 
-shape_laid_out : (layouts : Layouts) (shape : Shape) (fields : List FieldType) → shape_struct_fields shape ≡ Some fields → shape_layout layouts shape ≡ Some (struct_layout layouts fields)
-shape_laid_out layouts (struct_of fs) fields e = let same : fs ≡ fields = grind (arith, e) in ap (λ (xs : List FieldType). Some (struct_layout layouts xs)) same
-shape_laid_out layouts (array_of elem) fields e = absurd (none-some fields e)
-shape_laid_out layouts (exn_of params) fields e = absurd (none-some fields e)
-shape_laid_out layouts (func_of params results) fields e = absurd (none-some fields e)
+-- they begin where an array's length ends
+words_from : (layouts : Layouts) → round_up (array_base layouts) 4 ≡ array_base layouts
+words_from Null = refl
+words_from Counting = refl
+words_from Copying = refl
 
-pub declared_laid_out : (layouts : Layouts) (d : Option Declaration) (fields : List FieldType) → declaration_struct_fields d ≡ Some fields → declaration_layout layouts d ≡ Some (struct_layout layouts fields)
-declared_laid_out layouts None fields e = absurd (none-some fields e)
-declared_laid_out layouts (Some d) fields e = shape_laid_out layouts d.shape fields e
+-- The offsets that the trace info of a shape names are those of its reference slots.
+pub shape_traced : (layouts : Layouts) (h : HeapObject) (shape : Shape) (count : ℕ) → (shape_kind shape ≡ kinds.Array → array_length h ≡ count) → info_offsets layouts h (shape_trace layouts shape) ≡ slot_offsets (shape_slots layouts shape count)
+shape_traced layouts h (struct_of fields) count counted = sym (fields_followed (struct_base layouts) fields)
+shape_traced layouts h (array_of element) count counted = by_element (is_gc_storage element.element_type) refl
+  where
+    by_element : (b : _) → is_gc_storage element.element_type ≡ b → info_offsets layouts h (Some (trace.Array b)) ≡ slot_offsets (element_slots element.element_type count (elements_from layouts element))
+    by_element true is =
+        let wide : storage_width element.element_type ≡ 4 = ref_width element.element_type is in
+        ap (word_offsets (array_base layouts)) (counted refl)
+        ∙ ap (λ p. word_offsets p count) (sym (words_from layouts) ∙ ap (round_up (array_base layouts)) (sym wide))
+        ∙ sym (word_elements element.element_type count (elements_from layouts element) wide)
+        ∙ sym (elements_followed element.element_type count (elements_from layouts element) is)
+    by_element false is = sym (elements_not_followed element.element_type count (elements_from layouts element) is)
+shape_traced layouts h (exn_of params) count counted = sym (fields_followed (exception_base layouts) (map constant_field params))
+shape_traced layouts h (func_of params results) count counted = refl
 
--- an object of a struct's type that is traced is traced as a struct
-pub traced_fields : (layouts : Layouts) (types : List Declaration) (o : HeapObject) (fields : List FieldType) → IsTraced layouts types o → o.kind ≡ StructRef → struct_fields_at types o.ty ≡ Some fields → IsTracedStruct layouts types o
-traced_fields layouts types o fields (inl is) kind declared = absurd (cc (sym kind ∙ is))
-traced_fields layouts types o fields (inr (inl is)) kind declared =
-    let laid_out : struct_layout layouts fields ≡ is.layout = let both : Some (struct_layout layouts fields) ≡ Some is.layout = sym (declared_laid_out layouts (slice_get types o.ty) fields declared) ∙ is.declared in same_Some (struct_layout layouts fields) is.layout both in
-    record {
-      fields = fields;
-      declared = declared;
-      kind = kind;
-      size = is.size ∙ ap (λ (l : GcStructLayout). stored_size layouts l.size) (sym laid_out);
-      traced = inr (inl is);
-    }
-traced_fields layouts types o fields (inr (inr is)) kind declared = absurd (cc (sym kind ∙ is.kind))
+traced_as : (layouts : Layouts) (d : Option Declaration) (shape : Shape) → option_map (λ (x : Declaration). x.shape) d ≡ Some shape → declaration_trace layouts d ≡ shape_trace layouts shape
+traced_as layouts None shape e = absurd (none-some shape e)
+traced_as layouts (Some d) shape e = let same : d.shape ≡ shape = grind (arith, e) in ap (shape_trace layouts) same
 
--- A reference field whose offset is x.
-pub record RefField (base : ℕ) (fields : List FieldType) (x : ℕ) : Type 0 where
+-- The references of an object of a type with that shape, as its type tells them, are those in its slots.
+pub shape_offsets : (layouts : Layouts) (types : List Declaration) (h : HeapObject) (shape : Shape) (count : ℕ) → shape_at types h.ty ≡ Some shape → HasFields h.kind → (shape_kind shape ≡ kinds.Array → array_length h ≡ count)
+    → typed_offsets layouts types h h.kind ≡ slot_offsets (shape_slots layouts shape count)
+shape_offsets layouts types h shape count declared fields counted =
+    typed_is layouts types h h.kind fields
+    ∙ ap (info_offsets layouts h) (traced_as layouts (slice_get types h.ty) shape declared)
+    ∙ shape_traced layouts h shape count counted
+
+module _ {D : Type 0} (layouts : Layouts) (types : List Declaration) (names : Names) where
+  -- what stands for an object with values has fields or elements
+  pub stands_fields : (o : Object D) (h : HeapObject) → ¬ IsHost (Some o) → Stands layouts types names o h → HasFields h.kind
+  stands_fields (struct ty values) h not_host is = subst HasFields (sym is.kind) tt
+  stands_fields (array ty values) h not_host is = subst HasFields (sym is.kind) tt
+  stands_fields (host value) h not_host is = absurd (not_host tt)
+  stands_fields (exception ty tag values) h not_host is = subst HasFields (sym is.kind) tt
+
+  -- what stands for an array tells as many elements
+  array_counted : (o : Object D) (h : HeapObject) (shape : Shape) → Stands layouts types names o h → IsOfShape types o shape → shape_kind shape ≡ kinds.Array → array_length h ≡ length (object_values o)
+  array_counted (struct ty values) h shape is of_shape of_array = absurd (cc (sym of_shape.1 ∙ of_array))
+  array_counted (array ty values) h shape is of_shape of_array = is.elements
+  array_counted (host value) h shape is of_shape of_array = absurd of_shape
+  array_counted (exception ty tag values) h shape is of_shape of_array = absurd (cc (sym of_shape.1 ∙ of_array))
+
+  -- The references of a traced object that stands for one of the table are those in its slots.
+  pub traced_slots : (o : Object D) (h : HeapObject) → ¬ IsHost (Some o) → Stands layouts types names o h → IsTraced layouts types h → (by : StandsByShape layouts types names o h)
+      → SameElements (reference_offsets layouts types h) (slot_offsets (shape_slots layouts by.stands.shape by.stands.count))
+  traced_slots o h not_host is traced by =
+      let shape : Shape = by.stands.shape in
+      let fields = stands_fields o h not_host is in
+      let declared : shape_at types h.ty ≡ Some shape = ap (shape_at types) by.stands.same_type ∙ by.stands.declared in
+      subst (SameElements (reference_offsets layouts types h))
+      (shape_offsets layouts types h shape by.stands.count declared fields (λ of_array. array_counted o h shape is by.of_shape of_array ∙ by.stands.counted))
+      (followed_offsets layouts types h fields traced)
+
+-- A reference slot whose offset is x.
+pub record RefSlot (slots : List StorageSlot) (x : ℕ) : Type 0 where
   pub index : ℕ
-  pub field : FieldType
-  pub layout : FieldLayout
-  pub is_field : IsField base fields index field layout
-  pub is_reference : is_gc_storage field.element_type ≡ true
-  pub at : layout.offset ≡ x
+  pub slot : StorageSlot
+  pub slot_is : slice_get slots index ≡ Some slot
+  pub is_reference : is_gc_storage slot.storage ≡ true
+  pub at : slot.offset ≡ x
 
--- where the fields behind the first one may lie
-abbrev behind : ℕ → FieldType → ℕ
-behind p f = field_offset p f + storage_width f.element_type
+offsets-take : (s : StorageSlot) (slots : List StorageSlot) → is_gc_storage s.storage ≡ true → slot_offsets (s ∷ slots) ≡ s.offset ∷ slot_offsets slots
+offsets-take s slots e = ap (λ b. map (λ (x : StorageSlot). x.offset) (cond b (s ∷ followed_slots slots) (followed_slots slots))) e
 
-abbrev first_layout : ℕ → FieldType → FieldLayout
-first_layout p f = record { offset = field_offset p f; is_gc_ref = is_gc_storage f.element_type }
+offsets-skip : (s : StorageSlot) (slots : List StorageSlot) → is_gc_storage s.storage ≡ false → slot_offsets (s ∷ slots) ≡ slot_offsets slots
+offsets-skip s slots e = ap (λ b. map (λ (x : StorageSlot). x.offset) (cond b (s ∷ followed_slots slots) (followed_slots slots))) e
 
-next_field : (p : ℕ) (fields : List FieldType) (first : FieldType) (x : ℕ) → RefField (behind p first) fields x → RefField p (first ∷ fields) x
-next_field p fields first x r = record {
-  index = suc r.index;
-  field = r.field;
-  layout = r.layout;
-  is_field = record { type_is = r.is_field.type_is; layout_is = r.is_field.layout_is };
-  is_reference = r.is_reference;
-  at = r.at;
-}
+next_slot : (s : StorageSlot) (slots : List StorageSlot) (x : ℕ) → RefSlot slots x → RefSlot (s ∷ slots) x
+next_slot s slots x r = record { index = suc r.index; slot = r.slot; slot_is = r.slot_is; is_reference = r.is_reference; at = r.at }
 
--- each offset of references is that of a reference field
-pub ref_field : (p : ℕ) (fields : List FieldType) (x : ℕ) → In x (ref_offsets (field_layouts p fields)) → RefField p fields x
-ref_field p [] x i = elim i [ ]
-ref_field p (f ∷ fields) x i = elim (is_gc_storage f.element_type) as (λ b. is_gc_storage f.element_type ≡ b → RefField p (f ∷ fields) x) [
-  | true ↦ λ e. elim (first_or_later (field_offset p f) x (ref_offsets (field_layouts (behind p f) fields)) (subst (In x) (refs-take (first_layout p f) (field_layouts (behind p f) fields) e) i)) [
-    | inl first ↦ record { index = 0; field = f; layout = first_layout p f; is_field = record { type_is = refl; layout_is = refl }; is_reference = e; at = sym first }
-    | inr later ↦ next_field p fields f x (ref_field (behind p f) fields x later)
+-- each offset that is followed is that of a reference slot
+pub ref_slot : (slots : List StorageSlot) (x : ℕ) → In x (slot_offsets slots) → RefSlot slots x
+ref_slot [] x i = elim i [ ]
+ref_slot (s ∷ slots) x i = elim (is_gc_storage s.storage) as (λ b. is_gc_storage s.storage ≡ b → RefSlot (s ∷ slots) x) [
+  | true ↦ λ e. elim (first_or_later s.offset x (slot_offsets slots) (subst (In x) (offsets-take s slots e) i)) [
+    | inl first ↦ record { index = 0; slot = s; slot_is = refl; is_reference = e; at = sym first }
+    | inr later ↦ next_slot s slots x (ref_slot slots x later)
   ]
-  | false ↦ λ e. next_field p fields f x (ref_field (behind p f) fields x (subst (In x) (refs-skip (first_layout p f) (field_layouts (behind p f) fields) e) i))
+  | false ↦ λ e. next_slot s slots x (ref_slot slots x (subst (In x) (offsets-skip s slots e) i))
 ] refl
 
--- each reference field's offset is one of references
-pub field_referenced : (p : ℕ) (fields : List FieldType) (index : ℕ) (field : FieldType) (layout : FieldLayout) → IsField p fields index field layout → is_gc_storage field.element_type ≡ true → In layout.offset (ref_offsets (field_layouts p fields))
-field_referenced p [] index field layout is followed = absurd (none-some field is.type_is)
-field_referenced p (f ∷ fields) zero field layout is followed =
-    let same : f ≡ field = grind (arith, is.type_is) in
-    let e : is_gc_storage f.element_type ≡ true = ap (λ (x : FieldType). is_gc_storage x.element_type) same ∙ followed in
-    let at : field_offset p f ≡ layout.offset = grind (arith, is.layout_is) in
-    subst (λ x. In x (ref_offsets (field_layouts p (f ∷ fields)))) at (subst (In (field_offset p f)) (sym (refs-take (first_layout p f) (field_layouts (behind p f) fields) e)) here)
-field_referenced p (f ∷ fields) (suc index) field layout is followed =
-    let later = field_referenced (behind p f) fields index field layout (record { type_is = is.type_is; layout_is = is.layout_is }) followed in
-    elim (is_gc_storage f.element_type) as (λ b. is_gc_storage f.element_type ≡ b → In layout.offset (ref_offsets (field_layouts p (f ∷ fields)))) [
-      | true ↦ λ e. subst (In layout.offset) (sym (refs-take (first_layout p f) (field_layouts (behind p f) fields) e)) (there later)
-      | false ↦ λ e. subst (In layout.offset) (sym (refs-skip (first_layout p f) (field_layouts (behind p f) fields) e)) later
+-- each reference slot's offset is followed
+pub slot_followed : (slots : List StorageSlot) (index : ℕ) (slot : StorageSlot) → slice_get slots index ≡ Some slot → is_gc_storage slot.storage ≡ true → In slot.offset (slot_offsets slots)
+slot_followed [] index slot is followed = absurd (none-some slot is)
+slot_followed (s ∷ slots) zero slot is followed =
+    let same : s ≡ slot = grind (arith, is) in
+    let e : is_gc_storage s.storage ≡ true = ap (λ (x : StorageSlot). is_gc_storage x.storage) same ∙ followed in
+    subst (λ (x : StorageSlot). In x.offset (slot_offsets (s ∷ slots))) same (subst (In s.offset) (sym (offsets-take s slots e)) here)
+slot_followed (s ∷ slots) (suc index) slot is followed =
+    let later = slot_followed slots index slot is followed in
+    elim (is_gc_storage s.storage) as (λ b. is_gc_storage s.storage ≡ b → In slot.offset (slot_offsets (s ∷ slots))) [
+      | true ↦ λ e. subst (In slot.offset) (sym (offsets-take s slots e)) (there later)
+      | false ↦ λ e. subst (In slot.offset) (sym (offsets-skip s slots e)) later
     ] refl
-
--- the trace info of a struct type
-shape_traced : (layouts : Layouts) (shape : Shape) (fields : List FieldType) → shape_struct_fields shape ≡ Some fields → shape_trace layouts shape ≡ Some (trace.Struct (ref_offsets (field_layouts (struct_base layouts) fields)))
-shape_traced layouts (struct_of fs) fields e = let same : fs ≡ fields = grind (arith, e) in ap (λ (xs : List FieldType). Some (trace.Struct (ref_offsets (field_layouts (struct_base layouts) xs)))) same
-shape_traced layouts (array_of elem) fields e = absurd (none-some fields e)
-shape_traced layouts (exn_of params) fields e = absurd (none-some fields e)
-shape_traced layouts (func_of params results) fields e = absurd (none-some fields e)
-
-declared_traced : (layouts : Layouts) (d : Option Declaration) (fields : List FieldType) → declaration_struct_fields d ≡ Some fields → declaration_trace layouts d ≡ Some (trace.Struct (ref_offsets (field_layouts (struct_base layouts) fields)))
-declared_traced layouts None fields e = absurd (none-some fields e)
-declared_traced layouts (Some d) fields e = shape_traced layouts d.shape fields e
-
--- the references of a struct by its type
-pub by_type : (layouts : Layouts) (types : List Declaration) (o : HeapObject) (traced : IsTracedStruct layouts types o) → typed_offsets layouts types o o.kind ≡ ref_offsets (field_layouts (struct_base layouts) traced.fields)
-by_type layouts types o traced =
-    ap (typed_offsets layouts types o) traced.kind ∙ ap (info_offsets layouts o) (declared_traced layouts (slice_get types o.ty) traced.fields traced.declared)
-
--- The references of a struct that is traced by its type are its reference fields.
-pub traced_offsets_are : (layouts : Layouts) (types : List Declaration) (o : HeapObject) (traced : IsTracedStruct layouts types o) → SameElements (reference_offsets layouts types o) (ref_offsets (field_layouts (struct_base layouts) traced.fields))
-traced_offsets_are layouts types o traced =
-    subst (SameElements (reference_offsets layouts types o)) (by_type layouts types o traced) (followed_offsets layouts types o (subst HasFields (sym traced.kind) tt) traced.traced)

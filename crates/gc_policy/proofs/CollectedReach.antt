@@ -3,23 +3,24 @@ use Rattle.std.proofs.Common.{◌≡◌, ℕ, ◌-◌, true, List, [], Some, Con
 use Rattle.std.specs.List.{slice_get, flat_map}
 use Rattle.gc_types.specs.declared.value.StorageType.{StorageType}
 use Rattle.gc_types.specs.declared.kind.Layouts.{Layouts}
-use Rattle.gc_types.specs.Declarations.{Declaration, struct_fields_at}
-use Rattle.gc_types.specs.Layouts.{struct_base, field_layouts, is_gc_storage, ref_offsets, storage_width}
+use Rattle.gc_types.specs.Declarations.{Declaration}
+use Rattle.gc_types.specs.Layouts.{struct_base, is_gc_storage, storage_width}
 use Rattle.gc_memory.specs.Lists.{In}
 use Rattle.gc_owner.specs.declared.entry.GcClass.{GcClass}
-use Rattle.gc_model.specs.Values.{Reference, Value, numeric, function, reference}
-use Rattle.gc_model.specs.Reach.{value_references}
+use Rattle.gc_owner.specs.Tracing.{IsTraced}
+use Rattle.gc_model.specs.Values.{Reference, Value, numeric, function, reference, Object}
+use Rattle.gc_model.specs.Reach.{value_references, object_values, references_in, IsHost}
 use Rattle.gc_view.specs.Bytes.{u32_at}
 use Rattle.gc_view.specs.Heaps.{HeapObject}
-use Rattle.gc_model.specs.Holds.{Placing, IsWord, Lies, StructStands}
-use Rattle.gc_model.specs.Forms.{storage_form, is_reference, no_functions, number_at}
+use Rattle.gc_view.specs.Slots.{StorageSlot, shape_slots}
+use Rattle.gc_model.specs.Holds.{Placing, IsWord, Stands}
+use Rattle.gc_model.specs.Forms.{Names, LiesAs, storage_form, is_reference, number_at}
 use Rattle.gc_model.proofs.ReadingBack.{ReferenceAs, reference_lying, storage_reference, reference_class, reference_width}
-use Rattle.gc_model.proofs.HeldStructs.{read_lies, field_value, FieldHolds}
+use Rattle.gc_model.proofs.ObjectStands.{stands_by_shape, shape_slot_value, value_lying}
 use Rattle.gc_heap.specs.References.{reference_offsets, word_in}
 use Rattle.gc_heap.proofs.SpacedLemmas.{only_item}
 use Rattle.gc_policy.proofs.CollectedLists.{contains_one, contains_flat, flat_contains}
-use Rattle.gc_policy.proofs.CollectedOffsets.{IsTracedStruct, ref_field, traced_offsets_are}
-use Rattle.gc_owner.proofs.FollowedOffsets.{SameElements}
+use Rattle.gc_policy.proofs.CollectedOffsets.{ref_slot, traced_slots}
 
 none_contained : {X : Type 0} (x : X) → Contains [] x → ⊥
 none_contained x c = omega (arith, c.1)
@@ -33,35 +34,34 @@ pub record AnyLies (place : Placing) (v : Value) (word : ℕ) : Type 0 where
 word_lies : (place : Placing) (class : GcClass) (v : Value) (bytes : List ℕ) (offset width : ℕ) → width ≡ 4 → ReferenceAs place class v (number_at width bytes offset) → ReferenceAs place class v (u32_at bytes offset)
 word_lies place class v bytes offset width is lies = subst (λ (w : ℕ). ReferenceAs place class v (number_at w bytes offset)) is lies
 
--- what lies in a field that a collection follows is a reference
-followed_lies : (place : Placing) (ty : StorageType) (v : Value) (bytes : List ℕ) (offset : ℕ) → is_gc_storage ty ≡ true → Lies place ty v bytes offset → AnyLies place v (u32_at bytes offset)
-followed_lies place ty v bytes offset followed lies =
+-- what lies in a slot that a collection follows is a reference
+followed_lies : (names : Names) (ty : StorageType) (v : Value) (bytes : List ℕ) (offset : ℕ) → is_gc_storage ty ≡ true → LiesAs names ty v bytes offset → AnyLies names.place v (u32_at bytes offset)
+followed_lies names ty v bytes offset followed lies =
     let refers : is_reference (storage_form ty) ≡ true = sym (storage_reference ty) ∙ followed in
     let class = reference_class (storage_form ty) refers in
     record {
       class_is = class.0;
-      lies = word_lies place class.0 v bytes offset (storage_width ty) (reference_width ty refers) (reference_lying (no_functions place) ty v bytes offset class.0 class.1 lies);
+      lies = word_lies names.place class.0 v bytes offset (storage_width ty) (reference_width ty refers) (reference_lying names ty v bytes offset class.0 class.1 lies);
     }
 
--- a reference lies in a field as its word
-reference_lies : (place : Placing) (ty : StorageType) (class : GcClass) (r : Reference) (bytes : List ℕ) (offset : ℕ) → Lies place ty (reference class r) bytes offset → IsWord place r (u32_at bytes offset)
-reference_lies place ty class r bytes offset lies =
-    subst (λ (w : ℕ). IsWord place r (number_at w bytes offset)) (reference_width ty (ap is_reference lies.form)) lies.code
+-- a reference lies in a slot as its word
+reference_lies : (names : Names) (ty : StorageType) (class : GcClass) (r : Reference) (bytes : List ℕ) (offset : ℕ) → LiesAs names ty (reference class r) bytes offset → IsWord names.place r (u32_at bytes offset)
+reference_lies names ty class r bytes offset lies =
+    subst (λ (w : ℕ). IsWord names.place r (number_at w bytes offset)) (reference_width ty (ap is_reference lies.form)) lies.code
 
 class_of : (v : Value) (r : Reference) → Contains (value_references v) r → (class : GcClass) × (v ≡ reference class r)
 class_of (numeric kind n) r c = absurd (none_contained r c)
 class_of (function f) r c = absurd (none_contained r c)
 class_of (reference class q) r c = (class, ap (reference class) (only_item q r c))
 
--- a reference among the values of a struct has a word
-pub reference_word : (layouts : Layouts) (types : List Declaration) (place : Placing) (ty : ℕ) (values : List Value) (h : HeapObject) → StructStands layouts types place ty values h
-    → (r : Reference) → Contains (flat_map value_references values) r → (word : ℕ) × IsWord place r word
-reference_word layouts types place ty values h stands r among =
-    let from = contains_flat value_references values r among in
+-- a reference among the values of an object has a word
+pub reference_word : {D : Type 0} (layouts : Layouts) (types : List Declaration) (names : Names) (o : Object D) (h : HeapObject) → Stands layouts types names o h
+    → (r : Reference) → Contains (references_in o) r → (word : ℕ) × IsWord names.place r word
+reference_word layouts types names o h stands r among =
+    let from = contains_flat value_references (object_values o) r among in
     let class = class_of from.element r from.among in
-    let holds : FieldHolds layouts place stands.fields from.index (reference class.0 r) h.bytes =
-    read_lies layouts types place ty values h stands from.index (reference class.0 r) (from.there ∙ ap (λ v. Some v) class.1) in
-    (u32_at h.bytes (holds.layout.offset - struct_base layouts), reference_lies place holds.field.element_type class.0 r h.bytes (holds.layout.offset - struct_base layouts) holds.lies)
+    let lying = value_lying layouts types names o h stands from.index (reference class.0 r) (from.there ∙ ap (λ v. Some v) class.1) in
+    (u32_at h.bytes (lying.slot.offset - struct_base layouts), reference_lies names lying.slot.storage class.0 r h.bytes (lying.slot.offset - struct_base layouts) lying.lies)
 
 -- A word among the references of an object of the heap, as a reference of the table's object.
 pub record ReferenceOfWord (place : Placing) (values : List Value) (word : ℕ) : Type 0 where
@@ -76,21 +76,15 @@ word_of_value place values index value word e lies = record {
   is_word = lies.lies.is_word;
 }
 
-module _ (layouts : Layouts) (types : List Declaration) (place : Placing) (ty : ℕ) (values : List Value) (h : HeapObject) (stands : StructStands layouts types place ty values h) (traced : IsTracedStruct layouts types h) where
-  abbrev base : ℕ
-  base = struct_base layouts
-
-  same_fields : traced.fields ≡ stands.fields
-  same_fields = let both : Some traced.fields ≡ Some stands.fields = sym traced.declared ∙ ap (struct_fields_at types) stands.same_type ∙ stands.declared in grind (arith, both)
-
-  offsets_are : SameElements (reference_offsets layouts types h) (ref_offsets (field_layouts base stands.fields))
-  offsets_are = subst (λ fs. SameElements (reference_offsets layouts types h) (ref_offsets (field_layouts base fs))) same_fields (traced_offsets_are layouts types h traced)
-
-  pub reference_of_word : (offset : ℕ) → In offset (reference_offsets layouts types h) → ReferenceOfWord place values (word_in layouts h offset)
-  reference_of_word offset i =
-      let r = ref_field base stands.fields offset (offsets_are.there offset i) in
-      let value = field_value layouts types place ty values h stands r.index r.field r.is_field.type_is in
-      let word : ℕ = u32_at h.bytes (r.layout.offset - base) in
-      let lies : AnyLies place value.0 word = followed_lies place r.field.element_type value.0 h.bytes (r.layout.offset - base) r.is_reference
-      (stands.values_lie.each r.index r.field r.layout value.0 r.is_field.type_is r.is_field.layout_is value.1) in
-      subst (λ x. ReferenceOfWord place values (word_in layouts h x)) r.at (word_of_value place values r.index value.0 word value.1 lies)
+-- each word that a collection follows in a traced object is that of one of its values
+pub reference_of_word : {D : Type 0} (layouts : Layouts) (types : List Declaration) (names : Names) (o : Object D) (h : HeapObject) → ¬ IsHost (Some o) → Stands layouts types names o h → IsTraced layouts types h
+    → (offset : ℕ) → In offset (reference_offsets layouts types h) → ReferenceOfWord names.place (object_values o) (word_in layouts h offset)
+reference_of_word layouts types names o h not_host stands traced offset i =
+    let by = stands_by_shape layouts types names o h not_host stands in
+    let slots : List StorageSlot = shape_slots layouts by.stands.shape by.stands.count in
+    let r = ref_slot slots offset ((traced_slots layouts types names o h not_host stands traced by).there offset i) in
+    let value = shape_slot_value layouts types names o h by r.index r.slot r.slot_is in
+    let word : ℕ = u32_at h.bytes (r.slot.offset - struct_base layouts) in
+    let lies : AnyLies names.place value.0 word =
+    followed_lies names r.slot.storage value.0 h.bytes (r.slot.offset - struct_base layouts) r.is_reference (by.stands.values_lie.each r.index r.slot value.0 r.slot_is value.1) in
+    subst (λ x. ReferenceOfWord names.place (object_values o) (word_in layouts h x)) r.at (word_of_value names.place (object_values o) r.index value.0 word value.1 lies)

@@ -1,41 +1,41 @@
 -- Room in a copying heap: beside all its objects, and beside those that the roots of the table reach.
-use Rattle.std.proofs.Common.{◌≡◌, ℕ, ◌+◌, List, length, filter, Some, sym, ap, ◌∙◌, arith}
-use Rattle.std.specs.List.{sum_by}
+use Rattle.std.proofs.Common.{◌≡◌, ℕ, List, filter, Option, Some, None, refl, sym, ◌∙◌, arith}
+use Rattle.std.specs.List.{sum_by, slice_get}
 use Rattle.std.specs.FinMap.{get, entries}
 use Rattle.std.proofs.lemmas.List.Sums.{sum-map}
 use Rattle.gc_types.specs.declared.kind.Layouts.{Layouts}
 use Rattle.gc_types.specs.declared.kind.Layouts.TheVariants.{Null, Counting, Copying}
-use Rattle.gc_types.specs.Layouts.{fields_end, round_up}
+use Rattle.gc_types.specs.Declarations.{Declaration}
 use Rattle.gc_model.specs.Table.{Table}
-use Rattle.gc_model.specs.Sizes.{fields_size, rounded_size}
+use Rattle.gc_model.specs.Values.{Object}
+use Rattle.gc_model.specs.Sizes.{rounded_size}
 use Rattle.gc_model.specs.Reach.{IsReached, AreAll, root_references}
 use Rattle.gc_model.specs.Allocation as allocation
 use Rattle.gc_model.specs.Allocation.{copied_size, FitsIn, LacksFit}
 use Rattle.gc_view.specs.Heaps.{HeapObject}
 use Rattle.gc_model.specs.Stores.{StoreView}
 use Rattle.gc_model.specs.Holds.{Placing, Holds, HoldsKept}
-use Rattle.gc_heap.specs.Objects.{size_with}
 use Rattle.gc_heap.specs.Content.{total, block_size}
 use Rattle.gc_heap.specs.Heap.{HasRoom}
-use Rattle.gc_policy.proofs.CollectedKept.{placed_struct, reached_placed}
+use Rattle.gc_policy.proofs.CollectedKept.{reached_placed}
+use Rattle.gc_policy.specs.Policy.{block_of}
+use Rattle.gc_policy.proofs.HeldBlocks.{held_block}
 use Rattle.gc_policy.proofs.HeldEntries.{held_entry}
 use Rattle.gc_policy.proofs.HeldNumber.{position_of, placed_of, positions, are_placed, are_kept}
 use Rattle.gc_policy.proofs.HeldPaths.{is_reached, is_reached-true, true-is_reached}
 use Rattle.gc_policy.proofs.HeldSums.{sum_part, passing, passes, distinct_passing, same_sums}
 
+-- what an object takes in a copying heap is its block
+as_block : {D : Type 0} (types : List Declaration) (o : Option (Object D)) → rounded_size types o ≡ block_of Copying types o
+as_block types None = refl
+as_block types (Some o) = refl
+
 module _ {D : Type 0} (s : StoreView D) (t : Table D) (place : Placing) (holds : Holds Copying s t place) where
   -- an object takes as many bytes as the table says
   block_is : (word : ℕ) (o : HeapObject) → get s.heap.content word ≡ Some o → copied_size t (position_of Copying t place s.heap holds.objects word) ≡ block_size Copying o
   block_is word o e =
-      let p : ℕ = position_of Copying t place s.heap holds.objects word in
-      let there = placed_struct Copying s t place holds p word (placed_of Copying t place s.heap holds.objects word o e) in
-      let same : there.object ≡ o = (let both : Some there.object ≡ Some o = sym there.in_heap ∙ e in grind (arith, both)) in
-      let stands = there.stands in
-      let size : copied_size t p ≡ round_up (fields_end 12 stands.fields) 16 = ap (rounded_size t.types) there.in_table ∙ ap (λ fs. round_up (fields_size Copying fs) 16) stands.declared in
-      let block : block_size Copying there.object ≡ round_up (12 + length there.object.bytes) 16 = ap (λ k. round_up (size_with Copying k (length there.object.bytes)) 16) stands.kind in
-      let whole : 12 + length there.object.bytes ≡ round_up (fields_end 12 stands.fields) 16 = stands.size in
-      let equal : copied_size t p ≡ block_size Copying there.object = omega arith in
-      equal ∙ ap (block_size Copying) same
+      as_block t.types (slice_get t.objects (position_of Copying t place s.heap holds.objects word))
+      ∙ held_block Copying s t place holds (position_of Copying t place s.heap holds.objects word) word o (placed_of Copying t place s.heap holds.objects word o e) e
 
   abbrev all_positions : List ℕ
   all_positions = positions Copying t place s.heap holds.objects

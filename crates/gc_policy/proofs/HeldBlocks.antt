@@ -5,36 +5,59 @@ use Rattle.std.specs.FinMap.{get, entries}
 use Rattle.std.proofs.lemmas.List.Sums.{sum-map}
 use Rattle.gc_types.specs.declared.kind.Layouts.{Layouts}
 use Rattle.gc_types.specs.declared.kind.Layouts.TheVariants.{Null, Counting, Copying}
-use Rattle.gc_types.specs.Layouts.{struct_base, fields_end, round_up}
+use Rattle.gc_types.specs.declared.kind.VMGcKind.{VMGcKind}
+use Rattle.gc_types.specs.declared.kind.VMGcKind.TheVariants.{ExternRef, AnyRef, EqRef, StructRef, ArrayRef, ExnRef}
+use Rattle.gc_types.specs.Layouts.{struct_base, round_up}
 use Rattle.gc_model.specs.Table.{Table}
 use Rattle.gc_view.specs.Sizes.{stored_size}
-use Rattle.gc_model.specs.Sizes.{fields_size}
+use Rattle.gc_model.specs.Sizes.{object_size}
 use Rattle.gc_model.specs.Reach.{AreAll}
 use Rattle.gc_view.specs.Pages.{page}
 use Rattle.gc_view.specs.Heaps.{HeapObject}
+use Rattle.gc_view.specs.Slots.{shape_size}
 use Rattle.gc_model.specs.Stores.{StoreView}
-use Rattle.gc_model.specs.Holds.{Placing, Holds}
+use Rattle.gc_model.specs.Holds.{Placing, naming, Holds}
+use Rattle.gc_model.proofs.HeldObjects.{held_no_host, object_held}
+use Rattle.gc_model.proofs.ObjectShapes.{object_size_is}
+use Rattle.gc_model.proofs.ObjectStands.{stands_by_shape}
+use Rattle.gc_heap.specs.Extents.{HasFields}
 use Rattle.gc_heap.specs.Objects.{size_with}
 use Rattle.gc_heap.specs.Content.{total, block_size}
 use Rattle.gc_policy.specs.Collects.{IsPlaced}
 use Rattle.gc_policy.specs.Policy.{block_of, block_at}
-use Rattle.gc_policy.proofs.CollectedKept.{PlacedStruct, placed_struct}
+use Rattle.gc_policy.proofs.CollectedOffsets.{stands_fields}
 use Rattle.gc_policy.proofs.HeldEntries.{held_entry}
 use Rattle.gc_policy.proofs.HeldNumber.{position_of, placed_of, positions, are_placed}
 use Rattle.gc_policy.proofs.HeldSums.{sum_part, same_sums}
 
--- a struct takes as many bytes, to the next multiple of 16, as its fields say
-struct_block : {D : Type 0} (layouts : Layouts) (s : StoreView D) (t : Table D) (place : Placing) (p word : ℕ) (there : PlacedStruct layouts s t place p word) → block_at layouts t p ≡ block_size layouts there.object
-struct_block layouts s t place p word there =
-    let stands = there.stands in
-    let size : block_at layouts t p ≡ round_up (fields_end (struct_base layouts) stands.fields) 16 = ap (block_of layouts t.types) there.in_table ∙ ap (λ fs. round_up (fields_size layouts fs) 16) stands.declared in
-    let block : block_size layouts there.object ≡ round_up (struct_base layouts + length there.object.bytes) 16 = ap (λ k. round_up (size_with layouts k (length there.object.bytes)) 16) stands.kind in
-    size ∙ sym (block ∙ ap (λ n. round_up n 16) stands.size ∙ again layouts (fields_end (struct_base layouts) stands.fields))
-  where
-    again : (layouts : Layouts) (n : ℕ) → round_up (stored_size layouts n) 16 ≡ round_up n 16
-    again Null n = refl
-    again Counting n = refl
-    again Copying n = omega arith
+-- rounding up twice is rounding up once
+pub stored_again : (layouts : Layouts) (n : ℕ) → round_up (stored_size layouts n) 16 ≡ round_up n 16
+stored_again Null n = refl
+stored_again Counting n = refl
+stored_again Copying n = omega arith
+
+-- what has fields begins where the data of structs does
+fields_size : (layouts : Layouts) (kind : VMGcKind) (n : ℕ) → HasFields kind → size_with layouts kind n ≡ struct_base layouts + n
+fields_size layouts ExternRef n fields = absurd fields
+fields_size layouts AnyRef n fields = absurd fields
+fields_size layouts EqRef n fields = absurd fields
+fields_size layouts StructRef n fields = refl
+fields_size layouts ArrayRef n fields = refl
+fields_size layouts ExnRef n fields = refl
+
+-- An object takes as many bytes, to the next multiple of 16, as its type and its values say.
+pub held_block : {D : Type 0} (layouts : Layouts) (s : StoreView D) (t : Table D) (place : Placing) → Holds layouts s t place → (p word : ℕ) (h : HeapObject) → place p ≡ Some word → get s.heap.content word ≡ Some h → block_at layouts t p ≡ block_size layouts h
+held_block layouts s t place holds p word h placed got =
+    let there = holds.objects.placed p word placed in
+    let not_host = held_no_host layouts s t place holds p there.entry there.in_table in
+    let stands = object_held layouts s t place holds p word there.entry h placed got there.in_table in
+    let by = stands_by_shape layouts t.types (naming place t.funcs) there.entry h not_host stands in
+    let size : object_size layouts t.types there.entry ≡ shape_size layouts by.stands.shape by.stands.count =
+    object_size_is layouts t.types there.entry by.stands.shape by.of_shape ∙ ap (shape_size layouts by.stands.shape) by.stands.counted in
+    let block : block_size layouts h ≡ round_up (struct_base layouts + length h.bytes) 16 =
+    ap (λ n. round_up n 16) (fields_size layouts h.kind (length h.bytes) (stands_fields layouts t.types (naming place t.funcs) there.entry h not_host stands)) in
+    ap (block_of layouts t.types) there.in_table ∙ ap (λ n. round_up n 16) size
+    ∙ sym (block ∙ ap (λ n. round_up n 16) by.stands.size ∙ stored_again layouts (shape_size layouts by.stands.shape by.stands.count))
 
 -- sums over two lists that have the same positions, each once
 same_positions : (f : ℕ → ℕ) (IsIn : ℕ → Type 0) (xs ys : List ℕ) → AreAll IsIn xs → AreAll IsIn ys → sum_by f xs ≡ sum_by f ys
@@ -47,10 +70,7 @@ module _ {D : Type 0} (layouts : Layouts) (s : StoreView D) (t : Table D) (place
   -- an object takes as many bytes as the table says
   block_is : (word : ℕ) (o : HeapObject) → get s.heap.content word ≡ Some o → block_at layouts t (position_of layouts t place s.heap holds.objects word) ≡ block_size layouts o
   block_is word o e =
-      let p : ℕ = position_of layouts t place s.heap holds.objects word in
-      let there = placed_struct layouts s t place holds p word (placed_of layouts t place s.heap holds.objects word o e) in
-      let same : there.object ≡ o = (let both : Some there.object ≡ Some o = sym there.in_heap ∙ e in grind (arith, both)) in
-      struct_block layouts s t place p word there ∙ ap (block_size layouts) same
+      held_block layouts s t place holds (position_of layouts t place s.heap holds.objects word) word o (placed_of layouts t place s.heap holds.objects word o e) e
 
   -- The blocks of the held positions are together those of the heap.
   pub held_blocks : (held : List ℕ) → AreAll (IsPlaced place) held → sum (map (block_at layouts t) held) ≡ total (block_size layouts) s.heap.content
