@@ -1,6 +1,7 @@
 -- What frames and their slots leave of the condition of the next collection.
 use Rattle.std.proofs.Common.{◌≡◌, ℕ, zero, suc, ◌+◌, ◌<◌, ◌≤◌, Bool, true, false, List, [], ◌∷◌, ◌++◌, length, map, take, drop, get_or, set, replicate, Option, Some, None, Result, Ok, Err, OnOk, OnErr, refl, sym, ap, ◌∙◌, subst, arith}
 use Rattle.std.specs.Option.{SomeIff}
+use Rattle.std.specs.List.{slice_get}
 use Rattle.std.specs.FinMap.{FinMap, get, insert, gets}
 use Rattle.std.specs.Ordering.{nat_cmp}
 use Rattle.std.specs.declared.alloc.AllocError.{AllocError}
@@ -231,3 +232,27 @@ rise_less place (first ∷ starts) start end rise = let rest = rise_less first s
 pub frames_less : (starts : List ℕ) (start end : ℕ) → AreFrames (starts ++ start ∷ []) end → AreFrames starts start × (start ≤ end)
 frames_less [] start end are = (are.0, are.1)
 frames_less (first ∷ starts) start end are = let rest = rise_less first starts start end are.1 in ((are.0, rest.0), rest.1)
+
+rise_within : (place : ℕ) (starts : List ℕ) (end : ℕ) → RiseFrom place starts end → place ≤ end
+rise_within place [] end rise = rise
+rise_within place (first ∷ starts) end rise =
+    let rest : first ≤ end = rise_within first starts end rise.1 in
+    let before : place ≤ first = rise.0 in
+    omega arith
+
+start_within : (place : ℕ) (starts : List ℕ) (end index start : ℕ) → RiseFrom place starts end → slice_get starts index ≡ Some start → start ≤ end
+start_within place [] end index start rise is = absurd (none-some start is)
+start_within place (first ∷ starts) end zero start rise is =
+    let rest : first ≤ end = rise_within first starts end rise.1 in
+    let same : first ≡ start = cc in
+    omega arith
+start_within place (first ∷ starts) end (suc index) start rise is = start_within first starts end index start rise.1 is
+
+-- no frame begins behind the end of the slots
+pub frame_within : (starts : List ℕ) (end index start : ℕ) → AreFrames starts end → slice_get starts index ≡ Some start → start ≤ end
+frame_within [] end index start are is = absurd (none-some start is)
+frame_within (first ∷ starts) end zero start are is =
+    let rest : first ≤ end = rise_within first starts end are.1 in
+    let same : first ≡ start = cc in
+    omega arith
+frame_within (first ∷ starts) end (suc index) start are is = start_within first starts end index start are.1 is

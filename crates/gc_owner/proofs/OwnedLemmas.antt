@@ -1,7 +1,7 @@
 -- What changes of the owned roots leave of the condition of the next collection.
 use Rattle.std.proofs.Common.{◌≡◌, ℕ, zero, suc, ◌+◌, ◌<◌, ◌≤◌, inl, inr, Bool, true, false, not, cond, nat_eq, List, [], ◌∷◌, ◌++◌, length, map, take, drop, get_or, set, refl, sym, ap, ◌∙◌, subst, arith}
 use Rattle.std.proofs.lemmas.Bool.{cases_eq, ne_eqb, eq-eqb}
-use Rattle.std.proofs.lemmas.List.{map-append, append-nil, append_assoc, take_more, drop_more, take_all, length-drop}
+use Rattle.std.proofs.lemmas.List.{map-append, append-nil, append_assoc, take_more, drop_more, take_all, take-append-drop, length-drop}
 use Rattle.std.proofs.lemmas.List.Elements.{filter-append}
 use Rattle.gc_types.specs.declared.kind.Layouts.{Layouts}
 use Rattle.gc_types.specs.Declarations.{Declaration}
@@ -10,7 +10,7 @@ use Rattle.gc_view.specs.Heaps.{HeapView, SameHeld}
 use Rattle.gc_heap.specs.Content.{IsHeap}
 use Rattle.gc_heap.specs.Collection.{IsWordOf}
 use Rattle.gc_owner.specs.declared.entry.OwnedEntry.{OwnedEntry}
-use Rattle.gc_owner.specs.RootColumns.{RootsView, scoped_words, owned_words, slot_words, global_words, listed_as, roots_of, with_handles, with_room}
+use Rattle.gc_owner.specs.RootColumns.{RootsView, scoped_words, owned_words, slot_words, global_words, listed_as, roots_of, empty_entry, with_handles, with_room, with_owned_root, with_handle_count}
 use Rattle.gc_owner.specs.Owners.{raised, lowered, CanDropWord}
 use Rattle.gc_owner.specs.DroppedRoots.{released}
 use Rattle.gc_owner.specs.Tracing.{IsCollectable}
@@ -39,21 +39,24 @@ forgotten old new now is kept rest =
     ∙ ap (λ (r : RootsView). with_room new (record r { owned = with_handles r.owned })) is
 
 -- an owned root was added
-pub owned_kept : (layouts : Layouts) (types : List Declaration) (h : HeapView) (r : RootsView) (hosts : ℕ → Bool) (entry : OwnedEntry) → IsCollectable layouts types h (roots_of r) hosts → IsWordOf h entry.word
-    → IsCollectable layouts types (raised h entry.word) (roots_of (with_owned (r.owned ++ entry ∷ []) r)) hosts
-owned_kept layouts types h r hosts entry can is =
-    subst (λ ws. IsCollectable layouts types (raised h entry.word) (before_owned r ++ (listed_as 1 false ws ++ behind_owned r)) hosts) (sym (map-append (λ (e : OwnedEntry). e.word) r.owned (entry ∷ [])))
-    (word_raised layouts types (before_owned r) 1 (behind_owned r) hosts h (owned_words r) [] entry.word
-    (subst (λ ws. IsCollectable layouts types h (before_owned r ++ (listed_as 1 false ws ++ behind_owned r)) hosts) (sym (append-nil (owned_words r))) can) is)
+pub owned_kept : (layouts : Layouts) (types : List Declaration) (h : HeapView) (r : RootsView) (hosts : ℕ → Bool) (index : ℕ) (entry : OwnedEntry) → IsCollectable layouts types h (roots_of r) hosts → IsWordOf h entry.word
+    → IsCollectable layouts types (raised h entry.word) (roots_of (with_owned_root index entry r)) hosts
+owned_kept layouts types h r hosts index entry can is =
+    let front : List OwnedEntry = take index r.owned in
+    let later : List OwnedEntry = drop index r.owned in
+    let was : owned_words r ≡ words front ++ words later = ap words (sym (take-append-drop index r.owned)) ∙ map-append (λ (e : OwnedEntry). e.word) front later in
+    subst (λ ws. IsCollectable layouts types (raised h entry.word) (before_owned r ++ (listed_as 1 false ws ++ behind_owned r)) hosts) (sym (map-append (λ (e : OwnedEntry). e.word) front (entry ∷ later)))
+    (word_raised layouts types (before_owned r) 1 (behind_owned r) hosts h (words front) (words later) entry.word
+    (subst (λ ws. IsCollectable layouts types h (before_owned r ++ (listed_as 1 false ws ++ behind_owned r)) hosts) was can) is)
 
 -- handles don't matter
-same_words : (es : List OwnedEntry) (index handles : ℕ) (d : OwnedEntry) → index < length es → words (set es index (record (get_or es index d) { handles = handles })) ≡ words es
-same_words [] index handles d below = absurd (omega arith)
-same_words (e ∷ es) zero handles d below = refl
-same_words (e ∷ es) (suc index) handles d below = ap (λ ws. e.word ∷ ws) (same_words es index handles d (omega arith))
+same_words : (es : List OwnedEntry) (index handles : ℕ) → index < length es → words (set es index (record (get_or es index empty_entry) { handles = handles })) ≡ words es
+same_words [] index handles below = absurd (omega arith)
+same_words (e ∷ es) zero handles below = refl
+same_words (e ∷ es) (suc index) handles below = ap (λ ws. e.word ∷ ws) (same_words es index handles (omega arith))
 
-pub handles_kept : (r : RootsView) (index handles : ℕ) (d : OwnedEntry) → index < length r.owned → roots_of (with_owned (set r.owned index (record (get_or r.owned index d) { handles = handles })) r) ≡ roots_of r
-handles_kept r index handles d below = ap (λ ws. before_owned r ++ (listed_as 1 false ws ++ behind_owned r)) (same_words r.owned index handles d below)
+pub handles_kept : (r : RootsView) (index handles : ℕ) → index < length r.owned → roots_of (with_handle_count index handles r) ≡ roots_of r
+handles_kept r index handles below = ap (λ ws. before_owned r ++ (listed_as 1 false ws ++ behind_owned r)) (same_words r.owned index handles below)
 
 -- Owned roots without handles are given up, one after the other
 

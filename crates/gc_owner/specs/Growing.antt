@@ -127,7 +127,8 @@ pub record NotBegun {D : Type 0} (first : ℕ) (s e : OwnerState D) : Type 0 whe
 -- what making a heap and letting it grow answers and leaves
 abbrev pub Expands : {D : Type 0} → Layouts → ℕ → ℕ → OwnerState D → OwnerState D → Result (Unit {0}) PagesFault → Type 0
 Expands {D} layouts first bytes s e (Ok done) = (b : OwnerState D) × (Begins layouts first s b × Grows layouts bytes b true e)
-Expands {D} layouts first bytes s e (Err pages_fault.Refused) = NotBegun first s e ⊎ ((b : OwnerState D) × (Begins layouts first s b × Grows layouts bytes b false e))
+Expands {D} layouts first bytes s e (Err pages_fault.Refused) =
+    NotBegun first s e ⊎ ((b : OwnerState D) × (Begins layouts first s b × Grows layouts bytes b false e))
 Expands {D} layouts first bytes s e (Err pages_fault.Memory) = (e ≡ s) ⊎ ((b : OwnerState D) × (Begins layouts first s b × Readies layouts b e))
 
 -- by what an allocation of so many bytes goes

@@ -2,6 +2,7 @@ pub mod Declares
 pub mod DroppedRoots
 pub mod Going
 pub mod Growing
+pub mod HostLends
 pub mod HostSteps
 pub mod HostValues
 pub mod Limiters

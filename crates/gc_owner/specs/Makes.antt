@@ -30,7 +30,8 @@ abbrev pub Describes : {D : Type 0} → Layouts → OwnerView D → Description 
 Describes layouts v (of.Object ty) o size =
     (layout : GcStructLayout) × ((layout_at layouts v.types.declarations ty ≡ Some layout) × ((o ≡ new_struct layouts ty layout) × (size ≡ layout.size)))
 Describes layouts v (of.Array ty count) o size =
-    (layout : GcArrayLayout) × ((array_layout_at layouts v.types.declarations ty ≡ Some layout) × ((count < 2 ^ 32) × ((o ≡ new_array layouts ty count layout) × (size ≡ array_size layout count))))
+    (layout : GcArrayLayout) × ((array_layout_at layouts v.types.declarations ty ≡ Some layout)
+    × ((count < 2 ^ 32) × ((o ≡ new_array layouts ty count layout) × (size ≡ array_size layout count))))
 Describes layouts v (of.External id) o size = IsFreeHost v id × ((o ≡ external id) × (size ≡ external_size layouts))
 
 -- An object may be made by a description: the heap has its memory, no collection is under way, and there is room

@@ -1,5 +1,5 @@
 -- What contracts see of an owner.
-use Rattle.std.specs.Prelude.{◌≡◌, ℕ, ◌<◌, Bool, true, false, List, [], ◌∷◌, ◌++◌, length, Option, Some, None, zero, suc, is_none}
+use Rattle.std.specs.Prelude.{◌≡◌, ℕ, ◌<◌, Bool, true, false, List, [], length, Option, Some, None, zero, suc, is_none}
 use Rattle.std.specs.Ordering.{nat_cmp}
 use Rattle.std.specs.FinMap.{FinMap, empty}
 use Rattle.gc_types.specs.declared.kind.Layouts.{Layouts}
@@ -12,7 +12,7 @@ use Rattle.gc_heap.specs.Collection.{Stage, stage, Start, CanCollect, Collected,
 use Rattle.gc_heap.specs.declared.collection.GcProgress.{GcProgress}
 use Rattle.gc_heap.specs.declared.collection.GcProgress.TheVariants as progress
 use Rattle.gc_owner.specs.declared.entry.OwnedEntry.{OwnedEntry}
-use Rattle.gc_owner.specs.RootColumns.{RootsView, no_roots, roots_of, moved_roots, with_room, without_list}
+use Rattle.gc_owner.specs.RootColumns.{RootsView, no_roots, roots_of, moved_roots, with_room, without_list, with_owned_root, without_frame}
 use Rattle.gc_owner.specs.Tracing.{start_from, AreTraced, IsCollectable}
 
 -- An owner: its heap, its types, the host values by their ids, the roots, the bytes that were allocated after
@@ -128,9 +128,13 @@ pub record ChangesRoots {D : Type 0} (old new : OwnerView D) (roots : RootsView)
   pub held : SameHeld old.heap new.heap
   pub rest : new ≡ record old { heap = new.heap; roots = roots }
 
--- an owned root was added
-abbrev pub OwnsRoot : {D : Type 0} → OwnerView D → OwnerView D → OwnedEntry → Type 0
-OwnsRoot old new entry = ChangesRoots old new (with_room new.roots (record old.roots { owned = old.roots.owned ++ entry ∷ [] }))
+-- an owned root was added at that place among the owned ones
+abbrev pub OwnsRoot : {D : Type 0} → OwnerView D → OwnerView D → ℕ → OwnedEntry → Type 0
+OwnsRoot old new index entry = ChangesRoots old new (with_room new.roots (with_owned_root index entry old.roots))
+
+-- the newest frame was closed
+abbrev pub ClosesFrame : {D : Type 0} → OwnerView D → OwnerView D → Type 0
+ClosesFrame old new = (0 < length old.roots.frames) × (new ≡ record old { roots = with_room new.roots (without_frame old.roots) })
 
 -- A collection that began at an owner is under way, after so many increments.
 pub record IsUnderWay {H S D : Type 0} (k : Kind H S) (s : Start) (n : ℕ) (c : Bool) (begun now : OwnerValue H S D) : Type 0 where

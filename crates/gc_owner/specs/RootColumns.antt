@@ -1,5 +1,6 @@
 -- The roots of an owner by their kinds, and the list of them that a collection is given.
 use Rattle.std.specs.Prelude.{◌≡◌, ℕ, ◌+◌, ◌-◌, ◌^◌, ◌<◌, ◌≤◌, ◌==◌, min, not, nat_le, if◌then◌else◌, Bool, true, false, Option, Some, None, List, [], ◌∷◌, ◌++◌, length, map, filter, take, drop, slice_set, slice_index_or, replicate}
+use Rattle.std.specs.List.{insert}
 use Rattle.gc_roots.specs.Roots.{Root, root}
 use Rattle.gc_heap.specs.Collection.{moved, moved_root}
 use Rattle.gc_owner.specs.declared.entry.GcClass.TheVariants.{Any}
@@ -32,6 +33,10 @@ global_count = 16
 -- a slot that holds nothing
 abbrev pub empty_slot : SlotEntry
 empty_slot = record { class = Any; word = 0 }
+
+-- an owned root that holds nothing
+abbrev pub empty_entry : OwnedEntry
+empty_entry = record { id = 0; number = 0; handles = 0; word = 0 }
 
 -- no roots, with room for so many scoped ones, and so many in the list
 abbrev pub no_roots : ℕ → ℕ → RootsView
@@ -105,6 +110,11 @@ newest_start r = slice_index_or r.frames (length r.frames - 1) 0
 abbrev pub Follow : ℕ → List Root → (ℕ → ℕ) → ℕ → Bool → List ℕ → List Root → Type 0
 Follow from roots to place on_stack words behind = drop from roots ≡ map (moved_root to) (listed_as place on_stack words) ++ behind
 
+-- from a place on a list has these words of some kind, which moved somehow
+abbrev pub HaveMoved : ℕ → List Root → List ℕ → Type 0
+HaveMoved from roots words =
+    (to : ℕ → ℕ) × ((place : ℕ) × ((on_stack : Bool) × ((behind : List Root) × Follow from roots to place on_stack words behind)))
+
 -- starts of frames from a place on, each at or behind the one before it, and none behind the end of the slots
 abbrev pub RiseFrom : ℕ → List ℕ → ℕ → Type 0
 RiseFrom place [] end = place ≤ end
@@ -159,6 +169,19 @@ HasSlot r index = (0 < length r.frames) × (newest_start r + index < length r.sl
 abbrev pub with_handles : List OwnedEntry → List OwnedEntry
 with_handles entries = filter (λ (e : OwnedEntry). not (e.handles == 0)) entries
 
+-- the roots without the owned ones that have no handles
+abbrev pub without_unheld : RootsView → RootsView
+without_unheld r = record r { owned = with_handles r.owned }
+
+-- the roots with one more owned root, at that place among the owned ones
+abbrev pub with_owned_root : ℕ → OwnedEntry → RootsView → RootsView
+with_owned_root index entry r = record r { owned = insert r.owned index entry }
+
+-- the roots, of which the owned one at that place has so many handles
+abbrev pub with_handle_count : ℕ → ℕ → RootsView → RootsView
+with_handle_count index handles r =
+    record r { owned = slice_set r.owned index (record (slice_index_or r.owned index empty_entry) { handles = handles }) }
+
 -- the roots of these parts as a collection sees them
 abbrev pub all_roots : List RootEntry → List OwnedEntry → List SlotEntry → List SlotEntry → ℕ → List Root
 all_roots scoped owned slots globals pending =
@@ -169,7 +192,8 @@ all_roots scoped owned slots globals pending =
     ++ listed_as 4 false (pending ∷ []))))
 
 -- all roots have the words of the objects that moved
-pub record MovesAll (to : ℕ → ℕ) (scoped scoped' : List RootEntry) (owned owned' : List OwnedEntry) (slots slots' globals globals' : List SlotEntry) (pending pending' : ℕ) : Type 0 where
+pub record MovesAll (to : ℕ → ℕ) (scoped scoped' : List RootEntry) (owned owned' : List OwnedEntry)
+    (slots slots' globals globals' : List SlotEntry) (pending pending' : ℕ) : Type 0 where
   pub scoped_moved : scoped' ≡ map (λ (e : RootEntry). record e { word = moved to e.word }) scoped
   pub owned_moved : owned' ≡ map (λ (e : OwnedEntry). record e { word = moved to e.word }) owned
   pub slots_moved : slots' ≡ map (λ (e : SlotEntry). record e { word = moved to e.word }) slots

@@ -48,3 +48,13 @@ AreTraced layouts types h = (word : ℕ) (o : HeapObject) → finite.get h.conte
 pub record IsCollectable (layouts : Layouts) (types : List Declaration) (h : HeapView) (roots : List Root) (hosts : ℕ → Bool) : Type 0 where
   pub traced : AreTraced layouts types h
   pub collects : CanCollect layouts (start_from types h roots hosts)
+
+-- Wherever a collection could begin from the old roots, one may begin from the new.
+abbrev pub KeepsCollectable : Layouts → HeapView → List Root → HeapView → List Root → Type 0
+KeepsCollectable layouts h roots h' roots' =
+    (types : List Declaration) (hosts : ℕ → Bool) → IsCollectable layouts types h roots hosts → IsCollectable layouts types h' roots' hosts
+
+-- From whatever roots a collection could begin, it still may.
+abbrev pub StaysCollectable : Layouts → HeapView → HeapView → Type 0
+StaysCollectable layouts h h' =
+    (types : List Declaration) (roots : List Root) (hosts : ℕ → Bool) → IsCollectable layouts types h roots hosts → IsCollectable layouts types h' roots hosts

@@ -24,7 +24,8 @@ fn collect_in<H: GcHeap, D: Drop>(
     requires attached { (H.seen heap.old).attached ≡ true }
     requires collectable { IsCollectable H.KIND types.now.declarations (H.seen heap.old) (roots_of roots.old) (has_host hosts.old.entries) }
     ensures sound { H.sound heap.new }
-    ensures collected { CollectsRoots H.KIND types.now.declarations (H.seen heap.old) (H.seen heap.new) roots.old roots.new (has_host hosts.old.entries) (has_host hosts.new.entries) }
+    ensures collected { CollectsRoots H.KIND types.now.declarations (H.seen heap.old) (H.seen heap.new) roots.old roots.new
+        (has_host hosts.old.entries) (has_host hosts.new.entries) }
     ensures values { IsPartOf hosts.new.entries hosts.old.entries }
     ensures last { result ≡ (H.seen heap.new).allocated }
 {

@@ -1,9 +1,9 @@
 //! Frames and their slots.
 
-ghost use Rattle.std.specs.Prelude.{◌≡◌, ◌+◌, ◌<◌, true, false, [], length, slice_index_or, OnOk, OnErr};
+ghost use Rattle.std.specs.Prelude.{◌≡◌, ◌↔◌, ◌+◌, true, false, [], length, slice_index_or, IfSome, IsNone, OnOk, OnErr};
 ghost use Rattle.gc_heap.specs.Collection.{IsWordOf};
-ghost use Rattle.gc_owner.specs.RootColumns.{HasSlot, empty_slot, newest_start, with_frame, with_room, with_slot, without_frame};
-ghost use Rattle.gc_owner.specs.Owners.{ChangesRoots};
+ghost use Rattle.gc_owner.specs.RootColumns.{HasSlot, empty_slot, newest_start, with_frame, with_room, with_slot};
+ghost use Rattle.gc_owner.specs.Owners.{ChangesRoots, ClosesFrame};
 
 use crate::barriers::show_word;
 use crate::entry::SlotEntry;
@@ -25,10 +25,19 @@ impl<H: GcHeap, D: Drop> HeapOwner<H, D> {
     /// counts may free at a later collection.
     pub fn pop_frame(&mut self) -> bool
         requires idle { self.old.seen.idle ≡ true }
-        ensures closed { result ≡ true → (0 < length self.old.seen.roots.frames) × (self.new.seen ≡ record self.old.seen { roots = with_room self.new.seen.roots (without_frame self.old.seen.roots) }) }
+        ensures closed { result ≡ true → ClosesFrame self.old.seen self.new.seen }
         ensures none { result ≡ false → (self.old.seen.roots.frames ≡ []) × (self.new.seen ≡ self.old.seen) }
     {
         self.roots.pop_frame()
+    }
+
+    /// How many slots the newest frame has; None exactly where no frame is open.
+    pub fn slot_count(&self) -> Option<usize>
+        ensures count { IfSome result (λ count. newest_start self.now.seen.roots + count ≡ length self.now.seen.roots.slots) }
+        ensures none { IsNone result ↔ (self.now.seen.roots.frames ≡ []) }
+    {
+        let _heap = &self.heap;
+        self.roots.slot_count()
     }
 
     /// The slot of that index in the newest frame.

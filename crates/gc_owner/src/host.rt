@@ -1,6 +1,8 @@
 //! Host values, and external objects for them.
 
-ghost use Rattle.std.specs.Prelude.{◌≡◌, ◌<◌, ◌^◌, true, length, Some};
+ghost use Rattle.std.specs.Prelude.{◌≡◌, ◌<◌, ◌^◌, true, length, Some, option_copied};
+ghost use Rattle.std.specs.Option.{option_copied_mut};
+ghost use Rattle.std.specs.Borrow.{sem};
 ghost use Rattle.std.specs.FinMap as map;
 ghost use Rattle.gc_owner.specs.Growing.{state_of};
 ghost use Rattle.gc_owner.specs.Makes.{IsFreeHost};
@@ -41,6 +43,28 @@ fn put_in<D: Drop>(
 }
 
 impl<H: GcHeap, D: Drop> HeapOwner<H, D> {
+    ghost use Rattle.gc_owner.specs.HostLends.{lends_host};
+
+    /// The host value under that id; None exactly where the id names none.
+    pub fn host(&self, id: ExternRefHostDataId) -> Option<&D>
+        ensures { option_copied result ≡ map.get self.now.seen.hosts id }
+    {
+        let _heap = &self.heap;
+        self.hosts.get(id).ok()
+    }
+
+    /// The host value under that id, for writing; None exactly where the id names none.
+    pub fn host_mut(&mut self, id: ExternRefHostDataId) -> Option<&mut D>
+        requires idle { self.old.seen.idle ≡ true }
+        ensures* writes_back { sem 𝓛 (lends_host H.row D.row H.State.row H.GcHeap self.entry id result) }
+        ensures value { option_copied_mut result ≡ map.get self.old.seen.hosts id }
+    {
+        match self.hosts.get_mut(id) {
+            Ok(value) => Some(value),
+            Err(_) => None,
+        }
+    }
+
     /// Puts a host value into the table, under an id that no value had.
     fn put_value(&mut self, value: D) -> Result<ExternRefHostDataId, SlabFault<D>>
         requires idle { self.old.seen.idle ≡ true }

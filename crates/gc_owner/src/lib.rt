@@ -36,3 +36,4 @@ pub use limiter::{PageLimit, ResourceLimiter};
 pub use owner::HeapOwner;
 pub use pages::PagesFault;
 pub use scripted::Scripted;
+pub use slots::GLOBAL_COUNT;

@@ -1,14 +1,12 @@
 //! Owned roots.
 
-ghost use Rattle.std.specs.Prelude.{◌≡◌, ◌<◌, ◌^◌, ℕ, Bool, List, true, length, slice_set, slice_index_or, OnOk, OnErr};
-ghost use Rattle.gc_types.specs.Declarations.{Declaration};
+ghost use Rattle.std.specs.Prelude.{◌≡◌, ◌<◌, ◌≤◌, ◌^◌, true, length, OnOk, OnErr};
 ghost use Rattle.gc_view.specs.Heaps.{SameHeld};
 ghost use Rattle.gc_heap.specs.Collection.{IsWordOf};
-ghost use Rattle.gc_owner.specs.declared.entry.OwnedEntry as Owned;
-ghost use Rattle.gc_owner.specs.RootColumns.{roots_of, with_room, with_handles};
+ghost use Rattle.gc_owner.specs.RootColumns.{roots_of, with_room, with_handle_count, without_unheld};
 ghost use Rattle.gc_owner.specs.Owners.{ChangesRoots, OwnsRoot, CanDropWord};
 ghost use Rattle.gc_owner.specs.DroppedRoots.{CanDropRoots, released};
-ghost use Rattle.gc_owner.specs.Tracing.{IsCollectable};
+ghost use Rattle.gc_owner.specs.Tracing.{KeepsCollectable};
 
 use crate::barriers::{copy_word, drop_word};
 use crate::entry::OwnedEntry;
@@ -35,8 +33,7 @@ fn drop_unheld<H: GcHeap>(heap: &mut H, roots: &Roots)
     requires can { CanDropRoots H.KIND (H.seen heap.old) roots.now }
     ensures sound { H.sound heap.new }
     ensures held { SameHeld (H.seen heap.old) (H.seen heap.new) }
-    ensures keeps { (types : List Declaration) (hosts : ℕ → Bool) → IsCollectable H.KIND types (H.seen heap.old) (roots_of roots.now) hosts
-        → IsCollectable H.KIND types (H.seen heap.new) (roots_of (record roots.now { owned = with_handles roots.now.owned })) hosts }
+    ensures keeps { KeepsCollectable H.KIND (H.seen heap.old) (roots_of roots.now) (H.seen heap.new) (roots_of (without_unheld roots.now)) }
 {
     let entries = roots.owned();
     for entry in entries {
@@ -45,7 +42,7 @@ fn drop_unheld<H: GcHeap>(heap: &mut H, roots: &Roots)
 }
 
 impl<H: GcHeap, D: Drop> HeapOwner<H, D> {
-    /// The owned roots, from the oldest on; those without handles stand until the next trim.
+    /// The owned roots, in their order; those without handles stand until the next trim.
     pub fn owned(&self) -> &[OwnedEntry]
         ensures { result.now ≡ self.now.seen.roots.owned }
     {
@@ -53,16 +50,18 @@ impl<H: GcHeap, D: Drop> HeapOwner<H, D> {
         self.roots.owned()
     }
 
-    /// Adds an owned root for a copy of a word. An error is want of memory.
-    pub fn own(&mut self, entry: OwnedEntry) -> Result<(), AllocError>
+    /// Adds an owned root for a copy of a word, at that place of the list: those from there on stand behind
+    /// it, in time linear in them. An error is want of memory.
+    pub fn own(&mut self, index: usize, entry: OwnedEntry) -> Result<(), AllocError>
         requires idle { self.old.seen.idle ≡ true }
+        requires place { index ≤ length self.old.seen.roots.owned }
         requires few { length self.old.seen.roots.owned < 2 ^ 32 }
         requires word { IsWordOf self.old.seen.heap entry.word }
-        ensures ok { OnOk result (OwnsRoot self.old.seen self.new.seen entry) }
+        ensures ok { OnOk result (OwnsRoot self.old.seen self.new.seen index entry) }
         ensures err { OnErr result (self.new.seen ≡ record self.old.seen { roots = with_room self.new.seen.roots self.old.seen.roots }) }
     {
         self.roots.are_few();
-        self.roots.own(entry)?;
+        self.roots.own(index, entry)?;
         copy_word(&mut self.heap, entry.word);
         Ok(())
     }
@@ -71,7 +70,7 @@ impl<H: GcHeap, D: Drop> HeapOwner<H, D> {
     pub fn set_handles(&mut self, index: usize, handles: u32)
         requires idle { self.old.seen.idle ≡ true }
         requires index { index < length self.old.seen.roots.owned }
-        ensures { (e : Owned.OwnedEntry) → self.new.seen ≡ record self.old.seen { roots = record self.old.seen.roots { owned = slice_set self.old.seen.roots.owned index (record (slice_index_or self.old.seen.roots.owned index e) { handles = handles }) } } }
+        ensures { self.new.seen ≡ record self.old.seen { roots = with_handle_count index handles self.old.seen.roots } }
     {
         self.roots.set_handles(index, handles);
     }
@@ -79,7 +78,7 @@ impl<H: GcHeap, D: Drop> HeapOwner<H, D> {
     /// Drops the owned roots without handles; the others stay in order. Its time is linear in the owned roots.
     pub fn trim(&mut self)
         requires idle { self.old.seen.idle ≡ true }
-        ensures { ChangesRoots self.old.seen self.new.seen (with_room self.new.seen.roots (record self.old.seen.roots { owned = with_handles self.old.seen.roots.owned })) }
+        ensures { ChangesRoots self.old.seen self.new.seen (with_room self.new.seen.roots (without_unheld self.old.seen.roots)) }
     {
         drop_unheld(&mut self.heap, &self.roots);
         self.roots.forget_unheld();

@@ -1,12 +1,10 @@
 //! The pages of a heap: its first ones, and more.
 
-ghost use Rattle.std.specs.Prelude.{◌≡◌, ◌≤◌, ◌+◌, ◌*◌, ℕ, Bool, true, false, List, Err, OnOk, OnErr};
-ghost use Rattle.gc_types.specs.Declarations.{Declaration};
-ghost use Rattle.gc_roots.specs.Roots.{Root};
+ghost use Rattle.std.specs.Prelude.{◌≡◌, ◌≤◌, ◌+◌, ◌*◌, true, false, Err, OnOk, OnErr};
 ghost use Rattle.gc_view.specs.Pages.{page, max_pages};
 ghost use Rattle.gc_owner.specs.Growing.{asked};
 ghost use Rattle.gc_heap.specs.Heap.{grown};
-ghost use Rattle.gc_owner.specs.Tracing.{IsCollectable};
+ghost use Rattle.gc_owner.specs.Tracing.{StaysCollectable};
 ghost use Rattle.gc_owner.specs.Growing.{pages_of, GrowsMemory};
 ghost use Rattle.gc_owner.specs.Growing.{MakesHeap};
 
@@ -42,7 +40,7 @@ pub(crate) fn make_heap<H: GcHeap, L: ResourceLimiter>(
     requires pages { first_pages ≤ max_pages }
     ensures sound { H.sound heap.new }
     ensures made { MakesHeap H.KIND first_pages (H.seen heap.old) (H.seen heap.new) (L.limits limiter.old) (L.limits limiter.new) result }
-    ensures keeps { (types : List Declaration) (roots : List Root) (hosts : ℕ → Bool) → IsCollectable H.KIND types (H.seen heap.old) roots hosts → IsCollectable H.KIND types (H.seen heap.new) roots hosts }
+    ensures keeps { StaysCollectable H.KIND (H.seen heap.old) (H.seen heap.new) }
 {
     if heap.is_attached() {
         return Ok(());
@@ -92,7 +90,7 @@ pub(crate) fn grow_memory<H: GcHeap, L: ResourceLimiter>(
     requires ready { (H.seen heap.old).needs_gc ≡ false }
     ensures sound { H.sound heap.new }
     ensures grown { GrowsMemory H.KIND bytes (H.seen heap.old) (H.seen heap.new) (L.limits limiter.old) (L.limits limiter.new) result }
-    ensures keeps { (types : List Declaration) (roots : List Root) (hosts : ℕ → Bool) → IsCollectable H.KIND types (H.seen heap.old) roots hosts → IsCollectable H.KIND types (H.seen heap.new) roots hosts }
+    ensures keeps { StaysCollectable H.KIND (H.seen heap.old) (H.seen heap.new) }
 {
     let from = pages(heap);
     let added = asked_pages(from, bytes);

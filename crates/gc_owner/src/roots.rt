@@ -1,11 +1,13 @@
 //! The roots of an owner, and the room that a collection takes for them.
 
-ghost use Rattle.std.specs.Prelude.{◌≡◌, ◌+◌, ◌-◌, ◌<◌, ◌≤◌, ◌^◌, [], ◌∷◌, ◌++◌, ℕ, length, map, min, IfOk, OnOk, OnErr, slice_index_or, slice_set, true, false, Bool, List, Some, None};
+ghost use Rattle.std.specs.Prelude.{◌≡◌, ◌↔◌, ◌+◌, ◌-◌, ◌<◌, ◌≤◌, ◌^◌, [], ℕ, Bool, List, true, false, Some, None, length, map, min};
+ghost use Rattle.std.specs.Prelude.{IfOk, IfSome, IsNone, OnOk, OnErr, slice_index_or};
 ghost use Rattle.gc_types.specs.Declarations.{Declaration};
 ghost use Rattle.gc_roots.specs.Roots.{Root};
 ghost use Rattle.gc_heap.specs.Collection.{Start, stage, has_host, IsPartOf, moved_root};
-ghost use Rattle.gc_owner.specs.declared.entry.OwnedEntry as Owned;
-ghost use Rattle.gc_owner.specs.RootColumns.{no_roots, with_list, without_list, moved_roots, with_handles, with_frame, without_frame, with_slot, newest_start, HasSlot, AreFrames, AreFew, with_scoped, with_room, with_global, global_count, empty_slot, roots_of, all_roots, MovesAll};
+ghost use Rattle.gc_owner.specs.RootColumns.{no_roots, roots_of, all_roots, moved_roots, MovesAll, with_list, without_list, with_room};
+ghost use Rattle.gc_owner.specs.RootColumns.{with_scoped, with_owned_root, with_handle_count, without_unheld, with_frame, without_frame};
+ghost use Rattle.gc_owner.specs.RootColumns.{with_slot, with_global, newest_start, HasSlot, AreFrames, AreFew, global_count, empty_slot};
 ghost use Rattle.gc_owner.specs.DroppedRoots.{PopsPast};
 ghost use Rattle.gc_owner.specs.Going.{IsListed, StepsRoots, HasMovedList};
 ghost use Rattle.gc_owner.specs.Tracing.{IsCollectable};
@@ -13,6 +15,7 @@ ghost use Rattle.gc_owner.specs.Owners.{CollectsRoots};
 
 use crate::columns::{list_column, list_word, take_column, word_from};
 use crate::entry::{GcClass, OwnedEntry, RootEntry, SlotEntry};
+use crate::slots::GLOBAL_COUNT;
 use gc_heap::collect::run;
 use gc_heap::{GcHeap, GcProgress, GcStoreTraceState};
 use gc_roots::{GcRootsList, RootPlace};
@@ -30,8 +33,8 @@ const GLOBALS: RootPlace = RootPlace { number: 3 };
 
 const PENDING: RootPlace = RootPlace { number: 4 };
 
-/// How many globals there are.
-const GLOBAL_COUNT: usize = 16;
+/// The places that globals and the pending exception take in the list.
+const OTHER_PLACES: usize = GLOBAL_COUNT as usize + 1;
 
 /// A slot that holds nothing.
 const NOTHING: SlotEntry = SlotEntry {
@@ -77,13 +80,15 @@ impl Model for Roots {
       globals = s.globals.items;
       pending = s.pending;
       generation = s.generation;
-      spare = min (vec_capacity s.scoped - vec_len s.scoped) (s.list.spare + s.given - (vec_len s.scoped + vec_len s.owned + vec_len s.slots + global_count + 1));
+      spare = min (vec_capacity s.scoped - vec_len s.scoped)
+          (s.list.spare + s.given - (vec_len s.scoped + vec_len s.owned + vec_len s.slots + global_count + 1));
       listed = if s.is_listing then Some s.list.roots else None;
       given = s.given;
       list_spare = s.list.spare + s.given;
     } };
 
-    ghost invariant = { λ s. (s.is_listing ≡ false → (s.list.roots ≡ []) × (s.given ≡ 0)) × (vec_len s.scoped + vec_len s.owned + vec_len s.slots + global_count + 1 ≤ s.list.spare + s.given)
+    ghost invariant = { λ s. (s.is_listing ≡ false → (s.list.roots ≡ []) × (s.given ≡ 0))
+        × (vec_len s.scoped + vec_len s.owned + vec_len s.slots + global_count + 1 ≤ s.list.spare + s.given)
         × (vec_len s.scoped ≤ 2 ^ 32) × (vec_len s.owned ≤ 2 ^ 32) × (vec_len s.globals ≡ global_count) × AreFrames s.frames.items (vec_len s.slots) };
 }
 
@@ -135,9 +140,9 @@ impl Roots {
         ensures { IfOk result (λ r. r ≡ no_roots r.spare r.list_spare) }
     {
         let mut globals = Vec::new(alloc);
-        globals.resize(GLOBAL_COUNT, NOTHING)?;
+        globals.resize(GLOBAL_COUNT as usize, NOTHING)?;
         let mut list = GcRootsList::new(alloc);
-        list.reserve(GLOBAL_COUNT + 1)?;
+        list.reserve(OTHER_PLACES)?;
         Ok(Roots {
             scoped: Vec::new(alloc),
             owned: Vec::new(alloc),
@@ -180,7 +185,7 @@ impl Roots {
         ensures room { OnOk result (additional ≤ self.new.spare) }
         ensures rest { self.new ≡ with_room self.new self.old }
     {
-        let count = self.scoped.len() + self.owned.len() + self.slots.len() + GLOBAL_COUNT + 1;
+        let count = self.scoped.len() + self.owned.len() + self.slots.len() + OTHER_PLACES;
         self.list.reserve(count.saturating_add(additional))?;
         self.scoped.reserve(additional)
     }
@@ -219,37 +224,37 @@ impl Roots {
         self.generation = self.generation.saturating_add(1);
     }
 
-    /// The owned roots, from the oldest on.
+    /// The owned roots, in their order.
     pub(crate) fn owned(&self) -> &[OwnedEntry]
         ensures { result.now ≡ self.now.owned }
     {
         self.owned.as_slice()
     }
 
-    /// Adds an owned root, and makes room for it in the list of a collection.
-    pub(crate) fn own(&mut self, entry: OwnedEntry) -> Result<(), AllocError>
+    /// Adds an owned root at that place among them, and makes room for it in the list of a collection.
+    pub(crate) fn own(&mut self, index: usize, entry: OwnedEntry) -> Result<(), AllocError>
+        requires place { index ≤ length self.old.owned }
         requires few { length self.old.owned < 2 ^ 32 }
-        ensures ok { OnOk result (self.new ≡ with_room self.new (record self.old { owned = self.old.owned ++ entry ∷ [] })) }
+        ensures ok { OnOk result (self.new ≡ with_room self.new (with_owned_root index entry self.old)) }
         ensures err { OnErr result (self.new ≡ with_room self.new self.old) }
     {
-        let count = self.scoped.len() + self.owned.len() + self.slots.len() + GLOBAL_COUNT + 1;
+        let count = self.scoped.len() + self.owned.len() + self.slots.len() + OTHER_PLACES;
         self.list.reserve(count.saturating_add(1))?;
-        self.owned.reserve(1)?;
-        self.owned.push_reserved(entry);
+        self.owned.insert(index, entry)?;
         Ok(())
     }
 
     /// Sets how many handles the owned root at that place has.
     pub(crate) fn set_handles(&mut self, index: usize, handles: u32)
         requires { index < length self.old.owned }
-        ensures { (e : Owned.OwnedEntry) → self.new ≡ record self.old { owned = slice_set self.old.owned index (record (slice_index_or self.old.owned index e) { handles = handles }) } }
+        ensures { self.new ≡ with_handle_count index handles self.old }
     {
         self.owned[index].handles = handles;
     }
 
     /// Forgets the owned roots without handles.
     pub(crate) fn forget_unheld(&mut self)
-        ensures { self.new ≡ with_room self.new (record self.old { owned = with_handles self.old.owned }) }
+        ensures { self.new ≡ with_room self.new (without_unheld self.old) }
     {
         self.owned.retain(|entry| entry.handles != 0);
     }
@@ -262,7 +267,7 @@ impl Roots {
     {
         let start = self.slots.len();
         let end = start + slots as usize;
-        let count = self.scoped.len() + self.owned.len() + end + GLOBAL_COUNT + 1;
+        let count = self.scoped.len() + self.owned.len() + end + OTHER_PLACES;
         self.list.reserve(count)?;
         self.frames.reserve(1)?;
         self.slots.resize(end, NOTHING)?;
@@ -282,6 +287,15 @@ impl Roots {
             }
             None => false,
         }
+    }
+
+    /// How many slots the newest frame has; None exactly where no frame is open.
+    pub(crate) fn slot_count(&self) -> Option<usize>
+        ensures count { IfSome result (λ count. newest_start self.now + count ≡ length self.now.slots) }
+        ensures none { IsNone result ↔ (self.now.frames ≡ []) }
+    {
+        let start = self.frames.last()?;
+        Some(self.slots.len() - *start)
     }
 
     /// The slot of that index in the newest frame.
@@ -341,9 +355,11 @@ impl Roots {
         requires unlisted { self.old.listed ≡ None }
         requires sound { H.sound heap.old }
         requires attached { (H.seen heap.old).attached ≡ true }
-        requires collectable { IsCollectable H.KIND trace.old.types.now.declarations (H.seen heap.old) (roots_of self.old) (has_host trace.old.host_data_table.now.entries) }
+        requires collectable { IsCollectable H.KIND trace.old.types.now.declarations (H.seen heap.old) (roots_of self.old)
+            (has_host trace.old.host_data_table.now.entries) }
         ensures sound { H.sound heap.new }
-        ensures collected { CollectsRoots H.KIND trace.old.types.now.declarations (H.seen heap.old) (H.seen heap.new) self.old self.new (has_host trace.old.host_data_table.now.entries) (has_host trace.new.host_data_table.now.entries) }
+        ensures collected { CollectsRoots H.KIND trace.old.types.now.declarations (H.seen heap.old) (H.seen heap.new) self.old self.new
+            (has_host trace.old.host_data_table.now.entries) (has_host trace.new.host_data_table.now.entries) }
         ensures values { IsPartOf trace.new.host_data_table.now.entries trace.old.host_data_table.now.entries }
         ensures hosts { trace.new.host_data_table.ghost_name ≡ trace.old.host_data_table.ghost_name }
         ensures types { trace.new.types ≡ trace.old.types }

@@ -1,12 +1,11 @@
 //! Scoped roots.
 
-ghost use Rattle.std.specs.Prelude.{◌≡◌, ◌<◌, ◌≤◌, ◌^◌, ℕ, Bool, List, true, length, take, OnOk};
-ghost use Rattle.gc_types.specs.Declarations.{Declaration};
+ghost use Rattle.std.specs.Prelude.{◌≡◌, ◌<◌, ◌≤◌, ◌^◌, true, length, take, OnOk};
 ghost use Rattle.gc_view.specs.Heaps.{SameHeld};
 ghost use Rattle.gc_heap.specs.Collection.{IsWordOf};
 ghost use Rattle.gc_owner.specs.RootColumns.{with_scoped, with_room, left_scope, roots_of};
 ghost use Rattle.gc_owner.specs.DroppedRoots.{CanDropRoots};
-ghost use Rattle.gc_owner.specs.Tracing.{IsCollectable};
+ghost use Rattle.gc_owner.specs.Tracing.{KeepsCollectable};
 ghost use Rattle.gc_owner.specs.Owners.{raised, ChangesRoots};
 
 use crate::barriers::{copy_word, drop_word};
@@ -22,7 +21,7 @@ fn drop_past<H: GcHeap>(heap: &mut H, roots: &mut Roots, mark: usize)
     requires can { CanDropRoots H.KIND (H.seen heap.old) roots.old }
     ensures sound { H.sound heap.new }
     ensures held { SameHeld (H.seen heap.old) (H.seen heap.new) }
-    ensures keeps { (types : List Declaration) (hosts : ℕ → Bool) → IsCollectable H.KIND types (H.seen heap.old) (roots_of roots.old) hosts → IsCollectable H.KIND types (H.seen heap.new) (roots_of roots.new) hosts }
+    ensures keeps { KeepsCollectable H.KIND (H.seen heap.old) (roots_of roots.old) (H.seen heap.new) (roots_of roots.new) }
     ensures roots { roots.new ≡ record roots.old { scoped = take mark roots.old.scoped; spare = roots.new.spare } }
 {
     while let Some(word) = roots.pop_past(mark) {

@@ -10,6 +10,9 @@ use crate::entry::SlotEntry;
 use crate::owner::HeapOwner;
 use gc_heap::GcHeap;
 
+/// How many globals there are.
+pub const GLOBAL_COUNT: u32 = 16;
+
 impl<H: GcHeap, D: Drop> HeapOwner<H, D> {
     /// The global of that index.
     pub fn global(&self, index: u32) -> SlotEntry

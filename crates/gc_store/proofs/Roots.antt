@@ -1,10 +1,13 @@
 -- What a handle's word tells of the table.
-use Rattle.std.proofs.Common.{◌≡◌, ◌≢◌, ℕ, ◌%◌, ◌<◌, List, Bool, true, false, cond, Option, Some, None, IsSome, Result, Ok, Err, sym, ap, ◌∙◌, refl, subst, arith}
+use Rattle.std.proofs.Common.{◌≡◌, ◌≢◌, ◌⊎◌, inl, inr, ℕ, ◌%◌, ◌<◌, List, Bool, true, false, cond, Option, Some, None, IsSome, Result, Ok, Err, sym, ap, ◌∙◌, refl, subst, arith}
 use Rattle.std.specs.List.{slice_get}
 use Rattle.std.specs.Option.{SomeIff, MatchOption}
 use Rattle.std.proofs.lemmas.Grind.{common_steps}
 use Rattle.std.specs.FinMap as map
+use Rattle.std.proofs.lemmas.Option.{none-some, same_Some}
 use Rattle.gc_types.specs.declared.kind.Layouts.{Layouts}
+use Rattle.gc_types.specs.declared.kind.VMGcKind.{VMGcKind}
+use Rattle.gc_types.specs.Declarations.{Declaration}
 use Rattle.gc_refs.specs.Words.{i31_word, IsHeapWord}
 use Rattle.gc_owner.specs.declared.entry.RootEntry.{RootEntry}
 use Rattle.gc_model.specs.Values.{Reference, null, small, at, Object, struct, array, host, exception}
@@ -12,6 +15,7 @@ use Rattle.gc_model.specs.Table.{Table}
 use Rattle.gc_model.specs.Live.{rooted}
 use Rattle.gc_view.specs.Heaps.{HeapObject}
 use Rattle.gc_model.specs.Stores.{StoreView}
+use Rattle.gc_model.specs.Forms.{Names as Naming, naming}
 use Rattle.gc_model.specs.Holds.{Placing, IsWord, Holds, Stands}
 use Rattle.gc_model.proofs.Live.{live_word, dead_word, entry_stands}
 use Rattle.gc_store.specs.declared.root.GcRootIndex.{GcRootIndex}
@@ -21,7 +25,8 @@ use Rattle.gc_store.specs.declared.root.RootFault.{RootFault}
 use Rattle.gc_store.specs.declared.root.RootFault.TheVariants as fault
 use Rattle.gc_store.specs.declared.root.RootedObject.{RootedObject}
 use Rattle.gc_store.specs.declared.root.RootedObject.TheVariants as rooted_object
-use Rattle.gc_store.specs.Roots.{word_of, is_of_store, Names, IsRootWord, IsReference, IsObject, TellsRoot}
+use Rattle.gc_store.specs.Roots.{word_of, is_of_store, Names, IsRootWord, IsReference, IsObject, NamesReference, NamesNothing}
+use Rattle.gc_store.specs.Described.{IsOfKindAs, TellsHeld}
 use Rattle.gc_store.specs.Words.{slot_word, entry_word}
 
 -- the entry of a handle that has a word
@@ -136,19 +141,55 @@ named_dead layouts s t place holds handle serial f names e =
       no.unrooted,
     )
 
--- what the store answers of a root that is live
-pub tells_live : {D : Type 0} (t : Table D) (found : Option Reference) (r : Reference) (answer : RootedObject) → found ≡ Some r → IsReference t r answer → TellsRoot t found (Ok answer)
-tells_live t found r answer e is = subst (λ (o : Option Reference). TellsRoot t o (Ok answer)) (sym e) is
+-- The word of a handle
 
--- and of one that is gone
-pub tells_dead : {D : Type 0} (t : Table D) (found : Option Reference) (f : RootFault) → found ≡ None → f ≡ fault.Unrooted → TellsRoot t found (Err f)
-tells_dead t found f e is = subst (λ (o : Option Reference). TellsRoot t o (Err f)) (sym e) (ap Err is)
+word_cases : (r : Result ℕ RootFault) → ((word : ℕ) × (r ≡ Ok word)) ⊎ ((f : RootFault) × (r ≡ Err f))
+word_cases (Ok word) = inl (word, refl)
+word_cases (Err f) = inr (f, refl)
 
-stands_struct : {D : Type 0} (layouts : Layouts) (types : List _) (place : Placing) (entry : Object D) (h : HeapObject) (ty : ℕ) → Stands layouts types place entry h → h.ty ≡ ty → IsObject (Some entry) (rooted_object.Struct ty)
-stands_struct layouts types place (struct ty' values) h ty stands is = ap rooted_object.Struct (sym is ∙ stands.same_type)
-stands_struct layouts types place (array ty' values) h ty stands is = absurd stands
-stands_struct layouts types place (host value) h ty stands is = absurd stands
-stands_struct layouts types place (exception ty' tag values) h ty stands is = absurd stands
+module _ {D : Type 0} (layouts : Layouts) (s : StoreView D) (t : Table D) (place : Placing) (holds : Holds layouts s t place) (handle : GcRootIndex) where
+  -- is that of the reference that it names
+  pub named_word : (r : Reference) (word : ℕ) → NamesReference s t handle r → word_of s handle ≡ Ok word → IsWord place r word × (0 < word)
+  named_word r word names e =
+      let live = named_live layouts s t place holds handle names.serial word names.names e in
+      let same : live.0 ≡ r = same_Some live.0 r (sym live.1.0 ∙ names.live) in
+      (subst (λ (x : Reference). IsWord place x word) same live.1.1, live.1.2)
+
+  -- a live handle has one
+  pub live_has_word : (r : Reference) → NamesReference s t handle r → (word : ℕ) × (word_of s handle ≡ Ok word)
+  live_has_word r names = elim (word_cases (word_of s handle)) [
+    | inl is ↦ is
+    | inr none ↦ absurd (none-some r (sym (named_dead layouts s t place holds handle names.serial none.0 names.names none.1).0 ∙ names.live))
+  ]
+
+  -- A handle that has a word names a reference.
+  pub record NamedBy (word : ℕ) : Type 0 where
+    pub root : Reference
+    pub named : NamesReference s t handle root
+    pub is_word : IsWord place root word
+    pub not_null : 0 < word
+
+  pub word_names : (word : ℕ) → word_of s handle ≡ Ok word → NamedBy word
+  word_names word e =
+      let named = names-entry layouts s t place holds handle word (word_of-ok s handle word e) in
+      let live = named_live layouts s t place holds handle named.0 word named.1 e in
+      record { root = live.0; named = record { serial = named.0; names = named.1; live = live.1.0 }; is_word = live.1.1; not_null = live.1.2 }
+
+  -- where it names nothing it has none
+  pub nothing_word : is_of_store s handle ≡ true → NamesNothing s t handle → word_of s handle ≡ Err fault.Unrooted
+  nothing_word own nothing = elim (word_cases (word_of s handle)) [
+    | inl is ↦ (let named = word_names is.0 is.1 in absurd (nothing named.root named.named))
+    | inr none ↦ none.1 ∙ ap Err (word_of-err s handle none.0 own none.1).unrooted
+  ]
+
+-- What a held object is, as the table has it
+stands_object : {D : Type 0} (layouts : Layouts) (types : List Declaration) (names : Naming) (entry : Object D) (h : HeapObject) (answer : RootedObject) → Stands layouts types names entry h → IsOfKindAs h.kind h answer → IsObject (Some entry) answer
+stands_object layouts types names (struct ty values) h answer stands is = subst (λ (k : VMGcKind). IsOfKindAs k h answer) stands.kind is ∙ ap rooted_object.Struct stands.stands.same_type
+stands_object layouts types names (array ty values) h answer stands is =
+    subst (λ (k : VMGcKind). IsOfKindAs k h answer) stands.kind is ∙ (λ i. rooted_object.Array (stands.stands.same_type i) (stands.elements i))
+stands_object layouts types names (host value) h answer stands is = subst (λ (k : VMGcKind). IsOfKindAs k h answer) stands.1.kind is
+stands_object layouts types names (exception ty tag values) h answer stands is =
+    subst (λ (k : VMGcKind). IsOfKindAs k h answer) stands.kind is ∙ (λ i. rooted_object.Exn (stands.stands.same_type i) (record { instance = stands.instance i; index = stands.index i }))
 
 -- an odd word is that of a small number
 pub describes_small : {D : Type 0} (layouts : Layouts) (s : StoreView D) (t : Table D) (place : Placing) (r : Reference) (word number : ℕ) → Holds layouts s t place → IsWord place r word → word ≡ i31_word number → IsReference t r (rooted_object.I31 number)
@@ -158,13 +199,14 @@ describes_small layouts s t place (at p) word number holds is odd =
     let held = holds.objects.placed p word is in
     absurd (omega (arith, odd, (holds.objects.even word held.object held.in_heap).0))
 
--- an even word is that of an object, which its header tells
-pub describes_object : {D : Type 0} (layouts : Layouts) (s : StoreView D) (t : Table D) (place : Placing) (r : Reference) (word ty : ℕ) → Holds layouts s t place → IsWord place r word → 0 < word → (word % 2 ≡ 1 → ⊥) → ((object : HeapObject) → map.get s.heap.content word ≡ Some object → object.ty ≡ ty) → IsReference t r (rooted_object.Struct ty)
-describes_object layouts s t place null word ty holds is positive even tells = absurd (omega (arith, is))
-describes_object layouts s t place (small n) word ty holds is positive even tells = absurd (even (omega (arith, is)))
-describes_object layouts s t place (at p) word ty holds is positive even tells =
+-- an even word is that of an object, which the heap tells
+pub describes_object : {D : Type 0} (layouts : Layouts) (s : StoreView D) (t : Table D) (place : Placing) (r : Reference) (word : ℕ) (answer : RootedObject) → Holds layouts s t place → IsWord place r word → 0 < word → (word % 2 ≡ 1 → ⊥)
+    → TellsHeld s.heap word answer → IsReference t r answer
+describes_object layouts s t place null word answer holds is positive even tells = absurd (omega (arith, is))
+describes_object layouts s t place (small n) word answer holds is positive even tells = absurd (even (omega (arith, is)))
+describes_object layouts s t place (at p) word answer holds is positive even tells =
     let held = holds.objects.placed p word is in
-    subst (λ o. IsObject o (rooted_object.Struct ty)) (sym held.in_table) (stands_struct layouts t.types place held.entry held.object ty held.stands (tells held.object held.in_heap))
+    subst (λ o. IsObject o answer) (sym held.in_table) (stands_object layouts t.types (naming place t.funcs) held.entry held.object answer held.stands (tells held.object held.in_heap))
 
 -- there is an object at an even word of a root
 pub held_object : {D : Type 0} (layouts : Layouts) (s : StoreView D) (t : Table D) (place : Placing) (r : Reference) (word : ℕ) → Holds layouts s t place → IsWord place r word → 0 < word → (word % 2 ≡ 1 → ⊥) → (object : HeapObject) × (map.get s.heap.content word ≡ Some object)

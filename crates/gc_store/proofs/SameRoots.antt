@@ -14,9 +14,8 @@ use Rattle.gc_model.proofs.Words.{word_same}
 use Rattle.gc_store.specs.declared.root.GcRootIndex.{GcRootIndex}
 use Rattle.gc_store.specs.declared.root.RootFault.{RootFault}
 use Rattle.gc_store.specs.declared.root.RootFault.TheVariants as fault
-use Rattle.gc_store.specs.Roots.{word_of, Names}
-use Rattle.gc_store.specs.Handles.{TellsSame}
-use Rattle.gc_store.proofs.Roots.{named_live, named_dead, names-entry, word_of-ok}
+use Rattle.gc_store.specs.Roots.{word_of, NamesReference, NamesNothing}
+use Rattle.gc_store.proofs.Roots.{named_word, live_has_word, word_names}
 
 is_same : (r : Reference) → same_reference r r ≡ true
 is_same null = refl
@@ -41,41 +40,24 @@ compared r q u v same = elim (nat_eq u v) as (λ b. nat_eq u v ≡ b → b ≡ s
   | false ↦ λ e. sym (is_other r q (λ one. absurd (cc (sym (eq-eqb u v (same.1 one)) ∙ e))))
 ] refl
 
-tells_same : (o p : Option Reference) (r q : Reference) (answer : Bool) → o ≡ Some r → p ≡ Some q → answer ≡ same_reference r q → TellsSame o p (Ok answer)
-tells_same o p r q answer first second is =
-    subst (λ (o : Option Reference). TellsSame o p (Ok answer)) (sym first) (subst (λ (p : Option Reference). TellsSame (Some r) p (Ok answer)) (sym second) (ap Ok is))
-
-first_gone : (p : Option Reference) (f : RootFault) → f ≡ fault.Unrooted → TellsSame None p (Err f)
-first_gone None f is = ap Err is
-first_gone (Some q) f is = ap Err is
-
-second_gone : (o : Option Reference) (f : RootFault) → f ≡ fault.Unrooted → TellsSame o None (Err f)
-second_gone None f is = ap Err is
-second_gone (Some r) f is = ap Err is
-
 -- an error that a call hands on
 pub same_err : {A : Type 0} (r : Result A RootFault) (f : RootFault) → IsErrAnd r (λ e. e ≡ f) → r ≡ Err f
 same_err (Ok x) f is = absurd is
 same_err (Err e) f is = ap Err is
 
 module _ {D : Type 0} (layouts : Layouts) (s : StoreView D) (t : Table D) (place : Placing) (holds : Holds layouts s t place) (a b : GcRootIndex) where
-  pub both_live : (x y u v : ℕ) → Names s t a x → Names s t b y → word_of s a ≡ Ok u → word_of s b ≡ Ok v → TellsSame (rooted t x) (rooted t y) (Ok (nat_eq u v))
-  both_live x y u v first second first_word second_word =
-      let r = named_live layouts s t place holds a x u first first_word in
-      let q = named_live layouts s t place holds b y v second second_word in
-      tells_same (rooted t x) (rooted t y) r.0 q.0 (nat_eq u v) r.1.0 q.1.0 (compared r.0 q.0 u v (word_same layouts t place s.heap holds.objects r.0 q.0 u v r.1.1 q.1.1))
+  -- handles are compared by their words
+  pub both_live : (r q : Reference) (u v : ℕ) → NamesReference s t a r → NamesReference s t b q → word_of s a ≡ Ok u → word_of s b ≡ Ok v → nat_eq u v ≡ same_reference r q
+  both_live r q u v first second first_word second_word =
+      let one = named_word layouts s t place holds a r u first first_word in
+      let other = named_word layouts s t place holds b q v second second_word in
+      compared r q u v (word_same layouts t place s.heap holds.objects r q u v one.0 other.0)
 
-  pub first_dead : (x y : ℕ) (f : RootFault) → Names s t a x → word_of s a ≡ Err f → TellsSame (rooted t x) (rooted t y) (Err f)
-  first_dead x y f first word =
-      let gone = named_dead layouts s t place holds a x f first word in
-      subst (λ (o : Option Reference). TellsSame o (rooted t y) (Err f)) (sym gone.0) (first_gone (rooted t y) f gone.1)
+  -- two that have words name something
+  pub not_gone : (u v : ℕ) → word_of s a ≡ Ok u → word_of s b ≡ Ok v → NamesNothing s t a ⊎ NamesNothing s t b → ⊥
+  not_gone u v first second (inl none) = let named = word_names layouts s t place holds a u first in none named.root named.named
+  not_gone u v first second (inr none) = let named = word_names layouts s t place holds b v second in none named.root named.named
 
-  pub second_dead : (x y : ℕ) (f : RootFault) → Names s t b y → word_of s b ≡ Err f → TellsSame (rooted t x) (rooted t y) (Err f)
-  second_dead x y f second word =
-      let gone = named_dead layouts s t place holds b y f second word in
-      subst (λ (o : Option Reference). TellsSame (rooted t x) o (Err f)) (sym gone.0) (second_gone (rooted t x) f gone.1)
-
-  -- handles that have words name something
-  pub not_unnamed : (u v : ℕ) → word_of s a ≡ Ok u → word_of s b ≡ Ok v → ((x : ℕ) → ¬ Names s t a x) ⊎ ((y : ℕ) → ¬ Names s t b y) → ⊥
-  not_unnamed u v first second (inl none) = let named = names-entry layouts s t place holds a u (word_of-ok s a u first) in none named.0 named.1
-  not_unnamed u v first second (inr none) = let named = names-entry layouts s t place holds b v (word_of-ok s b v second) in none named.0 named.1
+-- a live handle has a word
+pub never_gone : {D : Type 0} (layouts : Layouts) (s : StoreView D) (t : Table D) (place : Placing) (holds : Holds layouts s t place) (handle : GcRootIndex) (r : Reference) (f : RootFault) → NamesReference s t handle r → word_of s handle ≡ Err f → ⊥
+never_gone layouts s t place holds handle r f names e = absurd (cc (sym (live_has_word layouts s t place holds handle r names).1 ∙ e))

@@ -1,5 +1,5 @@
 -- The values of new objects.
-use Rattle.std.specs.Prelude.{◌≡◌, ℕ, ◌+◌, ◌-◌, ◌<◌, zero, suc, false, List, [], ◌++◌, Some, length, map, take, drop, replicate, slice_get}
+use Rattle.std.specs.Prelude.{◌≡◌, ℕ, ◌+◌, ◌-◌, ◌*◌, ◌<◌, List, Some, length, map, take, drop, replicate, slice_get}
 use Rattle.std.specs.Int.{bytes_low_first}
 use Rattle.std.specs.FinMap as finite
 use Rattle.gc_types.specs.declared.value.StorageType.{StorageType}
@@ -22,7 +22,7 @@ use Rattle.gc_store.specs.declared.request.Place.TheVariants as place
 use Rattle.gc_store.specs.declared.request.Contents.{Contents}
 use Rattle.gc_store.specs.declared.request.Contents.TheVariants as contents
 use Rattle.gc_store.specs.declared.root.RawValue.{RawValue}
-use Rattle.gc_store.specs.Kept.{IsKept, OfForm, raw_form, StoredStands}
+use Rattle.gc_store.specs.Kept.{IsKept, OfForm, code_of, raw_form, StoredStands}
 use Rattle.gc_store.specs.HeldSlots.{IsHeldOf}
 
 -- values fit slots, one for each
@@ -51,8 +51,9 @@ pub record EachStands (raws : List RawValue) (names : Names) (entries : List Roo
 
 -- what they keep of one value
 pub record SameStands (r : RawValue) (names : Names) (entries : List RootEntry) (slots : List StorageSlot) (values : List Value) : Type 0 where
-  pub same_count : length values ≡ length slots
-  pub each : (i : ℕ) (slot : StorageSlot) (w : Value) → slice_get slots i ≡ Some slot → slice_get values i ≡ Some w → StoredStands names entries slot.storage r w
+  pub kept : Value
+  pub values_are : values ≡ replicate (length slots) kept
+  pub stands : (i : ℕ) (slot : StorageSlot) → slice_get slots i ≡ Some slot → StoredStands names entries slot.storage r kept
 
 -- what they keep of bytes
 abbrev pub BytesStand : List ℕ → Names → List RootEntry → List StorageSlot → List Value → Type 0
@@ -121,11 +122,6 @@ abbrev pub FillsNew : {D : Type 0} → Layouts → OwnerView D → OwnerView D �
 FillsNew layouts old new place ty Fit Stand =
     (object : HeapObject) (shape : Shape) (count : ℕ) → IsToFill layouts old place ty Fit object shape count → Fills layouts Stand old new place object shape count
 
--- some bytes, so many times
-abbrev pub repeated : List ℕ → ℕ → List ℕ
-repeated ws zero = []
-repeated ws (suc n) = ws ++ repeated ws n
-
 -- a width of slots
 abbrev pub IsWidth : ℕ → Type 0
 IsWidth width = (ty : StorageType) × (width ≡ storage_width ty)
@@ -140,6 +136,20 @@ pub record AreElements {D : Type 0} (layouts : Layouts) (v : OwnerView D) (place
   pub shape : Shape
   pub n : ℕ
   pub is : IsHeldOf v.types.declarations v.heap place object shape n
+  pub some : 0 < count
   pub slots_are : shape_slots layouts shape n ≡ element_slots slot.storage count slot.offset
   pub blank : AreBlank (struct_base layouts) (shape_slots layouts shape n) object.bytes
   pub of_form : OfForm v.heap (storage_form slot.storage) x
+
+-- the bytes of so many elements, from an offset on, are those
+abbrev pub AreFilled : ℕ → ℕ → List ℕ → ℕ → List ℕ → Type 0
+AreFilled from width ws count bytes = (i : ℕ) → i < count → take width (drop (from + i * width) bytes) ≡ ws
+
+-- they have the low bytes of what is kept
+pub record FillsElements {D : Type 0} (layouts : Layouts) (old new : OwnerView D) (place : ℕ) (slot : StorageSlot) (count : ℕ) (x : Stored) (e : AreElements layouts old place slot count x) : Type 0 where
+  pub bytes : List ℕ
+  pub rewrites : Rewrites layouts e.shape old new place e.object bytes
+  pub filled : AreFilled (slot.offset - struct_base layouts) (storage_width slot.storage) (slot_bytes slot.storage (code_of x)) count bytes
+
+abbrev pub FillsAll : {D : Type 0} → Layouts → OwnerView D → OwnerView D → ℕ → StorageSlot → ℕ → Stored → Type 0
+FillsAll layouts old new place slot count x = (e : AreElements layouts old place slot count x) → FillsElements layouts old new place slot count x e

@@ -18,8 +18,8 @@ use Rattle.gc_store.specs.declared.stored.Found.{Found}
 use Rattle.gc_store.specs.Kept.{OfForm, IsFound}
 
 -- a slot as the code has it
-abbrev pub slot_of : Slot → StorageSlot
-slot_of slot = record { storage = slot.storage; offset = slot.offset }
+abbrev pub storage_slot : Slot → StorageSlot
+storage_slot slot = record { storage = slot.storage; offset = slot.offset }
 
 -- There is a slot of that index in an object of the type, if it is large enough where it is an array.
 pub record HasSlot (layouts : Layouts) (types : List Declaration) (ty index : ℕ) : Type 0 where
@@ -33,7 +33,7 @@ pub record HasSlot (layouts : Layouts) (types : List Declaration) (ty index : �
 -- it is that slot
 abbrev pub FindsSlot : Layouts → List Declaration → ℕ → ℕ → Slot → Type 0
 FindsSlot layouts types ty index found =
-    (shape : Shape) (count : ℕ) (slot : StorageSlot) → shape_at types ty ≡ Some shape → slice_get (shape_slots layouts shape count) index ≡ Some slot → slot_of found ≡ slot
+    (shape : Shape) (count : ℕ) (slot : StorageSlot) → shape_at types ty ≡ Some shape → slice_get (shape_slots layouts shape count) index ≡ Some slot → storage_slot found ≡ slot
 
 -- the slot of that index of the object at a place
 abbrev pub FindsHeldSlot : Layouts → List Declaration → HeapView → ℕ → ℕ → Slot → Type 0

@@ -1,4 +1,5 @@
 pub mod Bytes
+pub mod Described
 pub mod Expansion
 pub mod Filling
 pub mod Handles

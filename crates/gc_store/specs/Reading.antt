@@ -1,16 +1,38 @@
--- What a read of a field finds.
-use Rattle.std.specs.Prelude.{ℕ}
+-- What a read of an object finds.
+use Rattle.std.specs.Prelude.{ℕ, ◌≡◌, ◌<◌, Option, Result, Ok, Err}
 use Rattle.gc_types.specs.declared.kind.Layouts.{Layouts}
-use Rattle.gc_model.specs.Values.{Value}
+use Rattle.gc_owner.specs.declared.entry.GcClass.{GcClass}
+use Rattle.gc_model.specs.Values.{Reference, Value, reference}
 use Rattle.gc_model.specs.Table.{Table}
 use Rattle.gc_model.specs.Stores.{StoreView}
-use Rattle.gc_model.specs.Holds.{Holds, Placing}
-use Rattle.gc_store.specs.declared.field.Stored.{Stored}
+use Rattle.gc_model.specs.Forms.{naming}
+use Rattle.gc_model.specs.Holds.{Holds, Placing, IsWord}
+use Rattle.gc_policy.specs.Accounts.{Account, IsAccount}
+use Rattle.gc_store.specs.declared.stored.Found.{Found}
 use Rattle.gc_store.specs.declared.root.GcRootIndex.{GcRootIndex}
-use Rattle.gc_store.specs.Roots.{HasValue}
-use Rattle.gc_store.specs.Fields.{StoredStands}
+use Rattle.gc_store.specs.declared.root.RawValue.{RawValue}
+use Rattle.gc_store.specs.declared.root.RawValue.TheVariants as raw
+use Rattle.gc_store.specs.declared.root.RootFault.{RootFault}
+use Rattle.gc_store.specs.Roots.{HasValue, IsRootWord}
+use Rattle.gc_store.specs.Values.{ReadsValue}
+use Rattle.gc_store.specs.Kept.{FoundStands}
 
--- what a field keeps is the value of the table, for each table and placing that the store holds
-abbrev pub ReadsStoredValue : (D : Type 0) → Layouts → StoreView D → GcRootIndex → ℕ → Stored → Type 0
-ReadsStoredValue D layouts s handle index x =
-    (t : Table D) (place : Placing) (v : Value) → Holds layouts s t place → HasValue s t handle index v → StoredStands place x v
+-- what is found is the value of the table, for each table and placing that the store holds
+abbrev pub FindsValue : (D : Type 0) → Layouts → StoreView D → GcRootIndex → ℕ → Found → Type 0
+FindsValue D layouts s handle index x =
+    (t : Table D) (place : Placing) (v : Value) → Holds layouts s t place → HasValue s t handle index v → FoundStands (naming place t.funcs) x v
+
+-- a word is 0, or that of a root of some table that the store holds
+abbrev pub IsReferenceWord : (D : Type 0) → Layouts → StoreView D → ℕ → Type 0
+IsReferenceWord D layouts s word = 0 < word → IsRootWord D layouts s word
+
+-- a reference that is answered, as a value of that class
+abbrev pub reference_value : GcClass → Result (Option GcRootIndex) RootFault → Result RawValue RootFault
+reference_value class (Ok handle) = Ok (raw.Ref class handle)
+reference_value class (Err fault) = Err fault
+
+-- Reading a reference with that word, as one of any class, answers this and leaves this.
+abbrev pub ReadsReference : {D : Type 0} → Layouts → StoreView D → ℕ → Result (Option GcRootIndex) RootFault → StoreView D → Type 0
+ReadsReference {D} layouts old word answer new =
+    (t : Table D) (place : Placing) (a : Account) (class : GcClass) (r : Reference) → Holds layouts old t place → IsAccount old place a → IsWord place r word
+    → ReadsValue layouts t a (reference class r) (reference_value class answer) new

@@ -1,8 +1,11 @@
 //! The bytes of arrays of small integers.
 
+ghost use Rattle.std.specs.Prelude.{◌≡◌, Some, length};
+ghost use Rattle.std.specs.FinMap as finite;
+ghost use Rattle.gc_view.specs.Heaps.{HeapObject};
+ghost use Rattle.gc_heap.specs.Access.{IsReadable, data_part};
 ghost use Rattle.gc_model.specs.Table.{Table};
 ghost use Rattle.gc_model.specs.Holds.{HoldsTable};
-ghost use Rattle.std.specs.Prelude.{length};
 ghost use Rattle.gc_store.specs.Bytes.{CanCopyBytes, CopiesBytes};
 
 use crate::root::GcRootIndex;
@@ -12,7 +15,11 @@ use gc_heap::GcHeap;
 use gc_refs::VMGcRef;
 
 /// Copies as many bytes as there is room for from an offset of a held object.
-fn copy_data<H: GcHeap>(heap: &H, gc_ref: &VMGcRef, offset: u32, dst: &mut [u8]) {
+fn copy_data<H: GcHeap>(heap: &H, gc_ref: &VMGcRef, offset: u32, dst: &mut [u8])
+    requires sound { H.sound heap.now }
+    requires inside { IsReadable H.KIND (H.seen heap.now) gc_ref.now offset (length dst.old) }
+    ensures { (o : HeapObject) → finite.get (H.seen heap.now).content gc_ref.now ≡ Some o → dst.new ≡ data_part H.KIND o offset (length dst.old) }
+{
     let object = heap.gc_object_data(gc_ref).unwrap();
     let bytes = object.slice(offset, dst.len() as u32).unwrap();
     dst.copy_from_slice(bytes);

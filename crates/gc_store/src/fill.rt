@@ -1,10 +1,9 @@
 //! The values of a new object, which are all 0 before.
 
-ghost use Rattle.std.specs.Prelude.{◌≡◌, ◌<◌, ◌*◌, ◌/◌, true, length, take};
+ghost use Rattle.std.specs.Prelude.{◌≡◌, ◌<◌, ◌%◌, ℕ, true, length, slice_index_or};
 ghost use Rattle.gc_store.specs.declared.stored.Stored.TheVariants as kept;
-ghost use Rattle.gc_store.specs.HeldSlots.{slot_of, WritesAt};
-ghost use Rattle.gc_store.specs.Kept.{code_of};
-ghost use Rattle.gc_store.specs.Filling.{CanFill, FillsNew, EachFits, EachStands, SameFits, SameStands, BytesFit, BytesStand, ContentsFit, ContentsStand, asked_type, AreElements, IsWidth, repeated, slot_bytes};
+ghost use Rattle.gc_store.specs.HeldSlots.{storage_slot};
+ghost use Rattle.gc_store.specs.Filling.{CanFill, FillsNew, EachFits, EachStands, SameFits, SameStands, BytesFit, BytesStand, ContentsFit, ContentsStand, asked_type, AreElements, FillsAll, IsWidth};
 
 use crate::request::{Contents, Place};
 use crate::root::RawValue;
@@ -40,7 +39,8 @@ fn write_values<H: GcHeap, D: Drop>(
 /// The first bytes, over and over.
 fn repeat(bytes: &[u8; 16], width: usize) -> [u8; CHUNK]
     requires { IsWidth width }
-    ensures { result ≡ repeated (take width bytes.now) (256 / width) }
+    ensures size { length result ≡ 256 }
+    ensures same { (k : ℕ) → k < 256 → slice_index_or result k 0 ≡ slice_index_or bytes.now (k % width) 0 }
 {
     let mut chunk = [0; CHUNK];
     for at in 0..CHUNK {
@@ -58,9 +58,10 @@ fn write_numbers<H: GcHeap, D: Drop>(
     number: u128,
 )
     requires idle { owner.old.seen.idle ≡ true }
-    requires can { AreElements H.KIND owner.old.seen gc_ref.now (slot_of first.now) count (kept.Number number) }
-    ensures { WritesAt H.KIND owner.old.seen owner.new.seen gc_ref.now first.now.offset (repeated (slot_bytes first.now.storage number) count) }
+    requires can { AreElements H.KIND owner.old.seen gc_ref.now (storage_slot first.now) count (kept.Number number) }
+    ensures { FillsAll H.KIND owner.old.seen owner.new.seen gc_ref.now (storage_slot first.now) count (kept.Number number) }
 {
+    owner.is_ready();
     let width = first.storage.width();
     let bytes = number.to_le_bytes();
     if bytes[..width as usize] == [0; 16][..width as usize] {
@@ -70,6 +71,7 @@ fn write_numbers<H: GcHeap, D: Drop>(
     let most = CHUNK as u32 / width;
     let mut done = 0;
     while done < count {
+        owner.is_ready();
         let more = most.min(count - done);
         let part = &chunk[..(more * width) as usize];
         owner.write_number(gc_ref, first.offset + done * width, part);
@@ -86,16 +88,18 @@ fn write_references<H: GcHeap, D: Drop>(
     word: u32,
 )
     requires idle { owner.old.seen.idle ≡ true }
-    requires can { AreElements H.KIND owner.old.seen gc_ref.now (slot_of first.now) count (kept.Ref word) }
-    ensures { WritesAt H.KIND owner.old.seen owner.new.seen gc_ref.now first.now.offset (repeated (slot_bytes first.now.storage word) count) }
+    requires can { AreElements H.KIND owner.old.seen gc_ref.now (storage_slot first.now) count (kept.Ref word) }
+    ensures { FillsAll H.KIND owner.old.seen owner.new.seen gc_ref.now (storage_slot first.now) count (kept.Ref word) }
 {
     if word == 0 {
         return;
     }
+    let width = first.storage.width();
     for index in 0..count {
+        owner.is_ready();
         let slot = Slot {
             storage: first.storage,
-            offset: first.offset + 4 * index,
+            offset: first.offset + index * width,
         };
         write_slot(owner, gc_ref, &slot, Stored::Ref(word));
     }
@@ -110,8 +114,8 @@ fn write_elements<H: GcHeap, D: Drop>(
     stored: Stored,
 )
     requires idle { owner.old.seen.idle ≡ true }
-    requires can { AreElements H.KIND owner.old.seen gc_ref.now (slot_of first.now) count stored }
-    ensures { WritesAt H.KIND owner.old.seen owner.new.seen gc_ref.now first.now.offset (repeated (slot_bytes first.now.storage (code_of stored)) count) }
+    requires can { AreElements H.KIND owner.old.seen gc_ref.now (storage_slot first.now) count stored }
+    ensures { FillsAll H.KIND owner.old.seen owner.new.seen gc_ref.now (storage_slot first.now) count stored }
 {
     match stored {
         Stored::Number(number) => write_numbers(owner, gc_ref, first, count, number),

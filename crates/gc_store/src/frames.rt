@@ -86,11 +86,8 @@ impl<H: GcHeap, D: Drop> Store<H, D> {
             return Err(SlotFault::NoSlot);
         }
         let SlotEntry { class, word } = self.owner.slot(slot);
-        if word == 0 {
-            return Ok((class, None));
-        }
-        match self.push_word(word) {
-            Ok(found) => Ok((class, Some(found))),
+        match self.push_reference(word) {
+            Ok(found) => Ok((class, found)),
             Err(fault) => Err(SlotFault::from(fault)),
         }
     }

@@ -1,19 +1,17 @@
 //! New objects, with the heap's first pages where it isn't made.
 
-ghost use Rattle.std.specs.Prelude.{◌≡◌, ◌<◌, ◌≤◌, ◌^◌, Some, IsSome, true, length};
-ghost use Rattle.gc_types.specs.declared.layout.GcStructLayout.{GcStructLayout};
-ghost use Rattle.gc_types.specs.Layouts.{layout_at};
+ghost use Rattle.std.specs.Prelude.{◌≡◌, ◌<◌, ◌≤◌, ◌^◌, ℕ, true, length};
+ghost use Rattle.gc_view.specs.Heaps.{HeapObject};
 ghost use Rattle.gc_view.specs.Pages.{max_pages};
-ghost use Rattle.gc_heap.specs.Heap.{new_struct};
 ghost use Rattle.gc_owner.specs.Growing.{state_of};
+ghost use Rattle.gc_owner.specs.Makes.{CanMake, Describes};
 ghost use Rattle.gc_policy.specs.Shown.{DuesOwner};
 ghost use Rattle.gc_model.specs.Allocation.{Limits};
-ghost use Rattle.gc_store.specs.Making.{AllocatesObject, MakesRooted};
+ghost use Rattle.gc_store.specs.Making.{AllocatesObject, IsOfTypes, MakesRooted};
 
 use crate::store::{GcHeapOutOfMemory, PlaceFault};
 use gc_heap::GcHeap;
 use gc_owner::{AllocateFault, Description, HeapOwner, PagesFault, ResourceLimiter};
-use gc_types::VMSharedTypeIndex;
 
 /// There is no room for an object that needs so many bytes.
 fn out_of_memory(bytes_needed: u64) -> PlaceFault
@@ -68,6 +66,7 @@ pub(crate) fn make_object<H: GcHeap, D: Drop, L: ResourceLimiter>(
     requires pages { first_pages ≤ max_pages }
     requires room { 0 < owner.old.seen.roots.spare }
     requires few { length owner.old.seen.roots.scoped < 2 ^ 32 }
+    requires of_types { IsOfTypes description.now }
     requires described { (o : HeapObject) × Describes H.KIND owner.old.seen description.now o size }
     ensures { (o : HeapObject) → Describes H.KIND owner.old.seen description.now o size
         → MakesRooted H.KIND o size first_pages is_due (state_of owner.old.seen (L.limits limiter.old)) (state_of owner.new.seen (L.limits limiter.new)) result }

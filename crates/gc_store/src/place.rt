@@ -1,17 +1,15 @@
 //! Making objects of the table.
 
-ghost use Rattle.std.specs.Prelude.{◌≡◌, ◌+◌, ◌-◌, ◌<◌, ◌^◌, min, List, length, IsSome, slice_index_or};
+ghost use Rattle.std.specs.Prelude.{◌≡◌, ◌+◌, ◌-◌, ◌<◌, ◌^◌, ℕ, min, length, slice_index_or};
 ghost use Rattle.gc_owner.specs.declared.entry.RootEntry as Root;
 ghost use Rattle.std.specs.Option.{option_map};
 ghost use Rattle.std.specs.Int.NonZero.{non_zero_u32_get};
-ghost use Rattle.gc_types.specs.Declarations.{struct_fields_at};
-ghost use Rattle.gc_model.specs.Sizes.{fields_size};
 ghost use Rattle.gc_model.specs.Table.{Table};
-ghost use Rattle.gc_model.specs.Values.{Value, Object, struct};
+ghost use Rattle.gc_model.specs.Values.{Object};
 ghost use Rattle.gc_policy.specs.Accounts.{Account, HoldsAccount, is_due};
 ghost use Rattle.gc_policy.specs.Policy.{policy_state};
-ghost use Rattle.gc_store.specs.Values.{AllStand};
-ghost use Rattle.gc_store.specs.Places.{CanPlace, Places};
+ghost use Rattle.gc_store.specs.Places.{Places};
+ghost use Rattle.gc_store.specs.Making.{described_by, IsSizeOf, TellsSize};
 ghost use Rattle.gc_store.specs.Requests.{CanPlaceIn, IsObjectOf};
 ghost use Rattle.gc_store.specs.Stores.{is_full, IsSameStore};
 
@@ -28,7 +26,9 @@ use gc_types::Types;
 use std::num::NonZeroU32;
 
 /// What an object of that request is made by.
-fn description_of(request: &Place) -> Description {
+fn description_of(request: &Place) -> Description
+    ensures { result ≡ described_by request.now }
+{
     match *request {
         Place::Struct(ty) => Description::Object(ty),
         Place::Exn(ty, _) => Description::Object(ty),
@@ -37,7 +37,10 @@ fn description_of(request: &Place) -> Description {
 }
 
 /// The bytes of an object of a declared type; None exactly where no heap of the kind can hold it.
-fn object_size<H: GcHeap>(types: &Types, request: &Place) -> Option<u32> {
+fn object_size<H: GcHeap>(types: &Types, request: &Place) -> Option<u32>
+    requires { (size : ℕ) × IsSizeOf H.KIND types.now.declarations request.now size }
+    ensures { (size : ℕ) → IsSizeOf H.KIND types.now.declarations request.now size → TellsSize H.KIND size result }
+{
     let size = match *request {
         Place::Struct(ty) => types.struct_layout(H::KIND, ty).unwrap().size,
         Place::Exn(ty, _) => types.struct_layout(H::KIND, ty).unwrap().size,
@@ -91,7 +94,7 @@ impl<H: GcHeap, D: Drop> Store<H, D> {
     }
 
     /// Places an object of a declared type with these values, and pushes a scoped root for it. Structs
-    /// with a value for each field are built so far. Refused are, in this order: `TooLarge` where no
+    /// and arrays are built so far. Refused are, in this order: `TooLarge` where no
     /// heap of the kind can hold it; `RootsFull` where no further scoped root may be made;
     /// `HeapOutOfMemory` where the limiter refused the heap's first pages, or where there is no room
     /// and a growth was refused: by the limiter, or unasked, as the heap would have more than 65,535

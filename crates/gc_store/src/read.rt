@@ -1,15 +1,23 @@
 //! What a handle names, and what lies in it.
 
-ghost use Rattle.std.specs.Prelude.{◌≡◌, ◌⊎◌, ◌<◌, true, false, Ok, Err, IfOk, OnErr};
+ghost use Rattle.std.specs.Prelude.{◌≡◌, ◌⊎◌, ◌<◌, ◌%◌, true, false, Some, Ok, Err, IfOk, OnErr};
+ghost use Rattle.std.specs.FinMap as finite;
+ghost use Rattle.gc_types.specs.declared.kind.VMGcKind.{VMGcKind};
+ghost use Rattle.gc_types.specs.declared.kind.VMGcKind.TheVariants.{ArrayRef, ExnRef};
+ghost use Rattle.gc_refs.specs.Header.{IsOfKind};
+ghost use Rattle.gc_view.specs.Heaps.{HeapObject};
+ghost use Rattle.gc_heap.specs.Objects.{IsHeaderOf, array_length};
+ghost use Rattle.gc_heap.specs.Content.{IsHeld};
 ghost use Rattle.gc_model.specs.Table.{Table};
 ghost use Rattle.gc_model.specs.Reads.{same_reference};
 ghost use Rattle.gc_model.specs.Values.{Reference, Value, small};
 ghost use Rattle.gc_model.specs.Holds.{HoldsTable, Holds, Placing, IsWord};
 ghost use Rattle.gc_policy.specs.Accounts.{Account, IsAccount, HoldsAccount};
+ghost use Rattle.gc_store.specs.Described.{TellsHeld, tag_of};
 ghost use Rattle.gc_store.specs.Roots.{word_of, IsRootWord, IsReference, NamesReference, NamesNothing, TellsReference, is_of_store, HasValue, CanRead, FindsRoot};
 ghost use Rattle.gc_store.specs.Handles.{PushesRoot};
 ghost use Rattle.gc_store.specs.Values.{ReadsValue};
-ghost use Rattle.gc_store.specs.Reading.{ReadsStoredValue};
+ghost use Rattle.gc_store.specs.Reading.{FindsValue, IsReferenceWord, ReadsReference};
 ghost use Rattle.gc_store.specs.Stores.{IsSameStore};
 
 use crate::place::scoped_handle;
@@ -23,30 +31,54 @@ use gc_heap::access::read_u32;
 use gc_refs::{I31, VMArrayRef, VMGcHeader, VMGcRef};
 use gc_types::{Tag, VMGcKind};
 
-/// What a held object is, of which this is the header.
-fn described<H: GcHeap>(heap: &H, gc_ref: &VMGcRef, header: VMGcHeader) -> RootedObject {
-    let ty = header.type_index();
-    match header.kind().unwrap() {
-        VMGcKind::StructRef => RootedObject::Struct(ty),
-        VMGcKind::ArrayRef => RootedObject::Array(ty, length_of(heap, gc_ref)),
-        VMGcKind::ExnRef => RootedObject::Exn(ty, tag_of(heap, gc_ref)),
-        VMGcKind::ExternRef => RootedObject::Host,
-        _ => unreachable!(),
-    }
+/// The kind of the object behind a header.
+fn kind_of(header: &VMGcHeader) -> VMGcKind
+    requires { (kind : VMGcKind) × IsOfKind kind header.now.kind_word }
+    ensures { IsOfKind result header.now.kind_word }
+{
+    header.kind().unwrap()
 }
 
 /// The length of a held array.
-fn length_of<H: GcHeap>(heap: &H, gc_ref: &VMGcRef) -> u32 {
+fn length_of<H: GcHeap>(heap: &H, gc_ref: &VMGcRef) -> u32
+    requires sound { H.sound heap.now }
+    requires held { (o : HeapObject) × ((finite.get (H.seen heap.now).content gc_ref.now ≡ Some o) × (o.kind ≡ ArrayRef)) }
+    ensures { (o : HeapObject) → finite.get (H.seen heap.now).content gc_ref.now ≡ Some o → result ≡ array_length o }
+{
     let array = VMArrayRef::new_unchecked(gc_ref.unchecked_copy());
     heap.array_len(&array).unwrap()
 }
 
 /// The tag of a held exception, whose two words stand in front of its fields.
-fn tag_of<H: GcHeap>(heap: &H, gc_ref: &VMGcRef) -> Tag {
+fn tag_of<H: GcHeap>(heap: &H, gc_ref: &VMGcRef) -> Tag
+    requires sound { H.sound heap.now }
+    requires held { (o : HeapObject) × ((finite.get (H.seen heap.now).content gc_ref.now ≡ Some o) × (o.kind ≡ ExnRef)) }
+    ensures { (o : HeapObject) → finite.get (H.seen heap.now).content gc_ref.now ≡ Some o → result ≡ tag_of o }
+{
     let base = H::KIND.struct_base();
     Tag {
         instance: read_u32(heap, gc_ref, base),
         index: read_u32(heap, gc_ref, base + 4),
+    }
+}
+
+/// What a held object is.
+fn describe_held<H: GcHeap>(heap: &H, gc_ref: &VMGcRef) -> RootedObject
+    requires sound { H.sound heap.now }
+    requires held { IsHeld (H.seen heap.now) gc_ref.now }
+    ensures { TellsHeld (H.seen heap.now) gc_ref.now result }
+{
+    let Ok(header) = heap.header(gc_ref) else {
+        unreachable!()
+    };
+    let ty = header.type_index();
+    match kind_of(&header) {
+        VMGcKind::StructRef => RootedObject::Struct(ty),
+        VMGcKind::ArrayRef => RootedObject::Array(ty, length_of(heap, gc_ref)),
+        VMGcKind::ExnRef => RootedObject::Exn(ty, tag_of(heap, gc_ref)),
+        VMGcKind::ExternRef => RootedObject::Host,
+        VMGcKind::AnyRef => unreachable!(),
+        VMGcKind::EqRef => unreachable!(),
     }
 }
 
@@ -70,10 +102,7 @@ impl<H: GcHeap, D: Drop> Store<H, D> {
         if let Some(number) = gc_ref.as_i31() {
             return RootedObject::I31(number);
         }
-        match self.owner.heap().header(&gc_ref) {
-            Ok(header) => described(self.owner.heap(), &gc_ref, header),
-            Err(_) => unreachable!(),
-        }
+        describe_held(self.owner.heap(), &gc_ref)
     }
 
     /// What the handle's reference is. `WrongStore` where it is another store's handle, `Unrooted`
@@ -137,6 +166,7 @@ impl<H: GcHeap, D: Drop> Store<H, D> {
     /// What lies at that index of the object that the handle names.
     fn found_at(&self, handle: GcRootIndex, index: u32) -> Found
         requires { CanRead D H.KIND self.now handle index }
+        ensures { FindsValue D H.KIND self.now handle index result }
     {
         self.owner.is_ready();
         match self.word_of(handle) {
@@ -149,9 +179,13 @@ impl<H: GcHeap, D: Drop> Store<H, D> {
         }
     }
 
-    /// A reference as a value, by its class and its word. One that isn't null gets a scoped root: `RootsFull` where no
-    /// further one may be made.
-    pub(crate) fn push_reference(&mut self, word: u32) -> Result<Option<GcRootIndex>, RootFault> {
+    /// A reference by its word. One that isn't null gets a scoped root: `RootsFull` where no further one may be made.
+    pub(crate) fn push_reference(&mut self, word: u32) -> Result<Option<GcRootIndex>, RootFault>
+        requires { IsReferenceWord D H.KIND self.old word }
+        ensures reads { ReadsReference H.KIND self.old word result self.new }
+        ensures err { OnErr result (self.new ≡ self.old) }
+        ensures same { IsSameStore self.old self.new }
+    {
         if word == 0 {
             return Ok(None);
         }

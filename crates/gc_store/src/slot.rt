@@ -1,12 +1,12 @@
 //! Where the values of an object lie.
 
-ghost use Rattle.std.specs.Prelude.{◌≡◌, None};
+ghost use Rattle.std.specs.Prelude.{◌≡◌, Some, None};
 ghost use Rattle.gc_types.specs.Declarations.{elem_at};
 ghost use Rattle.gc_store.specs.HeldSlots.{HasSlot, FindsSlot, IsHeldWithSlot, FindsHeldSlot};
 
 use gc_heap::GcHeap;
 use gc_refs::VMGcRef;
-use gc_types::{Layouts, StorageType, Types, VMSharedTypeIndex};
+use gc_types::{FieldType, Layouts, StorageType, Types, VMSharedTypeIndex};
 
 /// A place for one value in an object.
 #[derive(Clone, Copy)]
@@ -30,6 +30,26 @@ fn field_slot(types: &Types, layouts: Layouts, ty: VMSharedTypeIndex, index: u32
     }
 }
 
+/// The slot of an element of an array of a declared type.
+fn element_slot(
+    types: &Types,
+    layouts: Layouts,
+    ty: VMSharedTypeIndex,
+    index: u32,
+    element: FieldType,
+) -> Slot
+    requires has { HasSlot layouts types.now.declarations ty index }
+    requires element { elem_at types.now.declarations ty ≡ Some element }
+    ensures { FindsSlot layouts types.now.declarations ty index result }
+{
+    let storage = element.element_type;
+    let layout = types.array_layout(layouts, ty).unwrap();
+    Slot {
+        storage,
+        offset: layout.elem_offset(index).unwrap(),
+    }
+}
+
 /// The slot of the value at that index of an object of a declared type.
 pub(crate) fn slot_at(
     types: &Types,
@@ -41,13 +61,7 @@ pub(crate) fn slot_at(
     ensures { FindsSlot layouts types.now.declarations ty index result }
 {
     match types.array_elem(ty) {
-        Some(element) => {
-            let layout = types.array_layout(layouts, ty).unwrap();
-            Slot {
-                storage: element.element_type,
-                offset: layout.elem_offset(index).unwrap(),
-            }
-        }
+        Some(element) => element_slot(types, layouts, ty, index, element),
         None => field_slot(types, layouts, ty, index),
     }
 }

@@ -6,7 +6,7 @@ ghost use Rattle.gc_types.specs.Layouts.{storage_width, value_width};
 ghost use Rattle.gc_model.specs.Forms.{top_form, type_form, storage_form, reference_of};
 ghost use Rattle.gc_heap.specs.Access.{IsReadable};
 ghost use Rattle.gc_store.specs.Kept.{code_of, raw_form, KeptAs, IsKept, FitsForm, IsReadForm};
-ghost use Rattle.gc_store.specs.HeldSlots.{slot_of, CanWriteSlot, WritesAt, FindsAt};
+ghost use Rattle.gc_store.specs.HeldSlots.{storage_slot, CanWriteSlot, WritesAt, FindsAt};
 
 use crate::root::RawValue;
 use crate::slot::Slot;
@@ -38,11 +38,11 @@ pub(crate) fn stored_value(entries: &[RootEntry], value: RawValue) -> Stored
     ensures kept { KeptAs entries.now value result }
     ensures small { FitsForm (raw_form value) (code_of result) }
 {
-    match value {
+    match &value {
         RawValue::I32(number) => Stored::Number(u128::from(number.cast_unsigned())),
         RawValue::I64(number) => Stored::Number(u128::from(number.cast_unsigned())),
-        RawValue::F32(bits) => Stored::Number(u128::from(bits)),
-        RawValue::F64(bits) => Stored::Number(u128::from(bits)),
+        RawValue::F32(bits) => Stored::Number(u128::from(*bits)),
+        RawValue::F64(bits) => Stored::Number(u128::from(*bits)),
         RawValue::V128(vector) => Stored::Number(vector.as_u128()),
         RawValue::Func(_) => unreachable!(),
         RawValue::Ref(_, None) => Stored::Ref(0),
@@ -63,7 +63,7 @@ pub(crate) fn write_slot<H: GcHeap, D: Drop>(
     stored: Stored,
 )
     requires idle { owner.old.seen.idle ≡ true }
-    requires can { CanWriteSlot H.KIND owner.old.seen gc_ref.now (slot_of slot.now) stored }
+    requires can { CanWriteSlot H.KIND owner.old.seen gc_ref.now (storage_slot slot.now) stored }
     ensures { WritesAt H.KIND owner.old.seen owner.new.seen gc_ref.now slot.now.offset (bytes_low_first 0 (storage_width slot.now.storage) (code_of stored)) }
 {
     owner.is_ready();

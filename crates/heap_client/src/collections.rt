@@ -1,10 +1,11 @@
 //! Collections of any heap, each begun and ended in a way of its own.
 
-ghost use Rattle.std.specs.Prelude.{ℕ, Bool, true, ◌≡◌, ◌<◌, IfOk, OnOk};
+ghost use Rattle.std.specs.Prelude.{◌≡◌, ◌<◌, IfOk, OnOk};
 ghost use Rattle.gc_view.specs.Heaps.{detached_in};
-ghost use Rattle.gc_heap.specs.Collection.{Start, CanCollect, Collected, has_host, stage};
+ghost use Rattle.gc_heap.specs.Collection.{CanCollect, Collected, has_host, stage};
 ghost use Rattle.gc_heap.specs.Run.{start_at};
 ghost use Rattle.heap_client.specs.declared.collections.Around.{Around};
+ghost use Rattle.heap_client.specs.Collecting.{CanBegin, IsBegun, Finishes};
 
 use crate::allocation::make_struct;
 use crate::fault::ClientFault;
@@ -45,7 +46,7 @@ fn begin<H: GcHeap>(heap: &mut H, alloc: Global, types: Types) -> Result<Around,
     requires sound { H.sound heap.old }
     requires detached { H.seen heap.old ≡ detached_in 0 }
     ensures sound { H.sound heap.new }
-    ensures can { IfOk result (λ (around : Around). CanCollect H.KIND (start_at (H.seen heap.new) around.roots.roots around.types.declarations around.hosts.entries)) }
+    ensures can { IfOk result (λ (around : Around). CanBegin H.KIND (H.seen heap.new) around) }
 {
     attach_page(heap, alloc)?;
     Ok(Around {
@@ -62,9 +63,9 @@ fn add<H: GcHeap>(
     ty: VMSharedTypeIndex,
 ) -> Result<(), ClientFault>
     requires sound { H.sound heap.old }
-    requires can { CanCollect H.KIND (start_at (H.seen heap.old) around.old.roots.roots around.old.types.declarations around.old.hosts.entries) }
+    requires can { CanBegin H.KIND (H.seen heap.old) around.old }
     ensures sound { H.sound heap.new }
-    ensures can { OnOk result (CanCollect H.KIND (start_at (H.seen heap.new) around.new.roots.roots around.new.types.declarations around.new.hosts.entries)) }
+    ensures can { OnOk result (CanBegin H.KIND (H.seen heap.new) around.new) }
 {
     around.roots.reserve(1)?;
     match make_struct(heap, &around.types, ty) {
@@ -103,10 +104,11 @@ fn finish_after_one<H: GcHeap, D: Drop, L: Ledger>(
     requires name { blank.name ≡ L.name }
     requires parts { blank.parts ≡ L.parts }
     requires some { 0 < blank.parts }
-    requires begun { (s : Start) × ((c : Bool) × H.under_way s 0 c (stage heap.old state.old roots.old.roots trace.old.types.now.declarations trace.old.host_data_table.now.entries)) }
+    requires begun { IsBegun H.under_way (stage heap.old state.old roots.old.roots trace.old.types.now.declarations trace.old.host_data_table.now.entries) }
     ensures sound { H.sound heap.new }
-    ensures collected { (s : Start) (c : Bool) → H.under_way s 0 c (stage heap.old state.old roots.old.roots trace.old.types.now.declarations trace.old.host_data_table.now.entries)
-        → Collected H.KIND s (H.seen heap.new) roots.new.roots (has_host trace.new.host_data_table.now.entries) }
+    ensures collected { Finishes H.KIND H.under_way
+        (stage heap.old state.old roots.old.roots trace.old.types.now.declarations trace.old.host_data_table.now.entries)
+        (H.seen heap.new) roots.new.roots (has_host trace.new.host_data_table.now.entries) }
     ensures hosts { trace.new.host_data_table.ghost_name ≡ trace.old.host_data_table.ghost_name }
     ensures types { trace.new.types ≡ trace.old.types }
 {
@@ -131,10 +133,11 @@ fn finish_counted<H: GcHeap, D: Drop, L: Ledger>(
     requires name { blank.name ≡ L.name }
     requires parts { blank.parts ≡ L.parts }
     requires some { 0 < blank.parts }
-    requires begun { (s : Start) × ((c : Bool) × H.under_way s 0 c (stage heap.old state.old roots.old.roots trace.old.types.now.declarations trace.old.host_data_table.now.entries)) }
+    requires begun { IsBegun H.under_way (stage heap.old state.old roots.old.roots trace.old.types.now.declarations trace.old.host_data_table.now.entries) }
     ensures sound { H.sound heap.new }
-    ensures collected { (s : Start) (c : Bool) → H.under_way s 0 c (stage heap.old state.old roots.old.roots trace.old.types.now.declarations trace.old.host_data_table.now.entries)
-        → Collected H.KIND s (H.seen heap.new) roots.new.roots (has_host trace.new.host_data_table.now.entries) }
+    ensures collected { Finishes H.KIND H.under_way
+        (stage heap.old state.old roots.old.roots trace.old.types.now.declarations trace.old.host_data_table.now.entries)
+        (H.seen heap.new) roots.new.roots (has_host trace.new.host_data_table.now.entries) }
     ensures hosts { trace.new.host_data_table.ghost_name ≡ trace.old.host_data_table.ghost_name }
     ensures types { trace.new.types ≡ trace.old.types }
 {
@@ -168,9 +171,9 @@ fn run_whole<H: GcHeap, D: Drop, L: Ledger>(
 /// something left to do.
 fn collect_dropped<H: GcHeap>(heap: &mut H, around: &mut Around) -> bool
     requires sound { H.sound heap.old }
-    requires can { CanCollect H.KIND (start_at (H.seen heap.old) around.old.roots.roots around.old.types.declarations around.old.hosts.entries) }
+    requires can { CanBegin H.KIND (H.seen heap.old) around.old }
     ensures sound { H.sound heap.new }
-    ensures can { CanCollect H.KIND (start_at (H.seen heap.new) around.new.roots.roots around.new.types.declarations around.new.hosts.entries) }
+    ensures can { CanBegin H.KIND (H.seen heap.new) around.new }
 {
     let mut state = heap.begin();
     let mut trace = GcStoreTraceState {
@@ -189,9 +192,9 @@ fn collect_dropped<H: GcHeap>(heap: &mut H, around: &mut Around) -> bool
 /// Begins a collection, and does all of it by `collect_counted`.
 fn collect_begun<H: GcHeap>(heap: &mut H, around: &mut Around)
     requires sound { H.sound heap.old }
-    requires can { CanCollect H.KIND (start_at (H.seen heap.old) around.old.roots.roots around.old.types.declarations around.old.hosts.entries) }
+    requires can { CanBegin H.KIND (H.seen heap.old) around.old }
     ensures sound { H.sound heap.new }
-    ensures can { CanCollect H.KIND (start_at (H.seen heap.new) around.new.roots.roots around.new.types.declarations around.new.hosts.entries) }
+    ensures can { CanBegin H.KIND (H.seen heap.new) around.new }
 {
     let mut state = heap.begin();
     let mut trace = GcStoreTraceState {
@@ -210,9 +213,9 @@ fn collect_begun<H: GcHeap>(heap: &mut H, around: &mut Around)
 /// Does a collection by `run_counted`.
 fn collect_run<H: GcHeap>(heap: &mut H, around: &mut Around)
     requires sound { H.sound heap.old }
-    requires can { CanCollect H.KIND (start_at (H.seen heap.old) around.old.roots.roots around.old.types.declarations around.old.hosts.entries) }
+    requires can { CanBegin H.KIND (H.seen heap.old) around.old }
     ensures sound { H.sound heap.new }
-    ensures can { CanCollect H.KIND (start_at (H.seen heap.new) around.new.roots.roots around.new.types.declarations around.new.hosts.entries) }
+    ensures can { CanBegin H.KIND (H.seen heap.new) around.new }
 {
     let mut trace = GcStoreTraceState {
         host_data_table: &mut around.hosts,

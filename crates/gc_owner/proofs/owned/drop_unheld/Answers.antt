@@ -1,14 +1,10 @@
 use Rattle.std.proofs.Common.{◌+◌, get_or, sym, subst}
 use Rattle.gc_view.specs.Heaps.{HeapView, SameHeld}
-use Rattle.gc_owner.specs.declared.entry.OwnedEntry.{OwnedEntry}
-use Rattle.gc_owner.specs.RootColumns.{RootsView, roots_of}
+use Rattle.gc_owner.specs.RootColumns.{RootsView, roots_of, empty_entry}
 use Rattle.gc_owner.specs.Tracing.{IsCollectable}
 use Rattle.gc_owner.proofs.ScopeLemmas.{same_held}
 use Rattle.gc_owner.proofs.OwnedLemmas.{trimmed, trimmed_none, trimmed_all, entry_droppable, entry_released, released_held}
 use Rattle.gc_owner.proofs.owned.drop_unheld.Goals as goal
-
-abbrev no_entry : OwnedEntry
-no_entry = record { id = 0; number = 0; handles = 0; word = 0 }
 
 pub loop-entry-init : goal.loop-entry-init
 loop-entry-init g c =
@@ -31,7 +27,7 @@ release-requires-clause-sound g c = c.loop-entry.invariant.sound
 pub release-requires-clause-can : goal.release-requires-clause-can
 release-requires-clause-can g c = λ none.
     let can = c.loop-entry.invariant.can in
-    entry_droppable g.H.GcHeap.KIND can.types (g.H.GcHeap.seen c.loop-entry.heap) can.hosts c.args.roots.now c.owned-entries.result.now c.loop-entry.entry-index no_entry c.loop-entry-test.true can.collectable
+    entry_droppable g.H.GcHeap.KIND can.types (g.H.GcHeap.seen c.loop-entry.heap) can.hosts c.args.roots.now c.owned-entries.result.now c.loop-entry.entry-index empty_entry c.loop-entry-test.true can.collectable
     (g.met.H.GcHeap.is_heap c.loop-entry.heap c.loop-entry.invariant.sound)
 
 pub loop-entry-preserved : goal.loop-entry-preserved
@@ -45,12 +41,12 @@ loop-entry-preserved g c =
         hosts = can.hosts;
         collectable =
             subst (λ (v : HeapView). IsCollectable g.H.GcHeap.KIND can.types v (roots_of (trimmed (c.loop-entry.entry-index + 1) c.owned-entries.result.now c.args.roots.now)) can.hosts) (sym c.release.ensures.seen)
-            (entry_released g.H.GcHeap.KIND can.types h can.hosts c.args.roots.now c.owned-entries.result.now c.loop-entry.entry-index no_entry c.loop-entry-test.true can.collectable);
+            (entry_released g.H.GcHeap.KIND can.types h can.hosts c.args.roots.now c.owned-entries.result.now c.loop-entry.entry-index empty_entry c.loop-entry-test.true can.collectable);
       };
-      held = subst (SameHeld (g.H.GcHeap.seen c.args.heap.now)) (sym c.release.ensures.seen) (released_held (g.H.GcHeap.seen c.args.heap.now) h (get_or c.owned-entries.result.now c.loop-entry.entry-index no_entry) c.loop-entry.invariant.held);
+      held = subst (SameHeld (g.H.GcHeap.seen c.args.heap.now)) (sym c.release.ensures.seen) (released_held (g.H.GcHeap.seen c.args.heap.now) h (get_or c.owned-entries.result.now c.loop-entry.entry-index empty_entry) c.loop-entry.invariant.held);
       keeps = λ types hosts first.
           subst (λ (v : HeapView). IsCollectable g.H.GcHeap.KIND types v (roots_of (trimmed (c.loop-entry.entry-index + 1) c.owned-entries.result.now c.args.roots.now)) hosts) (sym c.release.ensures.seen)
-          (entry_released g.H.GcHeap.KIND types h hosts c.args.roots.now c.owned-entries.result.now c.loop-entry.entry-index no_entry c.loop-entry-test.true (c.loop-entry.invariant.keeps types hosts first));
+          (entry_released g.H.GcHeap.KIND types h hosts c.args.roots.now c.owned-entries.result.now c.loop-entry.entry-index empty_entry c.loop-entry-test.true (c.loop-entry.invariant.keeps types hosts first));
     }
 
 pub returns-clause-sound : goal.returns-clause-sound

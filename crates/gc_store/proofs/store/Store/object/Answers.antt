@@ -1,7 +1,9 @@
-use Rattle.std.proofs.Common.{ap, sym, ◌∙◌, subst}
+use Rattle.std.proofs.Common.{◌≡◌, ℕ, Err, ap, sym, ◌∙◌, subst}
+use Rattle.gc_store.specs.declared.root.RootFault.TheVariants as fault
 use Rattle.gc_model.specs.Stores.{StoreView}
 use Rattle.gc_store.specs.Roots.{IsRootWord, word_of}
-use Rattle.gc_store.proofs.Roots.{root_word, named_live, named_dead, tells_live, tells_dead, word_of-ok, names-entry}
+use Rattle.gc_store.proofs.Roots.{root_word, named_word, word_names, nothing_word}
+use Rattle.gc_store.proofs.SameRoots.{never_gone}
 use Rattle.gc_model.specs.Holds.{Holds}
 use Rattle.gc_store.proofs.store.Store.object.Goals as goal
 
@@ -11,35 +13,36 @@ describe-requires g c =
     (root_word _ _ c.self.invariant.table c.self.invariant.holds.place c.self.invariant.holds.holds c.args.handle c.in-Ok.word
     (ap (λ (s : StoreView g.row.D.Denot). word_of s c.args.handle) c.self.view_is ∙ sym c.word_of.ensures ∙ c.in-Ok.is))
 
-pub returns-in-Ok-clause-named : goal.returns-in-Ok-clause-named
-returns-in-Ok-clause-named g c t serial holds names =
-    let live = named_live _ _ t holds.0 holds.1 c.args.handle serial c.in-Ok.word names (sym c.word_of.ensures ∙ c.in-Ok.is) in
-    tells_live t _ live.0 c.describe.result live.1.0 (c.describe.ensures t holds.0 live.0 holds.1 live.1.1 live.1.2)
+pub returns-in-Ok-clause-live : goal.returns-in-Ok-clause-live
+returns-in-Ok-clause-live g c t r holds names =
+    let word = named_word g.H.GcHeap.KIND c.args.self.now t holds.0 holds.1 c.args.handle r c.in-Ok.word names (sym c.word_of.ensures ∙ c.in-Ok.is) in
+    c.describe.ensures t holds.0 r holds.1 word.0 word.1
 
-pub returns-in-Ok-clause-unnamed : goal.returns-in-Ok-clause-unnamed
-returns-in-Ok-clause-unnamed g c own t holds unnamed =
-    let named = names-entry _ _ t holds.0 holds.1 c.args.handle c.in-Ok.word (word_of-ok _ c.args.handle c.in-Ok.word (sym c.word_of.ensures ∙ c.in-Ok.is)) in
-    absurd (unnamed named.0 named.1)
+pub returns-in-Err-clause-live : goal.returns-in-Err-clause-live
+returns-in-Err-clause-live g c t r holds names =
+    absurd (never_gone g.H.GcHeap.KIND c.args.self.now t holds.0 holds.1 c.args.handle r c.in-Err.fault names (sym c.word_of.ensures ∙ c.in-Err.is))
 
-pub returns-in-Err-clause-named : goal.returns-in-Err-clause-named
-returns-in-Err-clause-named g c t serial holds names =
-    let dead = named_dead _ _ t holds.0 holds.1 c.args.handle serial c.in-Err.fault names (sym c.word_of.ensures ∙ c.in-Err.is) in
-    tells_dead t _ c.in-Err.fault dead.0 dead.1
+pub returns-in-Ok-clause-gone : goal.returns-in-Ok-clause-gone
+returns-in-Ok-clause-gone g c own t holds nothing =
+    let named = word_names g.H.GcHeap.KIND c.args.self.now t holds.0 holds.1 c.args.handle c.in-Ok.word (sym c.word_of.ensures ∙ c.in-Ok.is) in
+    absurd (nothing named.root named.named)
+
+pub returns-in-Err-clause-gone : goal.returns-in-Err-clause-gone
+returns-in-Err-clause-gone g c own t holds nothing =
+    let both : Err {A = ℕ} fault.Unrooted ≡ Err c.in-Err.fault = sym (nothing_word g.H.GcHeap.KIND c.args.self.now t holds.0 holds.1 c.args.handle own nothing) ∙ sym c.word_of.ensures ∙ c.in-Err.is in
+    let same : fault.Unrooted ≡ c.in-Err.fault = cc in
+    ap Err (sym same)
 
 pub returns-in-Ok-clause-found : goal.returns-in-Ok-clause-found
 returns-in-Ok-clause-found g c =
-    let word = sym c.word_of.ensures ∙ c.in-Ok.is in
     let t = c.self.invariant.table in
     let place = c.self.invariant.holds.place in
     let holds : Holds g.H.GcHeap.KIND c.args.self.now t place = subst (λ (s : StoreView g.row.D.Denot). Holds g.H.GcHeap.KIND s t place) c.self.view_is c.self.invariant.holds.holds in
-    let named = names-entry g.H.GcHeap.KIND c.args.self.now t place holds c.args.handle c.in-Ok.word (word_of-ok _ c.args.handle c.in-Ok.word word) in
-    let live = named_live g.H.GcHeap.KIND c.args.self.now t place holds c.args.handle named.0 c.in-Ok.word named.1 word in
+    let named = word_names g.H.GcHeap.KIND c.args.self.now t place holds c.args.handle c.in-Ok.word (sym c.word_of.ensures ∙ c.in-Ok.is) in
     record {
       table = t;
       holds = (place, holds);
-      serial = named.0;
-      names = named.1;
-      root = live.0;
-      live = live.1.0;
-      is = c.describe.ensures t place live.0 holds live.1.1 live.1.2;
+      root = named.root;
+      named = named.named;
+      is = c.describe.ensures t place named.root holds named.is_word named.not_null;
     }

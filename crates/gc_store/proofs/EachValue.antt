@@ -1,0 +1,239 @@
+-- Values that are written one after another into the slots of a new object.
+use Rattle.std.proofs.Common.{◌≡◌, ℕ, ◌+◌, ◌-◌, ◌^◌, ◌<◌, ◌≤◌, inl, inr, true, false, cond, nat_eq, List, [], ◌∷◌, length, map, Some, None, Ok, Err, Option, Contains, refl, sym, ap, ◌∙◌, subst, arith}
+use Rattle.std.specs.Int.{bytes_low_first}
+use Rattle.std.specs.List.{slice_get}
+use Rattle.std.specs.FinMap.{get}
+use Rattle.std.proofs.lemmas.Bool.{cases_eq}
+use Rattle.std.proofs.lemmas.Option.{slice_get_within, get_or_from_slice_get, same_Some}
+use Rattle.gc_types.specs.declared.value.StorageType.{StorageType}
+use Rattle.gc_types.specs.declared.value.StorageType.TheVariants as storage
+use Rattle.gc_types.specs.declared.value.ValType.{ValType}
+use Rattle.gc_types.specs.declared.value.ValType.TheVariants as val
+use Rattle.gc_types.specs.declared.value.HeapTopType.{HeapTopType}
+use Rattle.gc_types.specs.declared.value.HeapTopType.TheVariants as top
+use Rattle.gc_types.specs.Values.{unpacked, heap_top}
+use Rattle.gc_types.specs.declared.kind.Layouts.{Layouts}
+use Rattle.gc_types.specs.Declarations.{Declaration, Shape}
+use Rattle.gc_types.specs.Layouts.{struct_base, storage_width, value_width}
+use Rattle.gc_view.specs.Bytes.{put_bytes}
+use Rattle.gc_view.specs.Heaps.{HeapObject, HeapView}
+use Rattle.gc_view.specs.Slots.{StorageSlot, slot_end, shape_slots, shape_first, shape_size, AreSpaced}
+use Rattle.gc_view.proofs.Layouts.{storage_width_positive}
+use Rattle.gc_view.proofs.SlotLemmas.{shape_spaced}
+use Rattle.gc_heap.specs.Content.{IsHeap}
+use Rattle.gc_heap.specs.Collection.{IsWordOf}
+use Rattle.gc_owner.specs.declared.entry.RootEntry.{RootEntry}
+use Rattle.gc_owner.specs.Owners.{OwnerView, CanBegin}
+use Rattle.gc_policy.proofs.CollectedLists.{get_contains, contains_get, map_get}
+use Rattle.gc_policy.proofs.RootsShown.{scoped_rooted}
+use Rattle.gc_model.specs.Values.{Value}
+use Rattle.gc_model.specs.Forms.{Form, number_of, function_of, continuation_of, reference_of, top_form, storage_form, Names, IsCode, IsEncodedAs}
+use Rattle.gc_model.proofs.Lists.{slice_get-same_length}
+use Rattle.gc_model.proofs.ObjectShapes.{shape_at}
+use Rattle.gc_model.proofs.SlotWrites.{LieUpTo, lie_up_to-none, lie_up_to-step, lie_up_to-all}
+use Rattle.gc_model.proofs.StoredBytes.{stored_encoded}
+use Rattle.gc_store.specs.declared.slot.Slot.{Slot}
+use Rattle.gc_store.specs.declared.stored.Stored.{Stored}
+use Rattle.gc_store.specs.declared.stored.Stored.TheVariants as kept
+use Rattle.gc_store.specs.declared.root.RawValue.{RawValue}
+use Rattle.gc_store.specs.declared.root.RawValue.TheVariants as raw
+use Rattle.gc_store.specs.declared.root.RootSlot.{RootSlot}
+use Rattle.gc_store.specs.declared.root.RootSlot.TheVariants as slot
+use Rattle.gc_store.specs.declared.root.RootFault.TheVariants as fault
+use Rattle.gc_store.specs.Words.{entry_word, slot_word}
+use Rattle.gc_store.specs.Kept.{code_of, KeptAs, IsKept, raw_form, form_width, FitsForm, OfForm, StoredStands}
+use Rattle.gc_store.specs.HeldSlots.{storage_slot, HasSlot, FindsSlot, IsHeldOf, CanWriteSlot, WritesAt}
+use Rattle.gc_store.specs.Filling.{EachFits, EachStands, IsToFill, Rewrites, Fills, slot_bytes}
+use Rattle.gc_store.proofs.Rewriting.{rewrites-nothing, rewrites-more, held_again}
+use Rattle.gc_store.proofs.SlotPlaces.{first_above, bytes_reach, slot_lies, held_size_is, held_small}
+use Rattle.gc_store.proofs.SlotWrites.{length-low}
+
+-- a root's word is that of an entry
+slot_entry : (entries : List RootEntry) (s : RootSlot) (generation word : ℕ) → slot_word entries s generation ≡ Ok word → (e : RootEntry) × (Contains entries e × (e.word ≡ word))
+slot_entry entries (slot.Scoped index) generation word is = at (slice_get entries index) refl is
+  where
+    at : (found : Option RootEntry) → slice_get entries index ≡ found → entry_word found generation ≡ Ok word → (e : RootEntry) × (Contains entries e × (e.word ≡ word))
+    at None e is = absurd (cc)
+    at (Some entry) e is =
+        let here : Contains entries entry = (index, slice_get_within entries index entry e, get_or_from_slice_get entries index entry entry e) in
+        elim (nat_eq entry.generation generation) as (λ b. cond b (Ok entry.word) (Err fault.Unrooted) ≡ Ok word → (e : RootEntry) × (Contains entries e × (e.word ≡ word))) [
+          | true ↦ λ same. (entry, (here, cc))
+          | false ↦ λ same. absurd (cc)
+        ] is
+slot_entry entries (slot.Owned id) generation word is = absurd (cc)
+
+-- the words of the roots are words of the heap
+abbrev pub AreWords : HeapView → List RootEntry → Type 0
+AreWords h entries = (e : RootEntry) → Contains entries e → IsWordOf h e.word
+
+-- the words of an owner's scoped roots are words of its heap
+pub are_words : {D : Type 0} (layouts : Layouts) (v : OwnerView D) → CanBegin layouts v → AreWords v.heap v.roots.scoped
+are_words layouts v can e among = elim (cases_eq e.word 0) [
+  | inl null ↦ inl null
+  | inr present ↦
+      let at = contains_get v.roots.scoped e among in
+      let word_in : Contains (map (λ (x : RootEntry). x.word) v.roots.scoped) e.word =
+      get_contains (map (λ (x : RootEntry). x.word) v.roots.scoped) at.0 e.word (map_get (λ (x : RootEntry). x.word) v.roots.scoped at.0 e at.1) in
+      let root = scoped_rooted v.roots e.word word_in (omega arith) in
+      subst (IsWordOf v.heap) root.1.1 (can.collects.roots root.0 root.1.0)
+]
+
+-- what is kept of a value is of its form
+kept_form : (h : HeapView) (entries : List RootEntry) (r : RawValue) (x : Stored) → AreWords h entries → KeptAs entries r x → OfForm h (raw_form r) x
+kept_form h entries (raw.I32 n) x words is = subst (OfForm h (raw_form (raw.I32 n))) (sym is) tt
+kept_form h entries (raw.I64 n) x words is = subst (OfForm h (raw_form (raw.I64 n))) (sym is) tt
+kept_form h entries (raw.F32 n) x words is = subst (OfForm h (raw_form (raw.F32 n))) (sym is) tt
+kept_form h entries (raw.F64 n) x words is = subst (OfForm h (raw_form (raw.F64 n))) (sym is) tt
+kept_form h entries (raw.V128 n) x words is = subst (OfForm h (raw_form (raw.V128 n))) (sym is) tt
+kept_form h entries (raw.Func f) x words is = absurd is
+kept_form h entries (raw.Ref class None) x words is = subst (OfForm h (reference_of class)) (sym is) (inl refl)
+kept_form h entries (raw.Ref class (Some handle)) x words is =
+    let e = slot_entry entries handle.slot handle.generation is.0 is.1.0 in
+    subst (OfForm h (reference_of class)) (sym is.1.1) (subst (IsWordOf h) e.1.1 (words e.0 e.1.0))
+
+pub kept_of_form : (h : HeapView) (entries : List RootEntry) (ty : StorageType) (r : RawValue) (x : Stored) → AreWords h entries → raw_form r ≡ storage_form ty → KeptAs entries r x → OfForm h (storage_form ty) x
+kept_of_form h entries ty r x words form is = subst (λ (f : Form). OfForm h f x) form (kept_form h entries r x words is)
+
+-- a form is as wide as the value types that have it
+top_width : (t : HeapTopType) → form_width (top_form t) ≡ 4
+top_width top.Any = refl
+top_width top.Extern = refl
+top_width top.Func = refl
+top_width top.Exn = refl
+top_width top.Cont = refl
+
+storage_form_width : (ty : StorageType) → form_width (storage_form ty) ≡ value_width (unpacked ty)
+storage_form_width storage.I8 = refl
+storage_form_width storage.I16 = refl
+storage_form_width (storage.ValType val.I32) = refl
+storage_form_width (storage.ValType val.I64) = refl
+storage_form_width (storage.ValType val.F32) = refl
+storage_form_width (storage.ValType val.F64) = refl
+storage_form_width (storage.ValType val.V128) = refl
+storage_form_width (storage.ValType (val.Ref ty)) = top_width (heap_top ty.heap_type)
+
+-- The low bytes of what is kept are those of the value that a slot keeps.
+pub kept_encoded : (names : Names) (entries : List RootEntry) (ty : StorageType) (r : RawValue) (w : Value) (x : Stored) → StoredStands names entries ty r w → KeptAs entries r x → FitsForm (raw_form r) (code_of x)
+    → IsEncodedAs names ty w (slot_bytes ty (code_of x))
+kept_encoded names entries ty r w x stands is small =
+    let width : form_width (raw_form r) ≡ value_width (unpacked ty) = ap form_width stands.raw_form_is ∙ storage_form_width ty in
+    subst (λ (v : Value). IsEncodedAs names ty v (slot_bytes ty (code_of x))) (sym stands.stored_is)
+    (stored_encoded names ty stands.value (code_of x) stands.form (stands.stands x is small) (subst (λ (n : ℕ). code_of x < 256 ^ n) width small))
+
+-- no more slots than bytes
+spaced_count : (from to : ℕ) (slots : List StorageSlot) → AreSpaced from slots to → from + length slots ≤ to
+spaced_count from to [] spaced = omega (arith, spaced)
+spaced_count from to (s ∷ slots) spaced =
+    let rest = spaced_count (slot_end s) to slots spaced.1 in
+    let wide = storage_width_positive s.storage in
+    omega (arith, spaced.0, rest, wide)
+
+-- The first k values are written.
+pub record FillsTo {D : Type 0} (layouts : Layouts) (raws : List RawValue) (old new : OwnerView D) (place : ℕ) (before : HeapObject) (shape : Shape) (count k : ℕ) : Type 0 where
+  pub bytes : List ℕ
+  pub rewrites : Rewrites layouts shape old new place before bytes
+  pub lie : (names : Names) (values : List Value) → EachStands raws names old.roots.scoped (shape_slots layouts shape count) values
+      → LieUpTo names (struct_base layouts) (shape_slots layouts shape count) values bytes k
+
+module _ {D : Type 0} (layouts : Layouts) (raws : List RawValue) (old : OwnerView D) (place ty : ℕ) (before : HeapObject) (shape : Shape) (count : ℕ) (f : IsToFill layouts old place ty (EachFits raws) before shape count) where
+  abbrev base : ℕ
+  base = struct_base layouts
+
+  abbrev slots : List StorageSlot
+  slots = shape_slots layouts shape count
+
+  same_count : (names : Names) (values : List Value) → EachStands raws names old.roots.scoped slots values → length values ≡ length slots
+  same_count names values all = sym all.same_count ∙ f.fit.same_count
+
+  pub fills-none : FillsTo layouts raws old old place before shape count 0
+  fills-none = record {
+    bytes = before.bytes;
+    rewrites = rewrites-nothing layouts shape old place before f.is.held;
+    lie = λ names values all. lie_up_to-none names base slots values before.bytes (same_count names values all);
+  }
+
+  module _ (new : OwnerView D) (k : ℕ) (r : RawValue) (r_is : slice_get raws k ≡ Some r) (w : FillsTo layouts raws old new place before shape count k) (heap : IsHeap layouts new.heap) (can : CanBegin layouts new) where
+    -- the slot at the index
+    abbrev pub slot_here : (s : StorageSlot) × (slice_get slots k ≡ Some s)
+    slot_here = slice_get-same_length raws slots k r f.fit.same_count r_is
+
+    abbrev now : HeapObject
+    now = record before { bytes = w.bytes }
+
+    held_now : IsHeldOf new.types.declarations new.heap place now shape count
+    held_now = held_again layouts shape old place before f.is.held new count w.bytes f.is w.rewrites
+
+    same_scoped : new.roots.scoped ≡ old.roots.scoped
+    same_scoped = ap (λ (v : OwnerView D). v.roots.scoped) w.rewrites.rest
+
+    reach : shape_size layouts shape count ≤ base + length w.bytes
+    reach = bytes_reach layouts new.types.declarations new.heap place now shape count held_now (can.traced place now held_now.held)
+
+    declared_here : shape_at new.types.declarations ty ≡ Some shape
+    declared_here = subst (λ (t : ℕ). shape_at new.types.declarations t ≡ Some shape) f.of_type held_now.declared
+
+    -- the type table has it, below 2 ^ 32
+    pub has_slot : HasSlot layouts new.types.declarations ty k
+    has_slot = record {
+      shape = shape;
+      declared = declared_here;
+      count = count;
+      slot = slot_here.0;
+      slot_is = slot_here.1;
+      small = (
+        let range = slot_lies layouts new.types.declarations new.heap place now shape count held_now (can.traced place now held_now.held) k slot_here.0 slot_here.1 in
+        let end = held_small layouts new.heap place now heap held_now.held in
+        omega (arith, range.high, reach, end, held_size_is layouts now shape count held_now.has));
+    }
+
+    pub small_index : k < 2 ^ 32
+    small_index =
+        let below = slice_get_within slots k slot_here.0 slot_here.1 in
+        let count_is = spaced_count (shape_first layouts shape) (shape_size layouts shape count) slots (shape_spaced layouts shape count) in
+        let end = held_small layouts new.heap place now heap held_now.held in
+        omega (arith, below, count_is, reach, end, held_size_is layouts now shape count held_now.has)
+
+    pub is_kept : IsKept new.roots.scoped r
+    is_kept = subst (λ (es : List RootEntry). IsKept es r) (sym same_scoped) (f.fit.kept k r r_is)
+
+    -- what the type table finds is that slot
+    pub slot_found : (found : Slot) → FindsSlot layouts new.types.declarations ty k found → storage_slot found ≡ slot_here.0
+    slot_found found finds = finds shape count slot_here.0 declared_here slot_here.1
+
+    module _ (x : Stored) (x_is : KeptAs new.roots.scoped r x) where
+      pub can_write : CanWriteSlot layouts new place slot_here.0 x
+      can_write = record {
+        object = now;
+        shape = shape;
+        count = count;
+        is = held_now;
+        index = k;
+        slot_is = slot_here.1;
+        of_form = kept_of_form new.heap new.roots.scoped slot_here.0.storage r x (are_words layouts new can) (f.fit.forms k slot_here.0 r slot_here.1 r_is) x_is;
+      }
+
+      -- one more value was written
+      pub fills-more : FitsForm (raw_form r) (code_of x) → (after : OwnerView D) → WritesAt layouts new after place slot_here.0.offset (slot_bytes slot_here.0.storage (code_of x)) → FillsTo layouts raws old after place before shape count (k + 1)
+      fills-more small after did =
+          let s : StorageSlot = slot_here.0 in
+          let ws : List ℕ = slot_bytes s.storage (code_of x) in
+          let above = first_above layouts now shape count held_now.has in
+          let range = slot_lies layouts new.types.declarations new.heap place now shape count held_now (can.traced place now held_now.held) k s slot_here.1 in
+          let wide = length-low 0 (storage_width s.storage) (code_of x) in
+          record {
+            bytes = put_bytes w.bytes (s.offset - base) ws;
+            rewrites = rewrites-more layouts shape old place before f.is.held new after w.bytes s.offset ws above range.low (omega (arith, range.low, range.high, above, reach, wide)) w.rewrites did;
+            lie = λ names values all.
+                let v = slice_get-same_length raws values k r all.same_count r_is in
+                let stands = all.each k s r v.0 slot_here.1 r_is v.1 in
+                lie_up_to-step names base (shape_first layouts shape) (shape_size layouts shape count) slots above (shape_spaced layouts shape count) values w.bytes k s v.0 ws (w.lie names values all) slot_here.1 v.1
+                (kept_encoded names old.roots.scoped s.storage r v.0 x stands (subst (λ (es : List RootEntry). KeptAs es r x) same_scoped x_is) small) reach;
+          }
+
+  -- all values are written
+  pub fills-all : (new : OwnerView D) (k : ℕ) → k ≡ length raws → FillsTo layouts raws old new place before shape count k → Fills layouts (EachStands raws) old new place before shape count
+  fills-all new k all w = record {
+    bytes = w.bytes;
+    rewrites = w.rewrites;
+    lie = λ names values stands. lie_up_to-all names base slots values w.bytes k (all ∙ f.fit.same_count) (w.lie names values stands);
+  }

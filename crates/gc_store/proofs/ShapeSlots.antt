@@ -1,0 +1,104 @@
+-- Where the type table finds the slot of a value.
+use Rattle.std.proofs.Common.{◌≡◌, ℕ, ◌+◌, ◌*◌, ◌<◌, List, Option, Some, None, Bor, map, refl, sym, ap, ◌∙◌, subst, arith}
+use Rattle.std.specs.Prelude.{IsSome, option_map}
+use Rattle.std.specs.List.{slice_get}
+use Rattle.std.specs.Option.{option_copied, option_and_then}
+use Rattle.std.proofs.lemmas.Option.{none-some, same_Some, slice_get_within}
+use Rattle.gc_types.specs.declared.value.FieldType.{FieldType}
+use Rattle.gc_types.specs.declared.kind.Layouts.{Layouts}
+use Rattle.gc_types.specs.declared.layout.FieldLayout.{FieldLayout}
+use Rattle.gc_types.specs.declared.layout.GcStructLayout.{GcStructLayout}
+use Rattle.gc_types.specs.Declarations.{Shape, struct_of, array_of, exn_of, func_of, Declaration, constant_field, shape_fields, declaration_fields, fields_at, elem_at}
+use Rattle.gc_types.specs.Layouts.{struct_base, exception_base, field_layouts, struct_layout, exn_layout, shape_layout, declaration_layout, layout_at}
+use Rattle.gc_view.specs.Slots.{StorageSlot, field_slots, element_slots, elements_from, shape_slots}
+use Rattle.gc_view.proofs.Layouts.{length-field_layouts}
+use Rattle.gc_view.proofs.SlotLemmas.{length-element_slots}
+use Rattle.gc_model.proofs.Lists.{slice_get-same_length}
+use Rattle.gc_model.proofs.ObjectShapes.{shape_at, array_shape, element_is, element_slot, element_slot_at, field_of_slot, field_slot, slot_of}
+
+-- a look-up that copies something found it
+pub copied_some : {X : Type 0} (found : Option (Bor X)) (x : X) → option_copied found ≡ Some x → IsSome found
+copied_some None x e = absurd (none-some x e)
+copied_some (Some b) x e = refl
+
+pub copied_value : {X : Type 0} (found : Option (Bor X)) (b : Bor X) (x : X) → option_copied found ≡ Some x → found ≡ Some b → b.now ≡ x
+copied_value {X} found b x e is = same_Some b.now x (ap (option_copied {T = X}) (sym is) ∙ e)
+
+-- what equals something is present
+pub is_some_from : {X : Type 0} (o : Option X) (x : X) → o ≡ Some x → IsSome o
+is_some_from o x e = subst IsSome (sym e) refl
+
+-- The slot of a field, by its type and its layout.
+pub record FieldPlaced (base : ℕ) (fields : List FieldType) (index : ℕ) (slot : StorageSlot) : Type 0 where
+  pub field : FieldType
+  pub field_is : slice_get fields index ≡ Some field
+  pub layout : FieldLayout
+  pub layout_is : slice_get (field_layouts base fields) index ≡ Some layout
+  pub slot_is : slot_of field layout ≡ slot
+
+field_placed : (base : ℕ) (fields : List FieldType) (index : ℕ) (slot : StorageSlot) → slice_get (field_slots base fields) index ≡ Some slot → FieldPlaced base fields index slot
+field_placed base fields index slot e =
+    let found = field_of_slot base fields index slot e in
+    let layout = slice_get-same_length fields (field_layouts base fields) index found.field (sym (length-field_layouts base fields)) found.field_is in
+    record {
+      field = found.field;
+      field_is = found.field_is;
+      layout = layout.0;
+      layout_is = layout.1;
+      slot_is = same_Some (slot_of found.field layout.0) slot (sym (field_slot base fields index found.field layout.0 found.field_is layout.1) ∙ e);
+    }
+
+-- The fields of a struct or an exception, and the slot of one.
+pub record FieldsFound (layouts : Layouts) (types : List Declaration) (ty index : ℕ) (slot : StorageSlot) : Type 0 where
+  pub base : ℕ
+  pub fields : List FieldType
+  pub fields_are : fields_at types ty ≡ Some fields
+  pub layout : GcStructLayout
+  pub layout_is : layout_at layouts types ty ≡ Some layout
+  pub layouts_are : layout.fields ≡ field_layouts base fields
+  pub placed : FieldPlaced base fields index slot
+
+laid_out : (layouts : Layouts) (d : Option Declaration) (shape : Shape) → option_map (λ (x : Declaration). x.shape) d ≡ Some shape → declaration_layout layouts d ≡ shape_layout layouts shape
+laid_out layouts None shape e = absurd (none-some shape e)
+laid_out layouts (Some d) shape e = ap (shape_layout layouts) (same_Some d.shape shape e)
+
+listed : (d : Option Declaration) (shape : Shape) → option_map (λ (x : Declaration). x.shape) d ≡ Some shape → declaration_fields d ≡ shape_fields shape
+listed None shape e = absurd (none-some shape e)
+listed (Some d) shape e = ap shape_fields (same_Some d.shape shape e)
+
+pub fields_found : (layouts : Layouts) (types : List Declaration) (ty index : ℕ) → elem_at types ty ≡ None → (shape : Shape) (count : ℕ) (slot : StorageSlot) → shape_at types ty ≡ Some shape
+    → slice_get (shape_slots layouts shape count) index ≡ Some slot → FieldsFound layouts types ty index slot
+fields_found layouts types ty index no_array (struct_of fields) count slot declared e = record {
+  base = struct_base layouts;
+  fields = fields;
+  fields_are = listed (slice_get types ty) (struct_of fields) declared;
+  layout = struct_layout layouts fields;
+  layout_is = laid_out layouts (slice_get types ty) (struct_of fields) declared;
+  layouts_are = refl;
+  placed = field_placed (struct_base layouts) fields index slot e;
+}
+fields_found layouts types ty index no_array (array_of element) count slot declared e = absurd (none-some element (sym no_array ∙ element_is types ty (array_of element) declared))
+fields_found layouts types ty index no_array (exn_of params) count slot declared e = record {
+  base = exception_base layouts;
+  fields = map constant_field params;
+  fields_are = listed (slice_get types ty) (exn_of params) declared;
+  layout = exn_layout layouts params;
+  layout_is = laid_out layouts (slice_get types ty) (exn_of params) declared;
+  layouts_are = refl;
+  placed = field_placed (exception_base layouts) (map constant_field params) index slot e;
+}
+fields_found layouts types ty index no_array (func_of params results) count slot declared e = absurd (none-some slot e)
+
+-- the slot of an element
+element_placed : (layouts : Layouts) (element : FieldType) (n index : ℕ) (slot : StorageSlot) → slice_get (element_slots element.element_type n (elements_from layouts element)) index ≡ Some slot → element_slot layouts element index ≡ slot
+element_placed layouts element n index slot e =
+    let slots : List StorageSlot = element_slots element.element_type n (elements_from layouts element) in
+    let within = slice_get_within slots index slot e in
+    let count = length-element_slots element.element_type n (elements_from layouts element) in
+    same_Some (element_slot layouts element index) slot (sym (element_slot_at element.element_type n (elements_from layouts element) index (omega (arith, within, count))) ∙ e)
+
+pub element_found : (layouts : Layouts) (types : List Declaration) (ty index : ℕ) (element : FieldType) → elem_at types ty ≡ Some element → (shape : Shape) (count : ℕ) (slot : StorageSlot) → shape_at types ty ≡ Some shape
+    → slice_get (shape_slots layouts shape count) index ≡ Some slot → element_slot layouts element index ≡ slot
+element_found layouts types ty index element is shape count slot declared e =
+    let same : shape ≡ array_of element = same_Some shape (array_of element) (sym declared ∙ array_shape types ty element is) in
+    element_placed layouts element count index slot (ap (λ (s : Shape). slice_get (shape_slots layouts s count) index) (sym same) ∙ e)
