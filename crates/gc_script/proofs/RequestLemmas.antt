@@ -62,6 +62,6 @@ large_by Copying size many = grind (arith, nat_tests, many)
 
 pub many_refused : (layouts : Layouts) (s : State) (t : ℕ) (values : List Value) (element : FieldType) → elem_at s.table.types t ≡ Some element → 2 ^ 32 ≤ length values → first_failing (heap_tests layouts s (array t values)) ≡ Some refusal.TooLarge
 many_refused layouts s t values element declared many =
-    stops (too_large layouts (object_size layouts s.table.types (array t values))) refusal.TooLarge ((roots_full s.table, refusal.RootsFull) ∷ [])
+    stops (too_large layouts (object_size {D = ℕ} layouts s.table.types (array t values))) refusal.TooLarge ((roots_full s.table, refusal.RootsFull) ∷ [])
     (ap (λ (e : Option FieldType). too_large layouts (elements_size layouts e (length values))) declared
     ∙ large_by layouts (elements_size layouts (Some element) (length values)) (many_bytes layouts element (length values) many))
