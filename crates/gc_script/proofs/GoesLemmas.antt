@@ -10,7 +10,7 @@ use Rattle.gc_model.specs.Stores.{StoreView}
 use Rattle.gc_policy.specs.Policy as policy
 use Rattle.gc_store.specs.Requests.{fields_of}
 use Rattle.gc_commands.specs.declared.command.Command.{Command}
-use Rattle.gc_commands.specs.declared.command.Command.TheVariants.{Bad, Struct, Array, New, NewArr, Fixed, ReadBytes, I31, Field, Elem, Len, SetField, SetElem, Eq, Enter, Leave, Push, Pop, Store, Load, SetGlobal, GetGlobal, Cap}
+use Rattle.gc_commands.specs.declared.command.Command.TheVariants.{Bad, Struct, Array, New, NewArr, Fixed, NewBytes, ReadBytes, I31, Field, Elem, Len, SetField, SetElem, Eq, Enter, Leave, Push, Pop, Store, Load, SetGlobal, GetGlobal, Gc, Grow, Cap}
 use Rattle.gc_commands.specs.declared.command.Operand.{Operand}
 use Rattle.gc_commands.specs.declared.reply.Reply.{Reply}
 use Rattle.gc_commands.specs.declared.reply.Reply.TheVariants as reply
@@ -169,3 +169,32 @@ asks_none c e = absurd (cc e)
 -- a command that is known goes as it does
 pub goes_as : (layouts : Layouts) (s : State) (c known : Command) (result : Result Reply RunError) (new : StoreView ℕ) (runner : RunnerView) → c ≡ known → GoesOn layouts s known result new runner → GoesOn layouts s c result new runner
 goes_as layouts s c known result new runner is goes = subst (λ (x : Command). GoesOn layouts s x result new runner) (sym is) goes
+
+-- the other commands that are built make, collect or grow
+pub others_ask : (c : Command) → is_built c ≡ true → ((d t : ℕ) (vs : List Operand) → ¬ (c ≡ New d t vs)) → ((d t n : ℕ) (v : Operand) → ¬ (c ≡ NewArr d t n v)) → ((d t : ℕ) (vs : List Operand) → ¬ (c ≡ Fixed d t vs)) → ((d t : ℕ) (bytes : List ℕ) → ¬ (c ≡ NewBytes d t bytes)) → ¬ (c ≡ Gc) → ((n : ℕ) → ¬ (c ≡ Grow n)) → asks_nothing c ≡ true
+others_ask (Struct is_final supertype fs) built s a f b g p = refl
+others_ask (Array is_final supertype element) built s a f b g p = refl
+others_ask (New d t vs) built s a f b g p = absurd (s d t vs refl)
+others_ask (NewArr d t n v) built s a f b g p = absurd (a d t n v refl)
+others_ask (Fixed d t vs) built s a f b g p = absurd (f d t vs refl)
+others_ask (NewBytes d t bytes) built s a f b g p = absurd (b d t bytes refl)
+others_ask (ReadBytes r n) built s a f b g p = refl
+others_ask (I31 d n) built s a f b g p = refl
+others_ask (Field r i into) built s a f b g p = refl
+others_ask (Elem r i into) built s a f b g p = refl
+others_ask (Len r) built s a f b g p = refl
+others_ask (SetField r i v) built s a f b g p = refl
+others_ask (SetElem r i v) built s a f b g p = refl
+others_ask (Eq r q) built s a f b g p = refl
+others_ask Enter built s a f b g p = refl
+others_ask Leave built s a f b g p = refl
+others_ask (Push k) built s a f b g p = refl
+others_ask Pop built s a f b g p = refl
+others_ask (Store k r) built s a f b g p = refl
+others_ask (Load k d) built s a f b g p = refl
+others_ask (SetGlobal k r) built s a f b g p = refl
+others_ask (GetGlobal k d) built s a f b g p = refl
+others_ask Gc built s a f b g p = absurd (g refl)
+others_ask (Grow n) built s a f b g p = absurd (p n refl)
+others_ask Cap built s a f b g p = refl
+others_ask c built s a f b g p = absurd (cc built)

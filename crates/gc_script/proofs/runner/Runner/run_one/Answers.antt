@@ -1,10 +1,9 @@
-use Rattle.std.proofs.Common.{sym, ◌∙◌, subst, List}
+use Rattle.std.proofs.Common.{◌≡◌, true, sym, ◌∙◌, subst}
 use Rattle.std.specs.Prelude.{Ok}
 use Rattle.gc_commands.specs.declared.command.Command.{Command}
-use Rattle.gc_commands.specs.declared.command.Command.TheVariants as command
-use Rattle.gc_commands.specs.declared.command.FieldWord.{FieldWord}
-use Rattle.gc_script.specs.Run.{GoesOn, RunsOne}
-use Rattle.gc_script.proofs.GoesLemmas.{unbuilt_runs}
+use Rattle.gc_script.specs.Run.{RunsOne, asks_nothing}
+use Rattle.gc_script.specs.Built.{is_built}
+use Rattle.gc_script.proofs.GoesLemmas.{unbuilt_runs, goes_runs, asks_none, others_ask}
 use Rattle.gc_script.proofs.runner.Runner.run_one.Goals as goal
 
 pub returns-then-not-is_built-clause-runs : goal.returns-then-not-is_built-clause-runs
@@ -15,3 +14,17 @@ pub returns-in-Gc-clause-runs : goal.returns-in-Gc-clause-runs
 returns-in-Gc-clause-runs g c s holds =
     subst (λ (x : Command). RunsOne g.H.GcHeap.KIND c.args.store.now.alloc_counter (g.L.ResourceLimiter.limits c.args.limiter.now) (g.L.ResourceLimiter.limits c.args.limiter.now) s x (Ok c.collect.result) c.collect.new.store c.args.self.now) (sym c.in-Gc.is)
     (c.collect.ensures.runs (g.L.ResourceLimiter.limits c.args.limiter.now) s holds)
+
+pub returns-in_default : goal.returns-in_default
+returns-in_default g c =
+    let built : is_built c.args.command.now ≡ true = sym c.is_built.ensures ∙ c.if-not-is_built.false in
+    let asks : asks_nothing c.args.command.now ≡ true =
+        others_ask c.args.command.now built (λ d t vs. c.in_default.not-New d t vs) (λ d t n v. c.in_default.not-NewArr d t n v) (λ d t vs. c.in_default.not-Fixed d t vs)
+        (λ d t bytes. c.in_default.not-NewBytes d t bytes) c.in_default.not-Gc (λ n. c.in_default.not-Grow n) in
+    record {
+      runs = λ s holds. goes_runs g.H.GcHeap.KIND c.args.store.now.alloc_counter (g.L.ResourceLimiter.limits c.args.limiter.now) s c.args.command.now c.run_unasking.result c.run_unasking.new.store c.run_unasking.new.self
+          (asks_none c.args.command.now asks) (c.run_unasking.ensures.goes s holds);
+      memory = c.run_unasking.ensures.memory;
+      kept = λ is. absurd (c.in_default.not-Gc is);
+      same = c.run_unasking.ensures.same;
+    }
