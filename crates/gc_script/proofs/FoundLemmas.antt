@@ -1,5 +1,5 @@
 -- What a value that a register holds names, in a state.
-use Rattle.std.proofs.Common.{◌≡◌, ℕ, List, [], ◌∷◌, Option, Some, None, Bool, true, false, not, refl, sym, ap, ◌∙◌, subst, arith}
+use Rattle.std.proofs.Common.{◌≡◌, ℕ, [], ◌∷◌, Option, Some, None, Bool, true, false, not, refl, sym, ap, ◌∙◌, subst, arith}
 use Rattle.std.proofs.lemmas.Option.{none-some}
 use Rattle.gc_types.specs.declared.kind.Layouts.{Layouts}
 use Rattle.gc_owner.specs.declared.entry.GcClass.{GcClass}
@@ -19,7 +19,7 @@ use Rattle.gc_store.specs.Values.{RawStands}
 use Rattle.gc_script.specs.declared.objects.NamedObject.{NamedObject}
 use Rattle.gc_script.specs.declared.objects.Wanted.{Wanted}
 use Rattle.gc_script.specs.State.{State, Held, number, reference, Stands}
-use Rattle.gc_script.specs.Given.{Given, unset, gone, is, given_register, given_held, given_value, value_named, named, Target, target, reference_target, object_target, names_kind, is_gone}
+use Rattle.gc_script.specs.Given.{Given, unset, gone, is, given_register, given_held, given_value, value_named, named, target, reference_target, object_target, names_kind, is_gone}
 use Rattle.gc_script.specs.Steps.{first_failing, target_tests}
 use Rattle.gc_script.specs.Values.{raw_handle, IsFound}
 use Rattle.gc_script.specs.Named.{wants, TellsObject, FoundObject}

@@ -1,6 +1,6 @@
 -- Frames that are opened and closed, and the slots and globals that commands set and read.
-use Rattle.std.proofs.Common.{inl, inr, ◌≡◌, ℕ, ◌<◌, [], ◌∷◌, List, Option, Some, None, Bool, true, false, length, sym, ap, ◌∙◌, refl, arith}
-use Rattle.std.specs.Prelude.{Result, Ok, Err, ◌==◌}
+use Rattle.std.proofs.Common.{inl, inr, ◌≡◌, ℕ, ◌<◌, [], Option, Some, None, true, false, length, ap, refl, arith}
+use Rattle.std.specs.Prelude.{Result, Ok, ◌==◌}
 use Rattle.std.proofs.lemmas.Bool.{eq-eqb, ne_eqb}
 use Rattle.std.proofs.lemmas.Option.{slice_get_cases}
 use Rattle.gc_types.specs.declared.kind.Layouts.{Layouts}

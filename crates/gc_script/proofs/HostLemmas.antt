@@ -1,5 +1,5 @@
 -- No object that a collection keeps is a host object.
-use Rattle.std.proofs.Common.{◌≡◌, ℕ, [], refl, arith}
+use Rattle.std.proofs.Common.{ℕ, [], refl, arith}
 use Rattle.std.specs.Prelude.{nat_eq}
 use Rattle.std.specs.List.{slice_get, IsDistinct}
 use Rattle.gc_types.specs.declared.kind.Layouts.{Layouts}

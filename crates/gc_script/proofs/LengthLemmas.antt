@@ -1,7 +1,6 @@
 -- The length and the bytes of an array that a register names.
-use Rattle.std.proofs.Common.{◌≡◌, ◌≢◌, ℕ, ◌==◌, List, [], ◌∷◌, ◌++◌, length, map, take, drop, Option, Some, None, Bool, true, false, not, sym, ap, ◌∙◌, refl, subst, arith}
+use Rattle.std.proofs.Common.{◌≡◌, ◌≢◌, ℕ, ◌==◌, List, [], ◌∷◌, ◌++◌, length, map, take, drop, Option, Some, None, Bool, true, false, not, sym, ap, ◌∙◌, refl, arith}
 use Rattle.std.specs.Prelude.{Ok}
-use Rattle.std.specs.List.{slice_get}
 use Rattle.std.proofs.lemmas.Bool.Decides.{nat_tests}
 use Rattle.std.proofs.lemmas.List.{append-nil, drop_all, take_all}
 use Rattle.gc_types.specs.declared.kind.Layouts.{Layouts}
@@ -9,12 +8,11 @@ use Rattle.gc_types.specs.declared.value.FieldType.{FieldType}
 use Rattle.gc_types.specs.declared.value.StorageType.{StorageType}
 use Rattle.gc_types.specs.declared.value.StorageType.TheVariants as storage
 use Rattle.gc_types.specs.Declarations.{Declaration, elem_at}
-use Rattle.gc_model.specs.Values.{Value, numeric, i32, Object, struct, array, host, exception}
+use Rattle.gc_model.specs.Values.{Object, struct, array, host, exception}
 use Rattle.gc_model.specs.Reach.{object_values}
 use Rattle.gc_model.specs.Stored.{byte_value, value_type}
 use Rattle.gc_model.specs.Table.{Table}
 use Rattle.gc_model.specs.Stores.{StoreView}
-use Rattle.gc_model.specs.Holds.{HoldsTable}
 use Rattle.gc_commands.specs.declared.command.Command.TheVariants as command
 use Rattle.gc_commands.specs.declared.reply.Reply.TheVariants as reply
 use Rattle.gc_commands.specs.declared.reply.Refusal.{Refusal}
@@ -24,11 +22,11 @@ use Rattle.gc_script.specs.declared.objects.NamedObject.{NamedObject}
 use Rattle.gc_script.specs.declared.objects.Wanted.TheVariants as wanted
 use Rattle.gc_script.specs.Slots.{RunnerView}
 use Rattle.gc_script.specs.State.{State, HoldsState}
-use Rattle.gc_script.specs.Given.{given_register, is_unset, Target, target, target_values, field_of, is_array, is_byte, holds_bytes}
+use Rattle.gc_script.specs.Given.{given_register, is_unset, target, target_values, field_of, is_array, is_byte, holds_bytes}
 use Rattle.gc_script.specs.Shapes.{byte_of, shape}
 use Rattle.gc_script.specs.Steps.{first_failing, tests, target_tests}
 use Rattle.gc_script.specs.Run.{GoesOn}
-use Rattle.gc_script.specs.Named.{wants, type_at, IsNamed, NamesObject, FoundObject}
+use Rattle.gc_script.specs.Named.{type_at, IsNamed, NamesObject, FoundObject}
 use Rattle.gc_script.proofs.StandLemmas.{holds_table}
 use Rattle.gc_script.proofs.TestLemmas.{passes, stops, passes_all, stops_all, answers_by, refuses}
 use Rattle.gc_script.proofs.ValueReads.{found_values}

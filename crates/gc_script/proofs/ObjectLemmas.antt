@@ -1,7 +1,7 @@
 -- The objects that registers name, by what a store says of their roots.
-use Rattle.std.proofs.Common.{◌≡◌, ℕ, List, length, Bool, true, false, Option, Some, None, refl, sym, ap, ◌∙◌, subst, map, arith}
+use Rattle.std.proofs.Common.{◌≡◌, ℕ, List, length, true, false, Option, Some, None, refl, sym, ap, ◌∙◌, subst, map, arith}
 use Rattle.std.specs.List.{slice_get}
-use Rattle.std.specs.Prelude.{IfSome, [], ◌∷◌, unwrap_or}
+use Rattle.std.specs.Prelude.{IfSome, unwrap_or}
 use Rattle.std.specs.Option.{option_map, option_and_then}
 use Rattle.std.proofs.lemmas.Option.{none-some}
 use Rattle.gc_types.specs.declared.kind.Layouts.{Layouts}
@@ -13,7 +13,7 @@ use Rattle.gc_view.specs.Heaps.{HeapObject}
 use Rattle.gc_view.specs.Slots.{shape_slots}
 use Rattle.gc_view.proofs.SlotLemmas.{length-field_slots}
 use Rattle.gc_model.specs.Values.{Reference, null, small, at, Value, Object, struct, array, host, exception}
-use Rattle.gc_model.specs.Reach.{IsHost, object_values}
+use Rattle.gc_model.specs.Reach.{IsHost}
 use Rattle.gc_model.specs.Table.{Table}
 use Rattle.gc_model.specs.Stores.{StoreView}
 use Rattle.gc_model.specs.Holds.{HoldsTable, naming, Stands}
@@ -28,8 +28,8 @@ use Rattle.gc_script.specs.declared.objects.NamedObject.{NamedObject}
 use Rattle.gc_script.specs.declared.objects.ValueTypes.TheVariants as types_of
 use Rattle.gc_script.specs.declared.objects.Wanted.{Wanted}
 use Rattle.gc_script.specs.declared.objects.Wanted.TheVariants as wanted
-use Rattle.gc_script.specs.Given.{object_target, names_kind, is_struct, is_array, has_fields}
-use Rattle.gc_script.specs.Named.{wants, takes, count_of_fields, type_at, with_fields, with_elements, described, NamesObject, IsNamed, TellsObject}
+use Rattle.gc_script.specs.Given.{object_target, names_kind}
+use Rattle.gc_script.specs.Named.{wants, takes, count_of_fields, type_at, with_fields, with_elements, described, IsNamed, TellsObject}
 
 -- the fields of a type, by its shape
 fields_are : (d : Option Declaration) (shape : Shape) → option_map (λ (x : Declaration). x.shape) d ≡ Some shape → declaration_fields d ≡ shape_fields shape

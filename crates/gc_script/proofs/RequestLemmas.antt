@@ -1,17 +1,14 @@
 -- What is requested of a store by the commands that make objects.
-use Rattle.std.proofs.Common.{◌≡◌, ℕ, ◌+◌, ◌*◌, ◌<◌, ◌≤◌, ◌^◌, List, [], ◌∷◌, length, map, Option, Some, None, Bool, true, false, sym, ap, ◌∙◌, refl, subst, arith}
+use Rattle.std.proofs.Common.{◌≡◌, ℕ, ◌*◌, ◌≤◌, ◌^◌, List, [], ◌∷◌, length, Option, Some, true, ap, ◌∙◌, subst, arith}
 use Rattle.std.specs.List.{slice_get}
-use Rattle.std.specs.Prelude.{nat_le}
 use Rattle.std.specs.Option.{option_and_then}
 use Rattle.std.proofs.Math.Nat.{mul-le-mul_left}
 use Rattle.std.proofs.lemmas.Bool.Decides.{nat_tests}
-use Rattle.std.proofs.lemmas.List.{length-map}
 use Rattle.gc_types.specs.declared.kind.Layouts.{Layouts}
 use Rattle.gc_types.specs.declared.kind.Layouts.TheVariants.{Null, Counting, Copying}
 use Rattle.gc_types.specs.declared.value.FieldType.{FieldType}
-use Rattle.gc_types.specs.declared.value.StorageType.{StorageType}
-use Rattle.gc_types.specs.Declarations.{Declaration, struct_fields_at, elem_at}
-use Rattle.gc_types.specs.Layouts.{storage_width, array_base, round_up}
+use Rattle.gc_types.specs.Declarations.{struct_fields_at, elem_at}
+use Rattle.gc_types.specs.Layouts.{storage_width}
 use Rattle.gc_view.specs.Sizes.{too_large}
 use Rattle.gc_view.proofs.Layouts.{storage_width_positive}
 use Rattle.gc_model.specs.Sizes.{object_size, elements_size}
@@ -20,7 +17,6 @@ use Rattle.gc_model.specs.Live.{roots_full}
 use Rattle.gc_model.specs.Stores.{StoreView}
 use Rattle.gc_commands.specs.declared.reply.Refusal.TheVariants as refusal
 use Rattle.gc_store.specs.declared.root.RawValue.{RawValue}
-use Rattle.gc_store.specs.Values.{CanStore}
 use Rattle.gc_store.specs.Requests.{CanPlaceStruct, CanPlaceElements}
 use Rattle.gc_script.specs.declared.objects.ValueTypes.TheVariants as types_of
 use Rattle.gc_script.specs.State.{State}

@@ -1,5 +1,5 @@
 -- Slots, of frames and globals, that are set to what a register gives, and read into one.
-use Rattle.std.proofs.Common.{◌≡◌, ℕ, ◌&&◌, List, [], ◌∷◌, Option, Some, None, Bool, true, false, not, sym, ap, ◌∙◌, refl, subst}
+use Rattle.std.proofs.Common.{◌≡◌, ℕ, ◌&&◌, List, [], Option, Some, None, Bool, true, false, not, sym, ap, ◌∙◌, refl}
 use Rattle.std.specs.Prelude.{Ok, Err, unwrap_or}
 use Rattle.std.specs.List.{slice_get}
 use Rattle.std.proofs.lemmas.Option.{none-some}
@@ -31,7 +31,7 @@ use Rattle.gc_script.specs.State.{State, HoldsState, with_table, visible, over}
 use Rattle.gc_script.specs.Given.{Given, is, given_register, given_value, is_reference}
 use Rattle.gc_script.specs.Shapes.{Shape, plain, reads, slot_of}
 use Rattle.gc_script.specs.Steps.{first_failing, setting_tests, getting_tests}
-use Rattle.gc_script.specs.Run.{Goes, GoesBy}
+use Rattle.gc_script.specs.Run.{GoesBy}
 use Rattle.gc_script.specs.Named.{register_with}
 use Rattle.gc_script.specs.Values.{raw_slot, IsFound, ShowsRead, reference_tests, FoundReference}
 use Rattle.gc_script.proofs.ReadLemmas.{read_goes}

@@ -1,6 +1,6 @@
 -- Reading a field or an element of an object that a register names.
-use Rattle.std.proofs.Common.{◌≡◌, ℕ, ◌&&◌, ◌<◌, ◌≤◌, length, List, [], ◌∷◌, ◌++◌, Option, Some, Bool, true, false, sym, ap, ◌∙◌, refl, arith}
-use Rattle.std.specs.Prelude.{Ok, unwrap_or, nat_le}
+use Rattle.std.proofs.Common.{◌≡◌, ℕ, ◌&&◌, ◌<◌, ◌≤◌, length, List, [], ◌∷◌, ◌++◌, Option, Some, Bool, true, false, ap, ◌∙◌, refl, arith}
+use Rattle.std.specs.Prelude.{Ok, unwrap_or}
 use Rattle.std.specs.List.{slice_get}
 use Rattle.std.proofs.lemmas.Bool.Decides.{nat_tests}
 use Rattle.gc_types.specs.declared.kind.Layouts.{Layouts}
@@ -25,10 +25,10 @@ use Rattle.gc_script.specs.declared.objects.NamedObject.{NamedObject}
 use Rattle.gc_script.specs.declared.objects.Wanted.{Wanted}
 use Rattle.gc_script.specs.Slots.{RunnerView, register_at}
 use Rattle.gc_script.specs.State.{State, HoldsState}
-use Rattle.gc_script.specs.Given.{given_register, is_unset, Target, target, target_values}
+use Rattle.gc_script.specs.Given.{given_register, is_unset, target, target_values}
 use Rattle.gc_script.specs.Shapes.{Shape, plain, reads_value, value_in}
 use Rattle.gc_script.specs.Steps.{first_failing, target_tests, bound_test, reading_tests, reads_root}
-use Rattle.gc_script.specs.Run.{Goes, GoesBy}
+use Rattle.gc_script.specs.Run.{GoesBy}
 use Rattle.gc_script.specs.Named.{wants, IsNamed, NamesObject, FoundObject, register_with}
 use Rattle.gc_script.specs.Values.{ShowsRead}
 use Rattle.gc_script.proofs.StandLemmas.{holds_table, holds_same}

@@ -1,5 +1,5 @@
 -- Writing a field or an element of an object that a register names.
-use Rattle.std.proofs.Common.{◌≡◌, ℕ, ◌<◌, ◌≤◌, List, [], ◌∷◌, ◌++◌, Option, Some, None, Bool, true, false, sym, ap, ◌∙◌, refl, subst}
+use Rattle.std.proofs.Common.{◌≡◌, ℕ, ◌<◌, ◌≤◌, List, [], ◌∷◌, ◌++◌, Option, Some, None, Bool, false, sym, ap, ◌∙◌, refl}
 use Rattle.gc_types.specs.declared.kind.Layouts.{Layouts}
 use Rattle.gc_types.specs.declared.value.FieldType.{FieldType}
 use Rattle.gc_types.specs.Declarations.{Declaration}
@@ -24,7 +24,7 @@ use Rattle.gc_script.specs.declared.objects.Wanted.{Wanted}
 use Rattle.gc_script.specs.declared.objects.Wanted.TheVariants as wanted
 use Rattle.gc_script.specs.Slots.{RunnerView}
 use Rattle.gc_script.specs.State.{State, Held, number, reference, Stands, HoldsState, with_table, visible, over}
-use Rattle.gc_script.specs.Given.{Target, unset, given, given_register, given_held, given_root, given_value, is_unset, target, field_of, is_constant}
+use Rattle.gc_script.specs.Given.{Target, unset, given, given_register, given_held, given_root, given_value, is_unset, target, field_of}
 use Rattle.gc_script.specs.Steps.{first_failing, tests, bound_test, constant_test, value_tests, target_tests, writing_tests}
 use Rattle.gc_script.specs.Shapes.{Shape, plain, writes_value, kept_as, write_target}
 use Rattle.gc_script.specs.Run.{Goes}

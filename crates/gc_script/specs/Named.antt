@@ -23,7 +23,7 @@ use Rattle.gc_script.specs.declared.objects.Wanted.{Wanted}
 use Rattle.gc_script.specs.declared.objects.Wanted.TheVariants as wanted
 use Rattle.gc_script.specs.Slots.{register_at}
 use Rattle.gc_script.specs.State.{State}
-use Rattle.gc_script.specs.Given.{Target, target, reference_target, is_struct, is_array, has_fields, names_kind}
+use Rattle.gc_script.specs.Given.{target, reference_target, is_struct, is_array, has_fields, names_kind}
 use Rattle.gc_script.specs.Steps.{first_failing, target_tests}
 
 -- the objects of the table that a command is for

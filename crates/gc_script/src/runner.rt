@@ -56,9 +56,10 @@ impl Runner {
     }
 
     /// Runs one command. What it refuses is a reply, and so is a command that is not built (`BadLine`); an
-    /// error is want of memory, which leaves the table as it was, but that `new` and `grow` may have
-    /// collected and got the heap pages. It comes of no command that takes no memory: `setf`, `eq`,
-    /// `leave`, `pop`, `store`, `gset`, `gc`, `cap`, and those that are not built.
+    /// error is want of memory, which leaves the table as it was, but that a command which makes an object
+    /// and `grow` may have collected and got the heap pages. It comes of no command that takes no memory:
+    /// `len`, `setf`, `sete`, `eq`, `leave`, `pop`, `store`, `gset`, `gc`, `cap`, and those that are not
+    /// built.
     /// The time is linear in the command's length and in the number of the register that it sets, beside
     /// that of a collection and of new memory, and for `leave` in the roots that it drops.
     pub fn run_one<H: GcHeap, L: ResourceLimiter>(

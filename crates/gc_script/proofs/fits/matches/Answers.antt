@@ -1,4 +1,4 @@
-use Rattle.std.proofs.Common.{◌≡◌, IsTrue, false, subst}
+use Rattle.std.proofs.Common.{IsTrue, false, subst}
 use Rattle.std.specs.Prelude.{◌↔◌}
 use Rattle.gc_types.specs.Declarable.{AreDeclared}
 use Rattle.gc_types.specs.Declarations.{TypeTable}

@@ -1,4 +1,4 @@
-use Rattle.std.proofs.Common.{sym, ◌∙◌}
+use Rattle.std.proofs.Common.{sym}
 use Rattle.gc_script.proofs.FoundLemmas.{gone_refused, plain_refused, none_refused, object_found}
 use Rattle.gc_script.proofs.objects.find_object.Goals as goal
 

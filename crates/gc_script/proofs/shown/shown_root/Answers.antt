@@ -1,5 +1,5 @@
-use Rattle.std.proofs.Common.{subst, sym, Option}
-use Rattle.std.specs.Prelude.{Result, Ok, Err}
+use Rattle.std.proofs.Common.{subst, Option}
+use Rattle.std.specs.Prelude.{Result}
 use Rattle.gc_store.specs.declared.root.GcRootIndex.{GcRootIndex}
 use Rattle.gc_store.specs.declared.root.RawValue.TheVariants as raw
 use Rattle.gc_store.specs.declared.root.RootFault.{RootFault}

@@ -1,4 +1,4 @@
-use Rattle.std.proofs.Common.{Bool, false, sym, ap, subst, ◌∙◌}
+use Rattle.std.proofs.Common.{Bool, sym, subst, ◌∙◌}
 use Rattle.std.specs.Prelude.{not}
 use Rattle.gc_script.specs.Given.{given_held}
 use Rattle.gc_script.specs.Values.{IsFound}

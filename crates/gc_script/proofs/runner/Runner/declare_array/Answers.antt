@@ -1,11 +1,7 @@
-use Rattle.std.proofs.Common.{◌≡◌, Some, ap, sym, ◌∙◌, refl, subst}
-use Rattle.std.specs.Prelude.{Result, Ok, Err}
-use Rattle.gc_types.specs.declared.types.TypeFault.{TypeFault}
-use Rattle.gc_types.specs.Declarations.{TypeName, array_type}
+use Rattle.std.proofs.Common.{ap, ◌∙◌, refl}
+use Rattle.gc_types.specs.Declarations.{array_type}
 use Rattle.gc_types.specs.declared.types.Types.{Types}
-use Rattle.gc_types.specs.declared.types.TypeFault.TheVariants as type_fault
 use Rattle.gc_commands.specs.declared.command.Command.TheVariants as Command
-use Rattle.gc_store.specs.Stores.{Declares}
 use Rattle.gc_script.specs.Built.{declared_array}
 use Rattle.gc_script.specs.Steps.{tests}
 use Rattle.gc_script.proofs.DeclareLemmas.{type_declared, type_refused, spelled_array}

@@ -1,5 +1,5 @@
-use Rattle.std.proofs.Common.{◌≡◌, Some, false, ◌∙◌, subst}
-use Rattle.gc_script.specs.Slots.{RunnerView, register_at}
+use Rattle.std.proofs.Common.{◌≡◌, Some, false, ◌∙◌}
+use Rattle.gc_script.specs.Slots.{register_at}
 use Rattle.gc_script.specs.State.{State, HoldsState, Stands}
 use Rattle.gc_script.specs.Given.{held_operand, given_register, is_unset}
 use Rattle.gc_script.specs.Values.{AreRegisters}

@@ -1,9 +1,7 @@
-use Rattle.std.proofs.Common.{◌≡◌, ◌<◌, ◌≤◌, ◌^◌, ℕ, List, Option, Some, None, true, false, length, sym, ap, ◌∙◌, subst, refl, arith}
+use Rattle.std.proofs.Common.{◌≡◌, ℕ, List, Some, true, sym, ap, ◌∙◌, subst, refl}
 use Rattle.gc_types.specs.Declarations.{Declaration, elem_at}
 use Rattle.gc_types.specs.declared.types.Types.{Types}
 use Rattle.gc_commands.specs.declared.command.Command.TheVariants.{NewBytes}
-use Rattle.gc_commands.specs.declared.reply.Refusal.{Refusal}
-use Rattle.gc_commands.specs.declared.reply.Refusal.TheVariants as refusal
 use Rattle.gc_script.specs.State.{State}
 use Rattle.gc_script.specs.Given.{is_byte, holds_bytes}
 use Rattle.gc_script.specs.Steps.{heap_tests}

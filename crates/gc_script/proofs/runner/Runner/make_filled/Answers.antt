@@ -1,8 +1,7 @@
-use Rattle.std.proofs.Common.{◌≡◌, ◌<◌, ◌≤◌, ◌^◌, ℕ, List, Option, Some, None, true, false, length, sym, ap, ◌∙◌, subst, refl, arith}
+use Rattle.std.proofs.Common.{◌≡◌, ℕ, List, Some, false, sym, ap, ◌∙◌, subst, refl, arith}
 use Rattle.gc_types.specs.Declarations.{Declaration, elem_at}
 use Rattle.gc_types.specs.declared.types.Types.{Types}
 use Rattle.gc_commands.specs.declared.command.Command.TheVariants.{NewArr}
-use Rattle.gc_commands.specs.declared.reply.Refusal.{Refusal}
 use Rattle.gc_commands.specs.declared.reply.Refusal.TheVariants as refusal
 use Rattle.gc_commands.specs.declared.reply.Reply.TheVariants as reply
 use Rattle.std.specs.Prelude.{Ok}
@@ -62,16 +61,17 @@ returns-clause-runs g c s holds =
     let at = (goal.at.returns-clause-runs g c).After-operand_value in
     let at_value = (goal.at.returns-clause-runs g c).In-Some-operand_value in
     let declared = known g at s.table.types holds.table.holds.types in
-    elim c.if-len-gt0.branch [ then-len-gt0+in_default-check_value w ↦
-    subst (λ (ty : ℕ). RunsOne g.H.GcHeap.KIND c.args.store.now.alloc_counter (g.L.ResourceLimiter.limits c.args.limiter.now) (g.L.ResourceLimiter.limits c.place.new.limiter) s (NewArr c.args.d ty c.args.len c.args.operand.now) c.place.result c.place.new.store c.place.new.self) c.new-ty.ensures
-    (runs_rest g.H.GcHeap.KIND c.args.store.now.alloc_counter (g.L.ResourceLimiter.limits c.args.limiter.now) (g.L.ResourceLimiter.limits c.place.new.limiter) s (NewArr c.args.d c.new-ty.result c.args.len c.args.operand.now)
-    (heap_tests g.H.GcHeap.KIND s (new_array s c.new-ty.result c.args.len c.args.operand.now)) c.place.result c.place.new.store c.place.new.self
-    (array_heap g.H.GcHeap.KIND s c.args.d c.new-ty.result c.args.len c.args.operand.now c.in-Some.element declared (set g at_value s holds) w.if-len-gt0.true (w.in_default-check_value.ensures.checks s c.args.operand.now (holds_table holds.table) (stands g at_value s holds)).0)
-    (c.place.ensures.runs s (λ (x : State). new_array x c.new-ty.result c.args.len c.args.operand.now) holds (given_value (given s c.args.operand.now), ((λ some. (w.in_default-check_value.ensures.checks s c.args.operand.now (holds_table holds.table) (stands g at_value s holds)).1), refl))))
-    | else-len-gt0 w ↦
-    subst (λ (ty : ℕ). RunsOne g.H.GcHeap.KIND c.args.store.now.alloc_counter (g.L.ResourceLimiter.limits c.args.limiter.now) (g.L.ResourceLimiter.limits c.place.new.limiter) s (NewArr c.args.d ty c.args.len c.args.operand.now) c.place.result c.place.new.store c.place.new.self) c.new-ty.ensures
-    (runs_rest g.H.GcHeap.KIND c.args.store.now.alloc_counter (g.L.ResourceLimiter.limits c.args.limiter.now) (g.L.ResourceLimiter.limits c.place.new.limiter) s (NewArr c.args.d c.new-ty.result c.args.len c.args.operand.now)
-    (heap_tests g.H.GcHeap.KIND s (new_array s c.new-ty.result c.args.len c.args.operand.now)) c.place.result c.place.new.store c.place.new.self
-    (empty_heap g.H.GcHeap.KIND s c.args.d c.new-ty.result c.args.len c.args.operand.now c.in-Some.element declared (set g at_value s holds) (omega (arith, w.if-len-gt0.false)))
-    (c.place.ensures.runs s (λ (x : State). new_array x c.new-ty.result c.args.len c.args.operand.now) holds (given_value (given s c.args.operand.now), ((λ some. absurd (omega (arith, some, w.if-len-gt0.false))), refl))))
+    elim c.if-len-gt0.branch [
+      | then-len-gt0+in_default-check_value w ↦
+          subst (λ (ty : ℕ). RunsOne g.H.GcHeap.KIND c.args.store.now.alloc_counter (g.L.ResourceLimiter.limits c.args.limiter.now) (g.L.ResourceLimiter.limits c.place.new.limiter) s (NewArr c.args.d ty c.args.len c.args.operand.now) c.place.result c.place.new.store c.place.new.self) c.new-ty.ensures
+          (runs_rest g.H.GcHeap.KIND c.args.store.now.alloc_counter (g.L.ResourceLimiter.limits c.args.limiter.now) (g.L.ResourceLimiter.limits c.place.new.limiter) s (NewArr c.args.d c.new-ty.result c.args.len c.args.operand.now)
+          (heap_tests g.H.GcHeap.KIND s (new_array s c.new-ty.result c.args.len c.args.operand.now)) c.place.result c.place.new.store c.place.new.self
+          (array_heap g.H.GcHeap.KIND s c.args.d c.new-ty.result c.args.len c.args.operand.now c.in-Some.element declared (set g at_value s holds) w.if-len-gt0.true (w.in_default-check_value.ensures.checks s c.args.operand.now (holds_table holds.table) (stands g at_value s holds)).0)
+          (c.place.ensures.runs s (λ (x : State). new_array x c.new-ty.result c.args.len c.args.operand.now) holds (given_value (given s c.args.operand.now), ((λ some. (w.in_default-check_value.ensures.checks s c.args.operand.now (holds_table holds.table) (stands g at_value s holds)).1), refl))))
+      | else-len-gt0 w ↦
+          subst (λ (ty : ℕ). RunsOne g.H.GcHeap.KIND c.args.store.now.alloc_counter (g.L.ResourceLimiter.limits c.args.limiter.now) (g.L.ResourceLimiter.limits c.place.new.limiter) s (NewArr c.args.d ty c.args.len c.args.operand.now) c.place.result c.place.new.store c.place.new.self) c.new-ty.ensures
+          (runs_rest g.H.GcHeap.KIND c.args.store.now.alloc_counter (g.L.ResourceLimiter.limits c.args.limiter.now) (g.L.ResourceLimiter.limits c.place.new.limiter) s (NewArr c.args.d c.new-ty.result c.args.len c.args.operand.now)
+          (heap_tests g.H.GcHeap.KIND s (new_array s c.new-ty.result c.args.len c.args.operand.now)) c.place.result c.place.new.store c.place.new.self
+          (empty_heap g.H.GcHeap.KIND s c.args.d c.new-ty.result c.args.len c.args.operand.now c.in-Some.element declared (set g at_value s holds) (omega (arith, w.if-len-gt0.false)))
+          (c.place.ensures.runs s (λ (x : State). new_array x c.new-ty.result c.args.len c.args.operand.now) holds (given_value (given s c.args.operand.now), ((λ some. absurd (omega (arith, some, w.if-len-gt0.false))), refl))))
     ]

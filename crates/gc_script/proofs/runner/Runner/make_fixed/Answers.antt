@@ -1,8 +1,7 @@
-use Rattle.std.proofs.Common.{◌≡◌, ◌<◌, ◌≤◌, ◌^◌, ℕ, List, Option, Some, None, true, false, length, sym, ap, ◌∙◌, subst, refl, arith}
+use Rattle.std.proofs.Common.{◌≡◌, ℕ, List, Some, length, sym, ap, ◌∙◌, subst, refl, arith}
 use Rattle.gc_types.specs.Declarations.{Declaration, elem_at}
 use Rattle.gc_types.specs.declared.types.Types.{Types}
 use Rattle.gc_commands.specs.declared.command.Command.TheVariants.{Fixed}
-use Rattle.gc_commands.specs.declared.reply.Refusal.{Refusal}
 use Rattle.gc_commands.specs.declared.reply.Refusal.TheVariants as refusal
 use Rattle.gc_commands.specs.declared.reply.Reply.TheVariants as reply
 use Rattle.std.specs.Prelude.{Ok}
@@ -12,7 +11,7 @@ use Rattle.gc_commands.specs.declared.command.Operand.{Operand}
 use Rattle.gc_model.specs.Stored.{stored}
 use Rattle.gc_store.specs.Requests.{element_of}
 use Rattle.gc_script.specs.Slots.{register_at}
-use Rattle.gc_script.specs.State.{State, HoldsState, Stands}
+use Rattle.gc_script.specs.State.{State, HoldsState}
 use Rattle.gc_script.specs.Given.{given, given_value, given_values}
 use Rattle.gc_script.specs.Steps.{heap_tests}
 use Rattle.gc_script.specs.Shapes.{new_fixed}
@@ -57,7 +56,7 @@ returns-in-Err-clause-runs g c s holds =
     let at_found = (goal.at.returns-in-Err-clause-runs g c).In-Some-found in
     let declared = known g at s.table.types holds.table.holds.types in
     let held : AllHeld c.args.store.now s c.args.operands.now c.as_slice-values.result.now =
-        subst (AllHeld c.args.store.now s c.args.operands.now) (sym c.as_slice-values.ensures.value) (operands_held g at_found c.args.store.now s (are_registers g at s holds)) in
+    subst (AllHeld c.args.store.now s c.args.operands.now) (sym c.as_slice-values.ensures.value) (operands_held g at_found c.args.store.now s (are_registers g at s holds)) in
     let set = all_set c.args.store.now s c.args.operands.now c.as_slice-values.result.now held in
     subst (λ (ty : ℕ). RunsOne g.H.GcHeap.KIND c.args.store.now.alloc_counter (g.L.ResourceLimiter.limits c.args.limiter.now) (g.L.ResourceLimiter.limits c.args.limiter.now) s (Fixed c.args.d ty c.args.operands.now) (Ok (reply.Refused c.in-Err.refusal)) c.args.store.now c.args.self.now) c.new-ty.ensures
     (refused_runs g.H.GcHeap.KIND c.args.store.now.alloc_counter (g.L.ResourceLimiter.limits c.args.limiter.now) s (Fixed c.args.d c.new-ty.result c.args.operands.now) c.in-Err.refusal c.args.store.now c.args.self.now holds
@@ -69,7 +68,7 @@ returns-in_default-try_from-clause-runs g c s holds =
     let at_found = (goal.at.returns-in_default-try_from-clause-runs g c).In-Some-found in
     let declared = known g at s.table.types holds.table.holds.types in
     let held : AllHeld c.args.store.now s c.args.operands.now c.as_slice-values.result.now =
-        subst (AllHeld c.args.store.now s c.args.operands.now) (sym c.as_slice-values.ensures.value) (operands_held g at_found c.args.store.now s (are_registers g at s holds)) in
+    subst (AllHeld c.args.store.now s c.args.operands.now) (sym c.as_slice-values.ensures.value) (operands_held g at_found c.args.store.now s (are_registers g at s holds)) in
     let set = all_set c.args.store.now s c.args.operands.now c.as_slice-values.result.now held in
     let checks = c.in_default-check_values.ensures.checks s c.args.operands.now (holds_table holds.table) held in
     let count : length c.as_slice-values.result.now ≡ length c.args.operands.now = held_count c.args.store.now s c.args.operands.now c.as_slice-values.result.now held in
@@ -88,7 +87,7 @@ returns-clause-runs g c s holds =
     let at_found = (goal.at.returns-clause-runs g c).In-Some-found in
     let declared = known g at s.table.types holds.table.holds.types in
     let held : AllHeld c.args.store.now s c.args.operands.now c.as_slice-values.result.now =
-        subst (AllHeld c.args.store.now s c.args.operands.now) (sym c.as_slice-values.ensures.value) (operands_held g at_found c.args.store.now s (are_registers g at s holds)) in
+    subst (AllHeld c.args.store.now s c.args.operands.now) (sym c.as_slice-values.ensures.value) (operands_held g at_found c.args.store.now s (are_registers g at s holds)) in
     let set = all_set c.args.store.now s c.args.operands.now c.as_slice-values.result.now held in
     let checks = c.in_default-check_values.ensures.checks s c.args.operands.now (holds_table holds.table) held in
     subst (λ (ty : ℕ). RunsOne g.H.GcHeap.KIND c.args.store.now.alloc_counter (g.L.ResourceLimiter.limits c.args.limiter.now) (g.L.ResourceLimiter.limits c.place.new.limiter) s (Fixed c.args.d ty c.args.operands.now) c.place.result c.place.new.store c.place.new.self) c.new-ty.ensures

@@ -1,18 +1,15 @@
-use Rattle.std.proofs.Common.{◌≡◌, ◌≢◌, ℕ, List, Option, Some, None, true, false, length, sym, ap, ◌∙◌, subst, refl}
+use Rattle.std.proofs.Common.{◌≡◌, ◌≢◌, ℕ, List, Option, Some, length, sym, ap, ◌∙◌, subst, refl}
 use Rattle.std.specs.Option.{option_map}
 use Rattle.gc_types.specs.Declarations.{Declaration, struct_fields_at}
 use Rattle.gc_types.specs.declared.types.Types.{Types}
-use Rattle.gc_types.specs.declared.value.FieldType.{FieldType}
 use Rattle.gc_commands.specs.declared.command.Command.TheVariants.{New}
-use Rattle.gc_commands.specs.declared.reply.Refusal.{Refusal}
 use Rattle.gc_commands.specs.declared.reply.Refusal.TheVariants as refusal
 use Rattle.gc_store.specs.declared.root.RawValue.{RawValue}
-use Rattle.gc_store.specs.Values.{AllStand}
 use Rattle.gc_script.specs.Given.{given_values}
 use Rattle.gc_script.specs.Slots.{RunnerView, register_at}
 use Rattle.gc_script.specs.State.{State, HoldsState, Stands}
 use Rattle.gc_script.specs.Steps.{first_failing, tests, heap_tests}
-use Rattle.gc_script.specs.Shapes.{shape, new_struct}
+use Rattle.gc_script.specs.Shapes.{new_struct}
 use Rattle.gc_script.specs.Run.{RunsOne}
 use Rattle.gc_script.specs.Values.{AreRegisters, AllHeld, HoldsOperands, HasUnset}
 use Rattle.gc_script.proofs.StandLemmas.{holds_table}
@@ -54,7 +51,7 @@ pub returns-then-len-count-clause-runs : goal.returns-then-len-count-clause-runs
 returns-then-len-count-clause-runs g c s holds =
     let at = (goal.at.returns-then-len-count-clause-runs g c).In-Ok in
     let held : AllHeld c.args.store.now s c.args.operands.now c.in-Some-found.values.items =
-        operands_held g (goal.at.returns-then-len-count-clause-runs g c).In-Some-found c.args.store.now s (registers_are g at s holds) in
+    operands_held g (goal.at.returns-then-len-count-clause-runs g c).In-Some-found c.args.store.now s (registers_are g at s holds) in
     let known = counted_fields (struct_fields_at s.table.types c.args.t) c.in-Some.count (counted g at s.table.types holds.table.holds.types) in
     let count : length c.in-Some-found.values.items ≡ length c.args.operands.now = held_count c.args.store.now s c.args.operands.now c.in-Some-found.values.items held in
     let differ : length c.args.operands.now ≢ length known.0 = λ e. c.if-len-count.true (c.len.ensures ∙ c.in-Some-found.values.ok.0 ∙ count ∙ e ∙ known.1.1) in
@@ -65,22 +62,22 @@ pub place-requires : goal.place-requires
 place-requires g c =
     let known = counted_fields (struct_fields_at c.args.store.now.types c.args.t) c.in-Some.count (counted g (goal.at.place-requires g c).In-Ok c.args.store.now.types refl) in
     let many : length c.as_slice-values.result.now ≡ length known.0 =
-        ap length c.as_slice-values.ensures.value ∙ sym c.in-Some-found.values.ok.0 ∙ sym c.len.ensures ∙ c.if-len-count.false ∙ sym known.1.1 in
+    ap length c.as_slice-values.ensures.value ∙ sym c.in-Some-found.values.ok.0 ∙ sym c.len.ensures ∙ c.if-len-count.false ∙ sym known.1.1 in
     let same : struct_fields_at c.args.store.now.types c.new-ty.result ≡ Some known.0 =
-        ap (struct_fields_at c.args.store.now.types) c.new-ty.ensures ∙ known.1.0 in
+    ap (struct_fields_at c.args.store.now.types) c.new-ty.ensures ∙ known.1.0 in
     struct_request g.H.GcHeap.KIND c.args.store.now c.new-ty.result c.as_slice-values.result.now known.0 same many c.in-Ok-check_values.ensures.stores
 
 pub returns-in-Ok-check_values-clause-runs : goal.returns-in-Ok-check_values-clause-runs
 returns-in-Ok-check_values-clause-runs g c s holds =
     let at = (goal.at.returns-in-Ok-check_values-clause-runs g c).In-Ok in
     let held : AllHeld c.args.store.now s c.args.operands.now c.in-Some-found.values.items =
-        operands_held g (goal.at.returns-in-Ok-check_values-clause-runs g c).In-Some-found c.args.store.now s (registers_are g at s holds) in
+    operands_held g (goal.at.returns-in-Ok-check_values-clause-runs g c).In-Some-found c.args.store.now s (registers_are g at s holds) in
     let known = counted_fields (struct_fields_at s.table.types c.args.t) c.in-Some.count (counted g at s.table.types holds.table.holds.types) in
     let count : length c.in-Some-found.values.items ≡ length c.args.operands.now = held_count c.args.store.now s c.args.operands.now c.in-Some-found.values.items held in
     let many : length c.args.operands.now ≡ length known.0 =
-        sym count ∙ sym c.in-Some-found.values.ok.0 ∙ sym c.len.ensures ∙ c.if-len-count.false ∙ sym known.1.1 in
+    sym count ∙ sym c.in-Some-found.values.ok.0 ∙ sym c.len.ensures ∙ c.if-len-count.false ∙ sym known.1.1 in
     let of_ty : struct_fields_at s.table.types c.new-ty.result ≡ Some known.0 =
-        ap (struct_fields_at s.table.types) c.new-ty.ensures ∙ known.1.0 in
+    ap (struct_fields_at s.table.types) c.new-ty.ensures ∙ known.1.0 in
     let set = all_set c.args.store.now s c.args.operands.now c.in-Some-found.values.items held in
     let checks = c.in-Ok-check_values.ensures.checks s c.args.operands.now (holds_table holds.table) (subst (AllHeld c.args.store.now s c.args.operands.now) (sym c.as_slice-values.ensures.value) held) in
     subst (λ (ty : ℕ). RunsOne g.H.GcHeap.KIND c.args.store.now.alloc_counter (g.L.ResourceLimiter.limits c.args.limiter.now) (g.L.ResourceLimiter.limits c.place.new.limiter) s (New c.args.d ty c.args.operands.now) c.place.result c.place.new.store c.place.new.self) c.new-ty.ensures
@@ -93,13 +90,13 @@ pub returns-clause-runs : goal.returns-clause-runs
 returns-clause-runs g c s holds =
     let at = (goal.at.returns-clause-runs g c).In-Ok in
     let held : AllHeld c.args.store.now s c.args.operands.now c.in-Some-found.values.items =
-        operands_held g (goal.at.returns-clause-runs g c).In-Some-found c.args.store.now s (registers_are g at s holds) in
+    operands_held g (goal.at.returns-clause-runs g c).In-Some-found c.args.store.now s (registers_are g at s holds) in
     let known = counted_fields (struct_fields_at s.table.types c.args.t) c.in-Some.count (counted g at s.table.types holds.table.holds.types) in
     let count : length c.in-Some-found.values.items ≡ length c.args.operands.now = held_count c.args.store.now s c.args.operands.now c.in-Some-found.values.items held in
     let many : length c.args.operands.now ≡ length known.0 =
-        sym count ∙ sym c.in-Some-found.values.ok.0 ∙ sym c.len.ensures ∙ c.if-len-count.false ∙ sym known.1.1 in
+    sym count ∙ sym c.in-Some-found.values.ok.0 ∙ sym c.len.ensures ∙ c.if-len-count.false ∙ sym known.1.1 in
     let of_ty : struct_fields_at s.table.types c.new-ty.result ≡ Some known.0 =
-        ap (struct_fields_at s.table.types) c.new-ty.ensures ∙ known.1.0 in
+    ap (struct_fields_at s.table.types) c.new-ty.ensures ∙ known.1.0 in
     let checks = c.in-Err.ensures.checks s c.args.operands.now (holds_table holds.table) (subst (AllHeld c.args.store.now s c.args.operands.now) (sym c.as_slice-values.ensures.value) held) in
     refused_runs g.H.GcHeap.KIND c.args.store.now.alloc_counter (g.L.ResourceLimiter.limits c.args.limiter.now) s (New c.args.d c.args.t c.args.operands.now) c.in-Err.refusal c.args.store.now c.args.self.now holds
     (subst (λ (ty : ℕ). first_failing (tests g.H.GcHeap.KIND s (New c.args.d ty c.args.operands.now)) ≡ Some c.in-Err.refusal) c.new-ty.ensures

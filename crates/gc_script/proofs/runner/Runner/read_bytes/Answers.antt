@@ -1,4 +1,4 @@
-use Rattle.std.proofs.Common.{◌≡◌, ℕ, length, List, Some, true, false, not, refl, sym, ap, ◌∙◌, subst, arith}
+use Rattle.std.proofs.Common.{◌≡◌, ℕ, length, Some, false, sym, ap, ◌∙◌, subst, arith}
 use Rattle.gc_store.specs.Bytes.{CanCopyBytes, CopiesBytes}
 use Rattle.gc_script.specs.State.{State, HoldsState, Stands}
 use Rattle.gc_script.specs.Given.{given_register, is_unset, holds_bytes}

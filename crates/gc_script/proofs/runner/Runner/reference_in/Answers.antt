@@ -1,5 +1,5 @@
-use Rattle.std.proofs.Common.{◌≡◌, Some, true, sym}
-use Rattle.gc_script.specs.State.{State, HoldsState, Stands}
+use Rattle.std.proofs.Common.{Some, true, sym}
+use Rattle.gc_script.specs.State.{State, HoldsState}
 use Rattle.gc_script.specs.Given.{given_register}
 use Rattle.gc_script.specs.Values.{IsFound}
 use Rattle.gc_script.proofs.StandLemmas.{holds_table, register_held}

@@ -1,4 +1,4 @@
-use Rattle.std.proofs.Common.{◌≡◌, sym, ◌∙◌, refl, subst}
+use Rattle.std.proofs.Common.{sym, ◌∙◌, refl, subst}
 use Rattle.gc_commands.specs.declared.reply.Reply.{Reply}
 use Rattle.gc_commands.specs.declared.command.Command.TheVariants as command
 use Rattle.gc_commands.specs.declared.reply.Refusal.TheVariants as refusal
@@ -8,7 +8,7 @@ use Rattle.gc_script.specs.Steps.{tests}
 use Rattle.gc_script.specs.Named.{type_at}
 use Rattle.gc_script.specs.Run.{Goes}
 use Rattle.gc_script.proofs.StandLemmas.{holds_table}
-use Rattle.gc_script.proofs.TestLemmas.{stops_all, refuses}
+use Rattle.gc_script.proofs.TestLemmas.{refuses}
 use Rattle.gc_script.proofs.WriteLemmas.{can_write, wrote, field_refused, field_past, field_by}
 use Rattle.gc_script.proofs.runner.Runner.write_field.Goals as goal
 
