@@ -85,7 +85,7 @@ from_state most before s' u is within = subst (λ (x : State). IsWithin most bef
 
 does_within : (layouts : Layouts) (most before : ℕ) (s : State) (sh : Shape) (answer : Reply) (s' : State) → Does layouts (Some most) s sh answer s' → IsWithin most before s.table → IsWithin most before s'.table
 does_within layouts most before s (plain effect) answer s' does within = from_state most before s' _ does.1 within
-does_within layouts most before s (declaring d) answer s' (steps.declared may said after) within = from_state most before s' _ after within
+does_within layouts most before s (declaring d) answer s' (steps.declared new is may said after) within = from_state most before s' _ after within
 does_within layouts most before s (declaring d) answer s' (steps.bad may said after) within = from_state most before s' s after within
 does_within layouts most before s (making d class object) answer s' (steps.made u a allocates said after) within = from_state most before s' _ after (allocates_within layouts most before _ s.table u allocates within)
 does_within layouts most before s (making d class object) answer s' (steps.lacks u a lacking said after) within = from_state most before s' _ after (lacks_within layouts most before _ s.table u lacking within)

@@ -191,18 +191,19 @@ module _ (most : ℕ) (s : State) (a : Account) (limits : Limits) (accounts : Al
     },
   )
 
-  declares_alike : (d : Declaration) (answer answer' : Reply) (s' t' : State) (limits1 limits2 : Limits) → Declares d s answer s' → AsksNothing s limits s' limits1 → Declares d other_state answer' t' → AsksNothing other_state limits t' limits2 → AlikeSteps answer answer' s' t' limits1 limits2
-  declares_alike d answer answer' s' t' limits1 limits2 (declared may is after) follows (declared may' is' after') follows' =
-      asking_nothing (with_table (declare d s.table) s) answer answer' s' t' limits1 limits2 (is ∙ sym is') after after' follows follows'
-  declares_alike d answer answer' s' t' limits1 limits2 (declared may is after) follows (bad may_not is' after') follows' = absurd (may_not may)
-  declares_alike d answer answer' s' t' limits1 limits2 (bad may_not is after) follows (declared may is' after') follows' = absurd (may_not may)
+  declares_alike : (d : Option Declaration) (answer answer' : Reply) (s' t' : State) (limits1 limits2 : Limits) → Declares d s answer s' → AsksNothing s limits s' limits1 → Declares d other_state answer' t' → AsksNothing other_state limits t' limits2 → AlikeSteps answer answer' s' t' limits1 limits2
+  declares_alike d answer answer' s' t' limits1 limits2 (declared new spells may is after) follows (declared new' spells' may' is' after') follows' =
+      asking_nothing (with_table (declare new s.table) s) answer answer' s' t' limits1 limits2 (is ∙ sym is') after
+      (after' ∙ ap (λ (x : Declaration). with_table (declare x other_state.table) other_state) (cc (spells, spells'))) follows follows'
+  declares_alike d answer answer' s' t' limits1 limits2 (declared new spells may is after) follows (bad may_not is' after') follows' = absurd (may_not new spells may)
+  declares_alike d answer answer' s' t' limits1 limits2 (bad may_not is after) follows (declared new spells may is' after') follows' = absurd (may_not new spells may)
   declares_alike d answer answer' s' t' limits1 limits2 (bad may_not is after) follows (bad may_not' is' after') follows' =
       asking_nothing s answer answer' s' t' limits1 limits2 (is ∙ sym is') after after' follows follows'
 
   doing_alike : (counter : Option ℕ) (sh : Shape) (answer answer' : Reply) (s' t' : State) (limits1 limits2 : Limits) → Does Copying limits.limit s sh answer s' → FollowsDoing Copying counter s limits sh answer s' limits1 → Does Copying limits.limit other_state sh answer' t' → FollowsDoing Copying counter other_state limits sh answer' t' limits2 → AlikeSteps answer answer' s' t' limits1 limits2
   doing_alike counter (plain effect) answer answer' s' t' limits1 limits2 one follows other follows' =
       asking_nothing (over s (effect (visible s)).1) answer answer' s' t' limits1 limits2 (one.0 ∙ sym other.0) one.1 other.1 follows follows'
-  doing_alike counter (declaring d) answer answer' s' t' limits1 limits2 one follows other follows' = declares_alike d answer answer' s' t' limits1 limits2 one follows other follows'
+  doing_alike counter (declaring d) answer answer' s' t' limits1 limits2 one follows other follows' = declares_alike (d s.table.types) answer answer' s' t' limits1 limits2 one follows other follows'
   doing_alike counter (making d class object) answer answer' s' t' limits1 limits2 one follows other follows' =
       new_alike counter d class (object (visible s)) answer answer' s' t' limits1 limits2
       (new_by_policy limits.limit counter d class (object (visible s)) s limits answer s' limits1 one follows)

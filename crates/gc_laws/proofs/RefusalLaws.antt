@@ -36,7 +36,7 @@ module _ (layouts : Layouts) (most : ℕ) (s s' : State) where
   out_does : (sh : Shape) (r : Reply) → tells (plain_answer sh (visible s)) ≡ false → ¬ (layouts ≡ Counting) → most ≤ max_pages → s.table.first ≤ most → Does layouts (Some most) s sh r s'
       → (r ≡ reply.Refused refusal.GcHeapOutOfMemory) ↔ LacksRoom layouts most s sh
   out_does (plain effect) r mild other within first does = no_memory (says_other r _ does.0 mild) (λ x. x)
-  out_does (declaring d) r mild other within first (steps.declared may said after) = no_memory (says_other r _ said refl) (λ x. x)
+  out_does (declaring d) r mild other within first (steps.declared new is may said after) = no_memory (says_other r _ said refl) (λ x. x)
   out_does (declaring d) r mild other within first (steps.bad may said after) = no_memory (says_other r _ said refl) (λ x. x)
   out_does (making d class object) r mild other within first (steps.made u a allocates said after) =
       no_memory (says_other r _ said refl) (allocates_under layouts most (object (visible s)) s.table u other allocates)
@@ -50,7 +50,7 @@ module _ (layouts : Layouts) (most : ℕ) (s s' : State) where
   growth_does : (sh : Shape) (r : Reply) → tells (plain_answer sh (visible s)) ≡ false → most ≤ max_pages → s.table.first ≤ most → Does layouts (Some most) s sh r s'
       → (r ≡ reply.Refused refusal.GcHeapGrowthFailed) ↔ GrowsPast most s sh
   growth_does (plain effect) r mild within first does = no_growth (says_other r _ does.0 mild) (λ x. x)
-  growth_does (declaring d) r mild within first (steps.declared may said after) = no_growth (says_other r _ said refl) (λ x. x)
+  growth_does (declaring d) r mild within first (steps.declared new is may said after) = no_growth (says_other r _ said refl) (λ x. x)
   growth_does (declaring d) r mild within first (steps.bad may said after) = no_growth (says_other r _ said refl) (λ x. x)
   growth_does (making d class object) r mild within first (steps.made u a allocates said after) = no_growth (says_other r _ said refl) (λ x. x)
   growth_does (making d class object) r mild within first (steps.lacks u a lacking said after) = (λ e. absurd (cc (said, e)), λ x. absurd x)
@@ -100,7 +100,7 @@ first_of s = s.table.first
 
 does_first : (layouts : Layouts) (limit : Option ℕ) (s : State) (sh : Shape) (answer : Reply) (s' : State) → Does layouts limit s sh answer s' → s'.table.first ≡ s.table.first
 does_first layouts limit s (plain effect) answer s' does = ap first_of does.1
-does_first layouts limit s (declaring d) answer s' (steps.declared may said after) = ap first_of after
+does_first layouts limit s (declaring d) answer s' (steps.declared new is may said after) = ap first_of after
 does_first layouts limit s (declaring d) answer s' (steps.bad may said after) = ap first_of after
 does_first layouts limit s (making d class object) answer s' (steps.made u a allocates said after) = ap first_of after ∙ ap (λ (x : Table ℕ). x.first) allocates.made
 does_first layouts limit s (making d class object) answer s' (steps.lacks u a lacking said after) = ap first_of after ∙ lacks_first layouts limit (object (visible s)) s.table u lacking

@@ -4,7 +4,11 @@ use Rattle.std.specs.List.{flat_map, join_with_byte}
 use Rattle.std.specs.Fmt.{decimal}
 use Rattle.std.proofs.lemmas.Fmt.{decimal_digit}
 use Rattle.gc_types.specs.declared.kind.Layouts.TheVariants.{Null}
+use Rattle.gc_types.specs.declared.value.Mutability.TheVariants as mutability
+use Rattle.gc_types.specs.declared.value.StorageType.TheVariants as storage_type
+use Rattle.gc_types.specs.declared.value.ValType.TheVariants as val_type
 use Rattle.gc_types.specs.Declarable.{Declarable}
+use Rattle.gc_types.specs.Declarations.{Declaration, struct_type}
 use Rattle.gc_owner.specs.declared.entry.GcClass.TheVariants as class
 use Rattle.gc_model.specs.Values.{numeric, i32, Object, struct}
 use Rattle.gc_model.specs.Table.{Table, start, usual_roots, declare, make, make_heap, with_pages}
@@ -28,7 +32,6 @@ use Rattle.gc_commands.specs.Spelling.{IsCommandOf, Spells}
 use Rattle.gc_commands.proofs.UniqueLemmas.{one_spelling}
 use Rattle.gc_laws.proofs.PolicyRuns.{policy_run}
 use Rattle.gc_script.specs.State.{State, reference, begin, with_table, with_heap, set_register}
-use Rattle.gc_script.specs.Built.{built_struct}
 use Rattle.gc_script.specs.Steps.{Step, declared, bad, made, lacks}
 use Rattle.gc_script.specs.Run.{Run}
 use Rattle.gc_script.specs.Policy as policy
@@ -84,12 +87,16 @@ pub command_is : (line : List ℕ) (known c : Command) → Spells line known →
 command_is line known Bad spells is = absurd (is known spells)
 command_is line known c spells is = one_spelling line c known is spells
 
+-- the type that the first one declares
+abbrev number_type : Declaration
+number_type = struct_type (record { mutability = mutability.Var; element_type = storage_type.ValType val_type.I32 } ∷ []) None false
+
 -- the states between the commands
 abbrev nothing : State
 nothing = begin (start 1 usual_roots usual_roots) no_account
 
 abbrev declared_one : State
-declared_one = with_table (declare (built_struct (number_field ∷ [])) nothing.table) nothing
+declared_one = with_table (declare number_type nothing.table) nothing
 
 -- the struct of the second one
 abbrev one_made : Object ℕ
@@ -102,14 +109,14 @@ made_with pages a = set_register 1 (reference class.Any (Some 0)) (with_heap (ma
 abbrev made_one : State
 made_one = made_with 1 (with_held 0 (counted no_account))
 
-may_declare : Declarable [] (built_struct (number_field ∷ []))
+may_declare : Declarable [] number_type
 may_declare = record { few_fields = omega arith; few_types = omega arith; known = search rules; extends = tt }
 
 fits : FitsIn Null (make_heap declared_one.table) (object_size Null declared_one.table.types one_made)
 fits = omega arith
 
 step_declares : Step Null (Some 64) nothing declares (reply.Declared 0) declared_one
-step_declares = declared may_declare refl refl
+step_declares = declared number_type refl may_declare refl refl
 
 step_makes : Step Null (Some 64) declared_one makes reply.Done made_one
 step_makes = made _ _ (record { pages = 1; gets = same (λ unmade. omega arith); fits = fits; made = refl }) refl refl
@@ -166,8 +173,8 @@ is_session = (
 
 -- each step has one reply and one state after it
 declares_once : (answer : Reply) (s' : State) → Step Null (Some 64) nothing declares answer s' → (answer ≡ reply.Declared 0) × (s' ≡ declared_one)
-declares_once answer s' (declared may is after) = (is, after)
-declares_once answer s' (bad may_not is after) = absurd (may_not may_declare)
+declares_once answer s' (declared new spells may is after) = (is, after ∙ ap (λ (x : Declaration). with_table (declare x nothing.table) nothing) (cc spells))
+declares_once answer s' (bad may_not is after) = absurd (may_not number_type refl may_declare)
 
 makes_once : (answer : Reply) (s' : State) → Step Null (Some 64) declared_one makes answer s' → (answer ≡ reply.Done) × ((pages : ℕ) × (a : Account) × (s' ≡ made_with pages a))
 makes_once answer s' (made t a allocates is after) = (is, (allocates.pages, a, after ∙ ap (λ (x : Table ℕ). set_register 1 (reference class.Any (Some 0)) (with_heap x a declared_one)) allocates.made))

@@ -45,13 +45,16 @@ module _ (layouts : Layouts) (limit : Option ℕ) (s t : State) (seen : visible 
   same_types : s.table.types ≡ t.table.types
   same_types = ap (λ (v : State). v.table.types) seen
 
-  same_declares : (d : Declaration) (answer answer' : Reply) (s' t' : State) → Declares d s answer s' → Declares d t answer' t' → (answer ≡ answer') × (visible s' ≡ visible t')
-  same_declares d answer answer' s' t' (declared may is after) (declared may' is' after') = (
+  same_declares : (d : List Declaration → Option Declaration) (answer answer' : Reply) (s' t' : State) → Declares (d s.table.types) s answer s' → Declares (d t.table.types) t answer' t' → (answer ≡ answer') × (visible s' ≡ visible t')
+  same_declares d answer answer' s' t' (declared new spells may is after) (declared new' spells' may' is' after') = (
     is ∙ ap (λ (types : List Declaration). reply.Declared (length types)) same_types ∙ sym is',
-    ap visible after ∙ ap (λ (v : State). with_table (declare d v.table) v) seen ∙ sym (ap visible after'),
+    ap visible after ∙ ap (λ (v : State). with_table (declare new v.table) v) seen
+        ∙ ap (λ (x : Declaration). with_table (declare x (visible t).table) (visible t)) (cc (spells, ap d same_types, spells')) ∙ sym (ap visible after'),
   )
-  same_declares d answer answer' s' t' (declared may is after) (bad may_not is' after') = absurd (may_not (subst (λ (types : List Declaration). Declarable types d) same_types may))
-  same_declares d answer answer' s' t' (bad may_not is after) (declared may is' after') = absurd (may_not (subst (λ (types : List Declaration). Declarable types d) (sym same_types) may))
+  same_declares d answer answer' s' t' (declared new spells may is after) (bad may_not is' after') =
+      absurd (may_not new (sym (ap d same_types) ∙ spells) (subst (λ (types : List Declaration). Declarable types new) same_types may))
+  same_declares d answer answer' s' t' (bad may_not is after) (declared new spells may is' after') =
+      absurd (may_not new (ap d same_types ∙ spells) (subst (λ (types : List Declaration). Declarable types new) (sym same_types) may))
   same_declares d answer answer' s' t' (bad may_not is after) (bad may_not' is' after') = (is ∙ sym is', left_alike s' t' after after')
 
   -- what is visible once an object was made

@@ -1,8 +1,13 @@
 //! Laws of sessions.
 
-ghost use Rattle.std.specs.Prelude.{◌≡◌, ℕ, List, Option, Some};
+ghost use Rattle.std.specs.Prelude.{◌≡◌, ◌↔◌, ℕ, IsTrue, List, Option, Some};
 ghost use Rattle.gc_types.specs.declared.kind.Layouts.{Layouts};
 ghost use Rattle.gc_types.specs.declared.kind.Layouts.TheVariants.{Null, Copying};
+ghost use Rattle.gc_types.specs.declared.value.HeapType.{HeapType};
+ghost use Rattle.gc_types.specs.Declarations.{Declaration};
+ghost use Rattle.gc_types.specs.Declarable.{AreDeclared};
+ghost use Rattle.gc_types.specs.Subtyping.{MatchesHeap, supertypes_of};
+ghost use Rattle.gc_model.specs.Fits.{matches};
 ghost use Rattle.gc_model.specs.Table.{Table};
 ghost use Rattle.gc_model.specs.Allocation.{Limits};
 ghost use Rattle.gc_commands.specs.declared.command.Command.{Command};
@@ -45,4 +50,10 @@ pub fn runs_by_policy_are_runs()
 pub fn steps_decide_replies()
     ensures { (layouts : Layouts) (limit : Option ℕ) (s s1 s2 : State) (cs : List Command) (rs1 rs2 : List Reply)
         → Run layouts limit s cs rs1 s1 → Run layouts limit s cs rs2 s2 → NoneRefused rs1 → NoneRefused rs2 → SameReplies cs rs1 rs2 }
+{}
+
+/// Whether a heap type matches another, as the tests of values work it out, is what the arrows between heap
+/// types say: of types that are declared one behind the other, by any number of arrows.
+pub fn matching_is_by_arrows()
+    ensures { (types : List Declaration) (x y : HeapType) → AreDeclared types → IsTrue (matches (supertypes_of types) x y) ↔ MatchesHeap (supertypes_of types) x y }
 {}

@@ -1,7 +1,7 @@
 -- Bytes that come in pieces, cut into lines.
 use Rattle.std.proofs.Common.{◌≡◌, ◌==◌, ◌||◌, ℕ, ◌+◌, ◌-◌, min, ◌<◌, ◌≤◌, Bool, true, false, cond, List, [], ◌∷◌, ◌++◌, map, length, take, drop, get_or, Some, None, nat_lt, refl, sym, ap, subst, ◌∙◌, inl, inr, arith, append_assoc, append-nil, length-append, length-take-le, take-append-drop}
 use Rattle.std.specs.List.{concat, onto_first, position, position_or_len}
-use Rattle.std.proofs.lemmas.Bool.{eqb-true, le-ltb, lt-ltb, ltb-true, ltb-false, false_from_ne_true, or_from, or_parts, or_right, false≢true}
+use Rattle.std.proofs.lemmas.Bool.{eqb-true, le-ltb, lt-ltb, ltb-true, ltb-false, or_from, or_parts, or_right, false≢true}
 use Rattle.std.proofs.lemmas.List.{drop_more, get_or-take, get_or_default, take_all, take_at, take-take, take-append-le}
 use Rattle.std.proofs.lemmas.List.Folds.{list_any-append, list_any_none}
 use Rattle.std.proofs.lemmas.List.Sums.{fails_before_first, passes_at_first}

@@ -1,88 +1,61 @@
--- Declarations of structs whose fields are built.
-use Rattle.std.proofs.Common.{◌≡◌, ℕ, List, [], ◌∷◌, map, Option, Some, None, Bool, true, false, ap, refl, subst}
-use Rattle.std.specs.Prelude.{All, Ok, Err, not, ◌&&◌}
-use Rattle.std.specs.List.{list_all}
-use Rattle.std.proofs.lemmas.List.Elements.{All-nil, All-cons}
+-- Declarations of types whose words spell one.
+use Rattle.std.proofs.Common.{◌≡◌, ℕ, List, Option, Some, None, Bool, sym, ap, ◌∙◌, refl, subst}
+use Rattle.std.specs.Prelude.{Ok, Err}
+use Rattle.std.specs.Option.{option_map}
 use Rattle.gc_types.specs.declared.kind.Layouts.{Layouts}
 use Rattle.gc_types.specs.declared.types.TypeFault.TheVariants as type_fault
+use Rattle.gc_types.specs.Declarable.{Declarable}
+use Rattle.gc_types.specs.declared.kind.TypeKind.TheVariants as kinds
 use Rattle.gc_types.specs.declared.value.FieldType.{FieldType}
-use Rattle.gc_types.specs.Declarations.{TypeName}
-use Rattle.gc_model.specs.Fits as model
+use Rattle.gc_types.specs.Declarations.{Declaration, TypeName, struct_type, array_type}
 use Rattle.gc_model.specs.Table.{declare}
 use Rattle.gc_model.specs.Stores.{StoreView}
-use Rattle.gc_store.specs.Stores.{IsSameStore, DeclaresStruct}
-use Rattle.gc_commands.specs.declared.command.Command.TheVariants.{Struct}
-use Rattle.gc_commands.specs.declared.command.FieldWord.{FieldWord}
-use Rattle.gc_commands.specs.declared.command.StorageWord.{StorageWord}
-use Rattle.gc_commands.specs.declared.command.StorageWord.TheVariants as storage
-use Rattle.gc_commands.specs.declared.command.ValueWord.{ValueWord}
-use Rattle.gc_commands.specs.declared.command.ValueWord.TheVariants as value
+use Rattle.gc_store.specs.Stores.{IsSameStore, Declares}
 use Rattle.gc_commands.specs.declared.reply.Reply.TheVariants as reply
+use Rattle.gc_commands.specs.declared.reply.Refusal.{Refusal}
 use Rattle.gc_commands.specs.declared.reply.Refusal.TheVariants as refusal
+use Rattle.gc_commands.specs.declared.command.FieldWord.{FieldWord}
 use Rattle.gc_script.specs.Slots.{RunnerView}
+use Rattle.gc_script.specs.Built.{kinds_with, field_of, fields_of, declared_struct, declared_array}
 use Rattle.gc_script.specs.State.{State, HoldsState, with_table}
-use Rattle.gc_script.specs.Built.{is_built, is_built_value, is_built_storage, is_built_field, value_type, storage_of, field_type, built_struct}
-use Rattle.gc_script.specs.Steps.{tests, first_failing, declared, bad}
-use Rattle.gc_script.specs.Shapes.{shape}
-use Rattle.gc_script.specs.Run.{GoesOn}
+use Rattle.gc_script.specs.Steps.{first_failing, declared, bad}
+use Rattle.gc_script.specs.Shapes.{declaring}
+use Rattle.gc_script.specs.Run.{Goes}
 use Rattle.gc_script.proofs.StandLemmas.{holds_kept, holds_same}
-use Rattle.gc_script.proofs.TestLemmas.{passes, answers_by}
+use Rattle.gc_script.proofs.TestLemmas.{answers_by}
 
-built_value : (w : ValueWord) → is_built_value w ≡ true → model.is_built_value (value_type w) ≡ true
-built_value value.I32 built = refl
-built_value value.I64 built = refl
-built_value value.F32 built = built
-built_value value.F64 built = built
-built_value value.V128 built = built
-built_value (value.Ref h nullable) built = refl
-
-built_storage : (w : StorageWord) → is_built_storage w ≡ true → model.is_built_storage (storage_of w) ≡ true
-built_storage storage.I8 built = built
-built_storage storage.I16 built = built
-built_storage (storage.Value w) built = built_value w built
-
-both_true : (a b : Bool) → (a && b) ≡ true → (a ≡ true) × (b ≡ true)
-both_true true b e = (refl, e)
-both_true false b e = absurd (cc e)
-
--- fields of a built form have types that are built
-pub built_fields : (fs : List FieldWord) → list_all is_built_field fs ≡ true → All (λ (f : FieldType). model.is_built_field f ≡ true) (map field_type fs)
-built_fields [] built = All-nil (λ (f : FieldType). model.is_built_field f ≡ true)
-built_fields (f ∷ fs) built =
-    let both = both_true (is_built_field f) (list_all is_built_field fs) built in
-    All-cons (λ (f : FieldType). model.is_built_field f ≡ true) (field_type f) (map field_type fs) (built_storage f.storage both.0) (built_fields fs both.1)
-
--- the fields of a declaration of a built form
-pub built_form : (is_final : Bool) (supertype : Option ℕ) (fs : List FieldWord) → is_built (Struct is_final supertype fs) ≡ true → (supertype ≡ None) × ((is_final ≡ false) × (list_all is_built_field fs ≡ true))
-built_form true supertype fs built = absurd (cc built)
-built_form false None fs built = (refl, (refl, built))
-built_form false (Some n) fs built = absurd (cc built)
-
-module _ (layouts : Layouts) (old new : StoreView ℕ) (runner : RunnerView) (s : State) (is_final : Bool) (supertype : Option ℕ) (fs : List FieldWord) (types : List FieldType) (is_form : is_built (Struct is_final supertype fs) ≡ true) (types_are : types ≡ map field_type fs) (same : IsSameStore old new) (holds : HoldsState layouts old runner s) where
-  passes_form : first_failing (tests layouts s (Struct is_final supertype fs)) ≡ None
-  passes_form = passes (not (is_built (Struct is_final supertype fs))) refusal.BadLine [] (ap not is_form)
-
+module _ (layouts : Layouts) (old new : StoreView ℕ) (runner : RunnerView) (s : State) (d : List Declaration → Option Declaration) (left : List (Bool × Refusal)) (pass : first_failing left ≡ None) (same : IsSameStore old new) (holds : HoldsState layouts old runner s) where
   -- a type was declared
-  pub struct_declared : (ty : TypeName) → DeclaresStruct layouts types s.table s.account (Ok ty) new → GoesOn layouts s (Struct is_final supertype fs) (Ok (reply.Declared ty.index)) new runner
-  struct_declared ty declares =
-      let did = subst (λ (ts : List FieldType). DeclaresStruct layouts ts s.table s.account (Ok ty) new) types_are declares in
-      let after : State = with_table (declare (built_struct fs) s.table) s in
+  pub type_declared : (spelled : Declaration) (ty : TypeName) (index : ℕ) → d s.table.types ≡ Some spelled → index ≡ ty.index → Declares layouts spelled s.table s.account (Ok ty) new → Goes layouts s (declaring d) left (reply.Declared index) new runner
+  type_declared spelled ty index is named declares =
+      let after : State = with_table (declare spelled s.table) s in
       record {
         after = after;
-        answers = answers_by layouts None s (shape (Struct is_final supertype fs)) (first_failing (tests layouts s (Struct is_final supertype fs))) None (reply.Declared ty.index) after passes_form
-            (declared did.0 (ap (λ (t : TypeName). reply.Declared t.index) did.1) refl);
+        answers = answers_by layouts None s (declaring d) (first_failing left) None (reply.Declared index) after pass
+            (declared spelled is declares.0 (ap reply.Declared (named ∙ ap (λ (t : TypeName). t.index) declares.1.0)) refl);
         account = refl;
-        holds = holds_kept layouts old new runner runner s (declare (built_struct fs) s.table) s.account same (λ i p e. e) (λ k. refl) refl holds did.2;
+        holds = holds_kept layouts old new runner runner s (declare spelled s.table) s.account same (λ i p e. e) (λ k. refl) refl holds declares.1.1;
       }
 
   -- the type may not be declared
-  pub struct_refused : DeclaresStruct layouts types s.table s.account (Err type_fault.BadType) new → GoesOn layouts s (Struct is_final supertype fs) (Ok (reply.Refused refusal.BadType)) new runner
-  struct_refused declares =
-      let did = subst (λ (ts : List FieldType). DeclaresStruct layouts ts s.table s.account (Err type_fault.BadType) new) types_are declares in
-      record {
-        after = s;
-        answers = answers_by layouts None s (shape (Struct is_final supertype fs)) (first_failing (tests layouts s (Struct is_final supertype fs))) None (reply.Refused refusal.BadType) s passes_form
-            (bad did.0 refl refl);
-        account = refl;
-        holds = holds_same layouts old new runner runner s same (λ k. refl) refl holds did.1;
-      }
+  pub type_refused : (spelled : Declaration) → d s.table.types ≡ Some spelled → Declares layouts spelled s.table s.account (Err type_fault.BadType) new → Goes layouts s (declaring d) left (reply.Refused refusal.BadType) new runner
+  type_refused spelled is declares = record {
+    after = s;
+    answers = answers_by layouts None s (declaring d) (first_failing left) None (reply.Refused refusal.BadType) s pass
+        (bad (λ other e. subst (λ (x : Declaration). ¬ Declarable s.table.types x) (cc (is, e)) declares.0) refl refl);
+    account = refl;
+    holds = holds_same layouts old new runner runner s same (λ k. refl) refl holds declares.1;
+  }
+
+-- what the words of an array's declaration spell
+pub spelled_array : (types seen : List Declaration) (is_final : Bool) (supertype index : Option ℕ) (word : FieldWord) (found : Option FieldType) (element : FieldType) → seen ≡ types → index ≡ supertype → found ≡ field_of (kinds_with seen kinds.Array) word → found ≡ Some element → declared_array is_final supertype word types ≡ Some (array_type element index is_final)
+spelled_array types seen is_final supertype index word found element same same_index told is =
+    ap (option_map (λ (f : FieldType). array_type f supertype is_final)) (ap (λ (ts : List Declaration). field_of (kinds_with ts kinds.Array) word) (sym same) ∙ sym told ∙ is)
+    ∙ ap (λ (o : Option ℕ). Some (array_type element o is_final)) (sym same_index)
+
+-- and those of a struct's
+pub spelled_struct : (types seen : List Declaration) (is_final : Bool) (supertype index : Option ℕ) (words : List FieldWord) (fields found : List FieldType) → seen ≡ types → index ≡ supertype → fields ≡ found → fields_of (kinds_with seen kinds.Struct) words ≡ Some found → declared_struct is_final supertype words types ≡ Some (struct_type fields index is_final)
+spelled_struct types seen is_final supertype index words fields found same same_index lent told =
+    ap (option_map (λ (fs : List FieldType). struct_type fs supertype is_final)) (ap (λ (ts : List Declaration). fields_of (kinds_with ts kinds.Struct) words) (sym same) ∙ told)
+    ∙ ap (λ (fs : List FieldType). Some (struct_type fs supertype is_final)) (sym lent)
+    ∙ ap (λ (o : Option ℕ). Some (struct_type fields o is_final)) (sym same_index)

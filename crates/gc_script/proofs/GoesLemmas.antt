@@ -1,14 +1,16 @@
 -- A command that asks no limiter is a step under any limit, and follows the policy.
-use Rattle.std.proofs.Common.{inl, ◌≡◌, ℕ, true, false, List, [], ◌∷◌, Option, Some, None, sym, ap, refl, subst}
-use Rattle.std.specs.Prelude.{Result, Ok, Err, not, unwrap_or}
+use Rattle.std.proofs.Common.{inl, ◌≡◌, ℕ, ◌==◌, Bool, true, false, cond, List, [], ◌∷◌, Option, Some, None, sym, ap, ◌∙◌, refl, subst}
+use Rattle.std.specs.Prelude.{Result, Ok, Err, not}
+use Rattle.std.proofs.lemmas.List.Concat.{flat_map-cons}
 use Rattle.gc_types.specs.declared.kind.Layouts.{Layouts}
 use Rattle.gc_types.specs.declared.value.FieldType.{FieldType}
-use Rattle.gc_types.specs.Declarations.{struct_fields_at}
+use Rattle.gc_types.specs.Declarations.{elem_at}
 use Rattle.gc_model.specs.Allocation.{Limits}
 use Rattle.gc_model.specs.Stores.{StoreView}
 use Rattle.gc_policy.specs.Policy as policy
+use Rattle.gc_store.specs.Requests.{fields_of}
 use Rattle.gc_commands.specs.declared.command.Command.{Command}
-use Rattle.gc_commands.specs.declared.command.Command.TheVariants.{Bad, New}
+use Rattle.gc_commands.specs.declared.command.Command.TheVariants.{Bad, Struct, Array, New, NewArr, Fixed, NewBytes, ReadBytes, I31, Field, Elem, Len, SetField, SetElem, Eq, Enter, Leave, Push, Pop, Store, Load, SetGlobal, GetGlobal, Gc, Grow, Cap}
 use Rattle.gc_commands.specs.declared.command.Operand.{Operand}
 use Rattle.gc_commands.specs.declared.reply.Reply.{Reply}
 use Rattle.gc_commands.specs.declared.reply.Reply.TheVariants as reply
@@ -18,11 +20,10 @@ use Rattle.gc_script.specs.declared.runner.RunError.{RunError}
 use Rattle.gc_script.specs.Slots.{RunnerView}
 use Rattle.gc_script.specs.State.{State, HoldsState, visible}
 use Rattle.gc_script.specs.Built.{is_built}
-use Rattle.gc_script.specs.Given.{Given, given}
-use Rattle.gc_script.specs.Shapes.{Shape, plain, declaring, making, growing, collecting, showing, shape, new_struct}
-use Rattle.gc_script.specs.Steps.{tests, built_tests, tests_of_values, struct_value_tests, heap_tests, first_failing, Answers, Does, declared, bad}
+use Rattle.gc_script.specs.Shapes.{Shape, plain, declaring, making, growing, collecting, showing, shape, new_struct, new_array, new_fixed}
+use Rattle.gc_script.specs.Steps.{tests, built_tests, value_tests, all_value_tests, element_tests, heap_tests, first_failing, Answers, Does, declared, bad}
 use Rattle.gc_script.specs.Policy.{policy_of, AsksNothing, FollowsTested, Came}
-use Rattle.gc_script.specs.Run.{SaysRefused, GoesOn, RunsOne, WantsAfter, wanted_bytes}
+use Rattle.gc_script.specs.Run.{SaysRefused, GoesOn, RunsOne, WantsAfter, wanted_bytes, asks_nothing}
 use Rattle.gc_script.proofs.CountLemmas.{tells, are_mild, append_mild, mild_found, says_other, counts_nothing}
 use Rattle.gc_script.proofs.TestLemmas.{stops, answers_by, follows_by}
 
@@ -45,23 +46,34 @@ pub mild : (c : Command) (s : State) → tells (plain_answer (shape c) s) ≡ fa
 mild Bad s = refl
 mild c s = refl
 
-pub values_mild : (gives : Operand → Given) (fs : List FieldType) (vs : List Operand) → are_mild (tests_of_values gives fs vs) ≡ true
-values_mild gives [] [] = refl
-values_mild gives [] (v ∷ vs) = refl
-values_mild gives (f ∷ fs) [] = refl
-values_mild gives (f ∷ fs) (v ∷ vs) = values_mild gives fs vs
+values_mild : (s : State) (fs : List FieldType) (vs : List Operand) → are_mild (all_value_tests s fs vs) ≡ true
+values_mild s [] vs = refl
+values_mild s (f ∷ fs) [] = refl
+values_mild s (f ∷ fs) (v ∷ vs) = values_mild s fs vs
+
+elements_mild : (s : State) (element : Option FieldType) (vs : List Operand) → are_mild (element_tests s element vs) ≡ true
+elements_mild s element [] = refl
+elements_mild s element (v ∷ vs) = ap are_mild (flat_map-cons (value_tests s element) v vs) ∙ elements_mild s element vs
+
+value_mild : (s : State) (element : Option FieldType) (v : Operand) (none : Bool) → are_mild (cond none [] (value_tests s element v)) ≡ true
+value_mild s element v true = refl
+value_mild s element v false = refl
 
 -- and no test does
 pub all_mild : (layouts : Layouts) (s : State) (c : Command) → are_mild (tests layouts s c) ≡ true
 all_mild layouts s (New d t vs) =
-    append_mild (struct_value_tests s t vs) (heap_tests layouts s (new_struct s t vs)) (values_mild (given s) (unwrap_or (struct_fields_at s.table.types t) []) vs) refl
+    append_mild (all_value_tests s (fields_of s.table.types t) vs) (heap_tests layouts s (new_struct s t vs)) (values_mild s (fields_of s.table.types t) vs) refl
+all_mild layouts s (NewArr d t n v) =
+    append_mild (cond (n == 0) [] (value_tests s (elem_at s.table.types t) v)) (heap_tests layouts s (new_array s t n v)) (value_mild s (elem_at s.table.types t) v (n == 0)) refl
+all_mild layouts s (Fixed d t vs) =
+    append_mild (element_tests s (elem_at s.table.types t) vs) (heap_tests layouts s (new_fixed s t vs)) (elements_mild s (elem_at s.table.types t) vs) refl
 all_mild layouts s c = refl
 
 module _ (layouts : Layouts) (limit : Option ℕ) (s : State) (answer : Reply) (s' : State) where
   -- what it does is the same under any limit, and the reply says nothing of pages that were refused
   does_any : (sh : Shape) → tells (plain_answer sh (visible s)) ≡ false → AsksNone sh → Does layouts None s sh answer s' → Does layouts limit s sh answer s' × (¬ SaysRefused answer)
   does_any (plain effect) mild asks does = (does, says_other answer _ does.0 mild)
-  does_any (declaring d) mild asks (declared may said after) = (declared may said after, says_other answer _ said refl)
+  does_any (declaring d) mild asks (declared new is may said after) = (declared new is may said after, says_other answer _ said refl)
   does_any (declaring d) mild asks (bad may said after) = (bad may said after, says_other answer _ said refl)
   does_any (making d class object) mild asks does = absurd asks
   does_any (growing n) mild asks does = absurd asks
@@ -131,7 +143,58 @@ goes_runs layouts counter limits s c (Ok answer) new runner asks goes =
     }
 goes_runs layouts counter limits s c (Err e) new runner asks goes = record { wants = wants_nothing layouts counter limits s (shape c) (first_failing (tests layouts s c)) new runner goes }
 
--- the same of a command that is known
-pub runs_as : (layouts : Layouts) (counter : Option ℕ) (limits : Limits) (s : State) (c known : Command) (result : Result Reply RunError) (new : StoreView ℕ) (runner : RunnerView) → c ≡ known → AsksNone (shape known) → GoesOn layouts s known result new runner → RunsOne layouts counter limits limits s c result new runner
-runs_as layouts counter limits s c known result new runner is asks goes =
-    subst (λ (x : Command). RunsOne layouts counter limits limits s x result new runner) (sym is) (goes_runs layouts counter limits s known result new runner asks goes)
+-- the commands that ask none are of such a shape
+pub asks_none : (c : Command) → asks_nothing c ≡ true → AsksNone (shape c)
+asks_none (Struct is_final supertype fs) e = tt
+asks_none (Array is_final supertype element) e = tt
+asks_none (ReadBytes r n) e = tt
+asks_none (I31 d n) e = tt
+asks_none (Field r i into) e = tt
+asks_none (Elem r i into) e = tt
+asks_none (Len r) e = tt
+asks_none (SetField r i v) e = tt
+asks_none (SetElem r i v) e = tt
+asks_none (Eq r q) e = tt
+asks_none Enter e = tt
+asks_none Leave e = tt
+asks_none (Push k) e = tt
+asks_none Pop e = tt
+asks_none (Store k r) e = tt
+asks_none (Load k d) e = tt
+asks_none (SetGlobal g r) e = tt
+asks_none (GetGlobal g d) e = tt
+asks_none Cap e = tt
+asks_none c e = absurd (cc e)
+
+-- a command that is known goes as it does
+pub goes_as : (layouts : Layouts) (s : State) (c known : Command) (result : Result Reply RunError) (new : StoreView ℕ) (runner : RunnerView) → c ≡ known → GoesOn layouts s known result new runner → GoesOn layouts s c result new runner
+goes_as layouts s c known result new runner is goes = subst (λ (x : Command). GoesOn layouts s x result new runner) (sym is) goes
+
+-- the other commands that are built make, collect or grow
+pub others_ask : (c : Command) → is_built c ≡ true → ((d t : ℕ) (vs : List Operand) → ¬ (c ≡ New d t vs)) → ((d t n : ℕ) (v : Operand) → ¬ (c ≡ NewArr d t n v)) → ((d t : ℕ) (vs : List Operand) → ¬ (c ≡ Fixed d t vs)) → ((d t : ℕ) (bytes : List ℕ) → ¬ (c ≡ NewBytes d t bytes)) → ¬ (c ≡ Gc) → ((n : ℕ) → ¬ (c ≡ Grow n)) → asks_nothing c ≡ true
+others_ask (Struct is_final supertype fs) built s a f b g p = refl
+others_ask (Array is_final supertype element) built s a f b g p = refl
+others_ask (New d t vs) built s a f b g p = absurd (s d t vs refl)
+others_ask (NewArr d t n v) built s a f b g p = absurd (a d t n v refl)
+others_ask (Fixed d t vs) built s a f b g p = absurd (f d t vs refl)
+others_ask (NewBytes d t bytes) built s a f b g p = absurd (b d t bytes refl)
+others_ask (ReadBytes r n) built s a f b g p = refl
+others_ask (I31 d n) built s a f b g p = refl
+others_ask (Field r i into) built s a f b g p = refl
+others_ask (Elem r i into) built s a f b g p = refl
+others_ask (Len r) built s a f b g p = refl
+others_ask (SetField r i v) built s a f b g p = refl
+others_ask (SetElem r i v) built s a f b g p = refl
+others_ask (Eq r q) built s a f b g p = refl
+others_ask Enter built s a f b g p = refl
+others_ask Leave built s a f b g p = refl
+others_ask (Push k) built s a f b g p = refl
+others_ask Pop built s a f b g p = refl
+others_ask (Store k r) built s a f b g p = refl
+others_ask (Load k d) built s a f b g p = refl
+others_ask (SetGlobal k r) built s a f b g p = refl
+others_ask (GetGlobal k d) built s a f b g p = refl
+others_ask Gc built s a f b g p = absurd (g refl)
+others_ask (Grow n) built s a f b g p = absurd (p n refl)
+others_ask Cap built s a f b g p = refl
+others_ask c built s a f b g p = absurd (cc built)

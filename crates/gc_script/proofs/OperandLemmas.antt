@@ -7,7 +7,7 @@ use Rattle.gc_store.specs.declared.root.RawValue.{RawValue}
 use Rattle.gc_commands.specs.declared.command.Operand.{Operand}
 use Rattle.gc_script.specs.State.{Stands}
 use Rattle.gc_script.specs.Given.{held_operand, given, is_unset}
-use Rattle.gc_script.proofs.NamedLemmas.{unset_held}
+use Rattle.gc_script.proofs.FoundLemmas.{unset_held}
 use Rattle.gc_script.specs.Values.{HoldsOperand, HoldsOperands, HasUnset}
 
 all_zip_push : {A B : Type 0} (R : A → B → Type 0) (xs : List A) (ys : List B) (x : A) (y : B) → AllZip R xs ys → R x y → AllZip R (xs ++ x ∷ []) (ys ++ y ∷ [])

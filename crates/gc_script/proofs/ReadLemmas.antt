@@ -2,42 +2,42 @@
 use Rattle.std.proofs.Common.{inl, inr, ◌≡◌, ◌≢◌, ℕ, ◌==◌, ◌<◌, suc, List, [], ◌∷◌, ◌++◌, length, Option, Some, None, Bool, true, false, cond, eqb, sym, ap, ◌∙◌, refl, subst, arith}
 use Rattle.std.specs.List.{slice_get}
 use Rattle.std.proofs.lemmas.Grind.{common_steps}
-use Rattle.std.proofs.lemmas.Option.{slice_get_within, slice_get_cases}
+use Rattle.std.proofs.lemmas.Option.{none-some, slice_get_within, slice_get_cases}
 use Rattle.gc_types.specs.declared.kind.Layouts.{Layouts}
 use Rattle.gc_types.specs.declared.value.StorageType.{StorageType}
-use Rattle.gc_types.specs.declared.value.StorageType.TheVariants as storage
-use Rattle.gc_types.specs.declared.value.ValType.TheVariants as val
 use Rattle.gc_types.specs.declared.value.Func.{Func}
-use Rattle.gc_types.specs.declared.value.ValType.{ValType}
+use Rattle.gc_types.specs.Layouts.{storage_width}
 use Rattle.gc_owner.specs.declared.entry.GcClass.{GcClass}
 use Rattle.gc_owner.specs.declared.entry.RootEntry.{RootEntry}
 use Rattle.gc_model.specs.Values.{Reference, null, small, at, Value, numeric, i32, i64, f32, f64, v128, function}
 use Rattle.gc_model.specs.Values as values
 use Rattle.gc_model.specs.Table.{Table, Scoped, push}
 use Rattle.gc_model.specs.Live.{rooted, rooted_among}
-use Rattle.gc_model.specs.Fits.{fits, fits_type}
+use Rattle.gc_model.specs.Forms.{IsCode, LiesAs, number_at}
 use Rattle.gc_model.specs.Reads.{after_read}
 use Rattle.gc_model.specs.Stores.{StoreView}
-use Rattle.gc_model.specs.Holds.{HoldsTable}
-use Rattle.gc_model.proofs.Lists.{slice_get-push_new, slice_get-same_length}
+use Rattle.gc_model.specs.Holds.{Placing, naming, HoldsTable}
+use Rattle.gc_model.proofs.Lists.{slice_get-push_new}
+use Rattle.gc_model.proofs.ObjectStands.{value_lying}
 use Rattle.gc_store.specs.declared.root.GcRootIndex.{GcRootIndex}
 use Rattle.gc_store.specs.declared.root.RawValue.{RawValue}
+use Rattle.gc_commands.specs.declared.reply.Reply.{Reply}
 use Rattle.gc_commands.specs.declared.reply.Reply.TheVariants as reply
-use Rattle.gc_commands.specs.declared.reply.ReplyValue.{ReplyValue}
 use Rattle.gc_commands.specs.declared.reply.Refusal.{Refusal}
 use Rattle.gc_policy.specs.Accounts.{HoldsAccount}
 use Rattle.gc_store.specs.Stores.{IsSameStore}
-use Rattle.gc_store.specs.Roots.{Names, HasField, handle_of}
+use Rattle.gc_store.specs.Roots.{Names, HasValue, handle_of}
 use Rattle.gc_store.specs.Values.{RawStands, RootStands, IsReadAs}
 use Rattle.gc_script.specs.Slots.{RunnerView, register_at}
 use Rattle.gc_script.specs.State.{State, Held, number, reference, Stands, HoldsState, with_table, put_into, visible, over}
-use Rattle.gc_script.specs.Shapes.{shown, held_value, reads, plain}
+use Rattle.gc_script.specs.Shapes.{Shape, shown, held_value, reads, plain}
 use Rattle.gc_script.specs.Steps.{first_failing}
 use Rattle.gc_script.specs.Run.{Goes}
 use Rattle.gc_script.specs.Named.{register_with}
+use Rattle.gc_script.specs.Values.{ShowsRead}
 use Rattle.gc_script.proofs.StandLemmas.{Keeps, holds_table, stands_kept, keeps_pushed, keeps_same}
 use Rattle.gc_script.proofs.TestLemmas.{answers_by}
-use Rattle.gc_script.proofs.TargetLemmas.{typed_struct}
+use Rattle.gc_script.proofs.ObjectLemmas.{held_object}
 
 -- a root at the end is found by its serial, where no other has it
 rooted_at_end : (serial : ℕ) (roots : List Scoped) (r : Reference) → ((i : ℕ) (root : Scoped) → slice_get roots i ≡ Some root → root.serial ≢ serial) → rooted_among serial (roots ++ record { serial = serial; reference = r } ∷ []) ≡ Some r
@@ -76,10 +76,8 @@ module _ (layouts : Layouts) (s : StoreView ℕ) (t : Table ℕ) (holds : HoldsT
   -- and stands for what it was pushed for
   root_pushed : (new : StoreView ℕ) (class : GcClass) (r : Reference) → RootStands new (push r t) class (handle_of new (length t.scoped) t.drops) (values.reference class r)
   root_pushed new class r = record {
-    serial = length t.pushes;
-    names = names_pushed new r;
     root = r;
-    live = rooted_push r;
+    named = record { serial = length t.pushes; names = names_pushed new r; live = rooted_push r };
     is = refl;
   }
 
@@ -131,25 +129,18 @@ keeps_read t (values.reference c null) = keeps_same t.pushes t.pushes refl
 keeps_read t (values.reference c (small n)) = keeps_pushed t.pushes (push (small n) t).pushes (record { index = length t.scoped; generation = t.drops }) refl
 keeps_read t (values.reference c (at p)) = keeps_pushed t.pushes (push (at p) t).pushes (record { index = length t.scoped; generation = t.drops }) refl
 
-no_function_fits : (ty : ValType) (v : Value) → fits_type ty v ≡ true → (f : Option Func) → ¬ (v ≡ function f)
-no_function_fits val.I32 v e f is = cc (sym (ap (fits_type val.I32) is) ∙ e)
-no_function_fits val.I64 v e f is = cc (sym (ap (fits_type val.I64) is) ∙ e)
-no_function_fits val.F32 v e f is = cc e
-no_function_fits val.F64 v e f is = cc e
-no_function_fits val.V128 v e f is = cc e
-no_function_fits (val.Ref ty) v e f is = cc (sym (ap (fits_type (val.Ref ty)) is) ∙ e)
+-- no value that lies in an object is a function, as there are none
+lies_no_function : (t : Table ℕ) (place : Placing) (ty : StorageType) (v : Value) (bytes : List ℕ) (offset : ℕ) → t.funcs ≡ [] → LiesAs (naming place t.funcs) ty v bytes offset → (f : Option Func) → ¬ (v ≡ function f)
+lies_no_function t place ty v bytes offset none lies f is =
+    let code : IsCode (naming place t.funcs) (function f) (number_at (storage_width ty) bytes offset) = subst (λ (x : Value). IsCode (naming place t.funcs) x (number_at (storage_width ty) bytes offset)) is lies.code in
+    none-some f (ap (λ (fs : List (Option Func)). slice_get fs (number_at (storage_width ty) bytes offset)) (sym none) ∙ code)
 
-no_function : (ty : StorageType) (v : Value) → fits ty v ≡ true → (f : Option Func) → ¬ (v ≡ function f)
-no_function storage.I8 v e f is = cc e
-no_function storage.I16 v e f is = cc e
-no_function (storage.ValType ty) v e f is = no_function_fits ty v e f is
-
--- no field of a struct holds a function
-pub field_no_function : (layouts : Layouts) (s : StoreView ℕ) (t : Table ℕ) → HoldsTable layouts s t → (root : GcRootIndex) (index : ℕ) (v : Value) → HasField s t root index v → (f : Option Func) → ¬ (v ≡ function f)
-field_no_function layouts s t holds root index v has =
-    let typed = typed_struct layouts s t holds has.serial has.position has.ty has.values has.live has.object in
-    let field = slice_get-same_length has.values typed.fields index v typed.same_count has.value_at in
-    no_function field.0.element_type v (typed.fit index field.0 v field.1 has.value_at)
+-- no value of what a root names is a function
+pub value_no_function : (layouts : Layouts) (s : StoreView ℕ) (t : Table ℕ) → HoldsTable layouts s t → (root : GcRootIndex) (index : ℕ) (v : Value) → HasValue s t root index v → (f : Option Func) → ¬ (v ≡ function f)
+value_no_function layouts s t holds root index v has =
+    let held = held_object layouts s t holds root has.position has.object has.named has.object_is in
+    let lying = value_lying layouts t.types (naming holds.0 t.funcs) has.object held.0 held.1 index v has.value_at in
+    lies_no_function t holds.0 lying.slot.storage v held.0.bytes _ holds.1.nothing_else.funcs lying.lies
 
 -- what a register holds once a value was put into one, where the others hold the same
 pub register_with-same : (into : Option ℕ) (r : RawValue) (slots slots' : List (Option RawValue)) → ((d : ℕ) → register_at slots d ≡ register_at slots' d) → (d : ℕ) → register_with into r slots d ≡ register_with into r slots' d
@@ -170,23 +161,32 @@ read_over (values.reference c (at p)) into s = refl
 read_over v into s = refl
 
 -- A value was read by a command whose tests pass.
-pub read_goes : (layouts : Layouts) (store new : StoreView ℕ) (runner runner' : RunnerView) (s : State) (value_of : State → Value) (into : Option ℕ) (v : Value) (r : RawValue) (shows : ReplyValue) (left : List (Bool × Refusal)) → first_failing left ≡ None → value_of (visible s) ≡ v → ((f : Option Func) → ¬ (v ≡ function f)) → IsSameStore store new → HoldsState layouts store runner s → runner'.marks ≡ runner.marks → ((d : ℕ) → register_at runner'.registers d ≡ register_with into r runner.registers d) → IsReadAs new s.table v r → HoldsAccount layouts new (after_read v s.table) s.account → (RawStands new (after_read v s.table) r v → shows ≡ shown (after_read v s.table) v) → Goes layouts s (plain (λ (x : State). reads (value_of x) into x)) left (reply.Value shows) new runner'
-read_goes layouts store new runner runner' s value_of into v r shows left pass value_is other same holds marks_are slots_are is_read table shows_it =
-    let held = held_value s.table v in
-    let t = after_read v s.table in
-    let shown_is : shows ≡ shown s.table v = shows_it (read_stands layouts store s.table (holds_table holds.table) new v r is_read) ∙ shown_after s.table v in
-    let kept : (d : ℕ) → Stands new t (register_at runner.registers d) (s.registers d) =
-    λ d. stands_kept store new s.table t (register_at runner.registers d) (s.registers d) same (keeps_read s.table v) (holds.registers d) in
-    let put = put_stands new t runner.registers (with_table t s) into r held kept (register_stands layouts store s.table (holds_table holds.table) new v r other is_read) in
-    record {
-      after = put_into into held (with_table t s);
-      answers = answers_by layouts None s (plain (λ (x : State). reads (value_of x) into x)) (first_failing left) None (reply.Value shows) _ pass
-          (ap reply.Value (shown_is ∙ ap (shown s.table) (sym value_is)), read_over v into s ∙ ap (λ (x : Value). over s (reads x into (visible s)).1) (sym value_is));
-      account = refl;
-      holds = record {
-        table = table;
-        registers = λ d. subst (λ (o : Option RawValue). Stands new t o ((put_into into held (with_table t s)).registers d)) (sym (slots_are d)) (put d);
-        no_owned = holds.no_owned;
-        marks = marks_are ∙ holds.marks;
-      };
-    }
+module _ (layouts : Layouts) (store new : StoreView ℕ) (runner runner' : RunnerView) (s : State) (same : IsSameStore store new) (holds : HoldsState layouts store runner s) (marks_are : runner'.marks ≡ runner.marks)
+    (value_of : State → Value) (into : Option ℕ) (v : Value) (value_is : value_of (visible s) ≡ v) (left : List (Bool × Refusal)) where
+  abbrev pub reading : Shape
+  reading = plain (λ (x : State). reads (value_of x) into x)
+
+  module _ (r : RawValue) (answer : Reply) (pass : first_failing left ≡ None) (other : (f : Option Func) → ¬ (v ≡ function f))
+      (slots_are : (d : ℕ) → register_at runner'.registers d ≡ register_with into r runner.registers d) (is_read : IsReadAs new s.table v r)
+      (table : HoldsAccount layouts new (after_read v s.table) s.account) (shows : ShowsRead layouts new r answer) where
+    pub read_goes : Goes layouts s reading left answer new runner'
+    read_goes =
+        let held = held_value s.table v in
+        let t = after_read v s.table in
+        let shown_is : answer ≡ reply.Value (shown s.table v) =
+        shows t v (holds_table table) (read_stands layouts store s.table (holds_table holds.table) new v r is_read) ∙ ap reply.Value (shown_after s.table v) in
+        let kept : (d : ℕ) → Stands new t (register_at runner.registers d) (s.registers d) =
+        λ d. stands_kept store new s.table t (register_at runner.registers d) (s.registers d) same (keeps_read s.table v) (holds.registers d) in
+        let put = put_stands new t runner.registers (with_table t s) into r held kept (register_stands layouts store s.table (holds_table holds.table) new v r other is_read) in
+        record {
+          after = put_into into held (with_table t s);
+          answers = answers_by layouts None s reading (first_failing left) None answer _ pass
+              (shown_is ∙ ap (λ (x : Value). reply.Value (shown s.table x)) (sym value_is), read_over v into s ∙ ap (λ (x : Value). over s (reads x into (visible s)).1) (sym value_is));
+          account = refl;
+          holds = record {
+            table = table;
+            registers = λ d. subst (λ (o : Option RawValue). Stands new t o ((put_into into held (with_table t s)).registers d)) (sym (slots_are d)) (put d);
+            no_owned = holds.no_owned;
+            marks = marks_are ∙ holds.marks;
+          };
+        }

@@ -117,3 +117,8 @@ begins layouts store runner t a holds none = record {
   no_owned = λ o. refl;
   marks = ap (λ (r : RunnerView). r.marks) none;
 }
+
+-- what a register of the runner holds stands for that of the state
+pub register_held : (layouts : Layouts) (store : StoreView ℕ) (runner view : RunnerView) (s : State) (r : ℕ) (value : Option RawValue) → view ≡ runner → value ≡ register_at view.registers r → HoldsState layouts store runner s → Stands store s.table value (s.registers r)
+register_held layouts store runner view s r value same is holds =
+    subst (λ (o : Option RawValue). Stands store s.table o (s.registers r)) (sym (is ∙ ap (λ (x : RunnerView). register_at x.registers r) same)) (holds.registers r)

@@ -1,5 +1,6 @@
 -- The first test that is true.
 use Rattle.std.proofs.Common.{◌≡◌, ℕ, List, [], ◌∷◌, ◌++◌, Option, Some, None, Bool, true, false, cond, sym, ap, refl, subst}
+use Rattle.std.specs.Prelude.{Result, Ok, Err}
 use Rattle.gc_types.specs.declared.kind.Layouts.{Layouts}
 use Rattle.gc_model.specs.Allocation.{Limits}
 use Rattle.gc_model.specs.Stores.{StoreView}
@@ -12,7 +13,8 @@ use Rattle.gc_script.specs.State.{State, HoldsState}
 use Rattle.gc_script.specs.Shapes.{Shape, shape}
 use Rattle.gc_script.specs.Steps.{first_failing, tests, Answers}
 use Rattle.gc_script.specs.Policy.{FollowsTested}
-use Rattle.gc_script.specs.Run.{Goes}
+use Rattle.gc_script.specs.Run.{Goes, GoesBy}
+use Rattle.gc_script.specs.declared.runner.RunError.{RunError}
 
 -- a test that is false is passed over
 pub passes : (t : Bool) (why : Refusal) (ts : List (Bool × Refusal)) → t ≡ false → first_failing ((t, why) ∷ ts) ≡ first_failing ts
@@ -42,11 +44,24 @@ answers_by layouts limit s sh found known answer s' e answers = subst (λ (o : O
 pub follows_by : (layouts : Layouts) (counter : Option ℕ) (s : State) (limits : Limits) (sh : Shape) (found known : Option Refusal) (answer : Reply) (s' : State) (limits' : Limits) → found ≡ known → FollowsTested layouts counter s limits sh known answer s' limits' → FollowsTested layouts counter s limits sh found answer s' limits'
 follows_by layouts counter s limits sh found known answer s' limits' e follows = subst (λ (o : Option Refusal). FollowsTested layouts counter s limits sh o answer s' limits') (sym e) follows
 
+-- the same tests, once some passed
+pub goes_by : (layouts : Layouts) (s : State) (sh : Shape) (left left' : List (Bool × Refusal)) (result : Result Reply RunError) (new : StoreView ℕ) (runner : RunnerView) → first_failing left' ≡ first_failing left → GoesBy layouts s sh left result new runner → GoesBy layouts s sh left' result new runner
+goes_by layouts s sh left left' (Ok answer) new runner e goes = record {
+  after = goes.after;
+  answers = answers_by layouts None s sh (first_failing left') (first_failing left) answer goes.after e goes.answers;
+  account = goes.account;
+  holds = goes.holds;
+}
+goes_by layouts s sh left left' (Err why) new runner e goes = goes
+
 -- a command that is refused changes nothing
-pub refuses : (layouts : Layouts) (store : StoreView ℕ) (runner : RunnerView) (s : State) (c : Command) (why : Refusal) → HoldsState layouts store runner s → first_failing (tests layouts s c) ≡ Some why → Goes layouts s (shape c) (tests layouts s c) (reply.Refused why) store runner
-refuses layouts store runner s c why holds e = record {
+pub refuses_by : (layouts : Layouts) (store : StoreView ℕ) (runner : RunnerView) (s : State) (sh : Shape) (left : List (Bool × Refusal)) (why : Refusal) → HoldsState layouts store runner s → first_failing left ≡ Some why → Goes layouts s sh left (reply.Refused why) store runner
+refuses_by layouts store runner s sh left why holds e = record {
   after = s;
-  answers = answers_by layouts None s (shape c) (first_failing (tests layouts s c)) (Some why) (reply.Refused why) s e (refl, refl);
+  answers = answers_by layouts None s sh (first_failing left) (Some why) (reply.Refused why) s e (refl, refl);
   account = refl;
   holds = holds;
 }
+
+pub refuses : (layouts : Layouts) (store : StoreView ℕ) (runner : RunnerView) (s : State) (c : Command) (why : Refusal) → HoldsState layouts store runner s → first_failing (tests layouts s c) ≡ Some why → Goes layouts s (shape c) (tests layouts s c) (reply.Refused why) store runner
+refuses layouts store runner s c why holds e = refuses_by layouts store runner s (shape c) (tests layouts s c) why holds e

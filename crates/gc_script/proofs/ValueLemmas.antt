@@ -1,22 +1,27 @@
 -- What a value that a register or an operand holds is found to be.
-use Rattle.std.proofs.Common.{◌≡◌, ℕ, Option, Some, None, true, sym, ap, refl, subst, arith}
+use Rattle.std.proofs.Common.{◌≡◌, ℕ, Option, Some, None, true, false, sym, ap, ◌∙◌, refl, subst, arith}
 use Rattle.std.specs.Prelude.{Result, Ok, Err, is_ok}
 use Rattle.std.proofs.lemmas.Option.{none-some}
+use Rattle.gc_types.specs.declared.kind.Layouts.{Layouts}
 use Rattle.gc_owner.specs.declared.entry.GcClass.{GcClass}
-use Rattle.gc_model.specs.Values.{Reference, null, Value, numeric, i32, i64, f32, f64, v128, function}
+use Rattle.gc_model.specs.Values.{Reference, null, Value}
 use Rattle.gc_model.specs.Values as values
 use Rattle.gc_model.specs.Table.{Table}
 use Rattle.gc_model.specs.Live.{rooted}
 use Rattle.gc_model.specs.Stores.{StoreView}
+use Rattle.gc_model.specs.Holds.{HoldsTable}
 use Rattle.gc_store.specs.declared.root.GcRootIndex.{GcRootIndex}
 use Rattle.gc_store.specs.declared.root.RawValue.{RawValue}
 use Rattle.gc_store.specs.declared.root.RawValue.TheVariants as raw
 use Rattle.gc_store.specs.declared.root.RootFault.{RootFault}
+use Rattle.gc_store.specs.declared.root.RootFault.TheVariants as fault
 use Rattle.gc_store.specs.declared.root.RootedObject.{RootedObject}
-use Rattle.gc_store.specs.Roots.{Names, TellsRoot}
+use Rattle.gc_store.specs.Roots.{Names, NamesReference, NamesNothing, TellsReference, is_of_store, handle_of}
+use Rattle.gc_store.specs.Values.{RawStands}
+use Rattle.gc_store.proofs.Roots.{names-store}
 use Rattle.gc_script.specs.State.{Held, number, reference, Stands}
 use Rattle.gc_script.specs.Given.{gone, is, given_held, given_root}
-use Rattle.gc_script.specs.Values.{raw_handle, IsFound}
+use Rattle.gc_script.specs.Values.{raw_handle, raw_slot, is_function, IsFound}
 
 -- what is no handle stands for a value
 pub found_plain : (s : StoreView ℕ) (t : Table ℕ) (r : RawValue) (held : Option Held) → raw_handle r ≡ None → Stands s t (Some r) held → IsFound s t r (given_held t held) true
@@ -50,27 +55,77 @@ found_plain s t (raw.Ref class None) (Some (reference c None)) plain stands = (v
 found_plain s t (raw.Ref class None) (Some (reference c (Some k))) plain stands = absurd stands
 found_plain s t (raw.Ref class (Some handle)) held plain stands = absurd (none-some handle (sym plain))
 
--- a root is gone, or it stands for what it names
-found_root : (s : StoreView ℕ) (t : Table ℕ) (class class' : GcClass) (handle : GcRootIndex) (serial : ℕ) (o : Option Reference) (answer : Result RootedObject RootFault) → class ≡ class' → Names s t handle serial → rooted t serial ≡ o → TellsRoot t o answer → IsFound s t (raw.Ref class (Some handle)) (given_root class' o) (is_ok answer)
-found_root s t class class' handle serial None answer same names live tells =
-    subst (λ (x : Result RootedObject RootFault). IsFound s t (raw.Ref class (Some handle)) gone (is_ok x)) (sym tells) refl
-found_root s t class class' handle serial (Some r) (Ok x) same names live tells =
-    (values.reference class r, (ap (λ (y : GcClass). is (values.reference y r)) (sym same), record { serial = serial; names = names; root = r; live = live; is = refl }))
-found_root s t class class' handle serial (Some r) (Err e) same names live tells = absurd tells
+-- no register holds a function
+pub held_no_function : (s : StoreView ℕ) (t : Table ℕ) (r : RawValue) (held : Option Held) → Stands s t (Some r) held → is_function r ≡ false
+held_no_function s t (raw.I32 n) held stands = refl
+held_no_function s t (raw.I64 n) held stands = refl
+held_no_function s t (raw.F32 n) held stands = refl
+held_no_function s t (raw.F64 n) held stands = refl
+held_no_function s t (raw.V128 n) held stands = refl
+held_no_function s t (raw.Func f) None stands = absurd stands
+held_no_function s t (raw.Func f) (Some (number v)) stands = absurd stands
+held_no_function s t (raw.Func f) (Some (reference c None)) stands = absurd stands
+held_no_function s t (raw.Func f) (Some (reference c (Some k))) stands = absurd stands
+held_no_function s t (raw.Ref class handle) held stands = refl
 
--- so of a handle, by what the store answers
-pub found_handle : (s : StoreView ℕ) (t : Table ℕ) (r : RawValue) (held : Option Held) (handle : GcRootIndex) (answer : Result RootedObject RootFault) → raw_handle r ≡ Some handle → ((serial : ℕ) → Names s t handle serial → TellsRoot t (rooted t serial) answer) → Stands s t (Some r) held → IsFound s t r (given_held t held) (is_ok answer)
-found_handle s t (raw.I32 n) held handle answer is_handle tells stands = absurd (none-some handle is_handle)
-found_handle s t (raw.I64 n) held handle answer is_handle tells stands = absurd (none-some handle is_handle)
-found_handle s t (raw.F32 n) held handle answer is_handle tells stands = absurd (none-some handle is_handle)
-found_handle s t (raw.F64 n) held handle answer is_handle tells stands = absurd (none-some handle is_handle)
-found_handle s t (raw.V128 n) held handle answer is_handle tells stands = absurd (none-some handle is_handle)
-found_handle s t (raw.Func f) held handle answer is_handle tells stands = absurd (none-some handle is_handle)
-found_handle s t (raw.Ref class None) held handle answer is_handle tells stands = absurd (none-some handle is_handle)
-found_handle s t (raw.Ref class (Some h)) None handle answer is_handle tells stands = absurd stands
-found_handle s t (raw.Ref class (Some h)) (Some (number v)) handle answer is_handle tells stands = absurd stands
-found_handle s t (raw.Ref class (Some h)) (Some (reference c None)) handle answer is_handle tells stands = absurd stands
-found_handle s t (raw.Ref class (Some h)) (Some (reference c (Some serial))) handle answer is_handle tells stands =
-    let same : h ≡ handle = grind (arith, is_handle) in
-    found_root s t class c h serial (rooted t serial) answer stands.0 stands.1 refl
-    (tells serial (subst (λ (x : GcRootIndex). Names s t x serial) same stands.1))
+-- a handle names one reference
+pub names_one : (layouts : Layouts) (s : StoreView ℕ) (t : Table ℕ) → HoldsTable layouts s t → (handle : GcRootIndex) (x y : ℕ) → Names s t handle x → Names s t handle y → x ≡ y
+names_one layouts s t holds handle x y a b =
+    let same : handle_of s b.push.index b.push.generation ≡ handle_of s a.push.index a.push.generation = sym b.is ∙ a.is in
+    let index : b.push.index ≡ a.push.index = grind (arith, ap (λ (h : GcRootIndex). h.slot) same) in
+    holds.1.pushes.apart x y a.push a.pushed (b.pushed ∙ (λ i. Some (record { index = index i; generation = (same i).generation })))
+
+pub same_root : (layouts : Layouts) (s : StoreView ℕ) (t : Table ℕ) → HoldsTable layouts s t → (handle : GcRootIndex) (r q : Reference) → NamesReference s t handle r → NamesReference s t handle q → r ≡ q
+same_root layouts s t holds handle r q a b =
+    let both : Some r ≡ Some q = sym a.live ∙ ap (rooted t) (names_one layouts s t holds handle a.serial b.serial a.names b.names) ∙ b.live in
+    grind (arith, both)
+
+-- one that names a push whose root is gone names nothing
+pub names_gone : (layouts : Layouts) (s : StoreView ℕ) (t : Table ℕ) → HoldsTable layouts s t → (handle : GcRootIndex) (serial : ℕ) → Names s t handle serial → rooted t serial ≡ None → NamesNothing s t handle
+names_gone layouts s t holds handle serial names is_gone r named =
+    none-some r (sym is_gone ∙ ap (rooted t) (names_one layouts s t holds handle serial named.serial names named.names) ∙ named.live)
+
+module _ (layouts : Layouts) (s : StoreView ℕ) (t : Table ℕ) (holds : HoldsTable layouts s t) (handle : GcRootIndex) (answer : Result RootedObject RootFault)
+    (live : (r : Reference) → NamesReference s t handle r → TellsReference t r answer) (nothing : is_of_store s handle ≡ true → NamesNothing s t handle → answer ≡ Err fault.Unrooted) where
+  -- a root is gone, or it stands for what it names
+  found_root : (class class' : GcClass) (serial : ℕ) (o : Option Reference) → class ≡ class' → Names s t handle serial → rooted t serial ≡ o → IsFound s t (raw.Ref class (Some handle)) (given_root class' o) (is_ok answer)
+  found_root class class' serial None same names at =
+      subst (λ (x : Result RootedObject RootFault). IsFound s t (raw.Ref class (Some handle)) gone (is_ok x)) (sym (nothing (names-store s t handle serial names) (names_gone layouts s t holds handle serial names at))) refl
+  found_root class class' serial (Some r) same names at = by answer (live r named)
+    where
+      named : NamesReference s t handle r
+      named = record { serial = serial; names = names; live = at }
+
+      by : (x : Result RootedObject RootFault) → TellsReference t r x → IsFound s t (raw.Ref class (Some handle)) (given_root class' (Some r)) (is_ok x)
+      by (Ok object) tells = (values.reference class r, (ap (λ (y : GcClass). is (values.reference y r)) (sym same), record { root = r; named = named; is = refl }))
+      by (Err e) tells = absurd tells
+
+  -- so of a handle, by what the store answers
+  pub found_handle : (r : RawValue) (held : Option Held) → raw_handle r ≡ Some handle → Stands s t (Some r) held → IsFound s t r (given_held t held) (is_ok answer)
+  found_handle (raw.I32 n) held is_handle stands = absurd (none-some handle is_handle)
+  found_handle (raw.I64 n) held is_handle stands = absurd (none-some handle is_handle)
+  found_handle (raw.F32 n) held is_handle stands = absurd (none-some handle is_handle)
+  found_handle (raw.F64 n) held is_handle stands = absurd (none-some handle is_handle)
+  found_handle (raw.V128 n) held is_handle stands = absurd (none-some handle is_handle)
+  found_handle (raw.Func f) held is_handle stands = absurd (none-some handle is_handle)
+  found_handle (raw.Ref class None) held is_handle stands = absurd (none-some handle is_handle)
+  found_handle (raw.Ref class (Some h)) None is_handle stands = absurd stands
+  found_handle (raw.Ref class (Some h)) (Some (number v)) is_handle stands = absurd stands
+  found_handle (raw.Ref class (Some h)) (Some (reference c None)) is_handle stands = absurd stands
+  found_handle (raw.Ref class (Some h)) (Some (reference c (Some serial))) is_handle stands =
+      let same : h ≡ handle = grind (arith, is_handle) in
+      subst (λ (x : GcRootIndex). IsFound s t (raw.Ref class (Some x)) (given_root c (rooted t serial)) (is_ok answer)) (sym same)
+      (found_root class c serial (rooted t serial) stands.0 (subst (λ (x : GcRootIndex). Names s t x serial) same stands.1) refl)
+
+-- a value that is a reference stands as that
+pub slot_stands : (s : StoreView ℕ) (t : Table ℕ) (r : RawValue) (v : Value) (c : GcClass) (h : Option GcRootIndex) → raw_slot r ≡ Some (c, h) → RawStands s t r v → RawStands s t (raw.Ref c h) v
+slot_stands s t (raw.I32 n) v c h e stands = absurd (none-some (c, h) e)
+slot_stands s t (raw.I64 n) v c h e stands = absurd (none-some (c, h) e)
+slot_stands s t (raw.F32 n) v c h e stands = absurd (none-some (c, h) e)
+slot_stands s t (raw.F64 n) v c h e stands = absurd (none-some (c, h) e)
+slot_stands s t (raw.V128 n) v c h e stands = absurd (none-some (c, h) e)
+slot_stands s t (raw.Func f) v c h e stands = absurd (none-some (c, h) e)
+slot_stands s t (raw.Ref c' h') v c h e stands =
+    let class : c' ≡ c = grind (arith, e) in
+    let handle : h' ≡ h = grind (arith, e) in
+    subst (λ (x : GcClass). RawStands s t (raw.Ref x h) v) class (subst (λ (x : Option GcRootIndex). RawStands s t (raw.Ref c' x) v) handle stands)

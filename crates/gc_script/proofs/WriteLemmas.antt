@@ -1,17 +1,16 @@
--- Writing a field that a register names.
-use Rattle.std.proofs.Common.{◌≡◌, ℕ, List, ◌∷◌, ◌++◌, Option, Some, None, Bool, true, false, sym, ap, ◌∙◌, refl, subst}
-use Rattle.std.specs.Prelude.{not, Ok}
+-- Writing a field or an element of an object that a register names.
+use Rattle.std.proofs.Common.{◌≡◌, ℕ, ◌<◌, ◌≤◌, List, [], ◌∷◌, ◌++◌, Option, Some, None, Bool, false, sym, ap, ◌∙◌, refl}
 use Rattle.gc_types.specs.declared.kind.Layouts.{Layouts}
 use Rattle.gc_types.specs.declared.value.FieldType.{FieldType}
-use Rattle.gc_types.specs.declared.value.Mutability.{Mutability}
-use Rattle.gc_types.specs.declared.value.Mutability.TheVariants.{Const, Var}
+use Rattle.gc_types.specs.Declarations.{Declaration}
 use Rattle.gc_owner.specs.declared.entry.GcClass.{GcClass}
-use Rattle.gc_model.specs.Values.{Reference}
+use Rattle.gc_model.specs.Values.{Reference, Value}
+use Rattle.gc_model.specs.Stored.{stored}
 use Rattle.gc_model.specs.Table.{Table, write}
 use Rattle.gc_model.specs.Live.{rooted}
 use Rattle.gc_model.specs.Stores.{StoreView}
-use Rattle.gc_commands.specs.declared.command.Operand.{Operand}
 use Rattle.gc_commands.specs.declared.command.Command.TheVariants as command
+use Rattle.gc_commands.specs.declared.command.Operand.{Operand}
 use Rattle.gc_commands.specs.declared.reply.Reply.TheVariants as reply
 use Rattle.gc_commands.specs.declared.reply.Refusal.{Refusal}
 use Rattle.gc_commands.specs.declared.reply.Refusal.TheVariants as refusal
@@ -19,18 +18,22 @@ use Rattle.gc_store.specs.declared.root.RawValue.{RawValue}
 use Rattle.gc_store.specs.declared.root.RawValue.TheVariants as raw
 use Rattle.gc_policy.specs.Accounts.{HoldsAccount}
 use Rattle.gc_store.specs.Stores.{IsSameStore}
-use Rattle.gc_store.specs.Values.{CanStore, CanWrite, RawStands, WritesValue}
-use Rattle.gc_script.specs.declared.targets.FieldPlace.{FieldPlace}
+use Rattle.gc_store.specs.Values.{CanWrite, RawStands, WritesValue}
+use Rattle.gc_script.specs.declared.objects.NamedObject.{NamedObject}
+use Rattle.gc_script.specs.declared.objects.Wanted.{Wanted}
+use Rattle.gc_script.specs.declared.objects.Wanted.TheVariants as wanted
 use Rattle.gc_script.specs.Slots.{RunnerView}
 use Rattle.gc_script.specs.State.{State, Held, number, reference, Stands, HoldsState, with_table, visible, over}
-use Rattle.gc_script.specs.Built.{is_built_operand}
-use Rattle.gc_script.specs.Given.{unset, Target, given, given_register, given_held, given_root, given_value, is_unset, target, field_of, is_const, is_constant}
-use Rattle.gc_script.specs.Steps.{first_failing, tests, built_tests, target_tests, value_tests}
-use Rattle.gc_script.specs.Shapes.{shape, write_target}
-use Rattle.gc_script.specs.Run.{GoesOn}
-use Rattle.gc_script.specs.Named.{IsFieldPlace, FoundField}
-use Rattle.gc_script.proofs.StandLemmas.{holds_kept}
-use Rattle.gc_script.proofs.TestLemmas.{passes, stops, passes_all, stops_all, answers_by, refuses}
+use Rattle.gc_script.specs.Given.{Target, unset, given, given_register, given_held, given_root, given_value, is_unset, target, field_of}
+use Rattle.gc_script.specs.Steps.{first_failing, tests, bound_test, constant_test, value_tests, target_tests, writing_tests}
+use Rattle.gc_script.specs.Shapes.{Shape, plain, writes_value, kept_as, write_target}
+use Rattle.gc_script.specs.Run.{Goes}
+use Rattle.gc_script.specs.Named.{wants, type_at, IsNamed, FoundObject}
+use Rattle.gc_script.specs.Values.{CanStoreAs}
+use Rattle.gc_script.specs.Writing.{stored_tests}
+use Rattle.gc_script.proofs.StandLemmas.{holds_kept, holds_table}
+use Rattle.gc_script.proofs.TestLemmas.{passes, stops, passes_all, stops_all, answers_by}
+use Rattle.gc_script.proofs.ValueReads.{has_value, within_bound, past_bound}
 
 root_set : (c : GcClass) (o : Option Reference) → is_unset (given_root c o) ≡ false
 root_set c None = refl
@@ -50,74 +53,123 @@ is_set s t r (Some (number v)) stands = refl
 is_set s t r (Some (reference c None)) stands = refl
 is_set s t r (Some (reference c (Some serial))) stands = root_set c (rooted t serial)
 
--- a field that may not be written is constant
-pub const_not_var : (m : Mutability) → ¬ (m ≡ Var) → is_const m ≡ true
-const_not_var Const other = refl
-const_not_var Var other = absurd (other refl)
+-- a value that may be stored at an index of an object may be written there
+pub can_write : (layouts : Layouts) (store : StoreView ℕ) (kind : Wanted) (found : NamedObject) (i : ℕ) (value : RawValue) → IsNamed layouts store kind found → i < found.count → (field : Option FieldType) → type_at store.types found.types i ≡ field → CanStoreAs layouts store field value → CanWrite ℕ layouts store found.root i value
+can_write layouts store kind found i value is below None field_is can = absurd can
+can_write layouts store kind found i value is below (Some field) field_is can =
+    let before = has_value store is.table found is.names i below in
+    record {
+      table = is.table;
+      holds = is.holds;
+      before = before.0;
+      has = before.1;
+      field = field;
+      field_is = is.names.typed i ∙ ap (λ (ts : List Declaration). type_at ts found.types i) (sym is.holds.1.types) ∙ field_is;
+      can_store = can;
+    }
 
-module _ (layouts : Layouts) (store : StoreView ℕ) (runner : RunnerView) (s : State) (r i : ℕ) (v : Operand) (holds : HoldsState layouts store runner s) (built : is_built_operand v ≡ true) (set : is_unset (given_register s r) ≡ false) where
-  abbrev value_rest : List (Bool × Refusal)
-  value_rest = (is_constant (field_of s.table (target s r) i), refusal.Immutable) ∷ value_tests s (field_of s.table (target s r) i) v
+module _ (layouts : Layouts) (store : StoreView ℕ) (s : State) (kind : Wanted) (r i : ℕ) (found : NamedObject) (it : FoundObject store s kind r found) where
+  -- the type of the value there
+  pub field_found : field_of s.table (target s r) i ≡ type_at s.table.types found.types i
+  field_found = ap (λ (x : Option Target). field_of s.table x i) it.is_target ∙ it.names.typed i
 
-  to_value : first_failing (tests layouts s (command.SetField r i v)) ≡ first_failing ((is_unset (given s v), refusal.NoSuchName) ∷ (target_tests s r i ++ value_rest))
-  to_value =
-      passes (not (is_built_operand v)) refusal.BadLine (built_tests layouts (visible s) (command.SetField r i v)) (ap not built)
-      ∙ passes (is_unset (given_register s r)) refusal.NoSuchName ((is_unset (given s v), refusal.NoSuchName) ∷ (target_tests s r i ++ value_rest)) set
+  -- the tests of the value, by that type
+  pub stored_here : (v : Operand) → first_failing (constant_test s r i ∷ value_tests s (field_of s.table (target s r) i) v) ≡ first_failing (stored_tests s (type_at s.table.types found.types i) v)
+  stored_here v = ap (λ (f : Option FieldType). first_failing (stored_tests s f v)) field_found
 
-  -- the value's register is unset
-  pub no_value : given s v ≡ unset → GoesOn layouts s (command.SetField r i v) (Ok (reply.Refused refusal.NoSuchName)) store runner
-  no_value e = refuses layouts store runner s (command.SetField r i v) refusal.NoSuchName holds
-      (to_value ∙ stops (is_unset (given s v)) refusal.NoSuchName (target_tests s r i ++ value_rest) (ap is_unset e))
+-- a value was written by a command whose tests passed
+module _ (layouts : Layouts) (store new : StoreView ℕ) (runner : RunnerView) (s : State) (holds : HoldsState layouts store runner s) (kind : Wanted) (r i : ℕ) (v : Operand)
+    (found : NamedObject) (it : FoundObject store s kind r found) (below : i < found.count) (same : IsSameStore store new) (value : RawValue) (stands : RawStands store s.table value (given_value (given s v)))
+    (field : FieldType) (field_is : type_at s.table.types found.types i ≡ Some field) (writes : WritesValue layouts store new s.table s.account found.root i value) where
+  abbrev kept : Value
+  kept = stored field.element_type (given_value (given s v))
 
-  module _ (value_set : is_unset (given s v) ≡ false) where
-    to_target : first_failing (tests layouts s (command.SetField r i v)) ≡ first_failing (target_tests s r i ++ value_rest)
-    to_target = to_value ∙ passes (is_unset (given s v)) refusal.NoSuchName (target_tests s r i ++ value_rest) value_set
+  abbrev after : State
+  after = with_table (write it.names.position i kept s.table) s
 
-    -- the register names no such field
-    pub no_field : (why : Refusal) → first_failing (target_tests s r i) ≡ Some why → GoesOn layouts s (command.SetField r i v) (Ok (reply.Refused why)) store runner
-    no_field why e = refuses layouts store runner s (command.SetField r i v) why holds (to_target ∙ stops_all (target_tests s r i) value_rest why e)
+  table : HoldsAccount layouts new (write it.names.position i kept s.table) s.account
+  table =
+      let before = has_value store s.table found it.names i below in
+      writes before.0 (given_value (given s v)) before.1 field (it.names.typed i ∙ field_is) stands
 
-    module _ (place : FieldPlace) (found : FoundField store s r i place) where
-      to_field : first_failing (tests layouts s (command.SetField r i v)) ≡ first_failing ((is_const place.field.mutability, refusal.Immutable) ∷ value_tests s (Some place.field) v)
-      to_field =
-          to_target ∙ passes_all (target_tests s r i) value_rest found.passes
-          ∙ ap (λ (f : Option FieldType). first_failing ((is_constant f, refusal.Immutable) ∷ value_tests s f v)) found.field_is
+  after_is : after ≡ over s (writes_value r i v (visible s)).1
+  after_is =
+      ap (λ (f : Option FieldType). with_table (write it.names.position i (kept_as f (given_value (given s v))) s.table) s) (sym (field_found layouts store s kind r i found it ∙ field_is))
+      ∙ ap (λ (x : Option Target). over s (with_table (write_target x i (kept_as (field_of s.table (target s r) i) (given_value (given s v))) (visible s).table) (visible s))) (sym it.is_target)
 
-      -- the field is constant
-      pub immutable : is_const place.field.mutability ≡ true → GoesOn layouts s (command.SetField r i v) (Ok (reply.Refused refusal.Immutable)) store runner
-      immutable e = refuses layouts store runner s (command.SetField r i v) refusal.Immutable holds
-          (to_field ∙ stops (is_const place.field.mutability) refusal.Immutable (value_tests s (Some place.field) v) e)
+  abbrev sh : Shape
+  sh = plain (writes_value r i v)
 
-      to_check : place.field.mutability ≡ Var → first_failing (tests layouts s (command.SetField r i v)) ≡ first_failing (value_tests s (Some place.field) v)
-      to_check var = to_field ∙ passes (is_const place.field.mutability) refusal.Immutable (value_tests s (Some place.field) v) (ap is_const var)
+  pub written : (left : List (Bool × Refusal)) → first_failing left ≡ None → Goes layouts s sh left reply.Done new runner
+  written left pass = record {
+    after = after;
+    answers = answers_by layouts None s sh (first_failing left) None reply.Done after pass (refl, after_is);
+    account = refl;
+    holds = holds_kept layouts store new runner runner s (write it.names.position i kept s.table) s.account same (λ j p e. e) (λ d. refl) refl holds table;
+  }
 
-      -- the value does not go in
-      pub no_fit : place.field.mutability ≡ Var → (why : Refusal) → first_failing (value_tests s (Some place.field) v) ≡ Some why → GoesOn layouts s (command.SetField r i v) (Ok (reply.Refused why)) store runner
-      no_fit var why e = refuses layouts store runner s (command.SetField r i v) why holds (to_check var ∙ e)
+-- so of a value that may be stored there
+pub wrote : (layouts : Layouts) (store new : StoreView ℕ) (runner : RunnerView) (s : State) (holds : HoldsState layouts store runner s) (kind : Wanted) (r i : ℕ) (v : Operand)
+    (found : NamedObject) (it : FoundObject store s kind r found) (below : i < found.count) (same : IsSameStore store new) (value : RawValue) (stands : RawStands store s.table value (given_value (given s v)))
+    (field : Option FieldType) (field_is : type_at store.types found.types i ≡ field) (can : CanStoreAs layouts store field value) (writes : WritesValue layouts store new s.table s.account found.root i value)
+    (left : List (Bool × Refusal)) → first_failing left ≡ None → Goes layouts s (plain (writes_value r i v)) left reply.Done new runner
+wrote layouts store new runner s holds kind r i v found it below same value stands None field_is can writes left pass = absurd can
+wrote layouts store new runner s holds kind r i v found it below same value stands (Some field) field_is can writes left pass =
+    written layouts store new runner s holds kind r i v found it below same value stands field
+    (ap (λ (ts : List Declaration). type_at ts found.types i) (sym (holds_table holds.table).1.types) ∙ field_is) writes left pass
 
-      -- the field was written
-      pub written : (new : StoreView ℕ) (value : RawValue) → place.field.mutability ≡ Var → first_failing (value_tests s (Some place.field) v) ≡ None → IsSameStore store new → RawStands store s.table value (given_value (given s v)) → WritesValue layouts store new s.table s.account place.root i value → GoesOn layouts s (command.SetField r i v) (Ok reply.Done) new runner
-      written new value var fits same stands writes =
-          let table : HoldsAccount layouts new (write found.found.position i (given_value (given s v)) s.table) s.account =
-          subst (λ (p : ℕ). HoldsAccount layouts new (write p i (given_value (given s v)) s.table) s.account) found.position (writes found.value (given_value (given s v)) found.has stands) in
-          record {
-            after = with_table (write found.found.position i (given_value (given s v)) s.table) s;
-            answers = answers_by layouts None s (shape (command.SetField r i v)) (first_failing (tests layouts s (command.SetField r i v))) None reply.Done _ (to_check var ∙ fits)
-                (refl, ap (λ (x : Option Target). over s (with_table (write_target x i (given_value (given s v)) (visible s).table) (visible s))) (sym found.is_target));
-            account = refl;
-            holds = holds_kept layouts store new runner runner s (write found.found.position i (given_value (given s v)) s.table) s.account same (λ j p e. e) (λ d. refl) refl holds table;
-          }
+-- the tests of the names and of the object of a write
+module _ (s : State) (kind : Wanted) (r : ℕ) (v : Operand) (set : is_unset (given_register s r) ≡ false) where
+  to_operand : first_failing (writing_tests (wants kind) s r v) ≡ first_failing ((is_unset (given s v), refusal.NoSuchName) ∷ target_tests (wants kind) s r)
+  to_operand = passes (is_unset (given_register s r)) refusal.NoSuchName ((is_unset (given s v), refusal.NoSuchName) ∷ target_tests (wants kind) s r) set
 
--- a value that goes into a field that was found may be written
-pub can_write : (layouts : Layouts) (store : StoreView ℕ) (i : ℕ) (place : FieldPlace) (value : RawValue) → IsFieldPlace layouts store i place → CanStore ℕ layouts store place.field value → CanWrite ℕ layouts store place.root i value
-can_write layouts store i place value is_place can_store = record {
-  table = is_place.table;
-  holds = is_place.holds;
-  before = is_place.value;
-  has = is_place.has;
-  fields = is_place.fields;
-  declared = is_place.declared;
-  field = place.field;
-  field_is = is_place.field_is;
-  can_store = can_store;
-}
+  pub no_operand : given s v ≡ unset → first_failing (writing_tests (wants kind) s r v) ≡ Some refusal.NoSuchName
+  no_operand e = to_operand ∙ stops (is_unset (given s v)) refusal.NoSuchName (target_tests (wants kind) s r) (ap is_unset e)
+
+  pub to_object : is_unset (given s v) ≡ false → first_failing (writing_tests (wants kind) s r v) ≡ first_failing (target_tests (wants kind) s r)
+  to_object value_set = to_operand ∙ passes (is_unset (given s v)) refusal.NoSuchName (target_tests (wants kind) s r) value_set
+
+-- one of these refuses the write of a field or of an element
+module _ (layouts : Layouts) (s : State) (r i : ℕ) (v : Operand) (why : Refusal) where
+  pub field_refused : first_failing (writing_tests (wants wanted.Struct) s r v) ≡ Some why → first_failing (tests layouts s (command.SetField r i v)) ≡ Some why
+  field_refused e = stops_all (writing_tests (wants wanted.Struct) s r v) (bound_test s r i ∷ (constant_test s r i ∷ value_tests s (field_of s.table (target s r) i) v)) why e
+
+  pub elem_none : first_failing (writing_tests (wants wanted.Array) s r v) ≡ Some why → first_failing (tests layouts s (command.SetElem r i v)) ≡ Some why
+  elem_none e = stops_all (writing_tests (wants wanted.Array) s r v) (constant_test s r i ∷ (value_tests s (field_of s.table (target s r) i) v ++ bound_test s r i ∷ [])) why e
+
+-- the tests of writing a field, and of writing an element, in their orders
+module _ (layouts : Layouts) (store : StoreView ℕ) (s : State) (r i : ℕ) (v : Operand) where
+  abbrev value_part : List (Bool × Refusal)
+  value_part = constant_test s r i ∷ value_tests s (field_of s.table (target s r) i) v
+
+  module _ (pass : first_failing (writing_tests (wants wanted.Struct) s r v) ≡ None) (found : NamedObject) (it : FoundObject store s wanted.Struct r found) where
+    pub field_past : found.count ≤ i → first_failing (tests layouts s (command.SetField r i v)) ≡ Some refusal.OutOfBounds
+    field_past above =
+        passes_all (writing_tests (wants wanted.Struct) s r v) (bound_test s r i ∷ value_part) pass
+        ∙ stops (bound_test s r i).0 refusal.OutOfBounds value_part (past_bound store s wanted.Struct r i found it above)
+
+    pub field_by : i < found.count → first_failing (tests layouts s (command.SetField r i v)) ≡ first_failing (stored_tests s (type_at s.table.types found.types i) v)
+    field_by below =
+        passes_all (writing_tests (wants wanted.Struct) s r v) (bound_test s r i ∷ value_part) pass
+        ∙ passes (bound_test s r i).0 refusal.OutOfBounds value_part (within_bound store s wanted.Struct r i found it below)
+        ∙ stored_here layouts store s wanted.Struct r i found it v
+
+  module _ (pass : first_failing (writing_tests (wants wanted.Array) s r v) ≡ None) (found : NamedObject) (it : FoundObject store s wanted.Array r found) where
+    abbrev elem_part : List (Bool × Refusal)
+    elem_part = constant_test s r i ∷ (value_tests s (field_of s.table (target s r) i) v ++ bound_test s r i ∷ [])
+
+    to_value : first_failing (tests layouts s (command.SetElem r i v)) ≡ first_failing (value_part ++ bound_test s r i ∷ [])
+    to_value = passes_all (writing_tests (wants wanted.Array) s r v) elem_part pass
+
+    pub elem_refused : (why : Refusal) → first_failing (stored_tests s (type_at s.table.types found.types i) v) ≡ Some why → first_failing (tests layouts s (command.SetElem r i v)) ≡ Some why
+    elem_refused why e = to_value ∙ stops_all value_part (bound_test s r i ∷ []) why (stored_here layouts store s wanted.Array r i found it v ∙ e)
+
+    module _ (fits : first_failing (stored_tests s (type_at s.table.types found.types i) v) ≡ None) where
+      to_bound : first_failing (tests layouts s (command.SetElem r i v)) ≡ first_failing (bound_test s r i ∷ [])
+      to_bound = to_value ∙ passes_all value_part (bound_test s r i ∷ []) (stored_here layouts store s wanted.Array r i found it v ∙ fits)
+
+      pub elem_past : found.count ≤ i → first_failing (tests layouts s (command.SetElem r i v)) ≡ Some refusal.OutOfBounds
+      elem_past above = to_bound ∙ stops (bound_test s r i).0 refusal.OutOfBounds [] (past_bound store s wanted.Array r i found it above)
+
+      pub elem_passes : i < found.count → first_failing (tests layouts s (command.SetElem r i v)) ≡ None
+      elem_passes below = to_bound ∙ passes (bound_test s r i).0 refusal.OutOfBounds [] (within_bound store s wanted.Array r i found it below)

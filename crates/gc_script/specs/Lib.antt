@@ -6,7 +6,9 @@ pub mod Shapes
 pub mod Steps
 pub mod Policy
 pub mod Named
+pub mod OwnTypes
 pub mod Values
+pub mod Writing
 pub mod Run
 pub mod Lines
 pub mod Cutting

@@ -1,64 +1,100 @@
--- What is found of the fields that registers name.
-use Rattle.std.specs.Prelude.{◌≡◌, ℕ, ◌<◌, ◌==◌, List, Option, Some, None, Result, Ok, Err, length, slice_get, if◌then◌else◌}
+-- What registers name, as it is found.
+use Rattle.std.specs.Prelude.{◌≡◌, ℕ, ◌<◌, ◌==◌, Bool, true, false, List, Option, Some, None, Result, Ok, Err, length, slice_get, unwrap_or, if◌then◌else◌}
+use Rattle.std.specs.Option.{option_map, option_and_then}
 use Rattle.gc_types.specs.declared.kind.Layouts.{Layouts}
 use Rattle.gc_types.specs.declared.value.FieldType.{FieldType}
-use Rattle.gc_types.specs.Declarations.{struct_fields_at}
-use Rattle.gc_model.specs.Values.{Reference, at, Value, struct}
+use Rattle.gc_types.specs.Declarations.{Declaration, fields_at, elem_at}
+use Rattle.gc_model.specs.Values.{Reference, at, Object}
+use Rattle.gc_model.specs.Reach.{object_values}
+use Rattle.gc_model.specs.Stored.{value_type}
 use Rattle.gc_model.specs.Table.{Table}
-use Rattle.gc_model.specs.Live.{rooted}
 use Rattle.gc_model.specs.Stores.{StoreView}
 use Rattle.gc_model.specs.Holds.{HoldsTable}
 use Rattle.gc_commands.specs.declared.reply.Refusal.{Refusal}
 use Rattle.gc_store.specs.declared.root.GcRootIndex.{GcRootIndex}
 use Rattle.gc_store.specs.declared.root.RawValue.{RawValue}
-use Rattle.gc_store.specs.Roots.{Names, HasField}
-use Rattle.gc_script.specs.declared.targets.FieldPlace.{FieldPlace}
+use Rattle.gc_store.specs.declared.root.RootedObject.{RootedObject}
+use Rattle.gc_store.specs.declared.root.RootedObject.TheVariants as rooted
+use Rattle.gc_store.specs.Roots.{NamesReference}
+use Rattle.gc_script.specs.declared.objects.NamedObject.{NamedObject}
+use Rattle.gc_script.specs.declared.objects.ValueTypes.{ValueTypes}
+use Rattle.gc_script.specs.declared.objects.ValueTypes.TheVariants as types_of
+use Rattle.gc_script.specs.declared.objects.Wanted.{Wanted}
+use Rattle.gc_script.specs.declared.objects.Wanted.TheVariants as wanted
 use Rattle.gc_script.specs.Slots.{register_at}
 use Rattle.gc_script.specs.State.{State}
-use Rattle.gc_script.specs.Given.{Target, target, reference_target, field_of}
+use Rattle.gc_script.specs.Given.{target, reference_target, is_struct, is_array, has_fields, names_kind}
 use Rattle.gc_script.specs.Steps.{first_failing, target_tests}
 
--- the root is live in some table that the store holds, and names a struct of that type
-pub record IsStructRoot (layouts : Layouts) (s : StoreView ℕ) (root : GcRootIndex) (ty : ℕ) : Type 0 where
-  pub table : Table ℕ
-  pub holds : HoldsTable layouts s table
-  pub serial : ℕ
-  pub names : Names s table root serial
+-- the objects of the table that a command is for
+abbrev pub wants : Wanted → Object ℕ → Bool
+wants wanted.Struct = is_struct
+wants wanted.Array = is_array
+wants wanted.WithFields = has_fields
+
+-- the same by what the store says of a root
+abbrev pub takes : Wanted → RootedObject → Bool
+takes wanted.Struct (rooted.Struct ty) = true
+takes wanted.Array (rooted.Array ty n) = true
+takes wanted.WithFields (rooted.Struct ty) = true
+takes wanted.WithFields (rooted.Exn ty tag) = true
+takes _ _ = false
+
+-- how many fields a type has; 0 where it has none
+abbrev pub count_of_fields : List Declaration → ℕ → ℕ
+count_of_fields types ty = unwrap_or (option_map length (fields_at types ty)) 0
+
+-- the types of the values at each index
+abbrev pub type_at : List Declaration → ValueTypes → ℕ → Option FieldType
+type_at types (types_of.Fields ty) index = option_and_then (λ (fields : List FieldType). slice_get fields index) (fields_at types ty)
+type_at types (types_of.Elements element) index = Some element
+
+abbrev pub with_fields : List Declaration → GcRootIndex → ℕ → NamedObject
+with_fields types root ty = record { root = root; count = count_of_fields types ty; types = types_of.Fields ty }
+
+abbrev pub with_elements : GcRootIndex → ℕ → FieldType → NamedObject
+with_elements root n element = record { root = root; count = n; types = types_of.Elements element }
+
+-- an object by what the store says of its root
+abbrev pub described : List Declaration → GcRootIndex → RootedObject → Option NamedObject
+described types root (rooted.I31 n) = None
+described types root (rooted.Struct ty) = Some (with_fields types root ty)
+described types root (rooted.Array ty n) = option_map (with_elements root n) (elem_at types ty)
+described types root rooted.Host = None
+described types root (rooted.Exn ty tag) = Some (with_fields types root ty)
+
+-- the root is that of an object of the table, which has so many values of these types
+pub record NamesObject (s : StoreView ℕ) (t : Table ℕ) (found : NamedObject) : Type 0 where
   pub position : ℕ
-  pub live : rooted table serial ≡ Some (at position)
-  pub values : List Value
-  pub object : slice_get table.objects position ≡ Some (struct ty values)
+  pub named : NamesReference s t found.root (at position)
+  pub object : Object ℕ
+  pub object_is : slice_get t.objects position ≡ Some object
+  pub counted : length (object_values object) ≡ found.count
+  pub typed : (index : ℕ) → value_type t.types object index ≡ type_at t.types found.types index
 
--- the reference is a struct of that type, or no struct
-abbrev pub TellsStruct : Table ℕ → Reference → Option ℕ → Type 0
-TellsStruct t r (Some ty) = (position : ℕ) × (values : List Value) × ((r ≡ at position) × (slice_get t.objects position ≡ Some (struct ty values)))
-TellsStruct t r None = reference_target t (Some r) ≡ None
-
--- the place is that of a field of some table that the store holds
-pub record IsFieldPlace (layouts : Layouts) (s : StoreView ℕ) (index : ℕ) (place : FieldPlace) : Type 0 where
+-- so in some table that the store holds, and the object is one of these
+pub record IsNamed (layouts : Layouts) (s : StoreView ℕ) (kind : Wanted) (found : NamedObject) : Type 0 where
   pub table : Table ℕ
   pub holds : HoldsTable layouts s table
-  pub value : Value
-  pub has : HasField s table place.root index value
-  pub fields : List FieldType
-  pub declared : struct_fields_at s.types has.ty ≡ Some fields
-  pub field_is : slice_get fields index ≡ Some place.field
+  pub names : NamesObject s table found
+  pub of_kind : wants kind names.object ≡ true
 
--- the field that a register names in a state, whose tests pass
-pub record FoundField (store : StoreView ℕ) (s : State) (r index : ℕ) (place : FieldPlace) : Type 0 where
-  pub passes : first_failing (target_tests s r index) ≡ None
-  pub found : Target
-  pub is_target : target s r ≡ Some found
-  pub value : Value
-  pub value_is : slice_get found.values index ≡ Some value
-  pub has : HasField store s.table place.root index value
-  pub position : has.position ≡ found.position
-  pub field_is : field_of s.table (target s r) index ≡ Some place.field
+-- the reference is that of an object that is found, or names none of these
+abbrev pub TellsObject : StoreView ℕ → Table ℕ → Wanted → Reference → Option NamedObject → Type 0
+TellsObject s t kind r (Some found) = (names : NamesObject s t found) × ((r ≡ at names.position) × (wants kind names.object ≡ true))
+TellsObject s t kind r None = names_kind (wants kind) (reference_target t (Some r)) ≡ false
 
--- a register names a field, or the tests say why not
-abbrev pub FindsField : StoreView ℕ → State → ℕ → ℕ → Result FieldPlace Refusal → Type 0
-FindsField store s r index (Ok place) = FoundField store s r index place
-FindsField store s r index (Err why) = first_failing (target_tests s r index) ≡ Some why
+-- the object that a register names in a state, whose tests pass
+pub record FoundObject (store : StoreView ℕ) (s : State) (kind : Wanted) (r : ℕ) (found : NamedObject) : Type 0 where
+  pub passes : first_failing (target_tests (wants kind) s r) ≡ None
+  pub names : NamesObject store s.table found
+  pub is_target : target s r ≡ Some (record { position = names.position; object = names.object })
+  pub of_kind : wants kind names.object ≡ true
+
+-- a register names one of these, or the tests say why not
+abbrev pub FindsObject : StoreView ℕ → State → Wanted → ℕ → Result NamedObject Refusal → Type 0
+FindsObject store s kind r (Ok found) = FoundObject store s kind r found
+FindsObject store s kind r (Err why) = first_failing (target_tests (wants kind) s r) ≡ Some why
 
 -- there is room for a register, where one is named
 abbrev pub HasRoom : Option ℕ → List (Option RawValue) → Type 0

@@ -10,7 +10,7 @@ use Rattle.gc_owner.specs.Limiters.{Refuses}
 use Rattle.gc_store.specs.Places.{MayGetPages}
 use Rattle.gc_policy.specs.Policy.{PolicyState}
 use Rattle.gc_commands.specs.declared.command.Command.{Command}
-use Rattle.gc_commands.specs.declared.command.Command.TheVariants.{Struct, Array, New, NewArr, Fixed, NewBytes, ReadBytes, I31, Field, Elem, Enter, Push, Load, GetGlobal, Grow}
+use Rattle.gc_commands.specs.declared.command.Command.TheVariants.{Struct, Array, New, NewArr, Fixed, NewBytes, ReadBytes, I31, Field, Elem, Len, SetField, SetElem, Eq, Enter, Leave, Push, Pop, Store, Load, SetGlobal, GetGlobal, Grow, Cap}
 use Rattle.gc_commands.specs.declared.reply.Reply.{Reply}
 use Rattle.gc_commands.specs.declared.reply.Reply.TheVariants as reply
 use Rattle.gc_commands.specs.declared.reply.Refusal.{Refusal}
@@ -129,7 +129,34 @@ pub record Goes (layouts : Layouts) (s : State) (sh : Shape) (left : List (Bool 
   pub account : after.account ≡ s.account
   pub holds : HoldsState layouts new runner after
 
--- what a command of such a shape answers and leaves
+-- what a command of such a shape answers and leaves, once the tests up to these passed
+abbrev pub GoesBy : Layouts → State → Shape → List (Bool × Refusal) → Result Reply RunError → StoreView ℕ → RunnerView → Type 0
+GoesBy layouts s sh left (Ok answer) new runner = Goes layouts s sh left answer new runner
+GoesBy layouts s sh left (Err e) new runner = HoldsState layouts new runner s
+
+-- what such a command answers and leaves
 abbrev pub GoesOn : Layouts → State → Command → Result Reply RunError → StoreView ℕ → RunnerView → Type 0
-GoesOn layouts s c (Ok answer) new runner = Goes layouts s (shape c) (tests layouts s c) answer new runner
-GoesOn layouts s c (Err e) new runner = HoldsState layouts new runner s
+GoesOn layouts s c result new runner = GoesBy layouts s (shape c) (tests layouts s c) result new runner
+
+-- the commands of such a shape that are built
+abbrev pub asks_nothing : Command → Bool
+asks_nothing (Struct is_final supertype fs) = true
+asks_nothing (Array is_final supertype element) = true
+asks_nothing (ReadBytes r n) = true
+asks_nothing (I31 d n) = true
+asks_nothing (Field r i into) = true
+asks_nothing (Elem r i into) = true
+asks_nothing (Len r) = true
+asks_nothing (SetField r i v) = true
+asks_nothing (SetElem r i v) = true
+asks_nothing (Eq r q) = true
+asks_nothing Enter = true
+asks_nothing Leave = true
+asks_nothing (Push k) = true
+asks_nothing Pop = true
+asks_nothing (Store k r) = true
+asks_nothing (Load k d) = true
+asks_nothing (SetGlobal g r) = true
+asks_nothing (GetGlobal g d) = true
+asks_nothing Cap = true
+asks_nothing _ = false

@@ -1,21 +1,30 @@
 -- What the values of a command's operands are found to be.
-use Rattle.std.specs.Prelude.{◌≡◌, ℕ, Bool, true, false, List, Option, Some, None, Result, Ok, Err}
+use Rattle.std.specs.Prelude.{◌≡◌, ℕ, suc, Bool, true, false, List, [], ◌∷◌, ◌++◌, Option, Some, None, Result, Ok, Err, not, slice_get}
 use Rattle.std.specs.List.{AllZip}
+use Rattle.gc_types.specs.declared.kind.Layouts.{Layouts}
 use Rattle.gc_types.specs.declared.value.FieldType.{FieldType}
 use Rattle.gc_owner.specs.declared.entry.GcClass.{GcClass}
 use Rattle.gc_model.specs.Stores.{StoreView}
 use Rattle.gc_model.specs.Table.{Table}
-use Rattle.gc_model.specs.Values.{Value}
+use Rattle.gc_model.specs.Holds.{HoldsTable}
+use Rattle.gc_model.specs.Values.{Reference, Value, reference}
 use Rattle.gc_commands.specs.declared.command.Operand.{Operand}
 use Rattle.gc_commands.specs.declared.reply.Refusal.{Refusal}
+use Rattle.gc_commands.specs.declared.reply.Refusal.TheVariants as refusal
+use Rattle.gc_commands.specs.declared.reply.Reply.{Reply}
+use Rattle.gc_commands.specs.declared.reply.Reply.TheVariants as reply
 use Rattle.gc_store.specs.declared.root.GcRootIndex.{GcRootIndex}
 use Rattle.gc_store.specs.declared.root.RawValue.{RawValue}
 use Rattle.gc_store.specs.declared.root.RawValue.TheVariants as raw
-use Rattle.gc_store.specs.Values.{RawStands, AllStand}
+use Rattle.gc_store.specs.Slots.{HandleStands}
+use Rattle.gc_store.specs.Values.{RawStands, AllStand, CanStore}
+use Rattle.gc_script.specs.declared.objects.ValueTypes.{ValueTypes}
 use Rattle.gc_script.specs.Slots.{register_at}
 use Rattle.gc_script.specs.State.{State, Stands}
-use Rattle.gc_script.specs.Given.{held_operand, Given, gone, is, given, given_value, given_values}
-use Rattle.gc_script.specs.Steps.{any_unset, first_failing, value_tests, struct_value_tests}
+use Rattle.gc_script.specs.Given.{held_operand, Given, gone, is, given, given_register, given_value, given_values, is_unset, is_gone, is_reference}
+use Rattle.gc_script.specs.Shapes.{shown}
+use Rattle.gc_script.specs.Steps.{any_unset, first_failing, value_tests}
+use Rattle.gc_script.specs.Named.{type_at}
 
 -- the registers are those of the state
 abbrev pub AreRegisters : StoreView ℕ → List (Option RawValue) → State → Type 0
@@ -58,19 +67,66 @@ raw_slot (raw.V128 n) = None
 raw_slot (raw.Func f) = None
 raw_slot (raw.Ref class handle) = Some (class, handle)
 
+-- whether a value is a function or none
+abbrev pub is_function : RawValue → Bool
+is_function (raw.I32 n) = false
+is_function (raw.I64 n) = false
+is_function (raw.F32 n) = false
+is_function (raw.F64 n) = false
+is_function (raw.V128 n) = false
+is_function (raw.Func f) = true
+is_function (raw.Ref class handle) = false
+
 -- A value that is found live stands for what is given; else its root is gone.
 abbrev pub IsFound : StoreView ℕ → Table ℕ → RawValue → Given → Bool → Type 0
 IsFound store t r g true = (v : Value) × ((g ≡ is v) × RawStands store t r v)
 IsFound store t r g false = g ≡ gone
 
--- A value may go into a field of that type, where the tests say so; else it is refused as they say.
-abbrev pub ChecksValue : StoreView ℕ → State → FieldType → Operand → RawValue → Result (Unit {0}) Refusal → Type 0
-ChecksValue store s field v r (Ok done) =
-    (first_failing (value_tests s (Some field) v) ≡ None) × RawStands store s.table r (given_value (given s v))
-ChecksValue store s field v r (Err why) = first_failing (value_tests s (Some field) v) ≡ Some why
+-- the reply shows the value, in each table that the store holds
+abbrev pub ShowsRead : Layouts → StoreView ℕ → RawValue → Reply → Type 0
+ShowsRead layouts store r answer = (t : Table ℕ) (v : Value) → HoldsTable layouts store t → RawStands store t r v → answer ≡ reply.Value (shown t v)
 
--- the same of the values of a struct of that type
-abbrev pub ChecksValues : StoreView ℕ → State → ℕ → List Operand → List RawValue → Result (Unit {0}) Refusal → Type 0
-ChecksValues store s ty vs raws (Ok done) =
-    (first_failing (struct_value_tests s ty vs) ≡ None) × AllStand store s.table raws (given_values s vs)
-ChecksValues store s ty vs raws (Err why) = first_failing (struct_value_tests s ty vs) ≡ Some why
+-- the tests of what goes into a slot, by what a register gives
+abbrev pub reference_tests : Given → List (Bool × Refusal)
+reference_tests g =
+    (is_unset g, refusal.NoSuchName)
+    ∷ (is_gone g, refusal.Unrooted)
+    ∷ (not (is_reference (given_value g)), refusal.WrongKind)
+    ∷ []
+
+-- A register gives a reference, of that class and named by that handle.
+pub record FoundReference (store : StoreView ℕ) (s : State) (r : ℕ) (class : GcClass) (handle : Option GcRootIndex) : Type 0 where
+  pub root : Reference
+  pub is_given : given_register s r ≡ is (reference class root)
+  pub stands : HandleStands store s.table handle root
+
+-- a register gives a reference, or the tests say why not
+abbrev pub FindsReference : StoreView ℕ → State → ℕ → Result (GcClass × Option GcRootIndex) Refusal → Type 0
+FindsReference store s r (Ok found) = FoundReference store s r found.0 found.1
+FindsReference store s r (Err why) = first_failing (reference_tests (given_register s r)) ≡ Some why
+
+-- a value may be put into a field or an element of that type, where there is one
+abbrev pub CanStoreAs : Layouts → StoreView ℕ → Option FieldType → RawValue → Type 0
+CanStoreAs layouts store None r = ⊥
+CanStoreAs layouts store (Some field) r = CanStore ℕ layouts store field.element_type r
+
+-- so of values in order
+abbrev pub AllStorable : Layouts → StoreView ℕ → ValueTypes → List RawValue → Type 0
+AllStorable layouts store types raws =
+    (i : ℕ) (r : RawValue) → slice_get raws i ≡ Some r → CanStoreAs layouts store (type_at store.types types i) r
+
+-- A value may go into a field of that type, where the tests say so; else it is refused as they say.
+abbrev pub ChecksValue : StoreView ℕ → State → Option FieldType → Operand → RawValue → Result (Unit {0}) Refusal → Type 0
+ChecksValue store s field v r (Ok done) = (first_failing (value_tests s field v) ≡ None) × RawStands store s.table r (given_value (given s v))
+ChecksValue store s field v r (Err why) = first_failing (value_tests s field v) ≡ Some why
+
+-- the tests of values in order, the first of which has the type at that index
+abbrev pub typed_tests : State → (ℕ → Option FieldType) → ℕ → List Operand → List (Bool × Refusal)
+typed_tests s types i [] = []
+typed_tests s types i (v ∷ vs) = value_tests s (types i) v ++ typed_tests s types (suc i) vs
+
+-- the same of values in order
+abbrev pub ChecksValues : StoreView ℕ → State → ValueTypes → List Operand → List RawValue → Result (Unit {0}) Refusal → Type 0
+ChecksValues store s types vs raws (Ok done) =
+    (first_failing (typed_tests s (type_at s.table.types types) 0 vs) ≡ None) × AllStand store s.table raws (given_values s vs)
+ChecksValues store s types vs raws (Err why) = first_failing (typed_tests s (type_at s.table.types types) 0 vs) ≡ Some why

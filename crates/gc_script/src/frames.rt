@@ -6,10 +6,8 @@ ghost use Rattle.gc_script.specs.State.{State, HoldsState};
 ghost use Rattle.gc_script.specs.Run.{GoesOn};
 ghost use Rattle.gc_store.specs.Stores.{IsSameStore};
 
-use crate::fields::{make_room, put_into};
+use crate::reads::{make_room, put_read};
 use crate::runner::{RunError, Runner};
-use crate::shown::shown;
-use crate::values::{is_live, slot_of};
 use gc_commands::{Refusal, Reply};
 use gc_heap::GcHeap;
 use gc_store::{RawValue, SlotFault, Store};
@@ -51,16 +49,9 @@ impl Runner {
         if !store.has_slot(slot) {
             return Reply::Refused(Refusal::NoSuchName);
         }
-        let value = match self.registers.get(r) {
-            Some(value) => value,
-            None => return Reply::Refused(Refusal::NoSuchName),
-        };
-        if !is_live(store, &value) {
-            return Reply::Refused(Refusal::Unrooted);
-        }
-        let (class, handle) = match slot_of(&value) {
-            Some(slot) => slot,
-            None => return Reply::Refused(Refusal::WrongKind),
+        let (class, handle) = match self.reference_in(store, r) {
+            Ok(slot) => slot,
+            Err(why) => return Reply::Refused(why),
         };
         match store.slot_set(slot, class, handle) {
             Ok(()) => Reply::Done,
@@ -90,9 +81,7 @@ impl Runner {
         match store.slot_get(slot) {
             Ok((class, handle)) => {
                 let value = RawValue::Ref(class, handle);
-                let reply = shown(store, &value);
-                put_into(&mut self.registers, into, value);
-                Ok(Reply::Value(reply))
+                Ok(put_read(&mut self.registers, store, into, value))
             }
             Err(SlotFault::RootsFull) => Ok(Reply::Refused(Refusal::RootsFull)),
             // The slot is there, so only memory is wanting.

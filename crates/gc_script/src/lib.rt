@@ -6,20 +6,26 @@
 //! `LineCutter` cuts the bytes of a script into lines as they come (`Cutting`).
 #![tactic(auto)]
 
+mod arrays;
 mod built;
 pub mod cutter;
-mod fields;
+mod declare;
+mod fits;
 mod frames;
 mod globals;
 mod growth;
 mod make;
+mod objects;
+mod reads;
+mod references;
 mod registers;
 pub mod runner;
 mod scopes;
 pub mod script;
 mod shown;
-mod targets;
 mod values;
+mod words;
+mod writes;
 
 pub use cutter::{LineCutter, pieces_give_lines};
 pub use gc_commands::{

@@ -1,13 +1,14 @@
 //! Running commands.
 
-ghost use Rattle.std.specs.Prelude.{◌≡◌, OnOk, OnErr};
+ghost use Rattle.std.specs.Prelude.{◌≡◌, true, OnOk, OnErr};
 ghost use Rattle.gc_model.specs.Holds.{HoldsKept};
 ghost use Rattle.gc_script.specs.Slots.{new_runner};
 ghost use Rattle.gc_script.specs.State.{State, HoldsState};
-ghost use Rattle.gc_script.specs.Run.{RunsOne, TakesMemory};
+ghost use Rattle.gc_script.specs.Run.{RunsOne, GoesOn, asks_nothing, TakesMemory};
 ghost use Rattle.gc_store.specs.Stores.{IsSameStore};
 
 use crate::built::is_built;
+use crate::objects::Wanted;
 use crate::registers::Registers;
 use gc_commands::{Command, Refusal, Reply};
 use gc_heap::GcHeap;
@@ -55,9 +56,10 @@ impl Runner {
     }
 
     /// Runs one command. What it refuses is a reply, and so is a command that is not built (`BadLine`); an
-    /// error is want of memory, which leaves the table as it was, but that `new` and `grow` may have
-    /// collected and got the heap pages. It comes of no command that takes no memory: `setf`, `eq`,
-    /// `leave`, `pop`, `store`, `gset`, `gc`, `cap`, and those that are not built.
+    /// error is want of memory, which leaves the table as it was, but that a command which makes an object
+    /// and `grow` may have collected and got the heap pages. It comes of no command that takes no memory:
+    /// `len`, `setf`, `sete`, `eq`, `leave`, `pop`, `store`, `gset`, `gc`, `cap`, and those that are not
+    /// built.
     /// The time is linear in the command's length and in the number of the register that it sets, beside
     /// that of a collection and of new memory, and for `leave` in the roots that it drops.
     pub fn run_one<H: GcHeap, L: ResourceLimiter>(
@@ -75,17 +77,55 @@ impl Runner {
             return Ok(Reply::Refused(Refusal::BadLine));
         }
         match command {
+            Command::New { d, t, values } => {
+                self.make_struct(store, limiter, *d, *t, values.as_slice())
+            }
+            Command::NewArr { d, t, len, value } => {
+                self.make_filled(store, limiter, *d, *t, *len, value)
+            }
+            Command::Fixed { d, t, values } => {
+                self.make_fixed(store, limiter, *d, *t, values.as_slice())
+            }
+            Command::NewBytes { d, t, bytes } => {
+                self.make_bytes(store, limiter, *d, *t, bytes.as_slice())
+            }
+            Command::Gc => Ok(self.collect(store)),
+            Command::Grow { n } => self.grow(store, limiter, *n),
+            _ => self.run_unasking(store, command),
+        }
+    }
+
+    /// Runs a command that asks no limiter and collects nothing.
+    fn run_unasking<H: GcHeap>(
+        &mut self,
+        store: &mut Store<H, u64>,
+        command: &Command,
+    ) -> Result<Reply, RunError>
+        requires { asks_nothing command.now ≡ true }
+        ensures goes { (s : State) → HoldsState H.KIND store.old self.old s → GoesOn H.KIND s command.now result store.new self.new }
+        ensures memory { OnErr result (TakesMemory command.now) }
+        ensures same { IsSameStore store.old store.new }
+    {
+        match command {
             Command::Struct {
                 is_final,
                 supertype,
                 fields,
             } => self.declare_struct(store, *is_final, *supertype, fields.as_slice()),
-            Command::New { d, t, values } => {
-                self.make_struct(store, limiter, *d, *t, values.as_slice())
-            }
+            Command::Array {
+                is_final,
+                supertype,
+                elem,
+            } => self.declare_array(store, *is_final, *supertype, elem),
+            Command::ReadBytes { r, len } => self.read_bytes(store, *r, *len),
             Command::I31 { d, n } => self.make_i31(store, *d, *n),
-            Command::Field { r, i, into } => self.read_field(store, *r, *i, *into),
+            Command::Field { r, i, into } => {
+                self.read_value(store, Wanted::WithFields, *r, *i, *into)
+            }
+            Command::Elem { r, i, into } => self.read_value(store, Wanted::Array, *r, *i, *into),
+            Command::Len { r } => Ok(self.length(store, *r)),
             Command::SetField { r, i, value } => Ok(self.write_field(store, *r, *i, value)),
+            Command::SetElem { r, i, value } => Ok(self.write_element(store, *r, *i, value)),
             Command::Eq { r, s } => Ok(self.compare(store, *r, *s)),
             Command::Enter => self.enter(store),
             Command::Leave => Ok(self.leave(store)),
@@ -95,8 +135,6 @@ impl Runner {
             Command::Load { k, d } => self.load_slot(store, *k, *d),
             Command::SetGlobal { g, r } => Ok(self.set_global(store, *g, *r)),
             Command::GetGlobal { g, d } => self.get_global(store, *g, *d),
-            Command::Gc => Ok(self.collect(store)),
-            Command::Grow { n } => self.grow(store, limiter, *n),
             Command::Cap => Ok(self.capacity(store)),
             _ => unreachable!(),
         }

@@ -1,38 +1,37 @@
 //! The values that commands give, by operands and registers.
 
-ghost use Rattle.std.specs.Prelude.{◌≡◌, ℕ, List, length, slice_get, true, Option, Some, IsTrue, OnOk, IfOk, IfSome, IfNone};
-ghost use Rattle.std.specs.List.{list_all};
-ghost use Rattle.std.specs.Option.{option_map};
-ghost use Rattle.gc_types.specs.declared.value.FieldType.{FieldType};
-ghost use Rattle.gc_types.specs.Declarations.{struct_fields_at};
+ghost use Rattle.std.specs.Prelude.{◌≡◌, ℕ, List, Option, Some, IsTrue, OnOk, IfOk, IfSome, IfNone};
 ghost use Rattle.gc_model.specs.Holds.{HoldsTable};
 ghost use Rattle.gc_model.specs.Table.{Table};
 ghost use Rattle.gc_commands.specs.declared.command.Operand.{Operand};
-ghost use Rattle.gc_store.specs.Values.{raw_fits, NamesLive, CanStore};
-ghost use Rattle.gc_store.specs.Places.{CanPlace};
+ghost use Rattle.gc_store.specs.Values.{NamesLive};
 ghost use Rattle.gc_script.specs.State.{State, Held, Stands};
-ghost use Rattle.gc_script.specs.Built.{is_built_operand};
 ghost use Rattle.gc_script.specs.Given.{held_operand, given_held};
-ghost use Rattle.gc_script.specs.Values.{HoldsOperand, HoldsOperands, HasUnset, AllHeld, raw_handle, raw_slot, IsFound, ChecksValue, ChecksValues};
+ghost use Rattle.gc_script.specs.Values.{HoldsOperand, HoldsOperands, HasUnset, AllHeld, raw_handle, raw_slot, is_function, IsFound, CanStoreAs, AllStorable, ChecksValue, ChecksValues};
 
+use crate::fits::fits;
+use crate::objects::{ValueTypes, type_at};
 use crate::registers::Registers;
 use gc_commands::{Operand, Refusal};
 use gc_heap::GcHeap;
 use gc_store::{GcClass, GcRootIndex, RawValue, Store};
-use gc_types::{FieldType, StorageType, VMSharedTypeIndex, ValType};
+use gc_types::FieldType;
 use std::alloc::{AllocError, Global};
 
 /// What an operand holds; None where it is a register that is unset.
 pub(crate) fn operand_value(registers: &Registers, operand: &Operand) -> Option<RawValue>
-    requires { is_built_operand operand.now ≡ true }
     ensures { HoldsOperand registers.now operand.now result }
 {
     match *operand {
         Operand::I32(number) => Some(RawValue::I32(number)),
         Operand::I64(number) => Some(RawValue::I64(number)),
+        Operand::F32(bits) => Some(RawValue::F32(bits)),
+        Operand::F64(bits) => Some(RawValue::F64(bits)),
+        Operand::V128(bits) => Some(RawValue::V128(bits)),
         Operand::AnyNull => Some(RawValue::Ref(GcClass::Any, None)),
+        Operand::ExternNull => Some(RawValue::Ref(GcClass::Extern, None)),
+        Operand::ExnNull => Some(RawValue::Ref(GcClass::Exn, None)),
         Operand::Register(register) => registers.get(register),
-        _ => unreachable!(),
     }
 }
 
@@ -42,7 +41,6 @@ pub(crate) fn operand_values(
     registers: &Registers,
     operands: &[Operand],
 ) -> Result<Option<Vec<RawValue>>, AllocError>
-    requires { list_all is_built_operand operands.now ≡ true }
     ensures set { IfOk result (λ found. IfSome found (λ values. HoldsOperands registers.now operands.now values.items)) }
     ensures unset { IfOk result (λ found. IfNone found (HasUnset registers.now operands.now)) }
 {
@@ -54,18 +52,6 @@ pub(crate) fn operand_values(
         values.extend_from_slice(&[value])?;
     }
     Ok(Some(values))
-}
-
-/// Whether a value is of the type of a field.
-fn fits_field(field: &FieldType, value: &RawValue) -> bool
-    ensures { result ≡ raw_fits field.now.element_type value.now }
-{
-    match field.element_type {
-        StorageType::ValType(ValType::I32) => matches!(value, RawValue::I32(_)),
-        StorageType::ValType(ValType::I64) => matches!(value, RawValue::I64(_)),
-        StorageType::ValType(ValType::Ref(_)) => matches!(value, RawValue::Ref(GcClass::Any, _)),
-        _ => false,
-    }
 }
 
 /// The handle that a value is, where it is one.
@@ -88,61 +74,59 @@ pub(crate) fn slot_of(value: &RawValue) -> Option<(GcClass, Option<GcRootIndex>)
     }
 }
 
-/// Whether a value is no handle, or that of a live root.
+/// Whether a value is a function or none.
+fn is_function(value: &RawValue) -> bool
+    ensures { result ≡ is_function value.now }
+{
+    matches!(value, RawValue::Func(_))
+}
+
+/// Whether a value is a number, null, or the handle of a live root. No function stands in a register.
 pub(crate) fn is_live<H: GcHeap>(store: &Store<H, u64>, value: &RawValue) -> bool
     ensures live { IsTrue result → NamesLive ℕ H.KIND store.now value.now }
     ensures found { (t : Table ℕ) (held : Option Held) → HoldsTable H.KIND store.now t → Stands store.now t (Some value.now) held → IsFound store.now t value.now (given_held t held) result }
 {
     match handle_of(value) {
         Some(handle) => store.object(handle).is_ok(),
-        None => true,
+        None => !is_function(value),
     }
 }
 
-/// Whether a value may go into a field: `Unrooted` where its root is gone, then `TypeMismatch`.
+/// Whether a value may go into a field or an element of that type: `Unrooted` where its root is gone, then
+/// `TypeMismatch`, also where there is no type.
 pub(crate) fn check_value<H: GcHeap>(
     store: &Store<H, u64>,
-    field: FieldType,
+    field: Option<FieldType>,
     value: &RawValue,
 ) -> Result<(), Refusal>
-    ensures stores { OnOk result (CanStore ℕ H.KIND store.now field value.now) }
+    ensures stores { OnOk result (CanStoreAs H.KIND store.now field value.now) }
     ensures checks { (s : State) (v : Operand) → HoldsTable H.KIND store.now s.table → Stands store.now s.table (Some value.now) (held_operand s v) → ChecksValue store.now s field v value.now result }
 {
     if !is_live(store, value) {
         return Err(Refusal::Unrooted);
     }
-    if !fits_field(&field, value) {
-        return Err(Refusal::TypeMismatch);
+    let field = match field {
+        Some(field) => field,
+        None => return Err(Refusal::TypeMismatch),
+    };
+    if fits(store, field.element_type, value) {
+        Ok(())
+    } else {
+        Err(Refusal::TypeMismatch)
     }
-    Ok(())
 }
 
-/// The type of a field of a struct type.
-pub(crate) fn field_at<H: GcHeap>(
-    store: &Store<H, u64>,
-    ty: VMSharedTypeIndex,
-    index: usize,
-) -> Option<FieldType>
-    ensures { (fields : List FieldType) → struct_fields_at store.now.types ty ≡ Some fields → result ≡ slice_get fields index }
-{
-    store.types().field(ty, index)
-}
-
-/// Whether the values may go into the fields of a struct type; the first that may not says why.
+/// Whether the values may go into fields or elements of these types; the first that may not says why.
 pub(crate) fn check_values<H: GcHeap>(
     store: &Store<H, u64>,
-    ty: VMSharedTypeIndex,
+    types: &ValueTypes,
     values: &[RawValue],
 ) -> Result<(), Refusal>
-    requires { option_map length (struct_fields_at store.now.types ty) ≡ Some (length values.now) }
-    ensures stores { OnOk result (CanPlace ℕ H.KIND store.now ty values.now) }
-    ensures checks { (s : State) (vs : List Operand) → HoldsTable H.KIND store.now s.table → AllHeld store.now s vs values.now → ChecksValues store.now s ty vs values.now result }
+    ensures stores { OnOk result (AllStorable H.KIND store.now types.now values.now) }
+    ensures checks { (s : State) (vs : List Operand) → HoldsTable H.KIND store.now s.table → AllHeld store.now s vs values.now → ChecksValues store.now s types.now vs values.now result }
 {
     for (index, value) in values.iter().enumerate() {
-        let Some(field) = field_at(store, ty, index) else {
-            unreachable!()
-        };
-        check_value(store, field, value)?;
+        check_value(store, type_at(store, types, index), value)?;
     }
     Ok(())
 }

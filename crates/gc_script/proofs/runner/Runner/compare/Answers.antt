@@ -1,4 +1,5 @@
-use Rattle.std.proofs.Common.{◌≡◌, true, Option, Some, sym, ap, ◌∙◌, subst}
+use Rattle.std.proofs.Common.{◌≡◌, true, Option, Some, sym, ap, ◌∙◌, subst, refl}
+use Rattle.std.specs.Prelude.{Ok, Err}
 use Rattle.gc_store.specs.declared.root.RawValue.{RawValue}
 use Rattle.gc_script.specs.Slots.{RunnerView, register_at}
 use Rattle.gc_script.specs.State.{State, HoldsState, Stands}
@@ -26,16 +27,16 @@ pub returns-in-Ok : goal.returns-in-Ok
 returns-in-Ok g c = record {
   goes = λ s holds.
       let at = (goal.at.returns-in-Ok g c).After-index_eq in
-      compared g.H.GcHeap.KIND c.args.store.now c.args.self.now s c.args.r c.args.q c.in-Some.value c.in-Some-get.value c.in-Some-handle_of.root c.in-Some-handle_of-2.root c.in-Ok.same holds
+      compared g.H.GcHeap.KIND c.args.store.now c.args.self.now s c.args.r c.args.q c.in-Some.value c.in-Some-get.value c.in-Some-handle_of.root c.in-Some-handle_of-2.root (Ok c.in-Ok.same) holds
       (sym c.in-Some-handle_of.ensures) (sym c.in-Some-handle_of-2.ensures) (first_found g at s holds) (second_found g at s holds)
-      (λ x y. c.in-Ok.ensures.named s.table x y (holds_table holds.table));
+      (λ x y. c.in-Ok.ensures.live s.table x y (holds_table holds.table)) c.in-Ok.same refl;
 }
 
 pub returns-in-Err : goal.returns-in-Err
 returns-in-Err g c = record {
   goes = λ s holds.
       let at = (goal.at.returns-in-Err g c).After-index_eq in
-      absurd (never_unrooted g.H.GcHeap.KIND c.args.store.now s c.args.r c.args.q c.in-Some.value c.in-Some-get.value c.in-Some-handle_of.root c.in-Some-handle_of-2.root c.in-Err.field-0 (holds_table holds.table)
+      absurd (never_unrooted g.H.GcHeap.KIND c.args.store.now c.args.self.now s c.args.r c.args.q c.in-Some.value c.in-Some-get.value c.in-Some-handle_of.root c.in-Some-handle_of-2.root (Err c.in-Err.field-0) holds
       (sym c.in-Some-handle_of.ensures) (sym c.in-Some-handle_of-2.ensures) (first_found g at s holds) (second_found g at s holds)
-      (λ x y. c.in-Err.ensures.named s.table x y (holds_table holds.table)));
+      (λ x y. c.in-Err.ensures.live s.table x y (holds_table holds.table)) c.in-Err.field-0 refl);
 }

@@ -1,6 +1,6 @@
 use Rattle.std.proofs.Common.{Bool, subst}
 use Rattle.gc_store.specs.Slots.{PopsFrame}
-use Rattle.gc_script.proofs.FrameLemmas.{was_popped, none_popped}
+use Rattle.gc_script.proofs.FrameGoes.{was_popped, none_popped}
 use Rattle.gc_script.proofs.runner.Runner.pop_frame.Goals as goal
 
 pub returns-then-pop_frame-clause-goes : goal.returns-then-pop_frame-clause-goes

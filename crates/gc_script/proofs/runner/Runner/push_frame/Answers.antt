@@ -1,9 +1,9 @@
-use Rattle.std.proofs.Common.{◌≡◌, ℕ, subst}
+use Rattle.std.proofs.Common.{ℕ, subst}
 use Rattle.std.specs.Prelude.{Ok}
 use Rattle.gc_commands.specs.declared.command.Command.TheVariants as command
 use Rattle.gc_commands.specs.declared.reply.Reply.TheVariants as reply
 use Rattle.gc_script.specs.Run.{GoesOn}
-use Rattle.gc_script.proofs.FrameLemmas.{was_pushed}
+use Rattle.gc_script.proofs.FrameGoes.{was_pushed}
 use Rattle.gc_script.proofs.runner.Runner.push_frame.Goals as goal
 
 pub returns-in-Ok-clause-goes : goal.returns-in-Ok-clause-goes

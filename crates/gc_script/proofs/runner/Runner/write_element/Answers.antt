@@ -1,0 +1,47 @@
+use Rattle.std.proofs.Common.{sym, refl, subst}
+use Rattle.gc_commands.specs.declared.reply.Reply.{Reply}
+use Rattle.gc_commands.specs.declared.command.Command.TheVariants as command
+use Rattle.gc_commands.specs.declared.reply.Refusal.TheVariants as refusal
+use Rattle.gc_script.specs.declared.objects.Wanted.TheVariants as wanted
+use Rattle.gc_script.specs.Shapes.{plain, writes_value}
+use Rattle.gc_script.specs.Steps.{tests}
+use Rattle.gc_script.specs.Named.{type_at}
+use Rattle.gc_script.specs.Run.{Goes}
+use Rattle.gc_script.proofs.StandLemmas.{holds_table}
+use Rattle.gc_script.proofs.TestLemmas.{refuses}
+use Rattle.gc_script.proofs.WriteLemmas.{can_write, wrote, elem_none, elem_refused, elem_past, elem_passes}
+use Rattle.gc_script.proofs.runner.Runner.write_element.Goals as goal
+
+pub returns-in-Err-clause-goes : goal.returns-in-Err-clause-goes
+returns-in-Err-clause-goes g c s holds =
+    refuses g.H.GcHeap.KIND c.args.store.now c.args.self.now s (command.SetElem c.args.r c.args.i c.args.operand.now) c.in-Err.why holds
+    (elem_none g.H.GcHeap.KIND s c.args.r c.args.i c.args.operand.now c.in-Err.why (c.in-Err.ensures.finds s holds))
+
+pub returns-in-Err-check_write-clause-goes : goal.returns-in-Err-check_write-clause-goes
+returns-in-Err-check_write-clause-goes g c s holds =
+    let found = c.in-Ok.ensures.finds s holds in
+    refuses g.H.GcHeap.KIND c.args.store.now c.args.self.now s (command.SetElem c.args.r c.args.i c.args.operand.now) c.in-Err-check_write.why holds
+    (elem_refused g.H.GcHeap.KIND c.args.store.now s c.args.r c.args.i c.args.operand.now found.passes c.in-Ok.written.object found.found c.in-Err-check_write.why
+    (c.in-Err-check_write.ensures.checks s c.args.operand.now (holds_table holds.table) found.stands))
+
+pub returns-then-i-written-clause-goes : goal.returns-then-i-written-clause-goes
+returns-then-i-written-clause-goes g c s holds =
+    let found = c.in-Ok.ensures.finds s holds in
+    refuses g.H.GcHeap.KIND c.args.store.now c.args.self.now s (command.SetElem c.args.r c.args.i c.args.operand.now) refusal.OutOfBounds holds
+    (elem_past g.H.GcHeap.KIND c.args.store.now s c.args.r c.args.i c.args.operand.now found.passes c.in-Ok.written.object found.found
+    (c.in_default.ensures.checks s c.args.operand.now (holds_table holds.table) found.stands).0 c.if-i-written.true)
+
+pub write-requires : goal.write-requires
+write-requires g c =
+    can_write g.H.GcHeap.KIND c.args.store.now wanted.Array c.in-Ok.written.object c.args.i c.in-Ok.written.value c.in-Ok.ensures.named c.if-i-written.false
+    (type_at c.args.store.now.types c.in-Ok.written.object.types c.args.i) refl c.in_default.ensures.stores
+
+pub returns-clause-goes : goal.returns-clause-goes
+returns-clause-goes g c s holds =
+    let found = c.in-Ok.ensures.finds s holds in
+    let checked = c.in_default.ensures.checks s c.args.operand.now (holds_table holds.table) found.stands in
+    subst (λ (answer : Reply). Goes g.H.GcHeap.KIND s (plain (writes_value c.args.r c.args.i c.args.operand.now)) (tests g.H.GcHeap.KIND s (command.SetElem c.args.r c.args.i c.args.operand.now)) answer c.write.new.store c.args.self.now) (sym c.write.ensures.done)
+    (wrote g.H.GcHeap.KIND c.args.store.now c.write.new.store c.args.self.now s holds wanted.Array c.args.r c.args.i c.args.operand.now c.in-Ok.written.object found.found c.if-i-written.false
+    c.write.ensures.same c.in-Ok.written.value checked.1 (type_at c.args.store.now.types c.in-Ok.written.object.types c.args.i) refl c.in_default.ensures.stores
+    (c.write.ensures.writes s.table s.account holds.table) (tests g.H.GcHeap.KIND s (command.SetElem c.args.r c.args.i c.args.operand.now))
+    (elem_passes g.H.GcHeap.KIND c.args.store.now s c.args.r c.args.i c.args.operand.now found.passes c.in-Ok.written.object found.found checked.0 c.if-i-written.false))

@@ -1,0 +1,154 @@
+//! The objects that registers name.
+
+ghost use Rattle.std.specs.Prelude.{◌≡◌, ℕ, Some, IfOk, IfSome};
+ghost use Rattle.gc_model.specs.Holds.{HoldsTable};
+ghost use Rattle.gc_model.specs.Table.{Table};
+ghost use Rattle.gc_model.specs.Values.{Reference};
+ghost use Rattle.gc_store.specs.Roots.{NamesReference};
+ghost use Rattle.gc_script.specs.State.{State, Stands};
+ghost use Rattle.gc_script.specs.Named.{takes, count_of_fields, described, type_at, IsNamed, TellsObject, FindsObject};
+
+use crate::values::{handle_of, is_live};
+use gc_commands::Refusal;
+use gc_heap::GcHeap;
+use gc_store::{GcRootIndex, RawValue, RootedObject, Store};
+use gc_types::{FieldType, VMSharedTypeIndex};
+
+/// The objects that a command is for.
+#[derive(Clone, Copy)]
+pub(crate) enum Wanted {
+    Struct,
+    Array,
+    /// A struct or an exception.
+    WithFields,
+}
+
+/// The types of an object's values.
+#[derive(Clone, Copy)]
+pub(crate) enum ValueTypes {
+    /// Those of the fields of a struct or exception type.
+    Fields(VMSharedTypeIndex),
+    /// All are elements of this type.
+    Elements(FieldType),
+}
+
+/// An object that a register names: its root, and the number and the types of its values.
+#[derive(Clone, Copy)]
+pub(crate) struct NamedObject {
+    pub(crate) root: GcRootIndex,
+    pub(crate) count: u32,
+    pub(crate) types: ValueTypes,
+}
+
+impl Wanted {
+    /// Whether the object is one of these.
+    fn takes(self, object: &RootedObject) -> bool
+        ensures { result ≡ takes self object.now }
+    {
+        match self {
+            Wanted::Struct => matches!(object, RootedObject::Struct(_)),
+            Wanted::Array => matches!(object, RootedObject::Array(..)),
+            Wanted::WithFields => {
+                matches!(object, RootedObject::Struct(_) | RootedObject::Exn(..))
+            }
+        }
+    }
+}
+
+/// How many fields a type has; 0 where it has none.
+fn count_of_fields<H: GcHeap>(store: &Store<H, u64>, ty: VMSharedTypeIndex) -> u32
+    ensures { result ≡ count_of_fields store.now.types ty }
+{
+    let types = store.types();
+    // A declared type has at most 10,000 fields.
+    types.are_declared();
+    match types.fields_len(ty) {
+        Some(count) => count as u32,
+        None => 0,
+    }
+}
+
+/// An object by what the store says of its root; None where it has no values.
+fn describe<H: GcHeap>(
+    store: &Store<H, u64>,
+    root: GcRootIndex,
+    object: &RootedObject,
+) -> Option<NamedObject>
+    ensures { result ≡ described store.now.types root object.now }
+{
+    match object {
+        RootedObject::Struct(ty) | RootedObject::Exn(ty, _) => Some(NamedObject {
+            root,
+            count: count_of_fields(store, *ty),
+            types: ValueTypes::Fields(*ty),
+        }),
+        RootedObject::Array(ty, count) => {
+            let element = store.types().array_elem(*ty)?;
+            Some(NamedObject {
+                root,
+                count: *count,
+                types: ValueTypes::Elements(element),
+            })
+        }
+        RootedObject::I31(_) => None,
+        RootedObject::Host => None,
+    }
+}
+
+/// The object that a root names, where it is one of these.
+fn object_of<H: GcHeap>(
+    store: &Store<H, u64>,
+    root: GcRootIndex,
+    wanted: Wanted,
+) -> Option<NamedObject>
+    ensures named { IfSome result (IsNamed H.KIND store.now wanted) }
+    ensures tells { (t : Table ℕ) (r : Reference) → HoldsTable H.KIND store.now t → NamesReference store.now t root r → TellsObject store.now t wanted r result }
+{
+    match &store.object(root) {
+        Ok(object) => {
+            if wanted.takes(object) {
+                describe(store, root, object)
+            } else {
+                None
+            }
+        }
+        Err(_) => None,
+    }
+}
+
+/// The object that a register's value names: `Unrooted` where its root is gone, then `WrongKind` where it
+/// isn't one of these.
+pub(crate) fn find_object<H: GcHeap>(
+    store: &Store<H, u64>,
+    value: &RawValue,
+    wanted: Wanted,
+) -> Result<NamedObject, Refusal>
+    ensures named { IfOk result (IsNamed H.KIND store.now wanted) }
+    ensures finds { (s : State) (r : ℕ) → HoldsTable H.KIND store.now s.table → Stands store.now s.table (Some value.now) (s.registers r) → FindsObject store.now s wanted r result }
+{
+    if !is_live(store, value) {
+        return Err(Refusal::Unrooted);
+    }
+    let root = match handle_of(value) {
+        Some(root) => root,
+        None => return Err(Refusal::WrongKind),
+    };
+    match object_of(store, root, wanted) {
+        Some(object) => Ok(object),
+        None => Err(Refusal::WrongKind),
+    }
+}
+
+/// The type of the value at that index, where there is one; of elements whatever the index is.
+pub(crate) fn type_at<H: GcHeap>(
+    store: &Store<H, u64>,
+    types: &ValueTypes,
+    index: usize,
+) -> Option<FieldType>
+    ensures { result ≡ type_at store.now.types types.now index }
+{
+    match types {
+        ValueTypes::Fields(ty) => store.types().field(*ty, index),
+        ValueTypes::Elements(element) => Some(*element),
+    }
+}
