@@ -92,9 +92,9 @@ module _ {D : Type 0} (layouts : Layouts) (v : OwnerView D) (place ty : ℕ) (r 
     slot = first;
     slot_is = first_is;
     small = (
-      let end = held_small layouts v.heap place object heap f.is.held in
-      let reach = bytes_reach layouts v.types.declarations v.heap place object shape n f.is (can.traced place object f.is.held) in
-      omega (arith, range.high, end, reach, held_size_is layouts object shape n f.is.has));
+        let end = held_small layouts v.heap place object heap f.is.held in
+        let reach = bytes_reach layouts v.types.declarations v.heap place object shape n f.is (can.traced place object f.is.held) in
+        omega (arith, range.high, end, reach, held_size_is layouts object shape n f.is.has));
   }
 
   pub first_found : (found : Slot) → FindsSlot layouts v.types.declarations ty 0 found → storage_slot found ≡ first

@@ -46,11 +46,11 @@ chunk_filled chunk bytes w most long positive wide all same i below =
     let count : length (take w (drop from chunk)) ≡ w = length-take-le w (drop from chunk) (omega (arith, length-drop from chunk, long, ends, all)) in
     ext_get_or 0 (take w (drop from chunk)) (take w bytes) (count ∙ sym (length-take-le w bytes wide))
     (λ j inside.
-        let here : j < w = omega (arith, inside, count) in
-        get_or-take w (drop from chunk) j 0 here ∙ get_or-drop from chunk j 0
-        ∙ same (from + j) (omega (arith, ends, all, here))
-        ∙ ap (λ k. get_or bytes k 0) (ap (λ k. (k + j) % w) (let z : from ≡ i * w = omega arith in z) ∙ mod-mul-add i w j here)
-        ∙ sym (get_or-take w bytes j 0 here))
+    let here : j < w = omega (arith, inside, count) in
+    get_or-take w (drop from chunk) j 0 here ∙ get_or-drop from chunk j 0
+    ∙ same (from + j) (omega (arith, ends, all, here))
+    ∙ ap (λ k. get_or bytes k 0) (ap (λ k. (k + j) % w) (let z : from ≡ i * w = omega arith in z) ∙ mod-mul-add i w j here)
+    ∙ sym (get_or-take w bytes j 0 here))
 
 -- the low bytes of a number
 pub low_bytes : (ty : StorageType) (number n : ℕ) (bytes : List ℕ) → n ≡ storage_width ty → n ≤ 16 → bytes ≡ bytes_low_first 0 16 number → take n bytes ≡ slot_bytes ty number
@@ -158,9 +158,9 @@ module _ {D : Type 0} (layouts : Layouts) (old : OwnerView D) (place : ℕ) (slo
     slot = element 0;
     slot_is = element_at 0 e.some;
     small = (
-      let end = held_small layouts old.heap place e.object heap e.is.held in
-      let reach = bytes_reach layouts old.types.declarations old.heap place e.object e.shape e.n e.is (can.traced place e.object e.is.held) in
-      omega (arith, (range 0 e.some).high, end, reach, held_size_is layouts e.object e.shape e.n e.is.has));
+        let end = held_small layouts old.heap place e.object heap e.is.held in
+        let reach = bytes_reach layouts old.types.declarations old.heap place e.object e.shape e.n e.is (can.traced place e.object e.is.held) in
+        omega (arith, (range 0 e.some).high, end, reach, held_size_is layouts e.object e.shape e.n e.is.has));
   }
 
   module _ (new : OwnerView D) (k : ℕ) (f : FilledTo layouts old new place slot count x e k) (heap : IsHeap layouts new.heap) (can : CanBegin layouts new) where

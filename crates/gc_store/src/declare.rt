@@ -62,6 +62,7 @@ impl<H: GcHeap, D: Drop> Store<H, D> {
         ensures err { OnErr result (self.new ≡ self.old) }
         ensures same { IsSameStore self.old self.new }
     {
-        self.owner.declare_func(params, results, supertype, is_final)
+        self.owner
+            .declare_func(params, results, supertype, is_final)
     }
 }

@@ -51,12 +51,7 @@ fn element_slot(
 }
 
 /// The slot of the value at that index of an object of a declared type.
-pub(crate) fn slot_at(
-    types: &Types,
-    layouts: Layouts,
-    ty: VMSharedTypeIndex,
-    index: u32,
-) -> Slot
+pub(crate) fn slot_at(types: &Types, layouts: Layouts, ty: VMSharedTypeIndex, index: u32) -> Slot
     requires { HasSlot layouts types.now.declarations ty index }
     ensures { FindsSlot layouts types.now.declarations ty index result }
 {

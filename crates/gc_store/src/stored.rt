@@ -98,12 +98,8 @@ fn read_typed<H: GcHeap>(heap: &H, gc_ref: &VMGcRef, offset: u32, ty: ValType) -
     ensures finds { FindsAt H.KIND (H.seen heap.now) gc_ref.now (type_form ty) (value_width ty) offset result }
 {
     match ty {
-        ValType::I32 => Found::Number(RawValue::I32(
-            read_u32(heap, gc_ref, offset).cast_signed(),
-        )),
-        ValType::I64 => Found::Number(RawValue::I64(
-            read_u64(heap, gc_ref, offset).cast_signed(),
-        )),
+        ValType::I32 => Found::Number(RawValue::I32(read_u32(heap, gc_ref, offset).cast_signed())),
+        ValType::I64 => Found::Number(RawValue::I64(read_u64(heap, gc_ref, offset).cast_signed())),
         ValType::F32 => Found::Number(RawValue::F32(read_u32(heap, gc_ref, offset))),
         ValType::F64 => Found::Number(RawValue::F64(read_u64(heap, gc_ref, offset))),
         ValType::V128 => Found::Number(RawValue::V128(read_v128(heap, gc_ref, offset))),
