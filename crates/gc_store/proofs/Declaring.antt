@@ -1,34 +1,25 @@
 -- What a declaration leaves of a store.
-use Rattle.std.proofs.Common.{◌≡◌, ℕ, List, length, Option, None, Bool, true, false, Result, Ok, Err, sym, ap, ◌∙◌, refl, subst}
-use Rattle.std.specs.Prelude.{All}
+use Rattle.std.proofs.Common.{◌≡◌, ℕ, List, length, Result, Ok, Err, sym, ap, ◌∙◌, refl, subst}
 use Rattle.gc_types.specs.declared.kind.Layouts.{Layouts}
-use Rattle.gc_types.specs.declared.value.FieldType.{FieldType}
 use Rattle.gc_types.specs.declared.types.TypeFault.{TypeFault}
 use Rattle.gc_types.specs.declared.types.TypeFault.TheVariants.{BadType, Memory}
 use Rattle.gc_types.specs.Declarable.{Declarable}
-use Rattle.gc_types.specs.Declarations.{Declaration, TypeName, plain_struct, struct_type}
+use Rattle.gc_types.specs.Declarations.{Declaration, TypeName}
 use Rattle.gc_types.specs.Declarations as types
 use Rattle.gc_model.specs.Table.{Table, declare}
 use Rattle.gc_model.specs.Stores.{StoreView}
 use Rattle.gc_model.proofs.HoldsDeclare.{with_type, holds_declare}
-use Rattle.gc_model.specs.Fits.{is_built_field}
-use Rattle.gc_model.proofs.Types.{plain_is_built}
 use Rattle.gc_owner.specs.Declares.{Declares}
 use Rattle.gc_owner.specs.Owners.{OwnerView}
 use Rattle.gc_policy.specs.Accounts.{Account, HoldsAccount}
 use Rattle.gc_policy.proofs.AccountLemmas.{account_kept}
 use Rattle.gc_store.specs.declared.engine.StoreId.{StoreId}
 use Rattle.gc_store.specs.declared.config.HeapConfig.{HeapConfig}
-use Rattle.gc_store.specs.Stores.{store_view, IsSound, DeclaresStruct}
+use Rattle.gc_store.specs.Stores.{store_view, IsSound}
+use Rattle.gc_store.specs.Stores as stores
 use Rattle.gc_store.proofs.Keeping.{counts_of}
 
--- what the owner did of a struct that is not final and has no supertype
-pub declares_plain : {D : Type 0} (fields : List FieldType) (supertype : Option ℕ) (is_final : Bool) (old new : OwnerView D) (r : Result TypeName TypeFault) → supertype ≡ None → is_final ≡ false
-    → Declares old new (struct_type fields supertype is_final) r → Declares old new (plain_struct fields) r
-declares_plain fields supertype is_final old new r none not_final did =
-    subst (λ (d : Declaration). Declares old new d r) (λ i. struct_type fields (none i) (not_final i)) did
-
-module _ {D : Type 0} (layouts : Layouts) (id : StoreId) (config : HeapConfig) (tries : ℕ) (fields : List FieldType) (built : All (λ (f : FieldType). is_built_field f ≡ true) fields) (old new : OwnerView D) where
+module _ {D : Type 0} (layouts : Layouts) (id : StoreId) (config : HeapConfig) (tries : ℕ) (d : Declaration) (old new : OwnerView D) where
   abbrev before : StoreView D
   before = store_view id config old tries
 
@@ -36,25 +27,24 @@ module _ {D : Type 0} (layouts : Layouts) (id : StoreId) (config : HeapConfig) (
   after = store_view id config new tries
 
   -- the store holds the table with the type
-  holds_new : (t : Table D) (a : Account) → new ≡ record old { types = types.declare (plain_struct fields) old.types } → HoldsAccount layouts before t a → HoldsAccount layouts after (declare (plain_struct fields) t) a
+  holds_new : (t : Table D) (a : Account) → new ≡ record old { types = types.declare d old.types } → HoldsAccount layouts before t a → HoldsAccount layouts after (declare d t) a
   holds_new t a e holds =
-      subst (λ (v : OwnerView D). HoldsAccount layouts (store_view id config v tries) (declare (plain_struct fields) t) a) (sym e) (record {
+      subst (λ (v : OwnerView D). HoldsAccount layouts (store_view id config v tries) (declare d t) a) (sym e) (record {
         place = holds.place;
-        holds = holds_declare layouts before t holds.place (plain_struct fields) (plain_is_built fields built) holds.holds;
-        account = account_kept before (with_type (plain_struct fields) before) holds.place a refl refl refl holds.account;
+        holds = holds_declare layouts before t holds.place d holds.holds;
+        account = account_kept before (with_type d before) holds.place a refl refl refl holds.account;
       })
 
   same_account : (t : Table D) (a : Account) → new ≡ old → HoldsAccount layouts before t a → HoldsAccount layouts after t a
   same_account t a e holds = subst (λ (v : OwnerView D). HoldsAccount layouts (store_view id config v tries) t a) (sym e) holds
 
-  pub declared_step : (r : Result TypeName TypeFault) → Declares old new (plain_struct fields) r → (counts : List ℕ) → IsSound D layouts counts old before → (t : Table D) (a : Account) → HoldsAccount layouts before t a → DeclaresStruct layouts fields t a r after
+  pub declared_step : (r : Result TypeName TypeFault) → Declares old new d r → (counts : List ℕ) → IsSound D layouts counts old before → (t : Table D) (a : Account) → HoldsAccount layouts before t a → stores.Declares layouts d t a r after
   declared_step (Ok ty) did counts sound t a holds = (
-    subst (λ (ts : List Declaration). Declarable ts (plain_struct fields)) holds.holds.types did.0,
-    did.1.0 ∙ (λ i. record { engine = sound.engine i; number = sound.number i; index = length (holds.holds.types i) }),
-    holds_new t a did.1.1 holds,
+    subst (λ (ts : List Declaration). Declarable ts d) holds.holds.types did.0,
+    (did.1.0 ∙ (λ i. record { engine = sound.engine i; number = sound.number i; index = length (holds.holds.types i) }), holds_new t a did.1.1 holds),
   )
   declared_step (Err BadType) did counts sound t a holds = (
-    λ may. did.0 (subst (λ (ts : List Declaration). Declarable ts (plain_struct fields)) (sym holds.holds.types) may),
+    λ may. did.0 (subst (λ (ts : List Declaration). Declarable ts d) (sym holds.holds.types) may),
     same_account t a did.1 holds,
   )
   declared_step (Err Memory) did counts sound t a holds = same_account t a did holds
@@ -62,13 +52,13 @@ module _ {D : Type 0} (layouts : Layouts) (id : StoreId) (config : HeapConfig) (
   same_sound : new ≡ old → (counts : List ℕ) → IsSound D layouts counts old before → IsSound D layouts counts new after
   same_sound e counts sound = subst (λ (v : OwnerView D). IsSound D layouts counts v (store_view id config v tries)) (sym e) sound
 
-  pub sound_declared : (r : Result TypeName TypeFault) → Declares old new (plain_struct fields) r → (counts : List ℕ) → IsSound D layouts counts old before → IsSound D layouts counts new after
+  pub sound_declared : (r : Result TypeName TypeFault) → Declares old new d r → (counts : List ℕ) → IsSound D layouts counts old before → IsSound D layouts counts new after
   sound_declared (Ok ty) did counts sound = record {
     idle = ap (λ (v : OwnerView D). v.idle) did.1.1 ∙ sound.idle;
     engine = ap (λ (v : OwnerView D). v.types.engine) did.1.1 ∙ sound.engine;
     number = ap (λ (v : OwnerView D). v.types.number) did.1.1 ∙ sound.number;
     frames = sound.frames ∙ ap counts_of (sym did.1.1);
-    table = declare (plain_struct fields) sound.table;
+    table = declare d sound.table;
     account = sound.account;
     holds = holds_new sound.table sound.account did.1.1 sound.holds;
   }
