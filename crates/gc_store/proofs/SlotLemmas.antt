@@ -1,5 +1,5 @@
 -- Slots that are set and read, and globals among them.
-use Rattle.std.proofs.Common.{◌≡◌, ℕ, ◌<◌, Bool, true, false, List, length, Option, Some, None, Ok, Err, refl, sym, ap, ◌∙◌, subst, arith}
+use Rattle.std.proofs.Common.{◌≡◌, ℕ, ◌<◌, Bool, true, false, List, length, Option, Some, None, Result, Ok, Err, refl, sym, ap, ◌∙◌, subst, arith}
 use Rattle.std.specs.Prelude.{slice_index_or}
 use Rattle.std.proofs.lemmas.Option.{slice_get_within, slice_get-get_or, get_or_from_slice_get}
 use Rattle.gc_types.specs.declared.kind.Layouts.{Layouts}
@@ -24,20 +24,20 @@ use Rattle.gc_store.specs.declared.root.GcRootIndex.{GcRootIndex}
 use Rattle.gc_store.specs.declared.root.RawValue.TheVariants as raw
 use Rattle.gc_store.specs.declared.root.RootFault.{RootFault}
 use Rattle.gc_store.specs.declared.root.RootFault.TheVariants as fault
-use Rattle.gc_store.specs.Handles.{PushesRoot}
+use Rattle.gc_store.specs.Reading.{ReadsReference, reference_value}
 use Rattle.gc_store.specs.Roots.{is_of_store, word_of, IsRootWord}
-use Rattle.gc_store.specs.Slots.{told_of_slot, FindsWord, ReadsSlot}
+use Rattle.gc_store.specs.Slots.{told_of_slot, FindsWord, ReadsSlot, slot_value}
 use Rattle.gc_store.specs.Stores.{store_view, IsSound}
 use Rattle.gc_store.specs.Values.{ReadsValue}
 use Rattle.gc_store.proofs.Keeping.{counts_of}
-use Rattle.gc_store.proofs.Roots.{word_of-ok, word_of-err, word_of-wrong, names-entry, named_live, named_dead}
-use Rattle.gc_store.proofs.ReadValues.{null_word, reads_pushed, reads_refused}
+use Rattle.gc_store.proofs.Roots.{word_of-err, word_of-wrong, word_names}
+use Rattle.gc_store.proofs.SameRoots.{never_gone}
 
 module _ {D : Type 0} (layouts : Layouts) (s : StoreView D) (t : Table D) (place : Placing) (holds : Holds layouts s t place) (handle : GcRootIndex) where
   finds_fault : (own : Bool) (f : RootFault) → is_of_store s handle ≡ own → word_of s handle ≡ Err f → FindsWord s t place (Some handle) (Err f)
   finds_fault true f own is =
       subst (λ (x : RootFault). FindsWord s t place (Some handle) (Err x)) (sym (word_of-err s handle f own is).unrooted)
-      (own, λ serial names. (named_dead layouts s t place holds handle serial f names is).0)
+      (own, λ r names. never_gone layouts s t place holds handle r f names is)
   finds_fault false f other is =
       let both : Err fault.WrongStore ≡ Err f = sym (word_of-wrong s handle other) ∙ is in
       let wrong : fault.WrongStore ≡ f = grind (arith, both) in
@@ -45,10 +45,7 @@ module _ {D : Type 0} (layouts : Layouts) (s : StoreView D) (t : Table D) (place
 
   -- a handle has the word of what it names, or a fault says why not
   pub finds_word : (answer : _) → word_of s handle ≡ answer → FindsWord s t place (Some handle) answer
-  finds_word (Ok word) is =
-      let named = names-entry layouts s t place holds handle word (word_of-ok s handle word is) in
-      let live = named_live layouts s t place holds handle named.0 word named.1 is in
-      (live.0, ((named.0, (named.1, live.1.0)), live.1.1))
+  finds_word (Ok word) is = let named = word_names layouts s t place holds handle word is in (named.root, (named.named, named.is_word))
   finds_word (Err f) is = finds_fault (is_of_store s handle) f refl is
 
 -- an owner set a global
@@ -98,27 +95,20 @@ module _ {D : Type 0} (layouts : Layouts) (s : StoreView D) (t : Table D) (place
       let beside = slot_beside place t.globals s.globals holds.globals.slots index (entry_of s.globals index) there in
       record { table = t; place = place; holds = holds; root = beside.0.reference; is_word = beside.1.1.word; not_null = positive }
 
-module _ {D : Type 0} (layouts : Layouts) (t : Table D) (a : Account) (entry : SlotEntry) (slot : Slot) where
-  -- a slot whose word is 0 is read as null
-  pub reads_empty : (s : StoreView D) (holds : HoldsAccount layouts s t a) → SlotBy holds.place entry slot → entry.word ≡ 0 → ReadsSlot layouts t a slot (Ok (entry.class, None)) s
-  reads_empty s holds stands zero =
-      let is_null : slot.reference ≡ null = null_word layouts s t a holds slot.reference (subst (IsWord holds.place slot.reference) zero stands.word) in
-      subst (λ (c : GcClass). ReadsSlot layouts t a slot (Ok (c, None)) s) (sym stands.class)
-      (subst (λ (r : Reference). ReadsValue layouts t a (reference slot.class r) (Ok (raw.Ref slot.class None)) s) (sym is_null) (λ makes. absurd (cc makes), (refl, holds)))
+-- A slot is read as the reference whose word its entry has
+module _ {D : Type 0} (layouts : Layouts) (t : Table D) (a : Account) (entry : SlotEntry) (slot : Slot) (old new : StoreView D) (holds : HoldsAccount layouts old t a) (stands : SlotBy holds.place entry slot) where
+  read_as : (answer : Result (Option GcRootIndex) RootFault) → ReadsReference layouts old entry.word answer new → ReadsValue layouts t a (slot_value slot) (reference_value slot.class answer) new
+  read_as answer reads = reads t holds.place a slot.class slot.reference holds.holds holds.account stands.word
 
-  module _ (place : Placing) (stands : SlotBy place entry slot) (new : StoreView D) (positive : 0 < entry.word) where
-    -- another one as a new root
-    pub reads_root : (handle : GcRootIndex) → PushesRoot layouts t a slot.reference (Ok handle) new → ReadsSlot layouts t a slot (Ok (entry.class, Some handle)) new
-    reads_root handle pushes =
-        subst (λ (c : GcClass). ReadsSlot layouts t a slot (Ok (c, Some handle)) new) (sym stands.class)
-        (reads_pushed layouts t a place slot.class slot.reference entry.word handle new stands.word positive pushes)
+  pub reads_slot : (found : Option GcRootIndex) → ReadsReference layouts old entry.word (Ok found) new → ReadsSlot layouts t a slot (Ok (entry.class, found)) new
+  reads_slot found reads = subst (λ (c : GcClass). ReadsSlot layouts t a slot (Ok (c, found)) new) (sym stands.class) (read_as (Ok found) reads)
 
-    -- or it is refused one
-    pub reads_no_root : (f : RootFault) → PushesRoot layouts t a slot.reference (Err f) new → ReadsSlot layouts t a slot (Err (told_of_slot f)) new
-    reads_no_root fault.WrongStore pushes = absurd pushes
-    reads_no_root fault.Unrooted pushes = absurd pushes
-    reads_no_root fault.RootsFull pushes = reads_refused layouts t a place slot.class slot.reference entry.word fault.RootsFull new stands.word positive pushes
-    reads_no_root fault.Memory pushes = reads_refused layouts t a place slot.class slot.reference entry.word fault.Memory new stands.word positive pushes
+  -- or it is refused a root
+  pub reads_no_root : (f : RootFault) → ReadsReference layouts old entry.word (Err f) new → ReadsSlot layouts t a slot (Err (told_of_slot f)) new
+  reads_no_root fault.WrongStore reads = absurd (read_as (Err fault.WrongStore) reads)
+  reads_no_root fault.Unrooted reads = absurd (read_as (Err fault.Unrooted) reads)
+  reads_no_root fault.RootsFull reads = read_as (Err fault.RootsFull) reads
+  reads_no_root fault.Memory reads = read_as (Err fault.Memory) reads
 
 -- there are as many globals as there are
 pub globals_count : {D : Type 0} (layouts : Layouts) (s : StoreView D) (t : Table D) (place : Placing) → Holds layouts s t place → length s.globals ≡ global_count

@@ -9,7 +9,7 @@ use Rattle.gc_store.specs.declared.globals.SlotFault.{SlotFault}
 use Rattle.gc_store.specs.Roots.{IsRootWord}
 use Rattle.gc_store.specs.Slots.{ReadsSlot}
 use Rattle.gc_store.specs.Stores.{store_view}
-use Rattle.gc_store.proofs.SlotLemmas.{entry_of, reads_empty, reads_root, reads_no_root}
+use Rattle.gc_store.proofs.SlotLemmas.{entry_of, reads_slot, reads_no_root}
 use Rattle.gc_store.proofs.FrameLemmas.{found_within, never_there, slot_there, slot_is, frame_slot_stands, frame_slot_word}
 use Rattle.gc_store.proofs.store.Store.slot_get.Given as given
 use Rattle.gc_store.proofs.store.Store.slot_get.Goals as goal
@@ -36,31 +36,22 @@ stands : (g : given.Over) (c : After-slot-class g) (t : Table g.row.D.Denot) (pl
 stands g c t place there holds e =
     subst (λ (x : SlotEntry). SlotBy place x there) (entry_is g c) (frame_slot_stands g.H.GcHeap.KIND c.args.self.now t place holds c.args.slot there e)
 
-pub returns-then-word-eq0-clause-reads : goal.returns-then-word-eq0-clause-reads
-returns-then-word-eq0-clause-reads g c = λ t a there holds e.
-    let at = (goal.at.returns-then-word-eq0-clause-reads g c).After-slot-class in
-    reads_empty g.H.GcHeap.KIND t a c.slot-class.result there c.args.self.now holds (stands g at t holds.place there holds.holds e) c.if-word-eq0.true
-
-pub push_word-requires : goal.push_word-requires
-push_word-requires g c =
-    let at = (goal.at.push_word-requires g c).After-slot-class in
+pub push_reference-requires : goal.push_reference-requires
+push_reference-requires g c = λ positive.
+    let at = (goal.at.push_reference-requires g c).After-slot-class in
     let holds = subst (λ (s : StoreView g.row.D.Denot). Holds g.H.GcHeap.KIND s c.self.invariant.table c.self.invariant.holds.place) c.self.view_is c.self.invariant.holds.holds in
     subst (λ (e : SlotEntry). IsRootWord g.row.D.Denot g.H.GcHeap.KIND c.args.self.now e.word) (entry_is g at)
     (frame_slot_word g.H.GcHeap.KIND c.args.self.now c.self.invariant.table c.self.invariant.holds.place holds c.args.slot
     (found_within c.args.self.now c.args.self.now c.args.slot c.has_slot.result refl c.has_slot.ensures c.if-not-has_slot.false)
-    (subst (λ (e : SlotEntry). 0 < e.word) (sym (entry_is g at)) (omega (arith, c.if-word-eq0.false))))
+    (subst (λ (e : SlotEntry). 0 < e.word) (sym (entry_is g at)) (positive)))
 
 pub returns-in-Ok-clause-reads : goal.returns-in-Ok-clause-reads
 returns-in-Ok-clause-reads g c = λ t a there holds e.
     let at = (goal.at.returns-in-Ok-clause-reads g c).After-slot-class in
-    let by = stands g at t holds.place there holds.holds e in
-    reads_root g.H.GcHeap.KIND t a c.slot-class.result there holds.place by c.push_word.new.self (omega (arith, c.if-word-eq0.false)) c.in-Ok.found
-    (c.in-Ok.ensures.pushes t holds.place a there.reference holds.holds holds.account by.word)
+    reads_slot g.H.GcHeap.KIND t a c.slot-class.result there c.args.self.now c.push_reference.new.self holds (stands g at t holds.place there holds.holds e) c.in-Ok.found c.in-Ok.ensures.reads
 
 pub returns-in-Err-clause-reads : goal.returns-in-Err-clause-reads
 returns-in-Err-clause-reads g c = λ t a there holds e.
     let at = (goal.at.returns-in-Err-clause-reads g c).After-slot-class in
-    let by = stands g at t holds.place there holds.holds e in
-    subst (λ (f : SlotFault). ReadsSlot g.H.GcHeap.KIND t a there (Err f) c.push_word.new.self) (sym c.from.ensures)
-    (reads_no_root g.H.GcHeap.KIND t a c.slot-class.result there holds.place by c.push_word.new.self (omega (arith, c.if-word-eq0.false)) c.in-Err.fault
-    (c.in-Err.ensures.pushes t holds.place a there.reference holds.holds holds.account by.word))
+    subst (λ (f : SlotFault). ReadsSlot g.H.GcHeap.KIND t a there (Err f) c.push_reference.new.self) (sym c.from.ensures)
+    (reads_no_root g.H.GcHeap.KIND t a c.slot-class.result there c.args.self.now c.push_reference.new.self holds (stands g at t holds.place there holds.holds e) c.in-Err.fault c.in-Err.ensures.reads)
