@@ -1,19 +1,16 @@
 -- Values that are written one after another into the slots of a new object.
 use Rattle.std.proofs.Common.{◌≡◌, ℕ, ◌+◌, ◌-◌, ◌^◌, ◌<◌, ◌≤◌, inl, inr, true, false, cond, nat_eq, List, [], ◌∷◌, length, map, Some, None, Ok, Err, Option, Contains, refl, sym, ap, ◌∙◌, subst, arith}
-use Rattle.std.specs.Int.{bytes_low_first}
 use Rattle.std.specs.List.{slice_get}
-use Rattle.std.specs.FinMap.{get}
 use Rattle.std.proofs.lemmas.Bool.{cases_eq}
-use Rattle.std.proofs.lemmas.Option.{slice_get_within, get_or_from_slice_get, same_Some}
+use Rattle.std.proofs.lemmas.Option.{slice_get_within, get_or_from_slice_get}
 use Rattle.gc_types.specs.declared.value.StorageType.{StorageType}
 use Rattle.gc_types.specs.declared.value.StorageType.TheVariants as storage
-use Rattle.gc_types.specs.declared.value.ValType.{ValType}
 use Rattle.gc_types.specs.declared.value.ValType.TheVariants as val
 use Rattle.gc_types.specs.declared.value.HeapTopType.{HeapTopType}
 use Rattle.gc_types.specs.declared.value.HeapTopType.TheVariants as top
 use Rattle.gc_types.specs.Values.{unpacked, heap_top}
 use Rattle.gc_types.specs.declared.kind.Layouts.{Layouts}
-use Rattle.gc_types.specs.Declarations.{Declaration, Shape}
+use Rattle.gc_types.specs.Declarations.{Shape}
 use Rattle.gc_types.specs.Layouts.{struct_base, storage_width, value_width}
 use Rattle.gc_view.specs.Bytes.{put_bytes}
 use Rattle.gc_view.specs.Heaps.{HeapObject, HeapView}
@@ -27,14 +24,13 @@ use Rattle.gc_owner.specs.Owners.{OwnerView, CanBegin}
 use Rattle.gc_policy.proofs.CollectedLists.{get_contains, contains_get, map_get}
 use Rattle.gc_policy.proofs.RootsShown.{scoped_rooted}
 use Rattle.gc_model.specs.Values.{Value}
-use Rattle.gc_model.specs.Forms.{Form, number_of, function_of, continuation_of, reference_of, top_form, storage_form, Names, IsCode, IsEncodedAs}
+use Rattle.gc_model.specs.Forms.{Form, reference_of, top_form, storage_form, Names, IsEncodedAs}
 use Rattle.gc_model.proofs.Lists.{slice_get-same_length}
 use Rattle.gc_model.proofs.ObjectShapes.{shape_at}
 use Rattle.gc_model.proofs.SlotWrites.{LieUpTo, lie_up_to-none, lie_up_to-step, lie_up_to-all}
 use Rattle.gc_model.proofs.StoredBytes.{stored_encoded}
 use Rattle.gc_store.specs.declared.slot.Slot.{Slot}
 use Rattle.gc_store.specs.declared.stored.Stored.{Stored}
-use Rattle.gc_store.specs.declared.stored.Stored.TheVariants as kept
 use Rattle.gc_store.specs.declared.root.RawValue.{RawValue}
 use Rattle.gc_store.specs.declared.root.RawValue.TheVariants as raw
 use Rattle.gc_store.specs.declared.root.RootSlot.{RootSlot}

@@ -9,7 +9,7 @@ use Rattle.gc_model.specs.Stores.{StoreView}
 use Rattle.gc_owner.specs.declared.pages.PagesFault.{PagesFault}
 use Rattle.gc_owner.specs.declared.pages.PagesFault.TheVariants as pages_fault
 use Rattle.gc_owner.specs.Owners.{OwnerView}
-use Rattle.gc_owner.specs.Growing.{OwnerState, Begins, Readies, Grows, Expands}
+use Rattle.gc_owner.specs.Growing.{OwnerState, Begins, Grows, Expands}
 use Rattle.gc_policy.specs.Accounts.{Account, HoldsAccount}
 use Rattle.gc_policy.specs.Policy as policy
 use Rattle.gc_policy.specs.Policy.{PolicyState, table_after}

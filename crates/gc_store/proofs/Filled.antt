@@ -1,7 +1,6 @@
 -- The elements of a new array that are filled at once: with one value, or with bytes.
-use Rattle.std.proofs.Common.{◌≡◌, ℕ, zero, suc, ◌+◌, ◌-◌, ◌*◌, ◌^◌, ◌<◌, ◌≤◌, List, [], length, take, drop, map, replicate, Some, refl, sym, ap, ◌∙◌, subst, arith}
+use Rattle.std.proofs.Common.{◌≡◌, ℕ, zero, suc, ◌+◌, ◌-◌, ◌*◌, ◌<◌, ◌≤◌, List, [], length, replicate, Some, refl, sym, ap, ◌∙◌, subst, arith}
 use Rattle.std.specs.List.{slice_get}
-use Rattle.std.specs.FinMap.{get}
 use Rattle.std.proofs.lemmas.List.{length-replicate, length-map}
 use Rattle.std.proofs.lemmas.Option.{none-some}
 use Rattle.gc_types.specs.declared.value.StorageType.{StorageType}
@@ -27,9 +26,9 @@ use Rattle.gc_model.proofs.ObjectShapes.{shape_at, element_slot_at}
 use Rattle.gc_store.specs.declared.slot.Slot.{Slot}
 use Rattle.gc_store.specs.declared.stored.Stored.{Stored}
 use Rattle.gc_store.specs.declared.root.RawValue.{RawValue}
-use Rattle.gc_store.specs.Kept.{code_of, KeptAs, IsKept, raw_form, FitsForm}
-use Rattle.gc_store.specs.HeldSlots.{storage_slot, HasSlot, FindsSlot, WritesAt}
-use Rattle.gc_store.specs.Filling.{SameFits, SameStands, BytesFit, BytesStand, IsToFill, Fills, AreElements, FillsElements, FillsAll}
+use Rattle.gc_store.specs.Kept.{code_of, KeptAs, raw_form, FitsForm}
+use Rattle.gc_store.specs.HeldSlots.{storage_slot, HasSlot, FindsSlot}
+use Rattle.gc_store.specs.Filling.{SameFits, SameStands, BytesFit, BytesStand, IsToFill, Fills, AreElements, FillsElements}
 use Rattle.gc_store.proofs.EachValue.{are_words, kept_of_form, kept_encoded}
 use Rattle.gc_store.proofs.Rewriting.{rewrites-nothing, rewrites-more}
 use Rattle.gc_store.proofs.SlotPlaces.{first_above, bytes_reach, bytes_place, held_size_is, held_small}

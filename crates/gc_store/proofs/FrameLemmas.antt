@@ -1,9 +1,9 @@
 -- Frames that are opened and closed, and their slots.
-use Rattle.std.proofs.Common.{inl, inr, ◌≡◌, ℕ, ◌<◌, ◌≤◌, ◌-◌, Bool, true, false, List, [], ◌∷◌, ◌++◌, zero, suc, ◌+◌, length, map, take, Option, Some, None, Ok, refl, sym, ap, ap₂, ◌∙◌, subst, arith}
+use Rattle.std.proofs.Common.{inl, inr, ◌≡◌, ℕ, ◌<◌, ◌-◌, Bool, true, false, List, [], ◌∷◌, ◌++◌, zero, suc, ◌+◌, length, take, Option, Some, None, Ok, refl, sym, ap, ◌∙◌, subst, arith}
 use Rattle.std.specs.Prelude.{slice_index_or, slice_set, replicate, option_to_list, nat_lt, IsSome}
 use Rattle.std.proofs.lemmas.Bool.{lt-ltb}
 use Rattle.std.proofs.lemmas.Bool.Decides.{nat_tests}
-use Rattle.std.proofs.lemmas.List.{map-append, length-map, length-replicate, length-append, length-set, get_or-map, nil_from_length, take_all, take-append-le, take-map}
+use Rattle.std.proofs.lemmas.List.{map-append, length-map, length-replicate, length-append, length-set, get_or-map, take_all, take-append-le, take-map}
 use Rattle.std.proofs.lemmas.Option.{slice_get_within, slice_get-get_or, slice_get_cases}
 use Rattle.gc_types.specs.declared.kind.Layouts.{Layouts}
 use Rattle.gc_owner.specs.declared.entry.GcClass.{GcClass}
@@ -32,7 +32,6 @@ use Rattle.gc_store.specs.declared.root.GcRootIndex.{GcRootIndex}
 use Rattle.gc_store.specs.Roots.{IsRootWord}
 use Rattle.gc_store.specs.Slots.{FindsWord}
 use Rattle.gc_store.specs.Stores.{store_view, slot_counts, IsSound}
-use Rattle.gc_store.proofs.Keeping.{counts_of}
 use Rattle.gc_store.proofs.SlotLemmas.{entry_of}
 
 -- How many slots frames have

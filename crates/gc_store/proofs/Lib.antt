@@ -1,3 +1,4 @@
+pub mod CopiedBytes
 pub mod Declaring
 pub mod Describing
 pub mod Expanding

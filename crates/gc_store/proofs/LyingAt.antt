@@ -1,23 +1,22 @@
 -- Where a value of an object that a handle names lies in the heap.
-use Rattle.std.proofs.Common.{◌≡◌, ℕ, ◌+◌, ◌-◌, ◌<◌, ◌≤◌, List, [], ◌∷◌, length, Option, Some, None, Ok, Err, refl, sym, ap, ◌∙◌, subst, arith}
+use Rattle.std.proofs.Common.{◌≡◌, ℕ, ◌-◌, ◌<◌, List, [], Option, Some, Ok, Err, sym, ap, ◌∙◌, subst, arith}
 use Rattle.std.specs.List.{slice_get}
-use Rattle.std.specs.FinMap as map
 use Rattle.std.proofs.lemmas.Option.{none-some, same_Some}
 use Rattle.gc_types.specs.declared.value.Func.{Func}
 use Rattle.gc_types.specs.declared.kind.Layouts.{Layouts}
 use Rattle.gc_types.specs.declared.kind.TypeKind.TheVariants as kinds
 use Rattle.gc_types.specs.declared.kind.VMGcKind.TheVariants.{StructRef, ArrayRef, ExnRef}
-use Rattle.gc_types.specs.Declarations.{Declaration, Shape, struct_of, array_of, exn_of, func_of, shape_kind}
+use Rattle.gc_types.specs.Declarations.{Declaration, Shape, struct_of, array_of, exn_of, shape_kind}
 use Rattle.gc_types.specs.Layouts.{struct_base, storage_width}
-use Rattle.gc_view.specs.Heaps.{HeapObject, HeapView}
+use Rattle.gc_view.specs.Heaps.{HeapObject}
 use Rattle.gc_view.specs.Slots.{StorageSlot, shape_slots}
 use Rattle.gc_heap.specs.Access.{IsReadable}
 use Rattle.gc_heap.specs.Content.{IsHeap}
-use Rattle.gc_heap.specs.Extents.{array_length, held_size}
+use Rattle.gc_heap.specs.Extents.{array_length}
 use Rattle.gc_owner.specs.Tracing.{IsTraced}
 use Rattle.gc_model.specs.Values.{Value, numeric, function, reference, at, Object, struct, array, host, exception}
 use Rattle.gc_model.specs.Table.{Table}
-use Rattle.gc_model.specs.Reach.{IsHost, object_values}
+use Rattle.gc_model.specs.Reach.{IsHost}
 use Rattle.gc_model.specs.Stores.{StoreView}
 use Rattle.gc_model.specs.Forms.{Form, Names as Naming, IsCode, naming, number_at, storage_form, value_form}
 use Rattle.gc_model.specs.Holds.{Placing, Holds, Stands}
@@ -29,7 +28,7 @@ use Rattle.gc_store.specs.Roots.{word_of, HasValue}
 use Rattle.gc_store.specs.declared.slot.Slot.{Slot}
 use Rattle.gc_store.specs.declared.stored.Found.{Found}
 use Rattle.gc_store.specs.Kept.{FitsForm, FoundStands, IsFound, IsReadForm}
-use Rattle.gc_store.specs.HeldSlots.{FindsAt, FindsHeldSlot, FitsAt, HasShape, HasSlot, IsHeldOf, IsHeldWithSlot, storage_slot}
+use Rattle.gc_store.specs.HeldSlots.{FindsAt, FindsHeldSlot, FitsAt, HasShape, IsHeldOf, IsHeldWithSlot, storage_slot}
 use Rattle.gc_store.proofs.SlotPlaces.{bytes_reach, slot_lies, held_size_is, held_small, readable}
 use Rattle.gc_store.proofs.Roots.{named_word}
 use Rattle.gc_store.proofs.SameRoots.{never_gone}

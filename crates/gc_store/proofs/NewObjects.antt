@@ -1,5 +1,5 @@
 -- What is made where an object is requested: its shape, its size, and slots that are 0.
-use Rattle.std.proofs.Common.{◌≡◌, ℕ, zero, suc, ◌+◌, ◌-◌, ◌*◌, ◌^◌, ◌<◌, ◌≤◌, List, [], ◌∷◌, ◌++◌, length, take, drop, replicate, Some, refl, sym, ap, ◌∙◌, subst, arith}
+use Rattle.std.proofs.Common.{◌≡◌, ℕ, zero, suc, ◌+◌, ◌-◌, ◌^◌, ◌<◌, ◌≤◌, List, [], ◌∷◌, ◌++◌, length, take, drop, replicate, Some, refl, sym, ap, ◌∙◌, arith}
 use Rattle.std.specs.Prelude.{option_map}
 use Rattle.std.specs.Int.{w32, to_le_bytes}
 use Rattle.std.specs.List.{slice_get}
@@ -9,12 +9,12 @@ use Rattle.gc_types.specs.declared.value.FieldType.{FieldType}
 use Rattle.gc_types.specs.declared.kind.Layouts.{Layouts}
 use Rattle.gc_types.specs.declared.kind.Layouts.TheVariants.{Null, Counting, Copying}
 use Rattle.gc_types.specs.Declarations.{Declaration, Shape, struct_of, array_of, struct_fields_at, elem_at}
-use Rattle.gc_types.specs.Layouts.{struct_base, array_base, storage_width, struct_layout, array_layout, fields_end, layout_at, array_layout_at, round_up}
+use Rattle.gc_types.specs.Layouts.{struct_base, array_base, storage_width, struct_layout, array_layout, fields_end, layout_at, array_layout_at}
 use Rattle.gc_view.specs.Heaps.{HeapObject}
 use Rattle.gc_view.specs.Sizes.{stored_size}
-use Rattle.gc_view.specs.Slots.{StorageSlot, shape_slots, shape_first, shape_size, elements_from}
+use Rattle.gc_view.specs.Slots.{shape_slots, shape_first, shape_size, elements_from}
 use Rattle.gc_view.proofs.Layouts.{stored_size-le, fields_end-le, round_up-le, storage_width_positive}
-use Rattle.gc_view.proofs.SlotLemmas.{SlotRange, shape_spaced, slot_range}
+use Rattle.gc_view.proofs.SlotLemmas.{shape_spaced, slot_range}
 use Rattle.gc_heap.specs.Heap.{new_struct, new_array, array_size}
 use Rattle.gc_owner.specs.Makes.{Describes}
 use Rattle.gc_owner.specs.Owners.{OwnerView}

@@ -1,12 +1,10 @@
 -- An object that was made and got its values is the table's.
-use Rattle.std.proofs.Common.{◌≡◌, ℕ, ◌+◌, ◌-◌, ◌^◌, ◌<◌, min, Bool, true, false, List, [], ◌∷◌, ◌++◌, length, Option, Some, None, slice_index_or, sym, ap, ◌∙◌, refl, subst, arith, le-leb}
-use Rattle.std.specs.List.{slice_get}
+use Rattle.std.proofs.Common.{◌≡◌, ℕ, ◌+◌, ◌-◌, ◌^◌, ◌<◌, min, Bool, true, false, List, [], ◌∷◌, ◌++◌, length, Some, None, slice_index_or, sym, ap, ◌∙◌, refl, subst, arith, le-leb}
 use Rattle.std.specs.FinMap.{get}
 use Rattle.std.proofs.lemmas.List.{length-append}
 use Rattle.std.proofs.lemmas.Option.{slice_get_within}
 use Rattle.gc_types.specs.declared.kind.Layouts.{Layouts}
 use Rattle.gc_types.specs.declared.kind.Layouts.TheVariants.{Null, Counting, Copying}
-use Rattle.gc_types.specs.declared.value.StorageType.{StorageType}
 use Rattle.gc_types.specs.Declarations.{Declaration, TypeTable}
 use Rattle.gc_types.specs.Layouts.{round_up, struct_base}
 use Rattle.gc_owner.specs.declared.entry.RootEntry.{RootEntry}
@@ -17,11 +15,10 @@ use Rattle.gc_owner.specs.Makes.{AddsRooted, AllocatesRooted}
 use Rattle.gc_owner.specs.Retry.{Retry}
 use Rattle.gc_model.specs.Values.{Value, Object}
 use Rattle.gc_model.specs.Reach.{object_values}
-use Rattle.gc_model.specs.Stored.{stored}
 use Rattle.gc_model.specs.Table.{Table, make, with_pages}
 use Rattle.gc_model.specs.Live.{roots_full}
 use Rattle.gc_view.specs.Sizes.{alignment, need_of, size_rules}
-use Rattle.gc_view.specs.Slots.{shape_slots, shape_size}
+use Rattle.gc_view.specs.Slots.{shape_size}
 use Rattle.gc_model.specs.Sizes.{object_size}
 use Rattle.gc_model.specs.Allocation.{Limits, too_large, FitsIn, GetsPages}
 use Rattle.gc_view.specs.Heaps.{HeapView, HeapObject}
@@ -52,11 +49,10 @@ use Rattle.gc_store.specs.declared.root.RawValue.{RawValue}
 use Rattle.gc_store.specs.declared.root.RawValue.TheVariants as raw
 use Rattle.gc_store.specs.declared.root.RootSlot.TheVariants as slot
 use Rattle.gc_store.specs.Filling.{asked_type, ContentsFit, ContentsStand, Fills, IsToFill}
-use Rattle.gc_store.specs.HeldSlots.{HasShape, IsHeldOf}
+use Rattle.gc_store.specs.HeldSlots.{IsHeldOf}
 use Rattle.gc_store.specs.Kept.{IsKept, KeptStands}
 use Rattle.gc_store.specs.Making.{BeginsMaking}
 use Rattle.gc_store.specs.Places.{PlacesObject}
-use Rattle.gc_store.specs.Requests.{IsObjectOf}
 use Rattle.gc_store.specs.Stores.{is_full}
 use Rattle.gc_store.specs.Values.{RawStands}
 use Rattle.gc_store.proofs.Keeping.{counts_of, Keeps, keeps-making, keeps-retried, keeps-trans}

@@ -1,8 +1,7 @@
 -- An object that was not placed is refused as the table says.
-use Rattle.std.proofs.Common.{inl, inr, ◌≡◌, ℕ, ◌+◌, ◌-◌, ◌^◌, min, Bool, false, List, Err, sym, ap, ◌∙◌, refl, subst}
+use Rattle.std.proofs.Common.{inl, inr, ◌≡◌, ℕ, ◌+◌, ◌-◌, ◌^◌, min, Bool, false, Err, sym, ap, ◌∙◌, refl, subst}
 use Rattle.gc_types.specs.declared.kind.Layouts.{Layouts}
 use Rattle.gc_model.specs.Values.{Object}
-use Rattle.gc_model.specs.Sizes.{object_size}
 use Rattle.gc_model.specs.Table.{Table, make_heap, made_pages}
 use Rattle.gc_model.specs.Live.{roots_full}
 use Rattle.gc_view.specs.Sizes.{need_of}

@@ -9,7 +9,7 @@ use Rattle.gc_model.specs.Values.{Reference, null, small, at, Value, numeric, i3
 use Rattle.gc_model.specs.Table.{Table}
 use Rattle.gc_model.specs.Reads.{makes_root}
 use Rattle.gc_model.specs.Stores.{StoreView}
-use Rattle.gc_model.specs.Forms.{Names, IsCode, value_form}
+use Rattle.gc_model.specs.Forms.{Names}
 use Rattle.gc_model.specs.Holds.{Placing, IsWord, Holds}
 use Rattle.gc_model.proofs.Words.{place_even}
 use Rattle.gc_policy.specs.Accounts.{Account, HoldsAccount, IsAccount}
@@ -19,10 +19,10 @@ use Rattle.gc_store.specs.declared.root.RawValue.TheVariants as raw
 use Rattle.gc_store.specs.declared.root.RootFault.{RootFault}
 use Rattle.gc_store.specs.declared.root.RootFault.TheVariants as fault
 use Rattle.gc_store.specs.declared.stored.Found.TheVariants as found
-use Rattle.gc_store.specs.Kept.{IsFound, FitsForm, FoundStands}
+use Rattle.gc_store.specs.Kept.{FoundStands}
 use Rattle.gc_store.specs.Handles.{PushesRoot}
 use Rattle.gc_store.specs.Reading.{ReadsReference, reference_value}
-use Rattle.gc_store.specs.Values.{IsReadAs, ReadsValue}
+use Rattle.gc_store.specs.Values.{ReadsValue}
 
 module _ {D : Type 0} (layouts : Layouts) (s : StoreView D) (t : Table D) (place : Placing) (holds : Holds layouts s t place) where
   pub null_word : (r : Reference) → IsWord place r 0 → r ≡ null

@@ -1,5 +1,5 @@
 -- What an object is that is requested, and that what is given fits its slots and stands for its values.
-use Rattle.std.proofs.Common.{◌≡◌, ℕ, zero, suc, ◌+◌, ◌-◌, ◌*◌, ◌^◌, ◌<◌, ◌≤◌, true, false, Bor, List, [], ◌∷◌, length, map, replicate, Option, Some, None, refl, sym, ap, ◌∙◌, subst, arith, leb-false, mul-le-mul_left}
+use Rattle.std.proofs.Common.{◌≡◌, ℕ, zero, suc, ◌+◌, ◌-◌, ◌*◌, ◌^◌, ◌<◌, ◌≤◌, false, Bor, List, [], ◌∷◌, length, map, replicate, Option, Some, None, refl, sym, ap, ◌∙◌, subst, arith, leb-false, mul-le-mul_left}
 use Rattle.std.specs.List.{slice_get}
 use Rattle.std.specs.Prelude.{option_map, unwrap_or}
 use Rattle.std.proofs.lemmas.List.{length-map, length-replicate}
@@ -20,7 +20,6 @@ use Rattle.gc_view.specs.Slots.{StorageSlot, element_slots, elements_from, shape
 use Rattle.gc_view.proofs.SlotLemmas.{length-field_slots, length-element_slots}
 use Rattle.gc_owner.specs.declared.entry.RootEntry.{RootEntry}
 use Rattle.gc_model.specs.Values.{Value, numeric, i32, Object, struct, array}
-use Rattle.gc_model.specs.Fits.{fits}
 use Rattle.gc_model.specs.Reach.{IsHost, object_values}
 use Rattle.gc_model.specs.Sizes.{fields_size, elements_size, object_size}
 use Rattle.gc_model.specs.Standing.{Stands, ValuesLie}
@@ -42,8 +41,8 @@ use Rattle.gc_store.specs.declared.root.RawValue.{RawValue}
 use Rattle.gc_store.specs.Filling.{asked_type, BytesFit, ContentsFit, ContentsStand, EachFits, EachStands, SameFits, SameStands}
 use Rattle.gc_store.specs.HeldSlots.{HasShape}
 use Rattle.gc_store.specs.Making.{IsSizeOf}
-use Rattle.gc_store.specs.Kept.{IsKept, raw_form, StoredStands}
-use Rattle.gc_store.specs.Requests.{CanPlaceIn, CanPlaceStruct, CanPlaceElements, CanPlaceSame, CanPlaceBytes, IsObjectOf, IsFilled, fields_of, element_of, stored_as}
+use Rattle.gc_store.specs.Kept.{IsKept, StoredStands}
+use Rattle.gc_store.specs.Requests.{CanPlaceIn, CanPlaceStruct, IsObjectOf, fields_of, element_of, stored_as}
 use Rattle.gc_store.specs.Values.{AllStand, CanStore, RawStands}
 use Rattle.gc_store.proofs.NewObjects.{IsNew, new_struct_is, new_array_is, struct_size_of, array_size_of}
 use Rattle.gc_store.proofs.WritingAt.{is_kept, storable_form, value_of}

@@ -1,5 +1,5 @@
 -- Slots that are set and read, and globals among them.
-use Rattle.std.proofs.Common.{◌≡◌, ℕ, ◌<◌, Bool, true, false, List, length, Option, Some, None, Result, Ok, Err, refl, sym, ap, ◌∙◌, subst, arith}
+use Rattle.std.proofs.Common.{◌≡◌, ℕ, ◌<◌, Bool, true, false, List, length, Option, Some, Result, Ok, Err, refl, sym, ap, ◌∙◌, subst, arith}
 use Rattle.std.specs.Prelude.{slice_index_or}
 use Rattle.std.proofs.lemmas.Option.{slice_get_within, slice_get-get_or, get_or_from_slice_get}
 use Rattle.gc_types.specs.declared.kind.Layouts.{Layouts}
@@ -7,7 +7,7 @@ use Rattle.gc_owner.specs.declared.entry.GcClass.{GcClass}
 use Rattle.gc_owner.specs.declared.entry.SlotEntry.{SlotEntry}
 use Rattle.gc_owner.specs.RootColumns.{with_global, empty_slot}
 use Rattle.gc_owner.specs.Owners.{OwnerView, ChangesRoots}
-use Rattle.gc_model.specs.Values.{Reference, null, reference}
+use Rattle.gc_model.specs.Values.{Reference}
 use Rattle.gc_model.specs.Table.{Table, Slot, global_count}
 use Rattle.gc_model.specs.Globals.{set_global, global_at}
 use Rattle.gc_model.specs.RootPoints.{SlotBy}
@@ -21,7 +21,6 @@ use Rattle.gc_policy.proofs.AccountLemmas.{account_kept}
 use Rattle.gc_store.specs.declared.config.HeapConfig.{HeapConfig}
 use Rattle.gc_store.specs.declared.engine.StoreId.{StoreId}
 use Rattle.gc_store.specs.declared.root.GcRootIndex.{GcRootIndex}
-use Rattle.gc_store.specs.declared.root.RawValue.TheVariants as raw
 use Rattle.gc_store.specs.declared.root.RootFault.{RootFault}
 use Rattle.gc_store.specs.declared.root.RootFault.TheVariants as fault
 use Rattle.gc_store.specs.Reading.{ReadsReference, reference_value}

@@ -1,21 +1,20 @@
 -- Where the slots of a held object lie, and that no reference lies across one of numbers.
-use Rattle.std.proofs.Common.{◌≡◌, ◌≢◌, ℕ, zero, suc, ◌+◌, ◌-◌, ◌*◌, ◌^◌, ◌<◌, ◌≤◌, ◌⊎◌, inl, inr, Bool, true, false, cond, List, [], ◌∷◌, length, map, Option, Some, None, Contains, refl, sym, ap, ◌∙◌, subst, arith}
+use Rattle.std.proofs.Common.{◌≡◌, ◌≢◌, ℕ, ◌+◌, ◌^◌, ◌<◌, ◌≤◌, ◌⊎◌, inl, inr, true, false, List, [], length, Some, None, Contains, refl, sym, ap, ◌∙◌, subst, arith}
 use Rattle.std.specs.Prelude.{option_map}
 use Rattle.std.specs.List.{slice_get}
 use Rattle.std.specs.FinMap.{get}
 use Rattle.std.proofs.lemmas.Option.{none-some, same_Some}
 use Rattle.gc_types.specs.declared.value.FieldType.{FieldType}
-use Rattle.gc_types.specs.declared.value.StorageType.{StorageType}
 use Rattle.gc_types.specs.declared.kind.Layouts.{Layouts}
 use Rattle.gc_types.specs.declared.kind.Layouts.TheVariants.{Null, Counting, Copying}
 use Rattle.gc_types.specs.declared.kind.VMGcKind.TheVariants.{ArrayRef, ExternRef}
 use Rattle.gc_types.specs.declared.layout.GcStructLayout.{GcStructLayout}
 use Rattle.gc_types.specs.declared.kind.TypeKind.TheVariants as kinds
 use Rattle.gc_types.specs.Declarations.{Declaration, Shape, struct_of, array_of, exn_of, func_of, shape_elem, shape_kind}
-use Rattle.gc_types.specs.Layouts.{struct_base, exception_base, array_base, storage_width, is_gc_storage, shape_trace, declaration_trace, declaration_layout, shape_layout, struct_layout, exn_layout, array_layout, round_up}
+use Rattle.gc_types.specs.Layouts.{struct_base, exception_base, array_base, storage_width, is_gc_storage, shape_layout, struct_layout, exn_layout, array_layout}
 use Rattle.gc_memory.specs.Lists.{In}
 use Rattle.gc_view.specs.Heaps.{HeapObject, HeapView}
-use Rattle.gc_view.specs.Slots.{StorageSlot, slot_end, element_slots, elements_from, shape_slots, shape_first, shape_size, followed_slots, slot_offsets}
+use Rattle.gc_view.specs.Slots.{StorageSlot, slot_end, shape_slots, shape_first, shape_size, slot_offsets}
 use Rattle.gc_view.proofs.Layouts.{stored_size-le}
 use Rattle.gc_view.proofs.SlotLemmas.{SlotRange, shape_spaced, slot_range, slots_apart}
 use Rattle.gc_heap.specs.Extents.{held_size, size_with, writable_offset, HasFields, array_length}

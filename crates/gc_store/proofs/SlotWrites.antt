@@ -1,19 +1,16 @@
 -- What a write to a slot leaves, by the bytes of the number that is written.
-use Rattle.std.proofs.Common.{◌≡◌, ℕ, zero, suc, ◌+◌, ◌-◌, ◌<◌, ◌≤◌, List, [], ◌∷◌, length, take, true, false, Some, refl, sym, ap, ◌∙◌, subst, arith}
-use Rattle.std.specs.Int.{w32, to_le_bytes, bytes_low_first, byte_at}
-use Rattle.std.specs.FinMap.{get}
+use Rattle.std.proofs.Common.{◌≡◌, ℕ, zero, suc, ◌≤◌, List, ◌∷◌, length, take, true, false, refl, sym, ap, ◌∙◌, subst, arith}
+use Rattle.std.specs.Int.{bytes_low_first, byte_at}
 use Rattle.gc_types.specs.declared.kind.Layouts.{Layouts}
 use Rattle.gc_types.specs.declared.value.StorageType.{StorageType}
 use Rattle.gc_types.specs.Layouts.{storage_width, is_gc_storage}
-use Rattle.gc_view.specs.Heaps.{HeapObject, HeapView}
+use Rattle.gc_view.specs.Heaps.{HeapView}
 use Rattle.gc_heap.specs.Heap.{put_object, with_data}
-use Rattle.gc_heap.specs.Collection.{IsWordOf}
 use Rattle.gc_owner.specs.Owners.{OwnerView, CanBegin}
 use Rattle.gc_owner.specs.Writes.{IsNumberPlace, IsReferencePlace, WritesBytes, WritesWord}
 use Rattle.gc_model.specs.Forms.{Form, number_of, function_of, continuation_of, reference_of, storage_form, is_reference}
 use Rattle.gc_model.proofs.ReadingBack.{storage_reference, reference_width}
 use Rattle.gc_view.specs.Slots.{StorageSlot}
-use Rattle.gc_store.specs.declared.stored.Stored.{Stored}
 use Rattle.gc_store.specs.declared.stored.Stored.TheVariants as kept
 use Rattle.gc_store.specs.Kept.{OfForm}
 use Rattle.gc_store.specs.HeldSlots.{CanWriteSlot, WritesAt}

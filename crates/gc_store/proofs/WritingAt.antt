@@ -1,6 +1,6 @@
 -- What a write of a value into an object that a handle names leaves of the store.
-use Rattle.std.proofs.Common.{◌≡◌, ◌≢◌, ℕ, ◌-◌, ◌<◌, true, List, Option, Some, None, Ok, Err, refl, sym, ap, ◌∙◌, subst, arith}
-use Rattle.std.specs.Int.{w32, w64, cast_signed, cast_unsigned}
+use Rattle.std.proofs.Common.{◌≡◌, ℕ, ◌-◌, true, List, Some, None, Ok, refl, sym, ap, ◌∙◌, subst, arith}
+use Rattle.std.specs.Int.{w32, w64, cast_unsigned}
 use Rattle.std.specs.FinMap.{get, gets}
 use Rattle.std.proofs.lemmas.Grind.{common_steps}
 use Rattle.std.proofs.lemmas.Int.{of_z-to_z}
@@ -12,11 +12,9 @@ use Rattle.gc_types.specs.Layouts.{struct_base}
 use Rattle.gc_view.specs.Heaps.{HeapObject, HeapView}
 use Rattle.gc_view.specs.Slots.{StorageSlot}
 use Rattle.gc_heap.specs.Heap.{put_object, with_data}
-use Rattle.gc_owner.specs.declared.entry.GcClass.{GcClass}
-use Rattle.gc_owner.specs.declared.entry.RootEntry.{RootEntry}
-use Rattle.gc_model.specs.Values.{Reference, null, Value, numeric, i32, i64, f32, f64, v128, function, reference, number_bits}
+use Rattle.gc_model.specs.Values.{null, Value, numeric, i32, i64, f32, f64, v128, reference, number_bits}
 use Rattle.gc_model.specs.Fits.{fits}
-use Rattle.gc_model.specs.Stored.{stored, value_type}
+use Rattle.gc_model.specs.Stored.{stored}
 use Rattle.gc_model.specs.Table.{Table, write}
 use Rattle.gc_model.specs.Stores.{StoreView}
 use Rattle.gc_model.specs.Forms.{IsCode, naming, storage_form, value_form}
@@ -35,8 +33,8 @@ use Rattle.gc_store.specs.declared.stored.Stored.TheVariants as stores
 use Rattle.gc_store.specs.Filling.{slot_bytes}
 use Rattle.gc_store.specs.HeldSlots.{FindsHeldSlot, storage_slot}
 use Rattle.gc_store.specs.Kept.{code_of, FitsForm, IsKept, KeptAs, KeptStands, raw_form, StoredStands}
-use Rattle.gc_store.specs.Roots.{HasValue, word_of}
-use Rattle.gc_store.specs.Values.{CanStore, CanWrite, IsLive, NamesLive, RawStands, WritesValue}
+use Rattle.gc_store.specs.Roots.{word_of}
+use Rattle.gc_store.specs.Values.{CanStore, CanWrite, NamesLive, RawStands, WritesValue}
 use Rattle.gc_store.proofs.EachValue.{kept_encoded}
 use Rattle.gc_store.proofs.LyingAt.{LyingAt, lying_at, slot_is_found}
 use Rattle.gc_store.proofs.Roots.{live_has_word, named_word, names-store, own_word, word_names}

@@ -1,14 +1,12 @@
 -- What the objects of a heap are.
-use Rattle.std.specs.Prelude.{◌≡◌, ℕ, ◌^◌, ◌<◌, Some}
+use Rattle.std.specs.Prelude.{◌≡◌, ℕ, Some}
 use Rattle.std.specs.FinMap as finite
-use Rattle.gc_types.specs.declared.kind.Layouts.{Layouts}
 use Rattle.gc_types.specs.declared.kind.VMGcKind.{VMGcKind}
 use Rattle.gc_types.specs.declared.kind.VMGcKind.TheVariants.{AnyRef, EqRef, StructRef, ArrayRef, ExnRef, ExternRef}
 use Rattle.gc_types.specs.declared.value.Tag.{Tag}
 use Rattle.gc_view.specs.Bytes.{u32_at}
 use Rattle.gc_view.specs.Heaps.{HeapObject, HeapView}
-use Rattle.gc_heap.specs.Extents.{IsObjectKind, array_length}
-use Rattle.gc_heap.specs.Content.{LiesAtPlace}
+use Rattle.gc_heap.specs.Extents.{array_length}
 use Rattle.gc_store.specs.declared.root.RootedObject.{RootedObject}
 use Rattle.gc_store.specs.declared.root.RootedObject.TheVariants as rooted_object
 

@@ -1,10 +1,9 @@
 -- What slots keep of the values that are given to a store, and what is found in them.
-use Rattle.std.specs.Prelude.{◌≡◌, ℕ, ◌^◌, ◌<◌, List, Option, Some, None, Ok}
+use Rattle.std.specs.Prelude.{◌≡◌, ℕ, ◌^◌, ◌<◌, List, Some, None, Ok}
 use Rattle.std.specs.Int.{w32, w64, cast_unsigned, cast_signed}
 use Rattle.gc_types.specs.declared.value.StorageType.{StorageType}
-use Rattle.gc_owner.specs.declared.entry.GcClass.{GcClass}
 use Rattle.gc_owner.specs.declared.entry.RootEntry.{RootEntry}
-use Rattle.gc_model.specs.Values.{Value, numeric, i32, i64, f32, f64, v128}
+use Rattle.gc_model.specs.Values.{Value, i32, i64, f32, f64, v128}
 use Rattle.gc_model.specs.Forms.{Form, number_of, function_of, continuation_of, reference_of, storage_form, value_form, Names, IsCode}
 use Rattle.gc_model.specs.Stored.{stored}
 use Rattle.gc_heap.specs.Collection.{IsWordOf}

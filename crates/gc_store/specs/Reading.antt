@@ -1,5 +1,5 @@
 -- What a read of an object finds.
-use Rattle.std.specs.Prelude.{ℕ, ◌≡◌, ◌<◌, Option, Result, Ok, Err}
+use Rattle.std.specs.Prelude.{ℕ, ◌<◌, Option, Result, Ok, Err}
 use Rattle.gc_types.specs.declared.kind.Layouts.{Layouts}
 use Rattle.gc_owner.specs.declared.entry.GcClass.{GcClass}
 use Rattle.gc_model.specs.Values.{Reference, Value, reference}

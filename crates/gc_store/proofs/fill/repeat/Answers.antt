@@ -1,4 +1,4 @@
-use Rattle.std.proofs.Common.{sym, ◌∙◌, arith}
+use Rattle.std.proofs.Common.{◌∙◌, arith}
 use Rattle.std.proofs.lemmas.List.{length-set}
 use Rattle.gc_store.proofs.SameValue.{repeat_more}
 use Rattle.gc_store.proofs.fill.repeat.Goals as goal

@@ -1,4 +1,4 @@
-use Rattle.std.proofs.Common.{◌≡◌, ℕ, ◌-◌, ◌≤◌, true}
+use Rattle.std.proofs.Common.{◌≡◌, ◌-◌, ◌≤◌, true}
 use Rattle.gc_store.specs.declared.stored.Stored.TheVariants as kept
 use Rattle.gc_store.specs.HeldSlots.{storage_slot}
 use Rattle.gc_store.specs.Filling.{AreElements}

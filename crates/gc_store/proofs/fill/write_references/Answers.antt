@@ -1,4 +1,4 @@
-use Rattle.std.proofs.Common.{◌≡◌, ℕ, ◌+◌, ◌*◌, ◌<◌, ◌≤◌, ◌^◌, true, replicate, refl, sym, ap, ◌∙◌, subst, arith}
+use Rattle.std.proofs.Common.{◌≡◌, ℕ, ◌+◌, ◌*◌, ◌<◌, ◌^◌, replicate, refl, sym, ap, ◌∙◌, subst, arith}
 use Rattle.std.specs.Int.{bytes_low_first}
 use Rattle.gc_types.specs.Layouts.{storage_width}
 use Rattle.gc_owner.specs.Owners.{OwnerView}

@@ -1,4 +1,4 @@
-use Rattle.std.proofs.Common.{◌≡◌, Some, sym, ap, ◌∙◌, subst}
+use Rattle.std.proofs.Common.{◌≡◌, Some, ap, ◌∙◌}
 use Rattle.std.specs.Prelude.{IsOkAnd}
 use Rattle.std.specs.FinMap as finite
 use Rattle.gc_types.specs.declared.kind.VMGcKind.TheVariants.{ArrayRef}

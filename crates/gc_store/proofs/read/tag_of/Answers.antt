@@ -1,5 +1,4 @@
-use Rattle.std.proofs.Common.{◌≡◌, ℕ, ◌+◌, ◌-◌, ◌≤◌, sym, ap, ◌∙◌, subst, arith}
-use Rattle.gc_types.specs.declared.kind.Layouts.{Layouts}
+use Rattle.std.proofs.Common.{◌≡◌, ℕ, ◌+◌, ◌-◌, ◌≤◌, ap, ◌∙◌, arith}
 use Rattle.gc_types.specs.Layouts.{struct_base}
 use Rattle.gc_view.specs.Bytes.{u32_at}
 use Rattle.gc_heap.specs.Access.{IsReadable}

@@ -1,13 +1,11 @@
-use Rattle.std.proofs.Common.{◌≡◌, ℕ, ◌≤◌, List, length, take, sym, ap, ◌∙◌, subst}
+use Rattle.std.proofs.Common.{◌≡◌, ℕ, length, take, sym, ap, ◌∙◌, subst}
 use Rattle.std.specs.Int.{bytes_low_first}
 use Rattle.gc_types.specs.Layouts.{storage_width}
-use Rattle.gc_view.specs.Slots.{StorageSlot}
-use Rattle.gc_owner.specs.Writes.{IsNumberPlace}
 use Rattle.gc_store.specs.declared.stored.Stored.{Stored}
 use Rattle.gc_store.specs.declared.stored.Stored.TheVariants as kept
-use Rattle.gc_store.specs.HeldSlots.{CanWriteSlot, WritesAt, storage_slot}
+use Rattle.gc_store.specs.HeldSlots.{CanWriteSlot, storage_slot}
 use Rattle.gc_store.specs.Kept.{code_of}
-use Rattle.gc_store.proofs.SlotWrites.{take-low, length-low, number_goes, word_goes, word_width, bytes_written, word_written}
+use Rattle.gc_store.proofs.SlotWrites.{take-low, length-low, number_goes, word_goes, bytes_written}
 use Rattle.gc_store.proofs.stored.write_slot.Given.{Over}
 use Rattle.gc_store.proofs.stored.write_slot.Goals.{After-is_ready, After-width}
 use Rattle.gc_store.proofs.stored.write_slot.Goals as goal

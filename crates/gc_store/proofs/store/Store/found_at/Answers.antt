@@ -1,15 +1,14 @@
-use Rattle.std.proofs.Common.{◌≡◌, ℕ, List, Ok, Err, sym, ap, ◌∙◌, subst}
+use Rattle.std.proofs.Common.{◌≡◌, ℕ, List, Ok, sym, ap, ◌∙◌, subst}
 use Rattle.gc_types.specs.Declarations.{TypeTable, Declaration}
 use Rattle.gc_types.specs.Layouts.{storage_width}
 use Rattle.gc_view.specs.Heaps.{HeapView}
 use Rattle.gc_view.specs.Slots.{StorageSlot}
 use Rattle.gc_heap.specs.Access.{IsReadable}
-use Rattle.gc_model.specs.Forms.{Form, storage_form}
+use Rattle.gc_model.specs.Forms.{storage_form}
 use Rattle.gc_model.specs.Values.{Value}
 use Rattle.gc_model.specs.Table.{Table}
 use Rattle.gc_model.specs.Holds.{Placing, Holds}
 use Rattle.gc_model.specs.Stores.{StoreView}
-use Rattle.gc_store.specs.declared.root.RootFault.{RootFault}
 use Rattle.gc_store.specs.Roots.{CanRead, HasValue, word_of}
 use Rattle.gc_store.specs.Kept.{IsReadForm}
 use Rattle.gc_store.specs.HeldSlots.{storage_slot, FindsAt, FitsAt, FindsHeldSlot, IsHeldWithSlot}

@@ -1,5 +1,4 @@
-use Rattle.std.proofs.Common.{◌≡◌, ℕ, Err, ap, sym, ◌∙◌, subst}
-use Rattle.gc_store.specs.declared.root.RootFault.TheVariants as fault
+use Rattle.std.proofs.Common.{Err, ap, sym, ◌∙◌, subst}
 use Rattle.gc_model.specs.Stores.{StoreView}
 use Rattle.gc_store.specs.Roots.{IsRootWord, word_of}
 use Rattle.gc_store.proofs.Roots.{root_word, named_word, word_names, word_of-err}

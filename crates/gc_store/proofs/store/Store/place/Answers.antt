@@ -1,7 +1,7 @@
-use Rattle.std.proofs.Common.{inl, ◌≡◌, ℕ, ◌+◌, ◌-◌, ◌<◌, ◌^◌, min, true, false, List, length, Some, Result, Ok, Err, slice_index_or, refl, sym, ap, ◌∙◌, subst}
+use Rattle.std.proofs.Common.{inl, ◌≡◌, ℕ, ◌+◌, ◌-◌, ◌<◌, ◌^◌, min, true, false, List, length, Result, Ok, Err, slice_index_or, refl, sym, ap, ◌∙◌, subst}
 use Rattle.std.specs.Option.{option_map}
 use Rattle.std.specs.Int.NonZero.{non_zero_u32_get}
-use Rattle.gc_types.specs.Declarations.{Declaration, TypeTable}
+use Rattle.gc_types.specs.Declarations.{TypeTable}
 use Rattle.gc_view.specs.Heaps.{HeapObject}
 use Rattle.gc_view.specs.Slots.{shape_size}
 use Rattle.gc_model.specs.Allocation.{too_large}
@@ -21,17 +21,17 @@ use Rattle.gc_policy.specs.Shown.{shown}
 use Rattle.gc_store.specs.declared.store.PlaceFault.{PlaceFault}
 use Rattle.gc_store.specs.declared.root.GcRootIndex.{GcRootIndex}
 use Rattle.gc_store.specs.declared.root.RootSlot.TheVariants as slot
-use Rattle.gc_store.specs.Filling.{asked_type, CanFill, ContentsFit, ContentsStand, Fills, IsToFill}
-use Rattle.gc_store.specs.Making.{BeginsMaking, IsOfTypes, IsSizeOf, MakesRooted, TellsSize, described_by}
+use Rattle.gc_store.specs.Filling.{asked_type, ContentsFit, ContentsStand, Fills, IsToFill}
+use Rattle.gc_store.specs.Making.{BeginsMaking, IsSizeOf, MakesRooted, TellsSize, described_by}
 use Rattle.gc_store.specs.Places.{Places, PlacesObject}
 use Rattle.gc_store.specs.Requests.{CanPlaceIn, IsObjectOf}
 use Rattle.gc_store.specs.Stores.{store_view, is_full}
 use Rattle.gc_store.proofs.Keeping.{counts_of}
 use Rattle.gc_store.proofs.NewObjects.{IsNew}
-use Rattle.gc_store.proofs.Placing.{IsStart, reserved_start, Creates, IsLastRoot, last_root, few_roots, KeepsRest, made_keeps, may_fill, placing_follows}
+use Rattle.gc_store.proofs.Placing.{IsStart, reserved_start, Creates, IsLastRoot, last_root, KeepsRest, made_keeps, may_fill, placing_follows}
 use Rattle.gc_store.proofs.PlacingFaults.{FollowsFault, fault_follows, fault_keeps}
 use Rattle.gc_store.proofs.Pushing.{full_is}
-use Rattle.gc_store.proofs.Requested.{Asks, AsksFor, IsCounted, Sized, sized, few_elements, new_of, asks}
+use Rattle.gc_store.proofs.Requested.{Asks, IsCounted, Sized, sized, few_elements, new_of, asks}
 use Rattle.gc_store.proofs.store.Store.place.Given as given
 use Rattle.gc_store.proofs.store.Store.place.Goals.{After-is_ready, After-is_err, After-make_object, In-Ok, After-holder_of-holder, After-fill, In-Err}
 use Rattle.gc_store.proofs.store.Store.place.Goals as goal

@@ -1,6 +1,4 @@
-use Rattle.std.proofs.Common.{Ok, Err, sym, ap, subst, ◌∙◌}
-use Rattle.gc_store.specs.Reading.{ReadsReference}
-use Rattle.gc_store.specs.Kept.{FoundStands}
+use Rattle.std.proofs.Common.{Ok, Err}
 use Rattle.gc_model.specs.Forms.{naming}
 use Rattle.gc_store.proofs.ReadValues.{reads_number, found_reference, reads_found}
 use Rattle.gc_store.proofs.store.Store.read_value.Goals as goal

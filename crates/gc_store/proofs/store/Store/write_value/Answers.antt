@@ -1,4 +1,4 @@
-use Rattle.std.proofs.Common.{◌≡◌, ℕ, List, Ok, Err, Some, sym, ap, ◌∙◌, subst}
+use Rattle.std.proofs.Common.{◌≡◌, ℕ, List, Ok, Some, sym, ap, ◌∙◌, subst}
 use Rattle.std.specs.FinMap as finite
 use Rattle.gc_types.specs.Declarations.{TypeTable, Declaration}
 use Rattle.gc_view.specs.Heaps.{HeapObject, HeapView}
@@ -9,10 +9,9 @@ use Rattle.gc_policy.specs.Accounts.{Account, HoldsAccount}
 use Rattle.gc_model.specs.Stored.{stored}
 use Rattle.gc_model.specs.Table.{Table, write}
 use Rattle.gc_model.specs.Stores.{StoreView}
-use Rattle.gc_store.specs.declared.stored.Stored.{Stored}
 use Rattle.gc_store.specs.Filling.{slot_bytes}
 use Rattle.gc_store.specs.Kept.{code_of, KeptAs, IsKept}
-use Rattle.gc_store.specs.HeldSlots.{storage_slot, FindsHeldSlot, IsHeldWithSlot}
+use Rattle.gc_store.specs.HeldSlots.{FindsHeldSlot, IsHeldWithSlot}
 use Rattle.gc_store.specs.Roots.{word_of}
 use Rattle.gc_store.specs.Values.{CanWrite, WritesValue}
 use Rattle.gc_store.specs.Stores.{store_view}
