@@ -1,5 +1,5 @@
 -- What making an external object answers and leaves.
-use Rattle.std.specs.Prelude.{◌≡◌, ◌⊎◌, ℕ, Result, Ok, Err, None}
+use Rattle.std.specs.Prelude.{◌≡◌, ◌⊎◌, ◌+◌, ◌<◌, ◌^◌, ℕ, Result, Ok, Err, None}
 use Rattle.std.specs.FinMap.{get, insert}
 use Rattle.std.specs.FinMap as map
 use Rattle.gc_types.specs.declared.kind.Layouts.{Layouts}
@@ -17,10 +17,11 @@ use Rattle.gc_owner.specs.Makes.{AllocatesRooted, LacksSpace}
 abbrev pub with_host : {D : Type 0} → ℕ → D → OwnerView D → OwnerView D
 with_host id value v = record v { hosts = insert v.hosts id value }
 
--- An external object was made for the value, under an id that no value had.
+-- An external object was made for the value, under an id that no value had and that the object can hold.
 pub record PlacesValue {D : Type 0} (layouts : Layouts) (value : D) (s e : OwnerState D) (index : ℕ) : Type 0 where
   pub id : ℕ
   pub fresh : get s.owner.hosts id ≡ None
+  pub small : id + 1 < 2 ^ 32
   pub allocates : AllocatesRooted layouts (external id) (external_size layouts) (state_of (with_host id value s.owner) s.limits) e index
 
 -- The value was under an id that no value had, while the allocation went on to an end; then it was taken back.
