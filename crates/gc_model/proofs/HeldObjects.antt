@@ -7,14 +7,9 @@ use Rattle.gc_view.specs.Heaps.{HeapObject}
 use Rattle.gc_model.specs.Values.{at, Object}
 use Rattle.gc_model.specs.Table.{Table}
 use Rattle.gc_model.specs.Live.{rooted}
-use Rattle.gc_model.specs.Reach.{IsHost}
 use Rattle.gc_model.specs.Stores.{StoreView}
 use Rattle.gc_model.specs.Holds.{Placing, naming, Holds, HeldAt, Stands}
 use Rattle.gc_model.proofs.Live.{rooted_word}
-
--- an object that is held is no host object so far
-pub held_no_host : {D : Type 0} (layouts : Layouts) (s : StoreView D) (t : Table D) (place : Placing) → Holds layouts s t place → (position : ℕ) (o : Object D) → slice_get t.objects position ≡ Some o → ¬ IsHost (Some o)
-held_no_host layouts s t place holds position o e is = holds.nothing_else.hosts position (subst (λ x. IsHost x) (sym e) is)
 
 module _ {D : Type 0} (layouts : Layouts) (s : StoreView D) (t : Table D) (place : Placing) (holds : Holds layouts s t place) where
   -- the heap's object at a placed position stands for the table's

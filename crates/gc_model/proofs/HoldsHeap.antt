@@ -13,7 +13,7 @@ use Rattle.gc_view.specs.Heaps.{HeapView}
 use Rattle.gc_model.specs.Stores.{StoreView}
 use Rattle.gc_model.specs.Holds.{Placing, Holds, KindHolds, ObjectsHold}
 use Rattle.gc_model.proofs.HoldsParts.{objects-same, hosts-same, heap_changed}
-use Rattle.gc_model.proofs.Hosts.{no_hosts-nil, hosts-moved}
+use Rattle.gc_model.proofs.Hosts.{hosts-none}
 
 -- a heap that was just made with so many pages
 pub record IsMadeHeap (layouts : Layouts) (heap : HeapView) (pages : ℕ) : Type 0 where
@@ -58,7 +58,7 @@ holds_heap layouts s t place heap unmade made holds =
       even = λ word object e. absurd (none-some object (sym (get-empty nat_cmp word) ∙ ap (λ (m : _). Rattle.std.specs.FinMap.get m word) (sym made.content) ∙ e));
     })
     (made_by_kind layouts t place heap t.first none made)
-    (hosts-moved t.objects t.objects place place s.heap.content heap.content s.hosts (no_hosts-nil t.objects none) (no_hosts-nil t.objects none) holds.hosts)
+    (hosts-none t.objects place place s.heap.content heap.content s.hosts none holds.hosts)
     holds.nothing_else
     holds.typed
 

@@ -1,13 +1,14 @@
 -- A store that holds a table holds it with one more object, named by a new scoped root.
 use Rattle.std.proofs.Common.{◌≡◌, ◌≢◌, ℕ, ◌+◌, ◌%◌, ◌<◌, ◌⊎◌, inl, inr, true, false, cond, nat_eq, eqb, Some, None, length, sym, ap, ◌∙◌, refl, subst, arith}
-use Rattle.std.specs.FinMap.{get}
+use Rattle.std.specs.Ordering.{nat_cmp}
+use Rattle.std.specs.FinMap.{FinMap, get, insert}
 use Rattle.std.proofs.lemmas.Grind.{common_steps}
 use Rattle.std.proofs.lemmas.Option.{none-some, slice_get_within}
 use Rattle.std.proofs.lemmas.List.{length_push}
 use Rattle.gc_types.specs.declared.kind.Layouts.{Layouts}
 use Rattle.gc_types.specs.declared.kind.Layouts.TheVariants.{Null, Counting, Copying}
 use Rattle.gc_types.specs.Layouts.{round_up}
-use Rattle.gc_model.specs.Values.{at, Object}
+use Rattle.gc_model.specs.Values.{at, Object, host}
 use Rattle.gc_model.specs.Table.{Table, make, add_object}
 use Rattle.gc_model.specs.Live.{roots_full}
 use Rattle.gc_model.specs.Reach.{IsHost}
@@ -15,14 +16,15 @@ use Rattle.gc_view.specs.Sizes.{alignment}
 use Rattle.gc_model.specs.Sizes.{object_size}
 use Rattle.gc_view.specs.Heaps.{HeapView, HeapObject}
 use Rattle.gc_model.specs.Stores.{StoreView}
-use Rattle.gc_model.specs.Holds.{Placing, naming, Holds, KindHolds, HeldAt, Stands, NoHostObjects}
+use Rattle.gc_model.specs.Holds.{Placing, naming, Holds, KindHolds, HeldAt, HostStands, HostsBy, Stands}
 use Rattle.gc_model.proofs.Lists.{slice_get-push_old, slice_get-push_new}
 use Rattle.gc_model.proofs.Types.{next_after-push}
 use Rattle.gc_model.proofs.Typing.{IsTypedObject, typed-made}
 use Rattle.gc_model.proofs.Placings.{IsWithin, AreWithin, placed_within, stands-more}
-use Rattle.gc_model.proofs.RootsMoved.{scoped-more, frames-more, globals-more, owned-more, pending-more}
+use Rattle.gc_model.proofs.RootsMoved.{scoped-more, frames-more, globals-more, owned-more}
+use Rattle.gc_model.proofs.Thrown.{thrown-more}
 use Rattle.gc_model.proofs.HoldsParts.{same_held-itself, places_changed}
-use Rattle.gc_model.proofs.Hosts.{no_hosts-push, hosts-moved, nothing-objects}
+use Rattle.gc_model.proofs.Hosts.{hosts-added, hosts-made}
 use Rattle.gc_model.proofs.HoldsPush.{with_root, holds_push}
 
 -- the placing with one more position
@@ -38,10 +40,9 @@ placed_at-old place n word position ne = grind (arith, common_steps)
 placed_at-cases : (place : Placing) (n word position w : ℕ) → placed_at place n word position ≡ Some w → ((position ≡ n) × (word ≡ w)) ⊎ ((position ≢ n) × (place position ≡ Some w))
 placed_at-cases place n word position w e = grind (arith, common_steps)
 
--- What an allocation and its writes left: one more object, which stands for the new one. No host objects are made so far.
+-- What an allocation and its writes left: one more object, which stands for the new one.
 pub record IsMadeObject {D : Type 0} (layouts : Layouts) (t : Table D) (place : Placing) (o : Object D) (old new : HeapView) (word : ℕ) : Type 0 where
   pub object : HeapObject
-  pub not_host : ¬ IsHost (Some o)
   pub stands : Stands layouts t.types (naming place t.funcs) o object
   pub typed : IsTypedObject t.types t.objects o
   pub free : get old.content word ≡ None
@@ -154,12 +155,32 @@ module _ {D : Type 0} (layouts : Layouts) (s : StoreView D) (t : Table D) (place
   made_by_kind Counting is kind = tt
   made_by_kind Copying is kind = tt
 
-  no_hosts : NoHostObjects (add_object o t).objects
-  no_hosts = no_hosts-push t.objects o holds.nothing_else.hosts made.not_host
+  -- a position of before is placed where it was
+  back : (position w : ℕ) → position < length t.objects → place' position ≡ Some w → place position ≡ Some w
+  back position w below e =
+      elim (placed_at-cases place (length t.objects) word position w e) [
+        | inl new ↦ absurd (omega (arith, below, new.0))
+        | inr old ↦ old.1
+      ]
+
+  elsewhere : (position w : ℕ) → place position ≡ Some w → w ≢ word
+  elsewhere position w e same = apart position w e (sym same)
+
+  -- the host values, where the object is no host object
+  abbrev KeepsHosts : FinMap nat_cmp D → Type 0
+  KeepsHosts hosts = HostsBy (add_object o t).objects place' heap.content hosts
+
+  hosts_kept : ¬ IsHost (Some o) → KeepsHosts s.hosts
+  hosts_kept not_host = hosts-added t.objects o place place' word s.heap.content heap.content within back elsewhere made.others not_host s.hosts holds.hosts
+
+  -- and where it is one, whose value was put under an id that no value had
+  hosts_more : (d : D) → o ≡ host d → (id : ℕ) → HostStands id made.object → get s.hosts id ≡ None → KeepsHosts (insert s.hosts id d)
+  hosts_more d is_host id stands fresh =
+      hosts-made t.objects o place place' word s.heap.content heap.content within back elsewhere made.others d is_host id made.object stands made.here (placed_at-new place (length t.objects) word) s.hosts fresh holds.hosts
 
   -- the store holds the table with the object, which no root names yet
-  pub holds_add : t.made ≡ true → Holds layouts (record s { heap = heap }) (add_object o t) place'
-  holds_add is_made =
+  holds_with : (hosts : FinMap nat_cmp D) → KeepsHosts hosts → t.made ≡ true → Holds layouts (record s { heap = heap; hosts = hosts }) (add_object o t) place'
+  holds_with hosts kept is_made =
       places_changed holds
       (record {
         made = made.attached ∙ holds.memory.made;
@@ -173,13 +194,22 @@ module _ {D : Type 0} (layouts : Layouts) (s : StoreView D) (t : Table D) (place
       (frames-more place place' within t.frames s.frames holds.frames)
       (globals-more place place' within t.globals s.globals holds.globals)
       (owned-more place place' within t.owns s.owns t.owned s.owned holds.owned)
-      (pending-more place place' within t.pending s.pending holds.pending)
-      (hosts-moved t.objects (add_object o t).objects place place' s.heap.content heap.content s.hosts holds.nothing_else.hosts no_hosts holds.hosts)
-      (nothing-objects holds.nothing_else no_hosts)
+      (thrown-more place place' within t.objects o t.pending s.pending holds.pending)
+      kept
+      holds.nothing_else
       (typed-made t.types t.objects holds.typed o made.typed)
 
+  pub holds_add : ¬ IsHost (Some o) → t.made ≡ true → Holds layouts (record s { heap = heap }) (add_object o t) place'
+  holds_add not_host is_made = holds_with s.hosts (hosts_kept not_host) is_made
+
   -- the store holds the table with the object, and a new root that names it
-  pub holds_make : t.made ≡ true → roots_full t ≡ false → Holds layouts (with_root heap word s) (make o t) place'
-  holds_make is_made room =
-      holds_push layouts (record s { heap = heap }) (add_object o t) place' (at (length t.objects)) heap word (holds_add is_made) room
+  pub holds_make : ¬ IsHost (Some o) → t.made ≡ true → roots_full t ≡ false → Holds layouts (with_root heap word s) (make o t) place'
+  holds_make not_host is_made room =
+      holds_push layouts (record s { heap = heap }) (add_object o t) place' (at (length t.objects)) heap word (holds_add not_host is_made) room
+      (same_held-itself heap) (placed_at-new place (length t.objects) word) made.not_null
+
+  pub holds_make_host : (d : D) → o ≡ host d → (id : ℕ) → HostStands id made.object → get s.hosts id ≡ None → t.made ≡ true → roots_full t ≡ false
+      → Holds layouts (with_root heap word (record s { hosts = insert s.hosts id d })) (make o t) place'
+  holds_make_host d is_host id stands fresh is_made room =
+      holds_push layouts (record s { heap = heap; hosts = insert s.hosts id d }) (add_object o t) place' (at (length t.objects)) heap word (holds_with (insert s.hosts id d) (hosts_more d is_host id stands fresh) is_made) room
       (same_held-itself heap) (placed_at-new place (length t.objects) word) made.not_null

@@ -9,16 +9,15 @@ use Rattle.gc_types.specs.declared.kind.Layouts.{Layouts}
 use Rattle.gc_types.specs.declared.kind.Layouts.TheVariants.{Null, Counting, Copying}
 use Rattle.gc_view.specs.Pages.{max_pages}
 use Rattle.gc_model.specs.Sizes.{next_after}
-use Rattle.gc_model.specs.Values.{Reference}
 use Rattle.gc_model.specs.Table.{Table, Owned, start, global_count, empty_slot}
 use Rattle.gc_view.specs.Heaps.{HeapView, HeapObject}
 use Rattle.gc_owner.specs.declared.entry.SlotEntry.{SlotEntry}
 use Rattle.gc_model.specs.Stores.{StoreView, empty_store, unset_globals}
 use Rattle.gc_model.specs.Holds.{Placing, Holds, KindHolds}
-use Rattle.gc_model.specs.RootPoints.{FramesBy, GlobalsBy, OwnedBy, PendingBy}
+use Rattle.gc_model.specs.RootPoints.{FramesBy, GlobalsBy, OwnedBy}
 use Rattle.gc_model.proofs.RootsMoved.{frames-empty, globals-empty, unset_from_table, owned-none}
 use Rattle.gc_model.proofs.HoldsHeap.{nothing_placed}
-use Rattle.gc_model.proofs.Hosts.{no_hosts-nil, hosts-none, holds-no_hosts}
+use Rattle.gc_model.proofs.Hosts.{hosts-empty, hosts-nil}
 
 -- no position is placed
 abbrev pub nowhere : Placing
@@ -66,10 +65,10 @@ holds_untouched D layouts s untouched = record {
   frames = subst (λ (es : List (List SlotEntry)). FramesBy nowhere [] es) (sym untouched.frames) (frames-empty nowhere);
   globals = subst (λ (es : List SlotEntry). GlobalsBy nowhere (replicate global_count empty_slot) es) (sym untouched.globals) (globals-empty nowhere);
   owned = untouched.owned;
-  pending = untouched.pending;
+  pending = record { same_word = untouched.pending; thrown = λ r e. absurd (none-some r e) };
   funcs = untouched.funcs;
-  hosts = hosts-none [] nowhere s.heap.content s.hosts (no_hosts-nil {D = D} [] refl) untouched.no_hosts;
-  nothing_else = record { owns = refl; owned = refl; pending = refl; funcs = refl; blocks = refl; hosts = no_hosts-nil {D = D} [] refl };
+  hosts = hosts-nil [] nowhere s.heap.content s.hosts refl untouched.no_hosts;
+  nothing_else = record { owns = refl; owned = refl; funcs = refl; blocks = refl };
   typed = λ position index object value e f. absurd (none-some object e);
 }
 
@@ -78,9 +77,9 @@ untouched_allocated Null t place heap none kind is = let e : heap.allocated + 1 
 untouched_allocated Counting t place heap none kind is = absurd (cc)
 untouched_allocated Copying t place heap none kind is = absurd (cc)
 
--- a store that holds some table, and shows no type, root, generation, frame, set global or memory, is untouched
-pub untouched_from_parts : {D : Type 0} (layouts : Layouts) (s : StoreView D) (t : Table D) (place : Placing) → Holds layouts s t place → s.types ≡ [] → s.scoped ≡ [] → s.generation ≡ 0 → s.frames ≡ [] → s.globals ≡ unset_globals → s.heap.attached ≡ false → IsUntouched layouts s
-untouched_from_parts layouts s t place holds no_types no_roots first_generation no_frames unset unmade =
+-- a store that holds some table, and shows no type, root, generation, frame, set global, pending exception or memory, is untouched
+pub untouched_from_parts : {D : Type 0} (layouts : Layouts) (s : StoreView D) (t : Table D) (place : Placing) → Holds layouts s t place → s.types ≡ [] → s.scoped ≡ [] → s.generation ≡ 0 → s.frames ≡ [] → s.globals ≡ unset_globals → s.pending ≡ 0 → s.heap.attached ≡ false → IsUntouched layouts s
+untouched_from_parts layouts s t place holds no_types no_roots first_generation no_frames unset none_pending unmade =
     let nothing = holds.nothing_else in
     let not_made : t.made ≡ false = sym holds.memory.made ∙ unmade in
     let none : t.objects ≡ [] = holds.memory.no_objects not_made in
@@ -98,15 +97,15 @@ untouched_from_parts layouts s t place holds no_types no_roots first_generation 
       globals = unset;
       owned = subst (λ (n : ℕ). OwnedBy nowhere n s.owns [] s.owned) nothing.owns
           (subst (λ (os : List Owned). OwnedBy nowhere t.owns s.owns os s.owned) nothing.owned (owned-none place nowhere t.owns s.owns t.owned s.owned nothing.owned holds.owned));
-      pending = subst (λ (r : Option Reference). PendingBy place r s.pending) nothing.pending holds.pending;
+      pending = none_pending;
       funcs = holds.funcs ∙ nothing.funcs;
-      no_hosts = holds-no_hosts layouts s t place holds;
+      no_hosts = hosts-empty t.objects place s.heap.content s.hosts none holds.hosts;
     }
 
 -- a store that holds the empty table is untouched
 pub untouched_from_start : (D : Type 0) (layouts : Layouts) (s : StoreView D) (place : Placing) → Holds {D = D} layouts s (start s.first s.max_scoped s.max_owned) place → IsUntouched layouts s
 untouched_from_start D layouts s place holds =
-    untouched_from_parts layouts s (start s.first s.max_scoped s.max_owned) place holds holds.types (nil_from_length s.scoped holds.scoped.same_count) holds.scopes.generation (nil_from_length s.frames holds.frames.same_count) (unset_from_table place s.globals holds.globals) holds.memory.made
+    untouched_from_parts layouts s (start s.first s.max_scoped s.max_owned) place holds holds.types (nil_from_length s.scoped holds.scoped.same_count) holds.scopes.generation (nil_from_length s.frames holds.frames.same_count) (unset_from_table place s.globals holds.globals) holds.pending.same_word holds.memory.made
 
 -- what is seen of a new store is untouched
 pub untouched_new : {D : Type 0} (layouts : Layouts) (engine number first max_scoped max_owned : ℕ) (alloc_counter : Option ℕ) → first ≤ max_pages → max_scoped ≤ 2 ^ 31 → IsUntouched {D = D} layouts (empty_store engine number first max_scoped max_owned alloc_counter)

@@ -15,14 +15,15 @@ use Rattle.gc_model.specs.Table.{Table, change_at, with_value, write}
 use Rattle.gc_model.specs.Stores.{StoreView}
 use Rattle.gc_model.specs.Forms.{IsEncodedAs}
 use Rattle.gc_model.specs.Fits.{fits}
-use Rattle.gc_model.specs.Holds.{Placing, naming, Holds, KindHolds, HeldAt, Stands, ObjectsHold, NoHostObjects, IsTypedValue}
+use Rattle.gc_model.specs.Holds.{Placing, naming, Holds, KindHolds, HeldAt, Stands, ObjectsHold, IsTypedValue}
 use Rattle.gc_model.proofs.Changes.{length-change_at, slice_get-change_at_same, slice_get-change_at_other, next_after-with_value}
 use Rattle.gc_model.proofs.HeldObjects.{object_held}
-use Rattle.gc_model.proofs.HoldsParts.{heap_changed}
-use Rattle.gc_model.proofs.Hosts.{no_hosts-write, hosts-moved, nothing-objects}
+use Rattle.gc_model.proofs.HoldsParts.{heap_changed, pending_changed}
+use Rattle.gc_model.proofs.Hosts.{hosts-written}
 use Rattle.gc_model.proofs.ObjectShapes.{IsSlotOf}
-use Rattle.gc_model.proofs.ObjectStands.{slot_type}
+use Rattle.gc_model.proofs.ObjectStands.{slot_type, slot_not_host}
 use Rattle.gc_model.proofs.SlotObjects.{slot_written, stands_write}
+use Rattle.gc_model.proofs.Thrown.{thrown-written}
 use Rattle.gc_model.proofs.Typing.{typed-written}
 
 -- What a write of some bytes to an object's data left of a heap.
@@ -102,12 +103,10 @@ module _ {D : Type 0} (layouts : Layouts) (s : StoreView D) (t : Table D) (place
   written_by_kind Counting kind = tt
   written_by_kind Copying kind = tt
 
-  no_hosts : NoHostObjects (write position index v t).objects
-  no_hosts = no_hosts-write position index v t.objects holds.nothing_else.hosts
-
   pub holds_write : Holds layouts (record s { heap = heap }) (write position index v t) place
   holds_write =
-      heap_changed holds
+      pending_changed
+      (heap_changed holds
       (record {
         made = written.attached ∙ holds.memory.made;
         capacity = written.capacity ∙ holds.memory.capacity;
@@ -116,6 +115,7 @@ module _ {D : Type 0} (layouts : Layouts) (s : StoreView D) (t : Table D) (place
       })
       objects
       (written_by_kind layouts holds.by_kind)
-      (hosts-moved t.objects (write position index v t).objects place place s.heap.content heap.content s.hosts holds.nothing_else.hosts no_hosts holds.hosts)
-      (nothing-objects holds.nothing_else no_hosts)
-      (typed-written t.types t.objects holds.typed position index v o object_is typed_here)
+      (hosts-written t.objects position index v o object_is (slot_not_host layouts t.types o index slot is) place word placed holds.objects.injective s.heap.content heap.content written.others s.hosts holds.hosts)
+      holds.nothing_else
+      (typed-written t.types t.objects holds.typed position index v o object_is typed_here))
+      (thrown-written place t.objects position index v t.pending s.pending holds.pending)

@@ -8,6 +8,7 @@ pub mod Typing
 pub mod Types
 pub mod Placings
 pub mod RootsMoved
+pub mod Thrown
 pub mod HoldsParts
 pub mod Hosts
 pub mod HoldsStart
@@ -26,8 +27,10 @@ pub mod Lying
 pub mod SlotWrites
 pub mod SlotObjects
 pub mod HoldsWrite
+pub mod HoldsHost
 pub mod SlotsSet
 pub mod HoldsGlobals
+pub mod HoldsPending
 pub mod FramesSet
 pub mod HoldsFrames
 pub mod StoredValues

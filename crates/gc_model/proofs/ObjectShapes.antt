@@ -226,6 +226,10 @@ struct_shape types ty fields e = fields_shape (slice_get types ty) fields e
 pub array_shape : (types : List Declaration) (ty : ℕ) (element : FieldType) → elem_at types ty ≡ Some element → shape_at types ty ≡ Some (array_of element)
 array_shape types ty element e = element_shape (slice_get types ty) element e
 
+pub exception_shape : (types : List Declaration) (ty : ℕ) (fields : List FieldType) → exn_fields_at types ty ≡ Some fields
+    → (params : List ValType) × ((shape_at types ty ≡ Some (exn_of params)) × (map constant_field params ≡ fields))
+exception_shape types ty fields e = params_shape (slice_get types ty) fields e
+
 -- a field of a struct is the slot of its value
 pub struct_slot : {D : Type 0} (layouts : Layouts) (types : List Declaration) (ty : ℕ) (values : List Value) (fields : List FieldType) (index : ℕ) (field : FieldType) (layout : FieldLayout)
     → struct_fields_at types ty ≡ Some fields → slice_get fields index ≡ Some field → slice_get (field_layouts (struct_base layouts) fields) index ≡ Some layout

@@ -86,9 +86,6 @@ module _ (place place' : Placing) where
   pub owned-none : (owns count : ℕ) (owned : List Owned) (entries : List OwnedEntry) → owned ≡ [] → OwnedBy place owns count owned entries → OwnedBy place' owns count owned entries
   owned-none owns count owned entries none by = owned-moved owns count owned entries (λ i root e. absurd (none-some root (ap (λ rs. slice_get rs i) (sym none) ∙ e))) by
 
-  pub pending-none : (pending : Option Reference) (word : ℕ) → pending ≡ None → PendingBy place pending word → PendingBy place' pending word
-  pending-none pending word none by = pending-moved pending word (λ r e. absurd (none-some r (sym none ∙ e))) by
-
 -- an element of a list of one element many times is that one
 replicated : {X : Type 0} (n : ℕ) (x : X) (i : ℕ) (y : X) → slice_get (replicate n x) i ≡ Some y → x ≡ y
 replicated zero x i y e = absurd (none-some y e)

@@ -5,11 +5,13 @@ use Rattle.std.specs.Prelude.{replicate}
 use Rattle.std.proofs.lemmas.List.{length-replicate}
 use Rattle.std.proofs.lemmas.Option.{none-some, slice_get_within}
 use Rattle.gc_types.specs.declared.value.FieldType.{FieldType}
+use Rattle.gc_types.specs.declared.value.Tag.{Tag}
 use Rattle.gc_types.specs.declared.value.StorageType.{StorageType}
 use Rattle.gc_types.specs.declared.value.StorageType.TheVariants as storage
 use Rattle.gc_types.specs.Declarations.{Declaration, struct_fields_at, elem_at}
-use Rattle.gc_model.specs.Values.{Value, Object, struct, array}
+use Rattle.gc_model.specs.Values.{Value, Object, struct, array, exception}
 use Rattle.gc_model.specs.Fits.{fits}
+use Rattle.gc_model.specs.Sizes.{exn_fields_at}
 use Rattle.gc_model.specs.Stored.{stored, stored_in, byte_value, listed_type}
 use Rattle.gc_model.proofs.Fitting.{fits-stored}
 use Rattle.gc_model.proofs.Typing.{IsTypedObject}
@@ -68,6 +70,20 @@ module _ {D : Type 0} (types : List Declaration) (objects : List (Object D)) (ty
       → ((i : ℕ) (field : FieldType) (v : Value) → slice_get fields i ≡ Some field → slice_get values i ≡ Some v → fits types objects field.element_type v ≡ true)
       → IsTypedObject types objects (struct ty (stored_in fields values))
   typed-struct fields values declared fit index value e =
+      let kept = kept_value fields values index value e in
+      record {
+        field = kept.field;
+        field_is = ap (λ (fs : Option (List FieldType)). listed_type fs index) declared ∙ kept.field_is;
+        is_fit =
+            ap (fits types objects kept.field.element_type) kept.kept_is
+            ∙ fits-stored types objects kept.field.element_type kept.value (fit index kept.field kept.value kept.field_is kept.value_is);
+      }
+
+  -- and of an exception
+  pub typed-exception : (tag : Tag) (fields : List FieldType) (values : List Value) → exn_fields_at types ty ≡ Some fields
+      → ((i : ℕ) (field : FieldType) (v : Value) → slice_get fields i ≡ Some field → slice_get values i ≡ Some v → fits types objects field.element_type v ≡ true)
+      → IsTypedObject types objects (exception ty tag (stored_in fields values))
+  typed-exception tag fields values declared fit index value e =
       let kept = kept_value fields values index value e in
       record {
         field = kept.field;

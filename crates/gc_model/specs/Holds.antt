@@ -1,20 +1,20 @@
 -- A store holds a table: its heap, its roots and its numbers stand for the table's.
-use Rattle.std.specs.Prelude.{◌≡◌, Bool, ℕ, ◌+◌, ◌-◌, ◌*◌, ◌%◌, ◌<◌, ◌≤◌, ◌^◌, true, false, List, [], Option, Some, None, length, slice_get}
+use Rattle.std.specs.Prelude.{◌≡◌, Bool, ℕ, ◌+◌, ◌-◌, ◌*◌, ◌%◌, ◌<◌, ◌≤◌, ◌^◌, true, false, List, [], Option, Some, length, slice_get}
 use Rattle.std.specs.Ordering.{nat_cmp}
 use Rattle.std.specs.FinMap as map
 use Rattle.gc_types.specs.declared.value.FieldType.{FieldType}
 use Rattle.gc_types.specs.declared.kind.Layouts.{Layouts}
 use Rattle.gc_types.specs.declared.kind.Layouts.TheVariants.{Null, Counting, Copying}
 use Rattle.gc_types.specs.Declarations.{Declaration}
-use Rattle.gc_model.specs.Values.{Reference, Value, Object}
-use Rattle.gc_model.specs.Reach.{IsKept, IsHost, object_values}
+use Rattle.gc_model.specs.Values.{Value, Object}
+use Rattle.gc_model.specs.Reach.{IsKept, object_values}
 use Rattle.gc_model.specs.Stored.{value_type}
 use Rattle.gc_model.specs.Fits.{fits}
 use Rattle.gc_types.specs.declared.value.Func.{Func}
 use Rattle.gc_model.specs.Table.{Table, Scoped, Push, Owned, Block}
 pub use Rattle.gc_model.specs.Words.{Placing, IsWord}
 pub use Rattle.gc_model.specs.Forms.{Names, naming}
-pub use Rattle.gc_model.specs.RootPoints.{EntryBy, ScopedBy, IsPastBy, PushesBy, SlotBy, SlotsBy, FramesBy, GlobalsBy, OwnedRootBy, OwnedBy, PendingBy}
+pub use Rattle.gc_model.specs.RootPoints.{EntryBy, ScopedBy, IsPastBy, PushesBy, SlotBy, SlotsBy, FramesBy, GlobalsBy, OwnedRootBy, OwnedBy, PendingBy, IsException, ThrownBy}
 use Rattle.gc_model.specs.Sizes.{next_after}
 pub use Rattle.gc_model.specs.Standing.{Stands, HostStands, IsHostAt, HasHostValue, HostsBy}
 use Rattle.gc_view.specs.Pages.{page, max_pages}
@@ -78,18 +78,12 @@ pub record BlocksBy (place : Placing) (blocks : List Block) : Type 0 where
   pub each : (i : ℕ) (block : Block) → slice_get blocks i ≡ Some block → place block.position ≡ Some block.place
   pub all : (position word : ℕ) → place position ≡ Some word → (i : ℕ) × (slice_get blocks i ≡ Some (record { position = position; place = word }))
 
--- none of these objects is a host object
-abbrev pub NoHostObjects : {D : Type 0} → List (Object D) → Type 0
-NoHostObjects objects = (position : ℕ) → ¬ IsHost (slice_get objects position)
-
 -- What no call makes yet is empty: one line each.
-pub record NotBuilt {D : Type 0} (made : ℕ) (roots : List Owned) (exception : Option Reference) (functions : List (Option Func)) (held : List Block) (objects : List (Object D)) : Type 0 where
+pub record NotBuilt (made : ℕ) (roots : List Owned) (functions : List (Option Func)) (held : List Block) : Type 0 where
   pub owns : made ≡ 0
   pub owned : roots ≡ []
-  pub pending : exception ≡ None
   pub funcs : functions ≡ []
   pub blocks : held ≡ []
-  pub hosts : NoHostObjects objects
 
 -- a value of an object has a declared type, of a field or of the elements, and fits it, by the types and the objects
 pub record IsTypedValue {D : Type 0} (types : List Declaration) (objects : List (Object D)) (object : Object D) (index : ℕ) (value : Value) : Type 0 where
@@ -167,13 +161,13 @@ module _ {D : Type 0} where
   OwnedHold t place count entries = OwnedBy place t.owns count t.owned entries
 
   abbrev pub PendingHolds : Table D → Placing → ℕ → Type 0
-  PendingHolds t place word = PendingBy place t.pending word
+  PendingHolds t place word = ThrownBy t.objects place t.pending word
 
   abbrev pub HostsHold : Table D → Placing → HeapView → map.FinMap nat_cmp D → Type 0
   HostsHold t place heap hosts = HostsBy t.objects place heap.content hosts
 
   abbrev pub NothingElse : Table D → Type 0
-  NothingElse t = NotBuilt t.owns t.owned t.pending t.funcs t.blocks t.objects
+  NothingElse t = NotBuilt t.owns t.owned t.funcs t.blocks
 
   -- the store holds the table under that placing
   abbrev pub Holds : Layouts → StoreView D → Table D → Placing → Type 0

@@ -12,6 +12,7 @@ pub mod Forms
 pub mod Standing
 pub mod Globals
 pub mod Frames
+pub mod Pending
 pub mod Stores
 pub mod RootPoints
 pub mod Holds

@@ -1,6 +1,6 @@
--- Reading a value: a reference that isn't null gets a scoped root.
-use Rattle.std.specs.Prelude.{Bool, true, false, ◌==◌}
-use Rattle.gc_model.specs.Values.{Reference, null, small, at, Value, numeric, function, reference}
+-- Reading a value: a reference that isn't null gets a scoped root. And the value of a host object.
+use Rattle.std.specs.Prelude.{Bool, true, false, ◌==◌, Option, Some, None, slice_get, option_and_then}
+use Rattle.gc_model.specs.Values.{Reference, null, small, at, Value, numeric, function, reference, Object, struct, array, host, exception}
 use Rattle.gc_model.specs.Table.{Table, push}
 
 abbrev pub is_null : Reference → Bool
@@ -35,3 +35,16 @@ same_reference (small m) (at p) = false
 same_reference (at q) null = false
 same_reference (at q) (small n) = false
 same_reference (at q) (at p) = q == p
+
+-- the value of an object, where it is a host object
+abbrev pub host_value : {D : Type 0} → Object D → Option D
+host_value (struct ty values) = None
+host_value (array ty values) = None
+host_value (host value) = Some value
+host_value (exception ty tag values) = None
+
+-- the value of the host object that a reference is; there is none where it is anything else
+abbrev pub host_value_of : {D : Type 0} → Table D → Reference → Option D
+host_value_of t null = None
+host_value_of t (small n) = None
+host_value_of t (at p) = option_and_then host_value (slice_get t.objects p)

@@ -3,7 +3,8 @@
 use Rattle.std.specs.Prelude.{◌≡◌, ℕ, ◌-◌, ◌^◌, ◌<◌, ◌⊎◌, List, Option, Some, None, length, slice_get}
 use Rattle.gc_owner.specs.declared.entry.RootEntry.{RootEntry}
 use Rattle.gc_owner.specs.declared.entry.SlotEntry.{SlotEntry}
-use Rattle.gc_model.specs.Values.{Reference}
+use Rattle.gc_types.specs.declared.value.Tag.{Tag}
+use Rattle.gc_model.specs.Values.{Reference, at, Value, Object, exception}
 use Rattle.gc_model.specs.Table.{Scoped, Push, Slot, Owned, global_count}
 use Rattle.gc_owner.specs.declared.entry.OwnedEntry.{OwnedEntry}
 use Rattle.gc_model.specs.Words.{Placing, IsWord}
@@ -74,3 +75,17 @@ pub record OwnedBy (place : Placing) (owns count : ℕ) (owned : List Owned) (en
 abbrev pub PendingBy : Placing → Option Reference → ℕ → Type 0
 PendingBy place None word = word ≡ 0
 PendingBy place (Some r) word = IsWord place r word × (0 < word)
+
+-- the reference is that of an exception, with that tag
+pub record IsException {D : Type 0} (objects : List (Object D)) (r : Reference) : Type 0 where
+  pub position : ℕ
+  pub reference_is : r ≡ at position
+  pub ty : ℕ
+  pub tag : Tag
+  pub values : List Value
+  pub object_is : slice_get objects position ≡ Some (exception ty tag values)
+
+-- the word of the pending exception is that of the table's, which names an exception
+pub record ThrownBy {D : Type 0} (objects : List (Object D)) (place : Placing) (pending : Option Reference) (word : ℕ) : Type 0 where
+  pub same_word : PendingBy place pending word
+  pub thrown : (r : Reference) → pending ≡ Some r → IsException objects r

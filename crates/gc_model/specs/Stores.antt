@@ -62,3 +62,7 @@ empty_store engine number first max_scoped max_owned alloc_counter = record {
   max_owned = max_owned;
   alloc_counter = alloc_counter;
 }
+
+-- the store with another value under an id of a host value
+abbrev pub with_host_at : {D : Type 0} → ℕ → D → StoreView D → StoreView D
+with_host_at id w s = record s { hosts = map.insert s.hosts id w }

@@ -35,7 +35,7 @@ pub record Block : Type 0 where
   pub place : ℕ
 
 -- The table. Objects are only added, or changed in one value; garbage is only "not reached".
--- Owned roots, the pending exception, function values and blocks are empty so far.
+-- Owned roots, function values and blocks are empty so far.
 pub record Table (D : Type 0) : Type 0 where
   pub types : List Declaration
   pub objects : List (Object D)
@@ -139,3 +139,14 @@ change_at (suc n) change (x ∷ xs) = x ∷ change_at n change xs
 -- the object at a position has another value at an index
 abbrev pub write : {D : Type 0} → ℕ → ℕ → Value → Table D → Table D
 write position index v t = record t { objects = change_at position (with_value index v) t.objects }
+
+-- the host object with another value; no other object has one
+abbrev pub with_host_value : {D : Type 0} → D → Object D → Object D
+with_host_value w (struct ty values) = struct ty values
+with_host_value w (array ty values) = array ty values
+with_host_value w (host value) = host w
+with_host_value w (exception ty tag values) = exception ty tag values
+
+-- the host object at a position has another value
+abbrev pub set_host : {D : Type 0} → ℕ → D → Table D → Table D
+set_host position w t = record t { objects = change_at position (with_host_value w) t.objects }

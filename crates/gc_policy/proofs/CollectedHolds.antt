@@ -1,10 +1,9 @@
 -- A store that held a table holds it after a collection of its owner, and no other object than the collection keeps.
-use Rattle.std.proofs.Common.{◌≡◌, ℕ, ◌+◌, ◌%◌, ◌<◌, true, List, [], map, Option, Some, None, Contains, refl, sym, ap, ◌∙◌, subst, arith}
+use Rattle.std.proofs.Common.{◌≡◌, ℕ, ◌+◌, ◌%◌, ◌<◌, true, false, List, [], map, Option, Some, None, is_some, Contains, refl, sym, ap, ◌∙◌, subst, arith}
 use Rattle.std.specs.Ordering.{nat_cmp}
-use Rattle.std.specs.FinMap.{FinMap, get, empty, get-empty, same_map, nat_cmp-IsAntisymmetric}
-use Rattle.std.specs.Cmp.{nat_cmp_total}
+use Rattle.std.specs.FinMap.{FinMap, get}
 use Rattle.std.proofs.lemmas.List.{length-map}
-use Rattle.std.proofs.lemmas.Option.{none-some}
+use Rattle.std.proofs.lemmas.Option.{none-some, same_Some}
 use Rattle.gc_types.specs.declared.kind.Layouts.{Layouts}
 use Rattle.gc_types.specs.declared.kind.Layouts.TheVariants.{Null, Counting, Copying}
 use Rattle.gc_owner.specs.declared.entry.SlotEntry.{SlotEntry}
@@ -16,30 +15,29 @@ use Rattle.gc_model.specs.Table.{Table}
 use Rattle.gc_model.specs.Reach.{IsKept}
 use Rattle.gc_view.specs.Heaps.{HeapView, HeapObject}
 use Rattle.gc_model.specs.Stores.{StoreView}
-use Rattle.gc_model.proofs.HeldObjects.{held_no_host}
 use Rattle.gc_model.proofs.HoldsParts.{places_changed}
-use Rattle.gc_model.proofs.Hosts.{holds-no_hosts, hosts-none, nothing-objects}
 use Rattle.gc_model.proofs.RootsMoved.{owned-none}
-use Rattle.gc_model.specs.Holds.{Placing, IsWord, HeldAt, ObjectsHold, KindHolds, Holds, HoldsKept, FramesBy, OwnedBy}
+use Rattle.gc_model.specs.Holds.{Placing, IsWord, HostStands, IsHostAt, HostsBy, HeldAt, ObjectsHold, KindHolds, Holds, HoldsKept, FramesBy, OwnedBy}
 use Rattle.gc_heap.specs.References.{references}
-use Rattle.gc_heap.specs.Content.{IsHeld, IsHeap}
-use Rattle.gc_heap.specs.Collection.{Start, Kept, moved, IsMoved, Collected, has_host, IsPartOf}
+use Rattle.gc_heap.specs.Content.{IsHeld, IsHeap, IsSpare}
+use Rattle.gc_heap.specs.Extents.{host_id}
+use Rattle.gc_heap.specs.Collection.{Start, Kept, moved, IsMoved, Collected, has_host, IsExternal, IsPartOf}
 use Rattle.gc_heap.proofs.AgainLemmas.{kept_by_root, kept_by_field, kept_held}
 use Rattle.gc_policy.specs.Shown.{shown, frames_of}
 use Rattle.gc_policy.proofs.RootsShown.{SlotsInFrames, IsRooted, scoped_rooted, slot_rooted, global_rooted, pending_rooted, owned_empty}
 use Rattle.gc_policy.proofs.Frames.{frame_words, frames-mapped}
-use Rattle.gc_policy.proofs.CollectedRoots.{StaysPresent, scoped-carried, frames-carried, globals-carried, pending-carried}
-use Rattle.gc_policy.proofs.CollectedValues.{stands_moved}
+use Rattle.gc_policy.proofs.CollectedRoots.{StaysPresent, scoped-carried, frames-carried, globals-carried, thrown-carried}
+use Rattle.gc_policy.proofs.CollectedValues.{stands_moved, host_moved, host_was}
 use Rattle.gc_policy.proofs.CollectedPlacing.{place_after, placed_after, placed_before, word_carried}
 use Rattle.gc_policy.proofs.CollectedKept.{traced_here, kept_position}
 
--- a part of a table of host values that has none has none
-pub part_has_none : {D : Type 0} (part whole : FinMap nat_cmp D) → IsPartOf part whole → whole ≡ empty → part ≡ empty
-part_has_none {D} part whole within none = same_map nat_cmp_total nat_cmp-IsAntisymmetric part empty (λ id. by id (get part id) refl ∙ sym (get-empty nat_cmp id))
+-- a value of a table is one of its part, where that has some value under the id
+pub part_value : {D : Type 0} (part whole : FinMap nat_cmp D) (id : ℕ) (value : D) → IsPartOf part whole → get whole id ≡ Some value → has_host part id ≡ true → get part id ≡ Some value
+part_value {D} part whole id value within is there = by (get part id) refl there
   where
-    by : (id : ℕ) (found : Option D) → get part id ≡ found → get part id ≡ None
-    by id None is = is
-    by id (Some value) is = absurd (none-some value (sym (get-empty nat_cmp id) ∙ ap (λ (m : FinMap nat_cmp D). get m id) (sym none) ∙ within id value is))
+    by : (found : Option D) → get part id ≡ found → is_some found ≡ true → get part id ≡ Some value
+    by None none some = absurd (cc)
+    by (Some x) found some = found ∙ sym (within id x found) ∙ is
 
 -- A collection of an owner whose store holds a table.
 pub record CollectsHeld {D : Type 0} (layouts : Layouts) (s : StoreView D) (t : Table D) (place : Placing) (v w : OwnerView D) : Type 0 where
@@ -72,6 +70,12 @@ module _ {D : Type 0} (layouts : Layouts) (s : StoreView D) (t : Table D) (place
   held_of : (p x : ℕ) → place p ≡ Some x → IsHeld begin.heap x
   held_of p x e = let held = c.holds.objects.placed p x e in (held.object, held.in_heap)
 
+  moved_here : (old new : HeapObject) → IsMoved layouts begin.types done.to old new → IsMoved layouts t.types done.to old new
+  moved_here old new is = subst (λ types. IsMoved layouts types done.to old new) c.holds.types is
+
+  spare_here : (word : ℕ) (h : HeapObject) → get v.heap.content word ≡ Some h → IsSpare layouts h
+  spare_here word h got = (c.was_heap.objects word h got).spare
+
   object_after : (p word : ℕ) → place p ≡ Some word → Kept layouts begin word → HeldAt layouts t after w.heap.content p (done.to word)
   object_after p word e kept =
       let there = c.holds.objects.placed p word e in
@@ -82,11 +86,12 @@ module _ {D : Type 0} (layouts : Layouts) (s : StoreView D) (t : Table D) (place
         in_heap = now.1.0;
         in_table = there.in_table;
         stands = stands_moved layouts t.types done.to there.object now.0 place after t.funcs
-            (subst (λ types. IsMoved layouts types done.to there.object now.0) c.holds.types now.1.1)
+            (moved_here there.object now.0 now.1.1)
+            (spare_here word there.object there.in_heap)
             (traced_here layouts s v t place c.holds c.in_frames c.can.traced (has_host v.hosts) word there.object there.in_heap)
             (λ r x among is_word. carried r x
             (λ q placed. kept_by_field layouts begin x word there.object (held_of q x placed) kept there.in_heap (subst (λ types. Contains (references layouts types there.object) x) (sym c.holds.types) among)) is_word)
-            there.entry (held_no_host layouts (shown s v) t place c.holds p there.entry there.in_table) there.stands;
+            there.entry there.stands;
       }
 
   objects_after : ObjectsHold layouts t after w.heap
@@ -105,6 +110,88 @@ module _ {D : Type 0} (layouts : Layouts) (s : StoreView D) (t : Table D) (place
         let same : one.word ≡ other.word = done.injective one.word other.word one.kept other.kept (one.moves ∙ sym other.moves) in
         c.holds.objects.injective p q one.word one.placed (other.placed ∙ ap (λ x. Some x) (sym same));
     even = even;
+  }
+
+  abbrev HostBefore : ℕ → ℕ → D → Type 0
+  HostBefore p id d = IsHostAt t.objects place v.heap.content p id d
+
+  abbrev HostAfter : ℕ → ℕ → D → Type 0
+  HostAfter p id d = IsHostAt t.objects after w.heap.content p id d
+
+  -- a host object that is kept has the same id
+  host_stays : (p id : ℕ) (d : D) (is : HostBefore p id d) → Kept layouts begin is.word → HostAfter p id d
+  host_stays p id d is kept =
+      let now = done.kept is.word is.object kept is.in_heap in
+      record {
+        word = done.to is.word;
+        object = now.0;
+        in_table = is.in_table;
+        placed = placed_after layouts begin w.heap (roots_of w.roots) (has_host w.hosts) done place p is.word is.placed kept;
+        in_heap = now.1.0;
+        stands = host_moved layouts t.types done.to is.object now.0 id (moved_here is.object now.0 now.1.1) (spare_here is.word is.object is.in_heap) is.stands;
+      }
+
+  -- and one that is there was there
+  host_was_there : (p id : ℕ) (d : D) → HostAfter p id d → HostBefore p id d
+  host_was_there p id d is =
+      let was = placed_before layouts begin w.heap (roots_of w.roots) (has_host w.hosts) done place p is.word is.placed in
+      let there = c.holds.objects.placed p was.word was.placed in
+      let now = done.kept was.word there.object was.kept there.in_heap in
+      let same : now.0 ≡ is.object = same_Some now.0 is.object (sym now.1.0 ∙ ap (get w.heap.content) was.moves ∙ is.in_heap) in
+      record {
+        word = was.word;
+        object = there.object;
+        in_table = is.in_table;
+        placed = was.placed;
+        in_heap = there.in_heap;
+        stands = host_was layouts t.types done.to there.object now.0 id (moved_here there.object now.0 now.1.1) (spare_here was.word there.object there.in_heap)
+            (subst (λ (h : HeapObject). HostStands id h) (sym same) is.stands);
+      }
+
+  external_here : (p id : ℕ) (d : D) (is : HostBefore p id d) → IsExternal begin.heap is.word is.object
+  external_here p id d is = record { held = is.in_heap; kind = is.stands.kind }
+
+  id_here : (p id : ℕ) (d : D) (is : HostBefore p id d) → host_id is.object ≡ id
+  id_here p id d is = omega (arith, is.stands.id_is)
+
+  -- its value stays
+  value_stays : (p id : ℕ) (d : D) (is : HostBefore p id d) → Kept layouts begin is.word → get v.hosts id ≡ Some d → get w.hosts id ≡ Some d
+  value_stays p id d is kept held =
+      let stays : has_host w.hosts id ≡ has_host v.hosts id = done.hosts_kept id (λ q o external same.
+      let at_word : is.word ≡ q = c.can.collects.own_hosts is.word q is.object o (external_here p id d is) external (id_here p id d is ∙ sym same) in
+      subst (Kept layouts begin) at_word kept) in
+      part_value w.hosts v.hosts id d c.collects.values held (stays ∙ ap is_some held)
+
+  -- and is given back where the object isn't kept
+  value_lost : (p id : ℕ) (d : D) (is : HostBefore p id d) → (Kept layouts begin is.word → ⊥) → get w.hosts id ≡ Some d → ⊥
+  value_lost p id d is dropped found =
+      let lost : has_host w.hosts id ≡ false = ap (has_host w.hosts) (sym (id_here p id d is)) ∙ done.hosts_lost is.word is.object (external_here p id d is) dropped in
+      let there : has_host w.hosts id ≡ true = ap is_some found in
+      absurd (cc (sym there ∙ lost))
+
+  kept_at : (p word q : ℕ) → place p ≡ Some word → after p ≡ Some q → Kept layouts begin word
+  kept_at p word q placed is =
+      let was = placed_before layouts begin w.heap (roots_of w.roots) (has_host w.hosts) done place p q is in
+      subst (Kept layouts begin) (same_Some was.word word (sym was.placed ∙ placed)) was.kept
+
+  -- each value that is left is that of a host object that was kept
+  host_left : (p id : ℕ) (d : D) → HostBefore p id d → get w.hosts id ≡ Some d → HostAfter p id d
+  host_left p id d is found = by (after p) refl
+    where
+      by : (q : Option ℕ) → after p ≡ q → HostAfter p id d
+      by None none = absurd (value_lost p id d is
+          (λ kept. none-some (done.to is.word) (sym none ∙ placed_after layouts begin w.heap (roots_of w.roots) (has_host w.hosts) done place p is.word is.placed kept)) found)
+      by (Some q) placed = host_stays p id d is (kept_at p is.word q is.placed placed)
+
+  hosts_after : HostsBy t.objects after w.heap.content w.hosts
+  hosts_after = record {
+    each = λ p q d placed in_table.
+        let was = placed_before layouts begin w.heap (roots_of w.roots) (has_host w.hosts) done place p q placed in
+        let has = c.holds.hosts.each p was.word d was.placed in_table in
+        let kept = kept_at p has.is_at.word q has.is_at.placed placed in
+        record { id = has.id; is_at = host_stays p has.id d has.is_at kept; held = value_stays p has.id d has.is_at kept has.held };
+    only = λ id d found. let entry = c.holds.hosts.only id d (c.collects.values id d found) in (entry.0, host_left entry.0 id d entry.1 found);
+    apart = λ p q id d e is_p is_q. c.holds.hosts.apart p q id d e (host_was_there p id d is_p) (host_was_there q id e is_q);
   }
 
   present : StaysPresent done.to place after
@@ -142,7 +229,6 @@ module _ {D : Type 0} (layouts : Layouts) (s : StoreView D) (t : Table D) (place
   holds_collected : KindHolds layouts t after w.heap → Holds layouts (shown s collected) t after
   holds_collected kind =
       let nothing = c.holds.nothing_else in
-      let none : v.hosts ≡ empty = holds-no_hosts layouts (shown s v) t place c.holds in
       places_changed c.holds
       (record {
         made = done.attached ∙ sym c.attached ∙ c.holds.memory.made;
@@ -156,9 +242,9 @@ module _ {D : Type 0} (layouts : Layouts) (s : StoreView D) (t : Table D) (place
       frames_moved
       (globals-carried done.to place after t.globals v.roots.globals (λ r x among is. carried r x (kept_rooted x (global_rooted v.roots x among)) is) c.holds.globals)
       (subst (λ (es : List OwnedEntry). OwnedBy after t.owns s.owns t.owned es) (sym owned_same) (owned-none place after t.owns s.owns t.owned v.roots.owned nothing.owned c.holds.owned))
-      (pending-carried done.to place after t.pending v.roots.pending (λ r above is. carried r v.roots.pending (kept_rooted v.roots.pending (λ x. pending_rooted v.roots x)) is) present c.holds.pending)
-      (hosts-none t.objects after w.heap.content w.hosts nothing.hosts (part_has_none w.hosts v.hosts c.collects.values none))
-      (nothing-objects nothing nothing.hosts)
+      (thrown-carried done.to place after t.objects t.pending v.roots.pending (λ r above is. carried r v.roots.pending (kept_rooted v.roots.pending (λ x. pending_rooted v.roots x)) is) present c.holds.pending)
+      hosts_after
+      nothing
       c.holds.typed
 
   holds_after : KindHolds layouts t after w.heap → Holds layouts (shown s w) t after
@@ -169,7 +255,7 @@ module _ {D : Type 0} (layouts : Layouts) (s : StoreView D) (t : Table D) (place
   kept_after : (p word : ℕ) → after p ≡ Some word → IsKept layouts t p
   kept_after p word e =
       let was = placed_before layouts begin w.heap (roots_of w.roots) (has_host w.hosts) done place p word e in
-      kept_position layouts s v t place c.holds c.in_frames c.can.traced (has_host v.hosts) was.word was.kept p was.placed
+      kept_position layouts s v t place c.holds c.in_frames c.can.traced c.was_heap (has_host v.hosts) was.word was.kept p was.placed
 
   pub frames_after : SlotsInFrames w.roots
   frames_after =

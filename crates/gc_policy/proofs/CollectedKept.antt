@@ -12,8 +12,8 @@ use Rattle.gc_model.specs.Reach.{references_in, IsReached, IsKept}
 use Rattle.gc_view.specs.Heaps.{HeapObject}
 use Rattle.gc_model.specs.Stores.{StoreView}
 use Rattle.gc_model.specs.Holds.{Placing, IsWord, naming, Holds}
-use Rattle.gc_model.proofs.HeldObjects.{held_no_host}
 use Rattle.gc_model.proofs.Words.{word_names}
+use Rattle.gc_heap.specs.Content.{IsHeap}
 use Rattle.gc_heap.specs.References.{reference_offsets, references, word_in}
 use Rattle.gc_heap.specs.Collection.{Reached, by_root, by_field, Kept}
 use Rattle.gc_heap.proofs.SpacedLemmas.{contains_in, in_map}
@@ -44,29 +44,28 @@ module _ {D : Type 0} (layouts : Layouts) (s : StoreView D) (v : OwnerView D) (t
   traced_here word h got = subst (λ types. IsTraced layouts types h) holds.types (traced word h got)
 
   -- an object that the heap's roots reach is one that the table's roots reach
-  pub reached_position : (word : ℕ) → Reached layouts (start_from v.types.declarations v.heap (roots_of v.roots) hosts) word → (p : ℕ) → place p ≡ Some word → IsReached t p
-  reached_position word (by_root held r among is) p e =
+  pub reached_position : IsHeap layouts v.heap → (word : ℕ) → Reached layouts (start_from v.types.declarations v.heap (roots_of v.roots) hosts) word → (p : ℕ) → place p ≡ Some word → IsReached t p
+  reached_position heap word (by_root held r among is) p e =
       let found = listed_named layouts s v t place holds in_frames r among in
       let names : found.0 ≡ at p = word_names layouts t place v.heap holds.objects found.0 (at p) word (subst (IsWord place found.0) is found.1.1) e in
       reach.by_start (subst (λ (x : Reference). Contains (reach.root_references t) x) names found.1.0)
-  reached_position word (by_field held {from = from} reached o got among) p e =
+  reached_position heap word (by_field held {from = from} reached o got among) p e =
       let before = holds.objects.only from o got in
       let there = holds.objects.placed before.0 from before.1 in
       let both : Some there.object ≡ Some o = sym there.in_heap ∙ got in
       let same : there.object ≡ o = grind (arith, both) in
       let found = in_map (word_in layouts there.object) (reference_offsets layouts t.types there.object) word
       (contains_in (references layouts t.types there.object) word (subst (λ x. Contains (references layouts t.types x) word) (sym same) (subst (λ types. Contains (references layouts types o) word) holds.types among))) in
-      let not_host = held_no_host layouts (shown s v) t place holds before.0 there.entry there.in_table in
-      let named = reference_of_word layouts t.types (naming place t.funcs) there.entry there.object not_host there.stands (traced_here from there.object there.in_heap) found.0 found.1.0 in
+      let named = reference_of_word layouts t.types (naming place t.funcs) there.entry there.object there.stands (heap.objects from there.object there.in_heap).spare (traced_here from there.object there.in_heap) found.0 found.1.0 in
       let names : named.reference_is ≡ at p = word_names layouts t place v.heap holds.objects named.reference_is (at p) word (subst (IsWord place named.reference_is) found.1.1 named.is_word) e in
-      value_reached layouts (shown s v) t place holds before.0 there.entry (reached_position from reached before.0 before.1) there.in_table named.reference_is p names named.among
+      value_reached layouts (shown s v) t place holds before.0 there.entry (reached_position heap from reached before.0 before.1) there.in_table named.reference_is p names named.among
 
 -- What a collection of the heap keeps, one of the table keeps.
-pub kept_position : {D : Type 0} (layouts : Layouts) (s : StoreView D) (v : OwnerView D) (t : Table D) (place : Placing) → Holds layouts (shown s v) t place → SlotsInFrames v.roots → AreTraced layouts v.types.declarations v.heap → (hosts : ℕ → Bool) (word : ℕ) → Kept layouts (start_from v.types.declarations v.heap (roots_of v.roots) hosts) word
+pub kept_position : {D : Type 0} (layouts : Layouts) (s : StoreView D) (v : OwnerView D) (t : Table D) (place : Placing) → Holds layouts (shown s v) t place → SlotsInFrames v.roots → AreTraced layouts v.types.declarations v.heap → IsHeap layouts v.heap → (hosts : ℕ → Bool) (word : ℕ) → Kept layouts (start_from v.types.declarations v.heap (roots_of v.roots) hosts) word
     → (p : ℕ) → place p ≡ Some word → IsKept layouts t p
-kept_position Null s v t place holds in_frames traced hosts word kept p e = let there = holds.objects.placed p word e in slice_get_within t.objects p there.entry there.in_table
-kept_position Counting s v t place holds in_frames traced hosts word kept p e = reached_position Counting s v t place holds in_frames traced hosts word kept p e
-kept_position Copying s v t place holds in_frames traced hosts word kept p e = reached_position Copying s v t place holds in_frames traced hosts word kept p e
+kept_position Null s v t place holds in_frames traced heap hosts word kept p e = let there = holds.objects.placed p word e in slice_get_within t.objects p there.entry there.in_table
+kept_position Counting s v t place holds in_frames traced heap hosts word kept p e = reached_position Counting s v t place holds in_frames traced hosts heap word kept p e
+kept_position Copying s v t place holds in_frames traced heap hosts word kept p e = reached_position Copying s v t place holds in_frames traced hosts heap word kept p e
 
 module _ {D : Type 0} (s : StoreView D) (t : Table D) (place : Placing) where
   -- What a collection of the table keeps is placed.

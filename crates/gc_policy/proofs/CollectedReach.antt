@@ -8,7 +8,7 @@ use Rattle.gc_types.specs.Layouts.{struct_base, is_gc_storage, storage_width}
 use Rattle.gc_memory.specs.Lists.{In}
 use Rattle.gc_owner.specs.declared.entry.GcClass.{GcClass}
 use Rattle.gc_owner.specs.Tracing.{IsTraced}
-use Rattle.gc_model.specs.Values.{Reference, Value, numeric, function, reference, Object}
+use Rattle.gc_model.specs.Values.{Reference, Value, numeric, function, reference, Object, struct, array, host, exception}
 use Rattle.gc_model.specs.Reach.{value_references, object_values, references_in, IsHost}
 use Rattle.gc_view.specs.Bytes.{u32_at}
 use Rattle.gc_view.specs.Heaps.{HeapObject}
@@ -17,7 +17,9 @@ use Rattle.gc_model.specs.Holds.{Placing, IsWord, Stands}
 use Rattle.gc_model.specs.Forms.{Names, LiesAs, storage_form, is_reference, number_at}
 use Rattle.gc_model.proofs.ReadingBack.{ReferenceAs, reference_lying, storage_reference, reference_class, reference_width}
 use Rattle.gc_model.proofs.ObjectStands.{stands_by_shape, shape_slot_value, value_lying}
+use Rattle.gc_heap.specs.Content.{IsSpare}
 use Rattle.gc_heap.specs.References.{reference_offsets, word_in}
+use Rattle.gc_heap.proofs.AgainLemmas.{external_offsets}
 use Rattle.gc_heap.proofs.SpacedLemmas.{only_item}
 use Rattle.gc_policy.proofs.CollectedLists.{contains_one, contains_flat, flat_contains}
 use Rattle.gc_policy.proofs.CollectedOffsets.{ref_slot, traced_slots}
@@ -77,9 +79,9 @@ word_of_value place values index value word e lies = record {
 }
 
 -- each word that a collection follows in a traced object is that of one of its values
-pub reference_of_word : {D : Type 0} (layouts : Layouts) (types : List Declaration) (names : Names) (o : Object D) (h : HeapObject) → ¬ IsHost (Some o) → Stands layouts types names o h → IsTraced layouts types h
+reference_of_shape : {D : Type 0} (layouts : Layouts) (types : List Declaration) (names : Names) (o : Object D) (h : HeapObject) → ¬ IsHost (Some o) → Stands layouts types names o h → IsTraced layouts types h
     → (offset : ℕ) → In offset (reference_offsets layouts types h) → ReferenceOfWord names.place (object_values o) (word_in layouts h offset)
-reference_of_word layouts types names o h not_host stands traced offset i =
+reference_of_shape layouts types names o h not_host stands traced offset i =
     let by = stands_by_shape layouts types names o h not_host stands in
     let slots : List StorageSlot = shape_slots layouts by.stands.shape by.stands.count in
     let r = ref_slot slots offset ((traced_slots layouts types names o h not_host stands traced by).there offset i) in
@@ -88,3 +90,13 @@ reference_of_word layouts types names o h not_host stands traced offset i =
     let lies : AnyLies names.place value.0 word =
     followed_lies names r.slot.storage value.0 h.bytes (r.slot.offset - struct_base layouts) r.is_reference (by.stands.values_lie.each r.index r.slot value.0 r.slot_is value.1) in
     subst (λ x. ReferenceOfWord names.place (object_values o) (word_in layouts h x)) r.at (word_of_value names.place (object_values o) r.index value.0 word value.1 lies)
+
+-- also in an external object, which has none
+pub reference_of_word : {D : Type 0} (layouts : Layouts) (types : List Declaration) (names : Names) (o : Object D) (h : HeapObject) → Stands layouts types names o h → IsSpare layouts h → IsTraced layouts types h
+    → (offset : ℕ) → In offset (reference_offsets layouts types h) → ReferenceOfWord names.place (object_values o) (word_in layouts h offset)
+reference_of_word {D} layouts types names (struct ty values) h stands spare traced offset i = reference_of_shape {D = D} layouts types names (struct ty values) h (λ is. is) stands traced offset i
+reference_of_word {D} layouts types names (array ty values) h stands spare traced offset i = reference_of_shape {D = D} layouts types names (array ty values) h (λ is. is) stands traced offset i
+reference_of_word {D} layouts types names (host value) h stands spare traced offset i =
+    let none : In offset [] = subst (λ (offsets : List ℕ). In offset offsets) (external_offsets layouts types h stands.1.kind spare) i in
+    elim none [ ]
+reference_of_word {D} layouts types names (exception ty tag values) h stands spare traced offset i = reference_of_shape {D = D} layouts types names (exception ty tag values) h (λ is. is) stands traced offset i

@@ -4,10 +4,10 @@ use Rattle.std.specs.List.{flat_map}
 use Rattle.std.proofs.lemmas.List.{length-map}
 use Rattle.gc_owner.specs.declared.entry.RootEntry.{RootEntry}
 use Rattle.gc_owner.specs.declared.entry.SlotEntry.{SlotEntry}
-use Rattle.gc_model.specs.Values.{Reference}
+use Rattle.gc_model.specs.Values.{Reference, Object}
 use Rattle.gc_model.specs.Table.{Scoped, Push, Slot}
 use Rattle.gc_model.specs.Words.{Placing, IsWord}
-use Rattle.gc_model.specs.RootPoints.{ScopedBy, SlotsBy, FramesBy, GlobalsBy, PendingBy}
+use Rattle.gc_model.specs.RootPoints.{ScopedBy, SlotsBy, FramesBy, GlobalsBy, PendingBy, ThrownBy}
 use Rattle.gc_heap.specs.Collection.{moved}
 use Rattle.gc_policy.proofs.CollectedLists.{get_contains, flat_contains, map_get, map_source}
 use Rattle.gc_policy.proofs.Frames.{words_of}
@@ -68,6 +68,10 @@ module _ (to : ℕ → ℕ) (place place' : Placing) where
   pub globals-carried : (globals : List Slot) (entries : List SlotEntry) → Carried (map (λ (e : SlotEntry). e.word) entries) → GlobalsBy place globals entries → GlobalsBy place' globals (map moved_slot entries)
   globals-carried globals entries carried by = record { count = by.count; slots = slots-carried globals entries carried by.slots }
 
-  pub pending-carried : (pending : Option Reference) (word : ℕ) → ((r : Reference) → 0 < word → IsWord place r word → IsWord place' r (moved to word)) → StaysPresent → PendingBy place pending word → PendingBy place' pending (moved to word)
+  pending-carried : (pending : Option Reference) (word : ℕ) → ((r : Reference) → 0 < word → IsWord place r word → IsWord place' r (moved to word)) → StaysPresent → PendingBy place pending word → PendingBy place' pending (moved to word)
   pending-carried None word carried present by = ap (moved to) by
   pending-carried (Some r) word carried present by = let is = carried r by.1 by.0 in (is, present r word by.1 by.0 is)
+
+  pub thrown-carried : {D : Type 0} (objects : List (Object D)) (pending : Option Reference) (word : ℕ) → ((r : Reference) → 0 < word → IsWord place r word → IsWord place' r (moved to word)) → StaysPresent
+      → ThrownBy objects place pending word → ThrownBy objects place' pending (moved to word)
+  thrown-carried objects pending word carried present by = record { same_word = pending-carried pending word carried present by.same_word; thrown = by.thrown }

@@ -1,9 +1,11 @@
 -- The values of an object lie in it after its references were moved.
-use Rattle.std.proofs.Common.{◌≡◌, ◌≢◌, ℕ, ◌+◌, ◌-◌, ◌<◌, ◌≤◌, inl, inr, true, false, List, Option, Some, Contains, refl, sym, ap, ◌∙◌, subst, arith}
+use Rattle.std.proofs.Common.{◌≡◌, ◌≢◌, ℕ, ◌+◌, ◌-◌, ◌<◌, ◌≤◌, inl, inr, true, false, List, [], Option, Some, Contains, refl, sym, ap, ◌∙◌, subst, arith}
 use Rattle.std.specs.List.{slice_get}
+use Rattle.std.proofs.lemmas.List.{same_lists}
 use Rattle.gc_types.specs.declared.value.Func.{Func}
 use Rattle.gc_types.specs.declared.value.StorageType.{StorageType}
 use Rattle.gc_types.specs.declared.kind.Layouts.{Layouts}
+use Rattle.gc_types.specs.declared.kind.VMGcKind.TheVariants.{ExternRef}
 use Rattle.gc_types.specs.Declarations.{Declaration, Shape}
 use Rattle.gc_types.specs.Layouts.{struct_base, storage_width, is_gc_storage}
 use Rattle.gc_memory.specs.Lists.{In}
@@ -12,16 +14,18 @@ use Rattle.gc_view.specs.Heaps.{HeapObject}
 use Rattle.gc_view.specs.Slots.{StorageSlot, AreSpaced, shape_slots, shape_first, shape_size, slot_offsets}
 use Rattle.gc_view.proofs.ByteLemmas.{u32_in_same}
 use Rattle.gc_view.proofs.SlotLemmas.{shape_spaced, first_behind, slot_range, slots_apart}
-use Rattle.gc_model.specs.Values.{Reference, Value, Object}
+use Rattle.gc_model.specs.Values.{Reference, Value, Object, struct, array, host, exception}
 use Rattle.gc_model.specs.Reach.{object_values, IsHost}
-use Rattle.gc_model.specs.Holds.{Placing, IsWord, naming, Stands}
+use Rattle.gc_model.specs.Holds.{Placing, IsWord, naming, HostStands, Stands}
 use Rattle.gc_model.specs.Forms.{value_form, is_reference, LiesAs, number_at}
 use Rattle.gc_model.specs.Standing.{ValuesLie}
 use Rattle.gc_model.proofs.ReadingBack.{storage_reference, reference_width, value_moved}
 use Rattle.gc_model.proofs.Encoding.{number_in_same}
 use Rattle.gc_model.proofs.ObjectStands.{with_values-own, stands_again}
 use Rattle.gc_heap.specs.References.{reference_offsets, references, word_in}
+use Rattle.gc_heap.specs.Content.{IsSpare}
 use Rattle.gc_heap.specs.Collection.{moved, IsNoReference, IsMoved}
+use Rattle.gc_heap.proofs.AgainLemmas.{external_offsets}
 use Rattle.gc_heap.proofs.SpacedLemmas.{contains_in, in_contains, map_in, ref_width}
 use Rattle.gc_owner.specs.Tracing.{IsTraced}
 use Rattle.gc_owner.proofs.FollowedOffsets.{SameElements}
@@ -104,11 +108,11 @@ module _ (layouts : Layouts) (types : List Declaration) (to : ℕ → ℕ) (old 
           lies_moved i slot e (omega (arith, behind i slot e, (slot_range from end slots spaced i slot e).low)) value (lie.each i slot value e f);
     }
 
--- An object of the table is that object still, where what stood for it was moved.
-pub stands_moved : {D : Type 0} (layouts : Layouts) (types : List Declaration) (to : ℕ → ℕ) (old new : HeapObject) (place place' : Placing) (funcs : List (Option Func)) → IsMoved layouts types to old new → IsTraced layouts types old
+-- An object with values is that object still, where what stood for it was moved.
+shape_moved : {D : Type 0} (layouts : Layouts) (types : List Declaration) (to : ℕ → ℕ) (old new : HeapObject) (place place' : Placing) (funcs : List (Option Func)) → IsMoved layouts types to old new → IsTraced layouts types old
     → ((r : Reference) (w : ℕ) → Contains (references layouts types old) w → IsWord place r w → IsWord place' r (moved to w))
     → (o : Object D) → ¬ IsHost (Some o) → Stands layouts types (naming place funcs) o old → Stands layouts types (naming place' funcs) o new
-stands_moved {D} layouts types to old new place place' funcs is_moved traced carried o not_host stands =
+shape_moved {D} layouts types to old new place place' funcs is_moved traced carried o not_host stands =
     subst (λ (x : Object D). Stands layouts types (naming place' funcs) x new) (with_values-own o)
     (stands_again layouts types types (naming place funcs) (naming place' funcs) (object_values o) old new is_moved.kind o not_host refl
     (λ by.
@@ -131,3 +135,36 @@ stands_moved {D} layouts types to old new place place' funcs is_moved traced car
       front = front_kept layouts types to old new is_moved (shape_first layouts shape) (shape_size layouts shape by.stands.count) slots spaced offsets_are;
     })
     stands)
+
+-- an external object has no references, so its bytes are as they were
+pub host_bytes : (layouts : Layouts) (types : List Declaration) (to : ℕ → ℕ) (old new : HeapObject) → IsMoved layouts types to old new → IsSpare layouts old → old.kind ≡ ExternRef → new.bytes ≡ old.bytes
+host_bytes layouts types to old new is_moved spare external =
+    let none = external_offsets layouts types old external spare in
+    same_lists _ _ is_moved.size (λ at d below. is_moved.rest at d (λ offset among.
+    let nothing : Contains [] offset = subst (λ offsets. Contains offsets offset) none among in
+    absurd (omega (arith, nothing.1))))
+
+-- and it is that of the same host value
+pub host_moved : (layouts : Layouts) (types : List Declaration) (to : ℕ → ℕ) (old new : HeapObject) (id : ℕ) → IsMoved layouts types to old new → IsSpare layouts old → HostStands id old → HostStands id new
+host_moved layouts types to old new id is_moved spare is = record {
+  kind = is_moved.kind ∙ is.kind;
+  id_is = ap (λ (bytes : List ℕ). u32_at bytes 0) (host_bytes layouts types to old new is_moved spare is.kind) ∙ is.id_is;
+}
+
+-- as it was before
+pub host_was : (layouts : Layouts) (types : List Declaration) (to : ℕ → ℕ) (old new : HeapObject) (id : ℕ) → IsMoved layouts types to old new → IsSpare layouts old → HostStands id new → HostStands id old
+host_was layouts types to old new id is_moved spare is =
+    let external : old.kind ≡ ExternRef = sym is_moved.kind ∙ is.kind in
+    record { kind = external; id_is = ap (λ (bytes : List ℕ). u32_at bytes 0) (sym (host_bytes layouts types to old new is_moved spare external)) ∙ is.id_is }
+
+-- An object of the table is that object still, where what stood for it was moved.
+pub stands_moved : {D : Type 0} (layouts : Layouts) (types : List Declaration) (to : ℕ → ℕ) (old new : HeapObject) (place place' : Placing) (funcs : List (Option Func)) → IsMoved layouts types to old new → IsSpare layouts old → IsTraced layouts types old
+    → ((r : Reference) (w : ℕ) → Contains (references layouts types old) w → IsWord place r w → IsWord place' r (moved to w))
+    → (o : Object D) → Stands layouts types (naming place funcs) o old → Stands layouts types (naming place' funcs) o new
+stands_moved {D} layouts types to old new place place' funcs is_moved spare traced carried (struct ty values) stands =
+    shape_moved {D = D} layouts types to old new place place' funcs is_moved traced carried (struct ty values) (λ is. is) stands
+stands_moved {D} layouts types to old new place place' funcs is_moved spare traced carried (array ty values) stands =
+    shape_moved {D = D} layouts types to old new place place' funcs is_moved traced carried (array ty values) (λ is. is) stands
+stands_moved {D} layouts types to old new place place' funcs is_moved spare traced carried (host value) stands = (stands.0, host_moved layouts types to old new stands.0 is_moved spare stands.1)
+stands_moved {D} layouts types to old new place place' funcs is_moved spare traced carried (exception ty tag values) stands =
+    shape_moved {D = D} layouts types to old new place place' funcs is_moved traced carried (exception ty tag values) (λ is. is) stands

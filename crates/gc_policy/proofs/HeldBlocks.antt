@@ -7,17 +7,19 @@ use Rattle.gc_types.specs.declared.kind.Layouts.{Layouts}
 use Rattle.gc_types.specs.declared.kind.Layouts.TheVariants.{Null, Counting, Copying}
 use Rattle.gc_types.specs.declared.kind.VMGcKind.{VMGcKind}
 use Rattle.gc_types.specs.declared.kind.VMGcKind.TheVariants.{ExternRef, AnyRef, EqRef, StructRef, ArrayRef, ExnRef}
+use Rattle.gc_types.specs.Declarations.{Declaration}
 use Rattle.gc_types.specs.Layouts.{struct_base, round_up}
 use Rattle.gc_model.specs.Table.{Table}
-use Rattle.gc_view.specs.Sizes.{stored_size}
+use Rattle.gc_view.specs.Sizes.{stored_size, external_size}
 use Rattle.gc_model.specs.Sizes.{object_size}
-use Rattle.gc_model.specs.Reach.{AreAll}
+use Rattle.gc_model.specs.Values.{Object, struct, array, host, exception}
+use Rattle.gc_model.specs.Reach.{AreAll, IsHost}
 use Rattle.gc_view.specs.Pages.{page}
 use Rattle.gc_view.specs.Heaps.{HeapObject}
 use Rattle.gc_view.specs.Slots.{shape_size}
 use Rattle.gc_model.specs.Stores.{StoreView}
-use Rattle.gc_model.specs.Holds.{Placing, naming, Holds}
-use Rattle.gc_model.proofs.HeldObjects.{held_no_host, object_held}
+use Rattle.gc_model.specs.Holds.{Placing, Names, naming, Stands, Holds}
+use Rattle.gc_model.proofs.HeldObjects.{object_held}
 use Rattle.gc_model.proofs.ObjectShapes.{object_size_is}
 use Rattle.gc_model.proofs.ObjectStands.{stands_by_shape}
 use Rattle.gc_heap.specs.Extents.{HasFields}
@@ -45,19 +47,31 @@ fields_size layouts StructRef n fields = refl
 fields_size layouts ArrayRef n fields = refl
 fields_size layouts ExnRef n fields = refl
 
+-- what stands for an object with values takes as many bytes, to the next multiple of 16, as its type and its values say
+shape_block : {D : Type 0} (layouts : Layouts) (types : List Declaration) (names : Names) (o : Object D) (h : HeapObject) → ¬ IsHost (Some o) → Stands layouts types names o h → block_of layouts types (Some o) ≡ block_size layouts h
+shape_block layouts types names o h not_host stands =
+    let by = stands_by_shape layouts types names o h not_host stands in
+    let size : object_size layouts types o ≡ shape_size layouts by.stands.shape by.stands.count =
+    object_size_is layouts types o by.stands.shape by.of_shape ∙ ap (shape_size layouts by.stands.shape) by.stands.counted in
+    let block : block_size layouts h ≡ round_up (struct_base layouts + length h.bytes) 16 =
+    ap (λ n. round_up n 16) (fields_size layouts h.kind (length h.bytes) (stands_fields layouts types names o h not_host stands)) in
+    ap (λ n. round_up n 16) size
+    ∙ sym (block ∙ ap (λ n. round_up n 16) by.stands.size ∙ stored_again layouts (shape_size layouts by.stands.shape by.stands.count))
+
+-- and so does an external object
+object_block : {D : Type 0} (layouts : Layouts) (types : List Declaration) (names : Names) (o : Object D) (h : HeapObject) → Stands layouts types names o h → block_of layouts types (Some o) ≡ block_size layouts h
+object_block {D} layouts types names (struct ty values) h stands = shape_block {D = D} layouts types names (struct ty values) h (λ is. is) stands
+object_block {D} layouts types names (array ty values) h stands = shape_block {D = D} layouts types names (array ty values) h (λ is. is) stands
+object_block {D} layouts types names (host value) h stands =
+    sym (ap (λ (k : VMGcKind). round_up (size_with layouts k (length h.bytes)) 16) stands.1.kind ∙ stored_again layouts (external_size layouts))
+object_block {D} layouts types names (exception ty tag values) h stands = shape_block {D = D} layouts types names (exception ty tag values) h (λ is. is) stands
+
 -- An object takes as many bytes, to the next multiple of 16, as its type and its values say.
 pub held_block : {D : Type 0} (layouts : Layouts) (s : StoreView D) (t : Table D) (place : Placing) → Holds layouts s t place → (p word : ℕ) (h : HeapObject) → place p ≡ Some word → get s.heap.content word ≡ Some h → block_at layouts t p ≡ block_size layouts h
 held_block layouts s t place holds p word h placed got =
     let there = holds.objects.placed p word placed in
-    let not_host = held_no_host layouts s t place holds p there.entry there.in_table in
-    let stands = object_held layouts s t place holds p word there.entry h placed got there.in_table in
-    let by = stands_by_shape layouts t.types (naming place t.funcs) there.entry h not_host stands in
-    let size : object_size layouts t.types there.entry ≡ shape_size layouts by.stands.shape by.stands.count =
-    object_size_is layouts t.types there.entry by.stands.shape by.of_shape ∙ ap (shape_size layouts by.stands.shape) by.stands.counted in
-    let block : block_size layouts h ≡ round_up (struct_base layouts + length h.bytes) 16 =
-    ap (λ n. round_up n 16) (fields_size layouts h.kind (length h.bytes) (stands_fields layouts t.types (naming place t.funcs) there.entry h not_host stands)) in
-    ap (block_of layouts t.types) there.in_table ∙ ap (λ n. round_up n 16) size
-    ∙ sym (block ∙ ap (λ n. round_up n 16) by.stands.size ∙ stored_again layouts (shape_size layouts by.stands.shape by.stands.count))
+    ap (block_of layouts t.types) there.in_table
+    ∙ object_block layouts t.types (naming place t.funcs) there.entry h (object_held layouts s t place holds p word there.entry h placed got there.in_table)
 
 -- sums over two lists that have the same positions, each once
 same_positions : (f : ℕ → ℕ) (IsIn : ℕ → Type 0) (xs ys : List ℕ) → AreAll IsIn xs → AreAll IsIn ys → sum_by f xs ≡ sum_by f ys

@@ -24,3 +24,5 @@ pub mod MakingSimulation
 pub mod RetrySimulation
 pub mod RootsShown
 pub mod Simulation
+pub mod HostRetry
+pub mod HeldHosts

@@ -145,7 +145,7 @@ module _ {D : Type 0} (layouts : Layouts) (s : StoreView D) (t : Table D) (place
   globals_named = slots_named place t.globals s.globals holds.globals.slots
 
   pending_named : Names place (present t.pending) (s.pending ∷ [])
-  pending_named = pending-names place t.pending s.pending holds.pending
+  pending_named = pending-names place t.pending s.pending holds.pending.same_word
 
   -- what a root of the table names has a word
   pub root_word : (r : Reference) → Contains (root_references t) r → (w : ℕ) × IsWord place r w

@@ -1,4 +1,5 @@
 pub mod Accounts
 pub mod Collects
+pub mod HostMaking
 pub mod Policy
 pub mod Shown
