@@ -16,6 +16,7 @@ pub mod KeptAgain
 pub mod Leaving
 pub mod LyingAt
 pub mod MakingRoom
+pub mod PendingLemmas
 pub mod NewObjects
 pub mod Placing
 pub mod PlacingFaults
@@ -26,4 +27,9 @@ pub mod Roots
 pub mod SameRoots
 pub mod SlotLemmas
 pub mod Sound
+pub mod TagLemmas
+pub mod Preparing
+pub mod HostPlacing
+pub mod HostReads
+pub mod HostChanges
 pub mod WritingAt

@@ -1,16 +1,21 @@
 -- What is made where an object is requested: its shape, its size, and slots that are 0.
-use Rattle.std.proofs.Common.{◌≡◌, ℕ, zero, suc, ◌+◌, ◌-◌, ◌^◌, ◌<◌, ◌≤◌, List, [], ◌∷◌, ◌++◌, length, take, drop, replicate, Some, refl, sym, ap, ◌∙◌, arith}
+use Rattle.std.proofs.Common.{◌≡◌, ℕ, zero, suc, ◌+◌, ◌-◌, ◌^◌, ◌<◌, ◌≤◌, List, [], ◌∷◌, ◌++◌, length, map, take, drop, replicate, Some, refl, sym, ap, ◌∙◌, arith}
 use Rattle.std.specs.Prelude.{option_map}
 use Rattle.std.specs.Int.{w32, to_le_bytes}
 use Rattle.std.specs.List.{slice_get}
+use Rattle.std.specs.FinMap.{get}
+use Rattle.std.proofs.lemmas.Option.{same_Some}
 use Rattle.std.proofs.lemmas.List.{length-append, length-replicate, drop-replicate, take-replicate}
 use Rattle.std.proofs.lemmas.Nat.{from_le_bytes-to_le_bytes_4}
 use Rattle.gc_types.specs.declared.value.FieldType.{FieldType}
 use Rattle.gc_types.specs.declared.kind.Layouts.{Layouts}
 use Rattle.gc_types.specs.declared.kind.Layouts.TheVariants.{Null, Counting, Copying}
-use Rattle.gc_types.specs.Declarations.{Declaration, Shape, struct_of, array_of, struct_fields_at, elem_at}
-use Rattle.gc_types.specs.Layouts.{struct_base, array_base, storage_width, struct_layout, array_layout, fields_end, layout_at, array_layout_at}
-use Rattle.gc_view.specs.Heaps.{HeapObject}
+use Rattle.gc_types.specs.Declarations.{Declaration, Shape, struct_of, array_of, exn_of, constant_field, struct_fields_at, elem_at}
+use Rattle.gc_types.specs.Layouts.{struct_base, array_base, exception_base, storage_width, struct_layout, exn_layout, array_layout, fields_end, layout_at, array_layout_at}
+use Rattle.gc_types.specs.declared.kind.VMGcKind.TheVariants.{ExnRef}
+use Rattle.gc_types.specs.declared.value.Tag.{Tag}
+use Rattle.gc_types.specs.declared.value.ValType.{ValType}
+use Rattle.gc_view.specs.Heaps.{HeapObject, HeapView}
 use Rattle.gc_view.specs.Sizes.{stored_size}
 use Rattle.gc_view.specs.Slots.{shape_slots, shape_first, shape_size, elements_from}
 use Rattle.gc_view.proofs.Layouts.{stored_size-le, fields_end-le, round_up-le, storage_width_positive}
@@ -21,12 +26,24 @@ use Rattle.gc_owner.specs.Owners.{OwnerView}
 use Rattle.gc_model.proofs.ObjectShapes.{shape_at, struct_shape, array_shape}
 use Rattle.gc_store.specs.declared.request.Place.{Place}
 use Rattle.gc_store.specs.declared.request.Place.TheVariants as place
-use Rattle.gc_store.specs.Filling.{AreBlank, asked_type}
+use Rattle.gc_store.specs.Filling.{AreBlank, asked_type, IsOfAskedKind}
 use Rattle.gc_store.specs.HeldSlots.{HasShape}
 use Rattle.gc_store.specs.Making.{IsSizeOf, described_by}
 use Rattle.gc_store.proofs.ShapeSlots.{laid_out}
 
 -- What is made for a request, by the types.
+-- an exception that is requested is one
+abbrev pub HasAskedKind : Place → HeapObject → Type 0
+HasAskedKind (place.Struct ty) o = Unit {0}
+HasAskedKind (place.Exn ty tag) o = o.kind ≡ ExnRef
+HasAskedKind (place.Array ty count) o = Unit {0}
+
+-- so it is where it was made
+pub asked_kind : (request : Place) (h : HeapView) (p : ℕ) (o : HeapObject) → get h.content p ≡ Some o → HasAskedKind request o → IsOfAskedKind request h p
+asked_kind (place.Struct ty) h p o held kind = tt
+asked_kind (place.Exn ty tag) h p o held kind = λ x e. ap (λ (y : HeapObject). y.kind) (same_Some x o (sym e ∙ held)) ∙ kind
+asked_kind (place.Array ty count) h p o held kind = tt
+
 pub record IsNew (D : Type 0) (layouts : Layouts) (types : List Declaration) (request : Place) : Type 0 where
   pub shape : Shape
   pub declared : shape_at types (asked_type request) ≡ Some shape
@@ -37,6 +54,7 @@ pub record IsNew (D : Type 0) (layouts : Layouts) (types : List Declaration) (re
   pub is_size : IsSizeOf layouts types request (shape_size layouts shape count)
   pub stored : struct_base layouts + length blank.bytes ≡ stored_size layouts (shape_size layouts shape count)
   pub are_blank : AreBlank (struct_base layouts) (shape_slots layouts shape count) blank.bytes
+  pub of_kind : HasAskedKind request blank
   pub described : (v : OwnerView D) → v.types.declarations ≡ types → Describes layouts v (described_by request) blank (shape_size layouts shape count)
 
 drop_behind : (xs ys : List ℕ) (n : ℕ) → length xs ≤ n → drop n (xs ++ ys) ≡ drop (n - length xs) ys
@@ -89,8 +107,41 @@ new_struct_is D layouts types ty fields declared =
       has = refl;
       is_size = (struct_layout layouts fields, (laid, refl));
       stored = omega (arith, length-replicate {A = ℕ} zeros 0, least, base);
+      of_kind = tt;
       are_blank = zeros_lie layouts (struct_of fields) 0 [] zeros (omega arith) (omega (arith, least, base));
       described = λ v types_are. (struct_layout layouts fields, (ap (λ (ts : List Declaration). layout_at layouts ts ty) types_are ∙ laid, (refl, refl)));
+    }
+
+-- an exception
+pub exception_base_is : (layouts : Layouts) → exception_base layouts ≡ struct_base layouts + 8
+exception_base_is Null = refl
+exception_base_is Counting = refl
+exception_base_is Copying = refl
+
+abbrev pub exn_size_of : (layouts : Layouts) (types : List Declaration) (ty : ℕ) (tag : Tag) (params : List ValType) → shape_at types ty ≡ Some (exn_of params) → (size : ℕ) × IsSizeOf layouts types (place.Exn ty tag) size
+exn_size_of layouts types ty tag params declared =
+    (fields_end (exception_base layouts) (map constant_field params), (exn_layout layouts params, (laid_out layouts (slice_get types ty) (exn_of params) declared, refl)))
+
+abbrev pub new_exn_is : (D : Type 0) (layouts : Layouts) (types : List Declaration) (ty : ℕ) (tag : Tag) (params : List ValType) → shape_at types ty ≡ Some (exn_of params) → IsNew D layouts types (place.Exn ty tag)
+new_exn_is D layouts types ty tag params declared =
+    let size : ℕ = fields_end (exception_base layouts) (map constant_field params) in
+    let zeros : ℕ = stored_size layouts size - struct_base layouts in
+    let least = stored_size-le layouts size in
+    let base = fields_end-le (exception_base layouts) (map constant_field params) in
+    let front = exception_base_is layouts in
+    let laid : layout_at layouts types ty ≡ Some (exn_layout layouts params) = laid_out layouts (slice_get types ty) (exn_of params) declared in
+    record {
+      shape = exn_of params;
+      declared = declared;
+      count = 0;
+      blank = new_struct layouts ty (exn_layout layouts params);
+      of_type = refl;
+      has = refl;
+      is_size = (exn_layout layouts params, (laid, refl));
+      stored = omega (arith, length-replicate {A = ℕ} zeros 0, least, base, front);
+      of_kind = refl;
+      are_blank = zeros_lie layouts (exn_of params) 0 [] zeros (omega (arith, front)) (omega (arith, least, base, front));
+      described = λ v types_are. (exn_layout layouts params, (ap (λ (ts : List Declaration). layout_at layouts ts ty) types_are ∙ laid, (refl, refl)));
     }
 
 -- an array
@@ -113,6 +164,7 @@ new_array_is D layouts types ty count element few declared =
       has = (refl, sym (from_le_bytes-to_le_bytes_4 count few));
       is_size = (layout, (laid, refl));
       stored = omega (arith, long, least, base, first);
+      of_kind = tt;
       are_blank = zeros_lie layouts (array_of element) count (to_le_bytes w32 count) zeros (omega (arith, base)) (omega (arith, least, base, first));
       described = λ v types_are. (layout, (ap (λ (ts : List Declaration). array_layout_at layouts ts ty) types_are ∙ laid, (few, (refl, refl))));
     }

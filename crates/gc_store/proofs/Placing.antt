@@ -5,7 +5,8 @@ use Rattle.std.proofs.lemmas.List.{length-append}
 use Rattle.std.proofs.lemmas.Option.{slice_get_within}
 use Rattle.gc_types.specs.declared.kind.Layouts.{Layouts}
 use Rattle.gc_types.specs.declared.kind.Layouts.TheVariants.{Null, Counting, Copying}
-use Rattle.gc_types.specs.Declarations.{Declaration, TypeTable}
+use Rattle.gc_types.specs.declared.kind.VMGcKind.TheVariants.{ArrayRef, ExnRef}
+use Rattle.gc_types.specs.Declarations.{Declaration, Shape, TypeTable, struct_of, array_of, exn_of, func_of}
 use Rattle.gc_types.specs.Layouts.{round_up, struct_base}
 use Rattle.gc_owner.specs.declared.entry.RootEntry.{RootEntry}
 use Rattle.gc_owner.specs.RootColumns.{with_scoped, with_room}
@@ -33,6 +34,7 @@ use Rattle.gc_heap.specs.Content.{IsHeap}
 use Rattle.gc_heap.specs.Heap.{IsTooLarge, allocated_after}
 use Rattle.gc_heap.proofs.NumberLemmas.{held_added}
 use Rattle.gc_model.proofs.ObjectShapes.{shape_at}
+use Rattle.gc_model.proofs.ObjectStands.{array_front}
 use Rattle.gc_policy.specs.Accounts.{Account, HoldsAccount, is_due, with_held}
 use Rattle.gc_policy.specs.Policy as policy
 use Rattle.gc_policy.specs.Policy.{PolicyState, policy_state, count_try, Prepares}
@@ -48,8 +50,9 @@ use Rattle.gc_store.specs.declared.root.GcRootIndex.{GcRootIndex}
 use Rattle.gc_store.specs.declared.root.RawValue.{RawValue}
 use Rattle.gc_store.specs.declared.root.RawValue.TheVariants as raw
 use Rattle.gc_store.specs.declared.root.RootSlot.TheVariants as slot
-use Rattle.gc_store.specs.Filling.{asked_type, ContentsFit, ContentsStand, Fills, IsToFill}
-use Rattle.gc_store.specs.HeldSlots.{IsHeldOf}
+use Rattle.gc_store.specs.declared.request.Place.TheVariants as place
+use Rattle.gc_store.specs.Filling.{asked_type, front_of, ContentsFit, ContentsStand, FillsBy, IsToFill}
+use Rattle.gc_store.specs.HeldSlots.{HasShape}
 use Rattle.gc_store.specs.Kept.{IsKept, KeptStands}
 use Rattle.gc_store.specs.Making.{BeginsMaking}
 use Rattle.gc_store.specs.Places.{PlacesObject}
@@ -57,10 +60,9 @@ use Rattle.gc_store.specs.Stores.{is_full}
 use Rattle.gc_store.specs.Values.{RawStands}
 use Rattle.gc_store.proofs.Keeping.{counts_of, Keeps, keeps-making, keeps-retried, keeps-trans}
 use Rattle.gc_store.proofs.KeptAgain.{is_kept_more, kept_again, stands_more}
-use Rattle.gc_store.proofs.NewObjects.{IsNew}
+use Rattle.gc_store.proofs.NewObjects.{IsNew, HasAskedKind}
 use Rattle.gc_store.proofs.Pushing.{full_is}
-use Rattle.gc_store.proofs.Requested.{Asks, AsksFor, StandsFor}
-use Rattle.gc_store.proofs.Rewriting.{held_again}
+use Rattle.gc_store.proofs.Requested.{Asks, AsksFor, HasAskedFront, StandsFor}
 use Rattle.gc_store.proofs.WritingAt.{is_kept, kept_stands, raw_form_is}
 
 -- the entry of a new root
@@ -101,13 +103,27 @@ raw_after s after t pages engine number (raw.Ref class (Some handle)) v stands =
   is = stands.is;
 }
 
+-- An object that got its values, and an exception its tag, is of the shape still.
+shape_after : (layouts : Layouts) (request : Place) (shape : Shape) (o : HeapObject) (b : List ℕ) (n : ℕ) → HasAskedKind request o → front_of layouts request shape o.bytes b → HasShape o shape n → HasShape (record o { bytes = b }) shape n
+shape_after layouts request (struct_of fields) o b n kind front has = has
+shape_after layouts (place.Struct ty) (array_of element) o b n kind front has = (has.0, has.1 ∙ sym (front 0 (array_front layouts (array_of element) refl)))
+shape_after layouts (place.Array ty count) (array_of element) o b n kind front has = (has.0, has.1 ∙ sym (front 0 (array_front layouts (array_of element) refl)))
+shape_after layouts (place.Exn ty tag) (array_of element) o b n kind front has = absurd (let both : ExnRef ≡ ArrayRef = sym kind ∙ has.0 in cc)
+shape_after layouts request (exn_of params) o b n kind front has = has
+shape_after layouts request (func_of params results) o b n kind front has = has
+
+asked_front : (layouts : Layouts) (request : Place) (shape : Shape) (before after : List ℕ) → front_of layouts request shape before after → HasAskedFront request after
+asked_front layouts (place.Struct ty) shape before after front = tt
+asked_front layouts (place.Exn ty tag) shape before after front = front
+asked_front layouts (place.Array ty count) shape before after front = tt
+
 -- One more object is in the owner's heap, with values that stand for what was given, and a root.
 pub record Creates {D : Type 0} (layouts : Layouts) (types : List Declaration) (request : Place) (given : Contents) (new : IsNew D layouts types request) (b e : OwnerState D) (index : ℕ) : Type 0 where
   pub mid : OwnerState D
   pub retried : Retry (owner_rules layouts (shape_size layouts new.shape new.count)) b true mid
   pub added : OwnerView D
   pub adds : AddsRooted layouts mid.owner added new.blank (shape_size layouts new.shape new.count) index
-  pub fills : Fills layouts (ContentsStand given) added e.owner adds.word new.blank new.shape new.count
+  pub fills : FillsBy layouts (front_of layouts request new.shape) (ContentsStand given) added e.owner adds.word new.blank new.shape new.count
   pub limits : e.limits ≡ mid.limits
 
 -- an owner that is ready, whose store holds a table
@@ -197,16 +213,10 @@ module _ {D : Type 0} (layouts : Layouts) (s : StoreView D) (v : OwnerView D) (r
         let added = made.adds.adds.added in
         let fills = made.fills in
         let bytes : List ℕ = fills.bytes in
-        let declared_there : shape_at made.added.types.declarations new.blank.ty ≡ Some new.shape =
-        ap (λ (x : OwnerView D). shape_at x.types.declarations new.blank.ty) made.adds.rest ∙ ap (λ (ts : TypeTable). shape_at ts.declarations new.blank.ty) (keeps-trans v b.owner made.mid.owner (keeps-making layouts s.first due start b begins) (keeps-retried layouts size b true made.mid made.retried)).types
-        ∙ ap (shape_at v.types.declarations) new.of_type ∙ new.declared in
-        let held : get made.added.heap.content word ≡ Some new.blank = held_added layouts made.mid.owner.heap made.added.heap word new.blank size made.adds.adds in
-        let now : IsHeldOf e.owner.types.declarations e.owner.heap word (record new.blank { bytes = bytes }) new.shape new.count =
-        held_again layouts new.shape made.added word new.blank held e.owner new.count bytes (record { held = held; declared = declared_there; has = new.has }) fills.rewrites in
+        let has_now : HasShape (record new.blank { bytes = bytes }) new.shape new.count = shape_after layouts request new.shape new.blank bytes new.count new.of_kind fills.rewrites.front new.has in
         record {
           object = record new.blank { bytes = bytes };
-          not_host = for.not_host;
-          stands = for.stands (naming place t.funcs) (record new.blank { bytes = bytes }) new.of_type now.has (ap (λ n. struct_base layouts + n) fills.rewrites.same_length ∙ new.stored)
+          stands = for.stands (naming place t.funcs) (record new.blank { bytes = bytes }) new.of_type has_now (asked_front layouts request new.shape new.blank.bytes bytes fills.rewrites.front) (ap (λ n. struct_base layouts + n) fills.rewrites.same_length ∙ new.stored)
               (fills.lie (naming place t.funcs) (object_values o) (for.contents (naming place t.funcs) made.added.roots.scoped (stand_after due b begins e index made pages place after)));
           typed = for.typed;
           free = made.adds.adds.fresh.free;
@@ -238,7 +248,7 @@ module _ {D : Type 0} (layouts : Layouts) (s : StoreView D) (v : OwnerView D) (r
           subst (λ (x : OwnerView D). HoldsAccount layouts (shown counted x) (make o (with_pages pages t)) (with_held (length t.objects) account)) (sym (owner_is b e index made))
           (record {
             place = placed_at after.place (length t.objects) word;
-            holds = holds_make layouts (shown counted made.mid.owner) (with_pages pages t) after.place o e.owner.heap word after.holds object refl not_full;
+            holds = holds_make layouts (shown counted made.mid.owner) (with_pages pages t) after.place o e.owner.heap word after.holds object for.not_host refl not_full;
             account = record {
               held = held_more after.place account.held (length t.objects) word (λ p w placed. let held = after.holds.objects.placed p w placed in slice_get_within t.objects p held.entry held.in_table) after.account.held;
               last = after.account.last;

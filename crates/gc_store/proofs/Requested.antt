@@ -1,37 +1,40 @@
 -- What an object is that is requested, and that what is given fits its slots and stands for its values.
-use Rattle.std.proofs.Common.{◌≡◌, ℕ, zero, suc, ◌+◌, ◌-◌, ◌*◌, ◌^◌, ◌<◌, ◌≤◌, false, Bor, List, [], ◌∷◌, length, map, replicate, Option, Some, None, refl, sym, ap, ◌∙◌, subst, arith, leb-false, mul-le-mul_left}
+use Rattle.std.proofs.Common.{◌≡◌, ℕ, zero, suc, ◌+◌, ◌-◌, ◌*◌, ◌^◌, ◌<◌, ◌≤◌, true, false, Bor, List, [], ◌∷◌, length, map, replicate, Option, Some, None, refl, sym, ap, ◌∙◌, subst, arith, leb-false, mul-le-mul_left}
 use Rattle.std.specs.List.{slice_get}
 use Rattle.std.specs.Prelude.{option_map, unwrap_or}
 use Rattle.std.proofs.lemmas.List.{length-map, length-replicate}
 use Rattle.std.proofs.lemmas.Option.{none-some, same_Some, slice_get_within}
 use Rattle.gc_types.specs.declared.value.FieldType.{FieldType}
 use Rattle.gc_types.specs.declared.value.StorageType.{StorageType}
+use Rattle.gc_types.specs.declared.value.Tag.{Tag}
+use Rattle.gc_types.specs.declared.value.ValType.{ValType}
 use Rattle.gc_types.specs.declared.value.StorageType.TheVariants as storage
 use Rattle.gc_types.specs.declared.kind.Layouts.{Layouts}
 use Rattle.gc_types.specs.declared.kind.Layouts.TheVariants.{Null, Counting, Copying}
-use Rattle.gc_types.specs.Declarations.{Declaration, Shape, struct_of, array_of, struct_fields_at, elem_at}
+use Rattle.gc_types.specs.Declarations.{Declaration, Shape, struct_of, array_of, exn_of, constant_field, struct_fields_at, elem_at}
 use Rattle.gc_types.specs.declared.layout.GcArrayLayout.{GcArrayLayout}
-use Rattle.gc_types.specs.Layouts.{array_layout, storage_width, struct_base}
+use Rattle.gc_types.specs.Layouts.{array_layout, storage_width, struct_base, exception_base, fields_end}
 use Rattle.gc_view.specs.Heaps.{HeapObject}
 use Rattle.gc_view.proofs.Layouts.{storage_width_positive}
 use Rattle.gc_view.specs.Sizes.{stored_size, too_large}
 use Rattle.gc_heap.specs.Heap.{array_size}
-use Rattle.gc_view.specs.Slots.{StorageSlot, element_slots, elements_from, shape_slots, shape_size}
+use Rattle.gc_view.specs.Slots.{StorageSlot, field_slots, element_slots, elements_from, shape_slots, shape_size}
 use Rattle.gc_view.proofs.SlotLemmas.{length-field_slots, length-element_slots}
 use Rattle.gc_owner.specs.declared.entry.RootEntry.{RootEntry}
-use Rattle.gc_model.specs.Values.{Value, numeric, i32, Object, struct, array}
+use Rattle.gc_model.specs.Values.{Value, numeric, i32, Object, struct, array, exception}
 use Rattle.gc_model.specs.Reach.{IsHost, object_values}
-use Rattle.gc_model.specs.Sizes.{fields_size, elements_size, object_size}
+use Rattle.gc_model.specs.Sizes.{fields_size, elements_size, exception_size, exn_fields_at, object_size}
 use Rattle.gc_model.specs.Standing.{Stands, ValuesLie}
 use Rattle.gc_model.specs.Stored.{stored, stored_in, byte_value}
+use Rattle.gc_model.specs.Fits.{fits}
 use Rattle.gc_model.specs.Table.{Table}
 use Rattle.gc_model.specs.Stores.{StoreView}
 use Rattle.gc_model.specs.Forms.{Names, storage_form}
 use Rattle.gc_model.specs.Holds.{Placing, Holds}
 use Rattle.gc_model.proofs.Lists.{slice_get-same_length}
-use Rattle.gc_model.proofs.MadeObjects.{struct_stands, array_stands}
-use Rattle.gc_model.proofs.ObjectShapes.{type_of_slot}
-use Rattle.gc_model.proofs.StoredValues.{kept_value, length-stored_in, mapped_from, typed-struct, typed-array, typed-filled, typed-bytes}
+use Rattle.gc_model.proofs.MadeObjects.{struct_stands, array_stands, exception_stands}
+use Rattle.gc_model.proofs.ObjectShapes.{shape_at, exception_shape, type_of_slot, FieldOfSlot, field_of_slot}
+use Rattle.gc_model.proofs.StoredValues.{kept_value, length-stored_in, mapped_from, typed-struct, typed-exception, typed-array, typed-filled, typed-bytes}
 use Rattle.gc_model.proofs.Typing.{IsTypedObject}
 use Rattle.gc_store.specs.declared.request.Place.{Place}
 use Rattle.gc_store.specs.declared.request.Place.TheVariants as place
@@ -42,9 +45,10 @@ use Rattle.gc_store.specs.Filling.{asked_type, BytesFit, ContentsFit, ContentsSt
 use Rattle.gc_store.specs.HeldSlots.{HasShape}
 use Rattle.gc_store.specs.Making.{IsSizeOf}
 use Rattle.gc_store.specs.Kept.{IsKept, StoredStands}
-use Rattle.gc_store.specs.Requests.{CanPlaceIn, CanPlaceStruct, IsObjectOf, fields_of, element_of, stored_as}
+use Rattle.gc_store.specs.Requests.{CanPlaceIn, CanPlaceFields, CanPlaceStruct, CanPlaceException, IsObjectOf, fields_of, exn_fields_of, element_of, stored_as}
+use Rattle.gc_store.specs.Tagging.{HasTag}
 use Rattle.gc_store.specs.Values.{AllStand, CanStore, RawStands}
-use Rattle.gc_store.proofs.NewObjects.{IsNew, new_struct_is, new_array_is, struct_size_of, array_size_of}
+use Rattle.gc_store.proofs.NewObjects.{IsNew, new_struct_is, new_exn_is, new_array_is, struct_size_of, exn_size_of, array_size_of}
 use Rattle.gc_store.proofs.WritingAt.{is_kept, storable_form, value_of}
 
 -- Slots keep, of any value that may be stored, what stands for it.
@@ -52,13 +56,19 @@ abbrev pub StandsFor : {D : Type 0} → Layouts → StoreView D → Table D → 
 StandsFor {D} layouts s t names entries =
     (ty : StorageType) (r : RawValue) (v : Value) → CanStore D layouts s ty r → RawStands s t r v → StoredStands names entries ty r (stored ty v)
 
+-- an exception has its tag
+abbrev pub HasAskedFront : Place → List ℕ → Type 0
+HasAskedFront (place.Struct ty) bytes = Unit {0}
+HasAskedFront (place.Exn ty tag) bytes = HasTag tag bytes
+HasAskedFront (place.Array ty count) bytes = Unit {0}
+
 -- What a requested object of the table is: of the size and the shape of what is made, with values that what is given stands for.
 pub record AsksFor {D : Type 0} (layouts : Layouts) (s : StoreView D) (t : Table D) (request : Place) (given : Contents) (shape : Shape) (count : ℕ) (o : Object D) : Type 0 where
   pub not_host : ¬ IsHost (Some o)
   pub of_size : (k : Layouts) → object_size k t.types o ≡ shape_size k shape count
   pub typed : IsTypedObject t.types t.objects o
   pub contents : (names : Names) (entries : List RootEntry) → StandsFor layouts s t names entries → ContentsStand given names entries (shape_slots layouts shape count) (object_values o)
-  pub stands : (names : Names) (h : HeapObject) → h.ty ≡ asked_type request → HasShape h shape count → struct_base layouts + length h.bytes ≡ stored_size layouts (shape_size layouts shape count)
+  pub stands : (names : Names) (h : HeapObject) → h.ty ≡ asked_type request → HasShape h shape count → HasAskedFront request h.bytes → struct_base layouts + length h.bytes ≡ stored_size layouts (shape_size layouts shape count)
       → ValuesLie names (struct_base layouts) (shape_slots layouts shape count) (object_values o) h.bytes → Stands layouts t.types names o h
 
 -- What is given fits what is made for a request, and stands for what is asked for.
@@ -87,7 +97,11 @@ new_of D layouts s (place.Array ty count) (contents.Same value) counted can = ne
 new_of D layouts s (place.Array ty count) (contents.Bytes bytes) counted can = new_array_is D layouts s.types ty count can.element counted can.declared
 new_of D layouts s (place.Struct ty) (contents.Same value) counted can = absurd can
 new_of D layouts s (place.Struct ty) (contents.Bytes bytes) counted can = absurd can
-new_of D layouts s (place.Exn ty tag) given counted can = absurd can
+new_of D layouts s (place.Exn ty tag) (contents.Each values) counted can =
+    let params = exception_shape s.types ty can.fields can.declared in
+    new_exn_is D layouts s.types ty tag params.0 params.1.0
+new_of D layouts s (place.Exn ty tag) (contents.Same value) counted can = absurd can
+new_of D layouts s (place.Exn ty tag) (contents.Bytes bytes) counted can = absurd can
 
 below_limit : (layouts : Layouts) (size : ℕ) → too_large layouts size ≡ false → size < 2 ^ 32
 below_limit Null size small = omega (arith, leb-false 67108864 size small)
@@ -121,42 +135,37 @@ values_with {D} s t (x ∷ raws) each =
     at first {vs} rest (suc i) r v e f = rest.each i r v e f
 
 module _ (D : Type 0) (layouts : Layouts) (s : StoreView D) (t0 : Table D) (place0 : Placing) (holds0 : Holds layouts s t0 place0) where
-  -- A struct
+  -- Values for fields, one for each
 
-  module _ (ty : ℕ) (raws : List RawValue) (can : CanPlaceStruct D layouts s ty raws) where
+  module _ (found : Option (List FieldType)) (raws : List RawValue) (can : CanPlaceFields D layouts s found raws) where
     abbrev fields : List FieldType
     fields = can.fields
 
     field_of : (i : ℕ) (r : RawValue) → slice_get raws i ≡ Some r → (field : FieldType) × (slice_get fields i ≡ Some field)
     field_of i r e = slice_get-same_length raws fields i r can.same_count e
 
-    struct_fit : (entries : List RootEntry) → ((r : RawValue) → IsKept s.scoped r → IsKept entries r) → EachFits raws entries (shape_slots layouts (struct_of fields) 0)
-    struct_fit entries keeps = record {
-      same_count = can.same_count ∙ sym (length-field_slots (struct_base layouts) fields);
-      forms = λ i slot r at r_at.
-          let f = type_of_slot layouts (struct_of fields) 0 i slot at in
-          storable_form D layouts s t0 place0 holds0 f.field.element_type r (can.each i f.field r f.field_is r_at) ∙ ap storage_form f.type_is;
-      kept = λ i r r_at. let f = field_of i r r_at in keeps r (is_kept D layouts s r (can.each i f.0 r f.1 r_at).live);
-    }
+    fields_some : (vs : List Value) × AllStand s t0 raws vs
+    fields_some = values_with s t0 raws (λ i r e. let f = field_of i r e in value_of D layouts s t0 place0 holds0 r (can.each i f.0 r f.1 e).live)
 
-    struct_some : (vs : List Value) × AllStand s t0 raws vs
-    struct_some = values_with s t0 raws (λ i r e. let f = field_of i r e in value_of D layouts s t0 place0 holds0 r (can.each i f.0 r f.1 e).live)
+    -- in the slots of a base
+    module _ (base : ℕ) where
+      field_type : (i : ℕ) (slot : StorageSlot) → slice_get (field_slots base fields) i ≡ Some slot → FieldOfSlot fields i slot
+      field_type i slot at = field_of_slot base fields i slot at
 
-    module _ (t : Table D) (p : Placing) (holds : Holds layouts s t p) (vs : List Value) (all : AllStand s t raws vs) where
-      declared_here : struct_fields_at t.types ty ≡ Some fields
-      declared_here = ap (λ (ts : List Declaration). struct_fields_at ts ty) (sym holds.types) ∙ can.declared
+      fields_fit : (entries : List RootEntry) → ((r : RawValue) → IsKept s.scoped r → IsKept entries r) → EachFits raws entries (field_slots base fields)
+      fields_fit entries keeps = record {
+        same_count = can.same_count ∙ sym (length-field_slots base fields);
+        forms = λ i slot r at r_at.
+            let f = field_type i slot at in
+            storable_form D layouts s t0 place0 holds0 f.field.element_type r (can.each i f.field r f.field_is r_at) ∙ ap storage_form f.type_is;
+        kept = λ i r r_at. let f = field_of i r r_at in keeps r (is_kept D layouts s r (can.each i f.0 r f.1 r_at).live);
+      }
 
-      one_each : length vs ≡ length fields
-      one_each = sym all.same_count ∙ can.same_count
-
-      raw_at : (i : ℕ) (v : Value) → slice_get vs i ≡ Some v → (r : RawValue) × (slice_get raws i ≡ Some r)
-      raw_at i v e = slice_get-same_length vs raws i v (sym all.same_count) e
-
-      struct_contents : (names : Names) (entries : List RootEntry) → StandsFor layouts s t names entries → EachStands raws names entries (shape_slots layouts (struct_of fields) 0) (stored_in fields vs)
-      struct_contents names entries stands = record {
-        same_count = can.same_count ∙ sym (length-stored_in fields vs one_each);
+      fields_contents : (t : Table D) (vs : List Value) (all : AllStand s t raws vs) (names : Names) (entries : List RootEntry) → StandsFor layouts s t names entries → EachStands raws names entries (field_slots base fields) (stored_in fields vs)
+      fields_contents t vs all names entries stands = record {
+        same_count = can.same_count ∙ sym (length-stored_in fields vs (sym all.same_count ∙ can.same_count));
         each = λ i slot r w at r_at w_at.
-            let f = type_of_slot layouts (struct_of fields) 0 i slot at in
+            let f = field_type i slot at in
             let k = kept_value fields vs i w w_at in
             let same : k.field ≡ f.field = same_Some k.field f.field (sym k.field_is ∙ f.field_is) in
             let ty_is : k.field.element_type ≡ slot.storage = ap (λ (x : FieldType). x.element_type) same ∙ f.type_is in
@@ -165,19 +174,64 @@ module _ (D : Type 0) (layouts : Layouts) (s : StoreView D) (t0 : Table D) (plac
             (stands k.field.element_type r k.value (can.each i k.field r k.field_is r_at) (all.each i r k.value r_at k.value_is)));
       }
 
-      struct_for : (given : Bor (List RawValue)) → given.now ≡ raws → AsksFor layouts s t (place.Struct ty) (contents.Each given) (struct_of fields) 0 (struct ty (stored_in fields vs))
-      struct_for given same = record {
-        not_host = λ host. host;
-        of_size = λ k. ap (fields_size k) declared_here;
-        typed = typed-struct t.types t.objects ty fields vs declared_here (λ i field v at v_at.
-            let r = raw_at i v v_at in
-            (can.each i field r.0 at r.1).fits t v (p, holds) (all.each i r.0 v r.1 v_at));
-        contents = λ names entries stands. subst (λ (rs : List RawValue). EachStands rs names entries (shape_slots layouts (struct_of fields) 0) (stored_in fields vs)) (sym same) (struct_contents names entries stands);
-        stands = λ names h same_type kind size lie. struct_stands layouts t.types names ty (stored_in fields vs) h same_type fields declared_here kind size lie;
-      }
+    module _ (t : Table D) (p : Placing) (holds : Holds layouts s t p) (vs : List Value) (all : AllStand s t raws vs) where
+      fields_match : (i : ℕ) (field : FieldType) (v : Value) → slice_get fields i ≡ Some field → slice_get vs i ≡ Some v → fits t.types t.objects field.element_type v ≡ true
+      fields_match i field v at v_at =
+          let r = slice_get-same_length vs raws i v (sym all.same_count) v_at in
+          (can.each i field r.0 at r.1).fits t v (p, holds) (all.each i r.0 v r.1 v_at)
 
-      fields_are : fields_of t.types ty ≡ fields
-      fields_are = ap (λ (fs : Option (List FieldType)). unwrap_or fs []) declared_here
+  -- A struct
+
+  module _ (ty : ℕ) (raws : List RawValue) (can : CanPlaceStruct D layouts s ty raws) (t : Table D) (p : Placing) (holds : Holds layouts s t p) where
+    declared_here : struct_fields_at t.types ty ≡ Some can.fields
+    declared_here = ap (λ (ts : List Declaration). struct_fields_at ts ty) (sym holds.types) ∙ can.declared
+
+    fields_are : fields_of t.types ty ≡ can.fields
+    fields_are = ap (λ (fs : Option (List FieldType)). unwrap_or fs []) declared_here
+
+    struct_for : (vs : List Value) (all : AllStand s t raws vs) (given : Bor (List RawValue)) → given.now ≡ raws → AsksFor layouts s t (place.Struct ty) (contents.Each given) (struct_of can.fields) 0 (struct ty (stored_in can.fields vs))
+    struct_for vs all given same = record {
+      not_host = λ host. host;
+      of_size = λ k. ap (fields_size k) declared_here;
+      typed = typed-struct t.types t.objects ty can.fields vs declared_here (fields_match (struct_fields_at s.types ty) raws can t p holds vs all);
+      contents = λ names entries stands. subst (λ (rs : List RawValue). EachStands rs names entries (shape_slots layouts (struct_of can.fields) 0) (stored_in can.fields vs)) (sym same)
+          (fields_contents (struct_fields_at s.types ty) raws can (struct_base layouts) t vs all names entries stands);
+      stands = λ names h same_type kind front size lie. struct_stands layouts t.types names ty (stored_in can.fields vs) h same_type can.fields declared_here kind size lie;
+    }
+
+  -- An exception
+
+  module _ (ty : ℕ) (tag : Tag) (raws : List RawValue) (can : CanPlaceException D layouts s ty raws) where
+    abbrev exn_params : (params : List ValType) × ((shape_at s.types ty ≡ Some (exn_of params)) × (map constant_field params ≡ can.fields))
+    exn_params = exception_shape s.types ty can.fields can.declared
+
+    exn_fit : (entries : List RootEntry) → ((r : RawValue) → IsKept s.scoped r → IsKept entries r) → EachFits raws entries (shape_slots layouts (exn_of exn_params.0) 0)
+    exn_fit entries keeps =
+        subst (λ (fs : List FieldType). EachFits raws entries (field_slots (exception_base layouts) fs)) (sym exn_params.1.1) (fields_fit (exn_fields_at s.types ty) raws can (exception_base layouts) entries keeps)
+
+    module _ (t : Table D) (p : Placing) (holds : Holds layouts s t p) where
+      exn_declared : exn_fields_at t.types ty ≡ Some can.fields
+      exn_declared = ap (λ (ts : List Declaration). exn_fields_at ts ty) (sym holds.types) ∙ can.declared
+
+      exn_fields_are : exn_fields_of t.types ty ≡ can.fields
+      exn_fields_are = ap (λ (fs : Option (List FieldType)). unwrap_or fs []) exn_declared
+
+      exn_size_is : (k : Layouts) → exception_size k (exn_fields_at t.types ty) ≡ shape_size k (exn_of exn_params.0) 0
+      exn_size_is k = ap (exception_size k) exn_declared ∙ ap (fields_end (exception_base k)) (sym exn_params.1.1)
+
+      exn_for : (vs : List Value) (all : AllStand s t raws vs) (given : Bor (List RawValue)) → given.now ≡ raws
+          → AsksFor layouts s t (place.Exn ty tag) (contents.Each given) (exn_of exn_params.0) 0 (exception ty tag (stored_in can.fields vs))
+      exn_for vs all given same = record {
+        not_host = λ host. host;
+        of_size = exn_size_is;
+        typed = typed-exception t.types t.objects ty tag can.fields vs exn_declared (fields_match (exn_fields_at s.types ty) raws can t p holds vs all);
+        contents = λ names entries stands.
+            subst (λ (fs : List FieldType). EachStands given.now names entries (field_slots (exception_base layouts) fs) (stored_in can.fields vs)) (sym exn_params.1.1)
+            (subst (λ (rs : List RawValue). EachStands rs names entries (field_slots (exception_base layouts) can.fields) (stored_in can.fields vs)) (sym same)
+            (fields_contents (exn_fields_at s.types ty) raws can (exception_base layouts) t vs all names entries stands));
+        stands = λ names h same_type kind front size lie.
+            exception_stands layouts t.types names ty (stored_in can.fields vs) h same_type exn_params.0 tag (ap (λ (ts : List Declaration). shape_at ts ty) (sym holds.types) ∙ exn_params.1.0) kind front.instance front.index size lie;
+      }
 
   -- An array
 
@@ -244,7 +298,7 @@ module _ (D : Type 0) (layouts : Layouts) (s : StoreView D) (t0 : Table D) (plac
                   subst (λ (st : StorageType). StoredStands names entries st r w) (slot_type i slot at)
                   (subst (λ (x : Value). StoredStands names entries element.element_type r x) from.is (stands element.element_type r from.element (each i r r_at) (all.each i r from.element r_at from.there)));
             });
-            stands = array_stands_as t p holds values long;
+            stands = λ names h same_type has front size lie. array_stands_as t p holds values long names h same_type has size lie;
           }
 
     -- with one value for all
@@ -281,7 +335,7 @@ module _ (D : Type 0) (layouts : Layouts) (s : StoreView D) (t0 : Table D) (plac
                   let some = some_slot i slot at in
                   subst (λ (st : StorageType). StoredStands names entries st r (stored element.element_type v)) (slot_type i slot at) (stands element.element_type r v (can some) (stands_as some));
             });
-            stands = array_stands_as t p holds values long;
+            stands = λ names h same_type has front size lie. array_stands_as t p holds values long names h same_type has size lie;
           }
 
     -- with bytes
@@ -302,18 +356,27 @@ module _ (D : Type 0) (layouts : Layouts) (s : StoreView D) (t0 : Table D) (plac
             of_size = array_size_is t p holds values long;
             typed = typed-bytes t.types t.objects ty element bytes (element_here t p holds) of_bytes;
             contents = λ names entries stands. ap (map byte_value) (sym same);
-            stands = array_stands_as t p holds values long;
+            stands = λ names h same_type has front size lie. array_stands_as t p holds values long names h same_type has size lie;
           }
 
   -- What is requested where it may be placed
   pub asks : (request : Place) (given : Contents) → (counted : IsCounted request) (can : CanPlaceIn D layouts s request given) → Asks layouts s t0 request given (new_of D layouts s request given counted can)
   asks (place.Struct ty) (contents.Each values) counted can = record {
-    fit = struct_fit ty values.now can;
-    some = (let vs = struct_some ty values.now can in (struct ty (stored_in (fields_of t0.types ty) vs.0), (vs.0, (vs.1, refl))));
+    fit = fields_fit (struct_fields_at s.types ty) values.now can (struct_base layouts);
+    some = (let vs = fields_some (struct_fields_at s.types ty) values.now can in (struct ty (stored_in (fields_of t0.types ty) vs.0), (vs.0, (vs.1, refl))));
     asks_for = λ t p o holds is.
-        let e : o ≡ struct ty (stored_in can.fields is.0) = is.1.1 ∙ ap (λ (fs : List FieldType). struct ty (stored_in fs is.0)) (fields_are ty values.now can t p holds is.0 is.1.0) in
+        let e : o ≡ struct ty (stored_in can.fields is.0) = is.1.1 ∙ ap (λ (fs : List FieldType). struct ty (stored_in fs is.0)) (fields_are ty values.now can t p holds) in
         subst (λ (x : Object D). AsksFor layouts s t (place.Struct ty) (contents.Each values) (struct_of can.fields) 0 x) (sym e) (struct_for ty values.now can t p holds is.0 is.1.0 values refl);
   }
+  asks (place.Exn ty tag) (contents.Each values) counted can = record {
+    fit = exn_fit ty tag values.now can;
+    some = (let vs = fields_some (exn_fields_at s.types ty) values.now can in (exception ty tag (stored_in (exn_fields_of t0.types ty) vs.0), (vs.0, (vs.1, refl))));
+    asks_for = λ t p o holds is.
+        let e : o ≡ exception ty tag (stored_in can.fields is.0) = is.1.1 ∙ ap (λ (fs : List FieldType). exception ty tag (stored_in fs is.0)) (exn_fields_are ty tag values.now can t p holds) in
+        subst (λ (x : Object D). AsksFor layouts s t (place.Exn ty tag) (contents.Each values) (exn_of (exn_params ty tag values.now can).0) 0 x) (sym e) (exn_for ty tag values.now can t p holds is.0 is.1.0 values refl);
+  }
+  asks (place.Exn ty tag) (contents.Same value) counted can = absurd can
+  asks (place.Exn ty tag) (contents.Bytes bytes) counted can = absurd can
   asks (place.Array ty count) (contents.Each values) counted can = record {
     fit = elements_fit ty count can.element can.declared values.now can.same_count can.each;
     some = (let vs = elements_some ty count can.element can.declared values.now can.same_count can.each in (array ty (map (stored (element_of t0.types ty)) vs.0), (vs.0, (vs.1, refl))));
@@ -338,7 +401,6 @@ module _ (D : Type 0) (layouts : Layouts) (s : StoreView D) (t0 : Table D) (plac
   }
   asks (place.Struct ty) (contents.Same value) counted can = absurd can
   asks (place.Struct ty) (contents.Bytes bytes) counted can = absurd can
-  asks (place.Exn ty tag) given counted can = absurd can
 
   -- and how large it is
   pub sized : (request : Place) (given : Contents) → CanPlaceIn D layouts s request given → Sized layouts s request given
@@ -347,8 +409,18 @@ module _ (D : Type 0) (layouts : Layouts) (s : StoreView D) (t0 : Table D) (plac
       record {
         size = size.0;
         is_size = size.1;
-        of_object = λ t p o holds is. ap (object_size layouts t.types) is.1.1 ∙ ap (fields_size layouts) (declared_here ty values.now can t p holds is.0 is.1.0);
+        of_object = λ t p o holds is. ap (object_size layouts t.types) is.1.1 ∙ ap (fields_size layouts) (declared_here ty values.now can t p holds);
       }
+  sized (place.Exn ty tag) (contents.Each values) can =
+      let params = exn_params ty tag values.now can in
+      let size = exn_size_of layouts s.types ty tag params.0 params.1.0 in
+      record {
+        size = size.0;
+        is_size = size.1;
+        of_object = λ t p o holds is. ap (object_size layouts t.types) is.1.1 ∙ exn_size_is ty tag values.now can t p holds layouts;
+      }
+  sized (place.Exn ty tag) (contents.Same value) can = absurd can
+  sized (place.Exn ty tag) (contents.Bytes bytes) can = absurd can
   sized (place.Array ty count) (contents.Each values) can =
       let size = array_size_of layouts s.types ty count can.element can.declared in
       record {
@@ -378,4 +450,3 @@ module _ (D : Type 0) (layouts : Layouts) (s : StoreView D) (t0 : Table D) (plac
       }
   sized (place.Struct ty) (contents.Same value) can = absurd can
   sized (place.Struct ty) (contents.Bytes bytes) can = absurd can
-  sized (place.Exn ty tag) given can = absurd can

@@ -17,13 +17,13 @@ use Rattle.gc_heap.specs.Collection.{IsWordOf}
 use Rattle.gc_owner.specs.Owners.{OwnerView}
 use Rattle.gc_model.proofs.ObjectShapes.{shape_at}
 use Rattle.gc_model.proofs.ObjectStands.{KeepsFront, array_front}
-use Rattle.gc_store.specs.Filling.{Rewrites, AreFilled}
+use Rattle.gc_store.specs.Filling.{RewritesTo, Rewrites, AreFilled}
 use Rattle.gc_store.specs.HeldSlots.{HasShape, IsHeldOf, WritesAt}
 
 module _ {D : Type 0} (layouts : Layouts) (shape : Shape) (old : OwnerView D) (place : ℕ) (o : HeapObject) (held : get old.heap.content place ≡ Some o) where
   -- nothing was written
-  pub rewrites-nothing : Rewrites layouts shape old old place o o.bytes
-  rewrites-nothing = record {
+  pub rewrites-none : {AreFrom : List ℕ → List ℕ → Type 0} → AreFrom o.bytes o.bytes → RewritesTo AreFrom old old place o o.bytes
+  rewrites-none same = record {
     written = held;
     others = λ q other. refl;
     attached = refl;
@@ -31,14 +31,17 @@ module _ {D : Type 0} (layouts : Layouts) (shape : Shape) (old : OwnerView D) (p
     allocated = refl;
     needs_gc = refl;
     same_length = refl;
-    front = λ offset before. refl;
+    front = same;
     rest = refl;
   }
 
-  -- one more write, inside and behind what lies in front of the slots
-  pub rewrites-more : (mid new : OwnerView D) (b : List ℕ) (offset : ℕ) (bs : List ℕ) → struct_base layouts ≤ shape_first layouts shape → shape_first layouts shape ≤ offset → offset - struct_base layouts + length bs ≤ length b
-      → Rewrites layouts shape old mid place o b → WritesAt layouts mid new place offset bs → Rewrites layouts shape old new place o (put_bytes b (offset - struct_base layouts) bs)
-  rewrites-more mid new b offset bs above low within was did =
+  pub rewrites-nothing : Rewrites layouts shape old old place o o.bytes
+  rewrites-nothing = rewrites-none (λ offset before. refl)
+
+  -- one more write, inside
+  pub rewrites-by : {Was Now : List ℕ → List ℕ → Type 0} (mid new : OwnerView D) (b : List ℕ) (offset : ℕ) (bs : List ℕ) → offset - struct_base layouts + length bs ≤ length b
+      → (Was o.bytes b → Now o.bytes (put_bytes b (offset - struct_base layouts) bs)) → RewritesTo Was old mid place o b → WritesAt layouts mid new place offset bs → RewritesTo Now old new place o (put_bytes b (offset - struct_base layouts) bs)
+  rewrites-by mid new b offset bs within next_front was did =
       let now : HeapObject = record o { bytes = b } in
       let next : HeapObject = with_data layouts now offset bs in
       let e = did now was.written in
@@ -51,11 +54,19 @@ module _ {D : Type 0} (layouts : Layouts) (shape : Shape) (old : OwnerView D) (p
         allocated = ap (λ (v : OwnerView D). v.heap.allocated) e ∙ was.allocated;
         needs_gc = ap (λ (v : OwnerView D). v.heap.needs_gc) e ∙ was.needs_gc;
         same_length = length-put_bytes b (offset - struct_base layouts) bs within ∙ was.same_length;
-        front = λ at before.
-            u32_in_same b (put_bytes b (offset - struct_base layouts) bs) at (put_bytes-below b (offset - struct_base layouts) bs at (at + 4) within (omega (arith, before, low, above)))
-            ∙ was.front at before;
+        front = next_front was.front;
         rest = e ∙ ap (λ (v : OwnerView D). record v { heap = record (put_object mid.heap place next) { counts = new.heap.counts } }) was.rest ∙ ap (λ (h : HeapView). record old { heap = h }) (sym (ap (λ (v : OwnerView D). v.heap) e));
       }
+
+  -- one behind what lies in front of the slots
+  pub rewrites-more : (mid new : OwnerView D) (b : List ℕ) (offset : ℕ) (bs : List ℕ) → struct_base layouts ≤ shape_first layouts shape → shape_first layouts shape ≤ offset → offset - struct_base layouts + length bs ≤ length b
+      → Rewrites layouts shape old mid place o b → WritesAt layouts mid new place offset bs → Rewrites layouts shape old new place o (put_bytes b (offset - struct_base layouts) bs)
+  rewrites-more mid new b offset bs above low within was did =
+      rewrites-by mid new b offset bs within
+      (λ kept at before.
+      u32_in_same b (put_bytes b (offset - struct_base layouts) bs) at (put_bytes-below b (offset - struct_base layouts) bs at (at + 4) within (omega (arith, before, low, above)))
+      ∙ kept at before)
+      was did
 
   -- an object of a shape is one still
   shape_kept : (n : ℕ) (b : List ℕ) (s : Shape) → KeepsFront layouts s o.bytes b → HasShape o s n → HasShape (record o { bytes = b }) s n

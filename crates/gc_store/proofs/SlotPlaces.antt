@@ -105,7 +105,7 @@ counted o (exn_of params) n has of_array = absurd (cc)
 counted o (func_of params results) n has of_array = absurd (cc)
 
 -- The references that an object's type tells are those of its slots.
-offsets_are : (layouts : Layouts) (types : List Declaration) (o : HeapObject) (shape : Shape) (n : ℕ) → shape_at types o.ty ≡ Some shape → HasShape o shape n → typed_offsets layouts types o o.kind ≡ slot_offsets (shape_slots layouts shape n)
+pub offsets_are : (layouts : Layouts) (types : List Declaration) (o : HeapObject) (shape : Shape) (n : ℕ) → shape_at types o.ty ≡ Some shape → HasShape o shape n → typed_offsets layouts types o o.kind ≡ slot_offsets (shape_slots layouts shape n)
 offsets_are layouts types o shape n declared has = shape_offsets layouts types o shape n declared (has_fields o shape n has) (counted o shape n has)
 
 module _ (layouts : Layouts) (types : List Declaration) (h : HeapView) (place : ℕ) (o : HeapObject) (shape : Shape) (n : ℕ) (is : IsHeldOf types h place o shape n) (traced : IsTraced layouts types o) where

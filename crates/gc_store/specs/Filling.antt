@@ -7,7 +7,8 @@ use Rattle.gc_types.specs.declared.value.StorageType.TheVariants as storage
 use Rattle.gc_types.specs.declared.kind.Layouts.{Layouts}
 use Rattle.gc_types.specs.Declarations.{Shape}
 use Rattle.gc_types.specs.Layouts.{storage_width, struct_base}
-use Rattle.gc_view.specs.Heaps.{HeapObject}
+use Rattle.gc_types.specs.declared.kind.VMGcKind.TheVariants.{ExnRef}
+use Rattle.gc_view.specs.Heaps.{HeapObject, HeapView}
 use Rattle.gc_view.specs.Slots.{StorageSlot, shape_slots, element_slots}
 use Rattle.gc_owner.specs.declared.entry.RootEntry.{RootEntry}
 use Rattle.gc_owner.specs.Owners.{OwnerView}
@@ -24,6 +25,7 @@ use Rattle.gc_store.specs.declared.request.Contents.TheVariants as contents
 use Rattle.gc_store.specs.declared.root.RawValue.{RawValue}
 use Rattle.gc_store.specs.Kept.{IsKept, OfForm, code_of, raw_form, StoredStands}
 use Rattle.gc_store.specs.HeldSlots.{IsHeldOf}
+use Rattle.gc_store.specs.Tagging.{HasTag}
 
 -- values fit slots, one for each
 pub record EachFits (raws : List RawValue) (entries : List RootEntry) (slots : List StorageSlot) : Type 0 where
@@ -68,6 +70,7 @@ asked_type (place.Array ty count) = ty
 -- the contents of a request fit slots
 abbrev pub ContentsFit : Place → Contents → List RootEntry → List StorageSlot → Type 0
 ContentsFit (place.Struct ty) (contents.Each raws) entries slots = EachFits raws.now entries slots
+ContentsFit (place.Exn ty tag) (contents.Each raws) entries slots = EachFits raws.now entries slots
 ContentsFit (place.Array ty count) (contents.Each raws) entries slots = EachFits raws.now entries slots
 ContentsFit (place.Array ty count) (contents.Same r) entries slots = SameFits r.now count entries slots
 ContentsFit (place.Array ty count) (contents.Bytes bytes) entries slots = BytesFit bytes.now entries slots
@@ -97,9 +100,9 @@ pub record CanFill {D : Type 0} (layouts : Layouts) (v : OwnerView D) (place ty 
   pub count : ℕ
   pub to_fill : IsToFill layouts v place ty Fit object shape count
 
--- The object at a place has other bytes now, but not in front of its slots; every other object, and all else of the owner but
--- counts, is as it was.
-pub record Rewrites {D : Type 0} (layouts : Layouts) (shape : Shape) (old new : OwnerView D) (place : ℕ) (before : HeapObject) (bytes : List ℕ) : Type 0 where
+-- The object at a place has other bytes now, of which that is so; every other object, and all else of the owner but counts, is
+-- as it was.
+pub record RewritesTo {D : Type 0} (AreFrom : List ℕ → List ℕ → Type 0) (old new : OwnerView D) (place : ℕ) (before : HeapObject) (bytes : List ℕ) : Type 0 where
   pub written : finite.get new.heap.content place ≡ Some (record before { bytes = bytes })
   pub others : (q : ℕ) → ¬ (q ≡ place) → finite.get new.heap.content q ≡ finite.get old.heap.content q
   pub attached : new.heap.attached ≡ old.heap.attached
@@ -107,17 +110,30 @@ pub record Rewrites {D : Type 0} (layouts : Layouts) (shape : Shape) (old new : 
   pub allocated : new.heap.allocated ≡ old.heap.allocated
   pub needs_gc : new.heap.needs_gc ≡ old.heap.needs_gc
   pub same_length : length bytes ≡ length before.bytes
-  pub front : KeepsFront layouts shape before.bytes bytes
+  pub front : AreFrom before.bytes bytes
   pub rest : new ≡ record old { heap = new.heap }
 
--- The object at a place has the values now that stand for what was given.
-pub record Fills {D : Type 0} (layouts : Layouts) (Stand : Names → List RootEntry → List StorageSlot → List Value → Type 0) (old new : OwnerView D) (place : ℕ) (before : HeapObject) (shape : Shape) (count : ℕ) : Type 0 where
+-- but not in front of its slots
+abbrev pub Rewrites : {D : Type 0} → Layouts → Shape → OwnerView D → OwnerView D → ℕ → HeapObject → List ℕ → Type 0
+Rewrites layouts shape old new place before bytes = RewritesTo (KeepsFront layouts shape) old new place before bytes
+
+-- The object at a place has the values now that stand for what was given, and that is so of its bytes.
+pub record FillsBy {D : Type 0} (layouts : Layouts) (AreFrom : List ℕ → List ℕ → Type 0) (Stand : Names → List RootEntry → List StorageSlot → List Value → Type 0) (old new : OwnerView D) (place : ℕ) (before : HeapObject) (shape : Shape) (count : ℕ) : Type 0 where
   pub bytes : List ℕ
-  pub rewrites : Rewrites layouts shape old new place before bytes
+  pub rewrites : RewritesTo AreFrom old new place before bytes
   pub lie : (names : Names) (values : List Value) → Stand names old.roots.scoped (shape_slots layouts shape count) values
       → ValuesLie names (struct_base layouts) (shape_slots layouts shape count) values bytes
 
--- a new object that was to be filled is
+-- but not in front of its slots
+abbrev pub Fills : {D : Type 0} → Layouts → (Names → List RootEntry → List StorageSlot → List Value → Type 0) → OwnerView D → OwnerView D → ℕ → HeapObject → Shape → ℕ → Type 0
+Fills layouts Stand old new place before shape count = FillsBy layouts (KeepsFront layouts shape) Stand old new place before shape count
+
+-- a new object that was to be filled is, and that is so of its bytes
+abbrev pub FillsAs : {D : Type 0} → Layouts → (Shape → List ℕ → List ℕ → Type 0) → OwnerView D → OwnerView D → ℕ → ℕ → (List RootEntry → List StorageSlot → Type 0) → (Names → List RootEntry → List StorageSlot → List Value → Type 0) → Type 0
+FillsAs layouts AreFrom old new place ty Fit Stand =
+    (object : HeapObject) (shape : Shape) (count : ℕ) → IsToFill layouts old place ty Fit object shape count → FillsBy layouts (AreFrom shape) Stand old new place object shape count
+
+-- but not in front of its slots
 abbrev pub FillsNew : {D : Type 0} → Layouts → OwnerView D → OwnerView D → ℕ → ℕ → (List RootEntry → List StorageSlot → Type 0) → (Names → List RootEntry → List StorageSlot → List Value → Type 0) → Type 0
 FillsNew layouts old new place ty Fit Stand =
     (object : HeapObject) (shape : Shape) (count : ℕ) → IsToFill layouts old place ty Fit object shape count → Fills layouts Stand old new place object shape count
@@ -153,3 +169,15 @@ pub record FillsElements {D : Type 0} (layouts : Layouts) (old new : OwnerView D
 
 abbrev pub FillsAll : {D : Type 0} → Layouts → OwnerView D → OwnerView D → ℕ → StorageSlot → ℕ → Stored → Type 0
 FillsAll layouts old new place slot count x = (e : AreElements layouts old place slot count x) → FillsElements layouts old new place slot count x e
+
+-- what lies in front of the slots of an object of that request: an exception has its tag there, and any other object what it had
+abbrev pub front_of : Layouts → Place → Shape → List ℕ → List ℕ → Type 0
+front_of layouts (place.Struct ty) shape before after = KeepsFront layouts shape before after
+front_of layouts (place.Exn ty tag) shape before after = HasTag tag after
+front_of layouts (place.Array ty count) shape before after = KeepsFront layouts shape before after
+
+-- where an exception is requested, the object at a place is one
+abbrev pub IsOfAskedKind : Place → HeapView → ℕ → Type 0
+IsOfAskedKind (place.Struct ty) h p = Unit {0}
+IsOfAskedKind (place.Exn ty tag) h p = (o : HeapObject) → finite.get h.content p ≡ Some o → o.kind ≡ ExnRef
+IsOfAskedKind (place.Array ty count) h p = Unit {0}

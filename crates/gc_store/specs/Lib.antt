@@ -4,6 +4,9 @@ pub mod Expansion
 pub mod Filling
 pub mod Handles
 pub mod HeldSlots
+pub mod HostLends
+pub mod HostPlaces
+pub mod HostSteps
 pub mod Ids
 pub mod Kept
 pub mod Making
@@ -13,5 +16,7 @@ pub mod Requests
 pub mod Roots
 pub mod Slots
 pub mod Stores
+pub mod Tagging
+pub mod Thrown
 pub mod Values
 pub mod Words

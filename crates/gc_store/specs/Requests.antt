@@ -5,7 +5,8 @@ use Rattle.gc_types.specs.declared.value.StorageType.{StorageType}
 use Rattle.gc_types.specs.declared.value.StorageType.TheVariants as storage
 use Rattle.gc_types.specs.declared.kind.Layouts.{Layouts}
 use Rattle.gc_types.specs.Declarations.{Declaration, struct_fields_at, elem_at}
-use Rattle.gc_model.specs.Values.{Value, Object, struct, array}
+use Rattle.gc_model.specs.Values.{Value, Object, struct, array, exception}
+use Rattle.gc_model.specs.Sizes.{exn_fields_at}
 use Rattle.gc_model.specs.Stored.{stored, stored_in, byte_value}
 use Rattle.gc_model.specs.Table.{Table}
 use Rattle.gc_model.specs.Stores.{StoreView}
@@ -28,12 +29,23 @@ stored_as (Some element) = element.element_type
 abbrev pub element_of : List Declaration → ℕ → StorageType
 element_of types ty = stored_as (elem_at types ty)
 
--- a struct of a declared type may have these values, one for each field
-pub record CanPlaceStruct (D : Type 0) (layouts : Layouts) (s : StoreView D) (ty : ℕ) (raws : List RawValue) : Type 0 where
+-- the fields of an exception type; none where there is no such type
+abbrev pub exn_fields_of : List Declaration → ℕ → List FieldType
+exn_fields_of types ty = unwrap_or (exn_fields_at types ty) []
+
+-- an object with the fields of a declared type may have these values, one for each field
+pub record CanPlaceFields (D : Type 0) (layouts : Layouts) (s : StoreView D) (found : Option (List FieldType)) (raws : List RawValue) : Type 0 where
   pub fields : List FieldType
-  pub declared : struct_fields_at s.types ty ≡ Some fields
+  pub declared : found ≡ Some fields
   pub same_count : length raws ≡ length fields
   pub each : (i : ℕ) (field : FieldType) (r : RawValue) → slice_get fields i ≡ Some field → slice_get raws i ≡ Some r → CanStore D layouts s field.element_type r
+
+-- so a struct may, and an exception
+abbrev pub CanPlaceStruct : (D : Type 0) → Layouts → StoreView D → ℕ → List RawValue → Type 0
+CanPlaceStruct D layouts s ty raws = CanPlaceFields D layouts s (struct_fields_at s.types ty) raws
+
+abbrev pub CanPlaceException : (D : Type 0) → Layouts → StoreView D → ℕ → List RawValue → Type 0
+CanPlaceException D layouts s ty raws = CanPlaceFields D layouts s (exn_fields_at s.types ty) raws
 
 -- so many values may be the elements of an array of a declared type
 pub record CanPlaceElements (D : Type 0) (layouts : Layouts) (s : StoreView D) (ty count : ℕ) (raws : List RawValue) : Type 0 where
@@ -55,13 +67,14 @@ pub record CanPlaceBytes {D : Type 0} (s : StoreView D) (ty count : ℕ) (bytes 
   pub of_bytes : element.element_type ≡ storage.I8
   pub same_count : length bytes ≡ count
 
--- An object that is requested so may be placed: a struct with a value for each field, or an array. Exceptions are not
--- built yet.
+-- An object that is requested so may be placed: a struct or an exception with a value for each field, or an array.
 abbrev pub CanPlaceIn : (D : Type 0) → Layouts → StoreView D → Place → Contents → Type 0
 CanPlaceIn D layouts s (place.Struct ty) (contents.Each values) = CanPlaceStruct D layouts s ty values.now
 CanPlaceIn D layouts s (place.Struct ty) (contents.Same value) = ⊥
 CanPlaceIn D layouts s (place.Struct ty) (contents.Bytes bytes) = ⊥
-CanPlaceIn D layouts s (place.Exn ty tag) c = ⊥
+CanPlaceIn D layouts s (place.Exn ty tag) (contents.Each values) = CanPlaceException D layouts s ty values.now
+CanPlaceIn D layouts s (place.Exn ty tag) (contents.Same value) = ⊥
+CanPlaceIn D layouts s (place.Exn ty tag) (contents.Bytes bytes) = ⊥
 CanPlaceIn D layouts s (place.Array ty count) (contents.Each values) = CanPlaceElements D layouts s ty count values.now
 CanPlaceIn D layouts s (place.Array ty count) (contents.Same value) = CanPlaceSame D layouts s ty count value.now
 CanPlaceIn D layouts s (place.Array ty count) (contents.Bytes bytes) = CanPlaceBytes s ty count bytes.now
@@ -75,7 +88,9 @@ abbrev pub IsObjectOf : {D : Type 0} → StoreView D → Table D → Place → C
 IsObjectOf s t (place.Struct ty) (contents.Each values) o = (vs : List Value) × (AllStand s t values.now vs × (o ≡ struct ty (stored_in (fields_of t.types ty) vs)))
 IsObjectOf s t (place.Struct ty) (contents.Same value) o = ⊥
 IsObjectOf s t (place.Struct ty) (contents.Bytes bytes) o = ⊥
-IsObjectOf s t (place.Exn ty tag) c o = ⊥
+IsObjectOf s t (place.Exn ty tag) (contents.Each values) o = (vs : List Value) × (AllStand s t values.now vs × (o ≡ exception ty tag (stored_in (exn_fields_of t.types ty) vs)))
+IsObjectOf s t (place.Exn ty tag) (contents.Same value) o = ⊥
+IsObjectOf s t (place.Exn ty tag) (contents.Bytes bytes) o = ⊥
 IsObjectOf s t (place.Array ty count) (contents.Each values) o = (vs : List Value) × (AllStand s t values.now vs × (o ≡ array ty (map (stored (element_of t.types ty)) vs)))
 IsObjectOf s t (place.Array ty count) (contents.Same value) o = IsFilled s t ty count value.now o
 IsObjectOf s t (place.Array ty count) (contents.Bytes bytes) o = o ≡ array ty (map byte_value bytes.now)

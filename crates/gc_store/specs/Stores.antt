@@ -63,7 +63,7 @@ pub record IsSound (D : Type 0) (layouts : Layouts) (counts : List ℕ) (v : Own
 abbrev pub HoldsStart : (D : Type 0) → Layouts → StoreView D → Type 0
 HoldsStart D layouts s = HoldsAccount layouts s (start {D = D} s.first s.max_scoped s.max_owned) no_account
 
--- the store shows no type, root, scope end, frame, set global, memory or allocation
+-- the store shows no type, root, scope end, frame, set global, pending exception, memory or allocation
 pub record ShowsNothing {D : Type 0} (s : StoreView D) : Type 0 where
   pub tries : s.tries ≡ 0
   pub types : s.types ≡ []
@@ -71,6 +71,7 @@ pub record ShowsNothing {D : Type 0} (s : StoreView D) : Type 0 where
   pub generation : s.generation ≡ 0
   pub frames : s.frames ≡ []
   pub globals : s.globals ≡ unset_globals
+  pub pending : s.pending ≡ 0
   pub attached : s.heap.attached ≡ false
 
 -- the store has the same id, and collects at every so many allocations as before

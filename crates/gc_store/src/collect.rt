@@ -1,13 +1,12 @@
 //! Collections, and what the heap holds.
 
-ghost use Rattle.std.specs.Prelude.{◌≡◌, true, false};
-ghost use Rattle.std.specs.FinMap as map;
+ghost use Rattle.std.specs.Prelude.{◌≡◌, ℕ, true, false, slice_get};
 ghost use Rattle.gc_model.specs.Allocation.{Limits};
 ghost use Rattle.gc_model.specs.Table.{Table};
-ghost use Rattle.gc_model.specs.Reach.{HasNumber, IsKept};
+ghost use Rattle.gc_model.specs.Reach.{HasNumber, IsKept, IsHost};
 ghost use Rattle.gc_model.specs.Holds.{HoldsTable, HoldsKept};
 ghost use Rattle.gc_policy.specs.Accounts.{Account, HoldsAccount};
-ghost use Rattle.gc_policy.specs.Collects.{HoldsNumber};
+ghost use Rattle.gc_policy.specs.Collects.{HoldsNumber, HoldsHosts};
 ghost use Rattle.gc_store.specs.Expansion.{CollectsStore};
 ghost use Rattle.gc_policy.specs.Policy.{policy_state};
 ghost use Rattle.gc_store.specs.Stores.{IsSameStore};
@@ -38,10 +37,10 @@ impl<H: GcHeap, D: Drop> Store<H, D> {
         self.owner.heap().object_count()
     }
 
-    /// How many host values the store has now.
+    /// How many host values the store has now: as many as the heap holds host objects, garbage among them.
     pub fn held_host_values(&self) -> u64
-        ensures seen { result ≡ map.len self.now.hosts }
-        ensures table { (t : Table D) → HoldsTable H.KIND self.now t → result ≡ 0 }
+        ensures placed { HoldsHosts D H.KIND self.now result }
+        ensures kept { (t : Table D) → HoldsKept H.KIND self.now t → HasNumber (λ (p : ℕ). IsKept H.KIND t p × IsHost (slice_get t.objects p)) result }
     {
         self.owner.hosts().len()
     }

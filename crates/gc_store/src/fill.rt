@@ -3,12 +3,13 @@
 ghost use Rattle.std.specs.Prelude.{◌≡◌, ◌<◌, ◌%◌, ℕ, true, length, slice_index_or};
 ghost use Rattle.gc_store.specs.declared.stored.Stored.TheVariants as kept;
 ghost use Rattle.gc_store.specs.HeldSlots.{storage_slot};
-ghost use Rattle.gc_store.specs.Filling.{CanFill, FillsNew, EachFits, EachStands, SameFits, SameStands, BytesFit, BytesStand, ContentsFit, ContentsStand, asked_type, AreElements, FillsAll, IsWidth};
+ghost use Rattle.gc_store.specs.Filling.{CanFill, FillsNew, FillsAs, IsOfAskedKind, front_of, EachFits, EachStands, SameFits, SameStands, BytesFit, BytesStand, ContentsFit, ContentsStand, asked_type, AreElements, FillsAll, IsWidth};
 
 use crate::request::{Contents, Place};
 use crate::root::RawValue;
 use crate::slot::{Slot, slot_at};
 use crate::stored::{Stored, stored_value, write_slot};
+use crate::tag::write_tag;
 use gc_heap::GcHeap;
 use gc_owner::HeapOwner;
 use gc_refs::VMGcRef;
@@ -163,7 +164,7 @@ fn write_bytes<H: GcHeap, D: Drop>(
     owner.write_number(gc_ref, first.offset, bytes);
 }
 
-/// Gives a new object of that request its values.
+/// Gives a new object of that request its values, and an exception its tag.
 pub(crate) fn fill<H: GcHeap, D: Drop>(
     owner: &mut HeapOwner<H, D>,
     gc_ref: &VMGcRef,
@@ -172,7 +173,8 @@ pub(crate) fn fill<H: GcHeap, D: Drop>(
 )
     requires idle { owner.old.seen.idle ≡ true }
     requires can { CanFill H.KIND owner.old.seen gc_ref.now (asked_type request.now) (ContentsFit request.now contents) }
-    ensures { FillsNew H.KIND owner.old.seen owner.new.seen gc_ref.now (asked_type request.now) (ContentsFit request.now contents.entry) (ContentsStand contents.entry) }
+    requires kind { IsOfAskedKind request.now owner.old.seen.heap gc_ref.now }
+    ensures { FillsAs H.KIND (front_of H.KIND request.now) owner.old.seen owner.new.seen gc_ref.now (asked_type request.now) (ContentsFit request.now contents.entry) (ContentsStand contents.entry) }
 {
     match *request {
         Place::Struct(ty) => match contents {
@@ -185,6 +187,13 @@ pub(crate) fn fill<H: GcHeap, D: Drop>(
             Contents::Same(value) => write_same(owner, gc_ref, ty, count, *value),
             Contents::Bytes(bytes) => write_bytes(owner, gc_ref, ty, bytes),
         },
-        Place::Exn(..) => unreachable!(),
+        Place::Exn(ty, tag) => match contents {
+            Contents::Each(values) => {
+                write_tag(owner, gc_ref, tag);
+                write_values(owner, gc_ref, ty, values);
+            }
+            Contents::Same(_) => unreachable!(),
+            Contents::Bytes(_) => unreachable!(),
+        },
     }
 }

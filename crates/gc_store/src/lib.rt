@@ -17,8 +17,10 @@ pub mod globals;
 pub mod grow;
 #[cfg(test)]
 mod growth_tests;
+pub mod hosts;
 pub mod laws;
 mod make;
+pub mod pending;
 pub mod place;
 pub mod read;
 pub mod request;
@@ -30,6 +32,7 @@ pub mod scope;
 mod slot;
 pub mod store;
 mod stored;
+mod tag;
 #[cfg(test)]
 mod tests;
 mod word;
@@ -40,6 +43,7 @@ pub use engine::{Engine, StoreId};
 pub use gc_owner::{GcClass, PageLimit, ResourceLimiter, Scripted, should_collect_first};
 pub use globals::{GLOBAL_COUNT, SlotFault};
 pub use grow::GrowFault;
+pub use hosts::{HostDataFault, PlaceHostFault};
 pub use request::{Contents, Place};
 pub use root::{GcRootIndex, RawValue, RootFault, RootSlot, RootedObject};
 pub use rooted::{GcRef, Rooted, RootedGcRef, ref_eq};

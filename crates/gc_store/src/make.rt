@@ -24,7 +24,7 @@ fn out_of_memory(bytes_needed: u64) -> PlaceFault
 }
 
 /// Collects where an allocation is due for it.
-fn collect_if_due<H: GcHeap, D: Drop>(owner: &mut HeapOwner<H, D>, is_due: bool)
+pub(crate) fn collect_if_due<H: GcHeap, D: Drop>(owner: &mut HeapOwner<H, D>, is_due: bool)
     requires idle { owner.old.seen.idle ≡ true }
     requires attached { owner.old.seen.heap.attached ≡ true }
     ensures { (limits : Limits) → DuesOwner H.KIND is_due (state_of owner.old.seen limits) (state_of owner.new.seen limits) }

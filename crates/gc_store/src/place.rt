@@ -73,7 +73,7 @@ fn holder_of(entries: &[RootEntry], index: u32) -> VMGcRef
 }
 
 /// Counts one more allocation, and tells whether it is due for a collection.
-fn count_allocation(tries: &mut u64, alloc_counter: Option<NonZeroU32>) -> bool
+pub(crate) fn count_allocation(tries: &mut u64, alloc_counter: Option<NonZeroU32>) -> bool
     ensures counted { tries.new ≡ min (tries.old + 1) (2 ^ 64 - 1) }
     ensures due { result ≡ is_due (option_map non_zero_u32_get alloc_counter) tries.new }
 {
@@ -93,10 +93,9 @@ impl<H: GcHeap, D: Drop> Store<H, D> {
             || self.owner.generation() == u64::MAX
     }
 
-    /// Places an object of a declared type with these values, and pushes a scoped root for it. Structs
-    /// and arrays are built so far. Refused are, in this order: `TooLarge` where no
-    /// heap of the kind can hold it; `RootsFull` where no further scoped root may be made;
-    /// `HeapOutOfMemory` where the limiter refused the heap's first pages, or where there is no room
+    /// Places an object of a declared type with these values, and pushes a scoped root for it.
+    /// Refused are, in this order: `TooLarge` where no heap of the kind can hold it; `RootsFull` where
+    /// no further scoped root may be made; `HeapOutOfMemory` where the limiter refused the heap's first pages, or where there is no room
     /// and a growth was refused: by the limiter, or unasked, as the heap would have more than 65,535
     /// pages.
     ///

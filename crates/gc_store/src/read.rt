@@ -94,7 +94,7 @@ impl<H: GcHeap, D: Drop> Store<H, D> {
     }
 
     /// What the reference with that word is.
-    fn describe(&self, word: u32) -> RootedObject
+    pub(crate) fn describe(&self, word: u32) -> RootedObject
         requires { IsRootWord D H.KIND self.now word }
         ensures { (t : Table D) (place : Placing) (r : Reference) → Holds H.KIND self.now t place → IsWord place r word → 0 < word → IsReference t r result }
     {

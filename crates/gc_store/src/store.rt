@@ -139,7 +139,7 @@ impl<H: GcHeap, D: Drop> Store<H, D> {
         self.is_untouched()
     }
 
-    /// Whether there is no type, root, generation, frame, set global, memory or allocation.
+    /// Whether there is no type, root, generation, frame, set global, pending exception, memory or allocation.
     fn is_untouched(&self) -> bool
         ensures { IsTrue result ↔ ShowsNothing self.now }
     {
@@ -150,6 +150,7 @@ impl<H: GcHeap, D: Drop> Store<H, D> {
             && self.tries == 0
             && self.has_no_frame()
             && self.has_unset_globals()
+            && self.owner.pending() == 0
     }
 
     /// Gives a new store another configuration.

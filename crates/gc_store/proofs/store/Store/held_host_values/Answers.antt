@@ -1,15 +1,21 @@
-use Rattle.std.proofs.Common.{◌≡◌, ap, ◌∙◌}
+use Rattle.std.proofs.Common.{◌≡◌, ℕ, ap, sym, ◌∙◌, subst}
+use Rattle.std.specs.List.{slice_get}
 use Rattle.std.specs.Ordering.{nat_cmp}
-use Rattle.std.specs.FinMap.{FinMap, len, empty, len-empty}
+use Rattle.std.specs.FinMap.{FinMap, len}
+use Rattle.gc_model.specs.Reach.{HasNumber, IsKept, IsHost}
 use Rattle.gc_model.specs.Stores.{StoreView}
-use Rattle.gc_model.proofs.Hosts.{holds-no_hosts}
+use Rattle.gc_policy.specs.Collects.{IsPlacedHost}
+use Rattle.gc_policy.proofs.HeldHosts.{held_hosts, kept_hosts}
 use Rattle.gc_store.proofs.store.Store.held_host_values.Goals as goal
 
-pub returns-clause-table : goal.returns-clause-table
-returns-clause-table g c = λ t holds.
-    let none : c.args.self.now.hosts ≡ empty = holds-no_hosts g.H.GcHeap.KIND c.args.self.now t holds.0 holds.1 in
-    c.len.ensures.value
-    ∙ ap (λ (m : FinMap nat_cmp g.row.D.Denot). len m) c.hosts.ensures
-    ∙ ap (λ (s : StoreView g.row.D.Denot). len s.hosts) c.self.view_is
-    ∙ ap (λ (m : FinMap nat_cmp g.row.D.Denot). len m) none
-    ∙ len-empty nat_cmp g.row.D.Denot
+pub returns-clause-placed : goal.returns-clause-placed
+returns-clause-placed g c = λ t place holds.
+    let count : c.len.result ≡ len c.args.self.now.hosts =
+    c.len.ensures.value ∙ ap (λ (m : FinMap nat_cmp g.row.D.Denot). len m) c.hosts.ensures ∙ ap (λ (s : StoreView g.row.D.Denot). len s.hosts) c.self.view_is in
+    subst (HasNumber (IsPlacedHost t.objects place)) (sym count) (held_hosts g.H.GcHeap.KIND c.args.self.now t place holds)
+
+pub returns-clause-kept : goal.returns-clause-kept
+returns-clause-kept g c = λ t kept.
+    let count : c.len.result ≡ len c.args.self.now.hosts =
+    c.len.ensures.value ∙ ap (λ (m : FinMap nat_cmp g.row.D.Denot). len m) c.hosts.ensures ∙ ap (λ (s : StoreView g.row.D.Denot). len s.hosts) c.self.view_is in
+    subst (HasNumber (λ (p : ℕ). IsKept g.H.GcHeap.KIND t p × IsHost (slice_get t.objects p))) (sym count) (kept_hosts g.H.GcHeap.KIND c.args.self.now t kept)

@@ -21,13 +21,13 @@ use Rattle.gc_policy.specs.Shown.{shown}
 use Rattle.gc_store.specs.declared.store.PlaceFault.{PlaceFault}
 use Rattle.gc_store.specs.declared.root.GcRootIndex.{GcRootIndex}
 use Rattle.gc_store.specs.declared.root.RootSlot.TheVariants as slot
-use Rattle.gc_store.specs.Filling.{asked_type, ContentsFit, ContentsStand, Fills, IsToFill}
+use Rattle.gc_store.specs.Filling.{asked_type, front_of, ContentsFit, ContentsStand, FillsBy, IsToFill}
 use Rattle.gc_store.specs.Making.{BeginsMaking, IsSizeOf, MakesRooted, TellsSize, described_by}
 use Rattle.gc_store.specs.Places.{Places, PlacesObject}
 use Rattle.gc_store.specs.Requests.{CanPlaceIn, IsObjectOf}
 use Rattle.gc_store.specs.Stores.{store_view, is_full}
 use Rattle.gc_store.proofs.Keeping.{counts_of}
-use Rattle.gc_store.proofs.NewObjects.{IsNew}
+use Rattle.gc_store.proofs.NewObjects.{IsNew, asked_kind}
 use Rattle.gc_store.proofs.Placing.{IsStart, reserved_start, Creates, IsLastRoot, last_root, KeepsRest, made_keeps, may_fill, placing_follows}
 use Rattle.gc_store.proofs.PlacingFaults.{FollowsFault, fault_follows, fault_keeps}
 use Rattle.gc_store.proofs.Pushing.{full_is}
@@ -246,6 +246,12 @@ fill-requires-clause-can g c =
     let err = err_at g at in
     record { object = (new g err).blank; shape = (new g err).shape; count = (new g err).count; to_fill = fills_of g at }
 
+pub fill-requires-clause-kind : goal.fill-requires-clause-kind
+fill-requires-clause-kind g c =
+    let at = (goal.at.fill-requires-clause-kind g c).After-holder_of-holder in
+    let err = err_at g at in
+    asked_kind c.args.request c.make_object.new.owner.seen.heap c.holder_of-holder.result (new g err).blank (fills_of g at).is.held (new g err).of_kind
+
 abbrev holder_at : (g : given.Over) (c : After-fill g) → After-holder_of-holder g
 holder_at g c = (goal.at.After-fill g c).After-holder_of-holder
 
@@ -257,7 +263,7 @@ abbrev last_state : (g : given.Over) (c : After-fill g) → OwnerState g.row.D.D
 last_state g c = state_of c.fill.new.owner.seen (g.L.ResourceLimiter.limits c.make_object.new.limiter)
 
 filled : (g : given.Over) (c : After-fill g)
-    → Fills g.H.GcHeap.KIND (ContentsStand c.args.contents) c.make_object.new.owner.seen c.fill.new.owner.seen c.holder_of-holder.result (new g (err_at g (holder_at g c))).blank (new g (err_at g (holder_at g c))).shape (new g (err_at g (holder_at g c))).count
+    → FillsBy g.H.GcHeap.KIND (front_of g.H.GcHeap.KIND c.args.request (new g (err_at g (holder_at g c))).shape) (ContentsStand c.args.contents) c.make_object.new.owner.seen c.fill.new.owner.seen c.holder_of-holder.result (new g (err_at g (holder_at g c))).blank (new g (err_at g (holder_at g c))).shape (new g (err_at g (holder_at g c))).count
 filled g c =
     let err = err_at g (holder_at g c) in
     c.fill.ensures (new g err).blank (new g err).shape (new g err).count (fills_of g (holder_at g c))
@@ -271,7 +277,7 @@ created g c =
       retried = p.1.1.retried;
       added = c.make_object.new.owner.seen;
       adds = p.1.1.adds;
-      fills = subst (λ (n : ℕ). Fills g.H.GcHeap.KIND (ContentsStand c.args.contents) c.make_object.new.owner.seen c.fill.new.owner.seen n (new g err).blank (new g err).shape (new g err).count) (holder_is g (holder_at g c)) (filled g c);
+      fills = subst (λ (n : ℕ). FillsBy g.H.GcHeap.KIND (front_of g.H.GcHeap.KIND c.args.request (new g err).shape) (ContentsStand c.args.contents) c.make_object.new.owner.seen c.fill.new.owner.seen n (new g err).blank (new g err).shape (new g err).count) (holder_is g (holder_at g c)) (filled g c);
       limits = p.1.1.limits;
     }
 
