@@ -8,9 +8,9 @@ use Rattle.gc_types.specs.Declarations.{elem_at}
 use Rattle.gc_model.specs.Allocation.{Limits}
 use Rattle.gc_model.specs.Stores.{StoreView}
 use Rattle.gc_policy.specs.Policy as policy
-use Rattle.gc_store.specs.Requests.{fields_of}
+use Rattle.gc_store.specs.Requests.{fields_of, exn_fields_of}
 use Rattle.gc_commands.specs.declared.command.Command.{Command}
-use Rattle.gc_commands.specs.declared.command.Command.TheVariants.{Bad, Struct, Array, New, NewArr, Fixed, NewBytes, ReadBytes, I31, Field, Elem, Len, SetField, SetElem, Eq, Enter, Leave, Push, Pop, Store, Load, SetGlobal, GetGlobal, Gc, Grow, Cap}
+use Rattle.gc_commands.specs.declared.command.Command.TheVariants.{Bad, Struct, Array, Exn, New, NewExn, NewArr, Fixed, NewBytes, ReadBytes, Host, I31, Field, Elem, Len, HostNumber, SetField, SetElem, Eq, Enter, Leave, Push, Pop, Store, Load, SetGlobal, GetGlobal, Throw, Take, Gc, Grow, Cap}
 use Rattle.gc_commands.specs.declared.command.Operand.{Operand}
 use Rattle.gc_commands.specs.declared.reply.Reply.{Reply}
 use Rattle.gc_commands.specs.declared.reply.Reply.TheVariants as reply
@@ -20,7 +20,7 @@ use Rattle.gc_script.specs.declared.runner.RunError.{RunError}
 use Rattle.gc_script.specs.Slots.{RunnerView}
 use Rattle.gc_script.specs.State.{State, HoldsState, visible}
 use Rattle.gc_script.specs.Built.{is_built}
-use Rattle.gc_script.specs.Shapes.{Shape, plain, declaring, making, growing, collecting, showing, shape, new_struct, new_array, new_fixed}
+use Rattle.gc_script.specs.Shapes.{Shape, plain, declaring, making, growing, collecting, showing, shape, new_struct, new_exception, new_array, new_fixed}
 use Rattle.gc_script.specs.Steps.{tests, built_tests, value_tests, all_value_tests, element_tests, heap_tests, first_failing, Answers, Does, declared, bad}
 use Rattle.gc_script.specs.Policy.{policy_of, AsksNothing, FollowsTested, Came}
 use Rattle.gc_script.specs.Run.{SaysRefused, GoesOn, RunsOne, WantsAfter, wanted_bytes, asks_nothing}
@@ -46,7 +46,7 @@ pub mild : (c : Command) (s : State) → tells (plain_answer (shape c) s) ≡ fa
 mild Bad s = refl
 mild c s = refl
 
-values_mild : (s : State) (fs : List FieldType) (vs : List Operand) → are_mild (all_value_tests s fs vs) ≡ true
+pub values_mild : (s : State) (fs : List FieldType) (vs : List Operand) → are_mild (all_value_tests s fs vs) ≡ true
 values_mild s [] vs = refl
 values_mild s (f ∷ fs) [] = refl
 values_mild s (f ∷ fs) (v ∷ vs) = values_mild s fs vs
@@ -63,6 +63,8 @@ value_mild s element v false = refl
 pub all_mild : (layouts : Layouts) (s : State) (c : Command) → are_mild (tests layouts s c) ≡ true
 all_mild layouts s (New d t vs) =
     append_mild (all_value_tests s (fields_of s.table.types t) vs) (heap_tests layouts s (new_struct s t vs)) (values_mild s (fields_of s.table.types t) vs) refl
+all_mild layouts s (NewExn d t tag vs) =
+    append_mild (all_value_tests s (exn_fields_of s.table.types t) vs) (heap_tests layouts s (new_exception s t tag vs)) (values_mild s (exn_fields_of s.table.types t) vs) refl
 all_mild layouts s (NewArr d t n v) =
     append_mild (cond (n == 0) [] (value_tests s (elem_at s.table.types t) v)) (heap_tests layouts s (new_array s t n v)) (value_mild s (elem_at s.table.types t) v (n == 0)) refl
 all_mild layouts s (Fixed d t vs) =
@@ -152,6 +154,7 @@ asks_none (I31 d n) e = tt
 asks_none (Field r i into) e = tt
 asks_none (Elem r i into) e = tt
 asks_none (Len r) e = tt
+asks_none (HostNumber r) e = tt
 asks_none (SetField r i v) e = tt
 asks_none (SetElem r i v) e = tt
 asks_none (Eq r q) e = tt
@@ -163,6 +166,9 @@ asks_none (Store k r) e = tt
 asks_none (Load k d) e = tt
 asks_none (SetGlobal g r) e = tt
 asks_none (GetGlobal g d) e = tt
+asks_none (Exn params) e = tt
+asks_none (Throw r) e = tt
+asks_none (Take d) e = tt
 asks_none Cap e = tt
 asks_none c e = absurd (cc e)
 
@@ -171,30 +177,37 @@ pub goes_as : (layouts : Layouts) (s : State) (c known : Command) (result : Resu
 goes_as layouts s c known result new runner is goes = subst (λ (x : Command). GoesOn layouts s x result new runner) (sym is) goes
 
 -- the other commands that are built make, collect or grow
-pub others_ask : (c : Command) → is_built c ≡ true → ((d t : ℕ) (vs : List Operand) → ¬ (c ≡ New d t vs)) → ((d t n : ℕ) (v : Operand) → ¬ (c ≡ NewArr d t n v)) → ((d t : ℕ) (vs : List Operand) → ¬ (c ≡ Fixed d t vs)) → ((d t : ℕ) (bytes : List ℕ) → ¬ (c ≡ NewBytes d t bytes)) → ¬ (c ≡ Gc) → ((n : ℕ) → ¬ (c ≡ Grow n)) → asks_nothing c ≡ true
-others_ask (Struct is_final supertype fs) built s a f b g p = refl
-others_ask (Array is_final supertype element) built s a f b g p = refl
-others_ask (New d t vs) built s a f b g p = absurd (s d t vs refl)
-others_ask (NewArr d t n v) built s a f b g p = absurd (a d t n v refl)
-others_ask (Fixed d t vs) built s a f b g p = absurd (f d t vs refl)
-others_ask (NewBytes d t bytes) built s a f b g p = absurd (b d t bytes refl)
-others_ask (ReadBytes r n) built s a f b g p = refl
-others_ask (I31 d n) built s a f b g p = refl
-others_ask (Field r i into) built s a f b g p = refl
-others_ask (Elem r i into) built s a f b g p = refl
-others_ask (Len r) built s a f b g p = refl
-others_ask (SetField r i v) built s a f b g p = refl
-others_ask (SetElem r i v) built s a f b g p = refl
-others_ask (Eq r q) built s a f b g p = refl
-others_ask Enter built s a f b g p = refl
-others_ask Leave built s a f b g p = refl
-others_ask (Push k) built s a f b g p = refl
-others_ask Pop built s a f b g p = refl
-others_ask (Store k r) built s a f b g p = refl
-others_ask (Load k d) built s a f b g p = refl
-others_ask (SetGlobal k r) built s a f b g p = refl
-others_ask (GetGlobal k d) built s a f b g p = refl
-others_ask Gc built s a f b g p = absurd (g refl)
-others_ask (Grow n) built s a f b g p = absurd (p n refl)
-others_ask Cap built s a f b g p = refl
-others_ask c built s a f b g p = absurd (cc built)
+pub others_ask : (c : Command) → is_built c ≡ true → ((d t : ℕ) (vs : List Operand) → ¬ (c ≡ New d t vs)) → ((d t tag : ℕ) (vs : List Operand) → ¬ (c ≡ NewExn d t tag vs)) → ((d t n : ℕ) (v : Operand) → ¬ (c ≡ NewArr d t n v)) → ((d t : ℕ) (vs : List Operand) → ¬ (c ≡ Fixed d t vs))
+    → ((d t : ℕ) (bytes : List ℕ) → ¬ (c ≡ NewBytes d t bytes)) → ((d n : ℕ) → ¬ (c ≡ Host d n)) → ¬ (c ≡ Gc) → ((n : ℕ) → ¬ (c ≡ Grow n)) → asks_nothing c ≡ true
+others_ask (Struct is_final supertype fs) built s e a f b h g p = refl
+others_ask (Array is_final supertype element) built s e a f b h g p = refl
+others_ask (Exn params) built s e a f b h g p = refl
+others_ask (New d t vs) built s e a f b h g p = absurd (s d t vs refl)
+others_ask (NewExn d t tag vs) built s e a f b h g p = absurd (e d t tag vs refl)
+others_ask (NewArr d t n v) built s e a f b h g p = absurd (a d t n v refl)
+others_ask (Fixed d t vs) built s e a f b h g p = absurd (f d t vs refl)
+others_ask (NewBytes d t bytes) built s e a f b h g p = absurd (b d t bytes refl)
+others_ask (Host d n) built s e a f b h g p = absurd (h d n refl)
+others_ask (ReadBytes r n) built s e a f b h g p = refl
+others_ask (I31 d n) built s e a f b h g p = refl
+others_ask (Field r i into) built s e a f b h g p = refl
+others_ask (Elem r i into) built s e a f b h g p = refl
+others_ask (Len r) built s e a f b h g p = refl
+others_ask (HostNumber r) built s e a f b h g p = refl
+others_ask (SetField r i v) built s e a f b h g p = refl
+others_ask (SetElem r i v) built s e a f b h g p = refl
+others_ask (Eq r q) built s e a f b h g p = refl
+others_ask Enter built s e a f b h g p = refl
+others_ask Leave built s e a f b h g p = refl
+others_ask (Push k) built s e a f b h g p = refl
+others_ask Pop built s e a f b h g p = refl
+others_ask (Store k r) built s e a f b h g p = refl
+others_ask (Load k d) built s e a f b h g p = refl
+others_ask (SetGlobal k r) built s e a f b h g p = refl
+others_ask (GetGlobal k d) built s e a f b h g p = refl
+others_ask (Throw r) built s e a f b h g p = refl
+others_ask (Take d) built s e a f b h g p = refl
+others_ask Gc built s e a f b h g p = absurd (g refl)
+others_ask (Grow n) built s e a f b h g p = absurd (p n refl)
+others_ask Cap built s e a f b h g p = refl
+others_ask c built s e a f b h g p = absurd (cc built)

@@ -66,7 +66,7 @@ later_tests s types i [] = refl
 later_tests s types i (v ∷ vs) = ap (λ (ts : List (Bool × Refusal)). value_tests s (types (suc i)) v ++ ts) (later_tests s types (suc i) vs)
 
 -- the tests of the values of fields
-field_tests : (s : State) (fields : List FieldType) (vs : List Operand) → length vs ≡ length fields → typed_tests s (slice_get fields) 0 vs ≡ all_value_tests s fields vs
+pub field_tests : (s : State) (fields : List FieldType) (vs : List Operand) → length vs ≡ length fields → typed_tests s (slice_get fields) 0 vs ≡ all_value_tests s fields vs
 field_tests s [] [] e = refl
 field_tests s [] (v ∷ vs) e = absurd (omega (arith, e))
 field_tests s (f ∷ fields) [] e = absurd (omega (arith, e))

@@ -67,6 +67,10 @@ takes_wanted wanted.Array (struct ty vs) object is = ap (takes wanted.Array) is
 takes_wanted wanted.Array (array ty vs) object is = ap (takes wanted.Array) is
 takes_wanted wanted.Array (host v) object is = ap (takes wanted.Array) is
 takes_wanted wanted.Array (exception ty tag vs) object is = ap (takes wanted.Array) is
+takes_wanted wanted.Exception (struct ty vs) object is = ap (takes wanted.Exception) is
+takes_wanted wanted.Exception (array ty vs) object is = ap (takes wanted.Exception) is
+takes_wanted wanted.Exception (host v) object is = ap (takes wanted.Exception) is
+takes_wanted wanted.Exception (exception ty tag vs) object is = ap (takes wanted.Exception) is
 takes_wanted wanted.WithFields (struct ty vs) object is = ap (takes wanted.WithFields) is
 takes_wanted wanted.WithFields (array ty vs) object is = ap (takes wanted.WithFields) is
 takes_wanted wanted.WithFields (host v) object is = ap (takes wanted.WithFields) is
@@ -76,11 +80,13 @@ takes_wanted wanted.WithFields (exception ty tag vs) object is = ap (takes wante
 no_small : (kind : Wanted) (n : ℕ) → takes kind (rooted.I31 n) ≡ false
 no_small wanted.Struct n = refl
 no_small wanted.Array n = refl
+no_small wanted.Exception n = refl
 no_small wanted.WithFields n = refl
 
 no_host : (kind : Wanted) (v : ℕ) → wants kind (host v) ≡ false
 no_host wanted.Struct v = refl
 no_host wanted.Array v = refl
+no_host wanted.Exception v = refl
 no_host wanted.WithFields v = refl
 
 module _ (layouts : Layouts) (store : StoreView ℕ) (t : Table ℕ) (holds : HoldsTable layouts store t) (root : GcRootIndex) where
@@ -191,3 +197,15 @@ pub found_named : (layouts : Layouts) (store : StoreView ℕ) (root : GcRootInde
 found_named layouts store root kind object finds taken =
     is_named layouts store finds.table kind finds.root (described store.types root object) finds.holds
     (tells_taken layouts store finds.table finds.holds root kind object finds.root finds.named finds.is taken)
+
+-- what is found by a root has that root
+rooted_elements : (root : GcRootIndex) (n : ℕ) (e : Option FieldType) → IfSome (option_map (with_elements root n) e) (λ (found : NamedObject). found.root ≡ root)
+rooted_elements root n None = tt
+rooted_elements root n (Some element) = refl
+
+pub described_root : (types : List Declaration) (root : GcRootIndex) (object : RootedObject) → IfSome (described types root object) (λ (found : NamedObject). found.root ≡ root)
+described_root types root (rooted.I31 n) = tt
+described_root types root (rooted.Struct ty) = refl
+described_root types root (rooted.Array ty n) = rooted_elements root n (elem_at types ty)
+described_root types root rooted.Host = tt
+described_root types root (rooted.Exn ty tag) = refl

@@ -11,9 +11,9 @@ use Rattle.gc_types.specs.declared.value.ValType.{ValType}
 use Rattle.gc_types.specs.declared.value.ValType.TheVariants as val_type
 use Rattle.gc_types.specs.declared.kind.TypeKind.{TypeKind}
 use Rattle.gc_types.specs.declared.kind.TypeKind.TheVariants as kinds
-use Rattle.gc_types.specs.Declarations.{Declaration, kind_at, struct_type, array_type}
+use Rattle.gc_types.specs.Declarations.{Declaration, kind_at, struct_type, array_type, exn_type}
 use Rattle.gc_commands.specs.declared.command.Command.{Command}
-use Rattle.gc_commands.specs.declared.command.Command.TheVariants.{Struct, Array, New, NewArr, Fixed, NewBytes, ReadBytes, I31, Field, Elem, Len, SetField, SetElem, Eq, Enter, Leave, Push, Pop, Store, Load, SetGlobal, GetGlobal, Gc, Grow, Cap}
+use Rattle.gc_commands.specs.declared.command.Command.TheVariants.{Struct, Array, Exn, New, NewExn, NewArr, Fixed, NewBytes, ReadBytes, Host, I31, Field, Elem, Len, HostNumber, SetField, SetElem, Eq, Enter, Leave, Push, Pop, Store, Load, SetGlobal, GetGlobal, Throw, Take, Gc, Grow, Cap}
 use Rattle.gc_commands.specs.declared.command.FieldWord.{FieldWord}
 use Rattle.gc_commands.specs.declared.command.HeapWord.{HeapWord}
 use Rattle.gc_commands.specs.declared.command.HeapWord.TheVariants as heap
@@ -26,15 +26,19 @@ use Rattle.gc_commands.specs.declared.command.ValueWord.TheVariants as value
 abbrev pub is_built : Command → Bool
 is_built (Struct is_final supertype fields) = true
 is_built (Array is_final supertype element) = true
+is_built (Exn params) = true
 is_built (New d t vs) = true
+is_built (NewExn d t tag vs) = true
 is_built (NewArr d t n v) = true
 is_built (Fixed d t vs) = true
 is_built (NewBytes d t bytes) = true
 is_built (ReadBytes r n) = true
+is_built (Host d n) = true
 is_built (I31 d n) = true
 is_built (Field r i into) = true
 is_built (Elem r i into) = true
 is_built (Len r) = true
+is_built (HostNumber r) = true
 is_built (SetField r i v) = true
 is_built (SetElem r i v) = true
 is_built (Eq r q) = true
@@ -46,6 +50,8 @@ is_built (Store k r) = true
 is_built (Load k d) = true
 is_built (SetGlobal g r) = true
 is_built (GetGlobal g d) = true
+is_built (Throw r) = true
+is_built (Take d) = true
 is_built Gc = true
 is_built (Grow n) = true
 is_built Cap = true
@@ -108,12 +114,18 @@ onto None rest = None
 onto (Some x) None = None
 onto (Some x) (Some xs) = Some (x ∷ xs)
 
--- the fields that words spell, in order
-abbrev pub fields_of : (ℕ → Option TypeKind) → List FieldWord → Option (List FieldType)
-fields_of kind [] = Some []
-fields_of kind (f ∷ fs) = onto (field_of kind f) (fields_of kind fs)
+-- what words spell, in order, where each spells something
+abbrev pub each_of : {A B : Type 0} → (A → Option B) → List A → Option (List B)
+each_of read [] = Some []
+each_of read (w ∷ ws) = onto (read w) (each_of read ws)
 
--- the struct type and the array type that a declaration spells, among these types; none where some word names no type that
+abbrev pub fields_of : (ℕ → Option TypeKind) → List FieldWord → Option (List FieldType)
+fields_of kind words = each_of (field_of kind) words
+
+abbrev pub values_of : (ℕ → Option TypeKind) → List ValueWord → Option (List ValType)
+values_of kind words = each_of (value_of kind) words
+
+-- the struct type, the array type and the exception type that a declaration spells, among these types; none where some word names no type that
 -- it may
 abbrev pub declared_struct : Bool → Option ℕ → List FieldWord → List Declaration → Option Declaration
 declared_struct is_final supertype fields types =
@@ -122,3 +134,6 @@ declared_struct is_final supertype fields types =
 abbrev pub declared_array : Bool → Option ℕ → FieldWord → List Declaration → Option Declaration
 declared_array is_final supertype element types =
     option_map (λ (f : FieldType). array_type f supertype is_final) (field_of (kinds_with types kinds.Array) element)
+
+abbrev pub declared_exception : List ValueWord → List Declaration → Option Declaration
+declared_exception params types = option_map (λ (ps : List ValType). exn_type ps) (values_of (kinds_with types kinds.Exn) params)

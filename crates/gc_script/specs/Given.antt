@@ -134,12 +134,24 @@ is_array (array ty vs) = true
 is_array (host v) = false
 is_array (exception ty tag vs) = false
 
+abbrev pub is_host : Object ℕ → Bool
+is_host (struct ty vs) = false
+is_host (array ty vs) = false
+is_host (host v) = true
+is_host (exception ty tag vs) = false
+
 -- a struct or an exception
 abbrev pub has_fields : Object ℕ → Bool
 has_fields (struct ty vs) = true
 has_fields (array ty vs) = false
 has_fields (host v) = false
 has_fields (exception ty tag vs) = true
+
+abbrev pub is_exception : Object ℕ → Bool
+is_exception (struct ty vs) = false
+is_exception (array ty vs) = false
+is_exception (host v) = false
+is_exception (exception ty tag vs) = true
 
 -- a register names an object of that kind
 abbrev pub names_kind : (Object ℕ → Bool) → Option Target → Bool

@@ -4,6 +4,7 @@ pub mod Built
 pub mod Given
 pub mod Shapes
 pub mod Steps
+pub mod Requested
 pub mod Policy
 pub mod Named
 pub mod OwnTypes

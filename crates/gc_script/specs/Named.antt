@@ -23,19 +23,21 @@ use Rattle.gc_script.specs.declared.objects.Wanted.{Wanted}
 use Rattle.gc_script.specs.declared.objects.Wanted.TheVariants as wanted
 use Rattle.gc_script.specs.Slots.{register_at}
 use Rattle.gc_script.specs.State.{State}
-use Rattle.gc_script.specs.Given.{target, reference_target, is_struct, is_array, has_fields, names_kind}
+use Rattle.gc_script.specs.Given.{target, reference_target, is_struct, is_array, is_exception, has_fields, names_kind}
 use Rattle.gc_script.specs.Steps.{first_failing, target_tests}
 
 -- the objects of the table that a command is for
 abbrev pub wants : Wanted → Object ℕ → Bool
 wants wanted.Struct = is_struct
 wants wanted.Array = is_array
+wants wanted.Exception = is_exception
 wants wanted.WithFields = has_fields
 
 -- the same by what the store says of a root
 abbrev pub takes : Wanted → RootedObject → Bool
 takes wanted.Struct (rooted.Struct ty) = true
 takes wanted.Array (rooted.Array ty n) = true
+takes wanted.Exception (rooted.Exn ty tag) = true
 takes wanted.WithFields (rooted.Struct ty) = true
 takes wanted.WithFields (rooted.Exn ty tag) = true
 takes _ _ = false
@@ -83,6 +85,10 @@ pub record IsNamed (layouts : Layouts) (s : StoreView ℕ) (kind : Wanted) (foun
 abbrev pub TellsObject : StoreView ℕ → Table ℕ → Wanted → Reference → Option NamedObject → Type 0
 TellsObject s t kind r (Some found) = (names : NamesObject s t found) × ((r ≡ at names.position) × (wants kind names.object ≡ true))
 TellsObject s t kind r None = names_kind (wants kind) (reference_target t (Some r)) ≡ false
+
+-- so in each table that the store holds where the root is live
+abbrev pub IsNamedEverywhere : Layouts → StoreView ℕ → Wanted → NamedObject → Type 0
+IsNamedEverywhere layouts s kind found = (t : Table ℕ) (r : Reference) → HoldsTable layouts s t → NamesReference s t found.root r → TellsObject s t kind r (Some found)
 
 -- the object that a register names in a state, whose tests pass
 pub record FoundObject (store : StoreView ℕ) (s : State) (kind : Wanted) (r : ℕ) (found : NamedObject) : Type 0 where

@@ -10,7 +10,7 @@ use Rattle.gc_owner.specs.Limiters.{Refuses}
 use Rattle.gc_store.specs.Places.{MayGetPages}
 use Rattle.gc_policy.specs.Policy.{PolicyState}
 use Rattle.gc_commands.specs.declared.command.Command.{Command}
-use Rattle.gc_commands.specs.declared.command.Command.TheVariants.{Struct, Array, New, NewArr, Fixed, NewBytes, ReadBytes, I31, Field, Elem, Len, SetField, SetElem, Eq, Enter, Leave, Push, Pop, Store, Load, SetGlobal, GetGlobal, Grow, Cap}
+use Rattle.gc_commands.specs.declared.command.Command.TheVariants.{Struct, Array, Exn, New, NewExn, NewArr, Fixed, NewBytes, ReadBytes, Host, I31, Field, Elem, Len, HostNumber, SetField, SetElem, Eq, Enter, Leave, Push, Pop, Store, Load, SetGlobal, GetGlobal, Throw, Take, Grow, Cap}
 use Rattle.gc_commands.specs.declared.reply.Reply.{Reply}
 use Rattle.gc_commands.specs.declared.reply.Reply.TheVariants as reply
 use Rattle.gc_commands.specs.declared.reply.Refusal.{Refusal}
@@ -90,11 +90,14 @@ RunsOne layouts counter limits limits' s c (Err e) new runner = WantsMemory layo
 abbrev pub takes_memory : Command → Bool
 takes_memory (Struct is_final supertype fs) = true
 takes_memory (Array is_final supertype element) = true
+takes_memory (Exn params) = true
 takes_memory (New d t vs) = true
+takes_memory (NewExn d t tag vs) = true
 takes_memory (NewArr d t n v) = true
 takes_memory (Fixed d t vs) = true
 takes_memory (NewBytes d t bytes) = true
 takes_memory (ReadBytes r n) = true
+takes_memory (Host d n) = true
 takes_memory (I31 d n) = true
 takes_memory (Field r i into) = true
 takes_memory (Elem r i into) = true
@@ -102,6 +105,7 @@ takes_memory Enter = true
 takes_memory (Push k) = true
 takes_memory (Load k d) = true
 takes_memory (GetGlobal g d) = true
+takes_memory (Take d) = true
 takes_memory (Grow n) = true
 takes_memory _ = false
 
@@ -142,11 +146,13 @@ GoesOn layouts s c result new runner = GoesBy layouts s (shape c) (tests layouts
 abbrev pub asks_nothing : Command → Bool
 asks_nothing (Struct is_final supertype fs) = true
 asks_nothing (Array is_final supertype element) = true
+asks_nothing (Exn params) = true
 asks_nothing (ReadBytes r n) = true
 asks_nothing (I31 d n) = true
 asks_nothing (Field r i into) = true
 asks_nothing (Elem r i into) = true
 asks_nothing (Len r) = true
+asks_nothing (HostNumber r) = true
 asks_nothing (SetField r i v) = true
 asks_nothing (SetElem r i v) = true
 asks_nothing (Eq r q) = true
@@ -158,5 +164,7 @@ asks_nothing (Store k r) = true
 asks_nothing (Load k d) = true
 asks_nothing (SetGlobal g r) = true
 asks_nothing (GetGlobal g d) = true
+asks_nothing (Throw r) = true
+asks_nothing (Take d) = true
 asks_nothing Cap = true
 asks_nothing _ = false

@@ -10,9 +10,10 @@ use Rattle.gc_model.specs.Values as values
 use Rattle.gc_model.specs.Table.{Table, Slot, empty_slot, push, leave, write}
 use Rattle.gc_model.specs.Frames.{push_frame, pop_frame, set_slot, slot_at}
 use Rattle.gc_model.specs.Globals.{set_global, global_at}
-use Rattle.gc_model.specs.Reads.{after_read, same_reference}
+use Rattle.gc_model.specs.Pending.{set_pending, take_pending}
+use Rattle.gc_model.specs.Reads.{after_read, host_value, same_reference}
 use Rattle.gc_commands.specs.declared.command.Command.{Command}
-use Rattle.gc_commands.specs.declared.command.Command.TheVariants.{Struct, Array, New, NewArr, Fixed, NewBytes, ReadBytes, I31, Field, Elem, Len, SetField, SetElem, Eq, Enter, Leave, Push, Pop, Store, Load, SetGlobal, GetGlobal, Gc, Grow, Cap}
+use Rattle.gc_commands.specs.declared.command.Command.TheVariants.{Struct, Array, Exn, New, NewExn, NewArr, Fixed, NewBytes, ReadBytes, Host, I31, Field, Elem, Len, HostNumber, SetField, SetElem, Eq, Enter, Leave, Push, Pop, Store, Load, SetGlobal, GetGlobal, Throw, Take, Gc, Grow, Cap}
 use Rattle.gc_commands.specs.declared.command.Operand.{Operand}
 use Rattle.gc_commands.specs.declared.reply.Reply.{Reply}
 use Rattle.gc_commands.specs.declared.reply.Reply.TheVariants as reply
@@ -21,14 +22,17 @@ use Rattle.gc_commands.specs.declared.reply.ReplyValue.TheVariants as reply_valu
 use Rattle.gc_commands.specs.declared.reply.Refusal.TheVariants as refusal
 use Rattle.gc_model.specs.Stored.{stored, stored_in, byte_value}
 use Rattle.gc_store.specs.Slots.{slot_value}
-use Rattle.gc_store.specs.Requests.{fields_of, element_of}
+use Rattle.gc_store.specs.Requests.{fields_of, exn_fields_of, element_of}
 use Rattle.gc_script.specs.State.{State, Held, number, reference, with_table, with_marks, set_register, put_into}
-use Rattle.gc_script.specs.Built.{declared_struct, declared_array}
+use Rattle.gc_script.specs.Built.{declared_struct, declared_array, declared_exception}
 use Rattle.gc_script.specs.Given.{given, given_register, given_value, given_values, named, Target, target, target_values, field_of}
 
--- the objects that `new`, `newarr`, `fixed` and `bytes` make
+-- the objects that `new`, `newexn`, `newarr`, `fixed`, `bytes` and `host` make
 abbrev pub new_struct : State → ℕ → List Operand → Object ℕ
 new_struct s t vs = struct t (stored_in (fields_of s.table.types t) (given_values s vs))
+
+abbrev pub new_exception : State → ℕ → ℕ → List Operand → Object ℕ
+new_exception s t tag vs = exception t (record { instance = 0; index = tag }) (stored_in (exn_fields_of s.table.types t) (given_values s vs))
 
 abbrev pub new_array : State → ℕ → ℕ → Operand → Object ℕ
 new_array s t n v = array t (replicate n (stored (element_of s.table.types t) (given_value (given s v))))
@@ -38,6 +42,9 @@ new_fixed s t vs = array t (map (stored (element_of s.table.types t)) (given_val
 
 abbrev pub new_bytes : ℕ → List ℕ → Object ℕ
 new_bytes t bytes = array t (map byte_value bytes)
+
+abbrev pub new_host : ℕ → Object ℕ
+new_host n = host n
 
 abbrev pub shown_object : Option (Object ℕ) → ReplyValue
 shown_object None = reply_value.Null
@@ -106,6 +113,14 @@ writes_value r i v s =
 -- the length of an array is told
 abbrev pub tells_length : ℕ → State → Reply × State
 tells_length r s = (reply.Length (length (target_values (target s r))), s)
+
+-- the number of a host object is told
+abbrev pub host_number : Option Target → ℕ
+host_number None = 0
+host_number (Some found) = unwrap_or (host_value found.object) 0
+
+abbrev pub tells_host : ℕ → State → Reply × State
+tells_host r s = (reply.HostNumber (host_number (target s r)), s)
 
 -- the bytes of an array are told
 abbrev pub byte_of : Value → ℕ
@@ -176,6 +191,24 @@ global_value s g = slot_value (unwrap_or (global_at s.table g) empty_slot)
 abbrev pub gets_global : ℕ → ℕ → State → Reply × State
 gets_global g d s = reads (global_value s g) (Some d) s
 
+-- The exception that a register names is thrown: it is pending, and the reply says that it was thrown. No other refusal
+-- changes anything.
+abbrev pub throw_target : Option Target → Table ℕ → Table ℕ
+throw_target None t = t
+throw_target (Some found) t = set_pending (at found.position) t
+
+abbrev pub throws : ℕ → State → Reply × State
+throws r s = (reply.Refused refusal.ThrownException, with_table (throw_target (target s r) s.table) s)
+
+-- the pending exception as a value; null of its class where none is pending
+abbrev pub pending_value : Option Reference → Value
+pending_value None = values.reference class.Exn null
+pending_value (Some r) = values.reference class.Exn r
+
+-- the pending exception is read into a register, and none is pending any more
+abbrev pub takes_pending : ℕ → State → Reply × State
+takes_pending d s = reads (pending_value s.table.pending) (Some d) (with_table (take_pending s.table) s)
+
 -- What a command does, in so far as heap and limiter have to do with it:
 -- `plain` answers and leaves what the function says of what is visible of the state, and nothing hidden changes;
 -- `declaring` declares the type that the declared types make of it, where they make one;
@@ -195,15 +228,19 @@ pub data Shape : Type 0 where
 abbrev pub shape : Command → Shape
 shape (Struct is_final supertype fs) = declaring (declared_struct is_final supertype fs)
 shape (Array is_final supertype element) = declaring (declared_array is_final supertype element)
+shape (Exn params) = declaring (declared_exception params)
 shape (New d t vs) = making d class.Any (λ (s : State). new_struct s t vs)
+shape (NewExn d t tag vs) = making d class.Exn (λ (s : State). new_exception s t tag vs)
 shape (NewArr d t n v) = making d class.Any (λ (s : State). new_array s t n v)
 shape (Fixed d t vs) = making d class.Any (λ (s : State). new_fixed s t vs)
 shape (NewBytes d t bytes) = making d class.Any (λ (s : State). new_bytes t bytes)
 shape (ReadBytes r n) = plain (tells_bytes r)
+shape (Host d n) = making d class.Extern (λ (s : State). new_host n)
 shape (I31 d n) = plain (makes_small d n)
 shape (Field r i into) = plain (reads_value r i into)
 shape (Elem r i into) = plain (reads_value r i into)
 shape (Len r) = plain (tells_length r)
+shape (HostNumber r) = plain (tells_host r)
 shape (SetField r i v) = plain (writes_value r i v)
 shape (SetElem r i v) = plain (writes_value r i v)
 shape (Eq r q) = plain (compares r q)
@@ -215,6 +252,8 @@ shape (Store k r) = plain (sets_slot k r)
 shape (Load k d) = plain (gets_slot k d)
 shape (SetGlobal g r) = plain (sets_global g r)
 shape (GetGlobal g d) = plain (gets_global g d)
+shape (Throw r) = plain (throws r)
+shape (Take d) = plain (takes_pending d)
 shape Gc = collecting
 shape (Grow n) = growing n
 shape Cap = showing

@@ -1,5 +1,5 @@
 -- One step of a session.
-use Rattle.std.specs.Prelude.{◌≡◌, ℕ, ◌*◌, ◌==◌, ◌&&◌, nat_le, Bool, true, false, not, List, [], ◌∷◌, ◌++◌, Option, Some, None, is_none, length, slice_get, if◌then◌else◌, unwrap_or, option_map}
+use Rattle.std.specs.Prelude.{◌≡◌, ℕ, ◌*◌, ◌==◌, ◌&&◌, nat_le, Bool, true, false, not, List, [], ◌∷◌, ◌++◌, Option, Some, None, is_none, is_some, length, slice_get, if◌then◌else◌, unwrap_or, option_map}
 use Rattle.std.specs.List.{list_any, flat_map}
 use Rattle.gc_types.specs.declared.value.FieldType.{FieldType}
 use Rattle.gc_types.specs.declared.kind.Layouts.{Layouts}
@@ -13,11 +13,11 @@ use Rattle.gc_model.specs.Globals.{global_at}
 use Rattle.gc_model.specs.Live.{roots_full}
 use Rattle.gc_model.specs.Reach.{KeepsNumber}
 use Rattle.gc_model.specs.Reads.{makes_root}
-use Rattle.gc_model.specs.Sizes.{object_size}
+use Rattle.gc_model.specs.Sizes.{object_size, exn_fields_at}
 use Rattle.gc_view.specs.Pages.{page}
 use Rattle.gc_model.specs.Allocation.{too_large, Allocates, LacksMemory, Grows}
 use Rattle.gc_commands.specs.declared.command.Command.{Command}
-use Rattle.gc_commands.specs.declared.command.Command.TheVariants.{New, NewArr, Fixed, NewBytes, ReadBytes, I31, Field, Elem, Len, SetField, SetElem, Eq, Leave, Pop, Store, Load, SetGlobal, GetGlobal}
+use Rattle.gc_commands.specs.declared.command.Command.TheVariants.{New, NewExn, NewArr, Fixed, NewBytes, ReadBytes, Host, I31, Field, Elem, Len, HostNumber, SetField, SetElem, Eq, Leave, Pop, Store, Load, SetGlobal, GetGlobal, Throw, Take}
 use Rattle.gc_commands.specs.declared.command.Operand.{Operand}
 use Rattle.gc_commands.specs.declared.reply.Reply.{Reply}
 use Rattle.gc_commands.specs.declared.reply.Reply.TheVariants as reply
@@ -28,12 +28,16 @@ use Rattle.gc_store.specs.Slots.{slot_value}
 use Rattle.gc_store.specs.Requests.{fields_of}
 use Rattle.gc_script.specs.State.{State, reference, with_table, with_account, with_heap, set_register, visible, over}
 use Rattle.gc_script.specs.Built.{is_built}
-use Rattle.gc_script.specs.Given.{Given, given, given_register, given_value, is_unset, is_gone, is_reference, named, is_struct, is_array, has_fields, names_kind, target, target_values, field_of, is_constant, holds_bytes, fits_field}
-use Rattle.gc_script.specs.Shapes.{Shape, plain, declaring, making, growing, collecting, showing, shape, new_struct, new_array, new_fixed, new_bytes}
+use Rattle.gc_script.specs.Given.{Given, given, given_register, given_value, is_unset, is_gone, is_reference, named, is_struct, is_array, is_host, is_exception, has_fields, names_kind, target, target_values, field_of, is_constant, holds_bytes, fits_field}
+use Rattle.gc_script.specs.Shapes.{Shape, plain, declaring, making, growing, collecting, showing, shape, new_struct, new_exception, new_array, new_fixed, new_bytes}
+
+-- how many fields these are; 0 where there are none
+abbrev pub count_in : Option (List FieldType) → ℕ
+count_in fields = unwrap_or (option_map length fields) 0
 
 -- how many fields the struct type has; 0 where it isn't declared
 abbrev pub field_count : Table ℕ → ℕ → ℕ
-field_count t ty = unwrap_or (option_map length (struct_fields_at t.types ty)) 0
+field_count t ty = count_in (struct_fields_at t.types ty)
 
 -- the tests of a value that goes into a field, by the types and the objects
 abbrev pub given_tests : List Declaration → List (Object ℕ) → Option FieldType → Given → List (Bool × Refusal)
@@ -114,6 +118,10 @@ set_elem_tests s r i v =
 abbrev pub len_tests : State → ℕ → List (Bool × Refusal)
 len_tests s r = (is_unset (given_register s r), refusal.NoSuchName) ∷ target_tests is_array s r
 
+-- the tests of asking for the number of a host object
+abbrev pub host_tests : State → ℕ → List (Bool × Refusal)
+host_tests s r = (is_unset (given_register s r), refusal.NoSuchName) ∷ target_tests is_host s r
+
 -- the tests of reading so many bytes of an array
 abbrev pub bytes_tests : State → ℕ → ℕ → List (Bool × Refusal)
 bytes_tests s r n =
@@ -137,13 +145,20 @@ eq_tests s r q =
 abbrev pub any_unset : State → List Operand → Bool
 any_unset s vs = list_any (λ (v : Operand). is_unset (given s v)) vs
 
--- the tests of `new`, up to those of the heap
-abbrev pub new_tests : State → ℕ → List Operand → List (Bool × Refusal)
-new_tests s t vs =
-    (is_none (struct_fields_at s.table.types t), refusal.NoSuchName)
+-- the tests of an object with the fields of a type, where there is one, up to those of the heap
+abbrev pub fields_tests : State → Option (List FieldType) → List Operand → List (Bool × Refusal)
+fields_tests s fields vs =
+    (is_none fields, refusal.NoSuchName)
     ∷ (any_unset s vs, refusal.NoSuchName)
-    ∷ (not (length vs == field_count s.table t), refusal.FieldCount)
-    ∷ all_value_tests s (fields_of s.table.types t) vs
+    ∷ (not (length vs == count_in fields), refusal.FieldCount)
+    ∷ all_value_tests s (unwrap_or fields []) vs
+
+-- so of `new` and of `newexn`
+abbrev pub new_tests : State → ℕ → List Operand → List (Bool × Refusal)
+new_tests s t vs = fields_tests s (struct_fields_at s.table.types t) vs
+
+abbrev pub new_exn_tests : State → ℕ → List Operand → List (Bool × Refusal)
+new_exn_tests s t vs = fields_tests s (exn_fields_at s.table.types t) vs
 
 -- the test of an array type's name
 abbrev pub array_test : State → ℕ → Bool × Refusal
@@ -190,18 +205,29 @@ getting_tests slot full =
     ∷ (reads_root (option_map slot_value slot) && full, refusal.RootsFull)
     ∷ []
 
+-- the tests of throwing what a register names
+abbrev pub throw_tests : State → ℕ → List (Bool × Refusal)
+throw_tests s r = (is_unset (given_register s r), refusal.NoSuchName) ∷ target_tests is_exception s r
+
+-- the test of taking the pending exception, which gets a root
+abbrev pub take_tests : State → List (Bool × Refusal)
+take_tests s = (is_some s.table.pending && roots_full s.table, refusal.RootsFull) ∷ []
+
 -- The tests of a command of a built form, in their order; the first that is true refuses it. Whether a type
 -- may be declared is tested by `Declares`.
 abbrev pub built_tests : Layouts → State → Command → List (Bool × Refusal)
 built_tests layouts s (New d t vs) = new_tests s t vs ++ heap_tests layouts s (new_struct s t vs)
+built_tests layouts s (NewExn d t tag vs) = new_exn_tests s t vs ++ heap_tests layouts s (new_exception s t tag vs)
 built_tests layouts s (NewArr d t n v) = new_array_tests s t n v ++ heap_tests layouts s (new_array s t n v)
 built_tests layouts s (Fixed d t vs) = new_fixed_tests s t vs ++ heap_tests layouts s (new_fixed s t vs)
 built_tests layouts s (NewBytes d t bytes) = new_bytes_tests s t ++ heap_tests layouts s (new_bytes t bytes)
 built_tests layouts s (ReadBytes r n) = bytes_tests s r n
+built_tests layouts s (Host d n) = (roots_full s.table, refusal.RootsFull) ∷ []
 built_tests layouts s (I31 d n) = (roots_full s.table, refusal.RootsFull) ∷ []
 built_tests layouts s (Field r i into) = reading_tests has_fields s r i
 built_tests layouts s (Elem r i into) = reading_tests is_array s r i
 built_tests layouts s (Len r) = len_tests s r
+built_tests layouts s (HostNumber r) = host_tests s r
 built_tests layouts s (SetField r i v) = set_tests s r i v
 built_tests layouts s (SetElem r i v) = set_elem_tests s r i v
 built_tests layouts s (Eq r q) = eq_tests s r q
@@ -211,6 +237,8 @@ built_tests layouts s (Store k r) = setting_tests (slot_at s.table k) (given_reg
 built_tests layouts s (Load k d) = getting_tests (slot_at s.table k) (roots_full s.table)
 built_tests layouts s (SetGlobal g r) = setting_tests (global_at s.table g) (given_register s r)
 built_tests layouts s (GetGlobal g d) = getting_tests (global_at s.table g) (roots_full s.table)
+built_tests layouts s (Throw r) = throw_tests s r
+built_tests layouts s (Take d) = take_tests s
 built_tests layouts s _ = []
 
 -- the tests of a command, which see what is visible of the state
@@ -262,7 +290,7 @@ Does layouts limit s (growing n) answer s' = AnswersGrow limit n s answer s'
 Does layouts limit s collecting answer s' = Keeps layouts s answer × ((a : Account) × (s' ≡ with_account a s))
 Does layouts limit s showing answer s' = (answer ≡ reply.Capacity (page * s.table.pages)) × (s' ≡ s)
 
--- a refused command replies its refusal and changes nothing; any other does what its shape says
+-- a command that a test refuses replies its refusal and changes nothing; any other does what its shape says
 abbrev pub Answers : Layouts → Option ℕ → State → Shape → Option Refusal → Reply → State → Type 0
 Answers layouts limit s sh (Some why) answer s' = (answer ≡ reply.Refused why) × (s' ≡ s)
 Answers layouts limit s sh None answer s' = Does layouts limit s sh answer s'

@@ -12,15 +12,19 @@ pub(crate) fn is_built(command: &Command) -> bool
     match command {
         Command::Struct { .. }
         | Command::Array { .. }
+        | Command::Exn { .. }
         | Command::New { .. }
+        | Command::NewExn { .. }
         | Command::NewArr { .. }
         | Command::Fixed { .. }
         | Command::NewBytes { .. }
         | Command::ReadBytes { .. }
+        | Command::Host { .. }
         | Command::I31 { .. }
         | Command::Field { .. }
         | Command::Elem { .. }
         | Command::Len { .. }
+        | Command::HostNumber { .. }
         | Command::SetField { .. }
         | Command::SetElem { .. }
         | Command::Eq { .. }
@@ -32,6 +36,8 @@ pub(crate) fn is_built(command: &Command) -> bool
         | Command::Load { .. }
         | Command::SetGlobal { .. }
         | Command::GetGlobal { .. }
+        | Command::Throw { .. }
+        | Command::Take { .. }
         | Command::Gc
         | Command::Grow { .. }
         | Command::Cap => true,

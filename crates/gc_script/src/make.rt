@@ -1,8 +1,11 @@
 //! The commands that make objects and small integers.
 
-ghost use Rattle.std.specs.Prelude.{◌≡◌, ℕ};
+ghost use Rattle.std.specs.Prelude.{◌≡◌, ℕ, length};
+ghost use Rattle.std.specs.Option.{option_map};
 ghost use Rattle.gc_commands.specs.declared.command.Command.TheVariants as Command;
+ghost use Rattle.gc_model.specs.Sizes.{exn_fields_at};
 ghost use Rattle.gc_model.specs.Values.{Object};
+ghost use Rattle.gc_script.specs.Requested.{class_of, type_of, requested, requested_fields, requested_tests};
 ghost use Rattle.gc_script.specs.State.{State, HoldsState, visible};
 ghost use Rattle.gc_script.specs.Shapes.{making};
 ghost use Rattle.gc_script.specs.Steps.{heap_tests};
@@ -17,7 +20,50 @@ use gc_commands::{Operand, Refusal, Reply};
 use gc_heap::GcHeap;
 use gc_refs::I31;
 use gc_store::{Contents, GcClass, Place, PlaceFault, RawValue, ResourceLimiter, RootFault, Store};
-use gc_types::VMSharedTypeIndex;
+use gc_types::{TypeKind, Types, VMSharedTypeIndex};
+
+/// The class of references to what is requested.
+fn class_of(request: &Place) -> GcClass
+    ensures { result ≡ class_of request.now }
+{
+    match request {
+        Place::Struct(_) => GcClass::Any,
+        Place::Exn(..) => GcClass::Exn,
+        Place::Array(..) => GcClass::Any,
+    }
+}
+
+/// The type of what is requested.
+fn type_of(request: &Place) -> VMSharedTypeIndex
+    ensures { result ≡ type_of request.now }
+{
+    match *request {
+        Place::Struct(ty) => ty,
+        Place::Exn(ty, _) => ty,
+        Place::Array(ty, _) => ty,
+    }
+}
+
+/// How many fields the exception type has; None where the index names none.
+fn exn_len(types: &Types, ty: VMSharedTypeIndex) -> Option<usize>
+    ensures { result ≡ option_map length (exn_fields_at types.now.declarations ty) }
+{
+    match types.kind_of(ty) {
+        Some(TypeKind::Exn) => types.fields_len(ty),
+        _ => None,
+    }
+}
+
+/// How many fields what is requested has; None where there is no such type, or it is an array.
+fn fields_len(types: &Types, request: &Place) -> Option<usize>
+    ensures { result ≡ option_map length (requested_fields types.now.declarations request.now) }
+{
+    match *request {
+        Place::Struct(ty) => types.struct_len(ty),
+        Place::Exn(ty, _) => exn_len(types, ty),
+        Place::Array(..) => None,
+    }
+}
 
 impl Runner {
     /// Places an object that may be placed, and puts it into register `d`.
@@ -31,16 +77,16 @@ impl Runner {
     ) -> Result<Reply, RunError>
         requires { CanPlaceIn ℕ H.KIND store.old request contents }
         ensures runs { (s : State) (object : State → Object ℕ) → HoldsState H.KIND store.old self.old s → IsObjectOf store.old s.table request contents.entry (object (visible s))
-            → RunsOn H.KIND store.old.alloc_counter (L.limits limiter.old) (L.limits limiter.new) s (making d GcClass.Any object) (heap_tests H.KIND s (object (visible s))) result store.new self.new }
+            → RunsOn H.KIND store.old.alloc_counter (L.limits limiter.old) (L.limits limiter.new) s (making d (class_of request) object) (heap_tests H.KIND s (object (visible s))) result store.new self.new }
         ensures same { IsSameStore store.old store.new }
     {
         if self.registers.make_room(d).is_err() {
             return Err(RunError::OutOfMemory);
         }
+        let class = class_of(&request);
         match store.place(limiter, request, contents) {
             Ok(handle) => {
-                self.registers
-                    .set(d, RawValue::Ref(GcClass::Any, Some(handle)));
+                self.registers.set(d, RawValue::Ref(class, Some(handle)));
                 Ok(Reply::Done)
             }
             Err(PlaceFault::TooLarge) => Ok(Reply::Refused(Refusal::TooLarge)),
@@ -49,6 +95,39 @@ impl Runner {
             // No function is among the values, so the store never answers this.
             Err(PlaceFault::FuncTableFull) => Err(RunError::OutOfMemory),
             Err(PlaceFault::Memory) => Err(RunError::OutOfMemory),
+        }
+    }
+
+    /// Makes an object with the fields of a type, of these values, and puts it into register `d`.
+    pub(crate) fn make_fields<H: GcHeap, L: ResourceLimiter>(
+        &mut self,
+        store: &mut Store<H, u64>,
+        limiter: &mut L,
+        d: u16,
+        request: Place,
+        operands: &[Operand],
+    ) -> Result<Reply, RunError>
+        ensures runs { (s : State) → HoldsState H.KIND store.old self.old s
+            → RunsOn H.KIND store.old.alloc_counter (L.limits limiter.old) (L.limits limiter.new) s (making d (class_of request) (requested request operands.now)) (requested_tests H.KIND s request operands.now) result store.new self.new }
+        ensures same { IsSameStore store.old store.new }
+    {
+        let Some(count) = fields_len(store.types(), &request) else {
+            return Ok(Reply::Refused(Refusal::NoSuchName));
+        };
+        let Ok(found) = operand_values(self.alloc, &self.registers, operands) else {
+            return Err(RunError::OutOfMemory);
+        };
+        let values = match found {
+            Some(values) => values,
+            None => return Ok(Reply::Refused(Refusal::NoSuchName)),
+        };
+        if values.len() != count {
+            return Ok(Reply::Refused(Refusal::FieldCount));
+        }
+        let values = values.as_slice();
+        match check_values(store, &ValueTypes::Fields(type_of(&request)), values) {
+            Ok(()) => self.place(store, limiter, d, request, Contents::Each(values)),
+            Err(refusal) => Ok(Reply::Refused(refusal)),
         }
     }
 
@@ -65,23 +144,7 @@ impl Runner {
         ensures same { IsSameStore store.old store.new }
     {
         let ty = VMSharedTypeIndex::new(t);
-        let Some(count) = store.types().struct_len(ty) else {
-            return Ok(Reply::Refused(Refusal::NoSuchName));
-        };
-        let Ok(found) = operand_values(self.alloc, &self.registers, operands) else {
-            return Err(RunError::OutOfMemory);
-        };
-        let Some(values) = found else {
-            return Ok(Reply::Refused(Refusal::NoSuchName));
-        };
-        if values.len() != count {
-            return Ok(Reply::Refused(Refusal::FieldCount));
-        }
-        let values = values.as_slice();
-        match check_values(store, &ValueTypes::Fields(ty), values) {
-            Ok(()) => self.place(store, limiter, d, Place::Struct(ty), Contents::Each(values)),
-            Err(refusal) => Ok(Reply::Refused(refusal)),
-        }
+        self.make_fields(store, limiter, d, Place::Struct(ty), operands)
     }
 
     /// Puts the low 31 bits of a number into register `d`.

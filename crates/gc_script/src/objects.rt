@@ -6,7 +6,7 @@ ghost use Rattle.gc_model.specs.Table.{Table};
 ghost use Rattle.gc_model.specs.Values.{Reference};
 ghost use Rattle.gc_store.specs.Roots.{NamesReference};
 ghost use Rattle.gc_script.specs.State.{State, Stands};
-ghost use Rattle.gc_script.specs.Named.{takes, count_of_fields, described, type_at, IsNamed, TellsObject, FindsObject};
+ghost use Rattle.gc_script.specs.Named.{takes, count_of_fields, described, type_at, IsNamed, IsNamedEverywhere, TellsObject, FindsObject};
 
 use crate::values::{handle_of, is_live};
 use gc_commands::Refusal;
@@ -19,6 +19,7 @@ use gc_types::{FieldType, VMSharedTypeIndex};
 pub(crate) enum Wanted {
     Struct,
     Array,
+    Exception,
     /// A struct or an exception.
     WithFields,
 }
@@ -48,6 +49,7 @@ impl Wanted {
         match self {
             Wanted::Struct => matches!(object, RootedObject::Struct(_)),
             Wanted::Array => matches!(object, RootedObject::Array(..)),
+            Wanted::Exception => matches!(object, RootedObject::Exn(..)),
             Wanted::WithFields => {
                 matches!(object, RootedObject::Struct(_) | RootedObject::Exn(..))
             }
@@ -102,6 +104,7 @@ fn object_of<H: GcHeap>(
     wanted: Wanted,
 ) -> Option<NamedObject>
     ensures named { IfSome result (IsNamed H.KIND store.now wanted) }
+    ensures root { IfSome result (λ found. found.root ≡ root) }
     ensures tells { (t : Table ℕ) (r : Reference) → HoldsTable H.KIND store.now t → NamesReference store.now t root r → TellsObject store.now t wanted r result }
 {
     match &store.object(root) {
@@ -117,13 +120,14 @@ fn object_of<H: GcHeap>(
 }
 
 /// The object that a register's value names: `Unrooted` where its root is gone, then `WrongKind` where it
-/// isn't one of these.
+/// isn't one of these. It is that object in each table that the store holds.
 pub(crate) fn find_object<H: GcHeap>(
     store: &Store<H, u64>,
     value: &RawValue,
     wanted: Wanted,
 ) -> Result<NamedObject, Refusal>
     ensures named { IfOk result (IsNamed H.KIND store.now wanted) }
+    ensures everywhere { IfOk result (IsNamedEverywhere H.KIND store.now wanted) }
     ensures finds { (s : State) (r : ℕ) → HoldsTable H.KIND store.now s.table → Stands store.now s.table (Some value.now) (s.registers r) → FindsObject store.now s wanted r result }
 {
     if !is_live(store, value) {

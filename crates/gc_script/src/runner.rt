@@ -58,8 +58,8 @@ impl Runner {
     /// Runs one command. What it refuses is a reply, and so is a command that is not built (`BadLine`); an
     /// error is want of memory, which leaves the table as it was, but that a command which makes an object
     /// and `grow` may have collected and got the heap pages. It comes of no command that takes no memory:
-    /// `len`, `setf`, `sete`, `eq`, `leave`, `pop`, `store`, `gset`, `gc`, `cap`, and those that are not
-    /// built.
+    /// `len`, `data`, `setf`, `sete`, `eq`, `leave`, `pop`, `store`, `gset`, `throw`, `gc`, `cap`, and those
+    /// that are not built.
     /// The time is linear in the command's length and in the number of the register that it sets, beside
     /// that of a collection and of new memory, and for `leave` in the roots that it drops.
     pub fn run_one<H: GcHeap, L: ResourceLimiter>(
@@ -80,6 +80,9 @@ impl Runner {
             Command::New { d, t, values } => {
                 self.make_struct(store, limiter, *d, *t, values.as_slice())
             }
+            Command::NewExn { d, t, tag, values } => {
+                self.make_exn(store, limiter, *d, *t, *tag, values.as_slice())
+            }
             Command::NewArr { d, t, len, value } => {
                 self.make_filled(store, limiter, *d, *t, *len, value)
             }
@@ -89,6 +92,7 @@ impl Runner {
             Command::NewBytes { d, t, bytes } => {
                 self.make_bytes(store, limiter, *d, *t, bytes.as_slice())
             }
+            Command::Host { d, n } => self.make_host(store, limiter, *d, *n),
             Command::Gc => Ok(self.collect(store)),
             Command::Grow { n } => self.grow(store, limiter, *n),
             _ => self.run_unasking(store, command),
@@ -117,6 +121,7 @@ impl Runner {
                 supertype,
                 elem,
             } => self.declare_array(store, *is_final, *supertype, elem),
+            Command::Exn { params } => self.declare_exn(store, params.as_slice()),
             Command::ReadBytes { r, len } => self.read_bytes(store, *r, *len),
             Command::I31 { d, n } => self.make_i31(store, *d, *n),
             Command::Field { r, i, into } => {
@@ -124,6 +129,7 @@ impl Runner {
             }
             Command::Elem { r, i, into } => self.read_value(store, Wanted::Array, *r, *i, *into),
             Command::Len { r } => Ok(self.length(store, *r)),
+            Command::HostNumber { r } => Ok(self.host_number(store, *r)),
             Command::SetField { r, i, value } => Ok(self.write_field(store, *r, *i, value)),
             Command::SetElem { r, i, value } => Ok(self.write_element(store, *r, *i, value)),
             Command::Eq { r, s } => Ok(self.compare(store, *r, *s)),
@@ -135,6 +141,8 @@ impl Runner {
             Command::Load { k, d } => self.load_slot(store, *k, *d),
             Command::SetGlobal { g, r } => Ok(self.set_global(store, *g, *r)),
             Command::GetGlobal { g, d } => self.get_global(store, *g, *d),
+            Command::Throw { r } => Ok(self.throw(store, *r)),
+            Command::Take { d } => self.take(store, *d),
             Command::Cap => Ok(self.capacity(store)),
             _ => unreachable!(),
         }

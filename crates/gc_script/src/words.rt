@@ -2,7 +2,7 @@
 //! it declares by the next one; `own` is that type's kind.
 
 ghost use Rattle.std.specs.Prelude.{◌≡◌, ◌<◌, ◌≤◌, ◌↔◌, length, IsTrue, None, IfOk, IfSome, IfNone};
-ghost use Rattle.gc_script.specs.Built.{kinds_with, named_type, heap_of, value_of, storage_of, field_of, fields_of};
+ghost use Rattle.gc_script.specs.Built.{kinds_with, named_type, heap_of, value_of, storage_of, field_of, fields_of, values_of};
 
 use gc_commands::{FieldWord, HeapWord, StorageWord, ValueWord};
 use gc_types::{
@@ -140,4 +140,24 @@ pub(crate) fn fields_of(
         fields.extend_from_slice(&[field])?;
     }
     Ok(Some(fields))
+}
+
+/// The value types that words spell, in order.
+pub(crate) fn values_of(
+    alloc: Global,
+    types: &Types,
+    own: TypeKind,
+    words: &[ValueWord],
+) -> Result<Option<Vec<ValType>>, AllocError>
+    ensures some { IfOk result (λ found. IfSome found (λ values. values_of (kinds_with types.now.declarations own) words.now ≡ Some values.items)) }
+    ensures none { IfOk result (λ found. IfNone found (values_of (kinds_with types.now.declarations own) words.now ≡ None)) }
+{
+    let mut values = Vec::with_capacity(alloc, words.len())?;
+    for word in words {
+        let Some(value) = value_of(types, own, word) else {
+            return Ok(None);
+        };
+        values.extend_from_slice(&[value])?;
+    }
+    Ok(Some(values))
 }

@@ -1,11 +1,11 @@
-use Rattle.std.proofs.Common.{ℕ, Option, sym, ◌∙◌, subst}
+use Rattle.std.proofs.Common.{◌≡◌, ℕ, Option, sym, ◌∙◌, subst}
 use Rattle.std.specs.Prelude.{Result, IfOk, IfSome}
 use Rattle.gc_store.specs.declared.root.RootFault.{RootFault}
 use Rattle.gc_store.specs.declared.root.RootedObject.{RootedObject}
 use Rattle.gc_store.specs.Roots.{TellsReference, FindsRoot}
 use Rattle.gc_script.specs.declared.objects.NamedObject.{NamedObject}
 use Rattle.gc_script.specs.Named.{TellsObject, IsNamed}
-use Rattle.gc_script.proofs.ObjectLemmas.{found_named, tells_taken, tells_other}
+use Rattle.gc_script.proofs.ObjectLemmas.{found_named, tells_taken, tells_other, described_root}
 use Rattle.gc_script.proofs.objects.object_of.Goals as goal
 
 pub returns-then-takes-clause-named : goal.returns-then-takes-clause-named
@@ -29,3 +29,7 @@ returns-else-takes-clause-tells g c t r holds named =
 pub returns-in-Err-clause-tells : goal.returns-in-Err-clause-tells
 returns-in-Err-clause-tells g c t r holds named =
     absurd (subst (λ (a : Result RootedObject RootFault). TellsReference t r a) c.in-Err.is (c.object.ensures.live t r holds named))
+
+pub returns-then-takes-clause-root : goal.returns-then-takes-clause-root
+returns-then-takes-clause-root g c =
+    subst (λ (o : Option NamedObject). IfSome o (λ (found : NamedObject). found.root ≡ c.args.root)) (sym c.describe.ensures) (described_root c.args.store.now.types c.args.root c.in-Ok.object)

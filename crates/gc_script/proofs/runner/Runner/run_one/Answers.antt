@@ -19,8 +19,8 @@ pub returns-in_default : goal.returns-in_default
 returns-in_default g c =
     let built : is_built c.args.command.now ≡ true = sym c.is_built.ensures ∙ c.if-not-is_built.false in
     let asks : asks_nothing c.args.command.now ≡ true =
-    others_ask c.args.command.now built (λ d t vs. c.in_default.not-New d t vs) (λ d t n v. c.in_default.not-NewArr d t n v) (λ d t vs. c.in_default.not-Fixed d t vs)
-    (λ d t bytes. c.in_default.not-NewBytes d t bytes) c.in_default.not-Gc (λ n. c.in_default.not-Grow n) in
+    others_ask c.args.command.now built (λ d t vs. c.in_default.not-New d t vs) (λ d t tag vs. c.in_default.not-NewExn d t tag vs) (λ d t n v. c.in_default.not-NewArr d t n v) (λ d t vs. c.in_default.not-Fixed d t vs)
+    (λ d t bytes. c.in_default.not-NewBytes d t bytes) (λ d n. c.in_default.not-Host d n) c.in_default.not-Gc (λ n. c.in_default.not-Grow n) in
     record {
       runs = λ s holds. goes_runs g.H.GcHeap.KIND c.args.store.now.alloc_counter (g.L.ResourceLimiter.limits c.args.limiter.now) s c.args.command.now c.run_unasking.result c.run_unasking.new.store c.run_unasking.new.self
           (asks_none c.args.command.now asks) (c.run_unasking.ensures.goes s holds);

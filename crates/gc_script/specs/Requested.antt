@@ -1,0 +1,48 @@
+-- Requests for objects with fields that commands make.
+use Rattle.std.specs.Prelude.{ℕ, Bool, List, [], ◌++◌, Option, None, unwrap_or}
+use Rattle.gc_types.specs.declared.kind.Layouts.{Layouts}
+use Rattle.gc_types.specs.declared.value.FieldType.{FieldType}
+use Rattle.gc_types.specs.Declarations.{Declaration, struct_fields_at}
+use Rattle.gc_owner.specs.declared.entry.GcClass.{GcClass}
+use Rattle.gc_owner.specs.declared.entry.GcClass.TheVariants as class
+use Rattle.gc_model.specs.Sizes.{exn_fields_at}
+use Rattle.gc_model.specs.Stored.{stored_in}
+use Rattle.gc_model.specs.Values.{Value, Object, struct, array, exception}
+use Rattle.gc_commands.specs.declared.command.Operand.{Operand}
+use Rattle.gc_commands.specs.declared.reply.Refusal.{Refusal}
+use Rattle.gc_store.specs.declared.request.Place.{Place}
+use Rattle.gc_store.specs.declared.request.Place.TheVariants as place
+use Rattle.gc_script.specs.State.{State}
+use Rattle.gc_script.specs.Given.{given_values}
+use Rattle.gc_script.specs.Steps.{fields_tests, heap_tests}
+
+-- the class of references to what is requested
+abbrev pub class_of : Place → GcClass
+class_of (place.Struct ty) = class.Any
+class_of (place.Exn ty tag) = class.Exn
+class_of (place.Array ty n) = class.Any
+
+abbrev pub type_of : Place → ℕ
+type_of (place.Struct ty) = ty
+type_of (place.Exn ty tag) = ty
+type_of (place.Array ty n) = ty
+
+-- the fields of what is requested; an array has none
+abbrev pub requested_fields : List Declaration → Place → Option (List FieldType)
+requested_fields types (place.Struct ty) = struct_fields_at types ty
+requested_fields types (place.Exn ty tag) = exn_fields_at types ty
+requested_fields types (place.Array ty n) = None
+
+-- an object of that request with these values
+abbrev pub object_with : Place → List Value → Object ℕ
+object_with (place.Struct ty) values = struct ty values
+object_with (place.Exn ty tag) values = exception ty tag values
+object_with (place.Array ty n) values = array ty values
+
+-- so with what its fields keep of the values of operands
+abbrev pub requested : Place → List Operand → State → Object ℕ
+requested request vs s = object_with request (stored_in (unwrap_or (requested_fields s.table.types request) []) (given_values s vs))
+
+-- the tests of making it
+abbrev pub requested_tests : Layouts → State → Place → List Operand → List (Bool × Refusal)
+requested_tests layouts s request vs = fields_tests s (requested_fields s.table.types request) vs ++ heap_tests layouts s (requested request vs s)
