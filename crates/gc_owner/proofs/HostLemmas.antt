@@ -143,7 +143,7 @@ module _ {D : Type 0} (layouts : Layouts) (id : ℕ) (value : D) where
   collected_value : (old new : OwnerView D) → HasValue layouts id value old → Collects layouts old new → HasValue layouts id value new
   collected_value old new has collects =
       let at = collected_try layouts (of.External id) (external id) (external_size layouts) old new has.at collects in
-      record { at = at; value_is = part_value (get new.hosts id) value at.described.0.there (λ x is. sym has.value_is ∙ collects.values id x is) }
+      record { at = at; value_is = part_value (get new.hosts id) value at.described.0.there (λ x is. sym has.value_is ∙ ap (λ (v : OwnerView D). get v.hosts id) (sym collects.trims.changes.rest) ∙ collects.runs.values id x is) }
 
   readied_value : (s e : OwnerState D) → HasValue layouts id value s.owner → Readies layouts s e → HasValue layouts id value e.owner
   readied_value s e has (inl collected) = collected_value s.owner e.owner has collected.1.0

@@ -14,7 +14,7 @@ use Rattle.gc_heap.specs.declared.collection.GcProgress.TheVariants as progress
 use Rattle.gc_heap.proofs.AddedLemmas.{start}
 use Rattle.gc_owner.specs.RootColumns.{RootsView, roots_of, moved_roots, with_list, without_list}
 use Rattle.gc_owner.specs.Going.{IsListed, StepsRoots, HasMovedList}
-use Rattle.gc_owner.specs.Owners.{OwnerView, OwnerValue, IsReady, InOrder, Goes, IsUnderWay, Increments, CollectsRoots, owner_value, start_of}
+use Rattle.gc_owner.specs.Owners.{OwnerView, OwnerValue, IsReady, InOrder, Goes, IsGoing, IsUnderWay, Increments, CollectsRoots, owner_value, start_of}
 use Rattle.gc_owner.specs.Tracing.{AreTraced, IsCollectable}
 use Rattle.gc_owner.proofs.Begins.{memory_same, memory_heap}
 use Rattle.gc_owner.proofs.CollectedRoots.{collects_roots}
@@ -65,9 +65,9 @@ module _ {H S D : Type 0} (layouts : Layouts) (seen : H → HeapView) (sound : H
     }
 
     pub begun_way : (roots' : RootsView) (state : S) → roots' ≡ with_list (roots_of roots) roots → roots.given ≡ 0 → ((s : Start) → sound heap → seen heap ≡ s.heap → CanCollect layouts s → under_way s 0 true (record { heap = heap; state = state; roots = s.roots; types = s.types; hosts = s.hosts }))
-        → IsUnderWay (kind_of layouts seen sound under_way) (start_of now.seen) 0 true now (owner_value (seen heap) types hosts roots' last heap (Some state))
+        → IsGoing (kind_of layouts seen sound under_way) (start_of now.seen) 0 true now (owner_value (seen heap) types hosts roots' last heap (Some state))
     begun_way roots' state listed none starts =
-        subst (λ (b : OwnerValue H S D). IsUnderWay (kind_of layouts seen sound under_way) (start_of b.seen) 0 true b (owner_value (seen heap) types hosts roots' last heap (Some state))) is (record {
+        subst (λ (b : OwnerValue H S D). IsGoing (kind_of layouts seen sound under_way) (start_of b.seen) 0 true b (owner_value (seen heap) types hosts roots' last heap (Some state))) is (record {
           state = state;
           state_is = refl;
           goes = begun_goes roots' state listed starts;
@@ -115,21 +115,27 @@ module _ {H S D : Type 0} (layouts : Layouts) (seen : H → HeapView) (sound : H
     -- a collection that began somewhere, as far as it has come
     pub way_goes : (s : Start) (n : ℕ) (c : Bool) (begun now : OwnerValue H S D) → before ≡ now → IsUnderWay (kind_of layouts seen sound under_way) s n c begun now → Goes (kind_of layouts seen sound under_way) s n c before state
     way_goes s n c begun now is way =
-        let at : IsUnderWay (kind_of layouts seen sound under_way) s n c begun before = subst (IsUnderWay (kind_of layouts seen sound under_way) s n c begun) (sym is) way in
+        let at = (subst (IsUnderWay (kind_of layouts seen sound under_way) s n c begun) (sym is) way).going in
         subst (Goes (kind_of layouts seen sound under_way) s n c before) (same_Some at.state state (sym at.state_is ∙ of_state)) at.goes
 
     pub way_on : (s : Start) (n : ℕ) (c : Bool) (begun now : OwnerValue H S D) → before ≡ now → IsUnderWay (kind_of layouts seen sound under_way) s n c begun now → StepsRoots layouts under_way sound s n roots roots' heap' (seen heap') state' types.declarations hosts' progress.Continue → IsPartOf hosts' hosts
         → Increments (kind_of layouts seen sound under_way) s (n + 1) begun (owner_value (seen heap') types hosts' roots' last heap' (Some state')) progress.Continue
     way_on s n c begun now is way step values =
-        let at : IsUnderWay (kind_of layouts seen sound under_way) s n c begun before = subst (IsUnderWay (kind_of layouts seen sound under_way) s n c begun) (sym is) way in (
+        let whole : IsUnderWay (kind_of layouts seen sound under_way) s n c begun before = subst (IsUnderWay (kind_of layouts seen sound under_way) s n c begun) (sym is) way in
+        let at = whole.going in
+        let from : OwnerView D = whole.trimmed.seen in (
           step.steps.0,
           record {
-            state = state';
-            state_is = refl;
-            goes = goes_on s n c (way_goes s n c begun now is way) step;
-            start = at.start;
-            values = λ id value found. at.values id value (values id value found);
-            rest = at.rest ∙ ap (λ (r : RootsView). record before.seen { heap = begun.seen.heap; hosts = begun.seen.hosts; idle = true; roots = without_list r }) (sym step.roots);
+            trimmed = whole.trimmed;
+            trims = whole.trims;
+            going = record {
+              state = state';
+              state_is = refl;
+              goes = goes_on s n c (way_goes s n c begun now is way) step;
+              start = at.start;
+              values = λ id value found. at.values id value (values id value found);
+              rest = at.rest ∙ ap (λ (r : RootsView). record before.seen { heap = from.heap; hosts = from.hosts; idle = true; roots = without_list r }) (sym step.roots);
+            };
           },
         )
 
@@ -168,25 +174,31 @@ module _ {H S D : Type 0} (layouts : Layouts) (seen : H → HeapView) (sound : H
       pub way_ends : (s : Start) (n : ℕ) (c : Bool) (begun now : OwnerValue H S D) → before ≡ now → IsUnderWay (kind_of layouts seen sound under_way) s n c begun now → StepsRoots layouts under_way sound s n roots roots' heap' (seen heap') state' types.declarations hosts' progress.Complete
           → IsPartOf hosts' hosts → last' ≡ (seen heap').allocated → Increments (kind_of layouts seen sound under_way) s (n + 1) begun (owner_value (seen heap') types hosts' roots'' last' heap' None) progress.Complete
       way_ends s n c begun now is way step values last_is =
-          let at : IsUnderWay (kind_of layouts seen sound under_way) s n c begun before = subst (IsUnderWay (kind_of layouts seen sound under_way) s n c begun) (sym is) way in
-          let goes : Goes (kind_of layouts seen sound under_way) (start_of begun.seen) n c before state = subst (λ (z : Start). Goes (kind_of layouts seen sound under_way) z n c before state) at.start (way_goes s n c begun now is way) in
-          let step' : StepsRoots layouts under_way sound (start_of begun.seen) n roots roots' heap' (seen heap') state' types.declarations hosts' progress.Complete =
+          let whole : IsUnderWay (kind_of layouts seen sound under_way) s n c begun before = subst (IsUnderWay (kind_of layouts seen sound under_way) s n c begun) (sym is) way in
+          let at = whole.going in
+          let from : OwnerView D = whole.trimmed.seen in
+          let goes : Goes (kind_of layouts seen sound under_way) (start_of from) n c before state = subst (λ (z : Start). Goes (kind_of layouts seen sound under_way) z n c before state) at.start (way_goes s n c begun now is way) in
+          let step' : StepsRoots layouts under_way sound (start_of from) n roots roots' heap' (seen heap') state' types.declarations hosts' progress.Complete =
           subst (λ (z : Start). StepsRoots layouts under_way sound z n roots roots' heap' (seen heap') state' types.declarations hosts' progress.Complete) at.start step in
-          let of_roots : begun.seen.roots ≡ without_list roots = ap (λ (v : OwnerView D). v.roots) at.rest in
-          let of_types : begun.seen.types ≡ types = ap (λ (v : OwnerView D). v.types) at.rest in
+          let of_roots : from.roots ≡ without_list roots = ap (λ (v : OwnerView D). v.roots) at.rest in
+          let of_types : from.types ≡ types = ap (λ (v : OwnerView D). v.types) at.rest in
           let after : IsHeap layouts (seen heap') = is_heap heap' step'.steps.1.0 in
           let ended : Option S = None in
-          let col = completed layouts (start_of begun.seen) begun.seen.roots roots'' (seen heap') step'.listed (has_host hosts') goes.heap goes.can goes.traced refl step'.steps.1.1 after
-          (took (start_of begun.seen) n begun.seen.roots step' of_roots step'.listed (ap (λ (r : RootsView). r.listed) step'.roots)) in (
+          let col = completed layouts (start_of from) from.roots roots'' (seen heap') step'.listed (has_host hosts') goes.heap goes.can goes.traced refl step'.steps.1.1 after
+          (took (start_of from) n from.roots step' of_roots step'.listed (ap (λ (r : RootsView). r.listed) step'.roots)) in (
             step.steps.0,
             record {
-              collected = col.collected;
-              roots = col.moves;
-              values = λ id value found. at.values id value (values id value found);
-              is_heap = after;
-              can = subst (λ (ts : TypeTable). IsCollectable layouts ts.declarations (seen heap') (roots_of roots'') (has_host hosts')) of_types col.can;
-              rest =
-                  ap (λ n. record (owner_value (seen heap') types hosts' roots'' last' heap' ended).seen { last = n }) last_is
-                  ∙ ap (λ (v : OwnerView D). record v { heap = seen heap'; hosts = hosts'; roots = roots''; last = (seen heap').allocated }) (sym at.rest);
+              trimmed = from;
+              trims = whole.trims;
+              runs = record {
+                collected = col.collected;
+                roots = col.moves;
+                values = λ id value found. at.values id value (values id value found);
+                is_heap = after;
+                can = subst (λ (ts : TypeTable). IsCollectable layouts ts.declarations (seen heap') (roots_of roots'') (has_host hosts')) of_types col.can;
+                rest =
+                    ap (λ n. record (owner_value (seen heap') types hosts' roots'' last' heap' ended).seen { last = n }) last_is
+                    ∙ ap (λ (v : OwnerView D). record v { heap = seen heap'; hosts = hosts'; roots = roots''; last = (seen heap').allocated }) (sym at.rest);
+              };
             },
           )

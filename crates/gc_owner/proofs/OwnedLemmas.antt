@@ -39,15 +39,13 @@ forgotten old new now is kept rest =
     ∙ ap (λ (r : RootsView). with_room new (record r { owned = with_handles r.owned })) is
 
 -- an owned root was added
-pub owned_kept : (layouts : Layouts) (types : List Declaration) (h : HeapView) (r : RootsView) (hosts : ℕ → Bool) (index : ℕ) (entry : OwnedEntry) → IsCollectable layouts types h (roots_of r) hosts → IsWordOf h entry.word
-    → IsCollectable layouts types (raised h entry.word) (roots_of (with_owned_root index entry r)) hosts
-owned_kept layouts types h r hosts index entry can is =
-    let front : List OwnedEntry = take index r.owned in
-    let later : List OwnedEntry = drop index r.owned in
-    let was : owned_words r ≡ words front ++ words later = ap words (sym (take-append-drop index r.owned)) ∙ map-append (λ (e : OwnedEntry). e.word) front later in
-    subst (λ ws. IsCollectable layouts types (raised h entry.word) (before_owned r ++ (listed_as 1 false ws ++ behind_owned r)) hosts) (sym (map-append (λ (e : OwnedEntry). e.word) front (entry ∷ later)))
-    (word_raised layouts types (before_owned r) 1 (behind_owned r) hosts h (words front) (words later) entry.word
-    (subst (λ ws. IsCollectable layouts types h (before_owned r ++ (listed_as 1 false ws ++ behind_owned r)) hosts) was can) is)
+pub owned_kept : (layouts : Layouts) (types : List Declaration) (h : HeapView) (r : RootsView) (hosts : ℕ → Bool) (word : ℕ) → IsCollectable layouts types h (roots_of r) hosts → IsWordOf h word
+    → IsCollectable layouts types (raised h word) (roots_of (with_owned_root word r)) hosts
+owned_kept layouts types h r hosts word can is =
+    subst (λ ws. IsCollectable layouts types (raised h word) (before_owned r ++ (listed_as 1 false ws ++ behind_owned r)) hosts)
+    (sym (map-append (λ (e : OwnedEntry). e.word) r.owned ((record { number = r.owns; handles = 1; word = word }) ∷ [])))
+    (word_raised layouts types (before_owned r) 1 (behind_owned r) hosts h (owned_words r) [] word
+    (subst (λ ws. IsCollectable layouts types h (before_owned r ++ (listed_as 1 false ws ++ behind_owned r)) hosts) (sym (append-nil (owned_words r))) can) is)
 
 -- handles don't matter
 same_words : (es : List OwnedEntry) (index handles : ℕ) → index < length es → words (set es index (record (get_or es index empty_entry) { handles = handles })) ≡ words es

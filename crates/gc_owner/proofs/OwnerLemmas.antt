@@ -19,7 +19,7 @@ use Rattle.gc_owner.specs.declared.entry.RootEntry.{RootEntry}
 use Rattle.gc_owner.specs.declared.entry.SlotEntry.{SlotEntry}
 use Rattle.gc_owner.specs.RootColumns.{RootsView, scoped_words, owned_words, slot_words, global_words, listed_as, roots_of, no_roots, empty_slot, with_scoped, with_global}
 pub use Rattle.gc_owner.specs.Owners.{kind_of}
-use Rattle.gc_owner.specs.Owners.{OwnerValue, Kind, IsReady, InOrder, owner_value, raised, lowered, CanDropWord, Collects, CollectsRoots}
+use Rattle.gc_owner.specs.Owners.{OwnerValue, Kind, IsReady, InOrder, owner_value, raised, lowered, CanDropWord, CollectsAll, CollectsRoots}
 use Rattle.gc_owner.specs.Tracing.{IsCollectable}
 use Rattle.gc_owner.specs.Limiters.{Limits}
 use Rattle.gc_owner.specs.Growing.{MakesHeap}
@@ -202,9 +202,9 @@ module _ {H S D : Type 0} (layouts : Layouts) (seen : H → HeapView) (sound : H
   })
 
   pub collected_seen : (now : OwnerValue H S D) → owner_value (seen heap) types hosts roots last heap state ≡ now → IsHeap layouts (seen heap') → IsPartOf hosts' hosts → last' ≡ (seen heap').allocated
-      → Collects layouts now.seen (owner_value (seen heap') types hosts' roots' last' heap' state).seen
+      → CollectsAll layouts now.seen (owner_value (seen heap') types hosts' roots' last' heap' state).seen
   collected_seen now is is_heap values last_is =
-      subst (λ (v : OwnerValue H S D). Collects layouts v.seen (owner_value (seen heap') types hosts' roots' last' heap' state).seen) is (record {
+      subst (λ (v : OwnerValue H S D). CollectsAll layouts v.seen (owner_value (seen heap') types hosts' roots' last' heap' state).seen) is (record {
         collected = col.collected;
         roots = col.moves;
         values = values;

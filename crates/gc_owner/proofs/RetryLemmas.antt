@@ -1,5 +1,7 @@
 -- An allocation by the rule of retry: what it keeps on its way, and what each way through it answers and leaves.
-use Rattle.std.proofs.Common.{◌≡◌, ℕ, ◌*◌, ◌^◌, ◌<◌, inl, inr, Bool, true, false, length, Result, Ok, Err, refl, sym, ap, ◌∙◌, subst, arith}
+use Rattle.std.proofs.Common.{◌≡◌, ℕ, ◌*◌, ◌^◌, ◌<◌, ◌≤◌, inl, inr, Bool, true, false, length, Result, Ok, Err, refl, sym, ap, ◌∙◌, subst, arith}
+use Rattle.std.specs.Ordering.{nat_cmp}
+use Rattle.std.specs.FinMap.{FinMap, get}
 use Rattle.std.proofs.lemmas.List.{length-map}
 use Rattle.gc_types.specs.declared.kind.Layouts.{Layouts}
 use Rattle.gc_types.specs.Declarations.{TypeTable}
@@ -19,7 +21,7 @@ use Rattle.gc_owner.specs.declared.pages.PagesFault.{PagesFault}
 use Rattle.gc_owner.specs.declared.pages.PagesFault.TheVariants as pages_fault
 use Rattle.gc_owner.specs.RootColumns.{RootsView, roots_of}
 use Rattle.gc_owner.specs.Limiters.{Limits}
-use Rattle.gc_owner.specs.Owners.{OwnerView, Collects, CanBegin, start_of}
+use Rattle.gc_owner.specs.Owners.{OwnerView, Trims, Collects, CollectsAll, CanBegin, start_of}
 use Rattle.gc_owner.specs.Growing.{OwnerState, state_of, Readies, Grows, GrowsBy, asked, pages_of, heap_after, collects_first, owner_rules}
 use Rattle.gc_owner.specs.Retry.{Retry, Paused}
 use Rattle.gc_owner.specs.Makes.{IsFreeHost, Describes, CanMake, Allocates}
@@ -36,7 +38,7 @@ pub record CanTry {D : Type 0} (layouts : Layouts) (d : Description) (o : HeapOb
   pub make : CanMake layouts v d
   pub described : Describes layouts v d o size
 
-free_collected : {D : Type 0} (layouts : Layouts) (id : ℕ) (old new : OwnerView D) → IsHeap layouts old.heap → CanBegin layouts old → Collects layouts old new → IsFreeHost old id → IsFreeHost new id
+free_collected : {D : Type 0} (layouts : Layouts) (id : ℕ) (old new : OwnerView D) → IsHeap layouts old.heap → CanBegin layouts old → CollectsAll layouts old new → IsFreeHost old id → IsFreeHost new id
 free_collected layouts id old new heap can collects free = record {
   there = collects.collected.hosts_kept id (λ place o ext same. absurd (free.unused place o (record { held = ext.held; kind = ext.kind }) same)) ∙ free.there;
   small = free.small;
@@ -44,6 +46,13 @@ free_collected layouts id old new heap can collects free = record {
       let from = origin layouts (start_of old) new.heap (roots_of new.roots) (has_host new.hosts) (memory_heap layouts old.heap heap) can.collects collects.collected place o ext.held in
       let was = external_origin layouts (start_of old) new.heap (roots_of new.roots) (has_host new.hosts) (memory_heap layouts old.heap heap) can.collects collects.collected place o from ext in
       free.unused from.place from.object (record { held = was.0.held; kind = was.0.kind }) (sym was.1 ∙ same);
+}
+
+free_trimmed : {D : Type 0} (layouts : Layouts) (id : ℕ) (old new : OwnerView D) → Trims layouts old new → IsFreeHost old id → IsFreeHost new id
+free_trimmed {D} layouts id old new trims free = record {
+  there = ap (λ (v : OwnerView D). has_host v.hosts id) trims.changes.rest ∙ free.there;
+  small = free.small;
+  unused = λ place o ext same. free.unused place o (record { held = ap (λ (m : FinMap nat_cmp HeapObject). get m place) (sym trims.changes.held.content) ∙ ext.held; kind = ext.kind }) same;
 }
 
 free_grown : {D : Type 0} (layouts : Layouts) (id bytes : ℕ) (v : OwnerView D) → IsFreeHost v id → IsFreeHost (record v { heap = grown layouts v.heap bytes }) id
@@ -58,12 +67,12 @@ described_later layouts (of.Object ty) o size old new types free (layout, (decla
 described_later layouts (of.Array ty count) o size old new types free (layout, (declared, rest)) = (layout, (ap (λ (t : TypeTable). array_layout_at layouts t.declarations ty) types ∙ declared, rest))
 described_later layouts (of.External id) o size old new types free (is, rest) = (free id is, rest)
 
-make_later : {D : Type 0} (layouts : Layouts) (d : Description) (o : HeapObject) (size : ℕ) (old new : OwnerView D) → new.idle ≡ true → new.heap.attached ≡ true → new.roots.spare ≡ old.roots.spare → length new.roots.scoped ≡ length old.roots.scoped
+make_later : {D : Type 0} (layouts : Layouts) (d : Description) (o : HeapObject) (size : ℕ) (old new : OwnerView D) → new.idle ≡ true → new.heap.attached ≡ true → old.roots.spare ≤ new.roots.spare → length new.roots.scoped ≡ length old.roots.scoped
     → Describes layouts new d o size → CanMake layouts old d → CanMake layouts new d
 make_later layouts d o size old new idle attached spare count described can = record {
   idle = idle;
   attached = attached;
-  spare = subst (λ n. 0 < n) (sym spare) can.spare;
+  spare = let some = can.spare in omega arith;
   few = subst (λ n. n < 2 ^ 32) (sym count) can.few;
   object = o;
   size = size;
@@ -71,16 +80,30 @@ make_later layouts d o size old new idle attached spare count described can = re
 }
 
 module _ {D : Type 0} (layouts : Layouts) (d : Description) (o : HeapObject) (size : ℕ) where
-  pub collected_try : (old new : OwnerView D) → CanTry layouts d o size old → Collects layouts old new → CanTry layouts d o size new
-  collected_try old new at collects =
+  trimmed_try : (old new : OwnerView D) → CanTry layouts d o size old → Trims layouts old new → CanTry layouts d o size new
+  trimmed_try old new at trims =
+      let described = described_later layouts d o size old new (ap (λ (v : OwnerView D). v.types) trims.changes.rest) (λ id. free_trimmed layouts id old new trims) at.described in
+      record {
+        heap = trims.is_heap;
+        can = trims.can;
+        make = make_later layouts d o size old new (ap (λ (v : OwnerView D). v.idle) trims.changes.rest ∙ at.make.idle) (trims.changes.held.attached ∙ at.make.attached) trims.spare
+            (ap (λ (v : OwnerView D). length v.roots.scoped) trims.changes.rest) described at.make;
+        described = described;
+      }
+
+  run_try : (old new : OwnerView D) → CanTry layouts d o size old → CollectsAll layouts old new → CanTry layouts d o size new
+  run_try old new at collects =
       let described = described_later layouts d o size old new (ap (λ (v : OwnerView D). v.types) collects.rest) (λ id. free_collected layouts id old new at.heap at.can collects) at.described in
       record {
         heap = collects.is_heap;
         can = collects.can;
-        make = make_later layouts d o size old new (ap (λ (v : OwnerView D). v.idle) collects.rest ∙ at.make.idle) collects.collected.attached (ap (λ (r : RootsView). r.spare) collects.roots)
+        make = make_later layouts d o size old new (ap (λ (v : OwnerView D). v.idle) collects.rest ∙ at.make.idle) collects.collected.attached (let same = ap (λ (r : RootsView). r.spare) collects.roots in omega arith)
             (ap (λ (r : RootsView). length r.scoped) collects.roots ∙ length-map old.roots.scoped _) described at.make;
         described = described;
       }
+
+  pub collected_try : (old new : OwnerView D) → CanTry layouts d o size old → Collects layouts old new → CanTry layouts d o size new
+  collected_try old new at collects = run_try collects.trimmed new (trimmed_try old collects.trimmed at collects.trims) collects.runs
 
   pub readied_try : (s e : OwnerState D) → CanTry layouts d o size s.owner → Readies layouts s e → CanTry layouts d o size e.owner
   readied_try s e at (inl collected) = collected_try s.owner e.owner at collected.1.0
@@ -94,7 +117,7 @@ module _ {D : Type 0} (layouts : Layouts) (d : Description) (o : HeapObject) (si
       record {
         heap = heap;
         can = grown_kept layouts v.types.declarations v.heap more (roots_of v.roots) (has_host v.hosts) at.can;
-        make = make_later layouts d o size v new at.make.idle at.make.attached refl refl described at.make;
+        make = make_later layouts d o size v new at.make.idle at.make.attached (omega arith) refl described at.make;
         described = described;
       }
   heap_try false bytes v at heap = at
@@ -125,7 +148,7 @@ Ends (Err (fault.HeapOutOfMemory need)) = ⊥
 Ends (Err fault.Memory) = Unit {0}
 
 ready_heap : {D : Type 0} (layouts : Layouts) (s ready : OwnerState D) → IsHeap layouts s.owner.heap → Readies layouts s ready → IsHeap layouts ready.owner.heap
-ready_heap layouts s ready is_heap (inl collected) = collected.1.0.is_heap
+ready_heap layouts s ready is_heap (inl collected) = collected.1.0.runs.is_heap
 ready_heap {D} layouts s ready is_heap (inr same) = subst (λ (r : OwnerState D). IsHeap layouts r.owner.heap) (sym same.1) is_heap
 
 -- a growth that was granted makes room
@@ -188,7 +211,7 @@ module _ {D : Type 0} (layouts : Layouts) (o : HeapObject) (size : ℕ) (s : Own
         none_again = subst (λ (v : OwnerView D). HasRoom layouts v.heap size → ⊥) (sym still.1) still.0.no_room
 
         last_after_both : (granted : Bool) (e : OwnerState D) → Grows layouts (need_of layouts size) (state_of m' s.limits) granted e → (HasRoom layouts e.owner.heap size → ⊥) → Retry (owner_rules layouts size) s false e
-        last_after_both true e grows none = absurd (none (granted_room layouts size (state_of m' s.limits) e collects_again.is_heap grows))
+        last_after_both true e grows none = absurd (none (granted_room layouts size (state_of m' s.limits) e collects_again.runs.is_heap grows))
         last_after_both false e grows none = Retry.after_both lacks.no_room (rule_is true rule) (collects_again, refl) none_again grows (λ is. absurd (cc)) none
 
         -- a growth was granted or refused after the collection

@@ -1,5 +1,5 @@
 -- What contracts see of an owner.
-use Rattle.std.specs.Prelude.{◌≡◌, ℕ, ◌<◌, Bool, true, false, List, [], length, Option, Some, None, zero, suc, is_none}
+use Rattle.std.specs.Prelude.{◌≡◌, ℕ, ◌<◌, ◌≤◌, Bool, true, false, List, [], length, Option, Some, None, zero, suc, is_none}
 use Rattle.std.specs.Ordering.{nat_cmp}
 use Rattle.std.specs.FinMap.{FinMap, empty}
 use Rattle.gc_types.specs.declared.kind.Layouts.{Layouts}
@@ -11,8 +11,7 @@ use Rattle.gc_heap.specs.Barriers.{cloned, dropped, CanName, CanUnname}
 use Rattle.gc_heap.specs.Collection.{Stage, stage, Start, CanCollect, Collected, has_host, IsPartOf, IsIncrements}
 use Rattle.gc_heap.specs.declared.collection.GcProgress.{GcProgress}
 use Rattle.gc_heap.specs.declared.collection.GcProgress.TheVariants as progress
-use Rattle.gc_owner.specs.declared.entry.OwnedEntry.{OwnedEntry}
-use Rattle.gc_owner.specs.RootColumns.{RootsView, no_roots, roots_of, moved_roots, with_room, without_list, with_owned_root, without_frame}
+use Rattle.gc_owner.specs.RootColumns.{RootsView, no_roots, roots_of, moved_roots, with_room, without_list, with_owned_root, without_unheld, without_frame}
 use Rattle.gc_owner.specs.Tracing.{start_from, AreTraced, IsCollectable}
 
 -- An owner: its heap, its types, the host values by their ids, the roots, the bytes that were allocated after
@@ -114,8 +113,8 @@ abbrev pub CanDropWord : HeapView → ℕ → Type 0
 CanDropWord h zero = Unit {0}
 CanDropWord h (suc n) = CanUnname h (suc n)
 
--- A collection ran: the roots have the words of the objects that moved.
-pub record Collects {D : Type 0} (layouts : Layouts) (old new : OwnerView D) : Type 0 where
+-- A collection ran from all roots, which have the words of the objects that moved.
+pub record CollectsAll {D : Type 0} (layouts : Layouts) (old new : OwnerView D) : Type 0 where
   pub collected : Collected layouts (start_of old) new.heap (roots_of new.roots) (has_host new.hosts)
   pub roots : new.roots ≡ moved_roots collected.to old.roots
   pub values : IsPartOf new.hosts old.hosts
@@ -128,16 +127,29 @@ pub record ChangesRoots {D : Type 0} (old new : OwnerView D) (roots : RootsView)
   pub held : SameHeld old.heap new.heap
   pub rest : new ≡ record old { heap = new.heap; roots = roots }
 
--- an owned root was added at that place among the owned ones
-abbrev pub OwnsRoot : {D : Type 0} → OwnerView D → OwnerView D → ℕ → OwnedEntry → Type 0
-OwnsRoot old new index entry = ChangesRoots old new (with_room new.roots (with_owned_root index entry old.roots))
+-- The owned roots without handles were dropped: there is room for no fewer scoped roots, and a collection may begin.
+pub record Trims {D : Type 0} (layouts : Layouts) (old new : OwnerView D) : Type 0 where
+  pub changes : ChangesRoots old new (with_room new.roots (without_unheld old.roots))
+  pub spare : old.roots.spare ≤ new.roots.spare
+  pub is_heap : IsHeap layouts new.heap
+  pub can : CanBegin layouts new
+
+-- A collection ran, from the roots that a trim had left.
+pub record Collects {D : Type 0} (layouts : Layouts) (old new : OwnerView D) : Type 0 where
+  pub trimmed : OwnerView D
+  pub trims : Trims layouts old trimmed
+  pub runs : CollectsAll layouts trimmed new
+
+-- an owned root was added
+abbrev pub OwnsRoot : {D : Type 0} → OwnerView D → OwnerView D → ℕ → Type 0
+OwnsRoot old new word = ChangesRoots old new (with_room new.roots (with_owned_root word old.roots))
 
 -- the newest frame was closed
 abbrev pub ClosesFrame : {D : Type 0} → OwnerView D → OwnerView D → Type 0
 ClosesFrame old new = (0 < length old.roots.frames) × (new ≡ record old { roots = with_room new.roots (without_frame old.roots) })
 
--- A collection that began at an owner is under way, after so many increments.
-pub record IsUnderWay {H S D : Type 0} (k : Kind H S) (s : Start) (n : ℕ) (c : Bool) (begun now : OwnerValue H S D) : Type 0 where
+-- A collection from all roots of an owner is under way, after so many increments.
+pub record IsGoing {H S D : Type 0} (k : Kind H S) (s : Start) (n : ℕ) (c : Bool) (begun now : OwnerValue H S D) : Type 0 where
   pub state : S
   pub state_is : now.state ≡ Some state
   pub goes : Goes k s n c now state
@@ -145,6 +157,12 @@ pub record IsUnderWay {H S D : Type 0} (k : Kind H S) (s : Start) (n : ℕ) (c :
   pub values : IsPartOf now.seen.hosts begun.seen.hosts
   pub rest : begun.seen
       ≡ record now.seen { heap = begun.seen.heap; hosts = begun.seen.hosts; idle = true; roots = without_list now.seen.roots }
+
+-- A collection that began at an owner is under way, from the roots that a trim had left, after so many increments.
+pub record IsUnderWay {H S D : Type 0} (k : Kind H S) (s : Start) (n : ℕ) (c : Bool) (begun now : OwnerValue H S D) : Type 0 where
+  pub trimmed : OwnerValue H S D
+  pub trims : Trims k.layouts begun.seen trimmed.seen
+  pub going : IsGoing k s n c trimmed now
 
 -- A collection that began at an owner has ended.
 abbrev pub IsEnded : {H S D : Type 0} → Layouts → OwnerValue H S D → OwnerValue H S D → Type 0

@@ -1,6 +1,5 @@
 -- The roots of an owner by their kinds, and the list of them that a collection is given.
 use Rattle.std.specs.Prelude.{◌≡◌, ℕ, ◌+◌, ◌-◌, ◌^◌, ◌<◌, ◌≤◌, ◌==◌, min, not, nat_le, if◌then◌else◌, Bool, true, false, Option, Some, None, List, [], ◌∷◌, ◌++◌, length, map, filter, take, drop, slice_set, slice_index_or, replicate}
-use Rattle.std.specs.List.{insert}
 use Rattle.gc_roots.specs.Roots.{Root, root}
 use Rattle.gc_heap.specs.Collection.{moved, moved_root}
 use Rattle.gc_owner.specs.declared.entry.GcClass.TheVariants.{Any}
@@ -8,7 +7,7 @@ use Rattle.gc_owner.specs.declared.entry.RootEntry.{RootEntry}
 use Rattle.gc_owner.specs.declared.entry.OwnedEntry.{OwnedEntry}
 use Rattle.gc_owner.specs.declared.entry.SlotEntry.{SlotEntry}
 
--- The roots: the scoped ones from the oldest on, the owned ones by their ids, the slots of all open frames
+-- The roots: the scoped ones from the oldest on, the owned ones from the oldest on and how many were made, the slots of all open frames
 -- from the oldest on with the places where the frames begin, the globals, and the pending exception (0 for
 -- none); the generation of the next scoped root; for how many more scoped roots there is room; the list that a
 -- collection under way has of the roots, and how many it was given, which is 0 while none is; and how many places
@@ -16,6 +15,7 @@ use Rattle.gc_owner.specs.declared.entry.SlotEntry.{SlotEntry}
 pub record RootsView : Type 0 where
   pub scoped : List RootEntry
   pub owned : List OwnedEntry
+  pub owns : ℕ
   pub slots : List SlotEntry
   pub frames : List ℕ
   pub globals : List SlotEntry
@@ -36,13 +36,14 @@ empty_slot = record { class = Any; word = 0 }
 
 -- an owned root that holds nothing
 abbrev pub empty_entry : OwnedEntry
-empty_entry = record { id = 0; number = 0; handles = 0; word = 0 }
+empty_entry = record { number = 0; handles = 0; word = 0 }
 
 -- no roots, with room for so many scoped ones, and so many in the list
 abbrev pub no_roots : ℕ → ℕ → RootsView
 no_roots spare list_spare = record {
   scoped = [];
   owned = [];
+  owns = 0;
   slots = [];
   frames = [];
   globals = replicate global_count empty_slot;
@@ -173,9 +174,9 @@ with_handles entries = filter (λ (e : OwnedEntry). not (e.handles == 0)) entrie
 abbrev pub without_unheld : RootsView → RootsView
 without_unheld r = record r { owned = with_handles r.owned }
 
--- the roots with one more owned root, at that place among the owned ones
-abbrev pub with_owned_root : ℕ → OwnedEntry → RootsView → RootsView
-with_owned_root index entry r = record r { owned = insert r.owned index entry }
+-- the roots with one more owned root, which has one handle
+abbrev pub with_owned_root : ℕ → RootsView → RootsView
+with_owned_root word r = record r { owned = r.owned ++ (record { number = r.owns; handles = 1; word = word }) ∷ []; owns = r.owns + 1 }
 
 -- the roots, of which the owned one at that place has so many handles
 abbrev pub with_handle_count : ℕ → ℕ → RootsView → RootsView

@@ -4,7 +4,7 @@ ghost use Rattle.std.specs.Prelude.{◌≡◌, None, true};
 ghost use Rattle.gc_heap.specs.Collection.{has_host, IsPartOf};
 ghost use Rattle.gc_owner.specs.RootColumns.{roots_of};
 ghost use Rattle.gc_owner.specs.Tracing.{IsCollectable};
-ghost use Rattle.gc_owner.specs.Owners.{Collects, CollectsRoots};
+ghost use Rattle.gc_owner.specs.Owners.{Collects, CollectsAll, CollectsRoots};
 
 use crate::owner::HeapOwner;
 use crate::roots::Roots;
@@ -38,12 +38,11 @@ fn collect_in<H: GcHeap, D: Drop>(
 }
 
 impl<H: GcHeap, D: Drop> HeapOwner<H, D> {
-    /// Collects. Afterwards the roots have the words of the objects that moved. It takes no memory, and its
-    /// time is linear in the roots and what the heap's collection looks at.
-    pub fn collect(&mut self)
+    /// Collects from all roots.
+    fn collect_all(&mut self)
         requires idle { self.old.seen.idle ≡ true }
         requires attached { self.old.seen.heap.attached ≡ true }
-        ensures { Collects H.KIND self.old.seen self.new.seen }
+        ensures { CollectsAll H.KIND self.old.seen self.new.seen }
     {
         let last = collect_in(
             &mut self.heap,
@@ -52,5 +51,17 @@ impl<H: GcHeap, D: Drop> HeapOwner<H, D> {
             &self.types,
         );
         self.last = last;
+    }
+
+    /// Drops the owned roots without handles, and collects from the others and all other roots. Afterwards
+    /// the roots have the words of the objects that moved. It takes no memory, and its time is linear in the
+    /// roots and what the heap's collection looks at.
+    pub fn collect(&mut self)
+        requires idle { self.old.seen.idle ≡ true }
+        requires attached { self.old.seen.heap.attached ≡ true }
+        ensures { Collects H.KIND self.old.seen self.new.seen }
+    {
+        self.trim();
+        self.collect_all();
     }
 }

@@ -20,9 +20,7 @@ pub struct RootEntry {
 /// An owned root.
 #[derive(Clone, Copy, Debug, PartialEq, Eq)]
 pub struct OwnedEntry {
-    /// The id that its handles name.
-    pub id: u32,
-    /// How many owned roots were made before it.
+    /// How many owned roots were made before it; its handles name it so.
     pub number: u64,
     /// How many handles of it there are.
     pub handles: u32,
@@ -85,7 +83,6 @@ impl HoldsWord for OwnedEntry {
 
     fn with_word(&self, word: u32) -> OwnedEntry {
         OwnedEntry {
-            id: self.id,
             number: self.number,
             handles: self.handles,
             word,

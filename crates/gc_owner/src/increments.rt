@@ -4,7 +4,7 @@ ghost use Rattle.std.specs.Prelude.{◌≡◌, ◌+◌, ◌<◌, ℕ, Bool, List
 ghost use Rattle.gc_roots.specs.Roots.{Root};
 ghost use Rattle.gc_heap.specs.Collection.{Start, stage, IsPartOf};
 ghost use Rattle.gc_owner.specs.Going.{IsListed, StepsRoots, left_of};
-ghost use Rattle.gc_owner.specs.Owners.{OwnerValue, Increments, IsEnded, IsUnderWay, kind_of, start_of};
+ghost use Rattle.gc_owner.specs.Owners.{OwnerValue, Increments, IsEnded, IsGoing, IsUnderWay, kind_of, start_of};
 
 use crate::owner::HeapOwner;
 use crate::roots::Roots;
@@ -44,16 +44,26 @@ impl<H: GcHeap, D: Drop> HeapOwner<H, D> {
         self.state.is_none()
     }
 
-    /// Begins a collection, which increments then do. Until it is complete the owner is not idle. It takes no
-    /// memory.
-    pub fn begin(&mut self)
+    /// Begins a collection from all roots.
+    fn begin_all(&mut self)
         requires idle { self.old.seen.idle ≡ true }
         requires attached { self.old.seen.heap.attached ≡ true }
-        ensures { IsUnderWay (kind_of H.KIND H.seen H.sound H.under_way) (start_of self.old.seen) 0 true self.old self.new }
+        ensures { IsGoing (kind_of H.KIND H.seen H.sound H.under_way) (start_of self.old.seen) 0 true self.old self.new }
     {
         let state = self.heap.begin();
         self.roots.list_roots();
         self.state = Some(state);
+    }
+
+    /// Drops the owned roots without handles, and begins a collection from the others and all other roots,
+    /// which increments then do. Until it is complete the owner is not idle. It takes no memory.
+    pub fn begin(&mut self)
+        requires idle { self.old.seen.idle ≡ true }
+        requires attached { self.old.seen.heap.attached ≡ true }
+        ensures { (s : Start) × IsUnderWay (kind_of H.KIND H.seen H.sound H.under_way) s 0 true self.old self.new }
+    {
+        self.trim();
+        self.begin_all();
     }
 
     /// Does one increment of the collection that is under way, and answers whether it is complete; with none

@@ -1,10 +1,10 @@
 //! Owned roots.
 
-ghost use Rattle.std.specs.Prelude.{◌≡◌, ◌<◌, ◌≤◌, ◌^◌, true, length, OnOk, OnErr};
+ghost use Rattle.std.specs.Prelude.{◌≡◌, ◌-◌, ◌<◌, ◌^◌, true, length, OnOk, OnErr};
 ghost use Rattle.gc_view.specs.Heaps.{SameHeld};
 ghost use Rattle.gc_heap.specs.Collection.{IsWordOf};
 ghost use Rattle.gc_owner.specs.RootColumns.{roots_of, with_room, with_handle_count, without_unheld};
-ghost use Rattle.gc_owner.specs.Owners.{ChangesRoots, OwnsRoot, CanDropWord};
+ghost use Rattle.gc_owner.specs.Owners.{OwnsRoot, CanDropWord, Trims};
 ghost use Rattle.gc_owner.specs.DroppedRoots.{CanDropRoots, released};
 ghost use Rattle.gc_owner.specs.Tracing.{KeepsCollectable};
 
@@ -50,19 +50,27 @@ impl<H: GcHeap, D: Drop> HeapOwner<H, D> {
         self.roots.owned()
     }
 
-    /// Adds an owned root for a copy of a word, at that place of the list: those from there on stand behind
-    /// it, in time linear in them. An error is want of memory.
-    pub fn own(&mut self, index: usize, entry: OwnedEntry) -> Result<(), AllocError>
+    /// How many owned roots were made.
+    pub fn owns(&self) -> u64
+        ensures { result ≡ self.now.seen.roots.owns }
+    {
+        let _heap = &self.heap;
+        self.roots.owns()
+    }
+
+    /// Adds an owned root for a copy of a word, which is the last one and has one handle. Its number is how many
+    /// were made before it. An error is want of memory.
+    pub fn own(&mut self, word: u32) -> Result<(), AllocError>
         requires idle { self.old.seen.idle ≡ true }
-        requires place { index ≤ length self.old.seen.roots.owned }
         requires few { length self.old.seen.roots.owned < 2 ^ 32 }
-        requires word { IsWordOf self.old.seen.heap entry.word }
-        ensures ok { OnOk result (OwnsRoot self.old.seen self.new.seen index entry) }
+        requires numbered { self.old.seen.roots.owns < 2 ^ 64 - 1 }
+        requires word { IsWordOf self.old.seen.heap word }
+        ensures ok { OnOk result (OwnsRoot self.old.seen self.new.seen word) }
         ensures err { OnErr result (self.new.seen ≡ record self.old.seen { roots = with_room self.new.seen.roots self.old.seen.roots }) }
     {
         self.roots.are_few();
-        self.roots.own(index, entry)?;
-        copy_word(&mut self.heap, entry.word);
+        self.roots.own(word)?;
+        copy_word(&mut self.heap, word);
         Ok(())
     }
 
@@ -75,10 +83,11 @@ impl<H: GcHeap, D: Drop> HeapOwner<H, D> {
         self.roots.set_handles(index, handles);
     }
 
-    /// Drops the owned roots without handles; the others stay in order. Its time is linear in the owned roots.
+    /// Drops the owned roots without handles; the others stay in order. Each collection begins so. Its time is
+    /// linear in the owned roots.
     pub fn trim(&mut self)
         requires idle { self.old.seen.idle ≡ true }
-        ensures { ChangesRoots self.old.seen self.new.seen (with_room self.new.seen.roots (without_unheld self.old.seen.roots)) }
+        ensures { Trims H.KIND self.old.seen self.new.seen }
     {
         drop_unheld(&mut self.heap, &self.roots);
         self.roots.forget_unheld();

@@ -48,7 +48,10 @@ const NOTHING: SlotEntry = SlotEntry {
 pub(crate) struct Roots {
     /// The scoped roots, from the oldest on.
     scoped: Vec<RootEntry>,
+    /// The owned roots, from the oldest on.
     owned: Vec<OwnedEntry>,
+    /// How many owned roots were made; it is the number of the next one.
+    owns: u64,
     /// The slots of all open frames, from the oldest on.
     slots: Vec<SlotEntry>,
     /// Where the slots of each open frame begin.
@@ -75,6 +78,7 @@ impl Model for Roots {
     ghost view = { λ s. record {
       scoped = s.scoped.items;
       owned = s.owned.items;
+      owns = s.owns;
       slots = s.slots.items;
       frames = s.frames.items;
       globals = s.globals.items;
@@ -146,6 +150,7 @@ impl Roots {
         Ok(Roots {
             scoped: Vec::new(alloc),
             owned: Vec::new(alloc),
+            owns: 0,
             slots: Vec::new(alloc),
             frames: Vec::new(alloc),
             globals,
@@ -231,16 +236,29 @@ impl Roots {
         self.owned.as_slice()
     }
 
-    /// Adds an owned root at that place among them, and makes room for it in the list of a collection.
-    pub(crate) fn own(&mut self, index: usize, entry: OwnedEntry) -> Result<(), AllocError>
-        requires place { index ≤ length self.old.owned }
+    /// How many owned roots were made.
+    pub(crate) fn owns(&self) -> u64
+        ensures { result ≡ self.now.owns }
+    {
+        let _entries = &self.owned;
+        self.owns
+    }
+
+    /// Adds an owned root with that word and one handle, and makes room for it in the list of a collection.
+    pub(crate) fn own(&mut self, word: u32) -> Result<(), AllocError>
         requires few { length self.old.owned < 2 ^ 32 }
-        ensures ok { OnOk result (self.new ≡ with_room self.new (with_owned_root index entry self.old)) }
+        requires numbered { self.old.owns < 2 ^ 64 - 1 }
+        ensures ok { OnOk result (self.new ≡ with_room self.new (with_owned_root word self.old)) }
         ensures err { OnErr result (self.new ≡ with_room self.new self.old) }
     {
         let count = self.scoped.len() + self.owned.len() + self.slots.len() + OTHER_PLACES;
         self.list.reserve(count.saturating_add(1))?;
-        self.owned.insert(index, entry)?;
+        self.owned.push(OwnedEntry {
+            number: self.owns,
+            handles: 1,
+            word,
+        })?;
+        self.owns += 1;
         Ok(())
     }
 
@@ -254,7 +272,8 @@ impl Roots {
 
     /// Forgets the owned roots without handles.
     pub(crate) fn forget_unheld(&mut self)
-        ensures { self.new ≡ with_room self.new (without_unheld self.old) }
+        ensures roots { self.new ≡ with_room self.new (without_unheld self.old) }
+        ensures spare { self.old.spare ≤ self.new.spare }
     {
         self.owned.retain(|entry| entry.handles != 0);
     }

@@ -99,6 +99,7 @@ returns-clause-collected g c =
     ((λ i. record {
       scoped = p0 i;
       owned = p1 i;
+      owns = c.self.inside.owns;
       slots = p2 i;
       frames = c.self.inside.frames.items;
       globals = p3 i;
