@@ -141,6 +141,27 @@ module _ {Types Settings Memory Objects Kind Scopes Scoped Pushes Frames Globals
     typed = p.typed;
   }
 
+  -- at that on owned roots
+  pub owned_changed : {Owned' : Type 0} → Owned' → Points Types Settings Memory Objects Kind Scopes Scoped Pushes Frames Globals Owned' Pending Functions Hosts Nothing Typed
+  owned_changed owned = record {
+    types = p.types;
+    settings = p.settings;
+    memory = p.memory;
+    objects = p.objects;
+    by_kind = p.by_kind;
+    scopes = p.scopes;
+    scoped = p.scoped;
+    pushes = p.pushes;
+    frames = p.frames;
+    globals = p.globals;
+    owned = owned;
+    pending = p.pending;
+    funcs = p.funcs;
+    hosts = p.hosts;
+    nothing_else = p.nothing_else;
+    typed = p.typed;
+  }
+
   -- at those on what is placed
   pub places_changed : {Memory' Objects' Kind' Scoped' Frames' Globals' Owned' Pending' Hosts' Nothing' Typed' : Type 0} → Memory' → Objects' → Kind' → Scoped' → Frames' → Globals' → Owned' → Pending' → Hosts' → Nothing' → Typed'
       → Points Types Settings Memory' Objects' Kind' Scopes Scoped' Pushes Frames' Globals' Owned' Pending' Functions Hosts' Nothing' Typed'

@@ -9,7 +9,7 @@ use Rattle.gc_types.specs.declared.kind.Layouts.{Layouts}
 use Rattle.gc_types.specs.declared.kind.Layouts.TheVariants.{Null, Counting, Copying}
 use Rattle.gc_view.specs.Pages.{max_pages}
 use Rattle.gc_model.specs.Sizes.{next_after}
-use Rattle.gc_model.specs.Table.{Table, Owned, start, global_count, empty_slot}
+use Rattle.gc_model.specs.Table.{Table, start, global_count, empty_slot}
 use Rattle.gc_view.specs.Heaps.{HeapView, HeapObject}
 use Rattle.gc_owner.specs.declared.entry.SlotEntry.{SlotEntry}
 use Rattle.gc_model.specs.Stores.{StoreView, empty_store, unset_globals}
@@ -68,7 +68,7 @@ holds_untouched D layouts s untouched = record {
   pending = record { same_word = untouched.pending; thrown = λ r e. absurd (none-some r e) };
   funcs = untouched.funcs;
   hosts = hosts-nil [] nowhere s.heap.content s.hosts refl untouched.no_hosts;
-  nothing_else = record { owns = refl; owned = refl; funcs = refl; blocks = refl };
+  nothing_else = record { funcs = refl; blocks = refl };
   typed = λ position index object value e f. absurd (none-some object e);
 }
 
@@ -77,9 +77,10 @@ untouched_allocated Null t place heap none kind is = let e : heap.allocated + 1 
 untouched_allocated Counting t place heap none kind is = absurd (cc)
 untouched_allocated Copying t place heap none kind is = absurd (cc)
 
--- a store that holds some table, and shows no type, root, generation, frame, set global, pending exception or memory, is untouched
-pub untouched_from_parts : {D : Type 0} (layouts : Layouts) (s : StoreView D) (t : Table D) (place : Placing) → Holds layouts s t place → s.types ≡ [] → s.scoped ≡ [] → s.generation ≡ 0 → s.frames ≡ [] → s.globals ≡ unset_globals → s.pending ≡ 0 → s.heap.attached ≡ false → IsUntouched layouts s
-untouched_from_parts layouts s t place holds no_types no_roots first_generation no_frames unset none_pending unmade =
+-- a store that holds some table, and shows no type, root, generation, frame, set global, pending exception or memory, and
+-- of which no owned root was made, is untouched
+pub untouched_from_parts : {D : Type 0} (layouts : Layouts) (s : StoreView D) (t : Table D) (place : Placing) → Holds layouts s t place → s.types ≡ [] → s.scoped ≡ [] → s.generation ≡ 0 → s.frames ≡ [] → s.globals ≡ unset_globals → s.pending ≡ 0 → s.owns ≡ 0 → s.heap.attached ≡ false → IsUntouched layouts s
+untouched_from_parts layouts s t place holds no_types no_roots first_generation no_frames unset none_pending none_owned unmade =
     let nothing = holds.nothing_else in
     let not_made : t.made ≡ false = sym holds.memory.made ∙ unmade in
     let none : t.objects ≡ [] = holds.memory.no_objects not_made in
@@ -95,8 +96,7 @@ untouched_from_parts layouts s t place holds no_types no_roots first_generation 
       few_roots = subst (λ n. n ≤ 2 ^ 31) (sym holds.settings.max_scoped) holds.settings.few_roots;
       frames = no_frames;
       globals = unset;
-      owned = subst (λ (n : ℕ). OwnedBy nowhere n s.owns [] s.owned) nothing.owns
-          (subst (λ (os : List Owned). OwnedBy nowhere t.owns s.owns os s.owned) nothing.owned (owned-none place nowhere t.owns s.owns t.owned s.owned nothing.owned holds.owned));
+      owned = owned-none place nowhere t.owns s.owns t.owned s.owned none_owned holds.owned;
       pending = none_pending;
       funcs = holds.funcs ∙ nothing.funcs;
       no_hosts = hosts-empty t.objects place s.heap.content s.hosts none holds.hosts;
@@ -105,7 +105,7 @@ untouched_from_parts layouts s t place holds no_types no_roots first_generation 
 -- a store that holds the empty table is untouched
 pub untouched_from_start : (D : Type 0) (layouts : Layouts) (s : StoreView D) (place : Placing) → Holds {D = D} layouts s (start s.first s.max_scoped s.max_owned) place → IsUntouched layouts s
 untouched_from_start D layouts s place holds =
-    untouched_from_parts layouts s (start s.first s.max_scoped s.max_owned) place holds holds.types (nil_from_length s.scoped holds.scoped.same_count) holds.scopes.generation (nil_from_length s.frames holds.frames.same_count) (unset_from_table place s.globals holds.globals) holds.pending.same_word holds.memory.made
+    untouched_from_parts layouts s (start s.first s.max_scoped s.max_owned) place holds holds.types (nil_from_length s.scoped holds.scoped.same_count) holds.scopes.generation (nil_from_length s.frames holds.frames.same_count) (unset_from_table place s.globals holds.globals) holds.pending.same_word holds.owned.same_owns holds.memory.made
 
 -- what is seen of a new store is untouched
 pub untouched_new : {D : Type 0} (layouts : Layouts) (engine number first max_scoped max_owned : ℕ) (alloc_counter : Option ℕ) → first ≤ max_pages → max_scoped ≤ 2 ^ 31 → IsUntouched {D = D} layouts (empty_store engine number first max_scoped max_owned alloc_counter)
@@ -123,11 +123,11 @@ untouched_new layouts engine number first max_scoped max_owned alloc_counter few
   globals = refl;
   owned = record {
     same_owns = refl;
-    same_count = refl;
-    each = λ i entry root e f. absurd (none-some root f);
-    rising = λ i j a b e f. absurd (none-some a e);
-    early = λ i root e. absurd (none-some root e);
-    apart = λ i j a b e f. absurd (none-some a e);
+    in_table = λ entry c some. absurd (omega (arith, c.1));
+    in_store = λ root c. absurd (omega (arith, c.1));
+    early = λ entry c. absurd (omega (arith, c.1));
+    rising = λ i j d less inside. absurd (omega arith);
+    in_order = λ i j d less inside. absurd (omega arith);
   };
   pending = refl;
   funcs = refl;

@@ -1,4 +1,5 @@
 pub mod Lists
+pub mod Members
 pub mod ObjectShapes
 pub mod ObjectStands
 pub mod Changes
@@ -9,6 +10,7 @@ pub mod Types
 pub mod Placings
 pub mod RootsMoved
 pub mod Thrown
+pub mod OwnedRoots
 pub mod HoldsParts
 pub mod Hosts
 pub mod HoldsStart
@@ -31,6 +33,7 @@ pub mod HoldsHost
 pub mod SlotsSet
 pub mod HoldsGlobals
 pub mod HoldsPending
+pub mod HoldsOwned
 pub mod FramesSet
 pub mod HoldsFrames
 pub mod StoredValues

@@ -1,5 +1,5 @@
 -- Roots stand for the table's under another placing, where it gives what they name the same words.
-use Rattle.std.proofs.Common.{◌≡◌, ℕ, List, [], Some, None, Option, sym, ap, ◌∙◌, refl, subst, arith, zero, suc}
+use Rattle.std.proofs.Common.{◌≡◌, ℕ, Contains, List, [], Some, None, Option, sym, ◌∙◌, refl, subst, arith, zero, suc}
 use Rattle.std.specs.List.{slice_get}
 use Rattle.std.specs.Prelude.{replicate}
 use Rattle.std.proofs.lemmas.List.{length-replicate}
@@ -12,7 +12,7 @@ use Rattle.gc_model.specs.Stores.{unset_globals}
 use Rattle.gc_owner.specs.RootColumns.{empty_slot as empty_entry}
 use Rattle.gc_owner.specs.declared.entry.OwnedEntry.{OwnedEntry}
 use Rattle.gc_model.specs.Words.{Placing, IsWord}
-use Rattle.gc_model.specs.RootPoints.{ScopedBy, SlotBy, SlotsBy, FramesBy, GlobalsBy, OwnedBy, PendingBy}
+use Rattle.gc_model.specs.RootPoints.{ScopedBy, SlotBy, SlotsBy, FramesBy, GlobalsBy, OwnedRootBy, OwnedBy, PendingBy}
 use Rattle.gc_model.proofs.Lists.{slice_get-same_length, all_replicated}
 use Rattle.gc_model.proofs.Placings.{IsWithin, is_word-more}
 
@@ -38,22 +38,19 @@ module _ (place place' : Placing) where
   pub globals-moved : (globals : List Slot) (entries : List SlotEntry) → ((i : ℕ) (slot : Slot) → slice_get globals i ≡ Some slot → Carries place place' slot.reference) → GlobalsBy place globals entries → GlobalsBy place' globals entries
   globals-moved globals entries carries by = record { count = by.count; slots = slots-moved globals entries carries by.slots }
 
-  pub owned-moved : (owns count : ℕ) (owned : List Owned) (entries : List OwnedEntry) → ((i : ℕ) (root : Owned) → slice_get owned i ≡ Some root → Carries place place' root.reference)
+  pub owned-moved : (owns count : ℕ) (owned : List Owned) (entries : List OwnedEntry) → ((root : Owned) → Contains owned root → Carries place place' root.reference)
       → OwnedBy place owns count owned entries → OwnedBy place' owns count owned entries
   owned-moved owns count owned entries carries by = record {
     same_owns = by.same_owns;
-    same_count = by.same_count;
-    each = λ i entry root e f. let stands = by.each i entry root e f in record {
-      id = stands.id;
-      number = stands.number;
-      handles = stands.handles;
-      word = carries i root f entry.word stands.word;
-      not_null = stands.not_null;
-    };
-    rising = by.rising;
+    in_table = λ entry c some. let found = by.in_table entry c some in (found.0, (found.1.0, moved_stands entry found.0 found.1.0 found.1.1));
+    in_store = λ root c. let found = by.in_store root c in (found.0, (found.1.0, moved_stands found.0 root c found.1.1));
     early = by.early;
-    apart = by.apart;
+    rising = by.rising;
+    in_order = by.in_order;
   }
+    where
+      moved_stands : (entry : OwnedEntry) (root : Owned) → Contains owned root → OwnedRootBy place entry root → OwnedRootBy place' entry root
+      moved_stands entry root c stands = record { number = stands.number; handles = stands.handles; held = stands.held; word = carries root c entry.word stands.word; not_null = stands.not_null }
 
   pub pending-moved : (pending : Option Reference) (word : ℕ) → ((r : Reference) → pending ≡ Some r → Carries place place' r) → PendingBy place pending word → PendingBy place' pending word
   pending-moved None word carries by = by
@@ -77,14 +74,21 @@ module _ (place place' : Placing) where
     globals-more globals entries by = globals-moved globals entries (λ i slot e. carries-more slot.reference) by
 
     pub owned-more : (owns count : ℕ) (owned : List Owned) (entries : List OwnedEntry) → OwnedBy place owns count owned entries → OwnedBy place' owns count owned entries
-    owned-more owns count owned entries by = owned-moved owns count owned entries (λ i root e. carries-more root.reference) by
+    owned-more owns count owned entries by = owned-moved owns count owned entries (λ root c. carries-more root.reference) by
 
     pub pending-more : (pending : Option Reference) (word : ℕ) → PendingBy place pending word → PendingBy place' pending word
     pending-more pending word by = pending-moved pending word (λ r e. carries-more r) by
 
-  -- where there are none, nothing is to be carried
-  pub owned-none : (owns count : ℕ) (owned : List Owned) (entries : List OwnedEntry) → owned ≡ [] → OwnedBy place owns count owned entries → OwnedBy place' owns count owned entries
-  owned-none owns count owned entries none by = owned-moved owns count owned entries (λ i root e. absurd (none-some root (ap (λ rs. slice_get rs i) (sym none) ∙ e))) by
+  -- where no owned root was made, nothing is to be carried
+  pub owned-none : (owns count : ℕ) (owned : List Owned) (entries : List OwnedEntry) → count ≡ 0 → OwnedBy place owns count owned entries → OwnedBy place' 0 count [] entries
+  owned-none owns count owned entries none by = record {
+    same_owns = none;
+    in_table = λ entry c some. absurd (let early = by.early entry c in let same = by.same_owns in omega (arith, early, same, none));
+    in_store = λ root c. absurd (omega (arith, c.1));
+    early = λ entry c. absurd (let early = by.early entry c in let same = by.same_owns in omega (arith, early, same, none));
+    rising = by.rising;
+    in_order = λ i j d less inside. absurd (omega arith);
+  }
 
 -- an element of a list of one element many times is that one
 replicated : {X : Type 0} (n : ℕ) (x : X) (i : ℕ) (y : X) → slice_get (replicate n x) i ≡ Some y → x ≡ y

@@ -11,7 +11,7 @@ use Rattle.gc_model.specs.Reach.{IsKept, object_values}
 use Rattle.gc_model.specs.Stored.{value_type}
 use Rattle.gc_model.specs.Fits.{fits}
 use Rattle.gc_types.specs.declared.value.Func.{Func}
-use Rattle.gc_model.specs.Table.{Table, Scoped, Push, Owned, Block}
+use Rattle.gc_model.specs.Table.{Table, Scoped, Push, Block}
 pub use Rattle.gc_model.specs.Words.{Placing, IsWord}
 pub use Rattle.gc_model.specs.Forms.{Names, naming}
 pub use Rattle.gc_model.specs.RootPoints.{EntryBy, ScopedBy, IsPastBy, PushesBy, SlotBy, SlotsBy, FramesBy, GlobalsBy, OwnedRootBy, OwnedBy, PendingBy, IsException, ThrownBy}
@@ -79,9 +79,7 @@ pub record BlocksBy (place : Placing) (blocks : List Block) : Type 0 where
   pub all : (position word : ℕ) → place position ≡ Some word → (i : ℕ) × (slice_get blocks i ≡ Some (record { position = position; place = word }))
 
 -- What no call makes yet is empty: one line each.
-pub record NotBuilt (made : ℕ) (roots : List Owned) (functions : List (Option Func)) (held : List Block) : Type 0 where
-  pub owns : made ≡ 0
-  pub owned : roots ≡ []
+pub record NotBuilt (functions : List (Option Func)) (held : List Block) : Type 0 where
   pub funcs : functions ≡ []
   pub blocks : held ≡ []
 
@@ -167,7 +165,7 @@ module _ {D : Type 0} where
   HostsHold t place heap hosts = HostsBy t.objects place heap.content hosts
 
   abbrev pub NothingElse : Table D → Type 0
-  NothingElse t = NotBuilt t.owns t.owned t.funcs t.blocks
+  NothingElse t = NotBuilt t.funcs t.blocks
 
   -- the store holds the table under that placing
   abbrev pub Holds : Layouts → StoreView D → Table D → Placing → Type 0

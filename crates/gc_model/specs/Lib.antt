@@ -4,6 +4,7 @@ pub mod Table
 pub mod Reach
 pub mod Reads
 pub mod Live
+pub mod OwnedRoots
 pub mod Sizes
 pub mod Stored
 pub mod Allocation

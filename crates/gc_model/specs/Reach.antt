@@ -1,5 +1,5 @@
 -- What the roots reach.
-use Rattle.std.specs.Prelude.{◌≡◌, ◌↔◌, ℕ, ◌<◌, List, [], ◌∷◌, ◌++◌, Option, Some, None, map, length, slice_get, nat_eq, nat_lt, if◌then◌else◌}
+use Rattle.std.specs.Prelude.{◌≡◌, ◌↔◌, ℕ, ◌<◌, List, [], ◌∷◌, ◌++◌, Option, Some, None, map, length, slice_get, nat_eq}
 use Rattle.std.specs.List.{Contains, IsDistinct, flat_map}
 use Rattle.gc_types.specs.declared.kind.Layouts.{Layouts}
 use Rattle.gc_types.specs.declared.kind.Layouts.TheVariants.{Null, Counting, Copying}
@@ -26,9 +26,8 @@ references_in o = flat_map value_references (object_values o)
 abbrev pub slot_references : List Slot → List Reference
 slot_references slots = map (λ (s : Slot). s.reference) slots
 
--- an owned root counts as long as it has a handle
-abbrev pub owned_references : Owned → List Reference
-owned_references root = if nat_lt 0 root.handles then root.reference ∷ [] else []
+abbrev pub owned_references : List Owned → List Reference
+owned_references roots = map (λ (root : Owned). root.reference) roots
 
 abbrev pub present : Option Reference → List Reference
 present None = []
@@ -40,7 +39,7 @@ root_references t =
     map (λ (root : Scoped). root.reference) t.scoped
     ++ (flat_map slot_references t.frames
     ++ (slot_references t.globals
-    ++ (flat_map owned_references t.owned
+    ++ (owned_references t.owned
     ++ present t.pending)))
 
 -- an object names a position

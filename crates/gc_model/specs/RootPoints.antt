@@ -1,6 +1,7 @@
 -- The roots of a store are the table's, in order: scoped ones, slots of frames, globals, owned ones and the
 -- pending exception. Each point speaks of its own part of the table alone.
 use Rattle.std.specs.Prelude.{◌≡◌, ℕ, ◌-◌, ◌^◌, ◌<◌, ◌⊎◌, List, Option, Some, None, length, slice_get}
+use Rattle.std.specs.List.{AllPairs, Contains}
 use Rattle.gc_owner.specs.declared.entry.RootEntry.{RootEntry}
 use Rattle.gc_owner.specs.declared.entry.SlotEntry.{SlotEntry}
 use Rattle.gc_types.specs.declared.value.Tag.{Tag}
@@ -53,23 +54,24 @@ pub record GlobalsBy (place : Placing) (globals : List Slot) (entries : List Slo
   pub count : length globals ≡ global_count
   pub slots : SlotsBy place globals entries
 
--- an owned root of the store is the table's: its id, its number, its handles, and the word of what it names
+-- an owned root of the store is the table's: its number, its handles, of which it has some, and its word, which is not
+-- null
 pub record OwnedRootBy (place : Placing) (entry : OwnedEntry) (root : Owned) : Type 0 where
-  pub id : entry.id ≡ root.id
   pub number : entry.number ≡ root.number
   pub handles : entry.handles ≡ root.handles
+  pub held : 0 < root.handles
   pub word : IsWord place root.reference entry.word
   pub not_null : 0 < entry.word
 
--- The owned roots are the table's, by rising id, and as many were made. Each has a number of its own, below
--- the count of those that were made.
+-- The owned roots of the store that have handles are the table's, and as many were made. Both stand by rising number,
+-- which is below the count.
 pub record OwnedBy (place : Placing) (owns count : ℕ) (owned : List Owned) (entries : List OwnedEntry) : Type 0 where
   pub same_owns : count ≡ owns
-  pub same_count : length entries ≡ length owned
-  pub each : (i : ℕ) (entry : OwnedEntry) (root : Owned) → slice_get entries i ≡ Some entry → slice_get owned i ≡ Some root → OwnedRootBy place entry root
-  pub rising : (i j : ℕ) (a b : Owned) → slice_get owned i ≡ Some a → slice_get owned j ≡ Some b → i < j → a.id < b.id
-  pub early : (i : ℕ) (root : Owned) → slice_get owned i ≡ Some root → root.number < owns
-  pub apart : (i j : ℕ) (a b : Owned) → slice_get owned i ≡ Some a → slice_get owned j ≡ Some b → a.number ≡ b.number → i ≡ j
+  pub in_table : (entry : OwnedEntry) → Contains entries entry → 0 < entry.handles → (root : Owned) × (Contains owned root × OwnedRootBy place entry root)
+  pub in_store : (root : Owned) → Contains owned root → (entry : OwnedEntry) × (Contains entries entry × OwnedRootBy place entry root)
+  pub early : (entry : OwnedEntry) → Contains entries entry → entry.number < owns
+  pub rising : AllPairs (λ (a b : OwnedEntry). a.number < b.number) entries
+  pub in_order : AllPairs (λ (a b : Owned). a.number < b.number) owned
 
 -- the pending exception is the table's: the word of what it names, or 0 where there is none
 abbrev pub PendingBy : Placing → Option Reference → ℕ → Type 0

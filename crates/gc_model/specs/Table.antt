@@ -12,9 +12,8 @@ pub record Slot : Type 0 where
   pub class : GcClass
   pub reference : Reference
 
--- an owned root: its id, how many were made before it, what it names, and its handles
+-- an owned root, which has handles: how many were made before it, what it names, and how many handles it has
 pub record Owned : Type 0 where
-  pub id : ℕ
   pub number : ℕ
   pub reference : Reference
   pub handles : ℕ
@@ -35,7 +34,7 @@ pub record Block : Type 0 where
   pub place : ℕ
 
 -- The table. Objects are only added, or changed in one value; garbage is only "not reached".
--- Owned roots, function values and blocks are empty so far.
+-- The owned roots stand in the order in which they were made. Function values and blocks are empty so far.
 pub record Table (D : Type 0) : Type 0 where
   pub types : List Declaration
   pub objects : List (Object D)

@@ -1,5 +1,5 @@
 -- What a collection leaves of a store's table and account, and room by the account.
-use Rattle.std.proofs.Common.{◌≡◌, ℕ, ◌+◌, Bool, true, not, if◌then◌else◌, ◌==◌, List, refl, sym, ap, ◌∙◌, arith}
+use Rattle.std.proofs.Common.{◌≡◌, ℕ, ◌+◌, Bool, true, not, if◌then◌else◌, ◌==◌, List, refl, sym, ap, ◌∙◌, subst, arith}
 use Rattle.gc_types.specs.declared.kind.Layouts.{Layouts}
 use Rattle.gc_types.specs.declared.kind.Layouts.TheVariants.{Null, Counting, Copying}
 use Rattle.gc_model.specs.Table.{Table}
@@ -8,14 +8,16 @@ use Rattle.gc_model.specs.Allocation.{Limits}
 use Rattle.gc_view.specs.Heaps.{HeapView}
 use Rattle.gc_model.specs.Stores.{StoreView}
 use Rattle.gc_model.specs.Holds.{Placing, Holds, HoldsTable, HoldsKept}
+use Rattle.gc_model.proofs.OwnedRoots.{trimmed_held}
+use Rattle.gc_model.proofs.HoldsOwned.{holds_trimmed}
 use Rattle.gc_heap.specs.Content.{IsHeap, total, block_size}
 use Rattle.gc_heap.specs.Heap.{HasRoom}
 use Rattle.gc_policy.specs.Accounts.{Account, IsAccount, HoldsAccount}
 use Rattle.gc_policy.specs.Collects.{IsPlaced}
 use Rattle.gc_policy.specs.Policy.{PolicyState, policy_state, allocated_bytes, FitsNow, LacksNow, turned, CollectsTable}
-use Rattle.gc_owner.specs.Owners.{OwnerView, CanBegin, Collects}
+use Rattle.gc_owner.specs.Owners.{OwnerView, CanBegin, Trims, Collects, CollectsAll}
 use Rattle.gc_policy.specs.Shown.{shown}
-use Rattle.gc_policy.proofs.RootsShown.{SlotsInFrames}
+use Rattle.gc_policy.proofs.RootsShown.{SlotsInFrames, AllHeld}
 use Rattle.gc_policy.proofs.CollectedHolds.{CollectsHeld, collected_holds, frames_after}
 use Rattle.gc_policy.proofs.HeldBlocks.{held_blocks, no_capacity}
 use Rattle.gc_policy.proofs.HeldNumber.{positions, are_placed, are_kept}
@@ -59,7 +61,7 @@ lacks_now Copying s t a limits size heap holds none = λ fits. none (
     omega arith)
 
 -- which half is active after a collection
-upper_after : {D : Type 0} (layouts : Layouts) (v w : OwnerView D) (upper : Bool) → IsHeap layouts v.heap → Collects layouts v w → v.heap.needs_gc ≡ upper → w.heap.needs_gc ≡ turned layouts upper
+upper_after : {D : Type 0} (layouts : Layouts) (v w : OwnerView D) (upper : Bool) → IsHeap layouts v.heap → CollectsAll layouts v w → v.heap.needs_gc ≡ upper → w.heap.needs_gc ≡ turned layouts upper
 upper_after Null v w upper heap is e = ap (λ (h : HeapView). h.needs_gc) is.collected.by_kind.0 ∙ e
 upper_after Counting v w upper heap is e = is.collected.by_kind.1.1 ∙ sym heap.by_kind.1 ∙ e
 upper_after Copying v w upper heap is e = is.collected.by_kind ∙ ap (λ b. not b) e
@@ -72,10 +74,11 @@ pub record AfterCollection {D : Type 0} (layouts : Layouts) (s : StoreView D) (t
   pub kept : HoldsKept layouts (shown s w) after.table
   pub in_frames : SlotsInFrames w.roots
 
-pub collected_account : {D : Type 0} (layouts : Layouts) (s : StoreView D) (t : Table D) (a : Account) (limits : Limits) (v w : OwnerView D)
-    → HoldsAccount layouts (shown s v) t a → CanBegin layouts v → SlotsInFrames v.roots → IsHeap layouts v.heap → v.heap.attached ≡ true → Collects layouts v w → AfterCollection layouts s t a limits w
-collected_account {D} layouts s t a limits v w holds can in_frames was_heap attached collects =
-    let held_before : CollectsHeld layouts s t holds.place v w = record { holds = holds.holds; can = can; in_frames = in_frames; was_heap = was_heap; attached = attached; collects = collects } in
+-- a collection from the roots that a trim left
+run_account : {D : Type 0} (layouts : Layouts) (s : StoreView D) (t : Table D) (a : Account) (limits : Limits) (v w : OwnerView D)
+    → HoldsAccount layouts (shown s v) t a → CanBegin layouts v → SlotsInFrames v.roots → AllHeld v.roots.owned → IsHeap layouts v.heap → v.heap.attached ≡ true → CollectsAll layouts v w → AfterCollection layouts s t a limits w
+run_account {D} layouts s t a limits v w holds can in_frames all_held was_heap attached collects =
+    let held_before : CollectsHeld layouts s t holds.place v w = record { holds = holds.holds; can = can; in_frames = in_frames; all_held = all_held; was_heap = was_heap; attached = attached; collects = collects } in
     let kept : HoldsKept layouts (shown s w) t = collected_holds layouts s t holds.place v w held_before in
     let held : List ℕ = positions layouts t kept.0 w.heap kept.1.0.objects in
     let placed : AreAll (IsPlaced kept.0) held = are_placed layouts t kept.0 w.heap kept.1.0.objects in
@@ -98,6 +101,24 @@ collected_account {D} layouts s t a limits v w holds can in_frames was_heap atta
       kept = kept;
       in_frames = frames_after layouts s t holds.place v w held_before;
     }
+
+-- what a trim leaves of a store's table and account: both
+trimmed_account : {D : Type 0} (layouts : Layouts) (s : StoreView D) (t : Table D) (a : Account) (v m : OwnerView D) → Trims layouts v m → HoldsAccount layouts (shown s v) t a → HoldsAccount layouts (shown s m) t a
+trimmed_account {D} layouts s t a v m trims holds = record {
+  place = holds.place;
+  holds = subst (λ (x : OwnerView D). Holds layouts (shown s x) t holds.place) (sym trims.changes.rest) (holds_trimmed layouts (shown s v) t holds.place holds.holds m.heap trims.changes.held);
+  account = account_kept (shown s v) (shown s m) holds.place a (ap (λ (x : OwnerView D). x.last) trims.changes.rest) refl trims.changes.held.needs_gc holds.account;
+}
+
+pub collected_account : {D : Type 0} (layouts : Layouts) (s : StoreView D) (t : Table D) (a : Account) (limits : Limits) (v w : OwnerView D)
+    → HoldsAccount layouts (shown s v) t a → SlotsInFrames v.roots → v.heap.attached ≡ true → Collects layouts v w → AfterCollection layouts s t a limits w
+collected_account {D} layouts s t a limits v w holds in_frames attached collects =
+    let m : OwnerView D = collects.trimmed in
+    let trims = collects.trims in
+    run_account layouts s t a limits m w (trimmed_account layouts s t a v m trims holds) trims.can
+    (subst (λ (x : OwnerView D). SlotsInFrames x.roots) (sym trims.changes.rest) in_frames)
+    (subst (λ (x : OwnerView D). AllHeld x.roots.owned) (sym trims.changes.rest) (trimmed_held v.roots.owned))
+    trims.is_heap (trims.changes.held.attached ∙ attached) collects.runs
 
 -- a store that holds a table has some account beside it
 pub own_account : {D : Type 0} (layouts : Layouts) (s : StoreView D) (t : Table D) (place : Placing) → Holds layouts s t place → (a : Account) × IsAccount s place a

@@ -1,5 +1,5 @@
 -- A store that held a table holds it after a collection of its owner, and no other object than the collection keeps.
-use Rattle.std.proofs.Common.{◌≡◌, ℕ, ◌+◌, ◌%◌, ◌<◌, true, false, List, [], map, Option, Some, None, is_some, Contains, refl, sym, ap, ◌∙◌, subst, arith}
+use Rattle.std.proofs.Common.{◌≡◌, ℕ, ◌+◌, ◌%◌, ◌<◌, true, false, List, map, Option, Some, None, is_some, Contains, refl, sym, ap, ◌∙◌, subst, arith}
 use Rattle.std.specs.Ordering.{nat_cmp}
 use Rattle.std.specs.FinMap.{FinMap, get}
 use Rattle.std.proofs.lemmas.List.{length-map}
@@ -7,26 +7,24 @@ use Rattle.std.proofs.lemmas.Option.{none-some, same_Some}
 use Rattle.gc_types.specs.declared.kind.Layouts.{Layouts}
 use Rattle.gc_types.specs.declared.kind.Layouts.TheVariants.{Null, Counting, Copying}
 use Rattle.gc_owner.specs.declared.entry.SlotEntry.{SlotEntry}
-use Rattle.gc_owner.specs.declared.entry.OwnedEntry.{OwnedEntry}
 use Rattle.gc_owner.specs.RootColumns.{RootsView, AreFrames, roots_of, moved_roots}
-use Rattle.gc_owner.specs.Owners.{OwnerView, CanBegin, Collects, start_of}
+use Rattle.gc_owner.specs.Owners.{OwnerView, CanBegin, CollectsAll, start_of}
 use Rattle.gc_model.specs.Values.{Reference, null, small, at}
 use Rattle.gc_model.specs.Table.{Table}
 use Rattle.gc_model.specs.Reach.{IsKept}
 use Rattle.gc_view.specs.Heaps.{HeapView, HeapObject}
 use Rattle.gc_model.specs.Stores.{StoreView}
 use Rattle.gc_model.proofs.HoldsParts.{places_changed}
-use Rattle.gc_model.proofs.RootsMoved.{owned-none}
-use Rattle.gc_model.specs.Holds.{Placing, IsWord, HostStands, IsHostAt, HostsBy, HeldAt, ObjectsHold, KindHolds, Holds, HoldsKept, FramesBy, OwnedBy}
+use Rattle.gc_model.specs.Holds.{Placing, IsWord, HostStands, IsHostAt, HostsBy, HeldAt, ObjectsHold, KindHolds, Holds, HoldsKept, FramesBy}
 use Rattle.gc_heap.specs.References.{references}
 use Rattle.gc_heap.specs.Content.{IsHeld, IsHeap, IsSpare}
 use Rattle.gc_heap.specs.Extents.{host_id}
 use Rattle.gc_heap.specs.Collection.{Start, Kept, moved, IsMoved, Collected, has_host, IsExternal, IsPartOf}
 use Rattle.gc_heap.proofs.AgainLemmas.{kept_by_root, kept_by_field, kept_held}
 use Rattle.gc_policy.specs.Shown.{shown, frames_of}
-use Rattle.gc_policy.proofs.RootsShown.{SlotsInFrames, IsRooted, scoped_rooted, slot_rooted, global_rooted, pending_rooted, owned_empty}
+use Rattle.gc_policy.proofs.RootsShown.{SlotsInFrames, AllHeld, IsRooted, scoped_rooted, slot_rooted, global_rooted, owned_rooted, pending_rooted}
 use Rattle.gc_policy.proofs.Frames.{frame_words, frames-mapped}
-use Rattle.gc_policy.proofs.CollectedRoots.{StaysPresent, scoped-carried, frames-carried, globals-carried, thrown-carried}
+use Rattle.gc_policy.proofs.CollectedRoots.{StaysPresent, scoped-carried, frames-carried, globals-carried, owned-carried, thrown-carried}
 use Rattle.gc_policy.proofs.CollectedValues.{stands_moved, host_moved, host_was}
 use Rattle.gc_policy.proofs.CollectedPlacing.{place_after, placed_after, placed_before, word_carried}
 use Rattle.gc_policy.proofs.CollectedKept.{traced_here, kept_position}
@@ -39,14 +37,15 @@ part_value {D} part whole id value within is there = by (get part id) refl there
     by None none some = absurd (cc)
     by (Some x) found some = found ∙ sym (within id x found) ∙ is
 
--- A collection of an owner whose store holds a table.
+-- A collection of an owner whose store holds a table, once it was trimmed.
 pub record CollectsHeld {D : Type 0} (layouts : Layouts) (s : StoreView D) (t : Table D) (place : Placing) (v w : OwnerView D) : Type 0 where
   pub holds : Holds layouts (shown s v) t place
   pub can : CanBegin layouts v
   pub in_frames : SlotsInFrames v.roots
+  pub all_held : AllHeld v.roots.owned
   pub was_heap : IsHeap layouts v.heap
   pub attached : v.heap.attached ≡ true
-  pub collects : Collects layouts v w
+  pub collects : CollectsAll layouts v w
 
 module _ {D : Type 0} (layouts : Layouts) (s : StoreView D) (t : Table D) (place : Placing) (v w : OwnerView D) (c : CollectsHeld layouts s t place v w) where
   abbrev begin : Start
@@ -88,7 +87,7 @@ module _ {D : Type 0} (layouts : Layouts) (s : StoreView D) (t : Table D) (place
         stands = stands_moved layouts t.types done.to there.object now.0 place after t.funcs
             (moved_here there.object now.0 now.1.1)
             (spare_here word there.object there.in_heap)
-            (traced_here layouts s v t place c.holds c.in_frames c.can.traced (has_host v.hosts) word there.object there.in_heap)
+            (traced_here layouts s v t place c.holds c.in_frames c.all_held c.can.traced (has_host v.hosts) word there.object there.in_heap)
             (λ r x among is_word. carried r x
             (λ q placed. kept_by_field layouts begin x word there.object (held_of q x placed) kept there.in_heap (subst (λ types. Contains (references layouts types there.object) x) (sym c.holds.types) among)) is_word)
             there.entry there.stands;
@@ -216,12 +215,6 @@ module _ {D : Type 0} (layouts : Layouts) (s : StoreView D) (t : Table D) (place
       (frames-carried done.to place after t.frames (frames_of v.roots.frames v.roots.slots)
       (λ r x among is. carried r x (kept_rooted x (slot_rooted v.roots x (subst (λ (ws : List ℕ). Contains ws x) (frame_words v.roots.slots v.roots.frames c.in_frames) among))) is) c.holds.frames)
 
-  -- there is no owned root
-  owned_same : roots_after.owned ≡ v.roots.owned
-  owned_same =
-      let none : v.roots.owned ≡ [] = owned_empty layouts s v t place c.holds in
-      ap (map (λ (e : OwnedEntry). record e { word = moved done.to e.word })) none ∙ sym none
-
   -- what the store shows after the collection
   abbrev collected : OwnerView D
   collected = record v { heap = w.heap; hosts = w.hosts; roots = roots_after; last = w.heap.allocated }
@@ -241,7 +234,7 @@ module _ {D : Type 0} (layouts : Layouts) (s : StoreView D) (t : Table D) (place
       (scoped-carried done.to place after t.pushes t.scoped v.roots.scoped (λ r x among is. carried r x (kept_rooted x (scoped_rooted v.roots x among)) is) present c.holds.scoped)
       frames_moved
       (globals-carried done.to place after t.globals v.roots.globals (λ r x among is. carried r x (kept_rooted x (global_rooted v.roots x among)) is) c.holds.globals)
-      (subst (λ (es : List OwnedEntry). OwnedBy after t.owns s.owns t.owned es) (sym owned_same) (owned-none place after t.owns s.owns t.owned v.roots.owned nothing.owned c.holds.owned))
+      (owned-carried done.to place after t.owns v.roots.owns t.owned v.roots.owned (λ r x among is. carried r x (kept_rooted x (owned_rooted v.roots x among)) is) present c.holds.owned)
       (thrown-carried done.to place after t.objects t.pending v.roots.pending (λ r above is. carried r v.roots.pending (kept_rooted v.roots.pending (λ x. pending_rooted v.roots x)) is) present c.holds.pending)
       hosts_after
       nothing
@@ -255,7 +248,7 @@ module _ {D : Type 0} (layouts : Layouts) (s : StoreView D) (t : Table D) (place
   kept_after : (p word : ℕ) → after p ≡ Some word → IsKept layouts t p
   kept_after p word e =
       let was = placed_before layouts begin w.heap (roots_of w.roots) (has_host w.hosts) done place p word e in
-      kept_position layouts s v t place c.holds c.in_frames c.can.traced c.was_heap (has_host v.hosts) was.word was.kept p was.placed
+      kept_position layouts s v t place c.holds c.in_frames c.all_held c.can.traced c.was_heap (has_host v.hosts) was.word was.kept p was.placed
 
   pub frames_after : SlotsInFrames w.roots
   frames_after =

@@ -21,7 +21,7 @@ use Rattle.gc_owner.specs.Tracing.{IsTraced, AreTraced, start_from}
 use Rattle.gc_owner.specs.RootColumns.{roots_of}
 use Rattle.gc_owner.specs.Owners.{OwnerView}
 use Rattle.gc_policy.specs.Shown.{shown}
-use Rattle.gc_policy.proofs.RootsShown.{SlotsInFrames, root_word, listed_named}
+use Rattle.gc_policy.proofs.RootsShown.{SlotsInFrames, AllHeld, root_word, listed_named}
 use Rattle.gc_policy.proofs.CollectedReach.{reference_word, reference_of_word}
 
 module _ {D : Type 0} (layouts : Layouts) (s : StoreView D) (t : Table D) (place : Placing) (holds : Holds layouts s t place) where
@@ -38,7 +38,7 @@ module _ {D : Type 0} (layouts : Layouts) (s : StoreView D) (t : Table D) (place
   value_reached : (q : ℕ) (o : Object D) → IsReached t q → slice_get t.objects q ≡ Some o → (r : Reference) (p : ℕ) → r ≡ at p → Contains (references_in o) r → IsReached t p
   value_reached q o reached e r p is c = reach.by_step reached (record { object = o; there = e; among = subst (λ (x : Reference). Contains (references_in o) x) is c })
 
-module _ {D : Type 0} (layouts : Layouts) (s : StoreView D) (v : OwnerView D) (t : Table D) (place : Placing) (holds : Holds layouts (shown s v) t place) (in_frames : SlotsInFrames v.roots) (traced : AreTraced layouts v.types.declarations v.heap) (hosts : ℕ → Bool) where
+module _ {D : Type 0} (layouts : Layouts) (s : StoreView D) (v : OwnerView D) (t : Table D) (place : Placing) (holds : Holds layouts (shown s v) t place) (in_frames : SlotsInFrames v.roots) (all_held : AllHeld v.roots.owned) (traced : AreTraced layouts v.types.declarations v.heap) (hosts : ℕ → Bool) where
   -- an object of the heap is traced by the table's types
   pub traced_here : (word : ℕ) (h : HeapObject) → get v.heap.content word ≡ Some h → IsTraced layouts t.types h
   traced_here word h got = subst (λ types. IsTraced layouts types h) holds.types (traced word h got)
@@ -46,7 +46,7 @@ module _ {D : Type 0} (layouts : Layouts) (s : StoreView D) (v : OwnerView D) (t
   -- an object that the heap's roots reach is one that the table's roots reach
   pub reached_position : IsHeap layouts v.heap → (word : ℕ) → Reached layouts (start_from v.types.declarations v.heap (roots_of v.roots) hosts) word → (p : ℕ) → place p ≡ Some word → IsReached t p
   reached_position heap word (by_root held r among is) p e =
-      let found = listed_named layouts s v t place holds in_frames r among in
+      let found = listed_named layouts s v t place holds all_held in_frames r among in
       let names : found.0 ≡ at p = word_names layouts t place v.heap holds.objects found.0 (at p) word (subst (IsWord place found.0) is found.1.1) e in
       reach.by_start (subst (λ (x : Reference). Contains (reach.root_references t) x) names found.1.0)
   reached_position heap word (by_field held {from = from} reached o got among) p e =
@@ -61,11 +61,11 @@ module _ {D : Type 0} (layouts : Layouts) (s : StoreView D) (v : OwnerView D) (t
       value_reached layouts (shown s v) t place holds before.0 there.entry (reached_position heap from reached before.0 before.1) there.in_table named.reference_is p names named.among
 
 -- What a collection of the heap keeps, one of the table keeps.
-pub kept_position : {D : Type 0} (layouts : Layouts) (s : StoreView D) (v : OwnerView D) (t : Table D) (place : Placing) → Holds layouts (shown s v) t place → SlotsInFrames v.roots → AreTraced layouts v.types.declarations v.heap → IsHeap layouts v.heap → (hosts : ℕ → Bool) (word : ℕ) → Kept layouts (start_from v.types.declarations v.heap (roots_of v.roots) hosts) word
+pub kept_position : {D : Type 0} (layouts : Layouts) (s : StoreView D) (v : OwnerView D) (t : Table D) (place : Placing) → Holds layouts (shown s v) t place → SlotsInFrames v.roots → AllHeld v.roots.owned → AreTraced layouts v.types.declarations v.heap → IsHeap layouts v.heap → (hosts : ℕ → Bool) (word : ℕ) → Kept layouts (start_from v.types.declarations v.heap (roots_of v.roots) hosts) word
     → (p : ℕ) → place p ≡ Some word → IsKept layouts t p
-kept_position Null s v t place holds in_frames traced heap hosts word kept p e = let there = holds.objects.placed p word e in slice_get_within t.objects p there.entry there.in_table
-kept_position Counting s v t place holds in_frames traced heap hosts word kept p e = reached_position Counting s v t place holds in_frames traced hosts heap word kept p e
-kept_position Copying s v t place holds in_frames traced heap hosts word kept p e = reached_position Copying s v t place holds in_frames traced hosts heap word kept p e
+kept_position Null s v t place holds in_frames all_held traced heap hosts word kept p e = let there = holds.objects.placed p word e in slice_get_within t.objects p there.entry there.in_table
+kept_position Counting s v t place holds in_frames all_held traced heap hosts word kept p e = reached_position Counting s v t place holds in_frames all_held traced hosts heap word kept p e
+kept_position Copying s v t place holds in_frames all_held traced heap hosts word kept p e = reached_position Copying s v t place holds in_frames all_held traced hosts heap word kept p e
 
 module _ {D : Type 0} (s : StoreView D) (t : Table D) (place : Placing) where
   -- What a collection of the table keeps is placed.

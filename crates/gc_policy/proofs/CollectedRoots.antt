@@ -4,10 +4,12 @@ use Rattle.std.specs.List.{flat_map}
 use Rattle.std.proofs.lemmas.List.{length-map}
 use Rattle.gc_owner.specs.declared.entry.RootEntry.{RootEntry}
 use Rattle.gc_owner.specs.declared.entry.SlotEntry.{SlotEntry}
+use Rattle.gc_owner.specs.declared.entry.OwnedEntry.{OwnedEntry}
+use Rattle.gc_model.proofs.Members.{map_among, among_map, pairs_map}
 use Rattle.gc_model.specs.Values.{Reference, Object}
-use Rattle.gc_model.specs.Table.{Scoped, Push, Slot}
+use Rattle.gc_model.specs.Table.{Scoped, Push, Slot, Owned}
 use Rattle.gc_model.specs.Words.{Placing, IsWord}
-use Rattle.gc_model.specs.RootPoints.{ScopedBy, SlotsBy, FramesBy, GlobalsBy, PendingBy, ThrownBy}
+use Rattle.gc_model.specs.RootPoints.{ScopedBy, SlotsBy, FramesBy, GlobalsBy, OwnedRootBy, OwnedBy, PendingBy, ThrownBy}
 use Rattle.gc_heap.specs.Collection.{moved}
 use Rattle.gc_policy.proofs.CollectedLists.{get_contains, flat_contains, map_get, map_source}
 use Rattle.gc_policy.proofs.Frames.{words_of}
@@ -67,6 +69,31 @@ module _ (to : ℕ → ℕ) (place place' : Placing) where
 
   pub globals-carried : (globals : List Slot) (entries : List SlotEntry) → Carried (map (λ (e : SlotEntry). e.word) entries) → GlobalsBy place globals entries → GlobalsBy place' globals (map moved_slot entries)
   globals-carried globals entries carried by = record { count = by.count; slots = slots-carried globals entries carried by.slots }
+
+  abbrev moved_owned : OwnedEntry → OwnedEntry
+  moved_owned e = record e { word = moved to e.word }
+
+  pub owned-carried : (owns count : ℕ) (owned : List Owned) (entries : List OwnedEntry) → Carried (map (λ (e : OwnedEntry). e.word) entries) → StaysPresent → OwnedBy place owns count owned entries → OwnedBy place' owns count owned (map moved_owned entries)
+  owned-carried owns count owned entries carried present by = record {
+    same_owns = by.same_owns;
+    in_table = λ entry c some.
+        let was = map_among moved_owned entries entry c in
+        let found = by.in_table was.of was.among (subst (λ (e : OwnedEntry). 0 < e.handles) (sym was.is) some) in
+        (found.0, (found.1.0, subst (λ (e : OwnedEntry). OwnedRootBy place' e found.0) was.is (stands_after was.of found.0 was.among found.1.1)));
+    in_store = λ root c.
+        let found = by.in_store root c in
+        (moved_owned found.0, (among_map moved_owned entries found.0 found.1.0, stands_after found.0 root found.1.0 found.1.1));
+    early = λ entry c.
+        let was = map_among moved_owned entries entry c in
+        subst (λ (e : OwnedEntry). e.number < owns) was.is (by.early was.of was.among);
+    rising = pairs_map (λ (a b : OwnedEntry). a.number < b.number) moved_owned entries by.rising;
+    in_order = by.in_order;
+  }
+    where
+      stands_after : (entry : OwnedEntry) (root : Owned) → Contains entries entry → OwnedRootBy place entry root → OwnedRootBy place' (moved_owned entry) root
+      stands_after entry root c stands =
+          let word = carried root.reference entry.word (among_map (λ (e : OwnedEntry). e.word) entries entry c) stands.word in
+          record { number = stands.number; handles = stands.handles; held = stands.held; word = word; not_null = present root.reference entry.word stands.not_null stands.word word }
 
   pending-carried : (pending : Option Reference) (word : ℕ) → ((r : Reference) → 0 < word → IsWord place r word → IsWord place' r (moved to word)) → StaysPresent → PendingBy place pending word → PendingBy place' pending (moved to word)
   pending-carried None word carried present by = ap (moved to) by

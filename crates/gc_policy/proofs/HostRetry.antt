@@ -19,7 +19,7 @@ use Rattle.gc_heap.specs.Collection.{Reached, by_root, by_field, Kept, KindColle
 use Rattle.gc_heap.proofs.AgainLemmas.{origin, external_origin}
 use Rattle.gc_owner.specs.RootColumns.{roots_of}
 use Rattle.gc_owner.specs.Tracing.{start_from}
-use Rattle.gc_owner.specs.Owners.{OwnerView, CanBegin, Collects, start_of}
+use Rattle.gc_owner.specs.Owners.{OwnerView, CanBegin, Trims, Collects, CollectsAll, start_of}
 use Rattle.gc_owner.specs.Growing.{OwnerState, state_of, CollectsState, Readies, Grows, asked, pages_of, heap_after, owner_rules}
 use Rattle.gc_owner.specs.Retry.{Ends, Retry, at_once, after_collection, after_both, after_growth, after_refusal, Growing, Paused, at_first, in_collection, in_both, in_growth, in_refusal}
 use Rattle.gc_owner.specs.Makes.{AddsRooted, LacksSpace}
@@ -124,9 +124,18 @@ module _ {D : Type 0} (layouts : Layouts) (id : ℕ) (value : D) where
       there : (m : FinMap nat_cmp D) → get (insert m id value) id ≡ Some value
       there m = grind (arith, common_steps, gets)
 
-  -- after a collection
-  collected_spare : (old new : OwnerView D) → HasSpare layouts id value old → Collects layouts old new → HasSpare layouts id value new
-  collected_spare old new has collects = record {
+  -- after a trim
+  trimmed_spare : (old new : OwnerView D) → HasSpare layouts id value old → Trims layouts old new → HasSpare layouts id value new
+  trimmed_spare old new has trims = record {
+    heap = trims.is_heap;
+    can = trims.can;
+    unused = λ place o is same. has.unused place o (record { held = ap (λ (m : FinMap nat_cmp HeapObject). get m place) (sym trims.changes.held.content) ∙ is.held; kind = is.kind }) same;
+    value_is = ap (λ (v : OwnerView D). get v.hosts id) trims.changes.rest ∙ has.value_is;
+  }
+
+  -- after a run from what that left
+  run_spare : (old new : OwnerView D) → HasSpare layouts id value old → CollectsAll layouts old new → HasSpare layouts id value new
+  run_spare old new has collects = record {
     heap = collects.is_heap;
     can = collects.can;
     unused = λ place o is same.
@@ -137,14 +146,27 @@ module _ {D : Type 0} (layouts : Layouts) (id : ℕ) (value : D) where
         (collects.collected.hosts_kept id (λ place o is same. absurd (has.unused place o (record { held = is.held; kind = is.kind }) same)) ∙ ap is_some has.value_is);
   }
 
-  -- a collection with the value is one without it
-  collected_less : (old new : OwnerView D) → HasSpare layouts id value old → Collects layouts old new → Collects layouts (less id old) (less id new)
-  collected_less old new has collects =
+  -- after a collection
+  collected_spare : (old new : OwnerView D) → HasSpare layouts id value old → Collects layouts old new → HasSpare layouts id value new
+  collected_spare old new has collects = run_spare collects.trimmed new (trimmed_spare old collects.trimmed has collects.trims) collects.runs
+
+  -- a trim with the value is one without it
+  trimmed_less : (old new : OwnerView D) → HasSpare layouts id value old → Trims layouts old new → Trims layouts (less id old) (less id new)
+  trimmed_less old new has trims = record {
+    changes = record { held = trims.changes.held; rest = ap (less id) trims.changes.rest };
+    spare = trims.spare;
+    is_heap = trims.is_heap;
+    can = less_kept layouts new.types.declarations new.heap (roots_of new.roots) new.hosts id (trimmed_spare old new has trims).unused trims.can;
+  }
+
+  -- so is a run
+  run_less : (old new : OwnerView D) → HasSpare layouts id value old → CollectsAll layouts old new → CollectsAll layouts (less id old) (less id new)
+  run_less old new has collects =
       let done = collects.collected in
       let types : List Declaration = old.types.declarations in
       let forth = kept_with layouts types old.heap (roots_of old.roots) (has_host old.hosts) (has_host (remove old.hosts id)) in
       let back = kept_with layouts types old.heap (roots_of old.roots) (has_host (remove old.hosts id)) (has_host old.hosts) in
-      let after = collected_spare old new has collects in
+      let after = run_spare old new has collects in
       record {
         collected = record {
           to = done.to;
@@ -167,6 +189,14 @@ module _ {D : Type 0} (layouts : Layouts) (id : ℕ) (value : D) where
         can = less_kept layouts new.types.declarations new.heap (roots_of new.roots) new.hosts id after.unused collects.can;
         rest = ap (less id) collects.rest;
       }
+
+  -- and so is a collection
+  collected_less : (old new : OwnerView D) → HasSpare layouts id value old → Collects layouts old new → Collects layouts (less id old) (less id new)
+  collected_less old new has collects = record {
+    trimmed = less id collects.trimmed;
+    trims = trimmed_less old collects.trimmed has collects.trims;
+    runs = run_less collects.trimmed new (trimmed_spare old collects.trimmed has collects.trims) collects.runs;
+  }
 
   state_less : (s e : OwnerState D) → HasSpare layouts id value s.owner → CollectsState layouts s e → CollectsState layouts (less_state id s) (less_state id e)
   state_less s e has ran = (collected_less s.owner e.owner has ran.0, ran.1)

@@ -1,5 +1,5 @@
 -- The roots of an owner are those of the table that its store holds: what they list is what the table's roots name.
-use Rattle.std.proofs.Common.{◌≡◌, ℕ, ◌<◌, inl, inr, true, false, List, [], ◌∷◌, ◌++◌, length, map, Option, Some, None, Contains, refl, sym, ap, ◌∙◌, subst, arith}
+use Rattle.std.proofs.Common.{◌≡◌, ℕ, ◌<◌, inl, inr, true, false, List, [], ◌∷◌, ◌++◌, length, map, Option, Some, None, Contains, sym, subst, arith}
 use Rattle.std.specs.List.{slice_get, flat_map}
 use Rattle.std.proofs.lemmas.List.Elements.{Contains-append_cases, Contains-append_left, Contains-append_right}
 use Rattle.gc_types.specs.declared.kind.Layouts.{Layouts}
@@ -10,13 +10,14 @@ use Rattle.gc_owner.specs.declared.entry.OwnedEntry.{OwnedEntry}
 use Rattle.gc_owner.specs.RootColumns.{RootsView, scoped_words, owned_words, slot_words, global_words, listed_as, roots_of, AreFrames}
 use Rattle.gc_owner.specs.Owners.{OwnerView}
 use Rattle.gc_model.specs.Values.{Reference}
-use Rattle.gc_model.specs.Table.{Table, Scoped, Slot}
+use Rattle.gc_model.specs.Table.{Table, Scoped, Slot, Owned}
 use Rattle.gc_model.specs.Reach.{root_references, slot_references, owned_references, present}
 use Rattle.gc_model.specs.Stores.{StoreView}
 use Rattle.gc_model.specs.Words.{Placing, IsWord}
-use Rattle.gc_model.specs.RootPoints.{SlotsBy, PendingBy}
+use Rattle.gc_model.specs.RootPoints.{SlotsBy, OwnedBy, PendingBy}
 use Rattle.gc_model.specs.Holds.{Holds}
 use Rattle.gc_model.proofs.Lists.{slice_get-same_length}
+use Rattle.gc_model.proofs.Members.{map_among, among_map}
 use Rattle.gc_heap.proofs.SpacedLemmas.{only_item}
 use Rattle.gc_policy.specs.Shown.{shown}
 use Rattle.gc_policy.proofs.Frames.{words_of, frame_words}
@@ -47,17 +48,26 @@ names-each place reference_of word_of roots entries count each = record {
       );
 }
 
+-- each of some owned roots has handles
+abbrev pub AllHeld : List OwnedEntry → Type 0
+AllHeld entries = (e : OwnedEntry) → Contains entries e → 0 < e.handles
+
 -- slots name what they stand for
 slots_named : (place : Placing) (slots : List Slot) (entries : List SlotEntry) → SlotsBy place slots entries → Names place (slot_references slots) (words_of entries)
 slots_named place slots entries by = names-each place (λ (slot : Slot). slot.reference) (λ (e : SlotEntry). e.word) slots entries by.same_count (λ i e slot f g. (by.each i e slot f g).word)
 
--- a list as long as an empty one is empty
-no_length : {X : Type 0} (xs : List X) → length xs ≡ 0 → xs ≡ []
-no_length [] e = refl
-no_length (x ∷ xs) e = absurd (omega (arith, e))
-
-none_left : {X Y : Type 0} (xs : List X) (ys : List Y) → length xs ≡ length ys → ys ≡ [] → xs ≡ []
-none_left xs ys count none = no_length xs (count ∙ ap length none)
+-- owned roots that all have handles name what they stand for
+owned-names : (place : Placing) (owns count : ℕ) (owned : List Owned) (entries : List OwnedEntry) → AllHeld entries → OwnedBy place owns count owned entries → Names place (owned_references owned) (map (λ (e : OwnedEntry). e.word) entries)
+owned-names place owns count owned entries held by = record {
+  back = λ w c above.
+      let entry = map_among (λ (e : OwnedEntry). e.word) entries w c in
+      let found = by.in_table entry.of entry.among (held entry.of entry.among) in
+      (found.0.reference, (among_map (λ (root : Owned). root.reference) owned found.0 found.1.0, subst (IsWord place found.0.reference) entry.is found.1.1.word));
+  forth = λ r c.
+      let root = map_among (λ (x : Owned). x.reference) owned r c in
+      let found = by.in_store root.of root.among in
+      (found.0.word, (among_map (λ (e : OwnedEntry). e.word) entries found.0 found.1.0, subst (λ (q : Reference). IsWord place q found.0.word) root.is found.1.1.word));
+}
 
 pending-names : (place : Placing) (pending : Option Reference) (word : ℕ) → PendingBy place pending word → Names place (present pending) (word ∷ [])
 pending-names place None word null = record {
@@ -100,6 +110,9 @@ module _ (r : RootsView) where
         ),
       )
 
+  pub owned_rooted : (w : ℕ) → Contains (owned_words r) w → 0 < w → IsRooted w
+  owned_rooted w c above = let found = word_listed 1 false (owned_words r) w c above in (found.0, (behind_rooted found.0 (Contains-append_left (listed_as 1 false (owned_words r)) behind_owned found.0 found.1.0), found.1.1))
+
   slots_behind : (x : Root) → Contains behind_slots x → Contains (roots_of r) x
   slots_behind x c = behind_rooted x (Contains-append_right (listed_as 1 false (owned_words r)) behind_owned x (Contains-append_right (listed_as 2 true (slot_words r)) behind_slots x c))
 
@@ -112,7 +125,7 @@ module _ (r : RootsView) where
 -- the references of the table's roots, in order
 module _ {D : Type 0} (t : Table D) where
   abbrev owned_and_pending : List Reference
-  owned_and_pending = flat_map owned_references t.owned ++ present t.pending
+  owned_and_pending = owned_references t.owned ++ present t.pending
 
   abbrev from_globals : List Reference
   from_globals = slot_references t.globals ++ owned_and_pending
@@ -144,6 +157,13 @@ module _ {D : Type 0} (layouts : Layouts) (s : StoreView D) (t : Table D) (place
   globals_named : Names place (slot_references t.globals) (map (λ (e : SlotEntry). e.word) s.globals)
   globals_named = slots_named place t.globals s.globals holds.globals.slots
 
+  -- whatever owned roots without handles stand, what one of the table names has a word
+  owned_word : (r : Reference) → Contains (owned_references t.owned) r → (w : ℕ) × IsWord place r w
+  owned_word r c =
+      let root = map_among (λ (x : Owned). x.reference) t.owned r c in
+      let found = holds.owned.in_store root.of root.among in
+      (found.0.word, subst (λ (q : Reference). IsWord place q found.0.word) root.is found.1.1.word)
+
   pending_named : Names place (present t.pending) (s.pending ∷ [])
   pending_named = pending-names place t.pending s.pending holds.pending.same_word
 
@@ -155,8 +175,8 @@ module _ {D : Type 0} (layouts : Layouts) (s : StoreView D) (t : Table D) (place
       | inl slot ↦ let found = frames_named.forth r slot in (found.0, found.1.1)
       | inr rest ↦ elim (Contains-append_cases (slot_references t.globals) (owned_and_pending t) r rest) [
         | inl global ↦ let found = globals_named.forth r global in (found.0, found.1.1)
-        | inr last ↦ elim (Contains-append_cases (flat_map owned_references t.owned) (present t.pending) r last) [
-          | inl one ↦ absurd (none_in r (subst (λ os. Contains (flat_map owned_references os) r) holds.nothing_else.owned one))
+        | inr last ↦ elim (Contains-append_cases (owned_references t.owned) (present t.pending) r last) [
+          | inl one ↦ owned_word r one
           | inr pending ↦ let found = pending_named.forth r pending in (found.0, found.1.1)
         ]
       ]
@@ -168,21 +188,21 @@ abbrev pub SlotsInFrames : RootsView → Type 0
 SlotsInFrames r = AreFrames r.frames (length r.slots)
 
 module _ {D : Type 0} (layouts : Layouts) (s : StoreView D) (v : OwnerView D) (t : Table D) (place : Placing) (holds : Holds layouts (shown s v) t place) where
-  pub owned_empty : v.roots.owned ≡ []
-  owned_empty = none_left v.roots.owned t.owned holds.owned.same_count holds.nothing_else.owned
-
   abbrev store : StoreView D
   store = shown s v
 
   -- a root that is listed has the word of a reference that is a root of the table
-  pub listed_named : SlotsInFrames v.roots → (x : Root) → Contains (roots_of v.roots) x → (r : Reference) × (Contains (root_references t) r × IsWord place r x.word)
-  listed_named in_frames x c = elim (Contains-append_cases (listed_as 0 false (scoped_words v.roots)) (behind_scoped v.roots) x c) [
+  pub listed_named : AllHeld v.roots.owned → SlotsInFrames v.roots → (x : Root) → Contains (roots_of v.roots) x → (r : Reference) × (Contains (root_references t) r × IsWord place r x.word)
+  listed_named all_held in_frames x c = elim (Contains-append_cases (listed_as 0 false (scoped_words v.roots)) (behind_scoped v.roots) x c) [
     | inl scoped ↦
         let w = listed_word 0 false (scoped_words v.roots) x scoped in
         let found = (scoped_named layouts store t place holds).back x.word w.0 w.1 in
         (found.0, (Contains-append_left (scoped_references t) (from_frames t) found.0 found.1.0, found.1.1))
     | inr behind ↦ elim (Contains-append_cases (listed_as 1 false (owned_words v.roots)) (behind_owned v.roots) x behind) [
-      | inl one ↦ absurd (none_in x (subst (λ (es : List OwnedEntry). Contains (listed_as 1 false (map (λ (e : OwnedEntry). e.word) es)) x) owned_empty one))
+      | inl one ↦
+          let w = listed_word 1 false (owned_words v.roots) x one in
+          let found = (owned-names place t.owns v.roots.owns t.owned v.roots.owned all_held holds.owned).back x.word w.0 w.1 in
+          (found.0, (globals_in found.0 (Contains-append_right (slot_references t.globals) (owned_and_pending t) found.0 (Contains-append_left (owned_references t.owned) (present t.pending) found.0 found.1.0)), found.1.1))
       | inr rest ↦ elim (Contains-append_cases (listed_as 2 true (slot_words v.roots)) (behind_slots v.roots) x rest) [
         | inl slot ↦
             let w = listed_word 2 true (slot_words v.roots) x slot in
@@ -197,7 +217,7 @@ module _ {D : Type 0} (layouts : Layouts) (s : StoreView D) (v : OwnerView D) (t
           | inr pending ↦
               let w = listed_word 4 false (v.roots.pending ∷ []) x pending in
               let found = (pending_named layouts store t place holds).back x.word w.0 w.1 in
-              (found.0, (globals_in found.0 (Contains-append_right (slot_references t.globals) (owned_and_pending t) found.0 (Contains-append_right (flat_map owned_references t.owned) (present t.pending) found.0 found.1.0)), found.1.1))
+              (found.0, (globals_in found.0 (Contains-append_right (slot_references t.globals) (owned_and_pending t) found.0 (Contains-append_right (owned_references t.owned) (present t.pending) found.0 found.1.0)), found.1.1))
         ]
       ]
     ]

@@ -42,17 +42,17 @@ module _ {D : Type 0} (layouts : Layouts) (s : StoreView D) (h : OwnerState D) (
   pub collection_follows : (e : OwnerState D) → CollectsState layouts h e → FollowsCollection layouts s e p
   collection_follows e ran =
       let after : AfterCollection layouts s p.table p.account p.limits e.owner =
-      collected_account layouts s p.table p.account p.limits h.owner e.owner agrees.holds agrees.can agrees.in_frames agrees.is_heap agrees.attached ran.0 in
+      collected_account layouts s p.table p.account p.limits h.owner e.owner agrees.holds agrees.in_frames agrees.attached ran.0 in
       record {
         after = after.after;
         collects = after.collects;
         agrees = record {
           holds = after.holds;
           limits = after.collects.limits ∙ agrees.limits ∙ sym ran.1;
-          is_heap = ran.0.is_heap;
-          can = ran.0.can;
+          is_heap = ran.0.runs.is_heap;
+          can = ran.0.runs.can;
           in_frames = after.in_frames;
-          attached = ran.0.collected.attached;
+          attached = ran.0.runs.collected.attached;
         };
         kept = after.kept;
       }

@@ -27,6 +27,7 @@ shown s v = record s {
   frames = frames_of v.roots.frames v.roots.slots;
   globals = v.roots.globals;
   owned = v.roots.owned;
+  owns = v.roots.owns;
   pending = v.roots.pending;
   last = v.last;
 }
