@@ -32,8 +32,7 @@ use Rattle.gc_store.specs.Roots.{word_of}
 use Rattle.gc_store.specs.Bytes.{NamesBytes}
 use Rattle.gc_store.specs.HeldSlots.{FindsHeldSlot, IsHeldOf, IsHeldWithSlot}
 use Rattle.gc_store.proofs.SlotPlaces.{bytes_reach, first_above, held_size_is, held_small}
-use Rattle.gc_store.proofs.Roots.{named_word}
-use Rattle.gc_store.proofs.SameRoots.{never_gone}
+use Rattle.gc_store.proofs.HandleWords.{named_word, never_gone}
 
 -- lists of as many values, each of which is the other's
 same_values : (xs ys : List Value) → length xs ≡ length ys → ((i : ℕ) (x y : Value) → slice_get xs i ≡ Some x → slice_get ys i ≡ Some y → x ≡ y) → xs ≡ ys

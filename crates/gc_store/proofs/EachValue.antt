@@ -21,8 +21,9 @@ use Rattle.gc_heap.specs.Content.{IsHeap}
 use Rattle.gc_heap.specs.Collection.{IsWordOf}
 use Rattle.gc_owner.specs.declared.entry.RootEntry.{RootEntry}
 use Rattle.gc_owner.specs.Owners.{OwnerView, CanBegin}
-use Rattle.gc_policy.proofs.CollectedLists.{get_contains, contains_get, map_get}
-use Rattle.gc_policy.proofs.RootsShown.{scoped_rooted}
+use Rattle.gc_owner.specs.declared.entry.OwnedEntry.{OwnedEntry}
+use Rattle.gc_model.proofs.Members.{among_map}
+use Rattle.gc_policy.proofs.RootsShown.{IsRooted, scoped_rooted, owned_rooted}
 use Rattle.gc_model.specs.Values.{Value}
 use Rattle.gc_model.specs.Forms.{Form, reference_of, top_form, storage_form, Names, IsEncodedAs}
 use Rattle.gc_model.proofs.Lists.{slice_get-same_length}
@@ -36,7 +37,9 @@ use Rattle.gc_store.specs.declared.root.RawValue.TheVariants as raw
 use Rattle.gc_store.specs.declared.root.RootSlot.{RootSlot}
 use Rattle.gc_store.specs.declared.root.RootSlot.TheVariants as slot
 use Rattle.gc_store.specs.declared.root.RootFault.TheVariants as fault
-use Rattle.gc_store.specs.Words.{entry_word, slot_word}
+use Rattle.gc_store.specs.Words.{HandleRoots, handle_roots, root_word_at, entry_word, owned_id, owned_word, owned_at, AreRising}
+use Rattle.gc_store.proofs.OwnedWords.{owned_there}
+use Rattle.gc_store.proofs.HandleWords.{owned_word-ok, tested-ok}
 use Rattle.gc_store.specs.Kept.{code_of, KeptAs, IsKept, raw_form, form_width, FitsForm, OfForm, StoredStands}
 use Rattle.gc_store.specs.HeldSlots.{storage_slot, HasSlot, FindsSlot, IsHeldOf, CanWriteSlot, WritesAt}
 use Rattle.gc_store.specs.Filling.{EachFits, EachStands, IsToFill, Rewrites, Fills, slot_bytes}
@@ -45,8 +48,8 @@ use Rattle.gc_store.proofs.SlotPlaces.{first_above, bytes_reach, slot_lies, held
 use Rattle.gc_store.proofs.SlotWrites.{length-low}
 
 -- a root's word is that of an entry
-slot_entry : (entries : List RootEntry) (s : RootSlot) (generation word : ℕ) → slot_word entries s generation ≡ Ok word → (e : RootEntry) × (Contains entries e × (e.word ≡ word))
-slot_entry entries (slot.Scoped index) generation word is = at (slice_get entries index) refl is
+slot_entry : (entries : List RootEntry) (index generation word : ℕ) → entry_word (slice_get entries index) generation ≡ Ok word → (e : RootEntry) × (Contains entries e × (e.word ≡ word))
+slot_entry entries index generation word is = at (slice_get entries index) refl is
   where
     at : (found : Option RootEntry) → slice_get entries index ≡ found → entry_word found generation ≡ Ok word → (e : RootEntry) × (Contains entries e × (e.word ≡ word))
     at None e is = absurd (cc)
@@ -56,26 +59,42 @@ slot_entry entries (slot.Scoped index) generation word is = at (slice_get entrie
           | true ↦ λ same. (entry, (here, cc))
           | false ↦ λ same. absurd (cc)
         ] is
-slot_entry entries (slot.Owned id) generation word is = absurd (cc)
+
+owned_entry : (entries : List OwnedEntry) (id generation word : ℕ) → cond (nat_eq id (owned_id generation)) (owned_word (owned_at generation entries)) (Err fault.Unrooted) ≡ Ok word → (e : OwnedEntry) × (Contains entries e × (e.word ≡ word))
+owned_entry entries id generation word is =
+    let found = owned_word-ok (owned_at generation entries) word (tested-ok (nat_eq id (owned_id generation)) (owned_word (owned_at generation entries)) fault.Unrooted word is).1 in
+    (found.0, ((owned_there generation entries found.0 found.1.0).0, found.1.1.1))
 
 -- the words of the roots are words of the heap
-abbrev pub AreWords : HeapView → List RootEntry → Type 0
-AreWords h entries = (e : RootEntry) → Contains entries e → IsWordOf h e.word
+pub record AreWords (h : HeapView) (roots : HandleRoots) : Type 0 where
+  pub scoped : (e : RootEntry) → Contains roots.scoped e → IsWordOf h e.word
+  pub owned : (e : OwnedEntry) → Contains roots.owned e → IsWordOf h e.word
 
--- the words of an owner's scoped roots are words of its heap
-pub are_words : {D : Type 0} (layouts : Layouts) (v : OwnerView D) → CanBegin layouts v → AreWords v.heap v.roots.scoped
-are_words layouts v can e among = elim (cases_eq e.word 0) [
+root_words : {D : Type 0} (layouts : Layouts) (v : OwnerView D) → CanBegin layouts v → (word : ℕ) → (0 < word → IsRooted v.roots word) → IsWordOf v.heap word
+root_words layouts v can word rooted = elim (cases_eq word 0) [
   | inl null ↦ inl null
   | inr present ↦
-      let at = contains_get v.roots.scoped e among in
-      let word_in : Contains (map (λ (x : RootEntry). x.word) v.roots.scoped) e.word =
-      get_contains (map (λ (x : RootEntry). x.word) v.roots.scoped) at.0 e.word (map_get (λ (x : RootEntry). x.word) v.roots.scoped at.0 e at.1) in
-      let root = scoped_rooted v.roots e.word word_in (omega arith) in
+      let root = rooted (omega (arith, present)) in
       subst (IsWordOf v.heap) root.1.1 (can.collects.roots root.0 root.1.0)
 ]
 
+-- the words of an owner's scoped and owned roots are words of its heap
+pub are_words : {D : Type 0} (layouts : Layouts) (v : OwnerView D) → CanBegin layouts v → AreWords v.heap (handle_roots v.roots)
+are_words layouts v can = record {
+  scoped = λ e among. root_words layouts v can e.word (scoped_rooted v.roots e.word (among_map (λ (x : RootEntry). x.word) v.roots.scoped e among));
+  owned = λ e among. root_words layouts v can e.word (owned_rooted v.roots e.word (among_map (λ (x : OwnedEntry). x.word) v.roots.owned e among));
+}
+
+slot_is_word : (h : HeapView) (roots : HandleRoots) → AreWords h roots → (s : RootSlot) (generation word : ℕ) → root_word_at roots s generation ≡ Ok word → IsWordOf h word
+slot_is_word h roots words (slot.Scoped index) generation word is =
+    let e = slot_entry roots.scoped index generation word is in
+    subst (IsWordOf h) e.1.1 (words.scoped e.0 e.1.0)
+slot_is_word h roots words (slot.Owned id) generation word is =
+    let e = owned_entry roots.owned id generation word is in
+    subst (IsWordOf h) e.1.1 (words.owned e.0 e.1.0)
+
 -- what is kept of a value is of its form
-kept_form : (h : HeapView) (entries : List RootEntry) (r : RawValue) (x : Stored) → AreWords h entries → KeptAs entries r x → OfForm h (raw_form r) x
+kept_form : (h : HeapView) (entries : HandleRoots) (r : RawValue) (x : Stored) → AreWords h entries → KeptAs entries r x → OfForm h (raw_form r) x
 kept_form h entries (raw.I32 n) x words is = subst (OfForm h (raw_form (raw.I32 n))) (sym is) tt
 kept_form h entries (raw.I64 n) x words is = subst (OfForm h (raw_form (raw.I64 n))) (sym is) tt
 kept_form h entries (raw.F32 n) x words is = subst (OfForm h (raw_form (raw.F32 n))) (sym is) tt
@@ -84,10 +103,9 @@ kept_form h entries (raw.V128 n) x words is = subst (OfForm h (raw_form (raw.V12
 kept_form h entries (raw.Func f) x words is = absurd is
 kept_form h entries (raw.Ref class None) x words is = subst (OfForm h (reference_of class)) (sym is) (inl refl)
 kept_form h entries (raw.Ref class (Some handle)) x words is =
-    let e = slot_entry entries handle.slot handle.generation is.0 is.1.0 in
-    subst (OfForm h (reference_of class)) (sym is.1.1) (subst (IsWordOf h) e.1.1 (words e.0 e.1.0))
+    subst (OfForm h (reference_of class)) (sym is.1.1) (slot_is_word h entries words handle.slot handle.generation is.0 is.1.0)
 
-pub kept_of_form : (h : HeapView) (entries : List RootEntry) (ty : StorageType) (r : RawValue) (x : Stored) → AreWords h entries → raw_form r ≡ storage_form ty → KeptAs entries r x → OfForm h (storage_form ty) x
+pub kept_of_form : (h : HeapView) (entries : HandleRoots) (ty : StorageType) (r : RawValue) (x : Stored) → AreWords h entries → raw_form r ≡ storage_form ty → KeptAs entries r x → OfForm h (storage_form ty) x
 kept_of_form h entries ty r x words form is = subst (λ (f : Form). OfForm h f x) form (kept_form h entries r x words is)
 
 -- a form is as wide as the value types that have it
@@ -109,7 +127,7 @@ storage_form_width (storage.ValType val.V128) = refl
 storage_form_width (storage.ValType (val.Ref ty)) = top_width (heap_top ty.heap_type)
 
 -- The low bytes of what is kept are those of the value that a slot keeps.
-pub kept_encoded : (names : Names) (entries : List RootEntry) (ty : StorageType) (r : RawValue) (w : Value) (x : Stored) → StoredStands names entries ty r w → KeptAs entries r x → FitsForm (raw_form r) (code_of x)
+pub kept_encoded : (names : Names) (entries : HandleRoots) (ty : StorageType) (r : RawValue) (w : Value) (x : Stored) → StoredStands names entries ty r w → KeptAs entries r x → FitsForm (raw_form r) (code_of x)
     → IsEncodedAs names ty w (slot_bytes ty (code_of x))
 kept_encoded names entries ty r w x stands is small =
     let width : form_width (raw_form r) ≡ value_width (unpacked ty) = ap form_width stands.raw_form_is ∙ storage_form_width ty in
@@ -128,7 +146,7 @@ spaced_count from to (s ∷ slots) spaced =
 pub record FillsTo {D : Type 0} (layouts : Layouts) (raws : List RawValue) (old new : OwnerView D) (place : ℕ) (before : HeapObject) (shape : Shape) (count k : ℕ) : Type 0 where
   pub bytes : List ℕ
   pub rewrites : Rewrites layouts shape old new place before bytes
-  pub lie : (names : Names) (values : List Value) → EachStands raws names old.roots.scoped (shape_slots layouts shape count) values
+  pub lie : (names : Names) (values : List Value) → EachStands raws names (handle_roots old.roots) (shape_slots layouts shape count) values
       → LieUpTo names (struct_base layouts) (shape_slots layouts shape count) values bytes k
 
 module _ {D : Type 0} (layouts : Layouts) (raws : List RawValue) (old : OwnerView D) (place ty : ℕ) (before : HeapObject) (shape : Shape) (count : ℕ) (f : IsToFill layouts old place ty (EachFits raws) before shape count) where
@@ -138,7 +156,7 @@ module _ {D : Type 0} (layouts : Layouts) (raws : List RawValue) (old : OwnerVie
   abbrev slots : List StorageSlot
   slots = shape_slots layouts shape count
 
-  same_count : (names : Names) (values : List Value) → EachStands raws names old.roots.scoped slots values → length values ≡ length slots
+  same_count : (names : Names) (values : List Value) → EachStands raws names (handle_roots old.roots) slots values → length values ≡ length slots
   same_count names values all = sym all.same_count ∙ f.fit.same_count
 
   pub fills-none : FillsTo layouts raws old old place before shape count 0
@@ -159,8 +177,8 @@ module _ {D : Type 0} (layouts : Layouts) (raws : List RawValue) (old : OwnerVie
     held_now : IsHeldOf new.types.declarations new.heap place now shape count
     held_now = held_again layouts shape old place before f.is.held new count w.bytes f.is w.rewrites
 
-    same_scoped : new.roots.scoped ≡ old.roots.scoped
-    same_scoped = ap (λ (v : OwnerView D). v.roots.scoped) w.rewrites.rest
+    same_roots : handle_roots new.roots ≡ handle_roots old.roots
+    same_roots = ap (λ (v : OwnerView D). handle_roots v.roots) w.rewrites.rest
 
     reach : shape_size layouts shape count ≤ base + length w.bytes
     reach = bytes_reach layouts new.types.declarations new.heap place now shape count held_now (can.traced place now held_now.held)
@@ -189,14 +207,14 @@ module _ {D : Type 0} (layouts : Layouts) (raws : List RawValue) (old : OwnerVie
         let end = held_small layouts new.heap place now heap held_now.held in
         omega (arith, below, count_is, reach, end, held_size_is layouts now shape count held_now.has)
 
-    pub is_kept : IsKept new.roots.scoped r
-    is_kept = subst (λ (es : List RootEntry). IsKept es r) (sym same_scoped) (f.fit.kept k r r_is)
+    pub is_kept : IsKept (handle_roots new.roots) r
+    is_kept = subst (λ (es : HandleRoots). IsKept es r) (sym same_roots) (f.fit.kept k r r_is)
 
     -- what the type table finds is that slot
     pub slot_found : (found : Slot) → FindsSlot layouts new.types.declarations ty k found → storage_slot found ≡ slot_here.0
     slot_found found finds = finds shape count slot_here.0 declared_here slot_here.1
 
-    module _ (x : Stored) (x_is : KeptAs new.roots.scoped r x) where
+    module _ (x : Stored) (x_is : KeptAs (handle_roots new.roots) r x) where
       pub can_write : CanWriteSlot layouts new place slot_here.0 x
       can_write = record {
         object = now;
@@ -205,7 +223,7 @@ module _ {D : Type 0} (layouts : Layouts) (raws : List RawValue) (old : OwnerVie
         is = held_now;
         index = k;
         slot_is = slot_here.1;
-        of_form = kept_of_form new.heap new.roots.scoped slot_here.0.storage r x (are_words layouts new can) (f.fit.forms k slot_here.0 r slot_here.1 r_is) x_is;
+        of_form = kept_of_form new.heap (handle_roots new.roots) slot_here.0.storage r x (are_words layouts new can) (f.fit.forms k slot_here.0 r slot_here.1 r_is) x_is;
       }
 
       -- one more value was written
@@ -223,7 +241,7 @@ module _ {D : Type 0} (layouts : Layouts) (raws : List RawValue) (old : OwnerVie
                 let v = slice_get-same_length raws values k r all.same_count r_is in
                 let stands = all.each k s r v.0 slot_here.1 r_is v.1 in
                 lie_up_to-step names base (shape_first layouts shape) (shape_size layouts shape count) slots above (shape_spaced layouts shape count) values w.bytes k s v.0 ws (w.lie names values all) slot_here.1 v.1
-                (kept_encoded names old.roots.scoped s.storage r v.0 x stands (subst (λ (es : List RootEntry). KeptAs es r x) same_scoped x_is) small) reach;
+                (kept_encoded names (handle_roots old.roots) s.storage r v.0 x stands (subst (λ (es : HandleRoots). KeptAs es r x) same_roots x_is) small) reach;
           }
 
   -- all values are written

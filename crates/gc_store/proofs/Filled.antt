@@ -14,7 +14,7 @@ use Rattle.gc_view.specs.Slots.{StorageSlot, element_slots, shape_slots, shape_f
 use Rattle.gc_view.proofs.ByteLemmas.{part-put_bytes}
 use Rattle.gc_view.proofs.SlotLemmas.{SlotRange, slot_range, shape_spaced, length-element_slots, elements_not_followed}
 use Rattle.gc_heap.specs.Content.{IsHeap}
-use Rattle.gc_owner.specs.declared.entry.RootEntry.{RootEntry}
+use Rattle.gc_store.specs.Words.{HandleRoots, handle_roots}
 use Rattle.gc_owner.specs.Owners.{OwnerView, CanBegin}
 use Rattle.gc_owner.specs.Writes.{IsNumberPlace, WritesBytes}
 use Rattle.gc_model.specs.Values.{Value}
@@ -42,9 +42,9 @@ nothing_lies names base slots values bytes none same = record {
 }
 
 -- an array of no elements is filled as it is
-pub nothing_filled : {D : Type 0} (layouts : Layouts) (v : OwnerView D) (place ty : ℕ) (Fit : List RootEntry → List StorageSlot → Type 0) (Stand : Names → List RootEntry → List StorageSlot → List Value → Type 0) (object : HeapObject) (shape : Shape) (n : ℕ)
+pub nothing_filled : {D : Type 0} (layouts : Layouts) (v : OwnerView D) (place ty : ℕ) (Fit : HandleRoots → List StorageSlot → Type 0) (Stand : Names → HandleRoots → List StorageSlot → List Value → Type 0) (object : HeapObject) (shape : Shape) (n : ℕ)
     → IsToFill layouts v place ty Fit object shape n → shape_slots layouts shape n ≡ []
-    → ((names : Names) (values : List Value) → Stand names v.roots.scoped (shape_slots layouts shape n) values → length values ≡ length (shape_slots layouts shape n)) → Fills layouts Stand v v place object shape n
+    → ((names : Names) (values : List Value) → Stand names (handle_roots v.roots) (shape_slots layouts shape n) values → length values ≡ length (shape_slots layouts shape n)) → Fills layouts Stand v v place object shape n
 nothing_filled layouts v place ty Fit Stand object shape n f none same = record {
   bytes = object.bytes;
   rewrites = rewrites-nothing layouts shape v place object f.is.held;
@@ -55,14 +55,14 @@ no_elements : (ty : StorageType) (n from : ℕ) → n ≡ 0 → element_slots ty
 no_elements ty zero from none = refl
 no_elements ty (suc n) from none = absurd (omega (arith, none))
 
-same_length : (r : RawValue) (names : Names) (entries : List RootEntry) (slots : List StorageSlot) (values : List Value) → SameStands r names entries slots values → length values ≡ length slots
+same_length : (r : RawValue) (names : Names) (entries : HandleRoots) (slots : List StorageSlot) (values : List Value) → SameStands r names entries slots values → length values ≡ length slots
 same_length r names entries slots values stands = ap (λ (vs : List Value). length vs) stands.values_are ∙ length-replicate (length slots) stands.kept
 
 pub none_filled : {D : Type 0} (layouts : Layouts) (v : OwnerView D) (place ty : ℕ) (r : RawValue) (count : ℕ) (object : HeapObject) (shape : Shape) (n : ℕ) → IsToFill layouts v place ty (SameFits r count) object shape n → count ≡ 0
     → Fills layouts (SameStands r) v v place object shape n
 none_filled layouts v place ty r count object shape n f none =
     nothing_filled layouts v place ty (SameFits r count) (SameStands r) object shape n f (f.fit.slots_are ∙ no_elements f.fit.ty count f.fit.from none)
-    (λ names values. same_length r names v.roots.scoped (shape_slots layouts shape n) values)
+    (λ names values. same_length r names (handle_roots v.roots) (shape_slots layouts shape n) values)
 
 -- One value in some elements.
 module _ {D : Type 0} (layouts : Layouts) (v : OwnerView D) (place ty : ℕ) (r : RawValue) (count : ℕ) (object : HeapObject) (shape : Shape) (n : ℕ) (f : IsToFill layouts v place ty (SameFits r count) object shape n) (some : 0 < count) (can : CanBegin layouts v) where
@@ -99,7 +99,7 @@ module _ {D : Type 0} (layouts : Layouts) (v : OwnerView D) (place ty : ℕ) (r 
   pub first_found : (found : Slot) → FindsSlot layouts v.types.declarations ty 0 found → storage_slot found ≡ first
   first_found found finds = finds shape n first declared_here first_is
 
-  module _ (x : Stored) (x_is : KeptAs v.roots.scoped r x) where
+  module _ (x : Stored) (x_is : KeptAs (handle_roots v.roots) r x) where
     abbrev pub are_elements : AreElements layouts v place first count x
     are_elements = record {
       object = object;
@@ -109,7 +109,7 @@ module _ {D : Type 0} (layouts : Layouts) (v : OwnerView D) (place ty : ℕ) (r 
       some = some;
       slots_are = f.fit.slots_are;
       blank = f.blank;
-      of_form = kept_of_form v.heap v.roots.scoped f.fit.ty r x (are_words layouts v can) (f.fit.form some) x_is;
+      of_form = kept_of_form v.heap (handle_roots v.roots) f.fit.ty r x (are_words layouts v can) (f.fit.form some) x_is;
     }
 
     pub same_filled : (new : OwnerView D) → FitsForm (raw_form r) (code_of x) → FillsElements layouts v new place first count x are_elements → Fills layouts (SameStands r) v new place object shape n
@@ -117,7 +117,7 @@ module _ {D : Type 0} (layouts : Layouts) (v : OwnerView D) (place ty : ℕ) (r 
       bytes = filled.bytes;
       rewrites = filled.rewrites;
       lie = λ names values stands.
-          let encoded = kept_encoded names v.roots.scoped f.fit.ty r stands.kept x (stands.stands 0 first first_is) x_is small in
+          let encoded = kept_encoded names (handle_roots v.roots) f.fit.ty r stands.kept x (stands.stands 0 first first_is) x_is small in
           let many : length slots ≡ count = ap (λ (ss : List StorageSlot). length ss) f.fit.slots_are ∙ length-element_slots f.fit.ty count f.fit.from in
           let above = first_above layouts object shape n f.is.has in
           let lie = equal_elements names (struct_base layouts) f.fit.from filled.bytes (omega (arith, above, range.low)) f.fit.ty count stands.kept _ encoded filled.filled in
@@ -125,7 +125,7 @@ module _ {D : Type 0} (layouts : Layouts) (v : OwnerView D) (place ty : ℕ) (r 
           (subst (λ (vs : List Value). ValuesLie names (struct_base layouts) (element_slots f.fit.ty count f.fit.from) vs filled.bytes) (sym (stands.values_are ∙ ap (λ (k : ℕ). replicate k stands.kept) many)) lie);
     }
 
-bytes_length : (bs : List ℕ) (names : Names) (entries : List RootEntry) (slots : List StorageSlot) (values : List Value) → BytesFit bs entries slots → BytesStand bs names entries slots values → length values ≡ length slots
+bytes_length : (bs : List ℕ) (names : Names) (entries : HandleRoots) (slots : List StorageSlot) (values : List Value) → BytesFit bs entries slots → BytesStand bs names entries slots values → length values ≡ length slots
 bytes_length bs names entries slots values fit stands =
     ap (λ (vs : List Value). length vs) stands ∙ length-map bs byte_value ∙ sym (ap (λ (ss : List StorageSlot). length ss) fit.slots_are ∙ length-element_slots storage.I8 (length bs) fit.from)
 
@@ -133,7 +133,7 @@ pub no_bytes_filled : {D : Type 0} (layouts : Layouts) (v : OwnerView D) (place 
     → Fills layouts (BytesStand bs) v v place object shape n
 no_bytes_filled layouts v place ty bs object shape n f none =
     nothing_filled layouts v place ty (BytesFit bs) (BytesStand bs) object shape n f (f.fit.slots_are ∙ no_elements storage.I8 (length bs) f.fit.from none)
-    (λ names values. bytes_length bs names v.roots.scoped (shape_slots layouts shape n) values f.fit)
+    (λ names values. bytes_length bs names (handle_roots v.roots) (shape_slots layouts shape n) values f.fit)
 
 -- Bytes in as many elements.
 module _ {D : Type 0} (layouts : Layouts) (v : OwnerView D) (place ty : ℕ) (bs : List ℕ) (object : HeapObject) (shape : Shape) (n : ℕ) (f : IsToFill layouts v place ty (BytesFit bs) object shape n) (some : 0 < length bs) (can : CanBegin layouts v) where

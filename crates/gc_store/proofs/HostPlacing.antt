@@ -75,7 +75,10 @@ few_begun {D} layouts first due s b begins few = by begins.dues
     same = ap (λ (x : OwnerView D). x.hosts) begins.begins.rest
 
     by : DuesOwner layouts due begins.made b → len b.owner.hosts < max_entries
-    by (inl ran) = let fewer = part_len b.owner.hosts begins.made.owner.hosts ran.1.0.values in omega (arith, fewer, few, ap (λ (m : FinMap nat_cmp D). len m) same)
+    by (inl ran) =
+        let trimmed : ran.1.0.trimmed.hosts ≡ begins.made.owner.hosts = ap (λ (x : OwnerView D). x.hosts) ran.1.0.trims.changes.rest in
+        let fewer = part_len b.owner.hosts ran.1.0.trimmed.hosts ran.1.0.runs.values in
+        omega (arith, fewer, few, ap (λ (m : FinMap nat_cmp D). len m) (trimmed ∙ same))
     by (inr is) = omega (arith, few, ap (λ (m : FinMap nat_cmp D). len m) same, ap (λ (x : OwnerState D). len x.owner.hosts) is.1)
 
 -- no external object is too large

@@ -20,28 +20,6 @@ use Rattle.gc_model.proofs.Hosts.{host_held}
 use Rattle.gc_store.specs.declared.root.GcRootIndex.{GcRootIndex}
 use Rattle.gc_store.specs.declared.root.RootFault.{RootFault}
 use Rattle.gc_store.specs.HostSteps.{TellsHostId, HasHostId, IsHostIdOf}
-use Rattle.gc_store.specs.Roots.{word_of, NamesReference, NamesNothing}
-use Rattle.gc_store.proofs.Roots.{word_of-ok, names-entry, named_live, named_dead}
-
--- the word of a handle that names a reference
-pub named_word : {D : Type 0} (layouts : Layouts) (s : StoreView D) (t : Table D) (place : Placing) → Holds layouts s t place → (handle : GcRootIndex) (r : Reference) (word : ℕ) → NamesReference s t handle r → word_of s handle ≡ Ok word → IsWord place r word × (0 < word)
-named_word layouts s t place holds handle r word named e =
-    let live = named_live layouts s t place holds handle named.serial word named.names e in
-    let same : live.0 ≡ r = same_Some live.0 r (sym live.1.0 ∙ named.live) in
-    (subst (λ (x : Reference). IsWord place x word) same live.1.1, live.1.2)
-
--- one that has a word names something
-pub word_named : {D : Type 0} (layouts : Layouts) (s : StoreView D) (t : Table D) (place : Placing) → Holds layouts s t place → (handle : GcRootIndex) (word : ℕ) → NamesNothing s t handle → word_of s handle ≡ Ok word → ⊥
-word_named layouts s t place holds handle word nothing e =
-    let named = names-entry layouts s t place holds handle word (word_of-ok s handle word e) in
-    let live = named_live layouts s t place holds handle named.0 word named.1 e in
-    nothing live.0 (record { serial = named.0; names = named.1; live = live.1.0 })
-
--- and one that names something has a word
-pub named_wordless : {D : Type 0} (layouts : Layouts) (s : StoreView D) (t : Table D) (place : Placing) → Holds layouts s t place → (handle : GcRootIndex) (r : Reference) (f : RootFault) → NamesReference s t handle r → word_of s handle ≡ Err f → ⊥
-named_wordless layouts s t place holds handle r f named e =
-    let dead = named_dead layouts s t place holds handle named.serial f named.names e in
-    none-some r (sym dead.0 ∙ named.live)
 
 -- what an answer is, where it is there
 pub ok_told : {E : Type 0} (r : Result ℕ E) (number : ℕ) → IsOkAnd r (λ id. id + 1 ≡ number) → IsSomeAnd (result_ok r) (λ id. id + 1 ≡ number)

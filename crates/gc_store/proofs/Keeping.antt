@@ -1,6 +1,6 @@
 -- What an owner keeps on the way of an allocation: the generations of its roots, the room for them, how many slots its
 -- frames have, its types.
-use Rattle.std.proofs.Common.{◌≡◌, ℕ, ◌⊎◌, inl, inr, Bool, true, false, List, [], ◌∷◌, length, map, refl, sym, ap, ap₂, ◌∙◌}
+use Rattle.std.proofs.Common.{◌≡◌, ℕ, ◌≤◌, ◌⊎◌, inl, inr, Bool, true, false, List, [], ◌∷◌, length, map, refl, sym, ap, ap₂, ◌∙◌, subst, arith}
 use Rattle.std.proofs.lemmas.List.{length-map}
 use Rattle.gc_types.specs.declared.kind.Layouts.{Layouts}
 use Rattle.gc_view.specs.Sizes.{need_of}
@@ -9,9 +9,10 @@ use Rattle.gc_heap.specs.Collection.{moved}
 use Rattle.gc_owner.specs.declared.entry.RootEntry.{RootEntry}
 use Rattle.gc_owner.specs.declared.entry.SlotEntry.{SlotEntry}
 use Rattle.gc_owner.specs.RootColumns.{RootsView}
-use Rattle.gc_owner.specs.Owners.{OwnerView, Collects}
+use Rattle.gc_owner.specs.Owners.{OwnerView, Trims, Collects, CollectsAll}
 use Rattle.gc_owner.specs.Growing.{OwnerState, GetsFirst, Begins, Readies, Grows, owner_rules}
 use Rattle.gc_owner.specs.Retry.{Retry, Paused, Growing}
+use Rattle.gc_store.proofs.OwnedKept.{KeepsOwned, owned-same, owned-then, owned-trimmed, owned-moved}
 use Rattle.gc_policy.specs.Shown.{DuesOwner, frames_of}
 use Rattle.gc_policy.proofs.Frames.{frames-mapped}
 use Rattle.gc_store.specs.Making.{BeginsMaking}
@@ -28,10 +29,14 @@ counts_of v = slot_counts (frames_of v.roots.frames v.roots.slots)
 pub record Keeps {D : Type 0} (v w : OwnerView D) : Type 0 where
   pub idle : w.idle ≡ v.idle
   pub types : w.types ≡ v.types
-  pub spare : w.roots.spare ≡ v.roots.spare
+  pub spare : v.roots.spare ≤ w.roots.spare
   pub generation : w.roots.generation ≡ v.roots.generation
   pub counts : counts_of w ≡ counts_of v
   pub generations : generations_of w.roots.scoped ≡ generations_of v.roots.scoped
+  pub owned : KeepsOwned v.roots.owned w.roots.owned
+
+spare_same : {m n : ℕ} → n ≡ m → m ≤ n
+spare_same is = omega (arith, is)
 
 moved_generations : (to : ℕ → ℕ) (entries : List RootEntry) → generations_of (map (λ (e : RootEntry). record e { word = moved to e.word }) entries) ≡ generations_of entries
 moved_generations to [] = refl
@@ -51,20 +56,22 @@ module _ {D : Type 0} where
   keeps-itself v w is = record {
     idle = ap (λ (x : OwnerView D). x.idle) is;
     types = ap (λ (x : OwnerView D). x.types) is;
-    spare = ap (λ (x : OwnerView D). x.roots.spare) is;
+    spare = spare_same (ap (λ (x : OwnerView D). x.roots.spare) is);
     generation = ap (λ (x : OwnerView D). x.roots.generation) is;
     counts = ap counts_of is;
     generations = ap (λ (x : OwnerView D). generations_of x.roots.scoped) is;
+    owned = owned-same (ap (λ (x : OwnerView D). x.roots.owned) is);
   }
 
   pub keeps-trans : (u v w : OwnerView D) → Keeps u v → Keeps v w → Keeps u w
   keeps-trans u v w first then = record {
     idle = then.idle ∙ first.idle;
     types = then.types ∙ first.types;
-    spare = then.spare ∙ first.spare;
+    spare = let a = first.spare in let b = then.spare in omega (arith, a, b);
     generation = then.generation ∙ first.generation;
     counts = then.counts ∙ first.counts;
     generations = then.generations ∙ first.generations;
+    owned = owned-then first.owned then.owned;
   }
 
   -- as many scoped roots
@@ -74,15 +81,30 @@ module _ {D : Type 0} where
       ∙ ap (λ (gs : List ℕ). length gs) keeps.generations
       ∙ length-map v.roots.scoped (λ (e : RootEntry). e.generation)
 
-  pub keeps-collected : (layouts : Layouts) (v w : OwnerView D) → Collects layouts v w → Keeps v w
-  keeps-collected layouts v w is = record {
+  keeps-trimmed : (layouts : Layouts) (v w : OwnerView D) → Trims layouts v w → Keeps v w
+  keeps-trimmed layouts v w is = record {
+    idle = ap (λ (x : OwnerView D). x.idle) is.changes.rest;
+    types = ap (λ (x : OwnerView D). x.types) is.changes.rest;
+    spare = is.spare;
+    generation = ap (λ (x : OwnerView D). x.roots.generation) is.changes.rest;
+    counts = ap counts_of is.changes.rest;
+    generations = ap (λ (x : OwnerView D). generations_of x.roots.scoped) is.changes.rest;
+    owned = subst (λ (x : OwnerView D). KeepsOwned v.roots.owned x.roots.owned) (sym is.changes.rest) (owned-trimmed v.roots.owned);
+  }
+
+  keeps-run : (layouts : Layouts) (v w : OwnerView D) → CollectsAll layouts v w → Keeps v w
+  keeps-run layouts v w is = record {
     idle = ap (λ (x : OwnerView D). x.idle) is.rest;
     types = ap (λ (x : OwnerView D). x.types) is.rest;
-    spare = ap (λ (r : RootsView). r.spare) is.roots;
+    spare = spare_same (ap (λ (r : RootsView). r.spare) is.roots);
     generation = ap (λ (r : RootsView). r.generation) is.roots;
     counts = ap (λ (r : RootsView). slot_counts (frames_of r.frames r.slots)) is.roots ∙ moved_counts is.collected.to v.roots.frames v.roots.slots;
     generations = ap (λ (r : RootsView). generations_of r.scoped) is.roots ∙ moved_generations is.collected.to v.roots.scoped;
+    owned = subst (λ (r : RootsView). KeepsOwned v.roots.owned r.owned) (sym is.roots) (owned-moved is.collected.to v.roots.owned);
   }
+
+  pub keeps-collected : (layouts : Layouts) (v w : OwnerView D) → Collects layouts v w → Keeps v w
+  keeps-collected layouts v w is = keeps-trans v is.trimmed w (keeps-trimmed layouts v is.trimmed is.trims) (keeps-run layouts is.trimmed w is.runs)
 
   pub keeps-dues : (layouts : Layouts) (due : Bool) (s e : OwnerState D) → DuesOwner layouts due s e → Keeps s.owner e.owner
   keeps-dues layouts due s e (inl ran) = keeps-collected layouts s.owner e.owner ran.1.0
@@ -92,10 +114,11 @@ module _ {D : Type 0} where
   keeps-begins layouts first s e is = record {
     idle = ap (λ (x : OwnerView D). x.idle) is.rest;
     types = ap (λ (x : OwnerView D). x.types) is.rest;
-    spare = ap (λ (x : OwnerView D). x.roots.spare) is.rest;
+    spare = spare_same (ap (λ (x : OwnerView D). x.roots.spare) is.rest);
     generation = ap (λ (x : OwnerView D). x.roots.generation) is.rest;
     counts = ap counts_of is.rest;
     generations = ap (λ (x : OwnerView D). generations_of x.roots.scoped) is.rest;
+    owned = owned-same (ap (λ (x : OwnerView D). x.roots.owned) is.rest);
   }
 
   pub keeps-making : (layouts : Layouts) (first : ℕ) (due : Bool) (s e : OwnerState D) → BeginsMaking layouts first due s e → Keeps s.owner e.owner
@@ -111,10 +134,11 @@ module _ {D : Type 0} where
       keeps-trans s.owner is.ready.owner e.owner (keeps-readies layouts s is.ready is.readied) (record {
         idle = ap (λ (x : OwnerView D). x.idle) after;
         types = ap (λ (x : OwnerView D). x.types) after;
-        spare = ap (λ (x : OwnerView D). x.roots.spare) after;
+        spare = spare_same (ap (λ (x : OwnerView D). x.roots.spare) after);
         generation = ap (λ (x : OwnerView D). x.roots.generation) after;
         counts = ap counts_of after;
         generations = ap (λ (x : OwnerView D). generations_of x.roots.scoped) after;
+        owned = owned-same (ap (λ (x : OwnerView D). x.roots.owned) after);
       })
 
   pub keeps-retried : (layouts : Layouts) (size : ℕ) (s : OwnerState D) (ok : Bool) (e : OwnerState D) → Retry (owner_rules layouts size) s ok e → Keeps s.owner e.owner
@@ -151,5 +175,5 @@ pub making_attached : {D : Type 0} (layouts : Layouts) (first : ℕ) (due : Bool
 making_attached {D} layouts first due s e is = by is.dues
   where
     by : DuesOwner layouts due is.made e → e.owner.heap.attached ≡ true
-    by (inl ran) = ran.1.0.collected.attached
+    by (inl ran) = ran.1.0.runs.collected.attached
     by (inr same) = ap (λ (x : OwnerState D). x.owner.heap.attached) same.1 ∙ made_attached layouts first s is.made is.begins

@@ -16,8 +16,14 @@ pub mod KeptAgain
 pub mod Leaving
 pub mod LyingAt
 pub mod MakingRoom
+pub mod Marked
 pub mod PendingLemmas
 pub mod NewObjects
+pub mod OwnedWords
+pub mod HandleWords
+pub mod OwnedKept
+pub mod OwningRoots
+pub mod OwningHandles
 pub mod Placing
 pub mod PlacingFaults
 pub mod Pushing

@@ -30,8 +30,7 @@ use Rattle.gc_store.specs.declared.stored.Found.{Found}
 use Rattle.gc_store.specs.Kept.{FitsForm, FoundStands, IsFound, IsReadForm}
 use Rattle.gc_store.specs.HeldSlots.{FindsAt, FindsHeldSlot, FitsAt, HasShape, IsHeldOf, IsHeldWithSlot, storage_slot}
 use Rattle.gc_store.proofs.SlotPlaces.{bytes_reach, slot_lies, held_size_is, held_small, readable}
-use Rattle.gc_store.proofs.Roots.{named_word}
-use Rattle.gc_store.proofs.SameRoots.{never_gone}
+use Rattle.gc_store.proofs.HandleWords.{named_word, never_gone}
 
 -- An object of a heap has the shape of the one that it stands for.
 

@@ -24,31 +24,13 @@ use Rattle.gc_store.specs.Handles.{PushesRoot}
 use Rattle.gc_store.specs.Roots.{handle_of, word_of, is_of_store, IsRootWord, IsObject, IsReference, NamesReference}
 use Rattle.gc_store.specs.Stores.{store_view, slot_counts, IsSound, IsSameStore}
 use Rattle.gc_store.specs.Thrown.{NamesException, SetsPending, AnswersPending, TellsTag}
-use Rattle.gc_store.proofs.Roots.{word_of-ok, word_of-err, word_of-wrong, names-entry, named_live, named_dead}
-
--- what a handle with a word names
-pub record NamesWord {D : Type 0} (s : StoreView D) (t : Table D) (place : Placing) (handle : GcRootIndex) (word : ℕ) : Type 0 where
-  pub root : Reference
-  pub named : NamesReference s t handle root
-  pub is_word : IsWord place root word
-  pub not_null : 0 < word
+use Rattle.gc_store.proofs.HandleWords.{word_of-wrong, names_nothing}
 
 module _ {D : Type 0} (layouts : Layouts) (s : StoreView D) (t : Table D) (place : Placing) (holds : Holds layouts s t place) (handle : GcRootIndex) where
-  pub names_word : (word : ℕ) → word_of s handle ≡ Ok word → NamesWord s t place handle word
-  names_word word is =
-      let names = names-entry layouts s t place holds handle word (word_of-ok s handle word is) in
-      let live = named_live layouts s t place holds handle names.0 word names.1 is in
-      record {
-        root = live.0;
-        named = record { serial = names.0; names = names.1; live = live.1.0 };
-        is_word = live.1.1;
-        not_null = live.1.2;
-      }
-
   sets_fault : (a : Account) (new : StoreView D) (own : _) (f : RootFault) → is_of_store s handle ≡ own → word_of s handle ≡ Err f → SetsPending layouts s t a handle (Err f) new
   sets_fault a new true f own is =
-      subst (λ (x : RootFault). SetsPending layouts s t a handle (Err x) new) (sym (word_of-err s handle f own is).unrooted)
-      (own, λ r named. none-some r (sym (named_dead layouts s t place holds handle named.serial f named.names is).0 ∙ named.live))
+      let none = names_nothing layouts s t place holds handle f own is in
+      subst (λ (x : RootFault). SetsPending layouts s t a handle (Err x) new) (sym none.0) (own, none.1)
   sets_fault a new false f other is =
       let both : Err fault.WrongStore ≡ Err f = sym (word_of-wrong s handle other) ∙ is in
       let wrong : fault.WrongStore ≡ f = grind (arith, both) in

@@ -1,5 +1,5 @@
 -- An object that was made and got its values is the table's.
-use Rattle.std.proofs.Common.{◌≡◌, ℕ, ◌+◌, ◌-◌, ◌^◌, ◌<◌, min, Bool, true, false, List, [], ◌∷◌, ◌++◌, length, Some, None, slice_index_or, sym, ap, ◌∙◌, refl, subst, arith, le-leb}
+use Rattle.std.proofs.Common.{◌≡◌, inl, inr, ℕ, ◌+◌, ◌-◌, ◌^◌, ◌<◌, min, Bool, true, false, List, [], ◌∷◌, ◌++◌, length, Some, None, slice_index_or, sym, ap, ◌∙◌, refl, subst, arith, le-leb}
 use Rattle.std.specs.FinMap.{get}
 use Rattle.std.proofs.lemmas.List.{length-append}
 use Rattle.std.proofs.lemmas.Option.{slice_get_within}
@@ -14,7 +14,7 @@ use Rattle.gc_owner.specs.Owners.{OwnerView, CanBegin}
 use Rattle.gc_owner.specs.Growing.{OwnerState, state_of, owner_rules}
 use Rattle.gc_owner.specs.Makes.{AddsRooted, AllocatesRooted}
 use Rattle.gc_owner.specs.Retry.{Retry}
-use Rattle.gc_model.specs.Values.{Value, Object}
+use Rattle.gc_model.specs.Values.{Reference, Value, Object}
 use Rattle.gc_model.specs.Reach.{object_values}
 use Rattle.gc_model.specs.Table.{Table, make, with_pages}
 use Rattle.gc_model.specs.Live.{roots_full}
@@ -59,7 +59,9 @@ use Rattle.gc_store.specs.Places.{PlacesObject}
 use Rattle.gc_store.specs.Stores.{is_full}
 use Rattle.gc_store.specs.Values.{RawStands}
 use Rattle.gc_store.proofs.Keeping.{counts_of, Keeps, keeps-making, keeps-retried, keeps-trans}
-use Rattle.gc_store.proofs.KeptAgain.{is_kept_more, kept_again, stands_more}
+use Rattle.gc_store.specs.Roots.{NamesReference}
+use Rattle.gc_store.specs.Words.{HandleRoots, handle_roots, AreRising, owned_id}
+use Rattle.gc_store.proofs.KeptAgain.{with_more, is_kept_more, kept_again, stands_more}
 use Rattle.gc_store.proofs.NewObjects.{IsNew, HasAskedKind}
 use Rattle.gc_store.proofs.Pushing.{full_is}
 use Rattle.gc_store.proofs.Requested.{Asks, AsksFor, HasAskedFront, StandsFor}
@@ -79,7 +81,24 @@ allocated_next Null allocated after size is null = omega (arith, is, round_up-le
 allocated_next Counting allocated after size is null = absurd (cc)
 allocated_next Copying allocated after size is null = absurd (cc)
 
--- The values stand in another store that holds the table with other pages, which has the same id.
+-- A handle names the same in another store that holds the table with other pages, which has the same id.
+named_after : {D : Type 0} (s after : StoreView D) (t : Table D) (pages : ℕ) → after.engine ≡ s.engine → after.number ≡ s.number → (handle : GcRootIndex) (r : Reference) → NamesReference s t handle r → NamesReference after (with_pages pages t) handle r
+named_after s after t pages engine number handle r (inl named) = inl (record {
+  serial = named.serial;
+  names = record {
+    push = named.names.push;
+    pushed = named.names.pushed;
+    is = named.names.is ∙ (λ i. record { store_id = record { engine = sym engine i; number = sym number i }; generation = named.names.push.generation; slot = slot.Scoped named.names.push.index });
+  };
+  live = named.live;
+})
+named_after s after t pages engine number handle r (inr named) = inr (record {
+  number = named.number;
+  names = named.names ∙ (λ i. record { store_id = record { engine = sym engine i; number = sym number i }; generation = named.number; slot = slot.Owned (owned_id named.number) });
+  live = named.live;
+})
+
+-- The values stand in it.
 raw_after : {D : Type 0} (s after : StoreView D) (t : Table D) (pages : ℕ) → after.engine ≡ s.engine → after.number ≡ s.number → (r : RawValue) (v : Value) → RawStands s t r v → RawStands after (with_pages pages t) r v
 raw_after s after t pages engine number (raw.I32 n) v stands = stands
 raw_after s after t pages engine number (raw.I64 n) v stands = stands
@@ -90,16 +109,7 @@ raw_after s after t pages engine number (raw.Func f) v stands = stands
 raw_after s after t pages engine number (raw.Ref class None) v stands = stands
 raw_after s after t pages engine number (raw.Ref class (Some handle)) v stands = record {
   root = stands.root;
-  named = record {
-    serial = stands.named.serial;
-    names = record {
-      push = stands.named.names.push;
-      pushed = stands.named.names.pushed;
-      is = stands.named.names.is
-          ∙ (λ i. record { store_id = record { engine = sym engine i; number = sym number i }; generation = stands.named.names.push.generation; slot = slot.Scoped stands.named.names.push.index });
-    };
-    live = stands.named.live;
-  };
+  named = named_after s after t pages engine number handle stands.root stands.named;
   is = stands.is;
 }
 
@@ -169,7 +179,7 @@ module _ {D : Type 0} (layouts : Layouts) (s : StoreView D) (v : OwnerView D) (r
   may_fill due b begins e index made =
       let keeps : Keeps v made.mid.owner = keeps-trans v b.owner made.mid.owner (keeps-making layouts s.first due start b begins) (keeps-retried layouts size b true made.mid made.retried) in
       let entry : RootEntry = entry_of made.mid.owner.roots.generation made.adds.word in
-      let roots_are : e.owner.roots.scoped ≡ made.mid.owner.roots.scoped ++ entry ∷ [] = ap (λ (x : OwnerView D). x.roots.scoped) made.adds.rest in
+      let roots_are : handle_roots e.owner.roots ≡ with_more (handle_roots made.mid.owner.roots) entry = ap (λ (x : OwnerView D). handle_roots x.roots) made.adds.rest in
       record {
         is = record {
           held = held_added layouts made.mid.owner.heap e.owner.heap made.adds.word new.blank size made.adds.adds;
@@ -180,27 +190,28 @@ module _ {D : Type 0} (layouts : Layouts) (s : StoreView D) (v : OwnerView D) (r
         };
         of_type = new.of_type;
         blank = new.are_blank;
-        fit = asked.fit e.owner.roots.scoped (λ r kept.
-            subst (λ (es : List RootEntry). IsKept es r) (sym roots_are)
-            (is_kept_more made.mid.owner.roots.scoped entry r (kept_again v.roots.scoped made.mid.owner.roots.scoped r keeps.generations kept)));
+        rising = subst AreRising (sym (ap (λ (x : OwnerView D). x.roots.owned) made.adds.rest)) (keeps.owned.rising is.holds.holds.owned.rising);
+        fit = asked.fit (handle_roots e.owner.roots) (λ r kept.
+            subst (λ (es : HandleRoots). IsKept es r) (sym roots_are)
+            (is_kept_more (handle_roots made.mid.owner.roots) entry r (kept_again (handle_roots v.roots) (handle_roots made.mid.owner.roots) r keeps.generations keeps.owned kept)));
       }
 
   -- what is given stands for the same values by the roots with the new one
   stand_after : (due : Bool) (b : OwnerState D) → BeginsMaking layouts s.first due start b → (e : OwnerState D) (index : ℕ) (made : Creates layouts v.types.declarations request given new b e index) (pages : ℕ) (place : Placing) → Holds layouts (shown counted made.mid.owner) (with_pages pages t) place
-      → StandsFor layouts (shown s v) t (naming place t.funcs) made.added.roots.scoped
+      → StandsFor layouts (shown s v) t (naming place t.funcs) (handle_roots made.added.roots)
   stand_after due b begins e index made pages place after ty r value can stands =
       let keeps : Keeps v made.mid.owner = keeps-trans v b.owner made.mid.owner (keeps-making layouts s.first due start b begins) (keeps-retried layouts size b true made.mid made.retried) in
-      let entries : List RootEntry = made.mid.owner.roots.scoped in
+      let entries : HandleRoots = handle_roots made.mid.owner.roots in
       let entry : RootEntry = entry_of made.mid.owner.roots.generation made.adds.word in
-      let roots_are : made.added.roots.scoped ≡ entries ++ entry ∷ [] = ap (λ (x : OwnerView D). x.roots.scoped) made.adds.rest in
+      let roots_are : handle_roots made.added.roots ≡ with_more entries entry = ap (λ (x : OwnerView D). handle_roots x.roots) made.adds.rest in
       let form = fits-form t.types t.objects ty value (can.fits t value (is.holds.place, is.holds.holds) stands) in
-      let kept : IsKept entries r = kept_again v.roots.scoped entries r keeps.generations (is_kept D layouts (shown s v) r can.live) in
+      let kept : IsKept entries r = kept_again (handle_roots v.roots) entries r keeps.generations keeps.owned (is_kept D layouts (shown s v) r can.live) in
       let now = kept_stands D layouts (shown counted made.mid.owner) (with_pages pages t) place after r value (raw_after (shown s v) (shown counted made.mid.owner) t pages refl refl r value stands) in
       record {
         value = value;
         stored_is = refl;
         form = form;
-        stands = subst (λ (es : List RootEntry). KeptStands (naming place t.funcs) es r value) (sym roots_are) (stands_more (naming place t.funcs) entries entry r value kept now);
+        stands = subst (λ (es : HandleRoots). KeptStands (naming place t.funcs) es r value) (sym roots_are) (stands_more (naming place t.funcs) entries entry r value kept now);
         raw_form_is = raw_form_is (shown s v) t r value stands ∙ sym form;
       }
 
@@ -217,7 +228,7 @@ module _ {D : Type 0} (layouts : Layouts) (s : StoreView D) (v : OwnerView D) (r
         record {
           object = record new.blank { bytes = bytes };
           stands = for.stands (naming place t.funcs) (record new.blank { bytes = bytes }) new.of_type has_now (asked_front layouts request new.shape new.blank.bytes bytes fills.rewrites.front) (ap (λ n. struct_base layouts + n) fills.rewrites.same_length ∙ new.stored)
-              (fills.lie (naming place t.funcs) (object_values o) (for.contents (naming place t.funcs) made.added.roots.scoped (stand_after due b begins e index made pages place after)));
+              (fills.lie (naming place t.funcs) (object_values o) (for.contents (naming place t.funcs) (handle_roots made.added.roots) (stand_after due b begins e index made pages place after)));
           typed = for.typed;
           free = made.adds.adds.fresh.free;
           is_even = let aligned = made.adds.adds.fresh.aligned in omega arith;

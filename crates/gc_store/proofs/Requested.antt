@@ -20,7 +20,8 @@ use Rattle.gc_view.specs.Sizes.{stored_size, too_large}
 use Rattle.gc_heap.specs.Heap.{array_size}
 use Rattle.gc_view.specs.Slots.{StorageSlot, field_slots, element_slots, elements_from, shape_slots, shape_size}
 use Rattle.gc_view.proofs.SlotLemmas.{length-field_slots, length-element_slots}
-use Rattle.gc_owner.specs.declared.entry.RootEntry.{RootEntry}
+use Rattle.gc_store.specs.Roots.{store_roots}
+use Rattle.gc_store.specs.Words.{HandleRoots}
 use Rattle.gc_model.specs.Values.{Value, numeric, i32, Object, struct, array, exception}
 use Rattle.gc_model.specs.Reach.{IsHost, object_values}
 use Rattle.gc_model.specs.Sizes.{fields_size, elements_size, exception_size, exn_fields_at, object_size}
@@ -52,9 +53,9 @@ use Rattle.gc_store.proofs.NewObjects.{IsNew, new_struct_is, new_exn_is, new_arr
 use Rattle.gc_store.proofs.WritingAt.{is_kept, storable_form, value_of}
 
 -- Slots keep, of any value that may be stored, what stands for it.
-abbrev pub StandsFor : {D : Type 0} → Layouts → StoreView D → Table D → Names → List RootEntry → Type 0
-StandsFor {D} layouts s t names entries =
-    (ty : StorageType) (r : RawValue) (v : Value) → CanStore D layouts s ty r → RawStands s t r v → StoredStands names entries ty r (stored ty v)
+abbrev pub StandsFor : {D : Type 0} → Layouts → StoreView D → Table D → Names → HandleRoots → Type 0
+StandsFor {D} layouts s t names roots =
+    (ty : StorageType) (r : RawValue) (v : Value) → CanStore D layouts s ty r → RawStands s t r v → StoredStands names roots ty r (stored ty v)
 
 -- an exception has its tag
 abbrev pub HasAskedFront : Place → List ℕ → Type 0
@@ -67,13 +68,13 @@ pub record AsksFor {D : Type 0} (layouts : Layouts) (s : StoreView D) (t : Table
   pub not_host : ¬ IsHost (Some o)
   pub of_size : (k : Layouts) → object_size k t.types o ≡ shape_size k shape count
   pub typed : IsTypedObject t.types t.objects o
-  pub contents : (names : Names) (entries : List RootEntry) → StandsFor layouts s t names entries → ContentsStand given names entries (shape_slots layouts shape count) (object_values o)
+  pub contents : (names : Names) (roots : HandleRoots) → StandsFor layouts s t names roots → ContentsStand given names roots (shape_slots layouts shape count) (object_values o)
   pub stands : (names : Names) (h : HeapObject) → h.ty ≡ asked_type request → HasShape h shape count → HasAskedFront request h.bytes → struct_base layouts + length h.bytes ≡ stored_size layouts (shape_size layouts shape count)
       → ValuesLie names (struct_base layouts) (shape_slots layouts shape count) (object_values o) h.bytes → Stands layouts t.types names o h
 
 -- What is given fits what is made for a request, and stands for what is asked for.
 pub record Asks {D : Type 0} (layouts : Layouts) (s : StoreView D) (t : Table D) (request : Place) (given : Contents) (new : IsNew D layouts s.types request) : Type 0 where
-  pub fit : (entries : List RootEntry) → ((r : RawValue) → IsKept s.scoped r → IsKept entries r) → ContentsFit request given entries (shape_slots layouts new.shape new.count)
+  pub fit : (roots : HandleRoots) → ((r : RawValue) → IsKept (store_roots s) r → IsKept roots r) → ContentsFit request given roots (shape_slots layouts new.shape new.count)
   pub some : (o : Object D) × IsObjectOf s t request given o
   pub asks_for : (t : Table D) (p : Placing) (o : Object D) → Holds layouts s t p → IsObjectOf s t request given o → AsksFor layouts s t request given new.shape new.count o
 
@@ -152,8 +153,8 @@ module _ (D : Type 0) (layouts : Layouts) (s : StoreView D) (t0 : Table D) (plac
       field_type : (i : ℕ) (slot : StorageSlot) → slice_get (field_slots base fields) i ≡ Some slot → FieldOfSlot fields i slot
       field_type i slot at = field_of_slot base fields i slot at
 
-      fields_fit : (entries : List RootEntry) → ((r : RawValue) → IsKept s.scoped r → IsKept entries r) → EachFits raws entries (field_slots base fields)
-      fields_fit entries keeps = record {
+      fields_fit : (roots : HandleRoots) → ((r : RawValue) → IsKept (store_roots s) r → IsKept roots r) → EachFits raws roots (field_slots base fields)
+      fields_fit roots keeps = record {
         same_count = can.same_count ∙ sym (length-field_slots base fields);
         forms = λ i slot r at r_at.
             let f = field_type i slot at in
@@ -161,16 +162,16 @@ module _ (D : Type 0) (layouts : Layouts) (s : StoreView D) (t0 : Table D) (plac
         kept = λ i r r_at. let f = field_of i r r_at in keeps r (is_kept D layouts s r (can.each i f.0 r f.1 r_at).live);
       }
 
-      fields_contents : (t : Table D) (vs : List Value) (all : AllStand s t raws vs) (names : Names) (entries : List RootEntry) → StandsFor layouts s t names entries → EachStands raws names entries (field_slots base fields) (stored_in fields vs)
-      fields_contents t vs all names entries stands = record {
+      fields_contents : (t : Table D) (vs : List Value) (all : AllStand s t raws vs) (names : Names) (roots : HandleRoots) → StandsFor layouts s t names roots → EachStands raws names roots (field_slots base fields) (stored_in fields vs)
+      fields_contents t vs all names roots stands = record {
         same_count = can.same_count ∙ sym (length-stored_in fields vs (sym all.same_count ∙ can.same_count));
         each = λ i slot r w at r_at w_at.
             let f = field_type i slot at in
             let k = kept_value fields vs i w w_at in
             let same : k.field ≡ f.field = same_Some k.field f.field (sym k.field_is ∙ f.field_is) in
             let ty_is : k.field.element_type ≡ slot.storage = ap (λ (x : FieldType). x.element_type) same ∙ f.type_is in
-            subst (λ (st : StorageType). StoredStands names entries st r w) ty_is
-            (subst (λ (x : Value). StoredStands names entries k.field.element_type r x) (sym k.kept_is)
+            subst (λ (st : StorageType). StoredStands names roots st r w) ty_is
+            (subst (λ (x : Value). StoredStands names roots k.field.element_type r x) (sym k.kept_is)
             (stands k.field.element_type r k.value (can.each i k.field r k.field_is r_at) (all.each i r k.value r_at k.value_is)));
       }
 
@@ -194,8 +195,8 @@ module _ (D : Type 0) (layouts : Layouts) (s : StoreView D) (t0 : Table D) (plac
       not_host = λ host. host;
       of_size = λ k. ap (fields_size k) declared_here;
       typed = typed-struct t.types t.objects ty can.fields vs declared_here (fields_match (struct_fields_at s.types ty) raws can t p holds vs all);
-      contents = λ names entries stands. subst (λ (rs : List RawValue). EachStands rs names entries (shape_slots layouts (struct_of can.fields) 0) (stored_in can.fields vs)) (sym same)
-          (fields_contents (struct_fields_at s.types ty) raws can (struct_base layouts) t vs all names entries stands);
+      contents = λ names roots stands. subst (λ (rs : List RawValue). EachStands rs names roots (shape_slots layouts (struct_of can.fields) 0) (stored_in can.fields vs)) (sym same)
+          (fields_contents (struct_fields_at s.types ty) raws can (struct_base layouts) t vs all names roots stands);
       stands = λ names h same_type kind front size lie. struct_stands layouts t.types names ty (stored_in can.fields vs) h same_type can.fields declared_here kind size lie;
     }
 
@@ -205,9 +206,9 @@ module _ (D : Type 0) (layouts : Layouts) (s : StoreView D) (t0 : Table D) (plac
     abbrev exn_params : (params : List ValType) × ((shape_at s.types ty ≡ Some (exn_of params)) × (map constant_field params ≡ can.fields))
     exn_params = exception_shape s.types ty can.fields can.declared
 
-    exn_fit : (entries : List RootEntry) → ((r : RawValue) → IsKept s.scoped r → IsKept entries r) → EachFits raws entries (shape_slots layouts (exn_of exn_params.0) 0)
-    exn_fit entries keeps =
-        subst (λ (fs : List FieldType). EachFits raws entries (field_slots (exception_base layouts) fs)) (sym exn_params.1.1) (fields_fit (exn_fields_at s.types ty) raws can (exception_base layouts) entries keeps)
+    exn_fit : (roots : HandleRoots) → ((r : RawValue) → IsKept (store_roots s) r → IsKept roots r) → EachFits raws roots (shape_slots layouts (exn_of exn_params.0) 0)
+    exn_fit roots keeps =
+        subst (λ (fs : List FieldType). EachFits raws roots (field_slots (exception_base layouts) fs)) (sym exn_params.1.1) (fields_fit (exn_fields_at s.types ty) raws can (exception_base layouts) roots keeps)
 
     module _ (t : Table D) (p : Placing) (holds : Holds layouts s t p) where
       exn_declared : exn_fields_at t.types ty ≡ Some can.fields
@@ -225,10 +226,10 @@ module _ (D : Type 0) (layouts : Layouts) (s : StoreView D) (t0 : Table D) (plac
         not_host = λ host. host;
         of_size = exn_size_is;
         typed = typed-exception t.types t.objects ty tag can.fields vs exn_declared (fields_match (exn_fields_at s.types ty) raws can t p holds vs all);
-        contents = λ names entries stands.
-            subst (λ (fs : List FieldType). EachStands given.now names entries (field_slots (exception_base layouts) fs) (stored_in can.fields vs)) (sym exn_params.1.1)
-            (subst (λ (rs : List RawValue). EachStands rs names entries (field_slots (exception_base layouts) can.fields) (stored_in can.fields vs)) (sym same)
-            (fields_contents (exn_fields_at s.types ty) raws can (exception_base layouts) t vs all names entries stands));
+        contents = λ names roots stands.
+            subst (λ (fs : List FieldType). EachStands given.now names roots (field_slots (exception_base layouts) fs) (stored_in can.fields vs)) (sym exn_params.1.1)
+            (subst (λ (rs : List RawValue). EachStands rs names roots (field_slots (exception_base layouts) can.fields) (stored_in can.fields vs)) (sym same)
+            (fields_contents (exn_fields_at s.types ty) raws can (exception_base layouts) t vs all names roots stands));
         stands = λ names h same_type kind front size lie.
             exception_stands layouts t.types names ty (stored_in can.fields vs) h same_type exn_params.0 tag (ap (λ (ts : List Declaration). shape_at ts ty) (sym holds.types) ∙ exn_params.1.0) kind front.instance front.index size lie;
       }
@@ -270,8 +271,8 @@ module _ (D : Type 0) (layouts : Layouts) (s : StoreView D) (t0 : Table D) (plac
 
     -- with a value for each element
     module _ (raws : List RawValue) (same_count : length raws ≡ count) (each : (i : ℕ) (r : RawValue) → slice_get raws i ≡ Some r → CanStore D layouts s element.element_type r) where
-      elements_fit : (entries : List RootEntry) → ((r : RawValue) → IsKept s.scoped r → IsKept entries r) → EachFits raws entries slots
-      elements_fit entries keeps = record {
+      elements_fit : (roots : HandleRoots) → ((r : RawValue) → IsKept (store_roots s) r → IsKept roots r) → EachFits raws roots slots
+      elements_fit roots keeps = record {
         same_count = same_count ∙ sym slots_count;
         forms = λ i slot r at r_at. storable_form D layouts s t0 place0 holds0 element.element_type r (each i r r_at) ∙ ap storage_form (slot_type i slot at);
         kept = λ i r r_at. keeps r (is_kept D layouts s r (each i r r_at).live);
@@ -291,20 +292,20 @@ module _ (D : Type 0) (layouts : Layouts) (s : StoreView D) (t0 : Table D) (plac
             typed = typed-array t.types t.objects ty element vs (element_here t p holds) (λ i v v_at.
                 let r = slice_get-same_length vs raws i v (sym all.same_count) v_at in
                 (each i r.0 r.1).fits t v (p, holds) (all.each i r.0 v r.1 v_at));
-            contents = λ names entries stands. subst (λ (rs : List RawValue). EachStands rs names entries slots values) (sym same) (record {
+            contents = λ names roots stands. subst (λ (rs : List RawValue). EachStands rs names roots slots values) (sym same) (record {
               same_count = same_count ∙ sym long;
               each = λ i slot r w at r_at w_at.
                   let from = mapped_from (stored element.element_type) vs i w w_at in
-                  subst (λ (st : StorageType). StoredStands names entries st r w) (slot_type i slot at)
-                  (subst (λ (x : Value). StoredStands names entries element.element_type r x) from.is (stands element.element_type r from.element (each i r r_at) (all.each i r from.element r_at from.there)));
+                  subst (λ (st : StorageType). StoredStands names roots st r w) (slot_type i slot at)
+                  (subst (λ (x : Value). StoredStands names roots element.element_type r x) from.is (stands element.element_type r from.element (each i r r_at) (all.each i r from.element r_at from.there)));
             });
             stands = λ names h same_type has front size lie. array_stands_as t p holds values long names h same_type has size lie;
           }
 
     -- with one value for all
     module _ (r : RawValue) (can : 0 < count → CanStore D layouts s element.element_type r) where
-      same_fit : (entries : List RootEntry) → ((r : RawValue) → IsKept s.scoped r → IsKept entries r) → SameFits r count entries slots
-      same_fit entries keeps = record {
+      same_fit : (roots : HandleRoots) → ((r : RawValue) → IsKept (store_roots s) r → IsKept roots r) → SameFits r count roots slots
+      same_fit roots keeps = record {
         ty = element.element_type;
         from = elements_from layouts element;
         slots_are = refl;
@@ -328,20 +329,20 @@ module _ (D : Type 0) (layouts : Layouts) (s : StoreView D) (t0 : Table D) (plac
             not_host = λ host. host;
             of_size = array_size_is t p holds values long;
             typed = typed-filled t.types t.objects ty element count v (element_here t p holds) (λ some. (can some).fits t v (p, holds) (stands_as some));
-            contents = λ names entries stands. subst (λ (x : RawValue). SameStands x names entries slots values) (sym same) (record {
+            contents = λ names roots stands. subst (λ (x : RawValue). SameStands x names roots slots values) (sym same) (record {
               kept = stored element.element_type v;
               values_are = ap (λ (n : ℕ). replicate n (stored element.element_type v)) (sym slots_count);
               stands = λ i slot at.
                   let some = some_slot i slot at in
-                  subst (λ (st : StorageType). StoredStands names entries st r (stored element.element_type v)) (slot_type i slot at) (stands element.element_type r v (can some) (stands_as some));
+                  subst (λ (st : StorageType). StoredStands names roots st r (stored element.element_type v)) (slot_type i slot at) (stands element.element_type r v (can some) (stands_as some));
             });
             stands = λ names h same_type has front size lie. array_stands_as t p holds values long names h same_type has size lie;
           }
 
     -- with bytes
     module _ (bytes : List ℕ) (of_bytes : element.element_type ≡ storage.I8) (same_count : length bytes ≡ count) where
-      bytes_fit : (entries : List RootEntry) → BytesFit bytes entries slots
-      bytes_fit entries = record {
+      bytes_fit : (roots : HandleRoots) → BytesFit bytes roots slots
+      bytes_fit roots = record {
         from = elements_from layouts element;
         slots_are = λ i. element_slots (of_bytes i) (sym same_count i) (elements_from layouts element);
       }
@@ -355,7 +356,7 @@ module _ (D : Type 0) (layouts : Layouts) (s : StoreView D) (t0 : Table D) (plac
             not_host = λ host. host;
             of_size = array_size_is t p holds values long;
             typed = typed-bytes t.types t.objects ty element bytes (element_here t p holds) of_bytes;
-            contents = λ names entries stands. ap (map byte_value) (sym same);
+            contents = λ names roots stands. ap (map byte_value) (sym same);
             stands = λ names h same_type has front size lie. array_stands_as t p holds values long names h same_type has size lie;
           }
 
@@ -394,7 +395,7 @@ module _ (D : Type 0) (layouts : Layouts) (s : StoreView D) (t0 : Table D) (plac
         (same_for ty count can.element can.declared value.now can.fits t p holds is.0 is.1.0 value refl);
   }
   asks (place.Array ty count) (contents.Bytes bytes) counted can = record {
-    fit = λ entries keeps. bytes_fit ty count can.element can.declared bytes.now can.of_bytes can.same_count entries;
+    fit = λ roots keeps. bytes_fit ty count can.element can.declared bytes.now can.of_bytes can.same_count roots;
     some = (array ty (map byte_value bytes.now), refl);
     asks_for = λ t p o holds is. subst (λ (x : Object D). AsksFor layouts s t (place.Array ty count) (contents.Bytes bytes) (array_of can.element) count x) (sym is)
         (bytes_for ty count can.element can.declared bytes.now can.of_bytes can.same_count t p holds bytes refl);

@@ -13,7 +13,7 @@ use Rattle.gc_model.proofs.Words.{word_same}
 use Rattle.gc_store.specs.declared.root.GcRootIndex.{GcRootIndex}
 use Rattle.gc_store.specs.declared.root.RootFault.{RootFault}
 use Rattle.gc_store.specs.Roots.{word_of, NamesReference, NamesNothing}
-use Rattle.gc_store.proofs.Roots.{named_word, live_has_word, word_names}
+use Rattle.gc_store.proofs.HandleWords.{named_word, names_word}
 
 is_same : (r : Reference) → same_reference r r ≡ true
 is_same null = refl
@@ -44,18 +44,14 @@ same_err (Ok x) f is = absurd is
 same_err (Err e) f is = ap Err is
 
 module _ {D : Type 0} (layouts : Layouts) (s : StoreView D) (t : Table D) (place : Placing) (holds : Holds layouts s t place) (a b : GcRootIndex) where
-  -- handles are compared by their words
+  -- what two handles name is compared by their words
   pub both_live : (r q : Reference) (u v : ℕ) → NamesReference s t a r → NamesReference s t b q → word_of s a ≡ Ok u → word_of s b ≡ Ok v → nat_eq u v ≡ same_reference r q
   both_live r q u v first second first_word second_word =
       let one = named_word layouts s t place holds a r u first first_word in
       let other = named_word layouts s t place holds b q v second second_word in
       compared r q u v (word_same layouts t place s.heap holds.objects r q u v one.0 other.0)
 
-  -- two that have words name something
-  pub not_gone : (u v : ℕ) → word_of s a ≡ Ok u → word_of s b ≡ Ok v → NamesNothing s t a ⊎ NamesNothing s t b → ⊥
-  not_gone u v first second (inl none) = let named = word_names layouts s t place holds a u first in none named.root named.named
-  not_gone u v first second (inr none) = let named = word_names layouts s t place holds b v second in none named.root named.named
-
--- a live handle has a word
-pub never_gone : {D : Type 0} (layouts : Layouts) (s : StoreView D) (t : Table D) (place : Placing) (holds : Holds layouts s t place) (handle : GcRootIndex) (r : Reference) (f : RootFault) → NamesReference s t handle r → word_of s handle ≡ Err f → ⊥
-never_gone layouts s t place holds handle r f names e = absurd (cc (sym (live_has_word layouts s t place holds handle r names).1 ∙ e))
+  -- handles that have words name something
+  pub not_unnamed : (u v : ℕ) → word_of s a ≡ Ok u → word_of s b ≡ Ok v → NamesNothing s t a ⊎ NamesNothing s t b → ⊥
+  not_unnamed u v first second (inl none) = let names = names_word layouts s t place holds a u first in none names.root names.named
+  not_unnamed u v first second (inr none) = let names = names_word layouts s t place holds b v second in none names.root names.named

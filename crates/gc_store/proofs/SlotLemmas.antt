@@ -29,23 +29,6 @@ use Rattle.gc_store.specs.Slots.{told_of_slot, FindsWord, ReadsSlot, slot_value}
 use Rattle.gc_store.specs.Stores.{store_view, IsSound}
 use Rattle.gc_store.specs.Values.{ReadsValue}
 use Rattle.gc_store.proofs.Keeping.{counts_of}
-use Rattle.gc_store.proofs.Roots.{word_of-err, word_of-wrong, word_names}
-use Rattle.gc_store.proofs.SameRoots.{never_gone}
-
-module _ {D : Type 0} (layouts : Layouts) (s : StoreView D) (t : Table D) (place : Placing) (holds : Holds layouts s t place) (handle : GcRootIndex) where
-  finds_fault : (own : Bool) (f : RootFault) → is_of_store s handle ≡ own → word_of s handle ≡ Err f → FindsWord s t place (Some handle) (Err f)
-  finds_fault true f own is =
-      subst (λ (x : RootFault). FindsWord s t place (Some handle) (Err x)) (sym (word_of-err s handle f own is).unrooted)
-      (own, λ r names. never_gone layouts s t place holds handle r f names is)
-  finds_fault false f other is =
-      let both : Err fault.WrongStore ≡ Err f = sym (word_of-wrong s handle other) ∙ is in
-      let wrong : fault.WrongStore ≡ f = grind (arith, both) in
-      subst (λ (x : RootFault). FindsWord s t place (Some handle) (Err x)) wrong other
-
-  -- a handle has the word of what it names, or a fault says why not
-  pub finds_word : (answer : _) → word_of s handle ≡ answer → FindsWord s t place (Some handle) answer
-  finds_word (Ok word) is = let named = word_names layouts s t place holds handle word is in (named.root, (named.named, named.is_word))
-  finds_word (Err f) is = finds_fault (is_of_store s handle) f refl is
 
 -- an owner set a global
 module _ {D : Type 0} (layouts : Layouts) (id : StoreId) (config : HeapConfig) (tries : ℕ) (old new : OwnerView D) (index : ℕ) (class : GcClass) (word : ℕ)

@@ -94,14 +94,14 @@ starts_configured D layouts config s holds =
 -- a sound store that shows nothing holds the empty table, where no collection ran without a heap
 pub starts_nothing : (D : Type 0) (layouts : Layouts) (counts : List ℕ) (v : OwnerView D) (s : StoreView D) → IsHeap layouts s.heap → (s.heap.attached ≡ false → s.last ≡ 0) → IsSound D layouts counts v s → ShowsNothing s → HoldsStart D layouts s
 starts_nothing D layouts counts v s heap unused sound nothing =
-    starts_untouched D layouts s (untouched_from_parts layouts s sound.table sound.holds.place sound.holds.holds nothing.types nothing.scoped nothing.generation nothing.frames nothing.globals nothing.pending nothing.attached)
+    starts_untouched D layouts s (untouched_from_parts layouts s sound.table sound.holds.place sound.holds.holds nothing.types nothing.scoped nothing.generation nothing.frames nothing.globals nothing.pending nothing.owns nothing.attached)
     (record { last = unused nothing.attached; tries = nothing.tries; upper = ap (λ (h : HeapView). h.needs_gc) (heap.detached nothing.attached) })
 
 -- a store that holds the empty table shows nothing
 pub nothing_starts : (D : Type 0) (layouts : Layouts) (s : StoreView D) → HoldsStart D layouts s → ShowsNothing s
 nothing_starts D layouts s holds =
     let untouched = untouched_from_start D layouts s holds.place holds.holds in
-    record { tries = holds.account.tries; types = untouched.types; scoped = untouched.scoped; generation = untouched.generation; frames = untouched.frames; globals = untouched.globals; pending = untouched.pending; attached = untouched.attached }
+    record { tries = holds.account.tries; types = untouched.types; scoped = untouched.scoped; generation = untouched.generation; frames = untouched.frames; globals = untouched.globals; pending = untouched.pending; owns = holds.holds.owned.same_owns; attached = untouched.attached }
 
 -- a table of types with that id
 pub own_types : (types : TypeTable) (e n : ℕ) → types.engine ≡ e → types.number ≡ n → types ≡ record { engine = e; number = n; declarations = types.declarations }

@@ -26,6 +26,7 @@ use Rattle.gc_owner.specs.Owners.{OwnerView, CanBegin}
 use Rattle.gc_owner.specs.Writes.{IsNumberPlace, WritesBytes}
 use Rattle.gc_policy.proofs.CollectedOffsets.{ref_slot}
 use Rattle.gc_model.proofs.ObjectShapes.{shape_at}
+use Rattle.gc_store.specs.Words.{handle_roots, AreRising}
 use Rattle.gc_store.specs.declared.root.RawValue.{RawValue}
 use Rattle.gc_store.specs.HeldSlots.{HasShape, IsHeldOf}
 use Rattle.gc_store.specs.Filling.{AreBlank, EachFits, EachStands, IsToFill, RewritesTo, FillsBy, Fills}
@@ -189,7 +190,8 @@ module _ {D : Type 0} (layouts : Layouts) (v : OwnerView D) (place ty : ℕ) (ra
       };
       of_type = f.of_type;
       blank = still_blank;
-      fit = subst (λ (x : OwnerView D). EachFits raws x.roots.scoped (shape_slots layouts shape count)) (sym did.rest) f.fit;
+      rising = subst (λ (x : OwnerView D). AreRising x.roots.owned) (sym did.rest) f.rising;
+      fit = subst (λ (x : OwnerView D). EachFits raws (handle_roots x.roots) (shape_slots layouts shape count)) (sym did.rest) f.fit;
     }
 
     -- and has its tag and its values then
@@ -210,5 +212,5 @@ module _ {D : Type 0} (layouts : Layouts) (v : OwnerView D) (place ty : ℕ) (ra
         };
         rest = filled.rewrites.rest ∙ ap (λ (x : OwnerView D). record x { heap = new.heap }) did.rest;
       };
-      lie = λ names values stands. filled.lie names values (subst (λ (x : OwnerView D). EachStands raws names x.roots.scoped (shape_slots layouts shape count) values) (sym did.rest) stands);
+      lie = λ names values stands. filled.lie names values (subst (λ (x : OwnerView D). EachStands raws names (handle_roots x.roots) (shape_slots layouts shape count) values) (sym did.rest) stands);
     }

@@ -33,11 +33,11 @@ use Rattle.gc_store.specs.declared.stored.Stored.TheVariants as stores
 use Rattle.gc_store.specs.Filling.{slot_bytes}
 use Rattle.gc_store.specs.HeldSlots.{FindsHeldSlot, storage_slot}
 use Rattle.gc_store.specs.Kept.{code_of, FitsForm, IsKept, KeptAs, KeptStands, raw_form, StoredStands}
-use Rattle.gc_store.specs.Roots.{word_of}
+use Rattle.gc_store.specs.Roots.{store_roots, word_of}
 use Rattle.gc_store.specs.Values.{CanStore, CanWrite, NamesLive, RawStands, WritesValue}
 use Rattle.gc_store.proofs.EachValue.{kept_encoded}
 use Rattle.gc_store.proofs.LyingAt.{LyingAt, lying_at, slot_is_found}
-use Rattle.gc_store.proofs.Roots.{live_has_word, named_word, names-store, own_word, word_names}
+use Rattle.gc_store.proofs.HandleWords.{live_has_word, named_word, named_of_store, own_word, names_word}
 
 -- what a value is that stands for one of the table
 pub raw_form_is : {D : Type 0} (s : StoreView D) (t : Table D) (r : RawValue) (v : Value) → RawStands s t r v → raw_form r ≡ value_form v
@@ -52,7 +52,7 @@ raw_form_is s t (raw.Ref class (Some handle)) v is = sym (ap value_form is.is)
 
 module _ (D : Type 0) (layouts : Layouts) (s : StoreView D) where
   -- a value that may be stored is kept
-  pub is_kept : (r : RawValue) → NamesLive D layouts s r → IsKept s.scoped r
+  pub is_kept : (r : RawValue) → NamesLive D layouts s r → IsKept (store_roots s) r
   is_kept (raw.I32 n) live = (stores.Number (cast_unsigned w32 n), refl)
   is_kept (raw.I64 n) live = (stores.Number (cast_unsigned w64 n), refl)
   is_kept (raw.F32 n) live = (stores.Number n, refl)
@@ -62,7 +62,7 @@ module _ (D : Type 0) (layouts : Layouts) (s : StoreView D) where
   is_kept (raw.Ref class None) live = (stores.Ref 0, refl)
   is_kept (raw.Ref class (Some handle)) live =
       let word = live_has_word layouts s live.table live.holds.0 live.holds.1 handle live.root live.named in
-      (stores.Ref word.0, (word.0, (sym (own_word s handle (names-store s live.table handle live.named.serial live.named.names)) ∙ word.1, refl)))
+      (stores.Ref word.0, (word.0, (sym (own_word s handle (named_of_store s live.table handle live.root live.named)) ∙ word.1, refl)))
 
   module _ (t : Table D) (place : Placing) (holds : Holds layouts s t place) where
     -- it stands for a value of the table
@@ -76,11 +76,11 @@ module _ (D : Type 0) (layouts : Layouts) (s : StoreView D) where
     value_of (raw.Ref class None) live = (reference class null, refl)
     value_of (raw.Ref class (Some handle)) live =
         let word = live_has_word layouts s live.table live.holds.0 live.holds.1 handle live.root live.named in
-        let named = word_names layouts s t place holds handle word.0 word.1 in
+        let named = names_word layouts s t place holds handle word.0 word.1 in
         (reference class named.root, record { root = named.root; named = named.named; is = refl })
 
     -- what is kept of it stands for that value
-    pub kept_stands : (r : RawValue) (v : Value) → RawStands s t r v → KeptStands (naming place t.funcs) s.scoped r v
+    pub kept_stands : (r : RawValue) (v : Value) → RawStands s t r v → KeptStands (naming place t.funcs) (store_roots s) r v
     kept_stands (raw.I32 n) v stands x kept small =
         let code : code_of x ≡ cast_unsigned w32 n = ap code_of kept in
         subst (λ (w : Value). IsCode (naming place t.funcs) w (code_of x)) (sym stands)
@@ -95,12 +95,12 @@ module _ (D : Type 0) (layouts : Layouts) (s : StoreView D) where
     kept_stands (raw.Func f) v stands x kept small = absurd kept
     kept_stands (raw.Ref class None) v stands x kept small = subst (λ (w : Value). IsCode (naming place t.funcs) w (code_of x)) (sym stands) (ap code_of kept)
     kept_stands (raw.Ref class (Some handle)) v stands x kept small =
-        let word = own_word s handle (names-store s t handle stands.named.serial stands.named.names) ∙ kept.1.0 in
+        let word = own_word s handle (named_of_store s t handle stands.root stands.named) ∙ kept.1.0 in
         subst (λ (w : Value). IsCode (naming place t.funcs) w (code_of x)) (sym stands.is)
         (subst (IsWord place stands.root) (sym (ap code_of kept.1.1)) (named_word layouts s t place holds handle stands.root kept.0 stands.named word).0)
 
     -- What a slot keeps of a value that fits it
-    pub stored_stands : (ty : StorageType) (r : RawValue) (v : Value) → RawStands s t r v → fits t.types t.objects ty v ≡ true → StoredStands (naming place t.funcs) s.scoped ty r (stored ty v)
+    pub stored_stands : (ty : StorageType) (r : RawValue) (v : Value) → RawStands s t r v → fits t.types t.objects ty v ≡ true → StoredStands (naming place t.funcs) (store_roots s) ty r (stored ty v)
     stored_stands ty r v stands fit =
         let form = fits-form t.types t.objects ty v fit in
         record {
@@ -147,10 +147,10 @@ module _ (D : Type 0) (layouts : Layouts) (s : StoreView D) (handle : GcRootInde
     pub spot_form : raw_form r ≡ storage_form found.storage
     spot_form = storable_form D layouts s can.table can.holds.0 can.holds.1 can.field.element_type r can.can_store ∙ ap storage_form spot_type
 
-    pub spot_kept : IsKept s.scoped r
+    pub spot_kept : IsKept (store_roots s) r
     spot_kept = is_kept D layouts s r can.can_store.live
 
-    module _ (heap : HeapView) (x : Stored) (kept : KeptAs s.scoped r x) (small : FitsForm (raw_form r) (code_of x))
+    module _ (heap : HeapView) (x : Stored) (kept : KeptAs (store_roots s) r x) (small : FitsForm (raw_form r) (code_of x))
         (written : (object : HeapObject) → get s.heap.content word ≡ Some object → heap ≡ record (put_object s.heap word (with_data layouts object found.offset (slot_bytes found.storage (code_of x)))) { counts = heap.counts }) where
       -- each table that the store held is held with the value
       pub writes_value : (t : Table D) (a : Account) → HoldsAccount layouts s t a → WritesValue layouts s (record s { heap = heap }) t a handle index r
@@ -165,7 +165,7 @@ module _ (D : Type 0) (layouts : Layouts) (s : StoreView D) (handle : GcRootInde
           let now : Holds layouts (record s { heap = heap }) (write has.position index (stored found.storage v) t) holds.place =
           holds_write layouts s t holds.place heap word has.position index has.object (storage_slot found) (stored found.storage v) (slot_bytes found.storage (code_of x)) holds.holds lies.placed has.object_is
           (subst (IsSlotOf layouts t.types has.object index) (sym slot) lies.lying.is_slot)
-          (kept_encoded (naming holds.place t.funcs) s.scoped found.storage r (stored found.storage v) x (stored_stands D layouts s t holds.place holds.holds found.storage r v stands fit) kept small)
+          (kept_encoded (naming holds.place t.funcs) (store_roots s) found.storage r (stored found.storage v) x (stored_stands D layouts s t holds.place holds.holds found.storage r v stands fit) kept small)
           (fits-stored t.types t.objects found.storage v fit)
           (written_object layouts s.heap heap word found.offset lies.object (slot_bytes found.storage (code_of x)) lies.is.held is) in
           record {

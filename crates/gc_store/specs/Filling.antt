@@ -10,7 +10,6 @@ use Rattle.gc_types.specs.Layouts.{storage_width, struct_base}
 use Rattle.gc_types.specs.declared.kind.VMGcKind.TheVariants.{ExnRef}
 use Rattle.gc_view.specs.Heaps.{HeapObject, HeapView}
 use Rattle.gc_view.specs.Slots.{StorageSlot, shape_slots, element_slots}
-use Rattle.gc_owner.specs.declared.entry.RootEntry.{RootEntry}
 use Rattle.gc_owner.specs.Owners.{OwnerView}
 use Rattle.gc_model.specs.Values.{Value}
 use Rattle.gc_model.specs.Stored.{byte_value}
@@ -24,17 +23,18 @@ use Rattle.gc_store.specs.declared.request.Contents.{Contents}
 use Rattle.gc_store.specs.declared.request.Contents.TheVariants as contents
 use Rattle.gc_store.specs.declared.root.RawValue.{RawValue}
 use Rattle.gc_store.specs.Kept.{IsKept, OfForm, code_of, raw_form, StoredStands}
+use Rattle.gc_store.specs.Words.{HandleRoots, handle_roots, AreRising}
 use Rattle.gc_store.specs.HeldSlots.{IsHeldOf}
 use Rattle.gc_store.specs.Tagging.{HasTag}
 
 -- values fit slots, one for each
-pub record EachFits (raws : List RawValue) (entries : List RootEntry) (slots : List StorageSlot) : Type 0 where
+pub record EachFits (raws : List RawValue) (entries : HandleRoots) (slots : List StorageSlot) : Type 0 where
   pub same_count : length raws ≡ length slots
   pub forms : (i : ℕ) (slot : StorageSlot) (r : RawValue) → slice_get slots i ≡ Some slot → slice_get raws i ≡ Some r → raw_form r ≡ storage_form slot.storage
   pub kept : (i : ℕ) (r : RawValue) → slice_get raws i ≡ Some r → IsKept entries r
 
 -- one value fits so many slots, which follow each other
-pub record SameFits (r : RawValue) (count : ℕ) (entries : List RootEntry) (slots : List StorageSlot) : Type 0 where
+pub record SameFits (r : RawValue) (count : ℕ) (entries : HandleRoots) (slots : List StorageSlot) : Type 0 where
   pub ty : StorageType
   pub from : ℕ
   pub slots_are : slots ≡ element_slots ty count from
@@ -42,23 +42,23 @@ pub record SameFits (r : RawValue) (count : ℕ) (entries : List RootEntry) (slo
   pub kept : 0 < count → IsKept entries r
 
 -- bytes fit slots, which follow each other
-pub record BytesFit (bytes : List ℕ) (entries : List RootEntry) (slots : List StorageSlot) : Type 0 where
+pub record BytesFit (bytes : List ℕ) (entries : HandleRoots) (slots : List StorageSlot) : Type 0 where
   pub from : ℕ
   pub slots_are : slots ≡ element_slots storage.I8 (length bytes) from
 
 -- what slots keep of values that are given, one for each
-pub record EachStands (raws : List RawValue) (names : Names) (entries : List RootEntry) (slots : List StorageSlot) (values : List Value) : Type 0 where
+pub record EachStands (raws : List RawValue) (names : Names) (entries : HandleRoots) (slots : List StorageSlot) (values : List Value) : Type 0 where
   pub same_count : length raws ≡ length values
   pub each : (i : ℕ) (slot : StorageSlot) (r : RawValue) (w : Value) → slice_get slots i ≡ Some slot → slice_get raws i ≡ Some r → slice_get values i ≡ Some w → StoredStands names entries slot.storage r w
 
 -- what they keep of one value
-pub record SameStands (r : RawValue) (names : Names) (entries : List RootEntry) (slots : List StorageSlot) (values : List Value) : Type 0 where
+pub record SameStands (r : RawValue) (names : Names) (entries : HandleRoots) (slots : List StorageSlot) (values : List Value) : Type 0 where
   pub kept : Value
   pub values_are : values ≡ replicate (length slots) kept
   pub stands : (i : ℕ) (slot : StorageSlot) → slice_get slots i ≡ Some slot → StoredStands names entries slot.storage r kept
 
 -- what they keep of bytes
-abbrev pub BytesStand : List ℕ → Names → List RootEntry → List StorageSlot → List Value → Type 0
+abbrev pub BytesStand : List ℕ → Names → HandleRoots → List StorageSlot → List Value → Type 0
 BytesStand bytes names entries slots values = values ≡ map byte_value bytes
 
 -- the type of what is requested
@@ -68,7 +68,7 @@ asked_type (place.Exn ty tag) = ty
 asked_type (place.Array ty count) = ty
 
 -- the contents of a request fit slots
-abbrev pub ContentsFit : Place → Contents → List RootEntry → List StorageSlot → Type 0
+abbrev pub ContentsFit : Place → Contents → HandleRoots → List StorageSlot → Type 0
 ContentsFit (place.Struct ty) (contents.Each raws) entries slots = EachFits raws.now entries slots
 ContentsFit (place.Exn ty tag) (contents.Each raws) entries slots = EachFits raws.now entries slots
 ContentsFit (place.Array ty count) (contents.Each raws) entries slots = EachFits raws.now entries slots
@@ -77,7 +77,7 @@ ContentsFit (place.Array ty count) (contents.Bytes bytes) entries slots = BytesF
 ContentsFit _ _ entries slots = ⊥
 
 -- what slots keep of the contents of a request
-abbrev pub ContentsStand : Contents → Names → List RootEntry → List StorageSlot → List Value → Type 0
+abbrev pub ContentsStand : Contents → Names → HandleRoots → List StorageSlot → List Value → Type 0
 ContentsStand (contents.Each raws) names entries slots values = EachStands raws.now names entries slots values
 ContentsStand (contents.Same r) names entries slots values = SameStands r.now names entries slots values
 ContentsStand (contents.Bytes bytes) names entries slots values = BytesStand bytes.now names entries slots values
@@ -88,13 +88,14 @@ AreBlank base slots bytes =
     (i : ℕ) (slot : StorageSlot) → slice_get slots i ≡ Some slot → take (storage_width slot.storage) (drop (slot.offset - base) bytes) ≡ replicate (storage_width slot.storage) 0
 
 -- A new object of an owner is of that type, and what is given fits it.
-pub record IsToFill {D : Type 0} (layouts : Layouts) (v : OwnerView D) (place ty : ℕ) (Fit : List RootEntry → List StorageSlot → Type 0) (object : HeapObject) (shape : Shape) (count : ℕ) : Type 0 where
+pub record IsToFill {D : Type 0} (layouts : Layouts) (v : OwnerView D) (place ty : ℕ) (Fit : HandleRoots → List StorageSlot → Type 0) (object : HeapObject) (shape : Shape) (count : ℕ) : Type 0 where
   pub is : IsHeldOf v.types.declarations v.heap place object shape count
   pub of_type : object.ty ≡ ty
   pub blank : AreBlank (struct_base layouts) (shape_slots layouts shape count) object.bytes
-  pub fit : Fit v.roots.scoped (shape_slots layouts shape count)
+  pub rising : AreRising v.roots.owned
+  pub fit : Fit (handle_roots v.roots) (shape_slots layouts shape count)
 
-pub record CanFill {D : Type 0} (layouts : Layouts) (v : OwnerView D) (place ty : ℕ) (Fit : List RootEntry → List StorageSlot → Type 0) : Type 0 where
+pub record CanFill {D : Type 0} (layouts : Layouts) (v : OwnerView D) (place ty : ℕ) (Fit : HandleRoots → List StorageSlot → Type 0) : Type 0 where
   pub object : HeapObject
   pub shape : Shape
   pub count : ℕ
@@ -118,23 +119,23 @@ abbrev pub Rewrites : {D : Type 0} → Layouts → Shape → OwnerView D → Own
 Rewrites layouts shape old new place before bytes = RewritesTo (KeepsFront layouts shape) old new place before bytes
 
 -- The object at a place has the values now that stand for what was given, and that is so of its bytes.
-pub record FillsBy {D : Type 0} (layouts : Layouts) (AreFrom : List ℕ → List ℕ → Type 0) (Stand : Names → List RootEntry → List StorageSlot → List Value → Type 0) (old new : OwnerView D) (place : ℕ) (before : HeapObject) (shape : Shape) (count : ℕ) : Type 0 where
+pub record FillsBy {D : Type 0} (layouts : Layouts) (AreFrom : List ℕ → List ℕ → Type 0) (Stand : Names → HandleRoots → List StorageSlot → List Value → Type 0) (old new : OwnerView D) (place : ℕ) (before : HeapObject) (shape : Shape) (count : ℕ) : Type 0 where
   pub bytes : List ℕ
   pub rewrites : RewritesTo AreFrom old new place before bytes
-  pub lie : (names : Names) (values : List Value) → Stand names old.roots.scoped (shape_slots layouts shape count) values
+  pub lie : (names : Names) (values : List Value) → Stand names (handle_roots old.roots) (shape_slots layouts shape count) values
       → ValuesLie names (struct_base layouts) (shape_slots layouts shape count) values bytes
 
 -- but not in front of its slots
-abbrev pub Fills : {D : Type 0} → Layouts → (Names → List RootEntry → List StorageSlot → List Value → Type 0) → OwnerView D → OwnerView D → ℕ → HeapObject → Shape → ℕ → Type 0
+abbrev pub Fills : {D : Type 0} → Layouts → (Names → HandleRoots → List StorageSlot → List Value → Type 0) → OwnerView D → OwnerView D → ℕ → HeapObject → Shape → ℕ → Type 0
 Fills layouts Stand old new place before shape count = FillsBy layouts (KeepsFront layouts shape) Stand old new place before shape count
 
 -- a new object that was to be filled is, and that is so of its bytes
-abbrev pub FillsAs : {D : Type 0} → Layouts → (Shape → List ℕ → List ℕ → Type 0) → OwnerView D → OwnerView D → ℕ → ℕ → (List RootEntry → List StorageSlot → Type 0) → (Names → List RootEntry → List StorageSlot → List Value → Type 0) → Type 0
+abbrev pub FillsAs : {D : Type 0} → Layouts → (Shape → List ℕ → List ℕ → Type 0) → OwnerView D → OwnerView D → ℕ → ℕ → (HandleRoots → List StorageSlot → Type 0) → (Names → HandleRoots → List StorageSlot → List Value → Type 0) → Type 0
 FillsAs layouts AreFrom old new place ty Fit Stand =
     (object : HeapObject) (shape : Shape) (count : ℕ) → IsToFill layouts old place ty Fit object shape count → FillsBy layouts (AreFrom shape) Stand old new place object shape count
 
 -- but not in front of its slots
-abbrev pub FillsNew : {D : Type 0} → Layouts → OwnerView D → OwnerView D → ℕ → ℕ → (List RootEntry → List StorageSlot → Type 0) → (Names → List RootEntry → List StorageSlot → List Value → Type 0) → Type 0
+abbrev pub FillsNew : {D : Type 0} → Layouts → OwnerView D → OwnerView D → ℕ → ℕ → (HandleRoots → List StorageSlot → Type 0) → (Names → HandleRoots → List StorageSlot → List Value → Type 0) → Type 0
 FillsNew layouts old new place ty Fit Stand =
     (object : HeapObject) (shape : Shape) (count : ℕ) → IsToFill layouts old place ty Fit object shape count → Fills layouts Stand old new place object shape count
 

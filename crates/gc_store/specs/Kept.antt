@@ -1,8 +1,7 @@
 -- What slots keep of the values that are given to a store, and what is found in them.
-use Rattle.std.specs.Prelude.{◌≡◌, ℕ, ◌^◌, ◌<◌, List, Some, None, Ok}
+use Rattle.std.specs.Prelude.{◌≡◌, ℕ, ◌^◌, ◌<◌, Some, None, Ok}
 use Rattle.std.specs.Int.{w32, w64, cast_unsigned, cast_signed}
 use Rattle.gc_types.specs.declared.value.StorageType.{StorageType}
-use Rattle.gc_owner.specs.declared.entry.RootEntry.{RootEntry}
 use Rattle.gc_model.specs.Values.{Value, i32, i64, f32, f64, v128}
 use Rattle.gc_model.specs.Forms.{Form, number_of, function_of, continuation_of, reference_of, storage_form, value_form, Names, IsCode}
 use Rattle.gc_model.specs.Stored.{stored}
@@ -14,7 +13,7 @@ use Rattle.gc_store.specs.declared.stored.Found.{Found}
 use Rattle.gc_store.specs.declared.stored.Found.TheVariants as found
 use Rattle.gc_store.specs.declared.root.RawValue.{RawValue}
 use Rattle.gc_store.specs.declared.root.RawValue.TheVariants as raw
-use Rattle.gc_store.specs.Words.{slot_word}
+use Rattle.gc_store.specs.Words.{HandleRoots, root_word_at}
 
 -- the number that stands in a heap for what is kept
 abbrev pub code_of : Stored → ℕ
@@ -22,7 +21,7 @@ code_of (kept.Number n) = n
 code_of (kept.Ref word) = word
 
 -- how a value that is given to the store is kept, by the words that the roots have; no function is taken so far
-abbrev pub KeptAs : List RootEntry → RawValue → Stored → Type 0
+abbrev pub KeptAs : HandleRoots → RawValue → Stored → Type 0
 KeptAs entries (raw.I32 n) x = x ≡ kept.Number (cast_unsigned w32 n)
 KeptAs entries (raw.I64 n) x = x ≡ kept.Number (cast_unsigned w64 n)
 KeptAs entries (raw.F32 n) x = x ≡ kept.Number n
@@ -30,10 +29,10 @@ KeptAs entries (raw.F64 n) x = x ≡ kept.Number n
 KeptAs entries (raw.V128 n) x = x ≡ kept.Number n
 KeptAs entries (raw.Func f) x = ⊥
 KeptAs entries (raw.Ref class None) x = x ≡ kept.Ref 0
-KeptAs entries (raw.Ref class (Some handle)) x = (word : ℕ) × ((slot_word entries handle.slot handle.generation ≡ Ok word) × (x ≡ kept.Ref word))
+KeptAs entries (raw.Ref class (Some handle)) x = (word : ℕ) × ((root_word_at entries handle.slot handle.generation ≡ Ok word) × (x ≡ kept.Ref word))
 
 -- a value is kept in some way
-abbrev pub IsKept : List RootEntry → RawValue → Type 0
+abbrev pub IsKept : HandleRoots → RawValue → Type 0
 IsKept entries r = (x : Stored) × KeptAs entries r x
 
 -- what a value is that is given to the store
@@ -72,11 +71,11 @@ OfForm h (reference_of class) (kept.Ref word) = IsWordOf h word
 
 -- A value that is given to the store is one of the table: whatever is kept of it is that value's code, where the code is no
 -- wider than such values are, as that of every number is.
-abbrev pub KeptStands : Names → List RootEntry → RawValue → Value → Type 0
+abbrev pub KeptStands : Names → HandleRoots → RawValue → Value → Type 0
 KeptStands names entries r v = (x : Stored) → KeptAs entries r x → FitsForm (raw_form r) (code_of x) → IsCode names v (code_of x)
 
 -- a value of the table is what a slot of that type keeps of one that is given to the store
-pub record StoredStands (names : Names) (entries : List RootEntry) (ty : StorageType) (r : RawValue) (w : Value) : Type 0 where
+pub record StoredStands (names : Names) (entries : HandleRoots) (ty : StorageType) (r : RawValue) (w : Value) : Type 0 where
   pub value : Value
   pub stored_is : w ≡ stored ty value
   pub form : storage_form ty ≡ value_form value

@@ -1,8 +1,9 @@
 -- Which root a handle names, and what it is.
-use Rattle.std.specs.Prelude.{◌≡◌, ℕ, ◌<◌, ◌==◌, ◌&&◌, Bool, Option, Some, None, Result, Ok, Err, length, slice_get, if◌then◌else◌}
+use Rattle.std.specs.Prelude.{◌≡◌, ◌⊎◌, ℕ, ◌<◌, ◌==◌, ◌&&◌, Bool, Option, Some, None, Result, Ok, Err, length, slice_get, if◌then◌else◌}
 use Rattle.gc_model.specs.Values.{Reference, null, small, at, Value, Object, struct, array, host, exception}
 use Rattle.gc_model.specs.Table.{Table, Push}
 use Rattle.gc_model.specs.Live.{rooted}
+use Rattle.gc_model.specs.OwnedRoots.{owned_reference}
 use Rattle.gc_model.specs.Reach.{object_values}
 use Rattle.gc_model.specs.Stores.{StoreView}
 use Rattle.gc_model.specs.Holds.{Placing, Holds, HoldsTable, IsWord}
@@ -13,7 +14,7 @@ use Rattle.gc_store.specs.declared.root.RootFault.{RootFault}
 use Rattle.gc_store.specs.declared.root.RootFault.TheVariants as fault
 use Rattle.gc_store.specs.declared.root.RootedObject.{RootedObject}
 use Rattle.gc_store.specs.declared.root.RootedObject.TheVariants as rooted_object
-use Rattle.gc_store.specs.Words.{slot_word}
+use Rattle.gc_store.specs.Words.{HandleRoots, owned_id, root_word_at}
 
 -- whether a handle carries the store's id
 abbrev pub is_of_store : {D : Type 0} → StoreView D → GcRootIndex → Bool
@@ -52,11 +53,29 @@ abbrev pub TellsReference : {D : Type 0} → Table D → Reference → Result Ro
 TellsReference t r (Ok answer) = IsReference t r answer
 TellsReference t r (Err e) = ⊥
 
--- the handle is live and names that reference
-pub record NamesReference {D : Type 0} (s : StoreView D) (t : Table D) (handle : GcRootIndex) (r : Reference) : Type 0 where
+-- the handle of the owned root of that number in a store
+abbrev pub owned_handle : {D : Type 0} → StoreView D → ℕ → GcRootIndex
+owned_handle s number = record {
+  store_id = record { engine = s.engine; number = s.number };
+  generation = number;
+  slot = slot.Owned (owned_id number);
+}
+
+-- the handle is of a scoped root that stands, and names that reference
+pub record NamesScoped {D : Type 0} (s : StoreView D) (t : Table D) (handle : GcRootIndex) (r : Reference) : Type 0 where
   pub serial : ℕ
   pub names : Names s t handle serial
   pub live : rooted t serial ≡ Some r
+
+-- the handle is of an owned root that has handles, and names that reference
+pub record NamesOwned {D : Type 0} (s : StoreView D) (t : Table D) (handle : GcRootIndex) (r : Reference) : Type 0 where
+  pub number : ℕ
+  pub names : handle ≡ owned_handle s number
+  pub live : owned_reference t number ≡ Some r
+
+-- the handle is live and names that reference
+abbrev pub NamesReference : {D : Type 0} → StoreView D → Table D → GcRootIndex → Reference → Type 0
+NamesReference s t handle r = NamesScoped s t handle r ⊎ NamesOwned s t handle r
 
 -- the handle is not live: its root is gone, or never was
 abbrev pub NamesNothing : {D : Type 0} → StoreView D → Table D → GcRootIndex → Type 0
@@ -70,9 +89,13 @@ pub record HasValue {D : Type 0} (s : StoreView D) (t : Table D) (handle : GcRoo
   pub object_is : slice_get t.objects position ≡ Some object
   pub value_at : slice_get (object_values object) index ≡ Some value
 
+-- the roots of a store that handles name
+abbrev pub store_roots : {D : Type 0} → StoreView D → HandleRoots
+store_roots s = record { scoped = s.scoped; owned = s.owned }
+
 -- The word that a handle has in the store, or why it has none.
 abbrev pub word_of : {D : Type 0} → StoreView D → GcRootIndex → Result ℕ RootFault
-word_of s handle = if is_of_store s handle then slot_word s.scoped handle.slot handle.generation else Err fault.WrongStore
+word_of s handle = if is_of_store s handle then root_word_at (store_roots s) handle.slot handle.generation else Err fault.WrongStore
 
 -- the word is that of a root of some table that the store holds
 pub record IsRootWord (D : Type 0) (layouts : Layouts) (s : StoreView D) (word : ℕ) : Type 0 where

@@ -29,7 +29,7 @@ store_view id config v tries = record {
   frames = frames_of v.roots.frames v.roots.slots;
   globals = v.roots.globals;
   owned = v.roots.owned;
-  owns = 0;
+  owns = v.roots.owns;
   pending = v.roots.pending;
   funcs = [];
   last = v.last;
@@ -63,7 +63,8 @@ pub record IsSound (D : Type 0) (layouts : Layouts) (counts : List ℕ) (v : Own
 abbrev pub HoldsStart : (D : Type 0) → Layouts → StoreView D → Type 0
 HoldsStart D layouts s = HoldsAccount layouts s (start {D = D} s.first s.max_scoped s.max_owned) no_account
 
--- the store shows no type, root, scope end, frame, set global, pending exception, memory or allocation
+-- the store shows no type, root, scope end, frame, set global, pending exception, memory or allocation, and no owned root
+-- was made
 pub record ShowsNothing {D : Type 0} (s : StoreView D) : Type 0 where
   pub tries : s.tries ≡ 0
   pub types : s.types ≡ []
@@ -72,6 +73,7 @@ pub record ShowsNothing {D : Type 0} (s : StoreView D) : Type 0 where
   pub frames : s.frames ≡ []
   pub globals : s.globals ≡ unset_globals
   pub pending : s.pending ≡ 0
+  pub owns : s.owns ≡ 0
   pub attached : s.heap.attached ≡ false
 
 -- the store has the same id, and collects at every so many allocations as before

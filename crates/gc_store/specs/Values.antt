@@ -1,5 +1,5 @@
 -- The values that go in and out of a store.
-use Rattle.std.specs.Prelude.{◌≡◌, ℕ, ℤ, true, false, List, Some, None, Result, Ok, Err, length, slice_get}
+use Rattle.std.specs.Prelude.{◌≡◌, ℕ, ℤ, true, false, List, Option, Some, None, Result, Ok, Err, length, slice_get}
 use Rattle.std.specs.Int.{w32, w64}
 use Rattle.gc_types.specs.declared.value.FieldType.{FieldType}
 use Rattle.gc_types.specs.declared.value.StorageType.{StorageType}
@@ -42,6 +42,16 @@ RawStands s t (raw.Ref class (Some handle)) v = RootStands s t class handle v
 pub record AllStand {D : Type 0} (s : StoreView D) (t : Table D) (raws : List RawValue) (values : List Value) : Type 0 where
   pub same_count : length raws ≡ length values
   pub each : (i : ℕ) (r : RawValue) (v : Value) → slice_get raws i ≡ Some r → slice_get values i ≡ Some v → RawStands s t r v
+
+-- the handle that a value is, where it is one
+abbrev pub raw_handle : RawValue → Option GcRootIndex
+raw_handle (raw.I32 n) = None
+raw_handle (raw.I64 n) = None
+raw_handle (raw.F32 n) = None
+raw_handle (raw.F64 n) = None
+raw_handle (raw.V128 n) = None
+raw_handle (raw.Func f) = None
+raw_handle (raw.Ref class handle) = handle
 
 -- the handle is live in a table that the store holds
 pub record IsLive (D : Type 0) (layouts : Layouts) (s : StoreView D) (handle : GcRootIndex) : Type 0 where

@@ -17,7 +17,7 @@ use std::alloc::AllocError;
 
 impl<H: GcHeap, D: Drop> Store<H, D> {
     /// Opens a frame of so many slots, each null of class `Any`, which are roots until it is closed. Room for
-    /// them in a later collection is made now. An error is want of memory.
+    /// them in a later collection is made now. Its time is linear in the slots. An error is want of memory.
     pub fn push_frame(&mut self, slots: u32) -> Result<(), AllocError>
         ensures pushes { OnOk result ((t : Table D) (a : Account) → HoldsAccount H.KIND self.old t a → HoldsAccount H.KIND self.new (push_frame slots t) a) }
         ensures err { OnErr result (self.new ≡ self.old) }
@@ -30,8 +30,8 @@ impl<H: GcHeap, D: Drop> Store<H, D> {
         Ok(())
     }
 
-    /// Closes the newest frame, whose slots are no roots from then on. False exactly where no frame is open.
-    /// It takes no memory.
+    /// Closes the newest frame, whose slots are no roots from then on, in a time that is linear in them. False exactly
+    /// where no frame is open. It takes no memory.
     pub fn pop_frame(&mut self) -> bool
         ensures pops { (t : Table D) (a : Account) → HoldsAccount H.KIND self.old t a → PopsFrame H.KIND t a result self.new }
         ensures none { result ≡ false → self.new ≡ self.old }

@@ -14,11 +14,19 @@ ghost use Rattle.gc_model.specs.Holds.{HoldsTable};
 ghost use Rattle.gc_heap.specs.Content.{IsHeap};
 ghost use Rattle.gc_heap.specs.Heap.{HasRoom, grown};
 ghost use Rattle.gc_owner.specs.Growing.{pages_of};
+ghost use Rattle.gc_policy.specs.Accounts.{Account, HoldsAccount};
 ghost use Rattle.gc_store.specs.Roots.{Names};
 ghost use Rattle.gc_store.specs.declared.root.GcRootIndex.{GcRootIndex};
 
 use crate::store::Store;
 use gc_heap::GcHeap;
+
+/// A store holds some table, with some account beside it, whatever was done with it.
+pub fn stores_hold_tables<H: GcHeap, D: Drop>(store: &Store<H, D>)
+    ensures { (t : Table D) × ((a : Account) × HoldsAccount H.KIND store.now t a) }
+{
+    let _owner = &store.owner;
+}
 
 /// A handle names one push for ever: no two pushes of a store have the same index and generation.
 pub fn handles_name_one_root<H: GcHeap, D: Drop>(store: &Store<H, D>)

@@ -20,6 +20,8 @@ mod growth_tests;
 pub mod hosts;
 pub mod laws;
 mod make;
+pub mod owned;
+pub mod owned_rooted;
 pub mod pending;
 pub mod place;
 pub mod read;
@@ -44,6 +46,7 @@ pub use gc_owner::{GcClass, PageLimit, ResourceLimiter, Scripted, should_collect
 pub use globals::{GLOBAL_COUNT, SlotFault};
 pub use grow::GrowFault;
 pub use hosts::{HostDataFault, PlaceHostFault};
+pub use owned_rooted::OwnedRooted;
 pub use request::{Contents, Place};
 pub use root::{GcRootIndex, RawValue, RootFault, RootSlot, RootedObject};
 pub use rooted::{GcRef, Rooted, RootedGcRef, ref_eq};

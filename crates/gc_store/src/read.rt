@@ -25,7 +25,7 @@ use crate::root::{GcRootIndex, RawValue, RootFault, RootedObject};
 use crate::slot::slot_in;
 use crate::store::Store;
 use crate::stored::{Found, read_slot};
-use crate::word::slot_word;
+use crate::word::word_at;
 use gc_heap::GcHeap;
 use gc_heap::access::read_u32;
 use gc_refs::{I31, VMArrayRef, VMGcHeader, VMGcRef};
@@ -90,13 +90,19 @@ impl<H: GcHeap, D: Drop> Store<H, D> {
         if handle.store_id != self.id {
             return Err(RootFault::WrongStore);
         }
-        slot_word(self.owner.scoped(), handle.slot, handle.generation)
+        word_at(
+            self.owner.scoped(),
+            self.owner.owned(),
+            handle.slot,
+            handle.generation,
+        )
     }
 
     /// What the reference with that word is.
     pub(crate) fn describe(&self, word: u32) -> RootedObject
         requires { IsRootWord D H.KIND self.now word }
-        ensures { (t : Table D) (place : Placing) (r : Reference) → Holds H.KIND self.now t place → IsWord place r word → 0 < word → IsReference t r result }
+        ensures { (t : Table D) (place : Placing) (r : Reference) → Holds H.KIND self.now t place → IsWord place r word → 0 < word
+            → IsReference t r result }
     {
         let gc_ref = VMGcRef::from_raw_u32(word).unwrap();
         if let Some(number) = gc_ref.as_i31() {
@@ -111,7 +117,8 @@ impl<H: GcHeap, D: Drop> Store<H, D> {
         ensures wrong_store { is_of_store self.now handle ≡ false → result ≡ Err RootFault.WrongStore }
         ensures live { (t : Table D) (r : Reference) → HoldsTable H.KIND self.now t → NamesReference self.now t handle r → TellsReference t r result }
         ensures found { IfOk result (FindsRoot D H.KIND self.now handle) }
-        ensures gone { is_of_store self.now handle ≡ true → (t : Table D) → HoldsTable H.KIND self.now t → NamesNothing self.now t handle → result ≡ Err RootFault.Unrooted }
+        ensures gone { is_of_store self.now handle ≡ true → (t : Table D) → HoldsTable H.KIND self.now t → NamesNothing self.now t handle
+            → result ≡ Err RootFault.Unrooted }
     {
         self.owner.is_ready();
         match self.word_of(handle) {
@@ -124,21 +131,24 @@ impl<H: GcHeap, D: Drop> Store<H, D> {
     /// `WrongStore` where one of them is another store's, then `Unrooted` where one isn't live.
     pub fn index_eq(&self, a: GcRootIndex, b: GcRootIndex) -> Result<bool, RootFault>
         ensures wrong_store { (is_of_store self.now a ≡ false) ⊎ (is_of_store self.now b ≡ false) → result ≡ Err RootFault.WrongStore }
-        ensures live { (t : Table D) (r q : Reference) → HoldsTable H.KIND self.now t → NamesReference self.now t a r → NamesReference self.now t b q → result ≡ Ok (same_reference r q) }
-        ensures gone { is_of_store self.now a ≡ true → is_of_store self.now b ≡ true → (t : Table D) → HoldsTable H.KIND self.now t → NamesNothing self.now t a ⊎ NamesNothing self.now t b → result ≡ Err RootFault.Unrooted }
+        ensures live { (t : Table D) (r q : Reference) → HoldsTable H.KIND self.now t → NamesReference self.now t a r → NamesReference self.now t b q
+            → result ≡ Ok (same_reference r q) }
+        ensures gone { is_of_store self.now a ≡ true → is_of_store self.now b ≡ true → (t : Table D) → HoldsTable H.KIND self.now t
+            → NamesNothing self.now t a ⊎ NamesNothing self.now t b → result ≡ Err RootFault.Unrooted }
     {
         if a.store_id != self.id || b.store_id != self.id {
             return Err(RootFault::WrongStore);
         }
-        let first = slot_word(self.owner.scoped(), a.slot, a.generation)?;
-        let second = slot_word(self.owner.scoped(), b.slot, b.generation)?;
+        let first = self.word_of(a)?;
+        let second = self.word_of(b)?;
         Ok(first == second)
     }
 
     /// Pushes a scoped root for a copy of a word of the store.
     pub(crate) fn push_word(&mut self, word: u32) -> Result<GcRootIndex, RootFault>
         requires { IsRootWord D H.KIND self.old word }
-        ensures pushes { (t : Table D) (place : Placing) (a : Account) (r : Reference) → Holds H.KIND self.old t place → IsAccount self.old place a → IsWord place r word → PushesRoot H.KIND t a r result self.new }
+        ensures pushes { (t : Table D) (place : Placing) (a : Account) (r : Reference) → Holds H.KIND self.old t place → IsAccount self.old place a
+            → IsWord place r word → PushesRoot H.KIND t a r result self.new }
         ensures err { OnErr result (self.new ≡ self.old) }
         ensures same { IsSameStore self.old self.new }
     {
@@ -199,7 +209,8 @@ impl<H: GcHeap, D: Drop> Store<H, D> {
     /// of an array. A reference that isn't null gets a scoped root: `RootsFull` where no further one may be made.
     pub fn read_value(&mut self, handle: GcRootIndex, index: u32) -> Result<RawValue, RootFault>
         requires { CanRead D H.KIND self.old handle index }
-        ensures reads { (t : Table D) (a : Account) (value : Value) → HoldsAccount H.KIND self.old t a → HasValue self.old t handle index value → ReadsValue H.KIND t a value result self.new }
+        ensures reads { (t : Table D) (a : Account) (value : Value) → HoldsAccount H.KIND self.old t a → HasValue self.old t handle index value
+            → ReadsValue H.KIND t a value result self.new }
         ensures err { OnErr result (self.new ≡ self.old) }
         ensures same { IsSameStore self.old self.new }
     {

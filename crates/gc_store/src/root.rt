@@ -11,7 +11,7 @@ use thiserror::Error;
 pub enum RootSlot {
     /// A scoped root, by its index.
     Scoped(u32),
-    /// An owned root, by its id.
+    /// An owned root, by the low 32 bits of its number, which is the handle's generation.
     Owned(u32),
 }
 

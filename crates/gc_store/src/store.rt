@@ -9,6 +9,7 @@ ghost use Rattle.gc_store.specs.Stores.{HoldsStart, ShowsNothing, configured};
 
 use crate::config::HeapConfig;
 use crate::engine::StoreId;
+use crate::owned::FIRST_MARK;
 use gc_heap::GcHeap;
 use gc_owner::HeapOwner;
 use gc_types::Types;
@@ -87,6 +88,8 @@ pub struct Store<H: GcHeap, D: Drop> {
     pub(crate) slot_counts: Vec<u32>,
     /// How many allocations were counted, up to the greatest u64.
     pub(crate) tries: u64,
+    /// How many owned roots there are before one that is made trims them.
+    pub(crate) mark: usize,
 }
 
 impl<H: GcHeap, D: Drop> Model for Store<H, D> {
@@ -125,6 +128,7 @@ impl<H: GcHeap + Drop, D: Drop> Store<H, D> {
             owner: HeapOwner::new(alloc, heap, id.engine, id.number)?,
             slot_counts: Vec::new(alloc),
             tries: 0,
+            mark: FIRST_MARK,
         })
     }
 }
@@ -139,7 +143,8 @@ impl<H: GcHeap, D: Drop> Store<H, D> {
         self.is_untouched()
     }
 
-    /// Whether there is no type, root, generation, frame, set global, pending exception, memory or allocation.
+    /// Whether there is no type, root, generation, frame, set global, pending exception, memory or allocation, and no
+    /// owned root was made.
     fn is_untouched(&self) -> bool
         ensures { IsTrue result ↔ ShowsNothing self.now }
     {
@@ -148,6 +153,7 @@ impl<H: GcHeap, D: Drop> Store<H, D> {
             && self.owner.types().is_empty()
             && !self.owner.is_made()
             && self.tries == 0
+            && self.owner.owns() == 0
             && self.has_no_frame()
             && self.has_unset_globals()
             && self.owner.pending() == 0
@@ -160,6 +166,18 @@ impl<H: GcHeap, D: Drop> Store<H, D> {
         ensures seen { self.new ≡ configured config self.old }
     {
         self.config = config;
+    }
+
+    /// The id that the store's handles and types carry.
+    pub fn id(&self) -> StoreId
+        ensures { result ≡ record { engine = self.now.engine; number = self.now.number } }
+    {
+        self.id
+    }
+
+    /// The allocator that the store was made with.
+    pub fn allocator(&self) -> Global {
+        *self.slot_counts.allocator()
     }
 
     /// The type table, whose id is the store's.

@@ -6,14 +6,15 @@ ghost use Rattle.gc_types.specs.Layouts.{storage_width, value_width};
 ghost use Rattle.gc_model.specs.Forms.{top_form, type_form, storage_form, reference_of};
 ghost use Rattle.gc_heap.specs.Access.{IsReadable};
 ghost use Rattle.gc_store.specs.Kept.{code_of, raw_form, KeptAs, IsKept, FitsForm, IsReadForm};
+ghost use Rattle.gc_store.specs.Words.{AreRising};
 ghost use Rattle.gc_store.specs.HeldSlots.{storage_slot, CanWriteSlot, WritesAt, FindsAt, FitsAt};
 
 use crate::root::RawValue;
 use crate::slot::Slot;
-use crate::word::slot_word;
+use crate::word::word_at;
 use gc_heap::GcHeap;
 use gc_heap::access::{read_u8, read_u16, read_u32, read_u64, read_v128};
-use gc_owner::{GcClass, HeapOwner, RootEntry};
+use gc_owner::{GcClass, HeapOwner, OwnedEntry, RootEntry};
 use gc_refs::VMGcRef;
 use gc_types::{HeapTopType, StorageType, ValType};
 
@@ -33,9 +34,10 @@ pub(crate) enum Found {
 }
 
 /// What is kept of a value; of a reference the word that its root has now.
-pub(crate) fn stored_value(entries: &[RootEntry], value: RawValue) -> Stored
-    requires { IsKept entries.now value }
-    ensures kept { KeptAs entries.now value result }
+pub(crate) fn stored_value(scoped: &[RootEntry], owned: &[OwnedEntry], value: RawValue) -> Stored
+    requires rising { AreRising owned.now }
+    requires kept { IsKept (record { scoped = scoped.now; owned = owned.now }) value }
+    ensures kept { KeptAs (record { scoped = scoped.now; owned = owned.now }) value result }
     ensures small { FitsForm (raw_form value) (code_of result) }
 {
     match &value {
@@ -47,7 +49,7 @@ pub(crate) fn stored_value(entries: &[RootEntry], value: RawValue) -> Stored
         RawValue::Func(_) => unreachable!(),
         RawValue::Ref(_, None) => Stored::Ref(0),
         RawValue::Ref(_, Some(handle)) => {
-            match slot_word(entries, handle.slot, handle.generation) {
+            match word_at(scoped, owned, handle.slot, handle.generation) {
                 Ok(word) => Stored::Ref(word),
                 Err(_) => unreachable!(),
             }

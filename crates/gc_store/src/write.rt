@@ -43,7 +43,7 @@ impl<H: GcHeap, D: Drop> Store<H, D> {
             Ok(word) => {
                 let gc_ref = VMGcRef::from_raw_u32(word).unwrap();
                 let slot = slot_in(self.owner.heap(), self.owner.types(), &gc_ref, index);
-                let stored = stored_value(self.owner.scoped(), value);
+                let stored = stored_value(self.owner.scoped(), self.owner.owned(), value);
                 write_slot(&mut self.owner, &gc_ref, &slot, stored);
                 Ok(())
             }

@@ -2,6 +2,8 @@ use Rattle.std.proofs.Common.{◌≡◌, ℕ, ◌<◌, List, sym, subst, arith}
 use Rattle.gc_types.specs.declared.kind.Layouts.{Layouts}
 use Rattle.gc_types.specs.Declarations.{Shape, TypeTable}
 use Rattle.gc_owner.specs.declared.entry.RootEntry.{RootEntry}
+use Rattle.gc_owner.specs.declared.entry.OwnedEntry.{OwnedEntry}
+use Rattle.gc_store.specs.Words.{HandleRoots, handle_roots, AreRising}
 use Rattle.gc_view.specs.Heaps.{HeapObject}
 use Rattle.gc_view.specs.Slots.{StorageSlot}
 use Rattle.gc_store.specs.Kept.{KeptAs, IsKept}
@@ -29,10 +31,14 @@ slot_at-first-requires g c =
     subst (λ (k : Layouts). HasSlot k c.types.result.now.declarations c.args.ty 0) (sym c.KIND.ensures)
     (subst (λ (ts : TypeTable). HasSlot g.H.GcHeap.KIND ts.declarations c.args.ty 0) (sym c.types.ensures) (has g at))
 
-pub stored_value-stored-requires : goal.stored_value-stored-requires
-stored_value-stored-requires g c =
-    let at = (goal.at.stored_value-stored-requires g c).After-is_ready in
-    subst (λ (es : List RootEntry). IsKept es c.args.value) (sym c.scoped.ensures) (c.requires.can.to_fill.fit.kept (some g at))
+pub stored_value-stored-requires-clause-rising : goal.stored_value-stored-requires-clause-rising
+stored_value-stored-requires-clause-rising g c = subst AreRising (sym c.owned.ensures) c.requires.can.to_fill.rising
+
+pub stored_value-stored-requires-clause-kept : goal.stored_value-stored-requires-clause-kept
+stored_value-stored-requires-clause-kept g c =
+    let at = (goal.at.stored_value-stored-requires-clause-kept g c).After-is_ready in
+    let same : record { scoped = c.scoped.result.now; owned = c.owned.result.now } ≡ handle_roots c.args.owner.now.seen.roots = λ i. record { scoped = c.scoped.ensures i; owned = c.owned.ensures i } in
+    subst (λ (es : HandleRoots). IsKept es c.args.value) (sym same) (c.requires.can.to_fill.fit.kept (some g at))
 
 -- the slot is that of the first element, as any fields are said to be
 slot_is : (g : Over) (c : After-stored_value-stored g) (object : HeapObject) (shape : Shape) (n : ℕ) (f : IsToFill g.H.GcHeap.KIND c.args.owner.now.seen c.args.gc_ref.now c.args.ty (SameFits c.args.value c.args.count) object shape n)
@@ -43,8 +49,10 @@ slot_is g c object shape n f =
     (subst (λ (ts : TypeTable). FindsSlot g.H.GcHeap.KIND ts.declarations c.args.ty 0 c.slot_at-first.result) c.types.ensures
     (subst (λ (k : Layouts). FindsSlot k c.types.result.now.declarations c.args.ty 0 c.slot_at-first.result) c.KIND.ensures c.slot_at-first.ensures))
 
-kept_is : (g : Over) (c : After-stored_value-stored g) → KeptAs c.args.owner.now.seen.roots.scoped c.args.value c.stored_value-stored.result
-kept_is g c = subst (λ (es : List RootEntry). KeptAs es c.args.value c.stored_value-stored.result) c.scoped.ensures c.stored_value-stored.ensures.kept
+kept_is : (g : Over) (c : After-stored_value-stored g) → KeptAs (handle_roots c.args.owner.now.seen.roots) c.args.value c.stored_value-stored.result
+kept_is g c =
+    let same : record { scoped = c.scoped.result.now; owned = c.owned.result.now } ≡ handle_roots c.args.owner.now.seen.roots = λ i. record { scoped = c.scoped.ensures i; owned = c.owned.ensures i } in
+    subst (λ (es : HandleRoots). KeptAs es c.args.value c.stored_value-stored.result) same c.stored_value-stored.ensures.kept
 
 pub write_elements-requires-clause-can : goal.write_elements-requires-clause-can
 write_elements-requires-clause-can g c =

@@ -4,6 +4,8 @@ use Rattle.std.proofs.lemmas.Option.{slice_get_read}
 use Rattle.gc_types.specs.declared.kind.Layouts.{Layouts}
 use Rattle.gc_types.specs.Declarations.{Shape, TypeTable}
 use Rattle.gc_owner.specs.declared.entry.RootEntry.{RootEntry}
+use Rattle.gc_owner.specs.declared.entry.OwnedEntry.{OwnedEntry}
+use Rattle.gc_store.specs.Words.{HandleRoots, handle_roots, AreRising}
 use Rattle.gc_owner.specs.Owners.{OwnerView}
 use Rattle.gc_view.specs.Heaps.{HeapObject}
 use Rattle.gc_view.specs.Slots.{StorageSlot}
@@ -50,11 +52,19 @@ slot_at-slot-requires g c =
     subst (λ (k : Layouts). HasSlot k c.types.result.now.declarations c.args.ty c.loop-index.index) (sym c.KIND.ensures)
     (subst (λ (ts : TypeTable). HasSlot g.H.GcHeap.KIND ts.declarations c.args.ty c.loop-index.index) (sym c.types.ensures) (has g at))
 
-pub stored_value-stored-requires : goal.stored_value-stored-requires
-stored_value-stored-requires g c =
-    let at = (goal.at.stored_value-stored-requires g c).After-is_ready in
+pub stored_value-stored-requires-clause-rising : goal.stored_value-stored-requires-clause-rising
+stored_value-stored-requires-clause-rising g c =
+    let at = (goal.at.stored_value-stored-requires-clause-rising g c).After-is_ready in
     let can = c.requires.can in
-    subst (λ (es : List RootEntry). IsKept es c.index-values-index.result) (sym c.scoped.ensures)
+    let same = (filled g at).rewrites.rest in
+    subst AreRising (sym (c.owned.ensures ∙ ap (λ (v : OwnerView g.row.D.Denot). v.roots.owned) same)) can.to_fill.rising
+
+pub stored_value-stored-requires-clause-kept : goal.stored_value-stored-requires-clause-kept
+stored_value-stored-requires-clause-kept g c =
+    let at = (goal.at.stored_value-stored-requires-clause-kept g c).After-is_ready in
+    let can = c.requires.can in
+    let same : record { scoped = c.scoped.result.now; owned = c.owned.result.now } ≡ handle_roots c.loop-index.owner.seen.roots = λ i. record { scoped = c.scoped.ensures i; owned = c.owned.ensures i } in
+    subst (λ (es : HandleRoots). IsKept es c.index-values-index.result) (sym same)
     (is_kept g.H.GcHeap.KIND c.args.values.now c.args.owner.now.seen c.args.gc_ref.now c.args.ty can.object can.shape can.count can.to_fill c.loop-index.owner.seen c.loop-index.index c.index-values-index.result (value_is g at) (filled g at)
     c.is_ready.ensures.heap c.is_ready.ensures.can)
 
@@ -64,8 +74,10 @@ finds g c =
     subst (λ (ts : TypeTable). FindsSlot g.H.GcHeap.KIND ts.declarations c.args.ty c.loop-index.index c.slot_at-slot.result) c.types.ensures
     (subst (λ (k : Layouts). FindsSlot k c.types.result.now.declarations c.args.ty c.loop-index.index c.slot_at-slot.result) c.KIND.ensures c.slot_at-slot.ensures)
 
-kept_is : (g : Over) (c : After-stored_value-stored g) → KeptAs c.loop-index.owner.seen.roots.scoped c.index-values-index.result c.stored_value-stored.result
-kept_is g c = subst (λ (es : List RootEntry). KeptAs es c.index-values-index.result c.stored_value-stored.result) c.scoped.ensures c.stored_value-stored.ensures.kept
+kept_is : (g : Over) (c : After-stored_value-stored g) → KeptAs (handle_roots c.loop-index.owner.seen.roots) c.index-values-index.result c.stored_value-stored.result
+kept_is g c =
+    let same : record { scoped = c.scoped.result.now; owned = c.owned.result.now } ≡ handle_roots c.loop-index.owner.seen.roots = λ i. record { scoped = c.scoped.ensures i; owned = c.owned.ensures i } in
+    subst (λ (es : HandleRoots). KeptAs es c.index-values-index.result c.stored_value-stored.result) same c.stored_value-stored.ensures.kept
 
 -- it is that of any fields that these are said to be
 slot_is : (g : Over) (c : After-stored_value-stored g) (object : HeapObject) (shape : Shape) (count : ℕ) (f : IsToFill g.H.GcHeap.KIND c.args.owner.now.seen c.args.gc_ref.now c.args.ty (EachFits c.args.values.now) object shape count)

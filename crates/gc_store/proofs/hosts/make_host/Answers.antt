@@ -1,4 +1,4 @@
-use Rattle.std.proofs.Common.{ℕ, ◌<◌, ◌^◌, Result, Ok, Err, sym, ap, ◌∙◌, subst}
+use Rattle.std.proofs.Common.{arith, ℕ, ◌<◌, ◌^◌, Result, Ok, Err, sym, ap, ◌∙◌, subst}
 use Rattle.gc_owner.specs.declared.pages.PagesFault.{PagesFault}
 use Rattle.gc_owner.specs.Growing.{OwnerState, state_of, MakesHeap}
 use Rattle.gc_store.specs.Making.{BeginsMaking}
@@ -44,7 +44,7 @@ allocate_host-requires-clause-attached g c =
 pub allocate_host-requires-clause-room : goal.allocate_host-requires-clause-room
 allocate_host-requires-clause-room g c =
     let at = (goal.at.allocate_host-requires-clause-room g c).After-collect_if_due in
-    subst (λ (n : ℕ). 0 < n) (sym (keeps g at).spare) c.requires.room
+    let more = (keeps g at).spare in let some = c.requires.room in omega (arith, more, some)
 
 pub allocate_host-requires-clause-few : goal.allocate_host-requires-clause-few
 allocate_host-requires-clause-few g c =

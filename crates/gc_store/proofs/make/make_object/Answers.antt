@@ -1,4 +1,4 @@
-use Rattle.std.proofs.Common.{◌≡◌, ℕ, ◌<◌, ◌^◌, Result, Ok, Err, inr, sym, ap, ◌∙◌, subst}
+use Rattle.std.proofs.Common.{◌≡◌, ℕ, ◌<◌, ◌^◌, Result, Ok, Err, inr, sym, ap, ◌∙◌, subst, arith}
 use Rattle.gc_types.specs.Declarations.{TypeTable}
 use Rattle.gc_types.specs.declared.kind.Layouts.{Layouts}
 use Rattle.gc_types.specs.Layouts.{layout_at, array_layout_at}
@@ -57,7 +57,7 @@ allocate_object-requires g c =
       can = record {
         idle = kept.idle ∙ c.requires.idle;
         attached = making_attached g.H.GcHeap.KIND c.args.first_pages c.args.is_due (before g at) (due g at) (begun g at);
-        spare = subst (λ (n : ℕ). 0 < n) (sym kept.spare) c.requires.room;
+        spare = (let more = kept.spare in let some = c.requires.room in omega (arith, more, some));
         few = subst (λ (n : ℕ). n < 2 ^ 32) (sym (same_count c.args.owner.now.seen c.collect_if_due.new.owner.seen kept)) c.requires.few;
         object = c.requires.described.0;
         size = c.args.size;

@@ -23,7 +23,7 @@ now g c = store_view c.self.inside.id c.self.inside.config c.collect.new.self.se
 after : (g : Over) (c : After-collect g) (t : Table g.row.D.Denot) (a : Account) (limits : Limits) → HoldsAccount g.H.GcHeap.KIND (before g c) t a
     → AfterCollection g.H.GcHeap.KIND (before g c) t a limits c.collect.new.self.seen
 after g c t a limits holds =
-    collected_account g.H.GcHeap.KIND (before g c) t a limits c.self.inside.owner.seen c.collect.new.self.seen holds c.is_ready.ensures.can c.is_ready.ensures.frames c.is_ready.ensures.heap
+    collected_account g.H.GcHeap.KIND (before g c) t a limits c.self.inside.owner.seen c.collect.new.self.seen holds c.is_ready.ensures.frames
     (sym c.is_made.ensures ∙ c.if-is_made.true) c.collect.ensures
 
 -- what no limiter is asked for

@@ -4,8 +4,9 @@ use Rattle.gc_model.specs.Stores.{StoreView}
 use Rattle.gc_store.specs.HostSteps.{TellsHostId}
 use Rattle.gc_store.specs.Roots.{word_of}
 use Rattle.gc_store.specs.Stores.{store_view}
-use Rattle.gc_store.proofs.HostReads.{named_word, word_named, named_wordless, id_told}
-use Rattle.gc_store.proofs.Roots.{root_word, SomeIff-value, SomeIff-some}
+use Rattle.gc_store.proofs.HandleWords.{root_word, named_word, never_named, never_gone}
+use Rattle.gc_store.proofs.HostReads.{id_told}
+use Rattle.gc_store.proofs.Roots.{SomeIff-value, SomeIff-some}
 use Rattle.gc_store.proofs.store.Store.host_id.Goals as goal
 
 pub unwrap-gc_ref-requires : goal.unwrap-gc_ref-requires
@@ -24,7 +25,7 @@ returns-in-Ok-clause-live g c t place r holds named =
     id_told g.H.GcHeap.KIND c.args.self.now t place holds c.in-Ok.word c.id_of.result tells r is.0 is.1
 
 pub returns-in-Ok-clause-gone : goal.returns-in-Ok-clause-gone
-returns-in-Ok-clause-gone g c own t holds nothing = absurd (word_named g.H.GcHeap.KIND c.args.self.now t holds.0 holds.1 c.args.handle c.in-Ok.word nothing (sym c.word_of.ensures ∙ c.in-Ok.is))
+returns-in-Ok-clause-gone g c own t holds nothing = absurd (never_named g.H.GcHeap.KIND c.args.self.now t holds.0 holds.1 c.args.handle c.in-Ok.word nothing (sym c.word_of.ensures ∙ c.in-Ok.is))
 
 pub returns-in-Err-clause-live : goal.returns-in-Err-clause-live
-returns-in-Err-clause-live g c t place r holds named = absurd (named_wordless g.H.GcHeap.KIND c.args.self.now t place holds c.args.handle r c.in-Err.fault named (sym c.word_of.ensures ∙ c.in-Err.is))
+returns-in-Err-clause-live g c t place r holds named = absurd (never_gone g.H.GcHeap.KIND c.args.self.now t place holds c.args.handle r c.in-Err.fault named (sym c.word_of.ensures ∙ c.in-Err.is))

@@ -1,8 +1,7 @@
 use Rattle.std.proofs.Common.{Err, ap, sym, ◌∙◌, subst}
 use Rattle.gc_model.specs.Stores.{StoreView}
 use Rattle.gc_store.specs.Roots.{IsRootWord, word_of}
-use Rattle.gc_store.proofs.Roots.{root_word, named_word, word_names, word_of-err}
-use Rattle.gc_store.proofs.SameRoots.{never_gone}
+use Rattle.gc_store.proofs.HandleWords.{root_word, named_word, names_word, never_gone, never_named, names_nothing}
 use Rattle.gc_model.specs.Holds.{Holds}
 use Rattle.gc_store.proofs.store.Store.object.Goals as goal
 
@@ -23,19 +22,18 @@ returns-in-Err-clause-live g c t r holds names =
 
 pub returns-in-Ok-clause-gone : goal.returns-in-Ok-clause-gone
 returns-in-Ok-clause-gone g c own t holds nothing =
-    let named = word_names g.H.GcHeap.KIND c.args.self.now t holds.0 holds.1 c.args.handle c.in-Ok.word (sym c.word_of.ensures ∙ c.in-Ok.is) in
-    absurd (nothing named.root named.named)
+    absurd (never_named g.H.GcHeap.KIND c.args.self.now t holds.0 holds.1 c.args.handle c.in-Ok.word nothing (sym c.word_of.ensures ∙ c.in-Ok.is))
 
 pub returns-in-Err-clause-gone : goal.returns-in-Err-clause-gone
 returns-in-Err-clause-gone g c own t holds nothing =
-    ap Err (word_of-err c.args.self.now c.args.handle c.in-Err.fault own (sym c.word_of.ensures ∙ c.in-Err.is)).unrooted
+    ap Err (names_nothing g.H.GcHeap.KIND c.args.self.now t holds.0 holds.1 c.args.handle c.in-Err.fault own (sym c.word_of.ensures ∙ c.in-Err.is)).0
 
 pub returns-in-Ok-clause-found : goal.returns-in-Ok-clause-found
 returns-in-Ok-clause-found g c =
     let t = c.self.invariant.table in
     let place = c.self.invariant.holds.place in
     let holds : Holds g.H.GcHeap.KIND c.args.self.now t place = subst (λ (s : StoreView g.row.D.Denot). Holds g.H.GcHeap.KIND s t place) c.self.view_is c.self.invariant.holds.holds in
-    let named = word_names g.H.GcHeap.KIND c.args.self.now t place holds c.args.handle c.in-Ok.word (sym c.word_of.ensures ∙ c.in-Ok.is) in
+    let named = names_word g.H.GcHeap.KIND c.args.self.now t place holds c.args.handle c.in-Ok.word (sym c.word_of.ensures ∙ c.in-Ok.is) in
     record {
       table = t;
       holds = (place, holds);

@@ -1,8 +1,7 @@
 use Rattle.std.proofs.Common.{◌≡◌, Ok, Err, sym, ap, ◌∙◌, subst}
 use Rattle.gc_model.specs.Stores.{StoreView}
 use Rattle.gc_store.specs.Roots.{IsRootWord, word_of}
-use Rattle.gc_store.proofs.HostReads.{named_word, word_named, named_wordless}
-use Rattle.gc_store.proofs.Roots.{root_word}
+use Rattle.gc_store.proofs.HandleWords.{root_word, named_word, never_named, never_gone}
 use Rattle.gc_store.proofs.store.Store.push_copy.Goals as goal
 
 pub push_word-requires : goal.push_word-requires
@@ -17,7 +16,7 @@ returns-in-Ok-clause-live g c t a r holds named =
     (named_word g.H.GcHeap.KIND c.args.self.now t holds.place holds.holds c.args.handle r c.in-Ok.word named (sym c.word_of.ensures ∙ c.in-Ok.is)).0
 
 pub returns-in-Ok-clause-gone : goal.returns-in-Ok-clause-gone
-returns-in-Ok-clause-gone g c own t holds nothing = absurd (word_named g.H.GcHeap.KIND c.args.self.now t holds.0 holds.1 c.args.handle c.in-Ok.word nothing (sym c.word_of.ensures ∙ c.in-Ok.is))
+returns-in-Ok-clause-gone g c own t holds nothing = absurd (never_named g.H.GcHeap.KIND c.args.self.now t holds.0 holds.1 c.args.handle c.in-Ok.word nothing (sym c.word_of.ensures ∙ c.in-Ok.is))
 
 pub returns-in-Err-clause-live : goal.returns-in-Err-clause-live
-returns-in-Err-clause-live g c t a r holds named = absurd (named_wordless g.H.GcHeap.KIND c.args.self.now t holds.place holds.holds c.args.handle r c.in-Err.fault named (sym c.word_of.ensures ∙ c.in-Err.is))
+returns-in-Err-clause-live g c t a r holds named = absurd (never_gone g.H.GcHeap.KIND c.args.self.now t holds.place holds.holds c.args.handle r c.in-Err.fault named (sym c.word_of.ensures ∙ c.in-Err.is))

@@ -7,7 +7,8 @@ use Rattle.gc_store.specs.Roots.{word_of, NamesReference}
 use Rattle.gc_store.specs.Thrown.{NamesException}
 use Rattle.gc_store.specs.Stores.{store_view}
 use Rattle.gc_store.proofs.Pushing.{word_in_heap}
-use Rattle.gc_store.proofs.PendingLemmas.{NamesWord, names_word, refuses_pending, is_thrown, pending_was_set, sound_pending}
+use Rattle.gc_store.proofs.HandleWords.{NamesWord, names_word}
+use Rattle.gc_store.proofs.PendingLemmas.{refuses_pending, is_thrown, pending_was_set, sound_pending}
 use Rattle.gc_store.proofs.store.Store.set_pending.Given as given
 use Rattle.gc_store.proofs.store.Store.set_pending.Goals as goal
 use Rattle.gc_store.proofs.store.Store.set_pending.Goals.{In-Ok}

@@ -4,6 +4,8 @@ use Rattle.gc_types.specs.Declarations.{TypeTable, Declaration}
 use Rattle.gc_view.specs.Heaps.{HeapObject, HeapView}
 use Rattle.gc_heap.specs.Heap.{put_object, with_data}
 use Rattle.gc_owner.specs.declared.entry.RootEntry.{RootEntry}
+use Rattle.gc_owner.specs.declared.entry.OwnedEntry.{OwnedEntry}
+use Rattle.gc_store.specs.Words.{HandleRoots, handle_roots, AreRising}
 use Rattle.gc_owner.specs.Owners.{OwnerView}
 use Rattle.gc_policy.specs.Accounts.{Account, HoldsAccount}
 use Rattle.gc_model.specs.Stored.{stored}
@@ -69,15 +71,21 @@ finds g c =
     (subst (λ (h : HeapView). FindsHeldSlot g.H.GcHeap.KIND c.self.inside.owner.seen.types.declarations h c.unwrap-gc_ref.result c.args.index c.slot_in-slot.result) c.heap.ensures.seen
     (subst (λ (n : TypeTable). FindsHeldSlot g.H.GcHeap.KIND n.declarations (g.H.GcHeap.seen c.heap.result.now) c.unwrap-gc_ref.result c.args.index c.slot_in-slot.result) c.types.ensures c.slot_in-slot.ensures))
 
-pub stored_value-stored-requires : goal.stored_value-stored-requires
-stored_value-stored-requires g c =
-    let slot = (goal.at.stored_value-stored-requires g c).After-slot_in-slot in
+pub stored_value-stored-requires-clause-rising : goal.stored_value-stored-requires-clause-rising
+stored_value-stored-requires-clause-rising g c = subst AreRising (sym c.owned.ensures) c.self.invariant.holds.holds.owned.rising
+
+pub stored_value-stored-requires-clause-kept : goal.stored_value-stored-requires-clause-kept
+stored_value-stored-requires-clause-kept g c =
+    let slot = (goal.at.stored_value-stored-requires-clause-kept g c).After-slot_in-slot in
     let at = (goal.at.After-slot_in-slot g slot).In-Ok in
-    subst (λ (es : List RootEntry). IsKept es c.args.value) (sym c.scoped.ensures)
+    let same : record { scoped = c.scoped.result.now; owned = c.owned.result.now } ≡ handle_roots c.self.inside.owner.seen.roots = λ i. record { scoped = c.scoped.ensures i; owned = c.owned.ensures i } in
+    subst (λ (es : HandleRoots). IsKept es c.args.value) (sym same)
     (spot_kept _ _ (view g at) c.args.handle c.args.index c.args.value (can g at) c.in-Ok.word (word_at g at) c.slot_in-slot.result (finds g slot))
 
-kept_is : (g : given.Over) (c : After-stored_value-stored g) → KeptAs c.self.inside.owner.seen.roots.scoped c.args.value c.stored_value-stored.result
-kept_is g c = subst (λ (es : List RootEntry). KeptAs es c.args.value c.stored_value-stored.result) c.scoped.ensures c.stored_value-stored.ensures.kept
+kept_is : (g : given.Over) (c : After-stored_value-stored g) → KeptAs (handle_roots c.self.inside.owner.seen.roots) c.args.value c.stored_value-stored.result
+kept_is g c =
+    let same : record { scoped = c.scoped.result.now; owned = c.owned.result.now } ≡ handle_roots c.self.inside.owner.seen.roots = λ i. record { scoped = c.scoped.ensures i; owned = c.owned.ensures i } in
+    subst (λ (es : HandleRoots). KeptAs es c.args.value c.stored_value-stored.result) same c.stored_value-stored.ensures.kept
 
 pub write_slot-requires-clause-idle : goal.write_slot-requires-clause-idle
 write_slot-requires-clause-idle g c = c.self.invariant.idle
@@ -100,7 +108,7 @@ write_slot-requires-clause-can g c =
       };
       index = c.args.index;
       slot_is = lies.slot_is ∙ ap Some (sym (spot_slot _ _ (view g at) c.args.handle c.args.index c.args.value (can g at) c.in-Ok.word (word_at g at) c.slot_in-slot.result (finds g slot)));
-      of_form = kept_of_form heap c.self.inside.owner.seen.roots.scoped c.slot_in-slot.result.storage c.args.value c.stored_value-stored.result
+      of_form = kept_of_form heap (handle_roots c.self.inside.owner.seen.roots) c.slot_in-slot.result.storage c.args.value c.stored_value-stored.result
           (are_words g.H.GcHeap.KIND c.self.inside.owner.seen c.is_ready.ensures.can)
           (spot_form _ _ (view g at) c.args.handle c.args.index c.args.value (can g at) c.in-Ok.word (word_at g at) c.slot_in-slot.result (finds g slot))
           (kept_is g stored);
