@@ -10,6 +10,9 @@ pub mod HostSteps
 pub mod Ids
 pub mod Kept
 pub mod Making
+pub mod Marks
+pub mod OwnedRoots
+pub mod OwnedWords
 pub mod Places
 pub mod Reading
 pub mod Requests

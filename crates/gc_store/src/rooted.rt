@@ -1,13 +1,14 @@
 //! Handles that say of which type what they name is.
 
-ghost use Rattle.std.specs.Prelude.{◌≡◌, ◌↔◌, ◌⊎◌, IsTrue, true, false, Ok, Err};
+ghost use Rattle.std.specs.Prelude.{◌≡◌, ◌↔◌, ◌⊎◌, IsTrue, IsOkAnd, Option, option_map, true, false, Ok, Err};
 ghost use Rattle.gc_model.specs.Values.{Reference};
 ghost use Rattle.gc_model.specs.Table.{Table};
 ghost use Rattle.gc_model.specs.Reads.{same_reference};
 ghost use Rattle.gc_model.specs.Holds.{HoldsTable};
+ghost use Rattle.gc_store.specs.Marks.{is_exception, IsOfKind, IsOfMark, FindsMarked};
 ghost use Rattle.gc_store.specs.Roots.{is_of_store, NamesReference, NamesNothing};
 
-use crate::root::{GcRootIndex, RootFault};
+use crate::root::{GcRootIndex, RootFault, RootSlot, RootedObject};
 use crate::store::Store;
 use gc_heap::GcHeap;
 use gc_owner::GcClass;
@@ -17,6 +18,13 @@ use std::marker::PhantomData;
 /// A type of references that handles are marked with: its class, and the kind of the objects that it is the
 /// widest type of.
 pub trait GcRef {
+    ghost use Rattle.gc_types.specs.declared.kind.VMGcKind.{VMGcKind};
+    ghost use Rattle.gc_owner.specs.declared.entry.GcClass.{GcClass};
+
+    ghost CLASS: { GcClass };
+
+    ghost KIND: { VMGcKind };
+
     const CLASS: GcClass;
 
     const KIND: VMGcKind;
@@ -36,7 +44,7 @@ pub trait RootedGcRef<T: GcRef> {
 }
 
 /// A handle of a scoped root. It is live as long as its scope isn't left.
-#[derive(Clone, Copy, Debug)]
+#[derive_where(Clone, Copy, Debug)]
 pub struct Rooted<T: GcRef> {
     index: GcRootIndex,
     marker: PhantomData<T>,
@@ -50,9 +58,72 @@ impl<T: GcRef> RootedGcRef<T> for Rooted<T> {
     }
 }
 
+/// Whether what a root names is an exception.
+fn is_exception(object: &RootedObject) -> bool
+    ensures { result ≡ is_exception object.now }
+{
+    match object {
+        RootedObject::I31(_) => false,
+        RootedObject::Struct(_) => false,
+        RootedObject::Array(..) => false,
+        RootedObject::Host => false,
+        RootedObject::Exn(..) => true,
+    }
+}
+
+/// Whether what a root of the class of structs and arrays names is of a kind.
+fn is_of_kind(object: &RootedObject, kind: VMGcKind) -> bool
+    ensures { IsTrue result ↔ IsOfKind kind object.now }
+{
+    match object {
+        RootedObject::I31(_) => VMGcKind::EqRef.matches(kind),
+        RootedObject::Struct(_) => VMGcKind::StructRef.matches(kind),
+        RootedObject::Array(..) => VMGcKind::ArrayRef.matches(kind),
+        RootedObject::Host => false,
+        RootedObject::Exn(..) => false,
+    }
+}
+
+/// Whether what a root names is what a marker of that class and kind takes.
+fn is_of_mark(object: &RootedObject, class: GcClass, kind: VMGcKind) -> bool
+    ensures { IsTrue result ↔ IsOfMark class kind object.now }
+{
+    match class {
+        GcClass::Any => is_of_kind(object, kind),
+        GcClass::Extern => !is_exception(object),
+        GcClass::Exn => is_exception(object),
+    }
+}
+
 impl<T: GcRef> Rooted<T> {
-    /// A handle of that root, whose reference the caller knows to be of this type.
-    pub(crate) fn from_gc_root_index(index: GcRootIndex) -> Rooted<T>
+    /// A handle of the scoped root that an index names, where its reference is of this type; None where it isn't, and
+    /// where the root is an owned one. `WrongStore` where it is another store's index, `Unrooted` where it isn't live.
+    /// No root is made.
+    pub fn from_index<H: GcHeap, D: Drop>(
+        store: &Store<H, D>,
+        index: GcRootIndex,
+    ) -> Result<Option<Rooted<T>>, RootFault>
+        ensures wrong_store { is_of_store store.now index ≡ false → result ≡ Err RootFault.WrongStore }
+        ensures live { (t : Table D) (r : Reference) → HoldsTable H.KIND store.now t → NamesReference store.now t index r
+            → IsOkAnd result (λ (found : Option (Rooted T)). FindsMarked T.CLASS T.KIND t r index (option_map (λ (h : Rooted T). h.index) found)) }
+        ensures gone { is_of_store store.now index ≡ true → (t : Table D) → HoldsTable H.KIND store.now t → NamesNothing store.now t index
+            → result ≡ Err RootFault.Unrooted }
+    {
+        let object = store.object(index)?;
+        match index.slot {
+            RootSlot::Owned(_) => Ok(None),
+            RootSlot::Scoped(_) => {
+                if is_of_mark(&object, T::CLASS, T::KIND) {
+                    return Ok(Some(Rooted::from_gc_root_index(index)));
+                }
+                Ok(None)
+            }
+        }
+    }
+
+    /// A handle of that root. That its reference is of this type is for the caller to know: the calls on
+    /// typed handles say what they need of them.
+    pub fn from_gc_root_index(index: GcRootIndex) -> Rooted<T>
         ensures { result.index ≡ index }
     {
         Rooted {
@@ -83,9 +154,12 @@ pub fn ref_eq<H: GcHeap, D: Drop, T: GcRef, R: RootedGcRef<T>, Q: RootedGcRef<T>
     a: &R,
     b: &Q,
 ) -> Result<bool, RootFault>
-    ensures wrong_store { (is_of_store store.now (R.index a.now) ≡ false) ⊎ (is_of_store store.now (Q.index b.now) ≡ false) → result ≡ Err RootFault.WrongStore }
-    ensures live { (t : Table D) (r q : Reference) → HoldsTable H.KIND store.now t → NamesReference store.now t (R.index a.now) r → NamesReference store.now t (Q.index b.now) q → result ≡ Ok (same_reference r q) }
-    ensures gone { is_of_store store.now (R.index a.now) ≡ true → is_of_store store.now (Q.index b.now) ≡ true → (t : Table D) → HoldsTable H.KIND store.now t → NamesNothing store.now t (R.index a.now) ⊎ NamesNothing store.now t (Q.index b.now) → result ≡ Err RootFault.Unrooted }
+    ensures wrong_store { (is_of_store store.now (R.index a.now) ≡ false) ⊎ (is_of_store store.now (Q.index b.now) ≡ false)
+        → result ≡ Err RootFault.WrongStore }
+    ensures live { (t : Table D) (r q : Reference) → HoldsTable H.KIND store.now t
+        → NamesReference store.now t (R.index a.now) r → NamesReference store.now t (Q.index b.now) q → result ≡ Ok (same_reference r q) }
+    ensures gone { is_of_store store.now (R.index a.now) ≡ true → is_of_store store.now (Q.index b.now) ≡ true → (t : Table D) → HoldsTable H.KIND store.now t
+        → NamesNothing store.now t (R.index a.now) ⊎ NamesNothing store.now t (Q.index b.now) → result ≡ Err RootFault.Unrooted }
 {
     store.index_eq(a.root_index(), b.root_index())
 }

@@ -1,5 +1,8 @@
 //! Handles with a marker of their own.
 
+ghost use Rattle.gc_types.specs.declared.kind.VMGcKind.TheVariants.{AnyRef};
+ghost use Rattle.gc_owner.specs.declared.entry.GcClass.TheVariants.{Any};
+
 use crate::{GcClass, GcRef, HeapConfig, RootFault, Rooted, RootedGcRef, Store, StoreId, ref_eq};
 use gc_heap::NullHeap;
 use gc_refs::I31;
@@ -12,6 +15,10 @@ use std::test::Fail;
 struct Small;
 
 impl GcRef for Small {
+    ghost CLASS = { Any };
+
+    ghost KIND = { AnyRef };
+
     const CLASS: GcClass = GcClass::Any;
 
     const KIND: VMGcKind = VMGcKind::AnyRef;
