@@ -8,7 +8,7 @@ use Rattle.gc_model.specs.Values as values
 use Rattle.gc_model.specs.Table.{Table}
 use Rattle.gc_model.specs.Stores.{StoreView}
 use Rattle.gc_model.specs.Holds.{HoldsTable}
-use Rattle.gc_model.proofs.Live.{rooted_word}
+use Rattle.gc_store.proofs.HandleWords.{named_held}
 use Rattle.gc_commands.specs.declared.reply.Refusal.{Refusal}
 use Rattle.gc_commands.specs.declared.reply.Refusal.TheVariants as refusal
 use Rattle.gc_store.specs.declared.root.GcRootIndex.{GcRootIndex}
@@ -69,7 +69,7 @@ plain_unnamed s t (raw.Ref class (Some handle)) v e stands = absurd (none-some h
 
 -- a live root is not null
 not_null : (layouts : Layouts) (store : StoreView ℕ) (t : Table ℕ) → HoldsTable layouts store t → (handle : GcRootIndex) (root : Reference) → NamesReference store t handle root → (c : GcClass) → value_named (values.reference c root) ≡ Some root
-not_null layouts store t holds handle null named c = let word = rooted_word layouts store t holds.0 holds.1 named.serial null named.live in absurd (omega (arith, word.1.0, word.1.1))
+not_null layouts store t holds handle null named c = let word = named_held layouts store t holds.0 holds.1 handle null named in absurd (omega (arith, word.1.0, word.1.1))
 not_null layouts store t holds handle (small n) named c = refl
 not_null layouts store t holds handle (at p) named c = refl
 

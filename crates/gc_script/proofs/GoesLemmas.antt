@@ -10,7 +10,7 @@ use Rattle.gc_model.specs.Stores.{StoreView}
 use Rattle.gc_policy.specs.Policy as policy
 use Rattle.gc_store.specs.Requests.{fields_of, exn_fields_of}
 use Rattle.gc_commands.specs.declared.command.Command.{Command}
-use Rattle.gc_commands.specs.declared.command.Command.TheVariants.{Bad, Struct, Array, Exn, New, NewExn, NewArr, Fixed, NewBytes, ReadBytes, Host, I31, Field, Elem, Len, HostNumber, SetField, SetElem, Eq, Enter, Leave, Push, Pop, Store, Load, SetGlobal, GetGlobal, Throw, Take, Gc, Grow, Cap}
+use Rattle.gc_commands.specs.declared.command.Command.TheVariants.{Bad, Struct, Array, Exn, New, NewExn, NewArr, Fixed, NewBytes, ReadBytes, Host, I31, Field, Elem, Len, HostNumber, SetField, SetElem, Eq, Enter, Leave, Push, Pop, Store, Load, SetGlobal, GetGlobal, Own, Root, Unroot, Throw, Take, Gc, Grow, Cap}
 use Rattle.gc_commands.specs.declared.command.Operand.{Operand}
 use Rattle.gc_commands.specs.declared.reply.Reply.{Reply}
 use Rattle.gc_commands.specs.declared.reply.Reply.TheVariants as reply
@@ -167,6 +167,9 @@ asks_none (Load k d) e = tt
 asks_none (SetGlobal g r) e = tt
 asks_none (GetGlobal g d) e = tt
 asks_none (Exn params) e = tt
+asks_none (Own o r) e = tt
+asks_none (Root d o) e = tt
+asks_none (Unroot o) e = tt
 asks_none (Throw r) e = tt
 asks_none (Take d) e = tt
 asks_none Cap e = tt
@@ -205,6 +208,9 @@ others_ask (Store k r) built s e a f b h g p = refl
 others_ask (Load k d) built s e a f b h g p = refl
 others_ask (SetGlobal k r) built s e a f b h g p = refl
 others_ask (GetGlobal k d) built s e a f b h g p = refl
+others_ask (Own o r) built s e a f b h g p = refl
+others_ask (Root d o) built s e a f b h g p = refl
+others_ask (Unroot o) built s e a f b h g p = refl
 others_ask (Throw r) built s e a f b h g p = refl
 others_ask (Take d) built s e a f b h g p = refl
 others_ask Gc built s e a f b h g p = absurd (g refl)

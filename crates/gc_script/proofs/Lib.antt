@@ -28,6 +28,7 @@ pub mod ScriptLemmas
 pub mod SetLemmas
 pub mod ShownLemmas
 pub mod SlotGoes
+pub mod OwnGoes
 pub mod SlotLemmas
 pub mod StandLemmas
 pub mod TestLemmas

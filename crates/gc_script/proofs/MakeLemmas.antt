@@ -26,7 +26,7 @@ use Rattle.gc_script.proofs.TestLemmas.{passes, stops, answers_by}
 use Rattle.gc_script.proofs.SetLemmas.{holds_pushed}
 
 -- a 31-bit number was pushed and put into a register
-pub small_made : (layouts : Layouts) (old new : StoreView ℕ) (runner runner' : RunnerView) (s : State) (d n value : ℕ) (handle : GcRootIndex) → IsSameStore old new → HoldsState layouts old runner s → value ≡ n % 2 ^ 31 → PushesRoot layouts s.table s.account (small value) (Ok handle) new → register_at runner'.registers d ≡ Some (raw.Ref class.Any (Some handle)) → ((k : ℕ) → k ≢ d → register_at runner'.registers k ≡ register_at runner.registers k) → runner'.marks ≡ runner.marks → GoesOn layouts s (I31 d n) (Ok reply.Done) new runner'
+pub small_made : (layouts : Layouts) (old new : StoreView ℕ) (runner runner' : RunnerView) (s : State) (d n value : ℕ) (handle : GcRootIndex) → IsSameStore old new → HoldsState layouts old runner s → value ≡ n % 2 ^ 31 → PushesRoot layouts s.table s.account (small value) (Ok handle) new → register_at runner'.registers d ≡ Some (raw.Ref class.Any (Some handle)) → ((k : ℕ) → k ≢ d → register_at runner'.registers k ≡ register_at runner.registers k) → runner'.rest ≡ runner.rest → GoesOn layouts s (I31 d n) (Ok reply.Done) new runner'
 small_made layouts old new runner runner' s d n value handle same holds is pushes set others marks =
     let after : State = set_register d (reference class.Any (Some (length s.table.pushes))) (with_table (push (small (n % 2 ^ 31)) s.table) s) in
     let table : HoldsAccount layouts new (push (small (n % 2 ^ 31)) s.table) s.account = subst (λ (v : ℕ). HoldsAccount layouts new (push (small v) s.table) s.account) is pushes.1.1 in
@@ -39,7 +39,7 @@ small_made layouts old new runner runner' s d n value handle same holds is pushe
     }
 
 -- no further root may be made for it
-pub small_refused : (layouts : Layouts) (old new : StoreView ℕ) (runner runner' : RunnerView) (s : State) (d n value : ℕ) → IsSameStore old new → HoldsState layouts old runner s → PushesRoot layouts s.table s.account (small value) (Err fault.RootsFull) new → ((k : ℕ) → register_at runner'.registers k ≡ register_at runner.registers k) → runner'.marks ≡ runner.marks → GoesOn layouts s (I31 d n) (Ok (reply.Refused refusal.RootsFull)) new runner'
+pub small_refused : (layouts : Layouts) (old new : StoreView ℕ) (runner runner' : RunnerView) (s : State) (d n value : ℕ) → IsSameStore old new → HoldsState layouts old runner s → PushesRoot layouts s.table s.account (small value) (Err fault.RootsFull) new → ((k : ℕ) → register_at runner'.registers k ≡ register_at runner.registers k) → runner'.rest ≡ runner.rest → GoesOn layouts s (I31 d n) (Ok (reply.Refused refusal.RootsFull)) new runner'
 small_refused layouts old new runner runner' s d n value same holds pushes slots_are marks = record {
   after = s;
   answers = answers_by layouts None s (shape (I31 d n)) (first_failing (tests layouts s (I31 d n))) (Some refusal.RootsFull) (reply.Refused refusal.RootsFull) s

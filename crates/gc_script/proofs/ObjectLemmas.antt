@@ -17,7 +17,8 @@ use Rattle.gc_model.specs.Reach.{IsHost}
 use Rattle.gc_model.specs.Table.{Table}
 use Rattle.gc_model.specs.Stores.{StoreView}
 use Rattle.gc_model.specs.Holds.{HoldsTable, naming, Stands}
-use Rattle.gc_model.proofs.HeldObjects.{live_object, object_held}
+use Rattle.gc_model.proofs.HeldObjects.{object_held}
+use Rattle.gc_store.proofs.HandleWords.{named_held}
 use Rattle.gc_model.proofs.ObjectShapes.{shape_at, shape_value_type, value_type_is}
 use Rattle.gc_model.proofs.ObjectStands.{StandsByShape, stands_by_shape}
 use Rattle.gc_store.specs.declared.root.GcRootIndex.{GcRootIndex}
@@ -93,8 +94,9 @@ module _ (layouts : Layouts) (store : StoreView ℕ) (t : Table ℕ) (holds : Ho
   -- what stands in the heap for an object that a root names
   pub held_object : (p : ℕ) (o : Object ℕ) → NamesReference store t root (at p) → slice_get t.objects p ≡ Some o → (h : HeapObject) × Stands layouts t.types (naming holds.0 t.funcs) o h
   held_object p o named object_is =
-      let it = live_object layouts store t holds.0 holds.1 named.serial p named.live in
-      (it.held.object, object_held layouts store t holds.0 holds.1 p it.word o it.held.object it.placed it.held.in_heap object_is)
+      let word = named_held layouts store t holds.0 holds.1 root (at p) named in
+      let held = holds.1.objects.placed p word.0 word.1.0 in
+      (held.object, object_held layouts store t holds.0 holds.1 p word.0 o held.object word.1.0 held.in_heap object_is)
 
   -- the shape of its type
   by_shape : (p : ℕ) (o : Object ℕ) → ¬ IsHost (Some o) → NamesReference store t root (at p) → slice_get t.objects p ≡ Some o → (h : HeapObject) × StandsByShape layouts t.types (naming holds.0 t.funcs) o h

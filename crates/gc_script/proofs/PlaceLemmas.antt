@@ -56,7 +56,7 @@ came_there layouts counter s limits sh None q came begun pass = came
 came_there layouts counter s limits sh (Some why) q came (inl same) pass = same
 came_there layouts counter s limits sh (Some why) q came (inr both) pass = absurd (cc (pass both.0 both.1))
 
-module _ (layouts : Layouts) (counter : Option ℕ) (limits limits' : Limits) (old new : StoreView ℕ) (runner runner' : RunnerView) (s : State) (d : ℕ) (class : GcClass) (object : State → Object ℕ) (same : IsSameStore old new) (holds : HoldsState layouts old runner s) (marks : runner'.marks ≡ runner.marks) where
+module _ (layouts : Layouts) (counter : Option ℕ) (limits limits' : Limits) (old new : StoreView ℕ) (runner runner' : RunnerView) (s : State) (d : ℕ) (class : GcClass) (object : State → Object ℕ) (same : IsSameStore old new) (holds : HoldsState layouts old runner s) (marks : runner'.rest ≡ runner.rest) where
   -- no test on the heap refuses
   heap_tests_pass : too_large layouts (object_size layouts s.table.types (object (visible s))) ≡ false → roots_full s.table ≡ false → first_failing (heap_tests layouts s (object (visible s))) ≡ None
   heap_tests_pass small not_full =

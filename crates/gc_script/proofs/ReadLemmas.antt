@@ -28,14 +28,14 @@ use Rattle.gc_policy.specs.Accounts.{HoldsAccount}
 use Rattle.gc_store.specs.Stores.{IsSameStore}
 use Rattle.gc_store.specs.Roots.{Names, HasValue, handle_of}
 use Rattle.gc_store.specs.Values.{RawStands, RootStands, IsReadAs}
-use Rattle.gc_script.specs.Slots.{RunnerView, register_at}
+use Rattle.gc_script.specs.Slots.{RunnerRest, RunnerView, register_at}
 use Rattle.gc_script.specs.State.{State, Held, number, reference, Stands, HoldsState, with_table, put_into, visible, over}
 use Rattle.gc_script.specs.Shapes.{Shape, shown, held_value, reads, plain}
 use Rattle.gc_script.specs.Steps.{first_failing}
 use Rattle.gc_script.specs.Run.{Goes}
 use Rattle.gc_script.specs.Named.{register_with}
 use Rattle.gc_script.specs.Values.{ShowsRead}
-use Rattle.gc_script.proofs.StandLemmas.{Keeps, holds_table, stands_kept, keeps_pushed, keeps_same}
+use Rattle.gc_script.proofs.StandLemmas.{Keeps, holds_table, stands_kept, owned_kept, keeps_pushed, keeps_same}
 use Rattle.gc_script.proofs.TestLemmas.{answers_by}
 use Rattle.gc_script.proofs.ObjectLemmas.{held_object}
 
@@ -77,7 +77,7 @@ module _ (layouts : Layouts) (s : StoreView ℕ) (t : Table ℕ) (holds : HoldsT
   root_pushed : (new : StoreView ℕ) (class : GcClass) (r : Reference) → RootStands new (push r t) class (handle_of new (length t.scoped) t.drops) (values.reference class r)
   root_pushed new class r = record {
     root = r;
-    named = record { serial = length t.pushes; names = names_pushed new r; live = rooted_push r };
+    named = inl (record { serial = length t.pushes; names = names_pushed new r; live = rooted_push r });
     is = refl;
   }
 
@@ -161,7 +161,7 @@ read_over (values.reference c (at p)) into s = refl
 read_over v into s = refl
 
 -- A value was read by a command whose tests pass.
-module _ (layouts : Layouts) (store new : StoreView ℕ) (runner runner' : RunnerView) (s : State) (same : IsSameStore store new) (holds : HoldsState layouts store runner s) (marks_are : runner'.marks ≡ runner.marks)
+module _ (layouts : Layouts) (store new : StoreView ℕ) (runner runner' : RunnerView) (s : State) (same : IsSameStore store new) (holds : HoldsState layouts store runner s) (rest_is : runner'.rest ≡ runner.rest)
     (value_of : State → Value) (into : Option ℕ) (v : Value) (value_is : value_of (visible s) ≡ v) (left : List (Bool × Refusal)) where
   abbrev pub reading : Shape
   reading = plain (λ (x : State). reads (value_of x) into x)
@@ -186,7 +186,7 @@ module _ (layouts : Layouts) (store new : StoreView ℕ) (runner runner' : Runne
           holds = record {
             table = table;
             registers = λ d. subst (λ (o : Option RawValue). Stands new t o ((put_into into held (with_table t s)).registers d)) (sym (slots_are d)) (put d);
-            no_owned = holds.no_owned;
-            marks = marks_are ∙ holds.marks;
+            owned = λ o. owned_kept store new runner runner' o (s.owned_registers o) same rest_is (holds.owned o);
+            marks = ap (λ (x : RunnerRest). x.marks) rest_is ∙ holds.marks;
           };
         }

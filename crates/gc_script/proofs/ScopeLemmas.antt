@@ -12,7 +12,7 @@ use Rattle.gc_commands.specs.declared.command.Command.TheVariants as command
 use Rattle.gc_commands.specs.declared.reply.Reply.TheVariants as reply
 use Rattle.gc_commands.specs.declared.reply.Refusal.TheVariants as refusal
 use Rattle.gc_script.specs.Slots.{RunnerView, register_at}
-use Rattle.gc_script.specs.State.{State, HoldsState, with_marks, with_table}
+use Rattle.gc_script.specs.State.{State, StandsOwned, HoldsState, with_marks, with_table}
 use Rattle.gc_script.specs.Shapes.{shape, newest, older}
 use Rattle.gc_script.specs.Steps.{tests, first_failing, is_empty_list}
 use Rattle.gc_script.specs.Run.{GoesOn}
@@ -47,17 +47,17 @@ older-push olds mark =
     ap (λ (n : ℕ). take n (olds ++ mark ∷ [])) last ∙ take-append-le (length olds) olds (mark ∷ []) (omega arith) ∙ take_all (length olds) olds (omega arith)
 
 -- the newest scope was left
-pub left : (layouts : Layouts) (old new : StoreView ℕ) (runner runner' : RunnerView) (s : State) (olds : List ℕ) (mark scope : ℕ) → IsSameStore old new → HoldsState layouts old runner s → runner.marks ≡ olds ++ mark ∷ [] → runner'.registers ≡ runner.registers → runner'.marks ≡ olds → scope ≡ min mark (length s.table.scoped) → HoldsAccount layouts new (leave scope s.table) s.account → GoesOn layouts s command.Leave (Ok reply.Done) new runner'
-left layouts old new runner runner' s olds mark scope same holds marks registers_are marks_are scope_is table =
+pub left : (layouts : Layouts) (old new : StoreView ℕ) (runner runner' : RunnerView) (s : State) (olds : List ℕ) (mark scope : ℕ) → IsSameStore old new → HoldsState layouts old runner s → runner.rest.marks ≡ olds ++ mark ∷ [] → runner'.registers ≡ runner.registers → runner'.rest.owned ≡ runner.rest.owned → runner'.rest.marks ≡ olds → scope ≡ min mark (length s.table.scoped) → HoldsAccount layouts new (leave scope s.table) s.account → GoesOn layouts s command.Leave (Ok reply.Done) new runner'
+left layouts old new runner runner' s olds mark scope same holds marks registers_are owned_are marks_are scope_is table =
     let before : s.marks ≡ olds ++ mark ∷ [] = sym holds.marks ∙ marks in
     let is_left : leave scope s.table ≡ leave mark s.table = ap (λ n. leave n s.table) scope_is ∙ leave-min mark s.table in
     let table_after : HoldsAccount layouts new (leave mark s.table) s.account = subst (λ (t : Table ℕ). HoldsAccount layouts new t s.account) is_left table in
-    let kept = holds_kept layouts old new runner (record { registers = runner'.registers; marks = runner.marks }) s (leave mark s.table) s.account same (λ i p e. e) (λ d. ap (λ slots. register_at slots d) registers_are) refl holds table_after in
+    let kept = holds_kept layouts old new runner (record { registers = runner'.registers; rest = runner.rest }) s (leave mark s.table) s.account same (λ i p e. e) (λ d. ap (λ slots. register_at slots d) registers_are) refl holds table_after in
     record {
       after = record s { table = leave mark s.table; marks = olds };
       answers = answers_by layouts None s (shape command.Leave) (first_failing (tests layouts s command.Leave)) None reply.Done _
           (passes (is_empty_list s.marks) refusal.NoSuchName [] (ap is_empty_list before ∙ not_empty olds mark))
           (refl, ap₂ (λ (m : ℕ) (ms : List ℕ). with_marks ms (with_table (leave m s.table) s)) (sym (ap newest before ∙ newest-push olds mark)) (sym (ap older before ∙ older-push olds mark)));
       account = refl;
-      holds = record { table = table_after; registers = kept.registers; no_owned = holds.no_owned; marks = marks_are };
+      holds = record { table = table_after; registers = kept.registers; owned = λ o. subst (λ slots. StandsOwned new (register_at slots o) (s.owned_registers o)) (sym owned_are) (kept.owned o); marks = marks_are };
     }

@@ -13,9 +13,9 @@ use Rattle.gc_store.specs.declared.root.RawValue.TheVariants as raw
 use Rattle.gc_store.specs.Roots.{Names, handle_of}
 use Rattle.gc_store.specs.Stores.{IsSameStore}
 use Rattle.gc_policy.specs.Accounts.{Account, HoldsAccount}
-use Rattle.gc_script.specs.Slots.{register_at, RunnerView}
+use Rattle.gc_script.specs.Slots.{register_at, RunnerRest, RunnerView}
 use Rattle.gc_script.specs.State.{State, Held, reference, Stands, HoldsState, with_heap, set_register}
-use Rattle.gc_script.proofs.StandLemmas.{Keeps, keeps_pushed, holds_kept}
+use Rattle.gc_script.proofs.StandLemmas.{Keeps, keeps_pushed, owned_kept, holds_kept}
 
 -- the push that a new scoped root is
 abbrev pub next_push : Table ℕ → Push
@@ -41,19 +41,19 @@ set_stands new t' slots slots' registers d value held stands set others stand k 
     ] refl
 
 -- a register was set to what stands in the store after
-pub holds_set : (layouts : Layouts) (old new : StoreView ℕ) (runner runner' : RunnerView) (s : State) (t' : Table ℕ) (a : Account) (d : ℕ) (value : RawValue) (held : Held) → IsSameStore old new → Keeps s.table.pushes t'.pushes → HoldsState layouts old runner s → HoldsAccount layouts new t' a → Stands new t' (Some value) (Some held) → register_at runner'.registers d ≡ Some value → ((k : ℕ) → k ≢ d → register_at runner'.registers k ≡ register_at runner.registers k) → runner'.marks ≡ runner.marks → HoldsState layouts new runner' (set_register d held (with_heap t' a s))
-holds_set layouts old new runner runner' s t' a d value held same keeps holds table stands set others marks =
+pub holds_set : (layouts : Layouts) (old new : StoreView ℕ) (runner runner' : RunnerView) (s : State) (t' : Table ℕ) (a : Account) (d : ℕ) (value : RawValue) (held : Held) → IsSameStore old new → Keeps s.table.pushes t'.pushes → HoldsState layouts old runner s → HoldsAccount layouts new t' a → Stands new t' (Some value) (Some held) → register_at runner'.registers d ≡ Some value → ((k : ℕ) → k ≢ d → register_at runner'.registers k ≡ register_at runner.registers k) → runner'.rest ≡ runner.rest → HoldsState layouts new runner' (set_register d held (with_heap t' a s))
+holds_set layouts old new runner runner' s t' a d value held same keeps holds table stands set others rest_is =
     let mid = holds_kept layouts old new runner runner s t' a same keeps (λ k. refl) refl holds table in
     record {
       table = table;
       registers = set_stands new t' runner.registers runner'.registers s.registers d value held stands set others mid.registers;
-      no_owned = holds.no_owned;
-      marks = marks ∙ holds.marks;
+      owned = λ o. owned_kept old new runner runner' o (s.owned_registers o) same rest_is (holds.owned o);
+      marks = ap (λ (r : RunnerRest). r.marks) rest_is ∙ holds.marks;
     }
 
 -- so of the handle of a root that was just pushed
-pub holds_pushed : (layouts : Layouts) (old new : StoreView ℕ) (runner runner' : RunnerView) (s : State) (t' : Table ℕ) (a : Account) (d : ℕ) (class : GcClass) (handle : GcRootIndex) → IsSameStore old new → t'.pushes ≡ s.table.pushes ++ next_push s.table ∷ [] → HoldsState layouts old runner s → HoldsAccount layouts new t' a → handle ≡ handle_of new (length s.table.scoped) s.table.drops → register_at runner'.registers d ≡ Some (raw.Ref class (Some handle)) → ((k : ℕ) → k ≢ d → register_at runner'.registers k ≡ register_at runner.registers k) → runner'.marks ≡ runner.marks → HoldsState layouts new runner' (set_register d (reference class (Some (length s.table.pushes))) (with_heap t' a s))
-holds_pushed layouts old new runner runner' s t' a d class handle same pushes holds table is set others marks =
+pub holds_pushed : (layouts : Layouts) (old new : StoreView ℕ) (runner runner' : RunnerView) (s : State) (t' : Table ℕ) (a : Account) (d : ℕ) (class : GcClass) (handle : GcRootIndex) → IsSameStore old new → t'.pushes ≡ s.table.pushes ++ next_push s.table ∷ [] → HoldsState layouts old runner s → HoldsAccount layouts new t' a → handle ≡ handle_of new (length s.table.scoped) s.table.drops → register_at runner'.registers d ≡ Some (raw.Ref class (Some handle)) → ((k : ℕ) → k ≢ d → register_at runner'.registers k ≡ register_at runner.registers k) → runner'.rest ≡ runner.rest → HoldsState layouts new runner' (set_register d (reference class (Some (length s.table.pushes))) (with_heap t' a s))
+holds_pushed layouts old new runner runner' s t' a d class handle same pushes holds table is set others rest_is =
     holds_set layouts old new runner runner' s t' a d (raw.Ref class (Some handle)) (reference class (Some (length s.table.pushes))) same
     (keeps_pushed s.table.pushes t'.pushes (next_push s.table) pushes) holds table
-    (refl, pushed_names new s.table t' handle pushes is) set others marks
+    (refl, pushed_names new s.table t' handle pushes is) set others rest_is

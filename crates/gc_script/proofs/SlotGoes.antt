@@ -25,7 +25,7 @@ use Rattle.gc_policy.specs.Accounts.{Account, HoldsAccount}
 use Rattle.gc_store.specs.Slots.{HandleStands, SetsSlot, slot_value}
 use Rattle.gc_store.specs.Stores.{IsSameStore}
 use Rattle.gc_store.specs.Values.{RawStands, IsReadAs}
-use Rattle.gc_store.proofs.Roots.{names-store}
+use Rattle.gc_store.proofs.HandleWords.{named_of_store}
 use Rattle.gc_script.specs.Slots.{RunnerView, register_at}
 use Rattle.gc_script.specs.State.{State, HoldsState, with_table, visible, over}
 use Rattle.gc_script.specs.Given.{Given, is, given_register, given_value, is_reference}
@@ -77,7 +77,7 @@ handle_one layouts s t holds (Some h) r q a b = same_root layouts s t holds h r 
 pub never_refused : (layouts : Layouts) (s new : StoreView ℕ) (t : Table ℕ) (a : Account) (handle : Option GcRootIndex) (set : Reference → Table ℕ) (r : Reference) (f : SlotFault) → HandleStands s t handle r → SetsSlot layouts s t a handle set (Err f) new → ⊥
 never_refused layouts s new t a handle set r fault.NoSlot stands told = told
 never_refused layouts s new t a None set r fault.WrongStore stands told = told
-never_refused layouts s new t a (Some h) set r fault.WrongStore stands told = cc (sym told ∙ names-store s t h stands.serial stands.names)
+never_refused layouts s new t a (Some h) set r fault.WrongStore stands told = cc (sym told ∙ named_of_store s t h r stands)
 never_refused layouts s new t a None set r fault.Unrooted stands told = told
 never_refused layouts s new t a (Some h) set r fault.Unrooted stands told = told.1 r stands
 never_refused layouts s new t a handle set r fault.RootsFull stands told = told
@@ -116,7 +116,7 @@ module _ (layouts : Layouts) (store : StoreView ℕ) (runner : RunnerView) (s : 
           holds = holds_kept layouts store new runner runner s (set slot s.table) s.account same (λ i p e. ap (λ (ps : List Push). slice_get ps i) (only.pushes slot s.table) ∙ e) (λ d. refl) refl holds told.1.1;
         }
 
-  module _ (d : ℕ) (slot_in : State → Option Slot) (slot_is : slot_in (visible s) ≡ Some there) (new : StoreView ℕ) (runner' : RunnerView) (same : IsSameStore store new) (marks_are : runner'.marks ≡ runner.marks) where
+  module _ (d : ℕ) (slot_in : State → Option Slot) (slot_is : slot_in (visible s) ≡ Some there) (new : StoreView ℕ) (runner' : RunnerView) (same : IsSameStore store new) (rest_is : runner'.rest ≡ runner.rest) where
     abbrev pub getting : Shape
     getting = plain (λ (x : State). reads (slot_value (unwrap_or (slot_in x) empty_slot)) (Some d) x)
 
@@ -126,13 +126,13 @@ module _ (layouts : Layouts) (store : StoreView ℕ) (runner : RunnerView) (s : 
     -- no further root may be made
     pub full_refused : ((k : ℕ) → register_at runner'.registers k ≡ register_at runner.registers k) → makes_root (slot_value there) ≡ true → roots_full s.table ≡ true → HoldsAccount layouts new s.table s.account → GoesBy layouts s getting get_tests (Ok (reply.Refused refusal.RootsFull)) new runner'
     full_refused slots_are makes is_full table = refuses_by layouts new runner' s getting get_tests refusal.RootsFull
-        (holds_same layouts store new runner runner' s same slots_are marks_are holds table)
+        (holds_same layouts store new runner runner' s same slots_are rest_is holds table)
         (stops (makes_root (slot_value there) && roots_full s.table) refusal.RootsFull [] (both_true (makes_root (slot_value there)) (roots_full s.table) makes is_full))
 
     -- the slot was read
     pub slot_read : (value : RawValue) (answer : Reply) → ((k : ℕ) → register_at runner'.registers k ≡ register_with (Some d) value runner.registers k) → (makes_root (slot_value there) ≡ true → roots_full s.table ≡ false) → IsReadAs new s.table (slot_value there) value → HoldsAccount layouts new (after_read (slot_value there) s.table) s.account → ShowsRead layouts new value answer → GoesBy layouts s getting get_tests (Ok answer) new runner'
     slot_read value answer slots_are may is_read table shows =
-        read_goes layouts store new runner runner' s same holds marks_are (λ (x : State). slot_value (unwrap_or (slot_in x) empty_slot)) (Some d) (slot_value there)
+        read_goes layouts store new runner runner' s same holds rest_is (λ (x : State). slot_value (unwrap_or (slot_in x) empty_slot)) (Some d) (slot_value there)
         (ap (λ (o : Option Slot). slot_value (unwrap_or o empty_slot)) slot_is) get_tests value answer
         (passes (makes_root (slot_value there) && roots_full s.table) refusal.RootsFull [] (not_both (makes_root (slot_value there)) (roots_full s.table) may))
         (λ f e. cc e) slots_are is_read table shows

@@ -12,9 +12,10 @@ use Rattle.gc_store.specs.declared.root.RawValue.{RawValue}
 use Rattle.gc_store.specs.declared.root.RawValue.TheVariants as raw
 use Rattle.gc_store.specs.Roots.{Names}
 use Rattle.gc_store.specs.Stores.{IsSameStore}
+use Rattle.gc_store.specs.Words.{owned_id}
 use Rattle.gc_policy.specs.Accounts.{Account, HoldsAccount}
-use Rattle.gc_script.specs.Slots.{register_at, RunnerView}
-use Rattle.gc_script.specs.State.{State, Held, number, reference, Stands, HoldsState, begin, with_heap}
+use Rattle.gc_script.specs.Slots.{register_at, RunnerRest, RunnerView, new_runner}
+use Rattle.gc_script.specs.State.{State, Held, number, reference, HeldOwned, owned, unrooted, Stands, StandsOwned, HoldsState, begin, with_heap}
 
 -- a store holds the table, whatever its account is
 pub holds_table : {D : Type 0} {layouts : Layouts} {s : StoreView D} {t : Table D} {a : Account} → HoldsAccount layouts s t a → HoldsTable layouts s t
@@ -37,6 +38,13 @@ handle_in engine store_number index generation = record {
   store_id = record { engine = engine; number = store_number };
   generation = generation;
   slot = slot.Scoped index;
+}
+
+abbrev owned_in : ℕ → ℕ → ℕ → GcRootIndex
+owned_in engine store_number n = record {
+  store_id = record { engine = engine; number = store_number };
+  generation = n;
+  slot = slot.Owned (owned_id n);
 }
 
 -- a handle names the same root in the store after
@@ -96,26 +104,38 @@ stands_kept s new t t' (Some (raw.Ref c' (Some handle))) (Some (number v)) same 
 stands_kept s new t t' (Some (raw.Ref c' (Some handle))) (Some (reference c None)) same keeps stands = absurd stands
 stands_kept s new t t' (Some (raw.Ref c' (Some handle))) (Some (reference c (Some serial))) same keeps stands = (stands.0, names_kept s new t t' handle serial same keeps stands.1)
 
+-- what an owned register holds stands in the store after
+pub owned_stands : (s new : StoreView ℕ) (found : Option RawValue) (held : Option HeldOwned) → IsSameStore s new → StandsOwned s found held → StandsOwned new found held
+owned_stands s new None None same stands = tt
+owned_stands s new (Some (raw.Ref c (Some handle))) (Some (owned c' n)) same stands =
+    (stands.0, stands.1 ∙ ap (λ e. owned_in e s.number n) (sym same.engine) ∙ ap (λ m. owned_in new.engine m n) (sym same.number))
+owned_stands s new (Some (raw.Ref c None)) (Some unrooted) same stands = tt
+owned_stands s new found held same stands = absurd stands
+
+pub owned_kept : (s new : StoreView ℕ) (runner runner' : RunnerView) (o : ℕ) (held : Option HeldOwned) → IsSameStore s new → runner'.rest ≡ runner.rest → StandsOwned s (register_at runner.rest.owned o) held → StandsOwned new (register_at runner'.rest.owned o) held
+owned_kept s new runner runner' o held same rest_is stands =
+    subst (λ (r : RunnerRest). StandsOwned new (register_at r.owned o) held) (sym rest_is) (owned_stands s new (register_at runner.rest.owned o) held same stands)
+
 -- the registers stand for the same ones in the store after
-pub holds_kept : (layouts : Layouts) (s new : StoreView ℕ) (runner runner' : RunnerView) (state : State) (t' : Table ℕ) (a : Account) → IsSameStore s new → Keeps state.table.pushes t'.pushes → ((d : ℕ) → register_at runner'.registers d ≡ register_at runner.registers d) → runner'.marks ≡ runner.marks → HoldsState layouts s runner state → HoldsAccount layouts new t' a → HoldsState layouts new runner' (with_heap t' a state)
-holds_kept layouts s new runner runner' state t' a same keeps slots_are marks_are holds table = record {
+pub holds_kept : (layouts : Layouts) (s new : StoreView ℕ) (runner runner' : RunnerView) (state : State) (t' : Table ℕ) (a : Account) → IsSameStore s new → Keeps state.table.pushes t'.pushes → ((d : ℕ) → register_at runner'.registers d ≡ register_at runner.registers d) → runner'.rest ≡ runner.rest → HoldsState layouts s runner state → HoldsAccount layouts new t' a → HoldsState layouts new runner' (with_heap t' a state)
+holds_kept layouts s new runner runner' state t' a same keeps slots_are rest_is holds table = record {
   table = table;
   registers = λ d. subst (λ (o : Option RawValue). Stands new t' o (state.registers d)) (sym (slots_are d)) (stands_kept s new state.table t' (register_at runner.registers d) (state.registers d) same keeps (holds.registers d));
-  no_owned = holds.no_owned;
-  marks = marks_are ∙ holds.marks;
+  owned = λ o. owned_kept s new runner runner' o (state.owned_registers o) same rest_is (holds.owned o);
+  marks = ap (λ (r : RunnerRest). r.marks) rest_is ∙ holds.marks;
 }
 
 -- so where the table and the account are the same
-pub holds_same : (layouts : Layouts) (s new : StoreView ℕ) (runner runner' : RunnerView) (state : State) → IsSameStore s new → ((d : ℕ) → register_at runner'.registers d ≡ register_at runner.registers d) → runner'.marks ≡ runner.marks → HoldsState layouts s runner state → HoldsAccount layouts new state.table state.account → HoldsState layouts new runner' state
-holds_same layouts s new runner runner' state same slots_are marks_are holds table = holds_kept layouts s new runner runner' state state.table state.account same (λ i p e. e) slots_are marks_are holds table
+pub holds_same : (layouts : Layouts) (s new : StoreView ℕ) (runner runner' : RunnerView) (state : State) → IsSameStore s new → ((d : ℕ) → register_at runner'.registers d ≡ register_at runner.registers d) → runner'.rest ≡ runner.rest → HoldsState layouts s runner state → HoldsAccount layouts new state.table state.account → HoldsState layouts new runner' state
+holds_same layouts s new runner runner' state same slots_are rest_is holds table = holds_kept layouts s new runner runner' state state.table state.account same (λ i p e. e) slots_are rest_is holds table
 
 -- a store with a new runner is in the state at the beginning
-pub begins : (layouts : Layouts) (store : StoreView ℕ) (runner : RunnerView) (t : Table ℕ) (a : Account) → HoldsAccount layouts store t a → runner ≡ record { registers = []; marks = [] } → HoldsState layouts store runner (begin t a)
+pub begins : (layouts : Layouts) (store : StoreView ℕ) (runner : RunnerView) (t : Table ℕ) (a : Account) → HoldsAccount layouts store t a → runner ≡ new_runner → HoldsState layouts store runner (begin t a)
 begins layouts store runner t a holds none = record {
   table = holds;
   registers = λ d. subst (λ (r : RunnerView). Stands store t (register_at r.registers d) None) (sym none) tt;
-  no_owned = λ o. refl;
-  marks = ap (λ (r : RunnerView). r.marks) none;
+  owned = λ o. subst (λ (r : RunnerView). StandsOwned store (register_at r.rest.owned o) None) (sym none) tt;
+  marks = ap (λ (r : RunnerView). r.rest.marks) none;
 }
 
 -- what a register of the runner holds stands for that of the state

@@ -25,7 +25,7 @@ use Rattle.gc_store.specs.Roots.{NamesReference, handle_of}
 use Rattle.gc_store.specs.Stores.{IsSameStore}
 use Rattle.gc_store.specs.Thrown.{NamesException, SetsPending, AnswersPending}
 use Rattle.gc_store.specs.Values.{RawStands, IsReadAs}
-use Rattle.gc_store.proofs.Roots.{names-store}
+use Rattle.gc_store.proofs.HandleWords.{named_of_store}
 use Rattle.gc_commands.specs.declared.command.Command.TheVariants as command
 use Rattle.gc_commands.specs.declared.reply.Reply.{Reply}
 use Rattle.gc_commands.specs.declared.reply.Reply.TheVariants as reply
@@ -83,7 +83,7 @@ module _ (layouts : Layouts) (store new : StoreView ℕ) (runner : RunnerView) (
 
     -- the store refuses no root that is live
     pub never_unthrown : (f : RootFault) → SetsPending layouts store s.table s.account found.root (Err f) new → ⊥
-    never_unthrown fault.WrongStore told = cc (sym told ∙ names-store store s.table found.root is.names.named.serial is.names.named.names)
+    never_unthrown fault.WrongStore told = cc (sym told ∙ named_of_store store s.table found.root (at is.names.position) is.names.named)
     never_unthrown fault.Unrooted told = told.1 (at is.names.position) is.names.named
     never_unthrown fault.RootsFull told = told
     never_unthrown fault.Memory told = told
@@ -111,12 +111,12 @@ module _ (layouts : Layouts) (store : StoreView ℕ) (runner : RunnerView) (s : 
   untaken_holds : HoldsState layouts cleared runner untaken
   untaken_holds = holds_kept layouts store cleared runner runner s (take_pending s.table) s.account (record { engine = refl; number = refl; counter = refl }) (λ i p e. e) (λ k. refl) refl holds cleared_holds
 
-  module _ (new : StoreView ℕ) (runner' : RunnerView) (same : IsSameStore store new) (marks_are : runner'.marks ≡ runner.marks) where
+  module _ (new : StoreView ℕ) (runner' : RunnerView) (same : IsSameStore store new) (rest_is : runner'.rest ≡ runner.rest) where
     -- no further root may be made for it
     pub take_refused : ((k : ℕ) → register_at runner'.registers k ≡ register_at runner.registers k) → AnswersPending layouts s.table s.account (Err fault.RootsFull) new → GoesOn layouts s (command.Take d) (Ok (reply.Refused refusal.RootsFull)) new runner'
     take_refused slots_are told =
         refuses layouts new runner' s (command.Take d) refusal.RootsFull
-        (holds_same layouts store new runner runner' s same slots_are marks_are holds told.holds)
+        (holds_same layouts store new runner runner' s same slots_are rest_is holds told.holds)
         (stops (is_some s.table.pending && roots_full s.table) refusal.RootsFull []
         (ap (λ (o : Option Reference). is_some o && roots_full s.table) told.is_pending ∙ told.full))
 
@@ -127,7 +127,7 @@ module _ (layouts : Layouts) (store : StoreView ℕ) (runner : RunnerView) (s : 
         → ShowsRead layouts new (raw.Ref class.Exn handle) answer
         → GoesOn layouts s (command.Take d) (Ok answer) new runner'
     taken_goes pending is room handle answer is_read table slots_are shows_it =
-        let goes = read_goes layouts cleared new runner runner' untaken (record { engine = same.engine; number = same.number; counter = same.counter }) untaken_holds marks_are
+        let goes = read_goes layouts cleared new runner runner' untaken (record { engine = same.engine; number = same.number; counter = same.counter }) untaken_holds rest_is
         (λ (x : State). pending_value pending) (Some d) (pending_value pending) refl [] (raw.Ref class.Exn handle) answer refl (no_function pending) slots_are is_read table shows_it in
         record {
           after = goes.after;

@@ -1,5 +1,5 @@
 -- What a value that a register or an operand holds is found to be.
-use Rattle.std.proofs.Common.{◌≡◌, ℕ, Option, Some, None, true, false, sym, ap, ◌∙◌, refl, subst, arith}
+use Rattle.std.proofs.Common.{◌≡◌, inl, inr, ℕ, Option, Some, None, true, false, sym, ap, ◌∙◌, refl, subst, arith}
 use Rattle.std.specs.Prelude.{Result, Ok, Err, is_ok}
 use Rattle.std.proofs.lemmas.Option.{none-some}
 use Rattle.gc_types.specs.declared.kind.Layouts.{Layouts}
@@ -18,7 +18,9 @@ use Rattle.gc_store.specs.declared.root.RootFault.TheVariants as fault
 use Rattle.gc_store.specs.declared.root.RootedObject.{RootedObject}
 use Rattle.gc_store.specs.Roots.{Names, NamesReference, NamesNothing, TellsReference, is_of_store, handle_of}
 use Rattle.gc_store.specs.Values.{RawStands}
-use Rattle.gc_store.proofs.Roots.{names-store}
+use Rattle.gc_store.specs.declared.root.RootSlot.TheVariants as root_slot
+use Rattle.gc_store.specs.Words.{owned_id}
+use Rattle.gc_store.proofs.HandleWords.{names-store, named_alone}
 use Rattle.gc_script.specs.State.{Held, number, reference, Stands}
 use Rattle.gc_script.specs.Given.{gone, is, given_held, given_root}
 use Rattle.gc_script.specs.Values.{raw_handle, raw_slot, is_function, IsFound}
@@ -77,13 +79,15 @@ names_one layouts s t holds handle x y a b =
 
 pub same_root : (layouts : Layouts) (s : StoreView ℕ) (t : Table ℕ) → HoldsTable layouts s t → (handle : GcRootIndex) (r q : Reference) → NamesReference s t handle r → NamesReference s t handle q → r ≡ q
 same_root layouts s t holds handle r q a b =
-    let both : Some r ≡ Some q = sym a.live ∙ ap (rooted t) (names_one layouts s t holds handle a.serial b.serial a.names b.names) ∙ b.live in
-    grind (arith, both)
+    named_alone layouts s t holds.0 holds.1 handle r q a b
 
 -- one that names a push whose root is gone names nothing
 pub names_gone : (layouts : Layouts) (s : StoreView ℕ) (t : Table ℕ) → HoldsTable layouts s t → (handle : GcRootIndex) (serial : ℕ) → Names s t handle serial → rooted t serial ≡ None → NamesNothing s t handle
-names_gone layouts s t holds handle serial names is_gone r named =
+names_gone layouts s t holds handle serial names is_gone r (inl named) =
     none-some r (sym is_gone ∙ ap (rooted t) (names_one layouts s t holds handle serial named.serial names named.names) ∙ named.live)
+names_gone layouts s t holds handle serial names is_gone r (inr named) =
+    let same : root_slot.Scoped names.push.index ≡ root_slot.Owned (owned_id named.number) = ap (λ (h : GcRootIndex). h.slot) (sym names.is ∙ named.names) in
+    absurd (cc same)
 
 module _ (layouts : Layouts) (s : StoreView ℕ) (t : Table ℕ) (holds : HoldsTable layouts s t) (handle : GcRootIndex) (answer : Result RootedObject RootFault)
     (live : (r : Reference) → NamesReference s t handle r → TellsReference t r answer) (nothing : is_of_store s handle ≡ true → NamesNothing s t handle → answer ≡ Err fault.Unrooted) where
@@ -94,7 +98,7 @@ module _ (layouts : Layouts) (s : StoreView ℕ) (t : Table ℕ) (holds : HoldsT
   found_root class class' serial (Some r) same names at = by answer (live r named)
     where
       named : NamesReference s t handle r
-      named = record { serial = serial; names = names; live = at }
+      named = inl (record { serial = serial; names = names; live = at })
 
       by : (x : Result RootedObject RootFault) → TellsReference t r x → IsFound s t (raw.Ref class (Some handle)) (given_root class' (Some r)) (is_ok x)
       by (Ok object) tells = (values.reference class r, (ap (λ (y : GcClass). is (values.reference y r)) (sym same), record { root = r; named = named; is = refl }))

@@ -113,17 +113,17 @@ module _ (layouts : Layouts) (store : StoreView ℕ) (runner : RunnerView) (s : 
           to_bound ∙ passes (bound_test s r i).0 refusal.OutOfBounds (full_test (slice_get (target_values (target s r)) i) ∷ []) (within_bound store s kind r i found it below)
           ∙ ap (λ (o : Option Value). first_failing (full_test o ∷ [])) value_is
 
-      module _ (new : StoreView ℕ) (runner' : RunnerView) (same : IsSameStore store new) (marks_are : runner'.marks ≡ runner.marks) where
+      module _ (new : StoreView ℕ) (runner' : RunnerView) (same : IsSameStore store new) (rest_is : runner'.rest ≡ runner.rest) where
         -- no further root may be made
         pub full_read : ((d : ℕ) → register_at runner'.registers d ≡ register_at runner.registers d) → makes_root value_there.0 ≡ true → roots_full s.table ≡ true → HoldsAccount layouts new s.table s.account → GoesBy layouts s sh all_tests (Ok (reply.Refused refusal.RootsFull)) new runner'
         full_read slots_are makes is_full table = refuses_by layouts new runner' s sh all_tests refusal.RootsFull
-            (holds_same layouts store new runner runner' s same slots_are marks_are holds table)
+            (holds_same layouts store new runner runner' s same slots_are rest_is holds table)
             (to_full ∙ stops (makes_root value_there.0 && roots_full s.table) refusal.RootsFull [] (both_true (makes_root value_there.0) (roots_full s.table) makes is_full))
 
         -- the value was read
         pub was_read : (value : RawValue) (answer : Reply) → ((d : ℕ) → register_at runner'.registers d ≡ register_with into value runner.registers d) → (makes_root value_there.0 ≡ true → roots_full s.table ≡ false) → IsReadAs new s.table value_there.0 value → HoldsAccount layouts new (after_read value_there.0 s.table) s.account → ShowsRead layouts new value answer → GoesBy layouts s sh all_tests (Ok answer) new runner'
         was_read value answer slots_are may is_read table shows =
-            read_goes layouts store new runner runner' s same holds marks_are (λ (x : State). value_in x r i) into value_there.0
+            read_goes layouts store new runner runner' s same holds rest_is (λ (x : State). value_in x r i) into value_there.0
             (ap (λ (o : Option Value). unwrap_or o (values.reference class.Any null)) value_is) all_tests value answer
             (to_full ∙ passes (makes_root value_there.0 && roots_full s.table) refusal.RootsFull [] (not_both (makes_root value_there.0) (roots_full s.table) may))
             (value_no_function layouts store s.table (holds_table holds.table) found.root i value_there.0 value_there.1)

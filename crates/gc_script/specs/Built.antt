@@ -13,7 +13,7 @@ use Rattle.gc_types.specs.declared.kind.TypeKind.{TypeKind}
 use Rattle.gc_types.specs.declared.kind.TypeKind.TheVariants as kinds
 use Rattle.gc_types.specs.Declarations.{Declaration, kind_at, struct_type, array_type, exn_type}
 use Rattle.gc_commands.specs.declared.command.Command.{Command}
-use Rattle.gc_commands.specs.declared.command.Command.TheVariants.{Struct, Array, Exn, New, NewExn, NewArr, Fixed, NewBytes, ReadBytes, Host, I31, Field, Elem, Len, HostNumber, SetField, SetElem, Eq, Enter, Leave, Push, Pop, Store, Load, SetGlobal, GetGlobal, Throw, Take, Gc, Grow, Cap}
+use Rattle.gc_commands.specs.declared.command.Command.TheVariants.{Struct, Array, Exn, New, NewExn, NewArr, Fixed, NewBytes, ReadBytes, Host, I31, Field, Elem, Len, HostNumber, SetField, SetElem, Eq, Enter, Leave, Push, Pop, Store, Load, SetGlobal, GetGlobal, Own, Root, Unroot, Throw, Take, Gc, Grow, Cap}
 use Rattle.gc_commands.specs.declared.command.FieldWord.{FieldWord}
 use Rattle.gc_commands.specs.declared.command.HeapWord.{HeapWord}
 use Rattle.gc_commands.specs.declared.command.HeapWord.TheVariants as heap
@@ -50,6 +50,9 @@ is_built (Store k r) = true
 is_built (Load k d) = true
 is_built (SetGlobal g r) = true
 is_built (GetGlobal g d) = true
+is_built (Own o r) = true
+is_built (Root d o) = true
+is_built (Unroot o) = true
 is_built (Throw r) = true
 is_built (Take d) = true
 is_built Gc = true

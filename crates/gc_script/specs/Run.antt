@@ -10,7 +10,7 @@ use Rattle.gc_owner.specs.Limiters.{Refuses}
 use Rattle.gc_store.specs.Places.{MayGetPages}
 use Rattle.gc_policy.specs.Policy.{PolicyState}
 use Rattle.gc_commands.specs.declared.command.Command.{Command}
-use Rattle.gc_commands.specs.declared.command.Command.TheVariants.{Struct, Array, Exn, New, NewExn, NewArr, Fixed, NewBytes, ReadBytes, Host, I31, Field, Elem, Len, HostNumber, SetField, SetElem, Eq, Enter, Leave, Push, Pop, Store, Load, SetGlobal, GetGlobal, Throw, Take, Grow, Cap}
+use Rattle.gc_commands.specs.declared.command.Command.TheVariants.{Struct, Array, Exn, New, NewExn, NewArr, Fixed, NewBytes, ReadBytes, Host, I31, Field, Elem, Len, HostNumber, SetField, SetElem, Eq, Enter, Leave, Push, Pop, Store, Load, SetGlobal, GetGlobal, Own, Root, Unroot, Throw, Take, Grow, Cap}
 use Rattle.gc_commands.specs.declared.reply.Reply.{Reply}
 use Rattle.gc_commands.specs.declared.reply.Reply.TheVariants as reply
 use Rattle.gc_commands.specs.declared.reply.Refusal.{Refusal}
@@ -105,6 +105,8 @@ takes_memory Enter = true
 takes_memory (Push k) = true
 takes_memory (Load k d) = true
 takes_memory (GetGlobal g d) = true
+takes_memory (Own o r) = true
+takes_memory (Root d o) = true
 takes_memory (Take d) = true
 takes_memory (Grow n) = true
 takes_memory _ = false
@@ -164,6 +166,9 @@ asks_nothing (Store k r) = true
 asks_nothing (Load k d) = true
 asks_nothing (SetGlobal g r) = true
 asks_nothing (GetGlobal g d) = true
+asks_nothing (Own o r) = true
+asks_nothing (Root d o) = true
+asks_nothing (Unroot o) = true
 asks_nothing (Throw r) = true
 asks_nothing (Take d) = true
 asks_nothing Cap = true

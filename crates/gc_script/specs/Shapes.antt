@@ -7,13 +7,14 @@ use Rattle.gc_owner.specs.declared.entry.GcClass.{GcClass}
 use Rattle.gc_owner.specs.declared.entry.GcClass.TheVariants as class
 use Rattle.gc_model.specs.Values.{Reference, null, small, at, Value, numeric, i32, i64, f32, f64, v128, function, Object, struct, array, host, exception}
 use Rattle.gc_model.specs.Values as values
-use Rattle.gc_model.specs.Table.{Table, Slot, empty_slot, push, leave, write}
+use Rattle.gc_model.specs.Table.{Table, Slot, Owned, empty_slot, push, leave, write}
+use Rattle.gc_model.specs.OwnedRoots.{own, owned_among, handles_changed, with_handles}
 use Rattle.gc_model.specs.Frames.{push_frame, pop_frame, set_slot, slot_at}
 use Rattle.gc_model.specs.Globals.{set_global, global_at}
 use Rattle.gc_model.specs.Pending.{set_pending, take_pending}
 use Rattle.gc_model.specs.Reads.{after_read, host_value, same_reference}
 use Rattle.gc_commands.specs.declared.command.Command.{Command}
-use Rattle.gc_commands.specs.declared.command.Command.TheVariants.{Struct, Array, Exn, New, NewExn, NewArr, Fixed, NewBytes, ReadBytes, Host, I31, Field, Elem, Len, HostNumber, SetField, SetElem, Eq, Enter, Leave, Push, Pop, Store, Load, SetGlobal, GetGlobal, Throw, Take, Gc, Grow, Cap}
+use Rattle.gc_commands.specs.declared.command.Command.TheVariants.{Struct, Array, Exn, New, NewExn, NewArr, Fixed, NewBytes, ReadBytes, Host, I31, Field, Elem, Len, HostNumber, SetField, SetElem, Eq, Enter, Leave, Push, Pop, Store, Load, SetGlobal, GetGlobal, Own, Root, Unroot, Throw, Take, Gc, Grow, Cap}
 use Rattle.gc_commands.specs.declared.command.Operand.{Operand}
 use Rattle.gc_commands.specs.declared.reply.Reply.{Reply}
 use Rattle.gc_commands.specs.declared.reply.Reply.TheVariants as reply
@@ -23,7 +24,7 @@ use Rattle.gc_commands.specs.declared.reply.Refusal.TheVariants as refusal
 use Rattle.gc_model.specs.Stored.{stored, stored_in, byte_value}
 use Rattle.gc_store.specs.Slots.{slot_value}
 use Rattle.gc_store.specs.Requests.{fields_of, exn_fields_of, element_of}
-use Rattle.gc_script.specs.State.{State, Held, number, reference, with_table, with_marks, set_register, put_into}
+use Rattle.gc_script.specs.State.{State, Held, number, reference, HeldOwned, owned, unrooted, with_table, with_marks, set_register, set_owned, put_into}
 use Rattle.gc_script.specs.Built.{declared_struct, declared_array, declared_exception}
 use Rattle.gc_script.specs.Given.{given, given_register, given_value, given_values, named, Target, target, target_values, field_of}
 
@@ -191,6 +192,44 @@ global_value s g = slot_value (unwrap_or (global_at s.table g) empty_slot)
 abbrev pub gets_global : ℕ → ℕ → State → Reply × State
 gets_global g d s = reads (global_value s g) (Some d) s
 
+-- owned roots of which one lost the handle that an owned register held, where it held one
+abbrev pub given_up : Option HeldOwned → List Owned → List Owned
+given_up None roots = roots
+given_up (Some unrooted) roots = roots
+given_up (Some (owned c n)) roots = with_handles (handles_changed n (λ m. m - 1) roots)
+
+abbrev pub give_up : Option HeldOwned → Table ℕ → Table ℕ
+give_up held t = record t { owned = given_up held t.owned }
+
+-- an owned root is made for what a register gives, and goes into an owned register; what that held is given up then
+abbrev pub owns_as : ℕ → Slot → State → State
+owns_as o slot s = set_owned o (owned slot.class s.table.owns) (with_table (give_up (s.owned_registers o) (own slot.reference s.table)) s)
+
+abbrev pub owns : ℕ → ℕ → State → Reply × State
+owns o r s = (reply.Done, owns_as o (slot_of (given_value (given_register s r))) s)
+
+-- what an owned register names, of these owned roots
+abbrev pub owned_named : List Owned → Option HeldOwned → Option Reference
+owned_named roots None = None
+owned_named roots (Some unrooted) = None
+owned_named roots (Some (owned c n)) = owned_among n roots
+
+abbrev pub owned_class : Option HeldOwned → GcClass
+owned_class None = class.Any
+owned_class (Some unrooted) = class.Any
+owned_class (Some (owned c n)) = c
+
+-- what an owned register names gets a scoped root, which goes into a register
+abbrev pub roots_as : ℕ → GcClass → Reference → State → State
+roots_as d c r s = set_register d (reference c (Some (length s.table.pushes))) (with_table (push r s.table) s)
+
+abbrev pub roots : ℕ → ℕ → State → Reply × State
+roots d o s = (reply.Done, roots_as d (owned_class (s.owned_registers o)) (unwrap_or (owned_named s.table.owned (s.owned_registers o)) null) s)
+
+-- what an owned register names is given up
+abbrev pub unroots : ℕ → State → Reply × State
+unroots o s = (reply.Done, set_owned o unrooted (with_table (give_up (s.owned_registers o) s.table) s))
+
 -- The exception that a register names is thrown: it is pending, and the reply says that it was thrown. No other refusal
 -- changes anything.
 abbrev pub throw_target : Option Target → Table ℕ → Table ℕ
@@ -252,6 +291,9 @@ shape (Store k r) = plain (sets_slot k r)
 shape (Load k d) = plain (gets_slot k d)
 shape (SetGlobal g r) = plain (sets_global g r)
 shape (GetGlobal g d) = plain (gets_global g d)
+shape (Own o r) = plain (owns o r)
+shape (Root d o) = plain (roots d o)
+shape (Unroot o) = plain (unroots o)
 shape (Throw r) = plain (throws r)
 shape (Take d) = plain (takes_pending d)
 shape Gc = collecting

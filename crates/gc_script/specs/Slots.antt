@@ -2,14 +2,18 @@
 use Rattle.std.specs.Prelude.{ℕ, List, [], Option, Some, None, slice_get}
 use Rattle.gc_store.specs.declared.root.RawValue.{RawValue}
 
--- what a runner has: its registers, and the numbers of roots with which its open scopes were entered, the
--- oldest first
-pub record RunnerView : Type 0 where
-  pub registers : List (Option RawValue)
+-- what a runner has beside its registers: its owned registers, and the numbers of roots with which its open scopes were
+-- entered, the oldest first
+pub record RunnerRest : Type 0 where
+  pub owned : List (Option RawValue)
   pub marks : List ℕ
 
+pub record RunnerView : Type 0 where
+  pub registers : List (Option RawValue)
+  pub rest : RunnerRest
+
 abbrev pub new_runner : RunnerView
-new_runner = record { registers = []; marks = [] }
+new_runner = record { registers = []; rest = record { owned = []; marks = [] } }
 
 -- an option of an option
 abbrev pub option_join : {X : Type 0} → Option (Option X) → Option X

@@ -7,7 +7,7 @@ use Rattle.gc_model.specs.Values.{Value, numeric, i32, i64, f32, f64, v128, numb
 use Rattle.gc_model.specs.Table.{Table}
 use Rattle.gc_model.specs.Stores.{StoreView}
 use Rattle.gc_policy.specs.Accounts.{Account, no_account, HoldsAccount}
-use Rattle.gc_store.specs.Roots.{Names}
+use Rattle.gc_store.specs.Roots.{Names, owned_handle}
 use Rattle.gc_store.specs.declared.root.RawValue.{RawValue}
 use Rattle.gc_store.specs.declared.root.RawValue.TheVariants as raw
 use Rattle.gc_script.specs.Slots.{register_at, RunnerView}
@@ -24,7 +24,7 @@ pub data HeldOwned : Type 0 where
 
 -- A table, the account of its store, what each register and each owned register holds that was set, and the
 -- scope marks, the oldest first. The account is what the policy of growth goes by: a step leaves open how an
--- allocation, a collection or a growth changes it. No command that is built sets an owned register.
+-- allocation, a collection or a growth changes it.
 pub record State : Type 0 where
   pub table : Table ℕ
   pub account : Account
@@ -59,6 +59,10 @@ with_marks marks s = record s { marks = marks }
 -- the state with a register set
 abbrev pub set_register : ℕ → Held → State → State
 set_register d held s = record s { registers = λ k. if k == d then Some held else s.registers k }
+
+-- the state with an owned register set
+abbrev pub set_owned : ℕ → HeldOwned → State → State
+set_owned o held s = record s { owned_registers = λ k. if k == o then Some held else s.owned_registers k }
 
 -- registers with a value in one, where one is named
 abbrev pub put_register : Option ℕ → Held → (ℕ → Option Held) → ℕ → Option Held
@@ -104,9 +108,17 @@ Stands s t (Some (raw.Ref class (Some handle))) (Some (reference class' (Some se
 Stands s t (Some (raw.Ref class None)) (Some (reference class' None)) = class ≡ class'
 Stands s t _ _ = ⊥
 
+-- What an owned register of the runner holds is what one of the table holds: a handle is that of the owned root, and none is
+-- there where the root was given up.
+abbrev pub StandsOwned : StoreView ℕ → Option RawValue → Option HeldOwned → Type 0
+StandsOwned s None None = Unit {0}
+StandsOwned s (Some (raw.Ref class (Some handle))) (Some (owned class' n)) = (class ≡ class') × (handle ≡ owned_handle s n)
+StandsOwned s (Some (raw.Ref class None)) (Some unrooted) = Unit {0}
+StandsOwned s _ _ = ⊥
+
 -- the store and the runner are in that state
 pub record HoldsState (layouts : Layouts) (s : StoreView ℕ) (runner : RunnerView) (state : State) : Type 0 where
   pub table : HoldsAccount layouts s state.table state.account
   pub registers : (d : ℕ) → Stands s state.table (register_at runner.registers d) (state.registers d)
-  pub no_owned : (o : ℕ) → state.owned_registers o ≡ None
-  pub marks : runner.marks ≡ state.marks
+  pub owned : (o : ℕ) → StandsOwned s (register_at runner.rest.owned o) (state.owned_registers o)
+  pub marks : runner.rest.marks ≡ state.marks

@@ -6,18 +6,19 @@ use Rattle.gc_types.specs.declared.kind.Layouts.{Layouts}
 use Rattle.gc_types.specs.Declarable.{Declarable}
 use Rattle.gc_types.specs.Declarations.{Declaration, struct_fields_at, elem_at}
 use Rattle.gc_owner.specs.declared.entry.GcClass.{GcClass}
-use Rattle.gc_model.specs.Values.{Value, Object}
+use Rattle.gc_model.specs.Values.{Reference, Value, Object}
 use Rattle.gc_model.specs.Table.{Table, Slot, declare}
 use Rattle.gc_model.specs.Frames.{slot_at}
 use Rattle.gc_model.specs.Globals.{global_at}
 use Rattle.gc_model.specs.Live.{roots_full}
+use Rattle.gc_model.specs.OwnedRoots.{owned_full}
 use Rattle.gc_model.specs.Reach.{KeepsNumber}
 use Rattle.gc_model.specs.Reads.{makes_root}
 use Rattle.gc_model.specs.Sizes.{object_size, exn_fields_at}
 use Rattle.gc_view.specs.Pages.{page}
 use Rattle.gc_model.specs.Allocation.{too_large, Allocates, LacksMemory, Grows}
 use Rattle.gc_commands.specs.declared.command.Command.{Command}
-use Rattle.gc_commands.specs.declared.command.Command.TheVariants.{New, NewExn, NewArr, Fixed, NewBytes, ReadBytes, Host, I31, Field, Elem, Len, HostNumber, SetField, SetElem, Eq, Leave, Pop, Store, Load, SetGlobal, GetGlobal, Throw, Take}
+use Rattle.gc_commands.specs.declared.command.Command.TheVariants.{New, NewExn, NewArr, Fixed, NewBytes, ReadBytes, Host, I31, Field, Elem, Len, HostNumber, SetField, SetElem, Eq, Leave, Pop, Store, Load, SetGlobal, GetGlobal, Own, Root, Unroot, Throw, Take}
 use Rattle.gc_commands.specs.declared.command.Operand.{Operand}
 use Rattle.gc_commands.specs.declared.reply.Reply.{Reply}
 use Rattle.gc_commands.specs.declared.reply.Reply.TheVariants as reply
@@ -26,10 +27,10 @@ use Rattle.gc_commands.specs.declared.reply.Refusal.TheVariants as refusal
 use Rattle.gc_policy.specs.Accounts.{Account}
 use Rattle.gc_store.specs.Slots.{slot_value}
 use Rattle.gc_store.specs.Requests.{fields_of}
-use Rattle.gc_script.specs.State.{State, reference, with_table, with_account, with_heap, set_register, visible, over}
+use Rattle.gc_script.specs.State.{State, reference, HeldOwned, with_table, with_account, with_heap, set_register, visible, over}
 use Rattle.gc_script.specs.Built.{is_built}
-use Rattle.gc_script.specs.Given.{Given, given, given_register, given_value, is_unset, is_gone, is_reference, named, is_struct, is_array, is_host, is_exception, has_fields, names_kind, target, target_values, field_of, is_constant, holds_bytes, fits_field}
-use Rattle.gc_script.specs.Shapes.{Shape, plain, declaring, making, growing, collecting, showing, shape, new_struct, new_exception, new_array, new_fixed, new_bytes}
+use Rattle.gc_script.specs.Given.{Given, given, given_register, given_value, is_unset, is_gone, is_reference, value_named, named, is_struct, is_array, is_host, is_exception, has_fields, names_kind, target, target_values, field_of, is_constant, holds_bytes, fits_field}
+use Rattle.gc_script.specs.Shapes.{Shape, plain, declaring, making, growing, collecting, showing, shape, owned_named, new_struct, new_exception, new_array, new_fixed, new_bytes}
 
 -- how many fields these are; 0 where there are none
 abbrev pub count_in : Option (List FieldType) → ℕ
@@ -205,6 +206,28 @@ getting_tests slot full =
     ∷ (reads_root (option_map slot_value slot) && full, refusal.RootsFull)
     ∷ []
 
+-- the tests of making an owned root of what a register gives, where owned roots are full or not
+abbrev pub owning_tests : Given → Bool → List (Bool × Refusal)
+owning_tests g full =
+    (is_unset g, refusal.NoSuchName)
+    ∷ (is_gone g, refusal.Unrooted)
+    ∷ (is_none (value_named (given_value g)), refusal.WrongKind)
+    ∷ (full, refusal.RootsFull)
+    ∷ []
+
+-- the tests of what an owned register holds, and names
+abbrev pub owned_tests : Option HeldOwned → Option Reference → List (Bool × Refusal)
+owned_tests held root =
+    (is_none held, refusal.NoSuchName)
+    ∷ (is_none root, refusal.Unrooted)
+    ∷ []
+
+abbrev pub unroot_tests : State → ℕ → List (Bool × Refusal)
+unroot_tests s o = owned_tests (s.owned_registers o) (owned_named s.table.owned (s.owned_registers o))
+
+abbrev pub root_tests : State → ℕ → List (Bool × Refusal)
+root_tests s o = unroot_tests s o ++ (roots_full s.table, refusal.RootsFull) ∷ []
+
 -- the tests of throwing what a register names
 abbrev pub throw_tests : State → ℕ → List (Bool × Refusal)
 throw_tests s r = (is_unset (given_register s r), refusal.NoSuchName) ∷ target_tests is_exception s r
@@ -237,6 +260,9 @@ built_tests layouts s (Store k r) = setting_tests (slot_at s.table k) (given_reg
 built_tests layouts s (Load k d) = getting_tests (slot_at s.table k) (roots_full s.table)
 built_tests layouts s (SetGlobal g r) = setting_tests (global_at s.table g) (given_register s r)
 built_tests layouts s (GetGlobal g d) = getting_tests (global_at s.table g) (roots_full s.table)
+built_tests layouts s (Own o r) = owning_tests (given_register s r) (owned_full s.table)
+built_tests layouts s (Root d o) = root_tests s o
+built_tests layouts s (Unroot o) = unroot_tests s o
 built_tests layouts s (Throw r) = throw_tests s r
 built_tests layouts s (Take d) = take_tests s
 built_tests layouts s _ = []

@@ -36,6 +36,9 @@ pub(crate) fn is_built(command: &Command) -> bool
         | Command::Load { .. }
         | Command::SetGlobal { .. }
         | Command::GetGlobal { .. }
+        | Command::Own { .. }
+        | Command::Root { .. }
+        | Command::Unroot { .. }
         | Command::Throw { .. }
         | Command::Take { .. }
         | Command::Gc

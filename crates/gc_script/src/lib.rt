@@ -18,6 +18,7 @@ mod growth;
 mod hosts;
 mod make;
 mod objects;
+mod owned;
 mod reads;
 mod references;
 mod registers;

@@ -31,6 +31,8 @@ pub enum RunError {
 pub struct Runner {
     pub(crate) alloc: Global,
     pub(crate) registers: Registers,
+    /// What owned registers hold: a class with a handle of an owned root, or without one where that was given up.
+    pub(crate) owned: Registers,
     /// The numbers of roots with which the open scopes were entered, the oldest first.
     pub(crate) marks: Vec<usize>,
 }
@@ -40,7 +42,7 @@ impl Model for Runner {
 
     ghost Value = { RunnerView };
 
-    ghost view = { λ r. record { registers = r.registers; marks = r.marks.items } };
+    ghost view = { λ r. record { registers = r.registers; rest = record { owned = r.owned; marks = r.marks.items } } };
 }
 
 impl Runner {
@@ -51,6 +53,7 @@ impl Runner {
         Runner {
             alloc,
             registers: Registers::new(alloc),
+            owned: Registers::new(alloc),
             marks: Vec::new(alloc),
         }
     }
@@ -58,7 +61,7 @@ impl Runner {
     /// Runs one command. What it refuses is a reply, and so is a command that is not built (`BadLine`); an
     /// error is want of memory, which leaves the table as it was, but that a command which makes an object
     /// and `grow` may have collected and got the heap pages. It comes of no command that takes no memory:
-    /// `len`, `data`, `setf`, `sete`, `eq`, `leave`, `pop`, `store`, `gset`, `throw`, `gc`, `cap`, and those
+    /// `len`, `data`, `setf`, `sete`, `eq`, `leave`, `pop`, `store`, `gset`, `unroot`, `throw`, `gc`, `cap`, and those
     /// that are not built.
     /// The time is linear in the command's length and in the number of the register that it sets, beside
     /// that of a collection and of new memory, and for `leave` in the roots that it drops.
@@ -141,6 +144,9 @@ impl Runner {
             Command::Load { k, d } => self.load_slot(store, *k, *d),
             Command::SetGlobal { g, r } => Ok(self.set_global(store, *g, *r)),
             Command::GetGlobal { g, d } => self.get_global(store, *g, *d),
+            Command::Own { o, r } => self.own(store, *o, *r),
+            Command::Root { d, o } => self.root(store, *d, *o),
+            Command::Unroot { o } => Ok(self.unroot(store, *o)),
             Command::Throw { r } => Ok(self.throw(store, *r)),
             Command::Take { d } => self.take(store, *d),
             Command::Cap => Ok(self.capacity(store)),

@@ -20,10 +20,10 @@ pub returns-in-Ok-clause-goes : goal.returns-in-Ok-clause-goes
 returns-in-Ok-clause-goes g c s holds =
     let there = global_there g.H.GcHeap.KIND c.args.store.now s.table (holds_table holds.table) c.from-global.result c.if-global-ge-GLOBAL_COUNT.false in
     let told = c.in-Ok.ensures.reads s.table s.account there.0 holds.table there.1 in
-    subst (λ (n : ℕ). GoesOn g.H.GcHeap.KIND s (command.GetGlobal n c.args.d) (Ok c.put_read.result) c.global_get.new.self (record { registers = c.put_read.new.registers; marks = c.self.inside.marks.items })) c.from-global.ensures
+    subst (λ (n : ℕ). GoesOn g.H.GcHeap.KIND s (command.GetGlobal n c.args.d) (Ok c.put_read.result) c.global_get.new.self (record { registers = c.put_read.new.registers; rest = record { owned = c.self.inside.owned; marks = c.self.inside.marks.items } })) c.from-global.ensures
     (get_global_goes g.H.GcHeap.KIND s c.from-global.result c.args.d there.0 (Ok c.put_read.result) c.global_get.new.self _ there.1
     (slot_read g.H.GcHeap.KIND c.args.store.now c.args.self.now s holds there.0 c.args.d (λ (x : State). global_at x.table c.from-global.result) there.1 c.global_get.new.self _ c.global_get.ensures.same
-    (ap (λ (x : RunnerView). x.marks) c.self.view_is) (raw.Ref c.in-Ok.class c.in-Ok.handle) c.put_read.result
+    (ap (λ (x : RunnerView). x.rest) c.self.view_is) (raw.Ref c.in-Ok.class c.in-Ok.handle) c.put_read.result
     (λ k. c.put_read.ensures.put k ∙ register_with-same (Some c.args.d) (raw.Ref c.in-Ok.class c.in-Ok.handle) c.make_room.new.registers c.args.self.now.registers (λ j. c.make_room.ensures.same j ∙ ap (λ (x : RunnerView). register_at x.registers j) c.self.view_is) k)
     told.0 told.1.0 told.1.1 c.put_read.ensures.shows))
 
@@ -31,9 +31,9 @@ pub returns-in-Err-RootsFull-clause-goes : goal.returns-in-Err-RootsFull-clause-
 returns-in-Err-RootsFull-clause-goes g c s holds =
     let there = global_there g.H.GcHeap.KIND c.args.store.now s.table (holds_table holds.table) c.from-global.result c.if-global-ge-GLOBAL_COUNT.false in
     let told = subst (λ (e : SlotFault). ReadsSlot g.H.GcHeap.KIND s.table s.account there.0 (Err e) c.global_get.new.self) c.in-Err-RootsFull.field-0-is (c.in-Err-RootsFull.ensures.reads s.table s.account there.0 holds.table there.1) in
-    subst (λ (n : ℕ). GoesOn g.H.GcHeap.KIND s (command.GetGlobal n c.args.d) (Ok (reply.Refused refusal.RootsFull)) c.global_get.new.self (record { registers = c.make_room.new.registers; marks = c.self.inside.marks.items })) c.from-global.ensures
+    subst (λ (n : ℕ). GoesOn g.H.GcHeap.KIND s (command.GetGlobal n c.args.d) (Ok (reply.Refused refusal.RootsFull)) c.global_get.new.self (record { registers = c.make_room.new.registers; rest = record { owned = c.self.inside.owned; marks = c.self.inside.marks.items } })) c.from-global.ensures
     (get_global_goes g.H.GcHeap.KIND s c.from-global.result c.args.d there.0 (Ok (reply.Refused refusal.RootsFull)) c.global_get.new.self _ there.1
     (full_refused g.H.GcHeap.KIND c.args.store.now c.args.self.now s holds there.0 c.args.d (λ (x : State). global_at x.table c.from-global.result) there.1 c.global_get.new.self _ c.global_get.ensures.same
-    (ap (λ (x : RunnerView). x.marks) c.self.view_is)
+    (ap (λ (x : RunnerView). x.rest) c.self.view_is)
     (λ k. c.make_room.ensures.same k ∙ ap (λ (x : RunnerView). register_at x.registers k) c.self.view_is)
     told.0 told.1.0 told.1.1))

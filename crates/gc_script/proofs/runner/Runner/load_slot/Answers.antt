@@ -29,10 +29,10 @@ returns-in-Ok-clause-goes g c s holds =
     let table = holds_table holds.table in
     let there = slot_found g.H.GcHeap.KIND c.args.store.now s.table table.0 table.1 c.from-slot.result c.has_slot.result c.has_slot.ensures c.if-not-has_slot.false in
     let told = c.in-Ok.ensures.reads s.table s.account there.0 holds.table there.1 in
-    subst (λ (n : ℕ). GoesOn g.H.GcHeap.KIND s (command.Load n c.args.d) (Ok c.put_read.result) c.slot_get.new.self (record { registers = c.put_read.new.registers; marks = c.self.inside.marks.items })) c.from-slot.ensures
+    subst (λ (n : ℕ). GoesOn g.H.GcHeap.KIND s (command.Load n c.args.d) (Ok c.put_read.result) c.slot_get.new.self (record { registers = c.put_read.new.registers; rest = record { owned = c.self.inside.owned; marks = c.self.inside.marks.items } })) c.from-slot.ensures
     (load_goes g.H.GcHeap.KIND s c.from-slot.result c.args.d there.0 (Ok c.put_read.result) c.slot_get.new.self _ there.1
     (slot_read g.H.GcHeap.KIND c.args.store.now c.args.self.now s holds there.0 c.args.d (λ (x : State). slot_at x.table c.from-slot.result) there.1 c.slot_get.new.self _ c.slot_get.ensures.same
-    (ap (λ (x : RunnerView). x.marks) c.self.view_is) (raw.Ref c.in-Ok.class c.in-Ok.handle) c.put_read.result
+    (ap (λ (x : RunnerView). x.rest) c.self.view_is) (raw.Ref c.in-Ok.class c.in-Ok.handle) c.put_read.result
     (λ k. c.put_read.ensures.put k ∙ register_with-same (Some c.args.d) (raw.Ref c.in-Ok.class c.in-Ok.handle) c.make_room.new.registers c.args.self.now.registers (λ j. c.make_room.ensures.same j ∙ ap (λ (x : RunnerView). register_at x.registers j) c.self.view_is) k)
     told.0 told.1.0 told.1.1 c.put_read.ensures.shows))
 
@@ -41,9 +41,9 @@ returns-in-Err-RootsFull-clause-goes g c s holds =
     let table = holds_table holds.table in
     let there = slot_found g.H.GcHeap.KIND c.args.store.now s.table table.0 table.1 c.from-slot.result c.has_slot.result c.has_slot.ensures c.if-not-has_slot.false in
     let told = subst (λ (e : SlotFault). ReadsSlot g.H.GcHeap.KIND s.table s.account there.0 (Err e) c.slot_get.new.self) c.in-Err-RootsFull.field-0-is (c.in-Err-RootsFull.ensures.reads s.table s.account there.0 holds.table there.1) in
-    subst (λ (n : ℕ). GoesOn g.H.GcHeap.KIND s (command.Load n c.args.d) (Ok (reply.Refused refusal.RootsFull)) c.slot_get.new.self (record { registers = c.make_room.new.registers; marks = c.self.inside.marks.items })) c.from-slot.ensures
+    subst (λ (n : ℕ). GoesOn g.H.GcHeap.KIND s (command.Load n c.args.d) (Ok (reply.Refused refusal.RootsFull)) c.slot_get.new.self (record { registers = c.make_room.new.registers; rest = record { owned = c.self.inside.owned; marks = c.self.inside.marks.items } })) c.from-slot.ensures
     (load_goes g.H.GcHeap.KIND s c.from-slot.result c.args.d there.0 (Ok (reply.Refused refusal.RootsFull)) c.slot_get.new.self _ there.1
     (full_refused g.H.GcHeap.KIND c.args.store.now c.args.self.now s holds there.0 c.args.d (λ (x : State). slot_at x.table c.from-slot.result) there.1 c.slot_get.new.self _ c.slot_get.ensures.same
-    (ap (λ (x : RunnerView). x.marks) c.self.view_is)
+    (ap (λ (x : RunnerView). x.rest) c.self.view_is)
     (λ k. c.make_room.ensures.same k ∙ ap (λ (x : RunnerView). register_at x.registers k) c.self.view_is)
     told.0 told.1.0 told.1.1))

@@ -39,17 +39,17 @@ places_as g c s result is holds =
 
 pub returns-then-is_err-clause-runs : goal.returns-then-is_err-clause-runs
 returns-then-is_err-clause-runs g c s holds =
-    host_runs g.H.GcHeap.KIND c.args.store.now.alloc_counter (g.L.ResourceLimiter.limits c.args.limiter.now) (g.L.ResourceLimiter.limits c.args.limiter.now) s c.args.d c.args.n (Err error.OutOfMemory) c.args.store.now (record { registers = c.make_room.new.self; marks = c.self.inside.marks.items })
-    (wants_nothing g.H.GcHeap.KIND c.args.store.now.alloc_counter (g.L.ResourceLimiter.limits c.args.limiter.now) s (making c.args.d class.Extern (made_of c.args.n)) (first_failing (heap_tests g.H.GcHeap.KIND s (new_host c.args.n))) c.args.store.now (record { registers = c.make_room.new.self; marks = c.self.inside.marks.items })
-    (holds_same g.H.GcHeap.KIND c.args.store.now c.args.store.now c.args.self.now (record { registers = c.make_room.new.self; marks = c.self.inside.marks.items }) s (same_store c.args.store.now)
+    host_runs g.H.GcHeap.KIND c.args.store.now.alloc_counter (g.L.ResourceLimiter.limits c.args.limiter.now) (g.L.ResourceLimiter.limits c.args.limiter.now) s c.args.d c.args.n (Err error.OutOfMemory) c.args.store.now (record { registers = c.make_room.new.self; rest = record { owned = c.self.inside.owned; marks = c.self.inside.marks.items } })
+    (wants_nothing g.H.GcHeap.KIND c.args.store.now.alloc_counter (g.L.ResourceLimiter.limits c.args.limiter.now) s (making c.args.d class.Extern (made_of c.args.n)) (first_failing (heap_tests g.H.GcHeap.KIND s (new_host c.args.n))) c.args.store.now (record { registers = c.make_room.new.self; rest = record { owned = c.self.inside.owned; marks = c.self.inside.marks.items } })
+    (holds_same g.H.GcHeap.KIND c.args.store.now c.args.store.now c.args.self.now (record { registers = c.make_room.new.self; rest = record { owned = c.self.inside.owned; marks = c.self.inside.marks.items } }) s (same_store c.args.store.now)
     (λ k. c.make_room.ensures.same k ∙ ap (λ (r : RunnerView). register_at r.registers k) c.self.view_is)
-    (ap (λ (r : RunnerView). r.marks) c.self.view_is) holds holds.table))
+    (ap (λ (r : RunnerView). r.rest) c.self.view_is) holds holds.table))
 
 pub returns-in-Ok-clause-runs : goal.returns-in-Ok-clause-runs
 returns-in-Ok-clause-runs g c s holds =
     let at = (goal.at.returns-in-Ok-clause-runs g c).After-place_host in
-    host_runs g.H.GcHeap.KIND c.args.store.now.alloc_counter (g.L.ResourceLimiter.limits c.args.limiter.now) (g.L.ResourceLimiter.limits c.place_host.new.limiter) s c.args.d c.args.n (Ok reply.Done) c.place_host.new.self (record { registers = c.set.new.self; marks = c.self.inside.marks.items })
-    (placed g.H.GcHeap.KIND c.args.store.now.alloc_counter (g.L.ResourceLimiter.limits c.args.limiter.now) (g.L.ResourceLimiter.limits c.place_host.new.limiter) c.args.store.now c.place_host.new.self c.args.self.now (record { registers = c.set.new.self; marks = c.self.inside.marks.items }) s c.args.d class.Extern (made_of c.args.n) c.place_host.ensures.same holds (ap (λ (r : RunnerView). r.marks) c.self.view_is)
+    host_runs g.H.GcHeap.KIND c.args.store.now.alloc_counter (g.L.ResourceLimiter.limits c.args.limiter.now) (g.L.ResourceLimiter.limits c.place_host.new.limiter) s c.args.d c.args.n (Ok reply.Done) c.place_host.new.self (record { registers = c.set.new.self; rest = record { owned = c.self.inside.owned; marks = c.self.inside.marks.items } })
+    (placed g.H.GcHeap.KIND c.args.store.now.alloc_counter (g.L.ResourceLimiter.limits c.args.limiter.now) (g.L.ResourceLimiter.limits c.place_host.new.limiter) c.args.store.now c.place_host.new.self c.args.self.now (record { registers = c.set.new.self; rest = record { owned = c.self.inside.owned; marks = c.self.inside.marks.items } }) s c.args.d class.Extern (made_of c.args.n) c.place_host.ensures.same holds (ap (λ (r : RunnerView). r.rest) c.self.view_is)
     c.in-Ok.handle (placed_host g.H.GcHeap.KIND c.args.store.now.alloc_counter (g.L.ResourceLimiter.limits c.args.limiter.now) (g.L.ResourceLimiter.limits c.place_host.new.limiter) s c.args.n c.in-Ok.handle c.place_host.new.self
     (places_as g at s (Ok c.in-Ok.handle) c.in-Ok.is holds))
     c.set.ensures.set
@@ -58,22 +58,22 @@ returns-in-Ok-clause-runs g c s holds =
 pub returns-in-Err-RootsFull-clause-runs : goal.returns-in-Err-RootsFull-clause-runs
 returns-in-Err-RootsFull-clause-runs g c s holds =
     let at = (goal.at.returns-in-Err-RootsFull-clause-runs g c).After-place_host in
-    host_runs g.H.GcHeap.KIND c.args.store.now.alloc_counter (g.L.ResourceLimiter.limits c.args.limiter.now) (g.L.ResourceLimiter.limits c.place_host.new.limiter) s c.args.d c.args.n (Ok (reply.Refused refusal.RootsFull)) c.place_host.new.self (record { registers = c.make_room.new.self; marks = c.self.inside.marks.items })
-    (refused_full g.H.GcHeap.KIND c.args.store.now.alloc_counter (g.L.ResourceLimiter.limits c.args.limiter.now) (g.L.ResourceLimiter.limits c.place_host.new.limiter) c.args.store.now c.place_host.new.self c.args.self.now (record { registers = c.make_room.new.self; marks = c.self.inside.marks.items }) s c.args.d class.Extern (made_of c.args.n) c.place_host.ensures.same holds (ap (λ (r : RunnerView). r.marks) c.self.view_is) (slots_are g at)
+    host_runs g.H.GcHeap.KIND c.args.store.now.alloc_counter (g.L.ResourceLimiter.limits c.args.limiter.now) (g.L.ResourceLimiter.limits c.place_host.new.limiter) s c.args.d c.args.n (Ok (reply.Refused refusal.RootsFull)) c.place_host.new.self (record { registers = c.make_room.new.self; rest = record { owned = c.self.inside.owned; marks = c.self.inside.marks.items } })
+    (refused_full g.H.GcHeap.KIND c.args.store.now.alloc_counter (g.L.ResourceLimiter.limits c.args.limiter.now) (g.L.ResourceLimiter.limits c.place_host.new.limiter) c.args.store.now c.place_host.new.self c.args.self.now (record { registers = c.make_room.new.self; rest = record { owned = c.self.inside.owned; marks = c.self.inside.marks.items } }) s c.args.d class.Extern (made_of c.args.n) c.place_host.ensures.same holds (ap (λ (r : RunnerView). r.rest) c.self.view_is) (slots_are g at)
     (full_for_host g.H.GcHeap.KIND c.args.store.now.alloc_counter (g.L.ResourceLimiter.limits c.args.limiter.now) (g.L.ResourceLimiter.limits c.place_host.new.limiter) s c.args.n c.place_host.new.self
     (places_as g at s (Err fault.RootsFull) (c.in-Err-RootsFull.is ∙ ap Err c.in-Err-RootsFull.field-0-is) holds)))
 
 pub returns-in-Err-HeapOutOfMemory-clause-runs : goal.returns-in-Err-HeapOutOfMemory-clause-runs
 returns-in-Err-HeapOutOfMemory-clause-runs g c s holds =
     let at = (goal.at.returns-in-Err-HeapOutOfMemory-clause-runs g c).After-place_host in
-    host_runs g.H.GcHeap.KIND c.args.store.now.alloc_counter (g.L.ResourceLimiter.limits c.args.limiter.now) (g.L.ResourceLimiter.limits c.place_host.new.limiter) s c.args.d c.args.n (Ok (reply.Refused refusal.GcHeapOutOfMemory)) c.place_host.new.self (record { registers = c.make_room.new.self; marks = c.self.inside.marks.items })
-    (lacked g.H.GcHeap.KIND c.args.store.now.alloc_counter (g.L.ResourceLimiter.limits c.args.limiter.now) (g.L.ResourceLimiter.limits c.place_host.new.limiter) c.args.store.now c.place_host.new.self c.args.self.now (record { registers = c.make_room.new.self; marks = c.self.inside.marks.items }) s c.args.d class.Extern (made_of c.args.n) c.place_host.ensures.same holds (ap (λ (r : RunnerView). r.marks) c.self.view_is) (slots_are g at)
+    host_runs g.H.GcHeap.KIND c.args.store.now.alloc_counter (g.L.ResourceLimiter.limits c.args.limiter.now) (g.L.ResourceLimiter.limits c.place_host.new.limiter) s c.args.d c.args.n (Ok (reply.Refused refusal.GcHeapOutOfMemory)) c.place_host.new.self (record { registers = c.make_room.new.self; rest = record { owned = c.self.inside.owned; marks = c.self.inside.marks.items } })
+    (lacked g.H.GcHeap.KIND c.args.store.now.alloc_counter (g.L.ResourceLimiter.limits c.args.limiter.now) (g.L.ResourceLimiter.limits c.place_host.new.limiter) c.args.store.now c.place_host.new.self c.args.self.now (record { registers = c.make_room.new.self; rest = record { owned = c.self.inside.owned; marks = c.self.inside.marks.items } }) s c.args.d class.Extern (made_of c.args.n) c.place_host.ensures.same holds (ap (λ (r : RunnerView). r.rest) c.self.view_is) (slots_are g at)
     c.in-Err-HeapOutOfMemory.field-0-0.bytes_needed
     (places_as g at s (Err (fault.HeapOutOfMemory c.in-Err-HeapOutOfMemory.field-0-0)) (c.in-Err-HeapOutOfMemory.is ∙ ap Err c.in-Err-HeapOutOfMemory.field-0-is) holds).1)
 
 pub returns-in-Err-Memory-clause-runs : goal.returns-in-Err-Memory-clause-runs
 returns-in-Err-Memory-clause-runs g c s holds =
     let at = (goal.at.returns-in-Err-Memory-clause-runs g c).After-place_host in
-    host_runs g.H.GcHeap.KIND c.args.store.now.alloc_counter (g.L.ResourceLimiter.limits c.args.limiter.now) (g.L.ResourceLimiter.limits c.place_host.new.limiter) s c.args.d c.args.n (Err error.OutOfMemory) c.place_host.new.self (record { registers = c.make_room.new.self; marks = c.self.inside.marks.items })
-    (unplaced g.H.GcHeap.KIND c.args.store.now.alloc_counter (g.L.ResourceLimiter.limits c.args.limiter.now) (g.L.ResourceLimiter.limits c.place_host.new.limiter) c.args.store.now c.place_host.new.self c.args.self.now (record { registers = c.make_room.new.self; marks = c.self.inside.marks.items }) s c.args.d class.Extern (made_of c.args.n) c.place_host.ensures.same holds (ap (λ (r : RunnerView). r.marks) c.self.view_is) (slots_are g at) error.OutOfMemory
+    host_runs g.H.GcHeap.KIND c.args.store.now.alloc_counter (g.L.ResourceLimiter.limits c.args.limiter.now) (g.L.ResourceLimiter.limits c.place_host.new.limiter) s c.args.d c.args.n (Err error.OutOfMemory) c.place_host.new.self (record { registers = c.make_room.new.self; rest = record { owned = c.self.inside.owned; marks = c.self.inside.marks.items } })
+    (unplaced g.H.GcHeap.KIND c.args.store.now.alloc_counter (g.L.ResourceLimiter.limits c.args.limiter.now) (g.L.ResourceLimiter.limits c.place_host.new.limiter) c.args.store.now c.place_host.new.self c.args.self.now (record { registers = c.make_room.new.self; rest = record { owned = c.self.inside.owned; marks = c.self.inside.marks.items } }) s c.args.d class.Extern (made_of c.args.n) c.place_host.ensures.same holds (ap (λ (r : RunnerView). r.rest) c.self.view_is) (slots_are g at) error.OutOfMemory
     (places_as g at s (Err fault.Memory) (c.in-Err-Memory.is ∙ ap Err c.in-Err-Memory.field-0-is) holds))

@@ -42,7 +42,7 @@ returns-in-Ok-read_value-clause-goes g c s holds =
     let there = value_there g.H.GcHeap.KIND c.args.store.now c.args.self.now s c.args.wanted c.args.r c.args.i c.args.into holds (target_set g at s holds) c.in-Ok.object found c.if-i-object.false in
     let told = c.in-Ok-read_value.ensures.reads s.table s.account there.0 holds.table there.1 in
     was_read g.H.GcHeap.KIND c.args.store.now c.args.self.now s c.args.wanted c.args.r c.args.i c.args.into holds (target_set g at s holds) c.in-Ok.object found c.if-i-object.false
-    c.read_value.new.self _ c.read_value.ensures.same (ap (λ (x : RunnerView). x.marks) c.self.view_is) c.in-Ok-read_value.value c.put_read.result
+    c.read_value.new.self _ c.read_value.ensures.same (ap (λ (x : RunnerView). x.rest) c.self.view_is) c.in-Ok-read_value.value c.put_read.result
     (λ k. c.put_read.ensures.put k ∙ register_with-same c.args.into c.in-Ok-read_value.value c.make_room.new.registers c.args.self.now.registers (λ j. c.make_room.ensures.same j ∙ ap (λ (x : RunnerView). register_at x.registers j) c.self.view_is) k)
     told.0 told.1.0 told.1.1 c.put_read.ensures.shows
 
@@ -53,6 +53,6 @@ returns-in-Err-RootsFull-clause-goes g c s holds =
     let there = value_there g.H.GcHeap.KIND c.args.store.now c.args.self.now s c.args.wanted c.args.r c.args.i c.args.into holds (target_set g at s holds) c.in-Ok.object found c.if-i-object.false in
     let told = subst (λ (e : RootFault). ReadsValue g.H.GcHeap.KIND s.table s.account there.0 (Err e) c.read_value.new.self) c.in-Err-RootsFull.field-0-is (c.in-Err-RootsFull.ensures.reads s.table s.account there.0 holds.table there.1) in
     full_read g.H.GcHeap.KIND c.args.store.now c.args.self.now s c.args.wanted c.args.r c.args.i c.args.into holds (target_set g at s holds) c.in-Ok.object found c.if-i-object.false
-    c.read_value.new.self _ c.read_value.ensures.same (ap (λ (x : RunnerView). x.marks) c.self.view_is)
+    c.read_value.new.self _ c.read_value.ensures.same (ap (λ (x : RunnerView). x.rest) c.self.view_is)
     (λ k. c.make_room.ensures.same k ∙ ap (λ (x : RunnerView). register_at x.registers k) c.self.view_is)
     told.0 told.1.0 told.1.1

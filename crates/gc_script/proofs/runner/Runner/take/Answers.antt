@@ -8,14 +8,14 @@ use Rattle.gc_script.proofs.runner.Runner.take.Goals as goal
 
 pub returns-in-Ok-clause-goes : goal.returns-in-Ok-clause-goes
 returns-in-Ok-clause-goes g c s holds =
-    taken g.H.GcHeap.KIND c.args.store.now c.args.self.now s c.args.d holds c.take_pending.new.self (record { registers = c.put_read.new.registers; marks = c.self.inside.marks.items }) c.take_pending.ensures.same
-    (ap (λ (x : RunnerView). x.marks) c.self.view_is) c.in-Ok.handle c.put_read.result (c.in-Ok.ensures.takes s.table s.account holds.table)
+    taken g.H.GcHeap.KIND c.args.store.now c.args.self.now s c.args.d holds c.take_pending.new.self (record { registers = c.put_read.new.registers; rest = record { owned = c.self.inside.owned; marks = c.self.inside.marks.items } }) c.take_pending.ensures.same
+    (ap (λ (x : RunnerView). x.rest) c.self.view_is) c.in-Ok.handle c.put_read.result (c.in-Ok.ensures.takes s.table s.account holds.table)
     (λ k. c.put_read.ensures.put k
     ∙ register_with-same (Some c.args.d) (raw.Ref class.Exn c.in-Ok.handle) c.make_room.new.registers c.args.self.now.registers (λ j. c.make_room.ensures.same j ∙ ap (λ (x : RunnerView). register_at x.registers j) c.self.view_is) k)
     c.put_read.ensures.shows
 
 pub returns-in-Err-RootsFull-clause-goes : goal.returns-in-Err-RootsFull-clause-goes
 returns-in-Err-RootsFull-clause-goes g c s holds =
-    take_refused g.H.GcHeap.KIND c.args.store.now c.args.self.now s c.args.d holds c.take_pending.new.self (record { registers = c.make_room.new.registers; marks = c.self.inside.marks.items }) c.take_pending.ensures.same
-    (ap (λ (x : RunnerView). x.marks) c.self.view_is) (λ k. c.make_room.ensures.same k ∙ ap (λ (x : RunnerView). register_at x.registers k) c.self.view_is)
+    take_refused g.H.GcHeap.KIND c.args.store.now c.args.self.now s c.args.d holds c.take_pending.new.self (record { registers = c.make_room.new.registers; rest = record { owned = c.self.inside.owned; marks = c.self.inside.marks.items } }) c.take_pending.ensures.same
+    (ap (λ (x : RunnerView). x.rest) c.self.view_is) (λ k. c.make_room.ensures.same k ∙ ap (λ (x : RunnerView). register_at x.registers k) c.self.view_is)
     ((rw c.in-Err-RootsFull.field-0-is at c.in-Err-RootsFull.ensures).takes s.table s.account holds.table)
