@@ -15,7 +15,7 @@
 //!   of a write; `| reads N..`, `| writes N..` and `| flushes N..` number those that fail; with `| from N` the reads
 //!   before the N-th are not printed; `| unended` as above.
 //! - `! COLLECTOR FIRST MAX_SCOPED` runs the commands of the script, one by one, on a new store whose
-//!   heap begins with FIRST pages and which may have so many scoped roots. Printed are the header, each
+//!   heap begins with FIRST pages and which may have so many scoped roots, and as many owned ones. Printed are the header, each
 //!   reply, `refusals N` and `last FROM TO`, the last ask that the limiter refused, or `last none`. The
 //!   limiter answers by the list of `| answers yes no..` and yes behind it, or grants up to the pages of
 //!   `| most N`. With `| counter N` each N-th allocation collects first. Lines `---` cut the script into
