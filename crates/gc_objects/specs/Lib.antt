@@ -1,0 +1,10 @@
+pub mod Answered
+pub mod Exns
+pub mod Faults
+pub mod Given
+pub mod Hosts
+pub mod Kinds
+pub mod Makes
+pub mod OwnTypes
+pub mod Reads
+pub mod Writes

@@ -1,0 +1,85 @@
+-- What calls that write a field or an element answer and leave.
+use Rattle.std.specs.Prelude.{◌≡◌, ◌⊎◌, ℕ, ◌&&◌, Bool, true, false, Result, Ok, Err, Some, slice_get}
+use Rattle.gc_types.specs.declared.kind.Layouts.{Layouts}
+use Rattle.gc_types.specs.declared.value.FieldType.{FieldType}
+use Rattle.gc_types.specs.declared.value.Mutability.{Mutability}
+use Rattle.gc_types.specs.declared.value.Mutability.TheVariants.{Const, Var}
+use Rattle.gc_model.specs.Values.{at, Value, Object}
+use Rattle.gc_model.specs.Stored.{stored, value_type}
+use Rattle.gc_model.specs.Table.{Table, write}
+use Rattle.gc_model.specs.Stores.{StoreView}
+use Rattle.gc_policy.specs.Accounts.{Account, HoldsAccount}
+use Rattle.gc_store.specs.declared.root.GcRootIndex.{GcRootIndex}
+use Rattle.gc_store.specs.Roots.{is_of_store, NamesReference, NamesNothing, HasValue}
+use Rattle.gc_objects.specs.declared.faults.AccessFault.{AccessFault}
+use Rattle.gc_objects.specs.declared.faults.AccessFault.TheVariants as fault
+use Rattle.gc_objects.specs.declared.val.Val.{Val}
+use Rattle.gc_objects.specs.Given.{is_own, Goes, IsGone, Misfits}
+use Rattle.gc_objects.specs.Reads.{IsOutside}
+
+-- the handle and that of the value are the store's
+abbrev pub are_own_both : {D : Type 0} → StoreView D → GcRootIndex → Val → Bool
+are_own_both s handle v = is_of_store s handle && is_own s v
+
+-- the handle names an object whose values of that index are of a type: a field of it, or an element whatever the index is
+pub record HasType {D : Type 0} (s : StoreView D) (t : Table D) (handle : GcRootIndex) (index : ℕ) (field : FieldType) : Type 0 where
+  pub position : ℕ
+  pub named : NamesReference s t handle (at position)
+  pub object : Object D
+  pub object_is : slice_get t.objects position ≡ Some object
+  pub field_is : value_type t.types object index ≡ Some field
+
+-- such a type, of that mutability, and something that is found of it
+pub record TypedAs {D : Type 0} (s : StoreView D) (t : Table D) (handle : GcRootIndex) (index : ℕ)
+    (mutability : Mutability) (finds : FieldType → Type 0) : Type 0 where
+  pub field : FieldType
+  pub has : HasType s t handle index field
+  pub mutable : field.mutability ≡ mutability
+  pub found : finds field
+
+-- a mutable field or element has the value now, as its type keeps it
+pub record WritesAt {D : Type 0} (layouts : Layouts) (old : StoreView D) (t : Table D) (a : Account) (handle : GcRootIndex)
+    (index : ℕ) (v : Val) (new : StoreView D) : Type 0 where
+  pub before : Value
+  pub has : HasValue old t handle index before
+  pub field : FieldType
+  pub field_is : value_type t.types has.object index ≡ Some field
+  pub mutable : field.mutability ≡ Var
+  pub value : Value
+  pub goes : Goes old t (Some field) v value
+  pub holds : HoldsAccount layouts new (write has.position index (stored field.element_type value) t) a
+
+-- the value's root is gone, or it doesn't fit, where the field or element is mutable
+abbrev pub LosesValue : {D : Type 0} → StoreView D → Table D → GcRootIndex → ℕ → Val → Type 0
+LosesValue s t handle index v = TypedAs s t handle index Var (λ field. IsGone s t v)
+
+abbrev pub RefusesValue : {D : Type 0} → StoreView D → Table D → GcRootIndex → ℕ → Val → Type 0
+RefusesValue s t handle index v = TypedAs s t handle index Var (λ field. Misfits s t (Some field) v)
+
+-- an element past the end, where all other tests of writing it passed
+abbrev pub IsPastEnd : {D : Type 0} → StoreView D → Table D → GcRootIndex → ℕ → Val → Type 0
+IsPastEnd s t handle index v = TypedAs s t handle index Var (λ field. (x : Value) × Goes s t (Some field) v x) × IsOutside s t handle index
+
+-- What writing a value of the object that a handle names answers and leaves. Where there is no value of the index, is for
+-- the kind of the object: a field is looked for before its type is asked, an element last.
+abbrev pub Sets : {D : Type 0} → Type 0 → Layouts → StoreView D → Table D → Account → GcRootIndex → ℕ → Val → Result (Unit {0}) AccessFault
+    → StoreView D → Type 0
+Sets Outside layouts old t a handle index v (Ok done) new = (are_own_both old handle v ≡ true) × WritesAt layouts old t a handle index v new
+Sets Outside layouts old t a handle index v (Err fault.WrongStore) new = are_own_both old handle v ≡ false
+Sets Outside layouts old t a handle index v (Err fault.Unrooted) new =
+    (are_own_both old handle v ≡ true) × (NamesNothing old t handle ⊎ LosesValue old t handle index v)
+Sets Outside layouts old t a handle index v (Err fault.OutOfBounds) new = (are_own_both old handle v ≡ true) × Outside
+Sets Outside layouts old t a handle index v (Err fault.Immutable) new =
+    (are_own_both old handle v ≡ true) × TypedAs old t handle index Const (λ field. Unit {0})
+Sets Outside layouts old t a handle index v (Err fault.TypeMismatch) new = (are_own_both old handle v ≡ true) × RefusesValue old t handle index v
+Sets Outside layouts old t a handle index v (Err fault.LengthMismatch) new = ⊥
+Sets Outside layouts old t a handle index v (Err fault.NotI8Array) new = ⊥
+Sets Outside layouts old t a handle index v (Err fault.RootsFull) new = ⊥
+Sets Outside layouts old t a handle index v (Err fault.FuncTableFull) new = ⊥
+Sets Outside layouts old t a handle index v (Err fault.Memory) new = ⊥
+
+abbrev pub SetsField : {D : Type 0} → Layouts → StoreView D → Table D → Account → GcRootIndex → ℕ → Val → Result (Unit {0}) AccessFault → StoreView D → Type 0
+SetsField layouts old t a handle index v result new = Sets (IsOutside old t handle index) layouts old t a handle index v result new
+
+abbrev pub SetsElement : {D : Type 0} → Layouts → StoreView D → Table D → Account → GcRootIndex → ℕ → Val → Result (Unit {0}) AccessFault → StoreView D → Type 0
+SetsElement layouts old t a handle index v result new = Sets (IsPastEnd old t handle index v) layouts old t a handle index v result new

@@ -1,0 +1,56 @@
+//! Reading and writing values through the store, once all tests passed.
+
+ghost use Rattle.std.specs.Prelude.{◌≡◌, IfOk, IsOk, OnErr};
+ghost use Rattle.gc_model.specs.Table.{Table};
+ghost use Rattle.gc_model.specs.Values.{Value};
+ghost use Rattle.gc_policy.specs.Accounts.{Account, HoldsAccount};
+ghost use Rattle.gc_store.specs.Roots.{CanRead, HasValue};
+ghost use Rattle.gc_store.specs.Values.{CanWrite, WritesValue};
+ghost use Rattle.gc_store.specs.Stores.{IsSameStore};
+ghost use Rattle.gc_objects.specs.Given.{raw_of, ValNamesKind};
+ghost use Rattle.gc_objects.specs.Reads.{ReadsAs};
+
+use crate::faults::AccessFault;
+use crate::val::{Val, raw_of, val_of};
+use gc_heap::GcHeap;
+use gc_store::{GcRootIndex, RootFault, Store, WriteFault};
+
+/// Reads the value of that index of the object that a root names.
+pub(crate) fn read<H: GcHeap, D: Drop>(
+    store: &mut Store<H, D>,
+    root: GcRootIndex,
+    index: u32,
+) -> Result<Val, RootFault>
+    requires { CanRead D H.KIND store.old root index }
+    ensures reads { (t : Table D) (a : Account) (x : Value) → HoldsAccount H.KIND store.old t a
+        → HasValue store.old t root index x → ReadsAs H.KIND t a x result store.new }
+    ensures kind { IfOk result (ValNamesKind D H.KIND store.new) }
+    ensures err { OnErr result (store.new ≡ store.old) }
+    ensures same { IsSameStore store.old store.new }
+{
+    match store.read_value(root, index) {
+        Ok(value) => Ok(val_of(&value)),
+        Err(fault) => Err(fault),
+    }
+}
+
+/// Writes a value that goes there into the object that a root names. No function is written yet, so that
+/// it isn't refused.
+pub(crate) fn write<H: GcHeap, D: Drop>(
+    store: &mut Store<H, D>,
+    root: GcRootIndex,
+    index: u32,
+    value: &Val,
+) -> Result<(), AccessFault>
+    requires { CanWrite D H.KIND store.old root index (raw_of value.now) }
+    ensures ok { IsOk result }
+    ensures writes { (t : Table D) (a : Account) → HoldsAccount H.KIND store.old t a
+        → WritesValue H.KIND store.old store.new t a root index (raw_of value.now) }
+    ensures same { IsSameStore store.old store.new }
+{
+    match store.write_value(root, index, raw_of(value)) {
+        Ok(()) => Ok(()),
+        Err(WriteFault::FuncTableFull) => Err(AccessFault::FuncTableFull),
+        Err(WriteFault::Memory) => Err(AccessFault::Memory),
+    }
+}

@@ -1,0 +1,120 @@
+//! Asking the store for objects.
+
+ghost use Rattle.std.specs.Prelude.{◌≡◌, IfOk, length, map};
+ghost use Rattle.gc_model.specs.Table.{Table};
+ghost use Rattle.gc_model.specs.Values.{Object, array};
+ghost use Rattle.gc_model.specs.Stored.{byte_value};
+ghost use Rattle.gc_policy.specs.Accounts.{Account, HoldsAccount};
+ghost use Rattle.gc_policy.specs.Policy.{policy_state};
+ghost use Rattle.gc_store.specs.Requests.{CanPlaceIn, CanPlaceElements, CanPlaceBytes, IsObjectOf};
+ghost use Rattle.gc_store.specs.Stores.{IsSameStore};
+ghost use Rattle.gc_objects.specs.Given.{raw_of};
+ghost use Rattle.gc_objects.specs.Makes.{IsHanded, MakesAsked, CanMakeOf, IsMadeOf, IsArrayOf};
+
+use crate::faults::AllocFault;
+use crate::val::{Val, raw_of};
+use gc_heap::GcHeap;
+use gc_store::{
+    Contents, GcRef, GcRootIndex, Place, PlaceFault, RawValue, ResourceLimiter, Rooted, Store,
+};
+use gc_types::VMSharedTypeIndex;
+use std::alloc::{AllocError, Global};
+
+/// The values as the store takes them.
+fn raw_values(alloc: Global, values: &[Val]) -> Result<Vec<RawValue>, AllocError>
+    ensures { IfOk result (λ raws. raws.items ≡ map raw_of values.now) }
+{
+    let mut raws = Vec::with_capacity(alloc, values.len())?;
+    for value in values {
+        raws.extend_from_slice(&[raw_of(value)])?;
+    }
+    Ok(raws)
+}
+
+/// What the store answered, as a typed handle.
+fn handed<T: GcRef>(answer: Result<GcRootIndex, PlaceFault>) -> Result<Rooted<T>, AllocFault<()>>
+    ensures { IsHanded answer result }
+{
+    match answer {
+        Ok(root) => Ok(Rooted::from_gc_root_index(root)),
+        Err(PlaceFault::FuncTableFull) => Err(AllocFault::FuncTableFull),
+        Err(PlaceFault::TooLarge) => Err(AllocFault::TooLarge),
+        Err(PlaceFault::RootsFull) => Err(AllocFault::RootsFull),
+        Err(PlaceFault::HeapOutOfMemory(full)) => Err(AllocFault::HeapOutOfMemory(full)),
+        Err(PlaceFault::Memory) => Err(AllocFault::Memory),
+    }
+}
+
+/// Makes an object whose tests all passed.
+pub(crate) fn make<H: GcHeap, D: Drop, L: ResourceLimiter, T: GcRef>(
+    store: &mut Store<H, D>,
+    limiter: &mut L,
+    request: Place,
+    contents: Contents<'_>,
+) -> Result<Rooted<T>, AllocFault<()>>
+    requires { CanPlaceIn D H.KIND store.old request contents }
+    ensures same { IsSameStore store.old store.new }
+    ensures makes { (t : Table D) (a : Account) (o : Object D) → HoldsAccount H.KIND store.old t a → IsObjectOf store.old t request contents.entry o
+        → MakesAsked H.KIND store.old.alloc_counter o (policy_state t a (L.limits limiter.old)) (L.limits limiter.new) result store.new }
+{
+    handed(store.place(limiter, request, contents))
+}
+
+/// Makes an object of values whose tests all passed, one for each field or element.
+pub(crate) fn make_of<H: GcHeap, D: Drop, L: ResourceLimiter, T: GcRef>(
+    store: &mut Store<H, D>,
+    limiter: &mut L,
+    request: Place,
+    values: &[Val],
+) -> Result<Rooted<T>, AllocFault<()>>
+    requires { CanMakeOf D H.KIND store.old request values.now }
+    ensures same { IsSameStore store.old store.new }
+    ensures makes { (t : Table D) (a : Account) (o : Object D) → HoldsAccount H.KIND store.old t a → IsMadeOf store.old t request values.now o
+        → MakesAsked H.KIND store.old.alloc_counter o (policy_state t a (L.limits limiter.old)) (L.limits limiter.new) result store.new }
+{
+    match raw_values(store.allocator(), values) {
+        Ok(raws) => make(store, limiter, request, Contents::Each(raws.as_slice())),
+        Err(_) => Err(AllocFault::Memory),
+    }
+}
+
+/// Makes an array of elements whose tests all passed; `TooLarge` where there are 2^32 or more.
+pub(crate) fn make_elements<H: GcHeap, D: Drop, L: ResourceLimiter, T: GcRef>(
+    store: &mut Store<H, D>,
+    limiter: &mut L,
+    ty: VMSharedTypeIndex,
+    elems: &[Val],
+) -> Result<Rooted<T>, AllocFault<()>>
+    requires { CanPlaceElements D H.KIND store.old ty (length elems.now) (map raw_of elems.now) }
+    ensures same { IsSameStore store.old store.new }
+    ensures makes { (t : Table D) (a : Account) (o : Object D) → HoldsAccount H.KIND store.old t a → IsArrayOf store.old t ty elems.now o
+        → MakesAsked H.KIND store.old.alloc_counter o (policy_state t a (L.limits limiter.old)) (L.limits limiter.new) result store.new }
+{
+    match u32::try_from(elems.len()) {
+        Ok(len) => make_of(store, limiter, Place::Array(ty, len), elems),
+        Err(_) => Err(AllocFault::TooLarge),
+    }
+}
+
+/// Makes an array of 8-bit elements; `TooLarge` where there are 2^32 bytes or more.
+pub(crate) fn make_bytes<H: GcHeap, D: Drop, L: ResourceLimiter, T: GcRef>(
+    store: &mut Store<H, D>,
+    limiter: &mut L,
+    ty: VMSharedTypeIndex,
+    elems: &[u8],
+) -> Result<Rooted<T>, AllocFault<()>>
+    requires { CanPlaceBytes store.old ty (length elems.now) elems.now }
+    ensures same { IsSameStore store.old store.new }
+    ensures makes { (t : Table D) (a : Account) → HoldsAccount H.KIND store.old t a
+        → MakesAsked H.KIND store.old.alloc_counter (array ty (map byte_value elems.now)) (policy_state t a (L.limits limiter.old)) (L.limits limiter.new) result store.new }
+{
+    match u32::try_from(elems.len()) {
+        Ok(len) => make(
+            store,
+            limiter,
+            Place::Array(ty, len),
+            Contents::Bytes(elems),
+        ),
+        Err(_) => Err(AllocFault::TooLarge),
+    }
+}

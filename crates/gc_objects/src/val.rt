@@ -1,0 +1,114 @@
+//! The values that go in and out of objects.
+
+ghost use Rattle.std.specs.Prelude.{◌≡◌};
+ghost use Rattle.gc_model.specs.Holds.{HoldsTable};
+ghost use Rattle.gc_model.specs.Table.{Table};
+ghost use Rattle.gc_objects.specs.Given.{root_of, raw_of};
+ghost use Rattle.gc_objects.specs.Answered.{FitsType};
+
+use crate::checks::{is_live, is_own};
+use crate::fits::value_fits;
+use crate::marks::{AnyRef, ExnRef, ExternRef};
+use gc_heap::GcHeap;
+use gc_refs::V128;
+use gc_store::{GcClass, GcRef, GcRootIndex, RawValue, RootFault, Rooted, RootedGcRef, Store};
+use gc_types::{Func, ValType};
+
+/// A value. Floating-point numbers are their bits; a reference is a handle of its class, or null.
+#[derive(Clone, Copy, Debug)]
+pub enum Val {
+    I32(i32),
+    I64(i64),
+    F32(u32),
+    F64(u64),
+    V128(V128),
+    /// A function, or none. No object holds one yet.
+    FuncRef(Option<Func>),
+    ExternRef(Option<Rooted<ExternRef>>),
+    AnyRef(Option<Rooted<AnyRef>>),
+    ExnRef(Option<Rooted<ExnRef>>),
+}
+
+/// The root of a handle, where there is one.
+fn root_of<T: GcRef>(handle: &Option<Rooted<T>>) -> Option<GcRootIndex>
+    ensures { result ≡ root_of handle.now }
+{
+    match handle {
+        Some(handle) => Some(handle.root_index()),
+        None => None,
+    }
+}
+
+/// A value as the store takes it.
+pub(crate) fn raw_of(value: &Val) -> RawValue
+    ensures { result ≡ raw_of value.now }
+{
+    match value {
+        Val::I32(number) => RawValue::I32(*number),
+        Val::I64(number) => RawValue::I64(*number),
+        Val::F32(bits) => RawValue::F32(*bits),
+        Val::F64(bits) => RawValue::F64(*bits),
+        Val::V128(bits) => RawValue::V128(*bits),
+        Val::FuncRef(func) => RawValue::Func(*func),
+        Val::ExternRef(handle) => RawValue::Ref(GcClass::Extern, root_of(handle)),
+        Val::AnyRef(handle) => RawValue::Ref(GcClass::Any, root_of(handle)),
+        Val::ExnRef(handle) => RawValue::Ref(GcClass::Exn, root_of(handle)),
+    }
+}
+
+/// A handle of a root, where there is one.
+fn handle_of<T: GcRef>(root: Option<GcRootIndex>) -> Option<Rooted<T>>
+    ensures { root_of result ≡ root }
+{
+    match root {
+        Some(root) => Some(Rooted::from_gc_root_index(root)),
+        None => None,
+    }
+}
+
+/// A reference of that class.
+fn reference_of(class: GcClass, root: Option<GcRootIndex>) -> Val
+    ensures { raw_of result ≡ RawValue.Ref class root }
+{
+    match class {
+        GcClass::Any => Val::AnyRef(handle_of(root)),
+        GcClass::Extern => Val::ExternRef(handle_of(root)),
+        GcClass::Exn => Val::ExnRef(handle_of(root)),
+    }
+}
+
+/// A value that the store gave.
+pub(crate) fn val_of(value: &RawValue) -> Val
+    ensures { raw_of result ≡ value.now }
+{
+    match value {
+        RawValue::I32(number) => Val::I32(*number),
+        RawValue::I64(number) => Val::I64(*number),
+        RawValue::F32(bits) => Val::F32(*bits),
+        RawValue::F64(bits) => Val::F64(*bits),
+        RawValue::V128(bits) => Val::V128(*bits),
+        RawValue::Func(func) => Val::FuncRef(*func),
+        RawValue::Ref(class, root) => reference_of(*class, *root),
+    }
+}
+
+impl Val {
+    /// Whether the value fits a type, as the store's types and objects say: `WrongStore` where its handle
+    /// is another store's, `Unrooted` where it isn't live. A number fits its own type, null a nullable type
+    /// of its class, and a reference what its object's type matches. It changes nothing.
+    pub fn matches_ty<H: GcHeap, D: Drop>(
+        &self,
+        store: &Store<H, D>,
+        ty: &ValType,
+    ) -> Result<bool, RootFault>
+        ensures { (t : Table D) → HoldsTable H.KIND store.now t → FitsType store.now t ty.now self.now result }
+    {
+        if !is_own(store, self) {
+            return Err(RootFault::WrongStore);
+        }
+        if !is_live(store, self) {
+            return Err(RootFault::Unrooted);
+        }
+        Ok(value_fits(store, ty, &raw_of(self)))
+    }
+}
