@@ -1,5 +1,5 @@
 -- A store that holds a table holds it after the value of a host object was set.
-use Rattle.std.proofs.Common.{◌≡◌, ◌≢◌, ℕ, zero, suc, ◌+◌, inl, inr, Bool, true, List, [], ◌∷◌, length, Option, Some, None, sym, ap, ◌∙◌, refl, subst, arith}
+use Rattle.std.proofs.Common.{◌≡◌, ◌≢◌, ℕ, zero, suc, ◌+◌, inl, inr, Bool, true, List, [], ◌∷◌, Option, Some, sym, ap, ◌∙◌, refl, subst, arith}
 use Rattle.std.specs.List.{slice_get}
 use Rattle.std.specs.Ordering.{nat_cmp}
 use Rattle.std.specs.FinMap.{FinMap, get, insert, gets}
@@ -18,14 +18,14 @@ use Rattle.gc_types.specs.Layouts.{round_up}
 use Rattle.gc_owner.specs.declared.entry.GcClass.TheVariants.{Any, Extern, Exn}
 use Rattle.gc_view.specs.Heaps.{HeapObject}
 use Rattle.gc_view.specs.Sizes.{alignment}
-use Rattle.gc_model.specs.Values.{Reference, null, small, at, Value, numeric, function, reference, Object, struct, array, host, exception}
+use Rattle.gc_model.specs.Values.{null, small, at, Value, numeric, function, reference, Object, struct, array, host, exception}
 use Rattle.gc_model.specs.Reach.{object_values}
 use Rattle.gc_model.specs.Table.{Table, change_at, with_host_value, set_host}
 use Rattle.gc_model.specs.Fits.{object_fits_any, object_fits_extern, object_fits_exn, fits_type, fits}
 use Rattle.gc_model.specs.Reads.{host_value}
 use Rattle.gc_model.specs.Sizes.{object_size, next_after}
 use Rattle.gc_model.specs.Stores.{StoreView, with_host_at}
-use Rattle.gc_model.specs.Holds.{Placing, Names, naming, Holds, KindHolds, HeldAt, Stands, ObjectsHold, IsHostAt, HasHostValue, HostsBy, TypedBy}
+use Rattle.gc_model.specs.Holds.{Placing, Names, naming, Holds, KindHolds, Stands, ObjectsHold, IsHostAt, HasHostValue, HostsBy, TypedBy}
 use Rattle.gc_model.proofs.Changes.{length-change_at, slice_get-change_at_same, slice_get-change_at_other}
 use Rattle.gc_model.proofs.Hosts.{host_alone}
 use Rattle.gc_model.proofs.HoldsParts.{heap_changed, pending_changed}

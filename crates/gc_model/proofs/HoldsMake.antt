@@ -1,5 +1,5 @@
 -- A store that holds a table holds it with one more object, named by a new scoped root.
-use Rattle.std.proofs.Common.{◌≡◌, ◌≢◌, ℕ, ◌+◌, ◌%◌, ◌<◌, ◌⊎◌, inl, inr, true, false, cond, nat_eq, eqb, Some, None, length, sym, ap, ◌∙◌, refl, subst, arith}
+use Rattle.std.proofs.Common.{◌≡◌, ◌≢◌, ℕ, ◌+◌, ◌%◌, ◌<◌, ◌⊎◌, inl, inr, true, false, eqb, Some, None, length, sym, ap, ◌∙◌, refl, subst, arith}
 use Rattle.std.specs.Ordering.{nat_cmp}
 use Rattle.std.specs.FinMap.{FinMap, get, insert}
 use Rattle.std.proofs.lemmas.Grind.{common_steps}
@@ -16,6 +16,7 @@ use Rattle.gc_view.specs.Sizes.{alignment}
 use Rattle.gc_model.specs.Sizes.{object_size}
 use Rattle.gc_view.specs.Heaps.{HeapView, HeapObject}
 use Rattle.gc_model.specs.Stores.{StoreView}
+pub use Rattle.gc_model.specs.Words.{placed_at}
 use Rattle.gc_model.specs.Holds.{Placing, naming, Holds, KindHolds, HeldAt, HostStands, HostsBy, Stands}
 use Rattle.gc_model.proofs.Lists.{slice_get-push_old, slice_get-push_new}
 use Rattle.gc_model.proofs.Types.{next_after-push}
@@ -26,10 +27,6 @@ use Rattle.gc_model.proofs.Thrown.{thrown-more}
 use Rattle.gc_model.proofs.HoldsParts.{same_held-itself, places_changed}
 use Rattle.gc_model.proofs.Hosts.{hosts-added, hosts-made}
 use Rattle.gc_model.proofs.HoldsPush.{with_root, holds_push}
-
--- the placing with one more position
-abbrev pub placed_at : Placing → ℕ → ℕ → Placing
-placed_at place n word position = cond (nat_eq position n) (Some word) (place position)
 
 placed_at-new : (place : Placing) (n word : ℕ) → placed_at place n word n ≡ Some word
 placed_at-new place n word = grind (arith, common_steps)

@@ -1,6 +1,6 @@
 -- A store with nothing in it holds the empty table.
 use Rattle.std.specs.Prelude.{replicate}
-use Rattle.std.proofs.Common.{List, ◌≡◌, ℕ, ◌+◌, ◌≤◌, ◌^◌, [], Option, Some, None, sym, ap, ◌∙◌, refl, arith, false, length, subst}
+use Rattle.std.proofs.Common.{List, ◌≡◌, ℕ, ◌+◌, ◌≤◌, ◌^◌, [], Option, Some, sym, ap, ◌∙◌, refl, arith, false, length, subst}
 use Rattle.std.specs.Ordering.{nat_cmp}
 use Rattle.std.specs.FinMap.{empty, get, get-empty}
 use Rattle.std.proofs.lemmas.Option.{none-some}
@@ -13,15 +13,12 @@ use Rattle.gc_model.specs.Table.{Table, start, global_count, empty_slot}
 use Rattle.gc_view.specs.Heaps.{HeapView, HeapObject}
 use Rattle.gc_owner.specs.declared.entry.SlotEntry.{SlotEntry}
 use Rattle.gc_model.specs.Stores.{StoreView, empty_store, unset_globals}
+pub use Rattle.gc_model.specs.Words.{nowhere}
 use Rattle.gc_model.specs.Holds.{Placing, Holds, KindHolds}
 use Rattle.gc_model.specs.RootPoints.{FramesBy, GlobalsBy, OwnedBy}
 use Rattle.gc_model.proofs.RootsMoved.{frames-empty, globals-empty, unset_from_table, owned-none}
 use Rattle.gc_model.proofs.HoldsHeap.{nothing_placed}
 use Rattle.gc_model.proofs.Hosts.{hosts-empty, hosts-nil}
-
--- no position is placed
-abbrev pub nowhere : Placing
-nowhere position = None
 
 -- nothing was done with the store yet
 pub record IsUntouched {D : Type 0} (layouts : Layouts) (s : StoreView D) : Type 0 where
@@ -68,7 +65,7 @@ holds_untouched D layouts s untouched = record {
   pending = record { same_word = untouched.pending; thrown = λ r e. absurd (none-some r e) };
   funcs = untouched.funcs;
   hosts = hosts-nil [] nowhere s.heap.content s.hosts refl untouched.no_hosts;
-  nothing_else = record { funcs = refl; blocks = refl };
+  nothing_else = record { funcs = refl };
   typed = λ position index object value e f. absurd (none-some object e);
 }
 

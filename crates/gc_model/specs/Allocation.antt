@@ -12,6 +12,8 @@ pub use Rattle.gc_owner.specs.Limiters.{Limits, MayHave, MayRefuse}
 pub use Rattle.gc_owner.specs.Growing.{pages_for, asked, MayGrow}
 use Rattle.gc_model.specs.Sizes.{object_size, rounded_size, next_place}
 use Rattle.gc_model.specs.Reach.{IsReached, AreAll}
+use Rattle.gc_model.specs.Words.{Placing}
+use Rattle.gc_model.specs.Gaps.{KeptAt, HasGap}
 
 -- a count of 64 bits rose, or stands at its greatest value
 abbrev pub Rose : ℕ → ℕ → Type 0
@@ -36,17 +38,15 @@ pub record HasRoom {D : Type 0} (t : Table D) (size : ℕ) : Type 0 where
   pub room : skipped + sum (map (copied_size t) reached) + round_up size alignment ≤ page / 2 * t.pages
 
 -- A heap of the kind has room for so many bytes: the null heap behind its objects, the copying heap
--- beside the reachable ones. Of the counting heap nothing is said yet.
-abbrev pub FitsIn : {D : Type 0} → Layouts → Table D → ℕ → Type 0
-FitsIn Null t size = Fits t size
-FitsIn Counting t size = Unit {0}
-FitsIn Copying t size = HasRoom t size
+-- beside the reachable ones, the counting heap between the reachable ones, where they lie.
+abbrev pub FitsIn : {D : Type 0} → Layouts → Placing → Table D → ℕ → Type 0
+FitsIn Null places t size = Fits t size
+FitsIn Counting places t size = HasGap (KeptAt Counting t places) t size
+FitsIn Copying places t size = HasRoom t size
 
 -- it has none
-abbrev pub LacksFit : {D : Type 0} → Layouts → Table D → ℕ → Type 0
-LacksFit Null t size = Fits t size → ⊥
-LacksFit Counting t size = Unit {0}
-LacksFit Copying t size = HasRoom t size → ⊥
+abbrev pub LacksFit : {D : Type 0} → Layouts → Placing → Table D → ℕ → Type 0
+LacksFit layouts places t size = FitsIn layouts places t size → ⊥
 
 -- The first pages may be had: the heap is made, or a limit that is told grants them.
 abbrev pub MayMakeHeap : {D : Type 0} → Option ℕ → Table D → Type 0
@@ -69,18 +69,18 @@ pub data GetsPages {D : Type 0} (limit : Option ℕ) (t : Table D) (bytes : ℕ)
   more : MayMakeHeap limit t → MayGrow limit (made_pages t) bytes → GetsPages limit t bytes (made_pages t + asked (made_pages t) bytes)
 
 -- An object was made, with the heap's first pages where it wasn't made, and after a growth by the bytes that it
--- needs or without one.
-pub record Allocates {D : Type 0} (layouts : Layouts) (limit : Option ℕ) (o : Object D) (t t' : Table D) : Type 0 where
+-- needs or without one. The places are those of what the heap held before.
+pub record Allocates {D : Type 0} (layouts : Layouts) (limit : Option ℕ) (places : Placing) (o : Object D) (t t' : Table D) : Type 0 where
   pub pages : ℕ
   pub gets : GetsPages limit t (need_of layouts (object_size layouts t.types o)) pages
-  pub fits : FitsIn layouts (with_pages pages t) (object_size layouts t.types o)
+  pub fits : FitsIn layouts places (with_pages pages t) (object_size layouts t.types o)
   pub made : t' ≡ make o (with_pages pages t)
 
 -- An object was refused: its heap could not be made, or has no room for it and was refused a growth.
-pub data LacksMemory {D : Type 0} (layouts : Layouts) (limit : Option ℕ) (o : Object D) (t t' : Table D) : Type 0 where
-  no_heap : IsRefusedHeap limit t → t' ≡ t → LacksMemory layouts limit o t t'
+pub data LacksMemory {D : Type 0} (layouts : Layouts) (limit : Option ℕ) (places : Placing) (o : Object D) (t t' : Table D) : Type 0 where
+  no_heap : IsRefusedHeap limit t → t' ≡ t → LacksMemory layouts limit places o t t'
   no_room : MayMakeHeap limit t → IsRefusedGrowth limit (made_pages t) (need_of layouts (object_size layouts t.types o))
-      → LacksFit layouts (make_heap t) (object_size layouts t.types o) → t' ≡ make_heap t → LacksMemory layouts limit o t t'
+      → LacksFit layouts places (make_heap t) (object_size layouts t.types o) → t' ≡ make_heap t → LacksMemory layouts limit places o t t'
 
 -- What a growth by so many bytes leaves of the table, and whether it was granted. One by none is always
 -- granted and does nothing.

@@ -11,7 +11,7 @@ use Rattle.gc_model.specs.Reach.{IsKept, object_values}
 use Rattle.gc_model.specs.Stored.{value_type}
 use Rattle.gc_model.specs.Fits.{fits}
 use Rattle.gc_types.specs.declared.value.Func.{Func}
-use Rattle.gc_model.specs.Table.{Table, Scoped, Push, Block}
+use Rattle.gc_model.specs.Table.{Table, Scoped, Push}
 pub use Rattle.gc_model.specs.Words.{Placing, IsWord}
 pub use Rattle.gc_model.specs.Forms.{Names, naming}
 pub use Rattle.gc_model.specs.RootPoints.{EntryBy, ScopedBy, IsPastBy, PushesBy, SlotBy, SlotsBy, FramesBy, GlobalsBy, OwnedRootBy, OwnedBy, PendingBy, IsException, ThrownBy}
@@ -72,16 +72,9 @@ pub record ScopesBy (ends drops count most : ℕ) : Type 0 where
   pub scoped_within : count ≤ most
   pub drops_within : drops ≤ 2 ^ 64 - 1
 
--- The blocks of a table whose heap counts references are the positions that are placed, with their places. The
--- lines on blocks in `NotBuilt` give way to this once a counting heap stands behind a store.
-pub record BlocksBy (place : Placing) (blocks : List Block) : Type 0 where
-  pub each : (i : ℕ) (block : Block) → slice_get blocks i ≡ Some block → place block.position ≡ Some block.place
-  pub all : (position word : ℕ) → place position ≡ Some word → (i : ℕ) × (slice_get blocks i ≡ Some (record { position = position; place = word }))
-
 -- What no call makes yet is empty: one line each.
-pub record NotBuilt (functions : List (Option Func)) (held : List Block) : Type 0 where
+pub record NotBuilt (functions : List (Option Func)) : Type 0 where
   pub funcs : functions ≡ []
-  pub blocks : held ≡ []
 
 -- a value of an object has a declared type, of a field or of the elements, and fits it, by the types and the objects
 pub record IsTypedValue {D : Type 0} (types : List Declaration) (objects : List (Object D)) (object : Object D) (index : ℕ) (value : Value) : Type 0 where
@@ -165,7 +158,7 @@ module _ {D : Type 0} where
   HostsHold t place heap hosts = HostsBy t.objects place heap.content hosts
 
   abbrev pub NothingElse : Table D → Type 0
-  NothingElse t = NotBuilt t.funcs t.blocks
+  NothingElse t = NotBuilt t.funcs
 
   -- the store holds the table under that placing
   abbrev pub Holds : Layouts → StoreView D → Table D → Placing → Type 0

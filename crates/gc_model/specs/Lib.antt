@@ -9,6 +9,8 @@ pub mod Sizes
 pub mod Stored
 pub mod Allocation
 pub mod Words
+pub mod Gaps
+pub mod Counts
 pub mod Forms
 pub mod Standing
 pub mod Globals

@@ -28,13 +28,8 @@ pub record Push : Type 0 where
   pub index : ℕ
   pub generation : ℕ
 
--- An object that a counting heap holds: its position and its place.
-pub record Block : Type 0 where
-  pub position : ℕ
-  pub place : ℕ
-
 -- The table. Objects are only added, or changed in one value; garbage is only "not reached".
--- The owned roots stand in the order in which they were made. Function values and blocks are empty so far.
+-- The owned roots stand in the order in which they were made. Function values are empty so far.
 pub record Table (D : Type 0) : Type 0 where
   pub types : List Declaration
   pub objects : List (Object D)
@@ -47,7 +42,6 @@ pub record Table (D : Type 0) : Type 0 where
   pub owned : List Owned
   pub pending : Option Reference
   pub funcs : List (Option Func)
-  pub blocks : List Block
   pub made : Bool
   pub pages : ℕ
   pub first : ℕ
@@ -75,7 +69,6 @@ start first max_scoped max_owned = record {
   owned = [];
   pending = None;
   funcs = [];
-  blocks = [];
   made = false;
   pages = 0;
   first = first;

@@ -1,5 +1,5 @@
 -- A store that held a table holds it after a collection of its owner, and no other object than the collection keeps.
-use Rattle.std.proofs.Common.{◌≡◌, ℕ, ◌+◌, ◌%◌, ◌<◌, true, false, List, map, Option, Some, None, is_some, Contains, refl, sym, ap, ◌∙◌, subst, arith}
+use Rattle.std.proofs.Common.{◌≡◌, ℕ, ◌+◌, ◌%◌, ◌<◌, true, false, List, Option, Some, None, is_some, Contains, refl, sym, ap, ◌∙◌, subst, arith}
 use Rattle.std.specs.Ordering.{nat_cmp}
 use Rattle.std.specs.FinMap.{FinMap, get}
 use Rattle.std.proofs.lemmas.List.{length-map}
@@ -12,6 +12,7 @@ use Rattle.gc_owner.specs.Owners.{OwnerView, CanBegin, CollectsAll, start_of}
 use Rattle.gc_model.specs.Values.{Reference, null, small, at}
 use Rattle.gc_model.specs.Table.{Table}
 use Rattle.gc_model.specs.Reach.{IsKept}
+use Rattle.gc_model.specs.Gaps.{told, AreCut}
 use Rattle.gc_view.specs.Heaps.{HeapView, HeapObject}
 use Rattle.gc_model.specs.Stores.{StoreView}
 use Rattle.gc_model.proofs.HoldsParts.{places_changed}
@@ -27,7 +28,7 @@ use Rattle.gc_policy.proofs.Frames.{frame_words, frames-mapped}
 use Rattle.gc_policy.proofs.CollectedRoots.{StaysPresent, scoped-carried, frames-carried, globals-carried, owned-carried, thrown-carried}
 use Rattle.gc_policy.proofs.CollectedValues.{stands_moved, host_moved, host_was}
 use Rattle.gc_policy.proofs.CollectedPlacing.{place_after, placed_after, placed_before, word_carried}
-use Rattle.gc_policy.proofs.CollectedKept.{traced_here, kept_position}
+use Rattle.gc_policy.proofs.CollectedKept.{traced_here, kept_position, kept_placed}
 
 -- a value of a table is one of its part, where that has some value under the id
 pub part_value : {D : Type 0} (part whole : FinMap nat_cmp D) (id : ℕ) (value : D) → IsPartOf part whole → get whole id ≡ Some value → has_host part id ≡ true → get part id ≡ Some value
@@ -273,3 +274,32 @@ collected_holds layouts s t place v w c = (
   after layouts s t place v w c,
   (holds_after layouts s t place v w c (kind_after layouts s t place v w c), kept_after layouts s t place v w c),
 )
+
+-- What the table keeps was at a place that the collection kept.
+pub position_kept : {D : Type 0} (layouts : Layouts) (s : StoreView D) (t : Table D) (place : Placing) (v w : OwnerView D) → CollectsHeld layouts s t place v w → (p : ℕ) → IsKept layouts t p → (word : ℕ) × ((place p ≡ Some word) × Kept layouts (start_of v) word)
+position_kept layouts s t place v w c p kept =
+    let there = kept_placed (shown s w) t (after layouts s t place v w c) layouts (holds_after layouts s t place v w c (kind_after layouts s t place v w c)) p kept in
+    let was = placed_before layouts (start_of v) w.heap (roots_of w.roots) (has_host w.hosts) c.collects.collected place p there.0 there.1 in
+    (was.word, (was.placed, was.kept))
+
+-- In a counting heap what is left lies where it lay.
+counting_stays : {D : Type 0} (s : StoreView D) (t : Table D) (place : Placing) (v w : OwnerView D) (c : CollectsHeld Counting s t place v w) (p word : ℕ) → after Counting s t place v w c p ≡ Some word → place p ≡ Some word
+counting_stays s t place v w c p word left =
+    let was = placed_before Counting (start_of v) w.heap (roots_of w.roots) (has_host w.hosts) c.collects.collected place p word left in
+    let stays : c.collects.collected.to was.word ≡ was.word = (c.collects.collected.by_kind.0 was.word was.kept).0 in
+    was.placed ∙ ap (λ x. Some x) (sym stays ∙ was.moves)
+
+counting_left : {D : Type 0} (s : StoreView D) (t : Table D) (place : Placing) (v w : OwnerView D) (c : CollectsHeld Counting s t place v w) (p word : ℕ) → place p ≡ Some word → IsKept Counting t p → after Counting s t place v w c p ≡ Some word
+counting_left s t place v w c p word placed kept =
+    let there = kept_placed (shown s w) t (after Counting s t place v w c) Counting (holds_after Counting s t place v w c (kind_after Counting s t place v w c)) p kept in
+    there.1 ∙ sym (counting_stays s t place v w c p there.0 there.1) ∙ placed
+
+-- Where places are told, those of what is kept are left.
+pub collected_places : {D : Type 0} (layouts : Layouts) (s : StoreView D) (t : Table D) (place : Placing) (v w : OwnerView D) (c : CollectsHeld layouts s t place v w) → AreCut layouts t (told layouts place) (told layouts (collected_holds layouts s t place v w c).0)
+unfolding collected_holds
+collected_places Null s t place v w c p word = (λ none. absurd (none-some word none), λ kept. absurd (none-some word kept.0))
+collected_places Counting s t place v w c p word = (
+  λ left. (counting_stays s t place v w c p word left, kept_after Counting s t place v w c p word left),
+  λ kept. counting_left s t place v w c p word kept.0 kept.1,
+)
+collected_places Copying s t place v w c p word = (λ none. absurd (none-some word none), λ kept. absurd (none-some word kept.0))

@@ -74,7 +74,7 @@ module _ {D : Type 0} (layouts : Layouts) (types : List Declaration) (names : Na
   stands_fields (exception ty tag values) h not_host is = subst HasFields (sym is.kind) tt
 
   -- what stands for an array tells as many elements
-  array_counted : (o : Object D) (h : HeapObject) (shape : Shape) → Stands layouts types names o h → IsOfShape types o shape → shape_kind shape ≡ kinds.Array → array_length h ≡ length (object_values o)
+  pub array_counted : (o : Object D) (h : HeapObject) (shape : Shape) → Stands layouts types names o h → IsOfShape types o shape → shape_kind shape ≡ kinds.Array → array_length h ≡ length (object_values o)
   array_counted (struct ty values) h shape is of_shape of_array = absurd (cc (sym of_shape.1 ∙ of_array))
   array_counted (array ty values) h shape is of_shape of_array = is.elements
   array_counted (host value) h shape is of_shape of_array = absurd of_shape

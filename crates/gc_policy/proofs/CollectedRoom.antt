@@ -1,15 +1,18 @@
--- Room in a copying heap: beside all its objects, and beside those that the roots of the table reach.
-use Rattle.std.proofs.Common.{◌≡◌, ℕ, List, filter, Option, Some, None, refl, sym, ◌∙◌, arith}
+-- Room in a heap: beside all its objects, and beside those that the roots of the table reach.
+use Rattle.std.proofs.Common.{◌≡◌, ℕ, List, filter, Option, Some, None, Contains, refl, sym, ◌∙◌, arith}
 use Rattle.std.specs.List.{sum_by, slice_get}
 use Rattle.std.specs.FinMap.{get, entries}
 use Rattle.std.proofs.lemmas.List.Sums.{sum-map}
 use Rattle.gc_types.specs.declared.kind.Layouts.{Layouts}
 use Rattle.gc_types.specs.declared.kind.Layouts.TheVariants.{Null, Counting, Copying}
 use Rattle.gc_types.specs.Declarations.{Declaration}
+use Rattle.gc_types.specs.Layouts.{round_up}
+use Rattle.gc_view.specs.Sizes.{alignment}
 use Rattle.gc_model.specs.Table.{Table}
 use Rattle.gc_model.specs.Values.{Object}
 use Rattle.gc_model.specs.Sizes.{rounded_size}
-use Rattle.gc_model.specs.Reach.{IsReached, AreAll, root_references}
+use Rattle.gc_model.specs.Reach.{IsReached, IsKept, AreAll, root_references}
+use Rattle.gc_model.specs.Gaps.{KeptAt, IsGap}
 use Rattle.gc_model.specs.Allocation as allocation
 use Rattle.gc_model.specs.Allocation.{copied_size, FitsIn, LacksFit}
 use Rattle.gc_view.specs.Heaps.{HeapObject}
@@ -18,7 +21,9 @@ use Rattle.gc_model.specs.Holds.{Placing, Holds, HoldsKept}
 use Rattle.gc_heap.specs.Content.{total, block_size}
 use Rattle.gc_heap.specs.Heap.{HasRoom}
 use Rattle.gc_policy.proofs.CollectedKept.{reached_placed}
-use Rattle.gc_policy.specs.Policy.{block_of}
+use Rattle.gc_policy.specs.Accounts.{HoldsAccount}
+use Rattle.gc_policy.specs.Policy.{PolicyState, LiesNow, block_of}
+use Rattle.gc_policy.proofs.HeapGaps.{gap_beside, gap_now, free_now}
 use Rattle.gc_policy.proofs.HeldBlocks.{held_block}
 use Rattle.gc_policy.proofs.HeldEntries.{held_entry}
 use Rattle.gc_policy.proofs.HeldNumber.{position_of, placed_of, positions, are_placed, are_kept}
@@ -82,13 +87,27 @@ collected_room s t size kept has =
     omega arith
 
 -- where a heap has room for so many bytes, the table has
-pub fits_in : {D : Type 0} (layouts : Layouts) (s : StoreView D) (t : Table D) (place : Placing) (size : ℕ) → Holds layouts s t place → HasRoom layouts s.heap size → FitsIn layouts t size
-fits_in Null s t place size holds room = let next = holds.by_kind.allocated in let capacity = holds.memory.capacity in omega arith
-fits_in Counting s t place size holds room = tt
-fits_in Copying s t place size holds room = held_room s t place holds size room
+pub fits_in : {D : Type 0} (layouts : Layouts) (s : StoreView D) (p : PolicyState D) (size : ℕ) → HoldsAccount layouts s p.table p.account → HasRoom layouts s.heap size → FitsIn layouts p.account.places p.table size
+fits_in Null s p size holds room = let next = holds.holds.by_kind.allocated in let capacity = holds.holds.memory.capacity in omega arith
+fits_in Counting s p size holds room = (
+  room.0,
+  gap_beside (LiesNow p) (KeptAt Counting p.table p.account.places) p.table room.0 (round_up size alignment) (λ q word kept. kept.0) (gap_now s p holds room.0 (round_up size alignment) room.1),
+)
+fits_in Copying s p size holds room = held_room s p.table holds.place holds.holds size room
+
+-- the heap holds nothing but what a collection keeps
+abbrev pub OnlyKept : {D : Type 0} → Layouts → PolicyState D → Type 0
+OnlyKept layouts p = (q : ℕ) → Contains p.account.held q → IsKept layouts p.table q
+
+kept_alone : {D : Type 0} (layouts : Layouts) (s : StoreView D) (p : PolicyState D) → HoldsAccount layouts s p.table p.account → OnlyKept layouts p → HoldsKept layouts s p.table
+kept_alone layouts s p holds only = (holds.place, (holds.holds, λ q word placed. only q ((holds.account.held.all q).1 (word, placed))))
 
 -- where a heap has none after a collection, the table has none
-pub lacks_fit : {D : Type 0} (layouts : Layouts) (s : StoreView D) (t : Table D) (size : ℕ) → HoldsKept layouts s t → (HasRoom layouts s.heap size → ⊥) → LacksFit layouts t size
-lacks_fit Null s t size kept none = λ fits. none (let next = kept.1.0.by_kind.allocated in let capacity = kept.1.0.memory.capacity in omega arith)
-lacks_fit Counting s t size kept none = tt
-lacks_fit Copying s t size kept none = λ has. none (collected_room s t size kept has)
+pub lacks_fit : {D : Type 0} (layouts : Layouts) (s : StoreView D) (p : PolicyState D) (size : ℕ) → HoldsAccount layouts s p.table p.account → OnlyKept layouts p → (HasRoom layouts s.heap size → ⊥) → LacksFit layouts p.account.places p.table size
+lacks_fit Null s p size holds only none = λ fits. none (let next = holds.holds.by_kind.allocated in let capacity = holds.holds.memory.capacity in omega arith)
+lacks_fit Counting s p size holds only none = λ fits.
+    let gap : IsGap (LiesNow p) p.table fits.0 (round_up size alignment) =
+    gap_beside (KeptAt Counting p.table p.account.places) (LiesNow p) p.table fits.0 (round_up size alignment)
+    (λ q word lies. (lies, only q ((holds.account.held.all q).1 (word, sym (holds.account.places q) ∙ lies)))) fits.1 in
+    none (fits.0, free_now s p holds fits.0 (round_up size alignment) gap)
+lacks_fit Copying s p size holds only none = λ has. none (collected_room s p.table size (kept_alone Copying s p holds only) has)

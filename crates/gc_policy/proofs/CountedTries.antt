@@ -14,5 +14,5 @@ pub counted_holds : {D : Type 0} (layouts : Layouts) (s : StoreView D) (t : Tabl
 counted_holds layouts s t a holds = record {
   place = holds.place;
   holds = holds_counted layouts s t holds.place s.last (min (s.tries + 1) (2 ^ 64 - 1)) holds.holds;
-  account = record { held = holds.account.held; last = holds.account.last; tries = ap (λ (n : ℕ). min (n + 1) (2 ^ 64 - 1)) holds.account.tries; upper = holds.account.upper };
+  account = record { held = holds.account.held; places = holds.account.places; last = holds.account.last; tries = ap (λ (n : ℕ). min (n + 1) (2 ^ 64 - 1)) holds.account.tries; upper = holds.account.upper };
 }

@@ -6,7 +6,7 @@ use Rattle.gc_view.specs.Pages.{page}
 use Rattle.gc_model.specs.Allocation.{Limits, asked, MayGrow, IsRefusedGrowth}
 use Rattle.gc_view.specs.Heaps.{HeapView}
 use Rattle.gc_model.specs.Stores.{StoreView}
-use Rattle.gc_model.specs.Holds.{HoldsKept}
+use Rattle.gc_model.specs.Reach.{IsReached}
 use Rattle.gc_model.proofs.HoldsHeap.{IsGrownHeap, holds_pages}
 use Rattle.gc_heap.specs.Content.{IsHeap}
 use Rattle.gc_heap.specs.Heap.{allocated_in_more}
@@ -16,6 +16,8 @@ use Rattle.gc_owner.specs.RootColumns.{roots_of}
 use Rattle.gc_heap.specs.Collection.{has_host}
 use Rattle.gc_policy.specs.Shown.{shown}
 use Rattle.gc_policy.proofs.AccountLemmas.{account_kept}
+use Rattle.gc_policy.proofs.CollectedRoom.{OnlyKept}
+use Rattle.gc_policy.proofs.KeptPlaces.{StayAt}
 use Rattle.gc_owner.proofs.Begins.{numbers_kept}
 use Rattle.gc_policy.proofs.Simulation.{Agrees, ready_follows}
 
@@ -36,7 +38,8 @@ pub record FollowsGrowth {D : Type 0} (layouts : Layouts) (s : StoreView D) (byt
   pub agrees : Agrees layouts s e after
   pub table : after.table ≡ table_after ok bytes p.table
   pub answer : Answered ok p.limits.limit p.table.pages bytes
-  pub kept : ok ≡ false → HoldsKept layouts (shown s h.owner) p.table → HoldsKept layouts (shown s e.owner) after.table
+  pub stay : StayAt layouts (IsReached p.table) p.account.places after.account.places
+  pub only : ok ≡ false → OnlyKept layouts p → OnlyKept layouts after
 
 -- as many pages as there are bytes for
 whole_pages : (capacity pages : ℕ) → capacity ≡ page * pages → capacity / page ≡ pages
@@ -81,9 +84,9 @@ module _ {D : Type 0} (layouts : Layouts) (s : StoreView D) (bytes : ℕ) (h : O
       }
 
   -- a growth that was refused leaves what the heap holds
-  refused_kept : (limits : Limits) (ok : Bool) → ok ≡ false → HoldsKept layouts (shown s h.owner) p.table → HoldsKept layouts (shown s (grown_state limits ok).owner) (table_after ok bytes p.table)
-  refused_kept limits false _ kept = kept
-  refused_kept limits true is kept = absurd (cc)
+  refused_only : (limits : Limits) (ok : Bool) → ok ≡ false → OnlyKept layouts p → OnlyKept layouts (grown_table limits ok)
+  refused_only limits false _ only = only
+  refused_only limits true is only = absurd (cc)
 
 pub growth_follows : {D : Type 0} (layouts : Layouts) (s : StoreView D) (bytes : ℕ) (h : OwnerState D) (p : PolicyState D) (agrees : Agrees layouts s h p) (ok : Bool) (e : OwnerState D) → Grows layouts bytes h ok e → FollowsGrowth layouts s bytes h e p ok
 growth_follows {D} layouts s bytes h p agrees ok e grew =
@@ -99,6 +102,6 @@ growth_follows {D} layouts s bytes h p agrees ok e grew =
       table = ap (λ (t : Table D). table_after ok bytes t) ready.table;
       answer = subst (λ (n : ℕ). Answered ok p.limits.limit n bytes) (ap (λ (t : Table D). t.pages) ready.table)
           (subst (λ (l : Limits). Answered ok l.limit ready.after.table.pages bytes) ready.limits (answered ready.after.table.pages bytes ready.after.limits e.limits ok asks));
-      kept = λ is before. subst (λ (x : OwnerState D). HoldsKept layouts (shown s x.owner) (table_after ok bytes ready.after.table)) (sym grew.after)
-          (refused_kept layouts s bytes grew.ready ready.after ready.agrees e.limits ok is (ready.kept before));
+      stay = ready.stay;
+      only = λ is before. refused_only layouts s bytes grew.ready ready.after ready.agrees e.limits ok is (ready.only before);
     }

@@ -74,7 +74,7 @@ held_block layouts s t place holds p word h placed got =
     ∙ object_block layouts t.types (naming place t.funcs) there.entry h (object_held layouts s t place holds p word there.entry h placed got there.in_table)
 
 -- sums over two lists that have the same positions, each once
-same_positions : (f : ℕ → ℕ) (IsIn : ℕ → Type 0) (xs ys : List ℕ) → AreAll IsIn xs → AreAll IsIn ys → sum_by f xs ≡ sum_by f ys
+pub same_positions : (f : ℕ → ℕ) (IsIn : ℕ → Type 0) (xs ys : List ℕ) → AreAll IsIn xs → AreAll IsIn ys → sum_by f xs ≡ sum_by f ys
 same_positions f IsIn xs ys all all' =
     let up = sum_part f xs ys all.distinct (λ p c. (all'.all p).1 ((all.all p).0 c)) in
     let down = sum_part f ys xs all'.distinct (λ p c. (all.all p).1 ((all'.all p).0 c)) in

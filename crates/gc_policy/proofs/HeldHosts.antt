@@ -1,5 +1,5 @@
 -- How many host values a store has, counted by the positions of its host objects, and that there are few.
-use Rattle.std.proofs.Common.{◌≡◌, ℕ, zero, suc, ◌+◌, ◌*◌, ◌<◌, ◌≤◌, List, [], ◌∷◌, length, map, sum, Option, Some, None, Contains, refl, sym, ap, ◌∙◌, subst, arith}
+use Rattle.std.proofs.Common.{◌≡◌, ℕ, suc, ◌+◌, ◌*◌, ◌<◌, ◌≤◌, List, [], ◌∷◌, length, map, Option, Some, None, Contains, refl, sym, ap, ◌∙◌, subst, arith}
 use Rattle.std.specs.List.{slice_get, sum_by}
 use Rattle.std.specs.Ordering.{nat_cmp}
 use Rattle.std.specs.FinMap.{FinMap, get, len, entries, len-entries}
@@ -15,14 +15,13 @@ use Rattle.gc_tables.specs.SideTables.{max_entries}
 use Rattle.gc_model.specs.Values.{Object, struct, array, host, exception}
 use Rattle.gc_model.specs.Table.{Table}
 use Rattle.gc_model.specs.Reach.{IsKept, IsHost, AreAll, HasNumber}
-use Rattle.gc_view.specs.Pages.{page, max_pages}
-use Rattle.gc_view.specs.Heaps.{HeapObject}
+use Rattle.gc_view.specs.Heaps.{HeapObject, HeapView}
 use Rattle.gc_model.specs.Stores.{StoreView}
 use Rattle.gc_model.specs.Holds.{Placing, IsHostAt, HostsBy, Holds, HoldsKept}
 use Rattle.gc_model.proofs.Hosts.{host_alone}
 use Rattle.gc_heap.specs.Extents.{held_size, size_with}
 use Rattle.gc_heap.specs.Collection.{IsPartOf}
-use Rattle.gc_heap.specs.Content.{IsHeap, total}
+use Rattle.gc_heap.specs.Content.{IsHeap}
 use Rattle.gc_heap.proofs.NameLemmas.{total-le}
 use Rattle.gc_policy.specs.Collects.{IsPlacedHost}
 use Rattle.gc_policy.proofs.CollectedLists.{get_contains, contains_map, map_get}
@@ -108,7 +107,7 @@ kept_hosts layouts s t kept =
     )
 
 -- a sum of one number
-sum-same : {X : Type 0} (n : ℕ) (xs : List X) → sum_by (λ (x : X). n) xs ≡ n * length xs
+pub sum-same : {X : Type 0} (n : ℕ) (xs : List X) → sum_by (λ (x : X). n) xs ≡ n * length xs
 sum-same n [] = omega arith
 sum-same n (x ∷ xs) = sum_by-cons (λ x. n) x xs ∙ ap (λ k. n + k) (sum-same n xs) ∙ (let e : n + n * length xs ≡ n * suc (length xs) = grind arith in e)
 
@@ -148,6 +147,15 @@ size_least layouts StructRef n = base_least layouts n
 size_least layouts ArrayRef n = base_least layouts n
 size_least layouts ExnRef n = base_least layouts n
 
+-- so a heap has few
+pub few_objects : (layouts : Layouts) (h : HeapView) → IsHeap layouts h → 8 * len h.content ≤ h.capacity
+few_objects layouts h heap =
+    let eights = total-le (λ (o : HeapObject). 8) (held_size layouts) h.content (λ q o is. size_least layouts o.kind (length o.bytes)) in
+    let total_is = sum-map (λ (e : ℕ × HeapObject). 8) (entries h.content) ∙ sum-same 8 (entries h.content) in
+    let number = len-entries h.content in
+    let fits = heap.fits in
+    omega arith
+
 -- So the table of host values is never full.
 pub few_hosts : {D : Type 0} (layouts : Layouts) (s : StoreView D) (t : Table D) (place : Placing) → Holds layouts s t place → IsHeap layouts s.heap → len s.hosts < max_entries
 few_hosts layouts s t place holds heap =
@@ -158,11 +166,8 @@ few_hosts layouts s t place holds heap =
     let fewer = sum_part (λ x. 1) hosts all among.distinct (λ p c. (placed.all p).1 ((among.all p).0 c).0) in
     let count = length-hosts t.objects place s.heap.content s.hosts holds.hosts in
     let objects = length-positions layouts t place s.heap holds.objects in
-    let eights = total-le (λ (o : HeapObject). 8) (held_size layouts) s.heap.content (λ q o is. size_least layouts o.kind (length o.bytes)) in
-    let total_is = sum-map (λ (e : ℕ × HeapObject). 8) (entries s.heap.content) ∙ sum-same 8 (entries s.heap.content) in
-    let number = len-entries s.heap.content in
+    let few = few_objects layouts s.heap heap in
     let ones = sum-same 1 hosts in
     let ones' = sum-same 1 all in
-    let fits = heap.fits in
     let bound = heap.bound in
     omega arith

@@ -42,7 +42,7 @@ contains_without x z (y ∷ ys) differ c = elim (cases_eq x y) [
 ]
 
 -- a number that differs from all of a list is none of it
-no_other : (x : ℕ) (ys : List ℕ) → AllByRecursion (λ y. nat_eq x y ≡ false) ys → (z : ℕ) → Contains ys z → z ≢ x
+pub no_other : (x : ℕ) (ys : List ℕ) → AllByRecursion (λ y. nat_eq x y ≡ false) ys → (z : ℕ) → Contains ys z → z ≢ x
 no_other x [] all z c same = omega (arith, c.1)
 no_other x (y ∷ ys) all z c same = elim (Contains-append_cases (y ∷ []) ys z c) [
   | inl one ↦ differ (sym (eq-eqb x y (sym same ∙ sym (only_item y z one))) ∙ all.0)

@@ -6,6 +6,8 @@ use Rattle.gc_model.specs.Table.{Table, make_heap, with_pages}
 use Rattle.gc_view.specs.Pages.{page, max_pages}
 use Rattle.gc_model.specs.Allocation.{Limits, MayRefuse, MayMakeHeap, IsRefusedHeap, GetsPages, same, more}
 use Rattle.gc_view.specs.Heaps.{HeapView}
+use Rattle.gc_model.specs.Reach.{IsReached}
+use Rattle.gc_model.specs.Words.{Placing}
 use Rattle.gc_model.specs.Stores.{StoreView}
 use Rattle.gc_model.proofs.HoldsHeap.{IsMadeHeap, holds_heap}
 use Rattle.gc_heap.specs.Content.{IsHeap}
@@ -15,11 +17,12 @@ use Rattle.gc_owner.specs.RootColumns.{roots_of}
 use Rattle.gc_owner.specs.Owners.{OwnerView, CanBegin}
 use Rattle.gc_owner.specs.Growing.{OwnerState, state_of, AsksFirst, already, granted, refused, GetsFirst, MakesHeap, Begins, NotBegun}
 use Rattle.gc_owner.proofs.Begins.{attached_kept}
-use Rattle.gc_policy.specs.Accounts.{HoldsAccount, is_due}
+use Rattle.gc_policy.specs.Accounts.{Account, HoldsAccount, is_due}
 use Rattle.gc_policy.specs.Policy.{PolicyState, MakesTable, Dues}
 use Rattle.gc_policy.specs.Shown.{shown, DuesOwner}
 use Rattle.gc_policy.proofs.RootsShown.{SlotsInFrames}
 use Rattle.gc_policy.proofs.AccountLemmas.{account_kept}
+use Rattle.gc_policy.proofs.KeptPlaces.{StayAt, stay-same, stay-trans, stay-cut}
 use Rattle.gc_policy.proofs.MadeHeaps.{made_heap}
 use Rattle.gc_policy.proofs.RetrySimulation.{MayHaveGrown}
 use Rattle.gc_policy.proofs.Simulation.{Agrees, collection_follows}
@@ -53,6 +56,7 @@ pub record FollowsBeginning {D : Type 0} (layouts : Layouts) (s : StoreView D) (
   pub after : PolicyState D
   pub dues : Dues layouts counter made after
   pub agrees : Agrees layouts s e after
+  pub stay : StayAt layouts (IsReached p.table) p.account.places after.account.places
   pub table : after.table ≡ make_heap p.table
   pub limits : after.limits ≡ p.limits
   pub may : MayMakeHeap p.limits.limit p.table
@@ -143,6 +147,12 @@ module _ {D : Type 0} (layouts : Layouts) (s : StoreView D) (h : OwnerState D) (
       tries : due ≡ is_due counter made.after.account.tries
       tries = due_is ∙ ap (is_due counter) (ap (λ (a : _). a.tries) (sym made.account))
 
+      -- what the table reaches lies where it lay, once the heap was made and from then on
+      stays : (places : Placing) → StayAt layouts (IsReached made.after.table) made.after.account.places places → StayAt layouts (IsReached p.table) p.account.places places
+      stays places stay =
+          subst (λ (a : Account). StayAt layouts (IsReached p.table) a.places places) made.account
+          (subst (λ (t : Table D). StayAt layouts (IsReached t) made.after.account.places places) made.table stay)
+
       after_making : DuesOwner layouts due m e → FollowsBeginning layouts s counter e p
       after_making (inl (is, ran)) =
           let collected = collection_follows layouts s m made.after made.agrees e ran in
@@ -152,6 +162,7 @@ module _ {D : Type 0} (layouts : Layouts) (s : StoreView D) (h : OwnerState D) (
             after = collected.after;
             dues = inl (sym tries ∙ is, collected.collects);
             agrees = collected.agrees;
+            stay = stays collected.after.account.places (stay-cut layouts made.after.table made.after.account.places collected.after.account.places collected.collects.places);
             table = collected.collects.table ∙ made.table;
             limits = collected.collects.limits ∙ made.limits;
             may = made.may;
@@ -162,6 +173,7 @@ module _ {D : Type 0} (layouts : Layouts) (s : StoreView D) (h : OwnerState D) (
         after = made.after;
         dues = inr (sym tries ∙ is, refl);
         agrees = subst (λ (x : OwnerState D). Agrees layouts s x made.after) (sym same_state) made.agrees;
+        stay = stays made.after.account.places (stay-same layouts (IsReached made.after.table) made.after.account.places);
         table = made.table;
         limits = made.limits;
         may = made.may;
@@ -185,6 +197,12 @@ module _ {D : Type 0} (layouts : Layouts) (s : StoreView D) (h : OwnerState D) (
         wanted = subst (λ (n : ℕ). 0 < n) first no_pages.refused.wanted;
         above = subst (λ (l : Limits). MayRefuse l.limit p.table.first) (sym shows.limits) (subst (λ (n : ℕ). MayRefuse h.limits.limit n) first no_pages.refused.above);
       }
+
+-- what the table reaches lies where it lay, through what follows such a beginning
+pub stays_on : {D : Type 0} (layouts : Layouts) (s : StoreView D) (counter : Option ℕ) (e : OwnerState D) (p : PolicyState D) (begun : FollowsBeginning layouts s counter e p) (places : Placing) → StayAt layouts (IsReached begun.after.table) begun.after.account.places places
+    → StayAt layouts (IsReached p.table) p.account.places places
+stays_on {D} layouts s counter e p begun places stay =
+    stay-trans layouts (IsReached p.table) p.account.places begun.after.account.places places begun.stay (subst (λ (t : Table D). StayAt layouts (IsReached t) begun.after.account.places places) begun.table stay)
 
 -- the pages that a heap got
 pub record GotPages {D : Type 0} (limit : Option ℕ) (bytes : ℕ) (t t' : Table D) : Type 0 where

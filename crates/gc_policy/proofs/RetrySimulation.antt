@@ -5,37 +5,40 @@ use Rattle.gc_model.specs.Table.{Table, with_pages}
 use Rattle.gc_view.specs.Sizes.{need_of}
 use Rattle.gc_model.specs.Allocation.{Limits, asked, MayGrow, IsRefusedGrowth, FitsIn, LacksFit}
 use Rattle.gc_model.specs.Stores.{StoreView}
-use Rattle.gc_model.specs.Holds.{HoldsKept}
+use Rattle.gc_model.specs.Reach.{IsReached}
+use Rattle.gc_model.specs.Words.{Placing}
 use Rattle.gc_heap.specs.Heap.{HasRoom}
 use Rattle.gc_owner.specs.Growing.{OwnerState, owner_rules, collects_first}
 use Rattle.gc_policy.specs.Shown.{shown}
-use Rattle.gc_policy.specs.Policy.{PolicyState, table_rules, table_after}
+use Rattle.gc_policy.specs.Policy.{PolicyState, CollectsTable, table_rules, table_after}
 use Rattle.gc_owner.specs.Retry.{Ends, Retry, at_once, after_collection, after_both, after_growth, after_refusal, Growing, Paused, at_first, in_collection, in_both, in_growth, in_refusal}
-use Rattle.gc_policy.proofs.CollectedRoom.{fits_in, lacks_fit}
-use Rattle.gc_policy.proofs.Simulation.{Agrees, collection_follows, ready_follows, room_follows, lack_follows}
+use Rattle.gc_policy.proofs.CollectedRoom.{OnlyKept, fits_in, lacks_fit}
+use Rattle.gc_policy.proofs.KeptPlaces.{StayAt, stay-same, stay-trans, stay-cut}
+use Rattle.gc_policy.proofs.Simulation.{Agrees, only_left, collection_follows, ready_follows, room_follows, lack_follows}
 use Rattle.gc_policy.proofs.GrowthSimulation.{Answered, FollowsGrowth, growth_follows}
 
 -- the table is as it was, or has the pages of a growth that a limit grants
 abbrev pub MayHaveGrown : {D : Type 0} → Option ℕ → ℕ → Table D → Table D → Type 0
 MayHaveGrown limit bytes t t' = (t' ≡ t) ⊎ (MayGrow limit t.pages bytes × (t' ≡ with_pages (t.pages + asked t.pages bytes) t))
 
--- an object of so many bytes was refused of the table, whose heap was refused a growth
-pub record IsRefusedRoom {D : Type 0} (layouts : Layouts) (limit : Option ℕ) (size : ℕ) (t t' : Table D) : Type 0 where
+-- an object of so many bytes was refused of the table, whose objects lie at these places, and whose heap was refused a growth
+pub record IsRefusedRoom {D : Type 0} (layouts : Layouts) (limit : Option ℕ) (size : ℕ) (places : Placing) (t t' : Table D) : Type 0 where
   pub same : t' ≡ t
   pub refused : IsRefusedGrowth limit t.pages (need_of layouts size)
-  pub lacks : LacksFit layouts t' size
+  pub lacks : LacksFit layouts places t' size
 
 -- what the last try leaves of the table
-abbrev pub Tried : {D : Type 0} → Layouts → Option ℕ → ℕ → Table D → Bool → Table D → Type 0
-Tried layouts limit size t true t' = MayHaveGrown limit (need_of layouts size) t t' × FitsIn layouts t' size
-Tried layouts limit size t false t' = IsRefusedRoom layouts limit size t t'
+abbrev pub Tried : {D : Type 0} → Layouts → Option ℕ → ℕ → Placing → Table D → Bool → Table D → Type 0
+Tried layouts limit size places t true t' = MayHaveGrown limit (need_of layouts size) t t' × FitsIn layouts places t' size
+Tried layouts limit size places t false t' = IsRefusedRoom layouts limit size places t t'
 
 -- what the table came to by the rule
 pub record FollowsRetry {D : Type 0} (layouts : Layouts) (s : StoreView D) (size : ℕ) (e : OwnerState D) (p : PolicyState D) (ok : Bool) : Type 0 where
   pub after : PolicyState D
   pub retried : Retry (table_rules layouts size) p ok after
   pub agrees : Agrees layouts s e after
-  pub tried : Tried layouts p.limits.limit size p.table ok after.table
+  pub tried : Tried layouts p.limits.limit size after.account.places p.table ok after.table
+  pub stay : StayAt layouts (IsReached p.table) p.account.places after.account.places
 
 -- what it came to on its way
 pub record FollowsPause {D : Type 0} (layouts : Layouts) (s : StoreView D) (size : ℕ) (e : OwnerState D) (p : PolicyState D) : Type 0 where
@@ -62,24 +65,32 @@ module _ {D : Type 0} (layouts : Layouts) (s : StoreView D) (size : ℕ) where
   ends_follow e q true agrees room = room_follows layouts s e q agrees size room
   ends_follow e q false agrees none = lack_follows layouts s e q agrees size none
 
-  fits_after : (e : OwnerState D) (q : PolicyState D) → Agrees layouts s e q → HasRoom layouts e.owner.heap size → FitsIn layouts q.table size
-  fits_after e q agrees room = fits_in layouts (shown s e.owner) q.table agrees.holds.place size agrees.holds.holds room
+  fits_after : (e : OwnerState D) (q : PolicyState D) → Agrees layouts s e q → HasRoom layouts e.owner.heap size → FitsIn layouts q.account.places q.table size
+  fits_after e q agrees room = fits_in layouts (shown s e.owner) q size agrees.holds room
 
   -- the table without a growth, where the heap was collected
-  tried_same : (limit : Option ℕ) (t : Table D) (e : OwnerState D) (q : PolicyState D) (ok : Bool) → q.table ≡ t → IsRefusedGrowth limit t.pages (need_of layouts size) → Agrees layouts s e q → HoldsKept layouts (shown s e.owner) q.table
-      → Ends (owner_rules layouts size) ok e → Tried layouts limit size t ok q.table
-  tried_same limit t e q true same refused agrees kept room = (inl same, fits_after e q agrees room)
-  tried_same limit t e q false same refused agrees kept none = record { same = same; refused = refused; lacks = lacks_fit layouts (shown s e.owner) q.table size kept none }
+  tried_same : (limit : Option ℕ) (t : Table D) (e : OwnerState D) (q : PolicyState D) (ok : Bool) → q.table ≡ t → IsRefusedGrowth limit t.pages (need_of layouts size) → Agrees layouts s e q → OnlyKept layouts q
+      → Ends (owner_rules layouts size) ok e → Tried layouts limit size q.account.places t ok q.table
+  tried_same limit t e q true same refused agrees only room = (inl same, fits_after e q agrees room)
+  tried_same limit t e q false same refused agrees only none = record { same = same; refused = refused; lacks = lacks_fit layouts (shown s e.owner) q size agrees.holds only none }
 
-  tried_after : (h e : OwnerState D) (p : PolicyState D) (granted ok : Bool) (grew : FollowsGrowth layouts s (need_of layouts size) h e p granted) → HoldsKept layouts (shown s h.owner) p.table → (granted ≡ true → ok ≡ true)
-      → Ends (owner_rules layouts size) ok e → Tried layouts p.limits.limit size p.table ok grew.after.table
-  tried_after h e p true true grew kept goes room = (inr (grew.answer, grew.table), fits_after e grew.after grew.agrees room)
-  tried_after h e p true false grew kept goes room = absurd (cc (goes refl))
-  tried_after h e p false ok grew kept goes end = tried_same p.limits.limit p.table e grew.after ok grew.table grew.answer grew.agrees (grew.kept refl kept) end
+  tried_after : (h e : OwnerState D) (p : PolicyState D) (granted ok : Bool) (grew : FollowsGrowth layouts s (need_of layouts size) h e p granted) → OnlyKept layouts p → (granted ≡ true → ok ≡ true)
+      → Ends (owner_rules layouts size) ok e → Tried layouts p.limits.limit size grew.after.account.places p.table ok grew.after.table
+  tried_after h e p true true grew only goes room = (inr (grew.answer, grew.table), fits_after e grew.after grew.agrees room)
+  tried_after h e p true false grew only goes room = absurd (cc (goes refl))
+  tried_after h e p false ok grew only goes end = tried_same p.limits.limit p.table e grew.after ok grew.table grew.answer grew.agrees (grew.only refl only) end
 
   -- what holds of a table with the same pages and limits holds of this one
-  tried_from : (p q : PolicyState D) (t : Table D) (ok : Bool) → q.table ≡ p.table → q.limits ≡ p.limits → Tried layouts q.limits.limit size q.table ok t → Tried layouts p.limits.limit size p.table ok t
-  tried_from p q t ok table limits tried = subst (λ (u : Table D). Tried layouts p.limits.limit size u ok t) table (subst (λ (l : Limits). Tried layouts l.limit size q.table ok t) limits tried)
+  tried_from : (p q : PolicyState D) (places : Placing) (t : Table D) (ok : Bool) → q.table ≡ p.table → q.limits ≡ p.limits → Tried layouts q.limits.limit size places q.table ok t → Tried layouts p.limits.limit size places p.table ok t
+  tried_from p q places t ok table limits tried = subst (λ (u : Table D). Tried layouts p.limits.limit size places u ok t) table (subst (λ (l : Limits). Tried layouts l.limit size places q.table ok t) limits tried)
+
+  -- and so does where the objects lie that it reaches
+  stay_from : (p q : PolicyState D) (places : Placing) → q.table ≡ p.table → StayAt layouts (IsReached p.table) p.account.places q.account.places → StayAt layouts (IsReached q.table) q.account.places places → StayAt layouts (IsReached p.table) p.account.places places
+  stay_from p q places table before after =
+      stay-trans layouts (IsReached p.table) p.account.places q.account.places places before (subst (λ (u : Table D). StayAt layouts (IsReached u) q.account.places places) table after)
+
+  stay_left : (p q : PolicyState D) → CollectsTable layouts p q → StayAt layouts (IsReached p.table) p.account.places q.account.places
+  stay_left p q collects = stay-cut layouts p.table p.account.places q.account.places collects.places
 
   grown_from : (p q : PolicyState D) (t : Table D) → q.table ≡ p.table → q.limits ≡ p.limits → MayHaveGrown q.limits.limit (need_of layouts size) q.table t → MayHaveGrown p.limits.limit (need_of layouts size) p.table t
   grown_from p q t table limits grown = subst (λ (u : Table D). MayHaveGrown p.limits.limit (need_of layouts size) u t) table (subst (λ (l : Limits). MayHaveGrown l.limit (need_of layouts size) q.table t) limits grown)
@@ -105,7 +116,7 @@ module _ {D : Type 0} (layouts : Layouts) (s : StoreView D) (size : ℕ) where
     lacks room = lack_follows layouts s h p agrees size room
 
     pub retry_follows : (ok : Bool) (e : OwnerState D) → Retry (owner_rules layouts size) h ok e → FollowsRetry layouts s size e p ok
-    retry_follows _ _ (at_once room) = record { after = p; retried = at_once (room_follows layouts s h p agrees size room); agrees = agrees; tried = (inl refl, fits_after h p agrees room) }
+    retry_follows _ _ (at_once room) = record { after = p; retried = at_once (room_follows layouts s h p agrees size room); agrees = agrees; tried = (inl refl, fits_after h p agrees room); stay = stay-same layouts (IsReached p.table) p.account.places }
     retry_follows _ _ (after_collection {m = m} full first ran room) =
         let collected = collection_follows layouts s h p agrees m ran in
         record {
@@ -113,6 +124,7 @@ module _ {D : Type 0} (layouts : Layouts) (s : StoreView D) (size : ℕ) where
           retried = after_collection (lacks full) (first_is true first) collected.collects (room_follows layouts s m collected.after collected.agrees size room);
           agrees = collected.agrees;
           tried = (inl collected.collects.table, fits_after m collected.after collected.agrees room);
+          stay = stay_left p collected.after collected.collects;
         }
     retry_follows ok e (after_both {m = m} {granted = granted} full first ran still grew goes end) =
         let collected = collection_follows layouts s h p agrees m ran in
@@ -121,7 +133,9 @@ module _ {D : Type 0} (layouts : Layouts) (s : StoreView D) (size : ℕ) where
           after = grown.after;
           retried = after_both (lacks full) (first_is true first) collected.collects (lack_follows layouts s m collected.after collected.agrees size still) grown.grows goes (ends_follow e grown.after ok grown.agrees end);
           agrees = grown.agrees;
-          tried = tried_from p collected.after grown.after.table ok collected.collects.table collected.collects.limits (tried_after m e collected.after granted ok grown collected.kept goes end);
+          tried = tried_from p collected.after grown.after.account.places grown.after.table ok collected.collects.table collected.collects.limits
+              (tried_after m e collected.after granted ok grown (only_left layouts p collected.after collected.collects) goes end);
+          stay = stay_from p collected.after grown.after.account.places collected.collects.table (stay_left p collected.after collected.collects) grown.stay;
         }
     retry_follows _ e (after_growth full first grew room) =
         let grown = growth_follows layouts s (need_of layouts size) h p agrees true e grew in
@@ -130,6 +144,7 @@ module _ {D : Type 0} (layouts : Layouts) (s : StoreView D) (size : ℕ) where
           retried = after_growth (lacks full) (first_is false first) grown.grows (room_follows layouts s e grown.after grown.agrees size room);
           agrees = grown.agrees;
           tried = (inr (grown.answer, grown.table), fits_after e grown.after grown.agrees room);
+          stay = grown.stay;
         }
     retry_follows ok e (after_refusal {m = m} full first grew ran end) =
         let grown = growth_follows layouts s (need_of layouts size) h p agrees false m grew in
@@ -138,7 +153,8 @@ module _ {D : Type 0} (layouts : Layouts) (s : StoreView D) (size : ℕ) where
           after = collected.after;
           retried = after_refusal (lacks full) (first_is false first) grown.grows collected.collects (ends_follow e collected.after ok collected.agrees end);
           agrees = collected.agrees;
-          tried = tried_same p.limits.limit p.table e collected.after ok (collected.collects.table ∙ grown.table) grown.answer collected.agrees collected.kept end;
+          tried = tried_same p.limits.limit p.table e collected.after ok (collected.collects.table ∙ grown.table) grown.answer collected.agrees (only_left layouts grown.after collected.after collected.collects) end;
+          stay = stay_from p grown.after collected.after.account.places grown.table grown.stay (stay_left grown.after collected.after collected.collects);
         }
 
     pub pause_follows : (e : OwnerState D) → Paused (owner_rules layouts size) h e → FollowsPause layouts s size e p

@@ -140,7 +140,7 @@ module _ {D : Type 0} (layouts : Layouts) (s : StoreView D) (t : Table D) (place
   scoped_named : Names place (scoped_references t) (map (λ (e : RootEntry). e.word) s.scoped)
   scoped_named = names-each place (λ (root : Scoped). root.reference) (λ (e : RootEntry). e.word) t.scoped s.scoped holds.scoped.same_count (λ i e root f g. (holds.scoped.each i e root f g).word)
 
-  frames_named : Names place (flat_map slot_references t.frames) (flat_map words_of s.frames)
+  pub frames_named : Names place (flat_map slot_references t.frames) (flat_map words_of s.frames)
   frames_named = record {
     back = λ w c above.
         let among = contains_flat words_of s.frames w c in

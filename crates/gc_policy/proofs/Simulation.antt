@@ -1,6 +1,8 @@
 -- Steps of an owner are steps of the table that its store holds: a collection, and what makes ready to grow.
 use Rattle.std.proofs.Common.{◌≡◌, ℕ, inl, inr, true, refl, sym, ◌∙◌, subst}
 use Rattle.gc_types.specs.declared.kind.Layouts.{Layouts}
+use Rattle.gc_model.specs.Table.{Table}
+use Rattle.gc_model.specs.Reach.{IsReached, IsKept}
 use Rattle.gc_model.specs.Stores.{StoreView}
 use Rattle.gc_model.specs.Holds.{HoldsKept}
 use Rattle.gc_heap.specs.Content.{IsHeap}
@@ -12,6 +14,8 @@ use Rattle.gc_policy.specs.Policy.{PolicyState, CollectsTable, ReadiesTable, Fit
 use Rattle.gc_policy.specs.Shown.{shown}
 use Rattle.gc_policy.proofs.RootsShown.{SlotsInFrames}
 use Rattle.gc_policy.proofs.AccountLemmas.{AfterCollection, collected_account, fits_now, lacks_now}
+use Rattle.gc_policy.proofs.CollectedRoom.{OnlyKept}
+use Rattle.gc_policy.proofs.KeptPlaces.{StayAt, stay-same, stay-cut}
 
 -- An owner in a state holds a table in one: as its store does, where a collection may begin.
 pub record Agrees {D : Type 0} (layouts : Layouts) (s : StoreView D) (h : OwnerState D) (p : PolicyState D) : Type 0 where
@@ -36,7 +40,12 @@ pub record FollowsReady {D : Type 0} (layouts : Layouts) (s : StoreView D) (h e 
   pub agrees : Agrees layouts s e after
   pub table : after.table ≡ p.table
   pub limits : after.limits ≡ p.limits
-  pub kept : HoldsKept layouts (shown s h.owner) p.table → HoldsKept layouts (shown s e.owner) after.table
+  pub stay : StayAt layouts (IsReached p.table) p.account.places after.account.places
+  pub only : OnlyKept layouts p → OnlyKept layouts after
+
+-- a collection leaves nothing but what it keeps
+pub only_left : {D : Type 0} (layouts : Layouts) (p q : PolicyState D) → CollectsTable layouts p q → OnlyKept layouts q
+only_left {D} layouts p q collects position held = subst (λ (t : Table D). IsKept layouts t position) (sym collects.table) ((collects.held.all position).0 held)
 
 module _ {D : Type 0} (layouts : Layouts) (s : StoreView D) (h : OwnerState D) (p : PolicyState D) (agrees : Agrees layouts s h p) where
   pub collection_follows : (e : OwnerState D) → CollectsState layouts h e → FollowsCollection layouts s e p
@@ -66,7 +75,8 @@ module _ {D : Type 0} (layouts : Layouts) (s : StoreView D) (h : OwnerState D) (
         agrees = then.agrees;
         table = then.collects.table;
         limits = then.collects.limits;
-        kept = λ _. then.kept;
+        stay = stay-cut layouts p.table p.account.places then.after.account.places then.collects.places;
+        only = λ _. only_left layouts p then.after then.collects;
       }
   ready_follows e (inr (lower, same)) = record {
     after = p;
@@ -74,7 +84,8 @@ module _ {D : Type 0} (layouts : Layouts) (s : StoreView D) (h : OwnerState D) (
     agrees = subst (λ (x : OwnerState D). Agrees layouts s x p) (sym same) agrees;
     table = refl;
     limits = refl;
-    kept = subst (λ (x : OwnerState D). HoldsKept layouts (shown s x.owner) p.table) (sym same);
+    stay = stay-same layouts (IsReached p.table) p.account.places;
+    only = λ only. only;
   }
 
   -- room of the heap is room of the table, and so is its lack

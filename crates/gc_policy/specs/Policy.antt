@@ -1,14 +1,14 @@
 -- The policy of growth, in the terms of the table: when a heap collects, what it asks for, and what it holds then.
-use Rattle.std.specs.Prelude.{◌≡◌, ℕ, ◌+◌, ◌-◌, ◌*◌, ◌/◌, ◌<◌, ◌≤◌, ◌⊎◌, ◌==◌, not, if◌then◌else◌, Bool, true, false, List, Option, map, sum, slice_get}
+use Rattle.std.specs.Prelude.{◌≡◌, ℕ, ◌+◌, ◌-◌, ◌*◌, ◌/◌, ◌<◌, ◌≤◌, ◌⊎◌, ◌==◌, not, if◌then◌else◌, Bool, true, false, List, Option, map, sum}
 use Rattle.gc_types.specs.declared.kind.Layouts.{Layouts}
 use Rattle.gc_types.specs.declared.kind.Layouts.TheVariants.{Null, Counting, Copying}
-use Rattle.gc_types.specs.Declarations.{Declaration}
 use Rattle.gc_types.specs.Layouts.{round_up}
-use Rattle.gc_model.specs.Values.{Object}
 use Rattle.gc_model.specs.Table.{Table, make_heap, with_pages}
 use Rattle.gc_view.specs.Sizes.{alignment, need_of}
-use Rattle.gc_model.specs.Sizes.{object_size, next_place}
+pub use Rattle.gc_model.specs.Sizes.{block_of, block_at}
+use Rattle.gc_model.specs.Sizes.{next_place}
 use Rattle.gc_model.specs.Reach.{AreAll, IsKept}
+use Rattle.gc_model.specs.Gaps.{LiesAt, AreCut, IsGap, HasGap, IsFront}
 use Rattle.gc_view.specs.Pages.{page}
 use Rattle.gc_model.specs.Allocation.{Limits, Fits, asked, skipped}
 use Rattle.gc_policy.specs.Accounts.{Account, counted, is_due}
@@ -24,14 +24,6 @@ pub record PolicyState (D : Type 0) : Type 0 where
 abbrev pub policy_state : {D : Type 0} → Table D → Account → Limits → PolicyState D
 policy_state t a limits = record { table = t; account = a; limits = limits }
 
-abbrev pub block_of : {D : Type 0} → Layouts → List Declaration → Option (Object D) → ℕ
-block_of layouts types Option.None = 0
-block_of layouts types (Option.Some o) = round_up (object_size layouts types o) alignment
-
--- the bytes of the object at a position, to the next multiple of 16; 0 where there is none
-abbrev pub block_at : {D : Type 0} → Layouts → Table D → ℕ → ℕ
-block_at layouts t p = block_of layouts t.types (slice_get t.objects p)
-
 -- The bytes that are allocated in a heap that holds these positions: in a null heap all up to its next place, less
 -- the first; else the objects' blocks, and in a copying heap that has any memory the first 16 of a half.
 abbrev pub allocated_bytes : {D : Type 0} → Layouts → Table D → List ℕ → ℕ
@@ -39,16 +31,26 @@ allocated_bytes Null t held = next_place t - 1
 allocated_bytes Counting t held = sum (map (block_at Counting t) held)
 allocated_bytes Copying t held = if t.pages == 0 then 0 else skipped + sum (map (block_at Copying t) held)
 
--- The heap has room for so many bytes beside what it holds, or it has none. Of the counting heap nothing is said yet.
+-- the heap holds a position, at a place that is told
+abbrev pub LiesNow : {D : Type 0} → PolicyState D → ℕ → ℕ → Type 0
+LiesNow p position word = LiesAt p.account.places position word
+
+-- The heap has room for so many bytes beside what it holds, garbage among it.
 abbrev pub FitsNow : {D : Type 0} → Layouts → ℕ → PolicyState D → Type 0
 FitsNow Null size p = Fits p.table size
-FitsNow Counting size p = Unit {0}
+FitsNow Counting size p = HasGap (LiesNow p) p.table size
 FitsNow Copying size p = skipped + sum (map (block_at Copying p.table) p.account.held) + round_up size alignment ≤ page / 2 * p.table.pages
 
+-- it has none
 abbrev pub LacksNow : {D : Type 0} → Layouts → ℕ → PolicyState D → Type 0
-LacksNow Null size p = FitsNow Null size p → ⊥
-LacksNow Counting size p = Unit {0}
-LacksNow Copying size p = FitsNow Copying size p → ⊥
+LacksNow layouts size p = FitsNow layouts size p → ⊥
+
+-- A new object of that size lies at a place, as far as that is told: in a counting heap it is the front of a gap that
+-- is long enough.
+abbrev pub IsPlaceIn : {D : Type 0} → Layouts → PolicyState D → ℕ → ℕ → Type 0
+IsPlaceIn Null p word size = Unit {0}
+IsPlaceIn Counting p word size = IsGap (LiesNow p) p.table word (round_up size alignment) × IsFront (LiesNow p) p.table word
+IsPlaceIn Copying p word size = Unit {0}
 
 -- which half is active after a collection: the other one of a copying heap
 abbrev pub turned : Layouts → Bool → Bool
@@ -56,9 +58,10 @@ turned Null upper = upper
 turned Counting upper = upper
 turned Copying upper = not upper
 
--- a collection ran: the heap holds what it keeps
+-- A collection ran: the heap holds what it keeps, and where places are told nothing has moved.
 pub record CollectsTable {D : Type 0} (layouts : Layouts) (p q : PolicyState D) : Type 0 where
   pub held : AreAll (IsKept layouts p.table) q.account.held
+  pub places : AreCut layouts p.table p.account.places q.account.places
   pub last : q.account.last ≡ allocated_bytes layouts p.table q.account.held
   pub tries : q.account.tries ≡ p.account.tries
   pub upper : q.account.upper ≡ turned layouts p.account.upper
