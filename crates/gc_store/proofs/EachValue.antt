@@ -1,5 +1,5 @@
 -- Values that are written one after another into the slots of a new object.
-use Rattle.std.proofs.Common.{◌≡◌, ℕ, ◌+◌, ◌-◌, ◌^◌, ◌<◌, ◌≤◌, inl, inr, true, false, cond, nat_eq, List, [], ◌∷◌, length, map, Some, None, Ok, Err, Option, Contains, refl, sym, ap, ◌∙◌, subst, arith}
+use Rattle.std.proofs.Common.{◌≡◌, ℕ, ◌+◌, ◌-◌, ◌^◌, ◌<◌, ◌≤◌, inl, inr, true, false, cond, nat_eq, List, [], ◌∷◌, length, Some, None, Ok, Err, Option, Contains, refl, sym, ap, ◌∙◌, subst, arith}
 use Rattle.std.specs.List.{slice_get}
 use Rattle.std.proofs.lemmas.Bool.{cases_eq}
 use Rattle.std.proofs.lemmas.Option.{slice_get_within, get_or_from_slice_get}
@@ -37,7 +37,7 @@ use Rattle.gc_store.specs.declared.root.RawValue.TheVariants as raw
 use Rattle.gc_store.specs.declared.root.RootSlot.{RootSlot}
 use Rattle.gc_store.specs.declared.root.RootSlot.TheVariants as slot
 use Rattle.gc_store.specs.declared.root.RootFault.TheVariants as fault
-use Rattle.gc_store.specs.Words.{HandleRoots, handle_roots, root_word_at, entry_word, owned_id, owned_word, owned_at, AreRising}
+use Rattle.gc_store.specs.Words.{HandleRoots, handle_roots, root_word_at, entry_word, owned_id, owned_word, owned_at}
 use Rattle.gc_store.proofs.OwnedWords.{owned_there}
 use Rattle.gc_store.proofs.HandleWords.{owned_word-ok, tested-ok}
 use Rattle.gc_store.specs.Kept.{code_of, KeptAs, IsKept, raw_form, form_width, FitsForm, OfForm, StoredStands}

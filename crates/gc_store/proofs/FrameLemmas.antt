@@ -145,7 +145,7 @@ module _ {D : Type 0} (layouts : Layouts) (id : StoreId) (config : HeapConfig) (
         ap (λ (v : OwnerView D). store_view id config v tries) changes.rest
         ∙ ap (λ (fs : List (List SlotEntry)). record before { heap = new.heap; frames = fs }) (frames-set old.roots are some index (record { class = class; word = word }))
 
-    pub slot_was_set : (t : Table D) (place : Placing) (a : Account) (r : Reference) → Holds layouts before t place → IsAccount before place a → IsWord place r word → HoldsAccount layouts after (set_slot index class r t) a
+    pub slot_was_set : (t : Table D) (place : Placing) (a : Account) (r : Reference) → Holds layouts before t place → IsAccount layouts before place a → IsWord place r word → HoldsAccount layouts after (set_slot index class r t) a
     slot_was_set t place a r holds account is =
         subst (λ (s : StoreView D). HoldsAccount layouts s (set_slot index class r t) a) (sym set_view) (record {
           place = place;

@@ -1,5 +1,5 @@
 -- What another value of a host object leaves of a store.
-use Rattle.std.proofs.Common.{◌≡◌, ℕ, List, Some, sym, ap, ◌∙◌, refl, subst}
+use Rattle.std.proofs.Common.{◌≡◌, ℕ, List, Some, sym, refl, subst}
 use Rattle.std.specs.List.{slice_get}
 use Rattle.std.specs.FinMap.{get, insert}
 use Rattle.gc_types.specs.declared.kind.Layouts.{Layouts}
@@ -17,7 +17,7 @@ use Rattle.gc_store.specs.HostSteps.{HasHostId}
 use Rattle.gc_store.specs.Stores.{store_view, IsSound}
 
 -- with the value set, the store holds the table with the value set, and the account that it had
-pub host_set : {D : Type 0} (layouts : Layouts) (s : StoreView D) (t : Table D) (place : Placing) (a : Account) → Holds layouts s t place → IsAccount s place a → (position id : ℕ) (d w : D) → IsHostAt t.objects place s.heap.content position id d
+pub host_set : {D : Type 0} (layouts : Layouts) (s : StoreView D) (t : Table D) (place : Placing) (a : Account) → Holds layouts s t place → IsAccount layouts s place a → (position id : ℕ) (d w : D) → IsHostAt t.objects place s.heap.content position id d
     → HoldsAccount layouts (with_host_at id w s) (set_host position w t) a
 host_set layouts s t place a holds account position id d w is = record {
   place = place;

@@ -1,25 +1,22 @@
 -- A host object that was made is the table's, with its value.
-use Rattle.std.proofs.Common.{◌≡◌, ℕ, ◌+◌, ◌-◌, ◌^◌, ◌<◌, ◌≤◌, inl, inr, min, Bool, true, false, List, Option, Some, None, Ok, Err, Result, length, refl, sym, ap, ◌∙◌, subst, arith}
-use Rattle.std.specs.FinMap.{FinMap, get, insert, len}
+use Rattle.std.proofs.Common.{◌≡◌, ℕ, ◌+◌, ◌-◌, ◌^◌, ◌<◌, inl, inr, min, Bool, true, false, Ok, Err, Result, length, refl, sym, ap, ◌∙◌, subst, arith}
+use Rattle.std.specs.FinMap.{FinMap, get, len}
 use Rattle.std.specs.Ordering.{nat_cmp}
-use Rattle.std.specs.Int.{to_le_bytes, w32}
 use Rattle.std.proofs.lemmas.Nat.{from_le_bytes-to_le_bytes_4}
 use Rattle.std.proofs.lemmas.Option.{none-some, slice_get_within}
 use Rattle.gc_types.specs.declared.kind.Layouts.{Layouts}
 use Rattle.gc_types.specs.declared.kind.Layouts.TheVariants.{Null, Counting, Copying}
 use Rattle.gc_types.specs.Layouts.{round_up}
-use Rattle.gc_view.specs.Bytes.{u32_at}
 use Rattle.gc_view.specs.Sizes.{alignment, external_size, too_large}
-use Rattle.gc_view.specs.Heaps.{HeapView, HeapObject}
+use Rattle.gc_view.specs.Heaps.{HeapView}
 use Rattle.gc_view.proofs.Content.{get-put_other}
 use Rattle.gc_view.proofs.Layouts.{round_up-le}
 use Rattle.gc_tables.specs.SideTables.{max_entries}
-use Rattle.gc_model.specs.Values.{Object, host}
+use Rattle.gc_model.specs.Values.{host}
 use Rattle.gc_model.specs.Table.{Table, make, with_pages}
 use Rattle.gc_model.specs.Live.{roots_full}
 use Rattle.gc_model.specs.Allocation.{Limits}
 use Rattle.gc_model.specs.Stores.{StoreView}
-use Rattle.gc_model.specs.Holds.{Placing, Holds, HostStands}
 use Rattle.gc_model.proofs.HoldsMake.{IsMadeObject, holds_make_host, placed_at}
 use Rattle.gc_heap.specs.Content.{IsHeap}
 use Rattle.gc_heap.specs.Heap.{allocated_after}
@@ -38,6 +35,7 @@ use Rattle.gc_policy.specs.Policy.{policy_state}
 use Rattle.gc_policy.specs.Shown.{shown, DuesOwner}
 use Rattle.gc_policy.proofs.CountedTries.{counted_store}
 use Rattle.gc_policy.proofs.HeldHosts.{part_len}
+use Rattle.gc_policy.proofs.HeapGaps.{told_more}
 use Rattle.gc_policy.proofs.HeldMore.{held_more}
 use Rattle.gc_policy.proofs.HostRetry.{taken_lacks, taken_pauses}
 use Rattle.gc_store.specs.declared.hosts.PlaceHostFault.{PlaceHostFault}
@@ -124,16 +122,17 @@ module _ {D : Type 0} (layouts : Layouts) (s : StoreView D) (value : D) (b e : O
   owner_is = made.adds.rest
 
   -- the table with the object is held, with its root pushed
-  pub host_holds : HoldsAccount layouts (shown s e.owner) (make (host value) (with_pages pages t)) (with_held (length t.objects) account)
+  pub host_holds : HoldsAccount layouts (shown s e.owner) (make (host value) (with_pages pages t)) (with_held layouts (length t.objects) word account)
   unfolding made_object
   host_holds =
-      subst (λ (x : OwnerView D). HoldsAccount layouts (shown s x) (make (host value) (with_pages pages t)) (with_held (length t.objects) account)) (sym owner_is)
+      subst (λ (x : OwnerView D). HoldsAccount layouts (shown s x) (make (host value) (with_pages pages t)) (with_held layouts (length t.objects) word account)) (sym owner_is)
       (record {
         place = placed_at after.place (length t.objects) word;
         holds = holds_make_host layouts (shown s made.mid.owner) (with_pages pages t) after.place (host value) e.owner.heap word after.holds made_object value refl made.id
             (record { kind = refl; id_is = from_le_bytes-to_le_bytes_4 (made.id + 1) made.small }) made.fresh refl full;
         account = record {
           held = held_more after.place account.held (length t.objects) word (λ p w placed. let held = after.holds.objects.placed p w placed in slice_get_within t.objects p held.entry held.in_table) after.account.held;
+          places = λ p. told_more layouts account.places after.place (length t.objects) word p (after.account.places p);
           last = after.account.last;
           tries = after.account.tries;
           upper = ap (λ (h : HeapView). h.needs_gc) made.adds.adds.added ∙ after.account.upper;
@@ -157,7 +156,7 @@ module _ {D : Type 0} (layouts : Layouts) (s : StoreView D) (v : OwnerView D) (v
       → handle ≡ record { store_id = record { engine = s.engine; number = s.number }; generation = e.owner.roots.generation; slot = slot.Scoped index }
       → FollowsHost layouts s value t a limits e (Ok handle)
   host_follows b index begins made handle handle_is =
-      let places = room_found layouts s v limits t a is due due_is (host value) size refl (host_small layouts) full b made.mid e index begins made.retried made.limits
+      let places = room_found layouts s v limits t a is due due_is (host value) size refl (host_small layouts) full b made.mid e index made.adds.word begins made.retried made.adds.adds.lies made.limits
       (λ pages account after. host_holds layouts (counted_store s) value b e index made t full pages account after)
       (ap (λ (x : OwnerView D). x.roots.generation) made.adds.rest) made.adds.index_is handle handle_is in
       record { places = places; table = _; account = _; holds = places.holds }

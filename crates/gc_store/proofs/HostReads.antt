@@ -4,7 +4,6 @@ use Rattle.std.specs.Prelude.{IsSomeAnd, IsOkAnd, option_and_then}
 use Rattle.std.specs.Result.{result_ok}
 use Rattle.std.specs.List.{slice_get}
 use Rattle.std.specs.FinMap.{get}
-use Rattle.std.proofs.lemmas.Option.{none-some, same_Some}
 use Rattle.gc_types.specs.declared.kind.Layouts.{Layouts}
 use Rattle.gc_types.specs.declared.kind.VMGcKind.{VMGcKind}
 use Rattle.gc_types.specs.declared.kind.VMGcKind.TheVariants.{ExternRef, StructRef, ArrayRef, ExnRef}
@@ -17,8 +16,6 @@ use Rattle.gc_model.specs.Reads.{host_value, host_value_of}
 use Rattle.gc_model.specs.Stores.{StoreView}
 use Rattle.gc_model.specs.Holds.{Placing, IsWord, naming, Holds, Stands}
 use Rattle.gc_model.proofs.Hosts.{host_held}
-use Rattle.gc_store.specs.declared.root.GcRootIndex.{GcRootIndex}
-use Rattle.gc_store.specs.declared.root.RootFault.{RootFault}
 use Rattle.gc_store.specs.HostSteps.{TellsHostId, HasHostId, IsHostIdOf}
 
 -- what an answer is, where it is there

@@ -1,3 +1,4 @@
+pub mod Collecting
 pub mod CopiedBytes
 pub mod Declaring
 pub mod Describing
@@ -11,6 +12,7 @@ pub mod SameValue
 pub mod ShapeSlots
 pub mod SlotPlaces
 pub mod SlotWrites
+pub mod Incrementing
 pub mod Keeping
 pub mod KeptAgain
 pub mod Leaving
@@ -31,6 +33,7 @@ pub mod ReadValues
 pub mod Requested
 pub mod Roots
 pub mod SameRoots
+pub mod Settling
 pub mod SlotLemmas
 pub mod Sound
 pub mod TagLemmas

@@ -1,7 +1,5 @@
 -- An owned root gains or loses a handle.
-use Rattle.std.proofs.Common.{◌≡◌, ◌≢◌, ℕ, ◌+◌, ◌-◌, ◌^◌, ◌<◌, ◌≤◌, inl, inr, Bool, true, false, List, length, get_or, Option, Some, None, Result, Ok, Err, Contains, refl, sym, ap, ◌∙◌, subst, arith}
-use Rattle.std.proofs.lemmas.Bool.{cases_eq}
-use Rattle.std.proofs.lemmas.List.Elements.{Contains-get_or}
+use Rattle.std.proofs.Common.{◌≡◌, ℕ, ◌+◌, ◌-◌, true, false, List, get_or, Option, Some, None, Err, Contains, refl, sym, ap, ◌∙◌, subst, arith}
 use Rattle.gc_types.specs.declared.kind.Layouts.{Layouts}
 use Rattle.gc_owner.specs.declared.entry.OwnedEntry.{OwnedEntry}
 use Rattle.gc_owner.specs.RootColumns.{empty_entry, with_handle_count}
@@ -11,17 +9,17 @@ use Rattle.gc_model.specs.OwnedRoots.{add_handle, drop_handle}
 use Rattle.gc_model.specs.Stores.{StoreView}
 use Rattle.gc_model.specs.Holds.{Placing, Holds}
 use Rattle.gc_model.proofs.HoldsOwned.{holds_handle_added, holds_handle_dropped}
-use Rattle.gc_policy.specs.Accounts.{Account, IsAccount, HoldsAccount}
+use Rattle.gc_policy.specs.Accounts.{Account, HoldsAccount}
 use Rattle.gc_policy.proofs.AccountLemmas.{account_kept}
 use Rattle.gc_store.specs.declared.config.HeapConfig.{HeapConfig}
 use Rattle.gc_store.specs.declared.engine.StoreId.{StoreId}
 use Rattle.gc_store.specs.declared.root.GcRootIndex.{GcRootIndex}
 use Rattle.gc_store.specs.declared.root.RootSlot.TheVariants as slot
-use Rattle.gc_store.specs.Roots.{owned_handle, is_of_store}
+use Rattle.gc_store.specs.Roots.{is_of_store}
 use Rattle.gc_store.specs.declared.root.RootFault.{RootFault}
 use Rattle.gc_store.specs.declared.root.RootFault.TheVariants as fault
 use Rattle.gc_store.specs.OwnedRoots.{IsHandleOf, IsOfNone, ReleasesHandle}
-use Rattle.gc_store.specs.OwnedWords.{HoldsThere, FindsHeldNumber, FindsHeld}
+use Rattle.gc_store.specs.OwnedWords.{FindsHeldNumber, FindsHeld}
 use Rattle.gc_store.specs.Words.{owned_id, owned_at, FindsOwned, AreRising}
 use Rattle.gc_store.specs.Stores.{store_view, IsSound}
 use Rattle.gc_store.proofs.HandleWords.{same_store}

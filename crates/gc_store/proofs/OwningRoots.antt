@@ -1,5 +1,5 @@
 -- An owned root is made by its word, where the owned roots were trimmed.
-use Rattle.std.proofs.Common.{◌≡◌, ◌≢◌, ℕ, ◌+◌, ◌-◌, ◌^◌, ◌<◌, ◌≤◌, ◌||◌, ◌==◌, inl, inr, Bool, true, false, nat_le, nat_eq, List, [], ◌∷◌, ◌++◌, length, map, get_or, Result, Ok, Err, Contains, AllPairs, refl, sym, ap, ◌∙◌, subst, arith}
+use Rattle.std.proofs.Common.{◌≡◌, ℕ, ◌-◌, ◌^◌, ◌<◌, ◌≤◌, ◌||◌, ◌==◌, inl, inr, Bool, true, false, nat_le, nat_eq, List, [], ◌∷◌, length, map, get_or, Result, Ok, Err, Contains, AllPairs, refl, sym, ap, ◌∙◌, subst, arith}
 use Rattle.std.specs.Prelude.{OnOk, OnErr}
 use Rattle.std.specs.List.{IsDistinct, sum_by}
 use Rattle.std.proofs.lemmas.Bool.{cases_lt, ne_eqb, eqb-false}
@@ -10,7 +10,7 @@ use Rattle.std.proofs.lemmas.Map.Keys.{IsDistinct-from_apart}
 use Rattle.gc_types.specs.declared.kind.Layouts.{Layouts}
 use Rattle.gc_owner.specs.declared.entry.OwnedEntry.{OwnedEntry}
 use Rattle.gc_owner.specs.RootColumns.{with_room}
-use Rattle.gc_owner.specs.Owners.{OwnerView, ChangesRoots, OwnsRoot, Trims}
+use Rattle.gc_owner.specs.Owners.{OwnerView, OwnsRoot, Trims}
 use Rattle.gc_model.specs.Values.{Reference}
 use Rattle.gc_model.specs.Table.{Table, Owned}
 use Rattle.gc_model.specs.OwnedRoots.{own, owned_full}
@@ -21,7 +21,7 @@ use Rattle.gc_model.proofs.Members.{map_among, among_map, pairs_map}
 use Rattle.gc_model.proofs.OwnedRoots.{trimmed_held}
 use Rattle.gc_model.proofs.HoldsOwned.{holds_owned, holds_trimmed}
 use Rattle.gc_policy.proofs.HeldSums.{sum_part}
-use Rattle.gc_policy.specs.Accounts.{Account, IsAccount, HoldsAccount}
+use Rattle.gc_policy.specs.Accounts.{Account, HoldsAccount}
 use Rattle.gc_policy.proofs.AccountLemmas.{account_kept, own_account}
 use Rattle.gc_store.specs.declared.config.HeapConfig.{HeapConfig}
 use Rattle.gc_store.specs.declared.engine.StoreId.{StoreId}

@@ -1,15 +1,13 @@
 -- The pending exception of a store, set, taken and told.
-use Rattle.std.proofs.Common.{◌≡◌, ℕ, ◌<◌, ◌↔◌, List, true, false, Option, Some, None, Ok, Err, Result, length, sym, ap, ◌∙◌, refl, subst, arith}
-use Rattle.std.specs.List.{slice_get}
+use Rattle.std.proofs.Common.{◌≡◌, ℕ, ◌<◌, List, true, false, Option, Some, None, Ok, Err, length, sym, ap, ◌∙◌, refl, subst, arith}
 use Rattle.std.proofs.lemmas.Option.{none-some}
 use Rattle.gc_types.specs.declared.kind.Layouts.{Layouts}
-use Rattle.gc_types.specs.declared.value.Tag.{Tag}
 use Rattle.gc_owner.specs.Owners.{OwnerView, ChangesRoots}
 use Rattle.gc_model.specs.Values.{Reference, at, Object}
 use Rattle.gc_model.specs.Table.{Table, push}
 use Rattle.gc_model.specs.Pending.{with_pending, take_pending}
 use Rattle.gc_model.specs.Stores.{StoreView}
-use Rattle.gc_model.specs.Holds.{Placing, IsWord, Holds, HoldsTable, IsException, ThrownBy}
+use Rattle.gc_model.specs.Holds.{Placing, IsWord, Holds, IsException, ThrownBy}
 use Rattle.gc_model.proofs.HoldsPending.{holds_pending_set}
 use Rattle.gc_policy.specs.Accounts.{Account, IsAccount, HoldsAccount}
 use Rattle.gc_policy.proofs.AccountLemmas.{account_kept}
@@ -21,9 +19,9 @@ use Rattle.gc_store.specs.declared.root.RootFault.TheVariants as fault
 use Rattle.gc_store.specs.declared.root.RootedObject.{RootedObject}
 use Rattle.gc_store.specs.declared.root.RootedObject.TheVariants as rooted_object
 use Rattle.gc_store.specs.Handles.{PushesRoot}
-use Rattle.gc_store.specs.Roots.{handle_of, word_of, is_of_store, IsRootWord, IsObject, IsReference, NamesReference}
+use Rattle.gc_store.specs.Roots.{handle_of, word_of, is_of_store, IsRootWord, IsObject, IsReference}
 use Rattle.gc_store.specs.Stores.{store_view, slot_counts, IsSound, IsSameStore}
-use Rattle.gc_store.specs.Thrown.{NamesException, SetsPending, AnswersPending, TellsTag}
+use Rattle.gc_store.specs.Thrown.{SetsPending, AnswersPending}
 use Rattle.gc_store.proofs.HandleWords.{word_of-wrong, names_nothing}
 
 module _ {D : Type 0} (layouts : Layouts) (s : StoreView D) (t : Table D) (place : Placing) (holds : Holds layouts s t place) (handle : GcRootIndex) where
@@ -60,7 +58,7 @@ module _ {D : Type 0} (layouts : Layouts) (id : StoreId) (config : HeapConfig) (
   after = store_view id config new tries
 
   -- so the store holds the table with that one pending, and the same account
-  pub pending_was_set : (t : Table D) (place : Placing) (a : Account) (pending : Option Reference) → Holds layouts before t place → IsAccount before place a → ThrownBy t.objects place pending word → HoldsAccount layouts after (with_pending pending t) a
+  pub pending_was_set : (t : Table D) (place : Placing) (a : Account) (pending : Option Reference) → Holds layouts before t place → IsAccount layouts before place a → ThrownBy t.objects place pending word → HoldsAccount layouts after (with_pending pending t) a
   pending_was_set t place a pending holds account thrown =
       subst (λ (v : OwnerView D). HoldsAccount layouts (store_view id config v tries) (with_pending pending t) a) (sym changes.rest) (record {
         place = place;

@@ -37,11 +37,13 @@ use Rattle.gc_model.proofs.ObjectShapes.{shape_at}
 use Rattle.gc_model.proofs.ObjectStands.{array_front}
 use Rattle.gc_policy.specs.Accounts.{Account, HoldsAccount, is_due, with_held}
 use Rattle.gc_policy.specs.Policy as policy
-use Rattle.gc_policy.specs.Policy.{PolicyState, policy_state, count_try, Prepares}
+use Rattle.gc_policy.specs.Policy.{PolicyState, policy_state, IsPlaceIn, count_try, Prepares}
 use Rattle.gc_policy.specs.Shown.{shown}
 use Rattle.gc_policy.proofs.CountedTries.{counted_store, counted_holds}
+use Rattle.gc_policy.proofs.HeapGaps.{place_in, told_more}
 use Rattle.gc_policy.proofs.HeldMore.{held_more}
-use Rattle.gc_policy.proofs.MakingSimulation.{Shows, FollowsBeginning, beginning_follows, got_pages}
+use Rattle.gc_policy.proofs.KeptPlaces.{fits-stay}
+use Rattle.gc_policy.proofs.MakingSimulation.{Shows, FollowsBeginning, beginning_follows, got_pages, stays_on}
 use Rattle.gc_policy.proofs.RetrySimulation.{MayHaveGrown, retry_follows}
 use Rattle.gc_policy.proofs.RootsShown.{SlotsInFrames}
 use Rattle.gc_store.specs.declared.request.Contents.{Contents}
@@ -252,16 +254,17 @@ module _ {D : Type 0} (layouts : Layouts) (s : StoreView D) (v : OwnerView D) (r
 
       -- the table with the object is held, with its root pushed
       made_holds : (due : Bool) (b : OwnerState D) → BeginsMaking layouts s.first due start b → (e : OwnerState D) (index : ℕ) (made : Creates layouts v.types.declarations request given new b e index) (pages : ℕ) (account : Account) → HoldsAccount layouts (shown counted made.mid.owner) (with_pages pages t) account
-          → HoldsAccount layouts (shown counted e.owner) (make o (with_pages pages t)) (with_held (length t.objects) account)
+          → HoldsAccount layouts (shown counted e.owner) (make o (with_pages pages t)) (with_held layouts (length t.objects) made.adds.word account)
       made_holds due b begins e index made pages account after =
           let object = made_object due b begins e index made pages after.place after.holds in
           let word : ℕ = made.adds.word in
-          subst (λ (x : OwnerView D). HoldsAccount layouts (shown counted x) (make o (with_pages pages t)) (with_held (length t.objects) account)) (sym (owner_is b e index made))
+          subst (λ (x : OwnerView D). HoldsAccount layouts (shown counted x) (make o (with_pages pages t)) (with_held layouts (length t.objects) word account)) (sym (owner_is b e index made))
           (record {
             place = placed_at after.place (length t.objects) word;
             holds = holds_make layouts (shown counted made.mid.owner) (with_pages pages t) after.place o e.owner.heap word after.holds object for.not_host refl not_full;
             account = record {
               held = held_more after.place account.held (length t.objects) word (λ p w placed. let held = after.holds.objects.placed p w placed in slice_get_within t.objects p held.entry held.in_table) after.account.held;
+              places = λ p. told_more layouts account.places after.place (length t.objects) word p (after.account.places p);
               last = after.account.last;
               tries = after.account.tries;
               upper = made.fills.rewrites.needs_gc ∙ ap (λ (h : HeapView). h.needs_gc) made.adds.adds.added ∙ after.account.upper;
@@ -291,10 +294,14 @@ module _ {D : Type 0} (layouts : Layouts) (s : StoreView D) (v : OwnerView D) (r
             allocates = record {
               pages = got.pages;
               gets = subst (λ (k : ℕ). GetsPages limits.limit t (need_of layouts k) got.pages) sized got.gets;
-              fits = subst (FitsIn layouts (with_pages got.pages t)) sized (subst (λ (u : Table D). FitsIn layouts u size) got.is retried.tried.1);
+              fits = fits-stay layouts (with_pages got.pages t) a.places retried.after.account.places (object_size layouts t.types o)
+                  (stays_on layouts counted s.alloc_counter b (count_try before) beginning retried.after.account.places retried.stay)
+                  (subst (FitsIn layouts retried.after.account.places (with_pages got.pages t)) sized (subst (λ (u : Table D). FitsIn layouts retried.after.account.places u size) got.is retried.tried.1));
               made = ap (make o) got.is;
             };
-            holds = subst (λ (u : Table D). HoldsAccount layouts (shown counted e.owner) (make o u) (with_held (length t.objects) retried.after.account)) (sym got.is)
+            word = made.adds.word;
+            lies = subst (IsPlaceIn layouts retried.after made.adds.word) sized (place_in layouts (shown counted made.mid.owner) retried.after made.adds.word size retried.agrees.holds made.adds.adds.lies);
+            holds = subst (λ (u : Table D). HoldsAccount layouts (shown counted e.owner) (make o u) (with_held layouts (length t.objects) made.adds.word retried.after.account)) (sym got.is)
                 (made_holds due b begins e index made got.pages retried.after.account after);
             limits = made.limits ∙ sym retried.agrees.limits;
             handle_is = handle_is ∙ (λ i. record {

@@ -26,7 +26,8 @@ use Rattle.gc_store.specs.Making.{BeginsMaking, MakesRooted}
 use Rattle.gc_store.specs.Places.{Places, LacksPlace, MayGetPages, bytes_of}
 use Rattle.gc_store.specs.Stores.{is_full}
 use Rattle.gc_policy.proofs.CountedTries.{counted_store, counted_holds}
-use Rattle.gc_policy.proofs.MakingSimulation.{Shows, FollowsBeginning, refusal_follows, no_heap_follows, got_pages}
+use Rattle.gc_policy.proofs.KeptPlaces.{lacks-stay}
+use Rattle.gc_policy.proofs.MakingSimulation.{Shows, FollowsBeginning, refusal_follows, no_heap_follows, got_pages, stays_on}
 use Rattle.gc_policy.proofs.RetrySimulation.{MayHaveGrown, retry_follows, pause_follows}
 use Rattle.gc_view.specs.Heaps.{HeapObject}
 use Rattle.gc_store.proofs.Keeping.{counts_of, Keeps, keeps-trans, keeps-making, keeps-retried, keeps-paused}
@@ -92,14 +93,17 @@ module _ {D : Type 0} (layouts : Layouts) (s : StoreView D) (v : OwnerView D) (r
         let table_is : retried.after.table ≡ make_heap t = retried.tried.same ∙ beginning.table in
         let refused : IsRefusedGrowth limits.limit (made_pages t) need =
         subst (λ (u : Table D). IsRefusedGrowth limits.limit u.pages need) beginning.table (subst (λ (l : Limits). IsRefusedGrowth l.limit beginning.after.table.pages need) beginning.limits retried.tried.refused) in
-        let none : LacksFit layouts (make_heap t) size = subst (λ (u : Table D). LacksFit layouts u size) table_is retried.tried.lacks in
+        let none : LacksFit layouts a.places (make_heap t) size =
+        lacks-stay layouts (make_heap t) a.places retried.after.account.places size
+        (stays_on layouts (counted_store s) s.alloc_counter b (count_try p) beginning retried.after.account.places retried.stay)
+        (subst (λ (u : Table D). LacksFit layouts retried.after.account.places u size) table_is retried.tried.lacks) in
         record {
           small = is_small;
           not_full = full;
           asked = lacks.asked ∙ ap (need_of layouts) sizes;
           after = retried.after;
           prepares = subst (λ (k : ℕ). Prepares layouts s.alloc_counter k p false retried.after) sizes (policy.tried beginning.makes beginning.dues retried.retried);
-          lacks = allocation.no_room beginning.may (subst (λ (k : ℕ). IsRefusedGrowth limits.limit (made_pages t) (need_of layouts k)) sizes refused) (subst (LacksFit layouts (make_heap t)) sizes none) table_is;
+          lacks = allocation.no_room beginning.may (subst (λ (k : ℕ). IsRefusedGrowth limits.limit (made_pages t) (need_of layouts k)) sizes refused) (subst (LacksFit layouts a.places (make_heap t)) sizes none) table_is;
           no_room = λ made. subst (λ (k : ℕ). HasRoom layouts e.owner.heap k → ⊥) sizes (ends_lacking (owner_rules layouts size) b e false lacks.retried refl);
           holds = retried.agrees.holds;
           limits = sym retried.agrees.limits;

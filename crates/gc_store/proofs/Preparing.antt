@@ -1,5 +1,5 @@
 -- What comes before a new object of whatever kind: the first pages, a collection that is due, and the rule of retry; and how it is refused.
-use Rattle.std.proofs.Common.{◌≡◌, ℕ, ◌+◌, ◌-◌, ◌^◌, ◌<◌, inl, inr, min, Bool, true, false, length, refl, sym, ap, ◌∙◌, subst, arith}
+use Rattle.std.proofs.Common.{◌≡◌, ℕ, ◌+◌, ◌-◌, ◌^◌, inl, inr, min, Bool, true, false, length, refl, sym, ap, ◌∙◌, subst}
 use Rattle.gc_types.specs.declared.kind.Layouts.{Layouts}
 use Rattle.gc_view.specs.Sizes.{need_of}
 use Rattle.gc_model.specs.Values.{Object}
@@ -9,7 +9,7 @@ use Rattle.gc_model.specs.Allocation as allocation
 use Rattle.gc_model.specs.Allocation.{Limits, too_large, FitsIn, LacksFit, GetsPages, IsRefusedGrowth}
 use Rattle.gc_model.specs.Stores.{StoreView}
 use Rattle.gc_heap.specs.Content.{IsHeap}
-use Rattle.gc_heap.specs.Heap.{HasRoom}
+use Rattle.gc_heap.specs.Heap.{HasRoom, IsPlaceFor}
 use Rattle.gc_owner.specs.RootColumns.{with_room}
 use Rattle.gc_owner.specs.Owners.{OwnerView, CanBegin}
 use Rattle.gc_owner.specs.Growing.{OwnerState, state_of, owner_rules, NotBegun}
@@ -17,10 +17,12 @@ use Rattle.gc_owner.specs.Makes.{LacksSpace}
 use Rattle.gc_owner.specs.Retry.{Rules, Retry, Paused, Ends, at_once, after_collection, after_both, after_growth, after_refusal}
 use Rattle.gc_policy.specs.Accounts.{Account, HoldsAccount, counted, is_due, with_held}
 use Rattle.gc_policy.specs.Policy as policy
-use Rattle.gc_policy.specs.Policy.{PolicyState, policy_state, count_try, Prepares, Prepared}
+use Rattle.gc_policy.specs.Policy.{PolicyState, policy_state, IsPlaceIn, count_try, Prepares, Prepared}
 use Rattle.gc_policy.specs.Shown.{shown}
 use Rattle.gc_policy.proofs.CountedTries.{counted_store, counted_holds}
-use Rattle.gc_policy.proofs.MakingSimulation.{Shows, FollowsBeginning, beginning_follows, refusal_follows, no_heap_follows, got_pages}
+use Rattle.gc_policy.proofs.HeapGaps.{place_in}
+use Rattle.gc_policy.proofs.KeptPlaces.{fits-stay, lacks-stay}
+use Rattle.gc_policy.proofs.MakingSimulation.{Shows, FollowsBeginning, beginning_follows, refusal_follows, no_heap_follows, got_pages, stays_on}
 use Rattle.gc_policy.proofs.RetrySimulation.{MayHaveGrown, retry_follows, pause_follows}
 use Rattle.gc_policy.proofs.RootsShown.{SlotsInFrames}
 use Rattle.gc_store.specs.declared.root.GcRootIndex.{GcRootIndex}
@@ -90,14 +92,17 @@ module _ {D : Type 0} (layouts : Layouts) (s : StoreView D) (v : OwnerView D) (l
       let table_is : retried.after.table ≡ make_heap t = retried.tried.same ∙ beginning.table in
       let refused : IsRefusedGrowth limits.limit (made_pages t) need =
       subst (λ (u : Table D). IsRefusedGrowth limits.limit u.pages need) beginning.table (subst (λ (l : Limits). IsRefusedGrowth l.limit beginning.after.table.pages need) beginning.limits retried.tried.refused) in
-      let none : LacksFit layouts (make_heap t) size = subst (λ (u : Table D). LacksFit layouts u size) table_is retried.tried.lacks in
+      let none : LacksFit layouts a.places (make_heap t) size =
+      lacks-stay layouts (make_heap t) a.places retried.after.account.places size
+      (stays_on layouts counted_view s.alloc_counter b (count_try p) beginning retried.after.account.places retried.stay)
+      (subst (λ (u : Table D). LacksFit layouts retried.after.account.places u size) table_is retried.tried.lacks) in
       record {
         small = is_small;
         not_full = full;
         asked = lacks.asked ∙ ap (need_of layouts) sized;
         after = retried.after;
         prepares = subst (λ (k : ℕ). Prepares layouts s.alloc_counter k p false retried.after) sized (policy.tried beginning.makes beginning.dues retried.retried);
-        lacks = allocation.no_room beginning.may (subst (λ (k : ℕ). IsRefusedGrowth limits.limit (made_pages t) (need_of layouts k)) sized refused) (subst (LacksFit layouts (make_heap t)) sized none) table_is;
+        lacks = allocation.no_room beginning.may (subst (λ (k : ℕ). IsRefusedGrowth limits.limit (made_pages t) (need_of layouts k)) sized refused) (subst (LacksFit layouts a.places (make_heap t)) sized none) table_is;
         no_room = λ made. subst (λ (k : ℕ). HasRoom layouts e.owner.heap k → ⊥) sized (ends_lacking (owner_rules layouts size) b e false lacks.retried refl);
         holds = retried.agrees.holds;
         limits = sym retried.agrees.limits;
@@ -147,12 +152,12 @@ module _ {D : Type 0} (layouts : Layouts) (s : StoreView D) (v : OwnerView D) (l
       }
 
   -- There is room: the object may be added at an owner that holds the table with its pages, and then it is placed.
-  pub room_found : (b mid e : OwnerState D) (index : ℕ) → BeginsMaking layouts s.first due start b → Retry (owner_rules layouts size) b true mid → e.limits ≡ mid.limits
-      → ((pages : ℕ) (account : Account) → HoldsAccount layouts (shown counted_view mid.owner) (with_pages pages t) account → HoldsAccount layouts (shown counted_view e.owner) (make o (with_pages pages t)) (with_held (length t.objects) account))
+  pub room_found : (b mid e : OwnerState D) (index word : ℕ) → BeginsMaking layouts s.first due start b → Retry (owner_rules layouts size) b true mid → IsPlaceFor layouts mid.owner.heap word size → e.limits ≡ mid.limits
+      → ((pages : ℕ) (account : Account) → HoldsAccount layouts (shown counted_view mid.owner) (with_pages pages t) account → HoldsAccount layouts (shown counted_view e.owner) (make o (with_pages pages t)) (with_held layouts (length t.objects) word account))
       → e.owner.roots.generation ≡ mid.owner.roots.generation → index ≡ length mid.owner.roots.scoped → (handle : GcRootIndex)
       → handle ≡ record { store_id = record { engine = s.engine; number = s.number }; generation = e.owner.roots.generation; slot = slot.Scoped index }
       → PlacesObject layouts s.alloc_counter o p e.limits handle (shown counted_view e.owner)
-  room_found b mid e index begins retries same_limits added same_generation index_is handle handle_is =
+  room_found b mid e index word begins retries lies same_limits added same_generation index_is handle handle_is =
       let beginning = begun b begins in
       let retried = retry_follows layouts counted_view size b beginning.after beginning.agrees true mid retries in
       let got = got_pages limits.limit need t beginning.after.table retried.after.table beginning.may beginning.table
@@ -169,10 +174,14 @@ module _ {D : Type 0} (layouts : Layouts) (s : StoreView D) (v : OwnerView D) (l
         allocates = record {
           pages = got.pages;
           gets = subst (λ (k : ℕ). GetsPages limits.limit t (need_of layouts k) got.pages) sized got.gets;
-          fits = subst (FitsIn layouts (with_pages got.pages t)) sized (subst (λ (u : Table D). FitsIn layouts u size) got.is retried.tried.1);
+          fits = fits-stay layouts (with_pages got.pages t) a.places retried.after.account.places (bytes_of layouts o t)
+              (stays_on layouts counted_view s.alloc_counter b (count_try p) beginning retried.after.account.places retried.stay)
+              (subst (FitsIn layouts retried.after.account.places (with_pages got.pages t)) sized (subst (λ (u : Table D). FitsIn layouts retried.after.account.places u size) got.is retried.tried.1));
           made = ap (make o) got.is;
         };
-        holds = subst (λ (u : Table D). HoldsAccount layouts (shown counted_view e.owner) (make o u) (with_held (length t.objects) retried.after.account)) (sym got.is)
+        word = word;
+        lies = subst (IsPlaceIn layouts retried.after word) sized (place_in layouts (shown counted_view mid.owner) retried.after word size retried.agrees.holds lies);
+        holds = subst (λ (u : Table D). HoldsAccount layouts (shown counted_view e.owner) (make o u) (with_held layouts (length t.objects) word retried.after.account)) (sym got.is)
             (added got.pages retried.after.account after);
         limits = same_limits ∙ sym retried.agrees.limits;
         handle_is = handle_is ∙ (λ i. record {

@@ -58,7 +58,7 @@ module _ {D : Type 0} (layouts : Layouts) (id : StoreId) (config : HeapConfig) (
   table_room t place holds = sym (full_is layouts before t place holds) ∙ free
 
   -- the store holds the table with the root, with the account that it had
-  account_pushed : (t : Table D) (place : Placing) (a : Account) (r : Reference) → Holds layouts before t place → IsAccount before place a → IsWord place r word → HoldsAccount layouts after (push r t) a
+  account_pushed : (t : Table D) (place : Placing) (a : Account) (r : Reference) → Holds layouts before t place → IsAccount layouts before place a → IsWord place r word → HoldsAccount layouts after (push r t) a
   account_pushed t place a r holds account is = record {
     place = place;
     holds = holds_push layouts before t place r (raised old.heap word) word holds (table_room t place holds) (raised_held old.heap word) is positive;
@@ -67,7 +67,7 @@ module _ {D : Type 0} (layouts : Layouts) (id : StoreId) (config : HeapConfig) (
 
   -- and the handle is that of its push
   pub pushes_root : (handle : GcRootIndex) → handle ≡ record { store_id = id; generation = room.roots.generation; slot = slot.Scoped (length room.roots.scoped) }
-      → (t : Table D) (place : Placing) (a : Account) (r : Reference) → Holds layouts before t place → IsAccount before place a → IsWord place r word → PushesRoot layouts t a r (Ok handle) (store_view id config new tries)
+      → (t : Table D) (place : Placing) (a : Account) (r : Reference) → Holds layouts before t place → IsAccount layouts before place a → IsWord place r word → PushesRoot layouts t a r (Ok handle) (store_view id config new tries)
   pushes_root handle handle_is t place a r holds account is =
       subst (λ (v : OwnerView D). PushesRoot layouts t a r (Ok handle) (store_view id config v tries)) owner_is (
         table_room t place holds,

@@ -98,7 +98,7 @@ found_reference names class word (reference c r) is = record {
   is_word = subst (IsWord names.place r) (grind (arith, sym is.found)) is.is_code;
 }
 
-pub reads_found : {D : Type 0} (layouts : Layouts) (old new : StoreView D) (t : Table D) (place : Placing) (a : Account) (class : GcClass) (word : ℕ) (v : Value) (answer : Result (Option GcRootIndex) RootFault) → Holds layouts old t place → IsAccount old place a
+pub reads_found : {D : Type 0} (layouts : Layouts) (old new : StoreView D) (t : Table D) (place : Placing) (a : Account) (class : GcClass) (word : ℕ) (v : Value) (answer : Result (Option GcRootIndex) RootFault) → Holds layouts old t place → IsAccount layouts old place a
     → FoundReference place class word v → ReadsReference layouts old word answer new → ReadsValue layouts t a v (reference_value class answer) new
 reads_found layouts old new t place a class word v answer holds account is reads =
     subst (λ (x : Value). ReadsValue layouts t a x (reference_value class answer) new) (sym is.is) (reads t place a class is.root holds account is.is_word)

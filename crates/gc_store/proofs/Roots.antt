@@ -1,31 +1,20 @@
 -- What a root's word tells of the table.
-use Rattle.std.proofs.Common.{◌≡◌, ◌≢◌, ◌⊎◌, inl, inr, ℕ, ◌%◌, ◌<◌, List, Bool, true, false, cond, Option, Some, None, IsSome, Result, Ok, Err, sym, ap, ◌∙◌, refl, subst, arith}
-use Rattle.std.specs.List.{slice_get}
+use Rattle.std.proofs.Common.{◌≡◌, ℕ, ◌%◌, ◌<◌, List, Option, Some, None, IsSome, sym, ap, ◌∙◌, refl, subst, arith}
 use Rattle.std.specs.Option.{SomeIff, MatchOption}
-use Rattle.std.proofs.lemmas.Grind.{common_steps}
 use Rattle.std.specs.FinMap as map
-use Rattle.std.proofs.lemmas.Option.{none-some, same_Some}
 use Rattle.gc_types.specs.declared.kind.Layouts.{Layouts}
 use Rattle.gc_types.specs.declared.kind.VMGcKind.{VMGcKind}
 use Rattle.gc_types.specs.Declarations.{Declaration}
 use Rattle.gc_refs.specs.Words.{i31_word, IsHeapWord}
-use Rattle.gc_owner.specs.declared.entry.RootEntry.{RootEntry}
 use Rattle.gc_model.specs.Values.{Reference, null, small, at, Object, struct, array, host, exception}
 use Rattle.gc_model.specs.Table.{Table}
-use Rattle.gc_model.specs.Live.{rooted}
 use Rattle.gc_view.specs.Heaps.{HeapObject}
 use Rattle.gc_model.specs.Stores.{StoreView}
 use Rattle.gc_model.specs.Forms.{Names as Naming, naming}
 use Rattle.gc_model.specs.Holds.{Placing, IsWord, Holds, Stands}
-use Rattle.gc_model.proofs.Live.{live_word, dead_word, entry_stands}
-use Rattle.gc_store.specs.declared.root.GcRootIndex.{GcRootIndex}
-use Rattle.gc_store.specs.declared.root.RootSlot.{RootSlot}
-use Rattle.gc_store.specs.declared.root.RootSlot.TheVariants as slot
-use Rattle.gc_store.specs.declared.root.RootFault.{RootFault}
-use Rattle.gc_store.specs.declared.root.RootFault.TheVariants as fault
 use Rattle.gc_store.specs.declared.root.RootedObject.{RootedObject}
 use Rattle.gc_store.specs.declared.root.RootedObject.TheVariants as rooted_object
-use Rattle.gc_store.specs.Roots.{word_of, is_of_store, Names, IsRootWord, IsReference, IsObject, NamesReference, NamesNothing}
+use Rattle.gc_store.specs.Roots.{IsReference, IsObject}
 use Rattle.gc_store.specs.Described.{IsOfKindAs, TellsHeld}
 
 -- What a held object is, as the table has it

@@ -1,5 +1,5 @@
 -- Slots that are set and read, and globals among them.
-use Rattle.std.proofs.Common.{◌≡◌, ℕ, ◌<◌, Bool, true, false, List, length, Option, Some, Result, Ok, Err, refl, sym, ap, ◌∙◌, subst, arith}
+use Rattle.std.proofs.Common.{◌≡◌, ℕ, ◌<◌, List, length, Option, Some, Result, Ok, Err, refl, sym, ap, ◌∙◌, subst, arith}
 use Rattle.std.specs.Prelude.{slice_index_or}
 use Rattle.std.proofs.lemmas.Option.{slice_get_within, slice_get-get_or, get_or_from_slice_get}
 use Rattle.gc_types.specs.declared.kind.Layouts.{Layouts}
@@ -24,7 +24,7 @@ use Rattle.gc_store.specs.declared.root.GcRootIndex.{GcRootIndex}
 use Rattle.gc_store.specs.declared.root.RootFault.{RootFault}
 use Rattle.gc_store.specs.declared.root.RootFault.TheVariants as fault
 use Rattle.gc_store.specs.Reading.{ReadsReference, reference_value}
-use Rattle.gc_store.specs.Roots.{is_of_store, word_of, IsRootWord}
+use Rattle.gc_store.specs.Roots.{IsRootWord}
 use Rattle.gc_store.specs.Slots.{told_of_slot, FindsWord, ReadsSlot, slot_value}
 use Rattle.gc_store.specs.Stores.{store_view, IsSound}
 use Rattle.gc_store.specs.Values.{ReadsValue}
@@ -40,7 +40,7 @@ module _ {D : Type 0} (layouts : Layouts) (id : StoreId) (config : HeapConfig) (
   after = store_view id config new tries
 
   -- so the store holds the table with that global set, and the same account
-  pub global_was_set : (t : Table D) (place : Placing) (a : Account) (r : Reference) → Holds layouts before t place → IsAccount before place a → IsWord place r word → HoldsAccount layouts after (set_global index class r t) a
+  pub global_was_set : (t : Table D) (place : Placing) (a : Account) (r : Reference) → Holds layouts before t place → IsAccount layouts before place a → IsWord place r word → HoldsAccount layouts after (set_global index class r t) a
   global_was_set t place a r holds account is =
       subst (λ (v : OwnerView D). HoldsAccount layouts (store_view id config v tries) (set_global index class r t) a) (sym changes.rest) (record {
         place = place;

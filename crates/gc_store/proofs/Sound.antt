@@ -13,6 +13,7 @@ use Rattle.gc_model.proofs.HoldsStart.{nowhere, IsUntouched, holds_untouched, un
 use Rattle.gc_heap.specs.Content.{IsHeap}
 use Rattle.gc_owner.specs.Owners.{OwnerView, new_owner}
 use Rattle.gc_policy.specs.Accounts.{no_account}
+use Rattle.gc_policy.proofs.HeapGaps.{told_nowhere}
 use Rattle.gc_store.specs.declared.engine.StoreId.{StoreId}
 use Rattle.gc_store.specs.declared.config.HeapConfig.{HeapConfig}
 use Rattle.gc_store.specs.Stores.{store_view, slot_counts, IsSound, HoldsStart, ShowsNothing, configured}
@@ -31,6 +32,7 @@ starts_untouched D layouts s untouched counts = record {
   holds = holds_untouched D layouts s untouched;
   account = record {
     held = record { distinct = tt; all = λ p. (λ c. absurd (omega (arith, c.1)), λ placed. absurd (none-some placed.0 placed.1)) };
+    places = told_nowhere layouts;
     last = counts.last;
     tries = counts.tries;
     upper = counts.upper;

@@ -1,9 +1,8 @@
 -- The tag of an exception is written in front of its fields.
-use Rattle.std.proofs.Common.{◌≡◌, ℕ, ◌+◌, ◌-◌, ◌^◌, ◌<◌, ◌≤◌, ◌⊎◌, inl, inr, List, [], length, Some, Contains, refl, sym, ap, ◌∙◌, subst, arith}
-use Rattle.std.specs.List.{slice_get, slice_index_or}
+use Rattle.std.proofs.Common.{◌≡◌, ℕ, ◌+◌, ◌-◌, ◌^◌, ◌<◌, ◌≤◌, inl, inr, List, length, Contains, refl, sym, ap, ◌∙◌, subst, arith}
+use Rattle.std.specs.List.{slice_index_or}
 use Rattle.std.proofs.lemmas.Bool.{cases_lt}
 use Rattle.std.proofs.lemmas.List.{get_or_past}
-use Rattle.std.specs.FinMap.{get}
 use Rattle.std.specs.Int.{w32, to_le_bytes}
 use Rattle.gc_types.specs.declared.kind.Layouts.{Layouts}
 use Rattle.gc_types.specs.declared.kind.Layouts.TheVariants.{Null, Counting, Copying}
@@ -16,7 +15,7 @@ use Rattle.gc_types.specs.Layouts.{struct_base, exception_base, storage_width}
 use Rattle.gc_memory.specs.Lists.{In}
 use Rattle.gc_view.specs.Bytes.{SameBytes, put_bytes, u32_at}
 use Rattle.gc_view.specs.Heaps.{HeapObject}
-use Rattle.gc_view.specs.Slots.{shape_slots, shape_first, shape_size, slot_offsets}
+use Rattle.gc_view.specs.Slots.{shape_slots, shape_first, shape_size}
 use Rattle.gc_view.proofs.ByteLemmas.{put_bytes-above, part_in_same, u32_at-put_u32, u32_at-put_before}
 use Rattle.gc_view.proofs.SlotLemmas.{shape_spaced, spaced-le, slot_range}
 use Rattle.gc_heap.specs.Extents.{HasFields, writable_offset}

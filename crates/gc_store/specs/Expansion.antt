@@ -49,7 +49,8 @@ unused_bytes layouts p = page * p.table.pages - allocated_bytes layouts p.table 
 -- A collection ran, and then the heap grew where it has fewer bytes than are needed, or was refused to.
 pub data MakesRoom {D : Type 0} (layouts : Layouts) (need : ℕ) (p : PolicyState D) : PolicyState D → Type 0 where
   enough : {q : PolicyState D} → MayCollectTable layouts p q → need ≤ unused_bytes layouts q → MakesRoom layouts need p q
-  grows : {m q : PolicyState D} {granted : Bool} → MayCollectTable layouts p m → unused_bytes layouts m < need → Expands layouts need m granted q → MakesRoom layouts need p q
+  grows : {m q : PolicyState D} {granted : Bool} → MayCollectTable layouts p m → unused_bytes layouts m < need → Expands layouts need m granted q
+      → MakesRoom layouts need p q
 
 -- memory was wanting in the growth after the collection
 pub record MadeRoom {D : Type 0} (layouts : Layouts) (need : ℕ) (p q : PolicyState D) : Type 0 where

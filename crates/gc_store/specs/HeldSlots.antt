@@ -33,7 +33,8 @@ pub record HasSlot (layouts : Layouts) (types : List Declaration) (ty index : �
 -- it is that slot
 abbrev pub FindsSlot : Layouts → List Declaration → ℕ → ℕ → Slot → Type 0
 FindsSlot layouts types ty index found =
-    (shape : Shape) (count : ℕ) (slot : StorageSlot) → shape_at types ty ≡ Some shape → slice_get (shape_slots layouts shape count) index ≡ Some slot → storage_slot found ≡ slot
+    (shape : Shape) (count : ℕ) (slot : StorageSlot) → shape_at types ty ≡ Some shape → slice_get (shape_slots layouts shape count) index ≡ Some slot
+    → storage_slot found ≡ slot
 
 -- the slot of that index of the object at a place
 abbrev pub FindsHeldSlot : Layouts → List Declaration → HeapView → ℕ → ℕ → Slot → Type 0

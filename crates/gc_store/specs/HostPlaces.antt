@@ -15,5 +15,6 @@ use Rattle.gc_store.specs.Places.{PlacesObject, LacksPlace, WantsPlace, RefusesP
 abbrev pub PlacesHost : {D : Type 0} → Layouts → Option ℕ → D → PolicyState D → Limits → Result GcRootIndex (PlaceHostFault D) → StoreView D → Type 0
 PlacesHost layouts counter value p limits' (Ok handle) new = PlacesObject layouts counter (host value) p limits' handle new
 PlacesHost layouts counter value p limits' (Err fault.RootsFull) new = (roots_full p.table ≡ true) × RefusesPlace layouts p limits' new
-PlacesHost layouts counter value p limits' (Err (fault.HeapOutOfMemory f)) new = (f.inner ≡ value) × LacksPlace layouts counter (host value) p limits' f.bytes_needed new
+PlacesHost layouts counter value p limits' (Err (fault.HeapOutOfMemory f)) new = (f.inner ≡ value)
+    × LacksPlace layouts counter (host value) p limits' f.bytes_needed new
 PlacesHost layouts counter value p limits' (Err fault.Memory) new = WantsPlace layouts counter (host value) p limits' new

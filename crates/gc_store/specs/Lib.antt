@@ -8,6 +8,7 @@ pub mod HostLends
 pub mod HostPlaces
 pub mod HostSteps
 pub mod Ids
+pub mod IncrementCounts
 pub mod Kept
 pub mod Making
 pub mod Marks
@@ -17,6 +18,7 @@ pub mod Places
 pub mod Reading
 pub mod Requests
 pub mod Roots
+pub mod Settled
 pub mod Slots
 pub mod Stores
 pub mod Tagging

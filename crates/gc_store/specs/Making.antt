@@ -35,7 +35,8 @@ IsOfTypes (of.External id) = ⊥
 abbrev pub IsSizeOf : Layouts → List Declaration → Place → ℕ → Type 0
 IsSizeOf layouts types (place.Struct ty) size = (layout : GcStructLayout) × ((layout_at layouts types ty ≡ Some layout) × (size ≡ layout.size))
 IsSizeOf layouts types (place.Exn ty tag) size = (layout : GcStructLayout) × ((layout_at layouts types ty ≡ Some layout) × (size ≡ layout.size))
-IsSizeOf layouts types (place.Array ty count) size = (layout : GcArrayLayout) × ((array_layout_at layouts types ty ≡ Some layout) × (size ≡ array_size layout count))
+IsSizeOf layouts types (place.Array ty count) size = (layout : GcArrayLayout)
+    × ((array_layout_at layouts types ty ≡ Some layout) × (size ≡ array_size layout count))
 
 -- the size is told where some heap of the kind can hold an object that large
 abbrev pub TellsSize : Layouts → ℕ → Option ℕ → Type 0

@@ -54,7 +54,7 @@ DropsHandle layouts old t a handle false new = IsOfNone old t handle × HoldsAcc
 
 -- the same of any handle
 abbrev pub ReleasesHandle : {D : Type 0} → Layouts → StoreView D → Table D → Account → GcRootIndex → Result Bool RootFault → StoreView D → Type 0
-ReleasesHandle layouts old t a handle (Ok was_held) new = DropsHandle layouts old t a handle was_held new
+ReleasesHandle layouts old t a handle (Ok was_held) new = (is_of_store old handle ≡ true) × DropsHandle layouts old t a handle was_held new
 ReleasesHandle layouts old t a handle (Err fault.WrongStore) new = is_of_store old handle ≡ false
 ReleasesHandle layouts old t a handle (Err fault.Unrooted) new = ⊥
 ReleasesHandle layouts old t a handle (Err fault.RootsFull) new = ⊥

@@ -19,7 +19,7 @@ use Rattle.gc_store.specs.Roots.{owned_handle}
 
 -- the store holds the table under that placing, and has that account
 abbrev pub HoldsThere : {D : Type 0} → Layouts → StoreView D → Table D → Placing → Account → Type 0
-HoldsThere layouts s t place a = Holds layouts s t place × IsAccount s place a
+HoldsThere layouts s t place a = Holds layouts s t place × IsAccount layouts s place a
 
 -- where the list of owned roots is full, each has handles
 abbrev pub IsTrimmed : {D : Type 0} → StoreView D → Type 0
@@ -32,7 +32,8 @@ owned_is_full s = nat_le s.max_owned (length s.owned) || (s.owns == 2 ^ 64 - 1)
 -- an owned root was added for what has that word
 abbrev pub AddsOwned : {D : Type 0} → Layouts → StoreView D → ℕ → StoreView D → Type 0
 AddsOwned {D} layouts old word new =
-    (t : Table D) (place : Placing) (a : Account) (r : Reference) → HoldsThere layouts old t place a → IsWord place r word → HoldsAccount layouts new (own r t) a
+    (t : Table D) (place : Placing) (a : Account) (r : Reference) → HoldsThere layouts old t place a → IsWord place r word
+    → HoldsAccount layouts new (own r t) a
 
 -- what making an owned root for a reference answers and leaves
 abbrev pub OwnsWord : {D : Type 0} → Layouts → Table D → Account → Reference → Result GcRootIndex RootFault → StoreView D → Type 0

@@ -14,20 +14,22 @@ use Rattle.gc_store.specs.declared.store.PlaceFault.{PlaceFault}
 use Rattle.gc_store.specs.declared.store.PlaceFault.TheVariants as fault
 use Rattle.gc_store.specs.Roots.{handle_of}
 use Rattle.gc_policy.specs.Accounts.{HoldsAccount, with_held}
-use Rattle.gc_policy.specs.Policy.{PolicyState, Prepares, Prepared}
+use Rattle.gc_policy.specs.Policy.{PolicyState, IsPlaceIn, Prepares, Prepared}
 
 -- the bytes of an object of the table, as its heap lays it out
 abbrev pub bytes_of : {D : Type 0} → Layouts → Object D → Table D → ℕ
 bytes_of layouts o t = object_size layouts t.types o
 
--- the object is in the table, and the handle is that of its push
+-- the object is in the table, lies where the policy lets it, and the handle is that of its push
 pub record PlacesObject {D : Type 0} (layouts : Layouts) (counter : Option ℕ) (o : Object D) (p : PolicyState D) (limits' : Limits) (handle : GcRootIndex) (new : StoreView D) : Type 0 where
   pub small : too_large layouts (bytes_of layouts o p.table) ≡ false
   pub not_full : roots_full p.table ≡ false
   pub after : PolicyState D
   pub prepares : Prepares layouts counter (bytes_of layouts o p.table) p true after
-  pub allocates : Allocates layouts p.limits.limit o p.table (make o after.table)
-  pub holds : HoldsAccount layouts new (make o after.table) (with_held (length p.table.objects) after.account)
+  pub allocates : Allocates layouts p.limits.limit p.account.places o p.table (make o after.table)
+  pub word : ℕ
+  pub lies : IsPlaceIn layouts after word (bytes_of layouts o p.table)
+  pub holds : HoldsAccount layouts new (make o after.table) (with_held layouts (length p.table.objects) word after.account)
   pub limits : limits' ≡ after.limits
   pub handle_is : handle ≡ handle_of new (length p.table.scoped) p.table.drops
 
@@ -38,7 +40,7 @@ pub record LacksPlace {D : Type 0} (layouts : Layouts) (counter : Option ℕ) (o
   pub asked : need ≡ need_of layouts (bytes_of layouts o p.table)
   pub after : PolicyState D
   pub prepares : Prepares layouts counter (bytes_of layouts o p.table) p false after
-  pub lacks : LacksMemory layouts p.limits.limit o p.table after.table
+  pub lacks : LacksMemory layouts p.limits.limit p.account.places o p.table after.table
   pub no_room : after.table.made ≡ true → HasRoom layouts new.heap (bytes_of layouts o p.table) → ⊥
   pub holds : HoldsAccount layouts new after.table after.account
   pub limits : limits' ≡ after.limits

@@ -34,5 +34,6 @@ reference_value class (Err fault) = Err fault
 -- Reading a reference with that word, as one of any class, answers this and leaves this.
 abbrev pub ReadsReference : {D : Type 0} → Layouts → StoreView D → ℕ → Result (Option GcRootIndex) RootFault → StoreView D → Type 0
 ReadsReference {D} layouts old word answer new =
-    (t : Table D) (place : Placing) (a : Account) (class : GcClass) (r : Reference) → Holds layouts old t place → IsAccount old place a → IsWord place r word
+    (t : Table D) (place : Placing) (a : Account) (class : GcClass) (r : Reference) → Holds layouts old t place → IsAccount layouts old place a
+    → IsWord place r word
     → ReadsValue layouts t a (reference class r) (reference_value class answer) new

@@ -38,7 +38,8 @@ pub record CanPlaceFields (D : Type 0) (layouts : Layouts) (s : StoreView D) (fo
   pub fields : List FieldType
   pub declared : found ≡ Some fields
   pub same_count : length raws ≡ length fields
-  pub each : (i : ℕ) (field : FieldType) (r : RawValue) → slice_get fields i ≡ Some field → slice_get raws i ≡ Some r → CanStore D layouts s field.element_type r
+  pub each : (i : ℕ) (field : FieldType) (r : RawValue) → slice_get fields i ≡ Some field → slice_get raws i ≡ Some r
+      → CanStore D layouts s field.element_type r
 
 -- so a struct may, and an exception
 abbrev pub CanPlaceStruct : (D : Type 0) → Layouts → StoreView D → ℕ → List RawValue → Type 0
@@ -85,12 +86,15 @@ IsFilled s t ty count r o = (v : Value) × ((0 < count → RawStands s t r v) ×
 
 -- the object of the table that is requested so
 abbrev pub IsObjectOf : {D : Type 0} → StoreView D → Table D → Place → Contents → Object D → Type 0
-IsObjectOf s t (place.Struct ty) (contents.Each values) o = (vs : List Value) × (AllStand s t values.now vs × (o ≡ struct ty (stored_in (fields_of t.types ty) vs)))
+IsObjectOf s t (place.Struct ty) (contents.Each values) o = (vs : List Value)
+    × (AllStand s t values.now vs × (o ≡ struct ty (stored_in (fields_of t.types ty) vs)))
 IsObjectOf s t (place.Struct ty) (contents.Same value) o = ⊥
 IsObjectOf s t (place.Struct ty) (contents.Bytes bytes) o = ⊥
-IsObjectOf s t (place.Exn ty tag) (contents.Each values) o = (vs : List Value) × (AllStand s t values.now vs × (o ≡ exception ty tag (stored_in (exn_fields_of t.types ty) vs)))
+IsObjectOf s t (place.Exn ty tag) (contents.Each values) o = (vs : List Value)
+    × (AllStand s t values.now vs × (o ≡ exception ty tag (stored_in (exn_fields_of t.types ty) vs)))
 IsObjectOf s t (place.Exn ty tag) (contents.Same value) o = ⊥
 IsObjectOf s t (place.Exn ty tag) (contents.Bytes bytes) o = ⊥
-IsObjectOf s t (place.Array ty count) (contents.Each values) o = (vs : List Value) × (AllStand s t values.now vs × (o ≡ array ty (map (stored (element_of t.types ty)) vs)))
+IsObjectOf s t (place.Array ty count) (contents.Each values) o = (vs : List Value)
+    × (AllStand s t values.now vs × (o ≡ array ty (map (stored (element_of t.types ty)) vs)))
 IsObjectOf s t (place.Array ty count) (contents.Same value) o = IsFilled s t ty count value.now o
 IsObjectOf s t (place.Array ty count) (contents.Bytes bytes) o = o ≡ array ty (map byte_value bytes.now)

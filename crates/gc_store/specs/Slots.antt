@@ -48,7 +48,8 @@ FindsWord s t place handle (Err root_fault.RootsFull) = ⊥
 FindsWord s t place handle (Err root_fault.Memory) = ⊥
 
 -- What setting a slot that is there answers and leaves, by the table with the slot set.
-abbrev pub SetsSlot : {D : Type 0} → Layouts → StoreView D → Table D → Account → Option GcRootIndex → (Reference → Table D) → Result (Unit {0}) SlotFault → StoreView D → Type 0
+abbrev pub SetsSlot : {D : Type 0} → Layouts → StoreView D → Table D → Account → Option GcRootIndex → (Reference → Table D)
+    → Result (Unit {0}) SlotFault → StoreView D → Type 0
 SetsSlot layouts old t a handle set (Ok done) new = (r : Reference) × (HandleStands old t handle r × HoldsAccount layouts new (set r) a)
 SetsSlot layouts old t a handle set (Err slot_fault.NoSlot) new = ⊥
 SetsSlot layouts old t a handle set (Err slot_fault.WrongStore) new = IsForeign old handle

@@ -1,6 +1,5 @@
 -- The tag of an exception lies in front of its fields.
 use Rattle.std.specs.Prelude.{◌≡◌, ℕ, List, length}
-use Rattle.gc_types.specs.declared.kind.Layouts.{Layouts}
 use Rattle.gc_types.specs.declared.value.Tag.{Tag}
 use Rattle.gc_types.specs.declared.value.ValType.{ValType}
 use Rattle.gc_types.specs.Declarations.{exn_of}

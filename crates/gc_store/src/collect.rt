@@ -9,6 +9,7 @@ ghost use Rattle.gc_policy.specs.Accounts.{Account, HoldsAccount};
 ghost use Rattle.gc_policy.specs.Collects.{HoldsNumber, HoldsHosts};
 ghost use Rattle.gc_store.specs.Expansion.{CollectsStore};
 ghost use Rattle.gc_policy.specs.Policy.{policy_state};
+ghost use Rattle.gc_store.specs.Settled.{IsSettled};
 ghost use Rattle.gc_store.specs.Stores.{IsSameStore};
 
 use crate::store::Store;
@@ -19,7 +20,9 @@ impl<H: GcHeap, D: Drop> Store<H, D> {
     /// it does nothing. It takes no memory, and its time is linear in the roots and what they reach.
     pub fn gc(&mut self)
         ensures kept { (t : Table D) → HoldsTable H.KIND self.old t → HoldsKept H.KIND self.new t }
-        ensures collects { (t : Table D) (a : Account) (limits : Limits) → self.old.heap.attached ≡ true → HoldsAccount H.KIND self.old t a → CollectsStore H.KIND (policy_state t a limits) self.new }
+        ensures collects { (t : Table D) (a : Account) (limits : Limits) → self.old.heap.attached ≡ true → HoldsAccount H.KIND self.old t a
+            → CollectsStore H.KIND (policy_state t a limits) self.new }
+        ensures settled { self.old.heap.attached ≡ true → IsSettled H.KIND self.new }
         ensures unmade { self.old.heap.attached ≡ false → self.new ≡ self.old }
         ensures same { IsSameStore self.old self.new }
     {

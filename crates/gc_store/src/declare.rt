@@ -20,7 +20,8 @@ impl<H: GcHeap, D: Drop> Store<H, D> {
         supertype: Option<VMSharedTypeIndex>,
         is_final: bool,
     ) -> Result<StructType, TypeFault>
-        ensures step { (t : Table D) (a : Account) → HoldsAccount H.KIND self.old t a → Declares H.KIND (struct_type fields.now supertype is_final) t a result self.new }
+        ensures step { (t : Table D) (a : Account) → HoldsAccount H.KIND self.old t a
+            → Declares H.KIND (struct_type fields.now supertype is_final) t a result self.new }
         ensures err { OnErr result (self.new ≡ self.old) }
         ensures same { IsSameStore self.old self.new }
     {
@@ -34,7 +35,8 @@ impl<H: GcHeap, D: Drop> Store<H, D> {
         supertype: Option<VMSharedTypeIndex>,
         is_final: bool,
     ) -> Result<ArrayType, TypeFault>
-        ensures step { (t : Table D) (a : Account) → HoldsAccount H.KIND self.old t a → Declares H.KIND (array_type element supertype is_final) t a result self.new }
+        ensures step { (t : Table D) (a : Account) → HoldsAccount H.KIND self.old t a
+            → Declares H.KIND (array_type element supertype is_final) t a result self.new }
         ensures err { OnErr result (self.new ≡ self.old) }
         ensures same { IsSameStore self.old self.new }
     {
@@ -58,7 +60,8 @@ impl<H: GcHeap, D: Drop> Store<H, D> {
         supertype: Option<VMSharedTypeIndex>,
         is_final: bool,
     ) -> Result<FuncType, TypeFault>
-        ensures step { (t : Table D) (a : Account) → HoldsAccount H.KIND self.old t a → Declares H.KIND (func_type params.now results.now supertype is_final) t a result self.new }
+        ensures step { (t : Table D) (a : Account) → HoldsAccount H.KIND self.old t a
+            → Declares H.KIND (func_type params.now results.now supertype is_final) t a result self.new }
         ensures err { OnErr result (self.new ≡ self.old) }
         ensures same { IsSameStore self.old self.new }
     {

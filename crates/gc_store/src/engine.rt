@@ -38,7 +38,8 @@ impl Engine {
 
     /// An id that this engine did not give before; None exactly after 2^64 - 1 ids.
     pub fn next_store_id(&mut self) -> Option<StoreId>
-        ensures fresh { IfSome result (λ id. (id ≡ record { engine = self.old.engine; number = self.old.given }) × (self.new ≡ record self.old { given = self.old.given + 1 })) }
+        ensures fresh { IfSome result (λ id. (id ≡ record { engine = self.old.engine; number = self.old.given })
+            × (self.new ≡ record self.old { given = self.old.given + 1 })) }
         ensures none { IsNone result ↔ (self.old.given ≡ 2 ^ 64 - 1) }
         ensures stays { IfNone result (self.new ≡ self.old) }
     {

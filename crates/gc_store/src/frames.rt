@@ -77,7 +77,8 @@ impl<H: GcHeap, D: Drop> Store<H, D> {
     /// further root may be made.
     pub fn slot_get(&mut self, slot: u32) -> Result<(GcClass, Option<GcRootIndex>), SlotFault>
         ensures no_slot { IsErrOf result SlotFault.NoSlot ↔ (length (newest self.old.frames) ≤ slot) }
-        ensures reads { (t : Table D) (a : Account) (there : Slot) → HoldsAccount H.KIND self.old t a → slot_at t slot ≡ Some there → ReadsSlot H.KIND t a there result self.new }
+        ensures reads { (t : Table D) (a : Account) (there : Slot) → HoldsAccount H.KIND self.old t a → slot_at t slot ≡ Some there
+            → ReadsSlot H.KIND t a there result self.new }
         ensures err { OnErr result (self.new ≡ self.old) }
         ensures same { IsSameStore self.old self.new }
     {

@@ -88,7 +88,8 @@ impl<H: GcHeap, D: Drop> Store<H, D> {
     /// there is no such global; then `RootsFull` where it isn't null and no further root may be made.
     pub fn global_get(&mut self, global: u32) -> Result<(GcClass, Option<GcRootIndex>), SlotFault>
         ensures no_slot { IsErrOf result SlotFault.NoSlot ↔ (global_count ≤ global) }
-        ensures reads { (t : Table D) (a : Account) (slot : Slot) → HoldsAccount H.KIND self.old t a → global_at t global ≡ Some slot → ReadsSlot H.KIND t a slot result self.new }
+        ensures reads { (t : Table D) (a : Account) (slot : Slot) → HoldsAccount H.KIND self.old t a → global_at t global ≡ Some slot
+            → ReadsSlot H.KIND t a slot result self.new }
         ensures err { OnErr result (self.new ≡ self.old) }
         ensures same { IsSameStore self.old self.new }
     {

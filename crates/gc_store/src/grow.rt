@@ -55,7 +55,8 @@ impl<H: GcHeap, D: Drop> Store<H, D> {
         limiter: &mut L,
         bytes: u64,
     ) -> Result<(), GrowFault>
-        ensures grows { (t : Table D) (a : Account) → HoldsAccount H.KIND self.old t a → GrowsStore H.KIND bytes (policy_state t a (L.limits limiter.old)) (L.limits limiter.new) result self.new }
+        ensures grows { (t : Table D) (a : Account) → HoldsAccount H.KIND self.old t a
+            → GrowsStore H.KIND bytes (policy_state t a (L.limits limiter.old)) (L.limits limiter.new) result self.new }
         ensures same { IsSameStore self.old self.new }
     {
         if bytes == 0 {
@@ -78,7 +79,8 @@ impl<H: GcHeap, D: Drop> Store<H, D> {
         limiter: &mut L,
         why: &GcHeapOutOfMemory<()>,
     ) -> Result<(), AllocError>
-        ensures collects { (t : Table D) (a : Account) → HoldsAccount H.KIND self.old t a → CollectsFor H.KIND why.now.bytes_needed (policy_state t a (L.limits limiter.old)) (L.limits limiter.new) result self.new }
+        ensures collects { (t : Table D) (a : Account) → HoldsAccount H.KIND self.old t a
+            → CollectsFor H.KIND why.now.bytes_needed (policy_state t a (L.limits limiter.old)) (L.limits limiter.new) result self.new }
         ensures same { IsSameStore self.old self.new }
     {
         self.gc();

@@ -117,7 +117,8 @@ fn make_host<H: GcHeap, D: Drop, L: ResourceLimiter>(
     requires room { 0 < owner.old.seen.roots.spare }
     requires few { length owner.old.seen.roots.scoped < 2 ^ 32 }
     requires hosts { map.len owner.old.seen.hosts < max_entries }
-    ensures { MakesHost H.KIND value first_pages is_due (state_of owner.old.seen (L.limits limiter.old)) (state_of owner.new.seen (L.limits limiter.new)) result }
+    ensures { MakesHost H.KIND value first_pages is_due (state_of owner.old.seen (L.limits limiter.old))
+        (state_of owner.new.seen (L.limits limiter.new)) result }
 {
     match owner.make_heap(limiter, first_pages) {
         Ok(()) => {
@@ -174,8 +175,10 @@ impl<H: GcHeap, D: Drop> Store<H, D> {
     /// The id of the host value of what the handle names; None where that is no host object.
     fn host_id(&self, handle: GcRootIndex) -> Result<Option<ExternRefHostDataId>, RootFault>
         ensures wrong_store { is_of_store self.now handle ≡ false → result ≡ Err RootFault.WrongStore }
-        ensures live { (t : Table D) (place : Placing) (r : Reference) → Holds H.KIND self.now t place → NamesReference self.now t handle r → FindsHostId self.now t place r result }
-        ensures gone { is_of_store self.now handle ≡ true → (t : Table D) → HoldsTable H.KIND self.now t → NamesNothing self.now t handle → result ≡ Err RootFault.Unrooted }
+        ensures live { (t : Table D) (place : Placing) (r : Reference) → Holds H.KIND self.now t place → NamesReference self.now t handle r
+            → FindsHostId self.now t place r result }
+        ensures gone { is_of_store self.now handle ≡ true → (t : Table D) → HoldsTable H.KIND self.now t → NamesNothing self.now t handle
+            → result ≡ Err RootFault.Unrooted }
     {
         self.owner.is_ready();
         match self.word_of(handle) {
@@ -191,8 +194,10 @@ impl<H: GcHeap, D: Drop> Store<H, D> {
     /// is another store's handle, `Unrooted` where it isn't live.
     pub fn host_data(&self, handle: GcRootIndex) -> Result<Option<&D>, RootFault>
         ensures wrong_store { is_of_store self.now handle ≡ false → IsErrAnd result (λ fault. fault ≡ RootFault.WrongStore) }
-        ensures live { (t : Table D) (r : Reference) → HoldsTable H.KIND self.now t → NamesReference self.now t handle r → IsOkAnd result (λ found. option_copied found ≡ host_value_of t r) }
-        ensures gone { is_of_store self.now handle ≡ true → (t : Table D) → HoldsTable H.KIND self.now t → NamesNothing self.now t handle → IsErrAnd result (λ fault. fault ≡ RootFault.Unrooted) }
+        ensures live { (t : Table D) (r : Reference) → HoldsTable H.KIND self.now t → NamesReference self.now t handle r
+            → IsOkAnd result (λ found. option_copied found ≡ host_value_of t r) }
+        ensures gone { is_of_store self.now handle ≡ true → (t : Table D) → HoldsTable H.KIND self.now t → NamesNothing self.now t handle
+            → IsErrAnd result (λ fault. fault ≡ RootFault.Unrooted) }
     {
         match self.host_id(handle) {
             Ok(Some(id)) => Ok(self.owner.host(id)),
@@ -217,8 +222,10 @@ impl<H: GcHeap, D: Drop> Store<H, D> {
     pub fn host_data_mut(&mut self, handle: GcRootIndex) -> Result<&mut D, HostDataFault>
         ensures* writes_back { sem 𝓛 (lends_host H.row D.row H.State.row H.GcHeap self.entry handle result) }
         ensures wrong_store { is_of_store self.old handle ≡ false → IsErrAnd result (λ fault. fault ≡ HostDataFault.WrongStore) }
-        ensures live { (t : Table D) (r : Reference) → HoldsTable H.KIND self.old t → NamesReference self.old t handle r → LendsValue (host_value_of t r) result }
-        ensures gone { is_of_store self.old handle ≡ true → (t : Table D) → HoldsTable H.KIND self.old t → NamesNothing self.old t handle → IsErrAnd result (λ fault. fault ≡ HostDataFault.Unrooted) }
+        ensures live { (t : Table D) (r : Reference) → HoldsTable H.KIND self.old t → NamesReference self.old t handle r
+            → LendsValue (host_value_of t r) result }
+        ensures gone { is_of_store self.old handle ≡ true → (t : Table D) → HoldsTable H.KIND self.old t → NamesNothing self.old t handle
+            → IsErrAnd result (λ fault. fault ≡ HostDataFault.Unrooted) }
     {
         match self.host_id(handle) {
             Ok(Some(id)) => match self.host_mut(id) {
@@ -234,8 +241,10 @@ impl<H: GcHeap, D: Drop> Store<H, D> {
     /// `Unrooted` before that, as `object` does.
     pub fn push_copy(&mut self, handle: GcRootIndex) -> Result<GcRootIndex, RootFault>
         ensures wrong_store { is_of_store self.old handle ≡ false → result ≡ Err RootFault.WrongStore }
-        ensures live { (t : Table D) (a : Account) (r : Reference) → HoldsAccount H.KIND self.old t a → NamesReference self.old t handle r → PushesRoot H.KIND t a r result self.new }
-        ensures gone { is_of_store self.old handle ≡ true → (t : Table D) → HoldsTable H.KIND self.old t → NamesNothing self.old t handle → result ≡ Err RootFault.Unrooted }
+        ensures live { (t : Table D) (a : Account) (r : Reference) → HoldsAccount H.KIND self.old t a → NamesReference self.old t handle r
+            → PushesRoot H.KIND t a r result self.new }
+        ensures gone { is_of_store self.old handle ≡ true → (t : Table D) → HoldsTable H.KIND self.old t → NamesNothing self.old t handle
+            → result ≡ Err RootFault.Unrooted }
         ensures err { OnErr result (self.new ≡ self.old) }
         ensures same { IsSameStore self.old self.new }
     {

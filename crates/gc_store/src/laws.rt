@@ -35,13 +35,16 @@ pub fn handles_name_one_root<H: GcHeap, D: Drop>(store: &Store<H, D>)
 
 /// When a scope is left, each root that was made in it is gone.
 pub fn left_roots_are_gone<H: GcHeap, D: Drop>(store: &Store<H, D>)
-    ensures { (t : Table D) (mark i : ℕ) (root : Scoped) → HoldsTable H.KIND store.now t → mark ≤ i → slice_get t.scoped i ≡ Some root → rooted (leave mark t) root.serial ≡ None }
+    ensures { (t : Table D) (mark i : ℕ) (root : Scoped) → HoldsTable H.KIND store.now t → mark ≤ i → slice_get t.scoped i ≡ Some root
+        → rooted (leave mark t) root.serial ≡ None }
 {}
 
 /// A value that was written into an object is read back, and every other value is as it was.
 pub fn written_is_read<D: Drop>()
-    ensures written { (o : Object D) (index : ℕ) (v : Value) → index < length (object_values o) → slice_get (object_values (with_value index v o)) index ≡ Some v }
-    ensures others { (o : Object D) (index other : ℕ) (v : Value) → ¬ (other ≡ index) → slice_get (object_values (with_value index v o)) other ≡ slice_get (object_values o) other }
+    ensures written { (o : Object D) (index : ℕ) (v : Value) → index < length (object_values o)
+        → slice_get (object_values (with_value index v o)) index ≡ Some v }
+    ensures others { (o : Object D) (index other : ℕ) (v : Value) → ¬ (other ≡ index)
+        → slice_get (object_values (with_value index v o)) other ≡ slice_get (object_values o) other }
 {}
 
 /// A root that is gone is gone for ever: no later push, and no scope that is left, makes it live again.
@@ -53,5 +56,6 @@ pub fn roots_stay_gone<D: Drop>()
 
 /// A growth by the bytes that an object needs makes room for it, in a heap of any kind.
 pub fn granted_growth_fits()
-    ensures { (layouts : Layouts) (h : HeapView) (size : ℕ) → IsHeap layouts h → HasRoom layouts (grown layouts h (page * asked (pages_of h) (need_of layouts size))) size }
+    ensures { (layouts : Layouts) (h : HeapView) (size : ℕ) → IsHeap layouts h
+        → HasRoom layouts (grown layouts h (page * asked (pages_of h) (need_of layouts size))) size }
 {}

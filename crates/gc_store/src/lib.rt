@@ -9,15 +9,15 @@
 pub mod bytes;
 pub mod collect;
 pub mod config;
+pub mod counts;
 pub mod declare;
 pub mod engine;
 mod fill;
 pub mod frames;
 pub mod globals;
 pub mod grow;
-#[cfg(test)]
-mod growth_tests;
 pub mod hosts;
+pub mod increments;
 pub mod laws;
 mod make;
 pub mod owned;
@@ -28,15 +28,11 @@ pub mod read;
 pub mod request;
 pub mod root;
 pub mod rooted;
-#[cfg(test)]
-mod rooted_tests;
 pub mod scope;
 mod slot;
 pub mod store;
 mod stored;
 mod tag;
-#[cfg(test)]
-mod tests;
 mod word;
 pub mod write;
 

@@ -69,7 +69,8 @@ pub(crate) fn make_object<H: GcHeap, D: Drop, L: ResourceLimiter>(
     requires of_types { IsOfTypes description.now }
     requires described { (o : HeapObject) × Describes H.KIND owner.old.seen description.now o size }
     ensures { (o : HeapObject) → Describes H.KIND owner.old.seen description.now o size
-        → MakesRooted H.KIND o size first_pages is_due (state_of owner.old.seen (L.limits limiter.old)) (state_of owner.new.seen (L.limits limiter.new)) result }
+        → MakesRooted H.KIND o size first_pages is_due (state_of owner.old.seen (L.limits limiter.old))
+        (state_of owner.new.seen (L.limits limiter.new)) result }
 {
     match owner.make_heap(limiter, first_pages) {
         Ok(()) => {

@@ -101,7 +101,8 @@ impl<H: GcHeap, D: Drop> Store<H, D> {
     fn own_word(&mut self, word: u32) -> Result<GcRootIndex, RootFault>
         requires word { IsRootWord D H.KIND self.old word }
         requires trimmed { IsTrimmed self.old }
-        ensures owns { (t : Table D) (place : Placing) (a : Account) (r : Reference) → HoldsThere H.KIND self.old t place a → IsWord place r word → OwnsWord H.KIND t a r result self.new }
+        ensures owns { (t : Table D) (place : Placing) (a : Account) (r : Reference) → HoldsThere H.KIND self.old t place a → IsWord place r word
+            → OwnsWord H.KIND t a r result self.new }
         ensures same { IsSameStore self.old self.new }
     {
         if self.owned_is_full() {

@@ -20,7 +20,8 @@ use std::marker::PhantomData;
 
 /// A handle of an owned root. What that names is kept until its last handle is given up by `unroot`: a handle that is
 /// dropped gives nothing up.
-#[derive(Debug, Drop)]
+#[derive(Drop)]
+#[derive_where(Debug)]
 pub struct OwnedRooted<T: GcRef> {
     index: GcRootIndex,
     marker: PhantomData<T>,
@@ -61,7 +62,8 @@ impl<T: GcRef> OwnedRooted<T> {
         ensures wrong_store { is_of_store store.old self.now.index ≡ false → result ≡ Err RootFault.WrongStore }
         ensures live { (t : Table D) (a : Account) (r : Reference) → HoldsAccount H.KIND store.old t a → NamesReference store.old t self.now.index r
             → MatchResult result (λ made. PushesRoot H.KIND t a r (Ok made.index) store.new) (λ fault. PushesRoot H.KIND t a r (Err fault) store.new) }
-        ensures gone { is_of_store store.old self.now.index ≡ true → (t : Table D) → HoldsTable H.KIND store.old t → NamesNothing store.old t self.now.index → result ≡ Err RootFault.Unrooted }
+        ensures gone { is_of_store store.old self.now.index ≡ true → (t : Table D) → HoldsTable H.KIND store.old t
+            → NamesNothing store.old t self.now.index → result ≡ Err RootFault.Unrooted }
         ensures err { OnErr result (store.new ≡ store.old) }
         ensures same { IsSameStore store.old store.new }
     {
@@ -78,7 +80,8 @@ impl<T: GcRef> OwnedRooted<T> {
         store: &mut Store<H, D>,
     ) -> Result<OwnedRooted<T>, RootFault>
         ensures adds { (t : Table D) (a : Account) → HoldsAccount H.KIND store.old t a
-            → MatchResult result (λ made. AddsHandle H.KIND store.old t a self.now.index (Ok tt) store.new × (made.index ≡ self.now.index)) (λ fault. AddsHandle H.KIND store.old t a self.now.index (Err fault) store.new) }
+            → MatchResult result (λ made. AddsHandle H.KIND store.old t a self.now.index (Ok tt) store.new × (made.index ≡ self.now.index))
+            (λ fault. AddsHandle H.KIND store.old t a self.now.index (Err fault) store.new) }
         ensures err { OnErr result (store.new ≡ store.old) }
         ensures same { IsSameStore store.old store.new }
     {
@@ -92,7 +95,9 @@ impl<T: GcRef> OwnedRooted<T> {
     /// that isn't live changes nothing. It takes no memory.
     pub fn unroot<H: GcHeap, D: Drop>(self, store: &mut Store<H, D>) -> Result<(), OwnedRooted<T>>
         ensures drops { (t : Table D) (a : Account) → HoldsAccount H.KIND store.old t a
-            → MatchResult result (λ done. (was_held : Bool) × DropsHandle H.KIND store.old t a self.index was_held store.new) (λ back. (is_of_store store.old self.index ≡ false) × (back.index ≡ self.index)) }
+            → MatchResult result (λ done. (is_of_store store.old self.index ≡ true)
+            × ((was_held : Bool) × DropsHandle H.KIND store.old t a self.index was_held store.new))
+            (λ back. (is_of_store store.old self.index ≡ false) × (back.index ≡ self.index)) }
         ensures err { OnErr result (store.new ≡ store.old) }
         ensures same { IsSameStore store.old store.new }
     {
@@ -111,7 +116,8 @@ impl<T: GcRef> Rooted<T> {
         store: &mut Store<H, D>,
     ) -> Result<OwnedRooted<T>, RootFault>
         ensures owns { (t : Table D) (a : Account) → HoldsAccount H.KIND store.old t a
-            → MatchResult result (λ made. MakesOwned H.KIND store.old t a self.now.index (Ok made.index) store.new) (λ fault. MakesOwned H.KIND store.old t a self.now.index (Err fault) store.new) }
+            → MatchResult result (λ made. MakesOwned H.KIND store.old t a self.now.index (Ok made.index) store.new)
+            (λ fault. MakesOwned H.KIND store.old t a self.now.index (Err fault) store.new) }
         ensures same { IsSameStore store.old store.new }
     {
         match store.own_root(self.root_index()) {

@@ -147,7 +147,7 @@ impl<H: GcHeap, D: Drop> Store<H, D> {
     /// Pushes a scoped root for a copy of a word of the store.
     pub(crate) fn push_word(&mut self, word: u32) -> Result<GcRootIndex, RootFault>
         requires { IsRootWord D H.KIND self.old word }
-        ensures pushes { (t : Table D) (place : Placing) (a : Account) (r : Reference) → Holds H.KIND self.old t place → IsAccount self.old place a
+        ensures pushes { (t : Table D) (place : Placing) (a : Account) (r : Reference) → Holds H.KIND self.old t place → IsAccount H.KIND self.old place a
             → IsWord place r word → PushesRoot H.KIND t a r result self.new }
         ensures err { OnErr result (self.new ≡ self.old) }
         ensures same { IsSameStore self.old self.new }

@@ -120,7 +120,8 @@ impl<H: GcHeap + Drop, D: Drop> Store<H, D> {
         requires sound { H.sound heap }
         requires empty { H.seen heap ≡ detached }
         ensures start { IfOk result (HoldsStart D H.KIND) }
-        ensures seen { IfOk result (λ s. s ≡ empty_store id.engine id.number config.first_pages config.max_scoped config.max_owned (option_map non_zero_u32_get config.alloc_counter)) }
+        ensures seen { IfOk result (λ s. s ≡ empty_store id.engine id.number config.first_pages config.max_scoped config.max_owned
+            (option_map non_zero_u32_get config.alloc_counter)) }
     {
         Ok(Store {
             id,

@@ -34,7 +34,8 @@ fn write_front<H: GcHeap, D: Drop>(
 pub(crate) fn write_tag<H: GcHeap, D: Drop>(owner: &mut HeapOwner<H, D>, gc_ref: &VMGcRef, tag: Tag)
     requires idle { owner.old.seen.idle ≡ true }
     requires held { IsExceptionAt owner.old.seen gc_ref.now }
-    ensures { (e : IsExceptionAt owner.old.seen gc_ref.now) → (bytes : List ℕ) × RewritesTo (IsTagged tag) owner.old.seen owner.new.seen gc_ref.now e.object bytes }
+    ensures { (e : IsExceptionAt owner.old.seen gc_ref.now) → (bytes : List ℕ)
+        × RewritesTo (IsTagged tag) owner.old.seen owner.new.seen gc_ref.now e.object bytes }
 {
     owner.is_ready();
     write_front(owner, gc_ref, 0, tag.instance);

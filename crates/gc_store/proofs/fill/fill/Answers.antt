@@ -4,8 +4,6 @@ use Rattle.gc_types.specs.Declarations.{Shape}
 use Rattle.gc_types.specs.declared.kind.VMGcKind.TheVariants.{ExnRef}
 use Rattle.gc_view.specs.Heaps.{HeapObject}
 use Rattle.gc_owner.specs.Owners.{OwnerView}
-use Rattle.gc_owner.specs.declared.entry.RootEntry.{RootEntry}
-use Rattle.gc_view.specs.Slots.{StorageSlot}
 use Rattle.gc_store.specs.declared.request.Place.{Place}
 use Rattle.gc_store.specs.declared.request.Place.TheVariants as place
 use Rattle.gc_store.specs.declared.request.Contents.{Contents}

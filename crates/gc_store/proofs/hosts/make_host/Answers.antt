@@ -1,4 +1,4 @@
-use Rattle.std.proofs.Common.{arith, ℕ, ◌<◌, ◌^◌, Result, Ok, Err, sym, ap, ◌∙◌, subst}
+use Rattle.std.proofs.Common.{arith, ℕ, ◌<◌, ◌^◌, Result, sym, ◌∙◌, subst}
 use Rattle.gc_owner.specs.declared.pages.PagesFault.{PagesFault}
 use Rattle.gc_owner.specs.Growing.{OwnerState, state_of, MakesHeap}
 use Rattle.gc_store.specs.Making.{BeginsMaking}

@@ -1,4 +1,4 @@
-use Rattle.std.proofs.Common.{◌≡◌, ap, ◌∙◌}
+use Rattle.std.proofs.Common.{ap, ◌∙◌}
 use Rattle.gc_owner.specs.Owners.{OwnerView}
 use Rattle.gc_store.specs.Filling.{RewritesTo}
 use Rattle.gc_store.specs.Tagging.{IsExceptionAt}

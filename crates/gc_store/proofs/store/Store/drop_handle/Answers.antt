@@ -1,4 +1,4 @@
-use Rattle.std.proofs.Common.{◌≡◌, ◌+◌, ◌-◌, ℕ, List, Some, None, true, get_or, sym, ap, ◌∙◌, subst, arith}
+use Rattle.std.proofs.Common.{◌≡◌, ◌-◌, List, Some, true, get_or, sym, ap, subst}
 use Rattle.gc_owner.specs.declared.entry.OwnedEntry.{OwnedEntry}
 use Rattle.gc_owner.specs.RootColumns.{empty_entry}
 use Rattle.gc_model.specs.Stores.{StoreView}
@@ -7,7 +7,7 @@ use Rattle.gc_store.specs.Roots.{is_of_store}
 use Rattle.gc_store.specs.OwnedRoots.{IsHandleOf}
 use Rattle.gc_store.specs.OwnedWords.{FindsHeld}
 use Rattle.gc_store.specs.Stores.{store_view}
-use Rattle.gc_store.proofs.OwningHandles.{of_none, of_root, handle_added, handle_dropped, sound_changed}
+use Rattle.gc_store.proofs.OwningHandles.{of_none, of_root, handle_dropped, sound_changed}
 use Rattle.gc_store.proofs.store.Store.drop_handle.Given as given
 use Rattle.gc_store.proofs.store.Store.drop_handle.Goals as goal
 use Rattle.gc_store.proofs.store.Store.drop_handle.Goals.{After-owned}

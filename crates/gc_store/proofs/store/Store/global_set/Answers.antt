@@ -42,6 +42,6 @@ returns-clause-sets g c = λ t a slot holds there.
         finds.1.0,
         global_was_set g.H.GcHeap.KIND c.self.inside.id c.self.inside.config c.self.inside.tries c.self.inside.owner.seen c.set_global.new.self.seen c.args.global c.args.class c.in-Ok.word c.set_global.ensures
             t holds.place a finds.0 (subst (λ (s : StoreView g.row.D.Denot). Holds g.H.GcHeap.KIND s t holds.place) (sym c.self.view_is) holds.holds)
-            (subst (λ (s : StoreView g.row.D.Denot). IsAccount s holds.place a) (sym c.self.view_is) holds.account) finds.1.1,
+            (subst (λ (s : StoreView g.row.D.Denot). IsAccount g.H.GcHeap.KIND s holds.place a) (sym c.self.view_is) holds.account) finds.1.1,
       ),
     )

@@ -1,8 +1,6 @@
 use Rattle.std.proofs.Common.{◌≡◌, Some, sym, ap, ◌∙◌}
 use Rattle.std.specs.Option.{option_copied_mut}
 use Rattle.std.specs.FinMap.{get}
-use Rattle.gc_model.specs.Stores.{StoreView}
-use Rattle.gc_store.specs.Stores.{store_view}
 use Rattle.gc_store.proofs.HostChanges.{sound_host_set}
 use Rattle.gc_store.proofs.store.Store.host_mut.Goals as goal
 

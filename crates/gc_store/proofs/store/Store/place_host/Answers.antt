@@ -1,4 +1,4 @@
-use Rattle.std.proofs.Common.{inl, ◌≡◌, ℕ, ◌+◌, ◌-◌, ◌<◌, ◌^◌, min, true, false, length, Option, Result, Ok, Err, refl, sym, ap, ◌∙◌, subst}
+use Rattle.std.proofs.Common.{inl, ◌≡◌, ℕ, ◌+◌, ◌-◌, ◌<◌, ◌^◌, min, false, Option, Result, Ok, Err, refl, sym, ap, ◌∙◌, subst}
 use Rattle.std.specs.FinMap.{len}
 use Rattle.std.specs.Option.{option_map}
 use Rattle.std.specs.Int.NonZero.{non_zero_u32_get}

@@ -45,4 +45,4 @@ returns-clause-pushes g c t place a r holds account is =
     pushes_root g.H.GcHeap.KIND c.self.inside.id c.self.inside.config c.self.inside.tries c.self.inside.owner.seen c.reserve.new.self.seen c.push-index.new.self.seen c.args.word
     (pushes g at) (root_word g before).not_null (free g before) c.scoped_handle.result
     (c.scoped_handle.ensures ∙ (λ i. record { store_id = c.self.inside.id; generation = c.generation-generation.ensures i; slot = slot.Scoped (c.push-index.ensures.index i) }))
-    t place a r (subst (λ (s : StoreView g.row.D.Denot). Holds g.H.GcHeap.KIND s t place) (sym c.self.view_is) holds) (subst (λ (s : StoreView g.row.D.Denot). IsAccount s place a) (sym c.self.view_is) account) is
+    t place a r (subst (λ (s : StoreView g.row.D.Denot). Holds g.H.GcHeap.KIND s t place) (sym c.self.view_is) holds) (subst (λ (s : StoreView g.row.D.Denot). IsAccount g.H.GcHeap.KIND s place a) (sym c.self.view_is) account) is

@@ -1,4 +1,4 @@
-use Rattle.std.proofs.Common.{◌≡◌, Some, Ok, Err, ap, sym, ◌∙◌, subst}
+use Rattle.std.proofs.Common.{Some, ap, sym, ◌∙◌, subst}
 use Rattle.gc_model.specs.Table.{Table}
 use Rattle.gc_model.specs.Stores.{StoreView}
 use Rattle.gc_model.specs.Holds.{Holds, Placing, ThrownBy}
@@ -55,7 +55,7 @@ returns-in-Ok-clause-sets g c = λ t a held.
       (
         subst (λ (s : StoreView g.row.D.Denot). NamesReference s t c.args.exception is.root) c.self.view_is is.named,
         pending_was_set g.H.GcHeap.KIND c.self.inside.id c.self.inside.config c.self.inside.tries c.self.inside.owner.seen c.set_pending.new.self.seen c.in-Ok.word c.set_pending.ensures
-            t held.place a (Some is.root) holds (subst (λ (s : StoreView g.row.D.Denot). IsAccount s held.place a) (sym c.self.view_is) held.account) (thrown g at t held.place holds),
+            t held.place a (Some is.root) holds (subst (λ (s : StoreView g.row.D.Denot). IsAccount g.H.GcHeap.KIND s held.place a) (sym c.self.view_is) held.account) (thrown g at t held.place holds),
       ),
     )
 

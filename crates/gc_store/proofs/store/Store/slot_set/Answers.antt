@@ -56,7 +56,7 @@ returns-clause-sets g c = λ t a there holds e.
         slot_was_set g.H.GcHeap.KIND c.self.inside.id c.self.inside.config c.self.inside.tries c.self.inside.owner.seen c.set_slot.new.self.seen c.is_ready.ensures.frames c.args.slot c.args.class c.in-Ok.word (within g at) c.set_slot.ensures
             t holds.place a finds.0
             (subst (λ (s : StoreView g.row.D.Denot). Holds g.H.GcHeap.KIND s t holds.place) (sym c.self.view_is) holds.holds)
-            (subst (λ (s : StoreView g.row.D.Denot). IsAccount s holds.place a) (sym c.self.view_is) holds.account)
+            (subst (λ (s : StoreView g.row.D.Denot). IsAccount g.H.GcHeap.KIND s holds.place a) (sym c.self.view_is) holds.account)
             finds.1.1,
       ),
     )

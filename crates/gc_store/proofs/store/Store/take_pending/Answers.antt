@@ -1,7 +1,6 @@
-use Rattle.std.proofs.Common.{◌≡◌, ◌<◌, Ok, Err, ap, sym, ◌∙◌, arith}
+use Rattle.std.proofs.Common.{◌≡◌, ◌<◌, ap, ◌∙◌, arith}
 use Rattle.gc_model.specs.Stores.{StoreView}
 use Rattle.gc_store.proofs.PendingLemmas.{some_pending, takes_it, keeps_it}
-use Rattle.gc_store.proofs.store.Store.take_pending.Given as given
 use Rattle.gc_store.proofs.store.Store.take_pending.Goals as goal
 
 pub returns-in-Ok-clause-takes : goal.returns-in-Ok-clause-takes

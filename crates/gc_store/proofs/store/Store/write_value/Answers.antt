@@ -3,8 +3,6 @@ use Rattle.std.specs.FinMap as finite
 use Rattle.gc_types.specs.Declarations.{TypeTable, Declaration}
 use Rattle.gc_view.specs.Heaps.{HeapObject, HeapView}
 use Rattle.gc_heap.specs.Heap.{put_object, with_data}
-use Rattle.gc_owner.specs.declared.entry.RootEntry.{RootEntry}
-use Rattle.gc_owner.specs.declared.entry.OwnedEntry.{OwnedEntry}
 use Rattle.gc_store.specs.Words.{HandleRoots, handle_roots, AreRising}
 use Rattle.gc_owner.specs.Owners.{OwnerView}
 use Rattle.gc_policy.specs.Accounts.{Account, HoldsAccount}
