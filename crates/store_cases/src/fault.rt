@@ -13,6 +13,8 @@ pub(crate) enum CaseFault {
     NoStore,
     #[error("a host object is not placed")]
     NotPlaced,
+    #[error("a host object is not refused for want of room")]
+    NotRefused,
     #[error(transparent)]
     Root(#[from] RootFault),
     #[error(transparent)]
