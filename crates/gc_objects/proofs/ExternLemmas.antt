@@ -102,7 +102,7 @@ module _ {D T : Type 0} (layouts : Layouts) (counter : Option ℕ) (value : D) (
       let u : Table D = make makes.object makes.placed.after.table in
       let position : slice_get u.objects (length t.objects) ≡ Some makes.object =
       ap (λ (x : Table D). slice_get x.objects (length t.objects)) makes.placed.allocates.made ∙ slice_get-push_new t.objects makes.object in
-      named_kind layouts new u (held_table layouts new u (with_held (length t.objects) makes.placed.after.account) makes.placed.holds) handle.index kinds.ExternRef (at (length t.objects)) makes.named
+      named_kind layouts new u (held_table layouts new u (with_held layouts (length t.objects) makes.placed.word makes.placed.after.account) makes.placed.holds) handle.index kinds.ExternRef (at (length t.objects)) makes.named
       (host value, (position ∙ ap Some makes.asked, λ is. absurd (cc is)))
   host_kind (Err why) makes = tt
 

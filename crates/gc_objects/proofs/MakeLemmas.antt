@@ -98,7 +98,7 @@ module _ {D T : Type 0} (causes : Fault → Type 0) (asks : Object D → Type 0)
       let u : Table D = make makes.object makes.placed.after.table in
       let position : slice_get u.objects (length t.objects) ≡ Some makes.object =
       ap (λ (x : Table D). slice_get x.objects (length t.objects)) makes.placed.allocates.made ∙ slice_get-push_new t.objects makes.object in
-      named_kind layouts new u (held_table layouts new u (with_held (length t.objects) makes.placed.after.account) makes.placed.holds) handle.index kind (at (length t.objects)) makes.named
+      named_kind layouts new u (held_table layouts new u (with_held layouts (length t.objects) makes.placed.word makes.placed.after.account) makes.placed.holds) handle.index kind (at (length t.objects)) makes.named
       (makes.object, (position, of_kind makes.object makes.asked))
   makes_kind kind of_kind (Err why) makes = tt
 

@@ -69,7 +69,8 @@ IsArrayOf s t ty vs o = (xs : List Value) × (AllStand s t (map raw_of vs) xs ×
 -- the object of these values
 abbrev pub IsMadeOf : {D : Type 0} → StoreView D → Table D → Place → List Val → Object D → Type 0
 IsMadeOf s t (request.Struct ty) vs o = (xs : List Value) × (AllStand s t (map raw_of vs) xs × (o ≡ struct ty (stored_in (fields_of t.types ty) xs)))
-IsMadeOf s t (request.Exn ty tag) vs o = (xs : List Value) × (AllStand s t (map raw_of vs) xs × (o ≡ exception ty tag (stored_in (exn_fields_of t.types ty) xs)))
+IsMadeOf s t (request.Exn ty tag) vs o = (xs : List Value) × (AllStand s t (map raw_of vs) xs
+    × (o ≡ exception ty tag (stored_in (exn_fields_of t.types ty) xs)))
 IsMadeOf s t (request.Array ty count) vs o = IsArrayOf s t ty vs o
 
 -- the object was made, and the handle names it

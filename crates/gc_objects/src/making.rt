@@ -106,7 +106,8 @@ pub(crate) fn make_bytes<H: GcHeap, D: Drop, L: ResourceLimiter, T: GcRef>(
     requires { CanPlaceBytes store.old ty (length elems.now) elems.now }
     ensures same { IsSameStore store.old store.new }
     ensures makes { (t : Table D) (a : Account) → HoldsAccount H.KIND store.old t a
-        → MakesAsked H.KIND store.old.alloc_counter (array ty (map byte_value elems.now)) (policy_state t a (L.limits limiter.old)) (L.limits limiter.new) result store.new }
+        → MakesAsked H.KIND store.old.alloc_counter (array ty (map byte_value elems.now))
+        (policy_state t a (L.limits limiter.old)) (L.limits limiter.new) result store.new }
 {
     match u32::try_from(elems.len()) {
         Ok(len) => make(
