@@ -10,7 +10,7 @@ use Rattle.gc_model.specs.Stores.{StoreView}
 use Rattle.gc_policy.specs.Policy as policy
 use Rattle.gc_store.specs.Requests.{fields_of, exn_fields_of}
 use Rattle.gc_commands.specs.declared.command.Command.{Command}
-use Rattle.gc_commands.specs.declared.command.Command.TheVariants.{Bad, Struct, Array, Exn, New, NewExn, NewArr, Fixed, NewBytes, ReadBytes, Host, I31, Field, Elem, Len, HostNumber, SetField, SetElem, Eq, Enter, Leave, Push, Pop, Store, Load, SetGlobal, GetGlobal, Own, Root, Unroot, Throw, Take, Gc, Grow, Cap}
+use Rattle.gc_commands.specs.declared.command.Command.TheVariants.{Bad, Struct, Array, Exn, New, NewExn, NewArr, Fixed, NewBytes, ReadBytes, Host, I31, Field, Elem, Len, HostNumber, SetField, SetElem, Eq, Enter, Leave, Push, Pop, Store, Load, SetGlobal, GetGlobal, Own, Root, Unroot, Throw, Take, Gc, GcInc, GcDrop, Grow, Cap}
 use Rattle.gc_commands.specs.declared.command.Operand.{Operand}
 use Rattle.gc_commands.specs.declared.reply.Reply.{Reply}
 use Rattle.gc_commands.specs.declared.reply.Reply.TheVariants as reply
@@ -20,7 +20,7 @@ use Rattle.gc_script.specs.declared.runner.RunError.{RunError}
 use Rattle.gc_script.specs.Slots.{RunnerView}
 use Rattle.gc_script.specs.State.{State, HoldsState, visible}
 use Rattle.gc_script.specs.Built.{is_built}
-use Rattle.gc_script.specs.Shapes.{Shape, plain, declaring, making, growing, collecting, showing, shape, new_struct, new_exception, new_array, new_fixed}
+use Rattle.gc_script.specs.Shapes.{Shape, plain, declaring, making, growing, collecting, showing, shape, is_collection, new_struct, new_exception, new_array, new_fixed}
 use Rattle.gc_script.specs.Steps.{tests, built_tests, value_tests, all_value_tests, element_tests, heap_tests, first_failing, Answers, Does, declared, bad}
 use Rattle.gc_script.specs.Policy.{policy_of, AsksNothing, FollowsTested, Came}
 use Rattle.gc_script.specs.Run.{SaysRefused, GoesOn, RunsOne, WantsAfter, wanted_bytes, asks_nothing}
@@ -33,7 +33,7 @@ AsksNone (plain effect) = Unit {0}
 AsksNone (declaring d) = Unit {0}
 AsksNone (making d class object) = ⊥
 AsksNone (growing n) = ⊥
-AsksNone collecting = ⊥
+AsksNone (collecting told) = ⊥
 AsksNone showing = Unit {0}
 
 -- what a plain command answers
@@ -79,7 +79,7 @@ module _ (layouts : Layouts) (limit : Option ℕ) (s : State) (answer : Reply) (
   does_any (declaring d) mild asks (bad may said after) = (bad may said after, says_other answer _ said refl)
   does_any (making d class object) mild asks does = absurd asks
   does_any (growing n) mild asks does = absurd asks
-  does_any collecting mild asks does = absurd asks
+  does_any (collecting told) mild asks does = absurd asks
   does_any showing mild asks does = (does, says_other answer _ does.0 refl)
 
   answers_any : (c : Command) (found : Option Refusal) → AsksNone (shape c) → first_failing (tests layouts s c) ≡ found → Answers layouts None s (shape c) found answer s' → Answers layouts limit s (shape c) found answer s' × (¬ SaysRefused answer)
@@ -94,7 +94,7 @@ module _ (layouts : Layouts) (counter : Option ℕ) (s : State) (limits : Limits
   follows_any (declaring d) None answer s' asks none = none
   follows_any (making d class object) None answer s' asks none = absurd asks
   follows_any (growing n) None answer s' asks none = absurd asks
-  follows_any collecting None answer s' asks none = absurd asks
+  follows_any (collecting told) None answer s' asks none = absurd asks
   follows_any showing None answer s' asks none = none
 
   -- a command that wanted memory may not have begun
@@ -104,7 +104,7 @@ module _ (layouts : Layouts) (counter : Option ℕ) (s : State) (limits : Limits
   not_begun (declaring d) None = refl
   not_begun (making d class object) None = policy.not_begun
   not_begun (growing n) None = inl refl
-  not_begun collecting None = refl
+  not_begun (collecting told) None = refl
   not_begun showing None = refl
 
 -- want of memory that leaves all
@@ -131,6 +131,13 @@ refused_runs layouts counter limits s c why store runner holds found = record {
 pub unbuilt_runs : (layouts : Layouts) (counter : Option ℕ) (limits : Limits) (s : State) (c : Command) (store : StoreView ℕ) (runner : RunnerView) → HoldsState layouts store runner s → is_built c ≡ false → RunsOne layouts counter limits limits s c (Ok (reply.Refused refusal.BadLine)) store runner
 unbuilt_runs layouts counter limits s c store runner holds unbuilt =
     refused_runs layouts counter limits s c refusal.BadLine store runner holds (stops (not (is_built c)) refusal.BadLine (built_tests layouts (visible s) c) (ap not unbuilt))
+
+-- a command that collects is one
+pub collection_built : (c : Command) → is_collection c ≡ true → is_built c ≡ true
+collection_built Gc is = refl
+collection_built GcInc is = refl
+collection_built GcDrop is = refl
+collection_built c is = absurd (cc is)
 
 -- a command that asks no limiter runs
 pub goes_runs : (layouts : Layouts) (counter : Option ℕ) (limits : Limits) (s : State) (c : Command) (result : Result Reply RunError) (new : StoreView ℕ) (runner : RunnerView) → AsksNone (shape c) → GoesOn layouts s c result new runner → RunsOne layouts counter limits limits s c result new runner
@@ -179,41 +186,50 @@ asks_none c e = absurd (cc e)
 pub goes_as : (layouts : Layouts) (s : State) (c known : Command) (result : Result Reply RunError) (new : StoreView ℕ) (runner : RunnerView) → c ≡ known → GoesOn layouts s known result new runner → GoesOn layouts s c result new runner
 goes_as layouts s c known result new runner is goes = subst (λ (x : Command). GoesOn layouts s x result new runner) (sym is) goes
 
+-- nor do they collect
+pub asks_collect : (c : Command) → asks_nothing c ≡ true → is_collection c ≡ true → ⊥
+asks_collect Gc asks is = cc asks
+asks_collect GcInc asks is = cc asks
+asks_collect GcDrop asks is = cc asks
+asks_collect c asks is = cc is
+
 -- the other commands that are built make, collect or grow
 pub others_ask : (c : Command) → is_built c ≡ true → ((d t : ℕ) (vs : List Operand) → ¬ (c ≡ New d t vs)) → ((d t tag : ℕ) (vs : List Operand) → ¬ (c ≡ NewExn d t tag vs)) → ((d t n : ℕ) (v : Operand) → ¬ (c ≡ NewArr d t n v)) → ((d t : ℕ) (vs : List Operand) → ¬ (c ≡ Fixed d t vs))
-    → ((d t : ℕ) (bytes : List ℕ) → ¬ (c ≡ NewBytes d t bytes)) → ((d n : ℕ) → ¬ (c ≡ Host d n)) → ¬ (c ≡ Gc) → ((n : ℕ) → ¬ (c ≡ Grow n)) → asks_nothing c ≡ true
-others_ask (Struct is_final supertype fs) built s e a f b h g p = refl
-others_ask (Array is_final supertype element) built s e a f b h g p = refl
-others_ask (Exn params) built s e a f b h g p = refl
-others_ask (New d t vs) built s e a f b h g p = absurd (s d t vs refl)
-others_ask (NewExn d t tag vs) built s e a f b h g p = absurd (e d t tag vs refl)
-others_ask (NewArr d t n v) built s e a f b h g p = absurd (a d t n v refl)
-others_ask (Fixed d t vs) built s e a f b h g p = absurd (f d t vs refl)
-others_ask (NewBytes d t bytes) built s e a f b h g p = absurd (b d t bytes refl)
-others_ask (Host d n) built s e a f b h g p = absurd (h d n refl)
-others_ask (ReadBytes r n) built s e a f b h g p = refl
-others_ask (I31 d n) built s e a f b h g p = refl
-others_ask (Field r i into) built s e a f b h g p = refl
-others_ask (Elem r i into) built s e a f b h g p = refl
-others_ask (Len r) built s e a f b h g p = refl
-others_ask (HostNumber r) built s e a f b h g p = refl
-others_ask (SetField r i v) built s e a f b h g p = refl
-others_ask (SetElem r i v) built s e a f b h g p = refl
-others_ask (Eq r q) built s e a f b h g p = refl
-others_ask Enter built s e a f b h g p = refl
-others_ask Leave built s e a f b h g p = refl
-others_ask (Push k) built s e a f b h g p = refl
-others_ask Pop built s e a f b h g p = refl
-others_ask (Store k r) built s e a f b h g p = refl
-others_ask (Load k d) built s e a f b h g p = refl
-others_ask (SetGlobal k r) built s e a f b h g p = refl
-others_ask (GetGlobal k d) built s e a f b h g p = refl
-others_ask (Own o r) built s e a f b h g p = refl
-others_ask (Root d o) built s e a f b h g p = refl
-others_ask (Unroot o) built s e a f b h g p = refl
-others_ask (Throw r) built s e a f b h g p = refl
-others_ask (Take d) built s e a f b h g p = refl
-others_ask Gc built s e a f b h g p = absurd (g refl)
-others_ask (Grow n) built s e a f b h g p = absurd (p n refl)
-others_ask Cap built s e a f b h g p = refl
-others_ask c built s e a f b h g p = absurd (cc built)
+    → ((d t : ℕ) (bytes : List ℕ) → ¬ (c ≡ NewBytes d t bytes)) → ((d n : ℕ) → ¬ (c ≡ Host d n)) → ¬ (c ≡ Gc) → ¬ (c ≡ GcInc) → ¬ (c ≡ GcDrop) → ((n : ℕ) → ¬ (c ≡ Grow n)) → asks_nothing c ≡ true
+others_ask (Struct is_final supertype fs) built s e a f b h g m w p = refl
+others_ask (Array is_final supertype element) built s e a f b h g m w p = refl
+others_ask (Exn params) built s e a f b h g m w p = refl
+others_ask (New d t vs) built s e a f b h g m w p = absurd (s d t vs refl)
+others_ask (NewExn d t tag vs) built s e a f b h g m w p = absurd (e d t tag vs refl)
+others_ask (NewArr d t n v) built s e a f b h g m w p = absurd (a d t n v refl)
+others_ask (Fixed d t vs) built s e a f b h g m w p = absurd (f d t vs refl)
+others_ask (NewBytes d t bytes) built s e a f b h g m w p = absurd (b d t bytes refl)
+others_ask (Host d n) built s e a f b h g m w p = absurd (h d n refl)
+others_ask (ReadBytes r n) built s e a f b h g m w p = refl
+others_ask (I31 d n) built s e a f b h g m w p = refl
+others_ask (Field r i into) built s e a f b h g m w p = refl
+others_ask (Elem r i into) built s e a f b h g m w p = refl
+others_ask (Len r) built s e a f b h g m w p = refl
+others_ask (HostNumber r) built s e a f b h g m w p = refl
+others_ask (SetField r i v) built s e a f b h g m w p = refl
+others_ask (SetElem r i v) built s e a f b h g m w p = refl
+others_ask (Eq r q) built s e a f b h g m w p = refl
+others_ask Enter built s e a f b h g m w p = refl
+others_ask Leave built s e a f b h g m w p = refl
+others_ask (Push k) built s e a f b h g m w p = refl
+others_ask Pop built s e a f b h g m w p = refl
+others_ask (Store k r) built s e a f b h g m w p = refl
+others_ask (Load k d) built s e a f b h g m w p = refl
+others_ask (SetGlobal k r) built s e a f b h g m w p = refl
+others_ask (GetGlobal k d) built s e a f b h g m w p = refl
+others_ask (Own o r) built s e a f b h g m w p = refl
+others_ask (Root d o) built s e a f b h g m w p = refl
+others_ask (Unroot o) built s e a f b h g m w p = refl
+others_ask (Throw r) built s e a f b h g m w p = refl
+others_ask (Take d) built s e a f b h g m w p = refl
+others_ask Gc built s e a f b h g m w p = absurd (g refl)
+others_ask GcInc built s e a f b h g m w p = absurd (m refl)
+others_ask GcDrop built s e a f b h g m w p = absurd (w refl)
+others_ask (Grow n) built s e a f b h g m w p = absurd (p n refl)
+others_ask Cap built s e a f b h g m w p = refl
+others_ask c built s e a f b h g m w p = absurd (cc built)

@@ -7,6 +7,7 @@ use Rattle.gc_owner.specs.declared.entry.GcClass.{GcClass}
 use Rattle.gc_model.specs.Values.{Object}
 use Rattle.gc_model.specs.Table.{Table, make}
 use Rattle.gc_model.specs.Allocation.{Limits, Allocates, LacksMemory, no_heap, no_room, too_large}
+use Rattle.gc_model.specs.Words.{Placing}
 use Rattle.gc_model.specs.Live.{roots_full}
 use Rattle.gc_view.specs.Sizes.{need_of}
 use Rattle.gc_model.specs.Sizes.{object_size}
@@ -37,16 +38,16 @@ use Rattle.gc_script.proofs.CountLemmas.{tells_pages, says_other, counts_nothing
 use Rattle.gc_script.proofs.GrowthLemmas.{paged_pushes}
 
 -- what making an object leaves of the pushes
-made_pushes : (layouts : Layouts) (limit : Option ℕ) (o : Object ℕ) (t t' : Table ℕ) → Allocates layouts limit o t t' → t'.pushes ≡ t.pushes ++ next_push t ∷ []
-made_pushes layouts limit o t t' allocates = ap (λ (x : Table ℕ). x.pushes) allocates.made
+made_pushes : (layouts : Layouts) (limit : Option ℕ) (places : Placing) (o : Object ℕ) (t t' : Table ℕ) → Allocates layouts limit places o t t' → t'.pushes ≡ t.pushes ++ next_push t ∷ []
+made_pushes layouts limit places o t t' allocates = ap (λ (x : Table ℕ). x.pushes) allocates.made
 
-lacking_pushes : (layouts : Layouts) (limit : Option ℕ) (o : Object ℕ) (t t' : Table ℕ) → LacksMemory layouts limit o t t' → t'.pushes ≡ t.pushes
-lacking_pushes layouts limit o t t' (no_heap refused is) = ap (λ (x : Table ℕ). x.pushes) is
-lacking_pushes layouts limit o t t' (no_room may full lacks_fit is) = ap (λ (x : Table ℕ). x.pushes) is
+lacking_pushes : (layouts : Layouts) (limit : Option ℕ) (places : Placing) (o : Object ℕ) (t t' : Table ℕ) → LacksMemory layouts limit places o t t' → t'.pushes ≡ t.pushes
+lacking_pushes layouts limit places o t t' (no_heap refused is) = ap (λ (x : Table ℕ). x.pushes) is
+lacking_pushes layouts limit places o t t' (no_room may full lacks_fit is) = ap (λ (x : Table ℕ). x.pushes) is
 
 -- the object is the next one of the table before, too
-made_position : (layouts : Layouts) (limit : Option ℕ) (o : Object ℕ) (t t' : Table ℕ) → Allocates layouts limit o t (make o t') → length t.objects ≡ length t'.objects
-made_position layouts limit o t t' allocates =
+made_position : (layouts : Layouts) (limit : Option ℕ) (places : Placing) (o : Object ℕ) (t t' : Table ℕ) → Allocates layouts limit places o t (make o t') → length t.objects ≡ length t'.objects
+made_position layouts limit places o t t' allocates =
     let both : length (t'.objects ++ o ∷ []) ≡ length (t.objects ++ o ∷ []) = ap (λ (x : Table ℕ). length x.objects) allocates.made in
     omega (arith, sym (length-append t'.objects (o ∷ [])) ∙ both ∙ length-append t.objects (o ∷ []))
 
@@ -67,21 +68,21 @@ module _ (layouts : Layouts) (counter : Option ℕ) (limits limits' : Limits) (o
   placed handle places set others =
       let o = object (visible s) in
       let t : Table ℕ = make o places.after.table in
-      let a : Account = with_held (length s.table.objects) places.after.account in
+      let a : Account = with_held layouts (length s.table.objects) places.word places.after.account in
       let after : State = set_register d (reference class (Some (length s.table.pushes))) (with_heap t a s) in
       let pass = heap_tests_pass places.small places.not_full in
       record {
         after = after;
         answers = answers_by layouts limits.limit s (making d class object) (first_failing (heap_tests layouts s (object (visible s)))) None reply.Done after pass (made t a places.allocates refl refl);
         follows = follows_by layouts counter s limits (making d class object) (first_failing (heap_tests layouts s (object (visible s)))) None reply.Done after limits' pass
-            (policy.made refl places.prepares (record {
+            (policy.made places.word refl places.prepares places.lies (record {
               table = refl;
-              account = ap (λ (n : ℕ). with_held n places.after.account) (made_position layouts limits.limit o s.table places.after.table places.allocates);
+              account = ap (λ (n : ℕ). with_held layouts n places.word places.after.account) (made_position layouts limits.limit s.account.places o s.table places.after.table places.allocates);
               limits_are = places.limits;
             }));
         counts = counts_done (need_of layouts (object_size layouts s.table.types o)) limits limits' reply.Done after refl
             (subst (λ (l : Limits). AsksBy (need_of layouts (object_size layouts s.table.types o)) true limits l t) (sym places.limits) (prepares_asks layouts counter (object_size layouts s.table.types o) (policy_of s limits) places.prepares));
-        holds = holds_pushed layouts old new runner runner' s t a d class handle same (made_pushes layouts limits.limit o s.table t places.allocates) holds places.holds places.handle_is set others marks;
+        holds = holds_pushed layouts old new runner runner' s t a d class handle same (made_pushes layouts limits.limit s.account.places o s.table t places.allocates) holds places.holds places.handle_is set others marks;
       }
 
   module _ (slots_are : (k : ℕ) → register_at runner'.registers k ≡ register_at runner.registers k) where
@@ -119,7 +120,7 @@ module _ (layouts : Layouts) (counter : Option ℕ) (limits limits' : Limits) (o
               (policy.refused (λ is. cc is) places.prepares (record { table = refl; account = refl; limits_are = places.limits }));
           counts = counts_refused (need_of layouts (object_size layouts s.table.types o)) limits limits' (reply.Refused refusal.GcHeapOutOfMemory) after (inl refl)
               (subst (λ (l : Limits). AsksBy (need_of layouts (object_size layouts s.table.types o)) false limits l places.after.table) (sym places.limits) (prepares_asks layouts counter (object_size layouts s.table.types o) (policy_of s limits) places.prepares));
-          holds = holds_kept layouts old new runner runner' s places.after.table places.after.account same (keeps_same s.table.pushes places.after.table.pushes (lacking_pushes layouts limits.limit o s.table places.after.table places.lacks)) slots_are marks holds places.holds;
+          holds = holds_kept layouts old new runner runner' s places.after.table places.after.account same (keeps_same s.table.pushes places.after.table.pushes (lacking_pushes layouts limits.limit s.account.places o s.table places.after.table places.lacks)) slots_are marks holds places.holds;
         }
 
     -- want of memory leaves the registers

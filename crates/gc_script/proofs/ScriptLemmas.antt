@@ -1,15 +1,15 @@
 -- Commands that were run one after the other.
-use Rattle.std.proofs.Common.{◌≡◌, ℕ, ◌+◌, ◌-◌, ◌^◌, ◌≤◌, min, List, [], ◌∷◌, ◌++◌, Option, inl, inr, refl, sym, ap, subst, ◌∙◌, arith, append_assoc, append-nil}
+use Rattle.std.proofs.Common.{◌≡◌, true, ℕ, ◌+◌, ◌-◌, ◌^◌, ◌≤◌, min, List, [], ◌∷◌, ◌++◌, Option, inl, inr, refl, sym, ap, subst, ◌∙◌, arith, append_assoc, append-nil}
 use Rattle.gc_types.specs.declared.kind.Layouts.{Layouts}
 use Rattle.gc_model.specs.Allocation.{Limits}
 use Rattle.gc_model.specs.Stores.{StoreView}
 use Rattle.gc_model.specs.Holds.{HoldsKept}
 use Rattle.gc_commands.specs.declared.command.Command.{Command}
-use Rattle.gc_commands.specs.declared.command.Command.TheVariants.{Gc}
 use Rattle.gc_commands.specs.declared.reply.Reply.{Reply}
 use Rattle.gc_commands.specs.declared.reply.Reply.TheVariants as reply
 use Rattle.gc_script.specs.Slots.{RunnerView}
 use Rattle.gc_script.specs.State.{State, HoldsState}
+use Rattle.gc_script.specs.Shapes.{is_collection}
 use Rattle.gc_script.specs.Steps.{Step}
 use Rattle.gc_script.specs.Policy.{Follows, RunByPolicy}
 use Rattle.gc_script.specs.Run.{Counts, told, overlooked, nothing, wanted_bytes, WantsMemory}
@@ -37,7 +37,7 @@ pub record Along (layouts : Layouts) (counter : Option ℕ) (limits now : Limits
   pub refused : ℕ
   pub goes_on : (cs : List Command) (rs : List Reply) (after : State) (last : Limits) (n : ℕ) → CountedRun layouts counter now last mid cs rs after n → CountedRun layouts counter limits last s (done ++ cs) (replies ++ rs) after (refused + n)
   pub holds : HoldsState layouts store runner mid
-  pub kept : (before : List Command) → done ≡ before ++ Gc ∷ [] → HoldsKept layouts store mid.table
+  pub kept : (before : List Command) (last : Command) → is_collection last ≡ true → done ≡ before ++ last ∷ [] → HoldsKept layouts store mid.table
   pub counted : CountedSo limits now refused
 
 module _ (layouts : Layouts) (counter : Option ℕ) (limits : Limits) (s : State) where
@@ -51,7 +51,7 @@ module _ (layouts : Layouts) (counter : Option ℕ) (limits : Limits) (s : State
         (subst (λ (xs : List Command). CountedRun layouts counter limits last s (xs ++ cs) (replies ++ rs) after n) (sym none)
         (subst (λ (ys : List Reply). CountedRun layouts counter limits last s cs (ys ++ rs) after n) (sym none_yet) counted));
     holds = holds;
-    kept = λ before ends. absurd (no_last before (sym none ∙ ends));
+    kept = λ before last collects ends. absurd (no_last before last (sym none ∙ ends));
     counted = omega arith;
   }
 
@@ -104,7 +104,7 @@ module _ (layouts : Layouts) (counter : Option ℕ) (limits now : Limits) (s : S
             (so_far.goes_on (c ∷ cs) (did.answer ∷ rs) after last (more.k + n)
             (one_more layouts counter now next last so_far.mid did.ran.after c did.answer did.ran.step did.ran.follows cs rs after n (more.k + n) (more.adds n) counted))));
         holds = did.ran.holds;
-        kept = λ before ends. did.kept (last_command done c before ends);
+        kept = λ before last collects ends. did.kept (ap is_collection (last_command done c before last ends) ∙ collects);
         counted = more.counted;
       }
 
@@ -128,7 +128,7 @@ module _ (layouts : Layouts) (counter : Option ℕ) (limits now : Limits) (s : S
     after = so_far.mid;
     ran = subst (λ (xs : List Command). RanScript layouts counter limits now s xs replies so_far.mid) all ran_so_far;
     holds = so_far.holds.table;
-    kept = λ before ends. so_far.kept before (all ∙ ends);
+    kept = λ before last collects ends. so_far.kept before last collects (all ∙ ends);
   }
 
   -- the next command wanted memory

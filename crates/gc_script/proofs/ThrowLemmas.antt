@@ -105,7 +105,7 @@ module _ (layouts : Layouts) (store : StoreView ℕ) (runner : RunnerView) (s : 
   cleared_holds = record {
     place = holds.table.place;
     holds = holds_pending_set layouts store s.table holds.table.place None 0 store.heap holds.table.holds (record { same_word = refl; thrown = λ r e. absurd (none-some r e) }) (same_held-itself store.heap);
-    account = record { held = holds.table.account.held; last = holds.table.account.last; tries = holds.table.account.tries; upper = holds.table.account.upper };
+    account = record { held = holds.table.account.held; places = holds.table.account.places; last = holds.table.account.last; tries = holds.table.account.tries; upper = holds.table.account.upper };
   }
 
   untaken_holds : HoldsState layouts cleared runner untaken

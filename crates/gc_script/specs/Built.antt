@@ -1,4 +1,4 @@
--- What is built of the commands, and the types that a declaration spells.
+-- What is a command, and the types that a declaration spells.
 use Rattle.std.specs.Prelude.{ℕ, ◌==◌, Bool, true, false, List, [], ◌∷◌, Option, Some, None, option_map, length, if◌then◌else◌}
 use Rattle.gc_types.specs.declared.value.FieldType.{FieldType}
 use Rattle.gc_types.specs.declared.value.HeapType.{HeapType}
@@ -13,7 +13,7 @@ use Rattle.gc_types.specs.declared.kind.TypeKind.{TypeKind}
 use Rattle.gc_types.specs.declared.kind.TypeKind.TheVariants as kinds
 use Rattle.gc_types.specs.Declarations.{Declaration, kind_at, struct_type, array_type, exn_type}
 use Rattle.gc_commands.specs.declared.command.Command.{Command}
-use Rattle.gc_commands.specs.declared.command.Command.TheVariants.{Struct, Array, Exn, New, NewExn, NewArr, Fixed, NewBytes, ReadBytes, Host, I31, Field, Elem, Len, HostNumber, SetField, SetElem, Eq, Enter, Leave, Push, Pop, Store, Load, SetGlobal, GetGlobal, Own, Root, Unroot, Throw, Take, Gc, Grow, Cap}
+use Rattle.gc_commands.specs.declared.command.Command.TheVariants.{Bad}
 use Rattle.gc_commands.specs.declared.command.FieldWord.{FieldWord}
 use Rattle.gc_commands.specs.declared.command.HeapWord.{HeapWord}
 use Rattle.gc_commands.specs.declared.command.HeapWord.TheVariants as heap
@@ -22,43 +22,10 @@ use Rattle.gc_commands.specs.declared.command.StorageWord.TheVariants as storage
 use Rattle.gc_commands.specs.declared.command.ValueWord.{ValueWord}
 use Rattle.gc_commands.specs.declared.command.ValueWord.TheVariants as value
 
--- What is built of the commands. Every other one is refused as a bad line.
+-- whether a command is one; a line that is none is refused as a bad line
 abbrev pub is_built : Command → Bool
-is_built (Struct is_final supertype fields) = true
-is_built (Array is_final supertype element) = true
-is_built (Exn params) = true
-is_built (New d t vs) = true
-is_built (NewExn d t tag vs) = true
-is_built (NewArr d t n v) = true
-is_built (Fixed d t vs) = true
-is_built (NewBytes d t bytes) = true
-is_built (ReadBytes r n) = true
-is_built (Host d n) = true
-is_built (I31 d n) = true
-is_built (Field r i into) = true
-is_built (Elem r i into) = true
-is_built (Len r) = true
-is_built (HostNumber r) = true
-is_built (SetField r i v) = true
-is_built (SetElem r i v) = true
-is_built (Eq r q) = true
-is_built Enter = true
-is_built Leave = true
-is_built (Push k) = true
-is_built Pop = true
-is_built (Store k r) = true
-is_built (Load k d) = true
-is_built (SetGlobal g r) = true
-is_built (GetGlobal g d) = true
-is_built (Own o r) = true
-is_built (Root d o) = true
-is_built (Unroot o) = true
-is_built (Throw r) = true
-is_built (Take d) = true
-is_built Gc = true
-is_built (Grow n) = true
-is_built Cap = true
-is_built _ = false
+is_built Bad = false
+is_built _ = true
 
 -- The kinds of types by their indexes as a declaration reads them: those of the declared types, and its own for the next
 -- index.

@@ -6,7 +6,7 @@ use Rattle.gc_model.specs.Table.{make}
 use Rattle.gc_model.specs.Sizes.{object_size}
 use Rattle.gc_model.specs.Allocation.{Limits}
 use Rattle.gc_policy.specs.Accounts.{with_held}
-use Rattle.gc_policy.specs.Policy.{PolicyState, policy_state, Prepares, Prepared, Expands, Expanded}
+use Rattle.gc_policy.specs.Policy.{PolicyState, policy_state, IsPlaceIn, Prepares, Prepared, Expands, Expanded}
 use Rattle.gc_store.specs.Expansion.{MayCollectTable}
 use Rattle.gc_commands.specs.declared.command.Command.{Command}
 use Rattle.gc_commands.specs.declared.reply.Reply.{Reply}
@@ -26,14 +26,14 @@ pub record IsPolicyOf (p : PolicyState ℕ) (s : State) (limits : Limits) : Type
   pub account : s.account ≡ p.account
   pub limits_are : limits ≡ p.limits
 
--- what the policy goes by once an object was made
-abbrev pub with_made : Object ℕ → PolicyState ℕ → PolicyState ℕ
-with_made o p = record p { table = make o p.table; account = with_held (length p.table.objects) p.account }
+-- what the policy goes by once an object was made, at a place
+abbrev pub with_made : Layouts → Object ℕ → ℕ → PolicyState ℕ → PolicyState ℕ
+with_made layouts o word p = record p { table = make o p.table; account = with_held layouts (length p.table.objects) word p.account }
 
 -- an object was made, or refused, by the policy
 pub data AllocatesByPolicy (layouts : Layouts) (counter : Option ℕ) (o : Object ℕ) (s : State) (limits : Limits) (answer : Reply) (s' : State) (limits' : Limits) : Type 0 where
-  made : {p : PolicyState ℕ} → answer ≡ reply.Done → Prepares layouts counter (object_size layouts s.table.types o) (policy_of s limits) true p
-      → IsPolicyOf (with_made o p) s' limits' → AllocatesByPolicy layouts counter o s limits answer s' limits'
+  made : {p : PolicyState ℕ} (word : ℕ) → answer ≡ reply.Done → Prepares layouts counter (object_size layouts s.table.types o) (policy_of s limits) true p
+      → IsPlaceIn layouts p word (object_size layouts s.table.types o) → IsPolicyOf (with_made layouts o word p) s' limits' → AllocatesByPolicy layouts counter o s limits answer s' limits'
   refused : {p : PolicyState ℕ} → ¬ (answer ≡ reply.Done) → Prepares layouts counter (object_size layouts s.table.types o) (policy_of s limits) false p
       → IsPolicyOf p s' limits' → AllocatesByPolicy layouts counter o s limits answer s' limits'
 
@@ -55,7 +55,7 @@ FollowsDoing layouts counter s limits (plain effect) answer s' limits' = AsksNot
 FollowsDoing layouts counter s limits (declaring d) answer s' limits' = AsksNothing s limits s' limits'
 FollowsDoing layouts counter s limits (making d class object) answer s' limits' = AllocatesByPolicy layouts counter (object (visible s)) s limits answer s' limits'
 FollowsDoing layouts counter s limits (growing n) answer s' limits' = GrowsByPolicy layouts n s limits answer s' limits'
-FollowsDoing layouts counter s limits collecting answer s' limits' = MayCollectTable layouts (policy_of s limits) (policy_of s' limits')
+FollowsDoing layouts counter s limits (collecting told) answer s' limits' = MayCollectTable layouts (policy_of s limits) (policy_of s' limits')
 FollowsDoing layouts counter s limits showing answer s' limits' = AsksNothing s limits s' limits'
 
 abbrev pub FollowsTested : Layouts → Option ℕ → State → Limits → Shape → Option Refusal → Reply → State → Limits → Type 0
@@ -80,7 +80,7 @@ CameDoing layouts counter s (plain effect) p q = q ≡ p
 CameDoing layouts counter s (declaring d) p q = q ≡ p
 CameDoing layouts counter s (making d class object) p q = Prepared layouts counter (object_size layouts s.table.types (object (visible s))) p q
 CameDoing layouts counter s (growing n) p q = (q ≡ p) ⊎ Expanded layouts n p q
-CameDoing layouts counter s collecting p q = q ≡ p
+CameDoing layouts counter s (collecting told) p q = q ≡ p
 CameDoing layouts counter s showing p q = q ≡ p
 
 -- How far a command had come that wanted memory; one that a test refuses had not begun.

@@ -1,15 +1,15 @@
 -- What running a script answers and leaves.
-use Rattle.std.specs.Prelude.{◌≡◌, ℕ, ◌+◌, ◌-◌, ◌^◌, ◌≤◌, min, ◌⊎◌, List, [], ◌∷◌, ◌++◌, Option}
+use Rattle.std.specs.Prelude.{◌≡◌, true, ℕ, ◌+◌, ◌-◌, ◌^◌, ◌≤◌, min, ◌⊎◌, List, [], ◌∷◌, ◌++◌, Option}
 use Rattle.gc_types.specs.declared.kind.Layouts.{Layouts}
 use Rattle.gc_model.specs.Allocation.{Limits}
 use Rattle.gc_model.specs.Stores.{StoreView}
 use Rattle.gc_model.specs.Holds.{HoldsKept}
 use Rattle.gc_policy.specs.Accounts.{HoldsAccount}
 use Rattle.gc_commands.specs.declared.command.Command.{Command}
-use Rattle.gc_commands.specs.declared.command.Command.TheVariants.{Gc}
 use Rattle.gc_commands.specs.declared.reply.Reply.{Reply}
 use Rattle.gc_script.specs.Slots.{RunnerView}
 use Rattle.gc_script.specs.State.{State}
+use Rattle.gc_script.specs.Shapes.{is_collection}
 use Rattle.gc_script.specs.Run.{Ran, IsAsked, WantsMemory, wanted_bytes}
 use Rattle.gc_script.specs.Policy.{RunByPolicy}
 
@@ -33,12 +33,12 @@ pub record RanScript (layouts : Layouts) (counter : Option ℕ) (limits limits' 
   pub refused_in : RefusedIn layouts counter s limits cs rs s' limits' run refused
   pub counted : min (limits.refusals + refused) (2 ^ 64 - 1) ≤ limits'.refusals
 
--- The store holds the table at the end; where the last command is `gc`, its heap holds the kept objects alone.
+-- The store holds the table at the end; where the last command collects, its heap holds the kept objects alone.
 pub record EndedScript (layouts : Layouts) (counter : Option ℕ) (limits limits' : Limits) (s : State) (cs : List Command) (rs : List Reply) (new : StoreView ℕ) : Type 0 where
   pub after : State
   pub ran : RanScript layouts counter limits limits' s cs rs after
   pub holds : HoldsAccount layouts new after.table after.account
-  pub kept : (before : List Command) → cs ≡ before ++ Gc ∷ [] → HoldsKept layouts new after.table
+  pub kept : (before : List Command) (last : Command) → is_collection last ≡ true → cs ≡ before ++ last ∷ [] → HoldsKept layouts new after.table
 
 -- Some command wanted memory, after those before it were run.
 pub record StoppedScript (layouts : Layouts) (counter : Option ℕ) (limits limits' : Limits) (s : State) (cs : List Command) (new : StoreView ℕ) : Type 0 where
@@ -57,5 +57,5 @@ pub record StoppedScript (layouts : Layouts) (counter : Option ℕ) (limits limi
 pub record RanNext (layouts : Layouts) (counter : Option ℕ) (limits limits' : Limits) (s : State) (c : Command) (before now : List Reply) (new : StoreView ℕ) (runner : RunnerView) : Type 0 where
   pub answer : Reply
   pub ran : Ran layouts counter limits limits' s c answer new runner
-  pub kept : c ≡ Gc → HoldsKept layouts new ran.after.table
+  pub kept : is_collection c ≡ true → HoldsKept layouts new ran.after.table
   pub appended : now ≡ before ++ answer ∷ []

@@ -1,5 +1,5 @@
 -- What commands do, and the shapes in which they do it.
-use Rattle.std.specs.Prelude.{ℕ, ◌-◌, ◌%◌, ◌^◌, List, [], ◌∷◌, ◌++◌, Option, Some, None, map, length, get_or, take, replicate, slice_get, unwrap_or}
+use Rattle.std.specs.Prelude.{ℕ, ◌-◌, ◌%◌, ◌^◌, Bool, true, false, List, [], ◌∷◌, ◌++◌, Option, Some, None, map, length, get_or, take, replicate, slice_get, unwrap_or}
 use Rattle.std.specs.Int.{w32, w64, cast_signed}
 use Rattle.gc_types.specs.declared.value.FieldType.{FieldType}
 use Rattle.gc_types.specs.Declarations.{Declaration}
@@ -14,7 +14,7 @@ use Rattle.gc_model.specs.Globals.{set_global, global_at}
 use Rattle.gc_model.specs.Pending.{set_pending, take_pending}
 use Rattle.gc_model.specs.Reads.{after_read, host_value, same_reference}
 use Rattle.gc_commands.specs.declared.command.Command.{Command}
-use Rattle.gc_commands.specs.declared.command.Command.TheVariants.{Struct, Array, Exn, New, NewExn, NewArr, Fixed, NewBytes, ReadBytes, Host, I31, Field, Elem, Len, HostNumber, SetField, SetElem, Eq, Enter, Leave, Push, Pop, Store, Load, SetGlobal, GetGlobal, Own, Root, Unroot, Throw, Take, Gc, Grow, Cap}
+use Rattle.gc_commands.specs.declared.command.Command.TheVariants.{Struct, Array, Exn, New, NewExn, NewArr, Fixed, NewBytes, ReadBytes, Host, I31, Field, Elem, Len, HostNumber, SetField, SetElem, Eq, Enter, Leave, Push, Pop, Store, Load, SetGlobal, GetGlobal, Own, Root, Unroot, Throw, Take, Gc, GcInc, GcDrop, Grow, Cap}
 use Rattle.gc_commands.specs.declared.command.Operand.{Operand}
 use Rattle.gc_commands.specs.declared.reply.Reply.{Reply}
 use Rattle.gc_commands.specs.declared.reply.Reply.TheVariants as reply
@@ -248,19 +248,24 @@ pending_value (Some r) = values.reference class.Exn r
 abbrev pub takes_pending : ℕ → State → Reply × State
 takes_pending d s = reads (pending_value s.table.pending) (Some d) (with_table (take_pending s.table) s)
 
+-- what a collection tells: how many objects the heap holds then, or how many increments it took
+pub data Told : Type 0 where
+  of_objects : Told
+  of_increments : Told
+
 -- What a command does, in so far as heap and limiter have to do with it:
 -- `plain` answers and leaves what the function says of what is visible of the state, and nothing hidden changes;
 -- `declaring` declares the type that the declared types make of it, where they make one;
 -- `making` makes an object, told by what is visible, and puts it into a register with a class;
 -- `growing` lets the heap grow by so many bytes;
--- `collecting` collects, and tells what the heap holds;
+-- `collecting` collects, and tells one thing or the other of it;
 -- `showing` tells the heap's pages.
 pub data Shape : Type 0 where
   plain : (State → Reply × State) → Shape
   declaring : (List Declaration → Option Declaration) → Shape
   making : ℕ → GcClass → (State → Object ℕ) → Shape
   growing : ℕ → Shape
-  collecting : Shape
+  collecting : Told → Shape
   showing : Shape
 
 -- the shape of a command; one that is not built is never run
@@ -296,7 +301,16 @@ shape (Root d o) = plain (roots d o)
 shape (Unroot o) = plain (unroots o)
 shape (Throw r) = plain (throws r)
 shape (Take d) = plain (takes_pending d)
-shape Gc = collecting
+shape Gc = collecting of_objects
+shape GcDrop = collecting of_objects
+shape GcInc = collecting of_increments
 shape (Grow n) = growing n
 shape Cap = showing
 shape _ = plain (λ (s : State). (reply.Refused refusal.BadLine, s))
+
+-- whether a command collects
+abbrev pub is_collection : Command → Bool
+is_collection Gc = true
+is_collection GcDrop = true
+is_collection GcInc = true
+is_collection _ = false

@@ -25,12 +25,13 @@ use Rattle.gc_commands.specs.declared.reply.Reply.TheVariants as reply
 use Rattle.gc_commands.specs.declared.reply.Refusal.{Refusal}
 use Rattle.gc_commands.specs.declared.reply.Refusal.TheVariants as refusal
 use Rattle.gc_policy.specs.Accounts.{Account}
+use Rattle.gc_store.specs.IncrementCounts.{TakesIncrements}
 use Rattle.gc_store.specs.Slots.{slot_value}
 use Rattle.gc_store.specs.Requests.{fields_of}
 use Rattle.gc_script.specs.State.{State, reference, HeldOwned, with_table, with_account, with_heap, set_register, visible, over}
 use Rattle.gc_script.specs.Built.{is_built}
 use Rattle.gc_script.specs.Given.{Given, given, given_register, given_value, is_unset, is_gone, is_reference, value_named, named, is_struct, is_array, is_host, is_exception, has_fields, names_kind, target, target_values, field_of, is_constant, holds_bytes, fits_field}
-use Rattle.gc_script.specs.Shapes.{Shape, plain, declaring, making, growing, collecting, showing, shape, owned_named, new_struct, new_exception, new_array, new_fixed, new_bytes}
+use Rattle.gc_script.specs.Shapes.{Shape, plain, declaring, making, growing, collecting, showing, shape, Told, of_objects, of_increments, owned_named, new_struct, new_exception, new_array, new_fixed, new_bytes}
 
 -- how many fields these are; 0 where there are none
 abbrev pub count_in : Option (List FieldType) → ℕ
@@ -286,10 +287,10 @@ pub data Declares (d : Option Declaration) (s : State) (answer : Reply) (s' : St
 
 -- An object was made and put into a register, or the heap had no room for it.
 pub data MakesNew (layouts : Layouts) (limit : Option ℕ) (d : ℕ) (class : GcClass) (o : Object ℕ) (s : State) (answer : Reply) (s' : State) : Type 0 where
-  made : (t : Table ℕ) (a : Account) → Allocates layouts limit o s.table t → answer ≡ reply.Done
+  made : (t : Table ℕ) (a : Account) → Allocates layouts limit s.account.places o s.table t → answer ≡ reply.Done
       → s' ≡ set_register d (reference class (Some (length s.table.pushes))) (with_heap t a s)
       → MakesNew layouts limit d class o s answer s'
-  lacks : (t : Table ℕ) (a : Account) → LacksMemory layouts limit o s.table t → answer ≡ reply.Refused refusal.GcHeapOutOfMemory
+  lacks : (t : Table ℕ) (a : Account) → LacksMemory layouts limit s.account.places o s.table t → answer ≡ reply.Refused refusal.GcHeapOutOfMemory
       → s' ≡ with_heap t a s
       → MakesNew layouts limit d class o s answer s'
 
@@ -307,13 +308,24 @@ pub record Keeps (layouts : Layouts) (s : State) (answer : Reply) : Type 0 where
   pub shows : answer ≡ reply.Held objects hosts
   pub kept : KeepsNumber layouts s.table objects hosts
 
+-- a collection took so many increments
+pub record CountsSteps (layouts : Layouts) (s : State) (answer : Reply) : Type 0 where
+  pub increments : ℕ
+  pub shows : answer ≡ reply.Increments increments
+  pub takes : TakesIncrements layouts s.table increments
+
+-- what a collection tells
+abbrev pub Tells : Layouts → State → Told → Reply → Type 0
+Tells layouts s of_objects answer = Keeps layouts s answer
+Tells layouts s of_increments answer = CountsSteps layouts s answer
+
 -- what a command of that shape does whose tests all passed
 abbrev pub Does : Layouts → Option ℕ → State → Shape → Reply → State → Type 0
 Does layouts limit s (plain effect) answer s' = (answer ≡ (effect (visible s)).0) × (s' ≡ over s (effect (visible s)).1)
 Does layouts limit s (declaring d) answer s' = Declares (d s.table.types) s answer s'
 Does layouts limit s (making d class object) answer s' = MakesNew layouts limit d class (object (visible s)) s answer s'
 Does layouts limit s (growing n) answer s' = AnswersGrow limit n s answer s'
-Does layouts limit s collecting answer s' = Keeps layouts s answer × ((a : Account) × (s' ≡ with_account a s))
+Does layouts limit s (collecting told) answer s' = Tells layouts s told answer × ((a : Account) × (s' ≡ with_account a s))
 Does layouts limit s showing answer s' = (answer ≡ reply.Capacity (page * s.table.pages)) × (s' ≡ s)
 
 -- a command that a test refuses replies its refusal and changes nothing; any other does what its shape says

@@ -8,6 +8,7 @@
 
 mod arrays;
 mod built;
+mod collections;
 pub mod cutter;
 mod declare;
 mod exceptions;

@@ -4,6 +4,7 @@ ghost use Rattle.std.specs.Prelude.{◌≡◌, true, OnOk, OnErr};
 ghost use Rattle.gc_model.specs.Holds.{HoldsKept};
 ghost use Rattle.gc_script.specs.Slots.{new_runner};
 ghost use Rattle.gc_script.specs.State.{State, HoldsState};
+ghost use Rattle.gc_script.specs.Shapes.{is_collection};
 ghost use Rattle.gc_script.specs.Run.{RunsOne, GoesOn, asks_nothing, TakesMemory};
 ghost use Rattle.gc_store.specs.Stores.{IsSameStore};
 
@@ -58,11 +59,11 @@ impl Runner {
         }
     }
 
-    /// Runs one command. What it refuses is a reply, and so is a command that is not built (`BadLine`); an
+    /// Runs one command. What it refuses is a reply, and so is a line that is no command (`BadLine`); an
     /// error is want of memory, which leaves the table as it was, but that a command which makes an object
     /// and `grow` may have collected and got the heap pages. It comes of no command that takes no memory:
-    /// `len`, `data`, `setf`, `sete`, `eq`, `leave`, `pop`, `store`, `gset`, `unroot`, `throw`, `gc`, `cap`, and those
-    /// that are not built.
+    /// `len`, `data`, `setf`, `sete`, `eq`, `leave`, `pop`, `store`, `gset`, `unroot`, `throw`, `gc`, `gcinc`,
+    /// `gcdrop`, `cap`, and those that are none.
     /// The time is linear in the command's length and in the number of the register that it sets, beside
     /// that of a collection and of new memory, and for `leave` in the roots that it drops.
     pub fn run_one<H: GcHeap, L: ResourceLimiter>(
@@ -73,7 +74,7 @@ impl Runner {
     ) -> Result<Reply, RunError>
         ensures runs { (s : State) → HoldsState H.KIND store.old self.old s → RunsOne H.KIND store.old.alloc_counter (L.limits limiter.old) (L.limits limiter.new) s command.now result store.new self.new }
         ensures memory { OnErr result (TakesMemory command.now) }
-        ensures kept { command.now ≡ Command.Gc → OnOk result ((s : State) → HoldsState H.KIND store.old self.old s → HoldsKept H.KIND store.new s.table) }
+        ensures kept { is_collection command.now ≡ true → OnOk result ((s : State) → HoldsState H.KIND store.old self.old s → HoldsKept H.KIND store.new s.table) }
         ensures same { IsSameStore store.old store.new }
     {
         if !is_built(command) {
@@ -97,6 +98,8 @@ impl Runner {
             }
             Command::Host { d, n } => self.make_host(store, limiter, *d, *n),
             Command::Gc => Ok(self.collect(store)),
+            Command::GcInc => Ok(self.collect_by_increments(store)),
+            Command::GcDrop => Ok(self.collect_dropped(store)),
             Command::Grow { n } => self.grow(store, limiter, *n),
             _ => self.run_unasking(store, command),
         }

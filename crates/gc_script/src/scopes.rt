@@ -1,11 +1,9 @@
-//! The commands that enter and leave scopes, and that collect.
+//! The commands that enter and leave scopes.
 
 ghost use Rattle.std.specs.Prelude.{◌≡◌, ℕ, Ok};
 ghost use Rattle.gc_commands.specs.declared.command.Command.TheVariants as Command;
-ghost use Rattle.gc_model.specs.Allocation.{Limits};
-ghost use Rattle.gc_model.specs.Holds.{HoldsKept};
 ghost use Rattle.gc_script.specs.State.{State, HoldsState};
-ghost use Rattle.gc_script.specs.Run.{GoesOn, RunsOne};
+ghost use Rattle.gc_script.specs.Run.{GoesOn};
 ghost use Rattle.gc_store.specs.Stores.{IsSameStore};
 
 use crate::runner::{RunError, Runner};
@@ -36,18 +34,5 @@ impl Runner {
         let scope = mark.min(store.enter_gc_lifo_scope());
         store.exit_gc_lifo_scope(scope);
         Reply::Done
-    }
-
-    /// Collects, and tells what the heap holds.
-    pub(crate) fn collect<H: GcHeap>(&self, store: &mut Store<H, u64>) -> Reply
-        ensures runs { (limits : Limits) (s : State) → HoldsState H.KIND store.old self.now s → RunsOne H.KIND store.old.alloc_counter limits limits s Command.Gc (Ok result) store.new self.now }
-        ensures kept { (s : State) → HoldsState H.KIND store.old self.now s → HoldsKept H.KIND store.new s.table }
-        ensures same { IsSameStore store.old store.new }
-    {
-        store.gc();
-        Reply::Held {
-            objects: store.held_objects(),
-            hosts: store.held_host_values(),
-        }
     }
 }

@@ -19,7 +19,7 @@ pub returns-then-not-was_held-clause-goes : goal.returns-then-not-was_held-claus
 returns-then-not-was_held-clause-goes g c s holds =
     let at = (goal.at.returns-then-not-was_held-clause-goes g c).After-release in
     unroot_gone g.H.GcHeap.KIND c.args.store.now c.args.self.now s c.args.o holds c.in-Some.held (is_held g at) c.in-Some-slot_of.slot.0 c.in-Some-named.handle (slot_is g at) c.release.new.self c.release.ensures.same
-    (subst (λ (b : Bool). DropsHandle g.H.GcHeap.KIND c.args.store.now s.table s.account c.in-Some-named.handle b c.release.new.self) c.if-not-was_held.true (c.in-Ok.ensures.releases s.table s.account holds.table))
+    (subst (λ (b : Bool). DropsHandle g.H.GcHeap.KIND c.args.store.now s.table s.account c.in-Some-named.handle b c.release.new.self) c.if-not-was_held.true (c.in-Ok.ensures.releases s.table s.account holds.table).1)
 
 pub set-requires : goal.set-requires
 set-requires g c = set_room c.self.inside.owned c.args.o c.in-Some.held (sym c.get.ensures ∙ c.in-Some.is)
@@ -28,7 +28,7 @@ pub returns-else-not-was_held-clause-goes : goal.returns-else-not-was_held-claus
 returns-else-not-was_held-clause-goes g c s holds =
     let at = (goal.at.returns-else-not-was_held-clause-goes g c).After-release in
     unroot_done g.H.GcHeap.KIND c.args.store.now c.args.self.now s c.args.o holds c.in-Some.held (is_held g at) c.in-Some-slot_of.slot.0 c.in-Some-named.handle (slot_is g at) c.release.new.self c.release.ensures.same _
-    (subst (λ (b : Bool). DropsHandle g.H.GcHeap.KIND c.args.store.now s.table s.account c.in-Some-named.handle b c.release.new.self) c.if-not-was_held.false (c.in-Ok.ensures.releases s.table s.account holds.table))
+    (subst (λ (b : Bool). DropsHandle g.H.GcHeap.KIND c.args.store.now s.table s.account c.in-Some-named.handle b c.release.new.self) c.if-not-was_held.false (c.in-Ok.ensures.releases s.table s.account holds.table).1)
     c.set.ensures.set
     (λ k differ. c.set.ensures.others k differ ∙ ap (λ (r : RunnerView). register_at r.rest.owned k) c.self.view_is)
     (λ d. ap (λ (r : RunnerView). register_at r.registers d) c.self.view_is)
