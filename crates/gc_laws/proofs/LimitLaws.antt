@@ -1,11 +1,11 @@
 -- What a limit decides that is told.
 use Rattle.std.proofs.Common.{inl, inr, ◌≡◌, ◌↔◌, ℕ, ◌+◌, ◌<◌, ◌≤◌, Bool, true, false, cond, max, List, [], ◌∷◌, Option, Some, None, refl, sym, subst, arith}
 use Rattle.gc_types.specs.declared.kind.Layouts.{Layouts}
-use Rattle.gc_types.specs.declared.kind.Layouts.TheVariants.{Null, Counting, Copying}
 use Rattle.gc_model.specs.Values.{Object}
 use Rattle.gc_model.specs.Table.{Table, made_pages, make_heap, with_pages}
 use Rattle.gc_view.specs.Sizes.{need_of}
 use Rattle.gc_model.specs.Sizes.{object_size}
+use Rattle.gc_model.specs.Words.{Placing}
 use Rattle.gc_view.specs.Pages.{max_pages}
 use Rattle.gc_model.specs.Allocation.{asked, FitsIn, LacksFit, MayMakeHeap, LacksMemory, no_heap, no_room, Allocates, GetsPages, same, more, Grows}
 use Rattle.gc_model.specs.Allocation as allocation
@@ -18,11 +18,11 @@ use Rattle.gc_script.specs.Steps as steps
 use Rattle.gc_script.specs.Steps.{Step, Answers, Does, first_failing, tests}
 use Rattle.gc_script.specs.Run.{Run}
 
-pub lacks_over : (layouts : Layouts) (most : ℕ) (o : Object ℕ) (t t' : Table ℕ) → most ≤ max_pages → t.first ≤ most → LacksMemory layouts (Some most) o t t'
-    → (most < made_pages t + asked (made_pages t) (need_of layouts (object_size layouts t.types o))) × LacksFit layouts (make_heap t) (object_size layouts t.types o)
-lacks_over layouts most o t t' within first (no_heap refused is) = let above = refused.above in absurd (omega (arith, above, first))
-lacks_over layouts most o t t' within first (no_room may (inl unasked) lacks is) = (omega (arith, unasked, within), lacks)
-lacks_over layouts most o t t' within first (no_room may (inr refused) lacks is) = (refused, lacks)
+pub lacks_over : (layouts : Layouts) (most : ℕ) (places : Placing) (o : Object ℕ) (t t' : Table ℕ) → most ≤ max_pages → t.first ≤ most → LacksMemory layouts (Some most) places o t t'
+    → (most < made_pages t + asked (made_pages t) (need_of layouts (object_size layouts t.types o))) × LacksFit layouts places (make_heap t) (object_size layouts t.types o)
+lacks_over layouts most places o t t' within first (no_heap refused is) = let above = refused.above in absurd (omega (arith, above, first))
+lacks_over layouts most places o t t' within first (no_room may (inl unasked) lacks is) = (omega (arith, unasked, within), lacks)
+lacks_over layouts most places o t t' within first (no_room may (inr refused) lacks is) = (refused, lacks)
 
 pub growth_over : (most bytes : ℕ) (t t' : Table ℕ) (granted : Bool) → most ≤ max_pages → t.first ≤ most → Grows (Some most) bytes t granted t'
     → (granted ≡ false) ↔ ((0 < bytes) × (most < made_pages t + asked (made_pages t) bytes))
@@ -32,20 +32,15 @@ growth_over most bytes t t' granted within first (allocation.no_heap some refuse
 growth_over most bytes t t' granted within first (allocation.refused some may (inl unasked)) = (λ e. (some, omega (arith, unasked, within)), λ both. refl)
 growth_over most bytes t t' granted within first (allocation.refused some may (inr over)) = (λ e. (some, over), λ both. refl)
 
-no_room_beside : (layouts : Layouts) (t : Table ℕ) (size : ℕ) → ¬ (layouts ≡ Counting) → FitsIn layouts t size → LacksFit layouts t size → ⊥
-no_room_beside Null t size other fits lacks = lacks fits
-no_room_beside Counting t size other fits lacks = other refl
-no_room_beside Copying t size other fits lacks = lacks fits
+allocates_by : (layouts : Layouts) (most : ℕ) (places : Placing) (t : Table ℕ) (size bytes pages : ℕ) → GetsPages (Some most) t bytes pages → FitsIn layouts places (with_pages pages t) size
+    → ¬ ((most < made_pages t + asked (made_pages t) bytes) × LacksFit layouts places (make_heap t) size)
+allocates_by layouts most places t size bytes pages (same may) fits = λ both. both.1 fits
+allocates_by layouts most places t size bytes pages (more may grow) fits = λ both. let granted = grow.granted in omega (arith, both.0, granted)
 
-allocates_by : (layouts : Layouts) (most : ℕ) (t : Table ℕ) (size bytes pages : ℕ) → ¬ (layouts ≡ Counting) → GetsPages (Some most) t bytes pages → FitsIn layouts (with_pages pages t) size
-    → ¬ ((most < made_pages t + asked (made_pages t) bytes) × LacksFit layouts (make_heap t) size)
-allocates_by layouts most t size bytes pages other (same may) fits = λ both. no_room_beside layouts (make_heap t) size other fits both.1
-allocates_by layouts most t size bytes pages other (more may grow) fits = λ both. let granted = grow.granted in omega (arith, both.0, granted)
-
-pub allocates_under : (layouts : Layouts) (most : ℕ) (o : Object ℕ) (t t' : Table ℕ) → ¬ (layouts ≡ Counting) → Allocates layouts (Some most) o t t'
-    → ¬ ((most < made_pages t + asked (made_pages t) (need_of layouts (object_size layouts t.types o))) × LacksFit layouts (make_heap t) (object_size layouts t.types o))
-allocates_under layouts most o t t' other made =
-    allocates_by layouts most t (object_size layouts t.types o) (need_of layouts (object_size layouts t.types o)) made.pages other made.gets made.fits
+pub allocates_under : (layouts : Layouts) (most : ℕ) (places : Placing) (o : Object ℕ) (t t' : Table ℕ) → Allocates layouts (Some most) places o t t'
+    → ¬ ((most < made_pages t + asked (made_pages t) (need_of layouts (object_size layouts t.types o))) × LacksFit layouts places (make_heap t) (object_size layouts t.types o))
+allocates_under layouts most places o t t' made =
+    allocates_by layouts most places t (object_size layouts t.types o) (need_of layouts (object_size layouts t.types o)) made.pages made.gets made.fits
 
 -- a table's heap is within the limit, or has no more pages than there were
 abbrev IsWithin : ℕ → ℕ → Table ℕ → Type 0
@@ -65,12 +60,12 @@ gets_within most before t bytes pages within (more may grow) = let granted = gro
 same_within : (most before : ℕ) (t t' : Table ℕ) → t' ≡ t → IsWithin most before t → IsWithin most before t'
 same_within most before t t' is within = subst (IsWithin most before) (sym is) within
 
-lacks_within : (layouts : Layouts) (most before : ℕ) (o : Object ℕ) (t t' : Table ℕ) → LacksMemory layouts (Some most) o t t' → IsWithin most before t → IsWithin most before t'
-lacks_within layouts most before o t t' (no_heap refused is) within = same_within most before t t' is within
-lacks_within layouts most before o t t' (no_room may refused lacks is) within = same_within most before (make_heap t) t' is (made_within most before t may within)
+lacks_within : (layouts : Layouts) (most before : ℕ) (places : Placing) (o : Object ℕ) (t t' : Table ℕ) → LacksMemory layouts (Some most) places o t t' → IsWithin most before t → IsWithin most before t'
+lacks_within layouts most before places o t t' (no_heap refused is) within = same_within most before t t' is within
+lacks_within layouts most before places o t t' (no_room may refused lacks is) within = same_within most before (make_heap t) t' is (made_within most before t may within)
 
-allocates_within : (layouts : Layouts) (most before : ℕ) (o : Object ℕ) (t t' : Table ℕ) → Allocates layouts (Some most) o t t' → IsWithin most before t → IsWithin most before t'
-allocates_within layouts most before o t t' made within =
+allocates_within : (layouts : Layouts) (most before : ℕ) (places : Placing) (o : Object ℕ) (t t' : Table ℕ) → Allocates layouts (Some most) places o t t' → IsWithin most before t → IsWithin most before t'
+allocates_within layouts most before places o t t' made within =
     same_within most before _ t' made.made (gets_within most before t (need_of layouts (object_size layouts t.types o)) made.pages within made.gets)
 
 grows_within : (most before bytes : ℕ) (t t' : Table ℕ) (granted : Bool) → Grows (Some most) bytes t granted t' → IsWithin most before t → IsWithin most before t'
@@ -87,11 +82,11 @@ does_within : (layouts : Layouts) (most before : ℕ) (s : State) (sh : Shape) (
 does_within layouts most before s (plain effect) answer s' does within = from_state most before s' _ does.1 within
 does_within layouts most before s (declaring d) answer s' (steps.declared new is may said after) within = from_state most before s' _ after within
 does_within layouts most before s (declaring d) answer s' (steps.bad may said after) within = from_state most before s' s after within
-does_within layouts most before s (making d class object) answer s' (steps.made u a allocates said after) within = from_state most before s' _ after (allocates_within layouts most before _ s.table u allocates within)
-does_within layouts most before s (making d class object) answer s' (steps.lacks u a lacking said after) within = from_state most before s' _ after (lacks_within layouts most before _ s.table u lacking within)
+does_within layouts most before s (making d class object) answer s' (steps.made u a allocates said after) within = from_state most before s' _ after (allocates_within layouts most before s.account.places _ s.table u allocates within)
+does_within layouts most before s (making d class object) answer s' (steps.lacks u a lacking said after) within = from_state most before s' _ after (lacks_within layouts most before s.account.places _ s.table u lacking within)
 does_within layouts most before s (growing n) answer s' (steps.grown u a grows said after) within = from_state most before s' _ after (grows_within most before n s.table u true grows within)
 does_within layouts most before s (growing n) answer s' (steps.refused u a grows said after) within = from_state most before s' _ after (grows_within most before n s.table u false grows within)
-does_within layouts most before s collecting answer s' does within = from_state most before s' _ does.1.1 within
+does_within layouts most before s (collecting told) answer s' does within = from_state most before s' _ does.1.1 within
 does_within layouts most before s showing answer s' does within = from_state most before s' s does.1 within
 
 answers_within : (layouts : Layouts) (most before : ℕ) (s : State) (sh : Shape) (found : Option Refusal) (answer : Reply) (s' : State) → Answers layouts (Some most) s sh found answer s' → IsWithin most before s.table → IsWithin most before s'.table

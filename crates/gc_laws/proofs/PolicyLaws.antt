@@ -20,7 +20,7 @@ use Rattle.gc_script.specs.Shapes.{Shape, plain, declaring, making, growing, col
 use Rattle.gc_script.specs.Steps.{Step, Answers, Does, Declares, declared, bad, MakesNew, made, lacks, AnswersGrow, grown, refused, tests, first_failing}
 use Rattle.gc_script.specs.Policy as policy
 use Rattle.gc_script.specs.Policy.{policy_of, IsPolicyOf, with_made, AllocatesByPolicy, GrowsByPolicy, AsksNothing, FollowsDoing, FollowsTested, Follows, RunByPolicy}
-use Rattle.gc_laws.proofs.StepLaws.{same_held}
+use Rattle.gc_laws.proofs.StepLaws.{same_told}
 use Rattle.gc_laws.proofs.GrowthLaws.{AlikeAccounts, AlikePolicies, same_accounts, alike_at, prepares_alike, expands_alike, may_collect_alike}
 
 -- The states are the same but for the order of the positions that their accounts hold; so are the limiters, and their limit
@@ -42,8 +42,8 @@ same_heaps s s' t' t u a b one other tables =
 sum_push : (f : ℕ → ℕ) (xs : List ℕ) (x : ℕ) → sum (map f (xs ++ x ∷ [])) ≡ sum (map f xs) + f x
 sum_push f xs x = sum-map f (xs ++ x ∷ []) ∙ sum_by_push f xs x ∙ ap (λ (n : ℕ). n + f x) (sym (sum-map f xs))
 
-held_alike : (a b : Account) (p q : ℕ) → AlikeAccounts a b → p ≡ q → AlikeAccounts (with_held p a) (with_held q b)
-held_alike a b p q alike same = record {
+held_alike : (a b : Account) (p q word word' : ℕ) → AlikeAccounts a b → p ≡ q → AlikeAccounts (with_held Copying p word a) (with_held Copying q word' b)
+held_alike a b p q word word' alike same = record {
   held = λ f. sum_push f a.held p ∙ ap₂ (λ (n m : ℕ). n + f m) (alike.held f) same ∙ sym (sum_push f b.held q);
   last = alike.last;
   tries = alike.tries;
@@ -64,9 +64,9 @@ abbrev with_policy : PolicyState ℕ → State → State
 with_policy p s = with_heap p.table p.account s
 
 -- the state that `new` leaves
-abbrev after_new : Bool → ℕ → GcClass → Object ℕ → PolicyState ℕ → State → State
-after_new true d class o p s = with_policy (with_made o p) (set_next d class s)
-after_new false d class o p s = with_policy p s
+abbrev after_new : Bool → ℕ → GcClass → Object ℕ → ℕ → PolicyState ℕ → State → State
+after_new true d class o word p s = with_policy (with_made Copying o word p) (set_next d class s)
+after_new false d class o word p s = with_policy p s
 
 -- `new` by the policy
 record NewByPolicy (counter : Option ℕ) (d : ℕ) (class : GcClass) (o : Object ℕ) (s : State) (limits : Limits) (answer : Reply) (s' : State) (limits' : Limits) : Type 0 where
@@ -74,7 +74,8 @@ record NewByPolicy (counter : Option ℕ) (d : ℕ) (class : GcClass) (o : Objec
   ready : PolicyState ℕ
   prepares : Prepares Copying counter (object_size Copying s.table.types o) (policy_of s limits) ok ready
   answer_is : answer ≡ new_answer ok
-  after : s' ≡ after_new ok d class o ready s
+  word : ℕ
+  after : s' ≡ after_new ok d class o word ready s
   limits_are : limits' ≡ ready.limits
 
 -- a state that differs in the heap alone, and has that of the policy
@@ -82,21 +83,23 @@ by_heap : (s s' : State) (t : Table ℕ) (a : Account) (p : PolicyState ℕ) (li
 by_heap s s' t a p limits after ends = after ∙ ap₂ (λ (x : Table ℕ) (b : Account). with_heap x b s) (sym (ap (λ (x : State). x.table) after) ∙ ends.table) (sym (ap (λ (x : State). x.account) after) ∙ ends.account)
 
 new_by_policy : (limit counter : Option ℕ) (d : ℕ) (class : GcClass) (o : Object ℕ) (s : State) (limits : Limits) (answer : Reply) (s' : State) (limits' : Limits) → MakesNew Copying limit d class o s answer s' → AllocatesByPolicy Copying counter o s limits answer s' limits' → NewByPolicy counter d class o s limits answer s' limits'
-new_by_policy limit counter d class o s limits answer s' limits' (made t a allocates is after) (policy.made {p = p} is_done prepares ends) = record {
+new_by_policy limit counter d class o s limits answer s' limits' (made t a allocates is after) (policy.made {p = p} word is_done prepares lies ends) = record {
   ok = true;
   ready = p;
   prepares = prepares;
   answer_is = is;
-  after = by_heap (set_next d class s) s' t a (with_made o p) limits' after ends;
+  word = word;
+  after = by_heap (set_next d class s) s' t a (with_made Copying o word p) limits' after ends;
   limits_are = ends.limits_are;
 }
 new_by_policy limit counter d class o s limits answer s' limits' (made t a allocates is after) (policy.refused not_done prepares ends) = absurd (not_done is)
-new_by_policy limit counter d class o s limits answer s' limits' (lacks t a wants is after) (policy.made is_done prepares ends) = absurd (cc (is, is_done))
+new_by_policy limit counter d class o s limits answer s' limits' (lacks t a wants is after) (policy.made word is_done prepares lies ends) = absurd (cc (is, is_done))
 new_by_policy limit counter d class o s limits answer s' limits' (lacks t a wants is after) (policy.refused {p = p} not_done prepares ends) = record {
   ok = false;
   ready = p;
   prepares = prepares;
   answer_is = is;
+  word = 0;
   after = by_heap s s' t a p limits' after ends;
   limits_are = ends.limits_are;
 }
@@ -135,10 +138,10 @@ grow_by_policy limit bytes s limits answer s' limits' (refused t a grows is afte
   limits_are = ends.limits_are;
 }
 
-made_alike : (most : ℕ) (o : Object ℕ) (p q : PolicyState ℕ) → AlikePolicies most p q → AlikePolicies most (with_made o p) (with_made o q)
-made_alike most o p q alike = record {
+made_alike : (most : ℕ) (o : Object ℕ) (word word' : ℕ) (p q : PolicyState ℕ) → AlikePolicies most p q → AlikePolicies most (with_made Copying o word p) (with_made Copying o word' q)
+made_alike most o word word' p q alike = record {
   table = ap (make o) alike.table;
-  account = held_alike p.account q.account (length p.table.objects) (length q.table.objects) alike.account (ap (λ (t : Table ℕ). length t.objects) alike.table);
+  account = held_alike p.account q.account (length p.table.objects) (length q.table.objects) word word' alike.account (ap (λ (t : Table ℕ). length t.objects) alike.table);
   limits = alike.limits;
   told = alike.told;
 }
@@ -163,15 +166,15 @@ module _ (most : ℕ) (s : State) (a : Account) (limits : Limits) (accounts : Al
   abbrev AlikeSteps : Reply → Reply → State → State → Limits → Limits → Type 0
   AlikeSteps answer answer' s' t' limits1 limits2 = (answer ≡ answer') × AlikeStates most s' t' limits1 limits2
 
-  after_alike : (ok : Bool) (d : ℕ) (class : GcClass) (o : Object ℕ) (p q : PolicyState ℕ) (s' t' : State) (limits1 limits2 : Limits) → AlikePolicies most p q → s' ≡ after_new ok d class o p s → t' ≡ after_new ok d class o q other_state → limits1 ≡ p.limits → limits2 ≡ q.limits → AlikeStates most s' t' limits1 limits2
-  after_alike true d class o p q s' t' limits1 limits2 alike one other one_limits other_limits = ends_alike most (set_next d class s) s' t' (with_made o p) (with_made o q) limits1 limits2 (made_alike most o p q alike) one other one_limits other_limits
-  after_alike false d class o p q s' t' limits1 limits2 alike one other one_limits other_limits = ends_alike most s s' t' p q limits1 limits2 alike one other one_limits other_limits
+  after_alike : (ok : Bool) (d : ℕ) (class : GcClass) (o : Object ℕ) (word word' : ℕ) (p q : PolicyState ℕ) (s' t' : State) (limits1 limits2 : Limits) → AlikePolicies most p q → s' ≡ after_new ok d class o word p s → t' ≡ after_new ok d class o word' q other_state → limits1 ≡ p.limits → limits2 ≡ q.limits → AlikeStates most s' t' limits1 limits2
+  after_alike true d class o word word' p q s' t' limits1 limits2 alike one other one_limits other_limits = ends_alike most (set_next d class s) s' t' (with_made Copying o word p) (with_made Copying o word' q) limits1 limits2 (made_alike most o word word' p q alike) one other one_limits other_limits
+  after_alike false d class o word word' p q s' t' limits1 limits2 alike one other one_limits other_limits = ends_alike most s s' t' p q limits1 limits2 alike one other one_limits other_limits
 
   new_alike : (counter : Option ℕ) (d : ℕ) (class : GcClass) (o : Object ℕ) (answer answer' : Reply) (s' t' : State) (limits1 limits2 : Limits) → NewByPolicy counter d class o s limits answer s' limits1 → NewByPolicy counter d class o other_state limits answer' t' limits2 → AlikeSteps answer answer' s' t' limits1 limits2
   new_alike counter d class o answer answer' s' t' limits1 limits2 one other =
       let same = prepares_alike most counter (object_size Copying s.table.types o) (policy_of s limits) (policy_of other_state limits) one.ready other.ready one.ok other.ok policies one.prepares other.prepares in (
         one.answer_is ∙ ap new_answer same.0 ∙ sym other.answer_is,
-        after_alike one.ok d class o one.ready other.ready s' t' limits1 limits2 same.1 one.after (subst (λ (ok : Bool). t' ≡ after_new ok d class o other.ready other_state) (sym same.0) other.after) one.limits_are other.limits_are,
+        after_alike one.ok d class o one.word other.word one.ready other.ready s' t' limits1 limits2 same.1 one.after (subst (λ (ok : Bool). t' ≡ after_new ok d class o other.word other.ready other_state) (sym same.0) other.after) one.limits_are other.limits_are,
       )
 
   grow_alike : (bytes : ℕ) (answer answer' : Reply) (s' t' : State) (limits1 limits2 : Limits) → GrowByPolicy bytes s limits answer s' limits1 → GrowByPolicy bytes other_state limits answer' t' limits2 → AlikeSteps answer answer' s' t' limits1 limits2
@@ -210,9 +213,9 @@ module _ (most : ℕ) (s : State) (a : Account) (limits : Limits) (accounts : Al
       (new_by_policy limits.limit counter d class (object (visible s)) other_state limits answer' t' limits2 other follows')
   doing_alike counter (growing n) answer answer' s' t' limits1 limits2 one follows other follows' =
       grow_alike n answer answer' s' t' limits1 limits2 (grow_by_policy limits.limit n s limits answer s' limits1 one follows) (grow_by_policy limits.limit n other_state limits answer' t' limits2 other follows')
-  doing_alike counter collecting answer answer' s' t' limits1 limits2 one follows other follows' =
+  doing_alike counter (collecting told) answer answer' s' t' limits1 limits2 one follows other follows' =
       let alike = may_collect_alike most (policy_of s limits) (policy_of other_state limits) (policy_of s' limits1) (policy_of t' limits2) policies follows follows' in (
-        same_held Copying s other_state answer answer' refl one.0 other.0,
+        same_told Copying s other_state told answer answer' refl refl one.0 other.0,
         record {
           state = same_heaps s s' t' s.table s.table one.1.0 other.1.0 one.1.1 other.1.1 refl;
           account = alike.account;

@@ -26,7 +26,7 @@ asks_limit bytes limits limits' t (refused_pages made few refuses) = ap (λ (l :
 asks_limit bytes limits limits' t (refused_first is unmade refuses) = ap (λ (l : Limits). l.limit) refuses
 
 new_limit : (layouts : Layouts) (counter : Option ℕ) (o : Object ℕ) (s : State) (limits : Limits) (answer : Reply) (s' : State) (limits' : Limits) → AllocatesByPolicy layouts counter o s limits answer s' limits' → limits'.limit ≡ limits.limit
-new_limit layouts counter o s limits answer s' limits' (policy.made {p = p} done prepares is) =
+new_limit layouts counter o s limits answer s' limits' (policy.made {p = p} word done prepares lies is) =
     ap (λ (l : Limits). l.limit) is.limits_are ∙ asks_limit (need_of layouts (object_size layouts s.table.types o)) limits p.limits p.table (prepares_asks layouts counter (object_size layouts s.table.types o) (policy_of s limits) prepares)
 new_limit layouts counter o s limits answer s' limits' (policy.refused {p = p} not_done prepares is) =
     ap (λ (l : Limits). l.limit) is.limits_are ∙ asks_limit (need_of layouts (object_size layouts s.table.types o)) limits p.limits p.table (prepares_asks layouts counter (object_size layouts s.table.types o) (policy_of s limits) prepares)
@@ -43,7 +43,7 @@ collection_limit layouts p q (inr none) = ap (λ (x : PolicyState ℕ). x.limits
 
 doing_limit : (layouts : Layouts) (counter : Option ℕ) (s : State) (limits : Limits) (sh : Shape) (answer : Reply) (s' : State) (limits' : Limits) → FollowsDoing layouts counter s limits sh answer s' limits' → limits'.limit ≡ limits.limit
 doing_limit layouts counter s limits (making d class object) answer s' limits' follows = new_limit layouts counter _ s limits answer s' limits' follows
-doing_limit layouts counter s limits collecting answer s' limits' follows = collection_limit layouts (policy_of s limits) (policy_of s' limits') follows
+doing_limit layouts counter s limits (collecting told) answer s' limits' follows = collection_limit layouts (policy_of s limits) (policy_of s' limits') follows
 doing_limit layouts counter s limits (growing n) answer s' limits' follows = grow_limit layouts n s limits answer s' limits' follows
 doing_limit layouts counter s limits sh answer s' limits' follows = ap (λ (l : Limits). l.limit) follows.same_limits
 

@@ -1,9 +1,9 @@
 -- Which replies say that the heap was refused pages, exactly.
 use Rattle.std.proofs.Common.{inl, inr, ◌≡◌, ◌↔◌, ℕ, ◌≤◌, Bool, true, false, List, [], ◌∷◌, Option, Some, None, refl, sym, ap, ◌∙◌}
 use Rattle.gc_types.specs.declared.kind.Layouts.{Layouts}
-use Rattle.gc_types.specs.declared.kind.Layouts.TheVariants.{Counting}
 use Rattle.gc_model.specs.Values.{Object}
 use Rattle.gc_model.specs.Table.{Table}
+use Rattle.gc_model.specs.Words.{Placing}
 use Rattle.gc_view.specs.Pages.{max_pages}
 use Rattle.gc_model.specs.Allocation.{LacksMemory, no_heap, no_room, Grows}
 use Rattle.gc_model.specs.Allocation as allocation
@@ -17,6 +17,7 @@ use Rattle.gc_script.specs.Shapes.{Shape, plain, declaring, making, growing, col
 use Rattle.gc_script.specs.Steps as steps
 use Rattle.gc_script.specs.Steps.{Step, Answers, Does, first_failing, tests}
 use Rattle.gc_script.specs.Run.{Run, SaysRefused}
+use Rattle.gc_script.proofs.CollectionLemmas.{tells_mild}
 use Rattle.gc_script.proofs.CountLemmas.{tells, mild_found, says_other}
 use Rattle.gc_script.proofs.GoesLemmas.{plain_answer, mild, all_mild}
 use Rattle.gc_laws.specs.Laws.{LacksRoom, IsOutOfMemory, GrowsPast, FailsToGrow}
@@ -33,19 +34,19 @@ not_found : (why : Refusal) → ¬ (None ≡ Some why)
 not_found why e = cc e
 
 module _ (layouts : Layouts) (most : ℕ) (s s' : State) where
-  out_does : (sh : Shape) (r : Reply) → tells (plain_answer sh (visible s)) ≡ false → ¬ (layouts ≡ Counting) → most ≤ max_pages → s.table.first ≤ most → Does layouts (Some most) s sh r s'
+  out_does : (sh : Shape) (r : Reply) → tells (plain_answer sh (visible s)) ≡ false → most ≤ max_pages → s.table.first ≤ most → Does layouts (Some most) s sh r s'
       → (r ≡ reply.Refused refusal.GcHeapOutOfMemory) ↔ LacksRoom layouts most s sh
-  out_does (plain effect) r mild other within first does = no_memory (says_other r _ does.0 mild) (λ x. x)
-  out_does (declaring d) r mild other within first (steps.declared new is may said after) = no_memory (says_other r _ said refl) (λ x. x)
-  out_does (declaring d) r mild other within first (steps.bad may said after) = no_memory (says_other r _ said refl) (λ x. x)
-  out_does (making d class object) r mild other within first (steps.made u a allocates said after) =
-      no_memory (says_other r _ said refl) (allocates_under layouts most (object (visible s)) s.table u other allocates)
-  out_does (making d class object) r mild other within first (steps.lacks u a lacking said after) =
-      (λ e. lacks_over layouts most (object (visible s)) s.table u within first lacking, λ out. said)
-  out_does (growing n) r mild other within first (steps.grown u a grows said after) = no_memory (says_other r _ said refl) (λ x. x)
-  out_does (growing n) r mild other within first (steps.refused u a grows said after) = (λ e. absurd (cc (said, e)), λ x. absurd x)
-  out_does collecting r mild other within first does = no_memory (says_other r _ does.0.shows refl) (λ x. x)
-  out_does showing r mild other within first does = no_memory (says_other r _ does.0 refl) (λ x. x)
+  out_does (plain effect) r mild within first does = no_memory (says_other r _ does.0 mild) (λ x. x)
+  out_does (declaring d) r mild within first (steps.declared new is may said after) = no_memory (says_other r _ said refl) (λ x. x)
+  out_does (declaring d) r mild within first (steps.bad may said after) = no_memory (says_other r _ said refl) (λ x. x)
+  out_does (making d class object) r mild within first (steps.made u a allocates said after) =
+      no_memory (says_other r _ said refl) (allocates_under layouts most s.account.places (object (visible s)) s.table u allocates)
+  out_does (making d class object) r mild within first (steps.lacks u a lacking said after) =
+      (λ e. lacks_over layouts most s.account.places (object (visible s)) s.table u within first lacking, λ out. said)
+  out_does (growing n) r mild within first (steps.grown u a grows said after) = no_memory (says_other r _ said refl) (λ x. x)
+  out_does (growing n) r mild within first (steps.refused u a grows said after) = (λ e. absurd (cc (said, e)), λ x. absurd x)
+  out_does (collecting told) r mild within first does = no_memory (tells_mild layouts s told r does.0) (λ x. x)
+  out_does showing r mild within first does = no_memory (says_other r _ does.0 refl) (λ x. x)
 
   growth_does : (sh : Shape) (r : Reply) → tells (plain_answer sh (visible s)) ≡ false → most ≤ max_pages → s.table.first ≤ most → Does layouts (Some most) s sh r s'
       → (r ≡ reply.Refused refusal.GcHeapGrowthFailed) ↔ GrowsPast most s sh
@@ -58,15 +59,15 @@ module _ (layouts : Layouts) (most : ℕ) (s s' : State) where
       let none : ¬ (true ≡ false) = λ e. cc e in
       no_growth (says_other r _ said refl) (λ fails. none ((growth_over most n s.table u true within first grows).1 fails))
   growth_does (growing n) r mild within first (steps.refused u a grows said after) = (λ e. (growth_over most n s.table u false within first grows).0 refl, λ fails. said)
-  growth_does collecting r mild within first does = no_growth (says_other r _ does.0.shows refl) (λ x. x)
+  growth_does (collecting told) r mild within first does = no_growth (tells_mild layouts s told r does.0) (λ x. x)
   growth_does showing r mild within first does = no_growth (says_other r _ does.0 refl) (λ x. x)
 
-  out_by : (c : Command) (r : Reply) (found : Option Refusal) → ¬ (layouts ≡ Counting) → most ≤ max_pages → s.table.first ≤ most → first_failing (tests layouts s c) ≡ found → Answers layouts (Some most) s (shape c) found r s'
+  out_by : (c : Command) (r : Reply) (found : Option Refusal) → most ≤ max_pages → s.table.first ≤ most → first_failing (tests layouts s c) ≡ found → Answers layouts (Some most) s (shape c) found r s'
       → (r ≡ reply.Refused refusal.GcHeapOutOfMemory) ↔ IsOutOfMemory layouts most s c
-  out_by c r None other within first is does =
-      let same = out_does (shape c) r (mild c (visible s)) other within first does in
+  out_by c r None within first is does =
+      let same = out_does (shape c) r (mild c (visible s)) within first does in
       (λ e. (is, same.0 e), λ out. same.1 out.1)
-  out_by c r (Some why) other within first is answers =
+  out_by c r (Some why) within first is answers =
       no_memory (says_other r (reply.Refused why) answers.0 (mild_found (tests layouts s c) why (all_mild layouts s c) is)) (λ out. not_found why (sym out.0 ∙ is))
 
   growth_by : (c : Command) (r : Reply) (found : Option Refusal) → most ≤ max_pages → s.table.first ≤ most → first_failing (tests layouts s c) ≡ found → Answers layouts (Some most) s (shape c) found r s'
@@ -77,17 +78,17 @@ module _ (layouts : Layouts) (most : ℕ) (s s' : State) where
   growth_by c r (Some why) within first is answers =
       no_growth (says_other r (reply.Refused why) answers.0 (mild_found (tests layouts s c) why (all_mild layouts s c) is)) (λ fails. not_found why (sym fails.0 ∙ is))
 
-pub out_exact : (layouts : Layouts) (most : ℕ) (s s' : State) (c : Command) (r : Reply) → ¬ (layouts ≡ Counting) → most ≤ max_pages → s.table.first ≤ most → Step layouts (Some most) s c r s'
+pub out_exact : (layouts : Layouts) (most : ℕ) (s s' : State) (c : Command) (r : Reply) → most ≤ max_pages → s.table.first ≤ most → Step layouts (Some most) s c r s'
     → (r ≡ reply.Refused refusal.GcHeapOutOfMemory) ↔ IsOutOfMemory layouts most s c
-out_exact layouts most s s' c r other within first step = out_by layouts most s s' c r (first_failing (tests layouts s c)) other within first refl step
+out_exact layouts most s s' c r within first step = out_by layouts most s s' c r (first_failing (tests layouts s c)) within first refl step
 
 pub growth_exact : (layouts : Layouts) (most : ℕ) (s s' : State) (c : Command) (r : Reply) → most ≤ max_pages → s.table.first ≤ most → Step layouts (Some most) s c r s'
     → (r ≡ reply.Refused refusal.GcHeapGrowthFailed) ↔ FailsToGrow layouts most s c
 growth_exact layouts most s s' c r within first step = growth_by layouts most s s' c r (first_failing (tests layouts s c)) within first refl step
 
-lacks_first : (layouts : Layouts) (limit : Option ℕ) (o : Object ℕ) (t t' : Table ℕ) → LacksMemory layouts limit o t t' → t'.first ≡ t.first
-lacks_first layouts limit o t t' (no_heap refused is) = ap (λ (u : Table ℕ). u.first) is
-lacks_first layouts limit o t t' (no_room may refused lacks is) = ap (λ (u : Table ℕ). u.first) is
+lacks_first : (layouts : Layouts) (limit : Option ℕ) (places : Placing) (o : Object ℕ) (t t' : Table ℕ) → LacksMemory layouts limit places o t t' → t'.first ≡ t.first
+lacks_first layouts limit places o t t' (no_heap refused is) = ap (λ (u : Table ℕ). u.first) is
+lacks_first layouts limit places o t t' (no_room may refused lacks is) = ap (λ (u : Table ℕ). u.first) is
 
 grows_first : (limit : Option ℕ) (bytes : ℕ) (t t' : Table ℕ) (granted : Bool) → Grows limit bytes t granted t' → t'.first ≡ t.first
 grows_first limit bytes t t' granted (allocation.nothing none) = refl
@@ -103,10 +104,10 @@ does_first layouts limit s (plain effect) answer s' does = ap first_of does.1
 does_first layouts limit s (declaring d) answer s' (steps.declared new is may said after) = ap first_of after
 does_first layouts limit s (declaring d) answer s' (steps.bad may said after) = ap first_of after
 does_first layouts limit s (making d class object) answer s' (steps.made u a allocates said after) = ap first_of after ∙ ap (λ (x : Table ℕ). x.first) allocates.made
-does_first layouts limit s (making d class object) answer s' (steps.lacks u a lacking said after) = ap first_of after ∙ lacks_first layouts limit (object (visible s)) s.table u lacking
+does_first layouts limit s (making d class object) answer s' (steps.lacks u a lacking said after) = ap first_of after ∙ lacks_first layouts limit s.account.places (object (visible s)) s.table u lacking
 does_first layouts limit s (growing n) answer s' (steps.grown u a grows said after) = ap first_of after ∙ grows_first limit n s.table u true grows
 does_first layouts limit s (growing n) answer s' (steps.refused u a grows said after) = ap first_of after ∙ grows_first limit n s.table u false grows
-does_first layouts limit s collecting answer s' does = ap first_of does.1.1
+does_first layouts limit s (collecting told) answer s' does = ap first_of does.1.1
 does_first layouts limit s showing answer s' does = ap first_of does.1
 
 answers_first : (layouts : Layouts) (limit : Option ℕ) (s : State) (sh : Shape) (found : Option Refusal) (answer : Reply) (s' : State) → Answers layouts limit s sh found answer s' → s'.table.first ≡ s.table.first

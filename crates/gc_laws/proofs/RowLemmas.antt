@@ -107,12 +107,12 @@ abbrev made_with : ℕ → Account → State
 made_with pages a = set_register 1 (reference class.Any (Some 0)) (with_heap (make one_made (with_pages pages declared_one.table)) a declared_one)
 
 abbrev made_one : State
-made_one = made_with 1 (with_held 0 (counted no_account))
+made_one = made_with 1 (with_held Null 0 0 (counted no_account))
 
 may_declare : Declarable [] number_type
 may_declare = record { few_fields = omega arith; few_types = omega arith; known = search rules; extends = tt }
 
-fits : FitsIn Null (make_heap declared_one.table) (object_size Null declared_one.table.types one_made)
+fits : FitsIn Null declared_one.account.places (make_heap declared_one.table) (object_size Null declared_one.table.types one_made)
 fits = omega arith
 
 step_declares : Step Null (Some 64) nothing declares (reply.Declared 0) declared_one
@@ -135,7 +135,7 @@ prepares : Prepares Null None (object_size Null declared_one.table.types one_mad
 prepares = tried {m = readied} {n = readied} (record { asks = growth.granted refl (omega arith); after = refl }) (inr (refl, refl)) (at_once fits)
 
 makes_by_policy : Follows Null None declared_one limits makes reply.Done made_one limits
-makes_by_policy = policy.made {p = readied} refl prepares (record { table = refl; account = refl; limits_are = refl })
+makes_by_policy = policy.made {p = readied} 0 refl prepares tt (record { table = refl; account = refl; limits_are = refl })
 
 by_policy : RunByPolicy Null None nothing limits (declares ∷ makes ∷ reads ∷ []) (reply.Declared 0 ∷ reply.Done ∷ reply.Value (reply_value.I32 (pos 5)) ∷ []) made_one limits
 by_policy = (

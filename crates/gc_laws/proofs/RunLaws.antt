@@ -1,14 +1,19 @@
--- Two runs of one script in which no heap was refused pages.
-use Rattle.std.proofs.Common.{◌≡◌, ℕ, List, [], ◌∷◌, Option, Some, None, Bool, true, not, length, inl, inr, refl, sym, ap, ◌∙◌, subst}
+-- Two runs of one script in which no heap was refused pages, over heaps of one kind, or of two that keep the same.
+use Rattle.std.proofs.Common.{◌≡◌, ℕ, List, [], ◌∷◌, ◌++◌, Option, Some, None, Bool, true, false, cond, not, length, inl, inr, refl, sym, ap, ◌∙◌, subst}
+use Rattle.std.proofs.lemmas.Option.{same_Some}
 use Rattle.gc_types.specs.declared.kind.Layouts.{Layouts}
+use Rattle.gc_types.specs.declared.kind.Layouts.TheVariants.{Counting, Copying}
 use Rattle.gc_types.specs.Declarable.{Declarable}
 use Rattle.gc_types.specs.Declarations.{Declaration}
 use Rattle.gc_owner.specs.declared.entry.GcClass.{GcClass}
 use Rattle.gc_model.specs.Values.{Object}
 use Rattle.gc_model.specs.Table.{Table, declare, make}
 use Rattle.gc_model.specs.Allocation as allocation
-use Rattle.gc_model.specs.Allocation.{Grows, nothing, no_heap}
+use Rattle.gc_model.specs.Allocation.{Grows, nothing, no_heap, too_large}
+use Rattle.gc_model.specs.Live.{roots_full}
+use Rattle.gc_model.specs.Sizes.{object_size}
 use Rattle.gc_commands.specs.declared.command.Command.{Command}
+use Rattle.gc_commands.specs.declared.command.Command.TheVariants.{New, NewExn, NewArr, Fixed, NewBytes}
 use Rattle.gc_commands.specs.declared.reply.Reply.{Reply}
 use Rattle.gc_commands.specs.declared.reply.Reply.TheVariants as reply
 use Rattle.gc_commands.specs.declared.reply.Refusal.{Refusal}
@@ -16,10 +21,10 @@ use Rattle.gc_commands.specs.declared.reply.Refusal.TheVariants as refusal
 use Rattle.gc_policy.specs.Accounts.{Account}
 use Rattle.gc_script.specs.State.{State, reference, with_heap, with_table, set_register, visible}
 use Rattle.gc_script.specs.Built.{is_built}
-use Rattle.gc_script.specs.Shapes.{Shape, plain, declaring, making, growing, collecting, showing, shape}
-use Rattle.gc_script.specs.Steps.{Step, Answers, Does, Declares, declared, bad, MakesNew, made, lacks, AnswersGrow, grown, refused, built_tests, first_failing}
+use Rattle.gc_script.specs.Shapes.{Shape, plain, declaring, making, growing, collecting, of_objects, of_increments, showing, shape, new_struct, new_exception, new_array, new_fixed, new_bytes}
+use Rattle.gc_script.specs.Steps.{Step, Answers, Does, Declares, declared, bad, MakesNew, made, lacks, AnswersGrow, grown, refused, Keeps, new_tests, new_exn_tests, new_array_tests, new_fixed_tests, new_bytes_tests, built_tests, tests, first_failing}
 use Rattle.gc_script.specs.Run.{Run, SaysRefused}
-use Rattle.gc_laws.specs.Laws.{NoneRefused, SameAnswer, SameReply, SameReplies}
+use Rattle.gc_laws.specs.Laws.{NoneRefused, SaysLarge, NoneLarge, SameAnswer, SameReply, SameReplies}
 use Rattle.gc_laws.proofs.StepLaws.{same_held}
 
 -- a growth changes nothing that is visible
@@ -31,9 +36,10 @@ grows_unseen limit bytes s t a granted (allocation.refused some may over) = refl
 
 same_answer : (sh : Shape) (answer answer' : Reply) → answer ≡ answer' → SameAnswer sh answer answer'
 same_answer showing answer answer' same = tt
+same_answer (collecting of_increments) answer answer' same = tt
 same_answer sh answer answer' same = same
 
-module _ (layouts : Layouts) (limit : Option ℕ) (s t : State) (seen : visible s ≡ visible t) where
+module _ (layouts layouts' : Layouts) (limit limit' : Option ℕ) (s t : State) (seen : visible s ≡ visible t) (same_kept : (answer answer' : Reply) → Keeps layouts s answer → Keeps layouts' t answer' → answer ≡ answer') where
   -- what two steps have in common from such states, where no heap was refused pages
   abbrev SameSteps : Shape → Reply → Reply → State → State → Type 0
   SameSteps sh answer answer' s' t' = SameAnswer sh answer answer' × (visible s' ≡ visible t')
@@ -61,7 +67,7 @@ module _ (layouts : Layouts) (limit : Option ℕ) (s t : State) (seen : visible 
   abbrev made_visibly : ℕ → GcClass → (State → Object ℕ) → State → State
   made_visibly d class object v = visible (set_register d (reference class (Some (length v.table.pushes))) (with_table (make (object v) v.table) v))
 
-  same_makes : (d : ℕ) (class : GcClass) (object : State → Object ℕ) (answer answer' : Reply) (s' t' : State) → MakesNew layouts limit d class (object (visible s)) s answer s' → MakesNew layouts limit d class (object (visible t)) t answer' t' → ¬ SaysRefused answer → ¬ SaysRefused answer' → (answer ≡ answer') × (visible s' ≡ visible t')
+  same_makes : (d : ℕ) (class : GcClass) (object : State → Object ℕ) (answer answer' : Reply) (s' t' : State) → MakesNew layouts limit d class (object (visible s)) s answer s' → MakesNew layouts' limit' d class (object (visible t)) t answer' t' → ¬ SaysRefused answer → ¬ SaysRefused answer' → (answer ≡ answer') × (visible s' ≡ visible t')
   same_makes d class object answer answer' s' t' (made u a allocates is after) (made u1 a1 allocates1 is1 after1) fine fine1 =
       let one : visible s' ≡ made_visibly d class object (visible s) = ap visible (after ∙ ap (λ (x : Table ℕ). set_register d (reference class (Some (length s.table.pushes))) (with_heap x a s)) allocates.made) in
       let other : visible t' ≡ made_visibly d class object (visible t) = ap visible (after1 ∙ ap (λ (x : Table ℕ). set_register d (reference class (Some (length t.table.pushes))) (with_heap x a1 t)) allocates1.made) in
@@ -69,13 +75,13 @@ module _ (layouts : Layouts) (limit : Option ℕ) (s t : State) (seen : visible 
   same_makes d class object answer answer' s' t' (made u a allocates is after) (lacks u1 a1 wants is1 after1) fine fine1 = absurd (fine1 (inl is1))
   same_makes d class object answer answer' s' t' (lacks u a wants is after) makes fine fine1 = absurd (fine (inl is))
 
-  same_grown : (bytes : ℕ) (answer answer' : Reply) (s' t' : State) → AnswersGrow limit bytes s answer s' → AnswersGrow limit bytes t answer' t' → ¬ SaysRefused answer → ¬ SaysRefused answer' → (answer ≡ answer') × (visible s' ≡ visible t')
+  same_grown : (bytes : ℕ) (answer answer' : Reply) (s' t' : State) → AnswersGrow limit bytes s answer s' → AnswersGrow limit' bytes t answer' t' → ¬ SaysRefused answer → ¬ SaysRefused answer' → (answer ≡ answer') × (visible s' ≡ visible t')
   same_grown bytes answer answer' s' t' (grown u a grows is after) (grown u1 a1 grows1 is1 after1) fine fine1 =
-      (is ∙ sym is1, ap visible after ∙ grows_unseen limit bytes s u a true grows ∙ seen ∙ sym (ap visible after1 ∙ grows_unseen limit bytes t u1 a1 true grows1))
+      (is ∙ sym is1, ap visible after ∙ grows_unseen limit bytes s u a true grows ∙ seen ∙ sym (ap visible after1 ∙ grows_unseen limit' bytes t u1 a1 true grows1))
   same_grown bytes answer answer' s' t' (grown u a grows is after) (refused u1 a1 grows1 is1 after1) fine fine1 = absurd (fine1 (inr is1))
   same_grown bytes answer answer' s' t' (refused u a grows is after) grows1 fine fine1 = absurd (fine (inr is))
 
-  same_doing : (sh : Shape) (answer answer' : Reply) (s' t' : State) → Does layouts limit s sh answer s' → Does layouts limit t sh answer' t' → ¬ SaysRefused answer → ¬ SaysRefused answer' → SameSteps sh answer answer' s' t'
+  same_doing : (sh : Shape) (answer answer' : Reply) (s' t' : State) → Does layouts limit s sh answer s' → Does layouts' limit' t sh answer' t' → ¬ SaysRefused answer → ¬ SaysRefused answer' → SameSteps sh answer answer' s' t'
   same_doing (plain effect) answer answer' s' t' one other fine fine1 = (
     one.0 ∙ ap (λ (v : State). (effect v).0) seen ∙ sym other.0,
     ap visible one.1 ∙ ap (λ (v : State). visible (effect v).1) seen ∙ sym (ap visible other.1),
@@ -83,18 +89,19 @@ module _ (layouts : Layouts) (limit : Option ℕ) (s t : State) (seen : visible 
   same_doing (declaring d) answer answer' s' t' one other fine fine1 = same_declares d answer answer' s' t' one other
   same_doing (making d class object) answer answer' s' t' one other fine fine1 = same_makes d class object answer answer' s' t' one other fine fine1
   same_doing (growing n) answer answer' s' t' one other fine fine1 = same_grown n answer answer' s' t' one other fine fine1
-  same_doing collecting answer answer' s' t' one other fine fine1 = (same_held layouts s t answer answer' seen one.0 other.0, ap visible one.1.1 ∙ seen ∙ sym (ap visible other.1.1))
+  same_doing (collecting of_objects) answer answer' s' t' one other fine fine1 = (same_kept answer answer' one.0 other.0, ap visible one.1.1 ∙ seen ∙ sym (ap visible other.1.1))
+  same_doing (collecting of_increments) answer answer' s' t' one other fine fine1 = (tt, ap visible one.1.1 ∙ seen ∙ sym (ap visible other.1.1))
   same_doing showing answer answer' s' t' one other fine fine1 = (tt, left_alike s' t' one.1 other.1)
 
-  same_answers : (sh : Shape) (found : Option Refusal) (answer answer' : Reply) (s' t' : State) → Answers layouts limit s sh found answer s' → Answers layouts limit t sh found answer' t' → ¬ SaysRefused answer → ¬ SaysRefused answer' → SameSteps sh answer answer' s' t'
+  same_answers : (sh : Shape) (found : Option Refusal) (answer answer' : Reply) (s' t' : State) → Answers layouts limit s sh found answer s' → Answers layouts' limit' t sh found answer' t' → ¬ SaysRefused answer → ¬ SaysRefused answer' → SameSteps sh answer answer' s' t'
   same_answers sh None answer answer' s' t' one other fine fine1 = same_doing sh answer answer' s' t' one other fine fine1
   same_answers sh (Some why) answer answer' s' t' one other fine fine1 = (same_answer sh answer answer' (one.0 ∙ sym other.0), left_alike s' t' one.1 other.1)
 
-  -- two steps of a command that weren't refused pages
-  same_step : (c : Command) (answer answer' : Reply) (s' t' : State) → Step layouts limit s c answer s' → Step layouts limit t c answer' t' → ¬ SaysRefused answer → ¬ SaysRefused answer' → SameReply c answer answer' × (visible s' ≡ visible t')
-  same_step c answer answer' s' t' one other fine fine1 =
-      same_answers (shape c) (first_failing ((not (is_built c), refusal.BadLine) ∷ built_tests layouts (visible s) c)) answer answer' s' t' one
-      (subst (λ (v : State). Answers layouts limit t (shape c) (first_failing ((not (is_built c), refusal.BadLine) ∷ built_tests layouts v c)) answer' t') (sym seen) other) fine fine1
+  -- two steps of a command that weren't refused pages, where the same test refuses both, or none
+  same_step : (c : Command) (answer answer' : Reply) (s' t' : State) → first_failing (tests layouts s c) ≡ first_failing (tests layouts' t c) → Step layouts limit s c answer s' → Step layouts' limit' t c answer' t' → ¬ SaysRefused answer → ¬ SaysRefused answer'
+      → SameReply c answer answer' × (visible s' ≡ visible t')
+  same_step c answer answer' s' t' found one other fine fine1 =
+      same_answers (shape c) (first_failing (tests layouts s c)) answer answer' s' t' one (subst (λ (f : Option Refusal). Answers layouts' limit' t (shape c) f answer' t') (sym found) other) fine fine1
 
 -- two runs from such states
 same_runs : (layouts : Layouts) (limit : Option ℕ) (cs : List Command) (rs qs : List Reply) (s t s' t' : State) → visible s ≡ visible t → Run layouts limit s cs rs s' → Run layouts limit t cs qs t' → NoneRefused rs → NoneRefused qs → SameReplies cs rs qs
@@ -104,9 +111,76 @@ same_runs layouts limit [] (r ∷ rs) qs s t s' t' seen one other fine fine1 = a
 same_runs layouts limit (c ∷ cs) [] qs s t s' t' seen one other fine fine1 = absurd one
 same_runs layouts limit (c ∷ cs) (r ∷ rs) [] s t s' t' seen one other fine fine1 = absurd other
 same_runs layouts limit (c ∷ cs) (r ∷ rs) (q ∷ qs) s t s' t' seen (mid, (step, rest)) (mid1, (step1, rest1)) fine fine1 =
-    let same = same_step layouts limit s t seen c r q mid mid1 step step1 fine.0 fine1.0 in
+    let found = ap (λ (v : State). first_failing ((not (is_built c), refusal.BadLine) ∷ built_tests layouts v c)) seen in
+    let same = same_step layouts layouts limit limit s t seen (λ answer answer' kept kept'. same_held layouts s t answer answer' seen kept kept') c r q mid mid1 found step step1 fine.0 fine1.0 in
     (same.0, same_runs layouts limit cs rs qs mid mid1 s' t' same.1 rest rest1 fine.1 fine1.1)
 
 -- two runs from one state
 pub steps_decide : (layouts : Layouts) (limit : Option ℕ) (s s1 s2 : State) (cs : List Command) (rs1 rs2 : List Reply) → Run layouts limit s cs rs1 s1 → Run layouts limit s cs rs2 s2 → NoneRefused rs1 → NoneRefused rs2 → SameReplies cs rs1 rs2
 steps_decide layouts limit s s1 s2 cs rs1 rs2 one other fine fine1 = same_runs layouts limit cs rs1 rs2 s s s1 s2 refl one other fine fine1
+
+-- Two kinds of heap test an object's size each its own way, and nothing else
+large_cut : (before : List (Bool × Refusal)) (large large' : Bool) (behind : List (Bool × Refusal))
+    → (first_failing (before ++ (large, refusal.TooLarge) ∷ behind) ≡ Some refusal.TooLarge → ⊥) → (first_failing (before ++ (large', refusal.TooLarge) ∷ behind) ≡ Some refusal.TooLarge → ⊥)
+    → first_failing (before ++ (large, refusal.TooLarge) ∷ behind) ≡ first_failing (before ++ (large', refusal.TooLarge) ∷ behind)
+large_cut [] true large' behind small small' = absurd (small refl)
+large_cut [] false true behind small small' = absurd (small' refl)
+large_cut [] false false behind small small' = refl
+large_cut (x ∷ before) large large' behind small small' =
+    elim x.0 as (λ (fails : Bool).
+    (cond fails (Some x.1) (first_failing (before ++ (large, refusal.TooLarge) ∷ behind)) ≡ Some refusal.TooLarge → ⊥)
+    → (cond fails (Some x.1) (first_failing (before ++ (large', refusal.TooLarge) ∷ behind)) ≡ Some refusal.TooLarge → ⊥)
+    → cond fails (Some x.1) (first_failing (before ++ (large, refusal.TooLarge) ∷ behind)) ≡ cond fails (Some x.1) (first_failing (before ++ (large', refusal.TooLarge) ∷ behind))) [
+      | true ↦ λ small small'. refl
+      | false ↦ λ small small'. large_cut before large large' behind small small'
+    ] small small'
+
+-- the tests of a heap on an object
+abbrev large_in : Layouts → State → Object ℕ → Bool
+large_in layouts v o = too_large layouts (object_size layouts v.table.types o)
+
+abbrev full_test : State → List (Bool × Refusal)
+full_test v = (roots_full v.table, refusal.RootsFull) ∷ []
+
+-- the tests of a command as a state shows itself
+abbrev seen_tests : Layouts → State → Command → List (Bool × Refusal)
+seen_tests layouts v c = (not (is_built c), refusal.BadLine) ∷ built_tests layouts v c
+
+-- where neither heap finds an object too large, the same test refuses a command of both
+tests_alike : (k l : Layouts) (v : State) (c : Command) → (first_failing (seen_tests k v c) ≡ Some refusal.TooLarge → ⊥) → (first_failing (seen_tests l v c) ≡ Some refusal.TooLarge → ⊥) → first_failing (seen_tests k v c) ≡ first_failing (seen_tests l v c)
+tests_alike k l v (New d t vs) small small' = large_cut ((not (is_built (New d t vs)), refusal.BadLine) ∷ new_tests v t vs) (large_in k v (new_struct v t vs)) (large_in l v (new_struct v t vs)) (full_test v) small small'
+tests_alike k l v (NewExn d t tag vs) small small' =
+    large_cut ((not (is_built (NewExn d t tag vs)), refusal.BadLine) ∷ new_exn_tests v t vs) (large_in k v (new_exception v t tag vs)) (large_in l v (new_exception v t tag vs)) (full_test v) small small'
+tests_alike k l v (NewArr d t n x) small small' = large_cut ((not (is_built (NewArr d t n x)), refusal.BadLine) ∷ new_array_tests v t n x) (large_in k v (new_array v t n x)) (large_in l v (new_array v t n x)) (full_test v) small small'
+tests_alike k l v (Fixed d t vs) small small' = large_cut ((not (is_built (Fixed d t vs)), refusal.BadLine) ∷ new_fixed_tests v t vs) (large_in k v (new_fixed v t vs)) (large_in l v (new_fixed v t vs)) (full_test v) small small'
+tests_alike k l v (NewBytes d t bytes) small small' = large_cut ((not (is_built (NewBytes d t bytes)), refusal.BadLine) ∷ new_bytes_tests v t) (large_in k v (new_bytes t bytes)) (large_in l v (new_bytes t bytes)) (full_test v) small small'
+tests_alike k l v c small small' = refl
+
+-- a refusal of an object's size shows in the reply
+large_said : (layouts : Layouts) (limit : Option ℕ) (s : State) (sh : Shape) (found : Option Refusal) (answer : Reply) (s' : State) → Answers layouts limit s sh found answer s' → found ≡ Some refusal.TooLarge → SaysLarge answer
+large_said layouts limit s sh None answer s' answers is = absurd (cc (is))
+large_said layouts limit s sh (Some why) answer s' answers is = answers.0 ∙ ap reply.Refused (same_Some why refusal.TooLarge is)
+
+-- a copying and a counting heap keep the same
+kept_alike : (s t : State) → visible s ≡ visible t → (answer answer' : Reply) → Keeps Copying s answer → Keeps Counting t answer' → answer ≡ answer'
+kept_alike s t seen answer answer' one other =
+    same_held Copying s t answer answer' seen one (record { objects = other.objects; hosts = other.hosts; shows = other.shows; kept = record { objects_are = other.kept.objects_are; hosts_are = other.kept.hosts_are } })
+
+alike_runs : (limit limit' : Option ℕ) (cs : List Command) (rs qs : List Reply) (s t s' t' : State) → visible s ≡ visible t → Run Copying limit s cs rs s' → Run Counting limit' t cs qs t' → NoneRefused rs → NoneRefused qs → NoneLarge rs → NoneLarge qs → SameReplies cs rs qs
+alike_runs limit limit' [] [] [] s t s' t' seen one other fine fine1 small small1 = tt
+alike_runs limit limit' [] [] (q ∷ qs) s t s' t' seen one other fine fine1 small small1 = absurd other
+alike_runs limit limit' [] (r ∷ rs) qs s t s' t' seen one other fine fine1 small small1 = absurd one
+alike_runs limit limit' (c ∷ cs) [] qs s t s' t' seen one other fine fine1 small small1 = absurd one
+alike_runs limit limit' (c ∷ cs) (r ∷ rs) [] s t s' t' seen one other fine fine1 small small1 = absurd other
+alike_runs limit limit' (c ∷ cs) (r ∷ rs) (q ∷ qs) s t s' t' seen (mid, (step, rest)) (mid1, (step1, rest1)) fine fine1 small small1 =
+    let in_s : first_failing (seen_tests Counting (visible t) c) ≡ first_failing (seen_tests Counting (visible s) c) = ap (λ (v : State). first_failing (seen_tests Counting v c)) (sym seen) in
+    let found =
+    tests_alike Copying Counting (visible s) c (λ is. small.0 (large_said Copying limit s (shape c) (first_failing (tests Copying s c)) r mid step is))
+    (λ is. small1.0 (large_said Counting limit' t (shape c) (first_failing (tests Counting t c)) q mid1 step1 (in_s ∙ is)))
+    ∙ sym in_s in
+    let same = same_step Copying Counting limit limit' s t seen (kept_alike s t seen) c r q mid mid1 found step step1 fine.0 fine1.0 in
+    (same.0, alike_runs limit limit' cs rs qs mid mid1 s' t' same.1 rest rest1 fine.1 fine1.1 small.1 small1.1)
+
+-- two runs from one state, one over a copying heap and one over a counting heap
+pub kinds_alike : (limit limit' : Option ℕ) (s s1 s2 : State) (cs : List Command) (rs1 rs2 : List Reply) → Run Copying limit s cs rs1 s1 → Run Counting limit' s cs rs2 s2 → NoneRefused rs1 → NoneRefused rs2 → NoneLarge rs1 → NoneLarge rs2 → SameReplies cs rs1 rs2
+kinds_alike limit limit' s s1 s2 cs rs1 rs2 one other fine fine1 small small1 = alike_runs limit limit' cs rs1 rs2 s s s1 s2 refl one other fine fine1 small small1

@@ -5,11 +5,14 @@ use Rattle.gc_model.specs.Values.{Object}
 use Rattle.gc_model.specs.Table.{Table, made_pages, make_heap}
 use Rattle.gc_view.specs.Sizes.{need_of}
 use Rattle.gc_model.specs.Sizes.{object_size}
+use Rattle.gc_model.specs.Words.{Placing}
 use Rattle.gc_model.specs.Allocation.{asked, LacksFit}
 use Rattle.gc_commands.specs.declared.command.Command.{Command}
 use Rattle.gc_commands.specs.declared.reply.Reply.{Reply}
+use Rattle.gc_commands.specs.declared.reply.Reply.TheVariants as reply
+use Rattle.gc_commands.specs.declared.reply.Refusal.TheVariants as refusal
 use Rattle.gc_script.specs.State.{State, visible}
-use Rattle.gc_script.specs.Shapes.{Shape, making, growing, showing, shape}
+use Rattle.gc_script.specs.Shapes.{Shape, making, growing, collecting, of_increments, showing, shape}
 use Rattle.gc_script.specs.Steps.{tests, first_failing}
 use Rattle.gc_script.specs.Run.{SaysRefused}
 
@@ -18,12 +21,22 @@ abbrev pub NoneRefused : List Reply → Type 0
 NoneRefused [] = Unit {0}
 NoneRefused (r ∷ rs) = (¬ SaysRefused r) × NoneRefused rs
 
--- two replies of a command of that shape are the same; those that show the heap's pages may differ
+-- the reply says that no heap of the kind can hold the object
+abbrev pub SaysLarge : Reply → Type 0
+SaysLarge answer = answer ≡ reply.Refused refusal.TooLarge
+
+-- no reply says so
+abbrev pub NoneLarge : List Reply → Type 0
+NoneLarge [] = Unit {0}
+NoneLarge (r ∷ rs) = (¬ SaysLarge r) × NoneLarge rs
+
+-- two replies of a command of that shape are the same; those that show the heap's pages or count increments may differ
 abbrev pub SameAnswer : Shape → Reply → Reply → Type 0
 SameAnswer showing r q = Unit {0}
+SameAnswer (collecting of_increments) r q = Unit {0}
 SameAnswer _ r q = r ≡ q
 
--- two replies of a command are the same; those of `cap` may differ
+-- two replies of a command are the same; those of `cap` and `gcinc` may differ
 abbrev pub SameReply : Command → Reply → Reply → Type 0
 SameReply c r q = SameAnswer (shape c) r q
 
@@ -37,13 +50,14 @@ SameReplies _ _ _ = ⊥
 abbrev pub PassesLimit : ℕ → Table ℕ → ℕ → Type 0
 PassesLimit most t bytes = most < made_pages t + asked (made_pages t) bytes
 
--- An object has no room in the table's heap, and the growth that it needs would pass the limit.
-abbrev pub RunsOut : Layouts → ℕ → Table ℕ → Object ℕ → Type 0
-RunsOut layouts most t o = PassesLimit most t (need_of layouts (object_size layouts t.types o)) × LacksFit layouts (make_heap t) (object_size layouts t.types o)
+-- An object has no room in the table's heap, whose objects lie at these places, and the growth that it needs would pass
+-- the limit.
+abbrev pub RunsOut : Layouts → ℕ → Placing → Table ℕ → Object ℕ → Type 0
+RunsOut layouts most places t o = PassesLimit most t (need_of layouts (object_size layouts t.types o)) × LacksFit layouts places (make_heap t) (object_size layouts t.types o)
 
 -- a command of that shape makes an object for which the heap runs out
 abbrev pub LacksRoom : Layouts → ℕ → State → Shape → Type 0
-LacksRoom layouts most s (making d class object) = RunsOut layouts most s.table (object (visible s))
+LacksRoom layouts most s (making d class object) = RunsOut layouts most s.account.places s.table (object (visible s))
 LacksRoom layouts most s _ = ⊥
 
 -- Where a command is refused for want of room: its tests all pass, it makes an object, and the heap runs out.

@@ -2,7 +2,7 @@
 
 ghost use Rattle.std.specs.Prelude.{◌≡◌, ◌↔◌, ℕ, IsTrue, List, Option, Some};
 ghost use Rattle.gc_types.specs.declared.kind.Layouts.{Layouts};
-ghost use Rattle.gc_types.specs.declared.kind.Layouts.TheVariants.{Null, Copying};
+ghost use Rattle.gc_types.specs.declared.kind.Layouts.TheVariants.{Null, Counting, Copying};
 ghost use Rattle.gc_types.specs.declared.value.HeapType.{HeapType};
 ghost use Rattle.gc_types.specs.Declarations.{Declaration};
 ghost use Rattle.gc_types.specs.Declarable.{AreDeclared};
@@ -15,7 +15,7 @@ ghost use Rattle.gc_commands.specs.declared.reply.Reply.{Reply};
 ghost use Rattle.gc_script.specs.State.{State};
 ghost use Rattle.gc_script.specs.Run.{Run};
 ghost use Rattle.gc_script.specs.Policy.{RunByPolicy};
-ghost use Rattle.gc_laws.specs.Laws.{NoneRefused, SameReplies};
+ghost use Rattle.gc_laws.specs.Laws.{NoneLarge, NoneRefused, SameReplies};
 ghost use Rattle.gc_script.specs.Session.{Session};
 ghost use Rattle.gc_laws.specs.Rows.{one_struct, one_struct_replies};
 
@@ -46,10 +46,17 @@ pub fn runs_by_policy_are_runs()
 {}
 
 /// The steps decide but for the pages: two runs of one script from one state in which no heap was refused
-/// pages have the same replies but for those of `cap`, whether or not they follow the policy.
+/// pages have the same replies but for those of `cap` and `gcinc`, whether or not they follow the policy.
 pub fn steps_decide_replies()
     ensures { (layouts : Layouts) (limit : Option ℕ) (s s1 s2 : State) (cs : List Command) (rs1 rs2 : List Reply)
         → Run layouts limit s cs rs1 s1 → Run layouts limit s cs rs2 s2 → NoneRefused rs1 → NoneRefused rs2 → SameReplies cs rs1 rs2 }
+{}
+
+/// A copying and a counting heap reply alike: two runs of one script from one state, one over each, in which no heap was
+/// refused pages and none found an object too large, have the same replies but for those of `cap` and `gcinc`.
+pub fn copying_and_counting_reply_alike()
+    ensures { (limit limit' : Option ℕ) (s s1 s2 : State) (cs : List Command) (rs1 rs2 : List Reply) → Run Copying limit s cs rs1 s1 → Run Counting limit' s cs rs2 s2
+        → NoneRefused rs1 → NoneRefused rs2 → NoneLarge rs1 → NoneLarge rs2 → SameReplies cs rs1 rs2 }
 {}
 
 /// Whether a heap type matches another, as the tests of values work it out, is what the arrows between heap
