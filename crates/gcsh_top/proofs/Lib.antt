@@ -5,6 +5,8 @@ pub mod GcLemmas
 pub mod RunLemmas
 pub mod PieceLemmas
 pub mod FormRun
+pub mod ChurnLemmas
+pub mod RoundLemmas
 pub mod ReadingLemmas
 pub mod FormAnswers
 pub mod StatusLaws

@@ -16,12 +16,12 @@ use Rattle.gc_script.specs.Session.{AreCommandsOf, SessionFrom, reply_line}
 use Rattle.gc_script.specs.Cutting.{EndsWhole}
 use Rattle.gcsh_top.specs.Ends.{TookPart}
 use Rattle.gc_script.specs.Lines.{lines}
-use Rattle.gcsh_top.specs.Runs.{BrokeOff, not_read, EndsInGc, RanLine, RanLines, RanSome, StoppedLines}
+use Rattle.gcsh_top.specs.Runs.{BrokeOff, not_read, EndsInCollection, RanLine, RanLines, RanSome, StoppedLines}
 use Rattle.gcsh_top.proofs.GcLemmas.{is_gc_line, last_line}
 use Rattle.gc_script.proofs.CutLemmas.{lines_behind}
 
 -- two runs, one behind the other
-runs_on : (layouts : Layouts) (counter : Option ℕ) (s mid after : State) (limits now last : Limits) (cs ds : List Command) (rs qs : List Reply) → RunByPolicy layouts counter s limits cs rs mid now → RunByPolicy layouts counter mid now ds qs after last
+pub runs_on : (layouts : Layouts) (counter : Option ℕ) (s mid after : State) (limits now last : Limits) (cs ds : List Command) (rs qs : List Reply) → RunByPolicy layouts counter s limits cs rs mid now → RunByPolicy layouts counter mid now ds qs after last
     → RunByPolicy layouts counter s limits (cs ++ ds) (rs ++ qs) after last
 runs_on layouts counter s mid after limits now last [] ds [] qs ran more =
     subst (λ (l : Limits). RunByPolicy layouts counter s l ds qs after last) ran.1 (subst (λ (t : State). RunByPolicy layouts counter t now ds qs after last) ran.0 more)
@@ -69,7 +69,7 @@ module _ (layouts : Layouts) (counter : Option ℕ) where
     after = s;
     session = subst (λ (ls : List (List ℕ)). SessionFrom layouts counter limits s ls [] s limits) (sym none) (session_none layouts counter limits s);
     holds = holds;
-    kept = λ before was ends. was (subst EndsInGc (ap (λ (ls : List (List ℕ)). before ++ ls) none ∙ append-nil before) ends);
+    kept = λ before was ends. was (subst EndsInCollection (ap (λ (ls : List (List ℕ)). before ++ ls) none ∙ append-nil before) ends);
     replied = Appends-nil held;
   }
 
@@ -80,7 +80,7 @@ module _ (layouts : Layouts) (counter : Option ℕ) where
     after = did.ran.after;
     session = subst (λ (ls : List (List ℕ)). SessionFrom layouts counter limits s ls (reply_line did.answer) did.ran.after limits') (sym one) (session_one layouts counter limits limits' s line store slots held held' did);
     holds = did.ran.holds;
-    kept = λ before was ends. did.kept (is_gc_line line did.command did.is_command (last_line before line (subst EndsInGc (ap (λ (ls : List (List ℕ)). before ++ ls) one) ends)));
+    kept = λ before was ends. did.kept (is_gc_line line did.command did.is_command (last_line before line (subst EndsInCollection (ap (λ (ls : List (List ℕ)). before ++ ls) one) ends)));
     replied = did.replied;
   }
 
@@ -93,7 +93,7 @@ module _ (layouts : Layouts) (counter : Option ℕ) where
     session = subst (λ (ls : List (List ℕ)). SessionFrom layouts counter limits s ls (one.output ++ two.output) two.after last) (sym (lines_behind whole x ends)) (session_on layouts counter limits now last s one.after two.after (lines whole) (lines x) one.output two.output one.session two.session);
     holds = two.holds;
     kept = λ before was ends_so.
-        two.kept (before ++ lines whole) (one.kept before was) (subst EndsInGc (ap (λ (ls : List (List ℕ)). before ++ ls) (lines_behind whole x ends) ∙ sym (append_assoc before (lines whole) (lines x))) ends_so);
+        two.kept (before ++ lines whole) (one.kept before was) (subst EndsInCollection (ap (λ (ls : List (List ℕ)). before ++ ls) (lines_behind whole x ends) ∙ sym (append_assoc before (lines whole) (lines x))) ends_so);
     replied = Appends-trans a b c one.output two.output one.replied two.replied;
   }
 

@@ -1,17 +1,24 @@
 -- What the status of the top call decides.
-use Rattle.std.proofs.Common.{◌≡◌, ℕ, ◌+◌, ◌≤◌, List, ◌++◌, Option, Some, None, length, length-append, inl, inr, refl, ap, arith}
+use Rattle.std.proofs.Common.{◌≡◌, ℕ, ◌+◌, ◌≤◌, List, [], ◌++◌, Option, Some, None, length, length-append, inl, inr, refl, sym, ap, subst, arith}
 use Rattle.std.specs.Prelude.{◌⊎◌, ◌↔◌}
 use Rattle.std.specs.Io.KnownBytes.{Consumes}
+use Rattle.gc_types.specs.declared.kind.Layouts.{Layouts}
 use Rattle.gc_model.specs.Allocation.{Rose}
+use Rattle.gc_model.specs.Stores.{StoreView}
 use Rattle.gcsh_top.specs.declared.status.Status.{Status}
 use Rattle.gcsh_top.specs.declared.status.Status.TheVariants.{Done, Usage, ReadFault, WriteFault, TooLong, NoMemory}
 use Rattle.gcsh_top.specs.declared.stores.Stores.{Stores}
 use Rattle.gcsh_top.specs.declared.words.Form.{Form}
-use Rattle.gcsh_top.specs.Answers.{Answers, IsShort, RanWords}
+use Rattle.gcsh_top.specs.declared.words.Task.{Task}
+use Rattle.gcsh_top.specs.declared.words.Task.TheVariants.{Script, Churn}
+use Rattle.gcsh_top.specs.Answers.{Answers, IsShort, RanOn, RanTask, RanWords}
+use Rattle.gcsh_top.specs.Chosen.{chosen}
+use Rattle.gcsh_top.specs.ChurnRuns.{Churned, Wrote, to_its_end, within}
 use Rattle.gcsh_top.specs.Counts.{raised}
-use Rattle.gcsh_top.specs.Ends.{Gave, SinkRun, SourceRun}
+use Rattle.gcsh_top.specs.Ends.{Gave, SinkRun, SourceRun, SourceTold}
 use Rattle.gcsh_top.specs.Input.{GaveWhole, max_input, so_far, to_its_end}
-use Rattle.gcsh_top.specs.Words.{IsForm}
+use Rattle.gcsh_top.specs.Words.{IsForm, layouts_of}
+use Rattle.gcsh_top.proofs.EndLemmas.{gave_none, told}
 
 module _ (words : List (List ℕ)) (source : SourceRun) (sink : SinkRun) (old new : Stores) where
   -- the words are those of no form exactly at the status that says so
@@ -35,13 +42,45 @@ given_whole : (source : SourceRun) (status : Status) (whole : List ℕ) → (sta
 given_whole source status whole other (to_its_end read) = given_short source status whole other read.gave.gave read.gave.short
 given_whole source status whole other (so_far bytes short gave) = given_short source status bytes other gave.gave short
 
+-- where the script is the input
+given_on : (layouts : Layouts) (form : Form) (source : SourceRun) (sink : SinkRun) (store : StoreView ℕ) (status : Status) → RanOn layouts form source sink store status → Given source status
+given_on layouts form source sink store Done ran = given_short source Done ran.input (λ is. cc) ran.whole.gave.gave ran.whole.gave.short
+given_on layouts form source sink store Usage ran = absurd ran
+given_on layouts form source sink store ReadFault ran = given_short source ReadFault ran.0.0 (λ is. cc) ran.0.1.gave.gave ran.0.2
+given_on layouts form source sink store WriteFault ran = given_whole source WriteFault ran.0.input (λ is. cc) ran.0.gave
+given_on layouts form source sink store TooLong ran = (ran.0, ran.1.gave.gave, omega (arith, ran.2), (λ is. ran.2, λ is. refl))
+given_on layouts form source sink store NoMemory ran = given_whole source NoMemory ran.input (λ is. cc) ran.gave
+
+-- how a summary is written where the status says nothing of the input
+wrote_by : (text : List ℕ) (sink : SinkRun) (status : Status) → Wrote text sink status → (status ≡ Done) ⊎ (((status ≡ WriteFault) × Rose sink.before.faults sink.after.faults) ⊎ (status ≡ NoMemory))
+wrote_by text sink Done wrote = inl refl
+wrote_by text sink Usage wrote = absurd wrote
+wrote_by text sink ReadFault wrote = absurd wrote
+wrote_by text sink WriteFault wrote = inr (inl (refl, wrote.1))
+wrote_by text sink TooLong wrote = absurd wrote
+wrote_by text sink NoMemory wrote = inr (inr refl)
+
+churned_by : (layouts : Layouts) (form : Form) (rounds : ℕ) (sink : SinkRun) (store : StoreView ℕ) (status : Status) → Churned layouts form rounds sink store status → (status ≡ Done) ⊎ (((status ≡ WriteFault) × Rose sink.before.faults sink.after.faults) ⊎ (status ≡ NoMemory))
+churned_by layouts form rounds sink store status (to_its_end summary ran wrote) = wrote_by summary sink status wrote
+churned_by layouts form rounds sink store status (within stopped unwritten is) = inr (inr is)
+
+-- such a status is not that of an input that is too long
+not_too_long : {R : Type 0} (status : Status) → (status ≡ Done) ⊎ (((status ≡ WriteFault) × R) ⊎ (status ≡ NoMemory)) → status ≡ TooLong → ⊥
+not_too_long status (inl done) is = absurd (cc)
+not_too_long status (inr (inl (failed, rose))) is = absurd (cc)
+not_too_long status (inr (inr none)) is = absurd (cc)
+
+-- where a script is made nothing is given
+nothing_given : (source : SourceRun) (status : Status) → source.after ≡ source.before → (status ≡ TooLong → ⊥) → Given source status
+nothing_given source status same other =
+    given_short source status [] other (subst (λ (after : SourceTold). Gave (told source.before after) []) (sym same) (gave_none source.before)) (omega arith)
+
+given_task : (task : Task) (layouts : Layouts) (form : Form) (source : SourceRun) (sink : SinkRun) (store : StoreView ℕ) (status : Status) → RanTask task layouts form source sink store status → Given source status
+given_task Script layouts form source sink store status ran = given_on layouts form source sink store status ran
+given_task (Churn rounds) layouts form source sink store status (same, ran) = nothing_given source status same (not_too_long status (churned_by layouts form rounds sink store status ran))
+
 pub given_exact : (words : List (List ℕ)) (source : SourceRun) (sink : SinkRun) (old new : Stores) (status : Status) → RanWords words source sink old new status → Given source status
-given_exact words source sink old new Done ran = given_short source Done ran.ran.input (λ is. cc) ran.ran.whole.gave.gave ran.ran.whole.gave.short
-given_exact words source sink old new Usage ran = absurd ran.ran
-given_exact words source sink old new ReadFault ran = given_short source ReadFault ran.ran.0.0 (λ is. cc) ran.ran.0.1.gave.gave ran.ran.0.2
-given_exact words source sink old new WriteFault ran = given_whole source WriteFault ran.ran.0.input (λ is. cc) ran.ran.0.gave
-given_exact words source sink old new TooLong ran = (ran.ran.0, ran.ran.1.gave.gave, omega (arith, ran.ran.2), (λ is. ran.ran.2, λ is. refl))
-given_exact words source sink old new NoMemory ran = given_whole source NoMemory ran.ran.input (λ is. cc) ran.ran.gave
+given_exact words source sink old new status ran = given_task ran.form.task (layouts_of ran.form.collector) ran.form source sink (chosen ran.form.collector new) status ran.ran
 
 -- an input that is not too long gave no byte too many
 too_many : (left left' : Option (List ℕ)) (given given' : ℕ) (bytes : List ℕ) → Consumes left left' bytes → given' ≡ raised given (length bytes) → length bytes ≡ max_input + 1 → IsShort left given given' → ⊥
@@ -52,12 +91,37 @@ too_many (Some bs) (Some rest) given given' bytes taken counted many short =
     let all : length bs ≡ length (bytes ++ rest) = ap length taken in
     omega (arith, long, all, many, short)
 
+-- where no end failed and the input is not too long, a script that is the input was run to its end, or there was no memory
+complete_on : (layouts : Layouts) (form : Form) (source : SourceRun) (sink : SinkRun) (store : StoreView ℕ) (status : Status) → RanOn layouts form source sink store status
+    → ¬ Rose source.before.faults source.after.faults → ¬ Rose sink.before.faults sink.after.faults → IsShort source.before.left source.before.given source.after.given → (status ≡ Done) ⊎ (status ≡ NoMemory)
+complete_on layouts form source sink store Done ran whole_in whole_out short = inl refl
+complete_on layouts form source sink store Usage ran whole_in whole_out short = absurd ran
+complete_on layouts form source sink store ReadFault ran whole_in whole_out short = absurd (whole_in ran.1)
+complete_on layouts form source sink store WriteFault ran whole_in whole_out short = absurd (whole_out ran.1)
+complete_on layouts form source sink store TooLong ran whole_in whole_out short =
+    absurd (too_many source.before.left source.after.left source.before.given source.after.given ran.0 ran.1.gave.gave.taken ran.1.gave.gave.counted ran.2 short)
+complete_on layouts form source sink store NoMemory ran whole_in whole_out short = inr refl
+
+-- so where a script was made
+whole_by : {R : Type 0} (status : Status) → (status ≡ Done) ⊎ (((status ≡ WriteFault) × R) ⊎ (status ≡ NoMemory)) → ¬ R → (status ≡ Done) ⊎ (status ≡ NoMemory)
+whole_by status (inl done) whole_out = inl done
+whole_by status (inr (inl failed)) whole_out = absurd (whole_out failed.1)
+whole_by status (inr (inr none)) whole_out = inr none
+
+complete_task : (task : Task) (layouts : Layouts) (form : Form) (source : SourceRun) (sink : SinkRun) (store : StoreView ℕ) (status : Status) → RanTask task layouts form source sink store status
+    → ¬ Rose source.before.faults source.after.faults → ¬ Rose sink.before.faults sink.after.faults → IsShort source.before.left source.before.given source.after.given → (status ≡ Done) ⊎ (status ≡ NoMemory)
+complete_task Script layouts form source sink store status ran whole_in whole_out short = complete_on layouts form source sink store status ran whole_in whole_out short
+complete_task (Churn rounds) layouts form source sink store status (same, ran) whole_in whole_out short = whole_by status (churned_by layouts form rounds sink store status ran) whole_out
+
+complete_words : (words : List (List ℕ)) (source : SourceRun) (sink : SinkRun) (old new : Stores) (status : Status) → RanWords words source sink old new status
+    → ¬ Rose source.before.faults source.after.faults → ¬ Rose sink.before.faults sink.after.faults → IsShort source.before.left source.before.given source.after.given → (status ≡ Done) ⊎ (status ≡ NoMemory)
+complete_words words source sink old new status ran = complete_task ran.form.task (layouts_of ran.form.collector) ran.form source sink (chosen ran.form.collector new) status ran.ran
+
 pub complete_exact : (words : List (List ℕ)) (source : SourceRun) (sink : SinkRun) (old new : Stores) (status : Status) (form : Form) → Answers words source sink old new status → IsForm words form
     → ¬ Rose source.before.faults source.after.faults → ¬ Rose sink.before.faults sink.after.faults → IsShort source.before.left source.before.given source.after.given → (status ≡ Done) ⊎ (status ≡ NoMemory)
-complete_exact words source sink old new Done form ran is_form whole_in whole_out short = inl refl
 complete_exact words source sink old new Usage form none is_form whole_in whole_out short = absurd (none form is_form)
-complete_exact words source sink old new ReadFault form ran is_form whole_in whole_out short = absurd (whole_in ran.ran.1)
-complete_exact words source sink old new WriteFault form ran is_form whole_in whole_out short = absurd (whole_out ran.ran.1)
-complete_exact words source sink old new TooLong form ran is_form whole_in whole_out short =
-    absurd (too_many source.before.left source.after.left source.before.given source.after.given ran.ran.0 ran.ran.1.gave.gave.taken ran.ran.1.gave.gave.counted ran.ran.2 short)
-complete_exact words source sink old new NoMemory form ran is_form whole_in whole_out short = inr refl
+complete_exact words source sink old new Done form ran is_form whole_in whole_out short = complete_words words source sink old new Done ran whole_in whole_out short
+complete_exact words source sink old new ReadFault form ran is_form whole_in whole_out short = complete_words words source sink old new ReadFault ran whole_in whole_out short
+complete_exact words source sink old new WriteFault form ran is_form whole_in whole_out short = complete_words words source sink old new WriteFault ran whole_in whole_out short
+complete_exact words source sink old new TooLong form ran is_form whole_in whole_out short = complete_words words source sink old new TooLong ran whole_in whole_out short
+complete_exact words source sink old new NoMemory form ran is_form whole_in whole_out short = complete_words words source sink old new NoMemory ran whole_in whole_out short

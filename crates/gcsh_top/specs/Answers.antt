@@ -7,7 +7,10 @@ use Rattle.gcsh_top.specs.declared.status.Status.{Status}
 use Rattle.gcsh_top.specs.declared.status.Status.TheVariants.{Done, Usage, ReadFault, WriteFault, TooLong, NoMemory}
 use Rattle.gcsh_top.specs.declared.stores.Stores.{Stores}
 use Rattle.gcsh_top.specs.declared.words.Form.{Form}
+use Rattle.gcsh_top.specs.declared.words.Task.{Task}
+use Rattle.gcsh_top.specs.declared.words.Task.TheVariants.{Script, Churn}
 use Rattle.gcsh_top.specs.Chosen.{AreSameStores, OthersStay, chosen}
+use Rattle.gcsh_top.specs.ChurnRuns.{Churned}
 use Rattle.gcsh_top.specs.Ends.{SinkRun, SourceRun}
 use Rattle.gcsh_top.specs.Input.{GaveLines, GaveWhole, ReadWhole, max_input}
 use Rattle.gcsh_top.specs.Runs.{RanForm, StoppedForm}
@@ -46,12 +49,17 @@ RanOn layouts form source sink store WriteFault = Stopped layouts form source si
 RanOn layouts form source sink store TooLong = (bytes : List ℕ) × RanFront layouts form source sink store bytes × (length bytes ≡ max_input + 1)
 RanOn layouts form source sink store NoMemory = Stopped layouts form source sink store
 
--- The words are those of a form, whose run on the store that they choose ended so. The other store is as it was, and
+-- How a task on its new store ended, and what it left. A script that is made reads nothing.
+abbrev pub RanTask : Task → Layouts → Form → SourceRun → SinkRun → StoreView ℕ → Status → Type 0
+RanTask Script layouts form source sink store status = RanOn layouts form source sink store status
+RanTask (Churn rounds) layouts form source sink store status = (source.after ≡ source.before) × Churned layouts form rounds sink store status
+
+-- The words are those of a form, whose run on the store that they choose ended so. The other stores are as they were, and
 -- each has its id still.
 pub record RanWords (words : List (List ℕ)) (source : SourceRun) (sink : SinkRun) (old new : Stores) (status : Status) : Type 0 where
   pub form : Form
   pub is_form : IsForm words form
-  pub ran : RanOn (layouts_of form.collector) form source sink (chosen form.collector new) status
+  pub ran : RanTask form.task (layouts_of form.collector) form source sink (chosen form.collector new) status
   pub others : OthersStay form.collector old new
   pub same : AreSameStores old new
 

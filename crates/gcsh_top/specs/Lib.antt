@@ -2,9 +2,11 @@ pub mod Counts
 pub mod Ends
 pub mod Memory
 pub mod Input
+pub mod Churn
 pub mod Words
 pub mod Statuses
 pub mod Chosen
 pub mod Runs
+pub mod ChurnRuns
 pub mod Answers
 pub mod Program

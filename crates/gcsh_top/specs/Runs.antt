@@ -1,5 +1,5 @@
 -- What running lines leaves.
-use Rattle.std.specs.Prelude.{◌≡◌, ℕ, List, [], ◌∷◌, ◌++◌, ◌⊎◌, Option, Some, None, codes}
+use Rattle.std.specs.Prelude.{◌≡◌, true, ℕ, List, [], ◌∷◌, ◌++◌, ◌⊎◌, Option, Some, None, codes}
 use Rattle.std.specs.Io.KnownBytes.{Appends, Keeps}
 use Rattle.gc_types.specs.declared.kind.Layouts.{Layouts}
 use Rattle.gc_model.specs.Allocation.{Limits}
@@ -7,11 +7,11 @@ use Rattle.gc_model.specs.Table.{Table, start, usual_roots}
 use Rattle.gc_model.specs.Holds.{HoldsKept}
 use Rattle.gc_model.specs.Stores.{StoreView}
 use Rattle.gc_commands.specs.declared.command.Command.{Command}
-use Rattle.gc_commands.specs.declared.command.Command.TheVariants.{Gc}
 use Rattle.gc_commands.specs.declared.reply.Reply.{Reply}
 use Rattle.gc_commands.specs.Spelling.{IsCommandOf}
 use Rattle.gc_script.specs.Slots.{RunnerView}
 use Rattle.gc_script.specs.State.{State, HoldsState, begin}
+use Rattle.gc_script.specs.Shapes.{is_collection}
 use Rattle.gc_policy.specs.Accounts.{HoldsAccount, no_account}
 use Rattle.gc_owner.specs.Limiters.{fresh_limits}
 use Rattle.gc_script.specs.Run.{Ran, WantsMemory}
@@ -27,18 +27,22 @@ pub record RanLine (layouts : Layouts) (counter : Option ℕ) (limits limits' : 
   pub answer : Reply
   pub is_command : IsCommandOf line command
   pub ran : Ran layouts counter limits limits' s command answer store runner
-  pub kept : command ≡ Gc → HoldsKept layouts store ran.after.table
+  pub kept : is_collection command ≡ true → HoldsKept layouts store ran.after.table
   pub replied : Appends held held' (reply_line answer)
 
--- the last of some lines is the command `gc`
-abbrev pub EndsInGc : List (List ℕ) → Type 0
-EndsInGc lines = (before : List (List ℕ)) × (lines ≡ before ++ codes "gc" ∷ [])
+-- the line is a command that collects
+abbrev pub IsCollectionLine : List ℕ → Type 0
+IsCollectionLine line = (line ≡ codes "gc") ⊎ ((line ≡ codes "gcinc") ⊎ (line ≡ codes "gcdrop"))
 
--- where the last of some lines is `gc`, the store holds the kept objects of the table and no others
+-- the last of some lines is such a command
+abbrev pub EndsInCollection : List (List ℕ) → Type 0
+EndsInCollection lines = (before : List (List ℕ)) × ((line : List ℕ) × (IsCollectionLine line × (lines ≡ before ++ line ∷ [])))
+
+-- where the last of some lines collects, the store holds the kept objects of the table and no others
 abbrev pub KeptBehind : Layouts → List (List ℕ) → StoreView ℕ → Table ℕ → Type 0
-KeptBehind layouts lines store table = EndsInGc lines → HoldsKept layouts store table
+KeptBehind layouts lines store table = EndsInCollection lines → HoldsKept layouts store table
 
--- The lines of the input are commands that were run, and the sink took their replies. What a last `gc` leaves is left
+-- The lines of the input are commands that were run, and the sink took their replies. What a last line that collects leaves is left
 -- whatever lines stand before, whose store was `old`.
 pub record RanLines (layouts : Layouts) (counter : Option ℕ) (limits limits' : Limits) (s : State) (input : List ℕ) (old store : StoreView ℕ) (runner : RunnerView) (held held' : Option (List ℕ)) : Type 0 where
   pub output : List ℕ
@@ -92,7 +96,7 @@ pub record StoppedPiece (layouts : Layouts) (counter : Option ℕ) (limits : Lim
   pub some : RanSome layouts counter limits s whole old store runner held held'
 
 -- An input was run on a store whose heap is of that kind: it holds the table and the account at the end. Where the last
--- line is `gc`, the heap holds the kept objects and no others.
+-- line collects, the heap holds the kept objects and no others.
 pub record RanForm (layouts : Layouts) (form : Form) (input : List ℕ) (held held' : Option (List ℕ)) (store : StoreView ℕ) : Type 0 where
   pub output : List ℕ
   pub written : Appends held held' output
@@ -100,7 +104,7 @@ pub record RanForm (layouts : Layouts) (form : Form) (input : List ℕ) (held he
   pub session : Session layouts form.first form.most input output table
   pub holds : HoldsAccount layouts store table session.after.account
   pub no_counter : store.alloc_counter ≡ None
-  pub kept : EndsInGc (lines input) → HoldsKept layouts store table
+  pub kept : EndsInCollection (lines input) → HoldsKept layouts store table
 
 -- the empty table of a store that begins with the form's pages
 abbrev pub first_table : Form → Table ℕ

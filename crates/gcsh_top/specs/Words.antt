@@ -7,6 +7,9 @@ use Rattle.gc_view.specs.Pages.{max_pages}
 use Rattle.gcsh_top.specs.declared.words.Collector.{Collector}
 use Rattle.gcsh_top.specs.declared.words.Collector.TheVariants.{Copying, Counting, Null}
 use Rattle.gcsh_top.specs.declared.words.Form.{Form}
+use Rattle.gcsh_top.specs.declared.words.Task.{Task}
+use Rattle.gcsh_top.specs.declared.words.Task.TheVariants.{Script, Churn}
+use Rattle.gcsh_top.specs.Churn.{max_rounds}
 
 -- the word of a collector
 abbrev pub collector_word : Collector → List ℕ
@@ -14,25 +17,29 @@ collector_word Copying = codes "copying"
 collector_word Counting = codes "counting"
 collector_word Null = codes "null"
 
--- the collectors that are built
-abbrev pub IsBuilt : Collector → Type 0
-IsBuilt Copying = Unit {0}
-IsBuilt Counting = ⊥
-IsBuilt Null = Unit {0}
-
 -- the kind of heap of a collector
 abbrev pub layouts_of : Collector → Layouts
 layouts_of Copying = layouts.Copying
 layouts_of Counting = layouts.Counting
 layouts_of Null = layouts.Null
 
--- the words of a form: a collector, the pages that a heap begins with, the most that it may have
-abbrev pub words_of : Form → List (List ℕ)
-words_of form = collector_word form.collector ∷ decimal form.first ∷ decimal form.most ∷ []
+-- the words of a task: none for the script that is the input
+abbrev pub task_words : Task → List (List ℕ)
+task_words Script = []
+task_words (Churn rounds) = codes "churn" ∷ decimal rounds ∷ []
 
--- the words are those of the form, whose collector is built and whose numbers are in range
+-- a script that is made has no more rounds than one may have
+abbrev pub FitsTask : Task → Type 0
+FitsTask Script = Unit {0}
+FitsTask (Churn rounds) = rounds ≤ max_rounds
+
+-- the words of a form: a collector, the pages that a heap begins with, the most that it may have, and those of its task
+abbrev pub words_of : Form → List (List ℕ)
+words_of form = collector_word form.collector ∷ decimal form.first ∷ decimal form.most ∷ task_words form.task
+
+-- the words are those of the form, whose numbers are in range
 pub record IsForm (words : List (List ℕ)) (form : Form) : Type 0 where
-  pub built : IsBuilt form.collector
   pub ordered : form.first ≤ form.most
   pub within : form.most ≤ max_pages
+  pub fits : FitsTask form.task
   pub spelled : words ≡ words_of form

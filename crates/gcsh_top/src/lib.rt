@@ -6,9 +6,12 @@
 //! `StdSource` and `StdSink` stand before standard input and output, and tell counts alone.
 //! The definitions are in `specs/`: `Ends` (what sources and sinks tell, and what reads and writes do),
 //! `Memory` (the ends in memory), `Input` (what reading an input comes to), `Words` (the words of the
-//! program), `Runs` (what running lines leaves), `Answers` (what the top call answers).
+//! program), `Runs` (what running lines leaves), `Churn` (the script that is made), `ChurnRuns` (what running
+//! it leaves), `Answers` (what the top call answers).
 #![tactic(auto)]
 
+mod churn;
+mod churn_run;
 pub mod memory;
 pub mod program;
 pub mod read;
@@ -22,6 +25,7 @@ pub mod top;
 pub mod words;
 pub mod write;
 
+pub use churn::MAX_ROUNDS;
 pub use memory::{MemSink, MemSource};
 pub use program::{Exit, HELP, VERSION, gcsh_main, run_program};
 pub use read::MAX_INPUT;
@@ -31,5 +35,5 @@ pub use standard::{StdSink, StdSource};
 pub use status::Status;
 pub use stores::Stores;
 pub use top::{gcsh_top, statuses_are_exact};
-pub use words::{Collector, Form, MAX_PAGES, parse_words};
+pub use words::{Collector, Form, MAX_PAGES, Task, parse_words};
 pub use write::write_all;

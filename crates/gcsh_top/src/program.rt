@@ -25,11 +25,12 @@ pub const HELP: &str = "\
 gcsh runs a script of heap commands, and writes a reply to each.
 
 Usage: gcsh COLLECTOR FIRST MOST < SCRIPT
-       gcsh --help | --version
+       gcsh COLLECTOR FIRST MOST churn N, gcsh --help, gcsh --version
 
-COLLECTOR is copying, which frees what no root reaches, or null, which never
-frees. FIRST <= MOST <= 65535 are the pages of 65536 bytes that the heap begins
-with, and the most that it gets.
+COLLECTOR is copying or counting, which free what no root reaches, or null,
+which never frees. FIRST <= MOST <= 65535 are the pages of 65536 bytes that the
+heap begins with, and the most that it gets. With churn nothing is read: a
+script of N <= 100000 rounds is made and run, and a summary of it printed.
 
   struct F..     declare a type       field R I [D]  read a field, into D
   new D T V..    make a struct        setf R I V     write a field
@@ -40,12 +41,11 @@ with, and the most that it gets.
   gset G R       set a global         gget G D       read it, into D
 D, R, S are registers, 0 to 65535; K a slot; G a global, 0 to 15; T a type,
 counted from 0; I a field. F is m: or c:, mutable or constant, and i32, i64 or
-any. V is i32:N, i64:N, any:null, or r and a register. Else: BadLine. Example:
+any. V is i32:N, i64:N, any:null, or r and a register. All of it: FORMATS.md.
   printf 'struct m:i32\\nnew 1 0 i32:5\\nfield 1 0\\n' | gcsh null 1 64
 
-Status: 0 all was replied to; 1 the words are of no form above, and nothing is
-printed; 2 the input failed; 3 the output failed; 4 the input has more than
-16777216 bytes; 5 there was no memory.
+Status: 0 all is done; 1 words of no form above, nothing printed; 2 the input
+failed; 3 the output failed; 4 the input is over 16777216 bytes; 5 no memory.
 ";
 
 /// What `--version` shows.

@@ -6,9 +6,10 @@ ghost use Rattle.gcsh_top.specs.Statuses.{code_of};
 /// How a run of the program ended.
 #[derive(Clone, Copy, Debug, PartialEq, Eq)]
 pub enum Status {
-    /// The input was read to its end, and every line has its reply.
+    /// The input was read to its end, and every line has its reply; or a script that was made was run to its end, and has
+    /// its summary.
     Done,
-    /// The words are of no form that is built. Nothing was read or written.
+    /// The words are of no form. Nothing was read or written.
     Usage,
     /// The source failed. Every line that it had given whole has its reply.
     ReadFault,

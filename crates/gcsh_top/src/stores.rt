@@ -1,17 +1,19 @@
 //! The stores of the program.
 
-ghost use Rattle.std.specs.Prelude.{IfOk, ◌≡◌};
-ghost use Rattle.gcsh_top.specs.Chosen.{AreNew};
+ghost use Rattle.std.specs.Prelude.{IfOk};
+ghost use Rattle.gcsh_top.specs.Chosen.{AreApart, AreNew};
 
 use gc_copying::CopyingHeap;
+use gc_drc::DrcHeap;
 use gc_heap::NullHeap;
 use gc_store::{Engine, HeapConfig, Store};
 use std::alloc::{AllocError, Global};
 
-/// A store for each collector that is built, of which a run uses one.
+/// A store for each collector, of which a run uses one.
 #[derive(Drop)]
 pub struct Stores {
     pub copying: Store<CopyingHeap, u64>,
+    pub counting: Store<DrcHeap, u64>,
     pub null: Store<NullHeap, u64>,
 }
 
@@ -19,10 +21,11 @@ impl Stores {
     /// Stores with nothing in them, each with an id of its own.
     pub fn new(alloc: Global) -> Result<Stores, AllocError>
         ensures new { IfOk result AreNew }
-        ensures apart { IfOk result (λ stores. ¬ (stores.copying.number ≡ stores.null.number)) }
+        ensures apart { IfOk result AreApart }
     {
         let mut engine = Engine::new(0);
-        let (Some(first), Some(second), Some(config)) = (
+        let (Some(first), Some(second), Some(third), Some(config)) = (
+            engine.next_store_id(),
             engine.next_store_id(),
             engine.next_store_id(),
             HeapConfig::with_pages(0),
@@ -31,7 +34,8 @@ impl Stores {
         };
         Ok(Stores {
             copying: Store::new(alloc, first, CopyingHeap::new(alloc), config)?,
-            null: Store::new(alloc, second, NullHeap::new(alloc), config)?,
+            counting: Store::new(alloc, second, DrcHeap::new(alloc), config)?,
+            null: Store::new(alloc, third, NullHeap::new(alloc), config)?,
         })
     }
 }

@@ -4,24 +4,25 @@ ghost use Rattle.std.specs.Prelude.{◌≡◌, ◌+◌, ◌≤◌, ◌⊎◌, �
 ghost use Rattle.gc_store.specs.Stores.{HoldsStart};
 ghost use Rattle.gc_view.specs.Pages.{max_pages};
 ghost use Rattle.gc_model.specs.Allocation.{Rose};
-ghost use Rattle.gcsh_top.specs.Answers.{Answers, IsShort, RanOn, RanWords};
+ghost use Rattle.gcsh_top.specs.Answers.{Answers, IsShort, RanOn, RanTask, RanWords};
 ghost use Rattle.gcsh_top.specs.Chosen.{AreNew, HasSameId};
 ghost use Rattle.gcsh_top.specs.Runs.{IsReady};
 ghost use Rattle.gcsh_top.specs.Statuses.{code_of};
 ghost use Rattle.gcsh_top.specs.Ends.{Gave, SinkRun, SourceRun};
 ghost use Rattle.gcsh_top.specs.Input.{max_input};
-ghost use Rattle.gcsh_top.specs.Words.{IsForm};
+ghost use Rattle.gcsh_top.specs.Words.{FitsTask, IsForm};
 ghost use Rattle.gcsh_top.specs.declared.status.Status.{Status};
 ghost use Rattle.gcsh_top.specs.declared.stores.Stores.{Stores};
 ghost use Rattle.gcsh_top.specs.declared.words.Form.{Form};
 
+use crate::churn_run::run_churn;
 use crate::read::{ReadFault, read_piece};
 use crate::run::{run_last, run_piece};
 use crate::sink::Sink;
 use crate::source::Source;
 use crate::status::Status;
 use crate::stores::Stores;
-use crate::words::{Collector, Form, parse_words};
+use crate::words::{Collector, Form, Task, parse_words};
 use gc_heap::GcHeap;
 use gc_script::{LineCutter, Runner};
 use gc_store::{HeapConfig, PageLimit, Store};
@@ -32,7 +33,8 @@ const PIECE: usize = 65_536;
 
 /// Runs the program: `words` are those behind its name. The chosen store begins with FIRST pages,
 /// and has at most MOST. Each line of the input is run as soon as it is whole, and its reply written,
-/// with a line feed; what was written is flushed before more is read. The answer is the number of a
+/// with a line feed; what was written is flushed before more is read. With `churn N` behind MOST nothing is
+/// read: a script of N rounds is made and run, and its summary written. The answer is the number of a
 /// [`Status`], which the program ends with.
 pub fn gcsh_top<S: Source, K: Sink>(
     alloc: Global,
@@ -45,6 +47,7 @@ pub fn gcsh_top<S: Source, K: Sink>(
     ensures answers { (status : Status) × (result ≡ code_of status) × Answers (map string_bytes words.now)
         (record { before = S.tells source.old; after = S.tells source.new }) (record { before = K.tells sink.old; after = K.tells sink.new }) stores.old stores.new status }
     ensures untouched { result ≡ 1 → (source.new ≡ source.old) × (sink.new ≡ sink.old) × (stores.new ≡ stores.old) }
+    ensures unread { (form : Form) (rounds : ℕ) → IsForm (map string_bytes words.now) form → form.task ≡ Task.Churn rounds → source.new ≡ source.old }
 {
     run_words(alloc, words, source, sink, stores).code()
 }
@@ -61,15 +64,15 @@ pub(crate) fn run_words<S: Source, K: Sink>(
     ensures answers { Answers (map string_bytes words.now) (record { before = S.tells source.old; after = S.tells source.new })
         (record { before = K.tells sink.old; after = K.tells sink.new }) stores.old stores.new result }
     ensures untouched { result ≡ Status.Usage → (source.new ≡ source.old) × (sink.new ≡ sink.old) × (stores.new ≡ stores.old) }
+    ensures unread { (form : Form) (rounds : ℕ) → IsForm (map string_bytes words.now) form → form.task ≡ Task.Churn rounds → source.new ≡ source.old }
 {
     let Some(form) = parse_words(words) else {
         return Status::Usage;
     };
     match form.collector {
         Collector::Copying => run_on(alloc, form, source, sink, &mut stores.copying),
+        Collector::Counting => run_on(alloc, form, source, sink, &mut stores.counting),
         Collector::Null => run_on(alloc, form, source, sink, &mut stores.null),
-        // No words are of this form.
-        Collector::Counting => Status::Usage,
     }
 }
 
@@ -82,13 +85,18 @@ fn run_on<H: GcHeap, S: Source, K: Sink>(
     store: &mut Store<H, u64>,
 ) -> Status
     requires first { form.first ≤ max_pages }
+    requires fits { FitsTask form.task }
     requires start { HoldsStart ℕ H.KIND store.old }
-    ensures ran { RanOn H.KIND form (record { before = S.tells source.old; after = S.tells source.new })
+    ensures ran { RanTask form.task H.KIND form (record { before = S.tells source.old; after = S.tells source.new })
         (record { before = K.tells sink.old; after = K.tells sink.new }) store.new result }
+    ensures unread { (rounds : ℕ) → form.task ≡ Task.Churn rounds → source.new ≡ source.old }
     ensures same { HasSameId store.old store.new }
 {
     configure(form, store);
-    run_form(alloc, form, source, sink, store)
+    match form.task {
+        Task::Script => run_form(alloc, form, source, sink, store),
+        Task::Churn(rounds) => run_churn(alloc, form, rounds, sink, store),
+    }
 }
 
 /// Lets a new store begin with the pages of the form.

@@ -1,9 +1,10 @@
 //! The words of the program.
 
-ghost use Rattle.std.specs.Prelude.{MatchOption, map, string_bytes, ◌≡◌};
+ghost use Rattle.std.specs.Prelude.{◌≡◌, [], ◌∷◌, MatchOption, map, string_bytes};
 ghost use Rattle.gc_commands.specs.Reading.{Reads};
-ghost use Rattle.gcsh_top.specs.Words.{IsBuilt, IsForm, collector_word};
+ghost use Rattle.gcsh_top.specs.Words.{FitsTask, IsForm, collector_word, task_words};
 
+use crate::churn::MAX_ROUNDS;
 use gc_commands::number;
 
 /// The greatest number of pages of a heap.
@@ -17,40 +18,84 @@ pub enum Collector {
     Null,
 }
 
-/// What the words of the program ask for: a heap, the pages that it begins with, and the most
-/// pages that it may have.
+/// What a run does with its heap.
+#[derive(Clone, Copy, Debug, PartialEq, Eq)]
+pub enum Task {
+    /// It runs the script that is its input.
+    Script,
+    /// It makes a script of so many rounds and runs it.
+    Churn(u32),
+}
+
+/// What the words of the program ask for: a heap, the pages that it begins with, the most
+/// pages that it may have, and what is done with it.
 #[derive(Clone, Copy, Debug, PartialEq, Eq)]
 pub struct Form {
     pub collector: Collector,
     pub first: u32,
     pub most: u32,
+    pub task: Task,
 }
 
 /// The form that the words of the program, without its own name, are: `COLLECTOR FIRST MOST` with
-/// `FIRST <= MOST <= MAX_PAGES`, plain decimals without leading zeros. Of the collectors
-/// `copying` and `null` are built so far. None where they are of no such form.
+/// `FIRST <= MOST <= MAX_PAGES`, and behind these none, or `churn N` with `N <= MAX_ROUNDS`. Numbers are plain
+/// decimals without leading zeros. None where the words are of no such form.
 pub fn parse_words(words: &[String]) -> Option<Form>
     ensures { MatchOption result ((form : Form) → ¬ IsForm (map string_bytes words.now) form) (IsForm (map string_bytes words.now)) }
 {
-    let [collector, first, most] = words else {
-        return None;
-    };
-    let collector = parse_collector(collector.as_str())?;
-    let most = number(most.as_str(), MAX_PAGES)?;
-    let first = number(first.as_str(), most)?;
+    match words {
+        [collector, first, most] => {
+            parse_heap(
+                collector.as_str(),
+                first.as_str(),
+                most.as_str(),
+                Task::Script,
+            )
+        }
+        [collector, first, most, name, rounds] => {
+            let task = parse_task(name.as_str(), rounds.as_str())?;
+            parse_heap(collector.as_str(), first.as_str(), most.as_str(), task)
+        }
+        _ => None,
+    }
+}
+
+/// The form of these words and that task.
+fn parse_heap(collector: &str, first: &str, most: &str, task: Task) -> Option<Form>
+    requires { FitsTask task }
+    ensures { MatchOption result ((form : Form) → ¬ IsForm (collector.now ∷ first.now ∷ most.now ∷ task_words task) form)
+        (IsForm (collector.now ∷ first.now ∷ most.now ∷ task_words task)) }
+{
+    let collector = parse_collector(collector)?;
+    let most = number(most, MAX_PAGES)?;
+    let first = number(first, most)?;
     Some(Form {
         collector,
         first: first as u32,
         most: most as u32,
+        task,
     })
+}
+
+/// The task that two words ask for.
+fn parse_task(name: &str, rounds: &str) -> Option<Task>
+    ensures { MatchOption result ((task : Task) → FitsTask task → ¬ (name.now ∷ rounds.now ∷ [] ≡ task_words task))
+        (λ task. FitsTask task × (name.now ∷ rounds.now ∷ [] ≡ task_words task)) }
+{
+    if name != "churn" {
+        return None;
+    }
+    let rounds = number(rounds, u64::from(MAX_ROUNDS))?;
+    Some(Task::Churn(rounds as u32))
 }
 
 /// The collector that a word names.
 fn parse_collector(word: &str) -> Option<Collector>
-    ensures { Reads IsBuilt collector_word word.now result }
+    ensures { Reads (λ collector. Unit {0}) collector_word word.now result }
 {
     match word {
         "copying" => Some(Collector::Copying),
+        "counting" => Some(Collector::Counting),
         "null" => Some(Collector::Null),
         _ => None,
     }

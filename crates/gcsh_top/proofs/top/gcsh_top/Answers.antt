@@ -7,3 +7,6 @@ returns-clause-answers g c = (c.run_words.result, c.code.ensures, c.run_words.en
 
 pub returns-clause-untouched : goal.returns-clause-untouched
 returns-clause-untouched g c is = c.run_words.ensures.untouched (usage_of c.run_words.result (sym c.code.ensures ∙ is))
+
+pub returns-clause-unread : goal.returns-clause-unread
+returns-clause-unread g c = c.run_words.ensures.unread

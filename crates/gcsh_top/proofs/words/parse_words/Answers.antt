@@ -1,8 +1,26 @@
 use Rattle.std.proofs.Common.{string_bytes}
-use Rattle.gcsh_top.proofs.FormLemmas.{no_first, three_words}
+use Rattle.gcsh_top.proofs.FormLemmas.{five_words, form_of_words, no_task}
 use Rattle.gcsh_top.proofs.words.parse_words.Goals as goal
 
-pub returns-in_err-first : goal.returns-in_err-first
-returns-in_err-first c =
-    let are = three_words (λ w. string_bytes w) c.args.words.now c.collector-item.result c.first-item.result c.most-item.result c.in-len3.len_at_least c.in-len3.len_below c.collector-item.is c.first-item.is c.most-item.is in
-    rw c.from_residual-in_err-first.ensures (no_first _ (string_bytes c.collector-item.result) c.as_str-3.result.now c.as_str-2.result.now c.in_ok-most.most (let first = c.as_str-3.ensures.value in let last = c.as_str-2.ensures.value in cc) c.in_ok-most.ensures.0 c.in_ok-most.ensures.1 c.in_err-first.ensures)
+pub returns-in_err-task-in-len5 : goal.returns-in_err-task-in-len5
+returns-in_err-task-in-len5 c =
+    let are =
+    five_words (λ w. string_bytes w) c.args.words.now c.collector-item-then-words-lt6.result c.first-item-then-words-lt6.result c.most-item-then-words-lt6.result c.name-item.result c.rounds-item.result c.in-len5.len_at_least c.in-len5.len_below
+    c.collector-item-then-words-lt6.is c.first-item-then-words-lt6.is c.most-item-then-words-lt6.is c.name-item.is c.rounds-item.is in
+    let name = c.as_str-in-len5.ensures.value in
+    let rounds = c.as_str-in-len5-2.ensures.value in
+    rw c.from_residual.ensures
+    (no_task _ (string_bytes c.collector-item-then-words-lt6.result) (string_bytes c.first-item-then-words-lt6.result) (string_bytes c.most-item-then-words-lt6.result) c.as_str-in-len5.result.now c.as_str-in-len5-2.result.now (cc) c.in_err-task-in-len5.ensures)
+
+pub returns-in_ok-task-in-len5 : goal.returns-in_ok-task-in-len5
+returns-in_ok-task-in-len5 c =
+    let are =
+    five_words (λ w. string_bytes w) c.args.words.now c.collector-item-then-words-lt6.result c.first-item-then-words-lt6.result c.most-item-then-words-lt6.result c.name-item.result c.rounds-item.result c.in-len5.len_at_least c.in-len5.len_below
+    c.collector-item-then-words-lt6.is c.first-item-then-words-lt6.is c.most-item-then-words-lt6.is c.name-item.is c.rounds-item.is in
+    let name = c.as_str-in-len5.ensures.value in
+    let rounds = c.as_str-in-len5-2.ensures.value in
+    let collector = c.as_str-in-len5-3.ensures.value in
+    let first = c.as_str-in-len5-4.ensures.value in
+    let most = c.as_str-in-len5-5.ensures.value in
+    let task = c.in_ok-task-in-len5.ensures.1 in
+    form_of_words _ _ c.parse_heap-in-len5.result (cc) c.parse_heap-in-len5.ensures
