@@ -1,9 +1,9 @@
 //! Why sessions can't be run.
 
 use crate::table::TableFault;
-use gc_script::RunError;
 use std::alloc::AllocError;
 use std::io;
+use std::str::Utf8Error;
 use thiserror::Error;
 
 /// Why a session can't be run.
@@ -12,7 +12,7 @@ pub(crate) enum SessionFault {
     #[error(transparent)]
     Table(#[from] TableFault),
     #[error(transparent)]
-    Run(#[from] RunError),
+    Text(#[from] Utf8Error),
     #[error(transparent)]
     Write(#[from] io::Error),
     #[error(transparent)]

@@ -2,24 +2,12 @@
 //!
 //! A session is a header and a script, which is the lines behind it up to the next header; headers
 //! that stand one behind the other have the same script. Empty lines and lines that begin with `//` say
-//! nothing. There are three kinds of header:
-//!
-//! - `# WORDS` runs the top call with these words, the script being its input. Printed are the header,
+//! nothing. A header `# WORDS` runs the top call with these words, the script being its input. Printed are the header,
 //!   what the sink took, and `status N`, or `status N within a line` where the last line that the sink
 //!   took is cut. Options stand behind the words: `| reads N..` and `| writes N..` number the reads and
 //!   writes that fail (write 0 is the flush), `| room N` is the room of the sink in bytes, and with
-//!   `| unended` the last line has no line feed.
-//! - `~ WORDS` runs the top call with these words over a reader and a writer, and prints each of their calls: `read N: M`
-//!   for one that asks for N bytes and is given M, `write N: TEXT` for one of N bytes of which TEXT was taken, `flush`; one that
-//!   fails has `fault` behind it. Then `status N`. Options: `| gives N` and `| takes N` are the most bytes of a read and
-//!   of a write; `| reads N..`, `| writes N..` and `| flushes N..` number those that fail; with `| from N` the reads
-//!   before the N-th are not printed; `| unended` as above.
-//! - `! COLLECTOR FIRST MAX_SCOPED` runs the commands of the script, one by one, on a new store whose
-//!   heap begins with FIRST pages and which may have so many scoped roots, and as many owned ones. Printed are the header, each
-//!   reply, `refusals N` and `last FROM TO`, the last ask that the limiter refused, or `last none`. The
-//!   limiter answers by the list of `| answers yes no..` and yes behind it, or grants up to the pages of
-//!   `| most N`. With `| counter N` each N-th allocation collects first. Lines `---` cut the script into
-//!   several, which the store runs one after the other, each with unset registers.
+//!   `| unended` the last line has no line feed. With `| folded` lines that stand several times in a row are printed
+//!   once, as `{N*LINE}`.
 //!
 //! In a line of a script `{N*TEXT}` stands for N times the text, `\n` for a line feed and `\r` for a
 //! carriage return. Each line of the table ends with a line feed in the script, where its own text
@@ -33,17 +21,15 @@ mod fault;
 mod runs;
 mod setup;
 mod table;
-mod traced;
 
 use expand::expand_lines;
 use fault::{RunFault, SessionFault};
-use runs::{run_program, run_store};
-use setup::Setup;
+use runs::run_program;
+use setup::ProgramSetup;
 use std::alloc::Global;
 use std::io;
 use std::io::{BufWriter, Write};
-use table::{Sessions, read_table};
-use traced::run_traced;
+use table::{Sessions, TableFault, read_table};
 
 /// Runs the session of a header, and writes what it gives.
 fn run_session<W: Write + Drop>(
@@ -53,20 +39,10 @@ fn run_session<W: Write + Drop>(
     out: &mut W,
 ) -> Result<(), SessionFault> {
     writeln!(out, "{header}")?;
-    match Setup::parse(alloc, header)? {
-        Setup::Program(setup) => {
-            let script = expand_lines(alloc, lines, setup.is_ended)?;
-            run_program(alloc, setup, script.as_str(), out)
-        }
-        Setup::Traced(setup) => {
-            let script = expand_lines(alloc, lines, setup.is_ended)?;
-            run_traced(alloc, setup, script.as_str(), out)
-        }
-        Setup::Store(setup) => {
-            let script = expand_lines(alloc, lines, true)?;
-            run_store(alloc, setup, script.as_str(), out)
-        }
-    }
+    let words = header.strip_prefix('#').ok_or(TableFault::BadHeader)?;
+    let setup = ProgramSetup::parse(alloc, words)?;
+    let script = expand_lines(alloc, lines, setup.is_ended)?;
+    run_program(alloc, setup, script.as_str(), out)
 }
 
 /// Runs the sessions of a script.

@@ -37,7 +37,7 @@ pub(crate) fn read_table(alloc: Global, text: &str) -> Result<Vec<Sessions<'_>>,
         if line.is_empty() || line.starts_with("//") {
             continue;
         }
-        if line.starts_with('#') || line.starts_with('!') || line.starts_with('~') {
+        if line.starts_with('#') {
             add_header(alloc, &mut table, line)?;
         } else {
             add_line(&mut table, line)?;
