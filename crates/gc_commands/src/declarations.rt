@@ -70,7 +70,8 @@ fn read_front(words: &mut Words) -> Option<(bool, Option<u32>)>
 
 /// The word `final`, where it is the next one.
 fn read_final(words: &mut Words) -> bool
-    ensures { MatchBool result (words.old ≡ codes "final" ∷ words.new) ((words.new ≡ words.old) × ((others : List (List ℕ)) → ¬ (words.old ≡ codes "final" ∷ others))) }
+    ensures { MatchBool result (words.old ≡ codes "final" ∷ words.new) ((words.new ≡ words.old) × ((others : List (List ℕ))
+        → ¬ (words.old ≡ codes "final" ∷ others))) }
 {
     match words.ahead().next() {
         Some("final") => {

@@ -7,7 +7,8 @@ ghost use Rattle.std.specs.Prelude.{◌≡◌, ℕ, ◌<◌, ◌^◌, List, [], 
 ghost use Rattle.std.specs.Fmt.{decimal};
 ghost use Rattle.std.specs.List.{AllByRecursion};
 ghost use Rattle.std.specs.Option.{option_map};
-ghost use Rattle.gc_commands.specs.Parts.{FitPlace, FitRegisterAndNumber, FitRegisterAndWide, FitRegisters, FitWrite, ReadsTarget, number_words, pair_words, place_words, write_words};
+ghost use Rattle.gc_commands.specs.Parts.{FitPlace, FitRegisterAndNumber, FitRegisterAndWide, FitRegisters, FitWrite, ReadsTarget, number_words, pair_words};
+ghost use Rattle.gc_commands.specs.Parts.{place_words, write_words};
 ghost use Rattle.gc_commands.specs.Reading.{Reads, ReadsFirst};
 ghost use Rattle.gc_commands.specs.Spelling.{FitsOperand, into_words, type_count};
 ghost use Rattle.gc_commands.specs.Words.{operand_text};

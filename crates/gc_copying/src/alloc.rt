@@ -60,7 +60,9 @@ impl Space {
         requires sound { IsSound self.old }
         requires fits { CanAllocate Copying header size }
         ensures sound { IsSound self.new }
-        ensures allocated { (scopes : ℕ) (kind : VMGcKind) → IsOfKind kind header.kind_word → Allocated Copying (seen_in scopes self.old) (seen_in scopes self.new) (zeroed Copying kind header.type_word (header.kind_word % spare_bits) size) size result }
+        ensures allocated { (scopes : ℕ) (kind : VMGcKind) → IsOfKind kind header.kind_word
+            → Allocated Copying (seen_in scopes self.old) (seen_in scopes self.new)
+            (zeroed Copying kind header.type_word (header.kind_word % spare_bits) size) size result }
     {
         match self.room(u64::from(size)) {
             Room::Fits(block) => Ok(Ok(self.place(header, block))),
@@ -79,7 +81,8 @@ impl Space {
         requires size { first_offset Copying (layout_kind layout.now) ≤ layout.now.size }
         requires traces { LayoutTraces Copying layout.now (first_offset Copying (layout_kind layout.now)) }
         ensures sound { IsSound self.new }
-        ensures allocated { (scopes : ℕ) → Allocated Copying (seen_in scopes self.old) (seen_in scopes self.new) (new_struct Copying ty layout.now) layout.now.size result }
+        ensures allocated { (scopes : ℕ) → Allocated Copying (seen_in scopes self.old) (seen_in scopes self.new)
+            (new_struct Copying ty layout.now) layout.now.size result }
     {
         let trace = struct_trace(layout.fields.as_slice()).encode();
         let header = header_with(kind_of_layout(layout), ty, trace);
@@ -97,7 +100,8 @@ impl Space {
         requires size { array_base Copying ≤ layout.now.base_size }
         requires traces { ArrayTraces Copying layout.now }
         ensures sound { IsSound self.new }
-        ensures allocated { (scopes : ℕ) → Allocated Copying (seen_in scopes self.old) (seen_in scopes self.new) (new_array Copying ty length layout.now) (array_size layout.now length) result }
+        ensures allocated { (scopes : ℕ) → Allocated Copying (seen_in scopes self.old) (seen_in scopes self.new) (new_array Copying ty length layout.now)
+            (array_size layout.now length) result }
     {
         let trace = InlineTraceInfo::Array(layout.elems_are_gc_refs).encode();
         match self.room(array_bytes(layout, length)) {
@@ -121,7 +125,8 @@ impl Space {
     ) -> Result<Result<VMExternRef, u64>, HeapFault>
         requires sound { IsSound self.old }
         ensures sound { IsSound self.new }
-        ensures allocated { (scopes : ℕ) → Allocated Copying (seen_in scopes self.old) (seen_in scopes self.new) (external host_data) (external_size Copying) result }
+        ensures allocated { (scopes : ℕ) → Allocated Copying (seen_in scopes self.old) (seen_in scopes self.new) (external host_data)
+            (external_size Copying) result }
     {
         match self.room(u64::from(external_size(Layouts::Copying))) {
             Room::Fits(block) => {

@@ -85,7 +85,8 @@ pub(crate) fn add_struct<H: GcHeap>(
 fn first_offset<H: GcHeap>(heap: &H, holder: &VMGcRef) -> Option<u32>
     requires copying { H.KIND ≡ Layouts.Copying }
     requires sound { H.sound heap.now }
-    ensures { IfSome result (λ n. (o : HeapObject) → finite.get (H.seen heap.now).content holder.now ≡ Some o → HasFields o.kind × (writable_offset Copying o.kind ≡ n)) }
+    ensures { IfSome result (λ n. (o : HeapObject) → finite.get (H.seen heap.now).content holder.now ≡ Some o
+        → HasFields o.kind × (writable_offset Copying o.kind ≡ n)) }
 {
     if holder.is_structref(heap) {
         return Some(12);

@@ -27,7 +27,8 @@ pub(crate) fn begin<H: GcHeap>(
     requires detached { H.seen heap.old ≡ detached_in 0 }
     requires few { pages ≤ max_pages }
     ensures sound { H.sound heap.new }
-    ensures can { IfOk result (λ (around : Around). CanCollect H.KIND (start_at (H.seen heap.new) around.roots.roots around.types.declarations around.hosts.entries)) }
+    ensures can { IfOk result (λ (around : Around). CanCollect H.KIND
+        (start_at (H.seen heap.new) around.roots.roots around.types.declarations around.hosts.entries)) }
 {
     attach_pages(heap, alloc, pages)?;
     Ok(Around {
@@ -60,9 +61,11 @@ fn count_increments<H: GcHeap, D: Drop>(
     roots: &mut GcRootsList,
     trace: &mut GcStoreTraceState<'_, D>,
 ) -> u64
-    requires { (s : Start) × ((n : ℕ) × ((c : Bool) × H.under_way s n c (stage heap.old state.old roots.old.roots trace.old.types.now.declarations trace.old.host_data_table.now.entries))) }
+    requires { (s : Start) × ((n : ℕ) × ((c : Bool) × H.under_way s n c
+        (stage heap.old state.old roots.old.roots trace.old.types.now.declarations trace.old.host_data_table.now.entries))) }
     ensures sound { H.sound heap.new }
-    ensures collected { (s : Start) (n : ℕ) (c : Bool) → H.under_way s n c (stage heap.old state.old roots.old.roots trace.old.types.now.declarations trace.old.host_data_table.now.entries)
+    ensures collected { (s : Start) (n : ℕ) (c : Bool) → H.under_way s n c
+        (stage heap.old state.old roots.old.roots trace.old.types.now.declarations trace.old.host_data_table.now.entries)
         → Collected H.KIND s (H.seen heap.new) roots.new.roots (has_host trace.new.host_data_table.now.entries) }
     ensures hosts { trace.new.host_data_table.ghost_name ≡ trace.old.host_data_table.ghost_name }
     ensures types { trace.new.types ≡ trace.old.types }

@@ -60,7 +60,13 @@ impl Space {
 impl Marks {
     /// Puts a memory back, which may have grown. Where there was none at all its first bytes are skipped.
     pub(crate) fn with_memory(self, memory: HeapMemory) -> Space
-        ensures space { result ≡ record { memory = memory; upper = self.upper; bump = bump_in_more self.bump (length memory); externals = self.externals; objects = self.objects } }
+        ensures space { result ≡ record {
+          memory = memory;
+          upper = self.upper;
+          bump = bump_in_more self.bump (length memory);
+          externals = self.externals;
+          objects = self.objects;
+        } }
         ensures pages { length memory % 65536 ≡ 0 }
         ensures bound { length memory ≤ page * max_pages }
     {

@@ -74,10 +74,15 @@ impl CopyingHeap {
         trace: &mut GcStoreTraceState<'_, D>,
         steps: &mut Steps<G>,
     ) -> GcProgress
-        requires { (s : Start) × ((n : ℕ) × ((counted : ℕ) × Between s n counted self.old.scopes self.old.backing phase.old roots.old.roots trace.old.types.now.declarations (has_host trace.old.host_data_table.now.entries))) }
-        ensures stepped { (s : Start) (n counted more : ℕ) → Between s n counted self.old.scopes self.old.backing phase.old roots.old.roots trace.old.types.now.declarations (has_host trace.old.host_data_table.now.entries) → steps.new ≡ steps.old + more
-            → Stepped Copying s (n + 1) result (Between s (n + 1) (counted + more) self.new.scopes self.new.backing phase.new roots.new.roots trace.old.types.now.declarations (has_host trace.new.host_data_table.now.entries))
-            (IsCopyingSound self.new × IsStepCount Copying s (counted + more) × Collected Copying s (copying_seen self.new) roots.new.roots (has_host trace.new.host_data_table.now.entries)) }
+        requires { (s : Start) × ((n : ℕ) × ((counted : ℕ) × Between s n counted self.old.scopes self.old.backing phase.old roots.old.roots
+            trace.old.types.now.declarations (has_host trace.old.host_data_table.now.entries))) }
+        ensures stepped { (s : Start) (n counted more : ℕ) → Between s n counted self.old.scopes self.old.backing phase.old roots.old.roots
+            trace.old.types.now.declarations (has_host trace.old.host_data_table.now.entries) → steps.new ≡ steps.old + more
+            → Stepped Copying s (n + 1) result (Between s (n + 1)
+            (counted + more) self.new.scopes self.new.backing phase.new roots.new.roots trace.old.types.now.declarations
+            (has_host trace.new.host_data_table.now.entries))
+            (IsCopyingSound self.new × IsStepCount Copying s (counted + more)
+            × Collected Copying s (copying_seen self.new) roots.new.roots (has_host trace.new.host_data_table.now.entries)) }
         ensures less { result ≡ GcProgress.Continue → left_of phase.new < left_of phase.old }
         ensures rises { steps.old ≤ steps.new }
         ensures spare { roots.new.spare ≡ roots.old.spare }
@@ -109,10 +114,16 @@ impl CopyingHeap {
         requires name { blank.name ≡ L.name }
         requires parts { blank.parts ≡ L.parts }
         requires some { 0 < blank.parts }
-        requires between { (s : Start) × ((n : ℕ) × ((counted : ℕ) × Between s n counted self.old.scopes self.old.backing phase.old roots.old.roots trace.old.types.now.declarations (has_host trace.old.host_data_table.now.entries))) }
-        ensures stepped { (s : Start) (n counted : ℕ) → Between s n counted self.old.scopes self.old.backing phase.old roots.old.roots trace.old.types.now.declarations (has_host trace.old.host_data_table.now.entries)
-            → (more : ℕ) × Stepped Copying s (n + 1) result (Between s (n + 1) (counted + more) self.new.scopes self.new.backing phase.new roots.new.roots trace.old.types.now.declarations (has_host trace.new.host_data_table.now.entries))
-            (IsCopyingSound self.new × IsStepCount Copying s (counted + more) × Collected Copying s (copying_seen self.new) roots.new.roots (has_host trace.new.host_data_table.now.entries)) }
+        requires between { (s : Start) × ((n : ℕ) × ((counted : ℕ)
+            × Between s n counted self.old.scopes self.old.backing phase.old roots.old.roots trace.old.types.now.declarations
+            (has_host trace.old.host_data_table.now.entries))) }
+        ensures stepped { (s : Start) (n counted : ℕ) → Between s n counted self.old.scopes self.old.backing phase.old roots.old.roots
+            trace.old.types.now.declarations (has_host trace.old.host_data_table.now.entries)
+            → (more : ℕ) × Stepped Copying s (n + 1) result (Between s (n + 1)
+            (counted + more) self.new.scopes self.new.backing phase.new roots.new.roots trace.old.types.now.declarations
+            (has_host trace.new.host_data_table.now.entries))
+            (IsCopyingSound self.new × IsStepCount Copying s (counted + more)
+            × Collected Copying s (copying_seen self.new) roots.new.roots (has_host trace.new.host_data_table.now.entries)) }
         ensures less { result ≡ GcProgress.Continue → left_of phase.new < left_of phase.old }
         ensures spare { roots.new.spare ≡ roots.old.spare }
         ensures host_spare { trace.old.host_data_table.now.spare ≤ trace.new.host_data_table.now.spare }

@@ -35,7 +35,8 @@ impl Space {
     /// Where the bytes of an object lie. `BadRef` where they would not lie in the memory.
     pub(crate) fn range(&self, gc_ref: &VMGcRef) -> Result<Range<usize>, RefFault>
         requires { IsSound self.now }
-        ensures range { MatchResult result (λ range. IsRangeAt self.now.memory gc_ref.now range.start range.end) (λ _. In gc_ref.now (places_in self.now.memory self.now.upper self.now.bump) → ⊥) }
+        ensures range { MatchResult result (λ range. IsRangeAt self.now.memory gc_ref.now range.start range.end)
+            (λ _. In gc_ref.now (places_in self.now.memory self.now.upper self.now.bump) → ⊥) }
         ensures number { gc_ref.now % 2 ≡ 1 → IsErr result }
     {
         if gc_ref.is_i31() {
@@ -58,7 +59,9 @@ impl Space {
     fn word_of(&self, gc_ref: &VMGcRef, kind: VMGcKind, offset: u32) -> Result<u32, RefFault>
         requires sound { IsSound self.now }
         requires offset { offset ≤ 16 }
-        ensures word { MatchResult result (λ value. value ≡ word self.now.memory (gc_ref.now + offset)) (λ _. In gc_ref.now (places_in self.now.memory self.now.upper self.now.bump) → kind_at self.now.memory gc_ref.now ≡ kind → offset + 4 ≤ size_at self.now.memory gc_ref.now → ⊥) }
+        ensures word { MatchResult result (λ value. value ≡ word self.now.memory (gc_ref.now + offset))
+            (λ _. In gc_ref.now (places_in self.now.memory self.now.upper self.now.bump) → kind_at self.now.memory gc_ref.now ≡ kind
+            → offset + 4 ≤ size_at self.now.memory gc_ref.now → ⊥) }
         ensures number { gc_ref.now % 2 ≡ 1 → IsErr result }
     {
         match self.range(gc_ref) {
@@ -78,7 +81,8 @@ impl Space {
     /// How many bytes an object takes.
     pub(crate) fn object_size(&self, gc_ref: &VMGcRef) -> Result<usize, RefFault>
         requires { IsSound self.now }
-        ensures held { (object : HeapObject) → finite.get (seen_in 0 self.now).content gc_ref.now ≡ Some object → IsOkAnd result (λ size. size ≡ held_size Copying object) }
+        ensures held { (object : HeapObject) → finite.get (seen_in 0 self.now).content gc_ref.now ≡ Some object
+            → IsOkAnd result (λ size. size ≡ held_size Copying object) }
         ensures number { gc_ref.now % 2 ≡ 1 → IsErr result }
     {
         match self.range(gc_ref) {
@@ -102,7 +106,8 @@ impl Space {
     /// The id of the host value of an external object.
     pub(crate) fn host_data(&self, external: &VMExternRef) -> Result<ExternRefHostDataId, RefFault>
         requires { IsSound self.now }
-        ensures held { (object : HeapObject) → finite.get (seen_in 0 self.now).content external.now ≡ Some object → object.kind ≡ ExternRef → IsOkAnd result (λ id. id + 1 ≡ u32_at object.bytes 0) }
+        ensures held { (object : HeapObject) → finite.get (seen_in 0 self.now).content external.now ≡ Some object → object.kind ≡ ExternRef
+            → IsOkAnd result (λ id. id + 1 ≡ u32_at object.bytes 0) }
         ensures number { external.now % 2 ≡ 1 → IsErr result }
     {
         match self.word_of(
@@ -121,7 +126,8 @@ impl Space {
     /// The length of an array.
     pub(crate) fn array_len(&self, array: &VMArrayRef) -> Result<u32, RefFault>
         requires { IsSound self.now }
-        ensures held { (object : HeapObject) → finite.get (seen_in 0 self.now).content array.now ≡ Some object → object.kind ≡ ArrayRef → IsOkAnd result (λ count. count ≡ array_length object) }
+        ensures held { (object : HeapObject) → finite.get (seen_in 0 self.now).content array.now ≡ Some object → object.kind ≡ ArrayRef
+            → IsOkAnd result (λ count. count ≡ array_length object) }
         ensures number { array.now % 2 ≡ 1 → IsErr result }
     {
         self.word_of(
@@ -150,7 +156,8 @@ impl Space {
         requires sound { IsSound self.old }
         requires inside { IsWritable Copying (seen_in 0 self.old) gc_ref.now offset (length bytes.now) }
         ensures sound { IsSound self.new }
-        ensures seen { (scopes : ℕ) (object : HeapObject) → finite.get (seen_in 0 self.old).content gc_ref.now ≡ Some object → seen_in scopes self.new ≡ put_object (seen_in scopes self.old) gc_ref.now (with_data Copying object offset bytes.now) }
+        ensures seen { (scopes : ℕ) (object : HeapObject) → finite.get (seen_in 0 self.old).content gc_ref.now ≡ Some object
+            → seen_in scopes self.new ≡ put_object (seen_in scopes self.old) gc_ref.now (with_data Copying object offset bytes.now) }
     {
         self.memory
             .write_bytes(gc_ref.as_raw_u32() as usize + offset as usize, bytes);

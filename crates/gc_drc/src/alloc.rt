@@ -46,7 +46,9 @@ impl CountedSpace {
         requires sound { IsSoundSpace self.old }
         requires fits { CanAllocate Counting header size }
         ensures sound { IsSoundSpace self.new }
-        ensures allocated { (scopes : ℕ) (kind : VMGcKind) → IsOfKind kind header.kind_word → Allocated Counting (seen_in scopes self.old) (seen_in scopes self.new) (zeroed Counting kind header.type_word (header.kind_word % spare_bits) size) size result }
+        ensures allocated { (scopes : ℕ) (kind : VMGcKind) → IsOfKind kind header.kind_word
+            → Allocated Counting (seen_in scopes self.old) (seen_in scopes self.new)
+            (zeroed Counting kind header.type_word (header.kind_word % spare_bits) size) size result }
     {
         self.make(header, u64::from(size))
     }
@@ -60,7 +62,8 @@ impl CountedSpace {
         requires sound { IsSoundSpace self.old }
         requires size { first_offset Counting (layout_kind layout.now) ≤ layout.now.size }
         ensures sound { IsSoundSpace self.new }
-        ensures allocated { (scopes : ℕ) → Allocated Counting (seen_in scopes self.old) (seen_in scopes self.new) (new_struct Counting ty layout.now) layout.now.size result }
+        ensures allocated { (scopes : ℕ) → Allocated Counting (seen_in scopes self.old) (seen_in scopes self.new)
+            (new_struct Counting ty layout.now) layout.now.size result }
     {
         let header = VMGcHeader::from_kind_and_index(kind_of_layout(layout), ty);
         self.alloc_raw(header, layout.size)
@@ -76,7 +79,8 @@ impl CountedSpace {
         requires sound { IsSoundSpace self.old }
         requires size { array_base Counting ≤ layout.now.base_size }
         ensures sound { IsSoundSpace self.new }
-        ensures allocated { (scopes : ℕ) → Allocated Counting (seen_in scopes self.old) (seen_in scopes self.new) (new_array Counting ty length layout.now) (array_size layout.now length) result }
+        ensures allocated { (scopes : ℕ) → Allocated Counting (seen_in scopes self.old) (seen_in scopes self.new) (new_array Counting ty length layout.now)
+            (array_size layout.now length) result }
     {
         let header = VMGcHeader::from_kind_and_index(VMGcKind::ArrayRef, ty);
         match self.make(header, array_bytes(layout, length)) {
@@ -98,7 +102,8 @@ impl CountedSpace {
     ) -> Result<Result<VMExternRef, u64>, HeapFault>
         requires sound { IsSoundSpace self.old }
         ensures sound { IsSoundSpace self.new }
-        ensures allocated { (scopes : ℕ) → Allocated Counting (seen_in scopes self.old) (seen_in scopes self.new) (external host_data) (external_size Counting) result }
+        ensures allocated { (scopes : ℕ) → Allocated Counting (seen_in scopes self.old) (seen_in scopes self.new) (external host_data)
+            (external_size Counting) result }
     {
         let size = external_size(Layouts::Counting);
         match self.make(VMGcHeader::externref(), u64::from(size)) {

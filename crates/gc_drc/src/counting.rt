@@ -57,7 +57,8 @@ impl CountedSpace {
     fn enqueue(&mut self, place: u32)
         requires room { place + 28 ≤ length self.old.memory }
         requires apart { word self.old.memory place % 8 < 4 }
-        ensures sets { Sets self.old.memory self.new.memory place (word self.old.memory place + 4) (count_at self.old.memory place) (word self.old.memory (place + 16)) self.old.queued }
+        ensures sets { Sets self.old.memory self.new.memory place (word self.old.memory place + 4) (count_at self.old.memory place)
+            (word self.old.memory (place + 16)) self.old.queued }
         ensures rest { self.new ≡ record self.old { memory = self.new.memory; queued = place } }
     {
         self.set_link(place, self.queued);
@@ -70,7 +71,8 @@ impl CountedSpace {
     fn push_shown(&mut self, place: u32)
         requires room { place + 28 ≤ length self.old.memory }
         requires apart { word self.old.memory place % 4 < 2 }
-        ensures sets { Sets self.old.memory self.new.memory place (word self.old.memory place + 2) (count_at self.old.memory place) self.old.shown (word self.old.memory (place + 24)) }
+        ensures sets { Sets self.old.memory self.new.memory place (word self.old.memory place + 2) (count_at self.old.memory place) self.old.shown
+            (word self.old.memory (place + 24)) }
         ensures rest { self.new ≡ record self.old { memory = self.new.memory; shown = place } }
     {
         self.set_next_shown(place, self.shown);

@@ -45,7 +45,16 @@ impl CountedSpace {
 
     /// Takes the memory out.
     pub(crate) fn into_memory(self) -> (HeapMemory, Marks)
-        ensures { result ≡ (self.memory, record { free = self.free; shown = self.shown; queued = self.queued; objects = self.objects; allocated = self.allocated }) }
+        ensures { result ≡ (
+          self.memory,
+          record {
+            free = self.free;
+            shown = self.shown;
+            queued = self.queued;
+            objects = self.objects;
+            allocated = self.allocated;
+          },
+        ) }
     {
         let marks = Marks {
             free: self.free,
@@ -61,7 +70,14 @@ impl CountedSpace {
 impl Marks {
     /// Puts a memory back, which has so many new bytes at its end.
     pub(crate) fn with_memory(self, memory: HeapMemory, grown: u64) -> CountedSpace
-        ensures space { result ≡ record { memory = memory; free = result.free; shown = self.shown; queued = self.queued; objects = self.objects; allocated = self.allocated } }
+        ensures space { result ≡ record {
+          memory = memory;
+          free = result.free;
+          shown = self.shown;
+          queued = self.queued;
+          objects = self.objects;
+          allocated = self.allocated;
+        } }
         ensures grown { result.free.space ≡ grow grown self.free.space }
         ensures sound { IsSound result.free.space }
         ensures pages { length memory % page ≡ 0 }

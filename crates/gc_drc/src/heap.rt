@@ -127,9 +127,12 @@ impl DrcHeap {
         roots: &GcRootsList,
         trace: &mut GcStoreTraceState<'_, D>,
     ) -> GcProgress
-        requires { (s : Start) × ((n : ℕ) × Between s n self.old.scopes self.old.backing phase.old roots.now.roots trace.old.types.now.declarations (has_host trace.old.host_data_table.now.entries)) }
-        ensures stepped { (s : Start) (n : ℕ) → Between s n self.old.scopes self.old.backing phase.old roots.now.roots trace.old.types.now.declarations (has_host trace.old.host_data_table.now.entries)
-            → Stepped Counting s (n + 1) result (Between s (n + 1) self.new.scopes self.new.backing phase.new roots.now.roots trace.old.types.now.declarations (has_host trace.new.host_data_table.now.entries))
+        requires { (s : Start) × ((n : ℕ) × Between s n self.old.scopes self.old.backing phase.old roots.now.roots trace.old.types.now.declarations
+            (has_host trace.old.host_data_table.now.entries)) }
+        ensures stepped { (s : Start) (n : ℕ) → Between s n self.old.scopes self.old.backing phase.old roots.now.roots trace.old.types.now.declarations
+            (has_host trace.old.host_data_table.now.entries)
+            → Stepped Counting s (n + 1) result (Between s (n + 1) self.new.scopes self.new.backing phase.new roots.now.roots trace.old.types.now.declarations
+            (has_host trace.new.host_data_table.now.entries))
             (IsDrcSound self.new × Collected Counting s (drc_seen self.new) roots.now.roots (has_host trace.new.host_data_table.now.entries)) }
         ensures less { result ≡ GcProgress.Continue → left_of phase.new < left_of phase.old }
         ensures host_spare { trace.old.host_data_table.now.spare ≤ trace.new.host_data_table.now.spare }
@@ -154,10 +157,13 @@ impl DrcHeap {
         roots: &GcRootsList,
         trace: &mut GcStoreTraceState<'_, D>,
     )
-        requires { (s : Start) × HasDone s 0 self.old state.old roots.now.roots trace.old.types.now.declarations (has_host trace.old.host_data_table.now.entries) }
-        ensures under_way { (s : Start) → HasDone s 0 self.old state.old roots.now.roots trace.old.types.now.declarations (has_host trace.old.host_data_table.now.entries)
+        requires { (s : Start) × HasDone s 0 self.old state.old roots.now.roots trace.old.types.now.declarations
+            (has_host trace.old.host_data_table.now.entries) }
+        ensures under_way { (s : Start) → HasDone s 0 self.old state.old roots.now.roots trace.old.types.now.declarations
+            (has_host trace.old.host_data_table.now.entries)
             → HasDone s 2 self.new state.new roots.now.roots trace.old.types.now.declarations (has_host trace.new.host_data_table.now.entries) }
-        ensures gone { (s : Start) → HasDone s 0 self.old state.old roots.now.roots trace.old.types.now.declarations (has_host trace.old.host_data_table.now.entries)
+        ensures gone { (s : Start) → HasDone s 0 self.old state.old roots.now.roots trace.old.types.now.declarations
+            (has_host trace.old.host_data_table.now.entries)
             → UnheldGone s (drc_seen self.new) (has_host trace.new.host_data_table.now.entries) }
         ensures sound { IsDrcSound self.new }
         ensures host_spare { trace.old.host_data_table.now.spare ≤ trace.new.host_data_table.now.spare }
@@ -407,7 +413,8 @@ impl GcHeap for DrcHeap {
     fn heap_slice(&self) -> &[u8]
         requires { IsDrcSound self.now }
         ensures size { length result.now ≡ (drc_seen self.now).capacity }
-        ensures objects { (place : ℕ) (object : HeapObject) → finite.get (drc_seen self.now).content place ≡ Some object → IsObjectData Counting object (take (held_size Counting object) (drop place result.now)) }
+        ensures objects { (place : ℕ) (object : HeapObject) → finite.get (drc_seen self.now).content place ≡ Some object
+            → IsObjectData Counting object (take (held_size Counting object) (drop place result.now)) }
         ensures counts { (place n : ℕ) → finite.get (drc_seen self.now).counts.counted place ≡ Some n → ShowsCount (drc_seen self.now) result.now place n }
         ensures lists { ThreadsLists (drc_seen self.now) result.now }
     {

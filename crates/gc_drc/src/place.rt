@@ -108,7 +108,11 @@ impl CountedSpace {
     pub(crate) fn place(&mut self, header: VMGcHeader, block: NewBlock) -> VMGcRef
         requires { CanPlace self.old block.place block.size }
         ensures place { result ≡ block.place }
-        ensures moved { self.new ≡ record self.old { memory = self.new.memory; objects = self.old.objects + 1; allocated = self.old.allocated + block_of block.size } }
+        ensures moved { self.new ≡ record self.old {
+          memory = self.new.memory;
+          objects = self.old.objects + 1;
+          allocated = self.old.allocated + block_of block.size;
+        } }
         ensures block { WritesBlock self.old.memory self.new.memory block.place header block.size }
     {
         write_block(&mut self.memory, block.place, header, block.size);

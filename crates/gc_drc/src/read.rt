@@ -37,7 +37,8 @@ impl CountedSpace {
     /// Where the bytes of an object lie. `BadRef` where they would not lie in the memory.
     pub(crate) fn range(&self, gc_ref: &VMGcRef) -> Result<Range<usize>, RefFault>
         requires { IsSoundSpace self.now }
-        ensures range { MatchResult result (λ range. IsRangeAt self.now.memory gc_ref.now range.start range.end) (λ _. In gc_ref.now (places_of self.now.free.space.held) → ⊥) }
+        ensures range { MatchResult result (λ range. IsRangeAt self.now.memory gc_ref.now range.start range.end)
+            (λ _. In gc_ref.now (places_of self.now.free.space.held) → ⊥) }
         ensures number { gc_ref.now % 2 ≡ 1 → IsErr result }
     {
         if gc_ref.is_i31() {
@@ -61,7 +62,8 @@ impl CountedSpace {
     fn word_of(&self, gc_ref: &VMGcRef, kind: VMGcKind, offset: u32) -> Result<u32, RefFault>
         requires sound { IsSoundSpace self.now }
         requires offset { offset ≤ 28 }
-        ensures word { MatchResult result (λ value. value ≡ word self.now.memory (gc_ref.now + offset)) (λ _. In gc_ref.now (places_of self.now.free.space.held) → kind_at self.now.memory gc_ref.now ≡ kind → offset + 4 ≤ size_at self.now.memory gc_ref.now → ⊥) }
+        ensures word { MatchResult result (λ value. value ≡ word self.now.memory (gc_ref.now + offset)) (λ _. In gc_ref.now (places_of self.now.free.space.held)
+            → kind_at self.now.memory gc_ref.now ≡ kind → offset + 4 ≤ size_at self.now.memory gc_ref.now → ⊥) }
         ensures number { gc_ref.now % 2 ≡ 1 → IsErr result }
     {
         match self.range(gc_ref) {
@@ -81,7 +83,8 @@ impl CountedSpace {
     /// How many bytes an object takes.
     pub(crate) fn object_size(&self, gc_ref: &VMGcRef) -> Result<usize, RefFault>
         requires { IsSoundSpace self.now }
-        ensures held { (object : HeapObject) → finite.get (seen_in 0 self.now).content gc_ref.now ≡ Some object → IsOkAnd result (λ size. size ≡ held_size Counting object) }
+        ensures held { (object : HeapObject) → finite.get (seen_in 0 self.now).content gc_ref.now ≡ Some object
+            → IsOkAnd result (λ size. size ≡ held_size Counting object) }
         ensures number { gc_ref.now % 2 ≡ 1 → IsErr result }
     {
         match self.range(gc_ref) {
@@ -105,7 +108,8 @@ impl CountedSpace {
     /// The id of the host value of an external object.
     pub(crate) fn host_data(&self, external: &VMExternRef) -> Result<ExternRefHostDataId, RefFault>
         requires { IsSoundSpace self.now }
-        ensures held { (object : HeapObject) → finite.get (seen_in 0 self.now).content external.now ≡ Some object → object.kind ≡ ExternRef → IsOkAnd result (λ id. id + 1 ≡ u32_at object.bytes 0) }
+        ensures held { (object : HeapObject) → finite.get (seen_in 0 self.now).content external.now ≡ Some object → object.kind ≡ ExternRef
+            → IsOkAnd result (λ id. id + 1 ≡ u32_at object.bytes 0) }
         ensures number { external.now % 2 ≡ 1 → IsErr result }
     {
         match self.word_of(
@@ -124,7 +128,8 @@ impl CountedSpace {
     /// The length of an array.
     pub(crate) fn array_len(&self, array: &VMArrayRef) -> Result<u32, RefFault>
         requires { IsSoundSpace self.now }
-        ensures held { (object : HeapObject) → finite.get (seen_in 0 self.now).content array.now ≡ Some object → object.kind ≡ ArrayRef → IsOkAnd result (λ count. count ≡ array_length object) }
+        ensures held { (object : HeapObject) → finite.get (seen_in 0 self.now).content array.now ≡ Some object → object.kind ≡ ArrayRef
+            → IsOkAnd result (λ count. count ≡ array_length object) }
         ensures number { array.now % 2 ≡ 1 → IsErr result }
     {
         self.word_of(
@@ -137,7 +142,8 @@ impl CountedSpace {
     /// Lends the bytes of an object for reading.
     pub(crate) fn object_data(&self, gc_ref: &VMGcRef) -> Result<VMGcObjectData<'_>, RefFault>
         requires { IsSoundSpace self.now }
-        ensures held { (object : HeapObject) → finite.get (seen_in 0 self.now).content gc_ref.now ≡ Some object → IsOkAnd result (IsObjectData Counting object) }
+        ensures held { (object : HeapObject) → finite.get (seen_in 0 self.now).content gc_ref.now ≡ Some object
+            → IsOkAnd result (IsObjectData Counting object) }
         ensures number { gc_ref.now % 2 ≡ 1 → IsErr result }
     {
         match self.range(gc_ref) {

@@ -24,7 +24,8 @@ pub(crate) fn make_struct<H: GcHeap>(
     requires plain { layout.now.is_exception ≡ false }
     requires size { 28 ≤ layout.now.size }
     ensures sound { H.sound heap.new }
-    ensures made { IfOk result (λ (place : ℕ). AddsObject Counting (H.seen heap.old) (H.seen heap.new) place (new_struct Counting ty layout.now) layout.now.size) }
+    ensures made { IfOk result (λ (place : ℕ). AddsObject Counting (H.seen heap.old) (H.seen heap.new) place
+        (new_struct Counting ty layout.now) layout.now.size) }
 {
     match heap.alloc_uninit_struct_or_exn(ty, layout)? {
         Ok(object) => Ok(object),
@@ -45,7 +46,10 @@ pub(crate) fn make_cycle<H: GcHeap>(
     requires plain { layout.now.is_exception ≡ false }
     requires size { layout.now.size ≡ 32 }
     ensures sound { H.sound heap.new }
-    ensures made { OnOk result ((place : ℕ) × ((place < 2 ^ 32) × (H.seen heap.new ≡ put_object (with_object Layouts.Counting (empty_heap Layouts.Counting 65536 0) place (new_struct Layouts.Counting ty layout.now) layout.now.size) place (with_data Layouts.Counting (new_struct Layouts.Counting ty layout.now) 28 (unsigned_bytes w32 place))))) }
+    ensures made { OnOk result ((place : ℕ) × ((place < 2 ^ 32)
+        × (H.seen heap.new ≡ put_object (with_object Layouts.Counting (empty_heap Layouts.Counting 65536 0) place
+        (new_struct Layouts.Counting ty layout.now) layout.now.size) place
+        (with_data Layouts.Counting (new_struct Layouts.Counting ty layout.now) 28 (unsigned_bytes w32 place))))) }
 {
     let object = make_struct(heap, ty, layout)?;
     write_u32(heap, &object, 28, object.as_raw_u32());

@@ -49,7 +49,8 @@ fn make_garbage<H: GcHeap>(heap: &mut H, alloc: Global) -> Result<Types, Fail>
     requires sound { H.sound heap.old }
     requires detached { H.seen heap.old ≡ detached_in 0 }
     ensures sound { H.sound heap.new }
-    ensures can { IfOk result (λ (types : Types). (hosts : ℕ → Bool) → CanCollect Counting (record { heap = H.seen heap.new; roots = []; types = types.declarations; hosts = hosts })) }
+    ensures can { IfOk result (λ (types : Types). (hosts : ℕ → Bool)
+        → CanCollect Counting (record { heap = H.seen heap.new; roots = []; types = types.declarations; hosts = hosts })) }
 {
     attach_first(heap, alloc)?;
     let mut types = Types::new(alloc, 1, 1);

@@ -22,7 +22,8 @@ impl CountedSpace {
         requires sound { IsSoundSpace self.old }
         requires inside { IsWritable Counting (seen_in 0 self.old) gc_ref.now offset (length bytes.now) }
         ensures sound { IsSoundSpace self.new }
-        ensures seen { (scopes : ℕ) (object : HeapObject) → finite.get (seen_in 0 self.old).content gc_ref.now ≡ Some object → seen_in scopes self.new ≡ put_object (seen_in scopes self.old) gc_ref.now (with_data Counting object offset bytes.now) }
+        ensures seen { (scopes : ℕ) (object : HeapObject) → finite.get (seen_in 0 self.old).content gc_ref.now ≡ Some object
+            → seen_in scopes self.new ≡ put_object (seen_in scopes self.old) gc_ref.now (with_data Counting object offset bytes.now) }
     {
         self.memory
             .write_bytes(gc_ref.as_raw_u32() as usize + offset as usize, bytes);
@@ -38,7 +39,9 @@ impl CountedSpace {
         requires named { (scopes : ℕ) × IsNamed (seen_in scopes self.old) gc_ref.now }
         requires same { (object : HeapObject) → finite.get (seen_in 0 self.old).content gc_ref.now ≡ Some object → IsSameHeader object header }
         ensures sound { IsSoundSpace self.new }
-        ensures held { (scopes : ℕ) (object : HeapObject) → finite.get (seen_in 0 self.old).content gc_ref.now ≡ Some object → IsOk result × (seen_in scopes self.new ≡ put_object (seen_in scopes self.old) gc_ref.now (with_spare_of Counting object (header.kind_word % spare_bits))) }
+        ensures held { (scopes : ℕ) (object : HeapObject) → finite.get (seen_in 0 self.old).content gc_ref.now ≡ Some object
+            → IsOk result × (seen_in scopes self.new ≡ put_object (seen_in scopes self.old) gc_ref.now
+            (with_spare_of Counting object (header.kind_word % spare_bits))) }
         ensures number { gc_ref.now % 2 ≡ 1 → IsErr result × (self.new ≡ self.old) }
     {
         if gc_ref.is_i31() {

@@ -106,7 +106,8 @@ pub fn run_counted<H: GcHeap, D: Drop, G: Ledger>(
     ensures sound { H.sound heap.new }
     ensures collected { Collected H.KIND (start_at (H.seen heap.old) roots.old.roots trace.old.types.now.declarations trace.old.host_data_table.now.entries)
         (H.seen heap.new) roots.new.roots (has_host trace.new.host_data_table.now.entries) }
-    ensures counted { IsRise (IsStepCount H.KIND (start_at (H.seen heap.old) roots.old.roots trace.old.types.now.declarations trace.old.host_data_table.now.entries)) steps.old steps.new }
+    ensures counted { IsRise (IsStepCount H.KIND (start_at
+        (H.seen heap.old) roots.old.roots trace.old.types.now.declarations trace.old.host_data_table.now.entries)) steps.old steps.new }
     ensures spare { roots.new.spare ≡ roots.old.spare }
     ensures host_spare { trace.old.host_data_table.now.spare ≤ trace.new.host_data_table.now.spare }
     ensures values { IsPartOf trace.new.host_data_table.now.entries trace.old.host_data_table.now.entries }

@@ -44,7 +44,8 @@ pub enum HeapFault {
 /// and the external objects that it held, or in what a counting heap holds, beside giving back what
 /// that one frees; in a null heap it is constant.
 pub trait GcHeap {
-    ghost use Rattle.std.specs.Prelude.{ℕ, ◌≡◌, ◌≤◌, ◌<◌, ◌⊎◌, ◌%◌, ◌-◌, ◌+◌, ◌^◌, ◌++◌, Bool, true, false, List, length, take, drop, replicate, OnOk, OnErr, IfErr, IsOkAnd, IsErr, IsOk, Some};
+    ghost use Rattle.std.specs.Prelude.{ℕ, ◌≡◌, ◌≤◌, ◌<◌, ◌⊎◌, ◌%◌, ◌-◌, ◌+◌, ◌^◌, ◌++◌, Bool, true, false, List, length, take, drop, replicate, OnOk, OnErr};
+    ghost use Rattle.std.specs.Prelude.{IfErr, IsOkAnd, IsErr, IsOk, Some};
     ghost use Rattle.std.specs.Ordering.{nat_cmp};
     ghost use Rattle.std.specs.Option.{option_copied};
     ghost use Rattle.std.specs.FinMap as finite;
@@ -64,7 +65,8 @@ pub trait GcHeap {
     ghost use Rattle.gc_heap.specs.Objects.{held_size, first_offset, array_length, external, zeroed, HasFields, IsHeaderOf, IsObjectData};
     ghost use Rattle.gc_heap.specs.Rules.{SpareFits, LayoutTraces, ArrayTraces};
     ghost use Rattle.gc_heap.specs.Content.{IsHeld, IsHeap};
-    ghost use Rattle.gc_heap.specs.Heap.{empty_heap, grown, Allocated, layout_kind, new_struct, new_array, array_size, given_back, IsWritable, with_data, put_object, with_spare_of, CanAllocate, CanGiveBack, IsStructOrExn, IsArray, IsSameHeader};
+    ghost use Rattle.gc_heap.specs.Heap.{empty_heap, grown, Allocated, layout_kind, new_struct, new_array, array_size, given_back, IsWritable, with_data};
+    ghost use Rattle.gc_heap.specs.Heap.{put_object, with_spare_of, CanAllocate, CanGiveBack, IsStructOrExn, IsArray, IsSameHeader};
     ghost use Rattle.gc_heap.specs.Barriers.{ShowsCount, CanName, CanUnname, CanNameSlot, CanUnnameSlot, IsNamed, cloned, dropped, exposed, overwritten};
     ghost use Rattle.gc_heap.specs.Collection.{Start, Stage, stage, IsUnderWay, has_host, IsPartOf, CanCollect, Collected, Stepped, IsStepCount};
 
@@ -145,9 +147,11 @@ pub trait GcHeap {
     /// Gives the memory back that was taken, with that many new bytes behind its old ones. All
     /// objects stay.
     fn replace_memory(&mut self, memory: HeapMemory, delta_bytes_grown: u64)
-        requires taken { (view : HeapView) × ((bytes : List ℕ) × (taken self.old view bytes × (memory ≡ bytes ++ replicate delta_bytes_grown 0) × ((delta_bytes_grown ≡ 0) ⊎ (view.needs_gc ≡ false)))) }
+        requires taken { (view : HeapView) × ((bytes : List ℕ) × (taken self.old view bytes × (memory ≡ bytes ++ replicate delta_bytes_grown 0)
+            × ((delta_bytes_grown ≡ 0) ⊎ (view.needs_gc ≡ false)))) }
         ensures sound { sound self.new }
-        ensures seen { (view : HeapView) (bytes : List ℕ) → taken self.old view bytes → memory ≡ bytes ++ replicate delta_bytes_grown 0 → seen self.new ≡ grown KIND view delta_bytes_grown };
+        ensures seen { (view : HeapView) (bytes : List ℕ) → taken self.old view bytes → memory ≡ bytes ++ replicate delta_bytes_grown 0
+            → seen self.new ≡ grown KIND view delta_bytes_grown };
 
     // Scopes in which no collection may begin
 
@@ -213,7 +217,8 @@ pub trait GcHeap {
         requires attached { (seen self.old).attached ≡ true }
         requires fits { CanAllocate KIND header size }
         ensures sound { sound self.new }
-        ensures allocated { (kind : VMGcKind) → IsOfKind kind header.kind_word → Allocated KIND (seen self.old) (seen self.new) (zeroed KIND kind header.type_word (header.kind_word % spare_bits) size) size result };
+        ensures allocated { (kind : VMGcKind) → IsOfKind kind header.kind_word
+            → Allocated KIND (seen self.old) (seen self.new) (zeroed KIND kind header.type_word (header.kind_word % spare_bits) size) size result };
 
     /// Allocates an external object for that host value.
     fn alloc_externref(
@@ -258,21 +263,24 @@ pub trait GcHeap {
         requires sound { sound self.old }
         requires held { CanGiveBack (seen self.old) gc_ref IsStructOrExn }
         ensures sound { sound self.new }
-        ensures seen { (object : HeapObject) → finite.get (seen self.old).content gc_ref ≡ Some object → seen self.new ≡ given_back KIND (seen self.old) gc_ref object };
+        ensures seen { (object : HeapObject) → finite.get (seen self.old).content gc_ref ≡ Some object
+            → seen self.new ≡ given_back KIND (seen self.old) gc_ref object };
 
     /// Gives back an array that nothing names.
     fn dealloc_uninit_array(&mut self, array: VMArrayRef)
         requires sound { sound self.old }
         requires held { CanGiveBack (seen self.old) array IsArray }
         ensures sound { sound self.new }
-        ensures seen { (object : HeapObject) → finite.get (seen self.old).content array ≡ Some object → seen self.new ≡ given_back KIND (seen self.old) array object };
+        ensures seen { (object : HeapObject) → finite.get (seen self.old).content array ≡ Some object
+            → seen self.new ≡ given_back KIND (seen self.old) array object };
 
     // Reading and writing
 
     /// The id of the host value of an external object.
     fn externref_host_data(&self, r: &VMExternRef) -> Result<ExternRefHostDataId, RefFault>
         requires { sound self.now }
-        ensures held { (object : HeapObject) → finite.get (seen self.now).content r.now ≡ Some object → object.kind ≡ ExternRef → IsOkAnd result (λ id. id + 1 ≡ u32_at object.bytes 0) }
+        ensures held { (object : HeapObject) → finite.get (seen self.now).content r.now ≡ Some object → object.kind ≡ ExternRef
+            → IsOkAnd result (λ id. id + 1 ≡ u32_at object.bytes 0) }
         ensures number { r.now % 2 ≡ 1 → IsErr result };
 
     /// The header of an object.
@@ -288,7 +296,8 @@ pub trait GcHeap {
         requires named { IsNamed (seen self.old) r.now }
         requires same { (object : HeapObject) → finite.get (seen self.old).content r.now ≡ Some object → IsSameHeader object header }
         ensures sound { sound self.new }
-        ensures held { (object : HeapObject) → finite.get (seen self.old).content r.now ≡ Some object → IsOk result × (seen self.new ≡ put_object (seen self.old) r.now (with_spare_of KIND object (header.kind_word % spare_bits))) }
+        ensures held { (object : HeapObject) → finite.get (seen self.old).content r.now ≡ Some object
+            → IsOk result × (seen self.new ≡ put_object (seen self.old) r.now (with_spare_of KIND object (header.kind_word % spare_bits))) }
         ensures number { r.now % 2 ≡ 1 → IsErr result × (seen self.new ≡ seen self.old) };
 
     /// The bytes of an object, its header and the heap's own words among them; in a copying heap
@@ -301,13 +310,15 @@ pub trait GcHeap {
     /// Where the bytes of an object lie in the heap's bytes.
     fn object_range(&self, r: &VMGcRef) -> Result<Range<usize>, RefFault>
         requires { sound self.now }
-        ensures held { (object : HeapObject) → finite.get (seen self.now).content r.now ≡ Some object → IsOkAnd result (λ range. (range.start ≡ r.now) × (range.end ≡ r.now + held_size KIND object)) }
+        ensures held { (object : HeapObject) → finite.get (seen self.now).content r.now ≡ Some object
+            → IsOkAnd result (λ range. (range.start ≡ r.now) × (range.end ≡ r.now + held_size KIND object)) }
         ensures number { r.now % 2 ≡ 1 → IsErr result };
 
     /// The length of an array.
     fn array_len(&self, r: &VMArrayRef) -> Result<u32, RefFault>
         requires { sound self.now }
-        ensures held { (object : HeapObject) → finite.get (seen self.now).content r.now ≡ Some object → object.kind ≡ ArrayRef → IsOkAnd result (λ count. count ≡ array_length object) }
+        ensures held { (object : HeapObject) → finite.get (seen self.now).content r.now ≡ Some object → object.kind ≡ ArrayRef
+            → IsOkAnd result (λ count. count ≡ array_length object) }
         ensures number { r.now % 2 ≡ 1 → IsErr result };
 
     /// Lends the bytes of an object for reading.
@@ -323,13 +334,15 @@ pub trait GcHeap {
         requires sound { sound self.old }
         requires inside { IsWritable KIND (seen self.old) r.now offset (length bytes.now) }
         ensures sound { sound self.new }
-        ensures seen { (object : HeapObject) → finite.get (seen self.old).content r.now ≡ Some object → seen self.new ≡ put_object (seen self.old) r.now (with_data KIND object offset bytes.now) };
+        ensures seen { (object : HeapObject) → finite.get (seen self.old).content r.now ≡ Some object
+            → seen self.new ≡ put_object (seen self.old) r.now (with_data KIND object offset bytes.now) };
 
     /// All bytes of the heap's memory; none where it isn't attached.
     fn heap_slice(&self) -> &[u8]
         requires { sound self.now }
         ensures size { length result.now ≡ (seen self.now).capacity }
-        ensures objects { (place : ℕ) (object : HeapObject) → finite.get (seen self.now).content place ≡ Some object → IsObjectData KIND object (take (held_size KIND object) (drop place result.now)) }
+        ensures objects { (place : ℕ) (object : HeapObject) → finite.get (seen self.now).content place ≡ Some object
+            → IsObjectData KIND object (take (held_size KIND object) (drop place result.now)) }
         ensures counts { (place n : ℕ) → finite.get (seen self.now).counts.counted place ≡ Some n → ShowsCount (seen self.now) result.now place n };
 
     // Numbers
@@ -396,7 +409,8 @@ pub trait GcHeap {
             → under_way s n c (stage self.old state.old roots.old.roots trace.old.types.now.declarations trace.old.host_data_table.now.entries)
             → Stepped KIND s (n + 1) result
             (under_way s (n + 1) c (stage self.new state.new roots.new.roots trace.old.types.now.declarations trace.new.host_data_table.now.entries))
-            (sound self.new × (c ≡ true → IsStepCount KIND s (ticks state.new)) × Collected KIND s (seen self.new) roots.new.roots (has_host trace.new.host_data_table.now.entries)) }
+            (sound self.new × (c ≡ true → IsStepCount KIND s (ticks state.new))
+            × Collected KIND s (seen self.new) roots.new.roots (has_host trace.new.host_data_table.now.entries)) }
         ensures less { result ≡ GcProgress.Continue → left self.new state.new < left self.old state.old }
         ensures ticks { ticks state.new + steps.old ≡ ticks state.old + steps.new }
         ensures rises { steps.old ≤ steps.new }

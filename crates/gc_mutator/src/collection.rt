@@ -15,11 +15,14 @@ fn count_increments<H: GcHeap, D: Drop>(
     roots: &mut GcRootsList,
     trace: &mut GcStoreTraceState<'_, D>,
 ) -> u64
-    requires { (s : Start) × ((c : Bool) × H.under_way s 0 c (stage heap.old state.old roots.old.roots trace.old.types.now.declarations trace.old.host_data_table.now.entries)) }
+    requires { (s : Start) × ((c : Bool) × H.under_way s 0 c
+        (stage heap.old state.old roots.old.roots trace.old.types.now.declarations trace.old.host_data_table.now.entries)) }
     ensures sound { H.sound heap.new }
-    ensures collected { (s : Start) (c : Bool) → H.under_way s 0 c (stage heap.old state.old roots.old.roots trace.old.types.now.declarations trace.old.host_data_table.now.entries)
+    ensures collected { (s : Start) (c : Bool) → H.under_way s 0 c
+        (stage heap.old state.old roots.old.roots trace.old.types.now.declarations trace.old.host_data_table.now.entries)
         → Collected H.KIND s (H.seen heap.new) roots.new.roots (has_host trace.new.host_data_table.now.entries) }
-    ensures increments { (s : Start) (c : Bool) → H.under_way s 0 c (stage heap.old state.old roots.old.roots trace.old.types.now.declarations trace.old.host_data_table.now.entries)
+    ensures increments { (s : Start) (c : Bool) → H.under_way s 0 c
+        (stage heap.old state.old roots.old.roots trace.old.types.now.declarations trace.old.host_data_table.now.entries)
         → (n : ℕ) × (IsIncrements H.KIND s n × (result ≡ min n (2 ^ 64 - 1))) }
     ensures values { IsPartOf trace.new.host_data_table.now.entries trace.old.host_data_table.now.entries }
     ensures hosts { trace.new.host_data_table.ghost_name ≡ trace.old.host_data_table.ghost_name }

@@ -1,6 +1,7 @@
 //! Fields of held objects, written by the heap's barrier.
 
-ghost use Rattle.std.specs.Prelude.{◌≡◌, ◌⊎◌, ◌-◌, ◌≤◌, ◌<◌, ◌^◌, ◌%◌, ◌↔◌, ℕ, false, List, [], Option, Some, None, IfSome, IfOk, IfErr, OnOk, OnErr, MatchOption, IsTrue, length};
+ghost use Rattle.std.specs.Prelude.{◌≡◌, ◌⊎◌, ◌-◌, ◌≤◌, ◌<◌, ◌^◌, ◌%◌, ◌↔◌, ℕ, false, List, [], Option, Some, None, IfSome, IfOk, IfErr, OnOk, OnErr};
+ghost use Rattle.std.specs.Prelude.{MatchOption, IsTrue, length};
 ghost use Rattle.std.specs.List.{Contains};
 ghost use Rattle.std.specs.FinMap as finite;
 ghost use Rattle.std.specs.Option.{option_copied};
@@ -31,7 +32,8 @@ use gc_types::{Layouts, TraceInfo, Types};
 /// Where the part of a struct, an array or an exception begins that its holder may write.
 fn first_offset<H: GcHeap>(heap: &H, holder: &VMGcRef) -> Option<u32>
     requires { H.sound heap.now }
-    ensures held { (o : HeapObject) → finite.get (H.seen heap.now).content holder.now ≡ Some o → MatchOption result (¬ HasFields o.kind) (λ n. HasFields o.kind × (writable_offset H.KIND o.kind ≡ n)) }
+    ensures held { (o : HeapObject) → finite.get (H.seen heap.now).content holder.now ≡ Some o
+        → MatchOption result (¬ HasFields o.kind) (λ n. HasFields o.kind × (writable_offset H.KIND o.kind ≡ n)) }
     ensures number { holder.now % 2 ≡ 1 → result ≡ None }
 {
     if holder.is_structref(heap) {
@@ -97,7 +99,8 @@ fn is_reference(layouts: Layouts, info: Option<&TraceInfo>, length: u32, offset:
 fn has_reference<H: GcHeap>(heap: &H, types: &Types, holder: &VMGcRef, offset: u32) -> bool
     requires sound { H.sound heap.now }
     requires held { IsHeld (H.seen heap.now) holder.now }
-    ensures { (o : HeapObject) → finite.get (H.seen heap.now).content holder.now ≡ Some o → IsTrue result ↔ HasReference H.KIND types.now.declarations o offset }
+    ensures { (o : HeapObject) → finite.get (H.seen heap.now).content holder.now ≡ Some o
+        → IsTrue result ↔ HasReference H.KIND types.now.declarations o offset }
 {
     if offset % 4 != 0 {
         return false;
@@ -118,7 +121,8 @@ fn has_reference<H: GcHeap>(heap: &H, types: &Types, holder: &VMGcRef, offset: u
 fn overwritten_word<H: GcHeap>(heap: &H, holder: &VMGcRef, offset: u32) -> Option<VMGcRef>
     requires sound { H.sound heap.now }
     requires inside { IsReadable H.KIND (H.seen heap.now) holder.now offset 4 }
-    ensures counting { (o : HeapObject) → finite.get (H.seen heap.now).content holder.now ≡ Some o → H.KIND ≡ Counting → slot_word result ≡ word_in H.KIND o offset }
+    ensures counting { (o : HeapObject) → finite.get (H.seen heap.now).content holder.now ≡ Some o → H.KIND ≡ Counting
+        → slot_word result ≡ word_in H.KIND o offset }
     ensures present { IfSome result (λ word. 0 < word) }
     ensures others { (H.KIND ≡ Counting → ⊥) → result ≡ None }
 {

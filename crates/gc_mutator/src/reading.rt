@@ -25,7 +25,8 @@ use gc_refs::{VMExternRef, VMGcRef};
 /// its holder may write, if there is one and it isn't null.
 fn reference_at<H: GcHeap>(heap: &H, holder: &VMGcRef, offset: u32) -> Option<VMGcRef>
     requires { H.sound heap.now }
-    ensures held { (o : HeapObject) → finite.get (H.seen heap.now).content holder.now ≡ Some o → SomeIff result (HasWord H.KIND o offset × (0 < word_in H.KIND o offset)) (word_in H.KIND o offset) }
+    ensures held { (o : HeapObject) → finite.get (H.seen heap.now).content holder.now ≡ Some o
+        → SomeIff result (HasWord H.KIND o offset × (0 < word_in H.KIND o offset)) (word_in H.KIND o offset) }
     ensures number { holder.now % 2 ≡ 1 → result ≡ None }
 {
     if !has_words(heap, holder, offset) {
@@ -111,7 +112,8 @@ impl<H: GcHeap> Mutator<H> {
     /// The host value of the external object that a word names; None for a 31-bit number and for an object
     /// that is none. Of a word that names no held object nothing is promised.
     pub fn host(&self, word: VMGcRef) -> Option<u8>
-        ensures external { (o : HeapObject) → finite.get self.now.heap.content word ≡ Some o → o.kind ≡ ExternRef → result ≡ finite.get self.now.hosts (host_id o) }
+        ensures external { (o : HeapObject) → finite.get self.now.heap.content word ≡ Some o → o.kind ≡ ExternRef
+            → result ≡ finite.get self.now.hosts (host_id o) }
         ensures other { (o : HeapObject) → finite.get self.now.heap.content word ≡ Some o → o.kind ≢ ExternRef → result ≡ None }
         ensures number { word % 2 ≡ 1 → result ≡ None }
     {

@@ -46,7 +46,8 @@ impl<H: GcHeap> Mutator<H> {
     /// Copies the word of a root to a new one, and answers its index. `NoRoot` exactly where there is no
     /// root of that index, and else `Full` exactly where there are 2^31 roots.
     pub fn copy_root(&mut self, index: usize) -> Result<usize, MutatorFault>
-        ensures copied { IfOk result (λ copy. (copy ≡ length self.old.roots) × (self.new ≡ with_root self.old (cloned self.old.heap (word_of self.old index)) false (word_of self.old index))) }
+        ensures copied { IfOk result (λ copy. (copy ≡ length self.old.roots)
+            × (self.new ≡ with_root self.old (cloned self.old.heap (word_of self.old index)) false (word_of self.old index))) }
         ensures no_root { IsErrOf result MutatorFault.NoRoot ↔ (length self.old.roots ≤ index) }
         ensures can { OnOk result (CanCopy self.old index) }
         ensures why { IfErr result (RefusesCopy self.old index) }
@@ -70,7 +71,8 @@ impl<H: GcHeap> Mutator<H> {
     /// Makes a root that is a 31-bit number, the lowest 31 bits of the given one, and answers its index.
     /// `Full` exactly where there are 2^31 roots.
     pub fn make_number(&mut self, number: u32) -> Result<usize, MutatorFault>
-        ensures made { IfOk result (λ index. (index ≡ length self.old.roots) × (self.new ≡ with_root self.old self.old.heap false (i31_word (number % i31_numbers)))) }
+        ensures made { IfOk result (λ index. (index ≡ length self.old.roots)
+            × (self.new ≡ with_root self.old self.old.heap false (i31_word (number % i31_numbers)))) }
         ensures can { OnOk result (length self.old.roots < max_roots) }
         ensures why { IfErr result (RefusesRoot self.old.roots) }
         ensures err { OnErr result (self.new ≡ self.old) }
@@ -106,7 +108,9 @@ impl<H: GcHeap> Mutator<H> {
     /// Shows the word of a root to a new frame slot, and answers the index of the slot among the roots. It
     /// is refused where `copy_root` is.
     pub fn show_root(&mut self, index: usize) -> Result<usize, MutatorFault>
-        ensures shown { IfOk result (λ slot. (slot ≡ length self.old.roots) × (self.new ≡ with_root self.old (exposed (cloned self.old.heap (word_of self.old index)) (word_of self.old index)) true (word_of self.old index))) }
+        ensures shown { IfOk result (λ slot. (slot ≡ length self.old.roots)
+            × (self.new ≡ with_root self.old (exposed (cloned self.old.heap (word_of self.old index)) (word_of self.old index)) true
+            (word_of self.old index))) }
         ensures no_root { IsErrOf result MutatorFault.NoRoot ↔ (length self.old.roots ≤ index) }
         ensures can { OnOk result (CanCopy self.old index) }
         ensures why { IfErr result (RefusesCopy self.old index) }

@@ -26,7 +26,9 @@ impl Runner {
         len: u32,
         operand: &Operand,
     ) -> Result<Reply, RunError>
-        ensures runs { (s : State) → HoldsState H.KIND store.old self.old s → RunsOne H.KIND store.old.alloc_counter (L.limits limiter.old) (L.limits limiter.new) s (Command.NewArr d t len operand.now) result store.new self.new }
+        ensures runs { (s : State) → HoldsState H.KIND store.old self.old s
+            → RunsOne H.KIND store.old.alloc_counter (L.limits limiter.old) (L.limits limiter.new) s
+            (Command.NewArr d t len operand.now) result store.new self.new }
         ensures same { IsSameStore store.old store.new }
     {
         let ty = VMSharedTypeIndex::new(t);
@@ -59,7 +61,9 @@ impl Runner {
         t: u32,
         operands: &[Operand],
     ) -> Result<Reply, RunError>
-        ensures runs { (s : State) → HoldsState H.KIND store.old self.old s → RunsOne H.KIND store.old.alloc_counter (L.limits limiter.old) (L.limits limiter.new) s (Command.Fixed d t operands.now) result store.new self.new }
+        ensures runs { (s : State) → HoldsState H.KIND store.old self.old s
+            → RunsOne H.KIND store.old.alloc_counter (L.limits limiter.old) (L.limits limiter.new) s
+            (Command.Fixed d t operands.now) result store.new self.new }
         ensures same { IsSameStore store.old store.new }
     {
         let ty = VMSharedTypeIndex::new(t);
@@ -99,7 +103,9 @@ impl Runner {
         t: u32,
         bytes: &[u8],
     ) -> Result<Reply, RunError>
-        ensures runs { (s : State) → HoldsState H.KIND store.old self.old s → RunsOne H.KIND store.old.alloc_counter (L.limits limiter.old) (L.limits limiter.new) s (Command.NewBytes d t bytes.now) result store.new self.new }
+        ensures runs { (s : State) → HoldsState H.KIND store.old self.old s
+            → RunsOne H.KIND store.old.alloc_counter (L.limits limiter.old) (L.limits limiter.new) s
+            (Command.NewBytes d t bytes.now) result store.new self.new }
         ensures same { IsSameStore store.old store.new }
     {
         let ty = VMSharedTypeIndex::new(t);

@@ -32,7 +32,8 @@ impl Runner {
         supertype: Option<u32>,
         words: &[FieldWord],
     ) -> Result<Reply, RunError>
-        ensures goes { (s : State) → HoldsState H.KIND store.old self.now s → GoesOn H.KIND s (Command.Struct is_final supertype words.now) result store.new self.now }
+        ensures goes { (s : State) → HoldsState H.KIND store.old self.now s
+            → GoesOn H.KIND s (Command.Struct is_final supertype words.now) result store.new self.now }
         ensures same { IsSameStore store.old store.new }
     {
         let fields = match fields_of(self.alloc, store.types(), TypeKind::Struct, words) {
@@ -55,7 +56,8 @@ impl Runner {
         supertype: Option<u32>,
         word: &FieldWord,
     ) -> Result<Reply, RunError>
-        ensures goes { (s : State) → HoldsState H.KIND store.old self.now s → GoesOn H.KIND s (Command.Array is_final supertype word.now) result store.new self.now }
+        ensures goes { (s : State) → HoldsState H.KIND store.old self.now s
+            → GoesOn H.KIND s (Command.Array is_final supertype word.now) result store.new self.now }
         ensures same { IsSameStore store.old store.new }
     {
         let Some(element) = field_of(store.types(), TypeKind::Array, word) else {

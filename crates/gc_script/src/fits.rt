@@ -99,7 +99,8 @@ fn reference_fits<H: GcHeap>(
     class: GcClass,
     handle: Option<GcRootIndex>,
 ) -> bool
-    ensures { (t : Table ℕ) (v : Value) → HoldsTable H.KIND store.now t → RawStands store.now t (RawValue.Ref class handle) v → result ≡ fits_type t.types t.objects (ValType.Ref ty.now) v }
+    ensures { (t : Table ℕ) (v : Value) → HoldsTable H.KIND store.now t → RawStands store.now t (RawValue.Ref class handle) v
+        → result ≡ fits_type t.types t.objects (ValType.Ref ty.now) v }
 {
     let handle = match handle {
         Some(handle) => handle,
@@ -127,7 +128,8 @@ fn number_fits(ty: ValType, value: &RawValue) -> bool
 
 /// Whether a value, whose root is live, fits the type of a field or an element.
 pub(crate) fn fits<H: GcHeap>(store: &Store<H, u64>, ty: StorageType, value: &RawValue) -> bool
-    ensures { (t : Table ℕ) (v : Value) → HoldsTable H.KIND store.now t → NamesLive ℕ H.KIND store.now value.now → RawStands store.now t value.now v → result ≡ fits t.types t.objects ty v }
+    ensures { (t : Table ℕ) (v : Value) → HoldsTable H.KIND store.now t → NamesLive ℕ H.KIND store.now value.now → RawStands store.now t value.now v
+        → result ≡ fits t.types t.objects ty v }
 {
     let ty = ty.unpack();
     let (class, handle) = match slot_of(value) {

@@ -19,7 +19,8 @@ impl Runner {
         limiter: &mut L,
         bytes: u64,
     ) -> Result<Reply, RunError>
-        ensures runs { (s : State) → HoldsState H.KIND store.old self.now s → RunsOne H.KIND store.old.alloc_counter (L.limits limiter.old) (L.limits limiter.new) s (Command.Grow bytes) result store.new self.now }
+        ensures runs { (s : State) → HoldsState H.KIND store.old self.now s
+            → RunsOne H.KIND store.old.alloc_counter (L.limits limiter.old) (L.limits limiter.new) s (Command.Grow bytes) result store.new self.now }
         ensures same { IsSameStore store.old store.new }
     {
         match store.gc_heap_grow(limiter, bytes) {

@@ -21,7 +21,8 @@ impl Runner {
         d: u16,
         n: u64,
     ) -> Result<Reply, RunError>
-        ensures runs { (s : State) → HoldsState H.KIND store.old self.old s → RunsOne H.KIND store.old.alloc_counter (L.limits limiter.old) (L.limits limiter.new) s (Command.Host d n) result store.new self.new }
+        ensures runs { (s : State) → HoldsState H.KIND store.old self.old s
+            → RunsOne H.KIND store.old.alloc_counter (L.limits limiter.old) (L.limits limiter.new) s (Command.Host d n) result store.new self.new }
         ensures same { IsSameStore store.old store.new }
     {
         if self.registers.make_room(d).is_err() {

@@ -76,8 +76,10 @@ impl Runner {
         contents: Contents<'_>,
     ) -> Result<Reply, RunError>
         requires { CanPlaceIn ℕ H.KIND store.old request contents }
-        ensures runs { (s : State) (object : State → Object ℕ) → HoldsState H.KIND store.old self.old s → IsObjectOf store.old s.table request contents.entry (object (visible s))
-            → RunsOn H.KIND store.old.alloc_counter (L.limits limiter.old) (L.limits limiter.new) s (making d (class_of request) object) (heap_tests H.KIND s (object (visible s))) result store.new self.new }
+        ensures runs { (s : State) (object : State → Object ℕ) → HoldsState H.KIND store.old self.old s
+            → IsObjectOf store.old s.table request contents.entry (object (visible s))
+            → RunsOn H.KIND store.old.alloc_counter (L.limits limiter.old) (L.limits limiter.new) s (making d (class_of request) object)
+            (heap_tests H.KIND s (object (visible s))) result store.new self.new }
         ensures same { IsSameStore store.old store.new }
     {
         if self.registers.make_room(d).is_err() {
@@ -108,7 +110,8 @@ impl Runner {
         operands: &[Operand],
     ) -> Result<Reply, RunError>
         ensures runs { (s : State) → HoldsState H.KIND store.old self.old s
-            → RunsOn H.KIND store.old.alloc_counter (L.limits limiter.old) (L.limits limiter.new) s (making d (class_of request) (requested request operands.now)) (requested_tests H.KIND s request operands.now) result store.new self.new }
+            → RunsOn H.KIND store.old.alloc_counter (L.limits limiter.old) (L.limits limiter.new) s
+            (making d (class_of request) (requested request operands.now)) (requested_tests H.KIND s request operands.now) result store.new self.new }
         ensures same { IsSameStore store.old store.new }
     {
         let Some(count) = fields_len(store.types(), &request) else {
@@ -140,7 +143,8 @@ impl Runner {
         t: u32,
         operands: &[Operand],
     ) -> Result<Reply, RunError>
-        ensures runs { (s : State) → HoldsState H.KIND store.old self.old s → RunsOne H.KIND store.old.alloc_counter (L.limits limiter.old) (L.limits limiter.new) s (Command.New d t operands.now) result store.new self.new }
+        ensures runs { (s : State) → HoldsState H.KIND store.old self.old s
+            → RunsOne H.KIND store.old.alloc_counter (L.limits limiter.old) (L.limits limiter.new) s (Command.New d t operands.now) result store.new self.new }
         ensures same { IsSameStore store.old store.new }
     {
         let ty = VMSharedTypeIndex::new(t);

@@ -105,7 +105,8 @@ fn object_of<H: GcHeap>(
 ) -> Option<NamedObject>
     ensures named { IfSome result (IsNamed H.KIND store.now wanted) }
     ensures root { IfSome result (λ found. found.root ≡ root) }
-    ensures tells { (t : Table ℕ) (r : Reference) → HoldsTable H.KIND store.now t → NamesReference store.now t root r → TellsObject store.now t wanted r result }
+    ensures tells { (t : Table ℕ) (r : Reference) → HoldsTable H.KIND store.now t → NamesReference store.now t root r
+        → TellsObject store.now t wanted r result }
 {
     match &store.object(root) {
         Ok(object) => {
@@ -128,7 +129,8 @@ pub(crate) fn find_object<H: GcHeap>(
 ) -> Result<NamedObject, Refusal>
     ensures named { IfOk result (IsNamed H.KIND store.now wanted) }
     ensures everywhere { IfOk result (IsNamedEverywhere H.KIND store.now wanted) }
-    ensures finds { (s : State) (r : ℕ) → HoldsTable H.KIND store.now s.table → Stands store.now s.table (Some value.now) (s.registers r) → FindsObject store.now s wanted r result }
+    ensures finds { (s : State) (r : ℕ) → HoldsTable H.KIND store.now s.table → Stands store.now s.table (Some value.now) (s.registers r)
+        → FindsObject store.now s wanted r result }
 {
     if !is_live(store, value) {
         return Err(Refusal::Unrooted);

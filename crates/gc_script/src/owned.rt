@@ -17,7 +17,8 @@ use gc_store::{RawValue, RootFault, Store};
 
 /// Gives up the owned root that an owned register held, where it held one.
 fn give_up_held<H: GcHeap>(store: &mut Store<H, u64>, held: Option<RawValue>)
-    ensures gives_up { (t : Table ℕ) (a : Account) (h : Option HeldOwned) → HoldsAccount H.KIND store.old t a → StandsOwned store.old held h → HoldsAccount H.KIND store.new (give_up h t) a }
+    ensures gives_up { (t : Table ℕ) (a : Account) (h : Option HeldOwned) → HoldsAccount H.KIND store.old t a → StandsOwned store.old held h
+        → HoldsAccount H.KIND store.new (give_up h t) a }
     ensures same { IsSameStore store.old store.new }
 {
     match held {

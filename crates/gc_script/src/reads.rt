@@ -81,7 +81,8 @@ impl Runner {
         i: u32,
         into: Option<u16>,
     ) -> Result<Reply, RunError>
-        ensures goes { (s : State) → HoldsState H.KIND store.old self.old s → GoesBy H.KIND s (plain (reads_value r i into)) (reading_tests (wants wanted) s r i) result store.new self.new }
+        ensures goes { (s : State) → HoldsState H.KIND store.old self.old s
+            → GoesBy H.KIND s (plain (reads_value r i into)) (reading_tests (wants wanted) s r i) result store.new self.new }
         ensures same { IsSameStore store.old store.new }
     {
         let value = match self.registers.get(r) {

@@ -72,9 +72,11 @@ impl Runner {
         limiter: &mut L,
         command: &Command,
     ) -> Result<Reply, RunError>
-        ensures runs { (s : State) → HoldsState H.KIND store.old self.old s → RunsOne H.KIND store.old.alloc_counter (L.limits limiter.old) (L.limits limiter.new) s command.now result store.new self.new }
+        ensures runs { (s : State) → HoldsState H.KIND store.old self.old s
+            → RunsOne H.KIND store.old.alloc_counter (L.limits limiter.old) (L.limits limiter.new) s command.now result store.new self.new }
         ensures memory { OnErr result (TakesMemory command.now) }
-        ensures kept { is_collection command.now ≡ true → OnOk result ((s : State) → HoldsState H.KIND store.old self.old s → HoldsKept H.KIND store.new s.table) }
+        ensures kept { is_collection command.now ≡ true → OnOk result ((s : State) → HoldsState H.KIND store.old self.old s
+            → HoldsKept H.KIND store.new s.table) }
         ensures same { IsSameStore store.old store.new }
     {
         if !is_built(command) {

@@ -22,8 +22,11 @@ fn run_next<H: GcHeap, L: ResourceLimiter>(
     command: &Command,
     replies: &mut Vec<Reply>,
 ) -> Result<(), RunError>
-    ensures ran { OnOk result ((s : State) → HoldsState H.KIND store.old runner.old s → RanNext H.KIND store.old.alloc_counter (L.limits limiter.old) (L.limits limiter.new) s command.now replies.old.items replies.new.items store.new runner.new) }
-    ensures wants { OnErr result ((s : State) → HoldsState H.KIND store.old runner.old s → WantsMemory H.KIND store.old.alloc_counter (L.limits limiter.old) (L.limits limiter.new) s command.now store.new runner.new) }
+    ensures ran { OnOk result ((s : State) → HoldsState H.KIND store.old runner.old s
+        → RanNext H.KIND store.old.alloc_counter (L.limits limiter.old)
+        (L.limits limiter.new) s command.now replies.old.items replies.new.items store.new runner.new) }
+    ensures wants { OnErr result ((s : State) → HoldsState H.KIND store.old runner.old s
+        → WantsMemory H.KIND store.old.alloc_counter (L.limits limiter.old) (L.limits limiter.new) s command.now store.new runner.new) }
     ensures same { IsSameStore store.old store.new }
 {
     if replies.reserve(1).is_err() {
@@ -46,8 +49,10 @@ pub fn run_script<H: GcHeap, L: ResourceLimiter>(
     limiter: &mut L,
     commands: &[Command],
 ) -> Result<Vec<Reply>, RunError>
-    ensures ended { IfOk result (λ replies. (t : Table ℕ) (a : Account) → HoldsAccount H.KIND store.old t a → EndedScript H.KIND store.old.alloc_counter (L.limits limiter.old) (L.limits limiter.new) (begin t a) commands.now replies.items store.new) }
-    ensures stopped { OnErr result ((t : Table ℕ) (a : Account) → HoldsAccount H.KIND store.old t a → StoppedScript H.KIND store.old.alloc_counter (L.limits limiter.old) (L.limits limiter.new) (begin t a) commands.now store.new) }
+    ensures ended { IfOk result (λ replies. (t : Table ℕ) (a : Account) → HoldsAccount H.KIND store.old t a
+        → EndedScript H.KIND store.old.alloc_counter (L.limits limiter.old) (L.limits limiter.new) (begin t a) commands.now replies.items store.new) }
+    ensures stopped { OnErr result ((t : Table ℕ) (a : Account) → HoldsAccount H.KIND store.old t a
+        → StoppedScript H.KIND store.old.alloc_counter (L.limits limiter.old) (L.limits limiter.new) (begin t a) commands.now store.new) }
     ensures same { IsSameStore store.old store.new }
 {
     let mut runner = Runner::new(alloc);

@@ -28,7 +28,8 @@ fn shown_object(object: &RootedObject) -> ReplyValue
 
 /// A root or null as a reply shows it.
 fn shown_root<H: GcHeap>(store: &Store<H, u64>, handle: Option<GcRootIndex>) -> ReplyValue
-    ensures { (t : Table ℕ) (class : GcClass) (v : Value) → HoldsTable H.KIND store.now t → RawStands store.now t (RawValue.Ref class handle) v → result ≡ shown t v }
+    ensures { (t : Table ℕ) (class : GcClass) (v : Value) → HoldsTable H.KIND store.now t → RawStands store.now t (RawValue.Ref class handle) v
+        → result ≡ shown t v }
 {
     let handle = match handle {
         Some(handle) => handle,

@@ -7,7 +7,8 @@ ghost use Rattle.gc_commands.specs.declared.command.Operand.{Operand};
 ghost use Rattle.gc_store.specs.Values.{NamesLive};
 ghost use Rattle.gc_script.specs.State.{State, Held, Stands};
 ghost use Rattle.gc_script.specs.Given.{held_operand, given_held};
-ghost use Rattle.gc_script.specs.Values.{HoldsOperand, HoldsOperands, HasUnset, AllHeld, raw_handle, raw_slot, is_function, IsFound, CanStoreAs, AllStorable, ChecksValue, ChecksValues};
+ghost use Rattle.gc_script.specs.Values.{HoldsOperand, HoldsOperands, HasUnset, AllHeld, raw_handle, raw_slot, is_function, IsFound, CanStoreAs, AllStorable};
+ghost use Rattle.gc_script.specs.Values.{ChecksValue, ChecksValues};
 
 use crate::fits::fits;
 use crate::objects::{ValueTypes, type_at};
@@ -84,7 +85,8 @@ fn is_function(value: &RawValue) -> bool
 /// Whether a value is a number, null, or the handle of a live root. No function stands in a register.
 pub(crate) fn is_live<H: GcHeap>(store: &Store<H, u64>, value: &RawValue) -> bool
     ensures live { IsTrue result → NamesLive ℕ H.KIND store.now value.now }
-    ensures found { (t : Table ℕ) (held : Option Held) → HoldsTable H.KIND store.now t → Stands store.now t (Some value.now) held → IsFound store.now t value.now (given_held t held) result }
+    ensures found { (t : Table ℕ) (held : Option Held) → HoldsTable H.KIND store.now t → Stands store.now t (Some value.now) held
+        → IsFound store.now t value.now (given_held t held) result }
 {
     match handle_of(value) {
         Some(handle) => store.object(handle).is_ok(),
@@ -100,7 +102,8 @@ pub(crate) fn check_value<H: GcHeap>(
     value: &RawValue,
 ) -> Result<(), Refusal>
     ensures stores { OnOk result (CanStoreAs H.KIND store.now field value.now) }
-    ensures checks { (s : State) (v : Operand) → HoldsTable H.KIND store.now s.table → Stands store.now s.table (Some value.now) (held_operand s v) → ChecksValue store.now s field v value.now result }
+    ensures checks { (s : State) (v : Operand) → HoldsTable H.KIND store.now s.table → Stands store.now s.table (Some value.now) (held_operand s v)
+        → ChecksValue store.now s field v value.now result }
 {
     if !is_live(store, value) {
         return Err(Refusal::Unrooted);
@@ -123,7 +126,8 @@ pub(crate) fn check_values<H: GcHeap>(
     values: &[RawValue],
 ) -> Result<(), Refusal>
     ensures stores { OnOk result (AllStorable H.KIND store.now types.now values.now) }
-    ensures checks { (s : State) (vs : List Operand) → HoldsTable H.KIND store.now s.table → AllHeld store.now s vs values.now → ChecksValues store.now s types.now vs values.now result }
+    ensures checks { (s : State) (vs : List Operand) → HoldsTable H.KIND store.now s.table → AllHeld store.now s vs values.now
+        → ChecksValues store.now s types.now vs values.now result }
 {
     for (index, value) in values.iter().enumerate() {
         check_value(store, type_at(store, types, index), value)?;

@@ -47,7 +47,8 @@ fn check_write<H: GcHeap>(
     index: u32,
 ) -> Result<(), Refusal>
     ensures stores { OnOk result (CanStoreAs H.KIND store.now (type_at store.now.types written.now.object.types index) written.now.value) }
-    ensures checks { (s : State) (v : Operand) → HoldsTable H.KIND store.now s.table → Stands store.now s.table (Some written.now.value) (held_operand s v) → ChecksWrite store.now s (type_at s.table.types written.now.object.types index) v written.now.value result }
+    ensures checks { (s : State) (v : Operand) → HoldsTable H.KIND store.now s.table → Stands store.now s.table (Some written.now.value) (held_operand s v)
+        → ChecksWrite store.now s (type_at s.table.types written.now.object.types index) v written.now.value result }
 {
     let field = type_at(store, &written.object.types, index as usize);
     if is_constant(&field) {
@@ -60,7 +61,8 @@ fn check_write<H: GcHeap>(
 fn write<H: GcHeap>(store: &mut Store<H, u64>, written: &Written, index: u32) -> Reply
     requires { CanWrite ℕ H.KIND store.old written.now.object.root index written.now.value }
     ensures done { result ≡ Reply.Done }
-    ensures writes { (t : Table ℕ) (a : Account) → HoldsAccount H.KIND store.old t a → WritesValue H.KIND store.old store.new t a written.now.object.root index written.now.value }
+    ensures writes { (t : Table ℕ) (a : Account) → HoldsAccount H.KIND store.old t a
+        → WritesValue H.KIND store.old store.new t a written.now.object.root index written.now.value }
     ensures same { IsSameStore store.old store.new }
 {
     match store.write_value(written.object.root, index, written.value) {
@@ -103,7 +105,8 @@ impl Runner {
         i: u32,
         operand: &Operand,
     ) -> Reply
-        ensures goes { (s : State) → HoldsState H.KIND store.old self.now s → GoesOn H.KIND s (Command.SetField r i operand.now) (Ok result) store.new self.now }
+        ensures goes { (s : State) → HoldsState H.KIND store.old self.now s
+            → GoesOn H.KIND s (Command.SetField r i operand.now) (Ok result) store.new self.now }
         ensures same { IsSameStore store.old store.new }
     {
         let written = match self.find_written(store, Wanted::Struct, r, operand) {

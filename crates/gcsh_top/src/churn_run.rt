@@ -181,7 +181,8 @@ impl Churner {
         command: &Command,
     ) -> Result<Reply, RunError>
         requires few { self.old.refused ≤ 1000000 }
-        ensures ran { IfOk result (λ reply. (form : Form) (commands : List Command) (replies : List Reply) → HasRun H.KIND form commands replies store.old self.old
+        ensures ran { IfOk result (λ reply. (form : Form) (commands : List Command) (replies : List Reply)
+            → HasRun H.KIND form commands replies store.old self.old
             → HasRun H.KIND form (commands ++ command.now ∷ []) (replies ++ reply ∷ []) store.new self.new) }
         ensures stopped { OnErr result ((form : Form) (commands : List Command) (replies : List Reply) → HasRun H.KIND form commands replies store.old self.old
             → StoppedIn H.KIND form (commands ++ command.now ∷ []) store.new) }

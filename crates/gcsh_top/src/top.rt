@@ -45,7 +45,10 @@ pub fn gcsh_top<S: Source, K: Sink>(
 ) -> u8
     requires { AreNew stores.old }
     ensures answers { (status : Status) × (result ≡ code_of status) × Answers (map string_bytes words.now)
-        (record { before = S.tells source.old; after = S.tells source.new }) (record { before = K.tells sink.old; after = K.tells sink.new }) stores.old stores.new status }
+        (record { before = S.tells source.old; after = S.tells source.new }) (record {
+          before = K.tells sink.old;
+          after = K.tells sink.new;
+        }) stores.old stores.new status }
     ensures untouched { result ≡ 1 → (source.new ≡ source.old) × (sink.new ≡ sink.old) × (stores.new ≡ stores.old) }
     ensures unread { (form : Form) (rounds : ℕ) → IsForm (map string_bytes words.now) form → form.task ≡ Task.Churn rounds → source.new ≡ source.old }
 {
@@ -165,11 +168,14 @@ fn run_form<H: GcHeap, S: Source, K: Sink>(
 /// one byte more than an input may have exactly at `TooLong`, and no more at any status; and where the
 /// words are of a form, no end failed and the input is not too long, it is `Done` or `NoMemory`.
 pub fn statuses_are_exact()
-    ensures usage { (words : List (List ℕ)) (source : SourceRun) (sink : SinkRun) (old new : Stores) (status : Status) → Answers words source sink old new status
+    ensures usage { (words : List (List ℕ)) (source : SourceRun) (sink : SinkRun) (old new : Stores) (status : Status)
+        → Answers words source sink old new status
         → (status ≡ Status.Usage) ↔ ((form : Form) → ¬ IsForm words form) }
-    ensures given { (words : List (List ℕ)) (source : SourceRun) (sink : SinkRun) (old new : Stores) (status : Status) → RanWords words source sink old new status
+    ensures given { (words : List (List ℕ)) (source : SourceRun) (sink : SinkRun) (old new : Stores) (status : Status)
+        → RanWords words source sink old new status
         → (bytes : List ℕ) × Gave source bytes × (length bytes ≤ max_input + 1) × ((status ≡ Status.TooLong) ↔ (length bytes ≡ max_input + 1)) }
-    ensures complete { (words : List (List ℕ)) (source : SourceRun) (sink : SinkRun) (old new : Stores) (status : Status) (form : Form) → Answers words source sink old new status
+    ensures complete { (words : List (List ℕ)) (source : SourceRun) (sink : SinkRun) (old new : Stores) (status : Status) (form : Form)
+        → Answers words source sink old new status
         → IsForm words form → ¬ Rose source.before.faults source.after.faults → ¬ Rose sink.before.faults sink.after.faults
         → IsShort source.before.left source.before.given source.after.given → (status ≡ Status.Done) ⊎ (status ≡ Status.NoMemory) }
 {}

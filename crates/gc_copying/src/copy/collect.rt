@@ -69,7 +69,8 @@ impl Space {
         steps: &mut Steps<G>,
     ) -> Phase
         requires { CanWork types.now.declarations self.old scan }
-        ensures scanned { (s : From) (rs roots : List Root) (k counted more : ℕ) → s.types ≡ types.now.declarations → AtWork s rs roots self.old scan k counted → steps.new ≡ steps.old + more
+        ensures scanned { (s : From) (rs roots : List Root) (k counted more : ℕ) → s.types ≡ types.now.declarations → AtWork s rs roots self.old scan k counted
+            → steps.new ≡ steps.old + more
             → Scanned s rs roots self.new k (counted + more) externals result }
         ensures less { left_of result < left_of (Phase.Worklist scan externals) }
         ensures side { self.new.upper ≡ self.old.upper }
@@ -91,7 +92,8 @@ impl Space {
         steps: &mut Steps<G>,
     ) -> GcProgress
         requires { (c : Progress D) × UnderWay D c self.old phase.old roots.old.roots types.now.declarations hosts.old.entries }
-        ensures stepped { (c : Progress D) (counted : ℕ) → UnderWay D c self.old phase.old roots.old.roots types.now.declarations hosts.old.entries → steps.new ≡ steps.old + counted
+        ensures stepped { (c : Progress D) (counted : ℕ) → UnderWay D c self.old phase.old roots.old.roots types.now.declarations hosts.old.entries
+            → steps.new ≡ steps.old + counted
             → Stepped D (one_more c counted) result self.new phase.new roots.new.roots types.now.declarations hosts.new.entries }
         ensures less { result ≡ GcProgress.Continue → left_of phase.new < left_of phase.old }
         ensures side { self.new.upper ≡ side_after phase.old self.old.upper }

@@ -21,7 +21,8 @@ impl Space {
     /// Moves the reference at an offset of a copy, which counts a step.
     fn scan_field<G: Ledger>(&mut self, copy: u32, offset: u32, steps: &mut Steps<G>)
         requires { CanScanAt self.old copy offset }
-        ensures scanned { (s : From) (p u : ℕ) (left : List ℕ) → Scanning s p copy u (offset ∷ left) self.old → Scans s p copy (offset + 4) left self.old self.new }
+        ensures scanned { (s : From) (p u : ℕ) (left : List ℕ) → Scanning s p copy u (offset ∷ left) self.old
+            → Scans s p copy (offset + 4) left self.old self.new }
         ensures sides { SameSides self.old self.new }
         ensures ticks { steps.new + self.old.objects ≡ steps.old + self.new.objects + 1 }
         ensures rises { steps.old ≤ steps.new }
@@ -82,7 +83,8 @@ impl Space {
     /// Moves the elements of an array, where they are references.
     fn scan_array<G: Ledger>(&mut self, copy: u32, elements: bool, steps: &mut Steps<G>)
         requires { CanScan self.old copy (element_places elements (word self.old.memory (copy + 12))) }
-        ensures scanned { (s : From) (p u : ℕ) → Scanning s p copy u (element_places elements (word self.old.memory (copy + 12))) self.old → ScansAll s p copy self.old self.new }
+        ensures scanned { (s : From) (p u : ℕ) → Scanning s p copy u (element_places elements (word self.old.memory (copy + 12))) self.old
+            → ScansAll s p copy self.old self.new }
         ensures sides { SameSides self.old self.new }
         ensures ticks { steps.new + self.old.objects ≡ steps.old + self.new.objects + length (element_places elements (word self.old.memory (copy + 12))) }
         ensures rises { steps.old ≤ steps.new }
@@ -102,9 +104,12 @@ impl Space {
         steps: &mut Steps<G>,
     )
         requires { CanScan self.old copy (info_places (word self.old.memory (copy + 12)) (trace_at Layouts.Copying types.now.declarations ty)) }
-        ensures scanned { (s : From) (p u : ℕ) → Scanning s p copy u (info_places (word self.old.memory (copy + 12)) (trace_at Layouts.Copying types.now.declarations ty)) self.old → ScansAll s p copy self.old self.new }
+        ensures scanned { (s : From) (p u : ℕ) → Scanning s p copy u
+            (info_places (word self.old.memory (copy + 12)) (trace_at Layouts.Copying types.now.declarations ty)) self.old
+            → ScansAll s p copy self.old self.new }
         ensures sides { SameSides self.old self.new }
-        ensures ticks { steps.new + self.old.objects ≡ steps.old + self.new.objects + length (info_places (word self.old.memory (copy + 12)) (trace_at Layouts.Copying types.now.declarations ty)) }
+        ensures ticks { steps.new + self.old.objects ≡ steps.old + self.new.objects + length
+            (info_places (word self.old.memory (copy + 12)) (trace_at Layouts.Copying types.now.declarations ty)) }
         ensures rises { steps.old ≤ steps.new }
     {
         match types.trace_info(Layouts::Copying, ty) {
@@ -119,7 +124,8 @@ impl Space {
     /// Moves the references of a copy, in the order of their offsets.
     fn scan_references<G: Ledger>(&mut self, copy: u32, types: &Types, steps: &mut Steps<G>)
         requires { CanScan self.old copy (offsets_at types.now.declarations self.old.memory copy) }
-        ensures scanned { (s : From) (p u : ℕ) → Scanning s p copy u (offsets_at types.now.declarations self.old.memory copy) self.old → ScansAll s p copy self.old self.new }
+        ensures scanned { (s : From) (p u : ℕ) → Scanning s p copy u (offsets_at types.now.declarations self.old.memory copy) self.old
+            → ScansAll s p copy self.old self.new }
         ensures sides { SameSides self.old self.new }
         ensures ticks { steps.new + self.old.objects ≡ steps.old + self.new.objects + length (offsets_at types.now.declarations self.old.memory copy) }
         ensures rises { steps.old ≤ steps.new }
@@ -162,7 +168,8 @@ impl Space {
         ensures more { IfSome result (λ next. (s : From) (n fields : ℕ) → s.types ≡ types.now.declarations → WorkAt s self.old first n fields
             → WorksOn s self.old self.new next objects_per_increment n fields steps.old steps.new) }
         ensures behind { IfSome result (λ next. first < next) }
-        ensures empty { IfNone result ((done : ℕ) × ((done < objects_per_increment) × ((s : From) (n fields : ℕ) → s.types ≡ types.now.declarations → WorkAt s self.old first n fields
+        ensures empty { IfNone result ((done : ℕ) × ((done < objects_per_increment) × ((s : From) (n fields : ℕ) → s.types ≡ types.now.declarations
+            → WorkAt s self.old first n fields
             → WorksOn s self.old self.new self.new.bump done n fields steps.old steps.new))) }
         ensures sides { SameSides self.old self.new }
         ensures rises { steps.old ≤ steps.new }

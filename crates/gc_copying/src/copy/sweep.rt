@@ -29,7 +29,8 @@ impl Space {
     fn sweep_one<D: Drop>(&mut self, place: u32, hosts: &mut ExternRefHostDataTable<D>)
         requires { CanSweepOne self.old.memory place }
         ensures listed { flag self.old.memory place ≡ 1 → ListsCopy self.old self.new place × (hosts.new.entries ≡ hosts.old.entries) }
-        ensures freed { flag self.old.memory place ≡ 0 → FreesHost D hosts.old.entries hosts.new.entries (host_word self.old.memory place) × ((self.new.memory ≡ self.old.memory) × (self.new.externals ≡ self.old.externals)) }
+        ensures freed { flag self.old.memory place ≡ 0 → FreesHost D hosts.old.entries hosts.new.entries (host_word self.old.memory place)
+            × ((self.new.memory ≡ self.old.memory) × (self.new.externals ≡ self.old.externals)) }
         ensures counts { SameCounts self.old self.new }
         ensures spare { hosts.old.spare ≤ hosts.new.spare }
     {

@@ -42,7 +42,8 @@ impl CountedSpace {
     fn free_next<D: Drop>(&mut self, types: &Types, hosts: &mut ExternRefHostDataTable<D>)
         requires can { CanDrain D types.now.declarations self.old hosts.old.entries }
         requires queued { 0 < self.old.queued }
-        ensures drained { (c : Context) (before : finite.FinMap nat_cmp D) → c.types ≡ types.now.declarations → Drain D c before self.old hosts.old.entries → Drain D c before self.new hosts.new.entries }
+        ensures drained { (c : Context) (before : finite.FinMap nat_cmp D) → c.types ≡ types.now.declarations → Drain D c before self.old hosts.old.entries
+            → Drain D c before self.new hosts.new.entries }
         ensures less { drain_left self.new < drain_left self.old }
         ensures spare { hosts.old.spare ≤ hosts.new.spare }
     {
@@ -59,7 +60,8 @@ impl CountedSpace {
     /// Frees what is queued and what that frees in turn, until nothing is queued.
     pub(crate) fn drain<D: Drop>(&mut self, types: &Types, hosts: &mut ExternRefHostDataTable<D>)
         requires { CanDrain D types.now.declarations self.old hosts.old.entries }
-        ensures drained { (c : Context) (before : finite.FinMap nat_cmp D) → c.types ≡ types.now.declarations → Drain D c before self.old hosts.old.entries → Drain D c before self.new hosts.new.entries }
+        ensures drained { (c : Context) (before : finite.FinMap nat_cmp D) → c.types ≡ types.now.declarations → Drain D c before self.old hosts.old.entries
+            → Drain D c before self.new hosts.new.entries }
         ensures empty { self.new.queued ≡ 0 }
         ensures spare { hosts.old.spare ≤ hosts.new.spare }
     {

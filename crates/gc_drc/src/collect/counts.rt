@@ -13,8 +13,10 @@ impl CountedSpace {
     /// Takes a name off an object whose count word stays above 0.
     pub(crate) fn uncount(&mut self, place: u32)
         requires { CanUncountAt self.old place }
-        ensures counted { (c : Context) (v : View) → At c v self.old → In place v.places → 0 < v.counted place → 1 < count_of v place → At c (uncounted v place) self.new }
-        ensures kinds { (c : Context) (v : View) → At c v self.old → In place v.places → (p : ℕ) → In p c.graph.places → word self.new.memory p ≡ word self.old.memory p }
+        ensures counted { (c : Context) (v : View) → At c v self.old → In place v.places → 0 < v.counted place → 1 < count_of v place
+            → At c (uncounted v place) self.new }
+        ensures kinds { (c : Context) (v : View) → At c v self.old → In place v.places → (p : ℕ) → In p c.graph.places
+            → word self.new.memory p ≡ word self.old.memory p }
     {
         let count = self.count(place);
         self.set_count(place, count - 1);

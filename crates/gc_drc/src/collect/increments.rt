@@ -22,7 +22,8 @@ impl CountedSpace {
         hosts: &mut ExternRefHostDataTable<D>,
     )
         requires { (c : Context) × ((c.types ≡ types.now.declarations) × FrameMarks c self.old []) }
-        ensures frees { (c : Context) → c.types ≡ types.now.declarations → FrameMarks c self.old [] → FreesUnheld D c self.new hosts.old.entries hosts.new.entries }
+        ensures frees { (c : Context) → c.types ≡ types.now.declarations → FrameMarks c self.old []
+            → FreesUnheld D c self.new hosts.old.entries hosts.new.entries }
         ensures spare { hosts.old.spare ≤ hosts.new.spare }
     {
         self.sweep_shown();
@@ -38,7 +39,8 @@ impl CountedSpace {
         hosts: &mut ExternRefHostDataTable<D>,
     )
         requires { (c : Context) × ((places : List ℕ) × (IsOf c roots.now.roots types.now.declarations × Swept c places self.old)) }
-        ensures frees { (c : Context) (places : List ℕ) → IsOf c roots.now.roots types.now.declarations → Swept c places self.old → FreesUnreached D c places self.new hosts.old.entries hosts.new.entries }
+        ensures frees { (c : Context) (places : List ℕ) → IsOf c roots.now.roots types.now.declarations → Swept c places self.old
+            → FreesUnreached D c places self.new hosts.old.entries hosts.new.entries }
         ensures spare { hosts.old.spare ≤ hosts.new.spare }
     {
         let mut reached = MarkReached { head: 0 };

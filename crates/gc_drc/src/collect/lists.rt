@@ -13,7 +13,8 @@ impl CountedSpace {
     /// Takes the first object off the queue. It has another name, or is shown.
     pub(crate) fn leave_queue(&mut self, place: u32)
         requires { CanLeave self.old place }
-        ensures { (c : Context) (v : View) (rest : List ℕ) → At c v self.old → v.queue ≡ place ∷ rest → 1 < count_of v place → At c (unqueued v place) self.new }
+        ensures { (c : Context) (v : View) (rest : List ℕ) → At c v self.old → v.queue ≡ place ∷ rest → 1 < count_of v place
+            → At c (unqueued v place) self.new }
     {
         let count = self.count(place);
         self.set_count(place, count - 1);

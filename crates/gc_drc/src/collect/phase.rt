@@ -34,8 +34,10 @@ impl CountedSpace {
         hosts: &mut ExternRefHostDataTable<D>,
         types: &Types,
     ) -> GcProgress
-        requires { (c : Context) × ((before : ℕ → Bool) × (IsOf c roots.now.roots types.now.declarations × StandsAt c before phase.old self.old (has_host hosts.old.entries))) }
-        ensures steps { (c : Context) (before : ℕ → Bool) → IsOf c roots.now.roots types.now.declarations → StandsAt c before phase.old self.old (has_host hosts.old.entries)
+        requires { (c : Context) × ((before : ℕ → Bool) × (IsOf c roots.now.roots types.now.declarations
+            × StandsAt c before phase.old self.old (has_host hosts.old.entries))) }
+        ensures steps { (c : Context) (before : ℕ → Bool) → IsOf c roots.now.roots types.now.declarations
+            → StandsAt c before phase.old self.old (has_host hosts.old.entries)
             → StepsOn c before result phase.old phase.new self.new (has_host hosts.new.entries) }
         ensures less { result ≡ GcProgress.Continue → left_of phase.new < left_of phase.old }
         ensures spare { hosts.old.spare ≤ hosts.new.spare }

@@ -28,7 +28,8 @@ impl CountedSpace {
     fn mark_root(&mut self, roots: &GcRootsList, index: usize)
         requires index { index < length roots.now.roots }
         requires marks { (c : Context) × FrameMarks c self.old (stack_words (drop index roots.now.roots)) }
-        ensures { (c : Context) → FrameMarks c self.old (stack_words (drop index roots.now.roots)) → FrameMarks c self.new (stack_words (drop (index + 1) roots.now.roots)) }
+        ensures { (c : Context) → FrameMarks c self.old (stack_words (drop index roots.now.roots))
+            → FrameMarks c self.new (stack_words (drop (index + 1) roots.now.roots)) }
     {
         if roots.is_on_wasm_stack_at(index) {
             let word = roots.word_at(index).as_raw_u32();

@@ -44,7 +44,8 @@ impl CountedSpace {
     /// Visits the word at an offset of an object.
     fn visit_at<V: Visitor>(&mut self, place: u32, offset: u32, visitor: &mut V)
         requires { CanVisitAt (λ c places words. V.state c places self.old visitor.old words) place offset }
-        ensures { (rest : List ℕ) → Visits (λ c places words. V.state c places self.old visitor.old words) (λ c places words. V.state c places self.new visitor.new words) place (offset ∷ rest) rest }
+        ensures { (rest : List ℕ) → Visits (λ c places words. V.state c places self.old visitor.old words)
+            (λ c places words. V.state c places self.new visitor.new words) place (offset ∷ rest) rest }
     {
         let word = self.memory.read_u32((place + offset) as usize);
         visitor.visit(self, word);
@@ -53,7 +54,8 @@ impl CountedSpace {
     /// Visits the words at these offsets of an object.
     fn visit_offsets<V: Visitor>(&mut self, place: u32, offsets: &[u32], visitor: &mut V)
         requires { CanVisit (λ c places words. V.state c places self.old visitor.old words) place offsets.now }
-        ensures { Visits (λ c places words. V.state c places self.old visitor.old words) (λ c places words. V.state c places self.new visitor.new words) place offsets.now [] }
+        ensures { Visits (λ c places words. V.state c places self.old visitor.old words)
+            (λ c places words. V.state c places self.new visitor.new words) place offsets.now [] }
     {
         for offset in offsets {
             self.visit_at(place, *offset, visitor);
@@ -63,7 +65,8 @@ impl CountedSpace {
     /// Visits the elements of an array of so many references.
     fn visit_elements<V: Visitor>(&mut self, place: u32, count: u32, visitor: &mut V)
         requires { CanVisit (λ c places words. V.state c places self.old visitor.old words) place (word_offsets 32 count) }
-        ensures { Visits (λ c places words. V.state c places self.old visitor.old words) (λ c places words. V.state c places self.new visitor.new words) place (word_offsets 32 count) [] }
+        ensures { Visits (λ c places words. V.state c places self.old visitor.old words) (λ c places words. V.state c places self.new visitor.new words) place
+            (word_offsets 32 count) [] }
     {
         for index in 0..count {
             self.visit_at(place, FIRST_ELEMENT + 4 * index, visitor);
@@ -99,7 +102,8 @@ impl CountedSpace {
     /// Visits the elements of an array, where they are references.
     fn visit_array<V: Visitor>(&mut self, place: u32, elements: bool, visitor: &mut V)
         requires { CanVisitArray (λ c places words. V.state c places self.old visitor.old words) place elements }
-        ensures { VisitsArray (λ c places words. V.state c places self.old visitor.old words) (λ c places words. V.state c places self.new visitor.new words) place elements }
+        ensures { VisitsArray (λ c places words. V.state c places self.old visitor.old words)
+            (λ c places words. V.state c places self.new visitor.new words) place elements }
     {
         if elements {
             let count = self.memory.read_u32((place + ARRAY_LENGTH) as usize);
@@ -115,7 +119,8 @@ impl CountedSpace {
         visitor: &mut V,
     )
         requires { CanVisitObject (λ c places words. V.state c places self.old visitor.old words) types.now.declarations place }
-        ensures { VisitsObject (λ c places words. V.state c places self.old visitor.old words) (λ c places words. V.state c places self.new visitor.new words) types.now.declarations place }
+        ensures { VisitsObject (λ c places words. V.state c places self.old visitor.old words)
+            (λ c places words. V.state c places self.new visitor.new words) types.now.declarations place }
     {
         match self.trace_info_of(types, place) {
             Some(TraceInfo::Struct { gc_ref_offsets }) => {

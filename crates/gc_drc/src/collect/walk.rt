@@ -8,7 +8,8 @@ ghost use Rattle.gc_drc.specs.Layout.{size_at, block_of};
 ghost use Rattle.gc_drc.specs.View.{View};
 ghost use Rattle.gc_drc.specs.CollectOps.{without_one};
 ghost use Rattle.gc_drc.specs.CollectMemory.{Context, At, CanRelease};
-ghost use Rattle.gc_drc.specs.CollectWalk.{Garbage, CanFreeGarbage, IsBorder, IsNext, CanWalk, CanSweepGarbage, SweepsGarbage, CanFreeUnmarked, FreedUnmarked, walk_end};
+ghost use Rattle.gc_drc.specs.CollectWalk.{Garbage, CanFreeGarbage, IsBorder, IsNext, CanWalk, CanSweepGarbage, SweepsGarbage, CanFreeUnmarked, FreedUnmarked};
+ghost use Rattle.gc_drc.specs.CollectWalk.{walk_end};
 
 use crate::collect::cascade::is_place;
 use crate::collect::visit::Visitor;

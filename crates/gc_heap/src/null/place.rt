@@ -85,7 +85,9 @@ fn allocate_in(
     requires bumped { IsBumped memory.old next.old objects.old }
     requires new { IsNew header word size }
     ensures bumped { IsBumped memory.new next.new objects.new }
-    ensures allocated { (scopes : ℕ) (kind : VMGcKind) → IsOfKind kind header.kind_word → Allocated Null (bump_view memory.old next.old objects.old scopes) (bump_view memory.new next.new objects.new scopes) (placed kind header.type_word word size) size result }
+    ensures allocated { (scopes : ℕ) (kind : VMGcKind) → IsOfKind kind header.kind_word
+        → Allocated Null (bump_view memory.old next.old objects.old scopes) (bump_view memory.new next.new objects.new scopes)
+        (placed kind header.type_word word size) size result }
 {
     if size >= SIZE_LIMIT {
         return Err(HeapFault::TooLarge);
@@ -118,7 +120,8 @@ impl NullHeap {
         requires attached { (null_seen self.old).attached ≡ true }
         requires new { IsNew header word size }
         ensures sound { IsNullSound self.new }
-        ensures allocated { (kind : VMGcKind) → IsOfKind kind header.kind_word → Allocated Null (null_seen self.old) (null_seen self.new) (placed kind header.type_word word size) size result }
+        ensures allocated { (kind : VMGcKind) → IsOfKind kind header.kind_word
+            → Allocated Null (null_seen self.old) (null_seen self.new) (placed kind header.type_word word size) size result }
     {
         match &mut self.memory {
             Some(memory) => allocate_in(

@@ -34,7 +34,8 @@ fn read_header(memory: &HeapMemory, place: u32) -> Result<VMGcHeader, RefFault>
 /// The bytes that the header at a place says. `BadRef` exactly where they aren't all in the memory, or
 /// no object can begin.
 fn read_object(memory: &HeapMemory, place: u32) -> Result<&[u8], RefFault>
-    ensures { MatchResult result (λ bytes. HasObject memory.now place × (bytes.now ≡ take (u32_at memory.now place % spare_bits) (drop place memory.now))) (λ _. HasObject memory.now place → ⊥) }
+    ensures { MatchResult result (λ bytes. HasObject memory.now place × (bytes.now ≡ take (u32_at memory.now place % spare_bits) (drop place memory.now)))
+        (λ _. HasObject memory.now place → ⊥) }
 {
     match read_header(memory, place) {
         Ok(header) => {
@@ -52,7 +53,8 @@ fn read_object(memory: &HeapMemory, place: u32) -> Result<&[u8], RefFault>
 /// The first word of the data of an object of that kind at a place. `BadRef` exactly where it isn't
 /// in the memory, no object can begin, or its header is of another kind.
 fn read_first_word(memory: &HeapMemory, place: u32, kind: VMGcKind) -> Result<u32, RefFault>
-    ensures { MatchResult result (λ word. HasFirstWord memory.now place kind × (word ≡ u32_at memory.now (place + 8))) (λ _. HasFirstWord memory.now place kind → ⊥) }
+    ensures { MatchResult result (λ word. HasFirstWord memory.now place kind × (word ≡ u32_at memory.now (place + 8))) (λ _. HasFirstWord memory.now place kind
+        → ⊥) }
 {
     match read_header(memory, place) {
         Ok(header) => {
@@ -82,7 +84,8 @@ impl NullHeap {
     /// Lends the bytes of an object; `BadRef` only where no object is held.
     pub(super) fn object_bytes(&self, r: &VMGcRef) -> Result<&[u8], RefFault>
         requires { IsNullSound self.now }
-        ensures held { (object : HeapObject) → finite.get (null_seen self.now).content r.now ≡ Some object → IsOkAnd result (λ bytes. IsObjectData Null object bytes.now) }
+        ensures held { (object : HeapObject) → finite.get (null_seen self.now).content r.now ≡ Some object
+            → IsOkAnd result (λ bytes. IsObjectData Null object bytes.now) }
         ensures number { r.now % 2 ≡ 1 → IsErr result }
     {
         match &self.memory {
@@ -95,7 +98,8 @@ impl NullHeap {
     /// object of the kind is held.
     pub(super) fn first_word(&self, r: &VMGcRef, kind: VMGcKind) -> Result<u32, RefFault>
         requires { IsNullSound self.now }
-        ensures held { (object : HeapObject) → finite.get (null_seen self.now).content r.now ≡ Some object → object.kind ≡ kind → 12 ≤ held_size Null object → IsOkAnd result (λ word. word ≡ u32_at object.bytes 0) }
+        ensures held { (object : HeapObject) → finite.get (null_seen self.now).content r.now ≡ Some object → object.kind ≡ kind → 12 ≤ held_size Null object
+            → IsOkAnd result (λ word. word ≡ u32_at object.bytes 0) }
         ensures number { r.now % 2 ≡ 1 → IsErr result }
     {
         match &self.memory {
