@@ -16,8 +16,6 @@ pub mod parse;
 mod parts;
 mod plain;
 pub mod reply;
-#[cfg(test)]
-mod tests;
 pub mod text;
 mod types;
 mod words;

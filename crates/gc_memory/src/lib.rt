@@ -9,7 +9,5 @@
 
 pub mod memory;
 pub mod offsets;
-#[cfg(test)]
-mod tests;
 
 pub use memory::HeapMemory;

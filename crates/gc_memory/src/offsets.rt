@@ -6,7 +6,9 @@
 
 ghost use Rattle.std.specs.Prelude.{◌≡◌, ◌≤◌, ◌<◌, ◌+◌, ◌^◌};
 ghost use Rattle.gc_view.specs.Sizes.{alignment};
-ghost use Rattle.gc_memory.specs.Offsets.{array_length_offset, exception_instance_offset, exception_tag_offset, host_id_offset, external_size, stored_size, type_word_offset, header_size, count_offset, list_offset, counting_size_offset, link_offset, copying_size_offset, forwarding_offset, next_external_offset};
+ghost use Rattle.gc_memory.specs.Offsets.{array_length_offset, exception_instance_offset, exception_tag_offset, host_id_offset, external_size, stored_size};
+ghost use Rattle.gc_memory.specs.Offsets.{type_word_offset, header_size, count_offset, list_offset, counting_size_offset, link_offset, copying_size_offset};
+ghost use Rattle.gc_memory.specs.Offsets.{forwarding_offset, next_external_offset};
 
 use gc_types::Layouts;
 

@@ -37,6 +37,3 @@ pub use trace::InlineTraceInfo;
 pub use typed::{GcHeapObject, TypedGcRef};
 pub use v128::V128;
 pub use word::VMGcRef;
-
-#[cfg(test)]
-mod tests;

@@ -18,6 +18,3 @@ pub use entry::GcRoot;
 pub use iter::GcRootsIter;
 pub use list::GcRootsList;
 pub use place::RootPlace;
-
-#[cfg(test)]
-mod tests;

@@ -60,7 +60,8 @@ impl ContRefTable {
 
         ensures known { ForSome cont (λ value. IsInterned self.old value → IsOk result) }
 
-        ensures full { IsErrOf result InternFault.Full ↔ ((entry_count self.old ≡ max_entries) × ((value : ℕ) × (cont ≡ Some value) × (¬ IsInterned self.old value))) }
+        ensures full { IsErrOf result InternFault.Full ↔ ((entry_count self.old ≡ max_entries)
+            × ((value : ℕ) × (cont ≡ Some value) × (¬ IsInterned self.old value))) }
         ensures room { 0 < self.old.spare → ¬ IsErrOf result InternFault.Memory }
         ensures err { OnErr result (self.new.entries ≡ self.old.entries) }
 

@@ -23,6 +23,3 @@ pub use id::Id;
 pub use interner::InternFault;
 pub use iter::SlabIter;
 pub use slab::{Slab, SlabFault};
-
-#[cfg(test)]
-mod tests;

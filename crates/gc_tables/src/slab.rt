@@ -1,6 +1,7 @@
 //! A slab: values of one type, each under an id that the slab picks.
 
-ghost use Rattle.std.specs.Prelude.{ℕ, ◌≡◌, ◌≢◌, ◌↔◌, ◌+◌, ◌<◌, ◌≤◌, None, Some, Err, IsTrue, IsOk, IfOk, OnOk, OnErr, IfErr, IfNone, IsSome, option_copied, slice_index_or, map as list_map};
+ghost use Rattle.std.specs.Prelude.{ℕ, ◌≡◌, ◌≢◌, ◌↔◌, ◌+◌, ◌<◌, ◌≤◌, None, Some, Err, IsTrue, IsOk, IfOk, OnOk, OnErr, IfErr, IfNone, IsSome, option_copied};
+ghost use Rattle.std.specs.Prelude.{slice_index_or, map as list_map};
 ghost use Rattle.std.specs.Option.{option_copied_mut};
 ghost use Rattle.std.specs.FinMap as map;
 ghost use Rattle.std.specs.Borrow.{Lends, sem};

@@ -5,10 +5,10 @@ ghost use Rattle.std.specs.Int.{w32};
 ghost use Rattle.gc_refs.specs.LittleEndian.{unsigned_bytes};
 ghost use Rattle.gc_refs.specs.Views.{part_of, with_part};
 
-use crate::{DataFault, VMGcObjectDataMut};
+use gc_refs::{DataFault, VMGcObjectDataMut};
 
 /// Writes a number and copies it, so that it stands there twice.
-pub(super) fn writes_twice(bytes: &mut [u8], number: u32) -> Result<(), DataFault>
+pub(crate) fn write_twice(bytes: &mut [u8], number: u32) -> Result<(), DataFault>
     requires { 12 ≤ length bytes.old }
     ensures { let once = with_part bytes.old 4 (unsigned_bytes w32 number) in bytes.new ≡ with_part once 8 (part_of once 4 4) }
 {

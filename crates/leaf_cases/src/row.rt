@@ -1,0 +1,85 @@
+//! What stands in a row.
+
+use crate::fault::CaseFault;
+use std::alloc::Global;
+
+/// The words of a row that are no numbers, and its numbers.
+#[derive(Drop)]
+pub(crate) struct Row<'a> {
+    pub(crate) words: Vec<&'a str>,
+    pub(crate) numbers: Vec<u128>,
+}
+
+/// What stands in a row.
+pub(crate) fn row_of<'a>(alloc: Global, line: &'a str) -> Result<Row<'a>, CaseFault> {
+    let mut words = Vec::new(alloc);
+    let mut numbers = Vec::new(alloc);
+    for word in line.split_whitespace() {
+        match number_of(word) {
+            Some(number) => numbers.push(number)?,
+            None => words.push(word)?,
+        }
+    }
+    Ok(Row { words, numbers })
+}
+
+/// The number that a word is: in hexadecimal digits after `0x`, and of a negative one that which stands 2^128 above it.
+fn number_of(word: &str) -> Option<u128> {
+    if let Some(digits) = word.strip_prefix("0x") {
+        return u128::from_str_radix(digits, 16).ok();
+    }
+    if let Some(digits) = word.strip_prefix('-') {
+        let number: u128 = digits.parse().ok()?;
+        return Some(0u128.wrapping_sub(number));
+    }
+    word.parse().ok()
+}
+
+/// The low 8 bits of a number.
+pub(crate) fn low_u8(number: u128) -> u8 {
+    (number % 0x100) as u8
+}
+
+/// The low 16 bits of a number.
+pub(crate) fn low_u16(number: u128) -> u16 {
+    (number % 0x1_0000) as u16
+}
+
+/// The low 32 bits of a number.
+pub(crate) fn low_u32(number: u128) -> u32 {
+    (number % 0x1_0000_0000) as u32
+}
+
+/// The low 64 bits of a number.
+pub(crate) fn low_u64(number: u128) -> u64 {
+    (number % 0x1_0000_0000_0000_0000) as u64
+}
+
+/// The low 8 bits of a number, as signed.
+pub(crate) fn low_i8(number: u128) -> i8 {
+    low_u8(number).cast_signed()
+}
+
+/// The low 16 bits of a number, as signed.
+pub(crate) fn low_i16(number: u128) -> i16 {
+    low_u16(number).cast_signed()
+}
+
+/// The low 32 bits of a number, as signed.
+pub(crate) fn low_i32(number: u128) -> i32 {
+    low_u32(number).cast_signed()
+}
+
+/// The low 64 bits of a number, as signed.
+pub(crate) fn low_i64(number: u128) -> i64 {
+    low_u64(number).cast_signed()
+}
+
+/// The bytes that numbers are.
+pub(crate) fn bytes_of(alloc: Global, numbers: &[u128]) -> Result<Vec<u8>, CaseFault> {
+    let mut bytes = Vec::new(alloc);
+    for number in numbers {
+        bytes.push(low_u8(*number))?;
+    }
+    Ok(bytes)
+}
