@@ -17,7 +17,7 @@ unset_globals = replicate global_count empty_slot
 -- A store: its id, its types, its heap, its host values by their ids, its scoped roots, its generation,
 -- its frames and globals, its owned roots and how many were made, the word of the pending exception (0 where
 -- there is none), its function values by their ids, the bytes that were allocated after its last collection,
--- how many allocations it counted, and its configuration.
+-- how many allocations it counted, for how many more scoped roots it has room, and its configuration.
 pub record StoreView (D : Type 0) : Type 0 where
   pub engine : ℕ
   pub number : ℕ
@@ -34,6 +34,7 @@ pub record StoreView (D : Type 0) : Type 0 where
   pub funcs : List (Option Func)
   pub last : ℕ
   pub tries : ℕ
+  pub spare : ℕ
   pub first : ℕ
   pub max_scoped : ℕ
   pub max_owned : ℕ
@@ -57,6 +58,7 @@ empty_store engine number first max_scoped max_owned alloc_counter = record {
   funcs = [];
   last = 0;
   tries = 0;
+  spare = 0;
   first = first;
   max_scoped = max_scoped;
   max_owned = max_owned;

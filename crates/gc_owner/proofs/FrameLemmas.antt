@@ -18,7 +18,7 @@ use Rattle.gc_heap.specs.Collection.{CanCollect, IsWordOf}
 use Rattle.gc_heap.proofs.AddedLemmas.{start}
 use Rattle.gc_heap.proofs.RootedLemmas.{can_collect_cloned, can_collect_exposed, can_collect_unstacked}
 use Rattle.gc_owner.specs.declared.entry.SlotEntry.{SlotEntry}
-use Rattle.gc_owner.specs.RootColumns.{RootsView, scoped_words, owned_words, slot_words, global_words, listed_as, roots_of, empty_slot, newest_start, with_frame, without_frame, with_room, RiseFrom, AreFrames}
+use Rattle.gc_owner.specs.RootColumns.{RootsView, scoped_words, owned_words, slot_words, global_words, listed_as, roots_of, empty_slot, newest_start, with_frame, without_frame, with_places, RiseFrom, AreFrames}
 use Rattle.gc_owner.specs.Owners.{raised}
 use Rattle.gc_owner.specs.ShownWords.{copied_to_slot}
 use Rattle.gc_owner.specs.Tracing.{IsCollectable}
@@ -169,8 +169,8 @@ frame_roots count r =
 
 -- What a call that opens a frame answers and leaves.
 pub record Opens (count : ℕ) (old new : RootsView) (result : Result (Unit {0}) AllocError) : Type 0 where
-  pub ok : OnOk result (new ≡ with_room new (with_frame count old))
-  pub err : OnErr result (new ≡ with_room new old)
+  pub ok : OnOk result (new ≡ with_places new (with_frame count old))
+  pub err : OnErr result (new ≡ with_places new old)
 
 pub opened_kept : (layouts : Layouts) (types : List Declaration) (h : HeapView) (count : ℕ) (old new : RootsView) (hosts : ℕ → Bool) (result : Result (Unit {0}) AllocError) → Opens count old new result → IsCollectable layouts types h (roots_of old) hosts
     → IsCollectable layouts types h (roots_of new) hosts
@@ -204,7 +204,7 @@ frame_left layouts types h r hosts can = slots_left layouts types h r hosts (new
 
 -- What a call that closes a frame answers and leaves.
 pub record Closes (old new : RootsView) (closed : Bool) : Type 0 where
-  pub some : closed ≡ true → (0 < length old.frames) × (new ≡ with_room new (without_frame old))
+  pub some : closed ≡ true → (0 < length old.frames) × (new ≡ with_places new (without_frame old))
   pub none : closed ≡ false → (old.frames ≡ []) × (new ≡ old)
 
 pub closed_kept : (layouts : Layouts) (types : List Declaration) (h : HeapView) (old new : RootsView) (hosts : ℕ → Bool) (closed : Bool) → Closes old new closed → IsCollectable layouts types h (roots_of old) hosts → IsCollectable layouts types h (roots_of new) hosts

@@ -15,8 +15,8 @@ pub used_list : (is_listing : Bool) (roots listed : List Root) → cond is_listi
 used_list true roots listed e = (refl, cc)
 used_list false roots listed e = absurd (cc)
 
--- the list changed, and its spare places are as many as before
-pub list_stepped : (old new now : RootsView) (listed : List Root) → old ≡ now → new.spare ≡ old.spare → new.listed ≡ Some listed → new.list_spare ≡ old.list_spare → new ≡ record old { spare = new.spare; listed = new.listed; list_spare = new.list_spare }
+-- the list changed, and its places are as many as before
+pub list_stepped : (old new now : RootsView) (listed : List Root) → old ≡ now → new.listed ≡ Some listed → new.list_spare ≡ old.list_spare → new ≡ record old { listed = new.listed; list_spare = new.list_spare }
     → new ≡ record now { listed = Some listed }
-list_stepped old new now listed is spare listed_is list_spare rest =
-    rest ∙ (λ i. record old { spare = spare i; listed = listed_is i; list_spare = list_spare i }) ∙ ap (λ (r : RootsView). record r { listed = Some listed }) is
+list_stepped old new now listed is listed_is list_spare rest =
+    rest ∙ (λ i. record old { listed = listed_is i; list_spare = list_spare i }) ∙ ap (λ (r : RootsView). record r { listed = Some listed }) is

@@ -10,7 +10,7 @@ use Rattle.gc_view.specs.Heaps.{HeapView, SameHeld}
 use Rattle.gc_heap.specs.Content.{IsHeap}
 use Rattle.gc_heap.specs.Collection.{IsWordOf}
 use Rattle.gc_owner.specs.declared.entry.OwnedEntry.{OwnedEntry}
-use Rattle.gc_owner.specs.RootColumns.{RootsView, scoped_words, owned_words, slot_words, global_words, listed_as, roots_of, empty_entry, with_handles, with_room, with_owned_root, with_handle_count}
+use Rattle.gc_owner.specs.RootColumns.{RootsView, scoped_words, owned_words, slot_words, global_words, listed_as, roots_of, empty_entry, with_handles, with_places, with_owned_root, with_handle_count}
 use Rattle.gc_owner.specs.Owners.{raised, lowered, CanDropWord}
 use Rattle.gc_owner.specs.DroppedRoots.{released}
 use Rattle.gc_owner.specs.Tracing.{IsCollectable}
@@ -31,12 +31,12 @@ abbrev pub with_owned : List OwnedEntry → RootsView → RootsView
 with_owned es r = record r { owned = es }
 
 -- the owned roots without handles were forgotten
-pub forgotten : (old new now : RootsView) → old ≡ now → new.owned ≡ with_handles old.owned → new ≡ record old { owned = new.owned; spare = new.spare; list_spare = new.list_spare }
-    → new ≡ with_room new (record now { owned = with_handles now.owned })
+pub forgotten : (old new now : RootsView) → old ≡ now → new.owned ≡ with_handles old.owned → new ≡ record old { owned = new.owned; list_spare = new.list_spare }
+    → new ≡ with_places new (record now { owned = with_handles now.owned })
 forgotten old new now is kept rest =
     rest
-    ∙ ap (λ (es : List OwnedEntry). record old { owned = es; spare = new.spare; list_spare = new.list_spare }) kept
-    ∙ ap (λ (r : RootsView). with_room new (record r { owned = with_handles r.owned })) is
+    ∙ ap (λ (es : List OwnedEntry). record old { owned = es; list_spare = new.list_spare }) kept
+    ∙ ap (λ (r : RootsView). with_places new (record r { owned = with_handles r.owned })) is
 
 -- an owned root was added
 pub owned_kept : (layouts : Layouts) (types : List Declaration) (h : HeapView) (r : RootsView) (hosts : ℕ → Bool) (word : ℕ) → IsCollectable layouts types h (roots_of r) hosts → IsWordOf h word

@@ -43,7 +43,7 @@ empty_memory Counting = refl
 empty_memory Copying = refl
 
 -- a new owner is ready
-pub can_begin_new : (layouts : Layouts) (types : List Declaration) (h : HeapView) (r : RootsView) (hosts : ℕ → Bool) → h ≡ detached → r ≡ no_roots r.spare r.list_spare → IsCollectable layouts types h (roots_of r) hosts
+pub can_begin_new : (layouts : Layouts) (types : List Declaration) (h : HeapView) (r : RootsView) (hosts : ℕ → Bool) → h ≡ detached → r ≡ no_roots r.list_spare → IsCollectable layouts types h (roots_of r) hosts
 can_begin_new layouts types h r hosts none new =
     subst (λ (v : HeapView). IsCollectable layouts types v (roots_of r) hosts) (sym none)
     (subst (λ (rs : List Root). IsCollectable layouts types detached rs hosts) (sym (ap roots_of new)) (record {

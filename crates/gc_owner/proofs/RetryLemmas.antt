@@ -86,7 +86,7 @@ module _ {D : Type 0} (layouts : Layouts) (d : Description) (o : HeapObject) (si
       record {
         heap = trims.is_heap;
         can = trims.can;
-        make = make_later layouts d o size old new (ap (λ (v : OwnerView D). v.idle) trims.changes.rest ∙ at.make.idle) (trims.changes.held.attached ∙ at.make.attached) trims.spare
+        make = make_later layouts d o size old new (ap (λ (v : OwnerView D). v.idle) trims.changes.rest ∙ at.make.idle) (trims.changes.held.attached ∙ at.make.attached) (let same = ap (λ (v : OwnerView D). v.roots.spare) trims.changes.rest in omega arith)
             (ap (λ (v : OwnerView D). length v.roots.scoped) trims.changes.rest) described at.make;
         described = described;
       }

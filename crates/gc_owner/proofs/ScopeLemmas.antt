@@ -71,27 +71,26 @@ module _ (layouts : Layouts) (types : List Declaration) (h : HeapView) (hosts : 
       let past = pops.past in
       sym (take-append-le mark new.scoped (pops.entry ∷ []) (omega arith)) ∙ ap (take mark) (sym pops.scoped)
 
-  pub popped_rest : (first : RootsView) → old ≡ record first { scoped = old.scoped; spare = old.spare } → new ≡ record first { scoped = new.scoped; spare = new.spare }
-  popped_rest first was = pops.rest ∙ ap (λ (r : RootsView). record r { scoped = new.scoped; spare = new.spare }) was
+  pub popped_rest : (first : RootsView) → old ≡ record first { scoped = old.scoped } → new ≡ record first { scoped = new.scoped }
+  popped_rest first was = pops.rest ∙ ap (λ (r : RootsView). record r { scoped = new.scoped }) was
 
 -- all roots past the mark were dropped
-pub all_popped : (mark : ℕ) (first now end : RootsView) → end ≡ now → length now.scoped ≤ mark → take mark now.scoped ≡ take mark first.scoped → now ≡ record first { scoped = now.scoped; spare = now.spare }
-    → end ≡ record first { scoped = take mark first.scoped; spare = end.spare }
+pub all_popped : (mark : ℕ) (first now end : RootsView) → end ≡ now → length now.scoped ≤ mark → take mark now.scoped ≡ take mark first.scoped → now ≡ record first { scoped = now.scoped }
+    → end ≡ record first { scoped = take mark first.scoped }
 all_popped mark first now end is few front rest =
-    is ∙ rest ∙ ap₂ (λ (es : List RootEntry) (n : ℕ). record first { scoped = es; spare = n }) (sym (take_all mark now.scoped few) ∙ front) (ap (λ (r : RootsView). r.spare) (sym is))
+    is ∙ rest ∙ ap (λ (es : List RootEntry). record first { scoped = es }) (sym (take_all mark now.scoped few) ∙ front)
 
 -- the scope dropped none, or some
-pub left_none : (mark : ℕ) (r : RootsView) → length r.scoped ≤ mark → r ≡ left_scope mark r.spare r
+pub left_none : (mark : ℕ) (r : RootsView) → length r.scoped ≤ mark → r ≡ left_scope mark r
 left_none mark r few =
     let front : r.scoped ≡ take mark r.scoped = sym (take_all mark r.scoped few) in
     let generation : r.generation ≡ generation_after mark r = sym (ap (λ b. cond b r.generation (min (r.generation + 1) (2 ^ 64 - 1))) (le-leb (length r.scoped) mark few)) in
     λ i. record r { scoped = front i; generation = generation i }
 
-pub left_some : (mark : ℕ) (r dropped now : RootsView) → mark < length r.scoped → dropped ≡ record r { scoped = take mark r.scoped; spare = dropped.spare } → now ≡ record dropped { generation = min (dropped.generation + 1) (2 ^ 64 - 1) }
-    → now ≡ left_scope mark now.spare r
+pub left_some : (mark : ℕ) (r dropped now : RootsView) → mark < length r.scoped → dropped ≡ record r { scoped = take mark r.scoped } → now ≡ record dropped { generation = min (dropped.generation + 1) (2 ^ 64 - 1) }
+    → now ≡ left_scope mark r
 left_some mark r dropped now past all ended =
     let generation : min (r.generation + 1) (2 ^ 64 - 1) ≡ generation_after mark r = sym (ap (λ b. cond b r.generation (min (r.generation + 1) (2 ^ 64 - 1))) (lt-leb (length r.scoped) mark past)) in
-    let spare : dropped.spare ≡ now.spare = ap (λ (v : RootsView). v.spare) (sym ended) in
     ended
     ∙ ap (λ (v : RootsView). record v { generation = min (v.generation + 1) (2 ^ 64 - 1) }) all
-    ∙ ap₂ (λ (n m : ℕ). record r { scoped = take mark r.scoped; generation = n; spare = m }) generation spare
+    ∙ ap (λ (n : ℕ). record r { scoped = take mark r.scoped; generation = n }) generation

@@ -15,7 +15,7 @@ pub record PopsOne (mark : ℕ) (old new : RootsView) (word : ℕ) : Type 0 wher
   pub entry : RootEntry
   pub scoped : old.scoped ≡ new.scoped ++ entry ∷ []
   pub word_is : entry.word ≡ word
-  pub rest : new ≡ record old { scoped = new.scoped; spare = new.spare }
+  pub rest : new ≡ record old { scoped = new.scoped }
 
 -- what taking the newest scoped root past so many answers and leaves
 abbrev pub PopsPast : ℕ → RootsView → RootsView → Option ℕ → Type 0

@@ -11,7 +11,7 @@ use Rattle.gc_heap.specs.Barriers.{cloned, dropped, CanName, CanUnname}
 use Rattle.gc_heap.specs.Collection.{Stage, stage, Start, CanCollect, Collected, has_host, IsPartOf, IsIncrements}
 use Rattle.gc_heap.specs.declared.collection.GcProgress.{GcProgress}
 use Rattle.gc_heap.specs.declared.collection.GcProgress.TheVariants as progress
-use Rattle.gc_owner.specs.RootColumns.{RootsView, no_roots, roots_of, moved_roots, with_room, without_list, with_owned_root, without_unheld, without_frame}
+use Rattle.gc_owner.specs.RootColumns.{RootsView, no_roots, roots_of, moved_roots, with_places, without_list, with_owned_root, without_unheld, without_frame}
 use Rattle.gc_owner.specs.Tracing.{start_from, AreTraced, IsCollectable}
 
 -- An owner: its heap, its types, the host values by their ids, the roots, the bytes that were allocated after
@@ -31,13 +31,13 @@ pub record OwnerValue (H S D : Type 0) : Type 0 where
   pub heap : H
   pub state : Option S
 
--- an owner of nothing, with the id of its types and room for so many roots
-abbrev pub new_owner : {D : Type 0} → ℕ → ℕ → ℕ → ℕ → OwnerView D
-new_owner engine number spare list_spare = record {
+-- an owner of nothing, with the id of its types and so many places in the list of a collection
+abbrev pub new_owner : {D : Type 0} → ℕ → ℕ → ℕ → OwnerView D
+new_owner engine number list_spare = record {
   heap = detached;
   types = record { engine = engine; number = number; declarations = [] };
   hosts = empty;
-  roots = no_roots spare list_spare;
+  roots = no_roots list_spare;
   last = 0;
   idle = true;
 }
@@ -127,10 +127,9 @@ pub record ChangesRoots {D : Type 0} (old new : OwnerView D) (roots : RootsView)
   pub held : SameHeld old.heap new.heap
   pub rest : new ≡ record old { heap = new.heap; roots = roots }
 
--- The owned roots without handles were dropped: there is room for no fewer scoped roots, and a collection may begin.
+-- The owned roots without handles were dropped, and a collection may begin.
 pub record Trims {D : Type 0} (layouts : Layouts) (old new : OwnerView D) : Type 0 where
-  pub changes : ChangesRoots old new (with_room new.roots (without_unheld old.roots))
-  pub spare : old.roots.spare ≤ new.roots.spare
+  pub changes : ChangesRoots old new (with_places new.roots (without_unheld old.roots))
   pub is_heap : IsHeap layouts new.heap
   pub can : CanBegin layouts new
 
@@ -142,11 +141,11 @@ pub record Collects {D : Type 0} (layouts : Layouts) (old new : OwnerView D) : T
 
 -- an owned root was added
 abbrev pub OwnsRoot : {D : Type 0} → OwnerView D → OwnerView D → ℕ → Type 0
-OwnsRoot old new word = ChangesRoots old new (with_room new.roots (with_owned_root word old.roots))
+OwnsRoot old new word = ChangesRoots old new (with_places new.roots (with_owned_root word old.roots))
 
 -- the newest frame was closed
 abbrev pub ClosesFrame : {D : Type 0} → OwnerView D → OwnerView D → Type 0
-ClosesFrame old new = (0 < length old.roots.frames) × (new ≡ record old { roots = with_room new.roots (without_frame old.roots) })
+ClosesFrame old new = (0 < length old.roots.frames) × (new ≡ record old { roots = with_places new.roots (without_frame old.roots) })
 
 -- A collection from all roots of an owner is under way, after so many increments.
 pub record IsGoing {H S D : Type 0} (k : Kind H S) (s : Start) (n : ℕ) (c : Bool) (begun now : OwnerValue H S D) : Type 0 where

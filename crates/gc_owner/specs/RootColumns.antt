@@ -1,5 +1,6 @@
 -- The roots of an owner by their kinds, and the list of them that a collection is given.
-use Rattle.std.specs.Prelude.{◌≡◌, ℕ, ◌+◌, ◌-◌, ◌^◌, ◌<◌, ◌≤◌, ◌==◌, min, not, nat_le, if◌then◌else◌, Bool, true, false, Option, Some, None, List, [], ◌∷◌, ◌++◌, length, map, filter, take, drop, slice_set, slice_index_or, replicate}
+use Rattle.std.specs.Prelude.{◌≡◌, ℕ, ◌+◌, ◌-◌, ◌^◌, ◌<◌, ◌≤◌, ◌==◌, min, max, not, nat_le, if◌then◌else◌, Bool, true, false, Option, Some, None, Result, Ok, Err, List, [], ◌∷◌, ◌++◌, length, map, filter, take, drop, slice_set, slice_index_or, replicate}
+use Rattle.std.specs.declared.alloc.AllocError.{AllocError}
 use Rattle.gc_roots.specs.Roots.{Root, root}
 use Rattle.gc_heap.specs.Collection.{moved, moved_root}
 use Rattle.gc_owner.specs.declared.entry.GcClass.TheVariants.{Any}
@@ -38,9 +39,9 @@ empty_slot = record { class = Any; word = 0 }
 abbrev pub empty_entry : OwnedEntry
 empty_entry = record { number = 0; handles = 0; word = 0 }
 
--- no roots, with room for so many scoped ones, and so many in the list
-abbrev pub no_roots : ℕ → ℕ → RootsView
-no_roots spare list_spare = record {
+-- no roots, with so many places in the list
+abbrev pub no_roots : ℕ → RootsView
+no_roots list_spare = record {
   scoped = [];
   owned = [];
   owns = 0;
@@ -49,7 +50,7 @@ no_roots spare list_spare = record {
   globals = replicate global_count empty_slot;
   pending = 0;
   generation = 0;
-  spare = spare;
+  spare = 0;
   listed = None;
   given = 0;
   list_spare = list_spare;
@@ -133,9 +134,19 @@ pub record AreFew (r : RootsView) : Type 0 where
   pub owned : length r.owned ≤ 2 ^ 32
   pub globals : length r.globals ≡ global_count
 
--- the roots with as much room as others have
+-- the roots with as many places in the list as others have
+abbrev pub with_places : RootsView → RootsView → RootsView
+with_places other r = record r { list_spare = other.list_spare }
+
+-- the roots with as much room as others have, for scoped roots and in the list
 abbrev pub with_room : RootsView → RootsView → RootsView
 with_room other r = record r { spare = other.spare; list_spare = other.list_spare }
+
+-- Room for so many more scoped roots was asked for: there is that, or what there was if it is more. Only where there
+-- was less memory may be wanted, and the room is as it was then.
+abbrev pub Reserves : ℕ → ℕ → ℕ → Result (Unit {0}) AllocError → Type 0
+Reserves count old new (Ok done) = new ≡ max old count
+Reserves count old new (Err e) = (old < count) × (new ≡ old)
 
 -- the roots while the list of a collection has these of them
 abbrev pub with_list : List Root → RootsView → RootsView
@@ -146,8 +157,8 @@ abbrev pub without_list : RootsView → RootsView
 without_list r = record r { listed = None; given = 0 }
 
 -- the roots after a scope was left with so many scoped ones
-abbrev pub left_scope : ℕ → ℕ → RootsView → RootsView
-left_scope mark spare r = record r { scoped = take mark r.scoped; generation = generation_after mark r; spare = spare }
+abbrev pub left_scope : ℕ → RootsView → RootsView
+left_scope mark r = record r { scoped = take mark r.scoped; generation = generation_after mark r }
 
 -- the roots with other globals, slots or pending exception
 abbrev pub with_global : ℕ → SlotEntry → RootsView → RootsView

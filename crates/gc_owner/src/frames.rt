@@ -2,7 +2,7 @@
 
 ghost use Rattle.std.specs.Prelude.{◌≡◌, ◌↔◌, ◌+◌, true, false, [], length, slice_index_or, IfSome, IsNone, OnOk, OnErr};
 ghost use Rattle.gc_heap.specs.Collection.{IsWordOf};
-ghost use Rattle.gc_owner.specs.RootColumns.{HasSlot, empty_slot, newest_start, with_frame, with_room, with_slot};
+ghost use Rattle.gc_owner.specs.RootColumns.{HasSlot, empty_slot, newest_start, with_frame, with_places, with_slot};
 ghost use Rattle.gc_owner.specs.Owners.{ChangesRoots, ClosesFrame};
 
 use crate::barriers::show_word;
@@ -15,8 +15,8 @@ impl<H: GcHeap, D: Drop> HeapOwner<H, D> {
     /// Opens a frame of so many slots, each of which holds nothing. An error is want of memory.
     pub fn push_frame(&mut self, slots: u32) -> Result<(), AllocError>
         requires idle { self.old.seen.idle ≡ true }
-        ensures ok { OnOk result (self.new.seen ≡ record self.old.seen { roots = with_room self.new.seen.roots (with_frame slots self.old.seen.roots) }) }
-        ensures err { OnErr result (self.new.seen ≡ record self.old.seen { roots = with_room self.new.seen.roots self.old.seen.roots }) }
+        ensures ok { OnOk result (self.new.seen ≡ record self.old.seen { roots = with_places self.new.seen.roots (with_frame slots self.old.seen.roots) }) }
+        ensures err { OnErr result (self.new.seen ≡ record self.old.seen { roots = with_places self.new.seen.roots self.old.seen.roots }) }
     {
         self.roots.push_frame(slots)
     }
@@ -38,6 +38,14 @@ impl<H: GcHeap, D: Drop> HeapOwner<H, D> {
     {
         let _heap = &self.heap;
         self.roots.slot_count()
+    }
+
+    /// The slots of all open frames, the oldest frame's first.
+    pub fn slots(&self) -> &[SlotEntry]
+        ensures { result.now ≡ self.now.seen.roots.slots }
+    {
+        let _heap = &self.heap;
+        self.roots.slots()
     }
 
     /// The slot of that index in the newest frame.

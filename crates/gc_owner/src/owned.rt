@@ -3,7 +3,7 @@
 ghost use Rattle.std.specs.Prelude.{◌≡◌, ◌-◌, ◌<◌, ◌^◌, true, length, OnOk, OnErr};
 ghost use Rattle.gc_view.specs.Heaps.{SameHeld};
 ghost use Rattle.gc_heap.specs.Collection.{IsWordOf};
-ghost use Rattle.gc_owner.specs.RootColumns.{roots_of, with_room, with_handle_count, without_unheld};
+ghost use Rattle.gc_owner.specs.RootColumns.{roots_of, with_places, with_handle_count, without_unheld};
 ghost use Rattle.gc_owner.specs.Owners.{OwnsRoot, CanDropWord, Trims};
 ghost use Rattle.gc_owner.specs.DroppedRoots.{CanDropRoots, released};
 ghost use Rattle.gc_owner.specs.Tracing.{KeepsCollectable};
@@ -66,7 +66,7 @@ impl<H: GcHeap, D: Drop> HeapOwner<H, D> {
         requires numbered { self.old.seen.roots.owns < 2 ^ 64 - 1 }
         requires word { IsWordOf self.old.seen.heap word }
         ensures ok { OnOk result (OwnsRoot self.old.seen self.new.seen word) }
-        ensures err { OnErr result (self.new.seen ≡ record self.old.seen { roots = with_room self.new.seen.roots self.old.seen.roots }) }
+        ensures err { OnErr result (self.new.seen ≡ record self.old.seen { roots = with_places self.new.seen.roots self.old.seen.roots }) }
     {
         self.roots.are_few();
         self.roots.own(word)?;

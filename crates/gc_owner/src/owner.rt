@@ -51,7 +51,7 @@ impl<H: GcHeap + Drop, D: Drop> HeapOwner<H, D> {
     ) -> Result<HeapOwner<H, D>, AllocError>
         requires sound { H.sound heap }
         requires empty { H.seen heap ≡ detached }
-        ensures seen { IfOk result (λ o. o.seen ≡ new_owner engine number o.seen.roots.spare o.seen.roots.list_spare) }
+        ensures seen { IfOk result (λ o. o.seen ≡ new_owner engine number o.seen.roots.list_spare) }
     {
         Ok(HeapOwner {
             alloc,

@@ -5,7 +5,8 @@ ghost use Rattle.std.specs.Prelude.{IfOk, IfSome, IsNone, OnOk, OnErr, slice_ind
 ghost use Rattle.gc_types.specs.Declarations.{Declaration};
 ghost use Rattle.gc_roots.specs.Roots.{Root};
 ghost use Rattle.gc_heap.specs.Collection.{Start, stage, has_host, IsPartOf, moved_root};
-ghost use Rattle.gc_owner.specs.RootColumns.{no_roots, roots_of, all_roots, moved_roots, MovesAll, with_list, without_list, with_room};
+ghost use Rattle.gc_owner.specs.RootColumns.{no_roots, roots_of, all_roots, moved_roots, MovesAll, with_list, without_list, with_room, with_places};
+ghost use Rattle.gc_owner.specs.RootColumns.{Reserves};
 ghost use Rattle.gc_owner.specs.RootColumns.{with_scoped, with_owned_root, with_handle_count, without_unheld, with_frame, without_frame};
 ghost use Rattle.gc_owner.specs.RootColumns.{with_slot, with_global, newest_start, HasSlot, AreFrames, AreFew, global_count, empty_slot};
 ghost use Rattle.gc_owner.specs.DroppedRoots.{PopsPast};
@@ -48,6 +49,8 @@ const NOTHING: SlotEntry = SlotEntry {
 pub(crate) struct Roots {
     /// The scoped roots, from the oldest on.
     scoped: Vec<RootEntry>,
+    /// For how many more scoped roots there is room, which nothing but a push lowers.
+    spare: usize,
     /// The owned roots, from the oldest on.
     owned: Vec<OwnedEntry>,
     /// How many owned roots were made; it is the number of the next one.
@@ -84,16 +87,16 @@ impl Model for Roots {
       globals = s.globals.items;
       pending = s.pending;
       generation = s.generation;
-      spare = min (vec_capacity s.scoped - vec_len s.scoped)
-          (s.list.spare + s.given - (vec_len s.scoped + vec_len s.owned + vec_len s.slots + global_count + 1));
+      spare = s.spare;
       listed = if s.is_listing then Some s.list.roots else None;
       given = s.given;
       list_spare = s.list.spare + s.given;
     } };
 
     ghost invariant = { λ s. (s.is_listing ≡ false → (s.list.roots ≡ []) × (s.given ≡ 0))
-        × (vec_len s.scoped + vec_len s.owned + vec_len s.slots + global_count + 1 ≤ s.list.spare + s.given)
-        × (vec_len s.scoped ≤ 2 ^ 32) × (vec_len s.owned ≤ 2 ^ 32) × (vec_len s.globals ≡ global_count) × AreFrames s.frames.items (vec_len s.slots) };
+        × (vec_len s.scoped + s.spare + vec_len s.owned + vec_len s.slots + global_count + 1 ≤ s.list.spare + s.given)
+        × (vec_len s.scoped ≤ 2 ^ 32) × (vec_len s.owned ≤ 2 ^ 32) × (vec_len s.globals ≡ global_count) × AreFrames s.frames.items (vec_len s.slots)
+        × (vec_len s.scoped + s.spare ≤ vec_capacity s.scoped) };
 }
 
 /// Puts all roots into the list of a collection, which is empty.
@@ -141,7 +144,7 @@ fn take_all(
 impl Roots {
     /// No roots.
     pub(crate) fn new(alloc: Global) -> Result<Roots, AllocError>
-        ensures { IfOk result (λ r. r ≡ no_roots r.spare r.list_spare) }
+        ensures { IfOk result (λ r. r ≡ no_roots r.list_spare) }
     {
         let mut globals = Vec::new(alloc);
         globals.resize(GLOBAL_COUNT as usize, NOTHING)?;
@@ -149,6 +152,7 @@ impl Roots {
         list.reserve(OTHER_PLACES)?;
         Ok(Roots {
             scoped: Vec::new(alloc),
+            spare: 0,
             owned: Vec::new(alloc),
             owns: 0,
             slots: Vec::new(alloc),
@@ -187,12 +191,17 @@ impl Roots {
 
     /// Makes room for so many more scoped roots, here and in the list of a collection.
     pub(crate) fn reserve(&mut self, additional: usize) -> Result<(), AllocError>
-        ensures room { OnOk result (additional ≤ self.new.spare) }
+        ensures spare { Reserves additional self.old.spare self.new.spare result }
         ensures rest { self.new ≡ with_room self.new self.old }
     {
+        if additional <= self.spare {
+            return Ok(());
+        }
         let count = self.scoped.len() + self.owned.len() + self.slots.len() + OTHER_PLACES;
         self.list.reserve(count.saturating_add(additional))?;
-        self.scoped.reserve(additional)
+        self.scoped.reserve(additional)?;
+        self.spare = additional;
+        Ok(())
     }
 
     /// Adds a scoped root, for which there is room, and answers its index.
@@ -205,6 +214,7 @@ impl Roots {
         let index = self.scoped.len() as u32;
         let generation = self.generation;
         self.scoped.push_reserved(RootEntry { generation, word });
+        self.spare -= 1;
         index
     }
 
@@ -248,11 +258,11 @@ impl Roots {
     pub(crate) fn own(&mut self, word: u32) -> Result<(), AllocError>
         requires few { length self.old.owned < 2 ^ 32 }
         requires numbered { self.old.owns < 2 ^ 64 - 1 }
-        ensures ok { OnOk result (self.new ≡ with_room self.new (with_owned_root word self.old)) }
-        ensures err { OnErr result (self.new ≡ with_room self.new self.old) }
+        ensures ok { OnOk result (self.new ≡ with_places self.new (with_owned_root word self.old)) }
+        ensures err { OnErr result (self.new ≡ with_places self.new self.old) }
     {
         let count = self.scoped.len() + self.owned.len() + self.slots.len() + OTHER_PLACES;
-        self.list.reserve(count.saturating_add(1))?;
+        self.list.reserve(count + self.spare + 1)?;
         self.owned.push(OwnedEntry {
             number: self.owns,
             handles: 1,
@@ -272,8 +282,7 @@ impl Roots {
 
     /// Forgets the owned roots without handles.
     pub(crate) fn forget_unheld(&mut self)
-        ensures roots { self.new ≡ with_room self.new (without_unheld self.old) }
-        ensures spare { self.old.spare ≤ self.new.spare }
+        ensures { self.new ≡ with_places self.new (without_unheld self.old) }
     {
         self.owned.retain(|entry| entry.handles != 0);
     }
@@ -281,13 +290,13 @@ impl Roots {
     /// Opens a frame of so many slots, each of which holds nothing, and makes room for them in the list of a
     /// collection.
     pub(crate) fn push_frame(&mut self, slots: u32) -> Result<(), AllocError>
-        ensures ok { OnOk result (self.new ≡ with_room self.new (with_frame slots self.old)) }
-        ensures err { OnErr result (self.new ≡ with_room self.new self.old) }
+        ensures ok { OnOk result (self.new ≡ with_places self.new (with_frame slots self.old)) }
+        ensures err { OnErr result (self.new ≡ with_places self.new self.old) }
     {
         let start = self.slots.len();
         let end = start + slots as usize;
         let count = self.scoped.len() + self.owned.len() + end + OTHER_PLACES;
-        self.list.reserve(count)?;
+        self.list.reserve(count + self.spare)?;
         self.frames.reserve(1)?;
         self.slots.resize(end, NOTHING)?;
         self.frames.push_reserved(start);
@@ -296,7 +305,7 @@ impl Roots {
 
     /// Closes the newest frame, and answers whether there was one.
     pub(crate) fn pop_frame(&mut self) -> bool
-        ensures closed { result ≡ true → (0 < length self.old.frames) × (self.new ≡ with_room self.new (without_frame self.old)) }
+        ensures closed { result ≡ true → (0 < length self.old.frames) × (self.new ≡ with_places self.new (without_frame self.old)) }
         ensures none { result ≡ false → (self.old.frames ≡ []) × (self.new ≡ self.old) }
     {
         match self.frames.pop() {
@@ -315,6 +324,13 @@ impl Roots {
     {
         let start = self.frames.last()?;
         Some(self.slots.len() - *start)
+    }
+
+    /// The slots of all open frames, the oldest frame's first.
+    pub(crate) fn slots(&self) -> &[SlotEntry]
+        ensures { result.now ≡ self.now.slots }
+    {
+        self.slots.as_slice()
     }
 
     /// The slot of that index in the newest frame.

@@ -1,9 +1,9 @@
 //! Scoped roots.
 
-ghost use Rattle.std.specs.Prelude.{◌≡◌, ◌<◌, ◌≤◌, ◌^◌, true, length, take, OnOk};
+ghost use Rattle.std.specs.Prelude.{◌≡◌, ◌<◌, ◌^◌, true, length, take};
 ghost use Rattle.gc_view.specs.Heaps.{SameHeld};
 ghost use Rattle.gc_heap.specs.Collection.{IsWordOf};
-ghost use Rattle.gc_owner.specs.RootColumns.{with_scoped, with_room, left_scope, roots_of};
+ghost use Rattle.gc_owner.specs.RootColumns.{with_scoped, with_room, left_scope, roots_of, Reserves};
 ghost use Rattle.gc_owner.specs.DroppedRoots.{CanDropRoots};
 ghost use Rattle.gc_owner.specs.Tracing.{KeepsCollectable};
 ghost use Rattle.gc_owner.specs.Owners.{raised, ChangesRoots};
@@ -22,7 +22,7 @@ fn drop_past<H: GcHeap>(heap: &mut H, roots: &mut Roots, mark: usize)
     ensures sound { H.sound heap.new }
     ensures held { SameHeld (H.seen heap.old) (H.seen heap.new) }
     ensures keeps { KeepsCollectable H.KIND (H.seen heap.old) (roots_of roots.old) (H.seen heap.new) (roots_of roots.new) }
-    ensures roots { roots.new ≡ record roots.old { scoped = take mark roots.old.scoped; spare = roots.new.spare } }
+    ensures roots { roots.new ≡ record roots.old { scoped = take mark roots.old.scoped } }
 {
     while let Some(word) = roots.pop_past(mark) {
         drop_word(heap, word);
@@ -46,10 +46,11 @@ impl<H: GcHeap, D: Drop> HeapOwner<H, D> {
         self.roots.generation()
     }
 
-    /// Makes room: so many scoped roots can then be pushed, which takes no memory.
+    /// Makes room: so many scoped roots can then be pushed, which takes no memory. Nothing but a push lowers how many
+    /// can. An error is want of memory.
     pub fn reserve(&mut self, additional: usize) -> Result<(), AllocError>
         requires idle { self.old.seen.idle ≡ true }
-        ensures room { OnOk result (additional ≤ self.new.seen.roots.spare) }
+        ensures spare { Reserves additional self.old.seen.roots.spare self.new.seen.roots.spare result }
         ensures rest { self.new.seen ≡ record self.old.seen { roots = with_room self.new.seen.roots self.old.seen.roots } }
     {
         let _heap = &self.heap;
@@ -75,7 +76,7 @@ impl<H: GcHeap, D: Drop> HeapOwner<H, D> {
     /// first, and the heap is told of each. It takes no memory, and its time is linear in what it drops.
     pub fn leave_scope(&mut self, mark: usize)
         requires idle { self.old.seen.idle ≡ true }
-        ensures { ChangesRoots self.old.seen self.new.seen (left_scope mark self.new.seen.roots.spare self.old.seen.roots) }
+        ensures { ChangesRoots self.old.seen self.new.seen (left_scope mark self.old.seen.roots) }
     {
         if self.roots.scoped().len() <= mark {
             return;

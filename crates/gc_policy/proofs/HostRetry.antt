@@ -154,7 +154,6 @@ module _ {D : Type 0} (layouts : Layouts) (id : ℕ) (value : D) where
   trimmed_less : (old new : OwnerView D) → HasSpare layouts id value old → Trims layouts old new → Trims layouts (less id old) (less id new)
   trimmed_less old new has trims = record {
     changes = record { held = trims.changes.held; rest = ap (less id) trims.changes.rest };
-    spare = trims.spare;
     is_heap = trims.is_heap;
     can = less_kept layouts new.types.declarations new.heap (roots_of new.roots) new.hosts id (trimmed_spare old new has trims).unused trims.can;
   }

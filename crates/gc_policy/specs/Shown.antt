@@ -30,6 +30,7 @@ shown s v = record s {
   owns = v.roots.owns;
   pending = v.roots.pending;
   last = v.last;
+  spare = v.roots.spare;
 }
 
 -- a collection of the owner ran where one is due

@@ -14,7 +14,7 @@ invariant-loop-word g l = record {
   keeps : (types : List Declaration) (hosts : ℕ → Bool) → IsCollectable g.H.GcHeap.KIND types (g.H.GcHeap.seen l.initial.heap) (roots_of l.initial.roots) hosts
       → IsCollectable g.H.GcHeap.KIND types (g.H.GcHeap.seen l.heap) (roots_of l.roots) hosts;
   front : take l.mark l.roots.scoped ≡ take l.mark l.initial.roots.scoped;
-  rest : l.roots ≡ record l.initial.roots { scoped = l.roots.scoped; spare = l.roots.spare };
+  rest : l.roots ≡ record l.initial.roots { scoped = l.roots.scoped };
 }
 
 abbrev pub decreases-loop-word : goal.decreases-loop-word

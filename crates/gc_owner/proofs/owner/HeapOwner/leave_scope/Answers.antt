@@ -42,5 +42,5 @@ returns g c =
       held = subst (λ v. SameHeld v (g.H.GcHeap.seen c.drop_past.new.heap)) (ap (λ v. v.seen.heap) c.self.view_is) c.drop_past.ensures.held;
       rest = changed_seen g.H.GcHeap.KIND g.H.GcHeap.seen g.H.GcHeap.sound g.H.GcHeap.under_way c.self.inside.heap c.self.inside.types c.self.inside.hosts.entries c.self.inside.roots c.self.inside.last c.self.inside.state c.args.self.now c.self.view_is c.drop_past.new.heap _ c.end_generation.new.self _ refl
           (left_some c.args.mark c.self.inside.roots c.drop_past.new.roots c.end_generation.new.self past c.drop_past.ensures.roots c.end_generation.ensures
-          ∙ ap (λ v. left_scope c.args.mark c.end_generation.new.self.spare v.seen.roots) c.self.view_is);
+          ∙ ap (λ v. left_scope c.args.mark v.seen.roots) c.self.view_is);
     }

@@ -1,7 +1,7 @@
 use Rattle.std.proofs.Common.{refl, sym, ap, ◌∙◌, subst}
 use Rattle.gc_view.specs.Heaps.{HeapView, SameHeld}
 use Rattle.gc_heap.specs.Collection.{has_host}
-use Rattle.gc_owner.specs.RootColumns.{RootsView, roots_of, with_room, with_owned_root}
+use Rattle.gc_owner.specs.RootColumns.{RootsView, roots_of, with_places, with_owned_root}
 use Rattle.gc_owner.specs.Tracing.{IsCollectable}
 use Rattle.gc_owner.proofs.OwnerLemmas.{ready_at, idle_at, word_at, changed_order, changed_seen}
 use Rattle.gc_owner.specs.Owners.{raised}
@@ -33,5 +33,5 @@ returns-clause-ok g c =
     record {
       held = subst (λ v. SameHeld v (g.H.GcHeap.seen c.copy_word.new.heap)) (ap (λ v. v.seen.heap) c.self.view_is) (subst (SameHeld h) (sym c.copy_word.ensures.seen) (raised_held h c.args.word));
       rest = changed_seen g.H.GcHeap.KIND g.H.GcHeap.seen g.H.GcHeap.sound g.H.GcHeap.under_way c.self.inside.heap c.self.inside.types c.self.inside.hosts.entries c.self.inside.roots c.self.inside.last c.self.inside.state c.args.self.now c.self.view_is c.copy_word.new.heap _ c.own.new.self _ refl
-          (c.in_ok-own.ensures.ok ∙ ap (λ v. with_room c.own.new.self (with_owned_root c.args.word v.seen.roots)) c.self.view_is);
+          (c.in_ok-own.ensures.ok ∙ ap (λ v. with_places c.own.new.self (with_owned_root c.args.word v.seen.roots)) c.self.view_is);
     }

@@ -1,7 +1,7 @@
 use Rattle.std.proofs.Common.{◌<◌, length, sym, ap, ◌∙◌, subst}
 use Rattle.gc_view.specs.Heaps.{HeapView}
 use Rattle.gc_heap.specs.Collection.{has_host}
-use Rattle.gc_owner.specs.RootColumns.{with_room, without_frame}
+use Rattle.gc_owner.specs.RootColumns.{with_places, without_frame}
 use Rattle.gc_owner.proofs.OwnerLemmas.{ready_at, idle_at, changed_order, changed_seen}
 use Rattle.gc_owner.proofs.ScopeLemmas.{same_held}
 use Rattle.gc_owner.proofs.FrameLemmas.{Closes, closed_kept, closed_listed}
@@ -21,7 +21,7 @@ returns-clause-closed g c = λ is.
     let closed = c.pop_frame.ensures.closed is in (
       subst (λ v. 0 < length v.seen.roots.frames) c.self.view_is closed.0,
       changed_seen g.H.GcHeap.KIND g.H.GcHeap.seen g.H.GcHeap.sound g.H.GcHeap.under_way c.self.inside.heap c.self.inside.types c.self.inside.hosts.entries c.self.inside.roots c.self.inside.last c.self.inside.state c.args.self.now c.self.view_is c.self.inside.heap c.args.self.now.seen.heap c.pop_frame.new.self _ (ap (λ v. v.seen.heap) c.self.view_is)
-          (closed.1 ∙ ap (λ v. with_room c.pop_frame.new.self (without_frame v.seen.roots)) c.self.view_is),
+          (closed.1 ∙ ap (λ v. with_places c.pop_frame.new.self (without_frame v.seen.roots)) c.self.view_is),
     )
 
 pub returns-clause-none : goal.returns-clause-none

@@ -1,7 +1,7 @@
 use Rattle.std.proofs.Common.{ap, ◌∙◌}
 use Rattle.gc_view.specs.Heaps.{HeapView}
 use Rattle.gc_heap.specs.Collection.{has_host}
-use Rattle.gc_owner.specs.RootColumns.{with_room, with_frame}
+use Rattle.gc_owner.specs.RootColumns.{with_places, with_frame}
 use Rattle.gc_owner.proofs.OwnerLemmas.{ready_at, idle_at, changed_order, changed_seen}
 use Rattle.gc_owner.proofs.ScopeLemmas.{same_held}
 use Rattle.gc_owner.proofs.FrameLemmas.{Opens, opened_kept, opened_listed, along_ok, along_err}
@@ -20,12 +20,12 @@ pub returns-clause-ok : goal.returns-clause-ok
 returns-clause-ok g c =
     along_ok _ _ c.push_frame.result
     (λ is. changed_seen g.H.GcHeap.KIND g.H.GcHeap.seen g.H.GcHeap.sound g.H.GcHeap.under_way c.self.inside.heap c.self.inside.types c.self.inside.hosts.entries c.self.inside.roots c.self.inside.last c.self.inside.state c.args.self.now c.self.view_is c.self.inside.heap c.args.self.now.seen.heap c.push_frame.new.self _ (ap (λ v. v.seen.heap) c.self.view_is)
-    (is ∙ ap (λ v. with_room c.push_frame.new.self (with_frame c.args.slots v.seen.roots)) c.self.view_is))
+    (is ∙ ap (λ v. with_places c.push_frame.new.self (with_frame c.args.slots v.seen.roots)) c.self.view_is))
     c.push_frame.ensures.ok
 
 pub returns-clause-err : goal.returns-clause-err
 returns-clause-err g c =
     along_err _ _ c.push_frame.result
     (λ is. changed_seen g.H.GcHeap.KIND g.H.GcHeap.seen g.H.GcHeap.sound g.H.GcHeap.under_way c.self.inside.heap c.self.inside.types c.self.inside.hosts.entries c.self.inside.roots c.self.inside.last c.self.inside.state c.args.self.now c.self.view_is c.self.inside.heap c.args.self.now.seen.heap c.push_frame.new.self _ (ap (λ v. v.seen.heap) c.self.view_is)
-    (is ∙ ap (λ v. with_room c.push_frame.new.self v.seen.roots) c.self.view_is))
+    (is ∙ ap (λ v. with_places c.push_frame.new.self v.seen.roots) c.self.view_is))
     c.push_frame.ensures.err

@@ -76,7 +76,7 @@ pub invariant_of-self : goal.invariant_of-self
 invariant_of-self g c =
     let at = (goal.at.invariant_of-self g c).After-clear in
     let same = list_spare g at in
-    (λ is. (c.clear.ensures.roots, (c.self.invariant.0 is).1), omega (arith, c.self.invariant.1), c.self.invariant.2, c.self.invariant.3, c.self.invariant.4, c.self.invariant.5)
+    (λ is. (c.clear.ensures.roots, (c.self.invariant.0 is).1), omega (arith, c.self.invariant.1), c.self.invariant.2, c.self.invariant.3, c.self.invariant.4, c.self.invariant.5, c.self.invariant.6)
 
 pub returns-clause-collected : goal.returns-clause-collected
 returns-clause-collected g c =
@@ -105,7 +105,7 @@ returns-clause-collected g c =
       globals = p3 i;
       pending = m.pending_moved i;
       generation = c.self.inside.generation;
-      spare = min (c.self.inside.scoped.cap - c.self.inside.scoped.len) (ls i + c.self.inside.given - (c.self.inside.scoped.len + c.self.inside.owned.len + c.self.inside.slots.len + global_count + 1));
+      spare = c.self.inside.spare;
       listed = cond c.self.inside.is_listing (Some (li i)) None;
       given = c.self.inside.given;
       list_spare = ls i + c.self.inside.given;

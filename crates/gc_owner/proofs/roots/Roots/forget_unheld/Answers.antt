@@ -4,7 +4,7 @@ use Rattle.gc_owner.specs.declared.entry.OwnedEntry.{OwnedEntry}
 use Rattle.gc_owner.proofs.OwnedLemmas.{forgotten}
 use Rattle.gc_owner.proofs.roots.Roots.forget_unheld.Goals as goal
 
-pub returns-clause-roots : goal.returns-clause-roots
-returns-clause-roots c =
+pub returns : goal.returns
+returns c =
     let kept = filter_same _ (λ (e : OwnedEntry). not (nat_eq e.handles 0)) _ (λ x b f' k. search rules) _ _ c.retain.ensures.filtered in
     forgotten _ _ c.args.self.now c.self.view_is kept refl

@@ -17,4 +17,5 @@ invariant_of-self-2 c =
       c.self.invariant.4,
       subst (λ (fs : List ℕ). AreFrames fs (vec_len c.resize.new.self)) (sym starts)
           (subst (AreFrames (c.self.inside.frames.items ++ vec_len c.self.inside.slots ∷ [])) (sym end) (frames_more c.self.inside.frames.items (vec_len c.self.inside.slots) c.args.slots c.self.invariant.5)),
+      c.self.invariant.6,
     )

@@ -20,7 +20,7 @@ invariant_of-self c =
     let used = used_list c.self.inside.is_listing c.self.inside.list.roots (map (moved_root c.requires.0) (roots_of c.args.self.now)) (ap (λ (r : RootsView). r.listed) c.self.view_is ∙ c.requires.1.0) in
     let counts : length c.self.inside.list.roots ≡ length (roots_of c.args.self.now) = ap (λ (rs : List Root). length rs) used.1 ∙ length-map (roots_of c.args.self.now) (moved_root c.requires.0) in
     let given : c.self.inside.given ≡ length (roots_of c.args.self.now) = ap (λ (r : RootsView). r.given) c.self.view_is ∙ c.requires.1.1 in
-    (λ is. (c.clear.ensures.roots, refl), omega (arith, c.self.invariant.1, c.clear.ensures.spare, counts, given), c.self.invariant.2, c.self.invariant.3, c.self.invariant.4, c.self.invariant.5)
+    (λ is. (c.clear.ensures.roots, refl), omega (arith, c.self.invariant.1, c.clear.ensures.spare, counts, given), c.self.invariant.2, c.self.invariant.3, c.self.invariant.4, c.self.invariant.5, c.self.invariant.6)
 
 pub returns : goal.returns
 returns c = λ to is.
@@ -46,7 +46,7 @@ returns c = λ to is.
       globals = p3 i;
       pending = m.pending_moved i;
       generation = c.self.inside.generation;
-      spare = min (c.self.inside.scoped.cap - c.self.inside.scoped.len) (spare i - (c.self.inside.scoped.len + c.self.inside.owned.len + c.self.inside.slots.len + global_count + 1));
+      spare = c.self.inside.spare;
       listed = None;
       given = 0;
       list_spare = spare i;
