@@ -8,7 +8,7 @@ use Rattle.std.proofs.lemmas.Option.{slice_get_within, slice_get-get_or, slice_g
 use Rattle.gc_types.specs.declared.kind.Layouts.{Layouts}
 use Rattle.gc_owner.specs.declared.entry.GcClass.{GcClass}
 use Rattle.gc_owner.specs.declared.entry.SlotEntry.{SlotEntry}
-use Rattle.gc_owner.specs.RootColumns.{AreFrames, HasSlot, newest_start, with_room, with_slot, empty_slot}
+use Rattle.gc_owner.specs.RootColumns.{AreFrames, HasSlot, newest_start, with_places, with_slot, empty_slot}
 use Rattle.gc_owner.specs.RootColumns as columns
 use Rattle.gc_owner.specs.Owners.{OwnerView, ChangesRoots}
 use Rattle.gc_model.specs.Values.{Reference}
@@ -73,7 +73,7 @@ module _ {D : Type 0} (layouts : Layouts) (id : StoreId) (config : HeapConfig) (
   after = store_view id config new tries
 
   -- a frame was opened
-  module _ (count : ℕ) (is : new ≡ record old { roots = with_room new.roots (columns.with_frame count old.roots) }) where
+  module _ (count : ℕ) (is : new ≡ record old { roots = with_places new.roots (columns.with_frame count old.roots) }) where
     pushed_view : after ≡ with_frame count before
     pushed_view =
         ap (λ (v : OwnerView D). store_view id config v tries) is
@@ -99,7 +99,7 @@ module _ {D : Type 0} (layouts : Layouts) (id : StoreId) (config : HeapConfig) (
     }
 
   -- the newest frame was closed
-  module _ (some : 0 < length old.roots.frames) (is : new ≡ record old { roots = with_room new.roots (columns.without_frame old.roots) }) where
+  module _ (some : 0 < length old.roots.frames) (is : new ≡ record old { roots = with_places new.roots (columns.without_frame old.roots) }) where
     popped_view : after ≡ without_frame before
     popped_view =
         ap (λ (v : OwnerView D). store_view id config v tries) is

@@ -1,8 +1,9 @@
 -- A host object that was made is the table's, with its value.
-use Rattle.std.proofs.Common.{◌≡◌, ℕ, ◌+◌, ◌-◌, ◌^◌, ◌<◌, inl, inr, min, Bool, true, false, Ok, Err, Result, length, refl, sym, ap, ◌∙◌, subst, arith}
+use Rattle.std.proofs.Common.{◌≡◌, ℕ, ◌+◌, ◌-◌, ◌^◌, ◌<◌, inl, inr, min, Bool, true, false, Ok, Err, Result, length, refl, sym, ap, ◌∙◌, subst, arith, ◌≤◌, ◌∷◌, []}
 use Rattle.std.specs.FinMap.{FinMap, get, len}
 use Rattle.std.specs.Ordering.{nat_cmp}
 use Rattle.std.proofs.lemmas.Nat.{from_le_bytes-to_le_bytes_4}
+use Rattle.std.proofs.lemmas.List.{length-append}
 use Rattle.std.proofs.lemmas.Option.{none-some, slice_get_within}
 use Rattle.gc_types.specs.declared.kind.Layouts.{Layouts}
 use Rattle.gc_types.specs.declared.kind.Layouts.TheVariants.{Null, Counting, Copying}
@@ -45,7 +46,7 @@ use Rattle.gc_store.specs.declared.root.RootSlot.TheVariants as slot
 use Rattle.gc_store.specs.HostPlaces.{PlacesHost}
 use Rattle.gc_store.specs.HostSteps.{AllocatesHost, MakesHost}
 use Rattle.gc_store.specs.Making.{BeginsMaking}
-use Rattle.gc_store.proofs.Keeping.{counts_of, Keeps, keeps-trans, keeps-making, keeps-retried, keeps-paused}
+use Rattle.gc_store.proofs.Keeping.{counts_of, Keeps, keeps-trans, keeps-making, keeps-retried, keeps-paused, same_count}
 use Rattle.gc_store.proofs.Preparing.{IsReadyStore, lacks_room, lacks_pages, wants_heap, wants_room, room_found}
 
 -- a refusal of the owner, which handed the value back
@@ -183,22 +184,29 @@ module _ {D : Type 0} (layouts : Layouts) (s : StoreView D) (v : OwnerView D) (v
       (after.table, (after.account, after.holds))
   host_leaves (Err f) makes = let after = host_fault_follows f makes in (after.table, (after.account, after.holds))
 
--- An owner that made a host object, or was refused it, is idle as it was, and has the types and the frames that it had.
+-- An owner that made a host object, or was refused it, is idle as it was, has the types and the frames that it had, and
+-- no fewer places for scoped roots.
 pub record HostKeeps {D : Type 0} (v w : OwnerView D) : Type 0 where
+  pub spare : v.roots.spare + length v.roots.scoped ≤ w.roots.spare + length w.roots.scoped
   pub idle : w.idle ≡ v.idle
   pub types : w.types ≡ v.types
   pub counts : counts_of w ≡ counts_of v
 
 kept_rest : {D : Type 0} (v w : OwnerView D) → Keeps v w → HostKeeps v w
-kept_rest v w keeps = record { idle = keeps.idle; types = keeps.types; counts = keeps.counts }
+kept_rest v w keeps = record { spare = (let kept = keeps.spare in let count = same_count v w keeps in omega (arith, kept, count)); idle = keeps.idle; types = keeps.types; counts = keeps.counts }
 
 same_rest : {D : Type 0} (v w : OwnerView D) → w ≡ v → HostKeeps v w
-same_rest {D} v w same = record { idle = ap (λ (x : OwnerView D). x.idle) same; types = ap (λ (x : OwnerView D). x.types) same; counts = ap counts_of same }
+same_rest {D} v w same = record { spare = (let is = ap (λ (x : OwnerView D). x.roots.spare + length x.roots.scoped) same in omega (arith, is)); idle = ap (λ (x : OwnerView D). x.idle) same; types = ap (λ (x : OwnerView D). x.types) same; counts = ap counts_of same }
 
 pub host_keeps : {D : Type 0} (layouts : Layouts) (value : D) (first : ℕ) (due : Bool) (s e : OwnerState D) (r : Result ℕ (PlaceHostFault D)) → MakesHost layouts value first due s e r → HostKeeps s.owner e.owner
 host_keeps {D} layouts value first due s e (Ok index) (b, (begins, made)) =
     let keeps : Keeps s.owner made.mid.owner = keeps-trans s.owner b.owner made.mid.owner (keeps-making layouts first due s b begins) (keeps-retried layouts (external_size layouts) b true made.mid made.retried) in
+    let kept = keeps.spare in
+    let count = same_count s.owner made.mid.owner keeps in
+    let less = ap (λ (x : OwnerView D). x.roots.spare) made.adds.rest in
+    let more = ap (λ (x : OwnerView D). length x.roots.scoped) made.adds.rest ∙ length-append made.mid.owner.roots.scoped (_ ∷ []) in
     record {
+      spare = omega (arith, kept, count, less, more);
       idle = ap (λ (x : OwnerView D). x.idle) made.adds.rest ∙ keeps.idle;
       types = ap (λ (x : OwnerView D). x.types) made.adds.rest ∙ keeps.types;
       counts = ap counts_of made.adds.rest ∙ keeps.counts;

@@ -85,7 +85,7 @@ module _ {D : Type 0} where
   keeps-trimmed layouts v w is = record {
     idle = ap (λ (x : OwnerView D). x.idle) is.changes.rest;
     types = ap (λ (x : OwnerView D). x.types) is.changes.rest;
-    spare = is.spare;
+    spare = spare_same (ap (λ (x : OwnerView D). x.roots.spare) is.changes.rest);
     generation = ap (λ (x : OwnerView D). x.roots.generation) is.changes.rest;
     counts = ap counts_of is.changes.rest;
     generations = ap (λ (x : OwnerView D). generations_of x.roots.scoped) is.changes.rest;

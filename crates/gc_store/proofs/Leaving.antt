@@ -26,7 +26,7 @@ counted_alike mark count generation = elim (nat_le count mark) as (λ b. nat_le 
     not_less : count ≤ mark → nat_lt mark count ≡ false
     not_less le = grind (arith, nat_tests, le)
 
-module _ {D : Type 0} (layouts : Layouts) (id : StoreId) (config : HeapConfig) (tries : ℕ) (old new : OwnerView D) (mark spare : ℕ) (changes : ChangesRoots old new (left_scope mark spare old.roots)) where
+module _ {D : Type 0} (layouts : Layouts) (id : StoreId) (config : HeapConfig) (tries : ℕ) (old new : OwnerView D) (mark : ℕ) (changes : ChangesRoots old new (left_scope mark old.roots)) where
   abbrev before : StoreView D
   before = store_view id config old tries
 

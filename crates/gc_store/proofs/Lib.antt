@@ -24,6 +24,7 @@ pub mod NewObjects
 pub mod OwnedWords
 pub mod HandleWords
 pub mod OwnedKept
+pub mod NamedRoots
 pub mod OwningRoots
 pub mod OwningHandles
 pub mod Placing
@@ -31,6 +32,7 @@ pub mod PlacingFaults
 pub mod Pushing
 pub mod ReadValues
 pub mod Requested
+pub mod RootNumbers
 pub mod Roots
 pub mod SameRoots
 pub mod Settling
@@ -41,4 +43,5 @@ pub mod Preparing
 pub mod HostPlacing
 pub mod HostReads
 pub mod HostChanges
+pub mod SpareLemmas
 pub mod WritingAt

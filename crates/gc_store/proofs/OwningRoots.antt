@@ -9,7 +9,7 @@ use Rattle.std.proofs.lemmas.List.Sums.{sum_by-cons}
 use Rattle.std.proofs.lemmas.Map.Keys.{IsDistinct-from_apart}
 use Rattle.gc_types.specs.declared.kind.Layouts.{Layouts}
 use Rattle.gc_owner.specs.declared.entry.OwnedEntry.{OwnedEntry}
-use Rattle.gc_owner.specs.RootColumns.{with_room}
+use Rattle.gc_owner.specs.RootColumns.{with_places}
 use Rattle.gc_owner.specs.Owners.{OwnerView, OwnsRoot, Trims}
 use Rattle.gc_model.specs.Values.{Reference}
 use Rattle.gc_model.specs.Table.{Table, Owned}
@@ -161,7 +161,7 @@ module _ {D : Type 0} (layouts : Layouts) (id : StoreId) (config : HeapConfig) (
 -- whether it was made or memory was wanting
 
 module _ {D : Type 0} (layouts : Layouts) (id : StoreId) (config : HeapConfig) (tries : ℕ) (old new : OwnerView D) (word : ℕ) where
-  pub sound_either : {E : Type 0} (result : Result (Unit {0}) E) (counts : List ℕ) → OnOk result (OwnsRoot old new word) → OnErr result (new ≡ record old { roots = with_room new.roots old.roots })
+  pub sound_either : {E : Type 0} (result : Result (Unit {0}) E) (counts : List ℕ) → OnOk result (OwnsRoot old new word) → OnErr result (new ≡ record old { roots = with_places new.roots old.roots })
       → IsSound D layouts counts old (store_view id config old tries) → IsRootWord D layouts (store_view id config old tries) word → IsSound D layouts counts new (store_view id config new tries)
   sound_either (Ok done) counts ok err sound is = sound_owned layouts id config tries old new word ok counts sound is
   sound_either (Err e) counts ok err sound is = subst (λ (v : OwnerView D). IsSound D layouts counts v (store_view id config v tries)) (sym err) (record {
@@ -178,7 +178,7 @@ module _ {D : Type 0} (layouts : Layouts) (id : StoreId) (config : HeapConfig) (
   added_ok (Ok done) ok positive = λ t place a r there is. account_owned layouts id config tries old new word ok t place a r there is positive
   added_ok (Err e) ok positive = tt
 
-  pub added_err : {E : Type 0} (result : Result (Unit {0}) E) → OnErr result (new ≡ record old { roots = with_room new.roots old.roots }) → OnErr result (store_view id config new tries ≡ store_view id config old tries)
+  pub added_err : {E : Type 0} (result : Result (Unit {0}) E) → OnErr result (new ≡ record old { roots = with_places new.roots old.roots }) → OnErr result (store_view id config new tries ≡ store_view id config old tries)
   added_err (Ok done) err = tt
   added_err (Err e) err = ap (λ (v : OwnerView D). store_view id config v tries) err
 

@@ -1,5 +1,5 @@
 -- An object that was made and got its values is the table's.
-use Rattle.std.proofs.Common.{◌≡◌, inl, inr, ℕ, ◌+◌, ◌-◌, ◌^◌, ◌<◌, min, Bool, true, false, List, [], ◌∷◌, ◌++◌, length, Some, None, slice_index_or, sym, ap, ◌∙◌, refl, subst, arith, le-leb}
+use Rattle.std.proofs.Common.{◌≡◌, inl, inr, ℕ, ◌+◌, ◌-◌, ◌^◌, ◌<◌, min, Bool, true, false, List, [], ◌∷◌, ◌++◌, length, Some, None, slice_index_or, sym, ap, ◌∙◌, refl, subst, arith, le-leb, ◌≤◌}
 use Rattle.std.specs.FinMap.{get}
 use Rattle.std.proofs.lemmas.List.{length-append}
 use Rattle.std.proofs.lemmas.Option.{slice_get_within}
@@ -60,7 +60,7 @@ use Rattle.gc_store.specs.Making.{BeginsMaking}
 use Rattle.gc_store.specs.Places.{PlacesObject}
 use Rattle.gc_store.specs.Stores.{is_full}
 use Rattle.gc_store.specs.Values.{RawStands}
-use Rattle.gc_store.proofs.Keeping.{counts_of, Keeps, keeps-making, keeps-retried, keeps-trans}
+use Rattle.gc_store.proofs.Keeping.{counts_of, Keeps, keeps-making, keeps-retried, keeps-trans, same_count}
 use Rattle.gc_store.specs.Roots.{NamesReference}
 use Rattle.gc_store.specs.Words.{HandleRoots, handle_roots, AreRising, owned_id}
 use Rattle.gc_store.proofs.KeptAgain.{with_more, is_kept_more, kept_again, stands_more}
@@ -68,6 +68,7 @@ use Rattle.gc_store.proofs.NewObjects.{IsNew, HasAskedKind}
 use Rattle.gc_store.proofs.Pushing.{full_is}
 use Rattle.gc_store.proofs.Requested.{Asks, AsksFor, HasAskedFront, StandsFor}
 use Rattle.gc_store.proofs.WritingAt.{is_kept, kept_stands, raw_form_is}
+use Rattle.gc_store.proofs.SpareLemmas.{holds_roomy}
 
 -- the entry of a new root
 abbrev entry_of : ℕ → ℕ → RootEntry
@@ -147,7 +148,9 @@ pub record IsStart {D : Type 0} (layouts : Layouts) (s : StoreView D) (v : Owner
 
 -- room for more roots changes nothing of that
 pub reserved_start : {D : Type 0} (layouts : Layouts) (s : StoreView D) (v w : OwnerView D) (t : Table D) (a : Account) → IsStart layouts s v t a → w ≡ record v { roots = with_room w.roots v.roots } → IsStart layouts s w t a
-reserved_start {D} layouts s v w t a is same = subst (λ (x : OwnerView D). IsStart layouts s x t a) (sym same) (record { heap = is.heap; can = is.can; in_frames = is.in_frames; holds = is.holds })
+reserved_start {D} layouts s v w t a is same =
+    subst (λ (x : OwnerView D). IsStart layouts s x t a) (sym same)
+    (record { heap = is.heap; can = is.can; in_frames = is.in_frames; holds = holds_roomy layouts (shown s v) w.roots.spare t a is.holds })
 
 module _ {D : Type 0} (layouts : Layouts) (s : StoreView D) (v : OwnerView D) (request : Place) (given : Contents) (new : IsNew D layouts v.types.declarations request) (limits : Limits) (t : Table D) (a : Account) (is : IsStart layouts s v t a) (asked : Asks layouts (shown s v) t request given new) where
   abbrev before : PolicyState D
@@ -321,8 +324,10 @@ pub few_roots : {D : Type 0} (layouts : Layouts) (s : StoreView D) (v : OwnerVie
 few_roots layouts s v t a is =
     omega (arith, is.holds.holds.scoped.same_count, is.holds.holds.scopes.scoped_within, is.holds.holds.settings.few_roots)
 
--- An owner that made an object is idle as it was, and has the types and the frames that it had.
+-- An owner that made an object is idle as it was, has the types and the frames that it had, and no fewer places for
+-- scoped roots.
 pub record KeepsRest {D : Type 0} (v w : OwnerView D) : Type 0 where
+  pub spare : v.roots.spare + length v.roots.scoped ≤ w.roots.spare + length w.roots.scoped
   pub idle : w.idle ≡ v.idle
   pub types : w.types ≡ v.types
   pub counts : counts_of w ≡ counts_of v
@@ -330,7 +335,12 @@ pub record KeepsRest {D : Type 0} (v w : OwnerView D) : Type 0 where
 pub made_keeps : {D : Type 0} (layouts : Layouts) (first : ℕ) (due : Bool) (size : ℕ) (o : HeapObject) (s b e : OwnerState D) (index : ℕ) → BeginsMaking layouts first due s b → AllocatesRooted layouts o size b e index → KeepsRest s.owner e.owner
 made_keeps {D} layouts first due size o s b e index begins made =
     let keeps : Keeps s.owner made.mid.owner = keeps-trans s.owner b.owner made.mid.owner (keeps-making layouts first due s b begins) (keeps-retried layouts size b true made.mid made.retried) in
+    let kept = keeps.spare in
+    let count = same_count s.owner made.mid.owner keeps in
+    let less = ap (λ (x : OwnerView D). x.roots.spare) made.adds.rest in
+    let more = ap (λ (x : OwnerView D). length x.roots.scoped) made.adds.rest ∙ length-append made.mid.owner.roots.scoped (_ ∷ []) in
     record {
+      spare = omega (arith, kept, count, less, more);
       idle = ap (λ (x : OwnerView D). x.idle) made.adds.rest ∙ keeps.idle;
       types = ap (λ (x : OwnerView D). x.types) made.adds.rest ∙ keeps.types;
       counts = ap counts_of made.adds.rest ∙ keeps.counts;

@@ -1,5 +1,5 @@
 -- An object that was not placed is refused as the table says.
-use Rattle.std.proofs.Common.{inl, inr, ◌≡◌, ℕ, ◌+◌, ◌-◌, ◌^◌, min, Bool, false, Err, sym, ap, ◌∙◌, refl, subst}
+use Rattle.std.proofs.Common.{inl, inr, ◌≡◌, ℕ, ◌+◌, ◌-◌, ◌^◌, min, Bool, false, Err, sym, ap, ◌∙◌, refl, subst, arith, length, ◌≤◌}
 use Rattle.gc_types.specs.declared.kind.Layouts.{Layouts}
 use Rattle.gc_model.specs.Values.{Object}
 use Rattle.gc_model.specs.Table.{Table, make_heap, made_pages}
@@ -30,7 +30,7 @@ use Rattle.gc_policy.proofs.KeptPlaces.{lacks-stay}
 use Rattle.gc_policy.proofs.MakingSimulation.{Shows, FollowsBeginning, refusal_follows, no_heap_follows, got_pages, stays_on}
 use Rattle.gc_policy.proofs.RetrySimulation.{MayHaveGrown, retry_follows, pause_follows}
 use Rattle.gc_view.specs.Heaps.{HeapObject}
-use Rattle.gc_store.proofs.Keeping.{counts_of, Keeps, keeps-trans, keeps-making, keeps-retried, keeps-paused}
+use Rattle.gc_store.proofs.Keeping.{counts_of, Keeps, keeps-trans, keeps-making, keeps-retried, keeps-paused, same_count}
 use Rattle.gc_store.proofs.NewObjects.{IsNew}
 use Rattle.gc_store.proofs.Placing.{IsStart, KeepsRest, too_large_is, shows, begun}
 use Rattle.gc_store.proofs.Pushing.{full_is}
@@ -167,11 +167,11 @@ pub fault_keeps : {D : Type 0} (layouts : Layouts) (o : HeapObject) (size first 
 fault_keeps layouts o size first due s e fault.FuncTableFull small makes = absurd makes
 fault_keeps layouts o size first due s e fault.TooLarge small makes = absurd (cc (sym small ∙ too_large_is layouts size makes))
 fault_keeps layouts o size first due s e fault.RootsFull small makes = absurd makes
-fault_keeps {D} layouts o size first due s e (fault.HeapOutOfMemory f) small (inl (no_pages, asked)) = record { idle = ap (λ (v : OwnerView D). v.idle) no_pages.same; types = ap (λ (v : OwnerView D). v.types) no_pages.same; counts = ap counts_of no_pages.same }
+fault_keeps {D} layouts o size first due s e (fault.HeapOutOfMemory f) small (inl (no_pages, asked)) = record { spare = (let same = ap (λ (v : OwnerView D). v.roots.spare + length v.roots.scoped) no_pages.same in omega (arith, same)); idle = ap (λ (v : OwnerView D). v.idle) no_pages.same; types = ap (λ (v : OwnerView D). v.types) no_pages.same; counts = ap counts_of no_pages.same }
 fault_keeps {D} layouts o size first due s e (fault.HeapOutOfMemory f) small (inr (b, (begins, lacks))) =
     let keeps : Keeps s.owner e.owner = keeps-trans s.owner b.owner e.owner (keeps-making layouts first due s b begins) (keeps-retried layouts size b false e lacks.retried) in
-    record { idle = keeps.idle; types = keeps.types; counts = keeps.counts }
-fault_keeps {D} layouts o size first due s e fault.Memory small (inl same) = record { idle = ap (λ (x : OwnerState D). x.owner.idle) same; types = ap (λ (x : OwnerState D). x.owner.types) same; counts = ap (λ (x : OwnerState D). counts_of x.owner) same }
+    record { spare = (let kept = keeps.spare in let count = same_count s.owner e.owner keeps in omega (arith, kept, count)); idle = keeps.idle; types = keeps.types; counts = keeps.counts }
+fault_keeps {D} layouts o size first due s e fault.Memory small (inl same) = record { spare = (let is = ap (λ (x : OwnerState D). x.owner.roots.spare + length x.owner.roots.scoped) same in omega (arith, is)); idle = ap (λ (x : OwnerState D). x.owner.idle) same; types = ap (λ (x : OwnerState D). x.owner.types) same; counts = ap (λ (x : OwnerState D). counts_of x.owner) same }
 fault_keeps {D} layouts o size first due s e fault.Memory small (inr (b, (begins, pause))) =
     let keeps : Keeps s.owner e.owner = keeps-trans s.owner b.owner e.owner (keeps-making layouts first due s b begins) (keeps-paused layouts size b e pause) in
-    record { idle = keeps.idle; types = keeps.types; counts = keeps.counts }
+    record { spare = (let kept = keeps.spare in let count = same_count s.owner e.owner keeps in omega (arith, kept, count)); idle = keeps.idle; types = keeps.types; counts = keeps.counts }

@@ -29,6 +29,7 @@ use Rattle.gc_store.specs.declared.root.GcRootIndex.{GcRootIndex}
 use Rattle.gc_store.specs.declared.root.RootSlot.TheVariants as slot
 use Rattle.gc_store.specs.Making.{BeginsMaking}
 use Rattle.gc_store.specs.Places.{PlacesObject, LacksPlace, WantsPlace, MayGetPages, bytes_of}
+use Rattle.gc_store.proofs.SpareLemmas.{holds_roomy}
 
 -- an owner that is ready, whose store holds a table
 pub record IsReadyStore {D : Type 0} (layouts : Layouts) (s : StoreView D) (v : OwnerView D) (t : Table D) (a : Account) : Type 0 where
@@ -39,7 +40,9 @@ pub record IsReadyStore {D : Type 0} (layouts : Layouts) (s : StoreView D) (v : 
 
 -- room for more roots changes nothing of that
 pub reserved_store : {D : Type 0} (layouts : Layouts) (s : StoreView D) (v w : OwnerView D) (t : Table D) (a : Account) → IsReadyStore layouts s v t a → w ≡ record v { roots = with_room w.roots v.roots } → IsReadyStore layouts s w t a
-reserved_store {D} layouts s v w t a is same = subst (λ (x : OwnerView D). IsReadyStore layouts s x t a) (sym same) (record { heap = is.heap; can = is.can; in_frames = is.in_frames; holds = is.holds })
+reserved_store {D} layouts s v w t a is same =
+    subst (λ (x : OwnerView D). IsReadyStore layouts s x t a) (sym same)
+    (record { heap = is.heap; can = is.can; in_frames = is.in_frames; holds = holds_roomy layouts (shown s v) w.roots.spare t a is.holds })
 
 -- where the rule of retry ends without room, there is none
 ends_lacking : {S : Type 0} (rules : Rules S) (s e : S) (ok : Bool) → Retry rules s ok e → ok ≡ false → rules.Lacks e

@@ -51,7 +51,7 @@ sound_start D layouts counts v s idle engine number frames holds = record {
   holds = holds;
 }
 
-module _ {D : Type 0} (id : StoreId) (config : HeapConfig) (v : OwnerView D) (fresh : v ≡ new_owner id.engine id.number v.roots.spare v.roots.list_spare) where
+module _ {D : Type 0} (id : StoreId) (config : HeapConfig) (v : OwnerView D) (fresh : v ≡ new_owner id.engine id.number v.roots.list_spare) where
   -- a store over a new owner shows nothing
   pub new_view : store_view id config v 0 ≡ empty_store id.engine id.number config.first_pages config.max_scoped config.max_owned (option_map non_zero_u32_get config.alloc_counter)
   new_view = ap (λ (o : OwnerView D). store_view id config o 0) fresh

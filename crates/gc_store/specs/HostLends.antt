@@ -28,11 +28,12 @@ abbrev pub LendsValue : {D : Type 0} → Option D → Result (MutBor D) HostData
 LendsValue value (Ok lent) = value ≡ Some lent.now
 LendsValue value (Err e) = (e ≡ fault.NotHost) × (value ≡ None)
 
--- for every table that the store held, the same store ends with the host object that the handle names at that value
+-- for every table that the store held, the same store ends with the host object that the handle names at that value, and
+-- with as much room for scoped roots
 abbrev pub SetsHost : {D : Type 0} → Layouts → StoreView D → GcRootIndex → StoreView D → D → Type 0
 SetsHost {D} layouts s handle new w =
-    IsSameStore s new × ((t : Table D) (a : Account) (p : ℕ) (old : D) → HoldsAccount layouts s t a → NamesReference s t handle (at p)
-    → slice_get t.objects p ≡ Some (host old) → HoldsAccount layouts new (set_host p w t) a)
+    IsSameStore s new × ((new.spare ≡ s.spare) × ((t : Table D) (a : Account) (p : ℕ) (old : D) → HoldsAccount layouts s t a → NamesReference s t handle (at p)
+    → slice_get t.objects p ≡ Some (host old) → HoldsAccount layouts new (set_host p w t) a))
 
 module _ (H D S : RattleType) (g : heap.Ghosts H.Denot S.Denot) (s : MutBor (StoreView D.Denot)) where
   -- once the borrow ends, the id has the last value written through it; at `None` the store stays as it is

@@ -17,6 +17,8 @@ pub mod OwnedWords
 pub mod Places
 pub mod Reading
 pub mod Requests
+pub mod RootScopes
+pub mod RootWords
 pub mod Roots
 pub mod Settled
 pub mod Slots

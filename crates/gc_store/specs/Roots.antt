@@ -1,8 +1,9 @@
 -- Which root a handle names, and what it is.
-use Rattle.std.specs.Prelude.{◌≡◌, ◌⊎◌, ℕ, ◌<◌, ◌==◌, ◌&&◌, Bool, Option, Some, None, Result, Ok, Err, length, slice_get, if◌then◌else◌}
+use Rattle.std.specs.Prelude.{◌≡◌, ◌⊎◌, ℕ, ◌<◌, ◌==◌, ◌&&◌, Bool, Option, Some, None, Result, Ok, Err, length, slice_get, if◌then◌else◌, true}
 use Rattle.gc_model.specs.Values.{Reference, null, small, at, Value, Object, struct, array, host, exception}
 use Rattle.gc_model.specs.Table.{Table, Push}
 use Rattle.gc_model.specs.Live.{rooted}
+use Rattle.gc_model.specs.Reads.{same_reference}
 use Rattle.gc_model.specs.OwnedRoots.{owned_reference}
 use Rattle.gc_model.specs.Reach.{object_values}
 use Rattle.gc_model.specs.Stores.{StoreView}
@@ -53,6 +54,11 @@ abbrev pub TellsReference : {D : Type 0} → Table D → Reference → Result Ro
 TellsReference t r (Ok answer) = IsReference t r answer
 TellsReference t r (Err e) = ⊥
 
+-- what is answered of a live root: the word of its reference, by where that lies
+abbrev pub TellsWord : Placing → Reference → Result ℕ RootFault → Type 0
+TellsWord place r (Ok word) = IsWord place r word
+TellsWord place r (Err e) = ⊥
+
 -- the handle of the owned root of that number in a store
 abbrev pub owned_handle : {D : Type 0} → StoreView D → ℕ → GcRootIndex
 owned_handle s number = record {
@@ -76,6 +82,14 @@ pub record NamesOwned {D : Type 0} (s : StoreView D) (t : Table D) (handle : GcR
 -- the handle is live and names that reference
 abbrev pub NamesReference : {D : Type 0} → StoreView D → Table D → GcRootIndex → Reference → Type 0
 NamesReference s t handle r = NamesScoped s t handle r ⊎ NamesOwned s t handle r
+
+-- both handles are live, and name the same reference
+pub record NamesSame {D : Type 0} (s : StoreView D) (t : Table D) (a b : GcRootIndex) : Type 0 where
+  pub first : Reference
+  pub second : Reference
+  pub names_first : NamesReference s t a first
+  pub names_second : NamesReference s t b second
+  pub same : same_reference first second ≡ true
 
 -- the handle is not live: its root is gone, or never was
 abbrev pub NamesNothing : {D : Type 0} → StoreView D → Table D → GcRootIndex → Type 0

@@ -1,5 +1,5 @@
 -- What a store's calls do, for every table that it held.
-use Rattle.std.specs.Prelude.{◌≡◌, ℕ, ◌-◌, ◌^◌, ◌==◌, ◌||◌, nat_le, Bool, true, false, List, [], Result, Ok, Err, length, map}
+use Rattle.std.specs.Prelude.{◌≡◌, ℕ, ◌+◌, ◌-◌, ◌^◌, ◌==◌, ◌||◌, nat_le, Bool, true, false, List, [], Result, Ok, Err, length, map}
 use Rattle.std.specs.Option.{option_map}
 use Rattle.std.specs.Int.NonZero.{non_zero_u32_get}
 use Rattle.gc_types.specs.declared.kind.Layouts.{Layouts}
@@ -34,6 +34,7 @@ store_view id config v tries = record {
   funcs = [];
   last = v.last;
   tries = tries;
+  spare = v.roots.spare;
   first = config.first_pages;
   max_scoped = config.max_scoped;
   max_owned = config.max_owned;
@@ -81,6 +82,10 @@ pub record IsSameStore {D : Type 0} (old new : StoreView D) : Type 0 where
   pub engine : new.engine ≡ old.engine
   pub number : new.number ≡ old.number
   pub counter : new.alloc_counter ≡ old.alloc_counter
+
+-- the scoped roots, with those that there is room for: a push leaves no fewer
+abbrev pub scoped_places : {D : Type 0} → StoreView D → ℕ
+scoped_places s = s.spare + length s.scoped
 
 -- no further scoped root may be made
 abbrev pub is_full : {D : Type 0} → StoreView D → Bool

@@ -1,6 +1,6 @@
 //! Collections, and what the heap holds.
 
-ghost use Rattle.std.specs.Prelude.{◌≡◌, ℕ, true, false, slice_get};
+ghost use Rattle.std.specs.Prelude.{◌≡◌, ◌≤◌, ℕ, true, false, slice_get};
 ghost use Rattle.gc_model.specs.Allocation.{Limits};
 ghost use Rattle.gc_model.specs.Table.{Table};
 ghost use Rattle.gc_model.specs.Reach.{HasNumber, IsKept, IsHost};
@@ -25,6 +25,7 @@ impl<H: GcHeap, D: Drop> Store<H, D> {
         ensures settled { self.old.heap.attached ≡ true → IsSettled H.KIND self.new }
         ensures unmade { self.old.heap.attached ≡ false → self.new ≡ self.old }
         ensures same { IsSameStore self.old self.new }
+        ensures spare { self.old.spare ≤ self.new.spare }
     {
         self.owner.is_ready();
         if self.owner.is_made() {

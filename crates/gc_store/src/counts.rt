@@ -15,7 +15,8 @@ impl<H: GcHeap, D: Drop> Store<H, D> {
     /// of a frame names is on the list of shown words. An owned root that was given up is counted until it is
     /// removed. At run time it does nothing.
     pub fn counts_are_exact(&self)
-        ensures { H.KIND ≡ Counting → (t : Table D) (a : Account) → HoldsAccount H.KIND self.now t a → CountsBy t a.held a.places self.now.owned self.now.heap.counts }
+        ensures { H.KIND ≡ Counting → (t : Table D) (a : Account) → HoldsAccount H.KIND self.now t a
+            → CountsBy t a.held a.places self.now.owned self.now.heap.counts }
     {
         self.owner.is_ready();
     }

@@ -1,6 +1,6 @@
 //! New types.
 
-ghost use Rattle.std.specs.Prelude.{◌≡◌, OnErr};
+ghost use Rattle.std.specs.Prelude.{◌≡◌, ◌≤◌, OnErr};
 ghost use Rattle.gc_types.specs.Declarations.{struct_type, array_type, exn_type, func_type};
 ghost use Rattle.gc_model.specs.Table.{Table};
 ghost use Rattle.gc_policy.specs.Accounts.{Account, HoldsAccount};
@@ -24,6 +24,7 @@ impl<H: GcHeap, D: Drop> Store<H, D> {
             → Declares H.KIND (struct_type fields.now supertype is_final) t a result self.new }
         ensures err { OnErr result (self.new ≡ self.old) }
         ensures same { IsSameStore self.old self.new }
+        ensures spare { self.old.spare ≤ self.new.spare }
     {
         self.owner.declare_struct(fields, supertype, is_final)
     }
@@ -39,6 +40,7 @@ impl<H: GcHeap, D: Drop> Store<H, D> {
             → Declares H.KIND (array_type element supertype is_final) t a result self.new }
         ensures err { OnErr result (self.new ≡ self.old) }
         ensures same { IsSameStore self.old self.new }
+        ensures spare { self.old.spare ≤ self.new.spare }
     {
         self.owner.declare_array(element, supertype, is_final)
     }
@@ -48,6 +50,7 @@ impl<H: GcHeap, D: Drop> Store<H, D> {
         ensures step { (t : Table D) (a : Account) → HoldsAccount H.KIND self.old t a → Declares H.KIND (exn_type params.now) t a result self.new }
         ensures err { OnErr result (self.new ≡ self.old) }
         ensures same { IsSameStore self.old self.new }
+        ensures spare { self.old.spare ≤ self.new.spare }
     {
         self.owner.declare_exn(params)
     }
@@ -64,6 +67,7 @@ impl<H: GcHeap, D: Drop> Store<H, D> {
             → Declares H.KIND (func_type params.now results.now supertype is_final) t a result self.new }
         ensures err { OnErr result (self.new ≡ self.old) }
         ensures same { IsSameStore self.old self.new }
+        ensures spare { self.old.spare ≤ self.new.spare }
     {
         self.owner
             .declare_func(params, results, supertype, is_final)

@@ -3,7 +3,8 @@
 ghost use Rattle.std.specs.Prelude.{◌≡◌, ◌<◌, ◌%◌, ℕ, true, length, slice_index_or};
 ghost use Rattle.gc_store.specs.declared.stored.Stored.TheVariants as kept;
 ghost use Rattle.gc_store.specs.HeldSlots.{storage_slot};
-ghost use Rattle.gc_store.specs.Filling.{CanFill, FillsNew, FillsAs, IsOfAskedKind, front_of, EachFits, EachStands, SameFits, SameStands, BytesFit, BytesStand, ContentsFit, ContentsStand, asked_type, AreElements, FillsAll, IsWidth};
+ghost use Rattle.gc_store.specs.Filling.{CanFill, FillsNew, FillsAs, IsOfAskedKind, front_of, EachFits, EachStands, SameFits, SameStands, BytesFit, BytesStand};
+ghost use Rattle.gc_store.specs.Filling.{ContentsFit, ContentsStand, asked_type, AreElements, FillsAll, IsWidth};
 
 use crate::request::{Contents, Place};
 use crate::root::RawValue;
@@ -174,7 +175,8 @@ pub(crate) fn fill<H: GcHeap, D: Drop>(
     requires idle { owner.old.seen.idle ≡ true }
     requires can { CanFill H.KIND owner.old.seen gc_ref.now (asked_type request.now) (ContentsFit request.now contents) }
     requires kind { IsOfAskedKind request.now owner.old.seen.heap gc_ref.now }
-    ensures { FillsAs H.KIND (front_of H.KIND request.now) owner.old.seen owner.new.seen gc_ref.now (asked_type request.now) (ContentsFit request.now contents.entry) (ContentsStand contents.entry) }
+    ensures { FillsAs H.KIND (front_of H.KIND request.now) owner.old.seen owner.new.seen gc_ref.now (asked_type request.now)
+        (ContentsFit request.now contents.entry) (ContentsStand contents.entry) }
 {
     match *request {
         Place::Struct(ty) => match contents {

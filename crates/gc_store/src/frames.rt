@@ -1,12 +1,12 @@
 //! Frames: slots of a store that are roots as long as their frame is open.
 
-ghost use Rattle.std.specs.Prelude.{◌≡◌, ◌≤◌, ◌↔◌, ℕ, nat_lt, [], length, IsTrue, IsErrOf, Some, false, OnOk, OnErr};
+ghost use Rattle.std.specs.Prelude.{◌≡◌, ◌<◌, ◌≤◌, ◌↔◌, ℕ, nat_lt, [], length, IsTrue, IsErrOf, Some, false, OnOk, OnErr, Err};
 ghost use Rattle.gc_model.specs.Values.{Reference};
 ghost use Rattle.gc_model.specs.Table.{Table, Slot};
 ghost use Rattle.gc_model.specs.Frames.{newest, push_frame, slot_at, set_slot};
 ghost use Rattle.gc_policy.specs.Accounts.{Account, HoldsAccount};
 ghost use Rattle.gc_store.specs.Slots.{SetsSlot, ReadsSlot, PopsFrame};
-ghost use Rattle.gc_store.specs.Stores.{IsSameStore};
+ghost use Rattle.gc_store.specs.Stores.{IsSameStore, scoped_places};
 
 use crate::globals::SlotFault;
 use crate::root::GcRootIndex;
@@ -22,6 +22,7 @@ impl<H: GcHeap, D: Drop> Store<H, D> {
         ensures pushes { OnOk result ((t : Table D) (a : Account) → HoldsAccount H.KIND self.old t a → HoldsAccount H.KIND self.new (push_frame slots t) a) }
         ensures err { OnErr result (self.new ≡ self.old) }
         ensures same { IsSameStore self.old self.new }
+        ensures spare { self.old.spare ≤ self.new.spare }
     {
         self.owner.is_ready();
         self.slot_counts.reserve(1)?;
@@ -36,6 +37,7 @@ impl<H: GcHeap, D: Drop> Store<H, D> {
         ensures pops { (t : Table D) (a : Account) → HoldsAccount H.KIND self.old t a → PopsFrame H.KIND t a result self.new }
         ensures none { result ≡ false → self.new ≡ self.old }
         ensures same { IsSameStore self.old self.new }
+        ensures spare { self.old.spare ≤ self.new.spare }
     {
         self.owner.is_ready();
         if !self.owner.pop_frame() {
@@ -59,6 +61,7 @@ impl<H: GcHeap, D: Drop> Store<H, D> {
             → SetsSlot H.KIND self.old t a r (λ (named : Reference). set_slot slot class named t) result self.new }
         ensures err { OnErr result (self.new ≡ self.old) }
         ensures same { IsSameStore self.old self.new }
+        ensures spare { self.old.spare ≤ self.new.spare }
     {
         self.owner.is_ready();
         if !self.has_slot(slot) {
@@ -81,6 +84,8 @@ impl<H: GcHeap, D: Drop> Store<H, D> {
             → ReadsSlot H.KIND t a there result self.new }
         ensures err { OnErr result (self.new ≡ self.old) }
         ensures same { IsSameStore self.old self.new }
+        ensures spare { scoped_places self.old ≤ scoped_places self.new }
+        ensures reserved { 0 < self.old.spare → result ≡ Err SlotFault.Memory → ⊥ }
     {
         self.owner.is_ready();
         if !self.has_slot(slot) {

@@ -1,6 +1,6 @@
 //! Globals: slots of a store that are roots.
 
-ghost use Rattle.std.specs.Prelude.{◌≡◌, ◌≤◌, ◌↔◌, ℕ, IsTrue, IsErrOf, Some, OnErr};
+ghost use Rattle.std.specs.Prelude.{◌≡◌, ◌<◌, ◌≤◌, ◌↔◌, ℕ, IsTrue, IsErrOf, Some, OnErr, Err};
 ghost use Rattle.gc_model.specs.Values.{Reference};
 ghost use Rattle.gc_model.specs.Table.{Table, Slot, global_count};
 ghost use Rattle.gc_model.specs.Globals.{set_global, global_at};
@@ -8,7 +8,7 @@ ghost use Rattle.gc_model.specs.Stores.{unset_globals};
 ghost use Rattle.gc_model.specs.Holds.{Holds, Placing};
 ghost use Rattle.gc_policy.specs.Accounts.{Account, HoldsAccount};
 ghost use Rattle.gc_store.specs.Slots.{told_of_slot, FindsWord, SetsSlot, ReadsSlot};
-ghost use Rattle.gc_store.specs.Stores.{IsSameStore};
+ghost use Rattle.gc_store.specs.Stores.{IsSameStore, scoped_places};
 
 use crate::root::{GcRootIndex, RootFault};
 use crate::store::Store;
@@ -72,6 +72,7 @@ impl<H: GcHeap, D: Drop> Store<H, D> {
             → SetsSlot H.KIND self.old t a r (λ (named : Reference). set_global global class named t) result self.new }
         ensures err { OnErr result (self.new ≡ self.old) }
         ensures same { IsSameStore self.old self.new }
+        ensures spare { self.old.spare ≤ self.new.spare }
     {
         if global >= GLOBAL_COUNT {
             return Err(SlotFault::NoSlot);
@@ -92,6 +93,8 @@ impl<H: GcHeap, D: Drop> Store<H, D> {
             → ReadsSlot H.KIND t a slot result self.new }
         ensures err { OnErr result (self.new ≡ self.old) }
         ensures same { IsSameStore self.old self.new }
+        ensures spare { scoped_places self.old ≤ scoped_places self.new }
+        ensures reserved { 0 < self.old.spare → result ≡ Err SlotFault.Memory → ⊥ }
     {
         if global >= GLOBAL_COUNT {
             return Err(SlotFault::NoSlot);

@@ -58,6 +58,7 @@ impl<H: GcHeap, D: Drop> Store<H, D> {
         ensures grows { (t : Table D) (a : Account) → HoldsAccount H.KIND self.old t a
             → GrowsStore H.KIND bytes (policy_state t a (L.limits limiter.old)) (L.limits limiter.new) result self.new }
         ensures same { IsSameStore self.old self.new }
+        ensures spare { self.old.spare ≤ self.new.spare }
     {
         if bytes == 0 {
             return Ok(());
@@ -82,6 +83,7 @@ impl<H: GcHeap, D: Drop> Store<H, D> {
         ensures collects { (t : Table D) (a : Account) → HoldsAccount H.KIND self.old t a
             → CollectsFor H.KIND why.now.bytes_needed (policy_state t a (L.limits limiter.old)) (L.limits limiter.new) result self.new }
         ensures same { IsSameStore self.old self.new }
+        ensures spare { self.old.spare ≤ self.new.spare }
     {
         self.gc();
         if self.unused_bytes() >= why.bytes_needed() {

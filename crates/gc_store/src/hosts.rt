@@ -18,7 +18,7 @@ ghost use Rattle.gc_store.specs.HostLends.{told_of_host, LendsValue};
 ghost use Rattle.gc_store.specs.HostPlaces.{PlacesHost};
 ghost use Rattle.gc_store.specs.HostSteps.{AllocatesHost, MakesHost, TellsHostId, FindsHostId};
 ghost use Rattle.gc_store.specs.Roots.{NamesReference, NamesNothing, is_of_store};
-ghost use Rattle.gc_store.specs.Stores.{IsSameStore};
+ghost use Rattle.gc_store.specs.Stores.{IsSameStore, scoped_places};
 
 use crate::make::collect_if_due;
 use crate::place::{count_allocation, scoped_handle};
@@ -154,6 +154,7 @@ impl<H: GcHeap, D: Drop> Store<H, D> {
         value: D,
     ) -> Result<GcRootIndex, PlaceHostFault<D>>
         ensures same { IsSameStore self.old self.new }
+        ensures spare { scoped_places self.old ≤ scoped_places self.new }
         ensures places { (t : Table D) (a : Account) → HoldsAccount H.KIND self.old t a
             → PlacesHost H.KIND self.old.alloc_counter value (policy_state t a (L.limits limiter.old)) (L.limits limiter.new) result self.new }
     {
@@ -247,6 +248,8 @@ impl<H: GcHeap, D: Drop> Store<H, D> {
             → result ≡ Err RootFault.Unrooted }
         ensures err { OnErr result (self.new ≡ self.old) }
         ensures same { IsSameStore self.old self.new }
+        ensures spare { scoped_places self.old ≤ scoped_places self.new }
+        ensures reserved { 0 < self.old.spare → result ≡ Err RootFault.Memory → ⊥ }
     {
         self.owner.is_ready();
         match self.word_of(handle) {

@@ -1,6 +1,6 @@
 //! Collections that are done increment by increment.
 
-ghost use Rattle.std.specs.Prelude.{◌≡◌, ℕ, ◌-◌, ◌^◌, min, true, false};
+ghost use Rattle.std.specs.Prelude.{◌≡◌, ◌≤◌, ℕ, ◌-◌, ◌^◌, min, true, false};
 ghost use Rattle.gc_heap.specs.Collection.{Start, IsIncrements};
 ghost use Rattle.gc_model.specs.Allocation.{Limits};
 ghost use Rattle.gc_model.specs.Table.{Table};
@@ -69,6 +69,7 @@ impl<H: GcHeap, D: Drop> Store<H, D> {
         ensures unmade { self.old.heap.attached ≡ false → self.new ≡ self.old }
         ensures increments { (t : Table D) → HoldsTable H.KIND self.old t → TakesIncrements H.KIND t result }
         ensures same { IsSameStore self.old self.new }
+        ensures spare { self.old.spare ≤ self.new.spare }
     {
         self.owner.is_ready();
         if self.owner.is_made() {
@@ -87,6 +88,7 @@ impl<H: GcHeap, D: Drop> Store<H, D> {
         ensures settled { self.old.heap.attached ≡ true → IsSettled H.KIND self.new }
         ensures unmade { self.old.heap.attached ≡ false → self.new ≡ self.old }
         ensures same { IsSameStore self.old self.new }
+        ensures spare { self.old.spare ≤ self.new.spare }
     {
         self.owner.is_ready();
         if self.owner.is_made() {

@@ -15,7 +15,9 @@ ghost use Rattle.gc_heap.specs.Content.{IsHeap};
 ghost use Rattle.gc_heap.specs.Heap.{HasRoom, grown};
 ghost use Rattle.gc_owner.specs.Growing.{pages_of};
 ghost use Rattle.gc_policy.specs.Accounts.{Account, HoldsAccount};
-ghost use Rattle.gc_store.specs.Roots.{Names};
+ghost use Rattle.gc_model.specs.Stores.{StoreView};
+ghost use Rattle.gc_store.specs.Roots.{Names, NamesReference, NamesSame};
+ghost use Rattle.gc_store.specs.Stores.{IsSameStore};
 ghost use Rattle.gc_store.specs.declared.root.GcRootIndex.{GcRootIndex};
 
 use crate::store::Store;
@@ -31,6 +33,16 @@ pub fn stores_hold_tables<H: GcHeap, D: Drop>(store: &Store<H, D>)
 /// A handle names one push for ever: no two pushes of a store have the same index and generation.
 pub fn handles_name_one_root<H: GcHeap, D: Drop>(store: &Store<H, D>)
     ensures { (t : Table D) (handle : GcRootIndex) (x y : ℕ) → HoldsTable H.KIND store.now t → Names store.now t handle x → Names store.now t handle y → x ≡ y }
+{}
+
+/// That two handles are live and name the same reference is an equivalence, and no collection changes it: a handle, scoped
+/// or owned, names the same reference as long as its store holds the same table.
+pub fn sameness_is_an_equivalence<D: Drop>()
+    ensures same { (s : StoreView D) (t : Table D) (a : GcRootIndex) (r : Reference) → NamesReference s t a r → NamesSame s t a a }
+    ensures turned { (s : StoreView D) (t : Table D) (a b : GcRootIndex) → NamesSame s t a b → NamesSame s t b a }
+    ensures through { (layouts : Layouts) (s : StoreView D) (t : Table D) (a b c : GcRootIndex) → HoldsTable layouts s t
+        → NamesSame s t a b → NamesSame s t b c → NamesSame s t a c }
+    ensures kept { (old new : StoreView D) (t : Table D) (a b : GcRootIndex) → IsSameStore old new → NamesSame old t a b → NamesSame new t a b }
 {}
 
 /// When a scope is left, each root that was made in it is gone.

@@ -1,6 +1,6 @@
 //! Owned roots: each stands as long as it has handles, whatever scope is left.
 
-ghost use Rattle.std.specs.Prelude.{◌≡◌, ◌-◌, ◌<◌, ◌^◌, true, false, OnOk, OnErr};
+ghost use Rattle.std.specs.Prelude.{◌≡◌, ◌≤◌, ◌-◌, ◌<◌, ◌^◌, true, false, OnOk, OnErr};
 ghost use Rattle.gc_model.specs.Values.{Reference};
 ghost use Rattle.gc_model.specs.Table.{Table};
 ghost use Rattle.gc_model.specs.Holds.{Holds, Placing, IsWord};
@@ -75,6 +75,7 @@ impl<H: GcHeap, D: Drop> Store<H, D> {
         ensures holds { (t : Table D) (place : Placing) (a : Account) → HoldsThere H.KIND self.old t place a → HoldsThere H.KIND self.new t place a }
         ensures trimmed { IsTrimmed self.new }
         ensures same { IsSameStore self.old self.new }
+        ensures spare { self.old.spare ≤ self.new.spare }
     {
         self.owner.is_ready();
         let count = self.owner.owned().len();
@@ -93,6 +94,7 @@ impl<H: GcHeap, D: Drop> Store<H, D> {
         ensures ok { OnOk result (AddsOwned H.KIND self.old word self.new) }
         ensures err { OnErr result (self.new ≡ self.old) }
         ensures same { IsSameStore self.old self.new }
+        ensures spare { self.old.spare ≤ self.new.spare }
     {
         self.owner.own(word)
     }
@@ -104,6 +106,7 @@ impl<H: GcHeap, D: Drop> Store<H, D> {
         ensures owns { (t : Table D) (place : Placing) (a : Account) (r : Reference) → HoldsThere H.KIND self.old t place a → IsWord place r word
             → OwnsWord H.KIND t a r result self.new }
         ensures same { IsSameStore self.old self.new }
+        ensures spare { self.old.spare ≤ self.new.spare }
     {
         if self.owned_is_full() {
             return Err(RootFault::RootsFull);
@@ -120,6 +123,7 @@ impl<H: GcHeap, D: Drop> Store<H, D> {
     pub fn own_root(&mut self, handle: GcRootIndex) -> Result<GcRootIndex, RootFault>
         ensures owns { (t : Table D) (a : Account) → HoldsAccount H.KIND self.old t a → MakesOwned H.KIND self.old t a handle result self.new }
         ensures same { IsSameStore self.old self.new }
+        ensures spare { self.old.spare ≤ self.new.spare }
     {
         self.owner.is_ready();
         match self.word_of(handle) {
@@ -160,6 +164,7 @@ impl<H: GcHeap, D: Drop> Store<H, D> {
         ensures adds { (t : Table D) (a : Account) → HoldsAccount H.KIND self.old t a → AddsHandle H.KIND self.old t a handle result self.new }
         ensures err { OnErr result (self.new ≡ self.old) }
         ensures same { IsSameStore self.old self.new }
+        ensures spare { self.old.spare ≤ self.new.spare }
     {
         match self.held_place(handle) {
             Some(index) => {
@@ -182,6 +187,7 @@ impl<H: GcHeap, D: Drop> Store<H, D> {
         ensures adds { (t : Table D) (a : Account) → HoldsAccount H.KIND self.old t a → AddsHandle H.KIND self.old t a handle result self.new }
         ensures err { OnErr result (self.new ≡ self.old) }
         ensures same { IsSameStore self.old self.new }
+        ensures spare { self.old.spare ≤ self.new.spare }
     {
         if self.is_own(handle) {
             self.add_own_handle(handle)
@@ -195,6 +201,7 @@ impl<H: GcHeap, D: Drop> Store<H, D> {
         requires { is_of_store self.old handle ≡ true }
         ensures drops { (t : Table D) (a : Account) → HoldsAccount H.KIND self.old t a → DropsHandle H.KIND self.old t a handle result self.new }
         ensures same { IsSameStore self.old self.new }
+        ensures spare { self.old.spare ≤ self.new.spare }
     {
         match self.held_place(handle) {
             Some(index) => {
@@ -213,6 +220,7 @@ impl<H: GcHeap, D: Drop> Store<H, D> {
         ensures releases { (t : Table D) (a : Account) → HoldsAccount H.KIND self.old t a → ReleasesHandle H.KIND self.old t a handle result self.new }
         ensures err { OnErr result (self.new ≡ self.old) }
         ensures same { IsSameStore self.old self.new }
+        ensures spare { self.old.spare ≤ self.new.spare }
     {
         if self.is_own(handle) {
             Ok(self.drop_handle(handle))

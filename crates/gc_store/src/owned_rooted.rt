@@ -1,6 +1,6 @@
 //! Handles of owned roots that say of which type what they name is.
 
-ghost use Rattle.std.specs.Prelude.{◌≡◌, true, false, Bool, Ok, Err, OnErr};
+ghost use Rattle.std.specs.Prelude.{◌≡◌, ◌≤◌, ◌<◌, true, false, Bool, Ok, Err, OnErr};
 ghost use Rattle.std.specs.Result.{MatchResult};
 ghost use Rattle.gc_model.specs.Values.{Reference};
 ghost use Rattle.gc_model.specs.Table.{Table};
@@ -9,7 +9,7 @@ ghost use Rattle.gc_policy.specs.Accounts.{Account, HoldsAccount};
 ghost use Rattle.gc_store.specs.Handles.{PushesRoot};
 ghost use Rattle.gc_store.specs.OwnedRoots.{MakesOwned, AddsHandle, DropsHandle};
 ghost use Rattle.gc_store.specs.Roots.{is_of_store, NamesReference, NamesNothing};
-ghost use Rattle.gc_store.specs.Stores.{IsSameStore};
+ghost use Rattle.gc_store.specs.Stores.{IsSameStore, scoped_places};
 ghost use Rattle.gc_store.specs.declared.root.RootFault.TheVariants as RootFault;
 
 use crate::root::{GcRootIndex, RootFault};
@@ -66,6 +66,8 @@ impl<T: GcRef> OwnedRooted<T> {
             → NamesNothing store.old t self.now.index → result ≡ Err RootFault.Unrooted }
         ensures err { OnErr result (store.new ≡ store.old) }
         ensures same { IsSameStore store.old store.new }
+        ensures spare { scoped_places store.old ≤ scoped_places store.new }
+        ensures reserved { 0 < store.old.spare → result ≡ Err RootFault.Memory → ⊥ }
     {
         match store.push_copy(self.index) {
             Ok(index) => Ok(Rooted::from_gc_root_index(index)),
@@ -84,6 +86,7 @@ impl<T: GcRef> OwnedRooted<T> {
             (λ fault. AddsHandle H.KIND store.old t a self.now.index (Err fault) store.new) }
         ensures err { OnErr result (store.new ≡ store.old) }
         ensures same { IsSameStore store.old store.new }
+        ensures spare { store.old.spare ≤ store.new.spare }
     {
         match store.add_handle(self.index) {
             Ok(()) => Ok(OwnedRooted::from_gc_root_index(self.index)),
@@ -100,6 +103,7 @@ impl<T: GcRef> OwnedRooted<T> {
             (λ back. (is_of_store store.old self.index ≡ false) × (back.index ≡ self.index)) }
         ensures err { OnErr result (store.new ≡ store.old) }
         ensures same { IsSameStore store.old store.new }
+        ensures spare { store.old.spare ≤ store.new.spare }
     {
         match store.release(self.index) {
             Ok(_) => Ok(()),
@@ -119,6 +123,7 @@ impl<T: GcRef> Rooted<T> {
             → MatchResult result (λ made. MakesOwned H.KIND store.old t a self.now.index (Ok made.index) store.new)
             (λ fault. MakesOwned H.KIND store.old t a self.now.index (Err fault) store.new) }
         ensures same { IsSameStore store.old store.new }
+        ensures spare { store.old.spare ≤ store.new.spare }
     {
         match store.own_root(self.root_index()) {
             Ok(index) => Ok(OwnedRooted::from_gc_root_index(index)),

@@ -1,12 +1,12 @@
 //! The pending exception, which is a root of a store.
 
-ghost use Rattle.std.specs.Prelude.{◌≡◌, ◌↔◌, IsTrue, None, OnErr};
+ghost use Rattle.std.specs.Prelude.{◌≡◌, ◌≤◌, ◌<◌, ◌↔◌, IsTrue, None, OnErr, Err};
 ghost use Rattle.gc_model.specs.Table.{Table};
 ghost use Rattle.gc_model.specs.Pending.{take_pending};
 ghost use Rattle.gc_model.specs.Holds.{HoldsTable};
 ghost use Rattle.gc_policy.specs.Accounts.{Account, HoldsAccount};
 ghost use Rattle.gc_store.specs.Thrown.{NamesException, SetsPending, AnswersPending, TellsTag};
-ghost use Rattle.gc_store.specs.Stores.{IsSameStore};
+ghost use Rattle.gc_store.specs.Stores.{IsSameStore, scoped_places};
 
 use crate::root::{GcRootIndex, RootFault, RootedObject};
 use crate::store::Store;
@@ -21,6 +21,7 @@ impl<H: GcHeap, D: Drop> Store<H, D> {
         ensures sets { (t : Table D) (a : Account) → HoldsAccount H.KIND self.old t a → SetsPending H.KIND self.old t a exception result self.new }
         ensures err { OnErr result (self.new ≡ self.old) }
         ensures same { IsSameStore self.old self.new }
+        ensures spare { self.old.spare ≤ self.new.spare }
     {
         self.owner.is_ready();
         match self.word_of(exception) {
@@ -38,6 +39,8 @@ impl<H: GcHeap, D: Drop> Store<H, D> {
         ensures takes { (t : Table D) (a : Account) → HoldsAccount H.KIND self.old t a → AnswersPending H.KIND t a result self.new }
         ensures err { OnErr result (self.new ≡ self.old) }
         ensures same { IsSameStore self.old self.new }
+        ensures spare { scoped_places self.old ≤ scoped_places self.new }
+        ensures reserved { 0 < self.old.spare → result ≡ Err RootFault.Memory → ⊥ }
     {
         self.owner.is_ready();
         let word = self.owner.pending();
@@ -57,6 +60,7 @@ impl<H: GcHeap, D: Drop> Store<H, D> {
     fn clear_pending(&mut self)
         ensures clears { (t : Table D) (a : Account) → HoldsAccount H.KIND self.old t a → HoldsAccount H.KIND self.new (take_pending t) a }
         ensures same { IsSameStore self.old self.new }
+        ensures spare { scoped_places self.old ≤ scoped_places self.new }
     {
         self.owner.is_ready();
         self.owner.set_pending(0);

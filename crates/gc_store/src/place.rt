@@ -1,6 +1,6 @@
 //! Making objects of the table.
 
-ghost use Rattle.std.specs.Prelude.{◌≡◌, ◌+◌, ◌-◌, ◌<◌, ◌^◌, ℕ, min, length, slice_index_or};
+ghost use Rattle.std.specs.Prelude.{◌≡◌, ◌≤◌, ◌+◌, ◌-◌, ◌<◌, ◌^◌, ℕ, min, length, slice_index_or};
 ghost use Rattle.gc_owner.specs.declared.entry.RootEntry as Root;
 ghost use Rattle.std.specs.Option.{option_map};
 ghost use Rattle.std.specs.Int.NonZero.{non_zero_u32_get};
@@ -11,7 +11,7 @@ ghost use Rattle.gc_policy.specs.Policy.{policy_state};
 ghost use Rattle.gc_store.specs.Places.{Places};
 ghost use Rattle.gc_store.specs.Making.{described_by, IsSizeOf, TellsSize};
 ghost use Rattle.gc_store.specs.Requests.{CanPlaceIn, IsObjectOf};
-ghost use Rattle.gc_store.specs.Stores.{is_full, IsSameStore};
+ghost use Rattle.gc_store.specs.Stores.{is_full, IsSameStore, scoped_places};
 
 use crate::engine::StoreId;
 use crate::fill::fill;
@@ -111,6 +111,7 @@ impl<H: GcHeap, D: Drop> Store<H, D> {
     ) -> Result<GcRootIndex, PlaceFault>
         requires { CanPlaceIn D H.KIND self.old request contents }
         ensures same { IsSameStore self.old self.new }
+        ensures spare { scoped_places self.old ≤ scoped_places self.new }
         ensures places { (t : Table D) (a : Account) (o : Object D) → HoldsAccount H.KIND self.old t a → IsObjectOf self.old t request contents.entry o
             → Places H.KIND self.old.alloc_counter o (policy_state t a (L.limits limiter.old)) (L.limits limiter.new) result self.new }
     {

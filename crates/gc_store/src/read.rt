@@ -1,6 +1,6 @@
 //! What a handle names, and what lies in it.
 
-ghost use Rattle.std.specs.Prelude.{◌≡◌, ◌⊎◌, ◌<◌, ◌%◌, true, false, Some, Ok, Err, IfOk, OnErr};
+ghost use Rattle.std.specs.Prelude.{◌≡◌, ◌≤◌, ◌⊎◌, ◌<◌, ◌%◌, true, false, Some, Ok, Err, IfOk, OnErr};
 ghost use Rattle.std.specs.FinMap as finite;
 ghost use Rattle.gc_types.specs.declared.kind.VMGcKind.{VMGcKind};
 ghost use Rattle.gc_types.specs.declared.kind.VMGcKind.TheVariants.{ArrayRef, ExnRef};
@@ -14,11 +14,12 @@ ghost use Rattle.gc_model.specs.Values.{Reference, Value, small};
 ghost use Rattle.gc_model.specs.Holds.{HoldsTable, Holds, Placing, IsWord};
 ghost use Rattle.gc_policy.specs.Accounts.{Account, IsAccount, HoldsAccount};
 ghost use Rattle.gc_store.specs.Described.{TellsHeld, tag_of};
-ghost use Rattle.gc_store.specs.Roots.{word_of, IsRootWord, IsReference, NamesReference, NamesNothing, TellsReference, is_of_store, HasValue, CanRead, FindsRoot};
+ghost use Rattle.gc_store.specs.Roots.{word_of, IsRootWord, IsReference, NamesReference, NamesNothing, TellsReference, TellsWord, is_of_store, HasValue, CanRead};
+ghost use Rattle.gc_store.specs.Roots.{FindsRoot};
 ghost use Rattle.gc_store.specs.Handles.{PushesRoot};
 ghost use Rattle.gc_store.specs.Values.{ReadsValue};
 ghost use Rattle.gc_store.specs.Reading.{FindsValue, IsReferenceWord, ReadsReference};
-ghost use Rattle.gc_store.specs.Stores.{IsSameStore};
+ghost use Rattle.gc_store.specs.Stores.{IsSameStore, scoped_places};
 
 use crate::place::scoped_handle;
 use crate::root::{GcRootIndex, RawValue, RootFault, RootedObject};
@@ -127,6 +128,22 @@ impl<H: GcHeap, D: Drop> Store<H, D> {
         }
     }
 
+    /// The word of the handle's reference, as the heap has it until it collects next: that of a 31-bit number is odd, and
+    /// that of an object is where it lies. `WrongStore` where it is another store's handle, `Unrooted` where it isn't live.
+    /// It takes no memory.
+    pub fn word(&self, handle: GcRootIndex) -> Result<u32, RootFault>
+        ensures wrong_store { is_of_store self.now handle ≡ false → result ≡ Err RootFault.WrongStore }
+        ensures live { (t : Table D) (place : Placing) (r : Reference) → Holds H.KIND self.now t place → NamesReference self.now t handle r
+            → TellsWord place r result }
+        ensures gone { is_of_store self.now handle ≡ true → (t : Table D) → HoldsTable H.KIND self.now t → NamesNothing self.now t handle
+            → result ≡ Err RootFault.Unrooted }
+    {
+        match self.word_of(handle) {
+            Ok(word) => Ok(word),
+            Err(fault) => Err(fault),
+        }
+    }
+
     /// Whether two handles name the same reference: the same object, or the same 31-bit number.
     /// `WrongStore` where one of them is another store's, then `Unrooted` where one isn't live.
     pub fn index_eq(&self, a: GcRootIndex, b: GcRootIndex) -> Result<bool, RootFault>
@@ -151,6 +168,8 @@ impl<H: GcHeap, D: Drop> Store<H, D> {
             → IsWord place r word → PushesRoot H.KIND t a r result self.new }
         ensures err { OnErr result (self.new ≡ self.old) }
         ensures same { IsSameStore self.old self.new }
+        ensures spare { scoped_places self.old ≤ scoped_places self.new }
+        ensures reserved { 0 < self.old.spare → result ≡ Err RootFault.Memory → ⊥ }
     {
         if self.roots_full() {
             return Err(RootFault::RootsFull);
@@ -168,6 +187,8 @@ impl<H: GcHeap, D: Drop> Store<H, D> {
         ensures pushes { (t : Table D) (a : Account) → HoldsAccount H.KIND self.old t a → PushesRoot H.KIND t a (small value) result self.new }
         ensures err { OnErr result (self.new ≡ self.old) }
         ensures same { IsSameStore self.old self.new }
+        ensures spare { scoped_places self.old ≤ scoped_places self.new }
+        ensures reserved { 0 < self.old.spare → result ≡ Err RootFault.Memory → ⊥ }
     {
         self.owner.is_ready();
         self.push_word(VMGcRef::from_i31(value).as_raw_u32())
@@ -195,6 +216,8 @@ impl<H: GcHeap, D: Drop> Store<H, D> {
         ensures reads { ReadsReference H.KIND self.old word result self.new }
         ensures err { OnErr result (self.new ≡ self.old) }
         ensures same { IsSameStore self.old self.new }
+        ensures spare { scoped_places self.old ≤ scoped_places self.new }
+        ensures reserved { 0 < self.old.spare → result ≡ Err RootFault.Memory → ⊥ }
     {
         if word == 0 {
             return Ok(None);
@@ -213,6 +236,8 @@ impl<H: GcHeap, D: Drop> Store<H, D> {
             → ReadsValue H.KIND t a value result self.new }
         ensures err { OnErr result (self.new ≡ self.old) }
         ensures same { IsSameStore self.old self.new }
+        ensures spare { scoped_places self.old ≤ scoped_places self.new }
+        ensures reserved { 0 < self.old.spare → result ≡ Err RootFault.Memory → ⊥ }
     {
         match self.found_at(handle, index) {
             Found::Number(value) => Ok(value),

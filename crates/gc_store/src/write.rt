@@ -1,6 +1,6 @@
 //! Writing into objects.
 
-ghost use Rattle.std.specs.Prelude.{◌≡◌, IsOk};
+ghost use Rattle.std.specs.Prelude.{◌≡◌, ◌≤◌, IsOk};
 ghost use Rattle.gc_model.specs.Table.{Table};
 ghost use Rattle.gc_policy.specs.Accounts.{Account, HoldsAccount};
 ghost use Rattle.gc_store.specs.Values.{CanWrite, WritesValue};
@@ -37,6 +37,7 @@ impl<H: GcHeap, D: Drop> Store<H, D> {
         ensures ok { IsOk result }
         ensures writes { (t : Table D) (a : Account) → HoldsAccount H.KIND self.old t a → WritesValue H.KIND self.old self.new t a handle index value }
         ensures same { IsSameStore self.old self.new }
+        ensures spare { self.old.spare ≤ self.new.spare }
     {
         self.owner.is_ready();
         match self.word_of(handle) {

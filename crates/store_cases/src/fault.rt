@@ -1,7 +1,7 @@
 //! Why cases can't be run.
 
 use gc_script::RunError;
-use gc_store::{PlaceHostFault, RootFault};
+use gc_store::{PlaceHostFault, RootFault, SlotFault};
 use std::alloc::AllocError;
 use std::io;
 use thiserror::Error;
@@ -17,6 +17,8 @@ pub(crate) enum CaseFault {
     NotRefused,
     #[error(transparent)]
     Root(#[from] RootFault),
+    #[error(transparent)]
+    Slot(#[from] SlotFault),
     #[error(transparent)]
     Run(#[from] RunError),
     #[error(transparent)]

@@ -9,6 +9,7 @@ mod handles;
 mod hosts;
 mod limits;
 mod pending;
+mod roots;
 
 use crate::fault::CaseFault;
 use crate::growth::run_growth;
@@ -16,6 +17,7 @@ use crate::handles::{run_marked, run_owned, run_unnamed};
 use crate::hosts::{run_hosts, run_stale_hosts, run_strangers};
 use crate::limits::{run_configurations, run_firsts, run_ids, run_page_limit, run_scripted};
 use crate::pending::run_pending;
+use crate::roots::{run_roots, run_scopes};
 use gc_copying::CopyingHeap;
 use gc_drc::DrcHeap;
 use gc_heap::{GcHeap, NullHeap};
@@ -66,7 +68,9 @@ fn run_cases<H: GcHeap, W: Write + Drop>(
     run_hosts(store, &mut limiter, out)?;
     run_strangers(store, stranger, &mut limiter, out)?;
     run_stale_hosts(store, &mut limiter, out)?;
-    run_pending(alloc, store, &mut limiter, out)
+    run_pending(alloc, store, &mut limiter, out)?;
+    run_scopes(store, out)?;
+    run_roots(store, out)
 }
 
 /// Runs all cases over null heaps.

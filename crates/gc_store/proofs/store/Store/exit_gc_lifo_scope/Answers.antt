@@ -6,10 +6,10 @@ use Rattle.gc_store.proofs.store.Store.exit_gc_lifo_scope.Goals as goal
 
 pub invariant_of-self : goal.invariant_of-self
 invariant_of-self g c =
-    sound_left g.H.GcHeap.KIND c.self.inside.id c.self.inside.config c.self.inside.tries c.self.inside.owner.seen c.leave_scope.new.self.seen c.args.scope c.leave_scope.new.self.seen.roots.spare
+    sound_left g.H.GcHeap.KIND c.self.inside.id c.self.inside.config c.self.inside.tries c.self.inside.owner.seen c.leave_scope.new.self.seen c.args.scope
     c.leave_scope.ensures c.self.inside.slot_counts.items c.self.invariant
 
 pub returns-clause-leaves : goal.returns-clause-leaves
 returns-clause-leaves g c t a holds =
-    holds_left g.H.GcHeap.KIND c.self.inside.id c.self.inside.config c.self.inside.tries c.self.inside.owner.seen c.leave_scope.new.self.seen c.args.scope c.leave_scope.new.self.seen.roots.spare
+    holds_left g.H.GcHeap.KIND c.self.inside.id c.self.inside.config c.self.inside.tries c.self.inside.owner.seen c.leave_scope.new.self.seen c.args.scope
     c.leave_scope.ensures t a (subst (λ (s : StoreView g.row.D.Denot). HoldsAccount g.H.GcHeap.KIND s t a) (sym c.self.view_is) holds)

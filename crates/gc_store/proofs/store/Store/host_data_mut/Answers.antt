@@ -33,8 +33,11 @@ returns-in-Some g c =
         refl,
         λ w lent. (
           record { engine = refl; number = refl; counter = refl },
-          λ t a p old holds named in_table.
-              named_set g.H.GcHeap.KIND c.args.self.now t a p old w c.in-Ok-Some.id holds in_table (id_found g at t holds.place (values.at p) holds.holds named),
+          (
+            refl,
+            λ t a p old holds named in_table.
+                named_set g.H.GcHeap.KIND c.args.self.now t a p old w c.in-Ok-Some.id holds in_table (id_found g at t holds.place (values.at p) holds.holds named),
+          ),
         ),
         tt,
       ),

@@ -1,4 +1,4 @@
-use Rattle.std.proofs.Common.{inl, ◌≡◌, ℕ, ◌+◌, ◌-◌, ◌<◌, ◌^◌, min, true, false, List, length, Result, Ok, Err, slice_index_or, refl, sym, ap, ◌∙◌, subst}
+use Rattle.std.proofs.Common.{inl, ◌≡◌, ℕ, ◌+◌, ◌-◌, ◌<◌, ◌^◌, min, true, false, List, length, Result, Ok, Err, slice_index_or, refl, sym, ap, ◌∙◌, subst, arith}
 use Rattle.std.specs.Option.{option_map}
 use Rattle.std.specs.Int.NonZero.{non_zero_u32_get}
 use Rattle.gc_types.specs.Declarations.{TypeTable}
@@ -25,7 +25,7 @@ use Rattle.gc_store.specs.Filling.{asked_type, front_of, ContentsFit, ContentsSt
 use Rattle.gc_store.specs.Making.{BeginsMaking, IsSizeOf, MakesRooted, TellsSize, described_by}
 use Rattle.gc_store.specs.Places.{Places, PlacesObject}
 use Rattle.gc_store.specs.Requests.{CanPlaceIn, IsObjectOf}
-use Rattle.gc_store.specs.Stores.{store_view, is_full}
+use Rattle.gc_store.specs.Stores.{store_view, is_full, scoped_places}
 use Rattle.gc_store.proofs.Keeping.{counts_of}
 use Rattle.gc_store.proofs.NewObjects.{IsNew, asked_kind}
 use Rattle.gc_store.proofs.Placing.{IsStart, reserved_start, Creates, IsLastRoot, last_root, KeepsRest, made_keeps, may_fill, placing_follows}
@@ -35,6 +35,7 @@ use Rattle.gc_store.proofs.Requested.{Asks, IsCounted, Sized, sized, few_element
 use Rattle.gc_store.proofs.store.Store.place.Given as given
 use Rattle.gc_store.proofs.store.Store.place.Goals.{After-is_ready, After-is_err, After-make_object, In-Ok, After-holder_of-holder, After-fill, In-Err}
 use Rattle.gc_store.proofs.store.Store.place.Goals as goal
+use Rattle.gc_store.proofs.SpareLemmas.{reserves_more, can_roomy, asked_roomy}
 
 -- the store before the call, and its owner with room for one more root
 abbrev view : (g : given.Over) (c : After-is_ready g) → StoreView g.row.D.Denot
@@ -112,10 +113,12 @@ store_now g c = shown (view g (first_of g c)) (now g c)
 can : (g : given.Over) (c : After-is_err g) → CanPlaceIn g.row.D.Denot g.H.GcHeap.KIND (store_now g c) c.args.request c.args.contents
 can g c =
     subst (λ (v : OwnerView g.row.D.Denot). CanPlaceIn g.row.D.Denot g.H.GcHeap.KIND (shown (view g (first_of g c)) v) c.args.request c.args.contents) (sym c.reserve.ensures.rest)
-    (fits_view g (first_of g c))
+    (can_roomy g.H.GcHeap.KIND (view g (first_of g c)) (now g c).roots.spare c.args.request c.args.contents (fits_view g (first_of g c)))
 
 asked_now : (g : given.Over) (c : After-is_err g) (t : Table g.row.D.Denot) (o : Object g.row.D.Denot) → IsObjectOf (view g (first_of g c)) t c.args.request c.args.contents o → IsObjectOf (store_now g c) t c.args.request c.args.contents o
-asked_now g c t o is = subst (λ (v : OwnerView g.row.D.Denot). IsObjectOf (shown (view g (first_of g c)) v) t c.args.request c.args.contents o) (sym c.reserve.ensures.rest) is
+asked_now g c t o is =
+    subst (λ (v : OwnerView g.row.D.Denot). IsObjectOf (shown (view g (first_of g c)) v) t c.args.request c.args.contents o) (sym c.reserve.ensures.rest)
+    (asked_roomy g.H.GcHeap.KIND (view g (first_of g c)) (now g c).roots.spare t c.args.request c.args.contents o is)
 
 -- what the size is said to be, for each size by the types
 tells : (g : given.Over) (c : After-is_err g) (size : ℕ) → IsSizeOf g.H.GcHeap.KIND (now g c).types.declarations c.args.request size → (c.in-Some.size ≡ size) × (too_large g.H.GcHeap.KIND size ≡ false)
@@ -386,3 +389,23 @@ returns-in-Err-clause-places g c t a o holds is_asked =
     subst (λ (n : _). Places g.H.GcHeap.KIND n o (policy_state t a (g.L.ResourceLimiter.limits c.args.limiter.now)) (g.L.ResourceLimiter.limits c.make_object.new.limiter) (Err c.in-Err.fault) (left g fault)) (ap (λ (s : StoreView g.row.D.Denot). s.alloc_counter) c.self.view_is)
     (subst (λ (n : ℕ). Places g.H.GcHeap.KIND (option_map non_zero_u32_get c.self.inside.config.alloc_counter) o (policy_state t a (g.L.ResourceLimiter.limits c.args.limiter.now)) (g.L.ResourceLimiter.limits c.make_object.new.limiter) (Err c.in-Err.fault) (store_view c.self.inside.id c.self.inside.config c.make_object.new.owner.seen n))
     (sym c.count_allocation-is_due.ensures.counted) (refused g fault t a o (held g first t a holds) (asked_now g err t o (asked_view g first t o is_asked))).places)
+
+-- No fewer places for scoped roots are left.
+pub returns-in-Ok-clause-spare : goal.returns-in-Ok-clause-spare
+returns-in-Ok-clause-spare g c =
+    let at = (goal.at.returns-in-Ok-clause-spare g c).After-fill in
+    let more = reserves_more 1 c.self.inside.owner.seen.roots.spare c.reserve.new.self.seen.roots.spare c.reserve.result c.reserve.ensures.spare in
+    let less = (keeps g (ok_at g at)).spare in
+    let same = ap (λ (v : OwnerView g.row.D.Denot). v.roots.spare + length v.roots.scoped) (filled g at).rewrites.rest in
+    let count = ap (λ (v : OwnerView g.row.D.Denot). length v.roots.scoped) c.reserve.ensures.rest in
+    let was = ap (λ (s : StoreView g.row.D.Denot). scoped_places s) c.self.view_is in
+    omega (arith, more, less, same, count, was)
+
+pub returns-in-Err-clause-spare : goal.returns-in-Err-clause-spare
+returns-in-Err-clause-spare g c =
+    let fault = (goal.at.returns-in-Err-clause-spare g c).In-Err in
+    let more = reserves_more 1 c.self.inside.owner.seen.roots.spare c.reserve.new.self.seen.roots.spare c.reserve.result c.reserve.ensures.spare in
+    let less = (rest_kept g fault).spare in
+    let count = ap (λ (v : OwnerView g.row.D.Denot). length v.roots.scoped) c.reserve.ensures.rest in
+    let was = ap (λ (s : StoreView g.row.D.Denot). scoped_places s) c.self.view_is in
+    omega (arith, more, less, count, was)

@@ -1,4 +1,4 @@
-use Rattle.std.proofs.Common.{inl, ◌≡◌, ℕ, ◌+◌, ◌-◌, ◌<◌, ◌^◌, min, false, Option, Result, Ok, Err, refl, sym, ap, ◌∙◌, subst}
+use Rattle.std.proofs.Common.{inl, ◌≡◌, ℕ, ◌+◌, ◌-◌, ◌<◌, ◌^◌, min, false, Option, Result, Ok, Err, refl, sym, ap, ◌∙◌, subst, arith, length}
 use Rattle.std.specs.FinMap.{len}
 use Rattle.std.specs.Option.{option_map}
 use Rattle.std.specs.Int.NonZero.{non_zero_u32_get}
@@ -14,7 +14,7 @@ use Rattle.gc_policy.specs.Policy as policy
 use Rattle.gc_policy.specs.Policy.{policy_state}
 use Rattle.gc_policy.specs.Shown.{shown}
 use Rattle.gc_policy.proofs.HeldHosts.{few_hosts}
-use Rattle.gc_store.specs.Stores.{store_view, is_full}
+use Rattle.gc_store.specs.Stores.{store_view, is_full, scoped_places}
 use Rattle.gc_store.specs.declared.hosts.PlaceHostFault.{PlaceHostFault}
 use Rattle.gc_store.specs.declared.root.GcRootIndex.{GcRootIndex}
 use Rattle.gc_store.specs.declared.root.RootSlot.TheVariants as slot
@@ -27,6 +27,7 @@ use Rattle.gc_store.proofs.Pushing.{full_is}
 use Rattle.gc_store.proofs.store.Store.place_host.Given as given
 use Rattle.gc_store.proofs.store.Store.place_host.Goals.{After-is_ready, After-is_err, Joined-make_host, in-Ok, in-Err}
 use Rattle.gc_store.proofs.store.Store.place_host.Goals as goal
+use Rattle.gc_store.proofs.SpareLemmas.{reserves_more}
 
 -- the store before the call, and its owner with room for one more root
 abbrev view : (g : given.Over) (c : After-is_ready g) → StoreView g.row.D.Denot
@@ -140,3 +141,13 @@ returns-clause-places g c t a holds =
           w.in-Err.fault (made g c (Err w.in-Err.fault) w.in-Err.is) in
           answers g c t a (Err w.in-Err.fault) after.places w.result-is
     ]
+
+-- No fewer places for scoped roots are left.
+pub returns-clause-spare : goal.returns-clause-spare
+returns-clause-spare g c =
+    let at = (goal.at.returns-clause-spare g c).Joined-make_host in
+    let more = reserves_more 1 c.self.inside.owner.seen.roots.spare c.reserve.new.self.seen.roots.spare c.reserve.result c.reserve.ensures.spare in
+    let less = (host_keeps g.H.GcHeap.KIND c.args.value c.self.inside.config.first_pages c.count_allocation-is_due.result (start g at) (made_state g at) c.make_host.result c.make_host.ensures).spare in
+    let count = ap (λ (v : OwnerView g.row.D.Denot). length v.roots.scoped) c.reserve.ensures.rest in
+    let was = ap (λ (s : StoreView g.row.D.Denot). scoped_places s) c.self.view_is in
+    omega (arith, more, less, count, was)

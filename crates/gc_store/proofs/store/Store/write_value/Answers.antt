@@ -1,4 +1,4 @@
-use Rattle.std.proofs.Common.{◌≡◌, ℕ, List, Ok, Some, sym, ap, ◌∙◌, subst}
+use Rattle.std.proofs.Common.{◌≡◌, ℕ, List, Ok, Some, sym, ap, ◌∙◌, subst, arith}
 use Rattle.std.specs.FinMap as finite
 use Rattle.gc_types.specs.Declarations.{TypeTable, Declaration}
 use Rattle.gc_view.specs.Heaps.{HeapObject, HeapView}
@@ -174,3 +174,10 @@ returns-clause-writes g c t a holds before v has field field_is stands =
     (writes_value g.row.D.Denot g.H.GcHeap.KIND (view g at) c.args.handle c.args.index c.args.value (can g at) c.in-Ok.word (word_at g at) c.slot_in-slot.result (finds g slot) c.write_slot.new.owner.seen.heap c.stored_value-stored.result (kept_is g kept) c.stored_value-stored.ensures.small (heap_written g after)) in
     subst (λ (s : StoreView g.row.D.Denot). HoldsAccount g.H.GcHeap.KIND s (write has.position c.args.index (stored field.element_type v) t) a) (sym (later_is g after))
     (writes t a holds before v has field field_is stands)
+
+pub returns-clause-spare : goal.returns-clause-spare
+returns-clause-spare g c =
+    let at = (goal.at.returns-clause-spare g c).After-write_slot in
+    let same = ap (λ (v : OwnerView g.row.D.Denot). v.roots.spare) (rest_is g at) in
+    let was = ap (λ (s : StoreView g.row.D.Denot). s.spare) c.self.view_is in
+    omega (arith, same, was)

@@ -1,0 +1,70 @@
+-- The words of all roots of a store in one order, by which they are numbered from 0.
+use Rattle.std.specs.Prelude.{◌≡◌, ℕ, ◌+◌, ◌==◌, ◌<◌, List, [], ◌∷◌, ◌++◌, Option, Some, None, Result, Ok, Err, map, slice_get, if◌then◌else◌}
+use Rattle.gc_types.specs.declared.kind.Layouts.{Layouts}
+use Rattle.gc_owner.specs.declared.entry.RootEntry.{RootEntry}
+use Rattle.gc_owner.specs.declared.entry.OwnedEntry.{OwnedEntry}
+use Rattle.gc_owner.specs.declared.entry.SlotEntry.{SlotEntry}
+use Rattle.gc_model.specs.Values.{Reference}
+use Rattle.gc_model.specs.Table.{Table}
+use Rattle.gc_model.specs.Holds.{Holds, Placing, IsWord}
+use Rattle.gc_model.specs.Stores.{StoreView}
+use Rattle.gc_policy.specs.Accounts.{Account, IsAccount}
+use Rattle.gc_store.specs.declared.root.RootFault.{RootFault}
+use Rattle.gc_store.specs.declared.root_words.RootName.{RootName}
+use Rattle.gc_store.specs.declared.root_words.RootName.TheVariants as name
+use Rattle.gc_store.specs.declared.root_words.RootWord.{RootWord}
+use Rattle.gc_store.specs.declared.root_words.RootAt.{RootAt}
+use Rattle.gc_store.specs.declared.root_words.RootAt.TheVariants as found
+use Rattle.gc_store.specs.Words.{owned_id}
+use Rattle.gc_store.specs.Handles.{PushesRoot}
+
+-- what each element gives with its number, from the first one's on
+abbrev pub numbered : {A B : Type 0} → (ℕ → A → B) → ℕ → List A → List B
+numbered give from [] = []
+numbered give from (x ∷ xs) = give from x ∷ numbered give (from + 1) xs
+
+abbrev pub root_word : RootName → ℕ → RootWord
+root_word root word = record { name = root; word = word }
+
+abbrev pub global_root : ℕ → SlotEntry → RootWord
+global_root index entry = root_word (name.Global index) entry.word
+
+abbrev pub slot_root : ℕ → ℕ → SlotEntry → RootWord
+slot_root frame slot entry = root_word (name.Slot frame slot) entry.word
+
+-- the words of slots
+abbrev pub slot_words : List SlotEntry → List ℕ
+slot_words slots = map (λ (e : SlotEntry). e.word) slots
+
+-- the slots of frames, of which the first has that number
+abbrev pub slot_roots : ℕ → List (List SlotEntry) → List RootWord
+slot_roots from [] = []
+slot_roots from (slots ∷ frames) = numbered (slot_root from) 0 slots ++ slot_roots (from + 1) frames
+
+-- an owned root without handles names nothing
+abbrev pub owned_root : OwnedEntry → RootWord
+owned_root entry = root_word (name.Owned (owned_id entry.number)) (if entry.handles == 0 then 0 else entry.word)
+
+abbrev pub scoped_root : ℕ → RootEntry → RootWord
+scoped_root index entry = root_word (name.Scoped index) entry.word
+
+-- the owned and the scoped roots
+abbrev pub handle_roots : List OwnedEntry → List RootEntry → List RootWord
+handle_roots owned scoped = map owned_root owned ++ numbered scoped_root 0 scoped
+
+-- The globals; what is pending; the slots of the frames, the oldest frame's first; the owned roots in the order in which
+-- they were made; the scoped roots from the oldest on.
+abbrev pub root_words : {D : Type 0} → StoreView D → List RootWord
+root_words s =
+    numbered global_root 0 s.globals
+    ++ (root_word name.Pending s.pending ∷ (slot_roots 0 s.frames ++ handle_roots s.owned s.scoped))
+
+-- what a new scoped root for the root word of a number answers and leaves, at what stands there
+abbrev pub RootsWord : {D : Type 0} → Layouts → StoreView D → Table D → Placing → Account → Option RootWord → Result RootAt RootFault → StoreView D → Type 0
+RootsWord layouts old t place a None result new = (result ≡ Ok found.End) × (new ≡ old)
+RootsWord layouts old t place a (Some root) (Ok found.End) new = ⊥
+RootsWord layouts old t place a (Some root) (Ok found.Null) new = (root.word ≡ 0) × (new ≡ old)
+RootsWord layouts old t place a (Some root) (Ok (found.Root named handle)) new =
+    (named ≡ root.name) × ((0 < root.word) × ((r : Reference) × (IsWord place r root.word × PushesRoot layouts t a r (Ok handle) new)))
+RootsWord layouts old t place a (Some root) (Err fault) new =
+    (0 < root.word) × ((r : Reference) × (IsWord place r root.word × PushesRoot layouts t a r (Err fault) new))
