@@ -1,5 +1,5 @@
 -- Exceptions that handles name, and their values.
-use Rattle.std.proofs.Common.{inl, inr, ◌≡◌, ℕ, List, map, length, Option, Some, None, Result, Ok, Err, IfOk, IfSome, sym, ap, ◌∙◌, refl, subst, arith}
+use Rattle.std.proofs.Common.{inl, inr, ◌≡◌, ℕ, List, map, length, Option, Some, None, Result, Ok, IfOk, IfSome, sym, ap, ◌∙◌, refl, subst, arith}
 use Rattle.std.specs.List.{slice_get}
 use Rattle.std.specs.Prelude.{option_map}
 use Rattle.std.specs.Option.{option_and_then}
@@ -13,9 +13,8 @@ use Rattle.gc_types.specs.Layouts.{exception_base}
 use Rattle.gc_view.specs.Slots.{shape_slots}
 use Rattle.gc_view.proofs.SlotLemmas.{length-field_slots}
 use Rattle.gc_model.specs.Values.{Reference, null, small, at, Value, Object, struct, array, host, exception}
-use Rattle.gc_model.specs.Reach.{object_values}
 use Rattle.gc_model.specs.Sizes.{shape_exn_fields, exn_fields_at}
-use Rattle.gc_model.specs.Stored.{listed_type, value_type}
+use Rattle.gc_model.specs.Stored.{listed_type}
 use Rattle.gc_model.specs.Table.{Table}
 use Rattle.gc_model.specs.Stores.{StoreView}
 use Rattle.gc_model.specs.Holds.{HoldsTable}
@@ -27,7 +26,7 @@ use Rattle.gc_store.specs.declared.root.RootedObject.TheVariants as rooted_objec
 use Rattle.gc_store.specs.Roots.{is_of_store, NamesReference, IsReference, IsObject, FindsRoot}
 use Rattle.gc_objects.specs.declared.places.NamedExn.{NamedExn}
 use Rattle.gc_objects.specs.declared.places.NamedField.{NamedField}
-use Rattle.gc_objects.specs.Answered.{Answers, named_object, IsFieldOf, HasField}
+use Rattle.gc_objects.specs.Answered.{Answers, IsFieldOf, HasField}
 use Rattle.gc_objects.specs.Exns.{exn_in, IsNamedExn}
 use Rattle.gc_objects.specs.Kinds.{object_kind, IsOfKind, NamesKind}
 use Rattle.gc_objects.specs.Reads.{IsTyped}

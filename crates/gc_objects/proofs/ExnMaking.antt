@@ -28,7 +28,6 @@ use Rattle.std.specs.Option.{option_and_then}
 use Rattle.std.proofs.lemmas.List.{length-map}
 use Rattle.std.proofs.lemmas.Option.{none-some}
 use Rattle.gc_model.proofs.StoredValues.{mapped_from}
-use Rattle.gc_store.specs.declared.root.RawValue.{RawValue}
 use Rattle.gc_store.specs.Values.{CanStore}
 use Rattle.gc_objects.proofs.MakeLemmas.{all_stand}
 

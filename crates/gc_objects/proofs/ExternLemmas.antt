@@ -1,9 +1,8 @@
 -- References of the embedder: host objects that are made, and other references that are converted.
-use Rattle.std.proofs.Common.{inl, inr, ◌≡◌, ◌⊎◌, ℕ, length, true, false, Option, Some, Result, Ok, Err, IfOk, sym, ap, ◌∙◌, refl, subst}
+use Rattle.std.proofs.Common.{inl, inr, ◌≡◌, ℕ, length, true, false, Option, Some, Result, Ok, Err, IfOk, sym, ap, ◌∙◌, refl, subst}
 use Rattle.std.specs.Result.{IsOkAnd, IsErrAnd}
 use Rattle.std.specs.List.{slice_get}
 use Rattle.gc_types.specs.declared.kind.Layouts.{Layouts}
-use Rattle.gc_types.specs.declared.kind.VMGcKind.{VMGcKind}
 use Rattle.gc_types.specs.declared.kind.VMGcKind.TheVariants as kinds
 use Rattle.gc_model.specs.Values.{Reference, null, small, at, Object, host}
 use Rattle.gc_model.specs.Allocation.{Limits}
@@ -25,7 +24,6 @@ use Rattle.gc_store.specs.HostPlaces.{PlacesHost}
 use Rattle.gc_store.specs.Places.{PlacesObject}
 use Rattle.gc_store.specs.Roots.{is_of_store, NamesReference, NamesNothing}
 use Rattle.gc_objects.specs.declared.faults.AllocFault.{AllocFault}
-use Rattle.gc_objects.specs.declared.faults.AllocFault.TheVariants as fault
 use Rattle.gc_objects.specs.Answered.{Answers}
 use Rattle.gc_objects.specs.Hosts.{IsHostHanded, MakesHost, CopiesRoot, CopiesHandle}
 use Rattle.gc_objects.specs.Kinds.{IsOfKind, NamesKind}

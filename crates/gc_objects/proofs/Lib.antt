@@ -19,6 +19,8 @@ pub mod Reading
 pub mod SetLemmas
 pub mod StructLemmas
 pub mod StructMaking
+pub mod TakenExceptions
+pub mod ThrowLemmas
 pub mod TypeLemmas
 pub mod TypedObjects
 pub mod ValueLemmas

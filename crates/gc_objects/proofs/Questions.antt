@@ -11,6 +11,9 @@ use Rattle.gc_model.specs.Holds.{HoldsTable}
 use Rattle.gc_store.specs.declared.root.GcRootIndex.{GcRootIndex}
 use Rattle.gc_store.specs.declared.root.RootFault.{RootFault}
 use Rattle.gc_store.specs.declared.root.RootFault.TheVariants as fault
+use Rattle.gc_objects.specs.declared.faults.AccessFault.{AccessFault}
+use Rattle.gc_objects.specs.declared.faults.AccessFault.TheVariants as access_fault
+use Rattle.gc_objects.specs.Faults.{accessed}
 use Rattle.gc_store.specs.declared.root.RootedObject.{RootedObject}
 use Rattle.gc_store.specs.declared.rooted.Rooted.{Rooted}
 use Rattle.gc_store.specs.Roots.{is_of_store, NamesReference, IsReference, IsObject, FindsRoot}
@@ -217,3 +220,15 @@ module _ {D : Type 0} (layouts : Layouts) (s : StoreView D) (root this : GcRootI
     pub array_found : (named : NamedArray) (handle : GcRootIndex) → array_in x ≡ Some named → handle ≡ this → NamesKind D layouts s kinds.ArrayRef handle
     array_found named handle e index =
         subst (NamesKind D layouts s kinds.ArrayRef) (same ∙ sym index) (finds_array layouts s root x named e (found_ok (FindsRoot D layouts s root) result x is found))
+
+-- a question about a handle wants no memory
+pub wants_none : {D A : Type 0} (s : StoreView D) (t : Table D) (own : Bool) (handle : GcRootIndex) (Tells : Reference → A → Type 0) (e : RootFault) → Answers s t own handle Tells (Err e) → accessed e ≡ access_fault.Memory → ⊥
+wants_none s t own handle Tells fault.WrongStore answers is = cc is
+wants_none s t own handle Tells fault.Unrooted answers is = cc is
+wants_none s t own handle Tells fault.RootsFull answers is = absurd answers
+wants_none s t own handle Tells fault.Memory answers is = absurd answers
+
+pub asks_no_memory : {D A : Type 0} (s : StoreView D) (t : Table D) (own : Bool) (handle : GcRootIndex) (Tells : Reference → A → Type 0) (result : Result A RootFault) (e : RootFault) (found : AccessFault)
+    → result ≡ Err e → found ≡ accessed e → Answers s t own handle Tells result → found ≡ access_fault.Memory → ⊥
+asks_no_memory s t own handle Tells result e found failed told answers is =
+    wants_none s t own handle Tells e (subst (Answers s t own handle Tells) failed answers) (sym told ∙ is)

@@ -7,4 +7,5 @@ pub mod Kinds
 pub mod Makes
 pub mod OwnTypes
 pub mod Reads
+pub mod Thrown
 pub mod Writes

@@ -1,12 +1,12 @@
 //! Reading and writing values through the store, once all tests passed.
 
-ghost use Rattle.std.specs.Prelude.{◌≡◌, IfOk, IsOk, OnErr};
+ghost use Rattle.std.specs.Prelude.{◌≡◌, ◌≤◌, ◌<◌, IfOk, IsOk, OnErr, Err};
 ghost use Rattle.gc_model.specs.Table.{Table};
 ghost use Rattle.gc_model.specs.Values.{Value};
 ghost use Rattle.gc_policy.specs.Accounts.{Account, HoldsAccount};
 ghost use Rattle.gc_store.specs.Roots.{CanRead, HasValue};
 ghost use Rattle.gc_store.specs.Values.{CanWrite, WritesValue};
-ghost use Rattle.gc_store.specs.Stores.{IsSameStore};
+ghost use Rattle.gc_store.specs.Stores.{IsSameStore, scoped_places};
 ghost use Rattle.gc_objects.specs.Given.{raw_of, ValNamesKind};
 ghost use Rattle.gc_objects.specs.Reads.{ReadsAs};
 
@@ -27,6 +27,8 @@ pub(crate) fn read<H: GcHeap, D: Drop>(
     ensures kind { IfOk result (ValNamesKind D H.KIND store.new) }
     ensures err { OnErr result (store.new ≡ store.old) }
     ensures same { IsSameStore store.old store.new }
+    ensures spare { scoped_places store.old ≤ scoped_places store.new }
+    ensures reserved { 0 < store.old.spare → result ≡ Err RootFault.Memory → ⊥ }
 {
     match store.read_value(root, index) {
         Ok(value) => Ok(val_of(&value)),
@@ -47,6 +49,7 @@ pub(crate) fn write<H: GcHeap, D: Drop>(
     ensures writes { (t : Table D) (a : Account) → HoldsAccount H.KIND store.old t a
         → WritesValue H.KIND store.old store.new t a root index (raw_of value.now) }
     ensures same { IsSameStore store.old store.new }
+    ensures spare { store.old.spare ≤ store.new.spare }
 {
     match store.write_value(root, index, raw_of(value)) {
         Ok(()) => Ok(()),

@@ -1,13 +1,13 @@
 //! References of class any: 31-bit numbers, structs and arrays.
 
-ghost use Rattle.std.specs.Prelude.{◌≡◌, IfOk, IfSome, OnErr};
+ghost use Rattle.std.specs.Prelude.{◌≡◌, ◌≤◌, ◌<◌, IfOk, IfSome, OnErr, Err};
 ghost use Rattle.gc_types.specs.declared.kind.VMGcKind.{VMGcKind};
 ghost use Rattle.gc_model.specs.Holds.{HoldsTable};
 ghost use Rattle.gc_model.specs.Table.{Table};
 ghost use Rattle.gc_model.specs.Values.{Reference, small};
 ghost use Rattle.gc_policy.specs.Accounts.{Account, HoldsAccount};
 ghost use Rattle.gc_store.specs.Roots.{is_of_store};
-ghost use Rattle.gc_store.specs.Stores.{IsSameStore};
+ghost use Rattle.gc_store.specs.Stores.{IsSameStore, scoped_places};
 ghost use Rattle.gc_objects.specs.Kinds.{NamesKind};
 ghost use Rattle.gc_objects.specs.Answered.{Answers, IsNumber, IsStructRoot, IsArrayRoot, PushesHandle};
 
@@ -28,6 +28,8 @@ impl AnyRef {
         ensures kind { IfOk result (λ handle. NamesKind D H.KIND store.new VMGcKind.AnyRef handle.index) }
         ensures err { OnErr result (store.new ≡ store.old) }
         ensures same { IsSameStore store.old store.new }
+        ensures spare { scoped_places store.old ≤ scoped_places store.new }
+        ensures reserved { 0 < store.old.spare → result ≡ Err RootFault.Memory → ⊥ }
     {
         stores_hold_tables(store);
         match store.push_i31(value) {

@@ -4,7 +4,8 @@ ghost use Rattle.std.specs.Prelude.{◌≡◌, ◌<◌, ◌==◌, ◌&&◌, IsTr
 ghost use Rattle.gc_model.specs.Holds.{HoldsTable};
 ghost use Rattle.gc_model.specs.Table.{Table};
 ghost use Rattle.gc_store.specs.Roots.{is_of_store};
-ghost use Rattle.gc_objects.specs.Given.{named_root, is_own, is_own_of, are_own, is_function, types_of, RootIsLive, ChecksValue, ChecksFilling, ChecksValues, CanStoreAs, AllStorable, IsLiveOrGone};
+ghost use Rattle.gc_objects.specs.Given.{named_root, is_own, is_own_of, are_own, is_function, types_of, RootIsLive, ChecksValue, ChecksFilling, ChecksValues};
+ghost use Rattle.gc_objects.specs.Given.{CanStoreAs, AllStorable, IsLiveOrGone};
 
 use crate::faults::ValueFault;
 use crate::fits::value_fits;

@@ -1,6 +1,6 @@
 //! References of the embedder: host objects, and any other reference but an exception.
 
-ghost use Rattle.std.specs.Prelude.{◌≡◌, false, true, IfOk, OnErr, IsErrAnd};
+ghost use Rattle.std.specs.Prelude.{◌≡◌, ◌<◌, ◌≤◌, false, true, IfOk, OnErr, IsErrAnd, Err};
 ghost use Rattle.std.specs.Borrow.{sem};
 ghost use Rattle.gc_types.specs.declared.kind.VMGcKind.{VMGcKind};
 ghost use Rattle.gc_model.specs.Holds.{HoldsTable};
@@ -11,7 +11,7 @@ ghost use Rattle.gc_policy.specs.Accounts.{Account, HoldsAccount};
 ghost use Rattle.gc_policy.specs.Policy.{policy_state};
 ghost use Rattle.gc_store.specs.HostLends.{LendsValue, lends_host};
 ghost use Rattle.gc_store.specs.Roots.{is_of_store, NamesReference, NamesNothing};
-ghost use Rattle.gc_store.specs.Stores.{IsSameStore};
+ghost use Rattle.gc_store.specs.Stores.{IsSameStore, scoped_places};
 ghost use Rattle.gc_objects.specs.Answered.{Answers};
 ghost use Rattle.gc_objects.specs.Hosts.{IsHostHanded, MakesHost, TellsHostValue, CopiesHandle};
 ghost use Rattle.gc_objects.specs.Kinds.{NamesKind};
@@ -53,6 +53,7 @@ impl ExternRef {
             → MakesHost H.KIND store.old.alloc_counter value (policy_state t a (L.limits limiter.old)) (L.limits limiter.new) result store.new }
         ensures kind { IfOk result (λ handle. NamesKind D H.KIND store.new VMGcKind.ExternRef handle.index) }
         ensures same { IsSameStore store.old store.new }
+        ensures spare { scoped_places store.old ≤ scoped_places store.new }
     {
         stores_hold_tables(store);
         handed(store.place_host(limiter, value))
@@ -95,6 +96,8 @@ impl ExternRef {
         ensures kind { IfOk result (λ handle. NamesKind D H.KIND store.new VMGcKind.ExternRef handle.index) }
         ensures err { OnErr result (store.new ≡ store.old) }
         ensures same { IsSameStore store.old store.new }
+        ensures spare { scoped_places store.old ≤ scoped_places store.new }
+        ensures reserved { 0 < store.old.spare → result ≡ Err RootFault.Memory → ⊥ }
     {
         match store.push_copy(any.root_index()) {
             Ok(root) => Ok(Rooted::from_gc_root_index(root)),

@@ -11,7 +11,7 @@
 //! same.
 //!
 //! Not built yet: functions as values (a call that is given one to store answers `TypeMismatch`), the iterators of
-//! values, throwing, and raw words.
+//! values, and raw words.
 #![tactic(auto)]
 
 mod access;
@@ -27,9 +27,11 @@ mod making;
 mod marks;
 mod places;
 mod structs;
+mod throwing;
 mod val;
 
 pub use allocators::{ArrayRefPre, ExnRefPre, StructRefPre};
 pub use faults::{AccessFault, AllocFault};
 pub use marks::{AnyRef, ArrayRef, EqRef, ExnRef, ExternRef, StructRef};
+pub use throwing::{StoreExn, ThrowFault};
 pub use val::Val;

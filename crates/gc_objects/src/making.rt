@@ -1,13 +1,13 @@
 //! Asking the store for objects.
 
-ghost use Rattle.std.specs.Prelude.{◌≡◌, IfOk, length, map};
+ghost use Rattle.std.specs.Prelude.{◌≡◌, ◌≤◌, IfOk, length, map};
 ghost use Rattle.gc_model.specs.Table.{Table};
 ghost use Rattle.gc_model.specs.Values.{Object, array};
 ghost use Rattle.gc_model.specs.Stored.{byte_value};
 ghost use Rattle.gc_policy.specs.Accounts.{Account, HoldsAccount};
 ghost use Rattle.gc_policy.specs.Policy.{policy_state};
 ghost use Rattle.gc_store.specs.Requests.{CanPlaceIn, CanPlaceElements, CanPlaceBytes, IsObjectOf};
-ghost use Rattle.gc_store.specs.Stores.{IsSameStore};
+ghost use Rattle.gc_store.specs.Stores.{IsSameStore, scoped_places};
 ghost use Rattle.gc_objects.specs.Given.{raw_of};
 ghost use Rattle.gc_objects.specs.Makes.{IsHanded, MakesAsked, CanMakeOf, IsMadeOf, IsArrayOf};
 
@@ -54,6 +54,7 @@ pub(crate) fn make<H: GcHeap, D: Drop, L: ResourceLimiter, T: GcRef>(
 ) -> Result<Rooted<T>, AllocFault<()>>
     requires { CanPlaceIn D H.KIND store.old request contents }
     ensures same { IsSameStore store.old store.new }
+    ensures spare { scoped_places store.old ≤ scoped_places store.new }
     ensures makes { (t : Table D) (a : Account) (o : Object D) → HoldsAccount H.KIND store.old t a → IsObjectOf store.old t request contents.entry o
         → MakesAsked H.KIND store.old.alloc_counter o (policy_state t a (L.limits limiter.old)) (L.limits limiter.new) result store.new }
 {
@@ -69,6 +70,7 @@ pub(crate) fn make_of<H: GcHeap, D: Drop, L: ResourceLimiter, T: GcRef>(
 ) -> Result<Rooted<T>, AllocFault<()>>
     requires { CanMakeOf D H.KIND store.old request values.now }
     ensures same { IsSameStore store.old store.new }
+    ensures spare { scoped_places store.old ≤ scoped_places store.new }
     ensures makes { (t : Table D) (a : Account) (o : Object D) → HoldsAccount H.KIND store.old t a → IsMadeOf store.old t request values.now o
         → MakesAsked H.KIND store.old.alloc_counter o (policy_state t a (L.limits limiter.old)) (L.limits limiter.new) result store.new }
 {
@@ -87,6 +89,7 @@ pub(crate) fn make_elements<H: GcHeap, D: Drop, L: ResourceLimiter, T: GcRef>(
 ) -> Result<Rooted<T>, AllocFault<()>>
     requires { CanPlaceElements D H.KIND store.old ty (length elems.now) (map raw_of elems.now) }
     ensures same { IsSameStore store.old store.new }
+    ensures spare { scoped_places store.old ≤ scoped_places store.new }
     ensures makes { (t : Table D) (a : Account) (o : Object D) → HoldsAccount H.KIND store.old t a → IsArrayOf store.old t ty elems.now o
         → MakesAsked H.KIND store.old.alloc_counter o (policy_state t a (L.limits limiter.old)) (L.limits limiter.new) result store.new }
 {
@@ -105,6 +108,7 @@ pub(crate) fn make_bytes<H: GcHeap, D: Drop, L: ResourceLimiter, T: GcRef>(
 ) -> Result<Rooted<T>, AllocFault<()>>
     requires { CanPlaceBytes store.old ty (length elems.now) elems.now }
     ensures same { IsSameStore store.old store.new }
+    ensures spare { scoped_places store.old ≤ scoped_places store.new }
     ensures makes { (t : Table D) (a : Account) → HoldsAccount H.KIND store.old t a
         → MakesAsked H.KIND store.old.alloc_counter (array ty (map byte_value elems.now))
         (policy_state t a (L.limits limiter.old)) (L.limits limiter.new) result store.new }

@@ -5,7 +5,8 @@ ghost use Rattle.gc_types.specs.declared.kind.VMGcKind.{VMGcKind};
 ghost use Rattle.gc_types.specs.Declarations.{struct_fields_at, elem_at, fields_at};
 ghost use Rattle.gc_model.specs.Holds.{HoldsTable};
 ghost use Rattle.gc_model.specs.Table.{Table};
-ghost use Rattle.gc_store.specs.Roots.{is_of_store, IsReference, FindsRoot};
+ghost use Rattle.gc_model.specs.Values.{Reference};
+ghost use Rattle.gc_store.specs.Roots.{is_of_store, IsReference, FindsRoot, NamesReference, TellsReference};
 ghost use Rattle.gc_objects.specs.Kinds.{NamesKind};
 ghost use Rattle.gc_objects.specs.Answered.{Answers, IsStruct, IsNamedArray, HasField, IsFieldOf, number_in, struct_in, array_in};
 ghost use Rattle.gc_objects.specs.Exns.{IsNamedExn, exn_in};
@@ -96,6 +97,7 @@ pub(crate) fn object_at<H: GcHeap, D: Drop>(
 ) -> Result<RootedObject, RootFault>
     ensures found { IfOk result (FindsRoot D H.KIND store.now root) }
     ensures answers { (t : Table D) → HoldsTable H.KIND store.now t → Answers store.now t (is_of_store store.now root) root (IsReference t) result }
+    ensures live { (t : Table D) (r : Reference) → HoldsTable H.KIND store.now t → NamesReference store.now t root r → TellsReference t r result }
 {
     store.object(root)
 }
@@ -144,6 +146,8 @@ pub(crate) fn exn_at<H: GcHeap, D: Drop>(
     requires { NamesKind D H.KIND store.now VMGcKind.ExnRef root }
     ensures found { IfOk result (λ named. FindsRoot D H.KIND store.now root (RootedObject.Exn named.ty named.tag)) }
     ensures answers { (t : Table D) → HoldsTable H.KIND store.now t → Answers store.now t (is_of_store store.now root) root (IsNamedExn t) result }
+    ensures everywhere { IfOk result (λ named. (t : Table D) (r : Reference) → HoldsTable H.KIND store.now t
+        → NamesReference store.now t root r → IsNamedExn t r named) }
 {
     match &object_at(store, root) {
         Ok(object) => match exn_in(object) {

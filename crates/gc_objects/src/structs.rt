@@ -1,6 +1,6 @@
 //! Structs.
 
-ghost use Rattle.std.specs.Prelude.{◌≡◌, IfOk, OnErr};
+ghost use Rattle.std.specs.Prelude.{◌≡◌, ◌≤◌, ◌<◌, IfOk, OnErr, Err};
 ghost use Rattle.gc_types.specs.declared.kind.TypeKind.{TypeKind};
 ghost use Rattle.gc_types.specs.declared.kind.VMGcKind.{VMGcKind};
 ghost use Rattle.gc_model.specs.Holds.{HoldsTable};
@@ -8,7 +8,7 @@ ghost use Rattle.gc_model.specs.Table.{Table};
 ghost use Rattle.gc_policy.specs.Accounts.{Account, HoldsAccount};
 ghost use Rattle.gc_policy.specs.Policy.{policy_state};
 ghost use Rattle.gc_store.specs.Roots.{is_of_store};
-ghost use Rattle.gc_store.specs.Stores.{IsSameStore};
+ghost use Rattle.gc_store.specs.Stores.{IsSameStore, scoped_places};
 ghost use Rattle.gc_objects.specs.Kinds.{NamesKind, IsDeclaredAs};
 ghost use Rattle.gc_objects.specs.Given.{ValNamesKind};
 ghost use Rattle.gc_objects.specs.Answered.{Answers, IsStruct, HasTypeNamed, MatchesType, are_own_names};
@@ -51,6 +51,7 @@ impl StructRef {
             H.KIND store.old.alloc_counter (policy_state t a (L.limits limiter.old)) (L.limits limiter.new) result store.new }
         ensures kind { IfOk result (λ handle. NamesKind D H.KIND store.new VMGcKind.StructRef handle.index) }
         ensures same { IsSameStore store.old store.new }
+        ensures spare { scoped_places store.old ≤ scoped_places store.new }
     {
         stores_hold_tables(store);
         let ty = allocator.ty();
@@ -83,6 +84,8 @@ impl StructRef {
         ensures kind { IfOk result (ValNamesKind D H.KIND store.new) }
         ensures err { OnErr result (store.new ≡ store.old) }
         ensures same { IsSameStore store.old store.new }
+        ensures spare { scoped_places store.old ≤ scoped_places store.new }
+        ensures reserved { 0 < store.old.spare → result ≡ Err AccessFault.Memory → ⊥ }
     {
         let root = this.root_index();
         let found = match field_at(store, root, index) {
@@ -116,6 +119,7 @@ impl StructRef {
             → SetsField H.KIND store.old t a (R.index this.now) index value result store.new }
         ensures err { OnErr result (store.new ≡ store.old) }
         ensures same { IsSameStore store.old store.new }
+        ensures spare { store.old.spare ≤ store.new.spare }
     {
         let root = this.root_index();
         if !is_of_store(store, root) || !is_own(store, &value) {

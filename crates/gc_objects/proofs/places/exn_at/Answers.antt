@@ -1,5 +1,5 @@
-use Rattle.std.proofs.Common.{sym, ◌∙◌}
-use Rattle.gc_store.specs.Roots.{is_of_store, IsReference}
+use Rattle.std.proofs.Common.{sym, ◌∙◌, subst}
+use Rattle.gc_store.specs.Roots.{is_of_store, IsReference, TellsReference}
 use Rattle.gc_objects.specs.Exns.{IsNamedExn}
 use Rattle.gc_objects.proofs.Questions.{answers_ok, answers_err}
 use Rattle.gc_objects.proofs.ExnLemmas.{tells_exn, is_an_exn}
@@ -17,3 +17,8 @@ returns-in-Some-clause-answers g c t holds =
 pub returns-in-Err-clause-answers : goal.returns-in-Err-clause-answers
 returns-in-Err-clause-answers g c t holds =
     answers_err c.args.store.now t (is_of_store c.args.store.now c.args.root) c.args.root (IsReference t) (IsNamedExn t) c.object_at.result c.in-Err.fault c.in-Err.is (c.object_at.ensures.answers t holds)
+
+pub returns-in-Some-clause-everywhere : goal.returns-in-Some-clause-everywhere
+returns-in-Some-clause-everywhere g c t r holds names =
+    tells_exn t c.in-Ok.object c.in-Some.exn (sym c.exn_in.ensures ∙ c.in-Some.is) r
+    (subst (TellsReference t r) c.in-Ok.is (c.object_at.ensures.live t r holds names))

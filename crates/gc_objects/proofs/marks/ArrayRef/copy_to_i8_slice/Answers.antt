@@ -2,7 +2,7 @@ use Rattle.std.proofs.Common.{length, sym, ◌∙◌}
 use Rattle.gc_objects.specs.Answered.{IsNamedArray}
 use Rattle.gc_objects.proofs.TypeLemmas.{array_declared}
 use Rattle.gc_objects.proofs.ArrayLemmas.{array_told, element_here}
-use Rattle.gc_objects.proofs.Copying.{copies_no_root, copies_no_bytes, copies_no_room, copies_all, may_copy}
+use Rattle.gc_objects.proofs.Copying.{copies_no_root, copies_no_bytes, copies_no_room, copies_all}
 use Rattle.gc_objects.proofs.marks.ArrayRef.copy_to_i8_slice.Goals as goal
 
 pub returns-in-Err-clause-copies : goal.returns-in-Err-clause-copies

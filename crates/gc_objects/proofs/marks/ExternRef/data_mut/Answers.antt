@@ -12,7 +12,7 @@ returns g c =
         λ w ok.
             let ends = c.host_data_mut.follows.holds w ok in (
               ends.0,
-              λ t a p old holds named host. ends.1 t a p old holds (subst (λ (h : GcRootIndex). NamesReference c.args.store.now t h (at p)) (sym same) named) host,
+              (ends.1.0, λ t a p old holds named host. ends.1.1 t a p old holds (subst (λ (h : GcRootIndex). NamesReference c.args.store.now t h (at p)) (sym same) named) host),
             ),
         c.host_data_mut.follows.holds-at-none,
       ),
