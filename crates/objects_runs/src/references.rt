@@ -1,0 +1,65 @@
+//! References: 31-bit numbers, what they fit, and those of the embedder.
+
+use crate::fault::RunFault;
+use crate::setup::{ample, any_type};
+use gc_heap::GcHeap;
+use gc_objects::{AnyRef, ExternRef, StructRef, Val};
+use gc_refs::I31;
+use gc_store::{Rooted, RootedGcRef, Store};
+use gc_types::ValType;
+
+/// Asks what a reference is.
+fn ask<H: GcHeap>(
+    rt: &impl Print,
+    store: &Store<H, u64>,
+    handle: Rooted<AnyRef>,
+) -> Result<(), RunFault> {
+    match AnyRef::as_i31(store, handle)? {
+        Some(number) => println!(rt; "number {}", number.get_u32())?,
+        None => println!(rt; "no number")?,
+    }
+    let is_struct = Rooted::<StructRef>::from_index(store, handle.root_index())?.is_some();
+    println!(rt; "a struct: {is_struct}")?;
+    Ok(())
+}
+
+/// Makes a 31-bit number, and asks what it is and what it fits. The value is answered.
+pub(crate) fn run_number<H: GcHeap>(
+    rt: &impl Print,
+    store: &mut Store<H, u64>,
+) -> Result<Val, RunFault> {
+    let five = AnyRef::from_i31(store, I31::wrapping_u32(5))?;
+    ask(rt, store, five)?;
+    let value = Val::AnyRef(Some(five));
+    let fits_any = value.matches_ty(store, &any_type())?;
+    let fits_number = value.matches_ty(store, &ValType::I32)?;
+    println!(rt; "fits any: {fits_any}, i32: {fits_number}")?;
+    Ok(value)
+}
+
+/// Shows the value of one of the embedder's references.
+fn show_data<H: GcHeap>(
+    rt: &impl Print,
+    store: &Store<H, u64>,
+    handle: Rooted<ExternRef>,
+) -> Result<(), RunFault> {
+    match ExternRef::data(store, &handle)? {
+        Some(number) => println!(rt; "host value {number}")?,
+        None => println!(rt; "no host object")?,
+    }
+    Ok(())
+}
+
+/// Makes a host object, gives it another value, and converts a number to a reference of the embedder.
+pub(crate) fn run_hosts<H: GcHeap>(
+    rt: &impl Print,
+    store: &mut Store<H, u64>,
+) -> Result<(), RunFault> {
+    let handle = ExternRef::new(store, &mut ample(), 7)?;
+    show_data(rt, store, handle)?;
+    *ExternRef::data_mut(store, &handle)? = 8;
+    show_data(rt, store, handle)?;
+    let six = AnyRef::from_i31(store, I31::wrapping_u32(6))?;
+    let converted = ExternRef::convert_any(store, six)?;
+    show_data(rt, store, converted)
+}

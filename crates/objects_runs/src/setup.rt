@@ -1,0 +1,125 @@
+//! The types of the stores, allocators, and what is known again of handles once a store has changed.
+
+ghost use Rattle.std.specs.Prelude.{ℕ, IfOk};
+ghost use Rattle.gc_types.specs.declared.kind.TypeKind.{TypeKind};
+ghost use Rattle.gc_types.specs.declared.kind.VMGcKind.{VMGcKind};
+ghost use Rattle.gc_objects.specs.Kinds.{NamesKind, IsDeclaredAs};
+
+use crate::fault::RunFault;
+use gc_heap::GcHeap;
+use gc_objects::{AnyRef, ArrayRef, ArrayRefPre, ExnRefPre, StructRef, StructRefPre};
+use gc_store::{PageLimit, Rooted, Store};
+use gc_types::{FieldType, HeapType, Mutability, RefType, StorageType, VMSharedTypeIndex, ValType};
+
+/// The type of structs of an 8-bit integer, a constant 64-bit one and a reference.
+const STRUCT: u32 = 0;
+/// The type of arrays of 8-bit integers.
+pub(crate) const BYTES: u32 = 1;
+/// The type of arrays of constant references.
+pub(crate) const CONSTANTS: u32 = 2;
+/// The type of exceptions with a 32-bit integer.
+const EXCEPTION: u32 = 3;
+
+/// The most pages that a heap gets.
+const MOST_PAGES: u32 = 64;
+
+/// A limiter under which memory is ample.
+pub(crate) fn ample() -> PageLimit {
+    PageLimit::new(MOST_PAGES)
+}
+
+/// The type of references to anything of class any, or null.
+pub(crate) fn any_type() -> ValType {
+    ValType::Ref(RefType {
+        nullable: true,
+        heap_type: HeapType::Any,
+    })
+}
+
+/// A field that is stored so.
+fn field(mutability: Mutability, element_type: StorageType) -> FieldType {
+    FieldType {
+        mutability,
+        element_type,
+    }
+}
+
+/// A field of such references.
+fn reference(mutability: Mutability) -> FieldType {
+    field(mutability, StorageType::ValType(any_type()))
+}
+
+/// Declares the four types of a new store.
+pub(crate) fn declare_types<H: GcHeap>(store: &mut Store<H, u64>) -> Result<(), RunFault> {
+    let fields = [
+        field(Mutability::Var, StorageType::I8),
+        field(Mutability::Const, StorageType::ValType(ValType::I64)),
+        reference(Mutability::Var),
+    ];
+    store.declare_struct(&fields, None, false)?;
+    store.declare_array(field(Mutability::Var, StorageType::I8), None, false)?;
+    store.declare_array(reference(Mutability::Const), None, false)?;
+    store.declare_exn(&[ValType::I32])?;
+    Ok(())
+}
+
+/// An allocator of structs.
+pub(crate) fn structs<H: GcHeap>(store: &mut Store<H, u64>) -> Result<StructRefPre, RunFault>
+    ensures { IfOk result (IsDeclaredAs store.new TypeKind.Struct) }
+{
+    match store.types().struct_type(VMSharedTypeIndex::new(STRUCT)) {
+        Some(ty) => Ok(StructRefPre::new(store, ty)?),
+        None => Err(RunFault::Missing),
+    }
+}
+
+/// An allocator of arrays of that type.
+pub(crate) fn arrays_of<H: GcHeap>(
+    store: &mut Store<H, u64>,
+    ty: u32,
+) -> Result<ArrayRefPre, RunFault>
+    ensures { IfOk result (IsDeclaredAs store.new TypeKind.Array) }
+{
+    match store.types().array_type(VMSharedTypeIndex::new(ty)) {
+        Some(ty) => Ok(ArrayRefPre::new(store, ty)?),
+        None => Err(RunFault::Missing),
+    }
+}
+
+/// An allocator of exceptions.
+pub(crate) fn exceptions<H: GcHeap>(store: &mut Store<H, u64>) -> Result<ExnRefPre, RunFault>
+    ensures { IfOk result (IsDeclaredAs store.new TypeKind.Exn) }
+{
+    match store.types().exn_type(VMSharedTypeIndex::new(EXCEPTION)) {
+        Some(ty) => Ok(ExnRefPre::new(store, ty)?),
+        None => Err(RunFault::Missing),
+    }
+}
+
+/// The same handle, which is found to be that of a struct.
+pub(crate) fn as_struct<H: GcHeap>(
+    store: &Store<H, u64>,
+    handle: Rooted<StructRef>,
+) -> Result<Rooted<StructRef>, RunFault>
+    ensures { IfOk result (λ handle. NamesKind ℕ H.KIND store.now VMGcKind.StructRef handle.index) }
+{
+    match AnyRef::as_struct(store, handle.cast()) {
+        Ok(Some(handle)) => Ok(handle),
+        Ok(None) => Err(RunFault::Missing),
+        Err(fault) => Err(RunFault::Root(fault)),
+    }
+}
+
+/// The same handle, which is found to be that of an array.
+pub(crate) fn as_array<H: GcHeap>(
+    store: &Store<H, u64>,
+    handle: Rooted<ArrayRef>,
+) -> Result<Rooted<ArrayRef>, RunFault>
+    ensures { IfOk result (λ handle. NamesKind ℕ H.KIND store.now VMGcKind.ArrayRef handle.index) }
+{
+    match AnyRef::as_array(store, handle.cast()) {
+        Ok(Some(handle)) => Ok(handle),
+        Ok(None) => Err(RunFault::Missing),
+        Err(fault) => Err(RunFault::Root(fault)),
+    }
+}

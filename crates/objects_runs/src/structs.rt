@@ -1,0 +1,145 @@
+//! Structs: made, read, written and refused.
+
+ghost use Rattle.std.specs.Prelude.{ℕ, IfOk};
+ghost use Rattle.gc_types.specs.declared.kind.VMGcKind.{VMGcKind};
+ghost use Rattle.gc_objects.specs.Kinds.{NamesKind};
+
+use crate::fault::RunFault;
+use crate::setup::{ample, as_struct, structs};
+use crate::show::{show_made, show_read, show_type, show_write};
+use gc_heap::GcHeap;
+use gc_objects::{AnyRef, StructRef, Val};
+use gc_store::{Rooted, RootedGcRef, Store, ref_eq};
+
+/// Values for the fields of a struct.
+const VALUES: [Val; 3] = [Val::I32(-1), Val::I64(5), Val::AnyRef(None)];
+
+/// A new struct.
+fn new_struct<H: GcHeap>(store: &mut Store<H, u64>) -> Result<Rooted<StructRef>, RunFault>
+    ensures { IfOk result (λ handle. NamesKind ℕ H.KIND store.new VMGcKind.StructRef handle.index) }
+{
+    let allocator = structs(store)?;
+    Ok(StructRef::new(store, &mut ample(), &allocator, &VALUES)?)
+}
+
+/// A handle of a new struct, as a value.
+fn new_value<H: GcHeap>(store: &mut Store<H, u64>) -> Result<Val, RunFault> {
+    Ok(Val::AnyRef(Some(new_struct(store)?.cast())))
+}
+
+/// Makes a struct of these values, and shows whether it was made.
+fn make<H: GcHeap>(
+    rt: &impl Print,
+    store: &mut Store<H, u64>,
+    name: &str,
+    values: &[Val],
+) -> Result<(), RunFault> {
+    let allocator = structs(store)?;
+    let answer = StructRef::new(store, &mut ample(), &allocator, values);
+    show_made(rt, name, answer)
+}
+
+/// Reads a field of a struct.
+fn read<H: GcHeap>(
+    rt: &impl Print,
+    store: &mut Store<H, u64>,
+    handle: Rooted<StructRef>,
+    index: u32,
+) -> Result<(), RunFault> {
+    let handle = as_struct(store, handle)?;
+    let answer = StructRef::field(store, &handle, index as usize);
+    show_read(rt, "field", index, answer)
+}
+
+/// Writes a field of a struct.
+fn write<H: GcHeap>(
+    rt: &impl Print,
+    store: &mut Store<H, u64>,
+    handle: Rooted<StructRef>,
+    index: u32,
+    value: &Val,
+) -> Result<(), RunFault> {
+    let handle = as_struct(store, handle)?;
+    let answer = StructRef::set_field(store, &handle, index as usize, *value);
+    show_write(rt, "field", index, answer)
+}
+
+/// Asks whether the last field of a struct names the struct itself.
+fn ask_itself<H: GcHeap>(
+    rt: &impl Print,
+    store: &mut Store<H, u64>,
+    handle: Rooted<StructRef>,
+) -> Result<(), RunFault> {
+    let handle = as_struct(store, handle)?;
+    let Val::AnyRef(Some(found)) = StructRef::field(store, &handle, 2)? else {
+        return Err(RunFault::Missing);
+    };
+    let same = ref_eq(store, &handle.cast::<AnyRef>(), &found)?;
+    println!(rt; "field 2 is the struct: {same}")?;
+    Ok(())
+}
+
+/// Asks for a struct's type.
+fn ask_type<H: GcHeap>(
+    rt: &impl Print,
+    store: &Store<H, u64>,
+    handle: Rooted<StructRef>,
+) -> Result<(), RunFault> {
+    let handle = as_struct(store, handle)?;
+    let ty = StructRef::ty(store, &handle)?;
+    let matches = StructRef::matches_ty(store, &handle, &ty)?;
+    show_type(rt, ty.index().as_u32(), matches)
+}
+
+/// Makes a struct, reads and writes its fields, and asks for its type.
+pub(crate) fn run_struct<H: GcHeap>(
+    rt: &impl Print,
+    store: &mut Store<H, u64>,
+) -> Result<(), RunFault> {
+    let handle = new_struct(store)?;
+    for index in 0..4 {
+        read(rt, store, handle, index)?;
+    }
+    write(rt, store, handle, 0, &Val::I32(510))?;
+    read(rt, store, handle, 0)?;
+    write(rt, store, handle, 2, &Val::AnyRef(Some(handle.cast())))?;
+    ask_itself(rt, store, handle)?;
+    ask_type(rt, store, handle)
+}
+
+/// Structs that aren't made, and fields that aren't written: a value of another store is told before all else, of a struct
+/// the number of values before the values, of a field that there is none, then that it is constant, then that the value doesn't fit.
+pub(crate) fn run_refused_structs<H: GcHeap>(
+    rt: &impl Print,
+    store: &mut Store<H, u64>,
+    stranger: &mut Store<H, u64>,
+) -> Result<(), RunFault> {
+    let foreign = [new_value(stranger)?];
+    make(rt, store, "foreign alone", &foreign)?;
+    make(rt, store, "two wide", &[Val::I64(1), Val::I32(5)])?;
+    let values = [Val::I64(1), Val::I64(5), Val::AnyRef(None)];
+    make(rt, store, "wide", &values)?;
+    let handle = new_struct(store)?;
+    write(rt, store, handle, 3, &foreign[0])?;
+    write(rt, store, handle, 3, &Val::I64(1))?;
+    write(rt, store, handle, 1, &Val::I32(1))?;
+    write(rt, store, handle, 0, &Val::I64(1))
+}
+
+/// A struct whose root is gone is refused as a value, after the number of values and in the order of the values; as one that
+/// is written, behind the field.
+pub(crate) fn run_stale_struct<H: GcHeap>(
+    rt: &impl Print,
+    store: &mut Store<H, u64>,
+) -> Result<(), RunFault> {
+    let stale = [new_value(store)?];
+    store.exit_gc_lifo_scope(0);
+    make(rt, store, "stale alone", &stale)?;
+    let mut values = [Val::I64(1), Val::I64(1), stale[0]];
+    make(rt, store, "wide and stale", &values)?;
+    values[0] = Val::I32(1);
+    make(rt, store, "stale", &values)?;
+    let handle = new_struct(store)?;
+    write(rt, store, handle, 1, &stale[0])?;
+    write(rt, store, handle, 2, &stale[0])
+}
