@@ -1,13 +1,14 @@
--- The policy of growth over a copying heap decides, under a limit that is told: from states whose stores' accounts are
+-- The policy of growth over a copying or a null heap decides, under a limit that is told: from states whose stores' accounts are
 -- alike it leaves such states.
-use Rattle.std.proofs.Common.{◌≡◌, ℕ, ◌+◌, ◌*◌, ◌/◌, ◌<◌, ◌≤◌, ◌-◌, ◌^◌, min, Bool, true, false, not, cond, nat_eq, Option, Some, map, sum, inl, inr, refl, sym, ap, ap₂, ◌∙◌, subst, arith}
-use Rattle.gc_types.specs.declared.kind.Layouts.TheVariants.{Copying}
+use Rattle.std.proofs.Common.{◌≡◌, ℕ, ◌+◌, ◌*◌, ◌/◌, ◌<◌, ◌≤◌, ◌-◌, ◌^◌, min, Bool, true, false, cond, nat_eq, List, Option, Some, map, sum, inl, inr, refl, sym, ap, ap₂, ◌∙◌, subst, arith}
+use Rattle.gc_types.specs.declared.kind.Layouts.{Layouts}
+use Rattle.gc_types.specs.declared.kind.Layouts.TheVariants.{Null, Counting, Copying}
 use Rattle.gc_types.specs.Layouts.{round_up}
 use Rattle.gc_model.specs.Table.{Table}
 use Rattle.gc_view.specs.Sizes.{alignment, need_of}
 use Rattle.gc_model.specs.Reach.{AreAll, IsKept}
 use Rattle.gc_view.specs.Pages.{page}
-use Rattle.gc_model.specs.Allocation.{Limits, asked, skipped, MayHave, MayRefuse}
+use Rattle.gc_model.specs.Allocation.{Fits, Limits, asked, skipped, MayHave, MayRefuse}
 use Rattle.gc_policy.specs.Accounts.{Account, is_due}
 use Rattle.gc_owner.specs.Growing as growth
 use Rattle.gc_owner.specs.Growing.{AsksFirst, AsksPages}
@@ -78,53 +79,57 @@ pages_keep pages bytes limits l g (growth.unasked over) = refl
 pages_keep pages bytes limits l g (growth.refused within may refuses) = ap (λ (x : Limits). x.limit) refuses
 pages_keep pages bytes limits l g (growth.granted may) = refl
 
-module _ (most : ℕ) where
+-- whether there is room is decided, where no place is told
+fits_alike : (k : Layouts) → ¬ (k ≡ Counting) → (size : ℕ) (p q : PolicyState ℕ) → p.table ≡ q.table → ((f : ℕ → ℕ) → sum (map f p.account.held) ≡ sum (map f q.account.held)) → FitsNow k size p → FitsNow k size q
+fits_alike Null told_nowhere size p q table held fits = subst (λ (t : Table ℕ). Fits t size) table fits
+fits_alike Counting told_nowhere size p q table held fits = absurd (told_nowhere refl)
+fits_alike Copying told_nowhere size p q table held fits =
+    let blocks = ap (λ (t : Table ℕ). sum (map (block_at Copying t) p.account.held)) table ∙ held (block_at Copying q.table) in
+    let pages : p.table.pages ≡ q.table.pages = ap (λ (t : Table ℕ). t.pages) table in
+    let room : skipped + sum (map (block_at Copying p.table) p.account.held) + round_up size alignment ≤ page / 2 * p.table.pages = fits in
+    omega arith
+
+-- so are the bytes that are allocated
+allocated_alike : (k : Layouts) (t : Table ℕ) (xs ys : List ℕ) → ((f : ℕ → ℕ) → sum (map f xs) ≡ sum (map f ys)) → allocated_bytes k t xs ≡ allocated_bytes k t ys
+allocated_alike Null t xs ys held = refl
+allocated_alike Counting t xs ys held = held (block_at Counting t)
+allocated_alike Copying t xs ys held = ap (λ (n : ℕ). cond (nat_eq t.pages 0) 0 (skipped + n)) (held (block_at Copying t))
+
+module _ (k : Layouts) (told_nowhere : ¬ (k ≡ Counting)) (most : ℕ) where
   alike_policies_at : (p q p' q' : PolicyState ℕ) → p' ≡ p → q' ≡ q → AlikePolicies most p q → AlikePolicies most p' q'
   alike_policies_at p q p' q' one other alike = subst (λ (x : PolicyState ℕ). AlikePolicies most x q') (sym one) (subst (AlikePolicies most p) (sym other) alike)
 
-  -- the sum over the blocks that are held
-  held_bytes : (p q : PolicyState ℕ) → AlikePolicies most p q → sum (map (block_at Copying p.table) p.account.held) ≡ sum (map (block_at Copying q.table) q.account.held)
-  held_bytes p q alike = ap (λ (t : Table ℕ). sum (map (block_at Copying t) p.account.held)) alike.table ∙ alike.account.held (block_at Copying q.table)
+  fits_too : (size : ℕ) (p q : PolicyState ℕ) → AlikePolicies most p q → FitsNow k size p → FitsNow k size q
+  fits_too size p q alike fits = fits_alike k told_nowhere size p q alike.table alike.account.held fits
 
-  fits_too : (size : ℕ) (p q : PolicyState ℕ) → AlikePolicies most p q → FitsNow Copying size p → FitsNow Copying size q
-  fits_too size p q alike fits =
-      let held = held_bytes p q alike in
-      let pages : p.table.pages ≡ q.table.pages = ap (λ (t : Table ℕ). t.pages) alike.table in
-      let room : skipped + sum (map (block_at Copying p.table) p.account.held) + round_up size alignment ≤ page / 2 * p.table.pages = fits in
-      omega arith
+  fits_back : (size : ℕ) (p q : PolicyState ℕ) → AlikePolicies most p q → FitsNow k size q → FitsNow k size p
+  fits_back size p q alike fits = fits_alike k told_nowhere size q p (sym alike.table) (λ f. sym (alike.account.held f)) fits
 
-  fits_back : (size : ℕ) (p q : PolicyState ℕ) → AlikePolicies most p q → FitsNow Copying size q → FitsNow Copying size p
-  fits_back size p q alike fits =
-      let held = held_bytes p q alike in
-      let pages : p.table.pages ≡ q.table.pages = ap (λ (t : Table ℕ). t.pages) alike.table in
-      let room : skipped + sum (map (block_at Copying q.table) q.account.held) + round_up size alignment ≤ page / 2 * q.table.pages = fits in
-      omega arith
-
-  collects_alike : (p q p' q' : PolicyState ℕ) → AlikePolicies most p q → CollectsTable Copying p p' → CollectsTable Copying q q' → AlikePolicies most p' q'
+  collects_alike : (p q p' q' : PolicyState ℕ) → AlikePolicies most p q → CollectsTable k p p' → CollectsTable k q q' → AlikePolicies most p' q'
   collects_alike p q p' q' alike one other =
-      let held = same_sums (IsKept Copying q.table) p'.account.held q'.account.held (subst (λ (t : Table ℕ). AreAll (IsKept Copying t) p'.account.held) alike.table one.held) other.held in
+      let held = same_sums (IsKept k q.table) p'.account.held q'.account.held (subst (λ (t : Table ℕ). AreAll (IsKept k t) p'.account.held) alike.table one.held) other.held in
       record {
         table = one.table ∙ alike.table ∙ sym other.table;
         account = record {
           held = held;
           last = one.last
-              ∙ ap (λ (t : Table ℕ). allocated_bytes Copying t p'.account.held) alike.table
-              ∙ ap (λ (n : ℕ). cond (nat_eq q.table.pages 0) 0 (skipped + n)) (held (block_at Copying q.table))
+              ∙ ap (λ (t : Table ℕ). allocated_bytes k t p'.account.held) alike.table
+              ∙ allocated_alike k q.table p'.account.held q'.account.held held
               ∙ sym other.last;
           tries = one.tries ∙ alike.account.tries ∙ sym other.tries;
-          upper = one.upper ∙ ap not alike.account.upper ∙ sym other.upper;
+          upper = one.upper ∙ ap (turned k) alike.account.upper ∙ sym other.upper;
         };
         limits = one.limits ∙ alike.limits ∙ sym other.limits;
         told = ap (λ (l : Limits). l.limit) one.limits ∙ alike.told;
       }
 
-  readies_alike : (p q p' q' : PolicyState ℕ) → AlikePolicies most p q → ReadiesTable Copying p p' → ReadiesTable Copying q q' → AlikePolicies most p' q'
+  readies_alike : (p q p' q' : PolicyState ℕ) → AlikePolicies most p q → ReadiesTable k p p' → ReadiesTable k q q' → AlikePolicies most p' q'
   readies_alike p q p' q' alike (inl (up, one)) (inl (up', other)) = collects_alike p q p' q' alike one other
   readies_alike p q p' q' alike (inl (up, one)) (inr (down, other)) = absurd (differ q.account.upper (sym alike.account.upper ∙ up) down)
   readies_alike p q p' q' alike (inr (down, one)) (inl (up, other)) = absurd (differ q.account.upper up (sym alike.account.upper ∙ down))
   readies_alike p q p' q' alike (inr (down, one)) (inr (down', other)) = alike_policies_at p q p' q' one other alike
 
-  grows_alike : (bytes : ℕ) (p q p' q' : PolicyState ℕ) (granted granted' : Bool) → AlikePolicies most p q → GrowsTable Copying bytes p granted p' → GrowsTable Copying bytes q granted' q' → (granted ≡ granted') × AlikePolicies most p' q'
+  grows_alike : (bytes : ℕ) (p q p' q' : PolicyState ℕ) (granted granted' : Bool) → AlikePolicies most p q → GrowsTable k bytes p granted p' → GrowsTable k bytes q granted' q' → (granted ≡ granted') × AlikePolicies most p' q'
   grows_alike bytes p q p' q' granted granted' alike one other =
       let ready = readies_alike p q one.ready other.ready alike one.readied other.readied in
       let asks : AsksPages one.ready.table.pages bytes one.ready.limits granted' q'.limits =
@@ -140,16 +145,16 @@ module _ (most : ℕ) where
         },
       )
 
-  first_alike : (size : ℕ) (p q : PolicyState ℕ) → AlikePolicies most p q → growth.collects_first (need_of Copying size) (page * p.table.pages) p.account.last ≡ growth.collects_first (need_of Copying size) (page * q.table.pages) q.account.last
-  first_alike size p q alike = ap₂ (λ (t : Table ℕ) (last : ℕ). growth.collects_first (need_of Copying size) (page * t.pages) last) alike.table alike.account.last
+  first_alike : (size : ℕ) (p q : PolicyState ℕ) → AlikePolicies most p q → growth.collects_first (need_of k size) (page * p.table.pages) p.account.last ≡ growth.collects_first (need_of k size) (page * q.table.pages) q.account.last
+  first_alike size p q alike = ap₂ (λ (t : Table ℕ) (last : ℕ). growth.collects_first (need_of k size) (page * t.pages) last) alike.table alike.account.last
 
-  decides : (size : ℕ) → Decides (table_rules Copying size) (AlikePolicies most)
+  decides : (size : ℕ) → Decides (table_rules k size) (AlikePolicies most)
   decides size = record {
     apart = λ p q alike fits lacks. lacks (fits_too size p q alike fits);
     apart_too = λ p q alike lacks fits. lacks (fits_back size p q alike fits);
     first = first_alike size;
     collects = collects_alike;
-    grows = grows_alike (need_of Copying size);
+    grows = grows_alike (need_of k size);
   }
 
   makes_alike : (p q p' q' : PolicyState ℕ) (granted granted' : Bool) → AlikePolicies most p q → MakesTable p granted p' → MakesTable q granted' q' → (granted ≡ granted') × AlikePolicies most p' q'
@@ -167,7 +172,7 @@ module _ (most : ℕ) where
         },
       )
 
-  dues_alike : (counter : Option ℕ) (p q p' q' : PolicyState ℕ) → AlikePolicies most p q → Dues Copying counter p p' → Dues Copying counter q q' → AlikePolicies most p' q'
+  dues_alike : (counter : Option ℕ) (p q p' q' : PolicyState ℕ) → AlikePolicies most p q → Dues k counter p p' → Dues k counter q q' → AlikePolicies most p' q'
   dues_alike counter p q p' q' alike (inl (due, one)) (inl (due', other)) = collects_alike p q p' q' alike one other
   dues_alike counter p q p' q' alike (inl (due, one)) (inr (not_due, other)) = absurd (differ (is_due counter q.account.tries) (sym (ap (is_due counter) alike.account.tries) ∙ due) not_due)
   dues_alike counter p q p' q' alike (inr (not_due, one)) (inl (due, other)) = absurd (differ (is_due counter q.account.tries) due (sym (ap (is_due counter) alike.account.tries) ∙ not_due))
@@ -182,17 +187,17 @@ module _ (most : ℕ) where
   }
 
   -- what comes before an object is made is decided, and whether it is
-  pub prepares_alike : (counter : Option ℕ) (size : ℕ) (p q p' q' : PolicyState ℕ) (ok ok' : Bool) → AlikePolicies most p q → Prepares Copying counter size p ok p' → Prepares Copying counter size q ok' q' → (ok ≡ ok') × AlikePolicies most p' q'
+  pub prepares_alike : (counter : Option ℕ) (size : ℕ) (p q p' q' : PolicyState ℕ) (ok ok' : Bool) → AlikePolicies most p q → Prepares k counter size p ok p' → Prepares k counter size q ok' q' → (ok ≡ ok') × AlikePolicies most p' q'
   prepares_alike counter size p q p' q' ok ok' alike (policy.no_heap one) (policy.no_heap other) = makes_alike (count_try p) (count_try q) p' q' false false (counts_alike p q alike) one other
   prepares_alike counter size p q p' q' ok ok' alike (policy.no_heap one) (tried {m = m} makes dues retry) = absurd (differ false (makes_alike (count_try p) (count_try q) p' m false true (counts_alike p q alike) one makes).0 refl)
   prepares_alike counter size p q p' q' ok ok' alike (tried {m = m} makes dues retry) (policy.no_heap other) = absurd (differ true refl (makes_alike (count_try p) (count_try q) m q' true false (counts_alike p q alike) makes other).0)
   prepares_alike counter size p q p' q' ok ok' alike (tried {m = m} {n = n} makes dues retry) (tried {m = m'} {n = n'} makes' dues' retry') =
       let made = makes_alike (count_try p) (count_try q) m m' true true (counts_alike p q alike) makes makes' in
       let due = dues_alike counter m m' n n' made.1 dues dues' in
-      retries_alike (table_rules Copying size) (AlikePolicies most) (decides size) n n' p' q' ok ok' due retry retry'
+      retries_alike (table_rules k size) (AlikePolicies most) (decides size) n n' p' q' ok ok' due retry retry'
 
   -- a growth is decided
-  pub expands_alike : (bytes : ℕ) (p q p' q' : PolicyState ℕ) (granted granted' : Bool) → AlikePolicies most p q → Expands Copying bytes p granted p' → Expands Copying bytes q granted' q' → (granted ≡ granted') × AlikePolicies most p' q'
+  pub expands_alike : (bytes : ℕ) (p q p' q' : PolicyState ℕ) (granted granted' : Bool) → AlikePolicies most p q → Expands k bytes p granted p' → Expands k bytes q granted' q' → (granted ≡ granted') × AlikePolicies most p' q'
   expands_alike bytes p q p' q' g g' alike (nothing none) (nothing none') = (refl, alike)
   expands_alike bytes p q p' q' g g' alike (nothing none) (policy.no_heap some other) = absurd (omega arith)
   expands_alike bytes p q p' q' g g' alike (nothing none) (grows some makes grown) = absurd (omega arith)
@@ -205,7 +210,7 @@ module _ (most : ℕ) where
       grows_alike bytes m n p' q' g g' (makes_alike p q m n true true alike makes makes').1 grown grown'
 
   -- a collection where the heap is made is decided
-  pub may_collect_alike : (p q p' q' : PolicyState ℕ) → AlikePolicies most p q → MayCollectTable Copying p p' → MayCollectTable Copying q q' → AlikePolicies most p' q'
+  pub may_collect_alike : (p q p' q' : PolicyState ℕ) → AlikePolicies most p q → MayCollectTable k p p' → MayCollectTable k q q' → AlikePolicies most p' q'
   may_collect_alike p q p' q' alike (inl (made, one)) (inl (made', other)) = collects_alike p q p' q' alike one other
   may_collect_alike p q p' q' alike (inl (made, one)) (inr (unmade, other)) = absurd (differ q.table.made (sym (ap (λ (t : Table ℕ). t.made) alike.table) ∙ made) unmade)
   may_collect_alike p q p' q' alike (inr (unmade, one)) (inl (made, other)) = absurd (differ q.table.made made (sym (ap (λ (t : Table ℕ). t.made) alike.table) ∙ unmade))

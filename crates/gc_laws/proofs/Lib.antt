@@ -9,3 +9,13 @@ pub mod GrowthLaws
 pub mod PolicyLaws
 pub mod PolicyRuns
 pub mod SessionLaws
+pub mod PieceLaws
+pub mod EachLemmas
+pub mod KnownReach
+pub mod SoundRegisters
+pub mod PlainKept
+pub mod StepKept
+pub mod HeldLaws
+pub mod StaleLaws
+pub mod RootedLaws
+pub mod WrittenLaws

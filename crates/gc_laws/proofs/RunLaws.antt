@@ -1,5 +1,6 @@
 -- Two runs of one script in which no heap was refused pages, over heaps of one kind, or of two that keep the same.
-use Rattle.std.proofs.Common.{◌≡◌, ℕ, List, [], ◌∷◌, ◌++◌, Option, Some, None, Bool, true, false, cond, not, length, inl, inr, refl, sym, ap, ◌∙◌, subst}
+use Rattle.std.proofs.Common.{◌≡◌, ℕ, List, [], ◌∷◌, ◌++◌, ◌⊎◌, Contains, Option, Some, None, Bool, true, false, cond, not, length, inl, inr, refl, sym, ap, ◌∙◌, subst}
+use Rattle.std.proofs.lemmas.List.Elements.{Contains-append_left, Contains-append_right, Contains-push}
 use Rattle.std.proofs.lemmas.Option.{same_Some}
 use Rattle.gc_types.specs.declared.kind.Layouts.{Layouts}
 use Rattle.gc_types.specs.declared.kind.Layouts.TheVariants.{Counting, Copying}
@@ -13,7 +14,7 @@ use Rattle.gc_model.specs.Allocation.{Grows, nothing, no_heap, too_large}
 use Rattle.gc_model.specs.Live.{roots_full}
 use Rattle.gc_model.specs.Sizes.{object_size}
 use Rattle.gc_commands.specs.declared.command.Command.{Command}
-use Rattle.gc_commands.specs.declared.command.Command.TheVariants.{New, NewExn, NewArr, Fixed, NewBytes}
+use Rattle.gc_commands.specs.declared.command.Command.TheVariants.{New, NewExn, NewArr, Fixed, NewBytes, Gc, GcDrop, GcInc, Cap}
 use Rattle.gc_commands.specs.declared.reply.Reply.{Reply}
 use Rattle.gc_commands.specs.declared.reply.Reply.TheVariants as reply
 use Rattle.gc_commands.specs.declared.reply.Refusal.{Refusal}
@@ -39,7 +40,11 @@ same_answer showing answer answer' same = tt
 same_answer (collecting of_increments) answer answer' same = tt
 same_answer sh answer answer' same = same
 
-module _ (layouts layouts' : Layouts) (limit limit' : Option ℕ) (s t : State) (seen : visible s ≡ visible t) (same_kept : (answer answer' : Reply) → Keeps layouts s answer → Keeps layouts' t answer' → answer ≡ answer') where
+module _ (layouts layouts' : Layouts) (limit limit' : Option ℕ) (s t : State) (seen : visible s ≡ visible t) where
+  -- collections keep as many objects of either
+  abbrev SameKept : Type 0
+  SameKept = (answer answer' : Reply) → Keeps layouts s answer → Keeps layouts' t answer' → answer ≡ answer'
+
   -- what two steps have in common from such states, where no heap was refused pages
   abbrev SameSteps : Shape → Reply → Reply → State → State → Type 0
   SameSteps sh answer answer' s' t' = SameAnswer sh answer answer' × (visible s' ≡ visible t')
@@ -81,27 +86,27 @@ module _ (layouts layouts' : Layouts) (limit limit' : Option ℕ) (s t : State) 
   same_grown bytes answer answer' s' t' (grown u a grows is after) (refused u1 a1 grows1 is1 after1) fine fine1 = absurd (fine1 (inr is1))
   same_grown bytes answer answer' s' t' (refused u a grows is after) grows1 fine fine1 = absurd (fine (inr is))
 
-  same_doing : (sh : Shape) (answer answer' : Reply) (s' t' : State) → Does layouts limit s sh answer s' → Does layouts' limit' t sh answer' t' → ¬ SaysRefused answer → ¬ SaysRefused answer' → SameSteps sh answer answer' s' t'
-  same_doing (plain effect) answer answer' s' t' one other fine fine1 = (
+  same_doing : (sh : Shape) (answer answer' : Reply) (s' t' : State) → (sh ≡ collecting of_objects → SameKept) → Does layouts limit s sh answer s' → Does layouts' limit' t sh answer' t' → ¬ SaysRefused answer → ¬ SaysRefused answer' → SameSteps sh answer answer' s' t'
+  same_doing (plain effect) answer answer' s' t' kept one other fine fine1 = (
     one.0 ∙ ap (λ (v : State). (effect v).0) seen ∙ sym other.0,
     ap visible one.1 ∙ ap (λ (v : State). visible (effect v).1) seen ∙ sym (ap visible other.1),
   )
-  same_doing (declaring d) answer answer' s' t' one other fine fine1 = same_declares d answer answer' s' t' one other
-  same_doing (making d class object) answer answer' s' t' one other fine fine1 = same_makes d class object answer answer' s' t' one other fine fine1
-  same_doing (growing n) answer answer' s' t' one other fine fine1 = same_grown n answer answer' s' t' one other fine fine1
-  same_doing (collecting of_objects) answer answer' s' t' one other fine fine1 = (same_kept answer answer' one.0 other.0, ap visible one.1.1 ∙ seen ∙ sym (ap visible other.1.1))
-  same_doing (collecting of_increments) answer answer' s' t' one other fine fine1 = (tt, ap visible one.1.1 ∙ seen ∙ sym (ap visible other.1.1))
-  same_doing showing answer answer' s' t' one other fine fine1 = (tt, left_alike s' t' one.1 other.1)
+  same_doing (declaring d) answer answer' s' t' kept one other fine fine1 = same_declares d answer answer' s' t' one other
+  same_doing (making d class object) answer answer' s' t' kept one other fine fine1 = same_makes d class object answer answer' s' t' one other fine fine1
+  same_doing (growing n) answer answer' s' t' kept one other fine fine1 = same_grown n answer answer' s' t' one other fine fine1
+  same_doing (collecting of_objects) answer answer' s' t' kept one other fine fine1 = (kept refl answer answer' one.0 other.0, ap visible one.1.1 ∙ seen ∙ sym (ap visible other.1.1))
+  same_doing (collecting of_increments) answer answer' s' t' kept one other fine fine1 = (tt, ap visible one.1.1 ∙ seen ∙ sym (ap visible other.1.1))
+  same_doing showing answer answer' s' t' kept one other fine fine1 = (tt, left_alike s' t' one.1 other.1)
 
-  same_answers : (sh : Shape) (found : Option Refusal) (answer answer' : Reply) (s' t' : State) → Answers layouts limit s sh found answer s' → Answers layouts' limit' t sh found answer' t' → ¬ SaysRefused answer → ¬ SaysRefused answer' → SameSteps sh answer answer' s' t'
-  same_answers sh None answer answer' s' t' one other fine fine1 = same_doing sh answer answer' s' t' one other fine fine1
-  same_answers sh (Some why) answer answer' s' t' one other fine fine1 = (same_answer sh answer answer' (one.0 ∙ sym other.0), left_alike s' t' one.1 other.1)
+  same_answers : (sh : Shape) (found : Option Refusal) (answer answer' : Reply) (s' t' : State) → (sh ≡ collecting of_objects → SameKept) → Answers layouts limit s sh found answer s' → Answers layouts' limit' t sh found answer' t' → ¬ SaysRefused answer → ¬ SaysRefused answer' → SameSteps sh answer answer' s' t'
+  same_answers sh None answer answer' s' t' kept one other fine fine1 = same_doing sh answer answer' s' t' kept one other fine fine1
+  same_answers sh (Some why) answer answer' s' t' kept one other fine fine1 = (same_answer sh answer answer' (one.0 ∙ sym other.0), left_alike s' t' one.1 other.1)
 
   -- two steps of a command that weren't refused pages, where the same test refuses both, or none
-  same_step : (c : Command) (answer answer' : Reply) (s' t' : State) → first_failing (tests layouts s c) ≡ first_failing (tests layouts' t c) → Step layouts limit s c answer s' → Step layouts' limit' t c answer' t' → ¬ SaysRefused answer → ¬ SaysRefused answer'
+  same_step : (c : Command) (answer answer' : Reply) (s' t' : State) → (shape c ≡ collecting of_objects → SameKept) → first_failing (tests layouts s c) ≡ first_failing (tests layouts' t c) → Step layouts limit s c answer s' → Step layouts' limit' t c answer' t' → ¬ SaysRefused answer → ¬ SaysRefused answer'
       → SameReply c answer answer' × (visible s' ≡ visible t')
-  same_step c answer answer' s' t' found one other fine fine1 =
-      same_answers (shape c) (first_failing (tests layouts s c)) answer answer' s' t' one (subst (λ (f : Option Refusal). Answers layouts' limit' t (shape c) f answer' t') (sym found) other) fine fine1
+  same_step c answer answer' s' t' kept found one other fine fine1 =
+      same_answers (shape c) (first_failing (tests layouts s c)) answer answer' s' t' kept one (subst (λ (f : Option Refusal). Answers layouts' limit' t (shape c) f answer' t') (sym found) other) fine fine1
 
 -- two runs from such states
 same_runs : (layouts : Layouts) (limit : Option ℕ) (cs : List Command) (rs qs : List Reply) (s t s' t' : State) → visible s ≡ visible t → Run layouts limit s cs rs s' → Run layouts limit t cs qs t' → NoneRefused rs → NoneRefused qs → SameReplies cs rs qs
@@ -112,7 +117,7 @@ same_runs layouts limit (c ∷ cs) [] qs s t s' t' seen one other fine fine1 = a
 same_runs layouts limit (c ∷ cs) (r ∷ rs) [] s t s' t' seen one other fine fine1 = absurd other
 same_runs layouts limit (c ∷ cs) (r ∷ rs) (q ∷ qs) s t s' t' seen (mid, (step, rest)) (mid1, (step1, rest1)) fine fine1 =
     let found = ap (λ (v : State). first_failing ((not (is_built c), refusal.BadLine) ∷ built_tests layouts v c)) seen in
-    let same = same_step layouts layouts limit limit s t seen (λ answer answer' kept kept'. same_held layouts s t answer answer' seen kept kept') c r q mid mid1 found step step1 fine.0 fine1.0 in
+    let same = same_step layouts layouts limit limit s t seen c r q mid mid1 (λ counts answer answer' kept kept'. same_held layouts s t answer answer' seen kept kept') found step step1 fine.0 fine1.0 in
     (same.0, same_runs layouts limit cs rs qs mid mid1 s' t' same.1 rest rest1 fine.1 fine1.1)
 
 -- two runs from one state
@@ -166,21 +171,63 @@ kept_alike : (s t : State) → visible s ≡ visible t → (answer answer' : Rep
 kept_alike s t seen answer answer' one other =
     same_held Copying s t answer answer' seen one (record { objects = other.objects; hosts = other.hosts; shows = other.shows; kept = record { objects_are = other.kept.objects_are; hosts_are = other.kept.hosts_are } })
 
-alike_runs : (limit limit' : Option ℕ) (cs : List Command) (rs qs : List Reply) (s t s' t' : State) → visible s ≡ visible t → Run Copying limit s cs rs s' → Run Counting limit' t cs qs t' → NoneRefused rs → NoneRefused qs → NoneLarge rs → NoneLarge qs → SameReplies cs rs qs
-alike_runs limit limit' [] [] [] s t s' t' seen one other fine fine1 small small1 = tt
-alike_runs limit limit' [] [] (q ∷ qs) s t s' t' seen one other fine fine1 small small1 = absurd other
-alike_runs limit limit' [] (r ∷ rs) qs s t s' t' seen one other fine fine1 small small1 = absurd one
-alike_runs limit limit' (c ∷ cs) [] qs s t s' t' seen one other fine fine1 small small1 = absurd one
-alike_runs limit limit' (c ∷ cs) (r ∷ rs) [] s t s' t' seen one other fine fine1 small small1 = absurd other
-alike_runs limit limit' (c ∷ cs) (r ∷ rs) (q ∷ qs) s t s' t' seen (mid, (step, rest)) (mid1, (step1, rest1)) fine fine1 small small1 =
-    let in_s : first_failing (seen_tests Counting (visible t) c) ≡ first_failing (seen_tests Counting (visible s) c) = ap (λ (v : State). first_failing (seen_tests Counting v c)) (sym seen) in
-    let found =
-    tests_alike Copying Counting (visible s) c (λ is. small.0 (large_said Copying limit s (shape c) (first_failing (tests Copying s c)) r mid step is))
-    (λ is. small1.0 (large_said Counting limit' t (shape c) (first_failing (tests Counting t c)) q mid1 step1 (in_s ∙ is)))
-    ∙ sym in_s in
-    let same = same_step Copying Counting limit limit' s t seen (kept_alike s t seen) c r q mid mid1 found step step1 fine.0 fine1.0 in
-    (same.0, alike_runs limit limit' cs rs qs mid mid1 s' t' same.1 rest rest1 fine.1 fine1.1 small.1 small1.1)
+-- the commands that tell how many objects are held
+counted : (c : Command) → shape c ≡ collecting of_objects → (c ≡ Gc) ⊎ (c ≡ GcDrop)
+counted Gc is = inl refl
+counted GcDrop is = inr refl
+counted c is = absurd (cc is)
+
+-- of some commands collections keep as many objects over either kind, from states of which the same is visible
+abbrev KeepAlike : Layouts → Layouts → List Command → Type 0
+KeepAlike k l cs = (c : Command) → Contains cs c → shape c ≡ collecting of_objects → (s t : State) → visible s ≡ visible t → (answer answer' : Reply) → Keeps k s answer → Keeps l t answer' → answer ≡ answer'
+
+module _ (k l : Layouts) (limit limit' : Option ℕ) where
+  alike_runs : (cs : List Command) (rs qs : List Reply) (s t s' t' : State) → KeepAlike k l cs → visible s ≡ visible t → Run k limit s cs rs s' → Run l limit' t cs qs t' → NoneRefused rs → NoneRefused qs → NoneLarge rs → NoneLarge qs → SameReplies cs rs qs
+  alike_runs [] [] [] s t s' t' kept seen one other fine fine1 small small1 = tt
+  alike_runs [] [] (q ∷ qs) s t s' t' kept seen one other fine fine1 small small1 = absurd other
+  alike_runs [] (r ∷ rs) qs s t s' t' kept seen one other fine fine1 small small1 = absurd one
+  alike_runs (c ∷ cs) [] qs s t s' t' kept seen one other fine fine1 small small1 = absurd one
+  alike_runs (c ∷ cs) (r ∷ rs) [] s t s' t' kept seen one other fine fine1 small small1 = absurd other
+  alike_runs (c ∷ cs) (r ∷ rs) (q ∷ qs) s t s' t' kept seen (mid, (step, rest)) (mid1, (step1, rest1)) fine fine1 small small1 =
+      let in_s : first_failing (seen_tests l (visible t) c) ≡ first_failing (seen_tests l (visible s) c) = ap (λ (v : State). first_failing (seen_tests l v c)) (sym seen) in
+      let found =
+      tests_alike k l (visible s) c (λ is. small.0 (large_said k limit s (shape c) (first_failing (tests k s c)) r mid step is))
+      (λ is. small1.0 (large_said l limit' t (shape c) (first_failing (tests l t c)) q mid1 step1 (in_s ∙ is)))
+      ∙ sym in_s in
+      let first : Contains (c ∷ cs) c = Contains-append_left (c ∷ []) cs c (Contains-push [] c) in
+      let same = same_step k l limit limit' s t seen c r q mid mid1 (λ is. kept c first is s t seen) found step step1 fine.0 fine1.0 in
+      (same.0, alike_runs cs rs qs mid mid1 s' t' (λ d within. kept d (Contains-append_right (c ∷ []) cs d within)) same.1 rest rest1 fine.1 fine1.1 small.1 small1.1)
 
 -- two runs from one state, one over a copying heap and one over a counting heap
 pub kinds_alike : (limit limit' : Option ℕ) (s s1 s2 : State) (cs : List Command) (rs1 rs2 : List Reply) → Run Copying limit s cs rs1 s1 → Run Counting limit' s cs rs2 s2 → NoneRefused rs1 → NoneRefused rs2 → NoneLarge rs1 → NoneLarge rs2 → SameReplies cs rs1 rs2
-kinds_alike limit limit' s s1 s2 cs rs1 rs2 one other fine fine1 small small1 = alike_runs limit limit' cs rs1 rs2 s s s1 s2 refl one other fine fine1 small small1
+kinds_alike limit limit' s s1 s2 cs rs1 rs2 one other fine fine1 small small1 =
+    alike_runs Copying Counting limit limit' cs rs1 rs2 s s s1 s2 (λ c within is s t seen. kept_alike s t seen) refl one other fine fine1 small small1
+
+-- two runs from one state over any heaps, of commands that don't tell how many objects are held
+pub any_alike : (k l : Layouts) (limit limit' : Option ℕ) (s s1 s2 : State) (cs : List Command) (rs1 rs2 : List Reply) → Run k limit s cs rs1 s1 → Run l limit' s cs rs2 s2 → NoneRefused rs1 → NoneRefused rs2 → NoneLarge rs1 → NoneLarge rs2
+    → ¬ Contains cs Gc → ¬ Contains cs GcDrop → SameReplies cs rs1 rs2
+any_alike k l limit limit' s s1 s2 cs rs1 rs2 one other fine fine1 small small1 no_gc no_drop =
+    let none : (c : Command) → Contains cs c → (c ≡ Gc) ⊎ (c ≡ GcDrop) → ⊥ = λ c within is. elim is [
+      | inl e ↦ no_gc (subst (Contains cs) e within)
+      | inr e ↦ no_drop (subst (Contains cs) e within)
+    ] in
+    alike_runs k l limit limit' cs rs1 rs2 s s s1 s2 (λ c within is s t seen answer answer' kept kept'. absurd (none c within (counted c is))) refl one other fine fine1 small small1
+
+-- the replies of a command that shows no pages and counts no increments
+same_reply : (c : Command) (r q : Reply) → ¬ (c ≡ Cap) → ¬ (c ≡ GcInc) → SameReply c r q → r ≡ q
+same_reply Cap r q no_cap no_count same = absurd (no_cap refl)
+same_reply GcInc r q no_cap no_count same = absurd (no_count refl)
+same_reply c r q no_cap no_count same = same
+
+-- replies that are the same but for those of `cap` and `gcinc`, where there are none
+pub same_replies : (cs : List Command) (rs qs : List Reply) → SameReplies cs rs qs → ¬ Contains cs Cap → ¬ Contains cs GcInc → rs ≡ qs
+same_replies [] [] [] same no_cap no_count = refl
+same_replies [] [] (q ∷ qs) same no_cap no_count = absurd same
+same_replies [] (r ∷ rs) qs same no_cap no_count = absurd same
+same_replies (c ∷ cs) [] qs same no_cap no_count = absurd same
+same_replies (c ∷ cs) (r ∷ rs) [] same no_cap no_count = absurd same
+same_replies (c ∷ cs) (r ∷ rs) (q ∷ qs) same no_cap no_count =
+    let first : Contains (c ∷ cs) c = Contains-append_left (c ∷ []) cs c (Contains-push [] c) in
+    let one = same_reply c r q (λ e. no_cap (subst (Contains (c ∷ cs)) e first)) (λ e. no_count (subst (Contains (c ∷ cs)) e first)) same.0 in
+    let others = same_replies cs rs qs same.1 (λ within. no_cap (Contains-append_right (c ∷ []) cs Cap within)) (λ within. no_count (Contains-append_right (c ∷ []) cs GcInc within)) in
+    λ i. one i ∷ others i

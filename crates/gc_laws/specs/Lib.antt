@@ -1,2 +1,5 @@
 pub mod Rows
 pub mod Laws
+pub mod Pieces
+pub mod Stale
+pub mod Writes

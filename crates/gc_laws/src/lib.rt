@@ -5,5 +5,6 @@
 
 pub mod laws;
 pub mod limit_laws;
+pub mod root_laws;
 
 pub use laws::one_struct_session;

@@ -27,7 +27,8 @@ pub fn told_limits_decide()
         → ¬ RunsOut layouts most places t o }
     ensures growth { (most bytes : ℕ) (t t' : Table ℕ) (granted : Bool) → most ≤ max_pages → t.first ≤ most → Grows (Some most) bytes t granted t'
         → (granted ≡ false) ↔ ((0 < bytes) × PassesLimit most t bytes) }
-    ensures pages { (layouts : Layouts) (most : ℕ) (s s' : State) (cs : List Command) (rs : List Reply) → Run layouts (Some most) s cs rs s' → s'.table.pages ≤ max most s.table.pages }
+    ensures pages { (layouts : Layouts) (most : ℕ) (s s' : State) (cs : List Command) (rs : List Reply) → Run layouts (Some most) s cs rs s'
+        → s'.table.pages ≤ max most s.table.pages }
 {}
 
 /// So the replies tell it exactly. Of each step under a limit of at most 65,535 pages that grants the first pages
@@ -40,5 +41,6 @@ pub fn refusals_are_exact()
         → Step layouts (Some most) s c r s' → (r ≡ reply.Refused refusal.GcHeapOutOfMemory) ↔ IsOutOfMemory layouts most s c }
     ensures growth_failed { (layouts : Layouts) (most : ℕ) (s s' : State) (c : Command) (r : Reply) → most ≤ max_pages → s.table.first ≤ most
         → Step layouts (Some most) s c r s' → (r ≡ reply.Refused refusal.GcHeapGrowthFailed) ↔ FailsToGrow layouts most s c }
-    ensures first { (layouts : Layouts) (limit : Option ℕ) (s s' : State) (cs : List Command) (rs : List Reply) → Run layouts limit s cs rs s' → s'.table.first ≡ s.table.first }
+    ensures first { (layouts : Layouts) (limit : Option ℕ) (s s' : State) (cs : List Command) (rs : List Reply) → Run layouts limit s cs rs s'
+        → s'.table.first ≡ s.table.first }
 {}
