@@ -1,6 +1,6 @@
 //! Why sessions can't be run.
 
-use crate::table::TableFault;
+use session_table::TableFault;
 use std::alloc::AllocError;
 use std::io;
 use std::str::Utf8Error;

@@ -1,35 +1,26 @@
-//! Runs the worked sessions of a table, which comes on standard input, and prints what each gives.
+//! Runs the worked sessions of a table, which comes on standard input (`session_table` says how it is written), and prints what
+//! each gives.
 //!
-//! A session is a header and a script, which is the lines behind it up to the next header; headers
-//! that stand one behind the other have the same script. Empty lines and lines that begin with `//` say
-//! nothing. A header `# WORDS` runs the top call with these words, the script being its input. Printed are the header,
-//!   what the sink took, and `status N`, or `status N within a line` where the last line that the sink
-//!   took is cut. Options stand behind the words: `| reads N..` and `| writes N..` number the reads and
-//!   writes that fail (write 0 is the flush), `| room N` is the room of the sink in bytes, and with
-//!   `| unended` the last line has no line feed. With `| folded` lines that stand several times in a row are printed
-//!   once, as `{N*LINE}`.
-//!
-//! In a line of a script `{N*TEXT}` stands for N times the text, `\n` for a line feed and `\r` for a
-//! carriage return. Each line of the table ends with a line feed in the script, where its own text
-//! doesn't already.
+//! A header `# WORDS` runs the top call with these words, the script being its input. Printed are the header, what the sink took,
+//! and `status N`, or `status N within a line` where the last line that the sink took is cut. Options: `| reads N..` and
+//! `| writes N..` number the reads and writes that fail (write 0 is the flush), `| room N` is the room of the sink in bytes, and
+//! with `| unended` the last line has no line feed. With `| folded` lines that stand several times in a row are printed once, as
+//! `{N*LINE}`.
 //!
 //! What the table must give, in `stdout`, was worked out by hand from the rules in docs/.
 #![tactic(auto)]
 
-mod expand;
 mod fault;
 mod runs;
 mod setup;
-mod table;
 
-use expand::expand_lines;
 use fault::{RunFault, SessionFault};
 use runs::run_program;
+use session_table::{Sessions, TableFault, expand_lines, read_table};
 use setup::ProgramSetup;
 use std::alloc::Global;
 use std::io;
 use std::io::{BufWriter, Write};
-use table::{Sessions, TableFault, read_table};
 
 /// Runs the session of a header, and writes what it gives.
 fn run_session<W: Write + Drop>(

@@ -1,6 +1,6 @@
 //! What the header of a session asks for.
 
-use crate::table::TableFault;
+use session_table::{TableFault, name_and_value, numbers_of};
 use std::alloc::Global;
 
 /// The room of a sink for which the header says none, in bytes.
@@ -52,19 +52,4 @@ impl<'a> ProgramSetup<'a> {
         }
         Ok(())
     }
-}
-
-/// The first word of an option, and what stands behind it.
-fn name_and_value(option: &str) -> (&str, &str) {
-    let option = option.trim();
-    option.split_once(' ').unwrap_or((option, ""))
-}
-
-/// The numbers that the words of a text are.
-fn numbers_of(alloc: Global, text: &str) -> Result<Vec<u64>, TableFault> {
-    let mut numbers = Vec::new(alloc);
-    for word in text.split_whitespace() {
-        numbers.push(word.parse()?)?;
-    }
-    Ok(numbers)
 }

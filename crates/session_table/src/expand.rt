@@ -4,11 +4,7 @@ use crate::table::TableFault;
 use std::alloc::Global;
 
 /// The script of these lines. Where `is_ended` is false, nothing is put behind the last one.
-pub(crate) fn expand_lines(
-    alloc: Global,
-    lines: &[&str],
-    is_ended: bool,
-) -> Result<String, TableFault> {
+pub fn expand_lines(alloc: Global, lines: &[&str], is_ended: bool) -> Result<String, TableFault> {
     let mut script = String::new(alloc);
     for line in lines {
         end_line(&mut script)?;

@@ -4,9 +4,9 @@ use std::alloc::{AllocError, Global};
 use std::num::ParseIntError;
 use thiserror::Error;
 
-/// Why a table can't be read.
+/// Why a table can't be read, or a header can't be run.
 #[derive(Debug, Drop, Error)]
-pub(crate) enum TableFault {
+pub enum TableFault {
     #[error("a script has no header")]
     NoHeader,
     #[error("the words of the header are of no form")]
@@ -25,25 +25,30 @@ pub(crate) enum TableFault {
 
 /// Sessions of a table that have one script: their headers, and the lines behind these.
 #[derive(Drop)]
-pub(crate) struct Sessions<'a> {
-    pub(crate) headers: Vec<&'a str>,
-    pub(crate) lines: Vec<&'a str>,
+pub struct Sessions<'a> {
+    pub headers: Vec<&'a str>,
+    pub lines: Vec<&'a str>,
 }
 
 /// The sessions of a table, in order.
-pub(crate) fn read_table(alloc: Global, text: &str) -> Result<Vec<Sessions<'_>>, TableFault> {
+pub fn read_table(alloc: Global, text: &str) -> Result<Vec<Sessions<'_>>, TableFault> {
     let mut table = Vec::new(alloc);
     for line in text.lines() {
         if line.is_empty() || line.starts_with("//") {
             continue;
         }
-        if line.starts_with('#') {
+        if is_header(line) {
             add_header(alloc, &mut table, line)?;
         } else {
             add_line(&mut table, line)?;
         }
     }
     Ok(table)
+}
+
+/// Whether a line begins as a header does.
+fn is_header(line: &str) -> bool {
+    line.starts_with('#') || line.starts_with('~') || line.starts_with('!')
 }
 
 /// Puts a header beside those before it, or behind the script before it.

@@ -1,0 +1,33 @@
+//! Why sessions can't be run.
+
+use gc_script::RunError;
+use session_table::TableFault;
+use std::alloc::AllocError;
+use std::io;
+use thiserror::Error;
+
+/// Why a session can't be run.
+#[derive(Debug, Drop, Error)]
+pub(crate) enum SessionFault {
+    #[error(transparent)]
+    Table(#[from] TableFault),
+    #[error(transparent)]
+    Run(#[from] RunError),
+    #[error(transparent)]
+    Write(#[from] io::Error),
+    #[error(transparent)]
+    Memory(#[from(alloc)] AllocError),
+}
+
+/// Why a table can't be run.
+#[derive(Debug, Drop, Error)]
+pub(crate) enum RunFault {
+    #[error("session {header:?}: {fault}")]
+    Session { header: String, fault: SessionFault },
+    #[error(transparent)]
+    Table(#[from] TableFault),
+    #[error(transparent)]
+    File(#[from] io::Error),
+    #[error(transparent)]
+    Memory(#[from(alloc)] AllocError),
+}
