@@ -1,0 +1,4 @@
+pub mod EntriesKept
+pub mod Entries
+pub mod Keys
+pub mod Making
