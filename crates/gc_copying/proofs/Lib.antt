@@ -8,7 +8,6 @@ pub mod FewLemmas
 pub mod FinishLemmas
 pub mod FormLemmas
 pub mod ForwardLemmas
-pub mod GraphLemmas
 pub mod GrowLemmas
 pub mod HostLemmas
 pub mod LastLemmas

@@ -12,16 +12,8 @@
 #![tactic(auto)]
 
 mod alloc;
-#[cfg(test)]
-mod client_tests;
 pub mod collection;
 pub(crate) mod copy;
-#[cfg(test)]
-mod graph;
-#[cfg(test)]
-mod graph_runs;
-#[cfg(test)]
-mod graph_tests;
 mod growth;
 pub mod heap;
 pub mod layout;

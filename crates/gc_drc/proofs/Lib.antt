@@ -40,4 +40,3 @@ pub mod ObjectsSteps
 pub mod ObjectsUnheld
 pub mod RunLemmas
 pub mod IncrementLemmas
-pub mod BarrierRuns

@@ -22,11 +22,7 @@
 #![tactic(auto)]
 
 mod alloc;
-#[cfg(test)]
-mod barrier_tests;
 mod barriers;
-#[cfg(test)]
-mod client_tests;
 pub(crate) mod collect;
 pub mod collection;
 mod counting;
@@ -37,10 +33,6 @@ pub mod laws;
 mod place;
 mod read;
 pub(crate) mod space;
-#[cfg(test)]
-mod test_objects;
-#[cfg(test)]
-mod unheld_tests;
 mod write;
 
 pub use collection::{DrcCollection, DrcCollector};

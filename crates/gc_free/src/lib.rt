@@ -30,6 +30,3 @@ pub use free_list::FreeList;
 pub use gc_steps::Steps;
 pub use layout::Layout;
 pub use run::{ALIGN, Run};
-
-#[cfg(test)]
-mod tests;

@@ -12,12 +12,8 @@ pub mod client;
 pub mod collect;
 pub mod collection;
 pub mod heap;
-#[cfg(test)]
-mod kinds_tests;
 pub mod null;
 pub mod ref_kinds;
-#[cfg(test)]
-mod tests;
 
 pub use collection::{GcProgress, GcStoreTraceState};
 pub use gc_memory::HeapMemory;

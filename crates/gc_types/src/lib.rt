@@ -18,8 +18,6 @@ pub mod layout_laws;
 mod matching;
 pub mod matching_laws;
 mod placement;
-#[cfg(test)]
-mod tests;
 mod type_names;
 pub mod types;
 pub mod value;

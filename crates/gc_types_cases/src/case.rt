@@ -1,12 +1,10 @@
 //! Answers a case.
 
+use crate::compare::compare;
 use crate::fault::CaseFault;
 use crate::lookups::{look_up, show_declared};
 use crate::small::ask_small;
-use crate::table::{
-    chain, climb, declare, declare_many, family, is_subtype, no_types, two_numbers,
-};
-use crate::words::{field_of, ref_type_of, value_of};
+use crate::table::{begin, declare, declare_many, no_types};
 use gc_types::Types;
 use std::alloc::Global;
 use std::io::Write;
@@ -16,6 +14,28 @@ use std::io::Write;
 pub(crate) struct Cases {
     alloc: Global,
     types: Types,
+}
+
+/// What a case does, as its first word says.
+enum Does {
+    Begins,
+    Compares,
+    Declares,
+    DeclaresMany,
+    LooksUp,
+    AsksSmall,
+}
+
+/// What a case does that begins with a word.
+fn done_by(word: &str) -> Does {
+    match word {
+        "table" | "family" | "chain" => Does::Begins,
+        "subtype" | "ref" | "value" | "field" => Does::Compares,
+        "structs" | "exns" | "funcs" => Does::DeclaresMany,
+        "struct" | "array" | "func" | "exn" => Does::Declares,
+        "about" | "holds" | "elem" | "names" | "layout" | "elems" | "climb" => Does::LooksUp,
+        _ => Does::AsksSmall,
+    }
 }
 
 impl Cases {
@@ -33,51 +53,46 @@ impl Cases {
         words: &[&str],
         out: &mut W,
     ) -> Result<(), CaseFault> {
-        match words {
-            ["table"] => self.begin(no_types(self.alloc), out),
-            ["family"] => self.begin(family(self.alloc)?, out),
-            ["chain", count] => self.begin(chain(self.alloc, count.parse()?)?, out),
-            ["climb", subs, sups] => {
-                let (subs, sups) = two_numbers(subs, sups)?;
-                write!(out, "{}", climb(&self.types, subs, sups))?;
-                Ok(())
-            }
-            ["subtype" | "ref" | "value" | "field", ..] => self.compare(words, out),
-            ["structs" | "exns" | "funcs", ..] => {
-                let declared = declare_many(self.alloc, &mut self.types, words)?;
-                show_declared(declared, out)
-            }
-            ["struct" | "array" | "func" | "exn", ..] => {
-                let declared = declare(self.alloc, &mut self.types, words)?;
-                show_declared(declared, out)
-            }
-            [
-                "about" | "holds" | "elem" | "names" | "layout" | "elems",
-                ..
-            ] => { look_up(&self.types, words, out) }
-            _ => ask_small(words, out),
+        let Some((name, rest)) = words.split_first() else {
+            return Err(CaseFault::BadCase);
+        };
+        match done_by(name) {
+            Does::Begins => self.begin(name, rest, out),
+            Does::Compares => compare(&self.types, name, rest, out),
+            Does::Declares => self.declare(words, out),
+            Does::DeclaresMany => self.declare_many(name, rest, out),
+            Does::LooksUp => look_up(&self.types, name, rest, out),
+            Does::AsksSmall => ask_small(self.alloc, &self.types, name, rest, out),
         }
     }
 
     /// Takes another table.
-    fn begin<W: Write + Drop>(&mut self, types: Types, out: &mut W) -> Result<(), CaseFault> {
-        let is_empty = types.is_empty();
-        self.types = types;
+    fn begin<W: Write + Drop>(
+        &mut self,
+        name: &str,
+        words: &[&str],
+        out: &mut W,
+    ) -> Result<(), CaseFault> {
+        self.types = begin(self.alloc, name, words)?;
+        let is_empty = self.types.is_empty();
         write!(out, "{}", if is_empty { "empty" } else { "begun" })?;
         Ok(())
     }
 
-    /// Writes whether the first matches the second.
-    fn compare<W: Write + Drop>(&self, words: &[&str], out: &mut W) -> Result<(), CaseFault> {
-        let types = &self.types;
-        let matches = match words {
-            ["subtype", sub, sup] => is_subtype(types, sub, sup)?,
-            ["ref", a, b] => types.matches_ref(&ref_type_of(a)?, &ref_type_of(b)?),
-            ["value", a, b] => types.matches_val(&value_of(a)?, &value_of(b)?),
-            ["field", a, b] => types.matches_field(&field_of(a)?, &field_of(b)?),
-            _ => return Err(CaseFault::BadCase),
-        };
-        write!(out, "{}", if matches { "yes" } else { "no" })?;
-        Ok(())
+    /// Declares a type.
+    fn declare<W: Write + Drop>(&mut self, words: &[&str], out: &mut W) -> Result<(), CaseFault> {
+        let declared = declare(self.alloc, &mut self.types, words)?;
+        show_declared(declared, out)
+    }
+
+    /// Declares a type with many parts.
+    fn declare_many<W: Write + Drop>(
+        &mut self,
+        name: &str,
+        words: &[&str],
+        out: &mut W,
+    ) -> Result<(), CaseFault> {
+        let declared = declare_many(self.alloc, &mut self.types, name, words)?;
+        show_declared(declared, out)
     }
 }

@@ -1,6 +1,7 @@
 //! What a table tells of its types.
 
 use crate::fault::CaseFault;
+use crate::table::climb;
 use crate::words::{index_of, maybe_field_of};
 use gc_types::{GcArrayLayout, GcStructLayout, Layouts, TraceInfo, Types, VMSharedTypeIndex};
 use std::io::Write;
@@ -23,27 +24,74 @@ pub(crate) fn show_declared<W: Write + Drop>(
     Ok(())
 }
 
-/// Writes what the table tells of a type.
+/// Writes what the table tells.
 pub(crate) fn look_up<W: Write + Drop>(
+    types: &Types,
+    name: &str,
+    words: &[&str],
+    out: &mut W,
+) -> Result<(), CaseFault> {
+    match name {
+        "holds" => show_holds(types, words, out),
+        "elem" => show_elem(types, words, out),
+        "climb" => show_climb(types, words, out),
+        _ => show_type(types, name, words, out),
+    }
+}
+
+/// Writes whether a type has that field at that index.
+fn show_holds<W: Write + Drop>(
     types: &Types,
     words: &[&str],
     out: &mut W,
 ) -> Result<(), CaseFault> {
-    match words {
-        ["about", ty] => show_about(types, index_of(ty)?, out),
-        ["names", ty] => show_names(types, index_of(ty)?, out),
-        ["layout", ty] => show_layouts(types, index_of(ty)?, out),
-        ["elems", ty] => show_elems(types, index_of(ty)?, out),
-        ["holds", ty, index, field] => {
-            let told = types.field(index_of(ty)?, index.parse()?);
-            write!(out, "{}", told == maybe_field_of(field)?)?;
-            Ok(())
-        }
-        ["elem", ty, field] => {
-            let told = types.array_elem(index_of(ty)?);
-            write!(out, "{}", told == maybe_field_of(field)?)?;
-            Ok(())
-        }
+    let [ty, index, field] = words else {
+        return Err(CaseFault::BadCase);
+    };
+    let told = types.field(index_of(ty)?, index.parse()?);
+    write!(out, "{}", told == maybe_field_of(field)?)?;
+    Ok(())
+}
+
+/// Writes whether the elements of a type are of that kind.
+fn show_elem<W: Write + Drop>(types: &Types, words: &[&str], out: &mut W) -> Result<(), CaseFault> {
+    let [ty, field] = words else {
+        return Err(CaseFault::BadCase);
+    };
+    let told = types.array_elem(index_of(ty)?);
+    write!(out, "{}", told == maybe_field_of(field)?)?;
+    Ok(())
+}
+
+/// Writes how many of the first types are subtypes of one of the first.
+fn show_climb<W: Write + Drop>(
+    types: &Types,
+    words: &[&str],
+    out: &mut W,
+) -> Result<(), CaseFault> {
+    let [subs, sups] = words else {
+        return Err(CaseFault::BadCase);
+    };
+    write!(out, "{}", climb(types, subs.parse()?, sups.parse()?))?;
+    Ok(())
+}
+
+/// Writes what the table tells of a type.
+fn show_type<W: Write + Drop>(
+    types: &Types,
+    name: &str,
+    words: &[&str],
+    out: &mut W,
+) -> Result<(), CaseFault> {
+    let [ty] = words else {
+        return Err(CaseFault::BadCase);
+    };
+    let ty = index_of(ty)?;
+    match name {
+        "about" => show_about(types, ty, out),
+        "names" => show_names(types, ty, out),
+        "layout" => show_layouts(types, ty, out),
+        "elems" => show_elems(types, ty, out),
         _ => Err(CaseFault::BadCase),
     }
 }
@@ -54,10 +102,13 @@ fn show_about<W: Write + Drop>(
     ty: VMSharedTypeIndex,
     out: &mut W,
 ) -> Result<(), CaseFault> {
+    let (kind, is_final) = (types.kind_of(ty), types.is_final(ty));
     let supertype = types.supertype_of(ty).map(|ty| ty.as_u32());
-    write!(out, "{:?}, extends {:?}, ", types.kind_of(ty), supertype)?;
-    write!(out, "final {}, ", types.is_final(ty))?;
-    write!(out, "fields {:?}", types.fields_len(ty))?;
+    let fields = types.fields_len(ty);
+    write!(
+        out,
+        "{kind:?}, extends {supertype:?}, final {is_final}, fields {fields:?}"
+    )?;
     Ok(())
 }
 
@@ -68,42 +119,30 @@ fn show_names<W: Write + Drop>(
     out: &mut W,
 ) -> Result<(), CaseFault> {
     if let Some(name) = types.struct_type(ty) {
-        write!(
-            out,
-            "struct {} {} {}",
-            name.engine(),
-            name.number(),
-            name.index().as_u32()
-        )?;
+        show_name("struct", name.engine(), name.number(), name.index(), out)?;
     }
     if let Some(name) = types.array_type(ty) {
-        write!(
-            out,
-            "array {} {} {}",
-            name.engine(),
-            name.number(),
-            name.index().as_u32()
-        )?;
+        show_name("array", name.engine(), name.number(), name.index(), out)?;
     }
     if let Some(name) = types.exn_type(ty) {
-        write!(
-            out,
-            "exn {} {} {}",
-            name.engine(),
-            name.number(),
-            name.index().as_u32()
-        )?;
+        show_name("exn", name.engine(), name.number(), name.index(), out)?;
     }
     if let Some(name) = types.func_type(ty) {
-        write!(
-            out,
-            "func {} {} {}",
-            name.engine(),
-            name.number(),
-            name.index().as_u32()
-        )?;
+        show_name("func", name.engine(), name.number(), name.index(), out)?;
     }
     write!(out, ", struct fields {:?}", types.struct_len(ty))?;
+    Ok(())
+}
+
+/// Writes a name: its kind, its table's id and its index.
+fn show_name<W: Write + Drop>(
+    kind: &str,
+    engine: u64,
+    number: u64,
+    index: VMSharedTypeIndex,
+    out: &mut W,
+) -> Result<(), CaseFault> {
+    write!(out, "{kind} {engine} {number} {}", index.as_u32())?;
     Ok(())
 }
 

@@ -13,7 +13,8 @@
 //! - `about TYPE`, `holds TYPE INDEX FIELD`, `elem TYPE FIELD` and `names TYPE` look a type up;
 //! - `layout TYPE` and `elems TYPE` say where its values lie in the null, the counting and the copying heap;
 //!   `bytes BASE WIDTH LENGTH` is the size of an array;
-//! - `top HEAPTYPE`, `unpack STORAGE`, `kind NAME` and `bits WORD` ask the small calls;
+//! - `top HEAPTYPE`, `unpack STORAGE`, `kind NAME` and `bits WORD` ask the small calls; `function NUMBER`, `offsets COUNT`, `reserved`, `laws` and
+//!   `faults` too, of which the last prints the texts of faults;
 //! - `chain N` begins a table of structs each of which extends the one before it, and `climb N M` counts the
 //!   pairs of one of the first N types and one of the first M that it is a subtype of.
 //!
@@ -22,6 +23,7 @@
 #![tactic(auto)]
 
 mod case;
+mod compare;
 mod fault;
 mod lookups;
 mod small;
@@ -30,23 +32,40 @@ mod words;
 
 use crate::case::Cases;
 use crate::fault::CaseFault;
+use std::alloc::Global;
 use std::io;
 use std::io::{BufWriter, Write};
+
+/// Prints each case of a text with its answer.
+fn answer_cases<W: Write + Drop>(alloc: Global, text: &str, out: &mut W) -> Result<(), CaseFault> {
+    let mut cases = Cases::new(alloc);
+    for line in text.lines() {
+        if !line.is_empty() && !line.starts_with("//") {
+            answer_case(alloc, &mut cases, line, out)?;
+        }
+    }
+    Ok(())
+}
+
+/// Prints a case with its answer.
+fn answer_case<W: Write + Drop>(
+    alloc: Global,
+    cases: &mut Cases,
+    line: &str,
+    out: &mut W,
+) -> Result<(), CaseFault> {
+    let words: Vec<&str> = line.split_whitespace().collect(alloc)?;
+    write!(out, "{line}: ")?;
+    cases.answer(words.as_slice(), out)?;
+    writeln!(out)?;
+    Ok(())
+}
 
 fn main(rt: HostRuntime) -> Result<(), CaseFault> {
     let alloc = rt.alloc();
     let text = io::read_to_string(alloc, rt.reader())?;
     let mut out = BufWriter::new(alloc, io::writer(&rt))?;
-    let mut cases = Cases::new(alloc);
-    for line in text.lines() {
-        if line.is_empty() || line.starts_with("//") {
-            continue;
-        }
-        let words: Vec<&str> = line.split_whitespace().collect(alloc)?;
-        write!(out, "{line}: ")?;
-        cases.answer(words.as_slice(), &mut out)?;
-        writeln!(out)?;
-    }
+    answer_cases(alloc, text.as_str(), &mut out)?;
     out.flush()?;
     Ok(())
 }

@@ -1,7 +1,7 @@
 //! The tables that the cases begin with, and the types that they declare.
 
 use crate::fault::CaseFault;
-use crate::words::{fields_of, finality_of, index_of, supertype_of, values_of};
+use crate::words::{fields_of, finality_of, supertype_of, values_of};
 use gc_types::{FieldType, Mutability, StorageType, TypeFault, Types, VMSharedTypeIndex, ValType};
 use std::alloc::Global;
 
@@ -33,7 +33,7 @@ pub(crate) fn no_types(alloc: Global) -> Types {
 }
 
 /// The table of the family.
-pub(crate) fn family(alloc: Global) -> Result<Types, CaseFault> {
+fn family(alloc: Global) -> Result<Types, CaseFault> {
     let mut types = no_types(alloc);
     for line in FAMILY.lines() {
         let words: Vec<&str> = line.split_whitespace().collect(alloc)?;
@@ -42,8 +42,19 @@ pub(crate) fn family(alloc: Global) -> Result<Types, CaseFault> {
     Ok(types)
 }
 
+/// The table that a case begins with.
+pub(crate) fn begin(alloc: Global, name: &str, words: &[&str]) -> Result<Types, CaseFault> {
+    match (name, words) {
+        ("table", []) => Ok(no_types(alloc)),
+        ("family", []) => family(alloc),
+        ("chain", [count]) => chain(alloc, count),
+        _ => Err(CaseFault::BadCase),
+    }
+}
+
 /// The table of so many structs, each of which extends the one before it.
-pub(crate) fn chain(alloc: Global, count: u32) -> Result<Types, CaseFault> {
+fn chain(alloc: Global, count: &str) -> Result<Types, CaseFault> {
+    let count: u32 = count.parse()?;
     let mut types = no_types(alloc);
     let mut supertype = None;
     for _ in 0..count {
@@ -63,10 +74,7 @@ pub(crate) fn declare(
         Some((&"struct", rest)) => declare_struct(alloc, types, rest),
         Some((&"array", rest)) => declare_array(alloc, types, rest),
         Some((&"func", rest)) => declare_func(alloc, types, rest),
-        Some((&"exn", rest)) => {
-            let params = values_of(alloc, rest)?;
-            declared(types.declare_exn(params.as_slice()).map(|ty| ty.index()))
-        }
+        Some((&"exn", rest)) => declare_exn(alloc, types, rest),
         _ => Err(CaseFault::BadCase),
     }
 }
@@ -82,16 +90,24 @@ fn declared(
     }
 }
 
+/// What stands in front of the fields of a type: its supertype, if any, and whether it is final.
+type Head = (Option<VMSharedTypeIndex>, bool);
+
+/// The supertype and the finality that two words name.
+fn head_of(words: &[&str]) -> Result<Head, CaseFault> {
+    let [supertype, finality] = words else {
+        return Err(CaseFault::BadCase);
+    };
+    Ok((supertype_of(supertype)?, finality_of(finality)?))
+}
+
 fn declare_struct(
     alloc: Global,
     types: &mut Types,
     words: &[&str],
 ) -> Result<Option<VMSharedTypeIndex>, CaseFault> {
     let (head, rest) = words.split_at_checked(2).ok_or(CaseFault::BadCase)?;
-    let [supertype, finality] = head else {
-        return Err(CaseFault::BadCase);
-    };
-    let (supertype, is_final) = (supertype_of(supertype)?, finality_of(finality)?);
+    let (supertype, is_final) = head_of(head)?;
     let fields = fields_of(alloc, rest)?;
     let answer = types.declare_struct(fields.as_slice(), supertype, is_final);
     declared(answer.map(|ty| ty.index()))
@@ -103,10 +119,7 @@ fn declare_array(
     words: &[&str],
 ) -> Result<Option<VMSharedTypeIndex>, CaseFault> {
     let (head, rest) = words.split_at_checked(2).ok_or(CaseFault::BadCase)?;
-    let [supertype, finality] = head else {
-        return Err(CaseFault::BadCase);
-    };
-    let (supertype, is_final) = (supertype_of(supertype)?, finality_of(finality)?);
+    let (supertype, is_final) = head_of(head)?;
     let elems = fields_of(alloc, rest)?;
     let [elem] = elems.as_slice() else {
         return Err(CaseFault::BadCase);
@@ -121,53 +134,86 @@ fn declare_func(
     words: &[&str],
 ) -> Result<Option<VMSharedTypeIndex>, CaseFault> {
     let (head, rest) = words.split_at_checked(2).ok_or(CaseFault::BadCase)?;
-    let [supertype, finality] = head else {
-        return Err(CaseFault::BadCase);
-    };
-    let (supertype, is_final) = (supertype_of(supertype)?, finality_of(finality)?);
-    let mut params = Vec::new(alloc);
-    let mut results = Vec::new(alloc);
-    let mut is_result = false;
-    for word in rest {
-        if *word == "->" {
-            is_result = true;
-        } else if is_result {
-            results.push(*word)?;
-        } else {
-            params.push(*word)?;
-        }
-    }
-    let params = values_of(alloc, params.as_slice())?;
-    let results = values_of(alloc, results.as_slice())?;
+    let (supertype, is_final) = head_of(head)?;
+    let (params, results) = signature_of(alloc, rest)?;
     let answer = types.declare_func(params.as_slice(), results.as_slice(), supertype, is_final);
     declared(answer.map(|ty| ty.index()))
+}
+
+fn declare_exn(
+    alloc: Global,
+    types: &mut Types,
+    words: &[&str],
+) -> Result<Option<VMSharedTypeIndex>, CaseFault> {
+    let params = values_of(alloc, words)?;
+    declared(types.declare_exn(params.as_slice()).map(|ty| ty.index()))
+}
+
+/// The parameters and the results that stand before and behind an arrow.
+fn signature_of(alloc: Global, words: &[&str]) -> Result<(Vec<ValType>, Vec<ValType>), CaseFault> {
+    let at = arrow_at(words).ok_or(CaseFault::BadCase)?;
+    let (params, behind) = words.split_at_checked(at).ok_or(CaseFault::BadCase)?;
+    let Some((_arrow, results)) = behind.split_first() else {
+        return Err(CaseFault::BadCase);
+    };
+    Ok((values_of(alloc, params)?, values_of(alloc, results)?))
+}
+
+/// Where the arrow stands.
+fn arrow_at(words: &[&str]) -> Option<usize> {
+    for (index, word) in words.iter().enumerate() {
+        if *word == "->" {
+            return Some(index);
+        }
+    }
+    None
 }
 
 /// The index of a type with many parts of 32 bits, or none where it is refused.
 pub(crate) fn declare_many(
     alloc: Global,
     types: &mut Types,
+    name: &str,
     words: &[&str],
 ) -> Result<Option<VMSharedTypeIndex>, CaseFault> {
-    match words {
-        ["structs", count] => {
-            let fields = vec![in alloc; NUMBER; count.parse::<usize>()?]?;
-            let answer = types.declare_struct(fields.as_slice(), None, false);
-            declared(answer.map(|ty| ty.index()))
-        }
-        ["exns", count] => {
-            let params = vec![in alloc; ValType::I32; count.parse::<usize>()?]?;
-            let answer = types.declare_exn(params.as_slice());
-            declared(answer.map(|ty| ty.index()))
-        }
-        ["funcs", params, results] => {
-            let params = vec![in alloc; ValType::I32; params.parse::<usize>()?]?;
-            let results = vec![in alloc; ValType::I32; results.parse::<usize>()?]?;
-            let answer = types.declare_func(params.as_slice(), results.as_slice(), None, false);
-            declared(answer.map(|ty| ty.index()))
-        }
+    match (name, words) {
+        ("structs", [count]) => declare_wide_struct(alloc, types, count),
+        ("exns", [count]) => declare_wide_exn(alloc, types, count),
+        ("funcs", [params, results]) => declare_wide_func(alloc, types, params, results),
         _ => Err(CaseFault::BadCase),
     }
+}
+
+fn declare_wide_struct(
+    alloc: Global,
+    types: &mut Types,
+    count: &str,
+) -> Result<Option<VMSharedTypeIndex>, CaseFault> {
+    let fields = vec![in alloc; NUMBER; count.parse::<usize>()?]?;
+    let answer = types.declare_struct(fields.as_slice(), None, false);
+    declared(answer.map(|ty| ty.index()))
+}
+
+fn declare_wide_exn(
+    alloc: Global,
+    types: &mut Types,
+    count: &str,
+) -> Result<Option<VMSharedTypeIndex>, CaseFault> {
+    let params = vec![in alloc; ValType::I32; count.parse::<usize>()?]?;
+    let answer = types.declare_exn(params.as_slice());
+    declared(answer.map(|ty| ty.index()))
+}
+
+fn declare_wide_func(
+    alloc: Global,
+    types: &mut Types,
+    params: &str,
+    results: &str,
+) -> Result<Option<VMSharedTypeIndex>, CaseFault> {
+    let params = vec![in alloc; ValType::I32; params.parse::<usize>()?]?;
+    let results = vec![in alloc; ValType::I32; results.parse::<usize>()?]?;
+    let answer = types.declare_func(params.as_slice(), results.as_slice(), None, false);
+    declared(answer.map(|ty| ty.index()))
 }
 
 /// How many pairs there are of one of the first `subs` types and one of the first `sups` that it is a
@@ -183,14 +229,4 @@ pub(crate) fn climb(types: &Types, subs: u32, sups: u32) -> u64 {
         }
     }
     pairs
-}
-
-/// The numbers that two words are.
-pub(crate) fn two_numbers(first: &str, second: &str) -> Result<(u32, u32), CaseFault> {
-    Ok((first.parse()?, second.parse()?))
-}
-
-/// Whether the first type is the second or one of its subtypes.
-pub(crate) fn is_subtype(types: &Types, sub: &str, sup: &str) -> Result<bool, CaseFault> {
-    Ok(types.is_subtype(index_of(sub)?, index_of(sup)?))
 }

@@ -1,80 +1,111 @@
 //! Cases that look at a heap, and change nothing.
 
+use crate::case::low_u32;
+use crate::does::Look;
 use crate::fault::CaseFault;
+use crate::kinds::show_kinds;
 use crate::paths::{follow, number_at, root_of, show_word};
 use gc_heap::GcHeap;
 use gc_mutator::Mutator;
 use gc_refs::{VMArrayRef, VMExternRef, VMGcRef};
 use std::io::Write;
+use std::ops::Range;
 
 /// Answers a case that changes nothing.
 pub(crate) fn look<H: GcHeap, W: Write + Drop>(
     m: &Mutator<H>,
-    words: &[&str],
+    looks: Look,
+    numbers: &[u64],
+    others: &[u64],
     out: &mut W,
 ) -> Result<(), CaseFault> {
-    match words {
-        ["count"] => {
-            let (objects, bytes) = (m.objects(), m.allocated_bytes());
-            let hosts = m.host_values();
-            write!(out, "{objects} objects, {bytes} bytes, {hosts} host values")?;
-            Ok(())
-        }
-        ["heap"] => show_heap(m, out),
-        ["see", path @ ..] => match follow(m, path)? {
-            Some(word) => show_word(m, word, out),
-            None => {
-                write!(out, "null")?;
-                Ok(())
-            }
-        },
-        ["at", root] => {
-            let range = m.heap().object_range(&root_of(m, root)?)?;
-            write!(out, "{}..{}", range.start, range.end)?;
-            Ok(())
-        }
-        ["header", root] => show_header(m, &root_of(m, root)?, out),
-        ["data", root, count] => show_data(m, &root_of(m, root)?, count.parse()?, out),
-        ["raw", root, from, to] => {
-            let range = m.heap().object_range(&root_of(m, root)?)?;
-            let bytes = m.heap().heap_slice();
-            let bytes = bytes.get(range).ok_or(CaseFault::BadCase)?;
-            let (from, to): (usize, usize) = (from.parse()?, to.parse()?);
-            match bytes.get(from..to) {
-                Some(bytes) => show_bytes(bytes, out),
-                None => {
-                    write!(out, "outside")?;
-                    Ok(())
-                }
-            }
-        }
-        ["refused", word] => show_refused(m, word.parse()?, out),
+    match (looks, numbers) {
+        (Look::Count, _) => show_count(m, out),
+        (Look::Heap, _) => show_heap(m, out),
+        (Look::See, path) => show_path(m, path, out),
+        (Look::Same, path) => compare(m, path, others, out),
+        (Look::Refused, &[word]) => show_refused(m, low_u32(word), out),
+        (Look::Data, &[root, count]) => show_data(m, &root_of(m, root)?, low_u32(count), out),
+        (Look::Raw, &[root, from, to]) => show_raw(m, root, from as usize..to as usize, out),
+        (_, &[root]) => look_at(m, looks, &root_of(m, root)?, out),
         _ => Err(CaseFault::BadCase),
     }
 }
 
-/// Where the word `and` stands.
-fn and_at(words: &[&str]) -> Option<usize> {
-    for (index, word) in words.iter().enumerate() {
-        if *word == "and" {
-            return Some(index);
-        }
-    }
-    None
-}
-
-/// Writes whether two paths lead to one word. Between them stands `and`.
-pub(crate) fn compare<H: GcHeap, W: Write + Drop>(
+/// Answers a case that looks at what a root names.
+fn look_at<H: GcHeap, W: Write + Drop>(
     m: &Mutator<H>,
-    words: &[&str],
+    looks: Look,
+    word: &VMGcRef,
     out: &mut W,
 ) -> Result<(), CaseFault> {
-    let at = and_at(words).ok_or(CaseFault::BadCase)?;
-    let left = words.get(..at).ok_or(CaseFault::BadCase)?;
-    let behind = words.get(at..).ok_or(CaseFault::BadCase)?;
-    let ["and", right @ ..] = behind else {
-        return Err(CaseFault::BadCase);
-    };
+    match looks {
+        Look::At => show_range(m, word, out),
+        Look::Header => show_header(m, word, out),
+        Look::Is => show_kinds(m.heap(), word, out),
+        _ => Err(CaseFault::BadCase),
+    }
+}
+
+/// Writes what there is.
+fn show_count<H: GcHeap, W: Write + Drop>(m: &Mutator<H>, out: &mut W) -> Result<(), CaseFault> {
+    let (objects, bytes) = (m.objects(), m.allocated_bytes());
+    let hosts = m.host_values();
+    write!(out, "{objects} objects, {bytes} bytes, {hosts} host values")?;
+    Ok(())
+}
+
+/// Writes what a path leads to.
+fn show_path<H: GcHeap, W: Write + Drop>(
+    m: &Mutator<H>,
+    path: &[u64],
+    out: &mut W,
+) -> Result<(), CaseFault> {
+    match follow(m, path)? {
+        Some(word) => show_word(m, word, out),
+        None => {
+            write!(out, "null")?;
+            Ok(())
+        }
+    }
+}
+
+/// Writes where an object lies.
+fn show_range<H: GcHeap, W: Write + Drop>(
+    m: &Mutator<H>,
+    word: &VMGcRef,
+    out: &mut W,
+) -> Result<(), CaseFault> {
+    let range = m.heap().object_range(word)?;
+    write!(out, "{}..{}", range.start, range.end)?;
+    Ok(())
+}
+
+/// Writes bytes of an object.
+fn show_raw<H: GcHeap, W: Write + Drop>(
+    m: &Mutator<H>,
+    root: u64,
+    part: Range<usize>,
+    out: &mut W,
+) -> Result<(), CaseFault> {
+    let range = m.heap().object_range(&root_of(m, root)?)?;
+    let object = m.heap().heap_slice().get(range).ok_or(CaseFault::BadCase)?;
+    match object.get(part) {
+        Some(bytes) => show_bytes(bytes, out),
+        None => {
+            write!(out, "outside")?;
+            Ok(())
+        }
+    }
+}
+
+/// Writes whether two paths lead to one word.
+fn compare<H: GcHeap, W: Write + Drop>(
+    m: &Mutator<H>,
+    left: &[u64],
+    right: &[u64],
+    out: &mut W,
+) -> Result<(), CaseFault> {
     let same = follow(m, left)? == follow(m, right)?;
     write!(out, "{}", if same { "one" } else { "two" })?;
     Ok(())
@@ -149,8 +180,13 @@ fn show_refused<H: GcHeap, W: Write + Drop>(
         m.heap().array_len(&array).is_err(),
         m.heap().externref_host_data(&external).is_err(),
     ];
-    for is_refused in refused {
-        write!(out, "{}", if is_refused { "x" } else { "-" })?;
+    show_marks(&refused, out)
+}
+
+/// Writes an x for what is so, and a dash for what isn't.
+pub(crate) fn show_marks<W: Write + Drop>(marks: &[bool], out: &mut W) -> Result<(), CaseFault> {
+    for is_so in marks {
+        write!(out, "{}", if *is_so { "x" } else { "-" })?;
     }
     Ok(())
 }

@@ -19,42 +19,77 @@
 //!   lead to one word;
 //! - `refused WORD` tells which of six reads refuse a word, by an x: those of the header, the size, the
 //!   place, the data, an array's length, and a host value;
+//! - `is ROOT` tells by an x what a word is: a struct, an array, an exception, an external object, an external and an any reference, and of
+//!   type 3; what it gives: a header, a reference to each of these kinds, and one of type 3; and into which of the last five it turns;
 //! - `scopes SPARE BYTES` is a client's scope in a new heap, and another one after its memory was taken away:
 //!   where a struct and an array lay that were given back, the spare bits of a header that was set, what there
 //!   was, the bytes that a struct of so many bytes wanted, and those of the memory;
 //! - `collections TYPE` is what a client's three collections keep of two objects in a new heap: whether the
 //!   first, which is dropped after one increment, had more to do, and the type and size of the first object;
-//! - `half N` is what a copying heap takes of so many bytes, `kinds` the kind of each collector.
+//! - `half N` is what a copying heap takes of so many bytes, `kinds` the kind of each collector, and `unchecked WORD`
+//!   the words that are given without a look at an object.
 //!
 //! The types are in `types.rt`. What must be printed, in `stdout`, was worked out by hand from the layouts
 //! in docs/FORMATS.md and the rules of the heaps in docs/DEFINITIONS.md.
 #![tactic(auto)]
 
+mod case;
+mod does;
 mod fault;
 mod heaps;
+mod kinds;
 mod looks;
 mod paths;
 mod steps;
 mod types;
 
+use crate::case::case_of;
 use crate::fault::CaseFault;
 use crate::heaps::Heaps;
+use std::alloc::Global;
 use std::io;
 use std::io::{BufWriter, Write};
+
+/// Prints each case of a text with its answer.
+fn answer_cases<W: Write + Drop>(alloc: Global, text: &str, out: &mut W) -> Result<(), CaseFault> {
+    let mut heaps = Heaps::new(alloc, 1)?;
+    answer_lines(alloc, &mut heaps, text, out)
+}
+
+/// Prints each case of a text with what the heaps answer.
+fn answer_lines<W: Write + Drop>(
+    alloc: Global,
+    heaps: &mut Heaps,
+    text: &str,
+    out: &mut W,
+) -> Result<(), CaseFault> {
+    for line in text.lines() {
+        if !line.is_empty() && !line.starts_with("//") {
+            answer_case(alloc, heaps, line, out)?;
+        }
+    }
+    Ok(())
+}
+
+/// Prints a case with its answer.
+fn answer_case<W: Write + Drop>(
+    alloc: Global,
+    heaps: &mut Heaps,
+    line: &str,
+    out: &mut W,
+) -> Result<(), CaseFault> {
+    let case = case_of(alloc, line)?;
+    write!(out, "{line}: ")?;
+    heaps.answer(alloc, &case, out)?;
+    writeln!(out)?;
+    Ok(())
+}
 
 fn main(rt: HostRuntime) -> Result<(), CaseFault> {
     let alloc = rt.alloc();
     let text = io::read_to_string(alloc, rt.reader())?;
     let mut out = BufWriter::new(alloc, io::writer(&rt))?;
-    let mut heaps = Heaps::new(alloc, 1)?;
-    for line in text.lines() {
-        if line.is_empty() || line.starts_with("//") {
-            continue;
-        }
-        let words: Vec<&str> = line.split_whitespace().collect(alloc)?;
-        let answer = heaps.answer(alloc, words.as_slice())?;
-        writeln!(out, "{line}: {answer}")?;
-    }
+    answer_cases(alloc, text.as_str(), &mut out)?;
     out.flush()?;
     Ok(())
 }

@@ -1,5 +1,6 @@
 //! Words of a heap: where a path leads, and what lies there.
 
+use crate::case::low_u32;
 use crate::fault::CaseFault;
 use gc_heap::{GcHeap, RefKinds};
 use gc_mutator::Mutator;
@@ -7,8 +8,8 @@ use gc_refs::{VMArrayRef, VMExternRef, VMGcRef};
 use std::io::Write;
 
 /// The word of a root.
-pub(crate) fn root_of<H: GcHeap>(m: &Mutator<H>, root: &str) -> Result<VMGcRef, CaseFault> {
-    m.root(root.parse()?).ok_or(CaseFault::BadCase)
+pub(crate) fn root_of<H: GcHeap>(m: &Mutator<H>, root: u64) -> Result<VMGcRef, CaseFault> {
+    m.root(root as usize).ok_or(CaseFault::BadCase)
 }
 
 /// The offset of a word of an object's data: of an array's elements, or of the data of another object,
@@ -36,14 +37,14 @@ pub(crate) fn number_at<H: GcHeap>(
 /// lies on the way.
 pub(crate) fn follow<H: GcHeap>(
     m: &Mutator<H>,
-    path: &[&str],
+    path: &[u64],
 ) -> Result<Option<VMGcRef>, CaseFault> {
     let [root, indexes @ ..] = path else {
         return Err(CaseFault::BadCase);
     };
-    let mut word = root_of(m, root)?;
+    let mut word = root_of(m, *root)?;
     for index in indexes {
-        let number = number_at(m, &word, index.parse()?)?;
+        let number = number_at(m, &word, low_u32(*index))?;
         match VMGcRef::from_raw_u32(number) {
             Some(next) => word = next,
             None => return Ok(None),
@@ -62,21 +63,40 @@ pub(crate) fn show_word<H: GcHeap, W: Write + Drop>(
         write!(out, "number {}", i31.get_u32())?;
         return Ok(());
     }
-    let header = m.heap().header(&word)?;
-    let ty = header.type_index().as_u32();
+    let ty = m.heap().header(&word)?.type_index().as_u32();
     if word.is_arrayref(m.heap()) {
-        let length = m.heap().array_len(&VMArrayRef::new_unchecked(word))?;
-        write!(out, "array of type {ty}, length {length}")?;
+        show_array(m, word, ty, out)
     } else if word.is_externref(m.heap()) {
-        let value = m.host(word.unchecked_copy());
-        let id = m
-            .heap()
-            .externref_host_data(&VMExternRef::new_unchecked(word))?;
-        write!(out, "external object {}, {value:?}", id.into_raw())?;
-    } else if word.is_exnref(m.heap()) {
-        write!(out, "exception of type {ty}")?;
+        show_external(m, word, out)
     } else {
-        write!(out, "struct of type {ty}")?;
+        let is_exception = word.is_exnref(m.heap());
+        let kind = if is_exception { "exception" } else { "struct" };
+        write!(out, "{kind} of type {ty}")?;
+        Ok(())
     }
+}
+
+/// Writes the type and the length of an array.
+fn show_array<H: GcHeap, W: Write + Drop>(
+    m: &Mutator<H>,
+    word: VMGcRef,
+    ty: u32,
+    out: &mut W,
+) -> Result<(), CaseFault> {
+    let length = m.heap().array_len(&VMArrayRef::new_unchecked(word))?;
+    write!(out, "array of type {ty}, length {length}")?;
+    Ok(())
+}
+
+/// Writes the id of an external object, and its host value.
+fn show_external<H: GcHeap, W: Write + Drop>(
+    m: &Mutator<H>,
+    word: VMGcRef,
+    out: &mut W,
+) -> Result<(), CaseFault> {
+    let value = m.host(word.unchecked_copy());
+    let external = VMExternRef::new_unchecked(word);
+    let id = m.heap().externref_host_data(&external)?.into_raw();
+    write!(out, "external object {id}, {value:?}")?;
     Ok(())
 }

@@ -1,11 +1,17 @@
 //! The declared types, by their names.
 
 use crate::fault::CaseFault;
-use gc_types::{
-    FieldType, HeapType, Mutability, RefType, StorageType, TypeFault, Types, VMSharedTypeIndex,
-    ValType,
-};
+use gc_types::{FieldType, HeapType, Mutability, RefType, StorageType, Types, ValType};
 use std::alloc::Global;
+
+/// The indexes of the types that the program itself names.
+pub(crate) const CELL: u32 = 0;
+
+pub(crate) const TRIPLE: u32 = 2;
+
+pub(crate) const REFERENCES: u32 = 4;
+
+pub(crate) const NUMBERS: u32 = 5;
 
 /// A mutable field.
 fn mutable(element_type: StorageType) -> FieldType {
@@ -56,22 +62,21 @@ pub(crate) fn declare(alloc: Global) -> Result<Types, CaseFault> {
     Ok(types)
 }
 
-/// The type of that name.
-pub(crate) fn type_named(name: &str) -> Result<VMSharedTypeIndex, CaseFault> {
-    let index = match name {
-        "cell" => 0,
-        "pair" => 1,
-        "triple" => 2,
-        "exception" => 3,
-        "references" => 4,
-        "numbers" => 5,
-        "bytes" => 6,
-        "spread0" => 7,
-        "spread3" => 8,
-        "spread22" => 9,
-        "spread23" => 10,
-        "thirty" => 11,
-        _ => return Err(CaseFault::BadCase),
-    };
-    Ok(VMSharedTypeIndex::new(index))
+/// The index of the type of that name.
+pub(crate) fn type_named(name: &str) -> Option<u32> {
+    match name {
+        "cell" => Some(CELL),
+        "pair" => Some(1),
+        "triple" => Some(TRIPLE),
+        "exception" => Some(3),
+        "references" => Some(REFERENCES),
+        "numbers" => Some(NUMBERS),
+        "bytes" => Some(6),
+        "spread0" => Some(7),
+        "spread3" => Some(8),
+        "spread22" => Some(9),
+        "spread23" => Some(10),
+        "thirty" => Some(11),
+        _ => None,
+    }
 }

@@ -1,9 +1,0 @@
-use Rattle.gc_types.specs.declared.kind.Layouts.TheVariants.{Null}
-use Rattle.gc_heap.specs.Collection.{has_host}
-use Rattle.gc_heap.proofs.ClientLemmas.{can_collect_empty}
-use Rattle.gc_heap.proofs.kinds_tests.keeps_a_number.Goals as goal
-
-pub keep_number-requires-clause-can : goal.keep_number-requires-clause-can
-keep_number-requires-clause-can g c =
-    rw (c.requires.null, c.in_ok-attach_first.ensures.empty, c.reserve.ensures.roots, c.new-roots.ensures)
-    (can_collect_empty Null c.declare_struct.new.self.declarations 65536 (has_host c.new-hosts.result.entries))

@@ -1,0 +1,48 @@
+//! Reads a case.
+
+use crate::does::{Does, does_of};
+use crate::fault::CaseFault;
+use crate::types::type_named;
+use std::alloc::Global;
+
+/// A case: what it does, and its numbers, a type's index among them. Those behind the word `and` stand apart.
+#[derive(Drop)]
+pub(crate) struct Case {
+    pub(crate) does: Does,
+    pub(crate) numbers: Vec<u64>,
+    pub(crate) others: Vec<u64>,
+}
+
+/// The case of a line.
+pub(crate) fn case_of(alloc: Global, line: &str) -> Result<Case, CaseFault> {
+    let (word, rest) = line.split_once(' ').unwrap_or((line, ""));
+    let does = does_of(word).ok_or(CaseFault::BadCase)?;
+    let (front, behind) = rest.split_once(" and ").unwrap_or((rest, ""));
+    Ok(Case {
+        does,
+        numbers: numbers_of(alloc, front)?,
+        others: numbers_of(alloc, behind)?,
+    })
+}
+
+/// The numbers that the words of a text are.
+fn numbers_of(alloc: Global, text: &str) -> Result<Vec<u64>, CaseFault> {
+    let mut numbers = Vec::new(alloc);
+    for word in text.split_whitespace() {
+        numbers.push(number_of(word)?)?;
+    }
+    Ok(numbers)
+}
+
+/// The number that a word is, or the index of the type that it names.
+fn number_of(word: &str) -> Result<u64, CaseFault> {
+    match type_named(word) {
+        Some(ty) => Ok(ty as u64),
+        None => Ok(word.parse()?),
+    }
+}
+
+/// The low 32 bits of a number.
+pub(crate) fn low_u32(number: u64) -> u32 {
+    (number % 0x1_0000_0000) as u32
+}

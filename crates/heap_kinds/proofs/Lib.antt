@@ -1,0 +1,2 @@
+mod BarrierRuns
+mod GraphLemmas

@@ -1,0 +1,106 @@
+//! Barriers in an order that a program seldom takes, and the collections behind them.
+
+ghost use Rattle.std.specs.Prelude.{ℕ, Bool, true, false, ◌≡◌, ◌≤◌, Some, List, [], ◌∷◌, IfOk};
+ghost use Rattle.gc_types.specs.declared.kind.Layouts.TheVariants.{Counting};
+ghost use Rattle.gc_types.specs.Declarations.{Declaration};
+ghost use Rattle.gc_types.specs.Layouts.{layout_at};
+ghost use Rattle.gc_roots.specs.Roots.{root};
+ghost use Rattle.gc_view.specs.Heaps.{detached_in};
+ghost use Rattle.gc_heap.specs.Collection.{CanCollect};
+
+use crate::counted::make_struct;
+use crate::fault::KindFault;
+use crate::numbers::attach_counting;
+use gc_drc::DrcHeap;
+use gc_heap::collect::run;
+use gc_heap::{GcHeap, GcStoreTraceState};
+use gc_refs::VMGcRef;
+use gc_roots::{GcRootsList, RootPlace};
+use gc_tables::ExternRefHostDataTable;
+use gc_types::{GcStructLayout, Layouts, Types, VMSharedTypeIndex};
+use std::alloc::Global;
+use std::io::Write;
+
+/// The lowest byte of the count word of an object, and the heap's own three bits.
+type OwnWords = Option<(u8, u8)>;
+
+fn own_words<H: GcHeap>(heap: &H, word: &VMGcRef) -> OwnWords
+    requires { H.sound heap.now }
+{
+    let place = word.as_raw_u32() as usize;
+    let bytes = heap.heap_slice();
+    let count = *bytes.get(place + 8)?;
+    let kind = *bytes.get(place)?;
+    Some((count, kind % 8))
+}
+
+/// Makes a struct whose one word is given up, copied again, and shown to a frame slot: it is queued
+/// and shown then.
+fn show_queued<H: GcHeap>(
+    heap: &mut H,
+    ty: VMSharedTypeIndex,
+    layout: &GcStructLayout,
+) -> Result<VMGcRef, KindFault>
+    requires counting { H.KIND ≡ Layouts.Counting }
+    requires sound { H.sound heap.old }
+    requires attached { (H.seen heap.old).attached ≡ true }
+    requires plain { layout.now.is_exception ≡ false }
+    requires size { 28 ≤ layout.now.size }
+    ensures sound { H.sound heap.new }
+    ensures can { IfOk result (λ (word : ℕ). (types : List Declaration) (hosts : ℕ → Bool) → layout_at Counting types ty ≡ Some layout.now
+        → CanCollect Counting (record { heap = H.seen heap.old; roots = []; types = types; hosts = hosts })
+        → CanCollect Counting (record { heap = H.seen heap.new; roots = root 0 true word ∷ []; types = types; hosts = hosts })) }
+{
+    let object = make_struct(heap, ty, layout)?;
+    let word = object.unchecked_copy();
+    heap.drop_gc_ref(object);
+    let copy = heap.clone_gc_ref(&word);
+    heap.expose_gc_ref_to_wasm(copy);
+    Ok(word)
+}
+
+/// Collects twice: while a frame slot holds an object that was queued before it was shown, and when
+/// the slot was left. Tells the object's own words before and after the first collection, and how many
+/// objects and bytes are left by the second.
+fn collects_a_shown_one<H: GcHeap>(
+    heap: &mut H,
+    alloc: Global,
+) -> Result<(OwnWords, OwnWords, u64, usize), KindFault>
+    requires counting { H.KIND ≡ Layouts.Counting }
+    requires sound { H.sound heap.old }
+    requires detached { H.seen heap.old ≡ detached_in 0 }
+    ensures sound { H.sound heap.new }
+{
+    attach_counting(heap, alloc)?;
+    let mut types = Types::new(alloc, 1, 1);
+    let ty = types.declare_struct(&[], None, true)?.index();
+    let layout = types
+        .struct_layout(Layouts::Counting, ty)
+        .ok_or(KindFault::Unmet("no layout"))?;
+    let word = show_queued(heap, ty, layout)?;
+    let queued = own_words(heap, &word);
+    let mut roots = GcRootsList::new(alloc);
+    roots.reserve(1)?;
+    roots.add_wasm_stack_root(RootPlace { number: 0 }, word.unchecked_copy());
+    let mut hosts: ExternRefHostDataTable<u8> = ExternRefHostDataTable::new(alloc);
+    let mut trace = GcStoreTraceState {
+        host_data_table: &mut hosts,
+        types: &types,
+    };
+    run(heap, &mut roots, &mut trace);
+    let shown = own_words(heap, &word);
+    roots.clear();
+    run(heap, &mut roots, &mut trace);
+    Ok((queued, shown, heap.object_count(), heap.allocated_bytes()))
+}
+
+/// Writes what these collections did. The words are the lowest byte of the count word and the heap's own bits.
+pub(crate) fn show_shown<W: Write + Drop>(alloc: Global, out: &mut W) -> Result<(), KindFault> {
+    let mut heap = DrcHeap::new(alloc);
+    let (queued, shown, objects, bytes) = collects_a_shown_one(&mut heap, alloc)?;
+    writeln!(
+        out,
+        "queued and shown: {queued:?}, then {shown:?}, {objects} objects, {bytes} bytes"
+    )?;
+    Ok(())
+}

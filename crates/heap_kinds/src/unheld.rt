@@ -1,0 +1,102 @@
+//! The first two increments of a collection, which free by counts alone, and the third.
+
+ghost use Rattle.std.specs.Prelude.{ℕ, Bool, true, false, ◌≡◌, Some, List, [], OnOk, IfOk};
+ghost use Rattle.gc_types.specs.declared.types.Types.{Types};
+ghost use Rattle.gc_types.specs.declared.kind.Layouts.TheVariants.{Counting};
+ghost use Rattle.gc_types.specs.Declarations.{Declaration};
+ghost use Rattle.gc_types.specs.Layouts.{layout_at};
+ghost use Rattle.gc_view.specs.Heaps.{detached_in};
+ghost use Rattle.gc_heap.specs.Collection.{CanCollect};
+ghost use Rattle.gc_drc.specs.States.{IsDrcSound, drc_seen};
+
+use crate::counted::{make_cycle, make_struct};
+use crate::fault::KindFault;
+use crate::numbers::attach_counting;
+use gc_drc::DrcHeap;
+use gc_heap::{GcHeap, GcProgress, GcStoreTraceState};
+use gc_roots::GcRootsList;
+use gc_tables::ExternRefHostDataTable;
+use gc_types::{
+    FieldType, GcStructLayout, HeapType, Layouts, Mutability, RefType, StorageType, Types,
+    VMSharedTypeIndex, ValType,
+};
+use std::alloc::Global;
+use std::io::Write;
+
+/// Makes a struct whose references are null, and gives its one word up.
+fn drop_struct<H: GcHeap>(
+    heap: &mut H,
+    ty: VMSharedTypeIndex,
+    layout: &GcStructLayout,
+) -> Result<(), KindFault>
+    requires counting { H.KIND ≡ Layouts.Counting }
+    requires sound { H.sound heap.old }
+    requires attached { (H.seen heap.old).attached ≡ true }
+    requires plain { layout.now.is_exception ≡ false }
+    requires size { layout.now.size ≡ 32 }
+    ensures sound { H.sound heap.new }
+    ensures can { OnOk result ((types : List Declaration) (hosts : ℕ → Bool) → layout_at Counting types ty ≡ Some layout.now
+        → CanCollect Counting (record { heap = H.seen heap.old; roots = []; types = types; hosts = hosts })
+        → CanCollect Counting (record { heap = H.seen heap.new; roots = []; types = types; hosts = hosts })) }
+{
+    let object = make_struct(heap, ty, layout)?;
+    heap.drop_gc_ref(object);
+    Ok(())
+}
+
+/// Makes a struct that names itself and a struct that nothing names. Gives the types.
+fn make_garbage<H: GcHeap>(heap: &mut H, alloc: Global) -> Result<Types, KindFault>
+    requires counting { H.KIND ≡ Layouts.Counting }
+    requires sound { H.sound heap.old }
+    requires detached { H.seen heap.old ≡ detached_in 0 }
+    ensures sound { H.sound heap.new }
+    ensures can { IfOk result (λ (types : Types). (hosts : ℕ → Bool)
+        → CanCollect Counting (record { heap = H.seen heap.new; roots = []; types = types.declarations; hosts = hosts })) }
+{
+    attach_counting(heap, alloc)?;
+    let mut types = Types::new(alloc, 1, 1);
+    let field = FieldType {
+        mutability: Mutability::Var,
+        element_type: StorageType::ValType(ValType::Ref(RefType {
+            nullable: true,
+            heap_type: HeapType::Any,
+        })),
+    };
+    let ty = types.declare_struct(&[field], None, true)?.index();
+    let layout = types
+        .struct_layout(Layouts::Counting, ty)
+        .ok_or(KindFault::Unmet("no layout"))?;
+    make_cycle(heap, ty, layout)?;
+    drop_struct(heap, ty, layout)?;
+    Ok(types)
+}
+
+/// Collects a struct that nothing names and one that names itself. Tells how many objects are left
+/// after two increments, and at the end.
+fn frees_by_counts_first(heap: &mut DrcHeap, alloc: Global) -> Result<(u64, u64), KindFault>
+    requires sound { IsDrcSound heap.old }
+    requires detached { drc_seen heap.old ≡ detached_in 0 }
+{
+    let types = make_garbage(heap, alloc)?;
+    let mut roots = GcRootsList::new(alloc);
+    let mut hosts: ExternRefHostDataTable<u8> = ExternRefHostDataTable::new(alloc);
+    let mut trace = GcStoreTraceState {
+        host_data_table: &mut hosts,
+        types: &types,
+    };
+    let mut state = heap.begin();
+    heap.free_unheld(&mut state, &roots, &mut trace);
+    let by_counts = heap.object_count();
+    match heap.step(&mut state, &mut roots, &mut trace) {
+        GcProgress::Continue => Err(KindFault::Unmet("a fourth increment")),
+        GcProgress::Complete => Ok((by_counts, heap.object_count())),
+    }
+}
+
+/// Writes how many objects are left after two increments, and at the end.
+pub(crate) fn show_unheld<W: Write + Drop>(alloc: Global, out: &mut W) -> Result<(), KindFault> {
+    let mut heap = DrcHeap::new(alloc);
+    let (by_counts, at_end) = frees_by_counts_first(&mut heap, alloc)?;
+    writeln!(out, "by counts alone: {by_counts} objects, then {at_end}")?;
+    Ok(())
+}
