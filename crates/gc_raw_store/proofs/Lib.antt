@@ -1,0 +1,3 @@
+pub mod GiveLemmas
+mod PairLemmas
+pub mod StoreLemmas

@@ -1,0 +1,85 @@
+//! Each barrier on an object.
+
+ghost use Rattle.raw_store_runs.specs.Names.{HasNames};
+
+use crate::fault::RunFault;
+use crate::making::{make_array, make_exception, make_struct};
+use crate::named::Named;
+use crate::showing::show_count;
+use gc_heap::GcHeap;
+use gc_raw_store::{GcStore, RefBarriers};
+use gc_refs::{TypedGcRef, VMGcHeader, VMGcRef};
+
+/// Copies a reference and gives the copy up.
+pub(crate) fn copy_and_drop<H: GcHeap, R: RefBarriers>(store: &mut GcStore<H, u32>, r: &R)
+    requires { HasNames store.old.heap (R.word r.now) 1 }
+    ensures { HasNames store.new.heap (R.word r.now) 1 }
+{
+    let copy = RefBarriers::clone(r, store);
+    RefBarriers::drop(copy, store)
+}
+
+/// Makes a struct, copies its word, puts a copy into a slot and null over it, gives the copy up, and shows the
+/// struct.
+fn run_words<H: GcHeap>(
+    rt: &impl Print,
+    store: &mut GcStore<H, u32>,
+    named: &Named,
+) -> Result<(), RunFault> {
+    let made = VMGcRef::from(make_struct(store, named)?);
+    show_count(rt, store, "made", &made)?;
+    let copy = store.clone_gc_ref(&made);
+    show_count(rt, store, "cloned", &made)?;
+    let mut slot = None;
+    store.init_gc_ref(&mut slot, Some(&copy));
+    show_count(rt, store, "put into a slot", &made)?;
+    store.write_gc_ref(&mut slot, None);
+    show_count(rt, store, "overwritten by null", &made)?;
+    store.drop_gc_ref(copy);
+    show_count(rt, store, "dropped", &made)?;
+    let word = store.expose_gc_ref_to_wasm(made.unchecked_copy());
+    show_count(rt, store, "shown", &made)?;
+    let same = word.get() == made.as_raw_u32();
+    println!(rt; "  shown as the same word: {same}")?;
+    Ok(())
+}
+
+/// Copies a reference of each type and gives the copy up.
+fn run_types<H: GcHeap>(
+    rt: &impl Print,
+    store: &mut GcStore<H, u32>,
+    named: &Named,
+) -> Result<(), RunFault> {
+    let pair = make_struct(store, named)?;
+    copy_and_drop(store, &pair);
+    show_count(rt, store, "a struct copied and dropped", pair.as_gc_ref())?;
+    let typed: TypedGcRef<VMGcHeader> = TypedGcRef::new_unchecked(VMGcRef::from(pair));
+    copy_and_drop(store, &typed);
+    show_count(
+        rt,
+        store,
+        "a typed reference copied and dropped",
+        typed.as_untyped(),
+    )?;
+    let bytes = make_array(store, named)?;
+    copy_and_drop(store, &bytes);
+    show_count(rt, store, "an array copied and dropped", bytes.as_gc_ref())?;
+    let exception = make_exception(store, named)?;
+    copy_and_drop(store, &exception);
+    show_count(
+        rt,
+        store,
+        "an exception copied and dropped",
+        exception.as_gc_ref(),
+    )
+}
+
+/// Runs each barrier on an object.
+pub(crate) fn run_barriers<H: GcHeap>(
+    rt: &impl Print,
+    store: &mut GcStore<H, u32>,
+    named: &Named,
+) -> Result<(), RunFault> {
+    run_words(rt, store, named)?;
+    run_types(rt, store, named)
+}
