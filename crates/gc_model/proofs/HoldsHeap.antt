@@ -11,7 +11,7 @@ use Rattle.gc_view.specs.Pages.{page}
 use Rattle.gc_model.specs.Sizes.{next_after}
 use Rattle.gc_view.specs.Heaps.{HeapView}
 use Rattle.gc_model.specs.Stores.{StoreView}
-use Rattle.gc_model.specs.Holds.{Placing, Holds, KindHolds, ObjectsHold}
+use Rattle.gc_model.specs.Holds.{Placing, FunctionIds, naming, Holds, KindHolds, ObjectsHold}
 use Rattle.gc_model.proofs.HoldsParts.{objects-same, hosts-same, heap_changed}
 use Rattle.gc_model.proofs.Hosts.{hosts-none}
 
@@ -27,7 +27,7 @@ abbrev pub with_heap : {D : Type 0} → HeapView → StoreView D → StoreView D
 with_heap heap s = record s { heap = heap }
 
 -- nothing is placed where there are no objects
-pub nothing_placed : {D : Type 0} (layouts : Layouts) (t : Table D) (place : Placing) (heap : HeapView) → ObjectsHold layouts t place heap → t.objects ≡ [] → (position word : ℕ) → place position ≡ Some word → ⊥
+pub nothing_placed : {D : Type 0} (layouts : Layouts) (t : Table D) (place : Placing) {ids : FunctionIds} (heap : HeapView) → ObjectsHold layouts t (naming place ids) heap → t.objects ≡ [] → (position word : ℕ) → place position ≡ Some word → ⊥
 nothing_placed layouts t place heap objects none position word e =
     let held = objects.placed position word e in
     none-some held.entry (sym (ap (λ os. slice_get os position) none) ∙ held.in_table)
@@ -59,7 +59,6 @@ holds_heap layouts s t place heap unmade made holds =
     })
     (made_by_kind layouts t place heap t.first none made)
     (hosts-none t.objects place place s.heap.content heap.content s.hosts none holds.hosts)
-    holds.nothing_else
     holds.typed
 
 -- a heap with the same objects and so many pages
@@ -85,5 +84,4 @@ holds_pages layouts s t place heap pages grown holds =
     (objects-same layouts t place s.heap heap grown.content holds.objects)
     (grown_by_kind layouts t place s.heap heap pages grown holds.by_kind)
     (hosts-same t place s.heap heap s.hosts grown.content holds.hosts)
-    holds.nothing_else
     holds.typed

@@ -118,7 +118,7 @@ module _ {D : Type 0} (layouts : Layouts) (s : StoreView D) (t : Table D) (place
   abbrev changed : List (Object D)
   changed = change_at position (with_host_value w) t.objects
 
-  objects : ObjectsHold layouts (set_host position w t) place s.heap
+  objects : ObjectsHold layouts (set_host position w t) (naming place s.funcs) s.heap
   objects = record {
     placed = λ p word e.
         let held = holds.objects.placed p word e in
@@ -128,7 +128,7 @@ module _ {D : Type 0} (layouts : Layouts) (s : StoreView D) (t : Table D) (place
             entry = with_host_value w held.entry;
             in_heap = held.in_heap;
             in_table = ap (slice_get changed) same ∙ slice_get-change_at_same position (with_host_value w) t.objects held.entry (ap (slice_get t.objects) (sym same) ∙ held.in_table);
-            stands = stands_alike layouts t.types (naming place t.funcs) w held.entry held.object held.stands;
+            stands = stands_alike layouts t.types (naming place s.funcs) w held.entry held.object held.stands;
           }
           | inr differ ↦ record {
             object = held.object;
@@ -232,6 +232,5 @@ module _ {D : Type 0} (layouts : Layouts) (s : StoreView D) (t : Table D) (place
       objects
       (by_kind layouts holds.by_kind)
       hosts
-      holds.nothing_else
       (typed-alike t.types t.objects position w d is.in_table holds.typed))
       (thrown-beside place t.objects position w t.pending s.pending holds.pending)

@@ -9,7 +9,7 @@ use Rattle.gc_types.specs.declared.kind.Layouts.{Layouts}
 use Rattle.gc_types.specs.declared.kind.Layouts.TheVariants.{Null, Counting, Copying}
 use Rattle.gc_types.specs.Layouts.{round_up}
 use Rattle.gc_model.specs.Values.{at, Object, host}
-use Rattle.gc_model.specs.Table.{Table, make, add_object}
+use Rattle.gc_model.specs.Table.{Table, add_rooted, add_object}
 use Rattle.gc_model.specs.Live.{roots_full}
 use Rattle.gc_model.specs.Reach.{IsHost}
 use Rattle.gc_view.specs.Sizes.{alignment}
@@ -17,7 +17,7 @@ use Rattle.gc_model.specs.Sizes.{object_size}
 use Rattle.gc_view.specs.Heaps.{HeapView, HeapObject}
 use Rattle.gc_model.specs.Stores.{StoreView}
 pub use Rattle.gc_model.specs.Words.{placed_at}
-use Rattle.gc_model.specs.Holds.{Placing, naming, Holds, KindHolds, HeldAt, HostStands, HostsBy, Stands}
+use Rattle.gc_model.specs.Holds.{Placing, Names, naming, Holds, KindHolds, HeldAt, HostStands, HostsBy, Stands}
 use Rattle.gc_model.proofs.Lists.{slice_get-push_old, slice_get-push_new}
 use Rattle.gc_model.proofs.Types.{next_after-push}
 use Rattle.gc_model.proofs.Typing.{IsTypedObject, typed-made}
@@ -38,9 +38,9 @@ placed_at-cases : (place : Placing) (n word position w : ℕ) → placed_at plac
 placed_at-cases place n word position w e = grind (arith, common_steps)
 
 -- What an allocation and its writes left: one more object, which stands for the new one.
-pub record IsMadeObject {D : Type 0} (layouts : Layouts) (t : Table D) (place : Placing) (o : Object D) (old new : HeapView) (word : ℕ) : Type 0 where
+pub record IsMadeObject {D : Type 0} (layouts : Layouts) (t : Table D) (names : Names) (o : Object D) (old new : HeapView) (word : ℕ) : Type 0 where
   pub object : HeapObject
-  pub stands : Stands layouts t.types (naming place t.funcs) o object
+  pub stands : Stands layouts t.types names o object
   pub typed : IsTypedObject t.types t.objects o
   pub free : get old.content word ≡ None
   pub is_even : word % 2 ≡ 0
@@ -51,7 +51,7 @@ pub record IsMadeObject {D : Type 0} (layouts : Layouts) (t : Table D) (place : 
   pub capacity : new.capacity ≡ old.capacity
   pub allocated : layouts ≡ Null → new.allocated + 1 ≡ round_up (old.allocated + 1) alignment + object_size Null t.types o
 
-module _ {D : Type 0} (layouts : Layouts) (s : StoreView D) (t : Table D) (place : Placing) (o : Object D) (heap : HeapView) (word : ℕ) (holds : Holds layouts s t place) (made : IsMadeObject layouts t place o s.heap heap word) where
+module _ {D : Type 0} (layouts : Layouts) (s : StoreView D) (t : Table D) (place : Placing) (o : Object D) (heap : HeapView) (word : ℕ) (holds : Holds layouts s t place) (made : IsMadeObject layouts t (naming place s.funcs) o s.heap heap word) where
   abbrev place' : Placing
   place' = placed_at place (length t.objects) word
 
@@ -65,11 +65,11 @@ module _ {D : Type 0} (layouts : Layouts) (s : StoreView D) (t : Table D) (place
       let ne : position ≢ length t.objects = λ same. absurd (omega arith) in
       placed_at-old place (length t.objects) word position ne ∙ e
 
-  names_within : AreWithin (naming place t.funcs) (naming place' t.funcs)
-  names_within = placed_within place place' t.funcs within
+  names_within : AreWithin (naming place s.funcs) (naming place' s.funcs)
+  names_within = placed_within place place' s.funcs within
 
   -- an object that was held is held where it was
-  held_old : (position w : ℕ) → place position ≡ Some w → HeldAt layouts (add_object o t) place' heap.content position w
+  held_old : (position w : ℕ) → place position ≡ Some w → HeldAt layouts (add_object o t) (naming place' s.funcs) heap.content position w
   held_old position w e =
       let held = holds.objects.placed position w e in
       let ne : w ≢ word = λ same. none-some held.object (sym made.free ∙ ap (get s.heap.content) (sym same) ∙ held.in_heap) in
@@ -78,22 +78,22 @@ module _ {D : Type 0} (layouts : Layouts) (s : StoreView D) (t : Table D) (place
         entry = held.entry;
         in_heap = made.others w ne ∙ held.in_heap;
         in_table = slice_get-push_old t.objects o position held.entry held.in_table;
-        stands = stands-more (naming place t.funcs) (naming place' t.funcs) names_within layouts t.types held.entry held.object held.stands;
+        stands = stands-more (naming place s.funcs) (naming place' s.funcs) names_within layouts t.types held.entry held.object held.stands;
       }
 
-  held_new : HeldAt layouts (add_object o t) place' heap.content (length t.objects) word
+  held_new : HeldAt layouts (add_object o t) (naming place' s.funcs) heap.content (length t.objects) word
   held_new = record {
     object = made.object;
     entry = o;
     in_heap = made.here;
     in_table = slice_get-push_new t.objects o;
-    stands = stands-more (naming place t.funcs) (naming place' t.funcs) names_within layouts t.types o made.object made.stands;
+    stands = stands-more (naming place s.funcs) (naming place' s.funcs) names_within layouts t.types o made.object made.stands;
   }
 
-  held : (position w : ℕ) → place' position ≡ Some w → HeldAt layouts (add_object o t) place' heap.content position w
+  held : (position w : ℕ) → place' position ≡ Some w → HeldAt layouts (add_object o t) (naming place' s.funcs) heap.content position w
   held position w e =
       elim (placed_at-cases place (length t.objects) word position w e) [
-        | inl new ↦ subst (λ (p : ℕ). HeldAt layouts (add_object o t) place' heap.content p w) (sym new.0) (subst (λ (q : ℕ). HeldAt layouts (add_object o t) place' heap.content (length t.objects) q) new.1 held_new)
+        | inl new ↦ subst (λ (p : ℕ). HeldAt layouts (add_object o t) (naming place' s.funcs) heap.content p w) (sym new.0) (subst (λ (q : ℕ). HeldAt layouts (add_object o t) (naming place' s.funcs) heap.content (length t.objects) q) new.1 held_new)
         | inr old ↦ held_old position w old.1
       ]
 
@@ -193,20 +193,19 @@ module _ {D : Type 0} (layouts : Layouts) (s : StoreView D) (t : Table D) (place
       (owned-more place place' within t.owns s.owns t.owned s.owned holds.owned)
       (thrown-more place place' within t.objects o t.pending s.pending holds.pending)
       kept
-      holds.nothing_else
       (typed-made t.types t.objects holds.typed o made.typed)
 
   pub holds_add : ¬ IsHost (Some o) → t.made ≡ true → Holds layouts (record s { heap = heap }) (add_object o t) place'
   holds_add not_host is_made = holds_with s.hosts (hosts_kept not_host) is_made
 
   -- the store holds the table with the object, and a new root that names it
-  pub holds_make : ¬ IsHost (Some o) → t.made ≡ true → roots_full t ≡ false → Holds layouts (with_root heap word s) (make o t) place'
+  pub holds_make : ¬ IsHost (Some o) → t.made ≡ true → roots_full t ≡ false → Holds layouts (with_root heap word s) (add_rooted o t) place'
   holds_make not_host is_made room =
       holds_push layouts (record s { heap = heap }) (add_object o t) place' (at (length t.objects)) heap word (holds_add not_host is_made) room
       (same_held-itself heap) (placed_at-new place (length t.objects) word) made.not_null
 
   pub holds_make_host : (d : D) → o ≡ host d → (id : ℕ) → HostStands id made.object → get s.hosts id ≡ None → t.made ≡ true → roots_full t ≡ false
-      → Holds layouts (with_root heap word (record s { hosts = insert s.hosts id d })) (make o t) place'
+      → Holds layouts (with_root heap word (record s { hosts = insert s.hosts id d })) (add_rooted o t) place'
   holds_make_host d is_host id stands fresh is_made room =
       holds_push layouts (record s { heap = heap; hosts = insert s.hosts id d }) (add_object o t) place' (at (length t.objects)) heap word (holds_with (insert s.hosts id d) (hosts_more d is_host id stands fresh) is_made) room
       (same_held-itself heap) (placed_at-new place (length t.objects) word) made.not_null

@@ -7,17 +7,17 @@ use Rattle.gc_model.specs.Table.{Table}
 pub use Rattle.gc_view.specs.Heaps.{SameHeld}
 use Rattle.gc_view.specs.Heaps.{HeapView, HeapObject}
 use Rattle.gc_model.specs.Stores.{StoreView}
-use Rattle.gc_model.specs.Holds.{Placing, naming, Points, Holds, KindHolds, KindBy, ObjectsHold, ObjectsBy, HostsHold, HostsBy, MemoryHolds}
+use Rattle.gc_model.specs.Holds.{Placing, FunctionIds, naming, Points, Holds, KindHolds, KindBy, ObjectsHold, ObjectsBy, HostsHold, HostsBy, MemoryHolds}
 
 pub same_held-itself : (heap : HeapView) → SameHeld heap heap
 same_held-itself heap = record { content = refl; attached = refl; capacity = refl; allocated = refl; needs_gc = refl }
 
 -- other facts at some points, and the same at all others
-module _ {Types Settings Memory Objects Kind Scopes Scoped Pushes Frames Globals Owned Pending Functions Hosts Nothing Typed : Type 0} (p : Points Types Settings Memory Objects Kind Scopes Scoped Pushes Frames Globals Owned Pending Functions Hosts Nothing Typed) where
+module _ {Types Settings Memory Objects Kind Scopes Scoped Pushes Frames Globals Owned Pending Functions Hosts Typed : Type 0} (p : Points Types Settings Memory Objects Kind Scopes Scoped Pushes Frames Globals Owned Pending Functions Hosts Typed) where
   -- at those on the heap
-  pub heap_changed : {Memory' Objects' Kind' Hosts' Nothing' Typed' : Type 0} → Memory' → Objects' → Kind' → Hosts' → Nothing' → Typed'
-      → Points Types Settings Memory' Objects' Kind' Scopes Scoped Pushes Frames Globals Owned Pending Functions Hosts' Nothing' Typed'
-  heap_changed memory objects kind hosts nothing_else typed = record {
+  pub heap_changed : {Memory' Objects' Kind' Hosts' Typed' : Type 0} → Memory' → Objects' → Kind' → Hosts' → Typed'
+      → Points Types Settings Memory' Objects' Kind' Scopes Scoped Pushes Frames Globals Owned Pending Functions Hosts' Typed'
+  heap_changed memory objects kind hosts typed = record {
     types = p.types;
     settings = p.settings;
     memory = memory;
@@ -32,12 +32,11 @@ module _ {Types Settings Memory Objects Kind Scopes Scoped Pushes Frames Globals
     pending = p.pending;
     funcs = p.funcs;
     hosts = hosts;
-    nothing_else = nothing_else;
     typed = typed;
   }
 
   -- at those on scoped roots
-  pub scoped_changed : {Scopes' Scoped' Pushes' : Type 0} → Scopes' → Scoped' → Pushes' → Points Types Settings Memory Objects Kind Scopes' Scoped' Pushes' Frames Globals Owned Pending Functions Hosts Nothing Typed
+  pub scoped_changed : {Scopes' Scoped' Pushes' : Type 0} → Scopes' → Scoped' → Pushes' → Points Types Settings Memory Objects Kind Scopes' Scoped' Pushes' Frames Globals Owned Pending Functions Hosts Typed
   scoped_changed scopes scoped pushes = record {
     types = p.types;
     settings = p.settings;
@@ -53,12 +52,11 @@ module _ {Types Settings Memory Objects Kind Scopes Scoped Pushes Frames Globals
     pending = p.pending;
     funcs = p.funcs;
     hosts = p.hosts;
-    nothing_else = p.nothing_else;
     typed = p.typed;
   }
 
   -- at those on types
-  pub types_changed : {Types' Objects' Kind' Typed' : Type 0} → Types' → Objects' → Kind' → Typed' → Points Types' Settings Memory Objects' Kind' Scopes Scoped Pushes Frames Globals Owned Pending Functions Hosts Nothing Typed'
+  pub types_changed : {Types' Objects' Kind' Typed' : Type 0} → Types' → Objects' → Kind' → Typed' → Points Types' Settings Memory Objects' Kind' Scopes Scoped Pushes Frames Globals Owned Pending Functions Hosts Typed'
   types_changed types objects kind typed = record {
     types = types;
     settings = p.settings;
@@ -74,12 +72,11 @@ module _ {Types Settings Memory Objects Kind Scopes Scoped Pushes Frames Globals
     pending = p.pending;
     funcs = p.funcs;
     hosts = p.hosts;
-    nothing_else = p.nothing_else;
     typed = typed;
   }
 
   -- at those on frames
-  pub frames_changed : {Frames' : Type 0} → Frames' → Points Types Settings Memory Objects Kind Scopes Scoped Pushes Frames' Globals Owned Pending Functions Hosts Nothing Typed
+  pub frames_changed : {Frames' : Type 0} → Frames' → Points Types Settings Memory Objects Kind Scopes Scoped Pushes Frames' Globals Owned Pending Functions Hosts Typed
   frames_changed frames = record {
     types = p.types;
     settings = p.settings;
@@ -95,12 +92,11 @@ module _ {Types Settings Memory Objects Kind Scopes Scoped Pushes Frames Globals
     pending = p.pending;
     funcs = p.funcs;
     hosts = p.hosts;
-    nothing_else = p.nothing_else;
     typed = p.typed;
   }
 
   -- at those on globals
-  pub globals_changed : {Globals' : Type 0} → Globals' → Points Types Settings Memory Objects Kind Scopes Scoped Pushes Frames Globals' Owned Pending Functions Hosts Nothing Typed
+  pub globals_changed : {Globals' : Type 0} → Globals' → Points Types Settings Memory Objects Kind Scopes Scoped Pushes Frames Globals' Owned Pending Functions Hosts Typed
   globals_changed globals = record {
     types = p.types;
     settings = p.settings;
@@ -116,12 +112,11 @@ module _ {Types Settings Memory Objects Kind Scopes Scoped Pushes Frames Globals
     pending = p.pending;
     funcs = p.funcs;
     hosts = p.hosts;
-    nothing_else = p.nothing_else;
     typed = p.typed;
   }
 
   -- at that on the pending exception
-  pub pending_changed : {Pending' : Type 0} → Pending' → Points Types Settings Memory Objects Kind Scopes Scoped Pushes Frames Globals Owned Pending' Functions Hosts Nothing Typed
+  pub pending_changed : {Pending' : Type 0} → Pending' → Points Types Settings Memory Objects Kind Scopes Scoped Pushes Frames Globals Owned Pending' Functions Hosts Typed
   pending_changed pending = record {
     types = p.types;
     settings = p.settings;
@@ -137,12 +132,11 @@ module _ {Types Settings Memory Objects Kind Scopes Scoped Pushes Frames Globals
     pending = pending;
     funcs = p.funcs;
     hosts = p.hosts;
-    nothing_else = p.nothing_else;
     typed = p.typed;
   }
 
   -- at that on owned roots
-  pub owned_changed : {Owned' : Type 0} → Owned' → Points Types Settings Memory Objects Kind Scopes Scoped Pushes Frames Globals Owned' Pending Functions Hosts Nothing Typed
+  pub owned_changed : {Owned' : Type 0} → Owned' → Points Types Settings Memory Objects Kind Scopes Scoped Pushes Frames Globals Owned' Pending Functions Hosts Typed
   owned_changed owned = record {
     types = p.types;
     settings = p.settings;
@@ -158,14 +152,13 @@ module _ {Types Settings Memory Objects Kind Scopes Scoped Pushes Frames Globals
     pending = p.pending;
     funcs = p.funcs;
     hosts = p.hosts;
-    nothing_else = p.nothing_else;
     typed = p.typed;
   }
 
   -- at those on what is placed
-  pub places_changed : {Memory' Objects' Kind' Scoped' Frames' Globals' Owned' Pending' Hosts' Nothing' Typed' : Type 0} → Memory' → Objects' → Kind' → Scoped' → Frames' → Globals' → Owned' → Pending' → Hosts' → Nothing' → Typed'
-      → Points Types Settings Memory' Objects' Kind' Scopes Scoped' Pushes Frames' Globals' Owned' Pending' Functions Hosts' Nothing' Typed'
-  places_changed memory objects kind scoped frames globals owned pending hosts nothing_else typed = record {
+  pub places_changed : {Memory' Objects' Kind' Scoped' Frames' Globals' Owned' Pending' Hosts' Typed' : Type 0} → Memory' → Objects' → Kind' → Scoped' → Frames' → Globals' → Owned' → Pending' → Hosts' → Typed'
+      → Points Types Settings Memory' Objects' Kind' Scopes Scoped' Pushes Frames' Globals' Owned' Pending' Functions Hosts' Typed'
+  places_changed memory objects kind scoped frames globals owned pending hosts typed = record {
     types = p.types;
     settings = p.settings;
     memory = memory;
@@ -180,13 +173,32 @@ module _ {Types Settings Memory Objects Kind Scopes Scoped Pushes Frames Globals
     pending = pending;
     funcs = p.funcs;
     hosts = hosts;
-    nothing_else = nothing_else;
     typed = typed;
   }
 
+  -- at those on function values
+  pub functions_changed : {Objects' Functions' : Type 0} → Objects' → Functions' → Points Types Settings Memory Objects' Kind Scopes Scoped Pushes Frames Globals Owned Pending Functions' Hosts Typed
+  functions_changed objects funcs = record {
+    types = p.types;
+    settings = p.settings;
+    memory = p.memory;
+    objects = objects;
+    by_kind = p.by_kind;
+    scopes = p.scopes;
+    scoped = p.scoped;
+    pushes = p.pushes;
+    frames = p.frames;
+    globals = p.globals;
+    owned = p.owned;
+    pending = p.pending;
+    funcs = funcs;
+    hosts = p.hosts;
+    typed = p.typed;
+  }
+
 -- the objects, in a heap with the same content
-pub objects-same : {D : Type 0} (layouts : Layouts) (t : Table D) (place : Placing) (old new : HeapView) → new.content ≡ old.content → ObjectsHold layouts t place old → ObjectsHold layouts t place new
-objects-same layouts t place old new same objects = subst (λ (m : FinMap nat_cmp HeapObject). ObjectsBy layouts t.types t.objects (naming place t.funcs) m) (sym same) objects
+pub objects-same : {D : Type 0} (layouts : Layouts) (t : Table D) (place : Placing) {ids : FunctionIds} (old new : HeapView) → new.content ≡ old.content → ObjectsHold layouts t (naming place ids) old → ObjectsHold layouts t (naming place ids) new
+objects-same layouts t place {ids} old new same objects = subst (λ (m : FinMap nat_cmp HeapObject). ObjectsBy layouts t.types t.objects (naming place ids) m) (sym same) objects
 
 pub kind-same : {D : Type 0} (layouts : Layouts) (t : Table D) (place : Placing) (old new : HeapView) → new.allocated ≡ old.allocated → KindHolds layouts t place old → KindHolds layouts t place new
 kind-same layouts t place old new same kind = subst (λ n. KindBy layouts t.types t.objects place n) (sym same) kind
@@ -207,4 +219,4 @@ memory-same s t heap same memory = record {
 -- a store that holds a table holds it with a heap that holds the same
 pub holds_same : {D : Type 0} (layouts : Layouts) (s : StoreView D) (t : Table D) (place : Placing) (heap : HeapView) → Holds layouts s t place → SameHeld s.heap heap → Holds layouts (record s { heap = heap }) t place
 holds_same layouts s t place heap holds same =
-    heap_changed holds (memory-same s t heap same holds.memory) (objects-same layouts t place s.heap heap same.content holds.objects) (kind-same layouts t place s.heap heap same.allocated holds.by_kind) (hosts-same t place s.heap heap s.hosts same.content holds.hosts) holds.nothing_else holds.typed
+    heap_changed holds (memory-same s t heap same holds.memory) (objects-same layouts t place s.heap heap same.content holds.objects) (kind-same layouts t place s.heap heap same.allocated holds.by_kind) (hosts-same t place s.heap heap s.hosts same.content holds.hosts) holds.typed

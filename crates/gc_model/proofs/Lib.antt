@@ -8,6 +8,7 @@ pub mod Fitting
 pub mod Typing
 pub mod Types
 pub mod Placings
+pub mod Interned
 pub mod RootsMoved
 pub mod Thrown
 pub mod OwnedRoots
@@ -29,6 +30,7 @@ pub mod Lying
 pub mod SlotWrites
 pub mod SlotObjects
 pub mod HoldsWrite
+pub mod HoldsInterned
 pub mod HoldsHost
 pub mod SlotsSet
 pub mod HoldsGlobals

@@ -1,6 +1,6 @@
 -- What lies by some names lies by each names with more places and functions.
 use Rattle.std.proofs.Common.{◌≡◌, ℕ, ◌-◌, List, Option, Some}
-use Rattle.std.specs.List.{slice_get}
+use Rattle.std.specs.FinMap.{get}
 use Rattle.gc_types.specs.declared.value.Func.{Func}
 use Rattle.gc_types.specs.declared.value.StorageType.{StorageType}
 use Rattle.gc_types.specs.declared.kind.Layouts.{Layouts}
@@ -9,7 +9,7 @@ use Rattle.gc_types.specs.Layouts.{storage_width, struct_base}
 use Rattle.gc_view.specs.Heaps.{HeapObject}
 use Rattle.gc_view.specs.Slots.{StorageSlot}
 use Rattle.gc_model.specs.Values.{Reference, null, small, at, Value, numeric, function, reference, Object}
-use Rattle.gc_model.specs.Forms.{Names, naming, IsCode, LiesAs, number_at}
+use Rattle.gc_model.specs.Forms.{Names, FunctionIds, naming, IsCode, LiesAs, number_at}
 use Rattle.gc_model.specs.Holds.{Placing, IsWord}
 use Rattle.gc_model.specs.Standing.{Stands, ValuesLie}
 use Rattle.gc_model.proofs.ObjectStands.{stands_renamed}
@@ -21,7 +21,7 @@ IsWithin place place' = (position word : ℕ) → place position ≡ Some word �
 -- and each function keeps its id
 pub record AreWithin (names names' : Names) : Type 0 where
   pub places : IsWithin names.place names'.place
-  pub functions : (id : ℕ) (f : Option Func) → slice_get names.funcs id ≡ Some f → slice_get names'.funcs id ≡ Some f
+  pub functions : (id : ℕ) (f : Option Func) → get names.funcs id ≡ Some f → get names'.funcs id ≡ Some f
 
 pub is_word-more : (place place' : Placing) (r : Reference) (word : ℕ) → IsWithin place place' → IsWord place r word → IsWord place' r word
 is_word-more place place' null word within is = is
@@ -31,7 +31,7 @@ is_word-more place place' (at p) word within is = within p word is
 module _ (names names' : Names) (within : AreWithin names names') where
   is_code-more : (v : Value) (code : ℕ) → IsCode names v code → IsCode names' v code
   is_code-more (numeric kind n) code is = is
-  is_code-more (function f) code is = within.functions code f is
+  is_code-more (function f) code is = record { id = is.id; interned = within.functions is.id f is.interned; code_is = is.code_is }
   is_code-more (reference class r) code is = is_word-more names.place names'.place r code within.places is
 
   pub lies-more : (ty : StorageType) (v : Value) (bytes : List ℕ) (offset : ℕ) → LiesAs names ty v bytes offset → LiesAs names' ty v bytes offset
@@ -49,5 +49,5 @@ module _ (names names' : Names) (within : AreWithin names names') where
       (λ slots values. values_lie-more (struct_base layouts) slots values h.bytes) stands
 
 -- more positions, and the same functions
-pub placed_within : (place place' : Placing) (funcs : List (Option Func)) → IsWithin place place' → AreWithin (naming place funcs) (naming place' funcs)
+pub placed_within : (place place' : Placing) (funcs : FunctionIds) → IsWithin place place' → AreWithin (naming place funcs) (naming place' funcs)
 placed_within place place' funcs within = record { places = within; functions = λ id f is. is }

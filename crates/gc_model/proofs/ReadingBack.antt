@@ -1,6 +1,5 @@
 -- What lies in a field, by the form of the field, and what a change of words leaves of it.
-use Rattle.std.proofs.Common.{◌≡◌, ℕ, List, Option, Some, true, false, refl, sym, ap, ◌∙◌, subst, arith}
-use Rattle.std.specs.List.{slice_get}
+use Rattle.std.proofs.Common.{◌≡◌, ℕ, List, Option, true, false, refl, sym, ap, ◌∙◌, subst, arith}
 use Rattle.gc_types.specs.declared.value.Func.{Func}
 use Rattle.gc_types.specs.declared.value.StorageType.{StorageType}
 use Rattle.gc_types.specs.declared.value.StorageType.TheVariants as storage
@@ -12,7 +11,7 @@ use Rattle.gc_types.specs.Layouts.{storage_width, is_gc_storage, is_gc_heap_type
 use Rattle.gc_owner.specs.declared.entry.GcClass.{GcClass}
 use Rattle.gc_model.specs.Values.{NumberKind, Value, numeric, function, reference, Reference}
 use Rattle.gc_model.specs.Words.{Placing, IsWord}
-use Rattle.gc_model.specs.Forms.{Form, number_of, function_of, continuation_of, reference_of, top_form, storage_form, value_form, is_reference, Names, naming, IsCode, LiesAs, number_at}
+use Rattle.gc_model.specs.Forms.{Form, number_of, function_of, continuation_of, reference_of, top_form, storage_form, value_form, is_reference, Names, FunctionIds, IsFunctionCode, naming, IsCode, LiesAs, number_at}
 
 number_of_form : (kind : NumberKind) (v : Value) → number_of kind ≡ value_form v → (n : ℕ) × (v ≡ numeric kind n)
 number_of_form kind (numeric k n) e = let same : k ≡ kind = grind (arith, e) in (n, ap (λ j. numeric j n) same)
@@ -35,11 +34,11 @@ pub record ReferenceAs (place : Placing) (class : GcClass) (v : Value) (word : �
   pub value_is : v ≡ reference class reference_is
   pub is_word : IsWord place reference_is word
 
--- A function or none, with its id.
-pub record FunctionAs (funcs : List (Option Func)) (v : Value) (id : ℕ) : Type 0 where
+-- A function or none, by the number that stands for it.
+pub record FunctionAs (ids : FunctionIds) (v : Value) (code : ℕ) : Type 0 where
   pub function_is : Option Func
   pub value_is : v ≡ function function_is
-  pub is_id : slice_get funcs id ≡ Some function_is
+  pub is_code : IsFunctionCode ids function_is code
 
 module _ (names : Names) (ty : StorageType) (v : Value) (bytes : List ℕ) (o : ℕ) where
   abbrev code : ℕ
@@ -62,7 +61,7 @@ module _ (names : Names) (ty : StorageType) (v : Value) (bytes : List ℕ) (o : 
   pub function_lying : storage_form ty ≡ function_of → LiesAs names ty v bytes o → FunctionAs names.funcs v (number_at (storage_width ty) bytes o)
   function_lying is lies =
       let f = function_of_form v (sym is ∙ lies.form) in
-      record { function_is = f.0; value_is = f.1; is_id = subst (λ (x : Value). IsCode names x code) f.1 lies.code }
+      record { function_is = f.0; value_is = f.1; is_code = subst (λ (x : Value). IsCode names x code) f.1 lies.code }
 
 heap_reference : (ty : HeapType) → is_gc_heap_type ty ≡ is_reference (top_form (heap_top ty))
 heap_reference heap.Any = refl
@@ -115,7 +114,7 @@ reference_class (reference_of class) e = (class, refl)
 
 -- A value stands for itself under another placing and another number, where the number of one that is no
 -- reference is the same, and a reference's word is carried along.
-pub value_moved : (place place' : Placing) (funcs : List (Option Func)) (v : Value) (was now : ℕ) → (is_reference (value_form v) ≡ false → now ≡ was)
+pub value_moved : (place place' : Placing) (funcs : FunctionIds) (v : Value) (was now : ℕ) → (is_reference (value_form v) ≡ false → now ≡ was)
     → ((r : Reference) → is_reference (value_form v) ≡ true → IsWord place r was → IsWord place' r now)
     → IsCode (naming place funcs) v was → IsCode (naming place' funcs) v now
 value_moved place place' funcs (numeric kind n) was now same carried is = same refl ∙ is

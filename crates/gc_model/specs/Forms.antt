@@ -1,8 +1,7 @@
 -- Which form a value has, which form a field holds, and the bytes that hold a value in a field: a number with its
--- lowest byte first at every width, a function as its id, a reference as its word.
-use Rattle.std.specs.Prelude.{◌≡◌, ℕ, Bool, true, false, ◌-◌, ◌<◌, ◌^◌, List, Option, Some, take, drop, slice_get, slice_index}
+-- lowest byte first at every width, a function as one above its id, a reference as its word.
+use Rattle.std.specs.Prelude.{◌≡◌, ℕ, Bool, true, false, ◌-◌, ◌<◌, ◌^◌, List, take, drop, slice_index}
 use Rattle.std.specs.Int.{sum_through, byte_worth, bytes_low_first}
-use Rattle.gc_types.specs.declared.value.Func.{Func}
 use Rattle.gc_types.specs.declared.value.StorageType.{StorageType}
 use Rattle.gc_types.specs.declared.value.StorageType.TheVariants as storage
 use Rattle.gc_types.specs.declared.value.ValType.{ValType}
@@ -15,6 +14,7 @@ use Rattle.gc_owner.specs.declared.entry.GcClass.{GcClass}
 use Rattle.gc_owner.specs.declared.entry.GcClass.TheVariants.{Any, Extern, Exn}
 use Rattle.gc_model.specs.Values.{NumberKind, i32, i64, f32, f64, v128, Value, numeric, function, reference}
 use Rattle.gc_model.specs.Words.{Placing, IsWord}
+pub use Rattle.gc_model.specs.Functions.{FunctionIds, IsFunctionCode}
 
 -- what a value is, and what a field holds; no value is a continuation
 pub data Form : Type 0 where
@@ -60,19 +60,19 @@ is_reference (reference_of class) = true
 abbrev pub number_at : ℕ → List ℕ → ℕ → ℕ
 number_at width bytes offset = sum_through (λ i. byte_worth i (slice_index (take width (drop offset bytes)) i)) (width - 1)
 
--- What stands in a heap for a position and for a function: its place, and its id.
+-- What stands in a heap for a position and for a function: its place, and one above its id.
 pub record Names : Type 0 where
   pub place : Placing
-  pub funcs : List (Option Func)
+  pub funcs : FunctionIds
 
 -- the names under a placing, with the functions by their ids
-abbrev pub naming : Placing → List (Option Func) → Names
+abbrev pub naming : Placing → FunctionIds → Names
 naming place funcs = record { place = place; funcs = funcs }
 
 -- the number that stands in a heap for a value
 abbrev pub IsCode : Names → Value → ℕ → Type 0
 IsCode names (numeric kind n) code = code ≡ n
-IsCode names (function f) code = slice_get names.funcs code ≡ Some f
+IsCode names (function f) code = IsFunctionCode names.funcs f code
 IsCode names (reference class r) code = IsWord names.place r code
 
 -- a value lies at an offset of an object's bytes, as a field of that type holds it

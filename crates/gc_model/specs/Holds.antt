@@ -1,5 +1,5 @@
 -- A store holds a table: its heap, its roots and its numbers stand for the table's.
-use Rattle.std.specs.Prelude.{◌≡◌, Bool, ℕ, ◌+◌, ◌-◌, ◌*◌, ◌%◌, ◌<◌, ◌≤◌, ◌^◌, true, false, List, [], Option, Some, length, slice_get}
+use Rattle.std.specs.Prelude.{◌≡◌, Bool, ℕ, ◌+◌, ◌-◌, ◌*◌, ◌%◌, ◌<◌, ◌≤◌, ◌^◌, true, false, List, [], Some, length, slice_get}
 use Rattle.std.specs.Ordering.{nat_cmp}
 use Rattle.std.specs.FinMap as map
 use Rattle.gc_types.specs.declared.value.FieldType.{FieldType}
@@ -10,9 +10,9 @@ use Rattle.gc_model.specs.Values.{Value, Object}
 use Rattle.gc_model.specs.Reach.{IsKept, object_values}
 use Rattle.gc_model.specs.Stored.{value_type}
 use Rattle.gc_model.specs.Fits.{fits}
-use Rattle.gc_types.specs.declared.value.Func.{Func}
 use Rattle.gc_model.specs.Table.{Table, Scoped, Push}
 pub use Rattle.gc_model.specs.Words.{Placing, IsWord}
+pub use Rattle.gc_model.specs.Functions.{FunctionIds, FunctionsBy}
 pub use Rattle.gc_model.specs.Forms.{Names, naming}
 pub use Rattle.gc_model.specs.RootPoints.{EntryBy, ScopedBy, IsPastBy, PushesBy, SlotBy, SlotsBy, FramesBy, GlobalsBy, OwnedRootBy, OwnedBy, PendingBy, IsException, ThrownBy}
 use Rattle.gc_model.specs.Sizes.{next_after}
@@ -72,10 +72,6 @@ pub record ScopesBy (ends drops count most : ℕ) : Type 0 where
   pub scoped_within : count ≤ most
   pub drops_within : drops ≤ 2 ^ 64 - 1
 
--- What no call makes yet is empty: one line each.
-pub record NotBuilt (functions : List (Option Func)) : Type 0 where
-  pub funcs : functions ≡ []
-
 -- a value of an object has a declared type, of a field or of the elements, and fits it, by the types and the objects
 pub record IsTypedValue {D : Type 0} (types : List Declaration) (objects : List (Object D)) (object : Object D) (index : ℕ) (value : Value) : Type 0 where
   pub field : FieldType
@@ -89,7 +85,7 @@ TypedBy {D} types objects = (position index : ℕ) (object : Object D) (value : 
 
 -- A fact at each point: as the types of the facts are parameters, a change of one part of a store hands the
 -- other points on as they are.
-pub record Points (Types Settings Memory Objects Kind Scopes Scoped Pushes Frames Globals Owned Pending Functions Hosts Nothing Typed : Type 0) : Type 0 where
+pub record Points (Types Settings Memory Objects Kind Scopes Scoped Pushes Frames Globals Owned Pending Functions Hosts Typed : Type 0) : Type 0 where
   pub types : Types
   pub settings : Settings
   pub memory : Memory
@@ -104,16 +100,15 @@ pub record Points (Types Settings Memory Objects Kind Scopes Scoped Pushes Frame
   pub pending : Pending
   pub funcs : Functions
   pub hosts : Hosts
-  pub nothing_else : Nothing
   pub typed : Typed
 
 module _ {D : Type 0} where
   -- the points at a table, each over the parts that it speaks of
-  abbrev pub HeldAt : Layouts → Table D → Placing → map.FinMap nat_cmp HeapObject → ℕ → ℕ → Type 0
-  HeldAt layouts t place content position word = HeldBy layouts t.types t.objects (naming place t.funcs) content position word
+  abbrev pub HeldAt : Layouts → Table D → Names → map.FinMap nat_cmp HeapObject → ℕ → ℕ → Type 0
+  HeldAt layouts t names content position word = HeldBy layouts t.types t.objects names content position word
 
-  abbrev pub ObjectsHold : Layouts → Table D → Placing → HeapView → Type 0
-  ObjectsHold layouts t place heap = ObjectsBy layouts t.types t.objects (naming place t.funcs) heap.content
+  abbrev pub ObjectsHold : Layouts → Table D → Names → HeapView → Type 0
+  ObjectsHold layouts t names heap = ObjectsBy layouts t.types t.objects names heap.content
 
   abbrev pub NullHolds : Table D → Placing → HeapView → Type 0
   NullHolds t place heap = NullBy t.types t.objects place heap.allocated
@@ -157,16 +152,13 @@ module _ {D : Type 0} where
   abbrev pub HostsHold : Table D → Placing → HeapView → map.FinMap nat_cmp D → Type 0
   HostsHold t place heap hosts = HostsBy t.objects place heap.content hosts
 
-  abbrev pub NothingElse : Table D → Type 0
-  NothingElse t = NotBuilt t.funcs
-
   -- the store holds the table under that placing
   abbrev pub Holds : Layouts → StoreView D → Table D → Placing → Type 0
   Holds layouts s t place = Points
       (s.types ≡ t.types)
       (SettingsHold s t)
       (MemoryHolds s t)
-      (ObjectsHold layouts t place s.heap)
+      (ObjectsHold layouts t (naming place s.funcs) s.heap)
       (KindHolds layouts t place s.heap)
       (ScopesHold s t)
       (ScopedHold t place s.scoped)
@@ -175,9 +167,8 @@ module _ {D : Type 0} where
       (GlobalsHold t place s.globals)
       (OwnedHold t place s.owns s.owned)
       (PendingHolds t place s.pending)
-      (s.funcs ≡ t.funcs)
+      (FunctionsBy t.funcs s.funcs)
       (HostsHold t place s.heap s.hosts)
-      (NothingElse t)
       (TypedBy t.types t.objects)
 
 -- the store holds the table, wherever its objects lie

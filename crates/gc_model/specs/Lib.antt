@@ -1,4 +1,5 @@
 pub mod Values
+pub mod Functions
 pub mod Fits
 pub mod Table
 pub mod Reach

@@ -2,13 +2,13 @@
 use Rattle.std.specs.Prelude.{ℕ, List, [], Option, replicate}
 use Rattle.std.specs.Ordering.{nat_cmp}
 use Rattle.std.specs.FinMap as map
-use Rattle.gc_types.specs.declared.value.Func.{Func}
 use Rattle.gc_types.specs.Declarations.{Declaration}
 use Rattle.gc_view.specs.Heaps.{HeapView, detached}
 use Rattle.gc_owner.specs.declared.entry.RootEntry.{RootEntry}
 use Rattle.gc_owner.specs.declared.entry.OwnedEntry.{OwnedEntry}
 use Rattle.gc_owner.specs.declared.entry.SlotEntry.{SlotEntry}
 use Rattle.gc_owner.specs.RootColumns.{global_count, empty_slot}
+pub use Rattle.gc_model.specs.Functions.{FunctionIds}
 
 -- the globals of which none was set
 abbrev pub unset_globals : List SlotEntry
@@ -31,7 +31,7 @@ pub record StoreView (D : Type 0) : Type 0 where
   pub owned : List OwnedEntry
   pub owns : ℕ
   pub pending : ℕ
-  pub funcs : List (Option Func)
+  pub funcs : FunctionIds
   pub last : ℕ
   pub tries : ℕ
   pub spare : ℕ
@@ -55,7 +55,7 @@ empty_store engine number first max_scoped max_owned alloc_counter = record {
   owned = [];
   owns = 0;
   pending = 0;
-  funcs = [];
+  funcs = map.empty;
   last = 0;
   tries = 0;
   spare = 0;

@@ -5,6 +5,7 @@ use Rattle.gc_types.specs.Declarations.{Declaration}
 use Rattle.gc_owner.specs.declared.entry.GcClass.{GcClass}
 use Rattle.gc_owner.specs.declared.entry.GcClass.TheVariants.{Any}
 use Rattle.gc_model.specs.Values.{Reference, null, at, Value, Object, struct, array, host, exception}
+use Rattle.gc_model.specs.Functions.{functions_of, object_functions, with_functions}
 pub use Rattle.gc_owner.specs.RootColumns.{global_count}
 
 -- a slot of a frame or a global
@@ -29,7 +30,8 @@ pub record Push : Type 0 where
   pub generation : ℕ
 
 -- The table. Objects are only added, or changed in one value; garbage is only "not reached".
--- The owned roots stand in the order in which they were made. Function values are empty so far.
+-- The owned roots stand in the order in which they were made, and so do the function values that were interned, each
+-- once; none is one of them where it was stored.
 pub record Table (D : Type 0) : Type 0 where
   pub types : List Declaration
   pub objects : List (Object D)
@@ -92,8 +94,16 @@ abbrev pub add_object : {D : Type 0} → Object D → Table D → Table D
 add_object o t = record t { objects = t.objects ++ o ∷ [] }
 
 -- one more object, named by a new scoped root
+abbrev pub add_rooted : {D : Type 0} → Object D → Table D → Table D
+add_rooted o t = push (at (length t.objects)) (add_object o t)
+
+-- the function values of a list are interned
+abbrev pub intern : {D : Type 0} → List (Option Func) → Table D → Table D
+intern fs t = record t { funcs = with_functions fs t.funcs }
+
+-- one more object, named by a new scoped root; its function values are interned
 abbrev pub make : {D : Type 0} → Object D → Table D → Table D
-make o t = push (at (length t.objects)) (add_object o t)
+make o t = add_rooted o (intern (object_functions o) t)
 
 -- the pages of the heap, with its first pages where it isn't made
 abbrev pub made_pages : {D : Type 0} → Table D → ℕ
@@ -129,8 +139,12 @@ change_at zero change (x ∷ xs) = change x ∷ xs
 change_at (suc n) change (x ∷ xs) = x ∷ change_at n change xs
 
 -- the object at a position has another value at an index
+abbrev pub put : {D : Type 0} → ℕ → ℕ → Value → Table D → Table D
+put position index v t = record t { objects = change_at position (with_value index v) t.objects }
+
+-- the same, and a function value is interned
 abbrev pub write : {D : Type 0} → ℕ → ℕ → Value → Table D → Table D
-write position index v t = record t { objects = change_at position (with_value index v) t.objects }
+write position index v t = put position index v (intern (functions_of (v ∷ [])) t)
 
 -- the host object with another value; no other object has one
 abbrev pub with_host_value : {D : Type 0} → D → Object D → Object D

@@ -1,8 +1,7 @@
 -- The values of an object lie in it after its references were moved.
-use Rattle.std.proofs.Common.{◌≡◌, ◌≢◌, ℕ, ◌+◌, ◌-◌, ◌<◌, ◌≤◌, inl, inr, true, false, List, [], Option, Some, Contains, refl, sym, ap, ◌∙◌, subst, arith}
+use Rattle.std.proofs.Common.{◌≡◌, ◌≢◌, ℕ, ◌+◌, ◌-◌, ◌<◌, ◌≤◌, inl, inr, true, false, List, [], Some, Contains, refl, sym, ap, ◌∙◌, subst, arith}
 use Rattle.std.specs.List.{slice_get}
 use Rattle.std.proofs.lemmas.List.{same_lists}
-use Rattle.gc_types.specs.declared.value.Func.{Func}
 use Rattle.gc_types.specs.declared.value.StorageType.{StorageType}
 use Rattle.gc_types.specs.declared.kind.Layouts.{Layouts}
 use Rattle.gc_types.specs.declared.kind.VMGcKind.TheVariants.{ExternRef}
@@ -16,7 +15,7 @@ use Rattle.gc_view.proofs.ByteLemmas.{u32_in_same}
 use Rattle.gc_view.proofs.SlotLemmas.{shape_spaced, first_behind, slot_range, slots_apart}
 use Rattle.gc_model.specs.Values.{Reference, Value, Object, struct, array, host, exception}
 use Rattle.gc_model.specs.Reach.{object_values, IsHost}
-use Rattle.gc_model.specs.Holds.{Placing, IsWord, naming, HostStands, Stands}
+use Rattle.gc_model.specs.Holds.{Placing, IsWord, FunctionIds, naming, HostStands, Stands}
 use Rattle.gc_model.specs.Forms.{value_form, is_reference, LiesAs, number_at}
 use Rattle.gc_model.specs.Standing.{ValuesLie}
 use Rattle.gc_model.proofs.ReadingBack.{storage_reference, reference_width, value_moved}
@@ -74,7 +73,7 @@ module _ (layouts : Layouts) (types : List Declaration) (to : ℕ → ℕ) (old 
     referenced : is_gc_storage slot.storage ≡ true → In slot.offset (reference_offsets layouts types old)
     referenced followed = offsets_are.back slot.offset (slot_followed slots i slot slot_is followed)
 
-  module _ (place place' : Placing) (funcs : List (Option Func)) (carried : (r : Reference) (w : ℕ) → Contains (references layouts types old) w → IsWord place r w → IsWord place' r (moved to w)) where
+  module _ (place place' : Placing) (funcs : FunctionIds) (carried : (r : Reference) (w : ℕ) → Contains (references layouts types old) w → IsWord place r w → IsWord place' r (moved to w)) where
     -- the word of a reference at a traced offset is that of its new place
     word_moved : (r : Reference) (offset : ℕ) → In offset (reference_offsets layouts types old) → IsWord place r (u32_at old.bytes (offset - base)) → IsWord place' r (u32_at new.bytes (offset - base))
     word_moved r offset i is_word =
@@ -109,7 +108,7 @@ module _ (layouts : Layouts) (types : List Declaration) (to : ℕ → ℕ) (old 
     }
 
 -- An object with values is that object still, where what stood for it was moved.
-shape_moved : {D : Type 0} (layouts : Layouts) (types : List Declaration) (to : ℕ → ℕ) (old new : HeapObject) (place place' : Placing) (funcs : List (Option Func)) → IsMoved layouts types to old new → IsTraced layouts types old
+shape_moved : {D : Type 0} (layouts : Layouts) (types : List Declaration) (to : ℕ → ℕ) (old new : HeapObject) (place place' : Placing) (funcs : FunctionIds) → IsMoved layouts types to old new → IsTraced layouts types old
     → ((r : Reference) (w : ℕ) → Contains (references layouts types old) w → IsWord place r w → IsWord place' r (moved to w))
     → (o : Object D) → ¬ IsHost (Some o) → Stands layouts types (naming place funcs) o old → Stands layouts types (naming place' funcs) o new
 shape_moved {D} layouts types to old new place place' funcs is_moved traced carried o not_host stands =
@@ -158,7 +157,7 @@ host_was layouts types to old new id is_moved spare is =
     record { kind = external; id_is = ap (λ (bytes : List ℕ). u32_at bytes 0) (sym (host_bytes layouts types to old new is_moved spare external)) ∙ is.id_is }
 
 -- An object of the table is that object still, where what stood for it was moved.
-pub stands_moved : {D : Type 0} (layouts : Layouts) (types : List Declaration) (to : ℕ → ℕ) (old new : HeapObject) (place place' : Placing) (funcs : List (Option Func)) → IsMoved layouts types to old new → IsSpare layouts old → IsTraced layouts types old
+pub stands_moved : {D : Type 0} (layouts : Layouts) (types : List Declaration) (to : ℕ → ℕ) (old new : HeapObject) (place place' : Placing) (funcs : FunctionIds) → IsMoved layouts types to old new → IsSpare layouts old → IsTraced layouts types old
     → ((r : Reference) (w : ℕ) → Contains (references layouts types old) w → IsWord place r w → IsWord place' r (moved to w))
     → (o : Object D) → Stands layouts types (naming place funcs) o old → Stands layouts types (naming place' funcs) o new
 stands_moved {D} layouts types to old new place place' funcs is_moved spare traced carried (struct ty values) stands =

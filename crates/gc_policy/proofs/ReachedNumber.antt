@@ -1,26 +1,24 @@
 -- How many positions the roots of a table reach: as many as a copying collection reaches places.
-use Rattle.std.proofs.Common.{◌≡◌, ℕ, ◌*◌, ◌^◌, ◌<◌, true, nat_eq, List, [], ◌∷◌, length, map, filter, Some, Contains, refl, sym, ap, ◌∙◌, subst, arith}
-use Rattle.std.specs.List.{IsDistinct, sum_by}
-use Rattle.std.specs.FinMap.{get, len}
+use Rattle.std.proofs.Common.{◌≡◌, ℕ, ◌^◌, ◌<◌, true, nat_eq, List, [], ◌∷◌, length, map, filter, Some, Contains, refl, sym, ap, ◌∙◌, subst, arith}
+use Rattle.std.specs.List.{IsDistinct}
+use Rattle.std.specs.FinMap.{get}
 use Rattle.std.proofs.lemmas.List.{length-map}
 use Rattle.std.proofs.lemmas.List.Elements.{Contains-append_right}
 use Rattle.gc_types.specs.declared.kind.Layouts.{Layouts}
 use Rattle.gc_types.specs.declared.kind.Layouts.TheVariants.{Copying}
 use Rattle.gc_types.specs.Declarations.{Declaration}
 use Rattle.gc_roots.specs.Roots.{Root}
-use Rattle.gc_view.specs.Heaps.{HeapView}
 use Rattle.gc_model.specs.Table.{Table}
-use Rattle.gc_model.specs.Reach as reach
 use Rattle.gc_model.specs.Reach.{IsReached, AreAll, HasNumber, root_references}
 use Rattle.gc_model.specs.Stores.{StoreView}
 use Rattle.gc_model.specs.Holds.{Placing, Holds}
 use Rattle.gc_model.proofs.OwnedRoots.{trimmed_held}
-use Rattle.gc_heap.specs.Content.{IsHeap, IsHeld}
+use Rattle.gc_heap.specs.Content.{IsHeap}
 use Rattle.gc_heap.specs.Collection.{Start, AreReached, has_host}
 use Rattle.gc_heap.specs.Collection as heap
 use Rattle.gc_heap.specs.References.{references}
 use Rattle.gc_heap.proofs.AgainLemmas.{kept_held}
-use Rattle.gc_owner.specs.RootColumns.{RootsView, roots_of, without_unheld}
+use Rattle.gc_owner.specs.RootColumns.{roots_of, without_unheld}
 use Rattle.gc_owner.specs.Owners.{OwnerView, CanBegin, Trims, Collects, start_of}
 use Rattle.gc_policy.specs.Shown.{shown}
 use Rattle.gc_policy.proofs.AccountLemmas.{trimmed_table}

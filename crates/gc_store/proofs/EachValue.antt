@@ -25,7 +25,7 @@ use Rattle.gc_owner.specs.declared.entry.OwnedEntry.{OwnedEntry}
 use Rattle.gc_model.proofs.Members.{among_map}
 use Rattle.gc_policy.proofs.RootsShown.{IsRooted, scoped_rooted, owned_rooted}
 use Rattle.gc_model.specs.Values.{Value}
-use Rattle.gc_model.specs.Forms.{Form, reference_of, top_form, storage_form, Names, IsEncodedAs}
+use Rattle.gc_model.specs.Forms.{Form, function_of, reference_of, top_form, storage_form, Names, FunctionIds, IsEncodedAs}
 use Rattle.gc_model.proofs.Lists.{slice_get-same_length}
 use Rattle.gc_model.proofs.ObjectShapes.{shape_at}
 use Rattle.gc_model.proofs.SlotWrites.{LieUpTo, lie_up_to-none, lie_up_to-step, lie_up_to-all}
@@ -94,19 +94,19 @@ slot_is_word h roots words (slot.Owned id) generation word is =
     subst (IsWordOf h) e.1.1 (words.owned e.0 e.1.0)
 
 -- what is kept of a value is of its form
-kept_form : (h : HeapView) (entries : HandleRoots) (r : RawValue) (x : Stored) → AreWords h entries → KeptAs entries r x → OfForm h (raw_form r) x
-kept_form h entries (raw.I32 n) x words is = subst (OfForm h (raw_form (raw.I32 n))) (sym is) tt
-kept_form h entries (raw.I64 n) x words is = subst (OfForm h (raw_form (raw.I64 n))) (sym is) tt
-kept_form h entries (raw.F32 n) x words is = subst (OfForm h (raw_form (raw.F32 n))) (sym is) tt
-kept_form h entries (raw.F64 n) x words is = subst (OfForm h (raw_form (raw.F64 n))) (sym is) tt
-kept_form h entries (raw.V128 n) x words is = subst (OfForm h (raw_form (raw.V128 n))) (sym is) tt
-kept_form h entries (raw.Func f) x words is = absurd is
-kept_form h entries (raw.Ref class None) x words is = subst (OfForm h (reference_of class)) (sym is) (inl refl)
-kept_form h entries (raw.Ref class (Some handle)) x words is =
+kept_form : (h : HeapView) (ids : FunctionIds) (entries : HandleRoots) (r : RawValue) (x : Stored) → AreWords h entries → KeptAs ids entries r x → OfForm h (raw_form r) x
+kept_form h ids entries (raw.I32 n) x words is = subst (OfForm h (raw_form (raw.I32 n))) (sym is) tt
+kept_form h ids entries (raw.I64 n) x words is = subst (OfForm h (raw_form (raw.I64 n))) (sym is) tt
+kept_form h ids entries (raw.F32 n) x words is = subst (OfForm h (raw_form (raw.F32 n))) (sym is) tt
+kept_form h ids entries (raw.F64 n) x words is = subst (OfForm h (raw_form (raw.F64 n))) (sym is) tt
+kept_form h ids entries (raw.V128 n) x words is = subst (OfForm h (raw_form (raw.V128 n))) (sym is) tt
+kept_form h ids entries (raw.Func f) x words is = subst (OfForm h function_of) (sym is.1.1) tt
+kept_form h ids entries (raw.Ref class None) x words is = subst (OfForm h (reference_of class)) (sym is) (inl refl)
+kept_form h ids entries (raw.Ref class (Some handle)) x words is =
     subst (OfForm h (reference_of class)) (sym is.1.1) (slot_is_word h entries words handle.slot handle.generation is.0 is.1.0)
 
-pub kept_of_form : (h : HeapView) (entries : HandleRoots) (ty : StorageType) (r : RawValue) (x : Stored) → AreWords h entries → raw_form r ≡ storage_form ty → KeptAs entries r x → OfForm h (storage_form ty) x
-kept_of_form h entries ty r x words form is = subst (λ (f : Form). OfForm h f x) form (kept_form h entries r x words is)
+pub kept_of_form : (h : HeapView) (ids : FunctionIds) (entries : HandleRoots) (ty : StorageType) (r : RawValue) (x : Stored) → AreWords h entries → raw_form r ≡ storage_form ty → KeptAs ids entries r x → OfForm h (storage_form ty) x
+kept_of_form h ids entries ty r x words form is = subst (λ (f : Form). OfForm h f x) form (kept_form h ids entries r x words is)
 
 -- a form is as wide as the value types that have it
 top_width : (t : HeapTopType) → form_width (top_form t) ≡ 4
@@ -127,9 +127,9 @@ storage_form_width (storage.ValType val.V128) = refl
 storage_form_width (storage.ValType (val.Ref ty)) = top_width (heap_top ty.heap_type)
 
 -- The low bytes of what is kept are those of the value that a slot keeps.
-pub kept_encoded : (names : Names) (entries : HandleRoots) (ty : StorageType) (r : RawValue) (w : Value) (x : Stored) → StoredStands names entries ty r w → KeptAs entries r x → FitsForm (raw_form r) (code_of x)
+pub kept_encoded : (ids : FunctionIds) (names : Names) (entries : HandleRoots) (ty : StorageType) (r : RawValue) (w : Value) (x : Stored) → StoredStands ids names entries ty r w → KeptAs ids entries r x → FitsForm (raw_form r) (code_of x)
     → IsEncodedAs names ty w (slot_bytes ty (code_of x))
-kept_encoded names entries ty r w x stands is small =
+kept_encoded ids names entries ty r w x stands is small =
     let width : form_width (raw_form r) ≡ value_width (unpacked ty) = ap form_width stands.raw_form_is ∙ storage_form_width ty in
     subst (λ (v : Value). IsEncodedAs names ty v (slot_bytes ty (code_of x))) (sym stands.stored_is)
     (stored_encoded names ty stands.value (code_of x) stands.form (stands.stands x is small) (subst (λ (n : ℕ). code_of x < 256 ^ n) width small))
@@ -143,30 +143,30 @@ spaced_count from to (s ∷ slots) spaced =
     omega (arith, spaced.0, rest, wide)
 
 -- The first k values are written.
-pub record FillsTo {D : Type 0} (layouts : Layouts) (raws : List RawValue) (old new : OwnerView D) (place : ℕ) (before : HeapObject) (shape : Shape) (count k : ℕ) : Type 0 where
+pub record FillsTo {D : Type 0} (layouts : Layouts) (ids : FunctionIds) (raws : List RawValue) (old new : OwnerView D) (place : ℕ) (before : HeapObject) (shape : Shape) (count k : ℕ) : Type 0 where
   pub bytes : List ℕ
   pub rewrites : Rewrites layouts shape old new place before bytes
-  pub lie : (names : Names) (values : List Value) → EachStands raws names (handle_roots old.roots) (shape_slots layouts shape count) values
+  pub lie : (names : Names) (values : List Value) → EachStands ids raws names (handle_roots old.roots) (shape_slots layouts shape count) values
       → LieUpTo names (struct_base layouts) (shape_slots layouts shape count) values bytes k
 
-module _ {D : Type 0} (layouts : Layouts) (raws : List RawValue) (old : OwnerView D) (place ty : ℕ) (before : HeapObject) (shape : Shape) (count : ℕ) (f : IsToFill layouts old place ty (EachFits raws) before shape count) where
+module _ {D : Type 0} (layouts : Layouts) (ids : FunctionIds) (raws : List RawValue) (old : OwnerView D) (place ty : ℕ) (before : HeapObject) (shape : Shape) (count : ℕ) (f : IsToFill layouts old place ty (EachFits ids raws) before shape count) where
   abbrev base : ℕ
   base = struct_base layouts
 
   abbrev slots : List StorageSlot
   slots = shape_slots layouts shape count
 
-  same_count : (names : Names) (values : List Value) → EachStands raws names (handle_roots old.roots) slots values → length values ≡ length slots
+  same_count : (names : Names) (values : List Value) → EachStands ids raws names (handle_roots old.roots) slots values → length values ≡ length slots
   same_count names values all = sym all.same_count ∙ f.fit.same_count
 
-  pub fills-none : FillsTo layouts raws old old place before shape count 0
+  pub fills-none : FillsTo layouts ids raws old old place before shape count 0
   fills-none = record {
     bytes = before.bytes;
     rewrites = rewrites-nothing layouts shape old place before f.is.held;
     lie = λ names values all. lie_up_to-none names base slots values before.bytes (same_count names values all);
   }
 
-  module _ (new : OwnerView D) (k : ℕ) (r : RawValue) (r_is : slice_get raws k ≡ Some r) (w : FillsTo layouts raws old new place before shape count k) (heap : IsHeap layouts new.heap) (can : CanBegin layouts new) where
+  module _ (new : OwnerView D) (k : ℕ) (r : RawValue) (r_is : slice_get raws k ≡ Some r) (w : FillsTo layouts ids raws old new place before shape count k) (heap : IsHeap layouts new.heap) (can : CanBegin layouts new) where
     -- the slot at the index
     abbrev pub slot_here : (s : StorageSlot) × (slice_get slots k ≡ Some s)
     slot_here = slice_get-same_length raws slots k r f.fit.same_count r_is
@@ -207,14 +207,14 @@ module _ {D : Type 0} (layouts : Layouts) (raws : List RawValue) (old : OwnerVie
         let end = held_small layouts new.heap place now heap held_now.held in
         omega (arith, below, count_is, reach, end, held_size_is layouts now shape count held_now.has)
 
-    pub is_kept : IsKept (handle_roots new.roots) r
-    is_kept = subst (λ (es : HandleRoots). IsKept es r) (sym same_roots) (f.fit.kept k r r_is)
+    pub is_kept : IsKept ids (handle_roots new.roots) r
+    is_kept = subst (λ (es : HandleRoots). IsKept ids es r) (sym same_roots) (f.fit.kept k r r_is)
 
     -- what the type table finds is that slot
     pub slot_found : (found : Slot) → FindsSlot layouts new.types.declarations ty k found → storage_slot found ≡ slot_here.0
     slot_found found finds = finds shape count slot_here.0 declared_here slot_here.1
 
-    module _ (x : Stored) (x_is : KeptAs (handle_roots new.roots) r x) where
+    module _ (x : Stored) (x_is : KeptAs ids (handle_roots new.roots) r x) where
       pub can_write : CanWriteSlot layouts new place slot_here.0 x
       can_write = record {
         object = now;
@@ -223,11 +223,11 @@ module _ {D : Type 0} (layouts : Layouts) (raws : List RawValue) (old : OwnerVie
         is = held_now;
         index = k;
         slot_is = slot_here.1;
-        of_form = kept_of_form new.heap (handle_roots new.roots) slot_here.0.storage r x (are_words layouts new can) (f.fit.forms k slot_here.0 r slot_here.1 r_is) x_is;
+        of_form = kept_of_form new.heap ids (handle_roots new.roots) slot_here.0.storage r x (are_words layouts new can) (f.fit.forms k slot_here.0 r slot_here.1 r_is) x_is;
       }
 
       -- one more value was written
-      pub fills-more : FitsForm (raw_form r) (code_of x) → (after : OwnerView D) → WritesAt layouts new after place slot_here.0.offset (slot_bytes slot_here.0.storage (code_of x)) → FillsTo layouts raws old after place before shape count (k + 1)
+      pub fills-more : FitsForm (raw_form r) (code_of x) → (after : OwnerView D) → WritesAt layouts new after place slot_here.0.offset (slot_bytes slot_here.0.storage (code_of x)) → FillsTo layouts ids raws old after place before shape count (k + 1)
       fills-more small after did =
           let s : StorageSlot = slot_here.0 in
           let ws : List ℕ = slot_bytes s.storage (code_of x) in
@@ -241,11 +241,11 @@ module _ {D : Type 0} (layouts : Layouts) (raws : List RawValue) (old : OwnerVie
                 let v = slice_get-same_length raws values k r all.same_count r_is in
                 let stands = all.each k s r v.0 slot_here.1 r_is v.1 in
                 lie_up_to-step names base (shape_first layouts shape) (shape_size layouts shape count) slots above (shape_spaced layouts shape count) values w.bytes k s v.0 ws (w.lie names values all) slot_here.1 v.1
-                (kept_encoded names (handle_roots old.roots) s.storage r v.0 x stands (subst (λ (es : HandleRoots). KeptAs es r x) same_roots x_is) small) reach;
+                (kept_encoded ids names (handle_roots old.roots) s.storage r v.0 x stands (subst (λ (es : HandleRoots). KeptAs ids es r x) same_roots x_is) small) reach;
           }
 
   -- all values are written
-  pub fills-all : (new : OwnerView D) (k : ℕ) → k ≡ length raws → FillsTo layouts raws old new place before shape count k → Fills layouts (EachStands raws) old new place before shape count
+  pub fills-all : (new : OwnerView D) (k : ℕ) → k ≡ length raws → FillsTo layouts ids raws old new place before shape count k → Fills layouts (EachStands ids raws) old new place before shape count
   fills-all new k all w = record {
     bytes = w.bytes;
     rewrites = w.rewrites;

@@ -19,7 +19,7 @@ use Rattle.gc_owner.specs.Owners.{OwnerView, CanBegin}
 use Rattle.gc_owner.specs.Writes.{IsNumberPlace, WritesBytes}
 use Rattle.gc_model.specs.Values.{Value}
 use Rattle.gc_model.specs.Stored.{byte_value}
-use Rattle.gc_model.specs.Forms.{Names}
+use Rattle.gc_model.specs.Forms.{Names, FunctionIds}
 use Rattle.gc_model.specs.Standing.{ValuesLie}
 use Rattle.gc_model.proofs.Elements.{byte_elements, equal_elements}
 use Rattle.gc_model.proofs.ObjectShapes.{shape_at, element_slot_at}
@@ -55,17 +55,17 @@ no_elements : (ty : StorageType) (n from : ℕ) → n ≡ 0 → element_slots ty
 no_elements ty zero from none = refl
 no_elements ty (suc n) from none = absurd (omega (arith, none))
 
-same_length : (r : RawValue) (names : Names) (entries : HandleRoots) (slots : List StorageSlot) (values : List Value) → SameStands r names entries slots values → length values ≡ length slots
-same_length r names entries slots values stands = ap (λ (vs : List Value). length vs) stands.values_are ∙ length-replicate (length slots) stands.kept
+same_length : (ids : FunctionIds) (r : RawValue) (names : Names) (entries : HandleRoots) (slots : List StorageSlot) (values : List Value) → SameStands ids r names entries slots values → length values ≡ length slots
+same_length ids r names entries slots values stands = ap (λ (vs : List Value). length vs) stands.values_are ∙ length-replicate (length slots) stands.kept
 
-pub none_filled : {D : Type 0} (layouts : Layouts) (v : OwnerView D) (place ty : ℕ) (r : RawValue) (count : ℕ) (object : HeapObject) (shape : Shape) (n : ℕ) → IsToFill layouts v place ty (SameFits r count) object shape n → count ≡ 0
-    → Fills layouts (SameStands r) v v place object shape n
-none_filled layouts v place ty r count object shape n f none =
-    nothing_filled layouts v place ty (SameFits r count) (SameStands r) object shape n f (f.fit.slots_are ∙ no_elements f.fit.ty count f.fit.from none)
-    (λ names values. same_length r names (handle_roots v.roots) (shape_slots layouts shape n) values)
+pub none_filled : {D : Type 0} (layouts : Layouts) (v : OwnerView D) (place ty : ℕ) (ids : FunctionIds) (r : RawValue) (count : ℕ) (object : HeapObject) (shape : Shape) (n : ℕ) → IsToFill layouts v place ty (SameFits ids r count) object shape n → count ≡ 0
+    → Fills layouts (SameStands ids r) v v place object shape n
+none_filled layouts v place ty ids r count object shape n f none =
+    nothing_filled layouts v place ty (SameFits ids r count) (SameStands ids r) object shape n f (f.fit.slots_are ∙ no_elements f.fit.ty count f.fit.from none)
+    (λ names values. same_length ids r names (handle_roots v.roots) (shape_slots layouts shape n) values)
 
 -- One value in some elements.
-module _ {D : Type 0} (layouts : Layouts) (v : OwnerView D) (place ty : ℕ) (r : RawValue) (count : ℕ) (object : HeapObject) (shape : Shape) (n : ℕ) (f : IsToFill layouts v place ty (SameFits r count) object shape n) (some : 0 < count) (can : CanBegin layouts v) where
+module _ {D : Type 0} (layouts : Layouts) (v : OwnerView D) (place ty : ℕ) (ids : FunctionIds) (r : RawValue) (count : ℕ) (object : HeapObject) (shape : Shape) (n : ℕ) (f : IsToFill layouts v place ty (SameFits ids r count) object shape n) (some : 0 < count) (can : CanBegin layouts v) where
   abbrev pub first : StorageSlot
   first = record { storage = f.fit.ty; offset = f.fit.from }
 
@@ -99,7 +99,7 @@ module _ {D : Type 0} (layouts : Layouts) (v : OwnerView D) (place ty : ℕ) (r 
   pub first_found : (found : Slot) → FindsSlot layouts v.types.declarations ty 0 found → storage_slot found ≡ first
   first_found found finds = finds shape n first declared_here first_is
 
-  module _ (x : Stored) (x_is : KeptAs (handle_roots v.roots) r x) where
+  module _ (x : Stored) (x_is : KeptAs ids (handle_roots v.roots) r x) where
     abbrev pub are_elements : AreElements layouts v place first count x
     are_elements = record {
       object = object;
@@ -109,15 +109,15 @@ module _ {D : Type 0} (layouts : Layouts) (v : OwnerView D) (place ty : ℕ) (r 
       some = some;
       slots_are = f.fit.slots_are;
       blank = f.blank;
-      of_form = kept_of_form v.heap (handle_roots v.roots) f.fit.ty r x (are_words layouts v can) (f.fit.form some) x_is;
+      of_form = kept_of_form v.heap ids (handle_roots v.roots) f.fit.ty r x (are_words layouts v can) (f.fit.form some) x_is;
     }
 
-    pub same_filled : (new : OwnerView D) → FitsForm (raw_form r) (code_of x) → FillsElements layouts v new place first count x are_elements → Fills layouts (SameStands r) v new place object shape n
+    pub same_filled : (new : OwnerView D) → FitsForm (raw_form r) (code_of x) → FillsElements layouts v new place first count x are_elements → Fills layouts (SameStands ids r) v new place object shape n
     same_filled new small filled = record {
       bytes = filled.bytes;
       rewrites = filled.rewrites;
       lie = λ names values stands.
-          let encoded = kept_encoded names (handle_roots v.roots) f.fit.ty r stands.kept x (stands.stands 0 first first_is) x_is small in
+          let encoded = kept_encoded ids names (handle_roots v.roots) f.fit.ty r stands.kept x (stands.stands 0 first first_is) x_is small in
           let many : length slots ≡ count = ap (λ (ss : List StorageSlot). length ss) f.fit.slots_are ∙ length-element_slots f.fit.ty count f.fit.from in
           let above = first_above layouts object shape n f.is.has in
           let lie = equal_elements names (struct_base layouts) f.fit.from filled.bytes (omega (arith, above, range.low)) f.fit.ty count stands.kept _ encoded filled.filled in

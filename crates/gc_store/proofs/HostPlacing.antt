@@ -1,5 +1,5 @@
 -- A host object that was made is the table's, with its value.
-use Rattle.std.proofs.Common.{◌≡◌, ℕ, ◌+◌, ◌-◌, ◌^◌, ◌<◌, inl, inr, min, Bool, true, false, Ok, Err, Result, length, refl, sym, ap, ◌∙◌, subst, arith, ◌≤◌, ◌∷◌, []}
+use Rattle.std.proofs.Common.{◌≡◌, ℕ, ◌+◌, ◌-◌, ◌^◌, ◌<◌, inl, inr, min, Bool, true, false, Ok, Err, Result, length, refl, sym, ap, ◌∙◌, subst, arith, le-ltb, ◌≤◌, ◌∷◌, []}
 use Rattle.std.specs.FinMap.{FinMap, get, len}
 use Rattle.std.specs.Ordering.{nat_cmp}
 use Rattle.std.proofs.lemmas.Nat.{from_le_bytes-to_le_bytes_4}
@@ -18,6 +18,7 @@ use Rattle.gc_model.specs.Table.{Table, make, with_pages}
 use Rattle.gc_model.specs.Live.{roots_full}
 use Rattle.gc_model.specs.Allocation.{Limits}
 use Rattle.gc_model.specs.Stores.{StoreView}
+use Rattle.gc_model.specs.Forms.{naming}
 use Rattle.gc_model.proofs.HoldsMake.{IsMadeObject, holds_make_host, placed_at}
 use Rattle.gc_heap.specs.Content.{IsHeap}
 use Rattle.gc_heap.specs.Heap.{allocated_after}
@@ -45,6 +46,7 @@ use Rattle.gc_store.specs.declared.root.GcRootIndex.{GcRootIndex}
 use Rattle.gc_store.specs.declared.root.RootSlot.TheVariants as slot
 use Rattle.gc_store.specs.HostPlaces.{PlacesHost}
 use Rattle.gc_store.specs.HostSteps.{AllocatesHost, MakesHost}
+use Rattle.gc_store.specs.Places.{lacks_ids}
 use Rattle.gc_store.specs.Making.{BeginsMaking}
 use Rattle.gc_store.proofs.Keeping.{counts_of, Keeps, keeps-trans, keeps-making, keeps-retried, keeps-paused, same_count}
 use Rattle.gc_store.proofs.Preparing.{IsReadyStore, lacks_room, lacks_pages, wants_heap, wants_room, room_found}
@@ -100,7 +102,7 @@ module _ {D : Type 0} (layouts : Layouts) (s : StoreView D) (value : D) (b e : O
   old = made.mid.owner.heap
 
   -- the object that was made stands for the table's
-  made_object : IsMadeObject layouts (with_pages pages t) after.place (host value) old e.owner.heap word
+  made_object : IsMadeObject layouts (with_pages pages t) (naming after.place s.funcs) (host value) old e.owner.heap word
   made_object =
       let added = made.adds.adds.added in
       record {
@@ -152,12 +154,16 @@ module _ {D : Type 0} (layouts : Layouts) (s : StoreView D) (v : OwnerView D) (v
   abbrev size : ℕ
   size = external_size layouts
 
+  -- a host object has no function values
+  no_more_ids : lacks_ids (host value) t ≡ false
+  no_more_ids = le-ltb max_entries (length t.funcs) is.holds.holds.funcs.few
+
   -- one that was made is in the table, under the handle of its root
   pub host_follows : (b : OwnerState D) (index : ℕ) → BeginsMaking layouts s.first due (state_of v limits) b → MadeHost layouts value b e index → (handle : GcRootIndex)
       → handle ≡ record { store_id = record { engine = s.engine; number = s.number }; generation = e.owner.roots.generation; slot = slot.Scoped index }
       → FollowsHost layouts s value t a limits e (Ok handle)
   host_follows b index begins made handle handle_is =
-      let places = room_found layouts s v limits t a is due due_is (host value) size refl (host_small layouts) full b made.mid e index made.adds.word begins made.retried made.adds.adds.lies made.limits
+      let places = room_found layouts s v limits t a is due due_is (host value) size refl (host_small layouts) full no_more_ids b made.mid e index made.adds.word begins made.retried made.adds.adds.lies made.limits
       (λ pages account after. host_holds layouts (counted_store s) value b e index made t full pages account after)
       (ap (λ (x : OwnerView D). x.roots.generation) made.adds.rest) made.adds.index_is handle handle_is in
       record { places = places; table = _; account = _; holds = places.holds }
@@ -165,16 +171,16 @@ module _ {D : Type 0} (layouts : Layouts) (s : StoreView D) (v : OwnerView D) (v
   pub host_fault_follows : (f : PlaceHostFault D) → MakesHost layouts value s.first due (state_of v limits) e (Err f) → FollowsHost layouts s value t a limits e (Err f)
   host_fault_follows fault.RootsFull makes = absurd makes
   host_fault_follows (fault.HeapOutOfMemory f) (back, inl (no_pages, asked)) =
-      let places = lacks_pages layouts s v limits t a is due due_is (host value) size refl (host_small layouts) full e f.bytes_needed no_pages asked in
+      let places = lacks_pages layouts s v limits t a is due due_is (host value) size refl (host_small layouts) full no_more_ids e f.bytes_needed no_pages asked in
       record { places = (back, places); table = _; account = _; holds = places.holds }
   host_fault_follows (fault.HeapOutOfMemory f) (back, inr (b, (begins, lacks))) =
-      let places = lacks_room layouts s v limits t a is due due_is (host value) size refl (host_small layouts) full b e f.bytes_needed begins lacks in
+      let places = lacks_room layouts s v limits t a is due due_is (host value) size refl (host_small layouts) full no_more_ids b e f.bytes_needed begins lacks in
       record { places = (back, places); table = _; account = _; holds = places.holds }
   host_fault_follows fault.Memory (inl same) =
-      let places = wants_heap layouts s v limits t a is due due_is (host value) size refl (host_small layouts) full e same in
+      let places = wants_heap layouts s v limits t a is due due_is (host value) size refl (host_small layouts) full no_more_ids e same in
       record { places = places; table = _; account = _; holds = places.holds }
   host_fault_follows fault.Memory (inr (b, (begins, pause))) =
-      let places = wants_room layouts s v limits t a is due due_is (host value) size refl (host_small layouts) full b e begins pause in
+      let places = wants_room layouts s v limits t a is due due_is (host value) size refl (host_small layouts) full no_more_ids b e begins pause in
       record { places = places; table = _; account = _; holds = places.holds }
 
   -- whichever it was, the store holds a table

@@ -1,11 +1,12 @@
 -- What is kept of values, by roots that moved and by one more root.
-use Rattle.std.proofs.Common.{◌≡◌, ℕ, zero, suc, true, false, cond, nat_eq, List, [], ◌∷◌, ◌++◌, Option, Some, None, Ok, Err, refl, sym, ap, ◌∙◌, subst, arith}
+use Rattle.std.proofs.Common.{◌≡◌, ℕ, ◌+◌, zero, suc, true, false, cond, nat_eq, List, [], ◌∷◌, ◌++◌, Option, Some, None, Ok, Err, refl, sym, ap, ◌∙◌, arith}
 use Rattle.std.specs.Prelude.{option_map}
+use Rattle.std.specs.Int.{w32, w64, cast_unsigned}
 use Rattle.std.specs.List.{slice_get}
 use Rattle.std.proofs.lemmas.Option.{none-some, same_Some, slice_get-map}
 use Rattle.gc_owner.specs.declared.entry.RootEntry.{RootEntry}
 use Rattle.gc_model.specs.Values.{Value}
-use Rattle.gc_model.specs.Forms.{Names}
+use Rattle.gc_model.specs.Forms.{Names, FunctionIds}
 use Rattle.gc_store.specs.declared.root.RawValue.{RawValue}
 use Rattle.gc_store.specs.declared.root.RawValue.TheVariants as raw
 use Rattle.gc_store.specs.declared.root.RootSlot.{RootSlot}
@@ -15,6 +16,8 @@ use Rattle.gc_store.specs.declared.stored.Stored.{Stored}
 use Rattle.gc_store.specs.declared.stored.Stored.TheVariants as stores
 use Rattle.gc_store.specs.Kept.{IsKept, KeptAs, KeptStands}
 use Rattle.gc_store.specs.Words.{HandleRoots, root_word_at, entry_word, owned_id, owned_word, owned_at}
+use Rattle.gc_store.specs.Values.{raw_functions}
+use Rattle.gc_store.proofs.GivenFunctions.{HaveIds}
 use Rattle.gc_store.proofs.Keeping.{generations_of}
 use Rattle.gc_store.proofs.OwnedKept.{KeepsOwned}
 
@@ -44,18 +47,40 @@ slot_again roots roots' (slot.Owned id) generation word same keeps is =
       | false ↦ λ e. absurd (cc)
     ] is
 
--- a value is kept also by the words that the roots have after a collection
-pub kept_again : (roots roots' : HandleRoots) (r : RawValue) → generations_of roots'.scoped ≡ generations_of roots.scoped → KeepsOwned roots.owned roots'.owned → IsKept roots r → IsKept roots' r
-kept_again roots roots' (raw.I32 n) same keeps kept = kept
-kept_again roots roots' (raw.I64 n) same keeps kept = kept
-kept_again roots roots' (raw.F32 n) same keeps kept = kept
-kept_again roots roots' (raw.F64 n) same keeps kept = kept
-kept_again roots roots' (raw.V128 n) same keeps kept = kept
-kept_again roots roots' (raw.Func f) same keeps kept = kept
-kept_again roots roots' (raw.Ref class None) same keeps kept = kept
-kept_again roots roots' (raw.Ref class (Some handle)) same keeps kept =
-    let now = slot_again roots roots' handle.slot handle.generation kept.1.0 same keeps kept.1.1.0 in
-    (stores.Ref now.0, (now.0, (now.1, refl)))
+-- the handle of a value has a word, where it has one
+abbrev pub IsRooted : HandleRoots → RawValue → Type 0
+IsRooted roots (raw.I32 n) = Unit {0}
+IsRooted roots (raw.I64 n) = Unit {0}
+IsRooted roots (raw.F32 n) = Unit {0}
+IsRooted roots (raw.F64 n) = Unit {0}
+IsRooted roots (raw.V128 n) = Unit {0}
+IsRooted roots (raw.Func f) = Unit {0}
+IsRooted roots (raw.Ref class None) = Unit {0}
+IsRooted roots (raw.Ref class (Some handle)) = (word : ℕ) × (root_word_at roots handle.slot handle.generation ≡ Ok word)
+
+-- it has one also after a collection
+pub rooted_again : (roots roots' : HandleRoots) (r : RawValue) → generations_of roots'.scoped ≡ generations_of roots.scoped → KeepsOwned roots.owned roots'.owned → IsRooted roots r → IsRooted roots' r
+rooted_again roots roots' (raw.I32 n) same keeps is = tt
+rooted_again roots roots' (raw.I64 n) same keeps is = tt
+rooted_again roots roots' (raw.F32 n) same keeps is = tt
+rooted_again roots roots' (raw.F64 n) same keeps is = tt
+rooted_again roots roots' (raw.V128 n) same keeps is = tt
+rooted_again roots roots' (raw.Func f) same keeps is = tt
+rooted_again roots roots' (raw.Ref class None) same keeps is = tt
+rooted_again roots roots' (raw.Ref class (Some handle)) same keeps is = slot_again roots roots' handle.slot handle.generation is.0 same keeps is.1
+
+-- such a value is kept, where it has an id if it is a function value
+pub rooted_kept : (ids : FunctionIds) (roots : HandleRoots) (r : RawValue) → HaveIds ids (raw_functions (r ∷ [])) → IsRooted roots r → IsKept ids roots r
+rooted_kept ids roots (raw.I32 n) have is = (stores.Number (cast_unsigned w32 n), refl)
+rooted_kept ids roots (raw.I64 n) have is = (stores.Number (cast_unsigned w64 n), refl)
+rooted_kept ids roots (raw.F32 n) have is = (stores.Number n, refl)
+rooted_kept ids roots (raw.F64 n) have is = (stores.Number n, refl)
+rooted_kept ids roots (raw.V128 n) have is = (stores.Number n, refl)
+rooted_kept ids roots (raw.Func f) have is =
+    let id = have f (0, omega arith, refl) in
+    (stores.Number (id.0 + 1), (id.0 + 1, (record { id = id.0; interned = id.1; code_is = refl }, refl)))
+rooted_kept ids roots (raw.Ref class None) have is = (stores.Ref 0, refl)
+rooted_kept ids roots (raw.Ref class (Some handle)) have is = (stores.Ref is.0, (is.0, (is.1, refl)))
 
 -- a word that is found is found where one more entry stands behind
 got_more : (entries : List RootEntry) (e : RootEntry) (index : ℕ) (found : Option RootEntry) (generation word : ℕ) → slice_get entries index ≡ found → entry_word found generation ≡ Ok word → entry_word (slice_get (entries ++ e ∷ []) index) generation ≡ Ok word
@@ -75,34 +100,29 @@ slot_more : (roots : HandleRoots) (e : RootEntry) (s : RootSlot) (generation wor
 slot_more roots e (slot.Scoped index) generation word is = got_more roots.scoped e index (slice_get roots.scoped index) generation word refl is
 slot_more roots e (slot.Owned id) generation word is = is
 
--- a value is kept in one way
-kept_alike : (roots : HandleRoots) (r : RawValue) (x y : Stored) → KeptAs roots r x → KeptAs roots r y → x ≡ y
-kept_alike roots (raw.I32 n) x y a b = a ∙ sym b
-kept_alike roots (raw.I64 n) x y a b = a ∙ sym b
-kept_alike roots (raw.F32 n) x y a b = a ∙ sym b
-kept_alike roots (raw.F64 n) x y a b = a ∙ sym b
-kept_alike roots (raw.V128 n) x y a b = a ∙ sym b
-kept_alike roots (raw.Func f) x y a b = absurd a
-kept_alike roots (raw.Ref class None) x y a b = a ∙ sym b
-kept_alike roots (raw.Ref class (Some handle)) x y a b =
-    let words : a.0 ≡ b.0 = grind (arith, sym a.1.0 ∙ b.1.0) in
-    a.1.1 ∙ ap stores.Ref words ∙ sym b.1.1
+pub rooted_more : (roots : HandleRoots) (e : RootEntry) (r : RawValue) → IsRooted roots r → IsRooted (with_more roots e) r
+rooted_more roots e (raw.I32 n) is = tt
+rooted_more roots e (raw.I64 n) is = tt
+rooted_more roots e (raw.F32 n) is = tt
+rooted_more roots e (raw.F64 n) is = tt
+rooted_more roots e (raw.V128 n) is = tt
+rooted_more roots e (raw.Func f) is = tt
+rooted_more roots e (raw.Ref class None) is = tt
+rooted_more roots e (raw.Ref class (Some handle)) is = (is.0, slot_more roots e handle.slot handle.generation is.0 is.1)
 
-kept_as_more : (roots : HandleRoots) (e : RootEntry) (r : RawValue) (x : Stored) → KeptAs roots r x → KeptAs (with_more roots e) r x
-kept_as_more roots e (raw.I32 n) x is = is
-kept_as_more roots e (raw.I64 n) x is = is
-kept_as_more roots e (raw.F32 n) x is = is
-kept_as_more roots e (raw.F64 n) x is = is
-kept_as_more roots e (raw.V128 n) x is = is
-kept_as_more roots e (raw.Func f) x is = is
-kept_as_more roots e (raw.Ref class None) x is = is
-kept_as_more roots e (raw.Ref class (Some handle)) x is = (is.0, (slot_more roots e handle.slot handle.generation is.0 is.1.0, is.1.1))
+-- as it is kept by one more root it was kept before
+kept_before : (ids : FunctionIds) (roots : HandleRoots) (e : RootEntry) (r : RawValue) (x : Stored) → IsRooted roots r → KeptAs ids (with_more roots e) r x → KeptAs ids roots r x
+kept_before ids roots e (raw.I32 n) x rooted is = is
+kept_before ids roots e (raw.I64 n) x rooted is = is
+kept_before ids roots e (raw.F32 n) x rooted is = is
+kept_before ids roots e (raw.F64 n) x rooted is = is
+kept_before ids roots e (raw.V128 n) x rooted is = is
+kept_before ids roots e (raw.Func f) x rooted is = is
+kept_before ids roots e (raw.Ref class None) x rooted is = is
+kept_before ids roots e (raw.Ref class (Some handle)) x rooted is =
+    let words : rooted.0 ≡ is.0 = grind (arith, sym (slot_more roots e handle.slot handle.generation rooted.0 rooted.1) ∙ is.1.0) in
+    (rooted.0, (rooted.1, is.1.1 ∙ ap stores.Ref (sym words)))
 
 -- a value that is kept stands for what it stood for, by one more root
-pub stands_more : (names : Names) (roots : HandleRoots) (e : RootEntry) (r : RawValue) (v : Value) → IsKept roots r → KeptStands names roots r v → KeptStands names (with_more roots e) r v
-stands_more names roots e r v kept stands x is small =
-    let same : kept.0 ≡ x = kept_alike (with_more roots e) r kept.0 x (kept_as_more roots e r kept.0 kept.1) is in
-    stands x (subst (KeptAs roots r) same kept.1) small
-
-pub is_kept_more : (roots : HandleRoots) (e : RootEntry) (r : RawValue) → IsKept roots r → IsKept (with_more roots e) r
-is_kept_more roots e r kept = (kept.0, kept_as_more roots e r kept.0 kept.1)
+pub stands_more : (ids : FunctionIds) (names : Names) (roots : HandleRoots) (e : RootEntry) (r : RawValue) (v : Value) → IsRooted roots r → KeptStands ids names roots r v → KeptStands ids names (with_more roots e) r v
+stands_more ids names roots e r v rooted stands x is small = stands x (kept_before ids roots e r x rooted is) small

@@ -4,6 +4,7 @@ pub mod Declaring
 pub mod Describing
 pub mod Expanding
 pub mod FrameLemmas
+pub mod GivenFunctions
 pub mod Filled
 pub mod GoneRoots
 pub mod EachValue
@@ -13,6 +14,7 @@ pub mod ShapeSlots
 pub mod SlotPlaces
 pub mod SlotWrites
 pub mod Incrementing
+pub mod InterningLemmas
 pub mod Keeping
 pub mod KeptAgain
 pub mod Leaving
@@ -29,6 +31,7 @@ pub mod OwningRoots
 pub mod OwningHandles
 pub mod Placing
 pub mod PlacingFaults
+pub mod PlacingIds
 pub mod Pushing
 pub mod ReadValues
 pub mod Requested

@@ -1,8 +1,7 @@
 -- Where a value of an object that a handle names lies in the heap.
-use Rattle.std.proofs.Common.{◌≡◌, ℕ, ◌-◌, ◌<◌, List, [], Option, Some, Ok, Err, sym, ap, ◌∙◌, subst, arith}
+use Rattle.std.proofs.Common.{◌≡◌, ℕ, ◌-◌, ◌<◌, List, Some, Ok, Err, sym, ap, ◌∙◌, subst, arith}
 use Rattle.std.specs.List.{slice_get}
-use Rattle.std.proofs.lemmas.Option.{none-some, same_Some}
-use Rattle.gc_types.specs.declared.value.Func.{Func}
+use Rattle.std.proofs.lemmas.Option.{same_Some}
 use Rattle.gc_types.specs.declared.kind.Layouts.{Layouts}
 use Rattle.gc_types.specs.declared.kind.TypeKind.TheVariants as kinds
 use Rattle.gc_types.specs.declared.kind.VMGcKind.TheVariants.{StructRef, ArrayRef, ExnRef}
@@ -18,7 +17,7 @@ use Rattle.gc_model.specs.Values.{Value, numeric, function, reference, at, Objec
 use Rattle.gc_model.specs.Table.{Table}
 use Rattle.gc_model.specs.Reach.{IsHost}
 use Rattle.gc_model.specs.Stores.{StoreView}
-use Rattle.gc_model.specs.Forms.{Form, Names as Naming, IsCode, naming, number_at, storage_form, value_form}
+use Rattle.gc_model.specs.Forms.{Form, Names as Naming, naming, number_at, storage_form, value_form}
 use Rattle.gc_model.specs.Holds.{Placing, Holds, Stands}
 use Rattle.gc_model.proofs.ObjectShapes.{shape_at}
 use Rattle.gc_model.proofs.ObjectStands.{StandsByShape, value_not_host, LyingValue, shape_value, slot_stands}
@@ -66,19 +65,19 @@ shape_of layouts types names (exception ty tag values) h not_host is = record {
   has = is_exn h is.stands.shape is.stands.count is.kind is.stands.of_kind;
 }
 
--- no value is a function so far
-read_form : (place : Placing) (funcs : List (Option Func)) (v : Value) (code : ℕ) → funcs ≡ [] → IsCode (naming place funcs) v code → IsReadForm (value_form v)
-read_form place funcs (numeric kind n) code none is = tt
-read_form place funcs (function f) code none is = absurd (none-some f (sym (ap (λ (fs : List (Option Func)). slice_get fs code) none) ∙ is))
-read_form place funcs (reference class r) code none is = tt
+-- a slot of the form of a value can be read
+read_form : (v : Value) → IsReadForm (value_form v)
+read_form (numeric kind n) = tt
+read_form (function f) = tt
+read_form (reference class r) = tt
 
 -- The value at an index of the object with that word, as the store's heap has it.
 pub record LyingAt {D : Type 0} (layouts : Layouts) (s : StoreView D) (t : Table D) (place : Placing) (position word : ℕ) (o : Object D) (index : ℕ) (value : Value) : Type 0 where
   pub object : HeapObject
   pub placed : place position ≡ Some word
   pub not_zero : 0 < word
-  pub stands : Stands layouts t.types (naming place t.funcs) o object
-  pub lying : LyingValue layouts t.types (naming place t.funcs) o object index value
+  pub stands : Stands layouts t.types (naming place s.funcs) o object
+  pub lying : LyingValue layouts t.types (naming place s.funcs) o object index value
   pub shape : Shape
   pub count : ℕ
   pub is : IsHeldOf s.types s.heap word object shape count
@@ -90,7 +89,7 @@ module _ {D : Type 0} (layouts : Layouts) (s : StoreView D) (t : Table D) (place
   lying_at word e =
       let named = named_word layouts s t place holds handle (at has.position) word has.named e in
       let held = holds.objects.placed has.position word named.0 in
-      let names = naming place t.funcs in
+      let names = naming place s.funcs in
       let same : held.entry ≡ has.object = same_Some held.entry has.object (sym held.in_table ∙ has.object_is) in
       let stands : Stands layouts t.types names has.object held.object = subst (λ (o : Object D). Stands layouts t.types names o held.object) same held.stands in
       let of = shape_of layouts t.types names has.object held.object (value_not_host has.object index value has.value_at) stands in
@@ -109,7 +108,7 @@ module _ {D : Type 0} (layouts : Layouts) (s : StoreView D) (t : Table D) (place
           has = of.has;
         };
         slot_is = slot_stands layouts t.types names has.object held.object of.by index lying.slot lying.is_slot;
-        read_form = subst IsReadForm (sym lying.lies.form) (read_form place t.funcs value _ holds.nothing_else.funcs lying.lies.code);
+        read_form = subst IsReadForm (sym lying.lies.form) (read_form value);
       }
 
   -- its handle has a word
@@ -148,7 +147,7 @@ module _ {D : Type 0} (layouts : Layouts) (s : StoreView D) (t : Table D) (place
   pub found_stands : (x : Found) (found : Slot) → storage_slot found ≡ lies.lying.slot
       → FindsAt layouts s.heap word (storage_form found.storage) (storage_width found.storage) found.offset x
       → FitsAt layouts s.heap word (storage_form found.storage) (storage_width found.storage) found.offset
-      → FoundStands (naming place t.funcs) x value
+      → FoundStands (naming place s.funcs) x value
   found_stands x found same finds fits =
       let slot = lies.lying.slot in
       let at : IsFound (storage_form slot.storage) (number_at (storage_width slot.storage) lies.object.bytes (slot.offset - struct_base layouts)) x =

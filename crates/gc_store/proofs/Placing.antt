@@ -1,9 +1,10 @@
 -- An object that was made and got its values is the table's.
-use Rattle.std.proofs.Common.{◌≡◌, inl, inr, ℕ, ◌+◌, ◌-◌, ◌^◌, ◌<◌, min, Bool, true, false, List, [], ◌∷◌, ◌++◌, length, Some, None, slice_index_or, sym, ap, ◌∙◌, refl, subst, arith, le-leb, ◌≤◌}
+use Rattle.std.proofs.Common.{◌≡◌, inl, inr, ℕ, ◌+◌, ◌-◌, ◌^◌, ◌<◌, min, Bool, true, false, List, [], ◌∷◌, ◌++◌, length, Option, Some, None, slice_index_or, sym, ap, ◌∙◌, refl, subst, arith, le-leb, ◌≤◌}
 use Rattle.std.specs.FinMap.{get}
 use Rattle.std.proofs.lemmas.List.{length-append}
 use Rattle.std.proofs.lemmas.Option.{slice_get_within}
 use Rattle.gc_types.specs.declared.kind.Layouts.{Layouts}
+use Rattle.gc_types.specs.declared.value.Func.{Func}
 use Rattle.gc_types.specs.declared.kind.Layouts.TheVariants.{Null, Counting, Copying}
 use Rattle.gc_types.specs.declared.kind.VMGcKind.TheVariants.{ArrayRef, ExnRef}
 use Rattle.gc_types.specs.Declarations.{Declaration, Shape, TypeTable, struct_of, array_of, exn_of, func_of}
@@ -16,7 +17,7 @@ use Rattle.gc_owner.specs.Makes.{AddsRooted, AllocatesRooted}
 use Rattle.gc_owner.specs.Retry.{Retry}
 use Rattle.gc_model.specs.Values.{Reference, Value, Object}
 use Rattle.gc_model.specs.Reach.{object_values}
-use Rattle.gc_model.specs.Table.{Table, make, with_pages}
+use Rattle.gc_model.specs.Table.{Table, intern, make, with_pages}
 use Rattle.gc_model.specs.Live.{roots_full}
 use Rattle.gc_view.specs.Sizes.{alignment, need_of, size_rules}
 use Rattle.gc_view.specs.Slots.{shape_size}
@@ -25,9 +26,11 @@ use Rattle.gc_model.specs.Allocation.{Limits, too_large, FitsIn, GetsPages}
 use Rattle.gc_view.specs.Heaps.{HeapView, HeapObject}
 use Rattle.gc_view.proofs.Content.{get-put_other}
 use Rattle.gc_model.specs.Stores.{StoreView}
-use Rattle.gc_model.specs.Forms.{naming}
+use Rattle.gc_model.specs.Forms.{FunctionIds, naming}
+use Rattle.gc_model.specs.Functions.{FunctionsBy, object_functions, with_functions}
 use Rattle.gc_model.specs.Holds.{Placing, Holds}
 use Rattle.gc_model.proofs.Fitting.{fits-form}
+use Rattle.gc_model.proofs.HoldsInterned.{with_ids, holds_interned}
 use Rattle.gc_model.proofs.HoldsMake.{IsMadeObject, holds_make, placed_at}
 use Rattle.gc_view.proofs.Layouts.{round_up-le}
 use Rattle.gc_heap.specs.Content.{IsHeap}
@@ -55,19 +58,21 @@ use Rattle.gc_store.specs.declared.root.RootSlot.TheVariants as slot
 use Rattle.gc_store.specs.declared.request.Place.TheVariants as place
 use Rattle.gc_store.specs.Filling.{asked_type, front_of, ContentsFit, ContentsStand, FillsBy, IsToFill}
 use Rattle.gc_store.specs.HeldSlots.{HasShape}
-use Rattle.gc_store.specs.Kept.{IsKept, KeptStands}
+use Rattle.gc_store.specs.Interning.{Interns, given_values}
+use Rattle.gc_store.specs.Kept.{KeptStands}
 use Rattle.gc_store.specs.Making.{BeginsMaking}
-use Rattle.gc_store.specs.Places.{PlacesObject}
+use Rattle.gc_store.specs.Places.{PlacesObject, lacks_ids}
 use Rattle.gc_store.specs.Stores.{is_full}
-use Rattle.gc_store.specs.Values.{RawStands}
+use Rattle.gc_store.specs.Values.{RawStands, raw_functions}
+use Rattle.gc_store.proofs.GivenFunctions.{HaveIds}
 use Rattle.gc_store.proofs.Keeping.{counts_of, Keeps, keeps-making, keeps-retried, keeps-trans, same_count}
 use Rattle.gc_store.specs.Roots.{NamesReference}
 use Rattle.gc_store.specs.Words.{HandleRoots, handle_roots, AreRising, owned_id}
-use Rattle.gc_store.proofs.KeptAgain.{with_more, is_kept_more, kept_again, stands_more}
+use Rattle.gc_store.proofs.KeptAgain.{IsRooted, with_more, rooted_again, rooted_more, stands_more}
 use Rattle.gc_store.proofs.NewObjects.{IsNew, HasAskedKind}
 use Rattle.gc_store.proofs.Pushing.{full_is}
 use Rattle.gc_store.proofs.Requested.{Asks, AsksFor, HasAskedFront, StandsFor}
-use Rattle.gc_store.proofs.WritingAt.{is_kept, kept_stands, raw_form_is}
+use Rattle.gc_store.proofs.WritingAt.{is_rooted, kept_stands, raw_form_is}
 use Rattle.gc_store.proofs.SpareLemmas.{holds_roomy}
 
 -- the entry of a new root
@@ -131,12 +136,12 @@ asked_front layouts (place.Exn ty tag) shape before after front = front
 asked_front layouts (place.Array ty count) shape before after front = tt
 
 -- One more object is in the owner's heap, with values that stand for what was given, and a root.
-pub record Creates {D : Type 0} (layouts : Layouts) (types : List Declaration) (request : Place) (given : Contents) (new : IsNew D layouts types request) (b e : OwnerState D) (index : ℕ) : Type 0 where
+pub record Creates {D : Type 0} (layouts : Layouts) (types : List Declaration) (ids : FunctionIds) (request : Place) (given : Contents) (new : IsNew D layouts types request) (b e : OwnerState D) (index : ℕ) : Type 0 where
   pub mid : OwnerState D
   pub retried : Retry (owner_rules layouts (shape_size layouts new.shape new.count)) b true mid
   pub added : OwnerView D
   pub adds : AddsRooted layouts mid.owner added new.blank (shape_size layouts new.shape new.count) index
-  pub fills : FillsBy layouts (front_of layouts request new.shape) (ContentsStand given) added e.owner adds.word new.blank new.shape new.count
+  pub fills : FillsBy layouts (front_of layouts request new.shape) (ContentsStand ids given) added e.owner adds.word new.blank new.shape new.count
   pub limits : e.limits ≡ mid.limits
 
 -- an owner that is ready, whose store holds a table
@@ -179,9 +184,9 @@ module _ {D : Type 0} (layouts : Layouts) (s : StoreView D) (v : OwnerView D) (r
   begun due due_is b begins = beginning_follows layouts counted start (count_try before) shows s.alloc_counter due (due_is ∙ ap (λ (n : ℕ). is_due s.alloc_counter (min (n + 1) (2 ^ 64 - 1))) is.holds.account.tries) begins.made b begins.begins begins.dues
 
   -- The object that was added may get its values.
-  pub may_fill : (due : Bool) (b : OwnerState D) → BeginsMaking layouts s.first due start b → (e : OwnerState D) (index : ℕ) (made : AllocatesRooted layouts new.blank size b e index)
-      → IsToFill layouts e.owner made.adds.word (asked_type request) (ContentsFit request given) new.blank new.shape new.count
-  may_fill due b begins e index made =
+  pub may_fill : (ids : FunctionIds) → HaveIds ids (raw_functions (given_values request given)) → (due : Bool) (b : OwnerState D) → BeginsMaking layouts s.first due start b → (e : OwnerState D) (index : ℕ) (made : AllocatesRooted layouts new.blank size b e index)
+      → IsToFill layouts e.owner made.adds.word (asked_type request) (ContentsFit ids request given) new.blank new.shape new.count
+  may_fill ids have due b begins e index made =
       let keeps : Keeps v made.mid.owner = keeps-trans v b.owner made.mid.owner (keeps-making layouts s.first due start b begins) (keeps-retried layouts size b true made.mid made.retried) in
       let entry : RootEntry = entry_of made.mid.owner.roots.generation made.adds.word in
       let roots_are : handle_roots e.owner.roots ≡ with_more (handle_roots made.mid.owner.roots) entry = ap (λ (x : OwnerView D). handle_roots x.roots) made.adds.rest in
@@ -196,123 +201,131 @@ module _ {D : Type 0} (layouts : Layouts) (s : StoreView D) (v : OwnerView D) (r
         of_type = new.of_type;
         blank = new.are_blank;
         rising = subst AreRising (sym (ap (λ (x : OwnerView D). x.roots.owned) made.adds.rest)) (keeps.owned.rising is.holds.holds.owned.rising);
-        fit = asked.fit (handle_roots e.owner.roots) (λ r kept.
-            subst (λ (es : HandleRoots). IsKept es r) (sym roots_are)
-            (is_kept_more (handle_roots made.mid.owner.roots) entry r (kept_again (handle_roots v.roots) (handle_roots made.mid.owner.roots) r keeps.generations keeps.owned kept)));
+        fit = asked.fit ids (handle_roots e.owner.roots) have (λ r rooted.
+            subst (λ (es : HandleRoots). IsRooted es r) (sym roots_are)
+            (rooted_more (handle_roots made.mid.owner.roots) entry r (rooted_again (handle_roots v.roots) (handle_roots made.mid.owner.roots) r keeps.generations keeps.owned rooted)));
       }
 
-  -- what is given stands for the same values by the roots with the new one
-  stand_after : (due : Bool) (b : OwnerState D) → BeginsMaking layouts s.first due start b → (e : OwnerState D) (index : ℕ) (made : Creates layouts v.types.declarations request given new b e index) (pages : ℕ) (place : Placing) → Holds layouts (shown counted made.mid.owner) (with_pages pages t) place
-      → StandsFor layouts (shown s v) t (naming place t.funcs) (handle_roots made.added.roots)
-  stand_after due b begins e index made pages place after ty r value can stands =
-      let keeps : Keeps v made.mid.owner = keeps-trans v b.owner made.mid.owner (keeps-making layouts s.first due start b begins) (keeps-retried layouts size b true made.mid made.retried) in
-      let entries : HandleRoots = handle_roots made.mid.owner.roots in
-      let entry : RootEntry = entry_of made.mid.owner.roots.generation made.adds.word in
-      let roots_are : handle_roots made.added.roots ≡ with_more entries entry = ap (λ (x : OwnerView D). handle_roots x.roots) made.adds.rest in
-      let form = fits-form t.types t.objects ty value (can.fits t value (is.holds.place, is.holds.holds) stands) in
-      let kept : IsKept entries r = kept_again (handle_roots v.roots) entries r keeps.generations keeps.owned (is_kept D layouts (shown s v) r can.live) in
-      let now = kept_stands D layouts (shown counted made.mid.owner) (with_pages pages t) place after r value (raw_after (shown s v) (shown counted made.mid.owner) t pages refl refl r value stands) in
-      record {
-        value = value;
-        stored_is = refl;
-        form = form;
-        stands = subst (λ (es : HandleRoots). KeptStands (naming place t.funcs) es r value) (sym roots_are) (stands_more (naming place t.funcs) entries entry r value kept now);
-        raw_form_is = raw_form_is (shown s v) t r value stands ∙ sym form;
-      }
-
-  module _ (o : Object D) (for : AsksFor layouts (shown s v) t request given new.shape new.count o) where
-    -- the object that was made stands for the table's
-    made_object : (due : Bool) (b : OwnerState D) → BeginsMaking layouts s.first due start b → (e : OwnerState D) (index : ℕ) (made : Creates layouts v.types.declarations request given new b e index) (pages : ℕ) (place : Placing) → Holds layouts (shown counted made.mid.owner) (with_pages pages t) place
-        → IsMadeObject layouts (with_pages pages t) place o made.mid.owner.heap e.owner.heap made.adds.word
-    made_object due b begins e index made pages place after =
-        let word : ℕ = made.adds.word in
-        let added = made.adds.adds.added in
-        let fills = made.fills in
-        let bytes : List ℕ = fills.bytes in
-        let has_now : HasShape (record new.blank { bytes = bytes }) new.shape new.count = shape_after layouts request new.shape new.blank bytes new.count new.of_kind fills.rewrites.front new.has in
+  -- its function values were interned
+  module _ (ids : FunctionIds) (interned : Interns s.funcs ids (raw_functions (given_values request given))) where
+    -- what is given stands for the same values by the roots with the new one
+    stand_after : (due : Bool) (b : OwnerState D) → BeginsMaking layouts s.first due start b → (e : OwnerState D) (index : ℕ) (made : Creates layouts v.types.declarations ids request given new b e index) (pages : ℕ) (place : Placing) → Holds layouts (shown counted made.mid.owner) (with_pages pages t) place
+        → StandsFor layouts (shown s v) t ids (naming place ids) (handle_roots made.added.roots)
+    stand_after due b begins e index made pages place after ty r value can stands =
+        let keeps : Keeps v made.mid.owner = keeps-trans v b.owner made.mid.owner (keeps-making layouts s.first due start b begins) (keeps-retried layouts size b true made.mid made.retried) in
+        let entries : HandleRoots = handle_roots made.mid.owner.roots in
+        let entry : RootEntry = entry_of made.mid.owner.roots.generation made.adds.word in
+        let roots_are : handle_roots made.added.roots ≡ with_more entries entry = ap (λ (x : OwnerView D). handle_roots x.roots) made.adds.rest in
+        let form = fits-form t.types t.objects ty value (can.fits t value (is.holds.place, is.holds.holds) stands) in
+        let rooted : IsRooted entries r = rooted_again (handle_roots v.roots) entries r keeps.generations keeps.owned (is_rooted D layouts (shown s v) r can.live) in
+        let now = kept_stands D layouts (shown counted made.mid.owner) (with_pages pages t) place after ids r value (raw_after (shown s v) (shown counted made.mid.owner) t pages refl refl r value stands) in
         record {
-          object = record new.blank { bytes = bytes };
-          stands = for.stands (naming place t.funcs) (record new.blank { bytes = bytes }) new.of_type has_now (asked_front layouts request new.shape new.blank.bytes bytes fills.rewrites.front) (ap (λ n. struct_base layouts + n) fills.rewrites.same_length ∙ new.stored)
-              (fills.lie (naming place t.funcs) (object_values o) (for.contents (naming place t.funcs) (handle_roots made.added.roots) (stand_after due b begins e index made pages place after)));
-          typed = for.typed;
-          free = made.adds.adds.fresh.free;
-          is_even = let aligned = made.adds.adds.fresh.aligned in omega arith;
-          not_null = made.adds.adds.fresh.not_null;
-          here = fills.rewrites.written;
-          others = λ q other. fills.rewrites.others q other ∙ ap (λ (h : HeapView). get h.content q) added ∙ get-put_other made.mid.owner.heap.content word q new.blank other;
-          attached = fills.rewrites.attached ∙ ap (λ (h : HeapView). h.attached) added;
-          capacity = fills.rewrites.capacity ∙ ap (λ (h : HeapView). h.capacity) added;
-          allocated = λ null.
-              allocated_next layouts made.mid.owner.heap.allocated e.owner.heap.allocated size (fills.rewrites.allocated ∙ ap (λ (h : HeapView). h.allocated) added) null
-              ∙ ap (λ k. round_up (made.mid.owner.heap.allocated + 1) alignment + k) (ap (λ k. shape_size k new.shape new.count) null ∙ sym (for.of_size Null));
+          value = value;
+          stored_is = refl;
+          form = form;
+          stands = subst (λ (es : HandleRoots). KeptStands ids (naming place ids) es r value) (sym roots_are) (stands_more ids (naming place ids) entries entry r value rooted now);
+          raw_form_is = raw_form_is (shown s v) t r value stands ∙ sym form;
         }
 
-    -- the owner afterwards
-    owner_is : (b e : OwnerState D) (index : ℕ) (made : Creates layouts v.types.declarations request given new b e index) → e.owner ≡ record made.mid.owner { heap = e.owner.heap; roots = with_scoped made.adds.word made.mid.owner.roots }
-    owner_is b e index made = made.fills.rewrites.rest ∙ ap (λ (x : OwnerView D). record x { heap = e.owner.heap }) made.adds.rest
-
-    module _ (small : too_large layouts size ≡ false) (room : is_full (shown s v) ≡ false) where
-      not_full : roots_full t ≡ false
-      not_full = sym (full_is layouts (shown s v) t is.holds.place is.holds.holds) ∙ room
-
-      -- the table with the object is held, with its root pushed
-      made_holds : (due : Bool) (b : OwnerState D) → BeginsMaking layouts s.first due start b → (e : OwnerState D) (index : ℕ) (made : Creates layouts v.types.declarations request given new b e index) (pages : ℕ) (account : Account) → HoldsAccount layouts (shown counted made.mid.owner) (with_pages pages t) account
-          → HoldsAccount layouts (shown counted e.owner) (make o (with_pages pages t)) (with_held layouts (length t.objects) made.adds.word account)
-      made_holds due b begins e index made pages account after =
-          let object = made_object due b begins e index made pages after.place after.holds in
+    module _ (o : Object D) (for : AsksFor layouts (shown s v) t request given new.shape new.count o) (functions : (known : List (Option Func)) → with_functions (raw_functions (given_values request given)) known ≡ with_functions (object_functions o) known) where
+      -- the object that was made stands for the table's
+      made_object : (due : Bool) (b : OwnerState D) → BeginsMaking layouts s.first due start b → (e : OwnerState D) (index : ℕ) (made : Creates layouts v.types.declarations ids request given new b e index) (pages : ℕ) (place : Placing) → Holds layouts (shown counted made.mid.owner) (with_pages pages t) place
+          → IsMadeObject layouts (intern (object_functions o) (with_pages pages t)) (naming place ids) o made.mid.owner.heap e.owner.heap made.adds.word
+      made_object due b begins e index made pages place after =
           let word : ℕ = made.adds.word in
-          subst (λ (x : OwnerView D). HoldsAccount layouts (shown counted x) (make o (with_pages pages t)) (with_held layouts (length t.objects) word account)) (sym (owner_is b e index made))
-          (record {
-            place = placed_at after.place (length t.objects) word;
-            holds = holds_make layouts (shown counted made.mid.owner) (with_pages pages t) after.place o e.owner.heap word after.holds object for.not_host refl not_full;
-            account = record {
-              held = held_more after.place account.held (length t.objects) word (λ p w placed. let held = after.holds.objects.placed p w placed in slice_get_within t.objects p held.entry held.in_table) after.account.held;
-              places = λ p. told_more layouts account.places after.place (length t.objects) word p (after.account.places p);
-              last = after.account.last;
-              tries = after.account.tries;
-              upper = made.fills.rewrites.needs_gc ∙ ap (λ (h : HeapView). h.needs_gc) made.adds.adds.added ∙ after.account.upper;
-            };
-          })
-
-      -- An object that was made and has its values is in the table, under the handle of its root; and its heap is made.
-      pub placing_follows : (due : Bool) → due ≡ is_due s.alloc_counter (min (s.tries + 1) (2 ^ 64 - 1)) → (b e : OwnerState D) (index : ℕ)
-          → BeginsMaking layouts s.first due start b → Creates layouts v.types.declarations request given new b e index → (handle : GcRootIndex)
-          → handle ≡ record { store_id = record { engine = s.engine; number = s.number }; generation = e.owner.roots.generation; slot = slot.Scoped index }
-          → PlacesObject layouts s.alloc_counter o before e.limits handle (shown counted e.owner)
-      placing_follows due due_is b e index begins made handle handle_is =
-          let beginning = begun due due_is b begins in
-          let retried = retry_follows layouts counted size b beginning.after beginning.agrees true made.mid made.retried in
-          let got = got_pages limits.limit (need_of layouts size) t beginning.after.table retried.after.table beginning.may beginning.table
-          (subst (λ (l : Limits). MayHaveGrown l.limit (need_of layouts size) beginning.after.table retried.after.table) beginning.limits retried.tried.0) in
-          let after : HoldsAccount layouts (shown counted made.mid.owner) (with_pages got.pages t) retried.after.account =
-          subst (λ (u : Table D). HoldsAccount layouts (shown counted made.mid.owner) u retried.after.account) got.is retried.agrees.holds in
-          let generation_is : e.owner.roots.generation ≡ t.drops = ap (λ (x : OwnerView D). x.roots.generation) (owner_is b e index made) ∙ after.holds.scopes.generation in
-          let index_is : index ≡ length t.scoped = made.adds.index_is ∙ after.holds.scoped.same_count in
-          let sized : size ≡ object_size layouts t.types o = sym (for.of_size layouts) in
+          let added = made.adds.adds.added in
+          let fills = made.fills in
+          let bytes : List ℕ = fills.bytes in
+          let has_now : HasShape (record new.blank { bytes = bytes }) new.shape new.count = shape_after layouts request new.shape new.blank bytes new.count new.of_kind fills.rewrites.front new.has in
           record {
-            small = ap (too_large layouts) (for.of_size layouts) ∙ small;
-            not_full = not_full;
-            after = retried.after;
-            prepares = subst (λ (k : ℕ). Prepares layouts s.alloc_counter k before true retried.after) sized (policy.tried beginning.makes beginning.dues retried.retried);
-            allocates = record {
-              pages = got.pages;
-              gets = subst (λ (k : ℕ). GetsPages limits.limit t (need_of layouts k) got.pages) sized got.gets;
-              fits = fits-stay layouts (with_pages got.pages t) a.places retried.after.account.places (object_size layouts t.types o)
-                  (stays_on layouts counted s.alloc_counter b (count_try before) beginning retried.after.account.places retried.stay)
-                  (subst (FitsIn layouts retried.after.account.places (with_pages got.pages t)) sized (subst (λ (u : Table D). FitsIn layouts retried.after.account.places u size) got.is retried.tried.1));
-              made = ap (make o) got.is;
-            };
-            word = made.adds.word;
-            lies = subst (IsPlaceIn layouts retried.after made.adds.word) sized (place_in layouts (shown counted made.mid.owner) retried.after made.adds.word size retried.agrees.holds made.adds.adds.lies);
-            holds = subst (λ (u : Table D). HoldsAccount layouts (shown counted e.owner) (make o u) (with_held layouts (length t.objects) made.adds.word retried.after.account)) (sym got.is)
-                (made_holds due b begins e index made got.pages retried.after.account after);
-            limits = made.limits ∙ sym retried.agrees.limits;
-            handle_is = handle_is ∙ (λ i. record {
-              store_id = record { engine = s.engine; number = s.number };
-              generation = generation_is i;
-              slot = slot.Scoped (index_is i);
-            });
+            object = record new.blank { bytes = bytes };
+            stands = for.stands (naming place ids) (record new.blank { bytes = bytes }) new.of_type has_now (asked_front layouts request new.shape new.blank.bytes bytes fills.rewrites.front) (ap (λ n. struct_base layouts + n) fills.rewrites.same_length ∙ new.stored)
+                (fills.lie (naming place ids) (object_values o) (for.contents ids (naming place ids) (handle_roots made.added.roots) (stand_after due b begins e index made pages place after)));
+            typed = for.typed;
+            free = made.adds.adds.fresh.free;
+            is_even = let aligned = made.adds.adds.fresh.aligned in omega arith;
+            not_null = made.adds.adds.fresh.not_null;
+            here = fills.rewrites.written;
+            others = λ q other. fills.rewrites.others q other ∙ ap (λ (h : HeapView). get h.content q) added ∙ get-put_other made.mid.owner.heap.content word q new.blank other;
+            attached = fills.rewrites.attached ∙ ap (λ (h : HeapView). h.attached) added;
+            capacity = fills.rewrites.capacity ∙ ap (λ (h : HeapView). h.capacity) added;
+            allocated = λ null.
+                allocated_next layouts made.mid.owner.heap.allocated e.owner.heap.allocated size (fills.rewrites.allocated ∙ ap (λ (h : HeapView). h.allocated) added) null
+                ∙ ap (λ k. round_up (made.mid.owner.heap.allocated + 1) alignment + k) (ap (λ k. shape_size k new.shape new.count) null ∙ sym (for.of_size Null));
           }
+
+      -- the owner afterwards
+      owner_is : (b e : OwnerState D) (index : ℕ) (made : Creates layouts v.types.declarations ids request given new b e index) → e.owner ≡ record made.mid.owner { heap = e.owner.heap; roots = with_scoped made.adds.word made.mid.owner.roots }
+      owner_is b e index made = made.fills.rewrites.rest ∙ ap (λ (x : OwnerView D). record x { heap = e.owner.heap }) made.adds.rest
+
+      module _ (small : too_large layouts size ≡ false) (room : is_full (shown s v) ≡ false) (has_ids : lacks_ids o t ≡ false) where
+        not_full : roots_full t ≡ false
+        not_full = sym (full_is layouts (shown s v) t is.holds.place is.holds.holds) ∙ room
+
+        -- the ids are those of the function values with the object's
+        by : FunctionsBy t.funcs s.funcs → FunctionsBy (with_functions (object_functions o) t.funcs) ids
+        by funcs = subst (λ (fs : List (Option Func)). FunctionsBy fs ids) (functions t.funcs) (interned.held t.funcs funcs)
+
+        -- the table with the object is held, with its root pushed
+        made_holds : (due : Bool) (b : OwnerState D) → BeginsMaking layouts s.first due start b → (e : OwnerState D) (index : ℕ) (made : Creates layouts v.types.declarations ids request given new b e index) (pages : ℕ) (account : Account) → HoldsAccount layouts (shown counted made.mid.owner) (with_pages pages t) account
+            → HoldsAccount layouts (with_ids ids (shown counted e.owner)) (make o (with_pages pages t)) (with_held layouts (length t.objects) made.adds.word account)
+        made_holds due b begins e index made pages account after =
+            let object = made_object due b begins e index made pages after.place after.holds in
+            let word : ℕ = made.adds.word in
+            subst (λ (x : OwnerView D). HoldsAccount layouts (with_ids ids (shown counted x)) (make o (with_pages pages t)) (with_held layouts (length t.objects) word account)) (sym (owner_is b e index made))
+            (record {
+              place = placed_at after.place (length t.objects) word;
+              holds = holds_make layouts (with_ids ids (shown counted made.mid.owner)) (intern (object_functions o) (with_pages pages t)) after.place o e.owner.heap word
+                  (holds_interned layouts (shown counted made.mid.owner) (with_pages pages t) after.place (object_functions o) ids after.holds interned.keeps (by after.holds.funcs)) object for.not_host refl not_full;
+              account = record {
+                held = held_more after.place account.held (length t.objects) word (λ p w placed. let held = after.holds.objects.placed p w placed in slice_get_within t.objects p held.entry held.in_table) after.account.held;
+                places = λ p. told_more layouts account.places after.place (length t.objects) word p (after.account.places p);
+                last = after.account.last;
+                tries = after.account.tries;
+                upper = made.fills.rewrites.needs_gc ∙ ap (λ (h : HeapView). h.needs_gc) made.adds.adds.added ∙ after.account.upper;
+              };
+            })
+
+        -- An object that was made and has its values is in the table, under the handle of its root; and its heap is made.
+        pub placing_follows : (due : Bool) → due ≡ is_due s.alloc_counter (min (s.tries + 1) (2 ^ 64 - 1)) → (b e : OwnerState D) (index : ℕ)
+            → BeginsMaking layouts s.first due start b → Creates layouts v.types.declarations ids request given new b e index → (handle : GcRootIndex)
+            → handle ≡ record { store_id = record { engine = s.engine; number = s.number }; generation = e.owner.roots.generation; slot = slot.Scoped index }
+            → PlacesObject layouts s.alloc_counter o before e.limits handle (with_ids ids (shown counted e.owner))
+        placing_follows due due_is b e index begins made handle handle_is =
+            let beginning = begun due due_is b begins in
+            let retried = retry_follows layouts counted size b beginning.after beginning.agrees true made.mid made.retried in
+            let got = got_pages limits.limit (need_of layouts size) t beginning.after.table retried.after.table beginning.may beginning.table
+            (subst (λ (l : Limits). MayHaveGrown l.limit (need_of layouts size) beginning.after.table retried.after.table) beginning.limits retried.tried.0) in
+            let after : HoldsAccount layouts (shown counted made.mid.owner) (with_pages got.pages t) retried.after.account =
+            subst (λ (u : Table D). HoldsAccount layouts (shown counted made.mid.owner) u retried.after.account) got.is retried.agrees.holds in
+            let generation_is : e.owner.roots.generation ≡ t.drops = ap (λ (x : OwnerView D). x.roots.generation) (owner_is b e index made) ∙ after.holds.scopes.generation in
+            let index_is : index ≡ length t.scoped = made.adds.index_is ∙ after.holds.scoped.same_count in
+            let sized : size ≡ object_size layouts t.types o = sym (for.of_size layouts) in
+            record {
+              small = ap (too_large layouts) (for.of_size layouts) ∙ small;
+              not_full = not_full;
+              after = retried.after;
+              prepares = subst (λ (k : ℕ). Prepares layouts s.alloc_counter k before true retried.after) sized (policy.tried beginning.makes beginning.dues retried.retried);
+              allocates = record {
+                pages = got.pages;
+                gets = subst (λ (k : ℕ). GetsPages limits.limit t (need_of layouts k) got.pages) sized got.gets;
+                fits = fits-stay layouts (with_pages got.pages t) a.places retried.after.account.places (object_size layouts t.types o)
+                    (stays_on layouts counted s.alloc_counter b (count_try before) beginning retried.after.account.places retried.stay)
+                    (subst (FitsIn layouts retried.after.account.places (with_pages got.pages t)) sized (subst (λ (u : Table D). FitsIn layouts retried.after.account.places u size) got.is retried.tried.1));
+                made = ap (make o) got.is;
+              };
+              word = made.adds.word;
+              lies = subst (IsPlaceIn layouts retried.after made.adds.word) sized (place_in layouts (shown counted made.mid.owner) retried.after made.adds.word size retried.agrees.holds made.adds.adds.lies);
+              holds = subst (λ (u : Table D). HoldsAccount layouts (with_ids ids (shown counted e.owner)) (make o u) (with_held layouts (length t.objects) made.adds.word retried.after.account)) (sym got.is)
+                  (made_holds due b begins e index made got.pages retried.after.account after);
+              limits = made.limits ∙ sym retried.agrees.limits;
+              handle_is = handle_is ∙ (λ i. record {
+                store_id = record { engine = s.engine; number = s.number };
+                generation = generation_is i;
+                slot = slot.Scoped (index_is i);
+              });
+              has_ids = has_ids;
+            }
 
 -- the last entry is the one that was added
 last_entry : (entries : List RootEntry) (e d : RootEntry) → slice_index_or (entries ++ e ∷ []) (length entries) d ≡ e

@@ -1,5 +1,5 @@
 -- An object that was not placed is refused as the table says.
-use Rattle.std.proofs.Common.{inl, inr, ◌≡◌, ℕ, ◌+◌, ◌-◌, ◌^◌, min, Bool, false, Err, sym, ap, ◌∙◌, refl, subst, arith, length, ◌≤◌}
+use Rattle.std.proofs.Common.{inl, inr, ◌≡◌, ℕ, ◌+◌, ◌-◌, ◌^◌, min, Bool, false, Err, sym, ap, ◌∙◌, refl, subst, arith, length}
 use Rattle.gc_types.specs.declared.kind.Layouts.{Layouts}
 use Rattle.gc_model.specs.Values.{Object}
 use Rattle.gc_model.specs.Table.{Table, make_heap, made_pages}
@@ -23,7 +23,7 @@ use Rattle.gc_policy.specs.Policy as policy
 use Rattle.gc_policy.specs.Policy.{PolicyState, policy_state, count_try, Prepares, Prepared}
 use Rattle.gc_policy.specs.Shown.{shown}
 use Rattle.gc_store.specs.Making.{BeginsMaking, MakesRooted}
-use Rattle.gc_store.specs.Places.{Places, LacksPlace, MayGetPages, bytes_of}
+use Rattle.gc_store.specs.Places.{lacks_ids, Places, LacksPlace, MayGetPages, bytes_of}
 use Rattle.gc_store.specs.Stores.{is_full}
 use Rattle.gc_policy.proofs.CountedTries.{counted_store, counted_holds}
 use Rattle.gc_policy.proofs.KeptPlaces.{lacks-stay}
@@ -52,7 +52,7 @@ pub record FollowsFault {D : Type 0} (layouts : Layouts) (s : StoreView D) (o : 
   pub holds : HoldsAccount layouts (shown (counted_store s) e.owner) table account
 
 module _ {D : Type 0} (layouts : Layouts) (s : StoreView D) (v : OwnerView D) (request : Place) (given : Contents) (new : IsNew D layouts v.types.declarations request) (limits : Limits) (t : Table D) (a : Account) (is : IsStart layouts s v t a) (asked : Asks layouts (shown s v) t request given new)
-    (o : Object D) (for : AsksFor layouts (shown s v) t request given new.shape new.count o) (small : too_large layouts (shape_size layouts new.shape new.count) ≡ false) (room : is_full (shown s v) ≡ false) where
+    (o : Object D) (for : AsksFor layouts (shown s v) t request given new.shape new.count o) (small : too_large layouts (shape_size layouts new.shape new.count) ≡ false) (room : is_full (shown s v) ≡ false) (has_ids : lacks_ids o t ≡ false) where
   abbrev p : PolicyState D
   p = policy_state t a limits
 
@@ -107,6 +107,7 @@ module _ {D : Type 0} (layouts : Layouts) (s : StoreView D) (v : OwnerView D) (r
           no_room = λ made. subst (λ (k : ℕ). HasRoom layouts e.owner.heap k → ⊥) sizes (ends_lacking (owner_rules layouts size) b e false lacks.retried refl);
           holds = retried.agrees.holds;
           limits = sym retried.agrees.limits;
+          has_ids = has_ids;
         }
 
     no_pages_follows : (asked : ℕ) → NotBegun s.first h e → asked ≡ need → LacksPlace layouts s.alloc_counter o p e.limits asked (shown (counted_store s) e.owner)
@@ -120,6 +121,7 @@ module _ {D : Type 0} (layouts : Layouts) (s : StoreView D) (v : OwnerView D) (r
       no_room = (let unmade = (no_heap_follows layouts (counted_store s) h (count_try p) started e no_pages).unmade in λ made. absurd (cc (unmade, made)));
       holds = same_holds no_pages.same;
       limits = refl;
+      has_ids = has_ids;
     }
 
     pub fault_follows : (f : PlaceFault) → MakesRooted layouts new.blank size s.first due h e (Err f) → FollowsFault layouts s o p e f

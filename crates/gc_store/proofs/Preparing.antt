@@ -28,7 +28,7 @@ use Rattle.gc_policy.proofs.RootsShown.{SlotsInFrames}
 use Rattle.gc_store.specs.declared.root.GcRootIndex.{GcRootIndex}
 use Rattle.gc_store.specs.declared.root.RootSlot.TheVariants as slot
 use Rattle.gc_store.specs.Making.{BeginsMaking}
-use Rattle.gc_store.specs.Places.{PlacesObject, LacksPlace, WantsPlace, MayGetPages, bytes_of}
+use Rattle.gc_store.specs.Places.{PlacesObject, lacks_ids, LacksPlace, WantsPlace, MayGetPages, bytes_of}
 use Rattle.gc_store.proofs.SpareLemmas.{holds_roomy}
 
 -- an owner that is ready, whose store holds a table
@@ -54,7 +54,7 @@ ends_lacking rules s e ok (after_refusal lacks first grows collects ends) none =
 
 -- an object of so many bytes is to be made, which isn't too large, and whose root may be pushed
 module _ {D : Type 0} (layouts : Layouts) (s : StoreView D) (v : OwnerView D) (limits : Limits) (t : Table D) (a : Account) (is : IsReadyStore layouts s v t a) (due : Bool) (due_is : due ≡ is_due s.alloc_counter (min (s.tries + 1) (2 ^ 64 - 1)))
-    (o : Object D) (size : ℕ) (sized : size ≡ bytes_of layouts o t) (small : too_large layouts size ≡ false) (full : roots_full t ≡ false) where
+    (o : Object D) (size : ℕ) (sized : size ≡ bytes_of layouts o t) (small : too_large layouts size ≡ false) (full : roots_full t ≡ false) (has_ids : lacks_ids o t ≡ false) where
   abbrev p : PolicyState D
   p = policy_state t a limits
 
@@ -109,6 +109,7 @@ module _ {D : Type 0} (layouts : Layouts) (s : StoreView D) (v : OwnerView D) (l
         no_room = λ made. subst (λ (k : ℕ). HasRoom layouts e.owner.heap k → ⊥) sized (ends_lacking (owner_rules layouts size) b e false lacks.retried refl);
         holds = retried.agrees.holds;
         limits = sym retried.agrees.limits;
+        has_ids = has_ids;
       }
 
   -- no first pages
@@ -125,6 +126,7 @@ module _ {D : Type 0} (layouts : Layouts) (s : StoreView D) (v : OwnerView D) (l
         no_room = (let unmade = no_heap.unmade in λ made. absurd (cc (unmade, made)));
         holds = same_holds e no_pages.same;
         limits = refl;
+        has_ids = has_ids;
       }
 
   -- memory was wanting before the heap was made
@@ -192,4 +194,5 @@ module _ {D : Type 0} (layouts : Layouts) (s : StoreView D) (v : OwnerView D) (l
           generation = generation_is i;
           slot = slot.Scoped (end_is i);
         });
+        has_ids = has_ids;
       }

@@ -4,12 +4,13 @@ use Rattle.std.specs.Prelude.{Option, Result}
 use Rattle.std.specs.Int.{w32, w64, cast_signed, cast_unsigned}
 use Rattle.std.proofs.lemmas.Int.{of_z-to_z}
 use Rattle.gc_types.specs.declared.kind.Layouts.{Layouts}
+use Rattle.gc_types.specs.declared.value.Func.{Func}
 use Rattle.gc_owner.specs.declared.entry.GcClass.{GcClass}
 use Rattle.gc_model.specs.Values.{Reference, null, small, at, Value, numeric, i32, i64, f32, f64, v128, function, reference, number_bits}
-use Rattle.gc_model.specs.Table.{Table}
-use Rattle.gc_model.specs.Reads.{makes_root}
+use Rattle.gc_model.specs.Table.{Table, push}
+use Rattle.gc_model.specs.Reads.{makes_root, after_read}
 use Rattle.gc_model.specs.Stores.{StoreView}
-use Rattle.gc_model.specs.Forms.{Names}
+use Rattle.gc_model.specs.Forms.{Names, FunctionIds, IsFunctionCode}
 use Rattle.gc_model.specs.Holds.{Placing, IsWord, Holds}
 use Rattle.gc_model.proofs.Words.{place_even}
 use Rattle.gc_policy.specs.Accounts.{Account, HoldsAccount, IsAccount}
@@ -21,6 +22,7 @@ use Rattle.gc_store.specs.declared.root.RootFault.TheVariants as fault
 use Rattle.gc_store.specs.declared.stored.Found.TheVariants as found
 use Rattle.gc_store.specs.Kept.{FoundStands}
 use Rattle.gc_store.specs.Handles.{PushesRoot}
+use Rattle.gc_store.specs.OwnedWords.{HoldsThere}
 use Rattle.gc_store.specs.Reading.{ReadsReference, reference_value}
 use Rattle.gc_store.specs.Values.{ReadsValue}
 
@@ -76,8 +78,29 @@ module _ {D : Type 0} (layouts : Layouts) (s : StoreView D) (t : Table D) (a : A
   reads_number (numeric f32 n) r is = (λ makes. absurd (cc makes), (same_number r _ is.found ∙ ap raw.F32 is.is_code, holds))
   reads_number (numeric f64 n) r is = (λ makes. absurd (cc makes), (same_number r _ is.found ∙ ap raw.F64 is.is_code, holds))
   reads_number (numeric v128 n) r is = (λ makes. absurd (cc makes), (same_number r _ is.found ∙ ap raw.V128 is.is_code, holds))
-  reads_number (function f) r is = absurd is.found
+  reads_number (function f) r is = absurd (cc (is.found))
   reads_number (reference class p) r is = absurd (cc (is.found))
+
+-- a function value or none, by the number that stands for it
+pub record FoundFunction (ids : FunctionIds) (code : ℕ) (v : Value) : Type 0 where
+  pub func : Option Func
+  pub is : v ≡ function func
+  pub is_code : IsFunctionCode ids func code
+
+pub found_function : (names : Names) (code : ℕ) (v : Value) → FoundStands names (found.Func code) v → FoundFunction names.funcs code v
+found_function names code (numeric i32 n) is = absurd (cc (is.found))
+found_function names code (numeric i64 n) is = absurd (cc (is.found))
+found_function names code (numeric f32 n) is = absurd (cc (is.found))
+found_function names code (numeric f64 n) is = absurd (cc (is.found))
+found_function names code (numeric v128 n) is = absurd (cc (is.found))
+found_function names code (function f) is = record { func = f; is = refl; is_code = subst (IsFunctionCode names.funcs f) (grind (arith, sym is.found)) is.is_code }
+found_function names code (reference class r) is = absurd (cc (is.found))
+
+pub reads_function : {D : Type 0} (layouts : Layouts) (s : StoreView D) (t : Table D) (a : Account) → HoldsAccount layouts s t a → (ids : FunctionIds) (code : ℕ) (v : Value) → FoundFunction ids code v → (answer : Option Func)
+    → ((f : Option Func) → IsFunctionCode ids f code → answer ≡ f) → ReadsValue layouts t a v (Ok (raw.Func answer)) s
+reads_function layouts s t a holds ids code v found answer is =
+    subst (λ (x : Value). ReadsValue layouts t a x (Ok (raw.Func answer)) s) (sym found.is)
+    (λ makes. absurd (cc makes), (ap raw.Func (is found.func found.is_code), holds))
 
 -- or a reference of some class
 pub record FoundReference (place : Placing) (class : GcClass) (word : ℕ) (v : Value) : Type 0 where
@@ -91,7 +114,7 @@ found_reference names class word (numeric i64 n) is = absurd (cc (is.found))
 found_reference names class word (numeric f32 n) is = absurd (cc (is.found))
 found_reference names class word (numeric f64 n) is = absurd (cc (is.found))
 found_reference names class word (numeric v128 n) is = absurd (cc (is.found))
-found_reference names class word (function f) is = absurd is.found
+found_reference names class word (function f) is = absurd (cc (is.found))
 found_reference names class word (reference c r) is = record {
   root = r;
   is = ap (λ (x : GcClass). reference x r) (grind (arith, sym is.found));
@@ -102,3 +125,31 @@ pub reads_found : {D : Type 0} (layouts : Layouts) (old new : StoreView D) (t : 
     → FoundReference place class word v → ReadsReference layouts old word answer new → ReadsValue layouts t a v (reference_value class answer) new
 reads_found layouts old new t place a class word v answer holds account is reads =
     subst (λ (x : Value). ReadsValue layouts t a x (reference_value class answer) new) (sym is.is) (reads t place a class is.root holds account is.is_word)
+
+-- What a read leaves, with the objects where they lay
+
+pub null_there : {D : Type 0} (layouts : Layouts) (s : StoreView D) (word : ℕ) → word ≡ 0 → (t : Table D) (place : Placing) (a : Account) (class : GcClass) (r : Reference) → HoldsThere layouts s t place a → IsWord place r word
+    → HoldsThere layouts s (after_read (reference class r) t) place a
+null_there layouts s word zero t place a class r there is =
+    let none : r ≡ null = null_word layouts s t place there.0 r (subst (IsWord place r) zero is) in
+    subst (λ (x : Reference). HoldsThere layouts s (after_read (reference class x) t) place a) (sym none) there
+
+pub pushed_there : {D : Type 0} (layouts : Layouts) (new : StoreView D) (t : Table D) (place : Placing) (a : Account) (class : GcClass) (r : Reference) (word : ℕ) → IsWord place r word → 0 < word → HoldsThere layouts new (push r t) place a
+    → HoldsThere layouts new (after_read (reference class r) t) place a
+pushed_there layouts new t place a class null word is positive there = absurd (omega (arith, is, positive))
+pushed_there layouts new t place a class (small n) word is positive there = there
+pushed_there layouts new t place a class (at p) word is positive there = there
+
+pub number_there : {D : Type 0} (layouts : Layouts) (s : StoreView D) (t : Table D) (place : Placing) (a : Account) (names : Names) (v : Value) (r : RawValue) → FoundStands names (found.Number r) v → HoldsThere layouts s t place a
+    → HoldsThere layouts s (after_read v t) place a
+number_there layouts s t place a names (numeric kind n) r is there = there
+number_there layouts s t place a names (function f) r is there = there
+number_there layouts s t place a names (reference class p) r is there = absurd (cc (is.found))
+
+pub found_there : {D : Type 0} (layouts : Layouts) (s : StoreView D) (t : Table D) (place : Placing) (a : Account) (class : GcClass) (word : ℕ) (v : Value) → (is : FoundReference place class word v)
+    → HoldsThere layouts s (after_read (reference class is.root) t) place a → HoldsThere layouts s (after_read v t) place a
+found_there layouts s t place a class word v is there = subst (λ (x : Value). HoldsThere layouts s (after_read x t) place a) (sym is.is) there
+
+pub function_there : {D : Type 0} (layouts : Layouts) (s : StoreView D) (t : Table D) (place : Placing) (a : Account) (ids : FunctionIds) (code : ℕ) (v : Value) → (is : FoundFunction ids code v) → HoldsThere layouts s t place a
+    → HoldsThere layouts s (after_read v t) place a
+function_there layouts s t place a ids code v is there = subst (λ (x : Value). HoldsThere layouts s (after_read x t) place a) (sym is.is) there

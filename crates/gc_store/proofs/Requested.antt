@@ -5,6 +5,7 @@ use Rattle.std.specs.Prelude.{option_map, unwrap_or}
 use Rattle.std.proofs.lemmas.List.{length-map, length-replicate}
 use Rattle.std.proofs.lemmas.Option.{none-some, same_Some, slice_get_within}
 use Rattle.gc_types.specs.declared.value.FieldType.{FieldType}
+use Rattle.gc_types.specs.declared.value.Func.{Func}
 use Rattle.gc_types.specs.declared.value.StorageType.{StorageType}
 use Rattle.gc_types.specs.declared.value.Tag.{Tag}
 use Rattle.gc_types.specs.declared.value.ValType.{ValType}
@@ -25,13 +26,15 @@ use Rattle.gc_store.specs.Words.{HandleRoots}
 use Rattle.gc_model.specs.Values.{Value, numeric, i32, Object, struct, array, exception}
 use Rattle.gc_model.specs.Reach.{IsHost, object_values}
 use Rattle.gc_model.specs.Sizes.{fields_size, elements_size, exception_size, exn_fields_at, object_size}
+use Rattle.gc_model.specs.Functions.{functions_of, object_functions, with_functions}
 use Rattle.gc_model.specs.Standing.{Stands, ValuesLie}
 use Rattle.gc_model.specs.Stored.{stored, stored_in, byte_value}
 use Rattle.gc_model.specs.Fits.{fits}
 use Rattle.gc_model.specs.Table.{Table}
 use Rattle.gc_model.specs.Stores.{StoreView}
-use Rattle.gc_model.specs.Forms.{Names, storage_form}
+use Rattle.gc_model.specs.Forms.{Names, FunctionIds, storage_form}
 use Rattle.gc_model.specs.Holds.{Placing, Holds}
+use Rattle.gc_model.proofs.Interned.{functions-stored, functions-stored_in, functions-mapped, functions-bytes, functions-replicate}
 use Rattle.gc_model.proofs.Lists.{slice_get-same_length}
 use Rattle.gc_model.proofs.MadeObjects.{struct_stands, array_stands, exception_stands}
 use Rattle.gc_model.proofs.ObjectShapes.{shape_at, exception_shape, type_of_slot, FieldOfSlot, field_of_slot}
@@ -44,18 +47,21 @@ use Rattle.gc_store.specs.declared.request.Contents.TheVariants as contents
 use Rattle.gc_store.specs.declared.root.RawValue.{RawValue}
 use Rattle.gc_store.specs.Filling.{asked_type, BytesFit, ContentsFit, ContentsStand, EachFits, EachStands, SameFits, SameStands}
 use Rattle.gc_store.specs.HeldSlots.{HasShape}
+use Rattle.gc_store.specs.Interning.{given_values}
 use Rattle.gc_store.specs.Making.{IsSizeOf}
-use Rattle.gc_store.specs.Kept.{IsKept, StoredStands}
+use Rattle.gc_store.specs.Kept.{StoredStands}
 use Rattle.gc_store.specs.Requests.{CanPlaceIn, CanPlaceFields, CanPlaceStruct, CanPlaceException, IsObjectOf, fields_of, exn_fields_of, element_of, stored_as}
 use Rattle.gc_store.specs.Tagging.{HasTag}
-use Rattle.gc_store.specs.Values.{AllStand, CanStore, RawStands}
+use Rattle.gc_store.specs.Values.{AllStand, CanStore, RawStands, raw_functions}
+use Rattle.gc_store.proofs.GivenFunctions.{HaveIds, have_one, all-stand, raw-stands}
 use Rattle.gc_store.proofs.NewObjects.{IsNew, new_struct_is, new_exn_is, new_array_is, struct_size_of, exn_size_of, array_size_of}
-use Rattle.gc_store.proofs.WritingAt.{is_kept, storable_form, value_of}
+use Rattle.gc_store.proofs.KeptAgain.{IsRooted, rooted_kept}
+use Rattle.gc_store.proofs.WritingAt.{is_rooted, storable_form, value_of}
 
 -- Slots keep, of any value that may be stored, what stands for it.
-abbrev pub StandsFor : {D : Type 0} → Layouts → StoreView D → Table D → Names → HandleRoots → Type 0
-StandsFor {D} layouts s t names roots =
-    (ty : StorageType) (r : RawValue) (v : Value) → CanStore D layouts s ty r → RawStands s t r v → StoredStands names roots ty r (stored ty v)
+abbrev pub StandsFor : {D : Type 0} → Layouts → StoreView D → Table D → FunctionIds → Names → HandleRoots → Type 0
+StandsFor {D} layouts s t ids names roots =
+    (ty : StorageType) (r : RawValue) (v : Value) → CanStore D layouts s ty r → RawStands s t r v → StoredStands ids names roots ty r (stored ty v)
 
 -- an exception has its tag
 abbrev pub HasAskedFront : Place → List ℕ → Type 0
@@ -68,13 +74,13 @@ pub record AsksFor {D : Type 0} (layouts : Layouts) (s : StoreView D) (t : Table
   pub not_host : ¬ IsHost (Some o)
   pub of_size : (k : Layouts) → object_size k t.types o ≡ shape_size k shape count
   pub typed : IsTypedObject t.types t.objects o
-  pub contents : (names : Names) (roots : HandleRoots) → StandsFor layouts s t names roots → ContentsStand given names roots (shape_slots layouts shape count) (object_values o)
+  pub contents : (ids : FunctionIds) (names : Names) (roots : HandleRoots) → StandsFor layouts s t ids names roots → ContentsStand ids given names roots (shape_slots layouts shape count) (object_values o)
   pub stands : (names : Names) (h : HeapObject) → h.ty ≡ asked_type request → HasShape h shape count → HasAskedFront request h.bytes → struct_base layouts + length h.bytes ≡ stored_size layouts (shape_size layouts shape count)
       → ValuesLie names (struct_base layouts) (shape_slots layouts shape count) (object_values o) h.bytes → Stands layouts t.types names o h
 
 -- What is given fits what is made for a request, and stands for what is asked for.
 pub record Asks {D : Type 0} (layouts : Layouts) (s : StoreView D) (t : Table D) (request : Place) (given : Contents) (new : IsNew D layouts s.types request) : Type 0 where
-  pub fit : (roots : HandleRoots) → ((r : RawValue) → IsKept (store_roots s) r → IsKept roots r) → ContentsFit request given roots (shape_slots layouts new.shape new.count)
+  pub fit : (ids : FunctionIds) (roots : HandleRoots) → HaveIds ids (raw_functions (given_values request given)) → ((r : RawValue) → IsRooted (store_roots s) r → IsRooted roots r) → ContentsFit ids request given roots (shape_slots layouts new.shape new.count)
   pub some : (o : Object D) × IsObjectOf s t request given o
   pub asks_for : (t : Table D) (p : Placing) (o : Object D) → Holds layouts s t p → IsObjectOf s t request given o → AsksFor layouts s t request given new.shape new.count o
 
@@ -135,6 +141,16 @@ values_with {D} s t (x ∷ raws) each =
     at first {vs} rest zero r v e f = subst (λ (v : Value). RawStands s t r v) (same_Some first.0 v f) (subst (λ (r : RawValue). RawStands s t r first.0) (same_Some x r e) first.1)
     at first {vs} rest (suc i) r v e f = rest.each i r v e f
 
+-- one value for all elements: where there are some, it is looked at
+have_same : (ids : FunctionIds) (ty count : ℕ) (value : Bor RawValue) → HaveIds ids (raw_functions (given_values (place.Array ty count) (contents.Same value))) → 0 < count → HaveIds ids (raw_functions (value.now ∷ []))
+have_same ids ty zero value have some = absurd (omega (arith, some))
+have_same ids ty (suc n) value have some = have
+
+same_functions : (ty count : ℕ) (given : Bor RawValue) (v : Value) → (0 < count → raw_functions (given.now ∷ []) ≡ functions_of (v ∷ [])) → (known : List (Option Func))
+    → with_functions (raw_functions (given_values (place.Array ty count) (contents.Same given))) known ≡ with_functions (functions_of (replicate count v)) known
+same_functions ty zero given v is known = refl
+same_functions ty (suc n) given v is known = ap (λ (fs : List (Option Func)). with_functions fs known) (is (omega arith)) ∙ sym (functions-replicate n v known)
+
 module _ (D : Type 0) (layouts : Layouts) (s : StoreView D) (t0 : Table D) (place0 : Placing) (holds0 : Holds layouts s t0 place0) where
   -- Values for fields, one for each
 
@@ -153,27 +169,33 @@ module _ (D : Type 0) (layouts : Layouts) (s : StoreView D) (t0 : Table D) (plac
       field_type : (i : ℕ) (slot : StorageSlot) → slice_get (field_slots base fields) i ≡ Some slot → FieldOfSlot fields i slot
       field_type i slot at = field_of_slot base fields i slot at
 
-      fields_fit : (roots : HandleRoots) → ((r : RawValue) → IsKept (store_roots s) r → IsKept roots r) → EachFits raws roots (field_slots base fields)
-      fields_fit roots keeps = record {
+      fields_fit : (ids : FunctionIds) (roots : HandleRoots) → HaveIds ids (raw_functions raws) → ((r : RawValue) → IsRooted (store_roots s) r → IsRooted roots r) → EachFits ids raws roots (field_slots base fields)
+      fields_fit ids roots have keeps = record {
         same_count = can.same_count ∙ sym (length-field_slots base fields);
         forms = λ i slot r at r_at.
             let f = field_type i slot at in
             storable_form D layouts s t0 place0 holds0 f.field.element_type r (can.each i f.field r f.field_is r_at) ∙ ap storage_form f.type_is;
-        kept = λ i r r_at. let f = field_of i r r_at in keeps r (is_kept D layouts s r (can.each i f.0 r f.1 r_at).live);
+        kept = λ i r r_at. let f = field_of i r r_at in rooted_kept ids roots r (have_one ids raws i r r_at have) (keeps r (is_rooted D layouts s r (can.each i f.0 r f.1 r_at).live));
       }
 
-      fields_contents : (t : Table D) (vs : List Value) (all : AllStand s t raws vs) (names : Names) (roots : HandleRoots) → StandsFor layouts s t names roots → EachStands raws names roots (field_slots base fields) (stored_in fields vs)
-      fields_contents t vs all names roots stands = record {
+      fields_contents : (t : Table D) (vs : List Value) (all : AllStand s t raws vs) (ids : FunctionIds) (names : Names) (roots : HandleRoots) → StandsFor layouts s t ids names roots → EachStands ids raws names roots (field_slots base fields) (stored_in fields vs)
+      fields_contents t vs all ids names roots stands = record {
         same_count = can.same_count ∙ sym (length-stored_in fields vs (sym all.same_count ∙ can.same_count));
         each = λ i slot r w at r_at w_at.
             let f = field_type i slot at in
             let k = kept_value fields vs i w w_at in
             let same : k.field ≡ f.field = same_Some k.field f.field (sym k.field_is ∙ f.field_is) in
             let ty_is : k.field.element_type ≡ slot.storage = ap (λ (x : FieldType). x.element_type) same ∙ f.type_is in
-            subst (λ (st : StorageType). StoredStands names roots st r w) ty_is
-            (subst (λ (x : Value). StoredStands names roots k.field.element_type r x) (sym k.kept_is)
+            subst (λ (st : StorageType). StoredStands ids names roots st r w) ty_is
+            (subst (λ (x : Value). StoredStands ids names roots k.field.element_type r x) (sym k.kept_is)
             (stands k.field.element_type r k.value (can.each i k.field r k.field_is r_at) (all.each i r k.value r_at k.value_is)));
       }
+
+    -- the function values that are given are those of the fields
+    fields_functions : (t : Table D) (vs : List Value) (all : AllStand s t raws vs) (known : List (Option Func)) → with_functions (raw_functions raws) known ≡ with_functions (functions_of (stored_in fields vs)) known
+    fields_functions t vs all known =
+        ap (λ (fs : List (Option Func)). with_functions fs known)
+        (all-stand s t raws vs all ∙ sym (functions-stored_in fields vs (sym all.same_count ∙ can.same_count)))
 
     module _ (t : Table D) (p : Placing) (holds : Holds layouts s t p) (vs : List Value) (all : AllStand s t raws vs) where
       fields_match : (i : ℕ) (field : FieldType) (v : Value) → slice_get fields i ≡ Some field → slice_get vs i ≡ Some v → fits t.types t.objects field.element_type v ≡ true
@@ -195,8 +217,8 @@ module _ (D : Type 0) (layouts : Layouts) (s : StoreView D) (t0 : Table D) (plac
       not_host = λ host. host;
       of_size = λ k. ap (fields_size k) declared_here;
       typed = typed-struct t.types t.objects ty can.fields vs declared_here (fields_match (struct_fields_at s.types ty) raws can t p holds vs all);
-      contents = λ names roots stands. subst (λ (rs : List RawValue). EachStands rs names roots (shape_slots layouts (struct_of can.fields) 0) (stored_in can.fields vs)) (sym same)
-          (fields_contents (struct_fields_at s.types ty) raws can (struct_base layouts) t vs all names roots stands);
+      contents = λ ids names roots stands. subst (λ (rs : List RawValue). EachStands ids rs names roots (shape_slots layouts (struct_of can.fields) 0) (stored_in can.fields vs)) (sym same)
+          (fields_contents (struct_fields_at s.types ty) raws can (struct_base layouts) t vs all ids names roots stands);
       stands = λ names h same_type kind front size lie. struct_stands layouts t.types names ty (stored_in can.fields vs) h same_type can.fields declared_here kind size lie;
     }
 
@@ -206,9 +228,9 @@ module _ (D : Type 0) (layouts : Layouts) (s : StoreView D) (t0 : Table D) (plac
     abbrev exn_params : (params : List ValType) × ((shape_at s.types ty ≡ Some (exn_of params)) × (map constant_field params ≡ can.fields))
     exn_params = exception_shape s.types ty can.fields can.declared
 
-    exn_fit : (roots : HandleRoots) → ((r : RawValue) → IsKept (store_roots s) r → IsKept roots r) → EachFits raws roots (shape_slots layouts (exn_of exn_params.0) 0)
-    exn_fit roots keeps =
-        subst (λ (fs : List FieldType). EachFits raws roots (field_slots (exception_base layouts) fs)) (sym exn_params.1.1) (fields_fit (exn_fields_at s.types ty) raws can (exception_base layouts) roots keeps)
+    exn_fit : (ids : FunctionIds) (roots : HandleRoots) → HaveIds ids (raw_functions raws) → ((r : RawValue) → IsRooted (store_roots s) r → IsRooted roots r) → EachFits ids raws roots (shape_slots layouts (exn_of exn_params.0) 0)
+    exn_fit ids roots have keeps =
+        subst (λ (fs : List FieldType). EachFits ids raws roots (field_slots (exception_base layouts) fs)) (sym exn_params.1.1) (fields_fit (exn_fields_at s.types ty) raws can (exception_base layouts) ids roots have keeps)
 
     module _ (t : Table D) (p : Placing) (holds : Holds layouts s t p) where
       exn_declared : exn_fields_at t.types ty ≡ Some can.fields
@@ -226,10 +248,10 @@ module _ (D : Type 0) (layouts : Layouts) (s : StoreView D) (t0 : Table D) (plac
         not_host = λ host. host;
         of_size = exn_size_is;
         typed = typed-exception t.types t.objects ty tag can.fields vs exn_declared (fields_match (exn_fields_at s.types ty) raws can t p holds vs all);
-        contents = λ names roots stands.
-            subst (λ (fs : List FieldType). EachStands given.now names roots (field_slots (exception_base layouts) fs) (stored_in can.fields vs)) (sym exn_params.1.1)
-            (subst (λ (rs : List RawValue). EachStands rs names roots (field_slots (exception_base layouts) can.fields) (stored_in can.fields vs)) (sym same)
-            (fields_contents (exn_fields_at s.types ty) raws can (exception_base layouts) t vs all names roots stands));
+        contents = λ ids names roots stands.
+            subst (λ (fs : List FieldType). EachStands ids given.now names roots (field_slots (exception_base layouts) fs) (stored_in can.fields vs)) (sym exn_params.1.1)
+            (subst (λ (rs : List RawValue). EachStands ids rs names roots (field_slots (exception_base layouts) can.fields) (stored_in can.fields vs)) (sym same)
+            (fields_contents (exn_fields_at s.types ty) raws can (exception_base layouts) t vs all ids names roots stands));
         stands = λ names h same_type kind front size lie.
             exception_stands layouts t.types names ty (stored_in can.fields vs) h same_type exn_params.0 tag (ap (λ (ts : List Declaration). shape_at ts ty) (sym holds.types) ∙ exn_params.1.0) kind front.instance front.index size lie;
       }
@@ -271,11 +293,11 @@ module _ (D : Type 0) (layouts : Layouts) (s : StoreView D) (t0 : Table D) (plac
 
     -- with a value for each element
     module _ (raws : List RawValue) (same_count : length raws ≡ count) (each : (i : ℕ) (r : RawValue) → slice_get raws i ≡ Some r → CanStore D layouts s element.element_type r) where
-      elements_fit : (roots : HandleRoots) → ((r : RawValue) → IsKept (store_roots s) r → IsKept roots r) → EachFits raws roots slots
-      elements_fit roots keeps = record {
+      elements_fit : (ids : FunctionIds) (roots : HandleRoots) → HaveIds ids (raw_functions raws) → ((r : RawValue) → IsRooted (store_roots s) r → IsRooted roots r) → EachFits ids raws roots slots
+      elements_fit ids roots have keeps = record {
         same_count = same_count ∙ sym slots_count;
         forms = λ i slot r at r_at. storable_form D layouts s t0 place0 holds0 element.element_type r (each i r r_at) ∙ ap storage_form (slot_type i slot at);
-        kept = λ i r r_at. keeps r (is_kept D layouts s r (each i r r_at).live);
+        kept = λ i r r_at. rooted_kept ids roots r (have_one ids raws i r r_at have) (keeps r (is_rooted D layouts s r (each i r r_at).live));
       }
 
       elements_some : (vs : List Value) × AllStand s t0 raws vs
@@ -292,25 +314,25 @@ module _ (D : Type 0) (layouts : Layouts) (s : StoreView D) (t0 : Table D) (plac
             typed = typed-array t.types t.objects ty element vs (element_here t p holds) (λ i v v_at.
                 let r = slice_get-same_length vs raws i v (sym all.same_count) v_at in
                 (each i r.0 r.1).fits t v (p, holds) (all.each i r.0 v r.1 v_at));
-            contents = λ names roots stands. subst (λ (rs : List RawValue). EachStands rs names roots slots values) (sym same) (record {
+            contents = λ ids names roots stands. subst (λ (rs : List RawValue). EachStands ids rs names roots slots values) (sym same) (record {
               same_count = same_count ∙ sym long;
               each = λ i slot r w at r_at w_at.
                   let from = mapped_from (stored element.element_type) vs i w w_at in
-                  subst (λ (st : StorageType). StoredStands names roots st r w) (slot_type i slot at)
-                  (subst (λ (x : Value). StoredStands names roots element.element_type r x) from.is (stands element.element_type r from.element (each i r r_at) (all.each i r from.element r_at from.there)));
+                  subst (λ (st : StorageType). StoredStands ids names roots st r w) (slot_type i slot at)
+                  (subst (λ (x : Value). StoredStands ids names roots element.element_type r x) from.is (stands element.element_type r from.element (each i r r_at) (all.each i r from.element r_at from.there)));
             });
             stands = λ names h same_type has front size lie. array_stands_as t p holds values long names h same_type has size lie;
           }
 
     -- with one value for all
     module _ (r : RawValue) (can : 0 < count → CanStore D layouts s element.element_type r) where
-      same_fit : (roots : HandleRoots) → ((r : RawValue) → IsKept (store_roots s) r → IsKept roots r) → SameFits r count roots slots
-      same_fit roots keeps = record {
+      same_fit : (ids : FunctionIds) (roots : HandleRoots) → (0 < count → HaveIds ids (raw_functions (r ∷ []))) → ((r : RawValue) → IsRooted (store_roots s) r → IsRooted roots r) → SameFits ids r count roots slots
+      same_fit ids roots have keeps = record {
         ty = element.element_type;
         from = elements_from layouts element;
         slots_are = refl;
         form = λ some. storable_form D layouts s t0 place0 holds0 element.element_type r (can some);
-        kept = λ some. keeps r (is_kept D layouts s r (can some).live);
+        kept = λ some. rooted_kept ids roots r (have some) (keeps r (is_rooted D layouts s r (can some).live));
       }
 
       same_some : (v : Value) × (0 < count → RawStands s t0 r v)
@@ -329,12 +351,12 @@ module _ (D : Type 0) (layouts : Layouts) (s : StoreView D) (t0 : Table D) (plac
             not_host = λ host. host;
             of_size = array_size_is t p holds values long;
             typed = typed-filled t.types t.objects ty element count v (element_here t p holds) (λ some. (can some).fits t v (p, holds) (stands_as some));
-            contents = λ names roots stands. subst (λ (x : RawValue). SameStands x names roots slots values) (sym same) (record {
+            contents = λ ids names roots stands. subst (λ (x : RawValue). SameStands ids x names roots slots values) (sym same) (record {
               kept = stored element.element_type v;
               values_are = ap (λ (n : ℕ). replicate n (stored element.element_type v)) (sym slots_count);
               stands = λ i slot at.
                   let some = some_slot i slot at in
-                  subst (λ (st : StorageType). StoredStands names roots st r (stored element.element_type v)) (slot_type i slot at) (stands element.element_type r v (can some) (stands_as some));
+                  subst (λ (st : StorageType). StoredStands ids names roots st r (stored element.element_type v)) (slot_type i slot at) (stands element.element_type r v (can some) (stands_as some));
             });
             stands = λ names h same_type has front size lie. array_stands_as t p holds values long names h same_type has size lie;
           }
@@ -356,7 +378,7 @@ module _ (D : Type 0) (layouts : Layouts) (s : StoreView D) (t0 : Table D) (plac
             not_host = λ host. host;
             of_size = array_size_is t p holds values long;
             typed = typed-bytes t.types t.objects ty element bytes (element_here t p holds) of_bytes;
-            contents = λ names roots stands. ap (map byte_value) (sym same);
+            contents = λ ids names roots stands. ap (map byte_value) (sym same);
             stands = λ names h same_type has front size lie. array_stands_as t p holds values long names h same_type has size lie;
           }
 
@@ -387,7 +409,7 @@ module _ (D : Type 0) (layouts : Layouts) (s : StoreView D) (t0 : Table D) (plac
         (elements_for ty count can.element can.declared values.now can.same_count can.each t p holds is.0 is.1.0 values refl);
   }
   asks (place.Array ty count) (contents.Same value) counted can = record {
-    fit = same_fit ty count can.element can.declared value.now can.fits;
+    fit = λ ids roots have keeps. same_fit ty count can.element can.declared value.now can.fits ids roots (have_same ids ty count value have) keeps;
     some = (let v = same_some ty count can.element can.declared value.now can.fits in (array ty (replicate count (stored (element_of t0.types ty) v.0)), (v.0, (v.1, refl))));
     asks_for = λ t p o holds is.
         let e : o ≡ array ty (replicate count (stored can.element.element_type is.0)) = is.1.1 ∙ ap (λ (st : StorageType). array ty (replicate count (stored st is.0))) (element_is ty count can.element can.declared t p holds) in
@@ -395,13 +417,34 @@ module _ (D : Type 0) (layouts : Layouts) (s : StoreView D) (t0 : Table D) (plac
         (same_for ty count can.element can.declared value.now can.fits t p holds is.0 is.1.0 value refl);
   }
   asks (place.Array ty count) (contents.Bytes bytes) counted can = record {
-    fit = λ roots keeps. bytes_fit ty count can.element can.declared bytes.now can.of_bytes can.same_count roots;
+    fit = λ ids roots have keeps. bytes_fit ty count can.element can.declared bytes.now can.of_bytes can.same_count roots;
     some = (array ty (map byte_value bytes.now), refl);
     asks_for = λ t p o holds is. subst (λ (x : Object D). AsksFor layouts s t (place.Array ty count) (contents.Bytes bytes) (array_of can.element) count x) (sym is)
         (bytes_for ty count can.element can.declared bytes.now can.of_bytes can.same_count t p holds bytes refl);
   }
   asks (place.Struct ty) (contents.Same value) counted can = absurd can
   asks (place.Struct ty) (contents.Bytes bytes) counted can = absurd can
+
+  -- its function values are those that are given
+  pub asked_functions : (request : Place) (given : Contents) → CanPlaceIn D layouts s request given → (t : Table D) (p : Placing) (o : Object D) → Holds layouts s t p → IsObjectOf s t request given o
+      → (known : List (Option Func)) → with_functions (raw_functions (given_values request given)) known ≡ with_functions (object_functions o) known
+  asked_functions (place.Struct ty) (contents.Each values) can t p o holds is known =
+      let e : o ≡ struct ty (stored_in can.fields is.0) = is.1.1 ∙ ap (λ (fs : List FieldType). struct ty (stored_in fs is.0)) (fields_are ty values.now can t p holds) in
+      fields_functions (struct_fields_at s.types ty) values.now can t is.0 is.1.0 known ∙ ap (λ (x : Object D). with_functions (object_functions x) known) (sym e)
+  asked_functions (place.Exn ty tag) (contents.Each values) can t p o holds is known =
+      let e : o ≡ exception ty tag (stored_in can.fields is.0) = is.1.1 ∙ ap (λ (fs : List FieldType). exception ty tag (stored_in fs is.0)) (exn_fields_are ty tag values.now can t p holds) in
+      fields_functions (exn_fields_at s.types ty) values.now can t is.0 is.1.0 known ∙ ap (λ (x : Object D). with_functions (object_functions x) known) (sym e)
+  asked_functions (place.Array ty count) (contents.Each values) can t p o holds is known =
+      ap (λ (fs : List (Option Func)). with_functions fs known) (all-stand s t values.now is.0 is.1.0 ∙ sym (functions-mapped (element_of t.types ty) is.0)) ∙ ap (λ (x : Object D). with_functions (object_functions x) known) (sym is.1.1)
+  asked_functions (place.Array ty count) (contents.Same value) can t p o holds is known =
+      same_functions ty count value (stored (element_of t.types ty) is.0) (λ some. raw-stands s t value.now is.0 (is.1.0 some) ∙ sym (functions-stored (element_of t.types ty) is.0)) known
+      ∙ ap (λ (x : Object D). with_functions (object_functions x) known) (sym is.1.1)
+  asked_functions (place.Array ty count) (contents.Bytes bytes) can t p o holds is known =
+      ap (λ (fs : List (Option Func)). with_functions fs known) (sym (functions-bytes bytes.now)) ∙ ap (λ (x : Object D). with_functions (object_functions x) known) (sym is)
+  asked_functions (place.Struct ty) (contents.Same value) can t p o holds is known = absurd can
+  asked_functions (place.Struct ty) (contents.Bytes bytes) can t p o holds is known = absurd can
+  asked_functions (place.Exn ty tag) (contents.Same value) can t p o holds is known = absurd can
+  asked_functions (place.Exn ty tag) (contents.Bytes bytes) can t p o holds is known = absurd can
 
   -- and how large it is
   pub sized : (request : Place) (given : Contents) → CanPlaceIn D layouts s request given → Sized layouts s request given

@@ -11,7 +11,6 @@ use Rattle.gc_model.specs.Stores.{StoreView}
 use Rattle.gc_model.specs.Holds.{Placing, Holds}
 use Rattle.gc_model.proofs.Words.{word_same}
 use Rattle.gc_store.specs.declared.root.GcRootIndex.{GcRootIndex}
-use Rattle.gc_store.specs.declared.root.RootFault.{RootFault}
 use Rattle.gc_store.specs.Roots.{word_of, NamesReference, NamesNothing}
 use Rattle.gc_store.proofs.HandleWords.{named_word, names_word}
 
@@ -39,7 +38,7 @@ compared r q u v same = elim (nat_eq u v) as (λ b. nat_eq u v ≡ b → b ≡ s
 ] refl
 
 -- an error that a call hands on
-pub same_err : {A : Type 0} (r : Result A RootFault) (f : RootFault) → IsErrAnd r (λ e. e ≡ f) → r ≡ Err f
+pub same_err : {A E : Type 0} (r : Result A E) (f : E) → IsErrAnd r (λ e. e ≡ f) → r ≡ Err f
 same_err (Ok x) f is = absurd is
 same_err (Err e) f is = ap Err is
 

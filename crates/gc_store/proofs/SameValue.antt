@@ -85,7 +85,8 @@ take-zeros (suc w) (suc n) below = ap (λ xs. 0 ∷ xs) (take-zeros w n (omega (
 form_again : (h h' : HeapView) (form : Form) (x : Stored) → ((word : ℕ) → IsWordOf h word → IsWordOf h' word) → OfForm h form x → OfForm h' form x
 form_again h h' (number_of kind) (kept.Number n) again of = of
 form_again h h' (number_of kind) (kept.Ref word) again of = absurd of
-form_again h h' function_of x again of = absurd of
+form_again h h' function_of (kept.Number n) again of = of
+form_again h h' function_of (kept.Ref word) again of = absurd of
 form_again h h' continuation_of x again of = absurd of
 form_again h h' (reference_of class) (kept.Number n) again of = absurd of
 form_again h h' (reference_of class) (kept.Ref word) again of = again word of

@@ -2,13 +2,14 @@
 use Rattle.std.proofs.Common.{◌≡◌, ℕ, List, [], true, false, refl, sym, ap, ◌∙◌, subst, arith}
 use Rattle.std.specs.List.{IsDistinct}
 use Rattle.std.specs.Option.{option_map}
+use Rattle.std.specs.FinMap as finite
 use Rattle.std.specs.Int.NonZero.{non_zero_u32_get}
 use Rattle.std.proofs.lemmas.Option.{none-some}
 use Rattle.gc_types.specs.declared.kind.Layouts.{Layouts}
 use Rattle.gc_types.specs.Declarations.{TypeTable}
 use Rattle.gc_model.specs.Table.{start}
 use Rattle.gc_view.specs.Heaps.{HeapView}
-use Rattle.gc_model.specs.Stores.{StoreView, empty_store}
+use Rattle.gc_model.specs.Stores.{FunctionIds, StoreView, empty_store}
 use Rattle.gc_model.proofs.HoldsStart.{nowhere, IsUntouched, holds_untouched, untouched_new, untouched_from_parts, untouched_from_start}
 use Rattle.gc_heap.specs.Content.{IsHeap}
 use Rattle.gc_owner.specs.Owners.{OwnerView, new_owner}
@@ -51,13 +52,13 @@ sound_start D layouts counts v s idle engine number frames holds = record {
   holds = holds;
 }
 
-module _ {D : Type 0} (id : StoreId) (config : HeapConfig) (v : OwnerView D) (fresh : v ≡ new_owner id.engine id.number v.roots.list_spare) where
+module _ {D : Type 0} (id : StoreId) (config : HeapConfig) (ids : FunctionIds) (none : ids ≡ finite.empty) (v : OwnerView D) (fresh : v ≡ new_owner id.engine id.number v.roots.list_spare) where
   -- a store over a new owner shows nothing
-  pub new_view : store_view id config v 0 ≡ empty_store id.engine id.number config.first_pages config.max_scoped config.max_owned (option_map non_zero_u32_get config.alloc_counter)
-  new_view = ap (λ (o : OwnerView D). store_view id config o 0) fresh
+  pub new_view : store_view id config ids v 0 ≡ empty_store id.engine id.number config.first_pages config.max_scoped config.max_owned (option_map non_zero_u32_get config.alloc_counter)
+  new_view = ap (λ (o : OwnerView D). store_view id config ids o 0) fresh ∙ ap (λ (m : FunctionIds). store_view id config m (new_owner id.engine id.number v.roots.list_spare) 0) none
 
   -- so it holds the empty table
-  pub starts_fresh : (layouts : Layouts) → HoldsStart D layouts (store_view id config v 0)
+  pub starts_fresh : (layouts : Layouts) → HoldsStart D layouts (store_view id config ids v 0)
   starts_fresh layouts =
       subst (HoldsStart D layouts) (sym new_view)
       (starts_untouched D layouts (empty_store id.engine id.number config.first_pages config.max_scoped config.max_owned (option_map non_zero_u32_get config.alloc_counter))
@@ -65,10 +66,10 @@ module _ {D : Type 0} (id : StoreId) (config : HeapConfig) (v : OwnerView D) (fr
       (record { last = refl; tries = refl; upper = refl }))
 
   -- and is sound
-  pub sound_new : (layouts : Layouts) (counts : List ℕ) → counts ≡ [] → IsSound D layouts counts v (store_view id config v 0)
-  sound_new layouts counts none =
-      sound_start D layouts counts v (store_view id config v 0) (ap (λ (o : OwnerView D). o.idle) fresh) (ap (λ (o : OwnerView D). o.types.engine) fresh) (ap (λ (o : OwnerView D). o.types.number) fresh)
-      (none ∙ ap (λ (s : StoreView D). slot_counts s.frames) (sym new_view)) (starts_fresh layouts)
+  pub sound_new : (layouts : Layouts) (counts : List ℕ) → counts ≡ [] → IsSound D layouts counts v (store_view id config ids v 0)
+  sound_new layouts counts no_frames =
+      sound_start D layouts counts v (store_view id config ids v 0) (ap (λ (o : OwnerView D). o.idle) fresh) (ap (λ (o : OwnerView D). o.types.engine) fresh) (ap (λ (o : OwnerView D). o.types.number) fresh)
+      (no_frames ∙ ap (λ (s : StoreView D). slot_counts s.frames) (sym new_view)) (starts_fresh layouts)
 
 -- another configuration leaves a store untouched, and so it holds the empty table with the new numbers
 pub starts_configured : (D : Type 0) (layouts : Layouts) (config : HeapConfig) (s : StoreView D) → HoldsStart D layouts s → HoldsStart D layouts (configured config s)
@@ -96,14 +97,14 @@ starts_configured D layouts config s holds =
 -- a sound store that shows nothing holds the empty table, where no collection ran without a heap
 pub starts_nothing : (D : Type 0) (layouts : Layouts) (counts : List ℕ) (v : OwnerView D) (s : StoreView D) → IsHeap layouts s.heap → (s.heap.attached ≡ false → s.last ≡ 0) → IsSound D layouts counts v s → ShowsNothing s → HoldsStart D layouts s
 starts_nothing D layouts counts v s heap unused sound nothing =
-    starts_untouched D layouts s (untouched_from_parts layouts s sound.table sound.holds.place sound.holds.holds nothing.types nothing.scoped nothing.generation nothing.frames nothing.globals nothing.pending nothing.owns nothing.attached)
+    starts_untouched D layouts s (untouched_from_parts layouts s sound.table sound.holds.place sound.holds.holds nothing.types nothing.scoped nothing.generation nothing.frames nothing.globals nothing.pending nothing.owns nothing.funcs nothing.attached)
     (record { last = unused nothing.attached; tries = nothing.tries; upper = ap (λ (h : HeapView). h.needs_gc) (heap.detached nothing.attached) })
 
 -- a store that holds the empty table shows nothing
 pub nothing_starts : (D : Type 0) (layouts : Layouts) (s : StoreView D) → HoldsStart D layouts s → ShowsNothing s
 nothing_starts D layouts s holds =
     let untouched = untouched_from_start D layouts s holds.place holds.holds in
-    record { tries = holds.account.tries; types = untouched.types; scoped = untouched.scoped; generation = untouched.generation; frames = untouched.frames; globals = untouched.globals; pending = untouched.pending; owns = holds.holds.owned.same_owns; attached = untouched.attached }
+    record { tries = holds.account.tries; types = untouched.types; scoped = untouched.scoped; generation = untouched.generation; frames = untouched.frames; globals = untouched.globals; pending = untouched.pending; owns = holds.holds.owned.same_owns; funcs = untouched.funcs; attached = untouched.attached }
 
 -- a table of types with that id
 pub own_types : (types : TypeTable) (e n : ℕ) → types.engine ≡ e → types.number ≡ n → types ≡ record { engine = e; number = n; declarations = types.declarations }

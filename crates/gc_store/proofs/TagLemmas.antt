@@ -25,6 +25,7 @@ use Rattle.gc_owner.specs.Owners.{OwnerView, CanBegin}
 use Rattle.gc_owner.specs.Writes.{IsNumberPlace, WritesBytes}
 use Rattle.gc_policy.proofs.CollectedOffsets.{ref_slot}
 use Rattle.gc_model.proofs.ObjectShapes.{shape_at}
+use Rattle.gc_model.specs.Forms.{FunctionIds}
 use Rattle.gc_store.specs.Words.{handle_roots, AreRising}
 use Rattle.gc_store.specs.declared.root.RawValue.{RawValue}
 use Rattle.gc_store.specs.HeldSlots.{HasShape, IsHeldOf}
@@ -140,7 +141,7 @@ shape_params o (array_of element) n has is = absurd (cc (sym has.0 ∙ is))
 shape_params o (exn_of params) n has is = (params, refl)
 shape_params o (func_of params results) n has is = absurd has
 
-module _ {D : Type 0} (layouts : Layouts) (v : OwnerView D) (place ty : ℕ) (raws : List RawValue) (object : HeapObject) (shape : Shape) (count : ℕ) (f : IsToFill layouts v place ty (EachFits raws) object shape count) (kind : object.kind ≡ ExnRef) where
+module _ {D : Type 0} (layouts : Layouts) (v : OwnerView D) (place ty : ℕ) (ids : FunctionIds) (raws : List RawValue) (object : HeapObject) (shape : Shape) (count : ℕ) (f : IsToFill layouts v place ty (EachFits ids raws) object shape count) (kind : object.kind ≡ ExnRef) where
   -- an exception that is to be filled is one
   abbrev pub to_tag : IsExceptionAt v place
   to_tag =
@@ -180,7 +181,7 @@ module _ {D : Type 0} (layouts : Layouts) (v : OwnerView D) (place ty : ℕ) (ra
         ]
 
     -- so it is to be filled with its values
-    pub to_fill_tagged : IsToFill layouts mid place ty (EachFits raws) after_tag shape count
+    pub to_fill_tagged : IsToFill layouts mid place ty (EachFits ids raws) after_tag shape count
     to_fill_tagged = record {
       is = record {
         held = did.written;
@@ -190,11 +191,11 @@ module _ {D : Type 0} (layouts : Layouts) (v : OwnerView D) (place ty : ℕ) (ra
       of_type = f.of_type;
       blank = still_blank;
       rising = subst (λ (x : OwnerView D). AreRising x.roots.owned) (sym did.rest) f.rising;
-      fit = subst (λ (x : OwnerView D). EachFits raws (handle_roots x.roots) (shape_slots layouts shape count)) (sym did.rest) f.fit;
+      fit = subst (λ (x : OwnerView D). EachFits ids raws (handle_roots x.roots) (shape_slots layouts shape count)) (sym did.rest) f.fit;
     }
 
     -- and has its tag and its values then
-    pub filled_tagged : (new : OwnerView D) → Fills layouts (EachStands raws) mid new place after_tag shape count → FillsBy layouts (λ before after. HasTag tag after) (EachStands raws) v new place object shape count
+    pub filled_tagged : (new : OwnerView D) → Fills layouts (EachStands ids raws) mid new place after_tag shape count → FillsBy layouts (λ before after. HasTag tag after) (EachStands ids raws) v new place object shape count
     filled_tagged new filled = record {
       bytes = filled.bytes;
       rewrites = record {
@@ -211,5 +212,5 @@ module _ {D : Type 0} (layouts : Layouts) (v : OwnerView D) (place ty : ℕ) (ra
         };
         rest = filled.rewrites.rest ∙ ap (λ (x : OwnerView D). record x { heap = new.heap }) did.rest;
       };
-      lie = λ names values stands. filled.lie names values (subst (λ (x : OwnerView D). EachStands raws names (handle_roots x.roots) (shape_slots layouts shape count) values) (sym did.rest) stands);
+      lie = λ names values stands. filled.lie names values (subst (λ (x : OwnerView D). EachStands ids raws names (handle_roots x.roots) (shape_slots layouts shape count) values) (sym did.rest) stands);
     }

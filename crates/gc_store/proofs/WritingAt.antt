@@ -1,25 +1,29 @@
 -- What a write of a value into an object that a handle names leaves of the store.
-use Rattle.std.proofs.Common.{◌≡◌, ℕ, ◌-◌, true, List, Some, None, Ok, refl, sym, ap, ◌∙◌, subst, arith}
+use Rattle.std.proofs.Common.{◌≡◌, ℕ, ◌-◌, true, List, [], ◌∷◌, Option, Some, None, Ok, refl, sym, ap, ◌∙◌, subst, arith}
 use Rattle.std.specs.Int.{w32, w64, cast_unsigned}
 use Rattle.std.specs.FinMap.{get, gets}
 use Rattle.std.proofs.lemmas.Grind.{common_steps}
 use Rattle.std.proofs.lemmas.Int.{of_z-to_z}
 use Rattle.std.proofs.lemmas.Option.{same_Some}
 use Rattle.gc_types.specs.declared.value.FieldType.{FieldType}
+use Rattle.gc_types.specs.declared.value.Func.{Func}
 use Rattle.gc_types.specs.declared.value.StorageType.{StorageType}
 use Rattle.gc_types.specs.declared.kind.Layouts.{Layouts}
 use Rattle.gc_types.specs.Layouts.{struct_base}
 use Rattle.gc_view.specs.Heaps.{HeapObject, HeapView}
 use Rattle.gc_view.specs.Slots.{StorageSlot}
 use Rattle.gc_heap.specs.Heap.{put_object, with_data}
-use Rattle.gc_model.specs.Values.{null, Value, numeric, i32, i64, f32, f64, v128, reference, number_bits}
+use Rattle.gc_model.specs.Values.{null, Value, numeric, i32, i64, f32, f64, v128, function, reference, number_bits}
 use Rattle.gc_model.specs.Fits.{fits}
 use Rattle.gc_model.specs.Stored.{stored}
-use Rattle.gc_model.specs.Table.{Table, write}
+use Rattle.gc_model.specs.Table.{Table, intern, write}
 use Rattle.gc_model.specs.Stores.{StoreView}
-use Rattle.gc_model.specs.Forms.{IsCode, naming, storage_form, value_form}
+use Rattle.gc_model.specs.Forms.{FunctionIds, IsFunctionCode, IsCode, naming, storage_form, value_form}
 use Rattle.gc_model.specs.Holds.{Placing, IsWord, Holds}
+use Rattle.gc_model.specs.Functions.{FunctionsBy, functions_of, with_functions}
 use Rattle.gc_model.proofs.Fitting.{fits-form, fits-stored}
+use Rattle.gc_model.proofs.HoldsInterned.{with_ids, holds_interned}
+use Rattle.gc_model.proofs.Interned.{functions-stored}
 use Rattle.gc_model.proofs.HoldsWrite.{IsWrittenObject, holds_write}
 use Rattle.gc_model.proofs.ObjectShapes.{IsSlotOf}
 use Rattle.gc_policy.specs.Accounts.{Account, HoldsAccount}
@@ -29,13 +33,15 @@ use Rattle.gc_store.specs.declared.root.RawValue.{RawValue}
 use Rattle.gc_store.specs.declared.root.RawValue.TheVariants as raw
 use Rattle.gc_store.specs.declared.slot.Slot.{Slot}
 use Rattle.gc_store.specs.declared.stored.Stored.{Stored}
-use Rattle.gc_store.specs.declared.stored.Stored.TheVariants as stores
 use Rattle.gc_store.specs.Filling.{slot_bytes}
 use Rattle.gc_store.specs.HeldSlots.{FindsHeldSlot, storage_slot}
 use Rattle.gc_store.specs.Kept.{code_of, FitsForm, IsKept, KeptAs, KeptStands, raw_form, StoredStands}
 use Rattle.gc_store.specs.Roots.{store_roots, word_of}
-use Rattle.gc_store.specs.Values.{CanStore, CanWrite, NamesLive, RawStands, WritesValue}
+use Rattle.gc_store.specs.Values.{CanStore, CanWrite, NamesLive, RawStands, KeepsValue, raw_functions}
+use Rattle.gc_store.specs.Interning.{Interns}
 use Rattle.gc_store.proofs.EachValue.{kept_encoded}
+use Rattle.gc_store.proofs.GivenFunctions.{interned_ids, raw-stands}
+use Rattle.gc_store.proofs.KeptAgain.{IsRooted, rooted_kept}
 use Rattle.gc_store.proofs.LyingAt.{LyingAt, lying_at, slot_is_found}
 use Rattle.gc_store.proofs.HandleWords.{live_has_word, named_word, named_of_store, own_word, names_word}
 
@@ -51,18 +57,18 @@ raw_form_is s t (raw.Ref class None) v is = sym (ap value_form is)
 raw_form_is s t (raw.Ref class (Some handle)) v is = sym (ap value_form is.is)
 
 module _ (D : Type 0) (layouts : Layouts) (s : StoreView D) where
-  -- a value that may be stored is kept
-  pub is_kept : (r : RawValue) → NamesLive D layouts s r → IsKept (store_roots s) r
-  is_kept (raw.I32 n) live = (stores.Number (cast_unsigned w32 n), refl)
-  is_kept (raw.I64 n) live = (stores.Number (cast_unsigned w64 n), refl)
-  is_kept (raw.F32 n) live = (stores.Number n, refl)
-  is_kept (raw.F64 n) live = (stores.Number n, refl)
-  is_kept (raw.V128 n) live = (stores.Number n, refl)
-  is_kept (raw.Func f) live = absurd live
-  is_kept (raw.Ref class None) live = (stores.Ref 0, refl)
-  is_kept (raw.Ref class (Some handle)) live =
+  -- the handle of a value that may be stored has a word
+  pub is_rooted : (r : RawValue) → NamesLive D layouts s r → IsRooted (store_roots s) r
+  is_rooted (raw.I32 n) live = tt
+  is_rooted (raw.I64 n) live = tt
+  is_rooted (raw.F32 n) live = tt
+  is_rooted (raw.F64 n) live = tt
+  is_rooted (raw.V128 n) live = tt
+  is_rooted (raw.Func f) live = tt
+  is_rooted (raw.Ref class None) live = tt
+  is_rooted (raw.Ref class (Some handle)) live =
       let word = live_has_word layouts s live.table live.holds.0 live.holds.1 handle live.root live.named in
-      (stores.Ref word.0, (word.0, (sym (own_word s handle (named_of_store s live.table handle live.root live.named)) ∙ word.1, refl)))
+      (word.0, sym (own_word s handle (named_of_store s live.table handle live.root live.named)) ∙ word.1)
 
   module _ (t : Table D) (place : Placing) (holds : Holds layouts s t place) where
     -- it stands for a value of the table
@@ -72,7 +78,7 @@ module _ (D : Type 0) (layouts : Layouts) (s : StoreView D) where
     value_of (raw.F32 n) live = (numeric f32 n, refl)
     value_of (raw.F64 n) live = (numeric f64 n, refl)
     value_of (raw.V128 n) live = (numeric v128 n, refl)
-    value_of (raw.Func f) live = absurd live
+    value_of (raw.Func f) live = (function f, refl)
     value_of (raw.Ref class None) live = (reference class null, refl)
     value_of (raw.Ref class (Some handle)) live =
         let word = live_has_word layouts s live.table live.holds.0 live.holds.1 handle live.root live.named in
@@ -80,34 +86,34 @@ module _ (D : Type 0) (layouts : Layouts) (s : StoreView D) where
         (reference class named.root, record { root = named.root; named = named.named; is = refl })
 
     -- what is kept of it stands for that value
-    pub kept_stands : (r : RawValue) (v : Value) → RawStands s t r v → KeptStands (naming place t.funcs) (store_roots s) r v
-    kept_stands (raw.I32 n) v stands x kept small =
+    pub kept_stands : (ids : FunctionIds) (r : RawValue) (v : Value) → RawStands s t r v → KeptStands ids (naming place ids) (store_roots s) r v
+    kept_stands ids (raw.I32 n) v stands x kept small =
         let code : code_of x ≡ cast_unsigned w32 n = ap code_of kept in
-        subst (λ (w : Value). IsCode (naming place t.funcs) w (code_of x)) (sym stands)
+        subst (λ (w : Value). IsCode (naming place ids) w (code_of x)) (sym stands)
         (code ∙ sym (of_z-to_z w32 (cast_unsigned w32 n) (subst (FitsForm (raw_form (raw.I32 n))) code small)))
-    kept_stands (raw.I64 n) v stands x kept small =
+    kept_stands ids (raw.I64 n) v stands x kept small =
         let code : code_of x ≡ cast_unsigned w64 n = ap code_of kept in
-        subst (λ (w : Value). IsCode (naming place t.funcs) w (code_of x)) (sym stands)
+        subst (λ (w : Value). IsCode (naming place ids) w (code_of x)) (sym stands)
         (code ∙ sym (of_z-to_z w64 (cast_unsigned w64 n) (subst (FitsForm (raw_form (raw.I64 n))) code small)))
-    kept_stands (raw.F32 n) v stands x kept small = subst (λ (w : Value). IsCode (naming place t.funcs) w (code_of x)) (sym stands) (ap code_of kept)
-    kept_stands (raw.F64 n) v stands x kept small = subst (λ (w : Value). IsCode (naming place t.funcs) w (code_of x)) (sym stands) (ap code_of kept)
-    kept_stands (raw.V128 n) v stands x kept small = subst (λ (w : Value). IsCode (naming place t.funcs) w (code_of x)) (sym stands) (ap code_of kept)
-    kept_stands (raw.Func f) v stands x kept small = absurd kept
-    kept_stands (raw.Ref class None) v stands x kept small = subst (λ (w : Value). IsCode (naming place t.funcs) w (code_of x)) (sym stands) (ap code_of kept)
-    kept_stands (raw.Ref class (Some handle)) v stands x kept small =
+    kept_stands ids (raw.F32 n) v stands x kept small = subst (λ (w : Value). IsCode (naming place ids) w (code_of x)) (sym stands) (ap code_of kept)
+    kept_stands ids (raw.F64 n) v stands x kept small = subst (λ (w : Value). IsCode (naming place ids) w (code_of x)) (sym stands) (ap code_of kept)
+    kept_stands ids (raw.V128 n) v stands x kept small = subst (λ (w : Value). IsCode (naming place ids) w (code_of x)) (sym stands) (ap code_of kept)
+    kept_stands ids (raw.Func f) v stands x kept small = subst (λ (w : Value). IsCode (naming place ids) w (code_of x)) (sym stands) (subst (IsFunctionCode ids f) (sym (ap code_of kept.1.1)) kept.1.0)
+    kept_stands ids (raw.Ref class None) v stands x kept small = subst (λ (w : Value). IsCode (naming place ids) w (code_of x)) (sym stands) (ap code_of kept)
+    kept_stands ids (raw.Ref class (Some handle)) v stands x kept small =
         let word = own_word s handle (named_of_store s t handle stands.root stands.named) ∙ kept.1.0 in
-        subst (λ (w : Value). IsCode (naming place t.funcs) w (code_of x)) (sym stands.is)
+        subst (λ (w : Value). IsCode (naming place ids) w (code_of x)) (sym stands.is)
         (subst (IsWord place stands.root) (sym (ap code_of kept.1.1)) (named_word layouts s t place holds handle stands.root kept.0 stands.named word).0)
 
     -- What a slot keeps of a value that fits it
-    pub stored_stands : (ty : StorageType) (r : RawValue) (v : Value) → RawStands s t r v → fits t.types t.objects ty v ≡ true → StoredStands (naming place t.funcs) (store_roots s) ty r (stored ty v)
-    stored_stands ty r v stands fit =
+    pub stored_stands : (ids : FunctionIds) (ty : StorageType) (r : RawValue) (v : Value) → RawStands s t r v → fits t.types t.objects ty v ≡ true → StoredStands ids (naming place ids) (store_roots s) ty r (stored ty v)
+    stored_stands ids ty r v stands fit =
         let form = fits-form t.types t.objects ty v fit in
         record {
           value = v;
           stored_is = refl;
           form = form;
-          stands = kept_stands r v stands;
+          stands = kept_stands ids r v stands;
           raw_form_is = raw_form_is s t r v stands ∙ sym form;
         }
 
@@ -147,38 +153,46 @@ module _ (D : Type 0) (layouts : Layouts) (s : StoreView D) (handle : GcRootInde
     pub spot_form : raw_form r ≡ storage_form found.storage
     spot_form = storable_form D layouts s can.table can.holds.0 can.holds.1 can.field.element_type r can.can_store ∙ ap storage_form spot_type
 
-    pub spot_kept : IsKept (store_roots s) r
-    spot_kept = is_kept D layouts s r can.can_store.live
+    module _ (ids : FunctionIds) (interned : Interns s.funcs ids (raw_functions (r ∷ []))) where
+      pub spot_kept : IsKept ids (store_roots s) r
+      spot_kept = rooted_kept ids (store_roots s) r (interned_ids s.funcs ids (raw_functions (r ∷ [])) can.table.funcs can.holds.1.funcs interned) (is_rooted D layouts s r can.can_store.live)
 
-    module _ (heap : HeapView) (x : Stored) (kept : KeptAs (store_roots s) r x) (small : FitsForm (raw_form r) (code_of x))
-        (written : (object : HeapObject) → get s.heap.content word ≡ Some object → heap ≡ record (put_object s.heap word (with_data layouts object found.offset (slot_bytes found.storage (code_of x)))) { counts = heap.counts }) where
-      -- each table that the store held is held with the value
-      pub writes_value : (t : Table D) (a : Account) → HoldsAccount layouts s t a → WritesValue layouts s (record s { heap = heap }) t a handle index r
-      writes_value t a holds before v has field field_is stands =
-          let lies = lying_at layouts s t holds.place holds.holds handle index before has word e in
-          let slot : storage_slot found ≡ lies.lying.slot = slot_is_found layouts s t holds.place has.position word has.object index before lies found finds in
-          let same : lies.lying.field ≡ field = same_Some lies.lying.field field (sym lies.lying.field_is ∙ field_is) in
-          let ty : found.storage ≡ field.element_type = ap (λ (y : StorageSlot). y.storage) slot ∙ sym lies.lying.type_is ∙ ap (λ (f : FieldType). f.element_type) same in
-          let fit : fits t.types t.objects found.storage v ≡ true =
-          sym (ap (λ (st : StorageType). fits t.types t.objects st v) spot_type) ∙ can.can_store.fits t v (holds.place, holds.holds) stands in
-          let is : heap ≡ record (put_object s.heap word (with_data layouts lies.object found.offset (slot_bytes found.storage (code_of x)))) { counts = heap.counts } = written lies.object lies.is.held in
-          let now : Holds layouts (record s { heap = heap }) (write has.position index (stored found.storage v) t) holds.place =
-          holds_write layouts s t holds.place heap word has.position index has.object (storage_slot found) (stored found.storage v) (slot_bytes found.storage (code_of x)) holds.holds lies.placed has.object_is
-          (subst (IsSlotOf layouts t.types has.object index) (sym slot) lies.lying.is_slot)
-          (kept_encoded (naming holds.place t.funcs) (store_roots s) found.storage r (stored found.storage v) x (stored_stands D layouts s t holds.place holds.holds found.storage r v stands fit) kept small)
-          (fits-stored t.types t.objects found.storage v fit)
-          (written_object layouts s.heap heap word found.offset lies.object (slot_bytes found.storage (code_of x)) lies.is.held is) in
-          record {
-            place = holds.place;
-            holds = subst (λ (st : StorageType). Holds layouts (record s { heap = heap }) (write has.position index (stored st v) t) holds.place) ty now;
-            account = account_kept s (record s { heap = heap }) holds.place a refl refl (ap (λ (h : HeapView). h.needs_gc) is) holds.account;
-          }
+      module _ (heap : HeapView) (x : Stored) (kept : KeptAs ids (store_roots s) r x) (small : FitsForm (raw_form r) (code_of x))
+          (written : (object : HeapObject) → get s.heap.content word ≡ Some object → heap ≡ record (put_object s.heap word (with_data layouts object found.offset (slot_bytes found.storage (code_of x)))) { counts = heap.counts }) where
+        abbrev after : StoreView D
+        after = record s { heap = heap; funcs = ids }
 
-      -- so some table is held
-      pub some_written : (t : Table D) × ((a : Account) × HoldsAccount layouts (record s { heap = heap }) t a)
-      some_written =
-          let v = value_of D layouts s can.table can.holds.0 can.holds.1 r can.can_store.live in
-          let some = some_account layouts s can.table can.holds in (
-            write can.has.position index (stored can.field.element_type v.0) can.table,
-            (some.0, writes_value can.table some.0 some.1 can.before v.0 can.has can.field can.field_is v.1),
-          )
+        -- each table that the store held is held with the value
+        pub keeps_value : (t : Table D) (a : Account) → HoldsAccount layouts s t a → KeepsValue layouts s after t a handle index r
+        keeps_value t a holds before v has field field_is stands =
+            let lies = lying_at layouts s t holds.place holds.holds handle index before has word e in
+            let slot : storage_slot found ≡ lies.lying.slot = slot_is_found layouts s t holds.place has.position word has.object index before lies found finds in
+            let same : lies.lying.field ≡ field = same_Some lies.lying.field field (sym lies.lying.field_is ∙ field_is) in
+            let ty : found.storage ≡ field.element_type = ap (λ (y : StorageSlot). y.storage) slot ∙ sym lies.lying.type_is ∙ ap (λ (f : FieldType). f.element_type) same in
+            let fit : fits t.types t.objects found.storage v ≡ true =
+            sym (ap (λ (st : StorageType). fits t.types t.objects st v) spot_type) ∙ can.can_store.fits t v (holds.place, holds.holds) stands in
+            let is : heap ≡ record (put_object s.heap word (with_data layouts lies.object found.offset (slot_bytes found.storage (code_of x)))) { counts = heap.counts } = written lies.object lies.is.held in
+            let fs : List (Option Func) = functions_of (stored found.storage v ∷ []) in
+            let given : raw_functions (r ∷ []) ≡ fs = raw-stands s t r v stands ∙ sym (functions-stored found.storage v) in
+            let by : FunctionsBy (with_functions fs t.funcs) ids = subst (λ (gs : List (Option Func)). FunctionsBy (with_functions gs t.funcs) ids) given (interned.held t.funcs holds.holds.funcs) in
+            let now : Holds layouts after (write has.position index (stored found.storage v) t) holds.place =
+            holds_write layouts (with_ids ids s) (intern fs t) holds.place heap word has.position index has.object (storage_slot found) (stored found.storage v) (slot_bytes found.storage (code_of x))
+            (holds_interned layouts s t holds.place fs ids holds.holds interned.keeps by) lies.placed has.object_is
+            (subst (IsSlotOf layouts t.types has.object index) (sym slot) lies.lying.is_slot)
+            (kept_encoded ids (naming holds.place ids) (store_roots s) found.storage r (stored found.storage v) x (stored_stands D layouts s t holds.place holds.holds ids found.storage r v stands fit) kept small)
+            (fits-stored t.types t.objects found.storage v fit)
+            (written_object layouts s.heap heap word found.offset lies.object (slot_bytes found.storage (code_of x)) lies.is.held is) in
+            record {
+              place = holds.place;
+              holds = subst (λ (st : StorageType). Holds layouts after (write has.position index (stored st v) t) holds.place) ty now;
+              account = account_kept s after holds.place a refl refl (ap (λ (h : HeapView). h.needs_gc) is) holds.account;
+            }
+
+        -- so some table is held
+        pub some_written : (t : Table D) × ((a : Account) × HoldsAccount layouts after t a)
+        some_written =
+            let v = value_of D layouts s can.table can.holds.0 can.holds.1 r can.can_store.live in
+            let some = some_account layouts s can.table can.holds in (
+              write can.has.position index (stored can.field.element_type v.0) can.table,
+              (some.0, keeps_value can.table some.0 some.1 can.before v.0 can.has can.field can.field_is v.1),
+            )

@@ -13,7 +13,7 @@ use Rattle.gc_view.specs.Slots.{StorageSlot, shape_slots, element_slots}
 use Rattle.gc_owner.specs.Owners.{OwnerView}
 use Rattle.gc_model.specs.Values.{Value}
 use Rattle.gc_model.specs.Stored.{byte_value}
-use Rattle.gc_model.specs.Forms.{Names, storage_form}
+use Rattle.gc_model.specs.Forms.{Names, FunctionIds, storage_form}
 use Rattle.gc_model.specs.Standing.{ValuesLie}
 use Rattle.gc_model.proofs.ObjectStands.{KeepsFront}
 use Rattle.gc_store.specs.declared.stored.Stored.{Stored}
@@ -28,18 +28,18 @@ use Rattle.gc_store.specs.HeldSlots.{IsHeldOf}
 use Rattle.gc_store.specs.Tagging.{HasTag}
 
 -- values fit slots, one for each
-pub record EachFits (raws : List RawValue) (entries : HandleRoots) (slots : List StorageSlot) : Type 0 where
+pub record EachFits (ids : FunctionIds) (raws : List RawValue) (entries : HandleRoots) (slots : List StorageSlot) : Type 0 where
   pub same_count : length raws ≡ length slots
   pub forms : (i : ℕ) (slot : StorageSlot) (r : RawValue) → slice_get slots i ≡ Some slot → slice_get raws i ≡ Some r → raw_form r ≡ storage_form slot.storage
-  pub kept : (i : ℕ) (r : RawValue) → slice_get raws i ≡ Some r → IsKept entries r
+  pub kept : (i : ℕ) (r : RawValue) → slice_get raws i ≡ Some r → IsKept ids entries r
 
 -- one value fits so many slots, which follow each other
-pub record SameFits (r : RawValue) (count : ℕ) (entries : HandleRoots) (slots : List StorageSlot) : Type 0 where
+pub record SameFits (ids : FunctionIds) (r : RawValue) (count : ℕ) (entries : HandleRoots) (slots : List StorageSlot) : Type 0 where
   pub ty : StorageType
   pub from : ℕ
   pub slots_are : slots ≡ element_slots ty count from
   pub form : 0 < count → raw_form r ≡ storage_form ty
-  pub kept : 0 < count → IsKept entries r
+  pub kept : 0 < count → IsKept ids entries r
 
 -- bytes fit slots, which follow each other
 pub record BytesFit (bytes : List ℕ) (entries : HandleRoots) (slots : List StorageSlot) : Type 0 where
@@ -47,15 +47,15 @@ pub record BytesFit (bytes : List ℕ) (entries : HandleRoots) (slots : List Sto
   pub slots_are : slots ≡ element_slots storage.I8 (length bytes) from
 
 -- what slots keep of values that are given, one for each
-pub record EachStands (raws : List RawValue) (names : Names) (entries : HandleRoots) (slots : List StorageSlot) (values : List Value) : Type 0 where
+pub record EachStands (ids : FunctionIds) (raws : List RawValue) (names : Names) (entries : HandleRoots) (slots : List StorageSlot) (values : List Value) : Type 0 where
   pub same_count : length raws ≡ length values
-  pub each : (i : ℕ) (slot : StorageSlot) (r : RawValue) (w : Value) → slice_get slots i ≡ Some slot → slice_get raws i ≡ Some r → slice_get values i ≡ Some w → StoredStands names entries slot.storage r w
+  pub each : (i : ℕ) (slot : StorageSlot) (r : RawValue) (w : Value) → slice_get slots i ≡ Some slot → slice_get raws i ≡ Some r → slice_get values i ≡ Some w → StoredStands ids names entries slot.storage r w
 
 -- what they keep of one value
-pub record SameStands (r : RawValue) (names : Names) (entries : HandleRoots) (slots : List StorageSlot) (values : List Value) : Type 0 where
+pub record SameStands (ids : FunctionIds) (r : RawValue) (names : Names) (entries : HandleRoots) (slots : List StorageSlot) (values : List Value) : Type 0 where
   pub kept : Value
   pub values_are : values ≡ replicate (length slots) kept
-  pub stands : (i : ℕ) (slot : StorageSlot) → slice_get slots i ≡ Some slot → StoredStands names entries slot.storage r kept
+  pub stands : (i : ℕ) (slot : StorageSlot) → slice_get slots i ≡ Some slot → StoredStands ids names entries slot.storage r kept
 
 -- what they keep of bytes
 abbrev pub BytesStand : List ℕ → Names → HandleRoots → List StorageSlot → List Value → Type 0
@@ -68,19 +68,19 @@ asked_type (place.Exn ty tag) = ty
 asked_type (place.Array ty count) = ty
 
 -- the contents of a request fit slots
-abbrev pub ContentsFit : Place → Contents → HandleRoots → List StorageSlot → Type 0
-ContentsFit (place.Struct ty) (contents.Each raws) entries slots = EachFits raws.now entries slots
-ContentsFit (place.Exn ty tag) (contents.Each raws) entries slots = EachFits raws.now entries slots
-ContentsFit (place.Array ty count) (contents.Each raws) entries slots = EachFits raws.now entries slots
-ContentsFit (place.Array ty count) (contents.Same r) entries slots = SameFits r.now count entries slots
-ContentsFit (place.Array ty count) (contents.Bytes bytes) entries slots = BytesFit bytes.now entries slots
-ContentsFit _ _ entries slots = ⊥
+abbrev pub ContentsFit : FunctionIds → Place → Contents → HandleRoots → List StorageSlot → Type 0
+ContentsFit ids (place.Struct ty) (contents.Each raws) entries slots = EachFits ids raws.now entries slots
+ContentsFit ids (place.Exn ty tag) (contents.Each raws) entries slots = EachFits ids raws.now entries slots
+ContentsFit ids (place.Array ty count) (contents.Each raws) entries slots = EachFits ids raws.now entries slots
+ContentsFit ids (place.Array ty count) (contents.Same r) entries slots = SameFits ids r.now count entries slots
+ContentsFit ids (place.Array ty count) (contents.Bytes bytes) entries slots = BytesFit bytes.now entries slots
+ContentsFit ids _ _ entries slots = ⊥
 
 -- what slots keep of the contents of a request
-abbrev pub ContentsStand : Contents → Names → HandleRoots → List StorageSlot → List Value → Type 0
-ContentsStand (contents.Each raws) names entries slots values = EachStands raws.now names entries slots values
-ContentsStand (contents.Same r) names entries slots values = SameStands r.now names entries slots values
-ContentsStand (contents.Bytes bytes) names entries slots values = BytesStand bytes.now names entries slots values
+abbrev pub ContentsStand : FunctionIds → Contents → Names → HandleRoots → List StorageSlot → List Value → Type 0
+ContentsStand ids (contents.Each raws) names entries slots values = EachStands ids raws.now names entries slots values
+ContentsStand ids (contents.Same r) names entries slots values = SameStands ids r.now names entries slots values
+ContentsStand ids (contents.Bytes bytes) names entries slots values = BytesStand bytes.now names entries slots values
 
 -- each slot has bytes that are 0
 abbrev pub AreBlank : ℕ → List StorageSlot → List ℕ → Type 0

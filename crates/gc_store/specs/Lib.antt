@@ -8,6 +8,7 @@ pub mod HostLends
 pub mod HostPlaces
 pub mod HostSteps
 pub mod Ids
+pub mod Interning
 pub mod IncrementCounts
 pub mod Kept
 pub mod Making
@@ -22,6 +23,7 @@ pub mod RootWords
 pub mod Roots
 pub mod Settled
 pub mod Slots
+pub mod Staying
 pub mod Stores
 pub mod Tagging
 pub mod Thrown

@@ -1,14 +1,14 @@
 -- The words of all roots of a store in one order, by which they are numbered from 0.
-use Rattle.std.specs.Prelude.{◌≡◌, ℕ, ◌+◌, ◌==◌, ◌<◌, List, [], ◌∷◌, ◌++◌, Option, Some, None, Result, Ok, Err, map, slice_get, if◌then◌else◌}
+use Rattle.std.specs.Prelude.{◌≡◌, ℕ, ◌+◌, ◌==◌, ◌<◌, List, [], ◌∷◌, ◌++◌, Option, Some, None, Result, Ok, Err, map, if◌then◌else◌}
 use Rattle.gc_types.specs.declared.kind.Layouts.{Layouts}
 use Rattle.gc_owner.specs.declared.entry.RootEntry.{RootEntry}
 use Rattle.gc_owner.specs.declared.entry.OwnedEntry.{OwnedEntry}
 use Rattle.gc_owner.specs.declared.entry.SlotEntry.{SlotEntry}
 use Rattle.gc_model.specs.Values.{Reference}
-use Rattle.gc_model.specs.Table.{Table}
-use Rattle.gc_model.specs.Holds.{Holds, Placing, IsWord}
+use Rattle.gc_model.specs.Table.{Table, push}
+use Rattle.gc_model.specs.Holds.{Placing, IsWord}
 use Rattle.gc_model.specs.Stores.{StoreView}
-use Rattle.gc_policy.specs.Accounts.{Account, IsAccount}
+use Rattle.gc_policy.specs.Accounts.{Account}
 use Rattle.gc_store.specs.declared.root.RootFault.{RootFault}
 use Rattle.gc_store.specs.declared.root_words.RootName.{RootName}
 use Rattle.gc_store.specs.declared.root_words.RootName.TheVariants as name
@@ -17,6 +17,7 @@ use Rattle.gc_store.specs.declared.root_words.RootAt.{RootAt}
 use Rattle.gc_store.specs.declared.root_words.RootAt.TheVariants as found
 use Rattle.gc_store.specs.Words.{owned_id}
 use Rattle.gc_store.specs.Handles.{PushesRoot}
+use Rattle.gc_store.specs.OwnedWords.{HoldsThere}
 
 -- what each element gives with its number, from the first one's on
 abbrev pub numbered : {A B : Type 0} → (ℕ → A → B) → ℕ → List A → List B
@@ -59,12 +60,13 @@ root_words s =
     numbered global_root 0 s.globals
     ++ (root_word name.Pending s.pending ∷ (slot_roots 0 s.frames ++ handle_roots s.owned s.scoped))
 
--- what a new scoped root for the root word of a number answers and leaves, at what stands there
+-- What a new scoped root for the root word of a number answers and leaves, at what stands there. Objects lie where they
+-- lay.
 abbrev pub RootsWord : {D : Type 0} → Layouts → StoreView D → Table D → Placing → Account → Option RootWord → Result RootAt RootFault → StoreView D → Type 0
 RootsWord layouts old t place a None result new = (result ≡ Ok found.End) × (new ≡ old)
 RootsWord layouts old t place a (Some root) (Ok found.End) new = ⊥
 RootsWord layouts old t place a (Some root) (Ok found.Null) new = (root.word ≡ 0) × (new ≡ old)
 RootsWord layouts old t place a (Some root) (Ok (found.Root named handle)) new =
-    (named ≡ root.name) × ((0 < root.word) × ((r : Reference) × (IsWord place r root.word × PushesRoot layouts t a r (Ok handle) new)))
+    (named ≡ root.name) × ((0 < root.word) × ((r : Reference) × (IsWord place r root.word × (PushesRoot layouts t a r (Ok handle) new × HoldsThere layouts new (push r t) place a))))
 RootsWord layouts old t place a (Some root) (Err fault) new =
     (0 < root.word) × ((r : Reference) × (IsWord place r root.word × PushesRoot layouts t a r (Err fault) new))

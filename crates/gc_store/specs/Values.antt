@@ -1,11 +1,13 @@
 -- The values that go in and out of a store.
-use Rattle.std.specs.Prelude.{◌≡◌, ℕ, ℤ, true, false, List, Option, Some, None, Result, Ok, Err, length, slice_get}
+use Rattle.std.specs.Prelude.{◌≡◌, ℕ, ℤ, Bool, true, false, List, [], ◌∷◌, Option, Some, None, Result, Ok, Err, length, slice_get}
 use Rattle.std.specs.Int.{w32, w64}
 use Rattle.gc_types.specs.declared.value.FieldType.{FieldType}
+use Rattle.gc_types.specs.declared.value.Func.{Func}
 use Rattle.gc_types.specs.declared.value.StorageType.{StorageType}
 use Rattle.gc_types.specs.declared.kind.Layouts.{Layouts}
 use Rattle.gc_owner.specs.declared.entry.GcClass.{GcClass}
 use Rattle.gc_model.specs.Values.{Reference, null, small, at, Value, numeric, i32, i64, f32, f64, v128, function, reference, number_bits}
+use Rattle.gc_model.specs.Functions.{functions_of, functions_full}
 use Rattle.gc_model.specs.Fits.{fits}
 use Rattle.gc_model.specs.Stored.{stored, value_type}
 use Rattle.gc_model.specs.Table.{Table, write}
@@ -18,6 +20,8 @@ use Rattle.gc_store.specs.declared.root.RawValue.{RawValue}
 use Rattle.gc_store.specs.declared.root.RawValue.TheVariants as raw
 use Rattle.gc_store.specs.declared.root.RootFault.{RootFault}
 use Rattle.gc_store.specs.declared.root.RootFault.TheVariants as fault
+use Rattle.gc_store.specs.declared.write.WriteFault.{WriteFault}
+use Rattle.gc_store.specs.declared.write.WriteFault.TheVariants as write_fault
 use Rattle.gc_policy.specs.Accounts.{Account, HoldsAccount}
 use Rattle.gc_store.specs.Roots.{NamesReference, HasValue, handle_of}
 
@@ -43,6 +47,17 @@ pub record AllStand {D : Type 0} (s : StoreView D) (t : Table D) (raws : List Ra
   pub same_count : length raws ≡ length values
   pub each : (i : ℕ) (r : RawValue) (v : Value) → slice_get raws i ≡ Some r → slice_get values i ≡ Some v → RawStands s t r v
 
+-- the function values among values that are given, in order
+abbrev pub raw_functions : List RawValue → List (Option Func)
+raw_functions [] = []
+raw_functions (raw.I32 n ∷ raws) = raw_functions raws
+raw_functions (raw.I64 n ∷ raws) = raw_functions raws
+raw_functions (raw.F32 n ∷ raws) = raw_functions raws
+raw_functions (raw.F64 n ∷ raws) = raw_functions raws
+raw_functions (raw.V128 n ∷ raws) = raw_functions raws
+raw_functions (raw.Func f ∷ raws) = f ∷ raw_functions raws
+raw_functions (raw.Ref class handle ∷ raws) = raw_functions raws
+
 -- the handle that a value is, where it is one
 abbrev pub raw_handle : RawValue → Option GcRootIndex
 raw_handle (raw.I32 n) = None
@@ -60,14 +75,14 @@ pub record IsLive (D : Type 0) (layouts : Layouts) (s : StoreView D) (handle : G
   pub root : Reference
   pub named : NamesReference s table handle root
 
--- a value's handle is live; no function is taken so far
+-- a value's handle is live
 abbrev pub NamesLive : (D : Type 0) → Layouts → StoreView D → RawValue → Type 0
 NamesLive D layouts s (raw.I32 n) = Unit {0}
 NamesLive D layouts s (raw.I64 n) = Unit {0}
 NamesLive D layouts s (raw.F32 n) = Unit {0}
 NamesLive D layouts s (raw.F64 n) = Unit {0}
 NamesLive D layouts s (raw.V128 n) = Unit {0}
-NamesLive D layouts s (raw.Func f) = ⊥
+NamesLive D layouts s (raw.Func f) = Unit {0}
 NamesLive D layouts s (raw.Ref class None) = Unit {0}
 NamesLive D layouts s (raw.Ref class (Some handle)) = IsLive D layouts s handle
 
@@ -109,7 +124,17 @@ pub record CanWrite (D : Type 0) (layouts : Layouts) (s : StoreView D) (handle :
   pub can_store : CanStore D layouts s field.element_type r
 
 -- the object that the handle names in a table that the store held keeps the value there now, as its type says
-abbrev pub WritesValue : {D : Type 0} → Layouts → StoreView D → StoreView D → Table D → Account → GcRootIndex → ℕ → RawValue → Type 0
-WritesValue layouts old new t a handle index r =
+abbrev pub KeepsValue : {D : Type 0} → Layouts → StoreView D → StoreView D → Table D → Account → GcRootIndex → ℕ → RawValue → Type 0
+KeepsValue layouts old new t a handle index r =
     (before v : Value) (has : HasValue old t handle index before) (field : FieldType) → value_type t.types has.object index ≡ Some field
     → RawStands old t r v → HoldsAccount layouts new (write has.position index (stored field.element_type v) t) a
+
+-- it is a function value that isn't interned yet, and as many are as may be
+abbrev pub IsPastIds : {D : Type 0} → StoreView D → Table D → RawValue → Bool → Type 0
+IsPastIds old t r answer = (v : Value) → RawStands old t r v → functions_full (functions_of (v ∷ [])) t.funcs ≡ answer
+
+-- What writing a value answers and leaves, for a table and an account that the store held.
+abbrev pub WritesValue : {D : Type 0} → Layouts → StoreView D → StoreView D → Table D → Account → GcRootIndex → ℕ → RawValue → Result (Unit {0}) WriteFault → Type 0
+WritesValue layouts old new t a handle index r (Ok done) = KeepsValue layouts old new t a handle index r × IsPastIds old t r false
+WritesValue layouts old new t a handle index r (Err write_fault.FuncTableFull) = IsPastIds old t r true × HoldsAccount layouts new t a
+WritesValue layouts old new t a handle index r (Err write_fault.Memory) = HoldsAccount layouts new t a

@@ -1,16 +1,17 @@
 //! What a handle names, and what lies in it.
 
-ghost use Rattle.std.specs.Prelude.{◌≡◌, ◌≤◌, ◌⊎◌, ◌<◌, ◌%◌, true, false, Some, Ok, Err, IfOk, OnErr};
+ghost use Rattle.std.specs.Prelude.{◌≡◌, ◌≤◌, ◌⊎◌, ◌<◌, ◌%◌, true, false, Some, Ok, Err, IfOk, OnOk, OnErr};
 ghost use Rattle.std.specs.FinMap as finite;
 ghost use Rattle.gc_types.specs.declared.kind.VMGcKind.{VMGcKind};
 ghost use Rattle.gc_types.specs.declared.kind.VMGcKind.TheVariants.{ArrayRef, ExnRef};
 ghost use Rattle.gc_refs.specs.Header.{IsOfKind};
 ghost use Rattle.gc_view.specs.Heaps.{HeapObject};
+ghost use Rattle.gc_owner.specs.declared.entry.GcClass.{GcClass};
 ghost use Rattle.gc_heap.specs.Objects.{IsHeaderOf, array_length};
 ghost use Rattle.gc_heap.specs.Content.{IsHeld};
-ghost use Rattle.gc_model.specs.Table.{Table};
-ghost use Rattle.gc_model.specs.Reads.{same_reference};
-ghost use Rattle.gc_model.specs.Values.{Reference, Value, small};
+ghost use Rattle.gc_model.specs.Table.{Table, push};
+ghost use Rattle.gc_model.specs.Reads.{same_reference, after_read};
+ghost use Rattle.gc_model.specs.Values.{Reference, Value, small, reference};
 ghost use Rattle.gc_model.specs.Holds.{HoldsTable, Holds, Placing, IsWord};
 ghost use Rattle.gc_policy.specs.Accounts.{Account, IsAccount, HoldsAccount};
 ghost use Rattle.gc_store.specs.Described.{TellsHeld, tag_of};
@@ -20,7 +21,10 @@ ghost use Rattle.gc_store.specs.Handles.{PushesRoot};
 ghost use Rattle.gc_store.specs.Values.{ReadsValue};
 ghost use Rattle.gc_store.specs.Reading.{FindsValue, IsReferenceWord, ReadsReference};
 ghost use Rattle.gc_store.specs.Stores.{IsSameStore, scoped_places};
+ghost use Rattle.gc_store.specs.Staying.{OnlyAdds};
+ghost use Rattle.gc_store.specs.OwnedWords.{HoldsThere};
 
+use crate::functions::function_at;
 use crate::place::scoped_handle;
 use crate::root::{GcRootIndex, RawValue, RootFault, RootedObject};
 use crate::slot::slot_in;
@@ -166,6 +170,9 @@ impl<H: GcHeap, D: Drop> Store<H, D> {
         requires { IsRootWord D H.KIND self.old word }
         ensures pushes { (t : Table D) (place : Placing) (a : Account) (r : Reference) → Holds H.KIND self.old t place → IsAccount H.KIND self.old place a
             → IsWord place r word → PushesRoot H.KIND t a r result self.new }
+        ensures there { (t : Table D) (place : Placing) (a : Account) (r : Reference) → HoldsThere H.KIND self.old t place a → IsWord place r word
+            → OnOk result (HoldsThere H.KIND self.new (push r t) place a) }
+        ensures adds { OnOk result (OnlyAdds self.old self.new) }
         ensures err { OnErr result (self.new ≡ self.old) }
         ensures same { IsSameStore self.old self.new }
         ensures spare { scoped_places self.old ≤ scoped_places self.new }
@@ -214,6 +221,8 @@ impl<H: GcHeap, D: Drop> Store<H, D> {
     pub(crate) fn push_reference(&mut self, word: u32) -> Result<Option<GcRootIndex>, RootFault>
         requires { IsReferenceWord D H.KIND self.old word }
         ensures reads { ReadsReference H.KIND self.old word result self.new }
+        ensures there { (t : Table D) (place : Placing) (a : Account) (class : GcClass) (r : Reference) → HoldsThere H.KIND self.old t place a
+            → IsWord place r word → OnOk result (HoldsThere H.KIND self.new (after_read (reference class r) t) place a) }
         ensures err { OnErr result (self.new ≡ self.old) }
         ensures same { IsSameStore self.old self.new }
         ensures spare { scoped_places self.old ≤ scoped_places self.new }
@@ -234,6 +243,8 @@ impl<H: GcHeap, D: Drop> Store<H, D> {
         requires { CanRead D H.KIND self.old handle index }
         ensures reads { (t : Table D) (a : Account) (value : Value) → HoldsAccount H.KIND self.old t a → HasValue self.old t handle index value
             → ReadsValue H.KIND t a value result self.new }
+        ensures there { (t : Table D) (place : Placing) (a : Account) (value : Value) → HoldsThere H.KIND self.old t place a
+            → HasValue self.old t handle index value → OnOk result (HoldsThere H.KIND self.new (after_read value t) place a) }
         ensures err { OnErr result (self.new ≡ self.old) }
         ensures same { IsSameStore self.old self.new }
         ensures spare { scoped_places self.old ≤ scoped_places self.new }
@@ -241,6 +252,7 @@ impl<H: GcHeap, D: Drop> Store<H, D> {
     {
         match self.found_at(handle, index) {
             Found::Number(value) => Ok(value),
+            Found::Func(code) => Ok(RawValue::Func(function_at(&self.functions, code))),
             Found::Ref(class, word) => match self.push_reference(word) {
                 Ok(found) => Ok(RawValue::Ref(class, found)),
                 Err(fault) => Err(fault),

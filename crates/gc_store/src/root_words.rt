@@ -1,6 +1,6 @@
 //! The words of all roots, by their number in one order.
 
-ghost use Rattle.std.specs.Prelude.{◌≡◌, ◌≤◌, ◌<◌, ◌^◌, ◌++◌, ◌∷◌, List, Err, OnErr, length, slice_get};
+ghost use Rattle.std.specs.Prelude.{◌≡◌, ◌≤◌, ◌<◌, ◌^◌, ◌++◌, ◌∷◌, List, Err, OnOk, OnErr, length, slice_get};
 ghost use Rattle.std.specs.List.{flat_map};
 ghost use Rattle.std.specs.Option.{option_map};
 ghost use Rattle.gc_owner.specs.declared.entry.SlotEntry.{SlotEntry};
@@ -8,6 +8,7 @@ ghost use Rattle.gc_model.specs.Table.{Table};
 ghost use Rattle.gc_model.specs.Holds.{Holds, Placing};
 ghost use Rattle.gc_policy.specs.Accounts.{Account, IsAccount};
 ghost use Rattle.gc_store.specs.RootWords.{root_words, slot_words, slot_roots, owned_root, scoped_root, handle_roots, RootsWord};
+ghost use Rattle.gc_store.specs.Staying.{OnlyAdds};
 ghost use Rattle.gc_store.specs.Stores.{IsSameStore, slot_counts, scoped_places};
 ghost use Rattle.gc_store.specs.declared.root_words.RootName.TheVariants as RootName;
 
@@ -44,11 +45,11 @@ pub enum RootAt {
     Root(RootName, GcRootIndex),
 }
 
-/// A root and its word, which is 0 where it names nothing.
+/// A root and its word, which is 0 where it names nothing: what contracts see of a root by its number.
 #[derive(Clone, Copy, Debug)]
-pub(crate) struct RootWord {
-    name: RootName,
-    word: u32,
+pub struct RootWord {
+    pub name: RootName,
+    pub word: u32,
 }
 
 /// The root of a slot, by its place among the slots of all frames, which have so many slots each.
@@ -158,6 +159,7 @@ impl<H: GcHeap, D: Drop> Store<H, D> {
     pub fn root_at(&mut self, number: u64) -> Result<RootAt, RootFault>
         ensures finds { (t : Table D) (place : Placing) (a : Account) → Holds H.KIND self.old t place → IsAccount H.KIND self.old place a
             → RootsWord H.KIND self.old t place a (slice_get (root_words self.old) number) result self.new }
+        ensures adds { OnOk result (OnlyAdds self.old self.new) }
         ensures err { OnErr result (self.new ≡ self.old) }
         ensures same { IsSameStore self.old self.new }
         ensures spare { scoped_places self.old ≤ scoped_places self.new }

@@ -2,8 +2,9 @@
 
 ghost use Rattle.std.specs.Prelude.{◌≡◌, ◌≤◌, ◌<◌, length, OnOk, OnErr};
 ghost use Rattle.gc_model.specs.Table.{Table, leave};
-ghost use Rattle.gc_model.specs.Holds.{HoldsTable};
+ghost use Rattle.gc_model.specs.Holds.{HoldsTable, Placing};
 ghost use Rattle.gc_policy.specs.Accounts.{Account, HoldsAccount};
+ghost use Rattle.gc_store.specs.OwnedWords.{HoldsThere};
 ghost use Rattle.gc_store.specs.Stores.{IsSameStore};
 
 use crate::store::Store;
@@ -24,6 +25,8 @@ impl<H: GcHeap, D: Drop> Store<H, D> {
     /// roots that it drops.
     pub fn exit_gc_lifo_scope(&mut self, scope: usize)
         ensures leaves { (t : Table D) (a : Account) → HoldsAccount H.KIND self.old t a → HoldsAccount H.KIND self.new (leave scope t) a }
+        ensures there { (t : Table D) (place : Placing) (a : Account) → HoldsThere H.KIND self.old t place a
+            → HoldsThere H.KIND self.new (leave scope t) place a }
         ensures same { IsSameStore self.old self.new }
         ensures spare { self.old.spare ≤ self.new.spare }
     {

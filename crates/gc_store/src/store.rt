@@ -3,6 +3,7 @@
 ghost use Rattle.std.specs.Prelude.{◌≡◌, ◌↔◌, IfOk, IsTrue};
 ghost use Rattle.std.specs.Option.{option_map};
 ghost use Rattle.std.specs.Int.NonZero.{non_zero_u32_get};
+ghost use Rattle.std.specs.FinMap as map;
 ghost use Rattle.gc_view.specs.Heaps.{detached};
 ghost use Rattle.gc_model.specs.Stores.{empty_store};
 ghost use Rattle.gc_store.specs.Stores.{HoldsStart, ShowsNothing, configured};
@@ -12,6 +13,7 @@ use crate::engine::StoreId;
 use crate::owned::FIRST_MARK;
 use gc_heap::GcHeap;
 use gc_owner::HeapOwner;
+use gc_tables::FuncRefTable;
 use gc_types::Types;
 use std::alloc::{AllocError, Global};
 use std::fmt;
@@ -65,7 +67,7 @@ impl<T> fmt::Display for GcHeapOutOfMemory<T> {
 /// Why an object is not placed.
 #[derive(Debug, Drop)]
 pub enum PlaceFault {
-    /// The function table is full.
+    /// No ids are left for all function values of the object that are new to the store.
     FuncTableFull,
     /// No heap of the kind can hold an object of that size.
     TooLarge,
@@ -84,6 +86,8 @@ pub struct Store<H: GcHeap, D: Drop> {
     pub(crate) id: StoreId,
     pub(crate) config: HeapConfig,
     pub(crate) owner: HeapOwner<H, D>,
+    /// The function values that objects were given, by the ids that stand in the heap. None is ever given back.
+    pub(crate) functions: FuncRefTable,
     /// How many slots each open frame has, the oldest first.
     pub(crate) slot_counts: Vec<u32>,
     /// How many allocations were counted, up to the greatest u64.
@@ -104,9 +108,9 @@ impl<H: GcHeap, D: Drop> Model for Store<H, D> {
 
     ghost use Rattle.gc_store.specs.Stores.{store_view, IsSound};
 
-    ghost view = { λ s. store_view s.id s.config s.owner.seen s.tries };
+    ghost view = { λ s. store_view s.id s.config s.functions.entries s.owner.seen s.tries };
 
-    ghost invariant = { λ s. IsSound D H.KIND s.slot_counts.items s.owner.seen (store_view s.id s.config s.owner.seen s.tries) };
+    ghost invariant = { λ s. IsSound D H.KIND s.slot_counts.items s.owner.seen (store_view s.id s.config s.functions.entries s.owner.seen s.tries) };
 }
 
 impl<H: GcHeap + Drop, D: Drop> Store<H, D> {
@@ -127,6 +131,7 @@ impl<H: GcHeap + Drop, D: Drop> Store<H, D> {
             id,
             config,
             owner: HeapOwner::new(alloc, heap, id.engine, id.number)?,
+            functions: FuncRefTable::new(alloc),
             slot_counts: Vec::new(alloc),
             tries: 0,
             mark: FIRST_MARK,
@@ -144,8 +149,8 @@ impl<H: GcHeap, D: Drop> Store<H, D> {
         self.is_untouched()
     }
 
-    /// Whether there is no type, root, generation, frame, set global, pending exception, memory or allocation, and no
-    /// owned root was made.
+    /// Whether there is no type, root, generation, frame, set global, pending exception, function value, memory or
+    /// allocation, and no owned root was made.
     fn is_untouched(&self) -> bool
         ensures { IsTrue result ↔ ShowsNothing self.now }
     {
@@ -158,6 +163,14 @@ impl<H: GcHeap, D: Drop> Store<H, D> {
             && self.has_no_frame()
             && self.has_unset_globals()
             && self.owner.pending() == 0
+            && self.has_no_function()
+    }
+
+    /// Whether no function value is interned.
+    fn has_no_function(&self) -> bool
+        ensures { IsTrue result ↔ (self.now.funcs ≡ map.empty) }
+    {
+        self.functions.len() == 0
     }
 
     /// Gives a new store another configuration.

@@ -3,9 +3,9 @@
 ghost use Rattle.std.specs.Prelude.{◌≡◌, true};
 ghost use Rattle.std.specs.Int.{bytes_low_first};
 ghost use Rattle.gc_types.specs.Layouts.{storage_width, value_width};
-ghost use Rattle.gc_model.specs.Forms.{top_form, type_form, storage_form, reference_of};
+ghost use Rattle.gc_model.specs.Forms.{top_form, type_form, storage_form};
 ghost use Rattle.gc_heap.specs.Access.{IsReadable};
-ghost use Rattle.gc_store.specs.Kept.{code_of, raw_form, KeptAs, IsKept, FitsForm, IsReadForm};
+ghost use Rattle.gc_store.specs.Kept.{code_of, raw_form, KeptAs, IsKept, FitsForm, IsFound, IsReadForm};
 ghost use Rattle.gc_store.specs.Words.{AreRising};
 ghost use Rattle.gc_store.specs.HeldSlots.{storage_slot, CanWriteSlot, WritesAt, FindsAt, FitsAt};
 
@@ -16,28 +16,36 @@ use gc_heap::GcHeap;
 use gc_heap::access::{read_u8, read_u16, read_u32, read_u64, read_v128};
 use gc_owner::{GcClass, HeapOwner, OwnedEntry, RootEntry};
 use gc_refs::VMGcRef;
+use gc_tables::FuncRefTable;
 use gc_types::{HeapTopType, StorageType, ValType};
 
-/// What is kept of a value: a number, of which a slot has the low bytes, or the word of a reference, which is 0
-/// for null.
+/// What is kept of a value: a number, of which a slot has the low bytes, as that of a function value, or the word of a
+/// reference, which is 0 for null.
 #[derive(Clone, Copy)]
 pub(crate) enum Stored {
     Number(u128),
     Ref(u32),
 }
 
-/// What lies in a slot: a number, or a reference's class and word.
+/// What lies in a slot: a number, the number that stands for a function value, or a reference's class and word.
 #[derive(Clone, Copy)]
 pub(crate) enum Found {
     Number(RawValue),
+    Func(u32),
     Ref(GcClass, u32),
 }
 
-/// What is kept of a value; of a reference the word that its root has now.
-pub(crate) fn stored_value(scoped: &[RootEntry], owned: &[OwnedEntry], value: RawValue) -> Stored
+/// What is kept of a value; of a function value that is interned its number, of a reference the word that its root has
+/// now.
+pub(crate) fn stored_value(
+    functions: &FuncRefTable,
+    scoped: &[RootEntry],
+    owned: &[OwnedEntry],
+    value: RawValue,
+) -> Stored
     requires rising { AreRising owned.now }
-    requires kept { IsKept (record { scoped = scoped.now; owned = owned.now }) value }
-    ensures kept { KeptAs (record { scoped = scoped.now; owned = owned.now }) value result }
+    requires kept { IsKept functions.now.entries (record { scoped = scoped.now; owned = owned.now }) value }
+    ensures kept { KeptAs functions.now.entries (record { scoped = scoped.now; owned = owned.now }) value result }
     ensures small { FitsForm (raw_form value) (code_of result) }
 {
     match &value {
@@ -46,7 +54,10 @@ pub(crate) fn stored_value(scoped: &[RootEntry], owned: &[OwnedEntry], value: Ra
         RawValue::F32(bits) => Stored::Number(u128::from(*bits)),
         RawValue::F64(bits) => Stored::Number(u128::from(*bits)),
         RawValue::V128(vector) => Stored::Number(vector.as_u128()),
-        RawValue::Func(_) => unreachable!(),
+        RawValue::Func(func) => match functions.id_of(*func) {
+            Some(id) => Stored::Number(u128::from(id.into_raw())),
+            None => unreachable!(),
+        },
         RawValue::Ref(_, None) => Stored::Ref(0),
         RawValue::Ref(_, Some(handle)) => {
             match word_at(scoped, owned, handle.slot, handle.generation) {
@@ -78,16 +89,17 @@ pub(crate) fn write_slot<H: GcHeap, D: Drop>(
     }
 }
 
-/// The class of references of the types under that one.
-fn class_of(top: HeapTopType) -> GcClass
+/// What a word in a slot of the types under that one is.
+fn found_under(top: HeapTopType, word: u32) -> Found
     requires { IsReadForm (top_form top) }
-    ensures { top_form top ≡ reference_of result }
+    ensures { IsFound (top_form top) word result }
 {
     match top {
-        HeapTopType::Any => GcClass::Any,
-        HeapTopType::Extern => GcClass::Extern,
-        HeapTopType::Exn => GcClass::Exn,
-        HeapTopType::Func | HeapTopType::Cont => unreachable!(),
+        HeapTopType::Any => Found::Ref(GcClass::Any, word),
+        HeapTopType::Extern => Found::Ref(GcClass::Extern, word),
+        HeapTopType::Exn => Found::Ref(GcClass::Exn, word),
+        HeapTopType::Func => Found::Func(word),
+        HeapTopType::Cont => unreachable!(),
     }
 }
 
@@ -105,10 +117,7 @@ fn read_typed<H: GcHeap>(heap: &H, gc_ref: &VMGcRef, offset: u32, ty: ValType) -
         ValType::F32 => Found::Number(RawValue::F32(read_u32(heap, gc_ref, offset))),
         ValType::F64 => Found::Number(RawValue::F64(read_u64(heap, gc_ref, offset))),
         ValType::V128 => Found::Number(RawValue::V128(read_v128(heap, gc_ref, offset))),
-        ValType::Ref(ty) => Found::Ref(
-            class_of(ty.heap_type.top()),
-            read_u32(heap, gc_ref, offset),
-        ),
+        ValType::Ref(ty) => found_under(ty.heap_type.top(), read_u32(heap, gc_ref, offset)),
     }
 }
 

@@ -1,11 +1,12 @@
 //! Writing into objects.
 
-ghost use Rattle.std.specs.Prelude.{◌≡◌, ◌≤◌, IsOk};
+ghost use Rattle.std.specs.Prelude.{◌≡◌, ◌≤◌, [], ◌∷◌, IsOk, OnErr};
 ghost use Rattle.gc_model.specs.Table.{Table};
 ghost use Rattle.gc_policy.specs.Accounts.{Account, HoldsAccount};
-ghost use Rattle.gc_store.specs.Values.{CanWrite, WritesValue};
+ghost use Rattle.gc_store.specs.Values.{CanWrite, WritesValue, raw_functions};
 ghost use Rattle.gc_store.specs.Stores.{IsSameStore};
 
+use crate::functions::intern_given;
 use crate::root::{GcRootIndex, RawValue};
 use crate::slot::slot_in;
 use crate::store::Store;
@@ -25,8 +26,8 @@ pub enum WriteFault {
 
 impl<H: GcHeap, D: Drop> Store<H, D> {
     /// Writes a value at that index into the object that the handle names: into a field of a struct or an exception, or
-    /// an element of an array. Of a number that is wider than its slot the low bits are kept. It takes no memory, and no
-    /// function is among the values so far, so that it always succeeds.
+    /// an element of an array. Of a number that is wider than its slot the low bits are kept. It takes memory for a function
+    /// value that is new to the store alone. `FuncTableFull` where the store has 2^31 function values, none of them this one.
     pub fn write_value(
         &mut self,
         handle: GcRootIndex,
@@ -34,17 +35,24 @@ impl<H: GcHeap, D: Drop> Store<H, D> {
         value: RawValue,
     ) -> Result<(), WriteFault>
         requires { CanWrite D H.KIND self.old handle index value }
-        ensures ok { IsOk result }
-        ensures writes { (t : Table D) (a : Account) → HoldsAccount H.KIND self.old t a → WritesValue H.KIND self.old self.new t a handle index value }
+        ensures ok { raw_functions (value ∷ []) ≡ [] → IsOk result }
+        ensures writes { (t : Table D) (a : Account) → HoldsAccount H.KIND self.old t a → WritesValue H.KIND self.old self.new t a handle index value result }
+        ensures err { OnErr result (self.new ≡ self.old) }
         ensures same { IsSameStore self.old self.new }
         ensures spare { self.old.spare ≤ self.new.spare }
     {
         self.owner.is_ready();
         match self.word_of(handle) {
             Ok(word) => {
+                intern_given(&mut self.functions, &value)?;
                 let gc_ref = VMGcRef::from_raw_u32(word).unwrap();
                 let slot = slot_in(self.owner.heap(), self.owner.types(), &gc_ref, index);
-                let stored = stored_value(self.owner.scoped(), self.owner.owned(), value);
+                let stored = stored_value(
+                    &self.functions,
+                    self.owner.scoped(),
+                    self.owner.owned(),
+                    value,
+                );
                 write_slot(&mut self.owner, &gc_ref, &slot, stored);
                 Ok(())
             }

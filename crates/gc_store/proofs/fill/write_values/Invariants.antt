@@ -8,6 +8,6 @@ use Rattle.gc_store.proofs.fill.write_values.Given as goal
 abbrev pub invariant-loop-index : goal.invariant-loop-index
 invariant-loop-index g l = record {
   idle : l.owner.seen.idle ≡ true;
-  filled : (object : HeapObject) (shape : Shape) (count : ℕ) → IsToFill g.H.GcHeap.KIND l.initial.owner.seen l.gc_ref l.ty (EachFits l.values) object shape count
-      → FillsTo g.H.GcHeap.KIND l.values l.initial.owner.seen l.owner.seen l.gc_ref object shape count l.index;
+  filled : (object : HeapObject) (shape : Shape) (count : ℕ) → IsToFill g.H.GcHeap.KIND l.initial.owner.seen l.gc_ref l.ty (EachFits l.functions.entries l.values) object shape count
+      → FillsTo g.H.GcHeap.KIND l.functions.entries l.values l.initial.owner.seen l.owner.seen l.gc_ref object shape count l.index;
 }

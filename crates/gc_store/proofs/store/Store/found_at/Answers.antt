@@ -4,13 +4,13 @@ use Rattle.gc_types.specs.Layouts.{storage_width}
 use Rattle.gc_view.specs.Heaps.{HeapView}
 use Rattle.gc_view.specs.Slots.{StorageSlot}
 use Rattle.gc_heap.specs.Access.{IsReadable}
-use Rattle.gc_model.specs.Forms.{storage_form}
+use Rattle.gc_model.specs.Forms.{naming, storage_form}
 use Rattle.gc_model.specs.Values.{Value}
 use Rattle.gc_model.specs.Table.{Table}
 use Rattle.gc_model.specs.Holds.{Placing, Holds}
 use Rattle.gc_model.specs.Stores.{StoreView}
 use Rattle.gc_store.specs.Roots.{CanRead, HasValue, word_of}
-use Rattle.gc_store.specs.Kept.{IsReadForm}
+use Rattle.gc_store.specs.Kept.{FoundStands, IsReadForm}
 use Rattle.gc_store.specs.HeldSlots.{storage_slot, FindsAt, FitsAt, FindsHeldSlot, IsHeldWithSlot}
 use Rattle.gc_store.specs.Stores.{store_view}
 use Rattle.gc_store.proofs.Roots.{SomeIff-value, SomeIff-some}
@@ -21,7 +21,7 @@ use Rattle.gc_store.proofs.store.Store.found_at.Goals.{In-Ok, After-unwrap-gc_re
 
 -- the store, as it stands inside its invariant
 abbrev view : (g : given.Over) (c : In-Ok g) → StoreView g.row.D.Denot
-view g c = store_view c.self.inside.id c.self.inside.config c.self.inside.owner.seen c.self.inside.tries
+view g c = store_view c.self.inside.id c.self.inside.config c.self.inside.functions.entries c.self.inside.owner.seen c.self.inside.tries
 
 can : (g : given.Over) (c : In-Ok g) → CanRead g.row.D.Denot g.H.GcHeap.KIND (view g c) c.args.handle c.args.index
 can g c = subst (λ (s : StoreView g.row.D.Denot). CanRead g.row.D.Denot g.H.GcHeap.KIND s c.args.handle c.args.index) (sym c.self.view_is) c.requires
@@ -97,8 +97,9 @@ returns g c t place value holds has =
     let before : Holds g.H.GcHeap.KIND (view g at) t place = subst (λ (s : StoreView g.row.D.Denot). Holds g.H.GcHeap.KIND s t place) (sym c.self.view_is) holds in
     let had : HasValue (view g at) t c.args.handle c.args.index value = subst (λ (s : StoreView g.row.D.Denot). HasValue s t c.args.handle c.args.index value) (sym c.self.view_is) has in
     let lies = lying_at g.H.GcHeap.KIND (view g at) t place before c.args.handle c.args.index value had c.in-Ok.word (word_at g at) in
-    found_stands g.H.GcHeap.KIND (view g at) t place _ c.in-Ok.word _ c.args.index value lies c.read_slot.result c.slot_in-slot.result (slot_is g found t place _ _ value lies)
+    subst (λ (s : StoreView g.row.D.Denot). FoundStands (naming place s.funcs) c.read_slot.result value) c.self.view_is
+    (found_stands g.H.GcHeap.KIND (view g at) t place _ c.in-Ok.word _ c.args.index value lies c.read_slot.result c.slot_in-slot.result (slot_is g found t place _ _ value lies)
     (subst (λ (w : ℕ). FindsAt g.H.GcHeap.KIND c.self.inside.owner.seen.heap w form width c.slot_in-slot.result.offset c.read_slot.result) (same_word g unwrapped)
     (subst (λ (h : HeapView). FindsAt g.H.GcHeap.KIND h c.unwrap-gc_ref.result form width c.slot_in-slot.result.offset c.read_slot.result) c.heap-in-Ok.ensures.seen c.read_slot.ensures.finds))
     (subst (λ (w : ℕ). FitsAt g.H.GcHeap.KIND c.self.inside.owner.seen.heap w form width c.slot_in-slot.result.offset) (same_word g unwrapped)
-    (subst (λ (h : HeapView). FitsAt g.H.GcHeap.KIND h c.unwrap-gc_ref.result form width c.slot_in-slot.result.offset) c.heap-in-Ok.ensures.seen c.read_slot.ensures.small))
+    (subst (λ (h : HeapView). FitsAt g.H.GcHeap.KIND h c.unwrap-gc_ref.result form width c.slot_in-slot.result.offset) c.heap-in-Ok.ensures.seen c.read_slot.ensures.small)))

@@ -15,7 +15,7 @@ use Rattle.gc_store.proofs.store.Store.root_at.Goals.{After-push_word}
 
 pub push_word-requires : goal.push_word-requires
 push_word-requires g c =
-    let s : StoreView g.row.D.Denot = store_view c.self.inside.id c.self.inside.config c.self.inside.owner.seen c.self.inside.tries in
+    let s : StoreView g.row.D.Denot = store_view c.self.inside.id c.self.inside.config c.self.inside.functions.entries c.self.inside.owner.seen c.self.inside.tries in
     let some : 0 < c.in-Some.root.word = omega (arith, c.if-root-eq0.false) in
     let at : slice_get (root_words s) c.args.number ≡ Some c.in-Some.root = ap (λ (v : StoreView g.row.D.Denot). slice_get (root_words v) c.args.number) c.self.view_is ∙ sym c.in-Some.ensures in
     let named = roots_named g.H.GcHeap.KIND s c.self.invariant.table c.self.invariant.holds.place c.self.invariant.holds.holds c.args.number c.in-Some.root at some in
@@ -36,7 +36,7 @@ pub returns-in-Ok-clause-finds : goal.returns-in-Ok-clause-finds
 returns-in-Ok-clause-finds g c t place a holds account =
     let there = named g (goal.at.returns-in-Ok-clause-finds g c).After-push_word t place holds in
     subst (λ (o : Option RootWord). RootsWord g.H.GcHeap.KIND c.args.self.now t place a o (Ok (found.Root c.in-Some.root.name c.in-Ok.found)) c.push_word.new.self) c.in-Some.ensures
-    (refl, (omega (arith, c.if-root-eq0.false), (there.0, (there.1, c.in-Ok.ensures.pushes t place a there.0 holds account there.1))))
+    (refl, (omega (arith, c.if-root-eq0.false), (there.0, (there.1, (c.in-Ok.ensures.pushes t place a there.0 holds account there.1, c.in-Ok.ensures.there t place a there.0 (holds, account) there.1)))))
 
 pub returns-in-Err-clause-finds : goal.returns-in-Err-clause-finds
 returns-in-Err-clause-finds g c t place a holds account =

@@ -13,7 +13,7 @@ use Rattle.gc_store.proofs.store.Store.root_word.Goals.{After-is_ready}
 
 -- the store's view, by its parts
 abbrev view : (g : given.Over) (c : After-is_ready g) → StoreView g.row.D.Denot
-view g c = store_view c.self.inside.id c.self.inside.config c.self.inside.owner.seen c.self.inside.tries
+view g c = store_view c.self.inside.id c.self.inside.config c.self.inside.functions.entries c.self.inside.owner.seen c.self.inside.tries
 
 count : (g : given.Over) (c : After-is_ready g) → length c.self.inside.owner.seen.roots.globals ≡ global_count
 count g c = c.self.invariant.holds.holds.globals.slots.same_count ∙ c.self.invariant.holds.holds.globals.count

@@ -1,4 +1,4 @@
-use Rattle.std.proofs.Common.{◌≡◌, ℕ, List, Ok, Some, sym, ap, ◌∙◌, subst, arith}
+use Rattle.std.proofs.Common.{◌≡◌, ℕ, List, [], ◌∷◌, Ok, Some, sym, ap, ◌∙◌, subst, arith}
 use Rattle.std.specs.FinMap as finite
 use Rattle.gc_types.specs.Declarations.{TypeTable, Declaration}
 use Rattle.gc_view.specs.Heaps.{HeapObject, HeapView}
@@ -9,24 +9,27 @@ use Rattle.gc_policy.specs.Accounts.{Account, HoldsAccount}
 use Rattle.gc_model.specs.Stored.{stored}
 use Rattle.gc_model.specs.Table.{Table, write}
 use Rattle.gc_model.specs.Stores.{StoreView}
+use Rattle.gc_model.specs.Holds.{FunctionIds, Placing, Holds, FunctionsBy}
 use Rattle.gc_store.specs.Filling.{slot_bytes}
 use Rattle.gc_store.specs.Kept.{code_of, KeptAs, IsKept}
 use Rattle.gc_store.specs.HeldSlots.{FindsHeldSlot, IsHeldWithSlot}
 use Rattle.gc_store.specs.Roots.{word_of}
-use Rattle.gc_store.specs.Values.{CanWrite, WritesValue}
-use Rattle.gc_store.specs.Stores.{store_view}
+use Rattle.gc_store.specs.Values.{CanWrite, KeepsValue, raw_functions}
+use Rattle.gc_store.specs.Stores.{IsSound, store_view}
+use Rattle.gc_store.specs.Interning.{Interns}
 use Rattle.gc_store.proofs.EachValue.{are_words, kept_of_form}
+use Rattle.gc_store.proofs.GivenFunctions.{given_refused, within_ids}
 use Rattle.gc_store.proofs.Keeping.{counts_of}
 use Rattle.gc_store.proofs.Roots.{SomeIff-value, SomeIff-some}
 use Rattle.gc_store.proofs.LyingAt.{value_live, has_slot}
-use Rattle.gc_store.proofs.WritingAt.{spot, spot_slot, spot_form, spot_kept, writes_value, some_written}
+use Rattle.gc_store.proofs.WritingAt.{spot, spot_slot, spot_form, spot_kept, keeps_value, some_written}
 use Rattle.gc_store.proofs.store.Store.write_value.Given as given
 use Rattle.gc_store.proofs.store.Store.write_value.Goals as goal
 use Rattle.gc_store.proofs.store.Store.write_value.Goals.{In-Ok, After-unwrap-gc_ref, After-types, After-slot_in-slot, After-stored_value-stored, After-write_slot}
 
 -- the store's view, by its parts
 abbrev view : (g : given.Over) (c : In-Ok g) → StoreView g.row.D.Denot
-view g c = store_view c.self.inside.id c.self.inside.config c.self.inside.owner.seen c.self.inside.tries
+view g c = store_view c.self.inside.id c.self.inside.config c.self.inside.functions.entries c.self.inside.owner.seen c.self.inside.tries
 
 can : (g : given.Over) (c : In-Ok g) → CanWrite g.row.D.Denot g.H.GcHeap.KIND (view g c) c.args.handle c.args.index c.args.value
 can g c = subst (λ (s : StoreView g.row.D.Denot). CanWrite g.row.D.Denot g.H.GcHeap.KIND s c.args.handle c.args.index c.args.value) (sym c.self.view_is) c.requires
@@ -69,6 +72,14 @@ finds g c =
     (subst (λ (h : HeapView). FindsHeldSlot g.H.GcHeap.KIND c.self.inside.owner.seen.types.declarations h c.unwrap-gc_ref.result c.args.index c.slot_in-slot.result) c.heap.ensures.seen
     (subst (λ (n : TypeTable). FindsHeldSlot g.H.GcHeap.KIND n.declarations (g.H.GcHeap.seen c.heap.result.now) c.unwrap-gc_ref.result c.args.index c.slot_in-slot.result) c.types.ensures c.slot_in-slot.ensures))
 
+-- the function values of a table that the store held, by their ids
+ids_of : (g : given.Over) (c : After-slot_in-slot g) (t : Table g.row.D.Denot) (place : Placing) → Holds g.H.GcHeap.KIND c.args.self.now t place → FunctionsBy t.funcs c.self.inside.functions.entries
+ids_of g c t place holds = subst (λ (s : StoreView g.row.D.Denot). FunctionsBy t.funcs s.funcs) (sym c.self.view_is) holds.funcs
+
+-- a function value that is given has an id
+interned : (g : given.Over) (c : After-slot_in-slot g) → Interns c.self.inside.functions.entries c.intern_given.new.functions.entries (raw_functions (c.args.value ∷ []))
+interned g c = c.in_ok-intern_given-in-Ok.ensures.interns.0
+
 pub stored_value-stored-requires-clause-rising : goal.stored_value-stored-requires-clause-rising
 stored_value-stored-requires-clause-rising g c = subst AreRising (sym c.owned.ensures) c.self.invariant.holds.holds.owned.rising
 
@@ -77,13 +88,13 @@ stored_value-stored-requires-clause-kept g c =
     let slot = (goal.at.stored_value-stored-requires-clause-kept g c).After-slot_in-slot in
     let at = (goal.at.After-slot_in-slot g slot).In-Ok in
     let same : record { scoped = c.scoped.result.now; owned = c.owned.result.now } ≡ handle_roots c.self.inside.owner.seen.roots = λ i. record { scoped = c.scoped.ensures i; owned = c.owned.ensures i } in
-    subst (λ (es : HandleRoots). IsKept es c.args.value) (sym same)
-    (spot_kept _ _ (view g at) c.args.handle c.args.index c.args.value (can g at) c.in-Ok.word (word_at g at) c.slot_in-slot.result (finds g slot))
+    subst (λ (es : HandleRoots). IsKept c.intern_given.new.functions.entries es c.args.value) (sym same)
+    (spot_kept _ _ (view g at) c.args.handle c.args.index c.args.value (can g at) c.in-Ok.word (word_at g at) c.slot_in-slot.result (finds g slot) c.intern_given.new.functions.entries (interned g slot))
 
-kept_is : (g : given.Over) (c : After-stored_value-stored g) → KeptAs (handle_roots c.self.inside.owner.seen.roots) c.args.value c.stored_value-stored.result
+kept_is : (g : given.Over) (c : After-stored_value-stored g) → KeptAs c.intern_given.new.functions.entries (handle_roots c.self.inside.owner.seen.roots) c.args.value c.stored_value-stored.result
 kept_is g c =
     let same : record { scoped = c.scoped.result.now; owned = c.owned.result.now } ≡ handle_roots c.self.inside.owner.seen.roots = λ i. record { scoped = c.scoped.ensures i; owned = c.owned.ensures i } in
-    subst (λ (es : HandleRoots). KeptAs es c.args.value c.stored_value-stored.result) same c.stored_value-stored.ensures.kept
+    subst (λ (es : HandleRoots). KeptAs c.intern_given.new.functions.entries es c.args.value c.stored_value-stored.result) same c.stored_value-stored.ensures.kept
 
 pub write_slot-requires-clause-idle : goal.write_slot-requires-clause-idle
 write_slot-requires-clause-idle g c = c.self.invariant.idle
@@ -106,7 +117,7 @@ write_slot-requires-clause-can g c =
       };
       index = c.args.index;
       slot_is = lies.slot_is ∙ ap Some (sym (spot_slot _ _ (view g at) c.args.handle c.args.index c.args.value (can g at) c.in-Ok.word (word_at g at) c.slot_in-slot.result (finds g slot)));
-      of_form = kept_of_form heap (handle_roots c.self.inside.owner.seen.roots) c.slot_in-slot.result.storage c.args.value c.stored_value-stored.result
+      of_form = kept_of_form heap c.intern_given.new.functions.entries (handle_roots c.self.inside.owner.seen.roots) c.slot_in-slot.result.storage c.args.value c.stored_value-stored.result
           (are_words g.H.GcHeap.KIND c.self.inside.owner.seen c.is_ready.ensures.can)
           (spot_form _ _ (view g at) c.args.handle c.args.index c.args.value (can g at) c.in-Ok.word (word_at g at) c.slot_in-slot.result (finds g slot))
           (kept_is g stored);
@@ -137,21 +148,26 @@ rest_is g c =
     e ∙ ap (λ (h : HeapView). record c.self.inside.owner.seen { heap = h }) (sym (ap (λ (v : OwnerView g.row.D.Denot). v.heap) e))
 
 abbrev later : (g : given.Over) (c : After-write_slot g) → StoreView g.row.D.Denot
-later g c = store_view c.self.inside.id c.self.inside.config c.write_slot.new.owner.seen c.self.inside.tries
+later g c = store_view c.self.inside.id c.self.inside.config c.intern_given.new.functions.entries c.write_slot.new.owner.seen c.self.inside.tries
 
 abbrev at_of : (g : given.Over) (c : After-write_slot g) → In-Ok g
 at_of g c = (goal.at.After-slot_in-slot g (goal.at.After-stored_value-stored g (goal.at.After-write_slot g c).After-stored_value-stored).After-slot_in-slot).In-Ok
 
-later_is : (g : given.Over) (c : After-write_slot g) → later g c ≡ record (view g (at_of g c)) { heap = c.write_slot.new.owner.seen.heap }
-later_is g c = ap (λ (v : OwnerView g.row.D.Denot). store_view c.self.inside.id c.self.inside.config v c.self.inside.tries) (rest_is g c)
+later_is : (g : given.Over) (c : After-write_slot g) → later g c ≡ record (view g (at_of g c)) { heap = c.write_slot.new.owner.seen.heap; funcs = c.intern_given.new.functions.entries }
+later_is g c = ap (λ (v : OwnerView g.row.D.Denot). store_view c.self.inside.id c.self.inside.config c.intern_given.new.functions.entries v c.self.inside.tries) (rest_is g c)
 
 pub invariant_of-self : goal.invariant_of-self
 invariant_of-self g c =
-    let after = (goal.at.invariant_of-self g c).After-write_slot in
+    let same = given_refused c.self.inside.functions.entries c.intern_given.new.functions.entries (raw_functions (c.args.value ∷ [])) c.in_err-intern_given-in-Ok.field-0.0 c.in_err-intern_given-in-Ok.ensures.interns in
+    subst (λ (ids : FunctionIds). IsSound g.row.D.Denot g.H.GcHeap.KIND c.self.inside.slot_counts.items c.self.inside.owner.seen (store_view c.self.inside.id c.self.inside.config ids c.self.inside.owner.seen c.self.inside.tries)) (sym same) c.self.invariant
+
+pub invariant_of-self-in-Ok : goal.invariant_of-self-in-Ok
+invariant_of-self-in-Ok g c =
+    let after = (goal.at.invariant_of-self-in-Ok g c).After-write_slot in
     let stored = (goal.at.After-write_slot g after).After-stored_value-stored in
     let slot = (goal.at.After-stored_value-stored g stored).After-slot_in-slot in
     let at = (goal.at.After-slot_in-slot g slot).In-Ok in
-    let some = some_written g.row.D.Denot g.H.GcHeap.KIND (view g at) c.args.handle c.args.index c.args.value (can g at) c.in-Ok.word (word_at g at) c.slot_in-slot.result (finds g slot) c.write_slot.new.owner.seen.heap c.stored_value-stored.result (kept_is g stored) c.stored_value-stored.ensures.small (heap_written g after) in
+    let some = some_written g.row.D.Denot g.H.GcHeap.KIND (view g at) c.args.handle c.args.index c.args.value (can g at) c.in-Ok.word (word_at g at) c.slot_in-slot.result (finds g slot) c.intern_given.new.functions.entries (interned g slot) c.write_slot.new.owner.seen.heap c.stored_value-stored.result (kept_is g stored) c.stored_value-stored.ensures.small (heap_written g after) in
     record {
       idle = ap (λ (v : OwnerView g.row.D.Denot). v.idle) (rest_is g after) ∙ c.self.invariant.idle;
       engine = ap (λ (v : OwnerView g.row.D.Denot). v.types.engine) (rest_is g after) ∙ c.self.invariant.engine;
@@ -163,17 +179,21 @@ invariant_of-self g c =
     }
 
 pub returns-clause-writes : goal.returns-clause-writes
-returns-clause-writes g c t a holds before v has field field_is stands =
+returns-clause-writes g c t a holds =
     let after = (goal.at.returns-clause-writes g c).After-write_slot in
     let kept = (goal.at.After-write_slot g after).After-stored_value-stored in
     let slot = (goal.at.After-stored_value-stored g kept).After-slot_in-slot in
     let at = (goal.at.After-slot_in-slot g slot).In-Ok in
-    let later_heap : StoreView g.row.D.Denot = record (view g at) { heap = c.write_slot.new.owner.seen.heap } in
-    let writes : (t : Table g.row.D.Denot) (a : Account) → HoldsAccount g.H.GcHeap.KIND c.args.self.now t a → WritesValue g.H.GcHeap.KIND c.args.self.now later_heap t a c.args.handle c.args.index c.args.value =
-    subst (λ (s : StoreView g.row.D.Denot). (t : Table g.row.D.Denot) (a : Account) → HoldsAccount g.H.GcHeap.KIND s t a → WritesValue g.H.GcHeap.KIND s later_heap t a c.args.handle c.args.index c.args.value) c.self.view_is
-    (writes_value g.row.D.Denot g.H.GcHeap.KIND (view g at) c.args.handle c.args.index c.args.value (can g at) c.in-Ok.word (word_at g at) c.slot_in-slot.result (finds g slot) c.write_slot.new.owner.seen.heap c.stored_value-stored.result (kept_is g kept) c.stored_value-stored.ensures.small (heap_written g after)) in
-    subst (λ (s : StoreView g.row.D.Denot). HoldsAccount g.H.GcHeap.KIND s (write has.position c.args.index (stored field.element_type v) t) a) (sym (later_is g after))
-    (writes t a holds before v has field field_is stands)
+    let later_store : StoreView g.row.D.Denot = record (view g at) { heap = c.write_slot.new.owner.seen.heap; funcs = c.intern_given.new.functions.entries } in
+    let keeps : (t : Table g.row.D.Denot) (a : Account) → HoldsAccount g.H.GcHeap.KIND c.args.self.now t a → KeepsValue g.H.GcHeap.KIND c.args.self.now later_store t a c.args.handle c.args.index c.args.value =
+    subst (λ (s : StoreView g.row.D.Denot). (t : Table g.row.D.Denot) (a : Account) → HoldsAccount g.H.GcHeap.KIND s t a → KeepsValue g.H.GcHeap.KIND s later_store t a c.args.handle c.args.index c.args.value) c.self.view_is
+    (keeps_value g.row.D.Denot g.H.GcHeap.KIND (view g at) c.args.handle c.args.index c.args.value (can g at) c.in-Ok.word (word_at g at) c.slot_in-slot.result (finds g slot) c.intern_given.new.functions.entries (interned g slot) c.write_slot.new.owner.seen.heap c.stored_value-stored.result (kept_is g kept) c.stored_value-stored.ensures.small (heap_written g after)) in (
+      λ before v has field field_is stands.
+          subst (λ (s : StoreView g.row.D.Denot). HoldsAccount g.H.GcHeap.KIND s (write has.position c.args.index (stored field.element_type v) t) a) (sym (later_is g after))
+          (keeps t a holds before v has field field_is stands),
+      λ v stands. within_ids c.args.self.now t c.args.value v stands
+          (c.in_ok-intern_given-in-Ok.ensures.interns.1 t.funcs (ids_of g slot t holds.place holds.holds)),
+    )
 
 pub returns-clause-spare : goal.returns-clause-spare
 returns-clause-spare g c =
