@@ -12,8 +12,6 @@ use Rattle.gc_types.specs.declared.value.StorageType.TheVariants as storage
 use Rattle.gc_types.specs.declared.value.ValType.{ValType}
 use Rattle.gc_types.specs.Declarations.{Declaration}
 use Rattle.gc_types.specs.Values.{unpacked}
-use Rattle.gc_owner.specs.declared.entry.GcClass.{GcClass}
-use Rattle.gc_owner.specs.declared.entry.GcClass.TheVariants.{Any, Extern, Exn}
 use Rattle.gc_model.specs.Values.{Value, Object}
 use Rattle.gc_model.specs.Fits.{fits, fits_type}
 use Rattle.gc_model.specs.Table.{Table}
@@ -21,7 +19,6 @@ use Rattle.gc_model.specs.Stores.{StoreView}
 use Rattle.gc_model.specs.Holds.{HoldsTable}
 use Rattle.gc_store.specs.declared.root.GcRootIndex.{GcRootIndex}
 use Rattle.gc_store.specs.declared.root.RawValue.{RawValue}
-use Rattle.gc_store.specs.declared.root.RawValue.TheVariants as raw
 use Rattle.gc_store.specs.declared.root.RootFault.{RootFault}
 use Rattle.gc_store.specs.declared.root.RootedObject.{RootedObject}
 use Rattle.gc_store.specs.Roots.{FindsRoot}
@@ -29,8 +26,7 @@ use Rattle.gc_store.specs.Values.{RawStands}
 use Rattle.gc_objects.specs.declared.faults.ValueFault.{ValueFault}
 use Rattle.gc_objects.specs.declared.faults.ValueFault.TheVariants as value_fault
 use Rattle.gc_objects.specs.declared.val.Val.{Val}
-use Rattle.gc_objects.specs.declared.val.Val.TheVariants as val
-use Rattle.gc_objects.specs.Given.{raw_of, root_of, is_function, goes_into, goes, ValStands, RootIsLive, IsLiveOrGone, Goes, Misfits, ChecksValue, ChecksValues, AllGo, IsFirst, CanStoreAs, AllStorable}
+use Rattle.gc_objects.specs.Given.{raw_of, goes, ValStands, RootIsLive, IsLiveOrGone, Goes, Misfits, ChecksValue, ChecksValues, AllGo, IsFirst, CanStoreAs, AllStorable}
 
 -- a packed type takes what its unpacked type takes
 fits-unpacked : {D : Type 0} (types : List Declaration) (objects : List (Object D)) (ty : StorageType) (x : Value) → fits_type types objects (unpacked ty) x ≡ fits types objects ty x
@@ -47,42 +43,6 @@ root_is_live D layouts s root handle (Err why) b is e found live = absurd (cc (s
 pub no_root_live : (D : Type 0) (layouts : Layouts) (s : StoreView D) (root : Option GcRootIndex) → root ≡ None → RootIsLive D layouts s root
 no_root_live D layouts s root is = subst (RootIsLive D layouts s) (sym is) tt
 
-module _ {D : Type 0} (s : StoreView D) (t : Table D) (ty : StorageType) where
-  abbrev fits_here : Value → Bool
-  fits_here x = fits t.types t.objects ty x
-
-  reference_goes : (class : GcClass) (root : Option GcRootIndex) (x : Value) → RawStands s t (raw.Ref class root) x → goes_into t ty x ≡ fits_here x
-  reference_goes class None x stands = subst (λ (y : Value). goes_into t ty y ≡ fits_here y) (sym stands) refl
-  reference_goes class (Some handle) x stands = subst (λ (y : Value). goes_into t ty y ≡ fits_here y) (sym stands.is) refl
-
-  -- a value that is no function goes where it fits
-  value_goes : (v : Val) (x : Value) → is_function v ≡ false → ValStands s t v x → goes_into t ty x ≡ fits_here x
-  value_goes (val.I32 n) x plain stands = subst (λ (y : Value). goes_into t ty y ≡ fits_here y) (sym stands) refl
-  value_goes (val.I64 n) x plain stands = subst (λ (y : Value). goes_into t ty y ≡ fits_here y) (sym stands) refl
-  value_goes (val.F32 n) x plain stands = subst (λ (y : Value). goes_into t ty y ≡ fits_here y) (sym stands) refl
-  value_goes (val.F64 n) x plain stands = subst (λ (y : Value). goes_into t ty y ≡ fits_here y) (sym stands) refl
-  value_goes (val.V128 n) x plain stands = subst (λ (y : Value). goes_into t ty y ≡ fits_here y) (sym stands) refl
-  value_goes (val.FuncRef f) x plain stands = absurd (cc plain)
-  value_goes (val.ExternRef handle) x plain stands = reference_goes Extern (root_of handle) x stands
-  value_goes (val.AnyRef handle) x plain stands = reference_goes Any (root_of handle) x stands
-  value_goes (val.ExnRef handle) x plain stands = reference_goes Exn (root_of handle) x stands
-
-  -- a function goes nowhere
-  function_goes : (v : Val) (x : Value) → is_function v ≡ true → ValStands s t v x → goes_into t ty x ≡ false
-  function_goes (val.I32 n) x is stands = absurd (cc is)
-  function_goes (val.I64 n) x is stands = absurd (cc is)
-  function_goes (val.F32 n) x is stands = absurd (cc is)
-  function_goes (val.F64 n) x is stands = absurd (cc is)
-  function_goes (val.V128 n) x is stands = absurd (cc is)
-  function_goes (val.FuncRef f) x is stands = ap (goes_into t ty) stands
-  function_goes (val.ExternRef handle) x is stands = absurd (cc is)
-  function_goes (val.AnyRef handle) x is stands = absurd (cc is)
-  function_goes (val.ExnRef handle) x is stands = absurd (cc is)
-
-function_goes_nowhere : {D : Type 0} (s : StoreView D) (t : Table D) (field : Option FieldType) (v : Val) (x : Value) → is_function v ≡ true → ValStands s t v x → goes t field x ≡ false
-function_goes_nowhere s t None v x is stands = refl
-function_goes_nowhere s t (Some field) v x is stands = function_goes s t field.element_type v x is stands
-
 -- the value that a live one stands for
 value_of : {D : Type 0} (s : StoreView D) (t : Table D) (v : Val) (b : Bool) → b ≡ true → IsLiveOrGone s t v b → (x : Value) × ValStands s t v x
 value_of s t v b live found = subst (λ (c : Bool). IsLiveOrGone s t v c) live found
@@ -92,22 +52,16 @@ module _ {D : Type 0} (s : StoreView D) (t : Table D) (field : Option FieldType)
   value_gone gone found = subst (λ (c : Bool). IsLiveOrGone s t v c) gone found
 
   module _ (is : live ≡ true) (found : IsLiveOrGone s t v live) where
-    pub function_misfits : is_function v ≡ true → ChecksValue s t field v (Err value_fault.TypeMismatch)
-    function_misfits function_is =
-        let x = value_of s t v live is found in
-        record { value = x.0; stands = x.1; fits_not = function_goes_nowhere s t field v x.0 function_is x.1 }
-
     pub untyped_misfits : field ≡ None → ChecksValue s t field v (Err value_fault.TypeMismatch)
     untyped_misfits none =
         let x = value_of s t v live is found in
         record { value = x.0; stands = x.1; fits_not = ap (λ (f : Option FieldType). goes t f x.0) none }
 
-    module _ (f : FieldType) (some : field ≡ Some f) (no_function : is_function v ≡ false) (ty : ValType) (given : RawValue) (b : Bool) (ty_is : ty ≡ unpacked f.element_type) (given_is : given ≡ raw_of v)
+    module _ (f : FieldType) (some : field ≡ Some f) (ty : ValType) (given : RawValue) (b : Bool) (ty_is : ty ≡ unpacked f.element_type) (given_is : given ≡ raw_of v)
         (answers : (x : Value) → RawStands s t given x → b ≡ fits_type t.types t.objects ty x) where
       goes_as_fits : (x : Value) → ValStands s t v x → goes t field x ≡ b
       goes_as_fits x stands =
           ap (λ (o : Option FieldType). goes t o x) some
-          ∙ value_goes s t f.element_type v x no_function stands
           ∙ sym (fits-unpacked t.types t.objects f.element_type x)
           ∙ sym (answers x (subst (λ (r : RawValue). RawStands s t r x) (sym given_is) stands) ∙ ap (λ (a : ValType). fits_type t.types t.objects a x) ty_is)
 

@@ -24,3 +24,4 @@ pub mod ThrowLemmas
 pub mod TypeLemmas
 pub mod TypedObjects
 pub mod ValueLemmas
+pub mod WrittenValues

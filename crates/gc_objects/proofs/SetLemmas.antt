@@ -1,5 +1,5 @@
 -- What a write answers and leaves, by the handle that was given.
-use Rattle.std.proofs.Common.{inl, inr, ◌≡◌, ◌↔◌, IsTrue, ℕ, Bool, true, false, Some, Result, Ok, Err, IsOk, sym, ◌∙◌, refl, subst}
+use Rattle.std.proofs.Common.{inl, inr, ◌≡◌, ◌↔◌, IsTrue, ℕ, Bool, true, false, Some, Result, Ok, Err, sym, ◌∙◌, refl, subst}
 use Rattle.gc_types.specs.declared.kind.Layouts.{Layouts}
 use Rattle.gc_types.specs.declared.value.FieldType.{FieldType}
 use Rattle.gc_types.specs.declared.value.Mutability.{Mutability}
@@ -12,7 +12,7 @@ use Rattle.gc_store.specs.declared.root.GcRootIndex.{GcRootIndex}
 use Rattle.gc_store.specs.declared.root.RootFault.{RootFault}
 use Rattle.gc_store.specs.declared.root.RootFault.TheVariants as root_fault
 use Rattle.gc_store.specs.Roots.{is_of_store}
-use Rattle.gc_store.specs.Values.{CanWrite, WritesValue}
+use Rattle.gc_store.specs.Values.{CanWrite}
 use Rattle.gc_objects.specs.declared.faults.AccessFault.{AccessFault}
 use Rattle.gc_objects.specs.declared.faults.AccessFault.TheVariants as fault
 use Rattle.gc_objects.specs.declared.faults.ValueFault.{ValueFault}
@@ -20,9 +20,9 @@ use Rattle.gc_objects.specs.declared.faults.ValueFault.TheVariants as value_faul
 use Rattle.gc_objects.specs.declared.val.Val.{Val}
 use Rattle.gc_objects.specs.Answered.{Answers}
 use Rattle.gc_objects.specs.Faults.{accessed, accessed_value}
-use Rattle.gc_objects.specs.Given.{is_own, raw_of, Goes, ChecksValue, CanStoreAs}
+use Rattle.gc_objects.specs.Given.{is_own, raw_of, ValStands, Goes, ChecksValue, CanStoreAs}
 use Rattle.gc_objects.specs.Reads.{IsTypedAt, IsTyped}
-use Rattle.gc_objects.specs.Writes.{HasType, Sets, are_own_both}
+use Rattle.gc_objects.specs.Writes.{HasType, GoesThere, Sets, WritesAs, are_own_both}
 use Rattle.gc_objects.proofs.Naming.{both, found_true}
 
 -- what the tests of the handle and of the value's tell
@@ -105,23 +105,35 @@ module _ {D : Type 0} (layouts : Layouts) (s new : StoreView D) (t : Table D) (a
       pub sets_no_value : (why : ValueFault) (answer : AccessFault) → answer ≡ accessed_value why → ChecksValue s t (Some field) v (Err why) → SetsBy this (Err answer)
       sets_no_value why answer e checks = subst (λ (f : AccessFault). SetsBy this (Err f)) (sym e) (here (Err (accessed_value why)) (value_refused why checks))
 
-  -- else the value is written
-  module _ (field : FieldType) (typed : IsTypedAt s t root index field) (mutable : field.mutability ≡ Var) (value : Value) (goes : Goes s t (Some field) v value) (writes : WritesValue layouts s new t a root index (raw_of v)) where
-    done : SetsBy root (Ok tt)
-    done = (
-      given_own,
-      record {
-        before = typed.value;
-        has = typed.has;
-        field = field;
-        field_is = typed.field_is;
-        mutable = mutable;
-        value = value;
-        goes = goes;
-        holds = writes typed.value value typed.has field typed.field_is goes.stands;
-      },
-    )
+  -- else the store is asked to write the value
+  module _ (field : FieldType) (typed : IsTypedAt s t root index field) (mutable : field.mutability ≡ Var) (value : Value) (goes : Goes s t (Some field) v value) where
+    abbrev there : GoesThere s t root index v
+    there = record {
+      before = typed.value;
+      has = typed.has;
+      field = field;
+      field_is = typed.field_is;
+      mutable = mutable;
+      value = value;
+      goes = goes;
+    }
 
-    pub sets_done : (result : Result (Unit {0}) AccessFault) → IsOk result → SetsBy this result
-    sets_done (Ok x) ok = here (Ok x) done
-    sets_done (Err why) ok = absurd (cc ok)
+    by_store : (result : Result (Unit {0}) AccessFault) → WritesAs layouts s new t a root index v result → SetsBy root result
+    by_store (Ok x) writes = (
+      given_own,
+      record { there = there; has_id = writes.1 value goes.stands; holds = writes.0 typed.value value typed.has field typed.field_is goes.stands },
+    )
+    by_store (Err fault.WrongStore) writes = absurd writes
+    by_store (Err fault.Unrooted) writes = absurd writes
+    by_store (Err fault.OutOfBounds) writes = absurd writes
+    by_store (Err fault.Immutable) writes = absurd writes
+    by_store (Err fault.TypeMismatch) writes = absurd writes
+    by_store (Err fault.LengthMismatch) writes = absurd writes
+    by_store (Err fault.NotI8Array) writes = absurd writes
+    by_store (Err fault.RootsFull) writes = absurd writes
+    by_store (Err fault.FuncTableFull) writes = (given_own, record { there = there; lacks = writes.0 value goes.stands })
+    by_store (Err fault.Memory) writes =
+        (given_own, record { there = there; func = writes.0; value_is = subst (λ (w : Val). ValStands s t w value) writes.1 goes.stands })
+
+    pub sets_by_store : (result : Result (Unit {0}) AccessFault) → WritesAs layouts s new t a root index v result → SetsBy this result
+    sets_by_store result writes = here result (by_store result writes)

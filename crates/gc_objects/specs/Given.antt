@@ -6,10 +6,9 @@ use Rattle.gc_types.specs.declared.kind.Layouts.{Layouts}
 use Rattle.gc_types.specs.declared.kind.VMGcKind.{VMGcKind}
 use Rattle.gc_types.specs.declared.kind.VMGcKind.TheVariants as kinds
 use Rattle.gc_types.specs.declared.value.FieldType.{FieldType}
-use Rattle.gc_types.specs.declared.value.StorageType.{StorageType}
 use Rattle.gc_types.specs.Declarations.{Declaration, fields_at, elem_at}
 use Rattle.gc_owner.specs.declared.entry.GcClass.TheVariants.{Any, Extern, Exn}
-use Rattle.gc_model.specs.Values.{Value, numeric, function, reference}
+use Rattle.gc_model.specs.Values.{Value}
 use Rattle.gc_model.specs.Fits.{fits}
 use Rattle.gc_model.specs.Table.{Table}
 use Rattle.gc_model.specs.Stores.{StoreView}
@@ -76,28 +75,10 @@ abbrev pub RootIsLive : (D : Type 0) → Layouts → StoreView D → Option GcRo
 RootIsLive D layouts s None = Unit {0}
 RootIsLive D layouts s (Some handle) = IsLive D layouts s handle
 
--- whether a value is a function or none
-abbrev pub is_function : Val → Bool
-is_function (val.I32 n) = false
-is_function (val.I64 n) = false
-is_function (val.F32 n) = false
-is_function (val.F64 n) = false
-is_function (val.V128 n) = false
-is_function (val.FuncRef f) = true
-is_function (val.ExternRef handle) = false
-is_function (val.AnyRef handle) = false
-is_function (val.ExnRef handle) = false
-
--- whether a value goes into a field or an element of that type: it fits, and is no function, as no object holds one yet
-abbrev pub goes_into : {D : Type 0} → Table D → StorageType → Value → Bool
-goes_into t ty (numeric kind n) = fits t.types t.objects ty (numeric kind n)
-goes_into t ty (function f) = false
-goes_into t ty (reference class r) = fits t.types t.objects ty (reference class r)
-
--- the same where there may be no type
+-- whether a value goes into a field or an element: it fits the type, where there is one
 abbrev pub goes : {D : Type 0} → Table D → Option FieldType → Value → Bool
 goes t None x = false
-goes t (Some field) x = goes_into t field.element_type x
+goes t (Some field) x = fits t.types t.objects field.element_type x
 
 -- a value that is given stands for that one of the table, and goes where it is meant to
 pub record Goes {D : Type 0} (s : StoreView D) (t : Table D) (field : Option FieldType) (v : Val) (x : Value) : Type 0 where

@@ -1,11 +1,12 @@
 -- What calls that make objects answer and leave.
-use Rattle.std.specs.Prelude.{◌≡◌, ℕ, ◌<◌, ◌&&◌, Bool, true, false, List, Option, Some, Result, Ok, Err, map, length, replicate}
+use Rattle.std.specs.Prelude.{◌≡◌, ℕ, ◌<◌, ◌^◌, ◌&&◌, Bool, true, false, List, Option, Some, Result, Ok, Err, map, length, replicate}
 use Rattle.gc_types.specs.declared.kind.Layouts.{Layouts}
 use Rattle.gc_types.specs.declared.value.FieldType.{FieldType}
 use Rattle.gc_types.specs.declared.value.StorageType.TheVariants as storage
 use Rattle.gc_types.specs.Declarations.{TypeName, elem_at}
 use Rattle.gc_model.specs.Values.{at, Value, Object, struct, array, exception}
-use Rattle.gc_model.specs.Allocation.{Limits}
+use Rattle.gc_model.specs.Allocation.{Limits, too_large}
+use Rattle.gc_model.specs.Reach.{object_values}
 use Rattle.gc_model.specs.Stored.{stored, stored_in, byte_value}
 use Rattle.gc_model.specs.Table.{Table, make}
 use Rattle.gc_model.specs.Stores.{StoreView}
@@ -14,7 +15,7 @@ use Rattle.gc_store.specs.declared.root.GcRootIndex.{GcRootIndex}
 use Rattle.gc_store.specs.declared.rooted.Rooted.{Rooted}
 use Rattle.gc_store.specs.declared.store.PlaceFault.{PlaceFault}
 use Rattle.gc_store.specs.declared.store.PlaceFault.TheVariants as place
-use Rattle.gc_store.specs.Places.{Places, PlacesObject, RefusesPlace}
+use Rattle.gc_store.specs.Places.{Places, PlacesObject, RefusesPlace, bytes_of, lacks_ids}
 use Rattle.gc_store.specs.declared.request.Place.{Place}
 use Rattle.gc_store.specs.declared.request.Place.TheVariants as request
 use Rattle.gc_store.specs.Requests.{fields_of, exn_fields_of, element_of, CanPlaceStruct, CanPlaceException, CanPlaceElements}
@@ -42,6 +43,13 @@ IsHanded (Err place.RootsFull) result = result ≡ Err fault.RootsFull
 IsHanded (Err (place.HeapOutOfMemory f)) result = result ≡ Err (fault.HeapOutOfMemory f)
 IsHanded (Err place.Memory) result = result ≡ Err fault.Memory
 
+-- No heap can hold the object. There are ids for its function values, which are looked at before its size, but behind an
+-- array's length that doesn't fit 32 bits.
+pub record RefusesLarge {D : Type 0} (layouts : Layouts) (o : Object D) (p : PolicyState D) (limits' : Limits) (new : StoreView D) : Type 0 where
+  pub large : too_large layouts (bytes_of layouts o p.table) ≡ true
+  pub has_ids : length (object_values o) < 2 ^ 32 → lacks_ids o p.table ≡ false
+  pub refuses : RefusesPlace layouts p limits' new
+
 -- what the store answers and leaves, by a typed handle and the faults of such a call; no test refuses any more
 abbrev pub MakesAsked : {D T : Type 0} → Layouts → Option ℕ → Object D → PolicyState D → Limits → Result (Rooted T) Fault → StoreView D → Type 0
 MakesAsked layouts counter o p limits' (Ok handle) new = PlacesObject layouts counter o p limits' handle.index new
@@ -50,8 +58,8 @@ MakesAsked layouts counter o p limits' (Err fault.FieldCount) new = ⊥
 MakesAsked layouts counter o p limits' (Err fault.NotI8Array) new = ⊥
 MakesAsked layouts counter o p limits' (Err fault.Unrooted) new = ⊥
 MakesAsked layouts counter o p limits' (Err fault.TypeMismatch) new = ⊥
-MakesAsked layouts counter o p limits' (Err fault.FuncTableFull) new = ⊥
-MakesAsked layouts counter o p limits' (Err fault.TooLarge) new = Places layouts counter o p limits' (Err place.TooLarge) new
+MakesAsked layouts counter o p limits' (Err fault.FuncTableFull) new = Places layouts counter o p limits' (Err place.FuncTableFull) new
+MakesAsked layouts counter o p limits' (Err fault.TooLarge) new = RefusesLarge layouts o p limits' new
 MakesAsked layouts counter o p limits' (Err fault.RootsFull) new = Places layouts counter o p limits' (Err place.RootsFull) new
 MakesAsked layouts counter o p limits' (Err (fault.HeapOutOfMemory f)) new = Places layouts counter o p limits' (Err (place.HeapOutOfMemory f)) new
 MakesAsked layouts counter o p limits' (Err fault.Memory) new = Places layouts counter o p limits' (Err place.Memory) new
@@ -85,6 +93,10 @@ pub record MakesObject {D : Type 0} (asks : Object D → Type 0) (layouts : Layo
 abbrev pub Refuses : {D : Type 0} → (Object D → Type 0) → Layouts → Option ℕ → PolicyState D → Limits → PlaceFault → StoreView D → Type 0
 Refuses {D} asks layouts counter p limits' why new = (o : Object D) × (asks o × Places layouts counter o p limits' (Err why) new)
 
+-- all tests passed, and no heap can hold the object
+abbrev pub RefusesAsLarge : {D : Type 0} → (Object D → Type 0) → Layouts → PolicyState D → Limits → StoreView D → Type 0
+RefusesAsLarge {D} asks layouts p limits' new = (o : Object D) × (asks o × RefusesLarge layouts o p limits' new)
+
 -- What a call that makes an object answers and leaves, for a table and an account that the store held: by the cause of each
 -- refusal that its tests give, which changes nothing; and by the object that is asked for where all tests passed.
 abbrev pub Makes : {D T : Type 0} → (Fault → Type 0) → (Object D → Type 0) → Layouts → Option ℕ → PolicyState D → Limits
@@ -95,8 +107,8 @@ Makes causes asks layouts counter p limits' (Err fault.FieldCount) new = causes 
 Makes causes asks layouts counter p limits' (Err fault.NotI8Array) new = causes fault.NotI8Array × RefusesPlace layouts p limits' new
 Makes causes asks layouts counter p limits' (Err fault.Unrooted) new = causes fault.Unrooted × RefusesPlace layouts p limits' new
 Makes causes asks layouts counter p limits' (Err fault.TypeMismatch) new = causes fault.TypeMismatch × RefusesPlace layouts p limits' new
-Makes causes asks layouts counter p limits' (Err fault.FuncTableFull) new = ⊥
-Makes causes asks layouts counter p limits' (Err fault.TooLarge) new = Refuses asks layouts counter p limits' place.TooLarge new
+Makes causes asks layouts counter p limits' (Err fault.FuncTableFull) new = Refuses asks layouts counter p limits' place.FuncTableFull new
+Makes causes asks layouts counter p limits' (Err fault.TooLarge) new = RefusesAsLarge asks layouts p limits' new
 Makes causes asks layouts counter p limits' (Err fault.RootsFull) new = Refuses asks layouts counter p limits' place.RootsFull new
 Makes causes asks layouts counter p limits' (Err (fault.HeapOutOfMemory f)) new = Refuses asks layouts counter p limits' (place.HeapOutOfMemory f) new
 Makes causes asks layouts counter p limits' (Err fault.Memory) new = Refuses asks layouts counter p limits' place.Memory new

@@ -1,20 +1,25 @@
 -- What calls that write a field or an element answer and leave.
-use Rattle.std.specs.Prelude.{◌≡◌, ◌⊎◌, ℕ, ◌&&◌, Bool, true, false, Result, Ok, Err, Some, slice_get}
+use Rattle.std.specs.Prelude.{◌≡◌, ◌⊎◌, ℕ, ◌&&◌, Bool, true, false, [], ◌∷◌, Option, Result, Ok, Err, Some, slice_get}
 use Rattle.gc_types.specs.declared.kind.Layouts.{Layouts}
 use Rattle.gc_types.specs.declared.value.FieldType.{FieldType}
+use Rattle.gc_types.specs.declared.value.Func.{Func}
 use Rattle.gc_types.specs.declared.value.Mutability.{Mutability}
 use Rattle.gc_types.specs.declared.value.Mutability.TheVariants.{Const, Var}
-use Rattle.gc_model.specs.Values.{at, Value, Object}
+use Rattle.gc_model.specs.Values.{at, Value, function, Object}
+use Rattle.gc_model.specs.Functions.{functions_of, functions_full}
 use Rattle.gc_model.specs.Stored.{stored, value_type}
 use Rattle.gc_model.specs.Table.{Table, write}
 use Rattle.gc_model.specs.Stores.{StoreView}
 use Rattle.gc_policy.specs.Accounts.{Account, HoldsAccount}
 use Rattle.gc_store.specs.declared.root.GcRootIndex.{GcRootIndex}
+use Rattle.gc_store.specs.declared.write.WriteFault.TheVariants as write_fault
 use Rattle.gc_store.specs.Roots.{is_of_store, NamesReference, NamesNothing, HasValue}
+use Rattle.gc_store.specs.Values.{WritesValue}
 use Rattle.gc_objects.specs.declared.faults.AccessFault.{AccessFault}
 use Rattle.gc_objects.specs.declared.faults.AccessFault.TheVariants as fault
 use Rattle.gc_objects.specs.declared.val.Val.{Val}
-use Rattle.gc_objects.specs.Given.{is_own, Goes, IsGone, Misfits}
+use Rattle.gc_objects.specs.declared.val.Val.TheVariants as val
+use Rattle.gc_objects.specs.Given.{raw_of, is_own, Goes, IsGone, Misfits}
 use Rattle.gc_objects.specs.Reads.{IsOutside}
 
 -- the handle and that of the value are the store's
@@ -37,17 +42,37 @@ pub record TypedAs {D : Type 0} (s : StoreView D) (t : Table D) (handle : GcRoot
   pub mutable : field.mutability ≡ mutability
   pub found : finds field
 
--- a mutable field or element has the value now, as its type keeps it
-pub record WritesAt {D : Type 0} (layouts : Layouts) (old : StoreView D) (t : Table D) (a : Account) (handle : GcRootIndex)
-    (index : ℕ) (v : Val) (new : StoreView D) : Type 0 where
+-- a mutable field or element is there that the value goes into, so that all tests passed but that of ids
+pub record GoesThere {D : Type 0} (s : StoreView D) (t : Table D) (handle : GcRootIndex) (index : ℕ) (v : Val) : Type 0 where
   pub before : Value
-  pub has : HasValue old t handle index before
+  pub has : HasValue s t handle index before
   pub field : FieldType
   pub field_is : value_type t.types has.object index ≡ Some field
   pub mutable : field.mutability ≡ Var
   pub value : Value
-  pub goes : Goes old t (Some field) v value
-  pub holds : HoldsAccount layouts new (write has.position index (stored field.element_type value) t) a
+  pub goes : Goes s t (Some field) v value
+
+-- no id is left for a value, which is a function that isn't interned yet
+abbrev pub lacks_id : {D : Type 0} → Table D → Value → Bool
+lacks_id t x = functions_full (functions_of (x ∷ [])) t.funcs
+
+-- the field or element has the value now, as its type keeps it
+pub record WritesAt {D : Type 0} (layouts : Layouts) (old : StoreView D) (t : Table D) (a : Account) (handle : GcRootIndex)
+    (index : ℕ) (v : Val) (new : StoreView D) : Type 0 where
+  pub there : GoesThere old t handle index v
+  pub has_id : lacks_id t there.value ≡ false
+  pub holds : HoldsAccount layouts new (write there.has.position index (stored there.field.element_type there.value) t) a
+
+-- no id is left for the value
+pub record LacksId {D : Type 0} (s : StoreView D) (t : Table D) (handle : GcRootIndex) (index : ℕ) (v : Val) : Type 0 where
+  pub there : GoesThere s t handle index v
+  pub lacks : lacks_id t there.value ≡ true
+
+-- the value is a function, or none: for no other one memory is taken
+pub record TakesId {D : Type 0} (s : StoreView D) (t : Table D) (handle : GcRootIndex) (index : ℕ) (v : Val) : Type 0 where
+  pub there : GoesThere s t handle index v
+  pub func : Option Func
+  pub value_is : there.value ≡ function func
 
 -- the value's root is gone, or it doesn't fit, where the field or element is mutable
 abbrev pub LosesValue : {D : Type 0} → StoreView D → Table D → GcRootIndex → ℕ → Val → Type 0
@@ -75,8 +100,24 @@ Sets Outside layouts old t a handle index v (Err fault.TypeMismatch) new = (are_
 Sets Outside layouts old t a handle index v (Err fault.LengthMismatch) new = ⊥
 Sets Outside layouts old t a handle index v (Err fault.NotI8Array) new = ⊥
 Sets Outside layouts old t a handle index v (Err fault.RootsFull) new = ⊥
-Sets Outside layouts old t a handle index v (Err fault.FuncTableFull) new = ⊥
-Sets Outside layouts old t a handle index v (Err fault.Memory) new = ⊥
+Sets Outside layouts old t a handle index v (Err fault.FuncTableFull) new = (are_own_both old handle v ≡ true) × LacksId old t handle index v
+Sets Outside layouts old t a handle index v (Err fault.Memory) new = (are_own_both old handle v ≡ true) × TakesId old t handle index v
+
+-- What the store answers to a write whose tests all passed, and leaves, by the faults of such a call: memory is wanted for a
+-- function alone.
+abbrev pub WritesAs : {D : Type 0} → Layouts → StoreView D → StoreView D → Table D → Account → GcRootIndex → ℕ → Val → Result (Unit {0}) AccessFault
+    → Type 0
+WritesAs layouts old new t a handle index v (Ok done) = WritesValue layouts old new t a handle index (raw_of v) (Ok done)
+WritesAs layouts old new t a handle index v (Err fault.WrongStore) = ⊥
+WritesAs layouts old new t a handle index v (Err fault.Unrooted) = ⊥
+WritesAs layouts old new t a handle index v (Err fault.OutOfBounds) = ⊥
+WritesAs layouts old new t a handle index v (Err fault.Immutable) = ⊥
+WritesAs layouts old new t a handle index v (Err fault.TypeMismatch) = ⊥
+WritesAs layouts old new t a handle index v (Err fault.LengthMismatch) = ⊥
+WritesAs layouts old new t a handle index v (Err fault.NotI8Array) = ⊥
+WritesAs layouts old new t a handle index v (Err fault.RootsFull) = ⊥
+WritesAs layouts old new t a handle index v (Err fault.FuncTableFull) = WritesValue layouts old new t a handle index (raw_of v) (Err write_fault.FuncTableFull)
+WritesAs layouts old new t a handle index v (Err fault.Memory) = (func : Option Func) × (v ≡ val.FuncRef func)
 
 abbrev pub SetsField : {D : Type 0} → Layouts → StoreView D → Table D → Account → GcRootIndex → ℕ → Val → Result (Unit {0}) AccessFault → StoreView D → Type 0
 SetsField layouts old t a handle index v result new = Sets (IsOutside old t handle index) layouts old t a handle index v result new

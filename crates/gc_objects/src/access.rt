@@ -1,14 +1,15 @@
 //! Reading and writing values through the store, once all tests passed.
 
-ghost use Rattle.std.specs.Prelude.{◌≡◌, ◌≤◌, ◌<◌, IfOk, IsOk, OnErr, Err};
+ghost use Rattle.std.specs.Prelude.{◌≡◌, ◌≤◌, ◌<◌, IfOk, OnErr, Err};
 ghost use Rattle.gc_model.specs.Table.{Table};
 ghost use Rattle.gc_model.specs.Values.{Value};
 ghost use Rattle.gc_policy.specs.Accounts.{Account, HoldsAccount};
 ghost use Rattle.gc_store.specs.Roots.{CanRead, HasValue};
-ghost use Rattle.gc_store.specs.Values.{CanWrite, WritesValue};
+ghost use Rattle.gc_store.specs.Values.{CanWrite};
 ghost use Rattle.gc_store.specs.Stores.{IsSameStore, scoped_places};
 ghost use Rattle.gc_objects.specs.Given.{raw_of, ValNamesKind};
 ghost use Rattle.gc_objects.specs.Reads.{ReadsAs};
+ghost use Rattle.gc_objects.specs.Writes.{WritesAs};
 
 use crate::faults::AccessFault;
 use crate::val::{Val, raw_of, val_of};
@@ -36,8 +37,8 @@ pub(crate) fn read<H: GcHeap, D: Drop>(
     }
 }
 
-/// Writes a value that goes there into the object that a root names. No function is written yet, so that
-/// it isn't refused.
+/// Writes a value that goes there into the object that a root names. `FuncTableFull` comes where no id is left for a function
+/// that is new to the store, and `Memory` for a function alone.
 pub(crate) fn write<H: GcHeap, D: Drop>(
     store: &mut Store<H, D>,
     root: GcRootIndex,
@@ -45,9 +46,9 @@ pub(crate) fn write<H: GcHeap, D: Drop>(
     value: &Val,
 ) -> Result<(), AccessFault>
     requires { CanWrite D H.KIND store.old root index (raw_of value.now) }
-    ensures ok { IsOk result }
     ensures writes { (t : Table D) (a : Account) → HoldsAccount H.KIND store.old t a
-        → WritesValue H.KIND store.old store.new t a root index (raw_of value.now) }
+        → WritesAs H.KIND store.old store.new t a root index value.now result }
+    ensures err { OnErr result (store.new ≡ store.old) }
     ensures same { IsSameStore store.old store.new }
     ensures spare { store.old.spare ≤ store.new.spare }
 {

@@ -71,7 +71,8 @@ impl ArrayRef {
     }
 
     /// Makes an array of the allocator's type with these elements, and a scoped root for it. Refused as by
-    /// `new`, of each value in turn; `TooLarge` also where there are 2^32 elements or more.
+    /// `new`, of each value in turn; `TooLarge` also where there are 2^32 elements or more, right behind the
+    /// tests of values.
     pub fn new_fixed<H: GcHeap, D: Drop, L: ResourceLimiter>(
         store: &mut Store<H, D>,
         limiter: &mut L,
@@ -185,8 +186,8 @@ impl ArrayRef {
     /// Gives the element with that index another value, as `StructRef::set_field` does a field.
     ///
     /// Refused are, in this order: `WrongStore` where the handle or that of the value is another store's;
-    /// `Unrooted` where the array's is gone; `Immutable`; of the value `Unrooted`, then `TypeMismatch`; and
-    /// `OutOfBounds`.
+    /// `Unrooted` where the array's is gone; `Immutable`; of the value `Unrooted`, then `TypeMismatch`;
+    /// `OutOfBounds`; and `FuncTableFull`.
     pub fn set<H: GcHeap, D: Drop, R: RootedGcRef<ArrayRef>>(
         store: &mut Store<H, D>,
         this: &R,

@@ -4,7 +4,7 @@ ghost use Rattle.std.specs.Prelude.{◌≡◌, ◌<◌, ◌==◌, ◌&&◌, IsTr
 ghost use Rattle.gc_model.specs.Holds.{HoldsTable};
 ghost use Rattle.gc_model.specs.Table.{Table};
 ghost use Rattle.gc_store.specs.Roots.{is_of_store};
-ghost use Rattle.gc_objects.specs.Given.{named_root, is_own, is_own_of, are_own, is_function, types_of, RootIsLive, ChecksValue, ChecksFilling, ChecksValues};
+ghost use Rattle.gc_objects.specs.Given.{named_root, is_own, is_own_of, are_own, types_of, RootIsLive, ChecksValue, ChecksFilling, ChecksValues};
 ghost use Rattle.gc_objects.specs.Given.{CanStoreAs, AllStorable, IsLiveOrGone};
 
 use crate::faults::ValueFault;
@@ -76,15 +76,8 @@ pub(crate) fn is_live<H: GcHeap, D: Drop>(store: &Store<H, D>, value: &Val) -> b
     }
 }
 
-/// Whether a value is a function or none.
-fn is_function(value: &Val) -> bool
-    ensures { result ≡ is_function value.now }
-{
-    matches!(value, Val::FuncRef(_))
-}
-
 /// Whether a value may go into a field or an element of that type: `Unrooted` where its root is gone, then
-/// `TypeMismatch`, also for a function and where there is no type.
+/// `TypeMismatch` where it doesn't fit, or there is no type.
 pub(crate) fn check_value<H: GcHeap, D: Drop>(
     store: &Store<H, D>,
     field: Option<FieldType>,
@@ -95,9 +88,6 @@ pub(crate) fn check_value<H: GcHeap, D: Drop>(
 {
     if !is_live(store, value) {
         return Err(ValueFault::Unrooted);
-    }
-    if is_function(value) {
-        return Err(ValueFault::TypeMismatch);
     }
     let field = match field {
         Some(field) => field,

@@ -23,7 +23,7 @@ pub enum AllocFault<T> {
     TooLarge,
     /// No further root may be made.
     RootsFull,
-    /// The function table is full.
+    /// No ids are left for the functions among the values that are new to the store.
     FuncTableFull,
     /// The heap has no room, and it was refused more.
     HeapOutOfMemory(GcHeapOutOfMemory<T>),

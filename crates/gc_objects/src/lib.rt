@@ -10,8 +10,9 @@
 //! (`NamesKind`). Each call that gives a handle promises that it does; `cast` says only that the root is the
 //! same.
 //!
-//! Not built yet: functions as values (a call that is given one to store answers `TypeMismatch`), the iterators of
-//! values, and raw words.
+//! A function among values, or none, is stored by an id of the store's own, which it keeps for good.
+//!
+//! Not built yet: the iterators of values, and raw words.
 #![tactic(auto)]
 
 mod access;

@@ -22,7 +22,7 @@ pub enum Val {
     F32(u32),
     F64(u64),
     V128(V128),
-    /// A function, or none. No object holds one yet.
+    /// A function, or none.
     FuncRef(Option<Func>),
     ExternRef(Option<Rooted<ExternRef>>),
     AnyRef(Option<Rooted<AnyRef>>),
@@ -95,7 +95,8 @@ pub(crate) fn val_of(value: &RawValue) -> Val
 impl Val {
     /// Whether the value fits a type, as the store's types and objects say: `WrongStore` where its handle
     /// is another store's, `Unrooted` where it isn't live. A number fits its own type, null a nullable type
-    /// of its class, and a reference what its object's type matches. It changes nothing.
+    /// of its class, a reference what its object's type matches, a function what its own type matches, and
+    /// none a nullable type of functions. It changes nothing.
     pub fn matches_ty<H: GcHeap, D: Drop>(
         &self,
         store: &Store<H, D>,

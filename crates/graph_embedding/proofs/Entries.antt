@@ -64,9 +64,10 @@ module _ (layouts : Layouts) (old new : StoreView ℕ) (same : IsSameStore old n
       → ((t : Table ℕ) (a : Account) → HoldsAccount layouts old t a → SetsField layouts old t a handle index v (Ok tt) new) → KeepsEntries layouts old new
   set_kept handle index v other sets = accounts_kept layouts old new same (λ t a holds.
       let written = (sets t a holds).1 in
-      let value : Value = stored written.field.element_type written.value in
-      let after : Table ℕ = write written.has.position index value t in
-      kept_at layouts t after after a new written.holds refl (keeps_written t written.has.position index value other))
+      let there = written.there in
+      let value : Value = stored there.field.element_type there.value in
+      let after : Table ℕ = write there.has.position index value t in
+      kept_at layouts t after after a new written.holds refl (keeps_written t there.has.position index value other))
 
 -- a node of which an owned root was made is an entry
 pub node_owned : (layouts : Layouts) (old new : StoreView ℕ) (handle made : GcRootIndex) (key : ℤ) → IsNode layouts old handle key

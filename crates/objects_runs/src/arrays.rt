@@ -22,7 +22,7 @@ fn ask<H: GcHeap>(
 }
 
 /// Reads an element.
-fn read<H: GcHeap>(
+pub(crate) fn read<H: GcHeap>(
     rt: &impl Print,
     store: &mut Store<H, u64>,
     handle: Rooted<ArrayRef>,
@@ -34,7 +34,7 @@ fn read<H: GcHeap>(
 }
 
 /// Writes an element.
-fn write<H: GcHeap>(
+pub(crate) fn write<H: GcHeap>(
     rt: &impl Print,
     store: &mut Store<H, u64>,
     handle: Rooted<ArrayRef>,

@@ -6,6 +6,7 @@
 mod arrays;
 mod exceptions;
 mod fault;
+mod functions;
 mod owned;
 mod references;
 mod scopes;
@@ -16,6 +17,7 @@ mod structs;
 use crate::arrays::{run_bytes, run_references, run_refused_arrays};
 use crate::exceptions::run_exceptions;
 use crate::fault::RunFault;
+use crate::functions::{run_elements, run_fields};
 use crate::owned::run_owned;
 use crate::references::{run_hosts, run_number};
 use crate::scopes::run_scopes;
@@ -56,6 +58,8 @@ fn run_calls<H: GcHeap>(
     run_refused_arrays(rt, store)?;
     run_hosts(rt, store)?;
     run_exceptions(rt, store)?;
+    run_fields(rt, store)?;
+    run_elements(rt, store)?;
     run_owned(rt, store)
 }
 

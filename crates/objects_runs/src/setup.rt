@@ -12,13 +12,21 @@ use gc_store::{PageLimit, Rooted, Store};
 use gc_types::{FieldType, HeapType, Mutability, RefType, StorageType, VMSharedTypeIndex, ValType};
 
 /// The type of structs of an 8-bit integer, a constant 64-bit one and a reference.
-const STRUCT: u32 = 0;
+pub(crate) const STRUCT: u32 = 0;
 /// The type of arrays of 8-bit integers.
 pub(crate) const BYTES: u32 = 1;
 /// The type of arrays of constant references.
 pub(crate) const CONSTANTS: u32 = 2;
 /// The type of exceptions with a 32-bit integer.
 const EXCEPTION: u32 = 3;
+/// A type of functions, and another one.
+pub(crate) const FUNCTION: u32 = 4;
+
+pub(crate) const OTHER_FUNCTION: u32 = 5;
+/// The type of structs of one function or none, and that of arrays of such.
+pub(crate) const HOLDER: u32 = 6;
+
+pub(crate) const FUNCTIONS: u32 = 7;
 
 /// The most pages that a heap gets.
 const MOST_PAGES: u32 = 64;
@@ -36,6 +44,14 @@ pub(crate) fn any_type() -> ValType {
     })
 }
 
+/// The type of functions of the type, or none.
+pub(crate) fn function_type() -> ValType {
+    ValType::Ref(RefType {
+        nullable: true,
+        heap_type: HeapType::ConcreteFunc(VMSharedTypeIndex::new(FUNCTION)),
+    })
+}
+
 /// A field that is stored so.
 fn field(mutability: Mutability, element_type: StorageType) -> FieldType {
     FieldType {
@@ -49,7 +65,12 @@ fn reference(mutability: Mutability) -> FieldType {
     field(mutability, StorageType::ValType(any_type()))
 }
 
-/// Declares the four types of a new store.
+/// A field of functions.
+fn function() -> FieldType {
+    field(Mutability::Var, StorageType::ValType(function_type()))
+}
+
+/// Declares the types of a new store.
 pub(crate) fn declare_types<H: GcHeap>(store: &mut Store<H, u64>) -> Result<(), RunFault> {
     let fields = [
         field(Mutability::Var, StorageType::I8),
@@ -60,14 +81,27 @@ pub(crate) fn declare_types<H: GcHeap>(store: &mut Store<H, u64>) -> Result<(), 
     store.declare_array(field(Mutability::Var, StorageType::I8), None, false)?;
     store.declare_array(reference(Mutability::Const), None, false)?;
     store.declare_exn(&[ValType::I32])?;
+    declare_functions(store)
+}
+
+/// Declares two types of functions, and those of what holds functions.
+fn declare_functions<H: GcHeap>(store: &mut Store<H, u64>) -> Result<(), RunFault> {
+    store.declare_func(&[], &[], None, false)?;
+    store.declare_func(&[ValType::I32], &[], None, false)?;
+    let fields = [function()];
+    store.declare_struct(&fields, None, false)?;
+    store.declare_array(function(), None, false)?;
     Ok(())
 }
 
-/// An allocator of structs.
-pub(crate) fn structs<H: GcHeap>(store: &mut Store<H, u64>) -> Result<StructRefPre, RunFault>
+/// An allocator of structs of that type.
+pub(crate) fn structs_of<H: GcHeap>(
+    store: &mut Store<H, u64>,
+    ty: u32,
+) -> Result<StructRefPre, RunFault>
     ensures { IfOk result (IsDeclaredAs store.new TypeKind.Struct) }
 {
-    match store.types().struct_type(VMSharedTypeIndex::new(STRUCT)) {
+    match store.types().struct_type(VMSharedTypeIndex::new(ty)) {
         Some(ty) => Ok(StructRefPre::new(store, ty)?),
         None => Err(RunFault::Missing),
     }

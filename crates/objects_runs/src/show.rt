@@ -28,6 +28,11 @@ pub(crate) fn show_read(
         Ok(Val::I32(number)) => println!(rt; "{place} {index} is i32 {number}")?,
         Ok(Val::I64(number)) => println!(rt; "{place} {index} is i64 {number}")?,
         Ok(Val::AnyRef(None)) => println!(rt; "{place} {index} is null")?,
+        Ok(Val::FuncRef(Some(func))) => println!(rt;
+            "{place} {index} is function {}",
+            func.number
+        )?,
+        Ok(Val::FuncRef(None)) => println!(rt; "{place} {index} is no function")?,
         Ok(_) => println!(rt; "{place} {index} is a reference")?,
         Err(fault) => println!(rt; "{place} {index}: {fault:?}")?,
     }

@@ -5,7 +5,7 @@ ghost use Rattle.gc_types.specs.declared.kind.VMGcKind.{VMGcKind};
 ghost use Rattle.gc_objects.specs.Kinds.{NamesKind};
 
 use crate::fault::RunFault;
-use crate::setup::{ample, as_struct, structs};
+use crate::setup::{STRUCT, ample, as_struct, structs_of};
 use crate::show::{show_made, show_read, show_type, show_write};
 use gc_heap::GcHeap;
 use gc_objects::{AnyRef, StructRef, Val};
@@ -18,7 +18,7 @@ const VALUES: [Val; 3] = [Val::I32(-1), Val::I64(5), Val::AnyRef(None)];
 fn new_struct<H: GcHeap>(store: &mut Store<H, u64>) -> Result<Rooted<StructRef>, RunFault>
     ensures { IfOk result (λ handle. NamesKind ℕ H.KIND store.new VMGcKind.StructRef handle.index) }
 {
-    let allocator = structs(store)?;
+    let allocator = structs_of(store, STRUCT)?;
     Ok(StructRef::new(store, &mut ample(), &allocator, &VALUES)?)
 }
 
@@ -34,13 +34,13 @@ fn make<H: GcHeap>(
     name: &str,
     values: &[Val],
 ) -> Result<(), RunFault> {
-    let allocator = structs(store)?;
+    let allocator = structs_of(store, STRUCT)?;
     let answer = StructRef::new(store, &mut ample(), &allocator, values);
     show_made(rt, name, answer)
 }
 
 /// Reads a field of a struct.
-fn read<H: GcHeap>(
+pub(crate) fn read<H: GcHeap>(
     rt: &impl Print,
     store: &mut Store<H, u64>,
     handle: Rooted<StructRef>,
@@ -52,7 +52,7 @@ fn read<H: GcHeap>(
 }
 
 /// Writes a field of a struct.
-fn write<H: GcHeap>(
+pub(crate) fn write<H: GcHeap>(
     rt: &impl Print,
     store: &mut Store<H, u64>,
     handle: Rooted<StructRef>,

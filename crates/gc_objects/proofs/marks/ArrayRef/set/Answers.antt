@@ -3,7 +3,7 @@ use Rattle.gc_objects.specs.Writes.{IsPastEnd}
 use Rattle.gc_objects.proofs.Pushing.{held_table}
 use Rattle.gc_objects.proofs.TypeLemmas.{array_declared}
 use Rattle.gc_objects.proofs.ArrayLemmas.{array_told, element_here, element_has_type, element_typed, element_past, element_found}
-use Rattle.gc_objects.proofs.SetLemmas.{root_own, value_own, is_constant, is_mutable, may_write, sets_no_root, sets_outside, sets_constant, sets_no_value, sets_done}
+use Rattle.gc_objects.proofs.SetLemmas.{root_own, value_own, is_constant, is_mutable, may_write, sets_no_root, sets_outside, sets_constant, sets_no_value, sets_by_store}
 use Rattle.gc_objects.proofs.marks.ArrayRef.set.Goals as goal
 
 pub returns-in-Err-clause-sets : goal.returns-in-Err-clause-sets
@@ -64,7 +64,7 @@ returns-clause-sets g c t a holds =
     let is = array_told c.args.store.now t c.root_index-root.result c.in-Ok.array c.array_at.result c.in-Ok.is (c.array_at.ensures.answers t table) in
     let declared = element_here g.H.GcHeap.KIND c.args.store.now t table c.in-Ok.array.ty c.element_of-element.result c.element_of-element.ensures in
     let goes = c.in-Ok-check_value.ensures.checks t table in
-    sets_done g.H.GcHeap.KIND c.args.store.now c.write.new.store t a c.root_index-root.result (g.R.RootedGcRef.index c.args.this.now) c.root_index-root.ensures c.args.index c.args.value (λ h. IsPastEnd c.args.store.now t h c.args.index c.args.value)
+    sets_by_store g.H.GcHeap.KIND c.args.store.now c.write.new.store t a c.root_index-root.result (g.R.RootedGcRef.index c.args.this.now) c.root_index-root.ensures c.args.index c.args.value (λ h. IsPastEnd c.args.store.now t h c.args.index c.args.value)
     (root_own c.args.store.now c.root_index-root.result c.is_of_store.result c.is_of_store.ensures c.if-not-is_of_store.false) (value_own c.args.store.now c.args.value c.is_own.result c.is_own.ensures c.if-not-is_own.false)
     c.element_of-element.result (element_typed c.args.store.now t c.root_index-root.result c.in-Ok.array is c.args.index c.element_of-element.result declared c.if-index-array.false)
-    (is_mutable c.element_of-element.result.mutability c.is_var.result c.if-not-is_var.false c.is_var.ensures) goes.0 goes.1 (c.write.ensures.writes t a holds) c.write.result c.write.ensures.ok
+    (is_mutable c.element_of-element.result.mutability c.is_var.result c.if-not-is_var.false c.is_var.ensures) goes.0 goes.1 c.write.result (c.write.ensures.writes t a holds)

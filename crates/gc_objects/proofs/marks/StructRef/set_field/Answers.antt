@@ -1,12 +1,11 @@
 use Rattle.std.proofs.Common.{refl, subst, ℕ}
 use Rattle.gc_store.specs.declared.root.GcRootIndex.{GcRootIndex}
-use Rattle.gc_store.specs.Values.{WritesValue}
 use Rattle.gc_objects.specs.Answered.{HasField}
-use Rattle.gc_objects.specs.Given.{raw_of}
 use Rattle.gc_objects.specs.Reads.{IsOutside}
+use Rattle.gc_objects.specs.Writes.{WritesAs}
 use Rattle.gc_objects.proofs.Pushing.{held_table}
 use Rattle.gc_objects.proofs.StructLemmas.{no_field, typed_field, typed_found}
-use Rattle.gc_objects.proofs.SetLemmas.{root_own, value_own, is_constant, is_mutable, has_type, may_write, sets_no_root, sets_outside, sets_constant, sets_no_value, sets_done}
+use Rattle.gc_objects.proofs.SetLemmas.{root_own, value_own, is_constant, is_mutable, has_type, may_write, sets_no_root, sets_outside, sets_constant, sets_no_value, sets_by_store}
 use Rattle.gc_objects.proofs.marks.StructRef.set_field.Goals as goal
 
 pub returns-in-Err-clause-sets : goal.returns-in-Err-clause-sets
@@ -38,11 +37,10 @@ pub returns-in-Ok-check_value-clause-sets : goal.returns-in-Ok-check_value-claus
 returns-in-Ok-check_value-clause-sets g c t a holds =
     let typed = typed_field g.H.GcHeap.KIND c.args.store.now c.root_index-root.result c.root_index-root.result refl c.args.index t c.field_at.result (c.field_at.ensures.answers t (held_table g.H.GcHeap.KIND c.args.store.now t a holds)) c.in-Ok.found c.in-Some.named c.in-Ok.is c.in-Some.is in
     let goes = c.in-Ok-check_value.ensures.checks t (held_table g.H.GcHeap.KIND c.args.store.now t a holds) in
-    sets_done g.H.GcHeap.KIND c.args.store.now c.write.new.store t a c.root_index-root.result (g.R.RootedGcRef.index c.args.this.now) c.root_index-root.ensures c.args.index c.args.value (λ (h : GcRootIndex). IsOutside c.args.store.now t h c.args.index)
+    sets_by_store g.H.GcHeap.KIND c.args.store.now c.write.new.store t a c.root_index-root.result (g.R.RootedGcRef.index c.args.this.now) c.root_index-root.ensures c.args.index c.args.value (λ (h : GcRootIndex). IsOutside c.args.store.now t h c.args.index)
     (root_own c.args.store.now c.root_index-root.result c.is_of_store.result c.is_of_store.ensures c.if-not-is_of_store.false) (value_own c.args.store.now c.args.value c.is_own.result c.is_own.ensures c.if-not-is_own.false)
     c.in-Some.named.field typed.1 (is_mutable c.in-Some.named.field.mutability c.is_var.result c.if-not-is_var.false c.is_var.ensures) goes.0 goes.1
-    (subst (λ (n : ℕ). WritesValue g.H.GcHeap.KIND c.args.store.now c.write.new.store t a c.root_index-root.result n (raw_of c.args.value)) typed.0 (c.write.ensures.writes t a holds))
-    c.write.result c.write.ensures.ok
+    c.write.result (subst (λ (n : ℕ). WritesAs g.H.GcHeap.KIND c.args.store.now c.write.new.store t a c.root_index-root.result n c.args.value c.write.result) typed.0 (c.write.ensures.writes t a holds))
 
 pub returns-in-Err-check_value-clause-sets : goal.returns-in-Err-check_value-clause-sets
 returns-in-Err-check_value-clause-sets g c t a holds =

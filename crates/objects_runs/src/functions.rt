@@ -1,0 +1,95 @@
+//! Functions among values: stored, read and overwritten, and refused where they don't fit.
+
+ghost use Rattle.std.specs.Prelude.{ℕ, IfOk};
+ghost use Rattle.gc_types.specs.declared.kind.VMGcKind.{VMGcKind};
+ghost use Rattle.gc_objects.specs.Kinds.{NamesKind};
+
+use crate::fault::RunFault;
+use crate::setup::{
+    FUNCTION, FUNCTIONS, HOLDER, OTHER_FUNCTION, ample, arrays_of, function_type, structs_of,
+};
+use crate::show::show_made;
+use crate::{arrays, structs};
+use gc_heap::GcHeap;
+use gc_objects::{ArrayRef, StructRef, Val};
+use gc_store::{Rooted, Store};
+use gc_types::{Func, VMSharedTypeIndex};
+
+/// The function of that number and type.
+fn function(number: u32, ty: u32) -> Result<Val, RunFault> {
+    let func = Func::new(number, VMSharedTypeIndex::new(ty)).ok_or(RunFault::Missing)?;
+    Ok(Val::FuncRef(Some(func)))
+}
+
+/// A new struct that holds a function.
+fn new_holder<H: GcHeap>(
+    store: &mut Store<H, u64>,
+    value: &Val,
+) -> Result<Rooted<StructRef>, RunFault>
+    ensures { IfOk result (λ handle. NamesKind ℕ H.KIND store.new VMGcKind.StructRef handle.index) }
+{
+    let allocator = structs_of(store, HOLDER)?;
+    Ok(StructRef::new(store, &mut ample(), &allocator, &[*value])?)
+}
+
+/// Writes the field of such a struct, and reads it.
+fn write_and_read<H: GcHeap>(
+    rt: &impl Print,
+    store: &mut Store<H, u64>,
+    handle: Rooted<StructRef>,
+    value: &Val,
+) -> Result<(), RunFault> {
+    structs::write(rt, store, handle, 0, value)?;
+    structs::read(rt, store, handle, 0)
+}
+
+/// Shows whether functions fit a type of functions.
+fn show_fits<H: GcHeap>(rt: &impl Print, store: &Store<H, u64>) -> Result<(), RunFault> {
+    let ty = function_type();
+    let own = function(7, FUNCTION)?.matches_ty(store, &ty)?;
+    let none = Val::FuncRef(None).matches_ty(store, &ty)?;
+    let other = function(7, OTHER_FUNCTION)?.matches_ty(store, &ty)?;
+    println!(rt; "fits: {own}, none: {none}, of another type: {other}")?;
+    Ok(())
+}
+
+/// A function in a field is overwritten by another one, and by none; one of another type fits no field, and no reference does.
+pub(crate) fn run_fields<H: GcHeap>(
+    rt: &impl Print,
+    store: &mut Store<H, u64>,
+) -> Result<(), RunFault> {
+    show_fits(rt, store)?;
+    let handle = new_holder(store, &function(7, FUNCTION)?)?;
+    structs::read(rt, store, handle, 0)?;
+    write_and_read(rt, store, handle, &function(8, FUNCTION)?)?;
+    write_and_read(rt, store, handle, &Val::FuncRef(None))?;
+    write_and_read(rt, store, handle, &function(7, OTHER_FUNCTION)?)?;
+    write_and_read(rt, store, handle, &Val::AnyRef(None))?;
+    let allocator = structs_of(store, HOLDER)?;
+    let values = [function(7, OTHER_FUNCTION)?];
+    let answer = StructRef::new(store, &mut ample(), &allocator, &values);
+    show_made(rt, "a function of another type", answer)
+}
+
+/// An array of functions, which a collection leaves; and one of none.
+pub(crate) fn run_elements<H: GcHeap>(
+    rt: &impl Print,
+    store: &mut Store<H, u64>,
+) -> Result<(), RunFault> {
+    let allocator = arrays_of(store, FUNCTIONS)?;
+    let values = [
+        function(7, FUNCTION)?,
+        Val::FuncRef(None),
+        function(9, FUNCTION)?,
+    ];
+    let handle = ArrayRef::new_fixed(store, &mut ample(), &allocator, &values)?;
+    store.gc();
+    for index in 0..4 {
+        arrays::read(rt, store, handle, index)?;
+    }
+    arrays::write(rt, store, handle, 1, function(8, FUNCTION)?)?;
+    arrays::read(rt, store, handle, 1)?;
+    let allocator = arrays_of(store, FUNCTIONS)?;
+    let handle = ArrayRef::new(store, &mut ample(), &allocator, &Val::FuncRef(None), 2)?;
+    arrays::read(rt, store, handle, 1)
+}
