@@ -83,19 +83,19 @@ pushed_more u r = let more = length-append u.pushes ((record { index = length u.
 -- a value is read that names what was reached
 reads_kept : (s t : State) (v : Value) (into : Option ℕ) → Rooted s.table t.table → SoundRegisters (length s.table.pushes) t.registers → KnownValue s.table v → Kept s (reads v into t).1
 reads_kept s t (numeric kind n) into rooted sound known =
-    kept_rooted s (reads (numeric kind n) into t).1 rooted (sound_put (length s.table.pushes) (length t.table.pushes) rooted.pushes t.registers sound into (number (numeric kind n)) refl)
+    kept_rooted s (reads (numeric kind n) into t).1 rooted (sound_put (length s.table.pushes) (length t.table.pushes) rooted.pushes t.registers sound into (Some (number (numeric kind n))) refl)
 reads_kept s t (function f) into rooted sound known =
-    kept_rooted s (reads (function f) into t).1 rooted (sound_put (length s.table.pushes) (length t.table.pushes) rooted.pushes t.registers sound into (number (function f)) refl)
+    kept_rooted s (reads (function f) into t).1 rooted (sound_put (length s.table.pushes) (length t.table.pushes) rooted.pushes t.registers sound into None tt)
 reads_kept s t (values.reference c null) into rooted sound known =
-    kept_rooted s (reads (values.reference c null) into t).1 rooted (sound_put (length s.table.pushes) (length t.table.pushes) rooted.pushes t.registers sound into (reference c None) tt)
+    kept_rooted s (reads (values.reference c null) into t).1 rooted (sound_put (length s.table.pushes) (length t.table.pushes) rooted.pushes t.registers sound into (Some (reference c None)) tt)
 reads_kept s t (values.reference c (small n)) into rooted sound known =
     let more = pushed_more t.table (small n) in
     let pushed = push_rooted s.table t.table (small n) rooted (known_small s.table n) in
-    kept_rooted s (reads (values.reference c (small n)) into t).1 pushed (sound_put (length s.table.pushes) (length (push (small n) t.table).pushes) pushed.pushes t.registers sound into (reference c (Some (length t.table.pushes))) more)
+    kept_rooted s (reads (values.reference c (small n)) into t).1 pushed (sound_put (length s.table.pushes) (length (push (small n) t.table).pushes) pushed.pushes t.registers sound into (Some (reference c (Some (length t.table.pushes)))) more)
 reads_kept s t (values.reference c (at p)) into rooted sound known =
     let more = pushed_more t.table (at p) in
     let pushed = push_rooted s.table t.table (at p) rooted (All-head (Known s.table) (at p) [] known) in
-    kept_rooted s (reads (values.reference c (at p)) into t).1 pushed (sound_put (length s.table.pushes) (length (push (at p) t.table).pushes) pushed.pushes t.registers sound into (reference c (Some (length t.table.pushes))) more)
+    kept_rooted s (reads (values.reference c (at p)) into t).1 pushed (sound_put (length s.table.pushes) (length (push (at p) t.table).pushes) pushed.pushes t.registers sound into (Some (reference c (Some (length t.table.pushes)))) more)
 
 slot_known : (t : Table ℕ) (v : Value) → KnownValue t v → Known t (slot_of v).reference
 slot_known t (numeric kind n) known = known_null t

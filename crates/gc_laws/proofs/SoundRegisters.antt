@@ -41,9 +41,10 @@ sound_set n m later registers sound d h new k = elim (k == d) as (λ (b : Bool).
   | false ↦ sound_later n m later (registers k) (sound k)
 ]
 
-pub sound_put : (n m : ℕ) → n ≤ m → (registers : ℕ → Option Held) → SoundRegisters n registers → (into : Option ℕ) (h : Held) → SoundHeld m (Some h) → SoundRegisters m (put_register into h registers)
+pub sound_put : (n m : ℕ) → n ≤ m → (registers : ℕ → Option Held) → SoundRegisters n registers → (into : Option ℕ) (h : Option Held) → SoundHeld m h → SoundRegisters m (put_register into h registers)
 sound_put n m later registers sound None h new k = sound_later n m later (registers k) (sound k)
-sound_put n m later registers sound (Some d) h new k = sound_set n m later registers sound d h new k
+sound_put n m later registers sound (Some d) None new k = sound_later n m later (registers k) (sound k)
+sound_put n m later registers sound (Some d) (Some h) new k = sound_set n m later registers sound d h new k
 
 operand_sound : (n : ℕ) (registers : ℕ → Option Held) → SoundRegisters n registers → (v : Operand) → SoundHeld n (operand_held registers v)
 operand_sound n registers sound (operand.I32 x) = refl

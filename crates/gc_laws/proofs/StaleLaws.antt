@@ -203,9 +203,10 @@ value_refused layouts limit s s' c answer r stale has step =
 other_register : (r d : ℕ) (h : Held) (registers : ℕ → Option Held) → ¬ (Some d ≡ Some r) → cond (r == d) (Some h) (registers r) ≡ registers r
 other_register r d h registers ne = ap (λ (b : Bool). cond b (Some h) (registers r)) (not_same r d (λ e. ne (ap Some (sym e))))
 
-other_put : (r : ℕ) (into : Option ℕ) (h : Held) (registers : ℕ → Option Held) → ¬ (into ≡ Some r) → put_register into h registers r ≡ registers r
+other_put : (r : ℕ) (into : Option ℕ) (h : Option Held) (registers : ℕ → Option Held) → ¬ (into ≡ Some r) → put_register into h registers r ≡ registers r
 other_put r None h registers ne = refl
-other_put r (Some d) h registers ne = other_register r d h registers ne
+other_put r (Some d) None registers ne = refl
+other_put r (Some d) (Some h) registers ne = other_register r d h registers ne
 
 module _ (r : ℕ) where
   -- a plain command leaves the register, and so does one that makes an object

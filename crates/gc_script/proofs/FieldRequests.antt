@@ -2,14 +2,14 @@
 use Rattle.std.proofs.Common.{◌≡◌, ◌≢◌, ℕ, ◌==◌, List, [], ◌∷◌, ◌++◌, length, Option, Some, None, Bool, true, false, not, sym, ap, ◌∙◌, refl, subst, arith}
 use Rattle.std.specs.Prelude.{Result, Ok, Err, is_none, unwrap_or}
 use Rattle.std.specs.List.{slice_get}
-use Rattle.std.specs.Option.{option_map, option_and_then}
+use Rattle.std.specs.Option.{option_and_then}
 use Rattle.std.proofs.lemmas.Bool.Decides.{nat_tests}
 use Rattle.std.proofs.lemmas.Option.{none-some}
 use Rattle.gc_types.specs.declared.kind.Layouts.{Layouts}
 use Rattle.gc_types.specs.declared.value.FieldType.{FieldType}
-use Rattle.gc_types.specs.Declarations.{Declaration, Shape, struct_of, array_of, exn_of, func_of, declaration_fields, shape_fields, fields_at}
+use Rattle.gc_types.specs.Declarations.{Declaration, struct_of, array_of, exn_of, func_of, declaration_fields, shape_fields, fields_at}
 use Rattle.gc_model.specs.Allocation.{Limits}
-use Rattle.gc_model.specs.Sizes.{shape_exn_fields, exn_fields_at}
+use Rattle.gc_model.specs.Sizes.{shape_exn_fields}
 use Rattle.gc_model.specs.Stores.{StoreView}
 use Rattle.gc_store.specs.declared.request.Place.{Place}
 use Rattle.gc_store.specs.declared.request.Place.TheVariants as place

@@ -1,5 +1,5 @@
 -- A host object that is made, and the number of one that a register names.
-use Rattle.std.proofs.Common.{◌≡◌, ◌≢◌, ℕ, List, [], ◌∷◌, Option, Some, None, Bool, true, false, not, sym, ap, ◌∙◌, refl, subst}
+use Rattle.std.proofs.Common.{◌≡◌, ℕ, [], ◌∷◌, Option, Some, None, Bool, true, false, not, sym, ap, ◌∙◌, refl, subst}
 use Rattle.std.specs.Prelude.{Result, Ok, Err, unwrap_or, option_and_then}
 use Rattle.std.specs.List.{slice_get}
 use Rattle.gc_types.specs.declared.kind.Layouts.{Layouts}
@@ -17,7 +17,6 @@ use Rattle.gc_commands.specs.declared.reply.Reply.{Reply}
 use Rattle.gc_commands.specs.declared.reply.Reply.TheVariants as reply
 use Rattle.gc_commands.specs.declared.reply.Refusal.{Refusal}
 use Rattle.gc_commands.specs.declared.reply.Refusal.TheVariants as refusal
-use Rattle.gc_store.specs.declared.hosts.PlaceHostFault.{PlaceHostFault}
 use Rattle.gc_store.specs.declared.hosts.PlaceHostFault.TheVariants as host_fault
 use Rattle.gc_store.specs.declared.root.GcRootIndex.{GcRootIndex}
 use Rattle.gc_store.specs.declared.root.RawValue.{RawValue}
@@ -27,13 +26,14 @@ use Rattle.gc_store.specs.Places.{Places}
 use Rattle.gc_script.specs.declared.runner.RunError.{RunError}
 use Rattle.gc_script.specs.Slots.{RunnerView}
 use Rattle.gc_script.specs.State.{State, HoldsState}
-use Rattle.gc_script.specs.Given.{Given, is, given_register, is_unset, is_gone, named, Target, target, reference_target, object_target, is_host, names_kind}
+use Rattle.gc_script.specs.Given.{Given, is, given_register, is_unset, is_gone, Target, target, reference_target, object_target, is_host, names_kind}
 use Rattle.gc_script.specs.Shapes.{shape, making, new_host, host_number}
 use Rattle.gc_script.specs.Steps.{first_failing, tests, heap_tests}
 use Rattle.gc_script.specs.Policy.{policy_of}
 use Rattle.gc_script.specs.Run.{GoesOn, RunsOn, RunsOne, WantsAfter}
 use Rattle.gc_script.specs.Values.{raw_handle, IsFound}
 use Rattle.gc_script.proofs.FoundLemmas.{NamesRoot, root_of, named_is, names_nothing}
+use Rattle.gc_script.proofs.PlainValues.{has_ids}
 use Rattle.gc_script.proofs.StandLemmas.{holds_table}
 use Rattle.gc_script.proofs.TestLemmas.{passes, answers_by, follows_by, refuses}
 
@@ -124,7 +124,8 @@ placed_host layouts counter limits limits' s n handle new places = places
 
 pub full_for_host : (layouts : Layouts) (counter : Option ℕ) (limits limits' : Limits) (s : State) (n : ℕ) (new : StoreView ℕ)
     → PlacesHost layouts counter n (policy_of s limits) limits' (Err host_fault.RootsFull) new → Places layouts counter (new_host n) (policy_of s limits) limits' (Err fault.RootsFull) new
-full_for_host layouts counter limits limits' s n new places = (host_small layouts, places.0, places.1)
+full_for_host layouts counter limits limits' s n new places =
+    (host_small layouts, places.0, places.1, has_ids layouts new s.table (holds_table places.1.holds) (new_host n) refl)
 
 module _ (layouts : Layouts) (counter : Option ℕ) (limits limits' : Limits) (s : State) (d n : ℕ) where
   roots_only : first_failing (tests layouts s (command.Host d n)) ≡ first_failing (heap_tests layouts s (new_host n))

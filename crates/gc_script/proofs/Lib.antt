@@ -20,6 +20,7 @@ pub mod NamedLemmas
 pub mod ObjectLemmas
 pub mod OperandLemmas
 pub mod PlaceLemmas
+pub mod PlainValues
 pub mod ReadLemmas
 pub mod RequestLemmas
 pub mod ResultLemmas

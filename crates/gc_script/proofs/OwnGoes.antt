@@ -1,5 +1,5 @@
 -- Owned roots that are made, named again and given up.
-use Rattle.std.proofs.Common.{◌≡◌, ◌≢◌, inl, inr, ℕ, ◌-◌, ◌==◌, List, [], ◌∷◌, ◌++◌, length, Bool, true, false, not, cond, nat_eq, Option, Some, None, Contains, sym, ap, ◌∙◌, refl, subst, arith}
+use Rattle.std.proofs.Common.{◌≡◌, ◌≢◌, inl, inr, ℕ, ◌-◌, ◌==◌, List, [], ◌∷◌, ◌++◌, length, Bool, true, false, not, cond, Option, Some, None, Contains, sym, ap, ◌∙◌, refl, subst, arith}
 use Rattle.std.specs.Prelude.{Result, Ok, Err, unwrap_or, ◌<◌}
 use Rattle.std.specs.List.{slice_get}
 use Rattle.std.proofs.lemmas.Bool.{ne_eqb}
@@ -25,7 +25,7 @@ use Rattle.gc_store.specs.Handles.{PushesRoot}
 use Rattle.gc_store.specs.OwnedRoots.{MadeOwned, MakesOwned, DropsHandle, ReleasesHandle}
 use Rattle.gc_store.specs.Roots.{is_of_store, owned_handle, NamesReference, NamesNothing}
 use Rattle.gc_store.specs.Stores.{IsSameStore}
-use Rattle.gc_store.proofs.HandleWords.{owned-of_store, named_alone, named_of_store, named_held}
+use Rattle.gc_store.proofs.HandleWords.{owned-of_store, named_alone, named_held}
 use Rattle.gc_commands.specs.declared.command.Command.TheVariants as command
 use Rattle.gc_commands.specs.declared.reply.Reply.TheVariants as reply
 use Rattle.gc_commands.specs.declared.reply.Refusal.{Refusal}
@@ -33,11 +33,11 @@ use Rattle.gc_commands.specs.declared.reply.Refusal.TheVariants as refusal
 use Rattle.gc_script.specs.Slots.{RunnerView, register_at, option_join}
 use Rattle.gc_script.specs.State.{State, HeldOwned, owned, unrooted, Stands, StandsOwned, HoldsState, visible, over}
 use Rattle.gc_script.specs.Given.{Given, unset, gone, is, given_register, given_value}
-use Rattle.gc_script.specs.Shapes.{shape, slot_of, give_up, given_up, owns_as, owned_named, owned_class, roots_as, unroots}
+use Rattle.gc_script.specs.Shapes.{shape, slot_of, give_up, owns_as, owned_named, owned_class, roots_as, unroots}
 use Rattle.gc_script.specs.Steps.{tests, first_failing, owning_tests, owned_tests}
 use Rattle.gc_script.specs.Run.{GoesOn}
 use Rattle.gc_script.specs.Values.{raw_handle, raw_slot, reference_tests, FoundReference}
-use Rattle.gc_script.proofs.StandLemmas.{stands_kept, owned_stands, holds_table, holds_same, same_twice}
+use Rattle.gc_script.proofs.StandLemmas.{stands_kept, owned_stands, holds_same, same_twice}
 use Rattle.gc_script.proofs.SetLemmas.{holds_pushed}
 use Rattle.gc_script.proofs.TestLemmas.{passes, stops, answers_by, refuses}
 

@@ -2,31 +2,26 @@
 use Rattle.std.proofs.Common.{inl, inr, ◌≡◌, ◌≢◌, ℕ, ◌==◌, ◌<◌, suc, List, [], ◌∷◌, ◌++◌, length, Option, Some, None, Bool, true, false, cond, eqb, sym, ap, ◌∙◌, refl, subst, arith}
 use Rattle.std.specs.List.{slice_get}
 use Rattle.std.proofs.lemmas.Grind.{common_steps}
-use Rattle.std.proofs.lemmas.Option.{none-some, slice_get_within, slice_get_cases}
+use Rattle.std.proofs.lemmas.Option.{slice_get_within, slice_get_cases}
 use Rattle.gc_types.specs.declared.kind.Layouts.{Layouts}
-use Rattle.gc_types.specs.declared.value.StorageType.{StorageType}
-use Rattle.gc_types.specs.declared.value.Func.{Func}
-use Rattle.gc_types.specs.Layouts.{storage_width}
 use Rattle.gc_owner.specs.declared.entry.GcClass.{GcClass}
 use Rattle.gc_owner.specs.declared.entry.RootEntry.{RootEntry}
 use Rattle.gc_model.specs.Values.{Reference, null, small, at, Value, numeric, i32, i64, f32, f64, v128, function}
 use Rattle.gc_model.specs.Values as values
 use Rattle.gc_model.specs.Table.{Table, Scoped, push}
 use Rattle.gc_model.specs.Live.{rooted, rooted_among}
-use Rattle.gc_model.specs.Forms.{IsCode, LiesAs, number_at}
 use Rattle.gc_model.specs.Reads.{after_read}
 use Rattle.gc_model.specs.Stores.{StoreView}
-use Rattle.gc_model.specs.Holds.{Placing, naming, HoldsTable}
+use Rattle.gc_model.specs.Holds.{HoldsTable}
 use Rattle.gc_model.proofs.Lists.{slice_get-push_new}
-use Rattle.gc_model.proofs.ObjectStands.{value_lying}
-use Rattle.gc_store.specs.declared.root.GcRootIndex.{GcRootIndex}
 use Rattle.gc_store.specs.declared.root.RawValue.{RawValue}
+use Rattle.gc_store.specs.declared.root.RawValue.TheVariants as raw
 use Rattle.gc_commands.specs.declared.reply.Reply.{Reply}
 use Rattle.gc_commands.specs.declared.reply.Reply.TheVariants as reply
 use Rattle.gc_commands.specs.declared.reply.Refusal.{Refusal}
 use Rattle.gc_policy.specs.Accounts.{HoldsAccount}
 use Rattle.gc_store.specs.Stores.{IsSameStore}
-use Rattle.gc_store.specs.Roots.{Names, HasValue, handle_of}
+use Rattle.gc_store.specs.Roots.{Names, handle_of}
 use Rattle.gc_store.specs.Values.{RawStands, RootStands, IsReadAs}
 use Rattle.gc_script.specs.Slots.{RunnerRest, RunnerView, register_at}
 use Rattle.gc_script.specs.State.{State, Held, number, reference, Stands, HoldsState, with_table, put_into, visible, over}
@@ -34,10 +29,9 @@ use Rattle.gc_script.specs.Shapes.{Shape, shown, held_value, reads, plain}
 use Rattle.gc_script.specs.Steps.{first_failing}
 use Rattle.gc_script.specs.Run.{Goes}
 use Rattle.gc_script.specs.Named.{register_with}
-use Rattle.gc_script.specs.Values.{ShowsRead}
+use Rattle.gc_script.specs.Values.{ShowsRead, registered}
 use Rattle.gc_script.proofs.StandLemmas.{Keeps, holds_table, stands_kept, owned_kept, keeps_pushed, keeps_same}
 use Rattle.gc_script.proofs.TestLemmas.{answers_by}
-use Rattle.gc_script.proofs.ObjectLemmas.{held_object}
 
 -- a root at the end is found by its serial, where no other has it
 rooted_at_end : (serial : ℕ) (roots : List Scoped) (r : Reference) → ((i : ℕ) (root : Scoped) → slice_get roots i ≡ Some root → root.serial ≢ serial) → rooted_among serial (roots ++ record { serial = serial; reference = r } ∷ []) ≡ Some r
@@ -94,16 +88,16 @@ module _ (layouts : Layouts) (s : StoreView ℕ) (t : Table ℕ) (holds : HoldsT
   read_stands new (values.reference c (at p)) r is = subst (λ (x : RawValue). RawStands new (push (at p) t) x (values.reference c (at p))) (sym is) (root_pushed new c (at p))
 
   -- what a register holds of it
-  pub register_stands : (new : StoreView ℕ) (v : Value) (r : RawValue) → ((f : Option Func) → ¬ (v ≡ function f)) → IsReadAs new t v r → Stands new (after_read v t) (Some r) (Some (held_value t v))
-  register_stands new (numeric i32 n) r other is = subst (λ (x : RawValue). Stands new t (Some x) (Some (number (numeric i32 n)))) (sym is.1.0) (ap (numeric i32) is.1.1)
-  register_stands new (numeric i64 n) r other is = subst (λ (x : RawValue). Stands new t (Some x) (Some (number (numeric i64 n)))) (sym is.1.0) (ap (numeric i64) is.1.1)
-  register_stands new (numeric f32 n) r other is = subst (λ (x : RawValue). Stands new t (Some x) (Some (number (numeric f32 n)))) (sym is) refl
-  register_stands new (numeric f64 n) r other is = subst (λ (x : RawValue). Stands new t (Some x) (Some (number (numeric f64 n)))) (sym is) refl
-  register_stands new (numeric v128 n) r other is = subst (λ (x : RawValue). Stands new t (Some x) (Some (number (numeric v128 n)))) (sym is) refl
-  register_stands new (function f) r other is = absurd (other f refl)
-  register_stands new (values.reference c null) r other is = subst (λ (x : RawValue). Stands new t (Some x) (Some (reference c None))) (sym is) refl
-  register_stands new (values.reference c (small n)) r other is = subst (λ (x : RawValue). Stands new (push (small n) t) (Some x) (Some (reference c (Some (length t.pushes))))) (sym is) (refl, names_pushed new (small n))
-  register_stands new (values.reference c (at p)) r other is = subst (λ (x : RawValue). Stands new (push (at p) t) (Some x) (Some (reference c (Some (length t.pushes))))) (sym is) (refl, names_pushed new (at p))
+  pub register_stands : (new : StoreView ℕ) (v : Value) (r : RawValue) → IsReadAs new t v r → Stands new (after_read v t) (registered r) (held_value t v)
+  register_stands new (numeric i32 n) r is = subst (λ (x : RawValue). Stands new t (registered x) (Some (number (numeric i32 n)))) (sym is.1.0) (ap (numeric i32) is.1.1)
+  register_stands new (numeric i64 n) r is = subst (λ (x : RawValue). Stands new t (registered x) (Some (number (numeric i64 n)))) (sym is.1.0) (ap (numeric i64) is.1.1)
+  register_stands new (numeric f32 n) r is = subst (λ (x : RawValue). Stands new t (registered x) (Some (number (numeric f32 n)))) (sym is) refl
+  register_stands new (numeric f64 n) r is = subst (λ (x : RawValue). Stands new t (registered x) (Some (number (numeric f64 n)))) (sym is) refl
+  register_stands new (numeric v128 n) r is = subst (λ (x : RawValue). Stands new t (registered x) (Some (number (numeric v128 n)))) (sym is) refl
+  register_stands new (function f) r is = subst (λ (x : RawValue). Stands new t (registered x) None) (sym is) tt
+  register_stands new (values.reference c null) r is = subst (λ (x : RawValue). Stands new t (registered x) (Some (reference c None))) (sym is) refl
+  register_stands new (values.reference c (small n)) r is = subst (λ (x : RawValue). Stands new (push (small n) t) (registered x) (Some (reference c (Some (length t.pushes))))) (sym is) (refl, names_pushed new (small n))
+  register_stands new (values.reference c (at p)) r is = subst (λ (x : RawValue). Stands new (push (at p) t) (registered x) (Some (reference c (Some (length t.pushes))))) (sym is) (refl, names_pushed new (at p))
 
 -- a value shows the same before it was read
 pub shown_after : (t : Table ℕ) (v : Value) → shown (after_read v t) v ≡ shown t v
@@ -129,28 +123,35 @@ keeps_read t (values.reference c null) = keeps_same t.pushes t.pushes refl
 keeps_read t (values.reference c (small n)) = keeps_pushed t.pushes (push (small n) t).pushes (record { index = length t.scoped; generation = t.drops }) refl
 keeps_read t (values.reference c (at p)) = keeps_pushed t.pushes (push (at p) t).pushes (record { index = length t.scoped; generation = t.drops }) refl
 
--- no value that lies in an object is a function, as there are none
-lies_no_function : (t : Table ℕ) (place : Placing) (ty : StorageType) (v : Value) (bytes : List ℕ) (offset : ℕ) → t.funcs ≡ [] → LiesAs (naming place t.funcs) ty v bytes offset → (f : Option Func) → ¬ (v ≡ function f)
-lies_no_function t place ty v bytes offset none lies f is =
-    let code : IsCode (naming place t.funcs) (function f) (number_at (storage_width ty) bytes offset) = subst (λ (x : Value). IsCode (naming place t.funcs) x (number_at (storage_width ty) bytes offset)) is lies.code in
-    none-some f (ap (λ (fs : List (Option Func)). slice_get fs (number_at (storage_width ty) bytes offset)) (sym none) ∙ code)
+-- a register that is set holds something, and one that isn't nothing
+nothing_held : (s : StoreView ℕ) (t : Table ℕ) (held : Held) → ¬ Stands s t None (Some held)
+nothing_held s t (number v) stands = stands
+nothing_held s t (reference c None) stands = stands
+nothing_held s t (reference c (Some serial)) stands = stands
 
--- no value of what a root names is a function
-pub value_no_function : (layouts : Layouts) (s : StoreView ℕ) (t : Table ℕ) → HoldsTable layouts s t → (root : GcRootIndex) (index : ℕ) (v : Value) → HasValue s t root index v → (f : Option Func) → ¬ (v ≡ function f)
-value_no_function layouts s t holds root index v has =
-    let held = held_object layouts s t holds root has.position has.object has.named has.object_is in
-    let lying = value_lying layouts t.types (naming holds.0 t.funcs) has.object held.0 held.1 index v has.value_at in
-    lies_no_function t holds.0 lying.slot.storage v held.0.bytes _ holds.1.nothing_else.funcs lying.lies
+none_held : (s : StoreView ℕ) (t : Table ℕ) (r : RawValue) → ¬ Stands s t (Some r) None
+none_held s t (raw.I32 n) stands = stands
+none_held s t (raw.I64 n) stands = stands
+none_held s t (raw.F32 n) stands = stands
+none_held s t (raw.F64 n) stands = stands
+none_held s t (raw.V128 n) stands = stands
+none_held s t (raw.Func f) stands = stands
+none_held s t (raw.Ref c None) stands = stands
+none_held s t (raw.Ref c (Some handle)) stands = stands
 
 -- what a register holds once a value was put into one, where the others hold the same
-pub register_with-same : (into : Option ℕ) (r : RawValue) (slots slots' : List (Option RawValue)) → ((d : ℕ) → register_at slots d ≡ register_at slots' d) → (d : ℕ) → register_with into r slots d ≡ register_with into r slots' d
+pub register_with-same : (into : Option ℕ) (r : Option RawValue) (slots slots' : List (Option RawValue)) → ((d : ℕ) → register_at slots d ≡ register_at slots' d) → (d : ℕ) → register_with into r slots d ≡ register_with into r slots' d
 register_with-same None r slots slots' same d = same d
-register_with-same (Some k) r slots slots' same d = ap (cond (d == k) (Some r)) (same d)
+register_with-same (Some k) None slots slots' same d = same d
+register_with-same (Some k) (Some r) slots slots' same d = ap (cond (d == k) (Some r)) (same d)
 
 -- registers stand once a value was put into one
-pub put_stands : (new : StoreView ℕ) (t : Table ℕ) (slots : List (Option RawValue)) (s : State) (into : Option ℕ) (r : RawValue) (held : Held) → ((d : ℕ) → Stands new t (register_at slots d) (s.registers d)) → Stands new t (Some r) (Some held) → (d : ℕ) → Stands new t (register_with into r slots d) ((put_into into held s).registers d)
+pub put_stands : (new : StoreView ℕ) (t : Table ℕ) (slots : List (Option RawValue)) (s : State) (into : Option ℕ) (r : Option RawValue) (held : Option Held) → ((d : ℕ) → Stands new t (register_at slots d) (s.registers d)) → Stands new t r held → (d : ℕ) → Stands new t (register_with into r slots d) ((put_into into held s).registers d)
 put_stands new t slots s None r held stand stands d = stand d
-put_stands new t slots s (Some k) r held stand stands d =
+put_stands new t slots s (Some k) None None stand stands d = stand d
+put_stands new t slots s (Some k) None (Some held) stand stands d = absurd (nothing_held new t held stands)
+put_stands new t slots s (Some k) (Some r) None stand stands d = absurd (none_held new t r stands)
+put_stands new t slots s (Some k) (Some r) (Some held) stand stands d =
     elim (d == k) as (λ b. Stands new t (cond b (Some r) (register_at slots d)) (cond b (Some held) (s.registers d))) [ true ↦ stands | false ↦ stand d ]
 
 -- what a read leaves is what it leaves of what is visible
@@ -166,8 +167,8 @@ module _ (layouts : Layouts) (store new : StoreView ℕ) (runner runner' : Runne
   abbrev pub reading : Shape
   reading = plain (λ (x : State). reads (value_of x) into x)
 
-  module _ (r : RawValue) (answer : Reply) (pass : first_failing left ≡ None) (other : (f : Option Func) → ¬ (v ≡ function f))
-      (slots_are : (d : ℕ) → register_at runner'.registers d ≡ register_with into r runner.registers d) (is_read : IsReadAs new s.table v r)
+  module _ (r : RawValue) (answer : Reply) (pass : first_failing left ≡ None)
+      (slots_are : (d : ℕ) → register_at runner'.registers d ≡ register_with into (registered r) runner.registers d) (is_read : IsReadAs new s.table v r)
       (table : HoldsAccount layouts new (after_read v s.table) s.account) (shows : ShowsRead layouts new r answer) where
     pub read_goes : Goes layouts s reading left answer new runner'
     read_goes =
@@ -177,7 +178,7 @@ module _ (layouts : Layouts) (store new : StoreView ℕ) (runner runner' : Runne
         shows t v (holds_table table) (read_stands layouts store s.table (holds_table holds.table) new v r is_read) ∙ ap reply.Value (shown_after s.table v) in
         let kept : (d : ℕ) → Stands new t (register_at runner.registers d) (s.registers d) =
         λ d. stands_kept store new s.table t (register_at runner.registers d) (s.registers d) same (keeps_read s.table v) (holds.registers d) in
-        let put = put_stands new t runner.registers (with_table t s) into r held kept (register_stands layouts store s.table (holds_table holds.table) new v r other is_read) in
+        let put = put_stands new t runner.registers (with_table t s) into (registered r) held kept (register_stands layouts store s.table (holds_table holds.table) new v r is_read) in
         record {
           after = put_into into held (with_table t s);
           answers = answers_by layouts None s reading (first_failing left) None answer _ pass

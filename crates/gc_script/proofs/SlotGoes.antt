@@ -33,7 +33,7 @@ use Rattle.gc_script.specs.Shapes.{Shape, plain, reads, slot_of}
 use Rattle.gc_script.specs.Steps.{first_failing, setting_tests, getting_tests}
 use Rattle.gc_script.specs.Run.{GoesBy}
 use Rattle.gc_script.specs.Named.{register_with}
-use Rattle.gc_script.specs.Values.{raw_slot, IsFound, ShowsRead, reference_tests, FoundReference}
+use Rattle.gc_script.specs.Values.{raw_slot, IsFound, ShowsRead, registered, reference_tests, FoundReference}
 use Rattle.gc_script.proofs.ReadLemmas.{read_goes}
 use Rattle.gc_script.proofs.StandLemmas.{holds_kept, holds_same, holds_table}
 use Rattle.gc_script.proofs.TestLemmas.{passes, stops, answers_by, refuses_by}
@@ -130,9 +130,9 @@ module _ (layouts : Layouts) (store : StoreView ℕ) (runner : RunnerView) (s : 
         (stops (makes_root (slot_value there) && roots_full s.table) refusal.RootsFull [] (both_true (makes_root (slot_value there)) (roots_full s.table) makes is_full))
 
     -- the slot was read
-    pub slot_read : (value : RawValue) (answer : Reply) → ((k : ℕ) → register_at runner'.registers k ≡ register_with (Some d) value runner.registers k) → (makes_root (slot_value there) ≡ true → roots_full s.table ≡ false) → IsReadAs new s.table (slot_value there) value → HoldsAccount layouts new (after_read (slot_value there) s.table) s.account → ShowsRead layouts new value answer → GoesBy layouts s getting get_tests (Ok answer) new runner'
+    pub slot_read : (value : RawValue) (answer : Reply) → ((k : ℕ) → register_at runner'.registers k ≡ register_with (Some d) (registered value) runner.registers k) → (makes_root (slot_value there) ≡ true → roots_full s.table ≡ false) → IsReadAs new s.table (slot_value there) value → HoldsAccount layouts new (after_read (slot_value there) s.table) s.account → ShowsRead layouts new value answer → GoesBy layouts s getting get_tests (Ok answer) new runner'
     slot_read value answer slots_are may is_read table shows =
         read_goes layouts store new runner runner' s same holds rest_is (λ (x : State). slot_value (unwrap_or (slot_in x) empty_slot)) (Some d) (slot_value there)
         (ap (λ (o : Option Slot). slot_value (unwrap_or o empty_slot)) slot_is) get_tests value answer
         (passes (makes_root (slot_value there) && roots_full s.table) refusal.RootsFull [] (not_both (makes_root (slot_value there)) (roots_full s.table) may))
-        (λ f e. cc e) slots_are is_read table shows
+        slots_are is_read table shows

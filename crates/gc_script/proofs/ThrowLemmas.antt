@@ -1,30 +1,28 @@
 -- Exceptions that are thrown, and the pending one that is taken.
-use Rattle.std.proofs.Common.{◌≡◌, ℕ, length, List, [], ◌∷◌, ◌++◌, Bool, true, false, Option, Some, None, Ok, Err, sym, ap, ◌∙◌, refl, subst, arith}
+use Rattle.std.proofs.Common.{◌≡◌, ℕ, length, List, [], true, false, Option, Some, None, Ok, Err, sym, ap, ◌∙◌, refl, subst}
 use Rattle.std.specs.Prelude.{is_some, ◌&&◌}
 use Rattle.std.specs.List.{slice_get}
 use Rattle.std.proofs.lemmas.Option.{none-some}
 use Rattle.gc_types.specs.declared.kind.Layouts.{Layouts}
-use Rattle.gc_types.specs.declared.value.Func.{Func}
 use Rattle.gc_owner.specs.declared.entry.GcClass.TheVariants as class
-use Rattle.gc_model.specs.Values.{Reference, null, small, at, Value, function, Object, struct, array, host, exception}
-use Rattle.gc_model.specs.Values as values
-use Rattle.gc_model.specs.Table.{Table, push}
+use Rattle.gc_model.specs.Values.{Reference, null, small, at, Object, struct, array, host, exception}
+use Rattle.gc_model.specs.Table.{push}
 use Rattle.gc_model.specs.Live.{roots_full}
 use Rattle.gc_model.specs.Pending.{set_pending, take_pending}
 use Rattle.gc_model.specs.Reads.{after_read}
 use Rattle.gc_model.specs.Stores.{StoreView}
-use Rattle.gc_model.specs.Holds.{HoldsTable, IsException, ThrownBy}
+use Rattle.gc_model.specs.Holds.{IsException}
 use Rattle.gc_model.proofs.HoldsParts.{same_held-itself}
 use Rattle.gc_model.proofs.HoldsPending.{holds_pending_set}
-use Rattle.gc_policy.specs.Accounts.{Account, HoldsAccount}
+use Rattle.gc_policy.specs.Accounts.{HoldsAccount}
 use Rattle.gc_store.specs.declared.root.GcRootIndex.{GcRootIndex}
 use Rattle.gc_store.specs.declared.root.RawValue.TheVariants as raw
 use Rattle.gc_store.specs.declared.root.RootFault.{RootFault}
 use Rattle.gc_store.specs.declared.root.RootFault.TheVariants as fault
-use Rattle.gc_store.specs.Roots.{NamesReference, handle_of}
+use Rattle.gc_store.specs.Roots.{handle_of}
 use Rattle.gc_store.specs.Stores.{IsSameStore}
 use Rattle.gc_store.specs.Thrown.{NamesException, SetsPending, AnswersPending}
-use Rattle.gc_store.specs.Values.{RawStands, IsReadAs}
+use Rattle.gc_store.specs.Values.{IsReadAs}
 use Rattle.gc_store.proofs.HandleWords.{named_of_store}
 use Rattle.gc_commands.specs.declared.command.Command.TheVariants as command
 use Rattle.gc_commands.specs.declared.reply.Reply.{Reply}
@@ -35,10 +33,10 @@ use Rattle.gc_script.specs.declared.objects.NamedObject.{NamedObject}
 use Rattle.gc_script.specs.declared.objects.Wanted.TheVariants as wanted
 use Rattle.gc_script.specs.Slots.{RunnerView, register_at}
 use Rattle.gc_script.specs.State.{State, HoldsState, with_table, visible, over}
-use Rattle.gc_script.specs.Given.{Target, given_register, is_unset, is_exception, target}
-use Rattle.gc_script.specs.Named.{wants, IsNamedEverywhere, TellsObject, FoundObject, register_with}
-use Rattle.gc_script.specs.Shapes.{shape, shown, reads, plain, pending_value, takes_pending, throw_target}
-use Rattle.gc_script.specs.Steps.{tests, first_failing, take_tests, target_tests}
+use Rattle.gc_script.specs.Given.{Target, given_register, is_unset, is_exception}
+use Rattle.gc_script.specs.Named.{IsNamedEverywhere, FoundObject, register_with}
+use Rattle.gc_script.specs.Shapes.{shape, reads, pending_value, throw_target}
+use Rattle.gc_script.specs.Steps.{tests, first_failing, target_tests}
 use Rattle.gc_script.specs.Run.{GoesOn}
 use Rattle.gc_script.specs.Values.{ShowsRead}
 use Rattle.gc_script.proofs.ReadLemmas.{read_goes}
@@ -88,11 +86,6 @@ module _ (layouts : Layouts) (store new : StoreView ℕ) (runner : RunnerView) (
     never_unthrown fault.RootsFull told = told
     never_unthrown fault.Memory told = told
 
--- what a value that is taken is
-no_function : (pending : Option Reference) (f : Option Func) → ¬ (pending_value pending ≡ function f)
-no_function None f e = cc e
-no_function (Some r) f e = cc e
-
 module _ (layouts : Layouts) (store : StoreView ℕ) (runner : RunnerView) (s : State) (d : ℕ) (holds : HoldsState layouts store runner s) where
   -- the state without a pending exception, as a store would hold it
   abbrev untaken : State
@@ -123,12 +116,12 @@ module _ (layouts : Layouts) (store : StoreView ℕ) (runner : RunnerView) (s : 
     -- a value was read, where what is pending is that
     taken_goes : (pending : Option Reference) → s.table.pending ≡ pending → (is_some pending && roots_full s.table) ≡ false → (handle : Option GcRootIndex) (answer : Reply)
         → IsReadAs new s.table (pending_value pending) (raw.Ref class.Exn handle) → HoldsAccount layouts new (after_read (pending_value pending) (take_pending s.table)) s.account
-        → ((k : ℕ) → register_at runner'.registers k ≡ register_with (Some d) (raw.Ref class.Exn handle) runner.registers k)
+        → ((k : ℕ) → register_at runner'.registers k ≡ register_with (Some d) (Some (raw.Ref class.Exn handle)) runner.registers k)
         → ShowsRead layouts new (raw.Ref class.Exn handle) answer
         → GoesOn layouts s (command.Take d) (Ok answer) new runner'
     taken_goes pending is room handle answer is_read table slots_are shows_it =
         let goes = read_goes layouts cleared new runner runner' untaken (record { engine = same.engine; number = same.number; counter = same.counter }) untaken_holds rest_is
-        (λ (x : State). pending_value pending) (Some d) (pending_value pending) refl [] (raw.Ref class.Exn handle) answer refl (no_function pending) slots_are is_read table shows_it in
+        (λ (x : State). pending_value pending) (Some d) (pending_value pending) refl [] (raw.Ref class.Exn handle) answer refl slots_are is_read table shows_it in
         record {
           after = goes.after;
           answers = answers_by layouts None s (shape (command.Take d)) (first_failing (tests layouts s (command.Take d))) None answer goes.after
@@ -143,7 +136,7 @@ module _ (layouts : Layouts) (store : StoreView ℕ) (runner : RunnerView) (s : 
     -- what was pending is read as a new root
     root_taken : (pending : Reference) → s.table.pending ≡ Some pending → IsException s.table.objects pending → roots_full s.table ≡ false → (handle : GcRootIndex) (answer : Reply)
         → handle ≡ handle_of new (length s.table.scoped) s.table.drops → HoldsAccount layouts new (take_pending (push pending s.table)) s.account
-        → ((k : ℕ) → register_at runner'.registers k ≡ register_with (Some d) (raw.Ref class.Exn (Some handle)) runner.registers k)
+        → ((k : ℕ) → register_at runner'.registers k ≡ register_with (Some d) (Some (raw.Ref class.Exn (Some handle))) runner.registers k)
         → ShowsRead layouts new (raw.Ref class.Exn (Some handle)) answer
         → GoesOn layouts s (command.Take d) (Ok answer) new runner'
     root_taken null is names room handle answer handle_is table slots_are shows_it = absurd (cc (names.reference_is))
@@ -153,7 +146,7 @@ module _ (layouts : Layouts) (store : StoreView ℕ) (runner : RunnerView) (s : 
 
     -- the exception that was pending was taken, or null where none was
     pub taken : (handle : Option GcRootIndex) (answer : Reply) → AnswersPending layouts s.table s.account (Ok handle) new
-        → ((k : ℕ) → register_at runner'.registers k ≡ register_with (Some d) (raw.Ref class.Exn handle) runner.registers k)
+        → ((k : ℕ) → register_at runner'.registers k ≡ register_with (Some d) (Some (raw.Ref class.Exn handle)) runner.registers k)
         → ShowsRead layouts new (raw.Ref class.Exn handle) answer
         → GoesOn layouts s (command.Take d) (Ok answer) new runner'
     taken (Some handle) answer told slots_are shows_it =

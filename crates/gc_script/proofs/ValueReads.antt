@@ -30,10 +30,10 @@ use Rattle.gc_script.specs.Shapes.{Shape, plain, reads_value, value_in}
 use Rattle.gc_script.specs.Steps.{first_failing, target_tests, bound_test, reading_tests, reads_root}
 use Rattle.gc_script.specs.Run.{GoesBy}
 use Rattle.gc_script.specs.Named.{wants, IsNamed, NamesObject, FoundObject, register_with}
-use Rattle.gc_script.specs.Values.{ShowsRead}
-use Rattle.gc_script.proofs.StandLemmas.{holds_table, holds_same}
+use Rattle.gc_script.specs.Values.{ShowsRead, registered}
+use Rattle.gc_script.proofs.StandLemmas.{holds_same}
 use Rattle.gc_script.proofs.TestLemmas.{passes, stops, passes_all, stops_all, refuses_by}
-use Rattle.gc_script.proofs.ReadLemmas.{read_goes, value_no_function}
+use Rattle.gc_script.proofs.ReadLemmas.{read_goes}
 
 -- both tests are true, or the second is false where the first is true
 pub both_true : (a b : Bool) → a ≡ true → b ≡ true → (a && b) ≡ true
@@ -121,10 +121,9 @@ module _ (layouts : Layouts) (store : StoreView ℕ) (runner : RunnerView) (s : 
             (to_full ∙ stops (makes_root value_there.0 && roots_full s.table) refusal.RootsFull [] (both_true (makes_root value_there.0) (roots_full s.table) makes is_full))
 
         -- the value was read
-        pub was_read : (value : RawValue) (answer : Reply) → ((d : ℕ) → register_at runner'.registers d ≡ register_with into value runner.registers d) → (makes_root value_there.0 ≡ true → roots_full s.table ≡ false) → IsReadAs new s.table value_there.0 value → HoldsAccount layouts new (after_read value_there.0 s.table) s.account → ShowsRead layouts new value answer → GoesBy layouts s sh all_tests (Ok answer) new runner'
+        pub was_read : (value : RawValue) (answer : Reply) → ((d : ℕ) → register_at runner'.registers d ≡ register_with into (registered value) runner.registers d) → (makes_root value_there.0 ≡ true → roots_full s.table ≡ false) → IsReadAs new s.table value_there.0 value → HoldsAccount layouts new (after_read value_there.0 s.table) s.account → ShowsRead layouts new value answer → GoesBy layouts s sh all_tests (Ok answer) new runner'
         was_read value answer slots_are may is_read table shows =
             read_goes layouts store new runner runner' s same holds rest_is (λ (x : State). value_in x r i) into value_there.0
             (ap (λ (o : Option Value). unwrap_or o (values.reference class.Any null)) value_is) all_tests value answer
             (to_full ∙ passes (makes_root value_there.0 && roots_full s.table) refusal.RootsFull [] (not_both (makes_root value_there.0) (roots_full s.table) may))
-            (value_no_function layouts store s.table (holds_table holds.table) found.root i value_there.0 value_there.1)
             slots_are is_read table shows

@@ -18,7 +18,7 @@ use Rattle.gc_store.specs.declared.root.RawValue.{RawValue}
 use Rattle.gc_store.specs.declared.root.RawValue.TheVariants as raw
 use Rattle.gc_policy.specs.Accounts.{HoldsAccount}
 use Rattle.gc_store.specs.Stores.{IsSameStore}
-use Rattle.gc_store.specs.Values.{CanWrite, RawStands, WritesValue}
+use Rattle.gc_store.specs.Values.{CanWrite, RawStands, KeepsValue}
 use Rattle.gc_script.specs.declared.objects.NamedObject.{NamedObject}
 use Rattle.gc_script.specs.declared.objects.Wanted.{Wanted}
 use Rattle.gc_script.specs.declared.objects.Wanted.TheVariants as wanted
@@ -80,7 +80,7 @@ module _ (layouts : Layouts) (store : StoreView ℕ) (s : State) (kind : Wanted)
 -- a value was written by a command whose tests passed
 module _ (layouts : Layouts) (store new : StoreView ℕ) (runner : RunnerView) (s : State) (holds : HoldsState layouts store runner s) (kind : Wanted) (r i : ℕ) (v : Operand)
     (found : NamedObject) (it : FoundObject store s kind r found) (below : i < found.count) (same : IsSameStore store new) (value : RawValue) (stands : RawStands store s.table value (given_value (given s v)))
-    (field : FieldType) (field_is : type_at s.table.types found.types i ≡ Some field) (writes : WritesValue layouts store new s.table s.account found.root i value) where
+    (field : FieldType) (field_is : type_at s.table.types found.types i ≡ Some field) (writes : KeepsValue layouts store new s.table s.account found.root i value) where
   abbrev kept : Value
   kept = stored field.element_type (given_value (given s v))
 
@@ -111,7 +111,7 @@ module _ (layouts : Layouts) (store new : StoreView ℕ) (runner : RunnerView) (
 -- so of a value that may be stored there
 pub wrote : (layouts : Layouts) (store new : StoreView ℕ) (runner : RunnerView) (s : State) (holds : HoldsState layouts store runner s) (kind : Wanted) (r i : ℕ) (v : Operand)
     (found : NamedObject) (it : FoundObject store s kind r found) (below : i < found.count) (same : IsSameStore store new) (value : RawValue) (stands : RawStands store s.table value (given_value (given s v)))
-    (field : Option FieldType) (field_is : type_at store.types found.types i ≡ field) (can : CanStoreAs layouts store field value) (writes : WritesValue layouts store new s.table s.account found.root i value)
+    (field : Option FieldType) (field_is : type_at store.types found.types i ≡ field) (can : CanStoreAs layouts store field value) (writes : KeepsValue layouts store new s.table s.account found.root i value)
     (left : List (Bool × Refusal)) → first_failing left ≡ None → Goes layouts s (plain (writes_value r i v)) left reply.Done new runner
 wrote layouts store new runner s holds kind r i v found it below same value stands None field_is can writes left pass = absurd can
 wrote layouts store new runner s holds kind r i v found it below same value stands (Some field) field_is can writes left pass =

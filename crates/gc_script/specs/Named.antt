@@ -107,7 +107,8 @@ abbrev pub HasRoom : Option ℕ → List (Option RawValue) → Type 0
 HasRoom None slots = Unit {0}
 HasRoom (Some d) slots = d < length slots
 
--- what a register holds once a value was put into one, where one is named
-abbrev pub register_with : Option ℕ → RawValue → List (Option RawValue) → ℕ → Option RawValue
+-- what a register holds once a value was put into one, where one is named and there is a value that it may hold
+abbrev pub register_with : Option ℕ → Option RawValue → List (Option RawValue) → ℕ → Option RawValue
 register_with None value slots d = register_at slots d
-register_with (Some k) value slots d = if d == k then Some value else register_at slots d
+register_with (Some k) None slots d = register_at slots d
+register_with (Some k) (Some value) slots d = if d == k then Some value else register_at slots d

@@ -61,7 +61,7 @@ shown_among objects (numeric i64 n) = reply_value.I64 (cast_signed w64 n)
 shown_among objects (numeric f32 n) = reply_value.F32 n
 shown_among objects (numeric f64 n) = reply_value.F64 n
 shown_among objects (numeric v128 n) = reply_value.V128 n
-shown_among objects (function f) = reply_value.Null
+shown_among objects (function f) = reply_value.Opaque
 shown_among objects (values.reference c null) = reply_value.Null
 shown_among objects (values.reference c (small n)) = reply_value.I31 n
 shown_among objects (values.reference c (at p)) = shown_object (slice_get objects p)
@@ -69,15 +69,16 @@ shown_among objects (values.reference c (at p)) = shown_object (slice_get object
 abbrev pub shown : Table ℕ → Value → ReplyValue
 shown t v = shown_among t.objects v
 
--- what a register holds of a value that was read: a reference by its new root, whose serial is the next one
-abbrev pub held_next : ℕ → Value → Held
-held_next serial (numeric kind n) = number (numeric kind n)
-held_next serial (function f) = number (function f)
-held_next serial (values.reference c null) = reference c None
-held_next serial (values.reference c (small n)) = reference c (Some serial)
-held_next serial (values.reference c (at p)) = reference c (Some serial)
+-- What a register holds of a value that was read: a reference by its new root, whose serial is the next one. None holds a
+-- function, or the value that is none.
+abbrev pub held_next : ℕ → Value → Option Held
+held_next serial (numeric kind n) = Some (number (numeric kind n))
+held_next serial (function f) = None
+held_next serial (values.reference c null) = Some (reference c None)
+held_next serial (values.reference c (small n)) = Some (reference c (Some serial))
+held_next serial (values.reference c (at p)) = Some (reference c (Some serial))
 
-abbrev pub held_value : Table ℕ → Value → Held
+abbrev pub held_value : Table ℕ → Value → Option Held
 held_value t v = held_next (length t.pushes) v
 
 -- What plain commands answer and leave of a state as it is seen. Their tests come first; where these exclude a case, it
@@ -87,7 +88,7 @@ held_value t v = held_next (length t.pushes) v
 abbrev pub makes_small : ℕ → ℕ → State → Reply × State
 makes_small d n s = (reply.Done, set_register d (reference class.Any (Some (length s.table.pushes))) (with_table (push (small (n % 2 ^ 31)) s.table) s))
 
--- a value is read, and put into a register where one is named
+-- a value is read, and put into a register where one is named that may hold it
 abbrev pub reads : Value → Option ℕ → State → Reply × State
 reads v into s = (reply.Value (shown s.table v), put_into into (held_value s.table v) (with_table (after_read v s.table) s))
 

@@ -64,13 +64,14 @@ set_register d held s = record s { registers = λ k. if k == d then Some held el
 abbrev pub set_owned : ℕ → HeldOwned → State → State
 set_owned o held s = record s { owned_registers = λ k. if k == o then Some held else s.owned_registers k }
 
--- registers with a value in one, where one is named
-abbrev pub put_register : Option ℕ → Held → (ℕ → Option Held) → ℕ → Option Held
+-- registers with a value in one, where one is named and there is a value that it may hold
+abbrev pub put_register : Option ℕ → Option Held → (ℕ → Option Held) → ℕ → Option Held
 put_register None held registers k = registers k
-put_register (Some d) held registers k = if k == d then Some held else registers k
+put_register (Some d) None registers k = registers k
+put_register (Some d) (Some held) registers k = if k == d then Some held else registers k
 
--- the state with a value in a register, where one is named
-abbrev pub put_into : Option ℕ → Held → State → State
+-- the state with these registers
+abbrev pub put_into : Option ℕ → Option Held → State → State
 put_into into held s = record s { registers = put_register into held s.registers }
 
 -- The hidden part of a state, which no test and no plain effect sees or changes: whether the heap is made, its pages and

@@ -27,7 +27,6 @@ use Rattle.gc_commands.specs.declared.reply.Refusal.TheVariants as refusal
 use Rattle.gc_policy.specs.Accounts.{Account}
 use Rattle.gc_store.specs.IncrementCounts.{TakesIncrements}
 use Rattle.gc_store.specs.Slots.{slot_value}
-use Rattle.gc_store.specs.Requests.{fields_of}
 use Rattle.gc_script.specs.State.{State, reference, HeldOwned, with_table, with_account, with_heap, set_register, visible, over}
 use Rattle.gc_script.specs.Built.{is_built}
 use Rattle.gc_script.specs.Given.{Given, given, given_register, given_value, is_unset, is_gone, is_reference, value_named, named, is_struct, is_array, is_host, is_exception, has_fields, names_kind, target, target_values, field_of, is_constant, holds_bytes, fits_field}

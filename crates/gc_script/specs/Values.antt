@@ -1,5 +1,5 @@
 -- What the values of a command's operands are found to be.
-use Rattle.std.specs.Prelude.{◌≡◌, ℕ, suc, Bool, true, false, List, [], ◌∷◌, ◌++◌, Option, Some, None, Result, Ok, Err, not, slice_get}
+use Rattle.std.specs.Prelude.{◌≡◌, ℕ, suc, Bool, true, false, List, [], ◌∷◌, ◌++◌, Option, Some, None, Result, Ok, Err, not, slice_get, if◌then◌else◌}
 use Rattle.std.specs.List.{AllZip}
 use Rattle.gc_types.specs.declared.kind.Layouts.{Layouts}
 use Rattle.gc_types.specs.declared.value.FieldType.{FieldType}
@@ -76,6 +76,10 @@ is_function (raw.F64 n) = false
 is_function (raw.V128 n) = false
 is_function (raw.Func f) = true
 is_function (raw.Ref class handle) = false
+
+-- what a register holds of a value that the store gave: nothing of a function
+abbrev pub registered : RawValue → Option RawValue
+registered r = if is_function r then None else Some r
 
 -- A value that is found live stands for what is given; else its root is gone.
 abbrev pub IsFound : StoreView ℕ → Table ℕ → RawValue → Given → Bool → Type 0

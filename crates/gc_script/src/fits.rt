@@ -1,13 +1,14 @@
 //! Which values fit a type.
 
-ghost use Rattle.std.specs.Prelude.{◌≡◌, ℕ};
+ghost use Rattle.std.specs.Prelude.{◌≡◌, ℕ, false};
 ghost use Rattle.gc_types.specs.Subtyping.{supertypes_of};
 ghost use Rattle.gc_model.specs.Fits.{has_class, null_fits, matches, fits_type, fits};
 ghost use Rattle.gc_model.specs.Holds.{HoldsTable};
 ghost use Rattle.gc_model.specs.Table.{Table};
 ghost use Rattle.gc_model.specs.Values.{Value};
-ghost use Rattle.gc_store.specs.Values.{RawStands, NamesLive};
+ghost use Rattle.gc_store.specs.Values.{RawStands};
 ghost use Rattle.gc_script.specs.OwnTypes.{own_type, own_fits, number_fits};
+ghost use Rattle.gc_script.specs.Values.{is_function};
 
 use crate::values::slot_of;
 use gc_heap::GcHeap;
@@ -126,9 +127,9 @@ fn number_fits(ty: ValType, value: &RawValue) -> bool
     }
 }
 
-/// Whether a value, whose root is live, fits the type of a field or an element.
+/// Whether a value that is no function, and whose root is live, fits the type of a field or an element.
 pub(crate) fn fits<H: GcHeap>(store: &Store<H, u64>, ty: StorageType, value: &RawValue) -> bool
-    ensures { (t : Table ℕ) (v : Value) → HoldsTable H.KIND store.now t → NamesLive ℕ H.KIND store.now value.now → RawStands store.now t value.now v
+    ensures { (t : Table ℕ) (v : Value) → HoldsTable H.KIND store.now t → is_function value.now ≡ false → RawStands store.now t value.now v
         → result ≡ fits t.types t.objects ty v }
 {
     let ty = ty.unpack();

@@ -38,3 +38,4 @@ pub use gc_commands::{
 };
 pub use runner::{RunError, Runner};
 pub use script::run_script;
+pub use shown::shown_root;

@@ -1,6 +1,6 @@
 //! The commands that read values of objects, and what becomes of a value that was read.
 
-ghost use Rattle.std.specs.Prelude.{◌≡◌, ℕ, Ok, OnOk};
+ghost use Rattle.std.specs.Prelude.{◌≡◌, ℕ, Some, Ok, OnOk};
 ghost use Rattle.gc_commands.specs.declared.command.Command.TheVariants as Command;
 ghost use Rattle.gc_script.specs.State.{State, HoldsState};
 ghost use Rattle.gc_script.specs.Given.{holds_bytes};
@@ -9,13 +9,14 @@ ghost use Rattle.gc_script.specs.Steps.{reading_tests};
 ghost use Rattle.gc_script.specs.Run.{GoesOn, GoesBy};
 ghost use Rattle.gc_script.specs.Slots.{register_at};
 ghost use Rattle.gc_script.specs.Named.{wants, HasRoom, register_with};
-ghost use Rattle.gc_script.specs.Values.{ShowsRead};
+ghost use Rattle.gc_script.specs.Values.{ShowsRead, registered};
 ghost use Rattle.gc_store.specs.Stores.{IsSameStore};
 
 use crate::objects::{Wanted, find_object, type_at};
 use crate::registers::Registers;
 use crate::runner::{RunError, Runner};
 use crate::shown::shown;
+use crate::values::is_function;
 use gc_commands::{ByteText, Refusal, Reply};
 use gc_heap::GcHeap;
 use gc_store::{RawValue, RootFault, Store};
@@ -36,7 +37,7 @@ pub(crate) fn make_room(registers: &mut Registers, into: Option<u16>) -> Result<
 /// Puts a value into a register, where one is named.
 fn put_into(registers: &mut Registers, into: Option<u16>, value: RawValue)
     requires { HasRoom into registers.old }
-    ensures { (d : ℕ) → register_at registers.new d ≡ register_with into value registers.old d }
+    ensures { (d : ℕ) → register_at registers.new d ≡ register_with into (Some value) registers.old d }
 {
     match into {
         Some(number) => registers.set(number, value),
@@ -44,7 +45,8 @@ fn put_into(registers: &mut Registers, into: Option<u16>, value: RawValue)
     }
 }
 
-/// Puts a value that was read into a register, where one is named, and shows it.
+/// Puts a value that was read into a register, where one is named, and shows it. No register takes a function: it stays
+/// as it was.
 pub(crate) fn put_read<H: GcHeap>(
     registers: &mut Registers,
     store: &Store<H, u64>,
@@ -52,11 +54,13 @@ pub(crate) fn put_read<H: GcHeap>(
     value: RawValue,
 ) -> Reply
     requires { HasRoom into registers.old }
-    ensures put { (d : ℕ) → register_at registers.new d ≡ register_with into value registers.old d }
+    ensures put { (d : ℕ) → register_at registers.new d ≡ register_with into (registered value) registers.old d }
     ensures shows { ShowsRead H.KIND store.now value result }
 {
     let shows = shown(store, &value);
-    put_into(registers, into, value);
+    if !is_function(&value) {
+        put_into(registers, into, value);
+    }
     Reply::Value(shows)
 }
 

@@ -27,7 +27,7 @@ fn shown_object(object: &RootedObject) -> ReplyValue
 }
 
 /// A root or null as a reply shows it.
-fn shown_root<H: GcHeap>(store: &Store<H, u64>, handle: Option<GcRootIndex>) -> ReplyValue
+pub fn shown_root<H: GcHeap>(store: &Store<H, u64>, handle: Option<GcRootIndex>) -> ReplyValue
     ensures { (t : Table ℕ) (class : GcClass) (v : Value) → HoldsTable H.KIND store.now t → RawStands store.now t (RawValue.Ref class handle) v
         → result ≡ shown t v }
 {
@@ -52,7 +52,7 @@ pub(crate) fn shown<H: GcHeap>(store: &Store<H, u64>, value: &RawValue) -> Reply
         RawValue::F32(bits) => ReplyValue::F32(*bits),
         RawValue::F64(bits) => ReplyValue::F64(*bits),
         RawValue::V128(bits) => ReplyValue::V128(*bits),
-        RawValue::Func(_) => ReplyValue::Null,
+        RawValue::Func(_) => ReplyValue::Opaque,
         RawValue::Ref(_, handle) => shown_root(store, *handle),
     }
 }

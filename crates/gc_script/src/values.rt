@@ -1,6 +1,6 @@
 //! The values that commands give, by operands and registers.
 
-ghost use Rattle.std.specs.Prelude.{◌≡◌, ℕ, List, Option, Some, IsTrue, OnOk, IfOk, IfSome, IfNone};
+ghost use Rattle.std.specs.Prelude.{◌≡◌, ℕ, false, List, Option, Some, IsTrue, OnOk, IfOk, IfSome, IfNone};
 ghost use Rattle.gc_model.specs.Holds.{HoldsTable};
 ghost use Rattle.gc_model.specs.Table.{Table};
 ghost use Rattle.gc_commands.specs.declared.command.Operand.{Operand};
@@ -76,7 +76,7 @@ pub(crate) fn slot_of(value: &RawValue) -> Option<(GcClass, Option<GcRootIndex>)
 }
 
 /// Whether a value is a function or none.
-fn is_function(value: &RawValue) -> bool
+pub(crate) fn is_function(value: &RawValue) -> bool
     ensures { result ≡ is_function value.now }
 {
     matches!(value, RawValue::Func(_))
@@ -85,6 +85,7 @@ fn is_function(value: &RawValue) -> bool
 /// Whether a value is a number, null, or the handle of a live root. No function stands in a register.
 pub(crate) fn is_live<H: GcHeap>(store: &Store<H, u64>, value: &RawValue) -> bool
     ensures live { IsTrue result → NamesLive ℕ H.KIND store.now value.now }
+    ensures plain { IsTrue result → is_function value.now ≡ false }
     ensures found { (t : Table ℕ) (held : Option Held) → HoldsTable H.KIND store.now t → Stands store.now t (Some value.now) held
         → IsFound store.now t value.now (given_held t held) result }
 {
@@ -102,6 +103,7 @@ pub(crate) fn check_value<H: GcHeap>(
     value: &RawValue,
 ) -> Result<(), Refusal>
     ensures stores { OnOk result (CanStoreAs H.KIND store.now field value.now) }
+    ensures plain { OnOk result (is_function value.now ≡ false) }
     ensures checks { (s : State) (v : Operand) → HoldsTable H.KIND store.now s.table → Stands store.now s.table (Some value.now) (held_operand s v)
         → ChecksValue store.now s field v value.now result }
 {

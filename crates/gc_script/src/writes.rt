@@ -1,6 +1,6 @@
 //! The commands that write values of objects.
 
-ghost use Rattle.std.specs.Prelude.{◌≡◌, ℕ, Ok, OnOk, IfOk};
+ghost use Rattle.std.specs.Prelude.{◌≡◌, ℕ, false, Ok, OnOk, IfOk};
 ghost use Rattle.gc_commands.specs.declared.command.Command.TheVariants as Command;
 ghost use Rattle.gc_commands.specs.declared.command.Operand.{Operand};
 ghost use Rattle.gc_model.specs.Holds.{HoldsTable};
@@ -10,10 +10,10 @@ ghost use Rattle.gc_script.specs.State.{State, HoldsState, Stands};
 ghost use Rattle.gc_script.specs.Given.{held_operand, is_constant};
 ghost use Rattle.gc_script.specs.Run.{GoesOn};
 ghost use Rattle.gc_script.specs.Named.{type_at, IsNamed};
-ghost use Rattle.gc_script.specs.Values.{CanStoreAs};
+ghost use Rattle.gc_script.specs.Values.{is_function, CanStoreAs};
 ghost use Rattle.gc_script.specs.Writing.{ChecksWrite, FindsWritten};
 ghost use Rattle.gc_store.specs.Stores.{IsSameStore};
-ghost use Rattle.gc_store.specs.Values.{CanWrite, WritesValue};
+ghost use Rattle.gc_store.specs.Values.{CanWrite, KeepsValue};
 
 use crate::objects::{NamedObject, Wanted, find_object, type_at};
 use crate::runner::Runner;
@@ -47,6 +47,7 @@ fn check_write<H: GcHeap>(
     index: u32,
 ) -> Result<(), Refusal>
     ensures stores { OnOk result (CanStoreAs H.KIND store.now (type_at store.now.types written.now.object.types index) written.now.value) }
+    ensures plain { OnOk result (is_function written.now.value ≡ false) }
     ensures checks { (s : State) (v : Operand) → HoldsTable H.KIND store.now s.table → Stands store.now s.table (Some written.now.value) (held_operand s v)
         → ChecksWrite store.now s (type_at s.table.types written.now.object.types index) v written.now.value result }
 {
@@ -57,12 +58,13 @@ fn check_write<H: GcHeap>(
     check_value(store, field, &written.value)
 }
 
-/// Writes a value that may be written. Takes no memory.
+/// Writes a value that may be written and is no function. Takes no memory.
 fn write<H: GcHeap>(store: &mut Store<H, u64>, written: &Written, index: u32) -> Reply
-    requires { CanWrite ℕ H.KIND store.old written.now.object.root index written.now.value }
+    requires can { CanWrite ℕ H.KIND store.old written.now.object.root index written.now.value }
+    requires plain { is_function written.now.value ≡ false }
     ensures done { result ≡ Reply.Done }
     ensures writes { (t : Table ℕ) (a : Account) → HoldsAccount H.KIND store.old t a
-        → WritesValue H.KIND store.old store.new t a written.now.object.root index written.now.value }
+        → KeepsValue H.KIND store.old store.new t a written.now.object.root index written.now.value }
     ensures same { IsSameStore store.old store.new }
 {
     match store.write_value(written.object.root, index, written.value) {

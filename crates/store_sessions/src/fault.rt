@@ -1,6 +1,8 @@
 //! Why sessions can't be run.
 
 use gc_script::RunError;
+use gc_store::{RootFault, SlotFault};
+use gc_types::TypeFault;
 use session_table::TableFault;
 use std::alloc::AllocError;
 use std::io;
@@ -11,6 +13,14 @@ use thiserror::Error;
 pub(crate) enum SessionFault {
     #[error(transparent)]
     Table(#[from] TableFault),
+    #[error("the store can't be made to hold a function")]
+    NoFunction,
+    #[error(transparent)]
+    Types(#[from] TypeFault),
+    #[error(transparent)]
+    Root(#[from] RootFault),
+    #[error(transparent)]
+    Slot(#[from] SlotFault),
     #[error(transparent)]
     Run(#[from] RunError),
     #[error(transparent)]

@@ -11,7 +11,7 @@
 //!   and which may have so many scoped roots, and as many owned ones. Printed are the header, each reply, `refusals N` and
 //!   `last FROM TO`, the last ask that the limiter refused, or `last none`. The limiter answers by the list of
 //!   `| answers yes no..` and yes behind it, or grants up to the pages of `| most N`. With `| counter N` each N-th allocation
-//!   collects first. Lines `---` cut the script into several, which the store runs one after the other, each as a whole and with
+//!   collects first. With `| function` global 0 names a struct of type 1 whose field holds a function, of type 0. Lines `---` cut the script into several, which the store runs one after the other, each as a whole and with
 //!   unset registers.
 //!
 //! What the table must give, in `stdout`, was worked out by hand from the rules in docs/.
@@ -19,6 +19,7 @@
 
 mod ends;
 mod fault;
+mod functions;
 mod setup;
 mod stores;
 mod traced;

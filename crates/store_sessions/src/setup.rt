@@ -29,13 +29,23 @@ pub(crate) struct TracedSetup<'a> {
 /// A run of commands on a new store.
 #[derive(Drop)]
 pub(crate) struct StoreSetup {
-    pub(crate) collector: Collector,
+    collector: Collector,
     first_pages: u32,
     /// The most scoped roots, and the most owned ones.
     max_roots: u32,
     /// After how many allocations one collects first.
     counter: Option<NonZeroU32>,
+    /// Whether the first global names a struct that holds a function.
+    holds_function: bool,
     pub(crate) limit: Limit,
+}
+
+/// The store that commands run on.
+#[derive(Clone, Copy)]
+pub(crate) struct NewStore {
+    pub(crate) collector: Collector,
+    pub(crate) config: HeapConfig,
+    pub(crate) holds_function: bool,
 }
 
 /// What the limiter of a store grants.
@@ -97,6 +107,7 @@ impl StoreSetup {
             first_pages: first_pages.parse()?,
             max_roots: max_roots.parse()?,
             counter: None,
+            holds_function: false,
             limit: Limit::Answers(Vec::new(alloc)),
         };
         for part in parts {
@@ -111,20 +122,26 @@ impl StoreSetup {
             ("most", number) => self.limit = Limit::Most(number.parse()?),
             ("answers", answers) => self.limit = Limit::Answers(answers_of(alloc, answers)?),
             ("counter", number) => self.counter = NonZeroU32::new(number.parse()?),
+            ("function", "") => self.holds_function = true,
             _ => return Err(TableFault::BadOption),
         }
         Ok(())
     }
 
-    /// The configuration of the store.
-    pub(crate) fn config(&self) -> Result<HeapConfig, TableFault> {
-        HeapConfig::new(
+    /// The store that the commands run on.
+    pub(crate) fn store(&self) -> Result<NewStore, TableFault> {
+        let config = HeapConfig::new(
             self.first_pages,
             self.max_roots,
             self.max_roots,
             self.counter,
         )
-        .ok_or(TableFault::BadHeader)
+        .ok_or(TableFault::BadHeader)?;
+        Ok(NewStore {
+            collector: self.collector,
+            config,
+            holds_function: self.holds_function,
+        })
     }
 }
 

@@ -1,12 +1,13 @@
 //! Runs scripts on stores, and writes what they give.
 
 use crate::fault::SessionFault;
-use crate::setup::{Limit, StoreSetup};
+use crate::functions::hold_function;
+use crate::setup::{Limit, NewStore, StoreSetup};
 use gc_copying::CopyingHeap;
 use gc_drc::DrcHeap;
 use gc_heap::{GcHeap, NullHeap};
 use gc_script::{Command, Reply, Runner, parse_line, reply_text, run_script};
-use gc_store::{HeapConfig, PageLimit, ResourceLimiter, Scripted, Store, StoreId};
+use gc_store::{PageLimit, ResourceLimiter, Scripted, Store, StoreId};
 use gcsh_top::Collector;
 use std::alloc::{AllocError, Global};
 use std::io::Write;
@@ -27,17 +28,16 @@ pub(crate) fn run_store<W: Write + Drop>(
     script: &str,
     out: &mut W,
 ) -> Result<(), SessionFault> {
-    let config = setup.config()?;
-    let collector = setup.collector;
+    let new = setup.store()?;
     match setup.limit {
         Limit::Most(most) => {
             let mut limiter = PageLimit::new(most);
-            run_heap(alloc, collector, config, &mut limiter, script, out)?;
+            run_heap(alloc, new, &mut limiter, script, out)?;
             write_refused(limiter.refusals(), limiter.last_refused(), out)
         }
         Limit::Answers(answers) => {
             let mut limiter = Scripted::new(answers);
-            run_heap(alloc, collector, config, &mut limiter, script, out)?;
+            run_heap(alloc, new, &mut limiter, script, out)?;
             write_refused(limiter.refusals(), limiter.last_refused(), out)
         }
     }
@@ -60,26 +60,40 @@ fn write_refused<W: Write + Drop>(
 /// Runs a script on a new store over a heap of the collector's.
 fn run_heap<L: ResourceLimiter, W: Write + Drop>(
     alloc: Global,
-    collector: Collector,
-    config: HeapConfig,
+    new: NewStore,
     limiter: &mut L,
     script: &str,
     out: &mut W,
 ) -> Result<(), SessionFault> {
-    match collector {
+    match new.collector {
         Collector::Copying => {
-            let mut store = Store::new(alloc, STORE, CopyingHeap::new(alloc), config)?;
-            run_parts(alloc, &mut store, limiter, script, out)
+            let mut store = Store::new(alloc, STORE, CopyingHeap::new(alloc), new.config)?;
+            run_prepared(alloc, &mut store, new, limiter, script, out)
         }
         Collector::Counting => {
-            let mut store = Store::new(alloc, STORE, DrcHeap::new(alloc), config)?;
-            run_parts(alloc, &mut store, limiter, script, out)
+            let mut store = Store::new(alloc, STORE, DrcHeap::new(alloc), new.config)?;
+            run_prepared(alloc, &mut store, new, limiter, script, out)
         }
         Collector::Null => {
-            let mut store = Store::new(alloc, STORE, NullHeap::new(alloc), config)?;
-            run_parts(alloc, &mut store, limiter, script, out)
+            let mut store = Store::new(alloc, STORE, NullHeap::new(alloc), new.config)?;
+            run_prepared(alloc, &mut store, new, limiter, script, out)
         }
     }
+}
+
+/// Runs a script on a store, which is made to hold a function where that is asked for.
+fn run_prepared<H: GcHeap, L: ResourceLimiter, W: Write + Drop>(
+    alloc: Global,
+    store: &mut Store<H, u64>,
+    new: NewStore,
+    limiter: &mut L,
+    script: &str,
+    out: &mut W,
+) -> Result<(), SessionFault> {
+    if new.holds_function {
+        hold_function(store, limiter)?;
+    }
+    run_parts(alloc, store, limiter, script, out)
 }
 
 /// Runs a script command by command, or the scripts that it is cut into, each as a whole.

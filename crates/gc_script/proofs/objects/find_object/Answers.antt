@@ -1,4 +1,4 @@
-use Rattle.std.proofs.Common.{Option, sym, ◌∙◌, subst}
+use Rattle.std.proofs.Common.{Option, sym, subst}
 use Rattle.gc_store.specs.declared.root.GcRootIndex.{GcRootIndex}
 use Rattle.gc_store.specs.Roots.{NamesReference}
 use Rattle.gc_script.specs.declared.objects.NamedObject.{NamedObject}

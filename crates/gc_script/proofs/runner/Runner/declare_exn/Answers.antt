@@ -1,4 +1,4 @@
-use Rattle.std.proofs.Common.{◌≡◌, ℕ, Option, Some, Ok, Err, refl, sym, ap, ◌∙◌, subst}
+use Rattle.std.proofs.Common.{◌≡◌, ℕ, Some, Ok, Err, refl, sym, ap, ◌∙◌, subst}
 use Rattle.gc_types.specs.declared.types.TypeFault.{TypeFault}
 use Rattle.gc_types.specs.Declarations.{TypeTable, exn_type}
 use Rattle.gc_commands.specs.declared.command.Command.TheVariants.{Exn}

@@ -24,7 +24,7 @@ returns-in-Ok-clause-goes g c s holds =
     (get_global_goes g.H.GcHeap.KIND s c.from-global.result c.args.d there.0 (Ok c.put_read.result) c.global_get.new.self _ there.1
     (slot_read g.H.GcHeap.KIND c.args.store.now c.args.self.now s holds there.0 c.args.d (λ (x : State). global_at x.table c.from-global.result) there.1 c.global_get.new.self _ c.global_get.ensures.same
     (ap (λ (x : RunnerView). x.rest) c.self.view_is) (raw.Ref c.in-Ok.class c.in-Ok.handle) c.put_read.result
-    (λ k. c.put_read.ensures.put k ∙ register_with-same (Some c.args.d) (raw.Ref c.in-Ok.class c.in-Ok.handle) c.make_room.new.registers c.args.self.now.registers (λ j. c.make_room.ensures.same j ∙ ap (λ (x : RunnerView). register_at x.registers j) c.self.view_is) k)
+    (λ k. c.put_read.ensures.put k ∙ register_with-same (Some c.args.d) (Some (raw.Ref c.in-Ok.class c.in-Ok.handle)) c.make_room.new.registers c.args.self.now.registers (λ j. c.make_room.ensures.same j ∙ ap (λ (x : RunnerView). register_at x.registers j) c.self.view_is) k)
     told.0 told.1.0 told.1.1 c.put_read.ensures.shows))
 
 pub returns-in-Err-RootsFull-clause-goes : goal.returns-in-Err-RootsFull-clause-goes

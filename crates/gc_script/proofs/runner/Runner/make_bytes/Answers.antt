@@ -8,6 +8,7 @@ use Rattle.gc_script.specs.Steps.{heap_tests}
 use Rattle.gc_script.specs.Shapes.{new_bytes}
 use Rattle.gc_script.specs.Run.{RunsOne}
 use Rattle.gc_script.proofs.MakeTests.{runs_rest, bytes_heap}
+use Rattle.gc_script.proofs.PlainValues.{bytes_plain}
 use Rattle.gc_script.proofs.runner.Runner.make_bytes.Given as given
 use Rattle.gc_script.proofs.runner.Runner.make_bytes.Goals as goal
 use Rattle.gc_script.proofs.runner.Runner.make_bytes.Goals.{In-Some}
@@ -29,4 +30,4 @@ returns-clause-runs g c s holds =
     (runs_rest g.H.GcHeap.KIND c.args.store.now.alloc_counter (g.L.ResourceLimiter.limits c.args.limiter.now) (g.L.ResourceLimiter.limits c.place.new.limiter) s (NewBytes c.args.d c.new-ty.result c.args.bytes.now)
     (heap_tests g.H.GcHeap.KIND s (new_bytes c.new-ty.result c.args.bytes.now)) c.place.result c.place.new.store c.place.new.self
     (bytes_heap g.H.GcHeap.KIND s c.args.d c.new-ty.result c.args.bytes.now c.in-Some.element declared are)
-    (c.place.ensures.runs s (λ (x : State). new_bytes c.new-ty.result c.args.bytes.now) holds refl))
+    (c.place.ensures.runs s (λ (x : State). new_bytes c.new-ty.result c.args.bytes.now) holds refl (bytes_plain c.args.bytes.now)))

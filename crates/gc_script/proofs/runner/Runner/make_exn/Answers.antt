@@ -1,4 +1,4 @@
-use Rattle.std.proofs.Common.{◌≡◌, ℕ, refl, sym, subst}
+use Rattle.std.proofs.Common.{ℕ, refl, subst}
 use Rattle.gc_store.specs.declared.request.Place.TheVariants as place
 use Rattle.gc_commands.specs.declared.command.Command.TheVariants.{NewExn}
 use Rattle.gc_script.specs.Run.{RunsOne}

@@ -1,20 +1,17 @@
-use Rattle.std.proofs.Common.{◌≡◌, ◌≢◌, ℕ, List, length, Option, Some, None, true, false, refl, sym, ap, ◌∙◌, subst}
+use Rattle.std.proofs.Common.{◌≡◌, ◌≢◌, ℕ, List, length, Option, Some, refl, sym, ap, ◌∙◌, subst}
 use Rattle.std.specs.Prelude.{unwrap_or, []}
 use Rattle.std.specs.List.{slice_get}
 use Rattle.std.specs.Option.{option_map}
 use Rattle.std.proofs.lemmas.Option.{none-some}
 use Rattle.gc_types.specs.declared.value.FieldType.{FieldType}
 use Rattle.gc_types.specs.Declarations.{Declaration, TypeTable}
-use Rattle.gc_model.specs.Table.{Table}
 use Rattle.gc_store.specs.declared.request.Place.{Place}
 use Rattle.gc_store.specs.declared.request.Place.TheVariants as place
 use Rattle.gc_store.specs.declared.request.Contents.TheVariants as contents
 use Rattle.gc_store.specs.declared.root.RawValue.{RawValue}
 use Rattle.gc_store.specs.Requests.{CanPlaceIn, CanPlaceFields, IsObjectOf}
 use Rattle.gc_store.specs.Values.{AllStand}
-use Rattle.gc_commands.specs.declared.reply.Refusal.{Refusal}
 use Rattle.gc_commands.specs.declared.reply.Refusal.TheVariants as refusal
-use Rattle.gc_script.specs.declared.objects.ValueTypes.{ValueTypes}
 use Rattle.gc_script.specs.declared.objects.ValueTypes.TheVariants as types_of
 use Rattle.gc_script.specs.Slots.{RunnerView, register_at}
 use Rattle.gc_script.specs.State.{State, HoldsState, Stands, visible}
@@ -28,6 +25,7 @@ use Rattle.gc_script.proofs.CountLemmas.{mild_found, append_mild}
 use Rattle.gc_script.proofs.FieldRequests.{requested_types, fields_request, fields_unset, fields_count, fields_value, fields_heap, typed_by, refused_on, runs_on}
 use Rattle.gc_script.proofs.GoesLemmas.{wants_nothing, values_mild}
 use Rattle.gc_script.proofs.MakeTests.{all_set, held_count, counted_fields}
+use Rattle.gc_script.proofs.PlainValues.{requested_plain}
 use Rattle.gc_script.proofs.StandLemmas.{holds_table}
 use Rattle.gc_script.proofs.runner.Runner.make_fields.Given as given
 use Rattle.gc_script.proofs.runner.Runner.make_fields.Goals as goal
@@ -123,7 +121,8 @@ returns-in-Ok-check_values-clause-runs g c s holds =
     (requested_tests g.H.GcHeap.KIND s c.args.request c.args.operands.now) (heap_tests g.H.GcHeap.KIND s (requested c.args.request c.args.operands.now s)) c.place.result c.place.new.store c.place.new.self
     (fields_heap s (requested_fields s.table.types c.args.request) c.args.operands.now (heap_tests g.H.GcHeap.KIND s (requested c.args.request c.args.operands.now s)) (known g at).0 (known_in g at s holds)
     (all_set c.args.store.now s c.args.operands.now c.in-Some-found.values.items all) operands_many (sym (ap first_failing (typed g after s holds)) ∙ checks.0))
-    (c.place.ensures.runs s (requested c.args.request c.args.operands.now) holds (asks_for g after s c.args.request (known g at).0 (known_in g at s holds) checks.1))
+    (c.place.ensures.runs s (requested c.args.request c.args.operands.now) holds (asks_for g after s c.args.request (known g at).0 (known_in g at s holds) checks.1)
+    (requested_plain g.H.GcHeap.KIND c.args.store.now c.args.self.now s holds c.args.request c.args.operands.now))
 
 pub returns-clause-runs : goal.returns-clause-runs
 returns-clause-runs g c s holds =

@@ -21,6 +21,7 @@ use Rattle.gc_script.proofs.StandLemmas.{holds_table, register_held}
 use Rattle.gc_script.proofs.GoesLemmas.{wants_nothing, refused_runs}
 use Rattle.gc_script.proofs.MakeTests.{runs_rest, all_set, held_count, fixed_unset, fixed_refused, fixed_heap}
 use Rattle.gc_script.proofs.RequestLemmas.{elements_request, many_refused}
+use Rattle.gc_script.proofs.PlainValues.{elements_plain}
 use Rattle.gc_script.proofs.runner.Runner.make_fixed.Given as given
 use Rattle.gc_script.proofs.runner.Runner.make_fixed.Goals as goal
 use Rattle.gc_script.proofs.runner.Runner.make_fixed.Goals.{After-operand_values, In-Some-found}
@@ -94,4 +95,5 @@ returns-clause-runs g c s holds =
     (runs_rest g.H.GcHeap.KIND c.args.store.now.alloc_counter (g.L.ResourceLimiter.limits c.args.limiter.now) (g.L.ResourceLimiter.limits c.place.new.limiter) s (Fixed c.args.d c.new-ty.result c.args.operands.now)
     (heap_tests g.H.GcHeap.KIND s (new_fixed s c.new-ty.result c.args.operands.now)) c.place.result c.place.new.store c.place.new.self
     (fixed_heap g.H.GcHeap.KIND s c.args.d c.new-ty.result c.args.operands.now c.in-Some.element declared set checks.0)
-    (c.place.ensures.runs s (λ (x : State). new_fixed x c.new-ty.result c.args.operands.now) holds (given_values s c.args.operands.now, (checks.1, refl))))
+    (c.place.ensures.runs s (λ (x : State). new_fixed x c.new-ty.result c.args.operands.now) holds (given_values s c.args.operands.now, (checks.1, refl))
+    (elements_plain g.H.GcHeap.KIND c.args.store.now c.args.self.now s holds (element_of s.table.types c.new-ty.result) c.args.operands.now)))

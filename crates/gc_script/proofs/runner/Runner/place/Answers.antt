@@ -13,7 +13,8 @@ use Rattle.gc_script.specs.declared.runner.RunError.TheVariants as error
 use Rattle.gc_script.specs.Slots.{RunnerView, register_at}
 use Rattle.gc_script.specs.State.{State, HoldsState, visible}
 use Rattle.gc_script.specs.Policy.{policy_of}
-use Rattle.gc_script.proofs.StandLemmas.{same_store, holds_same}
+use Rattle.gc_script.proofs.PlainValues.{never_lacks_ids}
+use Rattle.gc_script.proofs.StandLemmas.{holds_table, same_store, holds_same}
 use Rattle.gc_script.proofs.GoesLemmas.{wants_nothing}
 use Rattle.gc_script.proofs.PlaceLemmas.{placed, refused_large, refused_full, lacked, unplaced}
 use Rattle.gc_script.proofs.runner.Runner.place.Given as given
@@ -31,14 +32,14 @@ places_as g c s o result is holds is_object =
     (c.place.ensures.places s.table s.account o holds.table is_object)
 
 pub returns-then-is_err-clause-runs : goal.returns-then-is_err-clause-runs
-returns-then-is_err-clause-runs g c s object holds is_object =
+returns-then-is_err-clause-runs g c s object holds is_object plain =
     wants_nothing _ _ _ s _ _ _ _
     (holds_same g.H.GcHeap.KIND c.args.store.now c.args.store.now c.args.self.now _ s (same_store c.args.store.now)
     (λ k. c.make_room.ensures.same k ∙ ap (λ (r : RunnerView). register_at r.registers k) c.self.view_is)
     (ap (λ (r : RunnerView). r.rest) c.self.view_is) holds holds.table)
 
 pub returns-in-Ok-clause-runs : goal.returns-in-Ok-clause-runs
-returns-in-Ok-clause-runs g c s object holds is_object =
+returns-in-Ok-clause-runs g c s object holds is_object plain =
     let at = (goal.at.returns-in-Ok-clause-runs g c).After-place in
     placed _ _ _ _ c.args.store.now _ c.args.self.now _ s c.args.d (class_of c.args.request) object c.place.ensures.same holds (ap (λ (r : RunnerView). r.rest) c.self.view_is)
     c.in-Ok.handle (places_as g at s (object (visible s)) (Ok c.in-Ok.handle) c.in-Ok.is holds is_object)
@@ -46,30 +47,32 @@ returns-in-Ok-clause-runs g c s object holds is_object =
     (λ k other. c.set.ensures.others k other ∙ slots_are g at k)
 
 pub returns-in-Err-TooLarge-clause-runs : goal.returns-in-Err-TooLarge-clause-runs
-returns-in-Err-TooLarge-clause-runs g c s object holds is_object =
+returns-in-Err-TooLarge-clause-runs g c s object holds is_object plain =
     let at = (goal.at.returns-in-Err-TooLarge-clause-runs g c).After-place in
     refused_large _ _ _ _ c.args.store.now _ c.args.self.now _ s c.args.d (class_of c.args.request) object c.place.ensures.same holds (ap (λ (r : RunnerView). r.rest) c.self.view_is) (slots_are g at)
     (places_as g at s (object (visible s)) (Err fault.TooLarge) (c.in-Err-TooLarge.is ∙ ap Err c.in-Err-TooLarge.field-0-is) holds is_object)
 
 pub returns-in-Err-RootsFull-clause-runs : goal.returns-in-Err-RootsFull-clause-runs
-returns-in-Err-RootsFull-clause-runs g c s object holds is_object =
+returns-in-Err-RootsFull-clause-runs g c s object holds is_object plain =
     let at = (goal.at.returns-in-Err-RootsFull-clause-runs g c).After-place in
     refused_full _ _ _ _ c.args.store.now _ c.args.self.now _ s c.args.d (class_of c.args.request) object c.place.ensures.same holds (ap (λ (r : RunnerView). r.rest) c.self.view_is) (slots_are g at)
     (places_as g at s (object (visible s)) (Err fault.RootsFull) (c.in-Err-RootsFull.is ∙ ap Err c.in-Err-RootsFull.field-0-is) holds is_object)
 
 pub returns-in-Err-HeapOutOfMemory-clause-runs : goal.returns-in-Err-HeapOutOfMemory-clause-runs
-returns-in-Err-HeapOutOfMemory-clause-runs g c s object holds is_object =
+returns-in-Err-HeapOutOfMemory-clause-runs g c s object holds is_object plain =
     let at = (goal.at.returns-in-Err-HeapOutOfMemory-clause-runs g c).After-place in
     lacked _ _ _ _ c.args.store.now _ c.args.self.now _ s c.args.d (class_of c.args.request) object c.place.ensures.same holds (ap (λ (r : RunnerView). r.rest) c.self.view_is) (slots_are g at)
     c.in-Err-HeapOutOfMemory.field-0-0.bytes_needed
     (places_as g at s (object (visible s)) (Err (fault.HeapOutOfMemory c.in-Err-HeapOutOfMemory.field-0-0)) (c.in-Err-HeapOutOfMemory.is ∙ ap Err c.in-Err-HeapOutOfMemory.field-0-is) holds is_object)
 
 pub returns-in-Err-FuncTableFull-clause-runs : goal.returns-in-Err-FuncTableFull-clause-runs
-returns-in-Err-FuncTableFull-clause-runs g c s object holds is_object =
-    absurd (places_as g (goal.at.returns-in-Err-FuncTableFull-clause-runs g c).After-place s (object (visible s)) (Err fault.FuncTableFull) (c.in-Err-FuncTableFull.is ∙ ap Err c.in-Err-FuncTableFull.field-0-is) holds is_object)
+returns-in-Err-FuncTableFull-clause-runs g c s object holds is_object plain =
+    let at = (goal.at.returns-in-Err-FuncTableFull-clause-runs g c).After-place in
+    absurd (never_lacks_ids g.H.GcHeap.KIND c.args.store.now s.table (holds_table holds.table) (object (visible s)) plain
+    (places_as g at s (object (visible s)) (Err fault.FuncTableFull) (c.in-Err-FuncTableFull.is ∙ ap Err c.in-Err-FuncTableFull.field-0-is) holds is_object).0)
 
 pub returns-in-Err-Memory-clause-runs : goal.returns-in-Err-Memory-clause-runs
-returns-in-Err-Memory-clause-runs g c s object holds is_object =
+returns-in-Err-Memory-clause-runs g c s object holds is_object plain =
     let at = (goal.at.returns-in-Err-Memory-clause-runs g c).After-place in
     unplaced _ _ _ _ c.args.store.now _ c.args.self.now _ s c.args.d (class_of c.args.request) object c.place.ensures.same holds (ap (λ (r : RunnerView). r.rest) c.self.view_is) (slots_are g at) error.OutOfMemory
     (places_as g at s (object (visible s)) (Err fault.Memory) (c.in-Err-Memory.is ∙ ap Err c.in-Err-Memory.field-0-is) holds is_object)

@@ -5,6 +5,7 @@ use Rattle.gc_store.specs.Values.{ReadsValue}
 use Rattle.gc_script.specs.Slots.{RunnerView, register_at}
 use Rattle.gc_script.specs.State.{State, HoldsState, Stands}
 use Rattle.gc_script.specs.Given.{given_register, is_unset}
+use Rattle.gc_script.specs.Values.{registered}
 use Rattle.gc_script.proofs.StandLemmas.{holds_table, register_held}
 use Rattle.gc_script.proofs.ReadLemmas.{register_with-same}
 use Rattle.gc_script.proofs.ValueReads.{can_read, no_object_read, past_read, value_there, full_read, was_read}
@@ -43,7 +44,7 @@ returns-in-Ok-read_value-clause-goes g c s holds =
     let told = c.in-Ok-read_value.ensures.reads s.table s.account there.0 holds.table there.1 in
     was_read g.H.GcHeap.KIND c.args.store.now c.args.self.now s c.args.wanted c.args.r c.args.i c.args.into holds (target_set g at s holds) c.in-Ok.object found c.if-i-object.false
     c.read_value.new.self _ c.read_value.ensures.same (ap (λ (x : RunnerView). x.rest) c.self.view_is) c.in-Ok-read_value.value c.put_read.result
-    (λ k. c.put_read.ensures.put k ∙ register_with-same c.args.into c.in-Ok-read_value.value c.make_room.new.registers c.args.self.now.registers (λ j. c.make_room.ensures.same j ∙ ap (λ (x : RunnerView). register_at x.registers j) c.self.view_is) k)
+    (λ k. c.put_read.ensures.put k ∙ register_with-same c.args.into (registered c.in-Ok-read_value.value) c.make_room.new.registers c.args.self.now.registers (λ j. c.make_room.ensures.same j ∙ ap (λ (x : RunnerView). register_at x.registers j) c.self.view_is) k)
     told.0 told.1.0 told.1.1 c.put_read.ensures.shows
 
 pub returns-in-Err-RootsFull-clause-goes : goal.returns-in-Err-RootsFull-clause-goes

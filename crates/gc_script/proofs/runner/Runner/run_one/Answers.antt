@@ -1,9 +1,9 @@
-use Rattle.std.proofs.Common.{◌≡◌, true, sym, ap, ◌∙◌, subst}
+use Rattle.std.proofs.Common.{◌≡◌, true, sym, ◌∙◌, subst}
 use Rattle.std.specs.Prelude.{Ok}
 use Rattle.gc_commands.specs.declared.command.Command.{Command}
 use Rattle.gc_script.specs.Run.{RunsOne, asks_nothing}
 use Rattle.gc_script.specs.Built.{is_built}
-use Rattle.gc_script.proofs.GoesLemmas.{unbuilt_runs, goes_runs, asks_none, asks_collect, collection_built, others_ask}
+use Rattle.gc_script.proofs.GoesLemmas.{unbuilt_runs, goes_runs, asks_none, asks_collect, others_ask}
 use Rattle.gc_script.proofs.runner.Runner.run_one.Goals as goal
 
 pub returns-then-not-is_built-clause-runs : goal.returns-then-not-is_built-clause-runs

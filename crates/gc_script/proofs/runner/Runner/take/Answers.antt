@@ -11,7 +11,7 @@ returns-in-Ok-clause-goes g c s holds =
     taken g.H.GcHeap.KIND c.args.store.now c.args.self.now s c.args.d holds c.take_pending.new.self (record { registers = c.put_read.new.registers; rest = record { owned = c.self.inside.owned; marks = c.self.inside.marks.items } }) c.take_pending.ensures.same
     (ap (λ (x : RunnerView). x.rest) c.self.view_is) c.in-Ok.handle c.put_read.result (c.in-Ok.ensures.takes s.table s.account holds.table)
     (λ k. c.put_read.ensures.put k
-    ∙ register_with-same (Some c.args.d) (raw.Ref class.Exn c.in-Ok.handle) c.make_room.new.registers c.args.self.now.registers (λ j. c.make_room.ensures.same j ∙ ap (λ (x : RunnerView). register_at x.registers j) c.self.view_is) k)
+    ∙ register_with-same (Some c.args.d) (Some (raw.Ref class.Exn c.in-Ok.handle)) c.make_room.new.registers c.args.self.now.registers (λ j. c.make_room.ensures.same j ∙ ap (λ (x : RunnerView). register_at x.registers j) c.self.view_is) k)
     c.put_read.ensures.shows
 
 pub returns-in-Err-RootsFull-clause-goes : goal.returns-in-Err-RootsFull-clause-goes

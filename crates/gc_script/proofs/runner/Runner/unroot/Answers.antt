@@ -1,5 +1,4 @@
-use Rattle.std.proofs.Common.{◌≡◌, Bool, Some, true, false, sym, ap, ◌∙◌, subst}
-use Rattle.gc_owner.specs.declared.entry.GcClass.{GcClass}
+use Rattle.std.proofs.Common.{◌≡◌, Bool, Some, sym, ap, ◌∙◌, subst}
 use Rattle.gc_store.specs.OwnedRoots.{DropsHandle}
 use Rattle.gc_script.specs.Slots.{RunnerView, register_at}
 use Rattle.gc_script.specs.Values.{raw_slot}

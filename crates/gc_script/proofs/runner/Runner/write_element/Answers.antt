@@ -31,8 +31,8 @@ returns-then-i-written-clause-goes g c s holds =
     (elem_past g.H.GcHeap.KIND c.args.store.now s c.args.r c.args.i c.args.operand.now found.passes c.in-Ok.written.object found.found
     (c.in_default.ensures.checks s c.args.operand.now (holds_table holds.table) found.stands).0 c.if-i-written.true)
 
-pub write-requires : goal.write-requires
-write-requires g c =
+pub write-requires-clause-can : goal.write-requires-clause-can
+write-requires-clause-can g c =
     can_write g.H.GcHeap.KIND c.args.store.now wanted.Array c.in-Ok.written.object c.args.i c.in-Ok.written.value c.in-Ok.ensures.named c.if-i-written.false
     (type_at c.args.store.now.types c.in-Ok.written.object.types c.args.i) refl c.in_default.ensures.stores
 

@@ -30,8 +30,8 @@ returns-in-Err-check_write-clause-goes g c s holds =
     (field_by g.H.GcHeap.KIND c.args.store.now s c.args.r c.args.i c.args.operand.now found.passes c.in-Ok.written.object found.found c.if-i-written.false
     ∙ c.in-Err-check_write.ensures.checks s c.args.operand.now (holds_table holds.table) found.stands)
 
-pub write-requires : goal.write-requires
-write-requires g c =
+pub write-requires-clause-can : goal.write-requires-clause-can
+write-requires-clause-can g c =
     can_write g.H.GcHeap.KIND c.args.store.now wanted.Struct c.in-Ok.written.object c.args.i c.in-Ok.written.value c.in-Ok.ensures.named c.if-i-written.false
     (type_at c.args.store.now.types c.in-Ok.written.object.types c.args.i) refl c.in-Ok-check_write.ensures.stores
 
