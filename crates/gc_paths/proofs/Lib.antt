@@ -1,0 +1,11 @@
+pub mod Counting
+pub mod Ending
+pub mod Growing
+pub mod ObjectsLoop
+pub mod Reaching
+pub mod Reading
+pub mod Rooting
+pub mod RootsLoop
+pub mod Starts
+pub mod Taken
+pub mod ValuesLoop

@@ -1,0 +1,11 @@
+pub mod Answers
+pub mod Faults
+pub mod Objects
+pub mod Parts
+pub mod Progress
+pub mod Reports
+pub mod StartWords
+pub mod Steps
+pub mod Taking
+pub mod Walks
+pub mod Left
