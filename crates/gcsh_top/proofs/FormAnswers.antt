@@ -1,5 +1,5 @@
 -- How the run of a form ends, by its status.
-use Rattle.std.proofs.Common.{◌≡◌, ℕ, ◌≤◌, List, [], ◌∷◌, codes, subst, sym, ap, refl}
+use Rattle.std.proofs.Common.{Bool, false, ◌≡◌, ℕ, ◌≤◌, List, [], ◌∷◌, codes, subst, sym, ap, refl}
 use Rattle.std.specs.Fmt.{decimal}
 use Rattle.gc_types.specs.declared.kind.Layouts.{Layouts}
 use Rattle.gc_model.specs.Stores.{StoreView}
@@ -9,8 +9,10 @@ use Rattle.gcsh_top.specs.declared.stores.Stores.{Stores}
 use Rattle.gcsh_top.specs.declared.words.Collector.{Collector}
 use Rattle.gcsh_top.specs.declared.words.Form.{Form}
 use Rattle.gcsh_top.specs.declared.words.Task.{Task}
-use Rattle.gcsh_top.specs.declared.words.Task.TheVariants.{Script, Churn}
-use Rattle.gcsh_top.specs.Answers.{Answers, RanOn, RanTask, RanWords}
+use Rattle.gcsh_top.specs.declared.words.Task.TheVariants.{Script, Churn, Paths}
+use Rattle.gcsh_top.specs.Answers.{Answers, Completed, RanOn, RanTask, RanWords, Reported, behind, within}
+use Rattle.gcsh_top.specs.Reports.{RanSilently, silent}
+use Rattle.gcsh_top.specs.PathReports.{ReportedPaths, reported_text, wanted_memory}
 use Rattle.gcsh_top.specs.Churn.{max_rounds}
 use Rattle.gcsh_top.specs.ChurnRuns.{Churned, to_its_end, within}
 use Rattle.gcsh_top.specs.Chosen.{AreSameStores, OthersStay, chosen}
@@ -23,6 +25,9 @@ no_usage : (task : Task) (layouts : Layouts) (form : Form) (source : SourceRun) 
 no_usage Script layouts form source sink store ran = ran
 no_usage (Churn rounds) layouts form source sink store (same, to_its_end summary ran wrote) = wrote
 no_usage (Churn rounds) layouts form source sink store (same, within stopped unwritten is) = absurd (cc)
+no_usage Paths layouts form source sink store (behind mid ran (reported_text text tells left wrote)) = wrote
+no_usage Paths layouts form source sink store (behind mid ran (wanted_memory left unwritten is)) = absurd (cc)
+no_usage Paths layouts form source sink store (within flushed ran other unwritten) = ran
 
 -- the words of a form never end as words of none
 answers_of : (words : List (List ℕ)) (source : SourceRun) (sink : SinkRun) (old new : Stores) (status : Status) → RanWords words source sink old new status → Answers words source sink old new status
@@ -56,6 +61,7 @@ other_task task rounds is other = absurd (cc)
 is_made : (task : Task) (name rounds : List ℕ) → task_words task ≡ name ∷ rounds ∷ [] → (n : ℕ) × (task ≡ Churn n)
 is_made Script name rounds words = absurd (cc)
 is_made (Churn n) name rounds words = (n, refl)
+is_made Paths name rounds words = absurd (cc)
 
 pub made_alone : (words : List (List ℕ)) (form other : Form) (rounds : ℕ) → IsForm words form → IsForm words other → form.task ≡ Churn rounds → (n : ℕ) × (other.task ≡ Churn n)
 made_alone words form other rounds is_form is_other made =
@@ -72,6 +78,24 @@ ran_script task layouts form source sink store status is ran = subst (λ (t : Ta
 pub ran_made : (task : Task) (layouts : Layouts) (form : Form) (told : SourceTold) (sink : SinkRun) (store : StoreView ℕ) (status : Status) (rounds : ℕ) → task ≡ Churn rounds → Churned layouts form rounds sink store status
     → RanTask task layouts form (record { before = told; after = told }) sink store status
 ran_made task layouts form told sink store status rounds is ran = subst (λ (t : Task). RanTask t layouts form (record { before = told; after = told }) sink store status) (sym is) (refl, ran)
+
+-- a script that was run to its end over a sink that tells nothing
+pub silently : (layouts : Layouts) (form : Form) (source : SourceRun) (before after : Bool) (store : StoreView ℕ) → Completed layouts form source (record { before = silent before; after = silent after }) store → RanSilently layouts form source store
+silently layouts form source before after store ran = record { input = ran.input; whole = ran.whole; ran = ran.ran }
+
+-- a run over such a sink that took nothing yet
+pub not_begun : (layouts : Layouts) (form : Form) (source : SourceRun) (before after : Bool) (store : StoreView ℕ) (status : Status) → before ≡ false
+    → RanOn layouts form source (record { before = silent before; after = silent after }) store status → RanOn layouts form source (record { before = silent false; after = silent after }) store status
+not_begun layouts form source before after store status is ran = subst (λ (b : Bool). RanOn layouts form source (record { before = silent b; after = silent after }) store status) is ran
+
+-- a script was run without replies, and a report written
+pub ran_reported : (task : Task) (layouts : Layouts) (form : Form) (source : SourceRun) (sink : SinkRun) (store : StoreView ℕ) (status : Status) → task ≡ Paths
+    → Reported layouts form source sink store status (λ mid. ReportedPaths layouts mid sink store status) → RanTask task layouts form source sink store status
+ran_reported task layouts form source sink store status is ran = subst (λ (t : Task). RanTask t layouts form source sink store status) (sym is) ran
+
+-- a task that reports makes no script
+pub no_script_made : (task : Task) (rounds : ℕ) → task ≡ Paths → task ≡ Churn rounds → ⊥
+no_script_made task rounds is other = absurd (cc)
 
 -- which status a number is
 pub usage_of : (status : Status) → code_of status ≡ 1 → status ≡ Usage

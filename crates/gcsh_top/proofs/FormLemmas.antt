@@ -37,3 +37,19 @@ five_words f (v ∷ w ∷ x ∷ []) a b c d e low high p q r s t = absurd (omega
 five_words f (v ∷ w ∷ x ∷ y ∷ []) a b c d e low high p q r s t = absurd (omega arith)
 five_words f (v ∷ w ∷ x ∷ y ∷ z ∷ []) a b c d e low high p q r s t = cc
 five_words f (v ∷ w ∷ x ∷ y ∷ z ∷ u ∷ xs) a b c d e low high p q r s t = absurd (omega arith)
+
+-- where a word behind three is that of no task
+pub no_report : (words : List (List ℕ)) (collector first last name : List ℕ) → words ≡ collector ∷ first ∷ last ∷ name ∷ [] → ((task : Task) → FitsTask task → ¬ (name ∷ [] ≡ task_words task)) → (form : Form) → IsForm words form → ⊥
+no_report words collector first last name are none form f =
+    let spelled = sym are ∙ f.spelled in
+    none form.task f.fits (cc)
+
+-- four words, one by one
+pub four_words : {A : Type 0} (f : A → List ℕ) (xs : List A) (a b c d : A) → 4 ≤ length xs → length xs < 5 → a ≡ get_or xs 0 a → b ≡ get_or xs 1 b → c ≡ get_or xs 2 c → d ≡ get_or xs 3 d
+    → map f xs ≡ f a ∷ f b ∷ f c ∷ f d ∷ []
+four_words f [] a b c d low high p q r s = absurd (omega arith)
+four_words f (v ∷ []) a b c d low high p q r s = absurd (omega arith)
+four_words f (v ∷ w ∷ []) a b c d low high p q r s = absurd (omega arith)
+four_words f (v ∷ w ∷ x ∷ []) a b c d low high p q r s = absurd (omega arith)
+four_words f (v ∷ w ∷ x ∷ y ∷ []) a b c d low high p q r s = cc
+four_words f (v ∷ w ∷ x ∷ y ∷ z ∷ xs) a b c d low high p q r s = absurd (omega arith)

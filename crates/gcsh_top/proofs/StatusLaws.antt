@@ -1,5 +1,5 @@
 -- What the status of the top call decides.
-use Rattle.std.proofs.Common.{◌≡◌, ℕ, ◌+◌, ◌≤◌, List, [], ◌++◌, Option, Some, None, length, length-append, inl, inr, refl, sym, ap, subst, arith}
+use Rattle.std.proofs.Common.{false, ◌≡◌, ℕ, ◌+◌, ◌≤◌, List, [], ◌++◌, Option, Some, None, length, length-append, inl, inr, refl, sym, ap, subst, arith}
 use Rattle.std.specs.Prelude.{◌⊎◌, ◌↔◌}
 use Rattle.std.specs.Io.KnownBytes.{Consumes}
 use Rattle.gc_types.specs.declared.kind.Layouts.{Layouts}
@@ -10,10 +10,12 @@ use Rattle.gcsh_top.specs.declared.status.Status.TheVariants.{Done, Usage, ReadF
 use Rattle.gcsh_top.specs.declared.stores.Stores.{Stores}
 use Rattle.gcsh_top.specs.declared.words.Form.{Form}
 use Rattle.gcsh_top.specs.declared.words.Task.{Task}
-use Rattle.gcsh_top.specs.declared.words.Task.TheVariants.{Script, Churn}
-use Rattle.gcsh_top.specs.Answers.{Answers, IsShort, RanOn, RanTask, RanWords}
+use Rattle.gcsh_top.specs.declared.words.Task.TheVariants.{Script, Churn, Paths}
+use Rattle.gcsh_top.specs.Answers.{Answers, IsShort, RanOn, RanTask, RanWords, Reported, behind, within}
 use Rattle.gcsh_top.specs.Chosen.{chosen}
-use Rattle.gcsh_top.specs.ChurnRuns.{Churned, Wrote, to_its_end, within}
+use Rattle.gcsh_top.specs.ChurnRuns.{Churned, to_its_end, within}
+use Rattle.gcsh_top.specs.PathReports.{ReportedPaths, reported_text, wanted_memory}
+use Rattle.gcsh_top.specs.Reports.{Wrote, silent}
 use Rattle.gcsh_top.specs.Counts.{raised}
 use Rattle.gcsh_top.specs.Ends.{Gave, SinkRun, SourceRun, SourceTold}
 use Rattle.gcsh_top.specs.Input.{GaveWhole, max_input, so_far, to_its_end}
@@ -64,6 +66,10 @@ churned_by : (layouts : Layouts) (form : Form) (rounds : ℕ) (sink : SinkRun) (
 churned_by layouts form rounds sink store status (to_its_end summary ran wrote) = wrote_by summary sink status wrote
 churned_by layouts form rounds sink store status (within stopped unwritten is) = inr (inr is)
 
+reported_by : (layouts : Layouts) (mid : StoreView ℕ) (sink : SinkRun) (store : StoreView ℕ) (status : Status) → ReportedPaths layouts mid sink store status → (status ≡ Done) ⊎ (((status ≡ WriteFault) × Rose sink.before.faults sink.after.faults) ⊎ (status ≡ NoMemory))
+reported_by layouts mid sink store status (reported_text text tells left wrote) = wrote_by text sink status wrote
+reported_by layouts mid sink store status (wanted_memory left unwritten is) = inr (inr is)
+
 -- such a status is not that of an input that is too long
 not_too_long : {R : Type 0} (status : Status) → (status ≡ Done) ⊎ (((status ≡ WriteFault) × R) ⊎ (status ≡ NoMemory)) → status ≡ TooLong → ⊥
 not_too_long status (inl done) is = absurd (cc)
@@ -78,6 +84,9 @@ nothing_given source status same other =
 given_task : (task : Task) (layouts : Layouts) (form : Form) (source : SourceRun) (sink : SinkRun) (store : StoreView ℕ) (status : Status) → RanTask task layouts form source sink store status → Given source status
 given_task Script layouts form source sink store status ran = given_on layouts form source sink store status ran
 given_task (Churn rounds) layouts form source sink store status (same, ran) = nothing_given source status same (not_too_long status (churned_by layouts form rounds sink store status ran))
+given_task Paths layouts form source sink store status (behind mid ran ends) =
+    given_short source status ran.input (not_too_long status (reported_by layouts mid sink store status ends)) ran.whole.gave.gave ran.whole.gave.short
+given_task Paths layouts form source sink store status (within flushed ran other unwritten) = given_on layouts form source (record { before = silent false; after = silent flushed }) store status ran
 
 pub given_exact : (words : List (List ℕ)) (source : SourceRun) (sink : SinkRun) (old new : Stores) (status : Status) → RanWords words source sink old new status → Given source status
 given_exact words source sink old new status ran = given_task ran.form.task (layouts_of ran.form.collector) ran.form source sink (chosen ran.form.collector new) status ran.ran
@@ -112,6 +121,9 @@ complete_task : (task : Task) (layouts : Layouts) (form : Form) (source : Source
     → ¬ Rose source.before.faults source.after.faults → ¬ Rose sink.before.faults sink.after.faults → IsShort source.before.left source.before.given source.after.given → (status ≡ Done) ⊎ (status ≡ NoMemory)
 complete_task Script layouts form source sink store status ran whole_in whole_out short = complete_on layouts form source sink store status ran whole_in whole_out short
 complete_task (Churn rounds) layouts form source sink store status (same, ran) whole_in whole_out short = whole_by status (churned_by layouts form rounds sink store status ran) whole_out
+complete_task Paths layouts form source sink store status (behind mid ran ends) whole_in whole_out short = whole_by status (reported_by layouts mid sink store status ends) whole_out
+complete_task Paths layouts form source sink store status (within flushed ran other unwritten) whole_in whole_out short =
+    complete_on layouts form source (record { before = silent false; after = silent flushed }) store status ran whole_in (λ rose. absurd (omega (arith, rose))) short
 
 complete_words : (words : List (List ℕ)) (source : SourceRun) (sink : SinkRun) (old new : Stores) (status : Status) → RanWords words source sink old new status
     → ¬ Rose source.before.faults source.after.faults → ¬ Rose sink.before.faults sink.after.faults → IsShort source.before.left source.before.given source.after.given → (status ≡ Done) ⊎ (status ≡ NoMemory)

@@ -1,5 +1,5 @@
 -- What the top call answers: one relation by its status.
-use Rattle.std.specs.Prelude.{◌≡◌, ℕ, ◌+◌, ◌-◌, ◌^◌, ◌<◌, ◌≤◌, ◌⊎◌, IsTrue, List, [], Option, Some, None, length}
+use Rattle.std.specs.Prelude.{◌≡◌, ℕ, Bool, false, ◌+◌, ◌-◌, ◌^◌, ◌<◌, ◌≤◌, ◌⊎◌, IsTrue, List, [], Option, Some, None, length}
 use Rattle.gc_types.specs.declared.kind.Layouts.{Layouts}
 use Rattle.gc_model.specs.Allocation.{Rose}
 use Rattle.gc_model.specs.Stores.{StoreView}
@@ -8,11 +8,13 @@ use Rattle.gcsh_top.specs.declared.status.Status.TheVariants.{Done, Usage, ReadF
 use Rattle.gcsh_top.specs.declared.stores.Stores.{Stores}
 use Rattle.gcsh_top.specs.declared.words.Form.{Form}
 use Rattle.gcsh_top.specs.declared.words.Task.{Task}
-use Rattle.gcsh_top.specs.declared.words.Task.TheVariants.{Script, Churn}
+use Rattle.gcsh_top.specs.declared.words.Task.TheVariants.{Script, Churn, Paths}
 use Rattle.gcsh_top.specs.Chosen.{AreSameStores, OthersStay, chosen}
 use Rattle.gcsh_top.specs.ChurnRuns.{Churned}
 use Rattle.gcsh_top.specs.Ends.{SinkRun, SourceRun}
 use Rattle.gcsh_top.specs.Input.{GaveLines, GaveWhole, ReadWhole, max_input}
+use Rattle.gcsh_top.specs.PathReports.{ReportedPaths}
+use Rattle.gcsh_top.specs.Reports.{RanSilently, silent}
 use Rattle.gcsh_top.specs.Runs.{RanForm, StoppedForm}
 use Rattle.gcsh_top.specs.Words.{IsForm, layouts_of}
 
@@ -49,10 +51,17 @@ RanOn layouts form source sink store WriteFault = Stopped layouts form source si
 RanOn layouts form source sink store TooLong = (bytes : List ℕ) × RanFront layouts form source sink store bytes × (length bytes ≡ max_input + 1)
 RanOn layouts form source sink store NoMemory = Stopped layouts form source sink store
 
+-- How a form ended that runs a script without replies and then writes a report of the store: the script was run to its end, and
+-- `Ends` says what was made of the store then; or it was not, and nothing was written.
+pub data Reported (layouts : Layouts) (form : Form) (source : SourceRun) (sink : SinkRun) (store : StoreView ℕ) (status : Status) (Ends : StoreView ℕ → Type 0) : Type 0 where
+  behind : (mid : StoreView ℕ) → RanSilently layouts form source mid → Ends mid → Reported layouts form source sink store status Ends
+  within : (flushed : Bool) → RanOn layouts form source (record { before = silent false; after = silent flushed }) store status → ¬ (status ≡ Done) → sink.after ≡ sink.before → Reported layouts form source sink store status Ends
+
 -- How a task on its new store ended, and what it left. A script that is made reads nothing.
 abbrev pub RanTask : Task → Layouts → Form → SourceRun → SinkRun → StoreView ℕ → Status → Type 0
 RanTask Script layouts form source sink store status = RanOn layouts form source sink store status
 RanTask (Churn rounds) layouts form source sink store status = (source.after ≡ source.before) × Churned layouts form rounds sink store status
+RanTask Paths layouts form source sink store status = Reported layouts form source sink store status (λ mid. ReportedPaths layouts mid sink store status)
 
 -- The words are those of a form, whose run on the store that they choose ended so. The other stores are as they were, and
 -- each has its id still.

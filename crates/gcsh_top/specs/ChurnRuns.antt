@@ -1,9 +1,8 @@
 -- What running the script of `churn` leaves, and its summary.
 use Rattle.std.specs.Prelude.{◌≡◌, ℕ, ◌≤◌, Bool, true, false, List, [], ◌∷◌, ◌++◌, IsTrue, Option, Some, None, codes, count_by, length, take}
 use Rattle.std.specs.Fmt.{decimal}
-use Rattle.std.specs.Io.KnownBytes.{Appends}
 use Rattle.gc_types.specs.declared.kind.Layouts.{Layouts}
-use Rattle.gc_model.specs.Allocation.{Limits, Rose}
+use Rattle.gc_model.specs.Allocation.{Limits}
 use Rattle.gc_model.specs.Holds.{HoldsKept}
 use Rattle.gc_model.specs.Stores.{StoreView}
 use Rattle.gc_policy.specs.Accounts.{HoldsAccount, no_account}
@@ -20,10 +19,11 @@ use Rattle.gc_script.specs.Slots.{RunnerView}
 use Rattle.gc_script.specs.State.{State, HoldsState, begin}
 use Rattle.gcsh_top.specs.declared.churn_run.Churner.{Churner}
 use Rattle.gcsh_top.specs.declared.status.Status.{Status}
-use Rattle.gcsh_top.specs.declared.status.Status.TheVariants.{Done, Usage, ReadFault, WriteFault, TooLong, NoMemory}
+use Rattle.gcsh_top.specs.declared.status.Status.TheVariants.{NoMemory}
 use Rattle.gcsh_top.specs.declared.words.Form.{Form}
 use Rattle.gcsh_top.specs.Churn.{churn_script}
 use Rattle.gcsh_top.specs.Ends.{SinkRun}
+use Rattle.gcsh_top.specs.Reports.{Wrote}
 use Rattle.gcsh_top.specs.Runs.{first_table}
 
 -- the reply is a refusal
@@ -88,19 +88,6 @@ pub record RanChurn (layouts : Layouts) (form : Form) (rounds : ℕ) (summary : 
   pub holds : HoldsAccount layouts store after.table after.account
   pub no_counter : store.alloc_counter ≡ None
   pub kept : HoldsKept layouts store after.table
-
--- a sink took a front of the bytes, or all of them
-abbrev pub TookFront : Option (List ℕ) → Option (List ℕ) → List ℕ → Type 0
-TookFront held held' bytes = (n : ℕ) × (n ≤ length bytes) × Appends held held' (take n bytes)
-
--- a text was written and flushed, or the sink failed, or there was no memory for the text
-abbrev pub Wrote : List ℕ → SinkRun → Status → Type 0
-Wrote text sink Done = Appends sink.before.held sink.after.held text × IsTrue sink.after.flushed
-Wrote text sink Usage = ⊥
-Wrote text sink ReadFault = ⊥
-Wrote text sink WriteFault = TookFront sink.before.held sink.after.held text × Rose sink.before.faults sink.after.faults
-Wrote text sink TooLong = ⊥
-Wrote text sink NoMemory = sink.after ≡ sink.before
 
 -- How a run of the script of so many rounds on a new store ended: its summary was written, or a command wanted memory, and
 -- nothing was written.

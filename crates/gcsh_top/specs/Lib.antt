@@ -7,6 +7,8 @@ pub mod Words
 pub mod Statuses
 pub mod Chosen
 pub mod Runs
+pub mod Reports
+pub mod PathReports
 pub mod ChurnRuns
 pub mod Answers
 pub mod Program

@@ -9,15 +9,16 @@ ghost use Rattle.gc_script.specs.Steps.{Step};
 ghost use Rattle.gc_store.specs.Stores.{IsSameStore};
 ghost use Rattle.gcsh_top.specs.Chosen.{HasSameId};
 ghost use Rattle.gcsh_top.specs.Churn.{churn_script, link_fields, max_rounds, round_commands, rounds_up_to};
-ghost use Rattle.gcsh_top.specs.ChurnRuns.{Churned, HasRun, RanChurn, StoppedIn, Wrote, refusals_in, summary_text};
+ghost use Rattle.gcsh_top.specs.ChurnRuns.{Churned, HasRun, RanChurn, StoppedIn, refusals_in, summary_text};
+ghost use Rattle.gcsh_top.specs.Reports.{Wrote};
 ghost use Rattle.gcsh_top.specs.Runs.{IsReady};
 ghost use Rattle.gcsh_top.specs.declared.words.Form.{Form};
 
 use crate::churn::{MADE, READ, Round, SLOTS, declare_link, next_seed};
+use crate::report::write_text;
 use crate::sink::Sink;
 use crate::status::Status;
 use crate::words::Form;
-use crate::write::write_all;
 use gc_heap::GcHeap;
 use gc_script::{Command, Reply, RunError, Runner, push_reply};
 use gc_store::{PageLimit, Store};
@@ -221,13 +222,7 @@ fn write_summary<K: Sink>(alloc: Global, summary: &Summary, sink: &mut K) -> Sta
     let Ok(text) = text_of(alloc, summary) else {
         return Status::NoMemory;
     };
-    if write_all(sink, text.as_bytes()).is_err() {
-        return Status::WriteFault;
-    }
-    match sink.flush() {
-        Ok(()) => Status::Done,
-        Err(_) => Status::WriteFault,
-    }
+    write_text(sink, text.as_str())
 }
 
 /// The text of a summary.

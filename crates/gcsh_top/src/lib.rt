@@ -6,7 +6,7 @@
 //! `StdSource` and `StdSink` stand before standard input and output, and tell counts alone.
 //! The definitions are in `specs/`: `Ends` (what sources and sinks tell, and what reads and writes do),
 //! `Memory` (the ends in memory), `Input` (what reading an input comes to), `Words` (the words of the
-//! program), `Runs` (what running lines leaves), `Churn` (the script that is made), `ChurnRuns` (what running
+//! program), `Runs` (what running lines leaves), `Reports` (texts behind a run), `Churn` (the script that is made), `ChurnRuns` (what running
 //! it leaves), `Answers` (what the top call answers).
 #![tactic(auto)]
 
@@ -15,7 +15,9 @@ mod churn_run;
 pub mod memory;
 pub mod program;
 pub mod read;
+mod report;
 mod run;
+mod silence;
 pub mod sink;
 pub mod source;
 pub mod standard;

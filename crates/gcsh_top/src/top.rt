@@ -17,6 +17,7 @@ ghost use Rattle.gcsh_top.specs.declared.words.Form.{Form};
 
 use crate::churn_run::run_churn;
 use crate::read::{ReadFault, read_piece};
+use crate::report::run_paths;
 use crate::run::{run_last, run_piece};
 use crate::sink::Sink;
 use crate::source::Source;
@@ -34,8 +35,9 @@ const PIECE: usize = 65_536;
 /// Runs the program: `words` are those behind its name. The chosen store begins with FIRST pages,
 /// and has at most MOST. Each line of the input is run as soon as it is whole, and its reply written,
 /// with a line feed; what was written is flushed before more is read. With `churn N` behind MOST nothing is
-/// read: a script of N rounds is made and run, and its summary written. The answer is the number of a
-/// [`Status`], which the program ends with.
+/// read: a script of N rounds is made and run, and its summary written. With `paths` no reply is written: behind
+/// the script the report is written of a path to each object that a root reaches. The answer is the number of
+/// a [`Status`], which the program ends with.
 pub fn gcsh_top<S: Source, K: Sink>(
     alloc: Global,
     words: &[String],
@@ -99,6 +101,7 @@ fn run_on<H: GcHeap, S: Source, K: Sink>(
     match form.task {
         Task::Script => run_form(alloc, form, source, sink, store),
         Task::Churn(rounds) => run_churn(alloc, form, rounds, sink, store),
+        Task::Paths => run_paths(alloc, form, source, sink, store),
     }
 }
 
@@ -116,7 +119,7 @@ fn configure<H: GcHeap>(form: Form, store: &mut Store<H, u64>)
 }
 
 /// Runs an input, piece by piece, on the store that the form chooses.
-fn run_form<H: GcHeap, S: Source, K: Sink>(
+pub(crate) fn run_form<H: GcHeap, S: Source, K: Sink>(
     alloc: Global,
     form: Form,
     source: &mut S,

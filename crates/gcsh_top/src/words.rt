@@ -25,6 +25,8 @@ pub enum Task {
     Script,
     /// It makes a script of so many rounds and runs it.
     Churn(u32),
+    /// It runs the script that is its input, and reports a path to each object that a root reaches.
+    Paths,
 }
 
 /// What the words of the program ask for: a heap, the pages that it begins with, the most
@@ -38,8 +40,8 @@ pub struct Form {
 }
 
 /// The form that the words of the program, without its own name, are: `COLLECTOR FIRST MOST` with
-/// `FIRST <= MOST <= MAX_PAGES`, and behind these none, or `churn N` with `N <= MAX_ROUNDS`. Numbers are plain
-/// decimals without leading zeros. None where the words are of no such form.
+/// `FIRST <= MOST <= MAX_PAGES`, and behind these none, or `paths`, or `churn N` with `N <= MAX_ROUNDS`. Numbers are
+/// plain decimals without leading zeros. None where the words are of no such form.
 pub fn parse_words(words: &[String]) -> Option<Form>
     ensures { MatchOption result ((form : Form) → ¬ IsForm (map string_bytes words.now) form) (IsForm (map string_bytes words.now)) }
 {
@@ -51,6 +53,10 @@ pub fn parse_words(words: &[String]) -> Option<Form>
                 most.as_str(),
                 Task::Script,
             )
+        }
+        [collector, first, most, name] => {
+            let task = parse_report(name.as_str())?;
+            parse_heap(collector.as_str(), first.as_str(), most.as_str(), task)
         }
         [collector, first, most, name, rounds] => {
             let task = parse_task(name.as_str(), rounds.as_str())?;
@@ -75,6 +81,17 @@ fn parse_heap(collector: &str, first: &str, most: &str, task: Task) -> Option<Fo
         most: most as u32,
         task,
     })
+}
+
+/// The task that one word asks for, which reads a script and writes a report.
+fn parse_report(name: &str) -> Option<Task>
+    ensures { MatchOption result ((task : Task) → FitsTask task → ¬ (name.now ∷ [] ≡ task_words task))
+        (λ task. FitsTask task × (name.now ∷ [] ≡ task_words task)) }
+{
+    match name {
+        "paths" => Some(Task::Paths),
+        _ => None,
+    }
 }
 
 /// The task that two words ask for.

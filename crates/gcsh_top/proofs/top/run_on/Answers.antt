@@ -1,5 +1,5 @@
 use Rattle.std.proofs.Common.{refl}
-use Rattle.gcsh_top.proofs.FormAnswers.{fits_rounds, other_task, ran_made, ran_script}
+use Rattle.gcsh_top.proofs.FormAnswers.{fits_rounds, no_script_made, other_task, ran_made, ran_reported, ran_script}
 use Rattle.gcsh_top.proofs.top.run_on.Goals as goal
 
 pub returns-in-Script-clause-ran : goal.returns-in-Script-clause-ran
@@ -16,3 +16,9 @@ returns-in-Script-clause-unread g c rounds is = absurd (other_task c.args.form.t
 
 pub returns-in-Churn-clause-unread : goal.returns-in-Churn-clause-unread
 returns-in-Churn-clause-unread g c rounds is = refl
+
+pub returns-in-Paths-clause-ran : goal.returns-in-Paths-clause-ran
+returns-in-Paths-clause-ran g c = ran_reported c.args.form.task _ c.args.form _ _ _ c.run_paths.result c.in-Paths.is c.run_paths.ensures.ran
+
+pub returns-in-Paths-clause-unread : goal.returns-in-Paths-clause-unread
+returns-in-Paths-clause-unread g c rounds is = absurd (no_script_made c.args.form.task rounds c.in-Paths.is is)

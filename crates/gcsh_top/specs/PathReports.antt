@@ -1,0 +1,32 @@
+-- How the form ends that reports paths, on the store that a script left.
+use Rattle.std.specs.Prelude.{◌≡◌, ℕ, true, List, [], ◌∷◌, ◌++◌, ◌⊎◌, codes}
+use Rattle.gc_types.specs.declared.kind.Layouts.{Layouts}
+use Rattle.gc_model.specs.Stores.{StoreView}
+use Rattle.gc_model.specs.Table.{Table}
+use Rattle.gc_model.specs.Words.{Placing}
+use Rattle.gc_paths.specs.Answers.{IsFull, OnlyPushed}
+use Rattle.gc_policy.specs.Accounts.{Account}
+use Rattle.gc_store.specs.OwnedWords.{HoldsThere}
+use Rattle.gcsh_paths.specs.Answers.{IsReportText}
+use Rattle.gcsh_top.specs.declared.status.Status.{Status}
+use Rattle.gcsh_top.specs.declared.status.Status.TheVariants.{NoMemory}
+use Rattle.gcsh_top.specs.Ends.{SinkRun}
+use Rattle.gcsh_top.specs.Reports.{Wrote}
+
+-- the refusal of a report, as a line
+abbrev pub full_text : List ℕ
+full_text = codes "RootsFull" ++ 10 ∷ []
+
+-- whichever table the store held, the text is that of its report, or the refusal where there is no room for the roots
+abbrev pub TellsPaths : Layouts → StoreView ℕ → List ℕ → Type 0
+TellsPaths layouts mid text =
+    (t : Table ℕ) (place : Placing) (a : Account) → HoldsThere layouts mid t place a → IsReportText t place text ⊎ ((text ≡ full_text) × IsFull true t)
+
+-- roots were pushed and are gone again
+abbrev pub LeavesPushed : Layouts → StoreView ℕ → StoreView ℕ → Type 0
+LeavesPushed layouts mid store = (t : Table ℕ) (place : Placing) (a : Account) → HoldsThere layouts mid t place a → OnlyPushed layouts t place a store
+
+-- the report or its refusal was written; or there was no memory for it, and nothing was
+pub data ReportedPaths (layouts : Layouts) (mid : StoreView ℕ) (sink : SinkRun) (store : StoreView ℕ) (status : Status) : Type 0 where
+  reported_text : (text : List ℕ) → TellsPaths layouts mid text → LeavesPushed layouts mid store → Wrote text sink status → ReportedPaths layouts mid sink store status
+  wanted_memory : LeavesPushed layouts mid store → sink.after ≡ sink.before → status ≡ NoMemory → ReportedPaths layouts mid sink store status

@@ -1,0 +1,35 @@
+-- Texts that are written at the end of a run, and forms that write a report of the store that a script leaves.
+use Rattle.std.specs.Prelude.{◌≡◌, ℕ, ◌≤◌, Bool, false, List, IsTrue, Option, Some, None, length, take}
+use Rattle.std.specs.Io.KnownBytes.{Appends}
+use Rattle.gc_types.specs.declared.kind.Layouts.{Layouts}
+use Rattle.gc_model.specs.Allocation.{Rose}
+use Rattle.gc_model.specs.Stores.{StoreView}
+use Rattle.gcsh_top.specs.declared.status.Status.{Status}
+use Rattle.gcsh_top.specs.declared.status.Status.TheVariants.{Done, Usage, ReadFault, WriteFault, TooLong, NoMemory}
+use Rattle.gcsh_top.specs.declared.words.Form.{Form}
+use Rattle.gcsh_top.specs.Ends.{SinkRun, SinkTold, SourceRun}
+use Rattle.gcsh_top.specs.Input.{GaveWhole, ReadWhole}
+use Rattle.gcsh_top.specs.Runs.{RanForm}
+
+-- a sink took a front of the bytes, or all of them
+abbrev pub TookFront : Option (List ℕ) → Option (List ℕ) → List ℕ → Type 0
+TookFront held held' bytes = (n : ℕ) × (n ≤ length bytes) × Appends held held' (take n bytes)
+
+-- a text was written and flushed, or the sink failed, or there was no memory for the text
+abbrev pub Wrote : List ℕ → SinkRun → Status → Type 0
+Wrote text sink Done = Appends sink.before.held sink.after.held text × IsTrue sink.after.flushed
+Wrote text sink Usage = ⊥
+Wrote text sink ReadFault = ⊥
+Wrote text sink WriteFault = TookFront sink.before.held sink.after.held text × Rose sink.before.faults sink.after.faults
+Wrote text sink TooLong = ⊥
+Wrote text sink NoMemory = sink.after ≡ sink.before
+
+-- what a sink tells that drops what it takes, and never fails
+abbrev pub silent : Bool → SinkTold
+silent flushed = record { held = None; faults = 0; flushed = flushed }
+
+-- A script was read to its end and run, and no reply was written.
+pub record RanSilently (layouts : Layouts) (form : Form) (source : SourceRun) (store : StoreView ℕ) : Type 0 where
+  pub input : List ℕ
+  pub whole : ReadWhole source input
+  pub ran : RanForm layouts form input None None store

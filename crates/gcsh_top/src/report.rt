@@ -1,0 +1,71 @@
+//! Forms that run a script without replies, and write a report of the store that it leaves.
+
+ghost use Rattle.gcsh_top.specs.Answers.{Reported};
+ghost use Rattle.gcsh_top.specs.Chosen.{HasSameId};
+ghost use Rattle.gcsh_top.specs.PathReports.{ReportedPaths};
+ghost use Rattle.gcsh_top.specs.Reports.{Wrote};
+ghost use Rattle.gcsh_top.specs.Runs.{IsReady};
+
+use crate::silence::Silence;
+use crate::sink::Sink;
+use crate::source::Source;
+use crate::status::Status;
+use crate::top::run_form;
+use crate::words::Form;
+use crate::write::write_all;
+use gc_heap::GcHeap;
+use gc_paths::PathFault;
+use gc_store::Store;
+use gcsh_paths::path_report;
+use std::alloc::Global;
+
+/// Runs the script that is the input without replies, and writes the report of the paths to what the roots
+/// reach.
+pub(crate) fn run_paths<H: GcHeap, S: Source, K: Sink>(
+    alloc: Global,
+    form: Form,
+    source: &mut S,
+    sink: &mut K,
+    store: &mut Store<H, u64>,
+) -> Status
+    requires { IsReady H.KIND form store.old }
+    ensures ran { Reported H.KIND form (record { before = S.tells source.old; after = S.tells source.new })
+        (record { before = K.tells sink.old; after = K.tells sink.new }) store.new result
+        (λ mid. ReportedPaths H.KIND mid (record { before = K.tells sink.old; after = K.tells sink.new }) store.new result) }
+    ensures same { HasSameId store.old store.new }
+{
+    let mut silence = Silence::new();
+    match run_form(alloc, form, source, &mut silence, store) {
+        Status::Done => report_paths(alloc, sink, store),
+        status => status,
+    }
+}
+
+/// Writes the report of the paths to what the roots of a store reach.
+fn report_paths<H: GcHeap, K: Sink>(
+    alloc: Global,
+    sink: &mut K,
+    store: &mut Store<H, u64>,
+) -> Status
+    ensures reported { ReportedPaths H.KIND store.old (record { before = K.tells sink.old; after = K.tells sink.new }) store.new result }
+    ensures same { HasSameId store.old store.new }
+{
+    match path_report(alloc, store) {
+        Ok(text) => write_text(sink, text.as_str()),
+        Err(PathFault::RootsFull) => write_text(sink, "RootsFull\n"),
+        Err(_) => Status::NoMemory,
+    }
+}
+
+/// Writes a text, and flushes.
+pub(crate) fn write_text<K: Sink>(sink: &mut K, text: &str) -> Status
+    ensures { Wrote text.now (record { before = K.tells sink.old; after = K.tells sink.new }) result }
+{
+    if write_all(sink, text.as_bytes()).is_err() {
+        return Status::WriteFault;
+    }
+    match sink.flush() {
+        Ok(()) => Status::Done,
+        Err(_) => Status::WriteFault,
+    }
+}
