@@ -1,0 +1,13 @@
+pub mod CutLemmas
+pub mod ValueLemmas
+pub mod LineLemmas
+pub mod ObjectLemmas
+pub mod SectionLemmas
+pub mod TextLemmas
+pub mod SpelledLemmas
+pub mod FitLemmas
+pub mod TurnLemmas
+pub mod ElementLemmas
+pub mod WellLemmas
+pub mod ReachLemmas
+pub mod SeekLemmas

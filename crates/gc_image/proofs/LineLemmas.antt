@@ -1,0 +1,78 @@
+-- A line and its words: words that are joined by spaces are cut again, and are text.
+use Rattle.std.proofs.Common.{◌≡◌, ◌==◌, ℕ, suc, zero, ◌<◌, List, [], ◌∷◌, ◌++◌, length, Option, None, Some, Result, Ok, Err, IfOk, refl, sym, ap, subst, ◌∙◌, arith, false}
+use Rattle.std.specs.List.{All, join_with_byte, slice_split}
+use Rattle.std.specs.Str.{IsAscii, IsUtf8}
+use Rattle.std.proofs.lemmas.Bool.{ne_eqb}
+use Rattle.std.proofs.lemmas.List.Elements.{All-nil, All-cons}
+use Rattle.std.proofs.lemmas.List.Splits.{join_with_byte-slice_split, slice_split_at, slice_split_none}
+use Rattle.std.proofs.lemmas.Str.{IsAscii-append, IsUtf8-from_ascii}
+use Rattle.gc_commands.specs.Reading.{Reads}
+use Rattle.gc_commands.proofs.GraphicLemmas.{AreWords, IsWord}
+
+no_space : (word : List ℕ) → IsWord word → All (λ b. (b == 32) ≡ false) word
+no_space [] all = All-nil (λ b. (b == 32) ≡ false)
+no_space (b ∷ word) all = All-cons (λ c. (c == 32) ≡ false) b word (ne_eqb b 32 (λ space. let above = all.0.0 in omega arith)) (no_space word all.1)
+
+-- words that are joined are cut again
+pub cut_joined : (words : List (List ℕ)) → AreWords words → 0 < length words → slice_split (λ b. b == 32) (join_with_byte 32 words) ≡ words
+cut_joined [] all some = absurd (omega arith)
+cut_joined (word ∷ []) all some = slice_split_none (λ b. b == 32) word (no_space word all.0)
+cut_joined (word ∷ next ∷ words) all some =
+    slice_split_at (λ b. b == 32) word 32 (join_with_byte 32 (next ∷ words)) (no_space word all.0) refl ∙ ap (λ ws. word ∷ ws) (cut_joined (next ∷ words) all.1 (omega arith))
+
+ascii_cons : (b : ℕ) (text : List ℕ) → b < 128 → IsAscii text → IsAscii (b ∷ text)
+ascii_cons b text low all zero = low
+ascii_cons b text low all (suc i) = all i
+
+pub ascii_word : (word : List ℕ) → IsWord word → IsAscii word
+ascii_word [] all = λ i. omega arith
+ascii_word (b ∷ word) all = ascii_cons b word all.0.1 (ascii_word word all.1)
+
+pub ascii_joined : (words : List (List ℕ)) → AreWords words → IsAscii (join_with_byte 32 words)
+ascii_joined [] all = λ i. omega arith
+ascii_joined (word ∷ []) all = ascii_word word all.0
+ascii_joined (word ∷ next ∷ words) all =
+    IsAscii-append word (32 ∷ join_with_byte 32 (next ∷ words)) (ascii_word word all.0) (ascii_cons 32 (join_with_byte 32 (next ∷ words)) (omega arith) (ascii_joined (next ∷ words) all.1))
+
+-- nor do they hold a line feed
+pub no_feed_word : (word : List ℕ) → IsWord word → All (λ b. (b == 10) ≡ false) word
+no_feed_word [] all = All-nil (λ b. (b == 10) ≡ false)
+no_feed_word (b ∷ word) all = All-cons (λ c. (c == 10) ≡ false) b word (ne_eqb b 10 (λ feed. let above = all.0.0 in omega arith)) (no_feed_word word all.1)
+
+no_feed_append : (word rest : List ℕ) → IsWord word → All (λ b. (b == 10) ≡ false) rest → All (λ b. (b == 10) ≡ false) (word ++ rest)
+no_feed_append [] rest all none = none
+no_feed_append (b ∷ word) rest all none =
+    All-cons (λ c. (c == 10) ≡ false) b (word ++ rest) (ne_eqb b 10 (λ feed. let above = all.0.0 in omega arith)) (no_feed_append word rest all.1 none)
+
+pub no_feed_joined : (words : List (List ℕ)) → AreWords words → All (λ b. (b == 10) ≡ false) (join_with_byte 32 words)
+no_feed_joined [] all = All-nil (λ b. (b == 10) ≡ false)
+no_feed_joined (word ∷ []) all = no_feed_word word all.0
+no_feed_joined (word ∷ next ∷ words) all =
+    no_feed_append word (32 ∷ join_with_byte 32 (next ∷ words)) all.0 (All-cons (λ c. (c == 10) ≡ false) 32 (join_with_byte 32 (next ∷ words)) refl (no_feed_joined (next ∷ words) all.1))
+
+-- what a line's words spell, its line spells
+module _ {A : Type 0} (Fits : A → Type 0) (words : A → List (List ℕ)) (fit : (x : A) → Fits x → AreWords (words x)) (some : (x : A) → 0 < length (words x)) where
+  abbrev joined : A → List ℕ
+  joined x = join_with_byte 32 (words x)
+
+  words_cut : (line : List ℕ) (x : A) → Fits x → line ≡ joined x → slice_split (λ b. b == 32) line ≡ words x
+  words_cut line x fits e = ap (slice_split (λ b. b == 32)) e ∙ cut_joined (words x) (fit x fits) (some x)
+
+  -- a line that is no text spells nothing
+  pub no_text : (line : List ℕ) → ¬ IsUtf8 line → (x : A) → Fits x → line ≡ joined x → ⊥
+  no_text line bad x fits e = bad (IsUtf8-from_ascii line (subst IsAscii (sym e) (ascii_joined (words x) (fit x fits))))
+
+  pub line_read : (line text : List ℕ) (seen : List (List ℕ)) (r : Option A) → text ≡ line → seen ≡ slice_split (λ b. b == 32) text → Reads Fits words seen r → Reads Fits joined line r
+  line_read line text seen None same cut read = λ x fits e. read x fits (cut ∙ ap (slice_split (λ b. b == 32)) same ∙ words_cut line x fits e)
+  line_read line text seen (Some x) same cut read =
+      (read.0, sym (join_with_byte-slice_split 32 line) ∙ ap (join_with_byte 32) (ap (slice_split (λ b. b == 32)) (sym same) ∙ sym cut ∙ read.1))
+
+  pub ok_line_read : {E : Type 0} (line text : List ℕ) (seen : List (List ℕ)) (r : Result (Option A) E) → text ≡ line → seen ≡ slice_split (λ b. b == 32) text
+      → IfOk r (λ o. Reads Fits words seen o) → IfOk r (λ o. Reads Fits joined line o)
+  ok_line_read line text seen (Ok o) same cut read = line_read line text seen o same cut read
+  ok_line_read line text seen (Err e) same cut read = tt
+
+  -- no two have one spelling, where no two have the same words
+  pub one_line : ((x y : A) → Fits x → Fits y → words x ≡ words y → x ≡ y) → (x y : A) → Fits x → Fits y → joined x ≡ joined y → x ≡ y
+  one_line one x y x_fits y_fits e =
+      one x y x_fits y_fits (sym (cut_joined (words x) (fit x x_fits) (some x)) ∙ ap (slice_split (λ b. b == 32)) e ∙ cut_joined (words y) (fit y y_fits) (some y))

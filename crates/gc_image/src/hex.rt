@@ -1,0 +1,76 @@
+//! Hexadecimal digits in lower case: numbers of a width, and bytes.
+
+ghost use Rattle.std.specs.Prelude.{ℕ, ◌<◌, ◌≤◌, ◌^◌, [], ◌∷◌, IfOk};
+ghost use Rattle.std.specs.List.{AllByRecursion, flat_map};
+ghost use Rattle.std.specs.Option.{option_map};
+ghost use Rattle.gc_commands.specs.Reading.{Reads};
+ghost use Rattle.gc_commands.specs.Words.{byte_text, bytes_text, hex_digit, hex_digits};
+
+use std::alloc::{AllocError, Global};
+
+/// The number that a word of so many digits spells, highest first.
+pub(crate) fn hex_number(word: &str, digits: usize) -> Option<u128>
+    requires { digits ≤ 32 }
+    ensures { Reads (λ n. n < 16 ^ digits) (hex_digits digits) word.now result }
+{
+    if word.len() != digits {
+        return None;
+    }
+    let mut number: u128 = 0;
+    for digit in word.as_bytes() {
+        let value = hex_value(*digit)?;
+        number = number * 16 + u128::from(value);
+    }
+    Some(number)
+}
+
+/// The bytes that a word spells: pairs of digits, or a dash for none.
+pub(crate) fn bytes_of(alloc: Global, word: &str) -> Result<Option<Vec<u8>>, AllocError>
+    ensures { IfOk result (λ bytes. Reads (AllByRecursion (λ b. b < 2 ^ 8)) bytes_text word.now (option_map (λ bs. bs.items) bytes)) }
+{
+    match word {
+        "-" => Ok(Some(Vec::new(alloc))),
+        "" => Ok(None),
+        _ => pairs_of(alloc, word.as_bytes()),
+    }
+}
+
+/// The bytes that pairs of digits spell.
+fn pairs_of(alloc: Global, digits: &[u8]) -> Result<Option<Vec<u8>>, AllocError>
+    ensures { IfOk result (λ bytes. Reads (AllByRecursion (λ b. b < 2 ^ 8)) (flat_map byte_text) digits.now (option_map (λ bs. bs.items) bytes)) }
+{
+    let mut bytes = Vec::with_capacity(alloc, digits.len() / 2)?;
+    let mut rest = digits;
+    while let [high, low, behind @ ..] = rest {
+        let Some(byte) = byte_of(*high, *low) else {
+            return Ok(None);
+        };
+        bytes.push(byte)?;
+        rest = behind;
+    }
+    if rest.is_empty() {
+        Ok(Some(bytes))
+    } else {
+        Ok(None)
+    }
+}
+
+/// The byte that two digits spell.
+fn byte_of(high: u8, low: u8) -> Option<u8>
+    ensures { Reads (λ b. b < 2 ^ 8) byte_text (high ∷ low ∷ []) result }
+{
+    let high = hex_value(high)?;
+    let low = hex_value(low)?;
+    Some(high * 16 + low)
+}
+
+/// The value of a digit.
+fn hex_value(digit: u8) -> Option<u8>
+    ensures { Reads (λ d. d < 16) hex_digit digit result }
+{
+    match digit {
+        b'0'..=b'9' => Some(digit - b'0'),
+        b'a'..=b'f' => Some(digit - b'a' + 10),
+        _ => None,
+    }
+}

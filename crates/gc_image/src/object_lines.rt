@@ -1,0 +1,195 @@
+//! Lines that spell objects and globals.
+
+ghost use Rattle.std.specs.Prelude.{◌≡◌, ◌<◌, ◌^◌, [], IfOk, MatchOption, map};
+ghost use Rattle.std.specs.Fmt.{decimal};
+ghost use Rattle.std.specs.List.{AllByRecursion};
+ghost use Rattle.std.specs.Option.{option_map};
+ghost use Rattle.std.specs.Str.{IsUtf8};
+ghost use Rattle.gc_commands.specs.Reading.{Reads, ReadsFirst};
+ghost use Rattle.gc_commands.specs.Spelling.{type_count};
+ghost use Rattle.gc_image.specs.Text.{FitsGlobal, FitsObject, FitsValue, global_text, global_words, object_text, object_words, value_text};
+ghost use Rattle.gc_image.specs.Reading.{FitBytes, FitExn, FitRow, ReadsTagged, bytes_words, exn_words, held_words, host_words, row_words};
+
+use crate::hex::bytes_of;
+use crate::image::{GlobalLine, ImageValue, ImageValues, ObjectLine};
+use crate::numbers::{small_number, type_of, wide_number};
+use crate::values::value_of;
+use crate::words::Words;
+use gc_commands::{ByteText, number};
+use gc_types::Tag;
+use std::alloc::{AllocError, Global};
+
+/// The object that a line spells.
+pub(crate) fn object_of(alloc: Global, line: &[u8]) -> Result<Option<ObjectLine>, AllocError>
+    ensures { IfOk result (λ object. Reads FitsObject object_text line.now object) }
+{
+    let Some(text) = text_of(line) else {
+        return Ok(None);
+    };
+    read_object(alloc, &mut Words::of(text))
+}
+
+/// The global that a line spells.
+pub(crate) fn global_of(line: &[u8]) -> Option<GlobalLine>
+    ensures { Reads FitsGlobal global_text line.now result }
+{
+    let text = text_of(line)?;
+    read_global(&mut Words::of(text))
+}
+
+/// A line as text; None where it is none.
+pub(crate) fn text_of(line: &[u8]) -> Option<&str>
+    ensures { MatchOption result (¬ IsUtf8 line.now) (λ text. text.now ≡ line.now) }
+{
+    str::from_utf8(line).ok()
+}
+
+/// The object that the words spell.
+fn read_object(alloc: Global, words: &mut Words) -> Result<Option<ObjectLine>, AllocError>
+    ensures { IfOk result (λ object. Reads FitsObject object_words words.old object) }
+{
+    let Some(kind) = words.next() else {
+        return Ok(None);
+    };
+    match kind {
+        "s" => match read_row(alloc, words)? {
+            Some((ty, values)) => Ok(Some(ObjectLine::Struct { ty, values })),
+            None => Ok(None),
+        },
+        "a" => match read_row(alloc, words)? {
+            Some((ty, values)) => Ok(Some(ObjectLine::Array { ty, values })),
+            None => Ok(None),
+        },
+        "b" => match read_bytes(alloc, words)? {
+            Some((ty, bytes)) => Ok(Some(ObjectLine::Bytes { ty, bytes })),
+            None => Ok(None),
+        },
+        "h" => match read_host(words) {
+            Some(number) => Ok(Some(ObjectLine::Host { number })),
+            None => Ok(None),
+        },
+        "e" => match read_exn(alloc, words)? {
+            Some((ty, tag, values)) => Ok(Some(ObjectLine::Exn { ty, tag, values })),
+            None => Ok(None),
+        },
+        _ => Ok(None),
+    }
+}
+
+/// A type and any number of values.
+fn read_row(alloc: Global, words: &mut Words) -> Result<Option<(u32, ImageValues)>, AllocError>
+    ensures { IfOk result (λ row. Reads FitRow row_words words.old row) }
+{
+    let Some(ty) = read_type(words) else {
+        return Ok(None);
+    };
+    match read_values(alloc, words)? {
+        Some(values) => Ok(Some((ty, ImageValues::from_vec(values)))),
+        None => Ok(None),
+    }
+}
+
+/// A type and bytes.
+fn read_bytes(alloc: Global, words: &mut Words) -> Result<Option<(u32, ByteText)>, AllocError>
+    ensures { IfOk result (λ row. Reads FitBytes bytes_words words.old row) }
+{
+    let Some(ty) = read_type(words) else {
+        return Ok(None);
+    };
+    let Some(word) = words.next() else {
+        return Ok(None);
+    };
+    let Some(bytes) = bytes_of(alloc, word)? else {
+        return Ok(None);
+    };
+    match read_end(words) {
+        Some(()) => Ok(Some((ty, ByteText::from_vec(bytes)))),
+        None => Ok(None),
+    }
+}
+
+/// The number of a host object.
+fn read_host(words: &mut Words) -> Option<u64>
+    ensures { Reads (λ n. n < 2 ^ 64) host_words words.old result }
+{
+    let number = wide_number(words.next()?)?;
+    read_end(words)?;
+    Some(number)
+}
+
+/// A type, a tag and any number of values.
+fn read_exn(alloc: Global, words: &mut Words) -> Result<Option<(u32, Tag, ImageValues)>, AllocError>
+    ensures { IfOk result (λ row. Reads FitExn exn_words words.old row) }
+{
+    let Some((ty, tag)) = read_tagged(words) else {
+        return Ok(None);
+    };
+    match read_values(alloc, words)? {
+        Some(values) => Ok(Some((ty, tag, ImageValues::from_vec(values)))),
+        None => Ok(None),
+    }
+}
+
+/// A type and a tag.
+fn read_tagged(words: &mut Words) -> Option<(u32, Tag)>
+    ensures { ReadsTagged words.old result words.new }
+{
+    let ty = read_type(words)?;
+    let instance = small_number(words.next()?)?;
+    let index = small_number(words.next()?)?;
+    Some((ty, Tag { instance, index }))
+}
+
+/// The global that the words spell.
+fn read_global(words: &mut Words) -> Option<GlobalLine>
+    ensures { Reads FitsGlobal global_words words.old result }
+{
+    match words.next()? {
+        "global" => read_held(words),
+        _ => None,
+    }
+}
+
+/// The words behind `global`: an index and a value.
+fn read_held(words: &mut Words) -> Option<GlobalLine>
+    ensures { Reads FitsGlobal held_words words.old result }
+{
+    let index = number(words.next()?, u64::from(u16::MAX))?;
+    let value = value_of(words.next()?)?;
+    read_end(words)?;
+    Some(GlobalLine {
+        index: index as u16,
+        value,
+    })
+}
+
+/// The index of a type.
+fn read_type(words: &mut Words) -> Option<u32>
+    ensures { ReadsFirst (λ t. t < type_count) decimal words.old result words.new }
+{
+    type_of(words.next()?)
+}
+
+/// The values that all words spell.
+fn read_values(alloc: Global, words: &mut Words) -> Result<Option<Vec<ImageValue>>, AllocError>
+    ensures { IfOk result (λ values. Reads (AllByRecursion FitsValue) (map value_text) words.old (option_map (λ vs. vs.items) values)) }
+{
+    let mut values = Vec::with_capacity(alloc, words.count())?;
+    while let Some(word) = words.next() {
+        let Some(value) = value_of(word) else {
+            return Ok(None);
+        };
+        values.extend_from_slice(&[value])?;
+    }
+    Ok(Some(values))
+}
+
+/// The end of the words.
+fn read_end(words: &mut Words) -> Option<()>
+    ensures { MatchOption result (¬ (words.old ≡ [])) (λ _. words.old ≡ []) }
+{
+    match words.next() {
+        None => Some(()),
+        Some(_) => None,
+    }
+}

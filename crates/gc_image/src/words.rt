@@ -1,0 +1,66 @@
+//! The words of a line, one after the other.
+
+ghost use Rattle.std.specs.Prelude.{◌≡◌, ◌==◌, ℕ, List, [], ◌∷◌, ◌++◌, Bool, true, false, MatchOption};
+ghost use Rattle.std.specs.Bool.{MatchBool};
+ghost use Rattle.std.specs.List.{slice_split};
+
+use std::marker::Model;
+
+/// The words of a line that are still to be read. A space more than one between two words, before
+/// the first or after the last makes an empty word.
+#[derive(Drop)]
+pub(crate) struct Words<'a> {
+    rest: Option<&'a str>,
+}
+
+impl<'a> Model for Words<'a> {
+    ghost use Rattle.std.specs.Prelude.{◌==◌, ℕ, List, []};
+    ghost use Rattle.std.specs.List.{slice_split};
+    ghost use Rattle.std.specs.Option.{option_map_or};
+
+    ghost Value = { List (List ℕ) };
+
+    ghost view = { λ w. option_map_or (λ rest. slice_split (λ b. b == 32) rest.now) w.rest [] };
+}
+
+impl<'a> Words<'a> {
+    /// The words of a line.
+    pub(crate) fn of(line: &'a str) -> Words<'a>
+        ensures { result ≡ slice_split (λ b. b == 32) line.now }
+    {
+        Words { rest: Some(line) }
+    }
+
+    /// Takes the next word, if there is one.
+    pub(crate) fn next(&mut self) -> Option<&'a str>
+        ensures { MatchOption result ((self.old ≡ []) × (self.new ≡ [])) (λ word. self.old ≡ word.now ∷ self.new) }
+    {
+        let rest = self.rest?;
+        match rest.split_once(' ') {
+            Some((word, behind)) => {
+                self.rest = Some(behind);
+                Some(word)
+            }
+            None => {
+                self.rest = None;
+                Some(rest)
+            }
+        }
+    }
+
+    /// How many words are left, as far as room for what they spell is concerned: no clause says
+    /// that it is exact.
+    pub(crate) fn count(&self) -> usize {
+        match self.rest {
+            Some(rest) => rest.as_bytes().iter().filter(|byte| **byte == b' ').count() + 1,
+            None => 0,
+        }
+    }
+
+    /// The same words, to look at without taking them.
+    pub(crate) fn ahead(&self) -> Words<'a>
+        ensures { result ≡ self.now }
+    {
+        Words { rest: self.rest }
+    }
+}
