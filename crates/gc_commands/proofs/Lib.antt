@@ -13,3 +13,5 @@ pub mod ObjectLemmas
 pub mod ShapeLemmas
 pub mod LineLemmas
 pub mod UniqueLemmas
+pub mod SpelledLemmas
+pub mod EachLemmas

@@ -1,6 +1,6 @@
 -- A line and its words: what spells a command is cut into the command's words, and joins them again.
 use Rattle.std.proofs.Common.{◌≡◌, ◌==◌, ℕ, suc, zero, ◌<◌, ◌≤◌, List, [], ◌∷◌, length, codes, refl, sym, ap, subst, ◌∙◌, arith, false, Some}
-use Rattle.std.specs.List.{All, AllByRecursion, join_with_byte, slice_split}
+use Rattle.std.specs.List.{All, join_with_byte, slice_split}
 use Rattle.std.specs.Str.{IsAscii, IsUtf8}
 use Rattle.std.proofs.lemmas.Bool.{ne_eqb}
 use Rattle.std.proofs.lemmas.List.Elements.{All-nil, All-cons}
@@ -35,7 +35,7 @@ no_space [] all = All-nil (λ b. (b == 32) ≡ false)
 no_space (b ∷ word) all = All-cons (λ c. (c == 32) ≡ false) b word (ne_eqb b 32 (λ space. let above = all.0.0 in omega arith)) (no_space word all.1)
 
 -- words that are joined are cut again
-cut_joined : (words : List (List ℕ)) → AllByRecursion IsWord words → 0 < length words → slice_split (λ b. b == 32) (join_with_byte 32 words) ≡ words
+pub cut_joined : (words : List (List ℕ)) → AreWords words → 0 < length words → slice_split (λ b. b == 32) (join_with_byte 32 words) ≡ words
 cut_joined [] all some = absurd (omega arith)
 cut_joined (word ∷ []) all some = slice_split_none (λ b. b == 32) word (no_space word all.0)
 cut_joined (word ∷ next ∷ words) all some =
@@ -45,11 +45,11 @@ ascii_cons : (b : ℕ) (text : List ℕ) → b < 128 → IsAscii text → IsAsci
 ascii_cons b text low all zero = low
 ascii_cons b text low all (suc i) = all i
 
-ascii_word : (word : List ℕ) → IsWord word → IsAscii word
+pub ascii_word : (word : List ℕ) → IsWord word → IsAscii word
 ascii_word [] all = λ i. omega arith
 ascii_word (b ∷ word) all = ascii_cons b word all.0.1 (ascii_word word all.1)
 
-ascii_joined : (words : List (List ℕ)) → AllByRecursion IsWord words → IsAscii (join_with_byte 32 words)
+pub ascii_joined : (words : List (List ℕ)) → AreWords words → IsAscii (join_with_byte 32 words)
 ascii_joined [] all = λ i. omega arith
 ascii_joined (word ∷ []) all = ascii_word word all.0
 ascii_joined (word ∷ next ∷ words) all =

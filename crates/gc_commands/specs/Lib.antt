@@ -4,3 +4,4 @@ pub mod Spelling
 pub mod Text
 pub mod Reading
 pub mod Parts
+pub mod TypeWords

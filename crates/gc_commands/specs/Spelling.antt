@@ -225,3 +225,10 @@ pub record Spells (line : List ℕ) (command : Command) : Type 0 where
 abbrev pub IsCommandOf : List ℕ → Command → Type 0
 IsCommandOf line command.Bad = (command : Command) → ¬ Spells line command
 IsCommandOf line command = Spells line command
+
+-- the commands that declare a type
+abbrev pub IsDeclaring : Command → Type 0
+IsDeclaring (command.Struct is_final supertype fields) = Unit {0}
+IsDeclaring (command.Array is_final supertype elem) = Unit {0}
+IsDeclaring (command.Exn params) = Unit {0}
+IsDeclaring _ = ⊥

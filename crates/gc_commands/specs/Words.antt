@@ -80,3 +80,7 @@ operand_text operand.AnyNull = codes "any:null"
 operand_text operand.ExternNull = codes "extern:null"
 operand_text operand.ExnNull = codes "exn:null"
 operand_text (operand.Register r) = codes "r" ++ decimal r
+
+-- words, each behind a space
+abbrev pub spaced : List (List ℕ) → List ℕ
+spaced words = flat_map (λ word. 32 ∷ word) words

@@ -1,6 +1,7 @@
-//! Hexadecimal digits in lower case: numbers of a width, and bytes.
+//! Hexadecimal digits in lower case: numbers of a width, and bytes. Read and written alike in commands, in replies and in
+//! the texts of other crates.
 
-ghost use Rattle.std.specs.Prelude.{ℕ, ◌<◌, ◌≤◌, ◌^◌, [], ◌∷◌, IfOk};
+ghost use Rattle.std.specs.Prelude.{◌≡◌, ℕ, ◌<◌, ◌≤◌, ◌^◌, [], ◌∷◌, ◌++◌, IfOk, OnOk, string_bytes};
 ghost use Rattle.std.specs.List.{AllByRecursion, flat_map};
 ghost use Rattle.std.specs.Option.{option_map};
 ghost use Rattle.gc_commands.specs.Reading.{Reads};
@@ -8,8 +9,9 @@ ghost use Rattle.gc_commands.specs.Words.{byte_text, bytes_text, hex_digit, hex_
 
 use std::alloc::{AllocError, Global};
 
-/// The number that a word of so many digits spells, highest first.
-pub(crate) fn hex_number(word: &str, digits: usize) -> Option<u128>
+/// The number that a word of so many digits spells, highest first, at most 32 of them; None where the word has another
+/// length, or what is no digit in lower case.
+pub fn hex_number(word: &str, digits: usize) -> Option<u128>
     requires { digits ≤ 32 }
     ensures { Reads (λ n. n < 16 ^ digits) (hex_digits digits) word.now result }
 {
@@ -24,8 +26,9 @@ pub(crate) fn hex_number(word: &str, digits: usize) -> Option<u128>
     Some(number)
 }
 
-/// The bytes that a word spells: pairs of digits, or a dash for none.
-pub(crate) fn bytes_of(alloc: Global, word: &str) -> Result<Option<Vec<u8>>, AllocError>
+/// The bytes that a word spells: pairs of digits, or a dash for no bytes; None where it spells none. Takes memory for the
+/// bytes, and time linear in the word.
+pub fn bytes_of(alloc: Global, word: &str) -> Result<Option<Vec<u8>>, AllocError>
     ensures { IfOk result (λ bytes. Reads (AllByRecursion (λ b. b < 2 ^ 8)) bytes_text word.now (option_map (λ bs. bs.items) bytes)) }
 {
     match word {
@@ -72,5 +75,40 @@ fn hex_value(digit: u8) -> Option<u8>
         b'0'..=b'9' => Some(digit - b'0'),
         b'a'..=b'f' => Some(digit - b'a' + 10),
         _ => None,
+    }
+}
+
+/// Appends the text of bytes: pairs of digits, or a dash for no bytes. Takes time linear in the bytes.
+pub fn push_bytes(text: &mut String, bytes: &[u8]) -> Result<(), AllocError>
+    ensures { OnOk result (string_bytes text.new ≡ string_bytes text.old ++ bytes_text bytes.now) }
+{
+    if bytes.is_empty() {
+        return text.push_str("-");
+    }
+    for byte in bytes {
+        push_hex(text, u128::from(*byte), 2)?;
+    }
+    Ok(())
+}
+
+/// Appends so many hexadecimal digits of a number, highest first, at most 32 of them.
+pub fn push_hex(text: &mut String, number: u128, digits: u32) -> Result<(), AllocError>
+    requires { digits ≤ 32 }
+    ensures { OnOk result (string_bytes text.new ≡ string_bytes text.old ++ hex_digits digits number) }
+{
+    for place in (0..digits).rev() {
+        text.push(hex_digit_of(((number >> (4 * place)) % 16) as u32))?;
+    }
+    Ok(())
+}
+
+/// A digit from 0 to 15, in lower case.
+fn hex_digit_of(digit: u32) -> char
+    requires { digit < 16 }
+    ensures { result ≡ hex_digit digit }
+{
+    match char::from_digit(digit, 16) {
+        Some(glyph) => glyph,
+        None => unreachable!(),
     }
 }

@@ -3,28 +3,35 @@
 //! A line of a script is one command, and each command has one spelling. `parse_line` reads a line,
 //! `reply_text` writes a reply. The grammars are in `specs/`: `Spelling` says how a command is
 //! spelled, `Text` how a reply is written.
+//!
+//! What other texts share with a line is public: its words (`words`, `parts`), numbers (`numbers`), hexadecimal digits
+//! and bytes (`hex`), the declaration of a type as text (`spelled`), and the types that its words spell (`type_words`).
 #![tactic(auto)]
 
 pub mod command;
 mod declarations;
 pub mod form;
-mod hex;
-mod numbers;
+pub mod hex;
+pub mod numbers;
 mod objects;
 mod operands;
 pub mod parse;
-mod parts;
+pub mod parts;
 mod plain;
 pub mod reply;
+pub mod spelled;
 pub mod text;
+pub mod type_words;
 mod types;
-mod words;
+pub mod words;
 
 pub use command::{
     Command, FieldWord, FieldWords, HeapWord, Operand, Operands, StorageWord, ValueWord, ValueWords,
 };
 pub use form::Form;
+pub use hex::{push_bytes, push_hex};
 pub use numbers::number;
 pub use parse::{MAX_LINE, parse_line, spelling_is_unique};
 pub use reply::{ByteText, Refusal, Reply, ReplyValue};
+pub use spelled::push_declaration;
 pub use text::{push_reply, reply_text};

@@ -1,4 +1,6 @@
-//! Numbers as words: plain decimals without leading zeros.
+//! Numbers as words: plain decimals without leading zeros, and with a minus sign in front where they are negative.
+//!
+//! A reader answers None exactly where the word spells no number in its range.
 
 ghost use Rattle.std.specs.Prelude.{◌≤◌, ◌<◌, ◌^◌, ◌↔◌, FitsSigned, IsTrue};
 ghost use Rattle.std.specs.Fmt.{decimal, signed_decimal};
@@ -6,7 +8,7 @@ ghost use Rattle.std.specs.Int.{w32, w64};
 ghost use Rattle.gc_commands.specs.Reading.{IsPlain, Reads};
 ghost use Rattle.gc_commands.specs.Spelling.{type_count};
 
-/// The number that a word spells, if it is at most `most`.
+/// The number that a word spells; None where it spells none that is at most `most`.
 pub fn number(word: &str, most: u64) -> Option<u64>
     ensures { Reads (λ n. n ≤ most) decimal word.now result }
 {
@@ -27,16 +29,16 @@ pub(crate) fn register_of(word: &str) -> Option<u16>
     Some(r as u16)
 }
 
-/// The index of a type that a word spells, from 0 to 4294967294.
-pub(crate) fn type_of(word: &str) -> Option<u32>
+/// The index of a type that a word spells, from 0 to 4294967294; None where it spells none.
+pub fn type_of(word: &str) -> Option<u32>
     ensures { Reads (λ t. t < type_count) decimal word.now result }
 {
     let t = number(word, u64::from(u32::MAX) - 1)?;
     Some(t as u32)
 }
 
-/// The signed number that a word spells, if it fits 64 bits.
-pub(crate) fn signed_number(word: &str) -> Option<i64>
+/// The signed number that a word spells; None where it spells none that fits 64 bits. Zero has no sign.
+pub fn signed_number(word: &str) -> Option<i64>
     ensures { Reads (FitsSigned w64) signed_decimal word.now result }
 {
     let Some(digits) = word.strip_prefix('-') else {
@@ -51,8 +53,8 @@ pub(crate) fn signed_number(word: &str) -> Option<i64>
     }
 }
 
-/// The signed number that a word spells, if it fits 32 bits.
-pub(crate) fn small_signed_number(word: &str) -> Option<i32>
+/// The signed number that a word spells; None where it spells none that fits 32 bits. Zero has no sign.
+pub fn small_signed_number(word: &str) -> Option<i32>
     ensures { Reads (FitsSigned w32) signed_decimal word.now result }
 {
     i32::try_from(signed_number(word)?).ok()

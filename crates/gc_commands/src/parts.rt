@@ -1,4 +1,5 @@
-//! Reads the parts of a command: registers, numbers, and what several forms share.
+//! Reads the parts of a command: registers, numbers, and what several forms share. Those that lines of other kinds have too
+//! are public.
 //!
 //! A reader takes words off the front and answers `None` exactly where they spell nothing that it
 //! reads.
@@ -26,23 +27,23 @@ pub(crate) fn read_register(words: &mut Words) -> Option<u16>
     register_of(words.next()?)
 }
 
-/// The index of a type, from 0 to 4294967294.
-pub(crate) fn read_type(words: &mut Words) -> Option<u32>
+/// Takes the index of a type, from 0 to 4294967294; None where the next word, if any, spells none.
+pub fn read_type(words: &mut Words) -> Option<u32>
     ensures { ReadsFirst (λ t. t < type_count) decimal words.old result words.new }
 {
     type_of(words.next()?)
 }
 
-/// A number from 0 to 4294967295.
-pub(crate) fn read_u32(words: &mut Words) -> Option<u32>
+/// Takes a number from 0 to 4294967295; None where the next word, if any, spells none.
+pub fn read_u32(words: &mut Words) -> Option<u32>
     ensures { ReadsFirst (λ n. n < 2 ^ 32) decimal words.old result words.new }
 {
     let n = number(words.next()?, u64::from(u32::MAX))?;
     Some(n as u32)
 }
 
-/// A number of 64 bits.
-fn read_u64(words: &mut Words) -> Option<u64>
+/// Takes a number of 64 bits; None where the next word, if any, spells none.
+pub fn read_u64(words: &mut Words) -> Option<u64>
     ensures { ReadsFirst (λ n. n < 2 ^ 64) decimal words.old result words.new }
 {
     number(words.next()?, u64::MAX)
@@ -67,8 +68,8 @@ pub(crate) fn read_into(words: &mut Words) -> Option<Option<u16>>
     Some(Some(d))
 }
 
-/// The end of the words.
-pub(crate) fn read_end(words: &mut Words) -> Option<()>
+/// The end of the words; None where a word is left.
+pub fn read_end(words: &mut Words) -> Option<()>
     ensures { MatchOption result (¬ (words.old ≡ [])) (λ _. words.old ≡ []) }
 {
     match words.next() {

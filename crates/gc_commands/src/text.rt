@@ -1,9 +1,10 @@
 //! Writes the reply to a command.
 
-ghost use Rattle.std.specs.Prelude.{◌≡◌, ◌++◌, ◌<◌, ◌≤◌, codes, IfOk, OnOk, string_bytes};
+ghost use Rattle.std.specs.Prelude.{◌≡◌, ◌++◌, ◌≤◌, codes, IfOk, OnOk, string_bytes};
 ghost use Rattle.gc_commands.specs.Text.{bool_text, refusal_text, text_of, value_text};
-ghost use Rattle.gc_commands.specs.Words.{bytes_text, hex_digit, hex_digits};
+ghost use Rattle.gc_commands.specs.Words.{bytes_text, hex_digits};
 
+use crate::hex::{push_bytes, push_hex};
 use crate::reply::{Refusal, Reply, ReplyValue};
 use std::alloc::{AllocError, Global};
 
@@ -30,7 +31,7 @@ pub fn push_reply(text: &mut String, reply: &Reply) -> Result<(), AllocError>
         Reply::Held { objects, hosts } => write!(text, "held {objects} {hosts}"),
         Reply::Capacity(n) => write!(text, "cap {n}"),
         Reply::Increments(n) => write!(text, "increments {n}"),
-        Reply::Bytes(bytes) => push_bytes(text, bytes.as_slice()),
+        Reply::Bytes(bytes) => push_byte_text(text, bytes.as_slice()),
         Reply::Refused(refusal) => text.push_str(name_of(*refusal)),
     }
 }
@@ -79,18 +80,12 @@ fn name_of(refusal: Refusal) -> &'static str
     }
 }
 
-/// Appends the text of bytes: pairs of digits, or a dash for none.
-fn push_bytes(text: &mut String, bytes: &[u8]) -> Result<(), AllocError>
+/// Appends the text of bytes that were read.
+fn push_byte_text(text: &mut String, bytes: &[u8]) -> Result<(), AllocError>
     ensures { OnOk result (string_bytes text.new ≡ string_bytes text.old ++ (codes "bytes " ++ bytes_text bytes.now)) }
 {
-    if bytes.is_empty() {
-        return text.push_str("bytes -");
-    }
     text.push_str("bytes ")?;
-    for byte in bytes {
-        push_hex(text, u128::from(*byte), 2)?;
-    }
-    Ok(())
+    push_bytes(text, bytes)
 }
 
 /// Appends a front, and so many hexadecimal digits of a number behind it.
@@ -100,26 +95,4 @@ fn push_digits(text: &mut String, front: &str, number: u128, digits: u32) -> Res
 {
     text.push_str(front)?;
     push_hex(text, number, digits)
-}
-
-/// Appends so many hexadecimal digits of a number, highest first.
-fn push_hex(text: &mut String, number: u128, digits: u32) -> Result<(), AllocError>
-    requires { digits ≤ 32 }
-    ensures { OnOk result (string_bytes text.new ≡ string_bytes text.old ++ hex_digits digits number) }
-{
-    for place in (0..digits).rev() {
-        text.push(hex_digit_of(((number >> (4 * place)) % 16) as u32))?;
-    }
-    Ok(())
-}
-
-/// A digit from 0 to 15, in lower case.
-fn hex_digit_of(digit: u32) -> char
-    requires { digit < 16 }
-    ensures { result ≡ hex_digit digit }
-{
-    match char::from_digit(digit, 16) {
-        Some(glyph) => glyph,
-        None => unreachable!(),
-    }
 }

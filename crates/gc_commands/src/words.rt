@@ -1,4 +1,4 @@
-//! The words of a line, one after the other.
+//! The words of a line, one after the other: of a command's line, and of any line of words with one space between two.
 
 ghost use Rattle.std.specs.Prelude.{◌≡◌, ◌==◌, ℕ, List, [], ◌∷◌, ◌++◌, Bool, true, false, MatchOption};
 ghost use Rattle.std.specs.Bool.{MatchBool};
@@ -9,7 +9,7 @@ use std::marker::Model;
 /// The words of a line that are still to be read. A space more than one between two words, before
 /// the first or after the last makes an empty word.
 #[derive(Drop)]
-pub(crate) struct Words<'a> {
+pub struct Words<'a> {
     rest: Option<&'a str>,
 }
 
@@ -25,14 +25,14 @@ impl<'a> Model for Words<'a> {
 
 impl<'a> Words<'a> {
     /// The words of a line.
-    pub(crate) fn of(line: &'a str) -> Words<'a>
+    pub fn of(line: &'a str) -> Words<'a>
         ensures { result ≡ slice_split (λ b. b == 32) line.now }
     {
         Words { rest: Some(line) }
     }
 
-    /// Takes the next word, if there is one.
-    pub(crate) fn next(&mut self) -> Option<&'a str>
+    /// Takes the next word; None where none is left.
+    pub fn next(&mut self) -> Option<&'a str>
         ensures { MatchOption result ((self.old ≡ []) × (self.new ≡ [])) (λ word. self.old ≡ word.now ∷ self.new) }
     {
         let rest = self.rest?;
@@ -50,7 +50,7 @@ impl<'a> Words<'a> {
 
     /// How many words are left, as far as room for what they spell is concerned: no clause says
     /// that it is exact.
-    pub(crate) fn count(&self) -> usize {
+    pub fn count(&self) -> usize {
         match self.rest {
             Some(rest) => rest.as_bytes().iter().filter(|byte| **byte == b' ').count() + 1,
             None => 0,
@@ -58,7 +58,7 @@ impl<'a> Words<'a> {
     }
 
     /// The same words, to look at without taking them.
-    pub(crate) fn ahead(&self) -> Words<'a>
+    pub fn ahead(&self) -> Words<'a>
         ensures { result ≡ self.now }
     {
         Words { rest: self.rest }

@@ -16,7 +16,7 @@ use Rattle.gc_commands.specs.declared.reply.Refusal.{Refusal}
 use Rattle.gc_commands.specs.declared.reply.Refusal.TheVariants as refusal
 use Rattle.gc_commands.specs.declared.command.FieldWord.{FieldWord}
 use Rattle.gc_script.specs.Slots.{RunnerView}
-use Rattle.gc_script.specs.Built.{kinds_with, field_of, fields_of, declared_struct, declared_array}
+use Rattle.gc_commands.specs.TypeWords.{kinds_with, field_of, fields_of, declared_struct, declared_array}
 use Rattle.gc_script.specs.State.{State, HoldsState, with_table}
 use Rattle.gc_script.specs.Steps.{first_failing, declared, bad}
 use Rattle.gc_script.specs.Shapes.{declaring}

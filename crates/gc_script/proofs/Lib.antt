@@ -37,5 +37,4 @@ pub mod ThrowLemmas
 pub mod TypeLemmas
 pub mod ValueLemmas
 pub mod ValueReads
-pub mod WordLemmas
 pub mod WriteLemmas

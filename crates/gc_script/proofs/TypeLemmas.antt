@@ -16,7 +16,7 @@ use Rattle.gc_commands.specs.declared.command.ValueWord.{ValueWord}
 use Rattle.gc_commands.specs.declared.reply.Reply.TheVariants as reply
 use Rattle.gc_commands.specs.declared.reply.Refusal.{Refusal}
 use Rattle.gc_commands.specs.declared.reply.Refusal.TheVariants as refusal
-use Rattle.gc_script.specs.Built.{kinds_with, values_of, declared_exception}
+use Rattle.gc_commands.specs.TypeWords.{kinds_with, values_of, declared_exception}
 use Rattle.gc_script.specs.Slots.{RunnerView}
 use Rattle.gc_script.specs.State.{State, HoldsState, with_table}
 use Rattle.gc_script.specs.Shapes.{declaring}

@@ -25,7 +25,7 @@ use Rattle.gc_model.specs.Stored.{stored, stored_in, byte_value}
 use Rattle.gc_store.specs.Slots.{slot_value}
 use Rattle.gc_store.specs.Requests.{fields_of, exn_fields_of, element_of}
 use Rattle.gc_script.specs.State.{State, Held, number, reference, HeldOwned, owned, unrooted, with_table, with_marks, set_register, set_owned, put_into}
-use Rattle.gc_script.specs.Built.{declared_struct, declared_array, declared_exception}
+use Rattle.gc_commands.specs.TypeWords.{declared_struct, declared_array, declared_exception}
 use Rattle.gc_script.specs.Given.{given, given_register, given_value, given_values, named, Target, target, target_values, field_of}
 
 -- the objects that `new`, `newexn`, `newarr`, `fixed`, `bytes` and `host` make

@@ -7,21 +7,11 @@ ghost use Rattle.gc_script.specs.Run.{GoesOn};
 ghost use Rattle.gc_store.specs.Stores.{IsSameStore};
 
 use crate::runner::{RunError, Runner};
-use crate::words::{field_of, fields_of};
+use gc_commands::type_words::{field_of, fields_of, index_of};
 use gc_commands::{FieldWord, Refusal, Reply};
 use gc_heap::GcHeap;
 use gc_store::Store;
-use gc_types::{TypeFault, TypeKind, VMSharedTypeIndex};
-
-/// The index of a supertype, where one is named.
-fn index_of(supertype: Option<u32>) -> Option<VMSharedTypeIndex>
-    ensures { result ≡ supertype }
-{
-    match supertype {
-        Some(index) => Some(VMSharedTypeIndex::new(index)),
-        None => None,
-    }
-}
+use gc_types::{TypeFault, TypeKind};
 
 impl Runner {
     /// Declares a struct type.

@@ -9,7 +9,7 @@ ghost use Rattle.gc_store.specs.Stores.{IsSameStore};
 use crate::objects::{Wanted, find_object};
 use crate::reads::{make_room, put_read};
 use crate::runner::{RunError, Runner};
-use crate::words::values_of;
+use gc_commands::type_words::values_of;
 use gc_commands::{Operand, Refusal, Reply, ValueWord};
 use gc_heap::GcHeap;
 use gc_store::{GcClass, Place, RawValue, ResourceLimiter, RootFault, Store};

@@ -28,7 +28,6 @@ mod scopes;
 pub mod script;
 mod shown;
 mod values;
-mod words;
 mod writes;
 
 pub use cutter::{LineCutter, pieces_give_lines};

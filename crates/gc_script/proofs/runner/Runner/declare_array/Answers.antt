@@ -2,7 +2,7 @@ use Rattle.std.proofs.Common.{ap, ◌∙◌, refl}
 use Rattle.gc_types.specs.Declarations.{array_type}
 use Rattle.gc_types.specs.declared.types.Types.{Types}
 use Rattle.gc_commands.specs.declared.command.Command.TheVariants as Command
-use Rattle.gc_script.specs.Built.{declared_array}
+use Rattle.gc_commands.specs.TypeWords.{declared_array}
 use Rattle.gc_script.specs.Steps.{tests}
 use Rattle.gc_script.proofs.DeclareLemmas.{type_declared, type_refused, spelled_array}
 use Rattle.gc_script.proofs.runner.Runner.declare_array.Goals as goal

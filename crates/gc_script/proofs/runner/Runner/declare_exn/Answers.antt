@@ -5,7 +5,7 @@ use Rattle.gc_commands.specs.declared.command.Command.TheVariants.{Exn}
 use Rattle.gc_commands.specs.declared.reply.Reply.TheVariants as reply
 use Rattle.gc_store.specs.Stores.{Declares}
 use Rattle.gc_types.specs.declared.kind.TypeKind.TheVariants as kinds
-use Rattle.gc_script.specs.Built.{kinds_with, values_of, declared_exception}
+use Rattle.gc_commands.specs.TypeWords.{kinds_with, values_of, declared_exception}
 use Rattle.gc_script.specs.State.{State, HoldsState}
 use Rattle.gc_script.specs.Steps.{tests}
 use Rattle.gc_script.specs.Run.{GoesOn}

@@ -1,6 +1,6 @@
 use Rattle.std.proofs.Common.{string_bytes}
 use Rattle.gc_commands.proofs.HexLemmas.{hex_turn}
-use Rattle.gc_commands.proofs.text.push_hex.Goals as goal
+use Rattle.gc_commands.proofs.hex.push_hex.Goals as goal
 
 pub loop-place-preserved : goal.loop-place-preserved
 loop-place-preserved c =

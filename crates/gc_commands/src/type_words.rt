@@ -1,15 +1,25 @@
-//! The types that the words of a declaration spell. A declaration names declared types by their indexes, and the type that
-//! it declares by the next one; `own` is that type's kind.
+//! The types that the words of a declaration spell, among the types that are declared. A declaration names these by their
+//! indexes, and the type that it declares by the next one; `own` is that type's kind.
 
 ghost use Rattle.std.specs.Prelude.{◌≡◌, ◌<◌, ◌≤◌, ◌↔◌, length, IsTrue, None, IfOk, IfSome, IfNone};
-ghost use Rattle.gc_script.specs.Built.{kinds_with, named_type, heap_of, value_of, storage_of, field_of, fields_of, values_of};
+ghost use Rattle.gc_commands.specs.TypeWords.{kinds_with, named_type, heap_of, value_of, storage_of, field_of, fields_of, values_of};
 
-use gc_commands::{FieldWord, HeapWord, StorageWord, ValueWord};
+use crate::command::{FieldWord, HeapWord, StorageWord, ValueWord};
 use gc_types::{
     FieldType, HeapType, Mutability, RefType, StorageType, TypeKind, Types, VMSharedTypeIndex,
     ValType,
 };
 use std::alloc::{AllocError, Global};
+
+/// The index of a supertype, where one is named.
+pub fn index_of(supertype: Option<u32>) -> Option<VMSharedTypeIndex>
+    ensures { result ≡ supertype }
+{
+    match supertype {
+        Some(index) => Some(VMSharedTypeIndex::new(index)),
+        None => None,
+    }
+}
 
 /// Whether a type has that index.
 fn is_declared(types: &Types, index: u32) -> bool
@@ -108,7 +118,7 @@ fn storage_of(types: &Types, own: TypeKind, word: &StorageWord) -> Option<Storag
 }
 
 /// The field that a word spells; None where it names a type that it may not.
-pub(crate) fn field_of(types: &Types, own: TypeKind, word: &FieldWord) -> Option<FieldType>
+pub fn field_of(types: &Types, own: TypeKind, word: &FieldWord) -> Option<FieldType>
     ensures { result ≡ field_of (kinds_with types.now.declarations own) word.now }
 {
     let element_type = storage_of(types, own, &word.storage)?;
@@ -122,8 +132,8 @@ pub(crate) fn field_of(types: &Types, own: TypeKind, word: &FieldWord) -> Option
     })
 }
 
-/// The fields that words spell, in order.
-pub(crate) fn fields_of(
+/// The fields that words spell, in order; None where one names a type that it may not.
+pub fn fields_of(
     alloc: Global,
     types: &Types,
     own: TypeKind,
@@ -142,8 +152,8 @@ pub(crate) fn fields_of(
     Ok(Some(fields))
 }
 
-/// The value types that words spell, in order.
-pub(crate) fn values_of(
+/// The value types that words spell, in order; None where one names a type that it may not.
+pub fn values_of(
     alloc: Global,
     types: &Types,
     own: TypeKind,

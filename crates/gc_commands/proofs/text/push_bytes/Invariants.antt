@@ -1,7 +1,0 @@
-use Rattle.std.proofs.Common.{◌≡◌, ◌++◌, codes, string_bytes, take}
-use Rattle.std.specs.List.{flat_map}
-use Rattle.gc_commands.specs.Words.{byte_text}
-use Rattle.gc_commands.proofs.text.push_bytes.Given as goal
-
-abbrev pub invariant-loop-byte : goal.invariant-loop-byte
-invariant-loop-byte l = string_bytes l.text ≡ string_bytes l.fn.text ++ (codes "bytes " ++ flat_map byte_text (take l.byte-index l.bytes))
