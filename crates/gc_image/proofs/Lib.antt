@@ -4,10 +4,10 @@ pub mod LineLemmas
 pub mod ObjectLemmas
 pub mod SectionLemmas
 pub mod TextLemmas
-pub mod SpelledLemmas
 pub mod FitLemmas
 pub mod TurnLemmas
 pub mod ElementLemmas
 pub mod WellLemmas
 pub mod ReachLemmas
 pub mod SeekLemmas
+pub mod AlikeLemmas

@@ -8,33 +8,9 @@ use Rattle.std.proofs.lemmas.List.Splits.{join_with_byte-slice_split, slice_spli
 use Rattle.std.proofs.lemmas.Str.{IsAscii-append, IsUtf8-from_ascii}
 use Rattle.gc_commands.specs.Reading.{Reads}
 use Rattle.gc_commands.proofs.GraphicLemmas.{AreWords, IsWord}
+use Rattle.gc_commands.proofs.LineLemmas.{ascii_joined, cut_joined}
 
-no_space : (word : List ℕ) → IsWord word → All (λ b. (b == 32) ≡ false) word
-no_space [] all = All-nil (λ b. (b == 32) ≡ false)
-no_space (b ∷ word) all = All-cons (λ c. (c == 32) ≡ false) b word (ne_eqb b 32 (λ space. let above = all.0.0 in omega arith)) (no_space word all.1)
-
--- words that are joined are cut again
-pub cut_joined : (words : List (List ℕ)) → AreWords words → 0 < length words → slice_split (λ b. b == 32) (join_with_byte 32 words) ≡ words
-cut_joined [] all some = absurd (omega arith)
-cut_joined (word ∷ []) all some = slice_split_none (λ b. b == 32) word (no_space word all.0)
-cut_joined (word ∷ next ∷ words) all some =
-    slice_split_at (λ b. b == 32) word 32 (join_with_byte 32 (next ∷ words)) (no_space word all.0) refl ∙ ap (λ ws. word ∷ ws) (cut_joined (next ∷ words) all.1 (omega arith))
-
-ascii_cons : (b : ℕ) (text : List ℕ) → b < 128 → IsAscii text → IsAscii (b ∷ text)
-ascii_cons b text low all zero = low
-ascii_cons b text low all (suc i) = all i
-
-pub ascii_word : (word : List ℕ) → IsWord word → IsAscii word
-ascii_word [] all = λ i. omega arith
-ascii_word (b ∷ word) all = ascii_cons b word all.0.1 (ascii_word word all.1)
-
-pub ascii_joined : (words : List (List ℕ)) → AreWords words → IsAscii (join_with_byte 32 words)
-ascii_joined [] all = λ i. omega arith
-ascii_joined (word ∷ []) all = ascii_word word all.0
-ascii_joined (word ∷ next ∷ words) all =
-    IsAscii-append word (32 ∷ join_with_byte 32 (next ∷ words)) (ascii_word word all.0) (ascii_cons 32 (join_with_byte 32 (next ∷ words)) (omega arith) (ascii_joined (next ∷ words) all.1))
-
--- nor do they hold a line feed
+-- words hold no line feed
 pub no_feed_word : (word : List ℕ) → IsWord word → All (λ b. (b == 10) ≡ false) word
 no_feed_word [] all = All-nil (λ b. (b == 10) ≡ false)
 no_feed_word (b ∷ word) all = All-cons (λ c. (c == 10) ≡ false) b word (ne_eqb b 10 (λ feed. let above = all.0.0 in omega arith)) (no_feed_word word all.1)

@@ -171,6 +171,13 @@ pub no_exn : (words rest : List (List ℕ)) → words ≡ codes "e" ∷ rest →
 no_exn words rest is none (object.Exn ty tag values) fits e = none (ty, tag, values) fits (ap (drop 1) (sym is ∙ e))
 no_exn words rest is none x fits e = apart _ _ (λ a. omega arith) (sym is ∙ e)
 
+-- a type and the instance of a tag, behind which no number stands, are no tag
+pub no_index : (words one two : List (List ℕ)) (ty instance : ℕ) → words ≡ decimal ty ∷ one → one ≡ decimal instance ∷ two
+    → ((n : ℕ) (others : List (List ℕ)) → n < 2 ^ 32 → two ≡ decimal n ∷ others → ⊥) → (p : ℕ × Tag) (others : List (List ℕ)) → FitTagged p → words ≡ tagged_words p others → ⊥
+no_index words one two ty instance at next none p others fits e =
+    let both : decimal ty ∷ decimal instance ∷ two ≡ tagged_words p others = ap (λ ws. decimal ty ∷ ws) (sym next) ∙ sym at ∙ e in
+    none p.1.index others fits.2 (ap (λ (ws : List (List ℕ)). drop 2 ws) both)
+
 -- no tag, no exception
 pub no_tagged : (words : List (List ℕ)) → ((p : ℕ × Tag) (others : List (List ℕ)) → FitTagged p → words ≡ tagged_words p others → ⊥) → (x : ℕ × Tag × List ImageValue) → FitExn x → words ≡ exn_words x → ⊥
 no_tagged words none x fits e = none (x.0, x.1) (map value_text x.2) (fits.0, fits.1, fits.2) e

@@ -10,15 +10,16 @@ use Rattle.std.proofs.lemmas.List.{append_cancel_left}
 use Rattle.std.proofs.lemmas.Str.{IsUtf8-from_ascii}
 use Rattle.gc_commands.specs.declared.command.Command.{Command}
 use Rattle.gc_commands.specs.declared.command.Command.TheVariants as command
-use Rattle.gc_commands.specs.Spelling.{operands_of, spelling}
+use Rattle.gc_commands.specs.Spelling.{IsDeclaring, operands_of, spelling}
 use Rattle.gc_commands.proofs.GraphicLemmas.{word_decimal, word_text}
 use Rattle.gc_commands.proofs.UniqueLemmas.{one_spelling_of_one}
 use Rattle.gc_image.specs.declared.image.GlobalLine.{GlobalLine}
 use Rattle.gc_image.specs.declared.image.ObjectLine.{ObjectLine}
 use Rattle.gc_image.specs.Parts.{ImageParts}
 use Rattle.gc_image.specs.Reading.{ReadsObjects, ReadsTypes, ended_globals, ended_lines}
-use Rattle.gc_image.specs.Text.{FitsGlobal, FitsImage, FitsObject, FitsType, IsDeclaring, count_text, global_text, global_words, object_text, object_words}
-use Rattle.gc_image.proofs.LineLemmas.{ascii_joined, one_line}
+use Rattle.gc_image.specs.Text.{FitsGlobal, FitsImage, FitsObject, FitsType, count_text, global_text, global_words, object_text, object_words}
+use Rattle.gc_commands.proofs.LineLemmas.{ascii_joined}
+use Rattle.gc_image.proofs.LineLemmas.{one_line}
 use Rattle.gc_image.proofs.ObjectLemmas.{global_fit, global_some, object_fit, object_some, one_global, one_object}
 
 -- the first line

@@ -4,8 +4,7 @@ use Rattle.std.specs.Fmt.{decimal, signed_decimal}
 use Rattle.std.specs.Int.{w32, w64}
 use Rattle.std.specs.List.{AllByRecursion, flat_map, join_with_byte}
 use Rattle.gc_commands.specs.declared.command.Command.{Command}
-use Rattle.gc_commands.specs.declared.command.Command.TheVariants as command
-use Rattle.gc_commands.specs.Spelling.{Spells, spelling, type_count}
+use Rattle.gc_commands.specs.Spelling.{IsDeclaring, Spells, spelling, type_count}
 use Rattle.gc_commands.specs.Words.{bytes_text, hex_digits}
 use Rattle.gc_owner.specs.declared.entry.GcClass.{GcClass}
 use Rattle.gc_owner.specs.declared.entry.GcClass.TheVariants as class
@@ -107,13 +106,6 @@ FitsObject (object.Exn ty tag values) = (ty < type_count) × (tag.instance < 2 ^
 
 abbrev pub FitsGlobal : GlobalLine → Type 0
 FitsGlobal global = (global.index < 2 ^ 16) × FitsValue global.value
-
--- the commands that declare a type
-abbrev pub IsDeclaring : Command → Type 0
-IsDeclaring (command.Struct is_final supertype fields) = Unit {0}
-IsDeclaring (command.Array is_final supertype elem) = Unit {0}
-IsDeclaring (command.Exn params) = Unit {0}
-IsDeclaring _ = ⊥
 
 -- a type: a command that declares one, and that has a line
 abbrev pub FitsType : Command → Type 0

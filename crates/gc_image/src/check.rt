@@ -23,8 +23,8 @@ pub fn check_image(alloc: Global, bytes: &[u8]) -> Result<bool, AllocError>
     }
 }
 
-/// Whether an image is well.
-fn is_image_well(alloc: Global, image: &Image) -> Result<bool, AllocError>
+/// Whether an image is well, as `check_image` says of its text. Takes memory for its types, and a mark and a number for each object.
+pub fn is_image_well(alloc: Global, image: &Image) -> Result<bool, AllocError>
     ensures { IfOk result (λ is_well. IsTrue is_well ↔ IsWellImage image.now) }
 {
     let Some(types) = types_of(alloc, image.types())? else {

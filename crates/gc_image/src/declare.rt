@@ -5,9 +5,9 @@ ghost use Rattle.gc_types.specs.Declarations.{Declaration};
 ghost use Rattle.gc_image.specs.Declaring.{DeclareInTurn, Declares};
 ghost use Rattle.gc_image.specs.Steps.{Declared};
 
-use crate::type_words::{field_of, fields_of, values_of};
+use gc_commands::type_words::{field_of, fields_of, index_of, values_of};
 use gc_commands::{Command, FieldWord, ValueWord};
-use gc_types::{TypeFault, TypeKind, Types, VMSharedTypeIndex};
+use gc_types::{TypeFault, TypeKind, Types};
 use std::alloc::{AllocError, Global};
 
 /// The types that commands declare in turn; None where one may not be declared.
@@ -41,16 +41,6 @@ fn declare(alloc: Global, types: &mut Types, command: &Command) -> Result<bool, 
         } => declare_array(types, *is_final, *supertype, elem),
         Command::Exn { params } => declare_exn(alloc, types, params.as_slice()),
         _ => Ok(false),
-    }
-}
-
-/// The index of a supertype, where one is named.
-fn index_of(supertype: Option<u32>) -> Option<VMSharedTypeIndex>
-    ensures { result ≡ supertype }
-{
-    match supertype {
-        Some(index) => Some(VMSharedTypeIndex::new(index)),
-        None => None,
     }
 }
 

@@ -172,7 +172,7 @@ fn is_below(value: &ImageValue, bound: u32) -> bool
 }
 
 /// Whether an object must have what it names there from the start.
-pub(crate) fn is_early(field: &FieldType) -> bool
+pub fn is_early(field: &FieldType) -> bool
     ensures { result ≡ is_early field.now }
 {
     match field.mutability {

@@ -10,11 +10,11 @@ ghost use Rattle.gc_commands.specs.Spelling.{type_count};
 ghost use Rattle.gc_image.specs.Text.{FitsGlobal, FitsObject, FitsValue, global_text, global_words, object_text, object_words, value_text};
 ghost use Rattle.gc_image.specs.Reading.{FitBytes, FitExn, FitRow, ReadsTagged, bytes_words, exn_words, held_words, host_words, row_words};
 
-use crate::hex::bytes_of;
 use crate::image::{GlobalLine, ImageValue, ImageValues, ObjectLine};
-use crate::numbers::{small_number, type_of, wide_number};
 use crate::values::value_of;
-use crate::words::Words;
+use gc_commands::hex::bytes_of;
+use gc_commands::parts::{read_end, read_type, read_u32, read_u64};
+use gc_commands::words::Words;
 use gc_commands::{ByteText, number};
 use gc_types::Tag;
 use std::alloc::{AllocError, Global};
@@ -112,7 +112,7 @@ fn read_bytes(alloc: Global, words: &mut Words) -> Result<Option<(u32, ByteText)
 fn read_host(words: &mut Words) -> Option<u64>
     ensures { Reads (λ n. n < 2 ^ 64) host_words words.old result }
 {
-    let number = wide_number(words.next()?)?;
+    let number = read_u64(words)?;
     read_end(words)?;
     Some(number)
 }
@@ -135,8 +135,8 @@ fn read_tagged(words: &mut Words) -> Option<(u32, Tag)>
     ensures { ReadsTagged words.old result words.new }
 {
     let ty = read_type(words)?;
-    let instance = small_number(words.next()?)?;
-    let index = small_number(words.next()?)?;
+    let instance = read_u32(words)?;
+    let index = read_u32(words)?;
     Some((ty, Tag { instance, index }))
 }
 
@@ -163,13 +163,6 @@ fn read_held(words: &mut Words) -> Option<GlobalLine>
     })
 }
 
-/// The index of a type.
-fn read_type(words: &mut Words) -> Option<u32>
-    ensures { ReadsFirst (λ t. t < type_count) decimal words.old result words.new }
-{
-    type_of(words.next()?)
-}
-
 /// The values that all words spell.
 fn read_values(alloc: Global, words: &mut Words) -> Result<Option<Vec<ImageValue>>, AllocError>
     ensures { IfOk result (λ values. Reads (AllByRecursion FitsValue) (map value_text) words.old (option_map (λ vs. vs.items) values)) }
@@ -182,14 +175,4 @@ fn read_values(alloc: Global, words: &mut Words) -> Result<Option<Vec<ImageValue
         values.extend_from_slice(&[value])?;
     }
     Ok(Some(values))
-}
-
-/// The end of the words.
-fn read_end(words: &mut Words) -> Option<()>
-    ensures { MatchOption result (¬ (words.old ≡ [])) (λ _. words.old ≡ []) }
-{
-    match words.next() {
-        None => Some(()),
-        Some(_) => None,
-    }
 }

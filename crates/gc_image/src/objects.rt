@@ -75,7 +75,7 @@ fn is_made_in_time(field: &FieldType, number: usize, value: &ImageValue) -> bool
 }
 
 /// The number of the object that a value names.
-pub(crate) fn number_named(value: &ImageValue) -> Option<usize>
+pub fn number_named(value: &ImageValue) -> Option<usize>
     ensures { result ≡ number_named value.now }
 {
     match *value {
@@ -85,7 +85,7 @@ pub(crate) fn number_named(value: &ImageValue) -> Option<usize>
 }
 
 /// The values that a line spells; none where it spells bytes.
-pub(crate) fn values_of(line: &ObjectLine) -> &[ImageValue]
+pub fn values_of(line: &ObjectLine) -> &[ImageValue]
     ensures { result.now ≡ line_values line.now }
 {
     match line {
@@ -136,8 +136,8 @@ fn exn_len(types: &Types, ty: u32) -> Option<usize>
     }
 }
 
-/// The type of the value of a line at an index.
-fn value_type(types: &Types, line: &ObjectLine, index: usize) -> Option<FieldType>
+/// The type of the value of a line at an index; None where its type tells of none.
+pub fn value_type(types: &Types, line: &ObjectLine, index: usize) -> Option<FieldType>
     ensures { result ≡ value_type types.now.declarations (as_object line.now) index }
 {
     match line {

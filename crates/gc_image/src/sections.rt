@@ -5,15 +5,14 @@ ghost use Rattle.std.specs.Bool.{MatchBool};
 ghost use Rattle.std.specs.List.{AllByRecursion};
 ghost use Rattle.std.specs.Option.{option_map};
 ghost use Rattle.gc_commands.specs.Reading.{Reads, ReadsFirst};
-ghost use Rattle.gc_commands.specs.Spelling.{spelling};
-ghost use Rattle.gc_image.specs.Text.{FitsGlobal, FitsType, IsDeclaring, count_text};
+ghost use Rattle.gc_commands.specs.Spelling.{IsDeclaring, spelling};
+ghost use Rattle.gc_image.specs.Text.{FitsGlobal, FitsType, count_text};
 ghost use Rattle.gc_image.specs.Reading.{ReadsObjects, ReadsTypes, ended_globals};
 
 use crate::image::{GlobalLine, ObjectLine};
 use crate::lines::Lines;
-use crate::numbers::wide_number;
 use crate::object_lines::{global_of, object_of, text_of};
-use gc_commands::{Command, parse_line};
+use gc_commands::{Command, number, parse_line};
 use std::alloc::{AllocError, Global};
 
 /// The first line, where it is the next one.
@@ -75,7 +74,7 @@ pub(crate) fn read_count(lines: &mut Lines) -> Option<u64>
     ensures { ReadsFirst (λ n. n < 2 ^ 64) count_text lines.old result lines.new }
 {
     let text = text_of(lines.next()?)?;
-    wide_number(text.strip_prefix("objects ")?)
+    number(text.strip_prefix("objects ")?, u64::MAX)
 }
 
 /// So many objects. Takes memory as they come, so none for a number alone.

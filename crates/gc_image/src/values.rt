@@ -3,10 +3,9 @@
 ghost use Rattle.gc_commands.specs.Reading.{Reads};
 ghost use Rattle.gc_image.specs.Text.{FitsReference, FitsValue, reference_text, value_text};
 
-use crate::hex::hex_number;
 use crate::image::{ImageReference, ImageValue};
-use crate::numbers::{signed_number, small_signed_number, wide_number};
-use gc_commands::number;
+use gc_commands::hex::hex_number;
+use gc_commands::numbers::{number, signed_number, small_signed_number};
 use gc_owner::GcClass;
 use gc_refs::V128;
 
@@ -39,7 +38,7 @@ fn reference_of(text: &str) -> Option<ImageReference>
         return Some(ImageReference::Small(number(digits, MAX_SMALL)? as u32));
     }
     if let Some(digits) = text.strip_prefix('#') {
-        return Some(ImageReference::Object(wide_number(digits)? as usize));
+        return Some(ImageReference::Object(number(digits, u64::MAX)? as usize));
     }
     match text {
         "null" => Some(ImageReference::Null),

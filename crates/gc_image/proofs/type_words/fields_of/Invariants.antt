@@ -1,6 +1,0 @@
-use Rattle.gc_image.specs.Declaring.{kinds_with, field_of}
-use Rattle.gc_image.proofs.SpelledLemmas.{SpelledSoFar}
-use Rattle.gc_image.proofs.type_words.fields_of.Given as goal
-
-abbrev pub invariant-loop-word : goal.invariant-loop-word
-invariant-loop-word l = SpelledSoFar (field_of (kinds_with l.types.declarations l.own)) l.words l.fields.items l.word-index

@@ -1,6 +1,0 @@
-use Rattle.gc_image.specs.Declaring.{kinds_with, value_of}
-use Rattle.gc_image.proofs.SpelledLemmas.{SpelledSoFar}
-use Rattle.gc_image.proofs.type_words.values_of.Given as goal
-
-abbrev pub invariant-loop-word : goal.invariant-loop-word
-invariant-loop-word l = SpelledSoFar (value_of (kinds_with l.types.declarations l.own)) l.words l.values.items l.word-index
