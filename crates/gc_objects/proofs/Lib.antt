@@ -24,4 +24,6 @@ pub mod ThrowLemmas
 pub mod TypeLemmas
 pub mod TypedObjects
 pub mod ValueLemmas
+pub mod Widening
+pub mod WordLemmas
 pub mod WrittenValues

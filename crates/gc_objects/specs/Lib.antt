@@ -6,6 +6,7 @@ pub mod Hosts
 pub mod Kinds
 pub mod Makes
 pub mod OwnTypes
+pub mod RawWords
 pub mod Reads
 pub mod Thrown
 pub mod Writes

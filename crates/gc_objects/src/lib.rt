@@ -12,7 +12,7 @@
 //!
 //! A function among values, or none, is stored by an id of the store's own, which it keeps for good.
 //!
-//! Not built yet: the iterators of values, and raw words.
+//! Not built yet: the iterators of values, and raw words of other references than the embedder's.
 #![tactic(auto)]
 
 mod access;
@@ -27,12 +27,15 @@ mod fits;
 mod making;
 mod marks;
 mod places;
+mod raw_words;
 mod structs;
 mod throwing;
+mod upcast;
 mod val;
 
 pub use allocators::{ArrayRefPre, ExnRefPre, StructRefPre};
 pub use faults::{AccessFault, AllocFault};
 pub use marks::{AnyRef, ArrayRef, EqRef, ExnRef, ExternRef, StructRef};
 pub use throwing::{StoreExn, ThrowFault};
+pub use upcast::{Upcast, narrow_handles_are_wide};
 pub use val::Val;

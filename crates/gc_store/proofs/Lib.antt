@@ -1,3 +1,4 @@
+pub mod AskedTypes
 pub mod Collecting
 pub mod CopiedBytes
 pub mod Declaring

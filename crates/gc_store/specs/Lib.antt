@@ -3,6 +3,7 @@ pub mod Described
 pub mod Expansion
 pub mod Filling
 pub mod Handles
+pub mod Hashes
 pub mod HeldSlots
 pub mod HostLends
 pub mod HostPlaces
@@ -19,13 +20,16 @@ pub mod Places
 pub mod Reading
 pub mod Requests
 pub mod RootScopes
+pub mod RootRoom
 pub mod RootWords
 pub mod Roots
 pub mod Settled
 pub mod Slots
 pub mod Staying
 pub mod Stores
+pub mod Subtypes
 pub mod Tagging
 pub mod Thrown
 pub mod Values
+pub mod RawWords
 pub mod Words

@@ -253,7 +253,7 @@ impl<H: GcHeap, D: Drop> Store<H, D> {
     {
         self.owner.is_ready();
         match self.word_of(handle) {
-            Ok(word) => self.push_word(word),
+            Ok(word) => self.push_root(word),
             Err(fault) => Err(fault),
         }
     }

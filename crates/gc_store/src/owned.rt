@@ -71,7 +71,7 @@ impl<H: GcHeap, D: Drop> Store<H, D> {
 
     /// Drops the owned roots without handles where there are as many owned roots as the mark says, or as may be.
     /// The mark is then twice what is left.
-    fn trim_owned(&mut self)
+    pub(crate) fn trim_owned(&mut self)
         ensures holds { (t : Table D) (place : Placing) (a : Account) → HoldsThere H.KIND self.old t place a → HoldsThere H.KIND self.new t place a }
         ensures trimmed { IsTrimmed self.new }
         ensures same { IsSameStore self.old self.new }
@@ -100,7 +100,7 @@ impl<H: GcHeap, D: Drop> Store<H, D> {
     }
 
     /// Makes an owned root for a copy of a word of the store, and answers its handle.
-    fn own_word(&mut self, word: u32) -> Result<GcRootIndex, RootFault>
+    pub(crate) fn own_word(&mut self, word: u32) -> Result<GcRootIndex, RootFault>
         requires word { IsRootWord D H.KIND self.old word }
         requires trimmed { IsTrimmed self.old }
         ensures owns { (t : Table D) (place : Placing) (a : Account) (r : Reference) → HoldsThere H.KIND self.old t place a → IsWord place r word

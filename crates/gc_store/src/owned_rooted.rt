@@ -1,13 +1,17 @@
 //! Handles of owned roots that say of which type what they name is.
 
-ghost use Rattle.std.specs.Prelude.{◌≡◌, ◌≤◌, ◌<◌, true, false, Bool, Ok, Err, OnErr};
+ghost use Rattle.std.specs.Prelude.{◌≡◌, ◌↔◌, ◌≤◌, ◌<◌, true, false, Bool, None, Ok, Err, IfOk, OnErr};
+ghost use Rattle.std.specs.Option.{option_map};
 ghost use Rattle.std.specs.Result.{MatchResult};
 ghost use Rattle.gc_model.specs.Values.{Reference};
 ghost use Rattle.gc_model.specs.Table.{Table};
-ghost use Rattle.gc_model.specs.Holds.{HoldsTable};
+ghost use Rattle.gc_model.specs.Holds.{HoldsTable, Placing, IsWord};
 ghost use Rattle.gc_policy.specs.Accounts.{Account, HoldsAccount};
 ghost use Rattle.gc_store.specs.Handles.{PushesRoot};
 ghost use Rattle.gc_store.specs.OwnedRoots.{MakesOwned, AddsHandle, DropsHandle};
+ghost use Rattle.gc_store.specs.OwnedWords.{HoldsThere};
+ghost use Rattle.gc_store.specs.RawWords.{OwnsReference};
+ghost use Rattle.gc_store.specs.Reading.{IsReferenceWord};
 ghost use Rattle.gc_store.specs.Roots.{is_of_store, NamesReference, NamesNothing};
 ghost use Rattle.gc_store.specs.Stores.{IsSameStore, scoped_places};
 ghost use Rattle.gc_store.specs.declared.root.RootFault.TheVariants as RootFault;
@@ -51,6 +55,28 @@ impl<T: GcRef> OwnedRooted<T> {
         ensures { result.index ≡ self.index }
     {
         OwnedRooted::from_gc_root_index(self.index)
+    }
+
+    /// Makes an owned root for the reference with that word, which the caller knows to be of this type, and no scoped root;
+    /// None exactly for 0. `RootsFull` where no further owned root may be made. The word has to be one that `push_word`
+    /// takes.
+    pub fn from_word<H: GcHeap, D: Drop>(
+        store: &mut Store<H, D>,
+        word: u32,
+    ) -> Result<Option<OwnedRooted<T>>, RootFault>
+        requires { IsReferenceWord D H.KIND store.old word }
+        ensures owns { (t : Table D) (place : Placing) (a : Account) (r : Reference) → HoldsThere H.KIND store.old t place a → IsWord place r word
+            → MatchResult result (λ found. OwnsReference H.KIND t a r (Ok (option_map (λ (h : OwnedRooted T). h.index) found)) store.new)
+            (λ fault. OwnsReference H.KIND t a r (Err fault) store.new) }
+        ensures null { IfOk result (λ found. (option_map (λ (h : OwnedRooted T). h.index) found ≡ None) ↔ (word ≡ 0)) }
+        ensures same { IsSameStore store.old store.new }
+        ensures spare { store.old.spare ≤ store.new.spare }
+    {
+        match store.own_reference(word) {
+            Ok(Some(index)) => Ok(Some(OwnedRooted::from_gc_root_index(index))),
+            Ok(None) => Ok(None),
+            Err(fault) => Err(fault),
+        }
     }
 
     /// Pushes a scoped root for what the handle names. `WrongStore` where it is another store's, `Unrooted` where its

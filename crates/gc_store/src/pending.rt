@@ -47,7 +47,7 @@ impl<H: GcHeap, D: Drop> Store<H, D> {
         if word == 0 {
             return Ok(None);
         }
-        match self.push_word(word) {
+        match self.push_root(word) {
             Ok(handle) => {
                 self.clear_pending();
                 Ok(Some(handle))

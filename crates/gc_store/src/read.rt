@@ -166,7 +166,7 @@ impl<H: GcHeap, D: Drop> Store<H, D> {
     }
 
     /// Pushes a scoped root for a copy of a word of the store.
-    pub(crate) fn push_word(&mut self, word: u32) -> Result<GcRootIndex, RootFault>
+    pub(crate) fn push_root(&mut self, word: u32) -> Result<GcRootIndex, RootFault>
         requires { IsRootWord D H.KIND self.old word }
         ensures pushes { (t : Table D) (place : Placing) (a : Account) (r : Reference) → Holds H.KIND self.old t place → IsAccount H.KIND self.old place a
             → IsWord place r word → PushesRoot H.KIND t a r result self.new }
@@ -198,7 +198,7 @@ impl<H: GcHeap, D: Drop> Store<H, D> {
         ensures reserved { 0 < self.old.spare → result ≡ Err RootFault.Memory → ⊥ }
     {
         self.owner.is_ready();
-        self.push_word(VMGcRef::from_i31(value).as_raw_u32())
+        self.push_root(VMGcRef::from_i31(value).as_raw_u32())
     }
 
     /// What lies at that index of the object that the handle names.
@@ -231,7 +231,7 @@ impl<H: GcHeap, D: Drop> Store<H, D> {
         if word == 0 {
             return Ok(None);
         }
-        match self.push_word(word) {
+        match self.push_root(word) {
             Ok(found) => Ok(Some(found)),
             Err(fault) => Err(fault),
         }

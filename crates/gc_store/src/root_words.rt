@@ -172,7 +172,7 @@ impl<H: GcHeap, D: Drop> Store<H, D> {
         if root.word == 0 {
             return Ok(RootAt::Null);
         }
-        match self.push_word(root.word) {
+        match self.push_root(root.word) {
             Ok(found) => Ok(RootAt::Root(root.name, found)),
             Err(fault) => Err(fault),
         }

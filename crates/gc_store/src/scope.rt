@@ -5,6 +5,7 @@ ghost use Rattle.gc_model.specs.Table.{Table, leave};
 ghost use Rattle.gc_model.specs.Holds.{HoldsTable, Placing};
 ghost use Rattle.gc_policy.specs.Accounts.{Account, HoldsAccount};
 ghost use Rattle.gc_store.specs.OwnedWords.{HoldsThere};
+ghost use Rattle.gc_store.specs.RootRoom.{roots_left};
 ghost use Rattle.gc_store.specs.Stores.{IsSameStore};
 
 use crate::store::Store;
@@ -43,5 +44,17 @@ impl<H: GcHeap, D: Drop> Store<H, D> {
     {
         self.owner.is_ready();
         self.owner.reserve(additional)
+    }
+
+    /// How many scoped roots may still be pushed, by the configuration: none where as many scope ends as are counted
+    /// dropped a root.
+    pub fn roots_left(&self) -> u64
+        ensures { (t : Table D) → HoldsTable H.KIND self.now t → result ≡ roots_left t }
+    {
+        if self.owner.generation() == u64::MAX {
+            return 0;
+        }
+        let most = self.config.max_scoped as usize;
+        most.saturating_sub(self.owner.scoped().len()) as u64
     }
 }

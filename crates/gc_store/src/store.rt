@@ -11,6 +11,7 @@ ghost use Rattle.gc_store.specs.Stores.{HoldsStart, ShowsNothing, configured};
 use crate::config::HeapConfig;
 use crate::engine::StoreId;
 use crate::owned::FIRST_MARK;
+use crate::subtypes::AskedPairs;
 use gc_heap::GcHeap;
 use gc_owner::HeapOwner;
 use gc_tables::FuncRefTable;
@@ -94,6 +95,8 @@ pub struct Store<H: GcHeap, D: Drop> {
     pub(crate) tries: u64,
     /// How many owned roots there are before one that is made trims them.
     pub(crate) mark: usize,
+    /// Of which pairs of types the store was asked.
+    pub(crate) asked: AskedPairs,
 }
 
 impl<H: GcHeap, D: Drop> Model for Store<H, D> {
@@ -135,6 +138,7 @@ impl<H: GcHeap + Drop, D: Drop> Store<H, D> {
             slot_counts: Vec::new(alloc),
             tries: 0,
             mark: FIRST_MARK,
+            asked: AskedPairs::new(alloc),
         })
     }
 }

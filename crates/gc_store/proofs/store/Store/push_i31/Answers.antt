@@ -4,8 +4,8 @@ use Rattle.gc_model.specs.Stores.{StoreView}
 use Rattle.gc_store.specs.Roots.{IsRootWord}
 use Rattle.gc_store.proofs.store.Store.push_i31.Goals as goal
 
-pub push_word-requires : goal.push_word-requires
-push_word-requires g c =
+pub push_root-requires : goal.push_root-requires
+push_root-requires g c =
     subst (λ (s : StoreView g.row.D.Denot). IsRootWord g.row.D.Denot g.H.GcHeap.KIND s c.as_raw_u32.result) c.self.view_is
     (record {
       table = c.self.invariant.table;

@@ -8,7 +8,7 @@ returns-in-Ok-clause-takes g c = λ t a held.
     let is : c.pending-word.result ≡ c.args.self.now.pending = c.pending-word.ensures ∙ ap (λ (s : StoreView g.row.D.Denot). s.pending) c.self.view_is in
     let positive : 0 < c.pending-word.result = omega (arith, c.if-word-eq0.false) in
     let some = some_pending g.H.GcHeap.KIND c.args.self.now t held.place held.holds c.pending-word.result is positive in
-    takes_it g.H.GcHeap.KIND c.args.self.now t a held c.pending-word.result is positive c.in-Ok.handle c.push_word.new.self c.clear_pending.new.self
+    takes_it g.H.GcHeap.KIND c.args.self.now t a held c.pending-word.result is positive c.in-Ok.handle c.push_root.new.self c.clear_pending.new.self
     (c.in-Ok.ensures.pushes t held.place a some.0 held.holds held.account some.1.1.0) (c.clear_pending.ensures.clears _ a) c.clear_pending.ensures.same
 
 pub returns-in-Err-clause-takes : goal.returns-in-Err-clause-takes
@@ -16,5 +16,5 @@ returns-in-Err-clause-takes g c = λ t a held.
     let is : c.pending-word.result ≡ c.args.self.now.pending = c.pending-word.ensures ∙ ap (λ (s : StoreView g.row.D.Denot). s.pending) c.self.view_is in
     let positive : 0 < c.pending-word.result = omega (arith, c.if-word-eq0.false) in
     let some = some_pending g.H.GcHeap.KIND c.args.self.now t held.place held.holds c.pending-word.result is positive in
-    keeps_it g.H.GcHeap.KIND c.args.self.now t a held c.pending-word.result is positive c.in-Err.fault c.push_word.new.self
+    keeps_it g.H.GcHeap.KIND c.args.self.now t a held c.pending-word.result is positive c.in-Err.fault c.push_root.new.self
     (c.in-Err.ensures.pushes t held.place a some.0 held.holds held.account some.1.1.0)

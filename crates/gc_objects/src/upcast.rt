@@ -1,0 +1,109 @@
+//! Handles of structs and arrays as those of wider types.
+
+ghost use Rattle.gc_types.specs.declared.kind.VMGcKind.{VMGcKind};
+ghost use Rattle.gc_types.specs.declared.kind.Layouts.{Layouts};
+ghost use Rattle.gc_model.specs.Stores.{StoreView};
+ghost use Rattle.gc_store.specs.declared.root.GcRootIndex.{GcRootIndex};
+ghost use Rattle.gc_objects.specs.Kinds.{NamesKind};
+
+use crate::marks::{AnyRef, ArrayRef, EqRef, StructRef};
+use gc_store::{OwnedRooted, Rooted, RootedGcRef};
+
+/// Handles whose references are of class any and can be compared.
+pub trait Upcast {
+    ghost use Rattle.std.specs.Prelude.{◌≡◌};
+    ghost use Rattle.gc_store.specs.declared.root.GcRootIndex.{GcRootIndex};
+
+    /// The root that it names.
+    ghost root: { Self → GcRootIndex };
+
+    /// The handle as one of any reference of class any.
+    type AnyRoot: RootedGcRef<AnyRef>;
+
+    /// The handle as one of what can be compared.
+    type EqRoot: RootedGcRef<EqRef>;
+
+    /// The same root, as any reference of class any.
+    fn to_anyref(self) -> Self::AnyRoot
+        ensures { Self.AnyRoot.index result ≡ root self };
+
+    /// The same root, as what can be compared.
+    fn to_eqref(self) -> Self::EqRoot
+        ensures { Self.EqRoot.index result ≡ root self };
+}
+
+impl Upcast for Rooted<StructRef> {
+    ghost root = { λ r. r.index };
+
+    type AnyRoot = Rooted<AnyRef>;
+
+    type EqRoot = Rooted<EqRef>;
+
+    fn to_anyref(self) -> Rooted<AnyRef> {
+        self.cast()
+    }
+
+    fn to_eqref(self) -> Rooted<EqRef> {
+        self.cast()
+    }
+}
+
+impl Upcast for Rooted<ArrayRef> {
+    ghost root = { λ r. r.index };
+
+    type AnyRoot = Rooted<AnyRef>;
+
+    type EqRoot = Rooted<EqRef>;
+
+    fn to_anyref(self) -> Rooted<AnyRef> {
+        self.cast()
+    }
+
+    fn to_eqref(self) -> Rooted<EqRef> {
+        self.cast()
+    }
+}
+
+impl Upcast for OwnedRooted<StructRef> {
+    ghost root = { λ r. r.index };
+
+    type AnyRoot = OwnedRooted<AnyRef>;
+
+    type EqRoot = OwnedRooted<EqRef>;
+
+    fn to_anyref(self) -> OwnedRooted<AnyRef> {
+        self.cast()
+    }
+
+    fn to_eqref(self) -> OwnedRooted<EqRef> {
+        self.cast()
+    }
+}
+
+impl Upcast for OwnedRooted<ArrayRef> {
+    ghost root = { λ r. r.index };
+
+    type AnyRoot = OwnedRooted<AnyRef>;
+
+    type EqRoot = OwnedRooted<EqRef>;
+
+    fn to_anyref(self) -> OwnedRooted<AnyRef> {
+        self.cast()
+    }
+
+    fn to_eqref(self) -> OwnedRooted<EqRef> {
+        self.cast()
+    }
+}
+
+/// A handle that names a struct or an array is one of any reference of class any, and of what can be compared.
+pub fn narrow_handles_are_wide<D: Drop>()
+    ensures any { (layouts : Layouts) (s : StoreView D) (handle : GcRootIndex) → NamesKind D layouts s VMGcKind.StructRef handle
+        → NamesKind D layouts s VMGcKind.AnyRef handle }
+    ensures any_array { (layouts : Layouts) (s : StoreView D) (handle : GcRootIndex) → NamesKind D layouts s VMGcKind.ArrayRef handle
+        → NamesKind D layouts s VMGcKind.AnyRef handle }
+    ensures eq { (layouts : Layouts) (s : StoreView D) (handle : GcRootIndex) → NamesKind D layouts s VMGcKind.StructRef handle
+        → NamesKind D layouts s VMGcKind.EqRef handle }
+    ensures eq_array { (layouts : Layouts) (s : StoreView D) (handle : GcRootIndex) → NamesKind D layouts s VMGcKind.ArrayRef handle
+        → NamesKind D layouts s VMGcKind.EqRef handle }
+{}
