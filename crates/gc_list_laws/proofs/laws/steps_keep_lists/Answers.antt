@@ -1,0 +1,9 @@
+use Rattle.gc_lists.proofs.Kept.{list_kept}
+use Rattle.gc_list_laws.proofs.StepKeeps.{step_keeps}
+use Rattle.gc_list_laws.proofs.laws.steps_keep_lists.Goals as goal
+
+pub returns-clause-constants : goal.returns-clause-constants
+returns-clause-constants c = λ layouts limit s u command answer step. step_keeps layouts limit s u command answer step
+
+pub returns-clause-lists : goal.returns-clause-lists
+returns-clause-lists c = λ layouts limit s u command answer r xs step is. list_kept s.table u.table (step_keeps layouts limit s u command answer step) xs r is

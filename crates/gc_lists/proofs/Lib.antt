@@ -1,0 +1,12 @@
+pub mod Kept
+pub mod Links
+pub mod Indexes
+pub mod Keeping
+pub mod CellReads
+pub mod Releasing
+pub mod Scopes
+pub mod Tailing
+pub mod Consing
+pub mod Declaring
+pub mod Walking
+pub mod Standing

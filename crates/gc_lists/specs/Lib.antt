@@ -1,0 +1,10 @@
+pub mod Kits
+pub mod Cells
+pub mod Lists
+pub mod Versions
+pub mod Frames
+pub mod Refusals
+pub mod Faults
+pub mod Answers
+pub mod Progress
+pub mod Constants

@@ -1,0 +1,33 @@
+//! Laws of lists.
+
+ghost use Rattle.std.specs.Prelude.{◌≡◌, ◌++◌, ℕ, ℤ, List, Option};
+ghost use Rattle.gc_model.specs.Stores.{StoreView};
+ghost use Rattle.gc_model.specs.Table.{Owned, Table};
+ghost use Rattle.gc_model.specs.Values.{Reference};
+ghost use Rattle.gc_store.specs.Stores.{IsSameStore};
+ghost use Rattle.gc_store.specs.declared.root.GcRootIndex.{GcRootIndex};
+ghost use Rattle.gc_lists.specs.Constants.{KeepsConstants};
+ghost use Rattle.gc_lists.specs.Frames.{ChangesObjects, ChangesRoots};
+ghost use Rattle.gc_lists.specs.Lists.{IsList, IsListOf};
+ghost use Rattle.gc_lists.specs.Versions.{StandsForListOf};
+ghost use Rattle.gc_lists.specs.declared.kit.Kit.{Kit};
+
+/// Where what is constant in a table stays, each list stays that list, and its cells stay of their type.
+pub fn lists_stay<D: Drop>()
+    ensures lists { (t u : Table D) (r : Reference) (xs : List ℤ) → KeepsConstants t u → IsList t.types t.objects r xs → IsList u.types u.objects r xs }
+    ensures of_type { (t u : Table D) (r : Reference) (ty : ℕ) (xs : List ℤ) → KeepsConstants t u → IsListOf t.types t.objects ty xs r
+        → IsListOf u.types u.objects ty xs r }
+{}
+
+/// What calls on lists and maps change leaves all that is constant.
+pub fn calls_keep_constants<D: Drop>()
+    ensures roots { (t u : Table D) (owned : List Owned) → ChangesRoots t owned u → KeepsConstants t u }
+    ensures objects { (kit : Kit) (most : ℕ) (t u : Table D) (owned : List Owned) → ChangesObjects kit most t owned u → KeepsConstants t u }
+{}
+
+/// A version stands for the same list as long as its owned root is live, where what is constant stays: also in a store whose
+/// heap was collected, and where more owned roots were made.
+pub fn versions_stay<D: Drop>()
+    ensures { (s new : StoreView D) (t u : Table D) (more : List Owned) (version : Option GcRootIndex) (ty : ℕ) (xs : List ℤ)
+        → IsSameStore s new → KeepsConstants t u → u.owned ≡ t.owned ++ more → StandsForListOf s t version ty xs → StandsForListOf new u version ty xs }
+{}

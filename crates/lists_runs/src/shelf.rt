@@ -1,0 +1,76 @@
+//! Calls on lists that leave all lists of a shelf standing.
+
+ghost use Rattle.std.specs.Prelude.{◌≡◌, ◌∷◌, [], List, Option, IfOk, MatchResult};
+ghost use Rattle.gc_store.specs.declared.root.GcRootIndex.{GcRootIndex};
+ghost use Rattle.gc_lists.specs.declared.kit.Kit.{Kit};
+ghost use Rattle.lists_runs.specs.Shelves.{Shelf};
+
+use crate::fault::RunFault;
+use gc_heap::GcHeap;
+use gc_lists::{HeapList, Kit, ListFault};
+use gc_store::laws::stores_hold_tables;
+use gc_store::{PageLimit, Store};
+use std::alloc::Global;
+
+/// The kit of a store.
+pub(crate) fn new_kit<H: GcHeap>(store: &mut Store<H, u64>) -> Result<Kit, RunFault>
+    ensures { IfOk result (λ kit. Shelf H.KIND store.new kit []) }
+{
+    stores_hold_tables(store);
+    match Kit::new(store) {
+        Ok(kit) => Ok(kit),
+        Err(fault) => Err(RunFault::Types(fault)),
+    }
+}
+
+/// A list with one more number in front.
+pub(crate) fn add<H: GcHeap>(
+    store: &mut Store<H, u64>,
+    limiter: &mut PageLimit,
+    kit: &Kit,
+    list: &HeapList,
+    head: i64,
+) -> Result<HeapList, ListFault>
+    requires { Shelf H.KIND store.old kit.now (list.now.root ∷ []) }
+    ensures { (vs : List (Option GcRootIndex)) → Shelf H.KIND store.old kit.now (list.now.root ∷ vs)
+        → MatchResult result (λ made. Shelf H.KIND store.new kit.now (made.root ∷ (list.now.root ∷ vs)))
+        (λ fault. Shelf H.KIND store.new kit.now (list.now.root ∷ vs)) }
+{
+    list.cons(kit, store, limiter, head)
+}
+
+/// The first number of a list.
+pub(crate) fn first<H: GcHeap>(
+    store: &mut Store<H, u64>,
+    list: &HeapList,
+) -> Result<Option<i64>, ListFault>
+    requires { (kit : Kit) × Shelf H.KIND store.old kit (list.now.root ∷ []) }
+    ensures { (kit : Kit) (vs : List (Option GcRootIndex)) → Shelf H.KIND store.old kit (list.now.root ∷ vs) → Shelf H.KIND store.new kit (list.now.root ∷ vs) }
+{
+    list.head(store)
+}
+
+/// The list without its first number.
+pub(crate) fn rest<H: GcHeap>(
+    store: &mut Store<H, u64>,
+    list: &HeapList,
+) -> Result<HeapList, ListFault>
+    requires { (kit : Kit) × Shelf H.KIND store.old kit (list.now.root ∷ []) }
+    ensures { (kit : Kit) (vs : List (Option GcRootIndex)) → Shelf H.KIND store.old kit (list.now.root ∷ vs)
+        → MatchResult result (λ made. Shelf H.KIND store.new kit (made.root ∷ (list.now.root ∷ vs)))
+        (λ fault. Shelf H.KIND store.new kit (list.now.root ∷ vs)) }
+{
+    list.tail(store)
+}
+
+/// All numbers of a list.
+pub(crate) fn all<H: GcHeap>(
+    alloc: Global,
+    store: &mut Store<H, u64>,
+    list: &HeapList,
+) -> Result<Vec<i64>, ListFault>
+    requires { (kit : Kit) × Shelf H.KIND store.old kit (list.now.root ∷ []) }
+    ensures { (kit : Kit) (vs : List (Option GcRootIndex)) → Shelf H.KIND store.old kit (list.now.root ∷ vs) → Shelf H.KIND store.new kit (list.now.root ∷ vs) }
+{
+    list.copy_out(alloc, store)
+}
