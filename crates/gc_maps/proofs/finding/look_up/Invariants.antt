@@ -1,0 +1,15 @@
+use Rattle.std.proofs.Common.{ℕ}
+use Rattle.gc_model.specs.Table.{Table}
+use Rattle.gc_policy.specs.Accounts.{Account, HoldsAccount}
+use Rattle.gc_store.specs.Stores.{IsSameStore}
+use Rattle.gc_maps.specs.Parts.{RootIs}
+use Rattle.gc_maps.specs.Searching.{IsSearch, Looks}
+use Rattle.gc_maps.specs.Trees.{Tree}
+use Rattle.gc_maps.proofs.finding.look_up.Given as goal
+
+abbrev pub invariant-loop-turn : goal.invariant-loop-turn
+invariant-loop-turn g l = record {
+  looks : (t : Table g.row.D.Denot) (a : Account) (ty : ℕ) (tree : Tree) → HoldsAccount g.H.GcHeap.KIND l.fn.store t a → RootIs l.fn.store t ty l.fn.root tree → IsSearch tree
+      → Looks g.H.GcHeap.KIND t ty tree l.key l._turn l.initial.steps l.steps l.store l.here;
+  same : IsSameStore l.fn.store l.store;
+}

@@ -1,0 +1,45 @@
+-- What calls on maps answer and leave, for a table that the store held.
+use Rattle.std.specs.Prelude.{◌≡◌, ℕ, ℤ, Option, Result, Ok, Err, length}
+use Rattle.std.specs.FinMap as finite
+use Rattle.gc_types.specs.declared.kind.Layouts.{Layouts}
+use Rattle.gc_model.specs.Values.{Reference}
+use Rattle.gc_model.specs.Allocation.{Limits}
+use Rattle.gc_model.specs.Table.{Table, leave}
+use Rattle.gc_model.specs.Stores.{StoreView}
+use Rattle.gc_policy.specs.Accounts.{HoldsAccount}
+use Rattle.gc_lists.specs.declared.fault.ListFault.{ListFault}
+use Rattle.gc_lists.specs.declared.fault.ListFault.TheVariants as fault
+use Rattle.gc_lists.specs.declared.kit.Kit.{Kit}
+use Rattle.gc_lists.specs.Answers.{AnswersVersion}
+use Rattle.gc_lists.specs.Frames.{ChangesObjects, ChangesRoots, Leaves, most_objects}
+use Rattle.gc_lists.specs.Refusals.{LacksOwned, LacksRoots}
+use Rattle.gc_maps.specs.declared.map.HeapMap.{HeapMap}
+use Rattle.gc_maps.specs.Ends.{LacksNode}
+use Rattle.gc_maps.specs.Maps.{IntMap, IsMap}
+
+-- What a look for a key answers and leaves.
+abbrev pub Gets : {D : Type 0} → Layouts → IntMap → ℤ → Table D → Result (Option ℤ) ListFault → StoreView D → Type 0
+Gets layouts m key t (Ok found) new = (found ≡ finite.get m key) × Leaves layouts (ChangesRoots t t.owned) new
+Gets layouts m key t (Err fault.WrongStore) new = ⊥
+Gets layouts m key t (Err fault.RootsFull) new = LacksRoots t × Leaves layouts (ChangesRoots t t.owned) new
+Gets layouts m key t (Err (fault.HeapOutOfMemory f)) new = ⊥
+Gets layouts m key t (Err fault.Memory) new = Leaves layouts (ChangesRoots t t.owned) new
+
+-- the reference is that map, with nodes of that type
+abbrev pub AreEntries : {D : Type 0} → ℕ → IntMap → Table D → Reference → Type 0
+AreEntries ty m t r = IsMap t.types t.objects ty m r
+
+-- inside the call the heap had no room for a node, behind those that the call had made, and got no more; then the scope was left
+pub record LacksNodes {D : Type 0} (layouts : Layouts) (counter : Option ℕ) (kit : Kit) (t : Table D) (limits' : Limits) (need : ℕ) (new : StoreView D) : Type 0 where
+  pub inside : StoreView D
+  pub lacks : LacksNode layouts counter kit most_objects most_objects t limits' need inside
+  pub left : HoldsAccount layouts new (leave (length t.scoped) lacks.lacks.after.table) lacks.lacks.after.account
+
+-- What a call answers and leaves that makes another map.
+abbrev pub AnswersMap : {D : Type 0} → Layouts → Option ℕ → Kit → IntMap → Table D → Limits → Result HeapMap ListFault → StoreView D → Type 0
+AnswersMap layouts counter kit m t limits' (Ok map) new = AnswersVersion layouts t (ChangesObjects kit most_objects t) (AreEntries kit.node m) map.root new
+AnswersMap layouts counter kit m t limits' (Err fault.WrongStore) new = ⊥
+AnswersMap layouts counter kit m t limits' (Err fault.RootsFull) new = LacksOwned t × Leaves layouts (ChangesObjects kit most_objects t t.owned) new
+AnswersMap layouts counter kit m t limits' (Err (fault.HeapOutOfMemory f)) new =
+    LacksNodes layouts counter kit t limits' f.bytes_needed new × Leaves layouts (ChangesObjects kit most_objects t t.owned) new
+AnswersMap layouts counter kit m t limits' (Err fault.Memory) new = Leaves layouts (ChangesObjects kit most_objects t t.owned) new

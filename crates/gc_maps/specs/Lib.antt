@@ -1,0 +1,9 @@
+pub mod Trees
+pub mod Maps
+pub mod Parts
+pub mod Ends
+pub mod Searching
+pub mod Answers
+pub mod Makes
+pub mod Lowering
+pub mod Paths

@@ -1,0 +1,45 @@
+-- Search trees, and how far a look for a key has come.
+use Rattle.std.specs.Prelude.{◌≡◌, ◌+◌, ◌*◌, ◌≤◌, ℕ, ℤ, T, Option}
+use Rattle.std.specs.Ordering.{int_cmp}
+use Rattle.std.specs.declared.cmp.Ordering.{Ordering}
+use Rattle.std.specs.declared.cmp.Ordering.TheVariants.{Less, Equal, Greater}
+use Rattle.std.specs.FinMap.Entries.{find, is_sorted}
+use Rattle.gc_types.specs.declared.kind.Layouts.{Layouts}
+use Rattle.gc_model.specs.Table.{Table}
+use Rattle.gc_model.specs.Stores.{StoreView}
+use Rattle.gc_model.specs.Holds.{HoldsTable}
+use Rattle.gc_store.specs.declared.root.GcRootIndex.{GcRootIndex}
+use Rattle.gc_lists.specs.Frames.{Leaves}
+use Rattle.gc_maps.specs.declared.part.Node.{Node}
+use Rattle.gc_maps.specs.Trees.{Tree, height, pairs, IsBalanced}
+use Rattle.gc_maps.specs.Parts.{RootIs}
+use Rattle.gc_maps.specs.Ends.{Pushes}
+
+-- balanced, and the keys rise from left to right
+pub record IsSearch (tree : Tree) : Type 0 where
+  pub balanced : IsBalanced tree
+  pub rising : T (is_sorted int_cmp (pairs tree))
+
+-- the root is a search tree, in some table that the store holds
+pub record SearchIn (D : Type 0) (layouts : Layouts) (s : StoreView D) (root : Option GcRootIndex) : Type 0 where
+  pub table : Table D
+  pub holds : HoldsTable layouts s table
+  pub ty : ℕ
+  pub tree : Tree
+  pub is : RootIs s table ty root tree
+  pub search : IsSearch tree
+
+-- the child on whose side a key stands that compares so with that of its node
+abbrev pub toward : Node → Ordering → Option GcRootIndex
+toward read Less = read.left
+toward read Equal = read.right
+toward read Greater = read.right
+
+-- So many nodes were read, and a key is found in the tree that is looked at now exactly as in the whole.
+pub record Looks {D : Type 0} (layouts : Layouts) (t : Table D) (ty : ℕ) (tree : Tree) (key : ℤ) (read before now : ℕ) (s : StoreView D) (here : Option GcRootIndex) : Type 0 where
+  pub part : Tree
+  pub leaves : Leaves layouts (λ u. Pushes (2 * read) t u × RootIs s u ty here part) s
+  pub search : IsSearch part
+  pub found : find int_cmp key (pairs tree) ≡ find int_cmp key (pairs part)
+  pub low : height part + read ≤ height tree
+  pub counted : now ≡ before + read

@@ -1,0 +1,128 @@
+//! Maps.
+
+ghost use Rattle.std.specs.Prelude.{◌≡◌, ◌&&◌, ◌+◌, ◌-◌, ◌*◌, ◌^◌, ◌≤◌, ℕ, None, Err, OnOk, OnErr, MatchResult, true, false, length};
+ghost use Rattle.std.specs.FinMap as finite;
+ghost use Rattle.gc_model.specs.Table.{Table};
+ghost use Rattle.gc_policy.specs.Accounts.{Account, HoldsAccount};
+ghost use Rattle.gc_store.specs.Stores.{IsSameStore};
+ghost use Rattle.gc_lists.specs.Answers.{Releases};
+ghost use Rattle.gc_lists.specs.Kits.{KitStands, is_kit_of};
+ghost use Rattle.gc_lists.specs.Versions.{is_version_of};
+ghost use Rattle.gc_maps.specs.Answers.{AnswersMap, Gets};
+ghost use Rattle.gc_maps.specs.Maps.{IntMap, MapOfStands, MapStands, StandsForMap, StandsForMapOf};
+
+use crate::finding::look_up;
+use crate::ways::put;
+use gc_heap::GcHeap;
+use gc_lists::roots::{is_kit_of, is_version_of, keep};
+use gc_lists::{Kit, ListFault};
+use gc_steps::Steps;
+use gc_store::{GcRootIndex, ResourceLimiter, Store};
+use std::sync::ledger::Ledger;
+
+/// A version of a map: empty, or an owned root. What that names is kept until the version is released: one that is
+/// dropped keeps its nodes.
+#[derive(Debug, Drop)]
+pub struct HeapMap {
+    root: Option<GcRootIndex>,
+}
+
+impl HeapMap {
+    /// The empty map.
+    pub fn empty() -> HeapMap
+        ensures { result.root ≡ None }
+    {
+        HeapMap { root: None }
+    }
+
+    /// The value of a key; None where the map has no such key. It takes a step for each node that it reads: with n keys and s
+    /// steps, 2^s is at most the square of n + 1.
+    ///
+    /// Refused are, in this order: `WrongStore` where the map is another store's; and `RootsFull` where no further scoped
+    /// root may be made.
+    pub fn get<H: GcHeap, D: Drop, G: Ledger>(
+        &self,
+        store: &mut Store<H, D>,
+        key: i64,
+        steps: &mut Steps<G>,
+    ) -> Result<Option<i64>, ListFault>
+        requires stands { MapStands D H.KIND store.old self.now.root }
+        ensures wrong_store { is_version_of store.old self.now.root ≡ false → (result ≡ Err ListFault.WrongStore) × (store.new ≡ store.old) }
+        ensures gets { is_version_of store.old self.now.root ≡ true → (t : Table D) (a : Account) (m : IntMap) → HoldsAccount H.KIND store.old t a
+            → StandsForMap store.old t self.now.root m → Gets H.KIND m key t result store.new }
+        ensures few_steps { (t : Table D) (a : Account) (m : IntMap) → HoldsAccount H.KIND store.old t a → StandsForMap store.old t self.now.root m
+            → OnOk result (2 ^ (steps.new - steps.old) ≤ (finite.len m + 1) * (finite.len m + 1)) }
+        ensures same { IsSameStore store.old store.new }
+    {
+        if !is_version_of(store, self.root) {
+            return Err(ListFault::WrongStore);
+        }
+        let scope = store.enter_gc_lifo_scope();
+        let found = look_up(store, self.root, key, steps);
+        store.exit_gc_lifo_scope(scope);
+        found
+    }
+
+    /// A map in which the key has the value, and every other key what it has here; this map stays. It makes the nodes on the
+    /// way to the key anew and shares the others: at most three for each level, of which a map has fewer than 92.
+    ///
+    /// Refused are, in this order: `WrongStore` where the kit or this map is another store's; `RootsFull` where no further
+    /// scoped root may be made; `HeapOutOfMemory` as `Store::place` tells of a node; and `RootsFull` where no further owned
+    /// root may be made.
+    pub fn insert<H: GcHeap, D: Drop, L: ResourceLimiter>(
+        &self,
+        kit: &Kit,
+        store: &mut Store<H, D>,
+        limiter: &mut L,
+        key: i64,
+        value: i64,
+    ) -> Result<HeapMap, ListFault>
+        requires kit { KitStands store.old kit.now }
+        requires stands { MapOfStands D H.KIND store.old self.now.root kit.now.node }
+        ensures wrong_store { (is_kit_of store.old kit.now && is_version_of store.old self.now.root) ≡ false
+            → (result ≡ Err ListFault.WrongStore) × (store.new ≡ store.old) }
+        ensures inserts { is_kit_of store.old kit.now ≡ true → is_version_of store.old self.now.root ≡ true → (t : Table D) (a : Account) (m : IntMap)
+            → HoldsAccount H.KIND store.old t a → StandsForMapOf store.old t self.now.root kit.now.node m
+            → AnswersMap H.KIND store.old.alloc_counter kit.now (finite.insert m key value) t (L.limits limiter.new) result store.new }
+        ensures same { IsSameStore store.old store.new }
+    {
+        if !is_kit_of(store, kit) || !is_version_of(store, self.root) {
+            return Err(ListFault::WrongStore);
+        }
+        let scope = store.enter_gc_lifo_scope();
+        match put(store, limiter, kit, self.root, key, value) {
+            Ok(part) => match part.root {
+                Some(root) => match keep(store, scope, root) {
+                    Ok(kept) => Ok(HeapMap { root: Some(kept) }),
+                    Err(fault) => Err(fault),
+                },
+                None => {
+                    store.exit_gc_lifo_scope(scope);
+                    Ok(HeapMap::empty())
+                }
+            },
+            Err(fault) => {
+                store.exit_gc_lifo_scope(scope);
+                Err(fault)
+            }
+        }
+    }
+
+    /// Gives the version up: its nodes are kept no longer by it. Another store's version is handed back; one whose root
+    /// isn't live any more changes nothing. It takes no memory.
+    pub fn release<H: GcHeap, D: Drop>(self, store: &mut Store<H, D>) -> Result<(), HeapMap>
+        ensures releases { (t : Table D) (a : Account) → HoldsAccount H.KIND store.old t a
+            → MatchResult result (λ done. (is_version_of store.old self.root ≡ true) × Releases H.KIND store.old t a self.root store.new)
+            (λ back. (is_version_of store.old self.root ≡ false) × (back.root ≡ self.root)) }
+        ensures err { OnErr result (store.new ≡ store.old) }
+        ensures same { IsSameStore store.old store.new }
+    {
+        let Some(root) = self.root else {
+            return Ok(());
+        };
+        match store.release(root) {
+            Ok(_) => Ok(()),
+            Err(_) => Err(self),
+        }
+    }
+}

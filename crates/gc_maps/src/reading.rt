@@ -1,0 +1,185 @@
+//! Reading nodes.
+
+ghost use Rattle.std.specs.Prelude.{◌≡◌, ◌<◌, ◌^◌, ℕ, ℤ, pos, Some};
+ghost use Rattle.gc_owner.specs.declared.entry.GcClass.TheVariants.{Any};
+ghost use Rattle.gc_model.specs.Values.{Reference, numeric, i32, i64, reference};
+ghost use Rattle.gc_model.specs.Table.{Table};
+ghost use Rattle.gc_policy.specs.Accounts.{Account, HoldsAccount};
+ghost use Rattle.gc_store.specs.Roots.{CanRead, HasValue};
+ghost use Rattle.gc_store.specs.Stores.{IsSameStore};
+ghost use Rattle.gc_lists.specs.Cells.{number_of};
+ghost use Rattle.gc_maps.specs.Ends.{EndsReading};
+ghost use Rattle.gc_maps.specs.Parts.{long_in, int_in, NamesLink, RootIs, PartIs, NodeIs, OpenedIs, NodeIn, LowNodeIn, RootIn, node_of};
+ghost use Rattle.gc_maps.specs.Trees.{Tree, height};
+
+use crate::part::{Node, Opened, Part};
+use gc_heap::GcHeap;
+use gc_lists::ListFault;
+use gc_lists::roots::{raw_handle, refused};
+use gc_store::{GcRootIndex, RawValue, Store};
+
+/// Where a node has its key, its value, its height and its children.
+const KEY: u32 = 0;
+
+const VALUE: u32 = 1;
+
+const HEIGHT: u32 = 2;
+
+const LEFT: u32 = 3;
+
+const RIGHT: u32 = 4;
+
+/// The 64-bit integer that a value is; 0 where it is none.
+fn long_in(value: &RawValue) -> i64
+    ensures { result ≡ long_in value.now }
+{
+    match value {
+        RawValue::I32(_) => 0,
+        RawValue::I64(number) => *number,
+        RawValue::F32(_) => 0,
+        RawValue::F64(_) => 0,
+        RawValue::V128(_) => 0,
+        RawValue::Func(_) => 0,
+        RawValue::Ref(..) => 0,
+    }
+}
+
+/// The 32-bit integer that a value is; 0 where it is none.
+fn int_in(value: &RawValue) -> i32
+    ensures { result ≡ int_in value.now }
+{
+    match value {
+        RawValue::I32(number) => *number,
+        RawValue::I64(_) => 0,
+        RawValue::F32(_) => 0,
+        RawValue::F64(_) => 0,
+        RawValue::V128(_) => 0,
+        RawValue::Func(_) => 0,
+        RawValue::Ref(..) => 0,
+    }
+}
+
+/// The 64-bit integer at that index of an object.
+pub(crate) fn read_long<H: GcHeap, D: Drop>(
+    store: &mut Store<H, D>,
+    object: GcRootIndex,
+    index: u32,
+) -> i64
+    requires { CanRead D H.KIND store.old object index }
+    ensures reads { (t : Table D) (a : Account) (bits : ℕ) → HoldsAccount H.KIND store.old t a → HasValue store.old t object index (numeric i64 bits)
+        → (result ≡ number_of bits) × HoldsAccount H.KIND store.new t a }
+    ensures same { IsSameStore store.old store.new }
+{
+    match store.read_value(object, index) {
+        Ok(value) => long_in(&value),
+        Err(_) => 0,
+    }
+}
+
+/// The 32-bit integer at that index of an object.
+pub(crate) fn read_int<H: GcHeap, D: Drop>(
+    store: &mut Store<H, D>,
+    object: GcRootIndex,
+    index: u32,
+) -> i32
+    requires { CanRead D H.KIND store.old object index }
+    ensures reads { (t : Table D) (a : Account) (n : ℕ) → HoldsAccount H.KIND store.old t a → HasValue store.old t object index (numeric i32 n)
+        → n < 2 ^ 31 → (result ≡ pos n) × HoldsAccount H.KIND store.new t a }
+    ensures same { IsSameStore store.old store.new }
+{
+    match store.read_value(object, index) {
+        Ok(value) => int_in(&value),
+        Err(_) => 0,
+    }
+}
+
+/// A root of what the link at that index of an object names; none where it is null.
+pub(crate) fn read_link<H: GcHeap, D: Drop>(
+    store: &mut Store<H, D>,
+    object: GcRootIndex,
+    index: u32,
+) -> Result<Option<GcRootIndex>, ListFault>
+    requires { CanRead D H.KIND store.old object index }
+    ensures reads { (t : Table D) (a : Account) (r : Reference) → HoldsAccount H.KIND store.old t a → HasValue store.old t object index (reference Any r)
+        → EndsReading H.KIND 1 t (λ s u link. NamesLink s u link r) result store.new }
+    ensures same { IsSameStore store.old store.new }
+{
+    match store.read_value(object, index) {
+        Ok(value) => Ok(raw_handle(&value)),
+        Err(fault) => Err(refused(fault)),
+    }
+}
+
+/// What a node has, with a root for each of its children.
+pub(crate) fn read_node<H: GcHeap, D: Drop>(
+    store: &mut Store<H, D>,
+    node: GcRootIndex,
+) -> Result<Node, ListFault>
+    requires { NodeIn D H.KIND store.old node }
+    ensures reads { (t : Table D) (a : Account) (ty : ℕ) (x : Tree) (k v : ℤ) (y : Tree) → HoldsAccount H.KIND store.old t a
+        → RootIs store.old t ty (Some node) (node_of x k v y)
+        → EndsReading H.KIND 2 t (λ s u read. NodeIs s u ty read x k v y) result store.new }
+    ensures same { IsSameStore store.old store.new }
+{
+    let key = read_long(store, node, KEY);
+    let value = read_long(store, node, VALUE);
+    let left = match read_link(store, node, LEFT) {
+        Ok(left) => left,
+        Err(fault) => return Err(fault),
+    };
+    match read_link(store, node, RIGHT) {
+        Ok(right) => Ok(Node {
+            key,
+            value,
+            left,
+            right,
+        }),
+        Err(fault) => Err(fault),
+    }
+}
+
+/// A part by its root.
+pub(crate) fn part_of<H: GcHeap, D: Drop>(
+    store: &mut Store<H, D>,
+    root: Option<GcRootIndex>,
+) -> Part
+    requires { RootIn D H.KIND store.old root }
+    ensures reads { (t : Table D) (a : Account) (ty : ℕ) (tree : Tree) → HoldsAccount H.KIND store.old t a → RootIs store.old t ty root tree
+        → height tree < 2 ^ 31
+        → PartIs store.new t ty result tree × HoldsAccount H.KIND store.new t a }
+    ensures same { IsSameStore store.old store.new }
+{
+    match root {
+        Some(node) => Part {
+            root,
+            height: read_int(store, node, HEIGHT),
+        },
+        None => Part { root, height: 0 },
+    }
+}
+
+/// What a node has, with its children as parts.
+pub(crate) fn open_node<H: GcHeap, D: Drop>(
+    store: &mut Store<H, D>,
+    node: GcRootIndex,
+) -> Result<Opened, ListFault>
+    requires { LowNodeIn D H.KIND store.old node }
+    ensures opens { (t : Table D) (a : Account) (ty : ℕ) (x : Tree) (k v : ℤ) (y : Tree) → HoldsAccount H.KIND store.old t a
+        → RootIs store.old t ty (Some node) (node_of x k v y)
+        → height (node_of x k v y) < 2 ^ 31 → EndsReading H.KIND 2 t (λ s u opened. OpenedIs s u ty opened x k v y) result store.new }
+    ensures same { IsSameStore store.old store.new }
+{
+    match read_node(store, node) {
+        Ok(read) => {
+            let left = part_of(store, read.left);
+            let right = part_of(store, read.right);
+            Ok(Opened {
+                left,
+                key: read.key,
+                value: read.value,
+                right,
+            })
+        }
+        Err(fault) => Err(fault),
+    }
+}

@@ -1,0 +1,197 @@
+-- A shelf stays through calls on its maps.
+use Rattle.std.proofs.Common.{int_cmp, ◌≡◌, ℕ, zero, suc, ℤ, ◌+◌, Bool, true, false, ◌&&◌, arith, List, [], ◌∷◌, ◌++◌, length, Option, Some, None, Result, Ok, Err, refl, sym, ap, ◌∙◌, subst}
+use Rattle.std.specs.List.{slice_get}
+use Rattle.std.specs.Result.{MatchResult}
+use Rattle.std.specs.FinMap as finite
+use Rattle.std.proofs.lemmas.List.{append-nil, length-append}
+use Rattle.std.proofs.lemmas.Option.{none-some}
+use Rattle.gc_types.specs.declared.kind.Layouts.{Layouts}
+use Rattle.gc_types.specs.Declarations.{Declaration}
+use Rattle.gc_model.proofs.Lists.{slice_get-push_new, slice_get-push_old}
+use Rattle.gc_model.specs.Allocation.{Limits}
+use Rattle.gc_model.specs.Values.{Reference, null}
+use Rattle.gc_model.specs.Table.{Table, Owned}
+use Rattle.gc_model.specs.Stores.{StoreView}
+use Rattle.gc_policy.specs.Accounts.{Account, HoldsAccount}
+use Rattle.gc_policy.proofs.AccountLemmas.{some_account}
+use Rattle.gc_store.specs.declared.root.GcRootIndex.{GcRootIndex}
+use Rattle.gc_store.specs.Stores.{IsSameStore}
+use Rattle.gc_lists.specs.declared.fault.ListFault.{ListFault}
+use Rattle.gc_lists.specs.declared.fault.ListFault.TheVariants as fault
+use Rattle.gc_lists.specs.declared.kit.Kit.{Kit}
+use Rattle.gc_lists.specs.Answers.{AnswersVersion, owned_with}
+use Rattle.gc_lists.specs.Constants.{KeepsConstants}
+use Rattle.gc_lists.specs.Frames.{ChangesObjects, ChangesRoots, Leaves, most_objects}
+use Rattle.gc_lists.specs.Kits.{IsKit, KitStands, MakesKit, cell_type, declare_kit, is_kit_of, node_type}
+use Rattle.gc_lists.specs.Versions.{is_version_of}
+use Rattle.gc_lists.proofs.Standing.{named_still, objects_keep, roots_keep}
+use Rattle.gc_maps.specs.declared.map.HeapMap.{HeapMap}
+use Rattle.gc_maps.specs.Answers.{AnswersMap, AreEntries, Gets}
+use Rattle.gc_maps.specs.Maps.{IntMap, MapOfStands, MapStands, StandsForMap, StandsForMapOf}
+use Rattle.gc_maps.specs.Trees.{leaf}
+use Rattle.gc_maps.proofs.Staying.{map_stays}
+use Rattle.maps_runs.specs.Shelves.{Shelf}
+
+-- the maps of a shelf as the calls ask for them
+module _ (layouts : Layouts) (s : StoreView ℕ) (kit : Kit) (v : Option GcRootIndex) (vs : List (Option GcRootIndex)) (shelf : Shelf layouts s kit (v ∷ vs)) where
+  pub kit_on : KitStands s kit
+  kit_on own = subst (λ (types : List Declaration). IsKit types kit) (sym shelf.holds.1.types) shelf.kit_is
+
+  pub map_of_on : MapOfStands ℕ layouts s v kit.node
+  map_of_on own = let first = shelf.stands zero v refl in record { table = shelf.table; holds = shelf.holds; entries = first.0; stands = first.1 }
+
+  pub map_on : MapStands ℕ layouts s v
+  map_on own = (kit.node, map_of_on own)
+
+  -- fewer maps
+  pub alone_on : Shelf layouts s kit (v ∷ [])
+  alone_on = record { table = shelf.table; holds = shelf.holds; kit_is = shelf.kit_is; stands = one }
+    where
+      one : (i : ℕ) (w : Option GcRootIndex) → slice_get (v ∷ []) i ≡ Some w → (m : IntMap) × StandsForMapOf s shelf.table w kit.node m
+      one zero w e = shelf.stands zero w e
+      one (suc i) w e = absurd (none-some w e)
+
+  pub behind_on : Shelf layouts s kit vs
+  behind_on = record { table = shelf.table; holds = shelf.holds; kit_is = shelf.kit_is; stands = λ i w e. shelf.stands (suc i) w e }
+
+abbrev nothing : IntMap
+nothing = finite.from_sorted []
+
+-- the empty map more
+pub empty_on : (layouts : Layouts) (s : StoreView ℕ) (kit : Kit) (vs : List (Option GcRootIndex)) (v : Option GcRootIndex) → v ≡ None → Shelf layouts s kit vs → Shelf layouts s kit (v ∷ vs)
+empty_on layouts s kit vs v none shelf = record { table = shelf.table; holds = shelf.holds; kit_is = shelf.kit_is; stands = each }
+  where
+    each : (i : ℕ) (w : Option GcRootIndex) → slice_get (v ∷ vs) i ≡ Some w → (m : IntMap) × StandsForMapOf s shelf.table w kit.node m
+    each zero w e =
+        let same : v ≡ w = grind (arith, e) in (
+          nothing,
+          subst (λ (x : Option GcRootIndex). StandsForMapOf s shelf.table x kit.node nothing) (sym none ∙ same) (record {
+            reference = null;
+            names = refl;
+            is = record { tree = leaf; is = refl; balanced = tt; entries = finite.entries-from_sorted int_cmp [] tt };
+          }),
+        )
+    each (suc i) w e = shelf.stands i w e
+
+-- the kit of a new shelf
+pub shelf_begun : (layouts : Layouts) (t : Table ℕ) (a : Account) (new : StoreView ℕ) (kit : Kit) → MakesKit layouts t a (Ok kit) new → Shelf layouts new kit []
+shelf_begun layouts t a new kit made = record {
+  table = declare_kit t;
+  holds = (made.1.place, made.1.holds);
+  kit_is = subst (λ (k : Kit). IsKit (declare_kit t).types k) (sym made.0) (record {
+    cells = slice_get-push_old (t.types ++ cell_type (length t.types) ∷ []) (node_type (length t.types + 1)) (length t.types) _ (slice_get-push_new t.types (cell_type (length t.types)));
+    nodes = subst (λ n. slice_get (declare_kit t).types n ≡ Some (node_type (length t.types + 1))) (length-append t.types (cell_type (length t.types) ∷ []))
+        (slice_get-push_new (t.types ++ cell_type (length t.types) ∷ []) (node_type (length t.types + 1)));
+  });
+  stands = λ i w e. absurd (none-some w e);
+}
+
+module _ (layouts : Layouts) (s new : StoreView ℕ) (kit : Kit) (vs : List (Option GcRootIndex)) (shelf : Shelf layouts s kit vs) (same : IsSameStore s new) where
+  -- all stands in a table that keeps what is constant, and all owned roots
+  module _ (u : Table ℕ) (a : Account) (holds : HoldsAccount layouts new u a) (keeps : KeepsConstants shelf.table u) (more : List Owned) (owned : u.owned ≡ shelf.table.owned ++ more) where
+    kit_kept : IsKit u.types kit
+    kit_kept = record { cells = keeps.types kit.cell _ shelf.kit_is.cells; nodes = keeps.types kit.node _ shelf.kit_is.nodes }
+
+    stays : (w : Option GcRootIndex) (m : IntMap) → StandsForMapOf s shelf.table w kit.node m → StandsForMapOf new u w kit.node m
+    stays w m stands = record {
+      reference = stands.reference;
+      names = named_still s new shelf.table u more same owned w stands.reference stands.names;
+      is = map_stays shelf.table u keeps stands.reference kit.node m stands.is;
+    }
+
+    each_kept : (i : ℕ) (w : Option GcRootIndex) → slice_get vs i ≡ Some w → (m : IntMap) × StandsForMapOf new u w kit.node m
+    each_kept i w e = let stood = shelf.stands i w e in (stood.0, stays w stood.0 stood.1)
+
+    pub shelf_kept : Shelf layouts new kit vs
+    shelf_kept = record { table = u; holds = (holds.place, holds.holds); kit_is = kit_kept; stands = each_kept }
+
+    pub shelf_more : (made : Option GcRootIndex) (m : IntMap) → StandsForMapOf new u made kit.node m → Shelf layouts new kit (made ∷ vs)
+    shelf_more made m stands = record { table = u; holds = (holds.place, holds.holds); kit_is = kit_kept; stands = each }
+      where
+        each : (i : ℕ) (w : Option GcRootIndex) → slice_get (made ∷ vs) i ≡ Some w → (n : IntMap) × StandsForMapOf new u w kit.node n
+        each zero w e = (m, subst (λ (x : Option GcRootIndex). StandsForMapOf new u x kit.node m) (grind (arith, e)) stands)
+        each (suc i) w e = each_kept i w e
+
+  owned_none : (u : Table ℕ) → u.owned ≡ shelf.table.owned → u.owned ≡ shelf.table.owned ++ []
+  owned_none u is = is ∙ sym (append-nil shelf.table.owned)
+
+  -- a version was answered
+  owned_more : (made : Option GcRootIndex) (r : Reference) → (more : List Owned) × (owned_with shelf.table made r ≡ shelf.table.owned ++ more)
+  owned_more None r = ([], sym (append-nil shelf.table.owned))
+  owned_more (Some h) r = (_, refl)
+
+  pub shelf_answered : (m : IntMap) (made : Option GcRootIndex) → AnswersVersion layouts shelf.table (ChangesObjects kit most_objects shelf.table) (AreEntries kit.node m) made new → Shelf layouts new kit (made ∷ vs)
+  shelf_answered m made answers =
+      let more = owned_more made answers.stands.reference in
+      shelf_more answers.after answers.account answers.holds (objects_keep kit most_objects shelf.table answers.after (owned_with shelf.table made answers.stands.reference) answers.changed)
+      more.0 (ap (λ (v : Table ℕ). v.owned) answers.changed.rest ∙ more.1) made m answers.stands
+
+  pub shelf_refused : Leaves layouts (ChangesObjects kit most_objects shelf.table shelf.table.owned) new → Shelf layouts new kit vs
+  shelf_refused leaves = shelf_kept leaves.after leaves.account leaves.holds (objects_keep kit most_objects shelf.table leaves.after shelf.table.owned leaves.changed) []
+      (owned_none leaves.after (ap (λ (v : Table ℕ). v.owned) leaves.changed.rest))
+
+  pub shelf_read : Leaves layouts (ChangesRoots shelf.table shelf.table.owned) new → Shelf layouts new kit vs
+  shelf_read leaves = shelf_kept leaves.after leaves.account leaves.holds (roots_keep shelf.table leaves.after shelf.table.owned leaves.changed) []
+      (owned_none leaves.after (ap (λ (v : Table ℕ). v.owned) leaves.changed.rest))
+
+-- What each call answers and leaves.
+
+and_false : (a b : Bool) → a ≡ false → (a && b) ≡ false
+and_false a b is = ap (λ x. x && b) is
+
+false_behind : (a b : Bool) → b ≡ false → (a && b) ≡ false
+false_behind true b is = is
+false_behind false b is = refl
+
+module _ (layouts : Layouts) (s new : StoreView ℕ) (kit : Kit) (v : Option GcRootIndex) (vs : List (Option GcRootIndex)) (shelf : Shelf layouts s kit (v ∷ vs)) (same : IsSameStore s new) where
+  abbrev Made : Result HeapMap ListFault → Type 0
+  Made result = MatchResult result (λ (made : HeapMap). Shelf layouts new kit (made.root ∷ (v ∷ vs))) (λ (why : ListFault). Shelf layouts new kit (v ∷ vs))
+
+  as_it_was : new ≡ s → Shelf layouts new kit (v ∷ vs)
+  as_it_was is = subst (λ (x : StoreView ℕ). Shelf layouts x kit (v ∷ vs)) (sym is) shelf
+
+  refused_store : (result : Result HeapMap ListFault) → (result ≡ Err fault.WrongStore) × (new ≡ s) → Made result
+  refused_store result wrong = subst Made (sym wrong.0) (as_it_was wrong.1)
+
+  abbrev first_stands : (m : IntMap) × StandsForMapOf s shelf.table v kit.node m
+  first_stands = shelf.stands zero v refl
+
+  module _ (key value : ℤ) (limits' : Limits) where
+    put_in : (counter : Option ℕ) (result : Result HeapMap ListFault) → AnswersMap layouts counter kit (finite.insert first_stands.0 key value) shelf.table limits' result new → Made result
+    put_in counter (Ok made) answers = shelf_answered layouts s new kit (v ∷ vs) shelf same (finite.insert first_stands.0 key value) made.root answers
+    put_in counter (Err fault.WrongStore) answers = absurd answers
+    put_in counter (Err fault.RootsFull) answers = shelf_refused layouts s new kit (v ∷ vs) shelf same answers.1
+    put_in counter (Err (fault.HeapOutOfMemory f)) answers = shelf_refused layouts s new kit (v ∷ vs) shelf same answers.1
+    put_in counter (Err fault.Memory) answers = shelf_refused layouts s new kit (v ∷ vs) shelf same answers
+
+    pub put_stays : (counter : Option ℕ) (result : Result HeapMap ListFault) → ((is_kit_of s kit && is_version_of s v) ≡ false → (result ≡ Err fault.WrongStore) × (new ≡ s))
+        → (is_kit_of s kit ≡ true → is_version_of s v ≡ true → (t : Table ℕ) (a : Account) (m : IntMap) → HoldsAccount layouts s t a → StandsForMapOf s t v kit.node m
+        → AnswersMap layouts counter kit (finite.insert m key value) t limits' result new) → Made result
+    put_stays counter result wrong inserts = by (is_kit_of s kit) (is_version_of s v) refl refl
+      where
+        account : (a : Account) × HoldsAccount layouts s shelf.table a
+        account = some_account layouts s shelf.table shelf.holds
+
+        by : (k w : Bool) → is_kit_of s kit ≡ k → is_version_of s v ≡ w → Made result
+        by true true kit_own own = put_in counter result (inserts kit_own own shelf.table account.0 first_stands.0 account.1 first_stands.1)
+        by true false kit_own own = refused_store result (wrong (false_behind (is_kit_of s kit) (is_version_of s v) own))
+        by false w kit_own own = refused_store result (wrong (and_false (is_kit_of s kit) (is_version_of s v) kit_own))
+
+  module _ (key : ℤ) where
+    got : (result : Result (Option ℤ) ListFault) → Gets layouts first_stands.0 key shelf.table result new → Shelf layouts new kit (v ∷ vs)
+    got (Ok found) gets = shelf_read layouts s new kit (v ∷ vs) shelf same gets.1
+    got (Err fault.WrongStore) gets = absurd gets
+    got (Err fault.RootsFull) gets = shelf_read layouts s new kit (v ∷ vs) shelf same gets.1
+    got (Err (fault.HeapOutOfMemory f)) gets = absurd gets
+    got (Err fault.Memory) gets = shelf_read layouts s new kit (v ∷ vs) shelf same gets
+
+    pub find_stays : (result : Result (Option ℤ) ListFault) → (is_version_of s v ≡ false → (result ≡ Err fault.WrongStore) × (new ≡ s))
+        → (is_version_of s v ≡ true → (t : Table ℕ) (a : Account) (m : IntMap) → HoldsAccount layouts s t a → StandsForMap s t v m → Gets layouts m key t result new) → Shelf layouts new kit (v ∷ vs)
+    find_stays result wrong gets = by (is_version_of s v) refl
+      where
+        account : (a : Account) × HoldsAccount layouts s shelf.table a
+        account = some_account layouts s shelf.table shelf.holds
+
+        by : (w : Bool) → is_version_of s v ≡ w → Shelf layouts new kit (v ∷ vs)
+        by true own = got result (gets own shelf.table account.0 first_stands.0 account.1 (kit.node, first_stands.1))
+        by false own = as_it_was (wrong own).1

@@ -1,0 +1,11 @@
+use Rattle.maps_runs.proofs.shelf.put.Goals as goal
+use Rattle.maps_runs.proofs.Shelving.{kit_on, map_of_on, put_stays}
+
+pub insert-requires-clause-stands : goal.insert-requires-clause-stands
+insert-requires-clause-stands g c = map_of_on g.H.GcHeap.KIND c.args.store.now c.args.kit.now c.args.map.now.root _ c.requires
+
+pub insert-requires-clause-kit : goal.insert-requires-clause-kit
+insert-requires-clause-kit g c = kit_on g.H.GcHeap.KIND c.args.store.now c.args.kit.now c.args.map.now.root _ c.requires
+
+pub returns : goal.returns
+returns g c = λ vs shelf. put_stays g.H.GcHeap.KIND c.args.store.now c.insert.new.store c.args.kit.now c.args.map.now.root vs shelf c.insert.ensures.same _ _ _ _ c.insert.result c.insert.ensures.wrong_store c.insert.ensures.inserts

@@ -1,0 +1,82 @@
+//! What is done with maps.
+
+ghost use Rattle.std.specs.Prelude.{◌∷◌, [], List, Option, IfOk};
+ghost use Rattle.gc_store.specs.declared.root.GcRootIndex.{GcRootIndex};
+ghost use Rattle.gc_lists.specs.declared.kit.Kit.{Kit};
+ghost use Rattle.maps_runs.specs.Shelves.{Shelf};
+
+use crate::fault::RunFault;
+use crate::shelf::{find, new_kit, put};
+use gc_heap::GcHeap;
+use gc_lists::{Kit, ListFault};
+use gc_maps::HeapMap;
+use gc_store::{PageLimit, Store};
+
+/// A map in which each key has itself as its value, put in turn.
+fn map_of<H: GcHeap>(
+    store: &mut Store<H, u64>,
+    limiter: &mut PageLimit,
+    kit: &Kit,
+    keys: &[i64],
+) -> Result<HeapMap, RunFault>
+    requires { Shelf H.KIND store.old kit.now [] }
+    ensures { IfOk result (λ map. Shelf H.KIND store.new kit.now (map.root ∷ [])) }
+{
+    let mut map = HeapMap::empty();
+    for key in keys.iter() {
+        map = put(store, limiter, kit, &map, *key, *key)?;
+    }
+    Ok(map)
+}
+
+/// Shows what a map has at each key.
+fn show<H: GcHeap>(
+    rt: &impl Print,
+    store: &mut Store<H, u64>,
+    map: &HeapMap,
+    keys: &[i64],
+) -> Result<(), RunFault>
+    requires { (kit : Kit) × Shelf H.KIND store.old kit (map.now.root ∷ []) }
+    ensures { (kit : Kit) (vs : List (Option GcRootIndex)) → Shelf H.KIND store.old kit (map.now.root ∷ vs)
+        → Shelf H.KIND store.new kit (map.now.root ∷ vs) }
+{
+    for key in keys.iter() {
+        match find(store, map, *key)? {
+            Some(value) => println!(rt; "{key} {value}")?,
+            None => println!(rt; "{key} none")?,
+        }
+    }
+    Ok(())
+}
+
+/// Seven keys that rise, two that stand between others, one key a second time: what the last map has, and what the one before it has.
+pub(crate) fn run_keys<H: GcHeap>(
+    rt: &impl Print,
+    store: &mut Store<H, u64>,
+    limiter: &mut PageLimit,
+) -> Result<(), RunFault> {
+    let kit = new_kit(store)?;
+    let map = map_of(store, limiter, &kit, &[10, 20, 30, 40, 50, 60, 70, 25, 22])?;
+    let other = put(store, limiter, &kit, &map, 30, -3)?;
+    show(rt, store, &other, &[70, 22, 25, 10, 30, 60, 5, 23, 71])?;
+    show(rt, store, &map, &[30, 40])
+}
+
+/// What a key in the empty map is answered in a store that refuses it.
+pub(crate) fn run_refused<H: GcHeap>(
+    rt: &impl Print,
+    store: &mut Store<H, u64>,
+    limiter: &mut PageLimit,
+) -> Result<(), RunFault> {
+    let kit = new_kit(store)?;
+    let empty = HeapMap::empty();
+    let answer = match put(store, limiter, &kit, &empty, 1, 1) {
+        Ok(_) => "made",
+        Err(ListFault::WrongStore) => "WrongStore",
+        Err(ListFault::RootsFull) => "RootsFull",
+        Err(ListFault::HeapOutOfMemory(_)) => "HeapOutOfMemory",
+        Err(ListFault::Memory) => "Memory",
+    };
+    println!(rt; "{answer}")?;
+    Ok(())
+}

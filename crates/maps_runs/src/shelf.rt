@@ -1,0 +1,74 @@
+//! Calls on maps that leave all maps of a shelf standing.
+
+ghost use Rattle.std.specs.Prelude.{◌≡◌, ◌∷◌, ◌<◌, [], List, Option, IfOk, MatchResult};
+ghost use Rattle.gc_store.specs.declared.root.GcRootIndex.{GcRootIndex};
+ghost use Rattle.gc_lists.specs.declared.kit.Kit.{Kit};
+ghost use Rattle.maps_runs.specs.Shelves.{Shelf};
+
+use crate::fault::RunFault;
+use gc_heap::GcHeap;
+use gc_lists::{Kit, ListFault};
+use gc_maps::HeapMap;
+use gc_steps::Steps;
+use gc_store::laws::stores_hold_tables;
+use gc_store::{PageLimit, Store};
+use std::marker::Brand;
+use std::sync::ledger::{Blank, Ledger};
+
+/// The kit of a store.
+pub(crate) fn new_kit<H: GcHeap>(store: &mut Store<H, u64>) -> Result<Kit, RunFault>
+    ensures { IfOk result (λ kit. Shelf H.KIND store.new kit []) }
+{
+    stores_hold_tables(store);
+    match Kit::new(store) {
+        Ok(kit) => Ok(kit),
+        Err(fault) => Err(RunFault::Types(fault)),
+    }
+}
+
+/// A map with that value at the key.
+pub(crate) fn put<H: GcHeap>(
+    store: &mut Store<H, u64>,
+    limiter: &mut PageLimit,
+    kit: &Kit,
+    map: &HeapMap,
+    key: i64,
+    value: i64,
+) -> Result<HeapMap, ListFault>
+    requires { Shelf H.KIND store.old kit.now (map.now.root ∷ []) }
+    ensures { (vs : List (Option GcRootIndex)) → Shelf H.KIND store.old kit.now (map.now.root ∷ vs)
+        → MatchResult result (λ made. Shelf H.KIND store.new kit.now (made.root ∷ (map.now.root ∷ vs)))
+        (λ fault. Shelf H.KIND store.new kit.now (map.now.root ∷ vs)) }
+{
+    map.insert(kit, store, limiter, key, value)
+}
+
+/// The value of a key.
+pub(crate) fn find<H: GcHeap>(
+    store: &mut Store<H, u64>,
+    map: &HeapMap,
+    key: i64,
+) -> Result<Option<i64>, ListFault>
+    requires { (kit : Kit) × Shelf H.KIND store.old kit (map.now.root ∷ []) }
+    ensures { (kit : Kit) (vs : List (Option GcRootIndex)) → Shelf H.KIND store.old kit (map.now.root ∷ vs)
+        → Shelf H.KIND store.new kit (map.now.root ∷ vs) }
+{
+    find_by::<Brand, H>(store, map, key, Blank::new(1))
+}
+
+fn find_by<L: Ledger, H: GcHeap>(
+    store: &mut Store<H, u64>,
+    map: &HeapMap,
+    key: i64,
+    blank: Blank,
+) -> Result<Option<i64>, ListFault>
+    requires name { blank.name ≡ L.name }
+    requires parts { blank.parts ≡ L.parts }
+    requires some { 0 < blank.parts }
+    requires shelf { (kit : Kit) × Shelf H.KIND store.old kit (map.now.root ∷ []) }
+    ensures { (kit : Kit) (vs : List (Option GcRootIndex)) → Shelf H.KIND store.old kit (map.now.root ∷ vs)
+        → Shelf H.KIND store.new kit (map.now.root ∷ vs) }
+{
+    let mut steps = Steps::<L>::new(blank);
+    map.get(store, key, &mut steps)
+}
