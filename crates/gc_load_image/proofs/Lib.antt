@@ -1,0 +1,20 @@
+mod FitsAlike
+mod DenseLemmas
+mod SizeLemmas
+mod CountUp
+mod RoomLemmas
+pub mod TypeLemmas
+mod PushedRoots
+mod ValueLemmas
+mod ValuesLoop
+mod PlaceLemmas
+mod EarlyLemmas
+mod LineLemmas
+mod AskLemmas
+mod MakingLemmas
+mod DenseMade
+mod MakingLoop
+mod LateLemmas
+mod GlobalLemmas
+mod FillLemmas
+mod LoadLemmas
