@@ -1,0 +1,10 @@
+pub mod Taken
+pub mod WasRead
+pub mod FirstValues
+pub mod Lines
+pub mod ObjectKinds
+pub mod Rounds
+pub mod ReadSlots
+pub mod SaySlots
+pub mod Closing
+pub mod Leaving

@@ -1,0 +1,7 @@
+use Rattle.std.proofs.Common.{true}
+use Rattle.gc_image_write.specs.Order.{early_named}
+use Rattle.gc_image_write.specs.Walking.{Visits, parts}
+use Rattle.gc_image_write.proofs.numbering.visit_globals.Given as goal
+
+abbrev pub invariant-loop-global : goal.invariant-loop-global
+invariant-loop-global l = Visits (early_named l.types.declarations l.objects) (parts l.fn.walk) (parts l.walk) true

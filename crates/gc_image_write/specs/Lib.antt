@@ -1,0 +1,5 @@
+pub mod Writing
+pub mod Plain
+pub mod TypeWords
+pub mod Order
+pub mod Walking

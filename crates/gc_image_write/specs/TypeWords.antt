@@ -1,0 +1,66 @@
+-- The words that spell the types of an image.
+use Rattle.std.specs.Prelude.{◌≡◌, ℕ, ◌≤◌, List, [], Option, None, Some, true, length, slice_get}
+use Rattle.std.specs.List.{AllByRecursion, AllZip}
+use Rattle.gc_types.specs.declared.kind.TypeKind.{TypeKind}
+use Rattle.gc_types.specs.declared.value.FieldType.{FieldType}
+use Rattle.gc_types.specs.declared.value.HeapType.{HeapType}
+use Rattle.gc_types.specs.declared.value.StorageType.{StorageType}
+use Rattle.gc_types.specs.declared.value.ValType.{ValType}
+use Rattle.gc_types.specs.Declarable.{IsKnownField, IsKnownHeap, IsKnownStorage, IsKnownVal}
+use Rattle.gc_types.specs.Declarations.{Declaration, exn_of, kind_at, max_types}
+use Rattle.gc_commands.specs.declared.command.Command.{Command}
+use Rattle.gc_commands.specs.declared.command.FieldWord.{FieldWord}
+use Rattle.gc_commands.specs.declared.command.HeapWord.{HeapWord}
+use Rattle.gc_commands.specs.declared.command.StorageWord.{StorageWord}
+use Rattle.gc_commands.specs.declared.command.ValueWord.{ValueWord}
+use Rattle.gc_commands.specs.Spelling.{FitsField, FitsHeap, FitsStorage, FitsValue}
+use Rattle.gc_commands.specs.TypeWords.{field_of, heap_of, storage_of, value_of}
+use Rattle.gc_image.specs.Declaring.{DeclareInTurn, Declares}
+use Rattle.gc_image.specs.Text.{FitsType}
+use Rattle.gc_image_write.specs.Plain.{IsPlain, IsPlainField, IsPlainHeap, IsPlainStorage, IsPlainVal}
+
+-- A word of a type: among types that know the type it spells that type, and its number is in range.
+pub record IsWordOf {A W : Type 0} (Known : List Declaration → A → Type 0) (Fits : W → Type 0) (read : (ℕ → Option TypeKind) → W → Option A) (x : A) (w : W) : Type 0 where
+  pub spelled : (types : List Declaration) → Known types x → read (kind_at types) w ≡ Some x
+  pub fits : (types : List Declaration) → length types ≤ max_types → Known types x → Fits w
+
+-- what has a word is plain, and what is plain has one
+abbrev pub Worded : {A W : Type 0} → (A → Type 0) → (A → W → Type 0) → A → Option W → Type 0
+Worded Plain Is x None = ¬ Plain x
+Worded Plain Is x (Some w) = Plain x × Is x w
+
+abbrev pub WordsHeap : HeapType → Option HeapWord → Type 0
+WordsHeap = Worded IsPlainHeap (IsWordOf IsKnownHeap FitsHeap heap_of)
+
+abbrev pub WordsValue : ValType → Option ValueWord → Type 0
+WordsValue = Worded IsPlainVal (IsWordOf IsKnownVal FitsValue value_of)
+
+abbrev pub WordsStorage : StorageType → Option StorageWord → Type 0
+WordsStorage = Worded IsPlainStorage (IsWordOf IsKnownStorage FitsStorage storage_of)
+
+abbrev pub WordsField : FieldType → Option FieldWord → Type 0
+WordsField = Worded IsPlainField (IsWordOf IsKnownField FitsField field_of)
+
+-- a word for each of a list
+abbrev pub AreWordsOf : {A W : Type 0} → (A → Option W → Type 0) → List A → List W → Type 0
+AreWordsOf Words xs words = AllZip (λ x w. Words x (Some w)) xs words
+
+-- a command declares that type behind these, and has a line
+pub record IsCommandOf (types : List Declaration) (d : Declaration) (command : Command) : Type 0 where
+  pub declares : Declares types command d
+  pub fits : FitsType command
+
+abbrev pub Commanded : List Declaration → Declaration → Option Command → Type 0
+Commanded types = Worded IsPlain (IsCommandOf types)
+
+-- an exception type is final
+abbrev pub IsFinalExn : Declaration → Type 0
+IsFinalExn d = (params : List ValType) → d.shape ≡ exn_of params → d.is_final ≡ true
+
+abbrev pub AreFinal : List Declaration → Type 0
+AreFinal types = (n : ℕ) (d : Declaration) → slice_get types n ≡ Some d → IsFinalExn d
+
+-- commands declare these types in turn, and each has a line
+pub record AreCommandsOf (types : List Declaration) (commands : List Command) : Type 0 where
+  pub declare : DeclareInTurn [] commands types
+  pub fit : AllByRecursion FitsType commands

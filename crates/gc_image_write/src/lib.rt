@@ -1,0 +1,16 @@
+//! What saving an image is made of: the commands that declare a table's types, the order of its objects, and its text. It
+//! knows nothing of heaps and stores.
+#![tactic(auto)]
+
+mod commands;
+mod named;
+mod numbering;
+mod objects;
+mod text;
+mod type_words;
+mod walk;
+
+pub use commands::commands_of;
+pub use named::are_numbers_below;
+pub use numbering::order_of;
+pub use text::write_image;

@@ -1,0 +1,156 @@
+//! The order in which an image has its objects.
+
+ghost use Rattle.std.specs.Prelude.{◌≡◌, ◌<◌, ℕ, Some, IfOk, IfSome, IfNone, length, slice_get};
+ghost use Rattle.gc_image.specs.declared.image.ImageValue.{ImageValue};
+ghost use Rattle.gc_image.specs.Well.{IsHeld, number_named};
+ghost use Rattle.gc_image_write.specs.Order.{AreClosed, AreTangled, IsOrder, early_named};
+ghost use Rattle.gc_image_write.specs.Walking.{CanVisit, Numbers, Visits, parts};
+
+use crate::walk::{Mark, Walk, visit};
+use gc_image::{GlobalLine, ImageValue, ObjectLine, number_named, values_of};
+use gc_types::Types;
+use std::alloc::{AllocError, Global};
+
+/// The objects by their new numbers: each behind those that it must have from the start. None where objects need each other so.
+///
+/// The globals are visited in turn. To visit an object without a number is to visit what it must have from the start, in the
+/// order of its values, and then to give it the next number. After each global, whatever else the numbered objects name is
+/// visited, by rising number and in the order of values; at the end, what no global reaches. Takes time and memory linear in
+/// the objects and their values.
+pub fn order_of(
+    alloc: Global,
+    types: &Types,
+    objects: &[ObjectLine],
+    globals: &[GlobalLine],
+) -> Result<Option<Vec<usize>>, AllocError>
+    requires closed { AreClosed objects.now }
+    requires held { (number : ℕ) → IsHeld globals.now number → number < length objects.now }
+    ensures some { IfOk result (λ found. IfSome found (λ order. IsOrder (early_named types.now.declarations objects.now) (length objects.now) order.items)) }
+    ensures none { IfOk result (λ found. IfNone found (AreTangled (early_named types.now.declarations objects.now))) }
+{
+    let mut walk = Walk {
+        marks: vec![in alloc; Mark::Unseen; objects.len()]?,
+        order: Vec::new(alloc),
+        stack: Vec::new(alloc),
+    };
+    if !visit_globals(&mut walk, types, objects, globals)? {
+        return Ok(None);
+    }
+    if !visit_rest(&mut walk, types, objects)? {
+        return Ok(None);
+    }
+    Ok(Some(walk.order))
+}
+
+/// Visits what each global holds, and then whatever the numbered objects name.
+fn visit_globals(
+    walk: &mut Walk,
+    types: &Types,
+    objects: &[ObjectLine],
+    globals: &[GlobalLine],
+) -> Result<bool, AllocError>
+    requires can { CanVisit (early_named types.now.declarations objects.now) (length objects.now) (parts walk.old) }
+    requires closed { AreClosed objects.now }
+    requires held { (number : ℕ) → IsHeld globals.now number → number < length objects.now }
+    ensures { IfOk result (Visits (early_named types.now.declarations objects.now) (parts walk.old) (parts walk.new)) }
+{
+    for global in globals {
+        let from = walk.order.len();
+        if !visit_value(walk, types, objects, &global.value)? {
+            return Ok(false);
+        }
+        if !follow(walk, types, objects, from)? {
+            return Ok(false);
+        }
+    }
+    Ok(true)
+}
+
+/// Visits what the objects name whose numbers are at least `from`, until none names one without a number.
+fn follow(
+    walk: &mut Walk,
+    types: &Types,
+    objects: &[ObjectLine],
+    from: usize,
+) -> Result<bool, AllocError>
+    requires can { CanVisit (early_named types.now.declarations objects.now) (length objects.now) (parts walk.old) }
+    requires closed { AreClosed objects.now }
+    ensures { IfOk result (Visits (early_named types.now.declarations objects.now) (parts walk.old) (parts walk.new)) }
+{
+    for number in from..objects.len() {
+        if number >= walk.order.len() {
+            return Ok(true);
+        }
+        let object = walk.order[number];
+        if !visit_named(walk, types, objects, object)? {
+            return Ok(false);
+        }
+    }
+    Ok(true)
+}
+
+/// Visits what an object names.
+fn visit_named(
+    walk: &mut Walk,
+    types: &Types,
+    objects: &[ObjectLine],
+    object: usize,
+) -> Result<bool, AllocError>
+    requires can { CanVisit (early_named types.now.declarations objects.now) (length objects.now) (parts walk.old) }
+    requires closed { AreClosed objects.now }
+    ensures { IfOk result (Visits (early_named types.now.declarations objects.now) (parts walk.old) (parts walk.new)) }
+{
+    match objects.get(object) {
+        Some(line) => visit_values(walk, types, objects, values_of(line)),
+        None => Ok(true),
+    }
+}
+
+/// Visits what values name.
+fn visit_values(
+    walk: &mut Walk,
+    types: &Types,
+    objects: &[ObjectLine],
+    values: &[ImageValue],
+) -> Result<bool, AllocError>
+    requires can { CanVisit (early_named types.now.declarations objects.now) (length objects.now) (parts walk.old) }
+    requires named { (index number : ℕ) (v : ImageValue) → slice_get values.now index ≡ Some v → number_named v ≡ Some number → number < length objects.now }
+    ensures { IfOk result (Visits (early_named types.now.declarations objects.now) (parts walk.old) (parts walk.new)) }
+{
+    for value in values {
+        if !visit_value(walk, types, objects, value)? {
+            return Ok(false);
+        }
+    }
+    Ok(true)
+}
+
+/// Visits the object that a value names, where it names one.
+fn visit_value(
+    walk: &mut Walk,
+    types: &Types,
+    objects: &[ObjectLine],
+    value: &ImageValue,
+) -> Result<bool, AllocError>
+    requires can { CanVisit (early_named types.now.declarations objects.now) (length objects.now) (parts walk.old) }
+    requires named { (number : ℕ) → number_named value.now ≡ Some number → number < length objects.now }
+    ensures { IfOk result (Visits (early_named types.now.declarations objects.now) (parts walk.old) (parts walk.new)) }
+{
+    match number_named(value) {
+        Some(number) => visit(walk, types, objects, number),
+        None => Ok(true),
+    }
+}
+
+/// Visits each object, so that none is left without a number.
+fn visit_rest(walk: &mut Walk, types: &Types, objects: &[ObjectLine]) -> Result<bool, AllocError>
+    requires { CanVisit (early_named types.now.declarations objects.now) (length objects.now) (parts walk.old) }
+    ensures { IfOk result (Numbers (early_named types.now.declarations objects.now) (length objects.now) (parts walk.new)) }
+{
+    for object in 0..objects.len() {
+        if !visit(walk, types, objects, object)? {
+            return Ok(false);
+        }
+    }
+    Ok(true)
+}
