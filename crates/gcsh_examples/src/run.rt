@@ -2,6 +2,7 @@
 
 use crate::fault::ExampleFault;
 use gcsh_top::{MemSink, MemSource, Status, Stores, gcsh_top};
+use session_table::words_of;
 use std::alloc::{AllocError, Global};
 use std::fmt::{Display, Formatter};
 use std::{fmt, str};
@@ -52,17 +53,24 @@ pub(crate) fn run_script(
     let input = script.as_bytes().to_vec(alloc)?;
     let mut source = MemSource::new(input, Vec::new(alloc));
     let mut sink = MemSink::new(alloc, ROOM, Vec::new(alloc))?;
-    let mut stores = Stores::new(alloc)?;
-    let status = gcsh_top(alloc, words.as_slice(), &mut source, &mut sink, &mut stores);
-    let output = String::from_str(alloc, str::from_utf8(sink.bytes())?)?;
-    Ok((status, output))
+    let status = run_top(alloc, words.as_slice(), &mut source, &mut sink)?;
+    Ok((status, text_of(alloc, sink.bytes())?))
 }
 
-/// The words of a text.
-fn words_of(alloc: Global, text: &str) -> Result<Vec<String>, AllocError> {
-    text.split_whitespace()
-        .map(|word| String::from_str(alloc, word))
-        .try_collect(alloc)
+/// Runs the top call on new stores, and answers its status.
+fn run_top(
+    alloc: Global,
+    words: &[String],
+    source: &mut MemSource,
+    sink: &mut MemSink,
+) -> Result<u8, AllocError> {
+    let mut stores = Stores::new(alloc)?;
+    Ok(gcsh_top(alloc, words, source, sink, &mut stores))
+}
+
+/// The text that bytes are.
+fn text_of(alloc: Global, bytes: &[u8]) -> Result<String, ExampleFault> {
+    Ok(String::from_str(alloc, str::from_utf8(bytes)?)?)
 }
 
 /// How an example ended that had this status and gave this output.

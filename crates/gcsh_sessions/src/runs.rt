@@ -3,6 +3,7 @@
 use crate::fault::SessionFault;
 use crate::setup::ProgramSetup;
 use gcsh_top::{MemSink, MemSource, Stores, gcsh_top};
+use session_table::words_of;
 use std::alloc::{AllocError, Global};
 use std::io::Write;
 
@@ -17,14 +18,34 @@ pub(crate) fn run_program<W: Write + Drop>(
     let input = script.as_bytes().to_vec(alloc)?;
     let mut source = MemSource::new(input, setup.failing_reads);
     let mut sink = MemSink::new(alloc, setup.room, setup.failing_writes)?;
+    let status = run_top(alloc, words.as_slice(), &mut source, &mut sink)?;
+    write_output(sink.bytes(), setup.is_folded, status, out)
+}
+
+/// Runs the top call on new stores, and answers its status.
+fn run_top(
+    alloc: Global,
+    words: &[String],
+    source: &mut MemSource,
+    sink: &mut MemSink,
+) -> Result<u8, AllocError> {
     let mut stores = Stores::new(alloc)?;
-    let status = gcsh_top(alloc, words.as_slice(), &mut source, &mut sink, &mut stores);
-    if setup.is_folded {
-        write_folded(sink.bytes(), out)?;
+    Ok(gcsh_top(alloc, words, source, sink, &mut stores))
+}
+
+/// Writes what a sink took, and a status.
+fn write_output<W: Write + Drop>(
+    bytes: &[u8],
+    is_folded: bool,
+    status: u8,
+    out: &mut W,
+) -> Result<(), SessionFault> {
+    if is_folded {
+        write_folded(bytes, out)?;
     } else {
-        out.write_all(sink.bytes())?;
+        out.write_all(bytes)?;
     }
-    match sink.bytes().last() {
+    match bytes.last() {
         None | Some(b'\n') => writeln!(out, "status {status}")?,
         Some(_) => writeln!(out, "\nstatus {status} within a line")?,
     }
@@ -59,11 +80,4 @@ fn write_times<W: Write + Drop>(line: &str, times: u32, out: &mut W) -> Result<(
         writeln!(out, "{{{times}*{line}}}")?;
     }
     Ok(())
-}
-
-/// The words of a text.
-fn words_of(alloc: Global, text: &str) -> Result<Vec<String>, AllocError> {
-    text.split_whitespace()
-        .map(|word| String::from_str(alloc, word))
-        .try_collect(alloc)
 }

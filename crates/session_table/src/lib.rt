@@ -13,5 +13,5 @@ mod options;
 mod table;
 
 pub use expand::expand_lines;
-pub use options::{name_and_value, numbers_of};
+pub use options::{name_and_value, numbers_of, words_of};
 pub use table::{Sessions, TableFault, read_table};

@@ -1,19 +1,13 @@
 //! Runs the top call over a reader and a writer that give and take by parts, and writes what was called.
 
-use crate::ends::{Reader, Writer};
+use crate::ends::{Log, Reader, Writer};
 use crate::fault::SessionFault;
 use crate::setup::TracedSetup;
-use gcsh_top::{StdSink, StdSource, Stores, gcsh_top};
+use gcsh_top::{Sink, Source, StdSink, StdSource, Stores, gcsh_top};
+use session_table::words_of;
 use std::alloc::{AllocError, Global};
 use std::cell::RefCell;
 use std::io::Write;
-
-/// The words of a text.
-fn words_of(alloc: Global, text: &str) -> Result<Vec<String>, AllocError> {
-    text.split_whitespace()
-        .map(|word| String::from_str(alloc, word))
-        .try_collect(alloc)
-}
 
 /// Runs the top call on a script, and writes the calls of its ends and its status.
 pub(crate) fn run_traced<W: Write + Drop>(
@@ -40,8 +34,23 @@ pub(crate) fn run_traced<W: Write + Drop>(
         flushes: 0,
         log: &log,
     });
+    let status = run_top(alloc, words.as_slice(), &mut source, &mut sink)?;
+    write_calls(&log, status, out)
+}
+
+/// Runs the top call on new stores, and answers its status.
+fn run_top<S: Source, K: Sink>(
+    alloc: Global,
+    words: &[String],
+    source: &mut S,
+    sink: &mut K,
+) -> Result<u8, AllocError> {
     let mut stores = Stores::new(alloc)?;
-    let status = gcsh_top(alloc, words.as_slice(), &mut source, &mut sink, &mut stores);
+    Ok(gcsh_top(alloc, words, source, sink, &mut stores))
+}
+
+/// Writes what a log has, and a status.
+fn write_calls<W: Write + Drop>(log: &Log, status: u8, out: &mut W) -> Result<(), SessionFault> {
     if let Ok(calls) = log.try_borrow() {
         out.write_all(calls.as_bytes())?;
     }
