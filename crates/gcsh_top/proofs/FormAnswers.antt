@@ -9,25 +9,35 @@ use Rattle.gcsh_top.specs.declared.stores.Stores.{Stores}
 use Rattle.gcsh_top.specs.declared.words.Collector.{Collector}
 use Rattle.gcsh_top.specs.declared.words.Form.{Form}
 use Rattle.gcsh_top.specs.declared.words.Task.{Task}
-use Rattle.gcsh_top.specs.declared.words.Task.TheVariants.{Script, Churn, Paths}
+use Rattle.gcsh_top.specs.declared.words.Task.TheVariants.{Script, Churn, Paths, Load}
 use Rattle.gcsh_top.specs.Answers.{Answers, Completed, RanOn, RanTask, RanWords, Reported, behind, within}
-use Rattle.gcsh_top.specs.Reports.{RanSilently, silent}
-use Rattle.gcsh_top.specs.PathReports.{ReportedPaths, reported_text, wanted_memory}
+use Rattle.gcsh_top.specs.Reports.{RanSilently, ReportedText, reported_text, wanted_memory, silent}
+use Rattle.gcsh_top.specs.LoadReports.{RanLoad, read_whole, not_read}
+use Rattle.gcsh_top.specs.PathReports.{ReportedPaths}
 use Rattle.gcsh_top.specs.Churn.{max_rounds}
 use Rattle.gcsh_top.specs.ChurnRuns.{Churned, to_its_end, within}
 use Rattle.gcsh_top.specs.Chosen.{AreSameStores, OthersStay, chosen}
 use Rattle.gcsh_top.specs.Ends.{SinkRun, SourceRun, SourceTold}
 use Rattle.gcsh_top.specs.Statuses.{code_of}
-use Rattle.gcsh_top.specs.Words.{FitsTask, IsForm, layouts_of, task_words}
+use Rattle.gcsh_top.specs.Words.{FitsTask, IsForm, ReadsNothing, layouts_of, task_words}
+
+-- a report never ends as words of none
+no_usage_text : (Tells : List ℕ → Type 0) (Left Wanting : Type 0) (sink : SinkRun) → ReportedText Tells Left Wanting sink Usage → ⊥
+no_usage_text Tells Left Wanting sink (reported_text text tells left wrote) = wrote
+no_usage_text Tells Left Wanting sink (wanted_memory left unwritten is) = absurd (cc)
+
+no_usage_reported : (layouts : Layouts) (form : Form) (source : SourceRun) (sink : SinkRun) (store : StoreView ℕ) (Ends : StoreView ℕ → Type 0) → ((mid : StoreView ℕ) → Ends mid → ⊥) → Reported layouts form source sink store Usage Ends → ⊥
+no_usage_reported layouts form source sink store Ends none (behind mid ran ends) = none mid ends
+no_usage_reported layouts form source sink store Ends none (within flushed ran other unwritten) = ran
 
 -- a task never ends as words of none
 no_usage : (task : Task) (layouts : Layouts) (form : Form) (source : SourceRun) (sink : SinkRun) (store : StoreView ℕ) → RanTask task layouts form source sink store Usage → ⊥
 no_usage Script layouts form source sink store ran = ran
 no_usage (Churn rounds) layouts form source sink store (same, to_its_end summary ran wrote) = wrote
 no_usage (Churn rounds) layouts form source sink store (same, within stopped unwritten is) = absurd (cc)
-no_usage Paths layouts form source sink store (behind mid ran (reported_text text tells left wrote)) = wrote
-no_usage Paths layouts form source sink store (behind mid ran (wanted_memory left unwritten is)) = absurd (cc)
-no_usage Paths layouts form source sink store (within flushed ran other unwritten) = ran
+no_usage Paths layouts form source sink store ran = no_usage_reported layouts form source sink store _ (λ mid ends. no_usage_text _ _ _ sink ends) ran
+no_usage Load layouts form source sink store (read_whole input whole ends) = no_usage_text _ _ _ sink ends
+no_usage Load layouts form source sink store (not_read why unwritten ready) = why
 
 -- the words of a form never end as words of none
 answers_of : (words : List (List ℕ)) (source : SourceRun) (sink : SinkRun) (old new : Stores) (status : Status) → RanWords words source sink old new status → Answers words source sink old new status
@@ -53,31 +63,28 @@ ran_over collector words form source sink old new status is_form over ran others
 pub fits_rounds : (task : Task) (rounds : ℕ) → task ≡ Churn rounds → FitsTask task → rounds ≤ max_rounds
 fits_rounds task rounds is fits = subst FitsTask is fits
 
--- a task is one of both
-pub other_task : (task : Task) (rounds : ℕ) → task ≡ Script → task ≡ Churn rounds → ⊥
-other_task task rounds is other = absurd (cc)
+-- a task that reads an input is none that reads nothing
+pub reads : (task known : Task) → task ≡ known → (ReadsNothing known → ⊥) → ReadsNothing task → ⊥
+reads task known is some nothing = some (subst ReadsNothing is nothing)
 
--- words of a form that makes a script are of no form that reads one
-is_made : (task : Task) (name rounds : List ℕ) → task_words task ≡ name ∷ rounds ∷ [] → (n : ℕ) × (task ≡ Churn n)
-is_made Script name rounds words = absurd (cc)
-is_made (Churn n) name rounds words = (n, refl)
-is_made Paths name rounds words = absurd (cc)
+-- words of a form that reads nothing are of no form that reads an input
+two_words : (task : Task) (name count : List ℕ) → task_words task ≡ name ∷ count ∷ [] → ReadsNothing task
+two_words Script name count words = absurd (cc)
+two_words (Churn n) name count words = tt
+two_words Paths name count words = absurd (cc)
+two_words Load name count words = absurd (cc)
 
-pub made_alone : (words : List (List ℕ)) (form other : Form) (rounds : ℕ) → IsForm words form → IsForm words other → form.task ≡ Churn rounds → (n : ℕ) × (other.task ≡ Churn n)
-made_alone words form other rounds is_form is_other made =
+alone : (task other : Task) → task_words task ≡ task_words other → ReadsNothing task → ReadsNothing other
+alone Script other same nothing = absurd nothing
+alone (Churn n) other same nothing = two_words other (codes "churn") (decimal n) (sym same)
+alone Paths other same nothing = absurd nothing
+alone Load other same nothing = absurd nothing
+
+pub unread_alone : (words : List (List ℕ)) (form other : Form) → IsForm words form → IsForm words other → ReadsNothing form.task → ReadsNothing other.task
+unread_alone words form other is_form is_other nothing =
     let one = is_form.spelled in
     let two = is_other.spelled in
-    let behind = ap task_words made in
-    is_made other.task (codes "churn") (decimal rounds) (cc)
-
--- the script that is the input was run
-pub ran_script : (task : Task) (layouts : Layouts) (form : Form) (source : SourceRun) (sink : SinkRun) (store : StoreView ℕ) (status : Status) → task ≡ Script → RanOn layouts form source sink store status → RanTask task layouts form source sink store status
-ran_script task layouts form source sink store status is ran = subst (λ (t : Task). RanTask t layouts form source sink store status) (sym is) ran
-
--- a script was made and run, and nothing was read
-pub ran_made : (task : Task) (layouts : Layouts) (form : Form) (told : SourceTold) (sink : SinkRun) (store : StoreView ℕ) (status : Status) (rounds : ℕ) → task ≡ Churn rounds → Churned layouts form rounds sink store status
-    → RanTask task layouts form (record { before = told; after = told }) sink store status
-ran_made task layouts form told sink store status rounds is ran = subst (λ (t : Task). RanTask t layouts form (record { before = told; after = told }) sink store status) (sym is) (refl, ran)
+    alone form.task other.task (cc) nothing
 
 -- a script that was run to its end over a sink that tells nothing
 pub silently : (layouts : Layouts) (form : Form) (source : SourceRun) (before after : Bool) (store : StoreView ℕ) → Completed layouts form source (record { before = silent before; after = silent after }) store → RanSilently layouts form source store
@@ -88,14 +95,10 @@ pub not_begun : (layouts : Layouts) (form : Form) (source : SourceRun) (before a
     → RanOn layouts form source (record { before = silent before; after = silent after }) store status → RanOn layouts form source (record { before = silent false; after = silent after }) store status
 not_begun layouts form source before after store status is ran = subst (λ (b : Bool). RanOn layouts form source (record { before = silent b; after = silent after }) store status) is ran
 
--- a script was run without replies, and a report written
-pub ran_reported : (task : Task) (layouts : Layouts) (form : Form) (source : SourceRun) (sink : SinkRun) (store : StoreView ℕ) (status : Status) → task ≡ Paths
-    → Reported layouts form source sink store status (λ mid. ReportedPaths layouts mid sink store status) → RanTask task layouts form source sink store status
-ran_reported task layouts form source sink store status is ran = subst (λ (t : Task). RanTask t layouts form source sink store status) (sym is) ran
-
--- a task that reports makes no script
-pub no_script_made : (task : Task) (rounds : ℕ) → task ≡ Paths → task ≡ Churn rounds → ⊥
-no_script_made task rounds is other = absurd (cc)
+-- a task that is known ended so
+pub ran_task : (task known : Task) (layouts : Layouts) (form : Form) (source : SourceRun) (sink : SinkRun) (store : StoreView ℕ) (status : Status) → task ≡ known
+    → RanTask known layouts form source sink store status → RanTask task layouts form source sink store status
+ran_task task known layouts form source sink store status is ran = subst (λ (t : Task). RanTask t layouts form source sink store status) (sym is) ran
 
 -- which status a number is
 pub usage_of : (status : Status) → code_of status ≡ 1 → status ≡ Usage

@@ -8,6 +8,8 @@ pub mod FormRun
 pub mod ChurnLemmas
 pub mod RoundLemmas
 pub mod ReadingLemmas
+mod WholeLemmas
+mod LoadLemmas
 pub mod FormAnswers
 pub mod StatusLaws
 pub mod ProgramLemmas

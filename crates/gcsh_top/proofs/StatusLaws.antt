@@ -10,15 +10,15 @@ use Rattle.gcsh_top.specs.declared.status.Status.TheVariants.{Done, Usage, ReadF
 use Rattle.gcsh_top.specs.declared.stores.Stores.{Stores}
 use Rattle.gcsh_top.specs.declared.words.Form.{Form}
 use Rattle.gcsh_top.specs.declared.words.Task.{Task}
-use Rattle.gcsh_top.specs.declared.words.Task.TheVariants.{Script, Churn, Paths}
+use Rattle.gcsh_top.specs.declared.words.Task.TheVariants.{Script, Churn, Paths, Load}
 use Rattle.gcsh_top.specs.Answers.{Answers, IsShort, RanOn, RanTask, RanWords, Reported, behind, within}
+use Rattle.gcsh_top.specs.LoadReports.{read_whole, not_read}
 use Rattle.gcsh_top.specs.Chosen.{chosen}
 use Rattle.gcsh_top.specs.ChurnRuns.{Churned, to_its_end, within}
-use Rattle.gcsh_top.specs.PathReports.{ReportedPaths, reported_text, wanted_memory}
-use Rattle.gcsh_top.specs.Reports.{Wrote, silent}
+use Rattle.gcsh_top.specs.Reports.{ReportedText, Wrote, reported_text, wanted_memory, silent}
 use Rattle.gcsh_top.specs.Counts.{raised}
 use Rattle.gcsh_top.specs.Ends.{Gave, SinkRun, SourceRun, SourceTold}
-use Rattle.gcsh_top.specs.Input.{GaveWhole, max_input, so_far, to_its_end}
+use Rattle.gcsh_top.specs.Input.{GaveWhole, UnreadInput, max_input, so_far, to_its_end}
 use Rattle.gcsh_top.specs.Words.{IsForm, layouts_of}
 use Rattle.gcsh_top.proofs.EndLemmas.{gave_none, told}
 
@@ -66,9 +66,9 @@ churned_by : (layouts : Layouts) (form : Form) (rounds : ℕ) (sink : SinkRun) (
 churned_by layouts form rounds sink store status (to_its_end summary ran wrote) = wrote_by summary sink status wrote
 churned_by layouts form rounds sink store status (within stopped unwritten is) = inr (inr is)
 
-reported_by : (layouts : Layouts) (mid : StoreView ℕ) (sink : SinkRun) (store : StoreView ℕ) (status : Status) → ReportedPaths layouts mid sink store status → (status ≡ Done) ⊎ (((status ≡ WriteFault) × Rose sink.before.faults sink.after.faults) ⊎ (status ≡ NoMemory))
-reported_by layouts mid sink store status (reported_text text tells left wrote) = wrote_by text sink status wrote
-reported_by layouts mid sink store status (wanted_memory left unwritten is) = inr (inr is)
+reported_by : (Tells : List ℕ → Type 0) (Left Wanting : Type 0) (sink : SinkRun) (status : Status) → ReportedText Tells Left Wanting sink status → (status ≡ Done) ⊎ (((status ≡ WriteFault) × Rose sink.before.faults sink.after.faults) ⊎ (status ≡ NoMemory))
+reported_by Tells Left Wanting sink status (reported_text text tells left wrote) = wrote_by text sink status wrote
+reported_by Tells Left Wanting sink status (wanted_memory left unwritten is) = inr (inr is)
 
 -- such a status is not that of an input that is too long
 not_too_long : {R : Type 0} (status : Status) → (status ≡ Done) ⊎ (((status ≡ WriteFault) × R) ⊎ (status ≡ NoMemory)) → status ≡ TooLong → ⊥
@@ -81,12 +81,28 @@ nothing_given : (source : SourceRun) (status : Status) → source.after ≡ sour
 nothing_given source status same other =
     given_short source status [] other (subst (λ (after : SourceTold). Gave (told source.before after) []) (sym same) (gave_none source.before)) (omega arith)
 
+-- where a report was written behind a script
+given_reported : (layouts : Layouts) (form : Form) (source : SourceRun) (sink : SinkRun) (store : StoreView ℕ) (status : Status) (Ends : StoreView ℕ → Type 0) → ((mid : StoreView ℕ) → Ends mid → status ≡ TooLong → ⊥)
+    → Reported layouts form source sink store status Ends → Given source status
+given_reported layouts form source sink store status Ends other (behind mid ran ends) = given_short source status ran.input (other mid ends) ran.whole.gave.gave ran.whole.gave.short
+given_reported layouts form source sink store status Ends other (within flushed ran undone unwritten) = given_on layouts form source (record { before = silent false; after = silent flushed }) store status ran
+
+-- where an input was not read to its end
+given_unread : (source : SourceRun) (status : Status) → UnreadInput source status → Given source status
+given_unread source Done why = absurd why
+given_unread source Usage why = absurd why
+given_unread source ReadFault why = given_short source ReadFault why.0.0 (λ is. cc) why.0.1.gave why.0.1.short
+given_unread source WriteFault why = absurd why
+given_unread source TooLong why = (why.0, why.1, omega (arith, why.2), (λ is. why.2, λ is. refl))
+given_unread source NoMemory why = given_short source NoMemory why.0 (λ is. cc) why.1.gave why.1.short
+
 given_task : (task : Task) (layouts : Layouts) (form : Form) (source : SourceRun) (sink : SinkRun) (store : StoreView ℕ) (status : Status) → RanTask task layouts form source sink store status → Given source status
 given_task Script layouts form source sink store status ran = given_on layouts form source sink store status ran
 given_task (Churn rounds) layouts form source sink store status (same, ran) = nothing_given source status same (not_too_long status (churned_by layouts form rounds sink store status ran))
-given_task Paths layouts form source sink store status (behind mid ran ends) =
-    given_short source status ran.input (not_too_long status (reported_by layouts mid sink store status ends)) ran.whole.gave.gave ran.whole.gave.short
-given_task Paths layouts form source sink store status (within flushed ran other unwritten) = given_on layouts form source (record { before = silent false; after = silent flushed }) store status ran
+given_task Paths layouts form source sink store status ran = given_reported layouts form source sink store status _ (λ mid ends. not_too_long status (reported_by _ _ _ sink status ends)) ran
+given_task Load layouts form source sink store status (read_whole input whole ends) =
+    given_short source status input (not_too_long status (reported_by _ _ _ sink status ends)) whole.gave.gave whole.gave.short
+given_task Load layouts form source sink store status (not_read why unwritten ready) = given_unread source status why
 
 pub given_exact : (words : List (List ℕ)) (source : SourceRun) (sink : SinkRun) (old new : Stores) (status : Status) → RanWords words source sink old new status → Given source status
 given_exact words source sink old new status ran = given_task ran.form.task (layouts_of ran.form.collector) ran.form source sink (chosen ran.form.collector new) status ran.ran
@@ -117,13 +133,30 @@ whole_by status (inl done) whole_out = inl done
 whole_by status (inr (inl failed)) whole_out = absurd (whole_out failed.1)
 whole_by status (inr (inr none)) whole_out = inr none
 
+-- so where a report was written behind a script
+complete_reported : (layouts : Layouts) (form : Form) (source : SourceRun) (sink : SinkRun) (store : StoreView ℕ) (status : Status) (Ends : StoreView ℕ → Type 0) → ((mid : StoreView ℕ) → Ends mid → (status ≡ Done) ⊎ (status ≡ NoMemory))
+    → Reported layouts form source sink store status Ends → ¬ Rose source.before.faults source.after.faults → IsShort source.before.left source.before.given source.after.given → (status ≡ Done) ⊎ (status ≡ NoMemory)
+complete_reported layouts form source sink store status Ends whole (behind mid ran ends) whole_in short = whole mid ends
+complete_reported layouts form source sink store status Ends whole (within flushed ran other unwritten) whole_in short =
+    complete_on layouts form source (record { before = silent false; after = silent flushed }) store status ran whole_in (λ rose. absurd (omega (arith, rose))) short
+
+-- so where an input was not read to its end
+complete_unread : (source : SourceRun) (status : Status) → UnreadInput source status → ¬ Rose source.before.faults source.after.faults → IsShort source.before.left source.before.given source.after.given → (status ≡ Done) ⊎ (status ≡ NoMemory)
+complete_unread source Done why whole_in short = inl refl
+complete_unread source Usage why whole_in short = absurd why
+complete_unread source ReadFault why whole_in short = absurd (whole_in why.1)
+complete_unread source WriteFault why whole_in short = absurd why
+complete_unread source TooLong why whole_in short = absurd (too_many source.before.left source.after.left source.before.given source.after.given why.0 why.1.taken why.1.counted why.2 short)
+complete_unread source NoMemory why whole_in short = inr refl
+
 complete_task : (task : Task) (layouts : Layouts) (form : Form) (source : SourceRun) (sink : SinkRun) (store : StoreView ℕ) (status : Status) → RanTask task layouts form source sink store status
     → ¬ Rose source.before.faults source.after.faults → ¬ Rose sink.before.faults sink.after.faults → IsShort source.before.left source.before.given source.after.given → (status ≡ Done) ⊎ (status ≡ NoMemory)
 complete_task Script layouts form source sink store status ran whole_in whole_out short = complete_on layouts form source sink store status ran whole_in whole_out short
 complete_task (Churn rounds) layouts form source sink store status (same, ran) whole_in whole_out short = whole_by status (churned_by layouts form rounds sink store status ran) whole_out
-complete_task Paths layouts form source sink store status (behind mid ran ends) whole_in whole_out short = whole_by status (reported_by layouts mid sink store status ends) whole_out
-complete_task Paths layouts form source sink store status (within flushed ran other unwritten) whole_in whole_out short =
-    complete_on layouts form source (record { before = silent false; after = silent flushed }) store status ran whole_in (λ rose. absurd (omega (arith, rose))) short
+complete_task Paths layouts form source sink store status ran whole_in whole_out short =
+    complete_reported layouts form source sink store status _ (λ mid ends. whole_by status (reported_by _ _ _ sink status ends) whole_out) ran whole_in short
+complete_task Load layouts form source sink store status (read_whole input whole ends) whole_in whole_out short = whole_by status (reported_by _ _ _ sink status ends) whole_out
+complete_task Load layouts form source sink store status (not_read why unwritten ready) whole_in whole_out short = complete_unread source status why whole_in short
 
 complete_words : (words : List (List ℕ)) (source : SourceRun) (sink : SinkRun) (old new : Stores) (status : Status) → RanWords words source sink old new status
     → ¬ Rose source.before.faults source.after.faults → ¬ Rose sink.before.faults sink.after.faults → IsShort source.before.left source.before.given source.after.given → (status ≡ Done) ⊎ (status ≡ NoMemory)

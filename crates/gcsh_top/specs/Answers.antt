@@ -8,11 +8,12 @@ use Rattle.gcsh_top.specs.declared.status.Status.TheVariants.{Done, Usage, ReadF
 use Rattle.gcsh_top.specs.declared.stores.Stores.{Stores}
 use Rattle.gcsh_top.specs.declared.words.Form.{Form}
 use Rattle.gcsh_top.specs.declared.words.Task.{Task}
-use Rattle.gcsh_top.specs.declared.words.Task.TheVariants.{Script, Churn, Paths}
+use Rattle.gcsh_top.specs.declared.words.Task.TheVariants.{Script, Churn, Paths, Load}
 use Rattle.gcsh_top.specs.Chosen.{AreSameStores, OthersStay, chosen}
 use Rattle.gcsh_top.specs.ChurnRuns.{Churned}
 use Rattle.gcsh_top.specs.Ends.{SinkRun, SourceRun}
 use Rattle.gcsh_top.specs.Input.{GaveLines, GaveWhole, ReadWhole, max_input}
+use Rattle.gcsh_top.specs.LoadReports.{RanLoad}
 use Rattle.gcsh_top.specs.PathReports.{ReportedPaths}
 use Rattle.gcsh_top.specs.Reports.{RanSilently, silent}
 use Rattle.gcsh_top.specs.Runs.{RanForm, StoppedForm}
@@ -62,6 +63,7 @@ abbrev pub RanTask : Task → Layouts → Form → SourceRun → SinkRun → Sto
 RanTask Script layouts form source sink store status = RanOn layouts form source sink store status
 RanTask (Churn rounds) layouts form source sink store status = (source.after ≡ source.before) × Churned layouts form rounds sink store status
 RanTask Paths layouts form source sink store status = Reported layouts form source sink store status (λ mid. ReportedPaths layouts mid sink store status)
+RanTask Load layouts form source sink store status = RanLoad layouts form source sink store status
 
 -- The words are those of a form, whose run on the store that they choose ended so. The other stores are as they were, and
 -- each has its id still.

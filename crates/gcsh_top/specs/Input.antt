@@ -4,6 +4,9 @@ use Rattle.std.specs.Io.KnownBytes.{IsAtEnd}
 use Rattle.gc_model.specs.Allocation.{Rose}
 use Rattle.gcsh_top.specs.declared.read.ReadFault.{ReadFault}
 use Rattle.gcsh_top.specs.declared.read.ReadFault.TheVariants.{Source, TooLong}
+use Rattle.gcsh_top.specs.declared.status.Status.{Status}
+use Rattle.gcsh_top.specs.declared.status.Status.TheVariants.{Done, Usage, WriteFault, NoMemory}
+use Rattle.gcsh_top.specs.declared.status.Status.TheVariants as status
 use Rattle.gc_script.specs.Cutting.{IsCut}
 use Rattle.gcsh_top.specs.Ends.{Gave, SourceRun}
 
@@ -35,6 +38,16 @@ pub record GavePiece (source : SourceRun) (given n : ℕ) (bytes : List ℕ) : T
 abbrev pub Unread : SourceRun → ℕ → ReadFault → Type 0
 Unread source given Source = Gave source [] × Rose source.before.faults source.after.faults
 Unread source given TooLong = (b : ℕ) × Gave source (b ∷ []) × (given ≡ max_input)
+
+-- How an input was not read to its end into memory, by the status: the source failed, it gave one byte more than an input may
+-- have, or there was no memory.
+abbrev pub UnreadInput : SourceRun → Status → Type 0
+UnreadInput source Done = ⊥
+UnreadInput source Usage = ⊥
+UnreadInput source status.ReadFault = ((bytes : List ℕ) × GaveShort source bytes) × Rose source.before.faults source.after.faults
+UnreadInput source WriteFault = ⊥
+UnreadInput source status.TooLong = (bytes : List ℕ) × Gave source bytes × (length bytes ≡ max_input + 1)
+UnreadInput source NoMemory = (bytes : List ℕ) × GaveShort source bytes
 
 -- The source gave these bytes, and those within the limit end their whole lines with the last line feed.
 pub record GaveLines (source : SourceRun) (bytes whole : List ℕ) : Type 0 where

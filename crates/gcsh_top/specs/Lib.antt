@@ -9,6 +9,7 @@ pub mod Chosen
 pub mod Runs
 pub mod Reports
 pub mod PathReports
+pub mod LoadReports
 pub mod ChurnRuns
 pub mod Answers
 pub mod Program

@@ -9,9 +9,8 @@ use Rattle.gc_policy.specs.Accounts.{Account}
 use Rattle.gc_store.specs.OwnedWords.{HoldsThere}
 use Rattle.gcsh_paths.specs.Answers.{IsReportText}
 use Rattle.gcsh_top.specs.declared.status.Status.{Status}
-use Rattle.gcsh_top.specs.declared.status.Status.TheVariants.{NoMemory}
 use Rattle.gcsh_top.specs.Ends.{SinkRun}
-use Rattle.gcsh_top.specs.Reports.{Wrote}
+use Rattle.gcsh_top.specs.Reports.{ReportedText}
 
 -- the refusal of a report, as a line
 abbrev pub full_text : List ℕ
@@ -26,7 +25,6 @@ TellsPaths layouts mid text =
 abbrev pub LeavesPushed : Layouts → StoreView ℕ → StoreView ℕ → Type 0
 LeavesPushed layouts mid store = (t : Table ℕ) (place : Placing) (a : Account) → HoldsThere layouts mid t place a → OnlyPushed layouts t place a store
 
--- the report or its refusal was written; or there was no memory for it, and nothing was
-pub data ReportedPaths (layouts : Layouts) (mid : StoreView ℕ) (sink : SinkRun) (store : StoreView ℕ) (status : Status) : Type 0 where
-  reported_text : (text : List ℕ) → TellsPaths layouts mid text → LeavesPushed layouts mid store → Wrote text sink status → ReportedPaths layouts mid sink store status
-  wanted_memory : LeavesPushed layouts mid store → sink.after ≡ sink.before → status ≡ NoMemory → ReportedPaths layouts mid sink store status
+-- how the form ends on the store that the script left
+abbrev pub ReportedPaths : Layouts → StoreView ℕ → SinkRun → StoreView ℕ → Status → Type 0
+ReportedPaths layouts mid sink store status = ReportedText (TellsPaths layouts mid) (LeavesPushed layouts mid store) (LeavesPushed layouts mid store) sink status

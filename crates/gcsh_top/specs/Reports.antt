@@ -24,6 +24,11 @@ Wrote text sink WriteFault = TookFront sink.before.held sink.after.held text × 
 Wrote text sink TooLong = ⊥
 Wrote text sink NoMemory = sink.after ≡ sink.before
 
+-- A report was written that tells something, which left a store so; or there was no memory for it, and nothing was written.
+pub data ReportedText (Tells : List ℕ → Type 0) (Left Wanting : Type 0) (sink : SinkRun) (status : Status) : Type 0 where
+  reported_text : (text : List ℕ) → Tells text → Left → Wrote text sink status → ReportedText Tells Left Wanting sink status
+  wanted_memory : Wanting → sink.after ≡ sink.before → status ≡ NoMemory → ReportedText Tells Left Wanting sink status
+
 -- what a sink tells that drops what it takes, and never fails
 abbrev pub silent : Bool → SinkTold
 silent flushed = record { held = None; faults = 0; flushed = flushed }

@@ -15,7 +15,7 @@ ghost use Rattle.gcsh_top.specs.Runs.{IsReady};
 ghost use Rattle.gcsh_top.specs.declared.words.Form.{Form};
 
 use crate::churn::{MADE, READ, Round, SLOTS, declare_link, next_seed};
-use crate::report::write_text;
+use crate::report::write_report;
 use crate::sink::Sink;
 use crate::status::Status;
 use crate::words::Form;
@@ -222,7 +222,7 @@ fn write_summary<K: Sink>(alloc: Global, summary: &Summary, sink: &mut K) -> Sta
     let Ok(text) = text_of(alloc, summary) else {
         return Status::NoMemory;
     };
-    write_text(sink, text.as_str())
+    write_report(sink, text.as_bytes())
 }
 
 /// The text of a summary.

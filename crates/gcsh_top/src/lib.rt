@@ -12,6 +12,7 @@
 
 mod churn;
 mod churn_run;
+mod load;
 pub mod memory;
 pub mod program;
 pub mod read;

@@ -25,13 +25,15 @@ pub const HELP: &str = "\
 gcsh runs a script of heap commands, and writes a reply to each.
 
 Usage: gcsh COLLECTOR FIRST MOST [paths] < SCRIPT
+       gcsh COLLECTOR FIRST MOST load < IMAGE
        gcsh COLLECTOR FIRST MOST churn N, gcsh --help, gcsh --version
 
 COLLECTOR is copying or counting, which free what no root reaches, or null,
 which never frees. FIRST <= MOST <= 65535 are the pages of 65536 bytes that the
-heap begins with, and the most that it gets. With churn nothing is read: a
-script of N <= 100000 rounds is made and run, and a summary of it printed. With
-paths no reply is printed, but a shortest path to each object that is reached.
+heap begins with, and the most that it gets. With paths no reply is printed, but
+a shortest path to each object that is reached. With load a heap image is loaded.
+With churn nothing is read: a script of N <= 100000 rounds is made and run, and a
+summary of it printed.
 
   struct F..     declare a type       field R I [D]  read a field, into D
   new D T V..    make a struct        setf R I V     write a field
@@ -50,7 +52,7 @@ failed; 3 the output failed; 4 the input is over 16777216 bytes; 5 no memory.
 ";
 
 /// What `--version` shows.
-pub const VERSION: &str = concat!("gcsh ", "0.2.0", "\n");
+pub const VERSION: &str = concat!("gcsh ", "0.3.0", "\n");
 
 /// The status that the program ends with. [`gcsh_main`] alone makes one, and none can be dropped, so a `main`
 /// that returns one ends with what `gcsh_main` answered.

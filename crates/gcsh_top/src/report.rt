@@ -51,17 +51,17 @@ fn report_paths<H: GcHeap, K: Sink>(
     ensures same { HasSameId store.old store.new }
 {
     match path_report(alloc, store) {
-        Ok(text) => write_text(sink, text.as_str()),
-        Err(PathFault::RootsFull) => write_text(sink, "RootsFull\n"),
+        Ok(text) => write_report(sink, text.as_bytes()),
+        Err(PathFault::RootsFull) => write_report(sink, b"RootsFull\n"),
         Err(_) => Status::NoMemory,
     }
 }
 
-/// Writes a text, and flushes.
-pub(crate) fn write_text<K: Sink>(sink: &mut K, text: &str) -> Status
+/// Writes a report, and flushes.
+pub(crate) fn write_report<K: Sink>(sink: &mut K, text: &[u8]) -> Status
     ensures { Wrote text.now (record { before = K.tells sink.old; after = K.tells sink.new }) result }
 {
-    if write_all(sink, text.as_bytes()).is_err() {
+    if write_all(sink, text).is_err() {
         return Status::WriteFault;
     }
     match sink.flush() {

@@ -10,12 +10,13 @@ ghost use Rattle.gcsh_top.specs.Runs.{IsReady};
 ghost use Rattle.gcsh_top.specs.Statuses.{code_of};
 ghost use Rattle.gcsh_top.specs.Ends.{Gave, SinkRun, SourceRun};
 ghost use Rattle.gcsh_top.specs.Input.{max_input};
-ghost use Rattle.gcsh_top.specs.Words.{FitsTask, IsForm};
+ghost use Rattle.gcsh_top.specs.Words.{FitsTask, IsForm, ReadsNothing};
 ghost use Rattle.gcsh_top.specs.declared.status.Status.{Status};
 ghost use Rattle.gcsh_top.specs.declared.stores.Stores.{Stores};
 ghost use Rattle.gcsh_top.specs.declared.words.Form.{Form};
 
 use crate::churn_run::run_churn;
+use crate::load::run_load;
 use crate::read::{ReadFault, read_piece};
 use crate::report::run_paths;
 use crate::run::{run_last, run_piece};
@@ -30,14 +31,15 @@ use gc_store::{HeapConfig, PageLimit, Store};
 use std::alloc::Global;
 
 /// A read asks for this many bytes at most.
-const PIECE: usize = 65_536;
+pub(crate) const PIECE: usize = 65_536;
 
 /// Runs the program: `words` are those behind its name. The chosen store begins with FIRST pages,
 /// and has at most MOST. Each line of the input is run as soon as it is whole, and its reply written,
 /// with a line feed; what was written is flushed before more is read. With `churn N` behind MOST nothing is
 /// read: a script of N rounds is made and run, and its summary written. With `paths` no reply is written: behind
-/// the script the report is written of a path to each object that a root reaches. The answer is the number of
-/// a [`Status`], which the program ends with.
+/// the script the report is written of a path to each object that a root reaches. With `load` the input is an image,
+/// which is loaded; what the heap holds then is written. The answer is the number of a [`Status`], which the program
+/// ends with.
 pub fn gcsh_top<S: Source, K: Sink>(
     alloc: Global,
     words: &[String],
@@ -52,7 +54,7 @@ pub fn gcsh_top<S: Source, K: Sink>(
           after = K.tells sink.new;
         }) stores.old stores.new status }
     ensures untouched { result ≡ 1 → (source.new ≡ source.old) × (sink.new ≡ sink.old) × (stores.new ≡ stores.old) }
-    ensures unread { (form : Form) (rounds : ℕ) → IsForm (map string_bytes words.now) form → form.task ≡ Task.Churn rounds → source.new ≡ source.old }
+    ensures unread { (form : Form) → IsForm (map string_bytes words.now) form → ReadsNothing form.task → source.new ≡ source.old }
 {
     run_words(alloc, words, source, sink, stores).code()
 }
@@ -69,7 +71,7 @@ pub(crate) fn run_words<S: Source, K: Sink>(
     ensures answers { Answers (map string_bytes words.now) (record { before = S.tells source.old; after = S.tells source.new })
         (record { before = K.tells sink.old; after = K.tells sink.new }) stores.old stores.new result }
     ensures untouched { result ≡ Status.Usage → (source.new ≡ source.old) × (sink.new ≡ sink.old) × (stores.new ≡ stores.old) }
-    ensures unread { (form : Form) (rounds : ℕ) → IsForm (map string_bytes words.now) form → form.task ≡ Task.Churn rounds → source.new ≡ source.old }
+    ensures unread { (form : Form) → IsForm (map string_bytes words.now) form → ReadsNothing form.task → source.new ≡ source.old }
 {
     let Some(form) = parse_words(words) else {
         return Status::Usage;
@@ -94,7 +96,7 @@ fn run_on<H: GcHeap, S: Source, K: Sink>(
     requires start { HoldsStart ℕ H.KIND store.old }
     ensures ran { RanTask form.task H.KIND form (record { before = S.tells source.old; after = S.tells source.new })
         (record { before = K.tells sink.old; after = K.tells sink.new }) store.new result }
-    ensures unread { (rounds : ℕ) → form.task ≡ Task.Churn rounds → source.new ≡ source.old }
+    ensures unread { ReadsNothing form.task → source.new ≡ source.old }
     ensures same { HasSameId store.old store.new }
 {
     configure(form, store);
@@ -102,6 +104,7 @@ fn run_on<H: GcHeap, S: Source, K: Sink>(
         Task::Script => run_form(alloc, form, source, sink, store),
         Task::Churn(rounds) => run_churn(alloc, form, rounds, sink, store),
         Task::Paths => run_paths(alloc, form, source, sink, store),
+        Task::Load => run_load(alloc, form, source, sink, store),
     }
 }
 

@@ -27,6 +27,8 @@ pub enum Task {
     Churn(u32),
     /// It runs the script that is its input, and reports a path to each object that a root reaches.
     Paths,
+    /// It loads the image that is its input, and reports what the heap holds then.
+    Load,
 }
 
 /// What the words of the program ask for: a heap, the pages that it begins with, the most
@@ -40,8 +42,8 @@ pub struct Form {
 }
 
 /// The form that the words of the program, without its own name, are: `COLLECTOR FIRST MOST` with
-/// `FIRST <= MOST <= MAX_PAGES`, and behind these none, or `paths`, or `churn N` with `N <= MAX_ROUNDS`. Numbers are
-/// plain decimals without leading zeros. None where the words are of no such form.
+/// `FIRST <= MOST <= MAX_PAGES`, and behind these none, or `paths` or `load`, or `churn N` with `N <= MAX_ROUNDS`.
+/// Numbers are plain decimals without leading zeros. None where the words are of no such form.
 pub fn parse_words(words: &[String]) -> Option<Form>
     ensures { MatchOption result ((form : Form) → ¬ IsForm (map string_bytes words.now) form) (IsForm (map string_bytes words.now)) }
 {
@@ -83,18 +85,19 @@ fn parse_heap(collector: &str, first: &str, most: &str, task: Task) -> Option<Fo
     })
 }
 
-/// The task that one word asks for, which reads a script and writes a report.
+/// The task that one word asks for, which reads an input and writes a report.
 fn parse_report(name: &str) -> Option<Task>
     ensures { MatchOption result ((task : Task) → FitsTask task → ¬ (name.now ∷ [] ≡ task_words task))
         (λ task. FitsTask task × (name.now ∷ [] ≡ task_words task)) }
 {
     match name {
         "paths" => Some(Task::Paths),
+        "load" => Some(Task::Load),
         _ => None,
     }
 }
 
-/// The task that two words ask for.
+/// The task that two words ask for, which reads nothing.
 fn parse_task(name: &str, rounds: &str) -> Option<Task>
     ensures { MatchOption result ((task : Task) → FitsTask task → ¬ (name.now ∷ rounds.now ∷ [] ≡ task_words task))
         (λ task. FitsTask task × (name.now ∷ rounds.now ∷ [] ≡ task_words task)) }

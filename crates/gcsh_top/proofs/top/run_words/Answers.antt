@@ -2,7 +2,7 @@ use Rattle.std.proofs.Common.{ℕ, refl}
 use Rattle.gc_model.specs.Stores.{StoreView}
 use Rattle.gcsh_top.specs.declared.words.Collector.TheVariants.{Copying, Counting, Null}
 use Rattle.gcsh_top.specs.Chosen.{HasSameId}
-use Rattle.gcsh_top.proofs.FormAnswers.{made_alone, ran_over}
+use Rattle.gcsh_top.proofs.FormAnswers.{ran_over, unread_alone}
 use Rattle.gcsh_top.proofs.top.run_words.Goals as goal
 
 -- a store that is as it was has its id
@@ -25,16 +25,10 @@ returns-in-Null-clause-answers g c =
     (record { copying = same_id _; counting = same_id _; null = c.run_on-in-Null.ensures.same })
 
 pub returns-in-Copying-clause-unread : goal.returns-in-Copying-clause-unread
-returns-in-Copying-clause-unread g c form rounds is_form is =
-    let made = made_alone _ form c.in-Some.form rounds is_form c.in-Some.ensures is in
-    c.run_on.ensures.unread made.0 made.1
+returns-in-Copying-clause-unread g c form is_form nothing = c.run_on.ensures.unread (unread_alone _ form c.in-Some.form is_form c.in-Some.ensures nothing)
 
 pub returns-in-Counting-clause-unread : goal.returns-in-Counting-clause-unread
-returns-in-Counting-clause-unread g c form rounds is_form is =
-    let made = made_alone _ form c.in-Some.form rounds is_form c.in-Some.ensures is in
-    c.run_on-in-Counting.ensures.unread made.0 made.1
+returns-in-Counting-clause-unread g c form is_form nothing = c.run_on-in-Counting.ensures.unread (unread_alone _ form c.in-Some.form is_form c.in-Some.ensures nothing)
 
 pub returns-in-Null-clause-unread : goal.returns-in-Null-clause-unread
-returns-in-Null-clause-unread g c form rounds is_form is =
-    let made = made_alone _ form c.in-Some.form rounds is_form c.in-Some.ensures is in
-    c.run_on-in-Null.ensures.unread made.0 made.1
+returns-in-Null-clause-unread g c form is_form nothing = c.run_on-in-Null.ensures.unread (unread_alone _ form c.in-Some.form is_form c.in-Some.ensures nothing)

@@ -1,0 +1,11 @@
+use Rattle.std.proofs.Common.{string_bytes}
+use Rattle.gcsh_images.specs.Loading.{refused}
+use Rattle.gcsh_images.proofs.Answered.{if_ok, tells_loaded}
+use Rattle.gcsh_images.proofs.load.load_report.Goals as goal
+
+pub returns-in-Ok-clause-tells : goal.returns-in-Ok-clause-tells
+returns-in-Ok-clause-tells g c =
+    if_ok c.held_text.result _ _ (λ text counts. tells_loaded g.H.GcHeap.KIND _ c.in-Ok.field-0 _ (string_bytes text) _ _ c.load_image.new.store c.gc.new.self c.in-Ok.ensures.loads c.gc.ensures.kept counts) c.held_text.ensures
+
+pub returns-in-Err-clause-tells : goal.returns-in-Err-clause-tells
+returns-in-Err-clause-tells g c = if_ok c.refusal_text.result _ _ (λ text line. refused c.in-Err.fault c.in-Err.ensures.loads line) c.refusal_text.ensures

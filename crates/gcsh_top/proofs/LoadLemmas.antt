@@ -1,0 +1,20 @@
+-- What the report of a loaded image tells, on a new store under the form's limit of pages.
+use Rattle.std.proofs.Common.{◌≡◌, ℕ, List, Some, sym, subst}
+use Rattle.gc_types.specs.declared.kind.Layouts.{Layouts}
+use Rattle.gc_model.specs.Allocation.{Limits}
+use Rattle.gc_model.specs.Stores.{StoreView}
+use Rattle.gc_model.specs.Table.{usual_roots}
+use Rattle.gc_owner.specs.Limiters.{fresh_limits}
+use Rattle.gcsh_images.specs.Loading.{TellsLoad}
+use Rattle.gcsh_top.specs.declared.words.Form.{Form}
+use Rattle.gcsh_top.specs.LoadReports.{TellsInput}
+use Rattle.gcsh_top.specs.Runs.{IsReady}
+
+pub tells_input : (layouts : Layouts) (form : Form) (input : List ℕ) (old store : StoreView ℕ) (text : List ℕ) (limits limits' : Limits) (bytes : List ℕ) → IsReady layouts form old → limits ≡ fresh_limits (Some form.most) → bytes ≡ text
+    → TellsLoad layouts old.max_scoped input limits limits' text store → TellsInput layouts form input store bytes
+tells_input layouts form input old store text limits limits' bytes ready fresh same tells = (
+  limits',
+  subst (λ (b : List ℕ). TellsLoad layouts usual_roots input (fresh_limits (Some form.most)) limits' b store) (sym same)
+      (subst (λ (l : Limits). TellsLoad layouts usual_roots input l limits' text store) fresh
+      (subst (λ (n : ℕ). TellsLoad layouts n input limits limits' text store) ready.holds.holds.settings.max_scoped tells)),
+)
