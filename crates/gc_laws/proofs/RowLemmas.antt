@@ -110,7 +110,7 @@ abbrev made_one : State
 made_one = made_with 1 (with_held Null 0 0 (counted no_account))
 
 may_declare : Declarable [] number_type
-may_declare = record { few_fields = omega arith; few_types = omega arith; known = search rules; extends = tt }
+may_declare = record { few_fields = omega arith; exn_is_final = tt; few_types = omega arith; known = search rules; extends = tt }
 
 fits : FitsIn Null declared_one.account.places (make_heap declared_one.table) (object_size Null declared_one.table.types one_made)
 fits = omega arith

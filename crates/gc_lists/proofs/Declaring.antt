@@ -26,6 +26,7 @@ node_kind types m is =
 node_declarable : (types : List Declaration) (m : ℕ) → m ≡ length types → length types < 4294967295 → Declarable types (node_type m)
 node_declarable types m is few = record {
   few_fields = omega arith;
+  exn_is_final = tt;
   few_types = few;
   known =
       let kind = node_kind types m is in

@@ -1,3 +1,4 @@
+pub mod FewFields
 pub mod ArrayLemmas
 pub mod ArrayMaking
 pub mod CheckLemmas

@@ -1,3 +1,4 @@
+pub mod FewFields
 pub mod Counting
 pub mod Ending
 pub mod Growing

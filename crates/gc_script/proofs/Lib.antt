@@ -1,3 +1,4 @@
+pub mod FewFields
 pub mod AskLemmas
 pub mod CheckLemmas
 pub mod CollectionLemmas

@@ -4,7 +4,7 @@ use Rattle.std.proofs.lemmas.Bool.{cases_lt}
 use Rattle.std.proofs.lemmas.Option.{slice_get_within, same_Some}
 use Rattle.std.proofs.lemmas.List.{take-append-le, take_all, map-append, length_push}
 use Rattle.gc_types.specs.Declarations.{Declaration, max_types}
-use Rattle.gc_types.specs.Declarable.{Declarable, AreDeclared, ExtendsOf, HasFewFields}
+use Rattle.gc_types.specs.Declarable.{Declarable, AreDeclared, ExnIsFinal, ExtendsOf, HasFewFields}
 use Rattle.gc_types.specs.Tables.{IsTable, ExtendsIn, MayStand}
 
 -- an element of the front of a list
@@ -42,9 +42,10 @@ extends_early types d (Some other) e ty is =
     subst (λ n. n < length types) (same_Some other ty is) (slice_get_within types other e.supertype e.earlier)
 
 -- the newest type may be declared
-pub declarable : (types : List Declaration) (d : Declaration) → HasFewFields d.shape → length types < max_types → ((ty : ℕ) → d.supertype ≡ Some ty → ty < length types) → MayStand (types ++ d ∷ []) d → Declarable types d
-declarable types d few room early may = record {
+pub declarable : (types : List Declaration) (d : Declaration) → HasFewFields d.shape → ExnIsFinal d.shape d.is_final → length types < max_types → ((ty : ℕ) → d.supertype ≡ Some ty → ty < length types) → MayStand (types ++ d ∷ []) d → Declarable types d
+declarable types d few final room early may = record {
   few_fields = few;
+  exn_is_final = final;
   few_types = room;
   known = may.0;
   extends = extends_back types d d.supertype early may.1;

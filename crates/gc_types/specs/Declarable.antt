@@ -1,5 +1,5 @@
 -- Which types may be declared.
-use Rattle.std.specs.Prelude.{ℕ, ◌≡◌, ◌≤◌, ◌<◌, false, List, [], ◌∷◌, ◌++◌, Option, Some, None, All, length, take, slice_get}
+use Rattle.std.specs.Prelude.{ℕ, ◌≡◌, ◌≤◌, ◌<◌, Bool, true, false, List, [], ◌∷◌, ◌++◌, Option, Some, None, All, length, take, slice_get}
 use Rattle.std.specs.List.{AllZip}
 use Rattle.gc_types.specs.declared.value.HeapType.{HeapType}
 use Rattle.gc_types.specs.declared.value.HeapType.TheVariants as heap
@@ -95,9 +95,17 @@ abbrev pub ExtendsOf : List Declaration → Declaration → Option ℕ → Type 
 ExtendsOf types d None = Unit {0}
 ExtendsOf types d (Some ty) = Extends types d ty
 
+-- no type can extend an exception
+abbrev pub ExnIsFinal : Shape → Bool → Type 0
+ExnIsFinal (struct_of fields) is_final = Unit {0}
+ExnIsFinal (array_of elem) is_final = Unit {0}
+ExnIsFinal (exn_of params) is_final = is_final ≡ true
+ExnIsFinal (func_of params results) is_final = Unit {0}
+
 -- A type that may be declared next. It may name itself.
 pub record Declarable (types : List Declaration) (d : Declaration) : Type 0 where
   pub few_fields : HasFewFields d.shape
+  pub exn_is_final : ExnIsFinal d.shape d.is_final
   pub few_types : length types < max_types
   pub known : NamesKnown (types ++ d ∷ []) d.shape
   pub extends : ExtendsOf types d d.supertype

@@ -3,7 +3,7 @@
 ghost use Rattle.std.specs.Prelude.{[], ◌↔◌, IsTrue, ◌≡◌, length, IfOk, OnOk, OnErr, option_copied, option_map, slice_get, IsErrOf, IfSome, IsSome, Some};
 ghost use Rattle.std.specs.Option.{option_and_then};
 ghost use Rattle.gc_types.specs.Declarations.{declare, struct_type, array_type, exn_type, func_type, fields_at, struct_fields_at, elem_at, kind_at, supertype_at, is_final_at};
-ghost use Rattle.gc_types.specs.Declarable.{Declarable, AreDeclared, HasFewFields};
+ghost use Rattle.gc_types.specs.Declarable.{Declarable, AreDeclared, ExnIsFinal, HasFewFields};
 ghost use Rattle.gc_types.specs.Subtyping.{supertypes_of, Meets, MatchesRef, MatchesVal, MatchesField};
 ghost use Rattle.gc_types.specs.Layouts.{struct_layout, layout_at, array_layout_at, trace_at};
 
@@ -172,7 +172,8 @@ impl Types {
 
     /// Declares that type.
     fn declare(&mut self, new: Declared) -> Result<VMSharedTypeIndex, TypeFault>
-        requires { HasFewFields new.shape }
+        requires few_fields { HasFewFields new.shape }
+        requires exn_is_final { ExnIsFinal new.shape new.is_final }
         ensures declared { OnOk result (self.new ≡ declare new self.old) }
         ensures index { IfOk result (λ index. index ≡ length self.old.declarations) }
         ensures declarable { OnOk result (Declarable self.old.declarations new) }

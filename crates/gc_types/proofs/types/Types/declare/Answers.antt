@@ -18,7 +18,7 @@ may c =
     let stands : MayStand (c.self.inside.declared.items ++ c.args.new ∷ []) c.args.new =
     subst (λ (ts : List Declaration). MayStand ts c.args.new) whole
     ((c.may_stand.ensures c.self.inside.declared.items c.args.new whole).0 c.if-not-may_stand.false) in
-    declarable c.self.inside.declared.items c.args.new c.requires (omega (arith, c.self.inside.declared.ok.0)) early stands
+    declarable c.self.inside.declared.items c.args.new c.requires.few_fields c.requires.exn_is_final (omega (arith, c.self.inside.declared.ok.0)) early stands
 
 pub invariant_of-self-else-not-may_stand : goal.invariant_of-self-else-not-may_stand
 invariant_of-self-else-not-may_stand c =
