@@ -248,6 +248,7 @@ module _ {D : Type 0} (layouts : Layouts) (s : StoreView D) (t : Table D) (a : A
         account = account;
         holds = kept.1.1;
         stands = record { reference = at (length t.objects); names = record { number = t.owns; names = kept.1.0; live = next_owned layouts s t holds (at (length t.objects)) }; is = new_list };
+        has_new_root = kept.1.0;
         changed = changed_owned;
       }
 

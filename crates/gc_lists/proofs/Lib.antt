@@ -10,3 +10,4 @@ pub mod Consing
 pub mod Declaring
 pub mod Walking
 pub mod Standing
+pub mod Sparing

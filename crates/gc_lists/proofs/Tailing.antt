@@ -98,6 +98,7 @@ module _ {D : Type 0} (layouts : Layouts) (s mid new : StoreView D) (t : Table D
       account = a;
       holds = keeps.1.1;
       stands = record { reference = next; names = record { number = t.owns; names = keeps.1.0; live = next_owned layouts s t holds next }; is = rest };
+      has_new_root = keeps.1.0;
       changed = rooted_left t scope scope_is next;
     }
 
@@ -110,7 +111,7 @@ module _ {D : Type 0} (layouts : Layouts) (s mid new : StoreView D) (t : Table D
 
   -- the list ends behind the cell
   tail_empty : IsListOf t.types t.objects ty ys null → HoldsAccount layouts new t a → AnswersVersion layouts t (ChangesRoots t) (AreNumbers ty ys) None new
-  tail_empty rest h = record { after = t; account = a; holds = h; stands = record { reference = null; names = refl; is = rest }; changed = nothing_changed t }
+  tail_empty rest h = record { after = t; account = a; holds = h; stands = record { reference = null; names = refl; is = rest }; has_new_root = tt; changed = nothing_changed t }
 
   -- the list is empty, and so is its rest
   pub empty_tail : (version answered : Option GcRootIndex) (xs : List ℤ) → version ≡ None → answered ≡ None → StandsForListOf s t version ty xs → HoldsAccount layouts new t a
@@ -118,7 +119,7 @@ module _ {D : Type 0} (layouts : Layouts) (s mid new : StoreView D) (t : Table D
   empty_tail version answered xs none none' stands h =
       let is_empty = empty_list s t version xs none (record { reference = stands.reference; names = stands.names; is = stands.is.0 }) in
       subst (λ (v : Option GcRootIndex). AnswersVersion layouts t (ChangesRoots t) (AreNumbers ty (drop 1 xs)) v new) (sym none')
-      (record { after = t; account = a; holds = h; stands = record { reference = null; names = refl; is = subst (λ (zs : List ℤ). IsListOf t.types t.objects ty (drop 1 zs) null) (sym is_empty) (refl, tt) }; changed = nothing_changed t })
+      (record { after = t; account = a; holds = h; stands = record { reference = null; names = refl; is = subst (λ (zs : List ℤ). IsListOf t.types t.objects ty (drop 1 zs) null) (sym is_empty) (refl, tt) }; has_new_root = tt; changed = nothing_changed t })
 
   -- by what the next reference is read as
   pub read_some : (next : Reference) (value : RawValue) (handle : GcRootIndex) → ((n : ℕ) → next ≡ small n → ⊥) → ReadsValue layouts t a (reference Any next) (Ok value) mid → raw_handle value ≡ Some handle

@@ -28,6 +28,11 @@ abbrev pub owned_with : {D : Type 0} → Table D → Option GcRootIndex → Refe
 owned_with t None r = t.owned
 owned_with t (Some handle) r = (own r t).owned
 
+-- a version that isn't empty has an owned root of its own: the one that was made now
+abbrev pub HasNewRoot : {D : Type 0} → StoreView D → Table D → Option GcRootIndex → Type 0
+HasNewRoot new t None = Unit {0}
+HasNewRoot new t (Some handle) = handle ≡ owned_handle new t.owns
+
 -- a version was answered that stands for this, in the table that the store holds now
 pub record AnswersVersion {D : Type 0} (layouts : Layouts) (t : Table D) (Changed : List Owned → Table D → Type 0) (Is : Table D → Reference → Type 0) (version : Option GcRootIndex)
     (new : StoreView D) : Type 0 where
@@ -35,6 +40,7 @@ pub record AnswersVersion {D : Type 0} (layouts : Layouts) (t : Table D) (Change
   pub account : Account
   pub holds : HoldsAccount layouts new after account
   pub stands : Stands new after version (Is after)
+  pub has_new_root : HasNewRoot new t version
   pub changed : Changed (owned_with t version stands.reference) after
 
 -- the list is that of these numbers, and its cells are of that type
@@ -79,6 +85,16 @@ FailsToCopy layouts xs t fault.Memory new = Leaves layouts (ChangesRoots t t.own
 abbrev pub Releases : {D : Type 0} → Layouts → StoreView D → Table D → Account → Option GcRootIndex → StoreView D → Type 0
 Releases layouts old t a None new = HoldsAccount layouts new t a
 Releases layouts old t a (Some handle) new = (was_live : Bool) × DropsHandle layouts old t a handle was_live new
+
+-- a version has another root than one that isn't empty
+abbrev pub AreApart : Option GcRootIndex → Option GcRootIndex → Type 0
+AreApart one other = (handle : GcRootIndex) → one ≡ Some handle → ¬ (other ≡ Some handle)
+
+-- a version names what it named, where owned roots alone have changed
+pub record LeavesVersion {D : Type 0} (layouts : Layouts) (t : Table D) (a : Account) (version : Option GcRootIndex) (r : Reference) (new : StoreView D) : Type 0 where
+  pub owned : List Owned
+  pub holds : HoldsAccount layouts new (record t { owned = owned }) a
+  pub names : VersionNames new (record t { owned = owned }) version r
 
 -- What an owned root for what a scoped root names answers, and leaves once a scope was left.
 abbrev pub KeepsRoot : {D : Type 0} → Layouts → Table D → Account → Reference → (Table D → Table D) → Result GcRootIndex ListFault → StoreView D → Type 0

@@ -1,15 +1,18 @@
 //! Laws of lists.
 
 ghost use Rattle.std.specs.Prelude.{◌≡◌, ◌++◌, ℕ, ℤ, List, Option};
+ghost use Rattle.gc_types.specs.declared.kind.Layouts.{Layouts};
 ghost use Rattle.gc_model.specs.Stores.{StoreView};
 ghost use Rattle.gc_model.specs.Table.{Owned, Table};
 ghost use Rattle.gc_model.specs.Values.{Reference};
+ghost use Rattle.gc_policy.specs.Accounts.{Account, HoldsAccount};
 ghost use Rattle.gc_store.specs.Stores.{IsSameStore};
 ghost use Rattle.gc_store.specs.declared.root.GcRootIndex.{GcRootIndex};
+ghost use Rattle.gc_lists.specs.Answers.{AreApart, HasNewRoot, LeavesVersion, Releases};
 ghost use Rattle.gc_lists.specs.Constants.{KeepsConstants};
 ghost use Rattle.gc_lists.specs.Frames.{ChangesObjects, ChangesRoots};
 ghost use Rattle.gc_lists.specs.Lists.{IsList, IsListOf};
-ghost use Rattle.gc_lists.specs.Versions.{StandsForListOf};
+ghost use Rattle.gc_lists.specs.Versions.{StandsForListOf, VersionNames};
 ghost use Rattle.gc_lists.specs.declared.kit.Kit.{Kit};
 
 /// Where what is constant in a table stays, each list stays that list, and its cells stay of their type.
@@ -30,4 +33,13 @@ pub fn calls_keep_constants<D: Drop>()
 pub fn versions_stay<D: Drop>()
     ensures { (s new : StoreView D) (t u : Table D) (more : List Owned) (version : Option GcRootIndex) (ty : ℕ) (xs : List ℤ)
         → IsSameStore s new → KeepsConstants t u → u.owned ≡ t.owned ++ more → StandsForListOf s t version ty xs → StandsForListOf new u version ty xs }
+{}
+
+/// A version that is answered is apart from each that stood, and giving a version up leaves what every other one names.
+pub fn versions_are_apart<D: Drop>()
+    ensures apart { (layouts : Layouts) (s new : StoreView D) (t : Table D) (a : Account) (version made : Option GcRootIndex) (r : Reference)
+        → HoldsAccount layouts s t a → IsSameStore s new → VersionNames s t version r → HasNewRoot new t made → AreApart version made }
+    ensures others { (layouts : Layouts) (s new : StoreView D) (t : Table D) (a : Account) (gone version : Option GcRootIndex) (r : Reference)
+        → HoldsAccount layouts s t a → IsSameStore s new → Releases layouts s t a gone new → AreApart gone version → VersionNames s t version r
+        → LeavesVersion layouts t a version r new }
 {}

@@ -14,6 +14,7 @@ use Rattle.gc_model.specs.Table.{Table, leave, make_heap}
 use Rattle.gc_model.specs.Stores.{StoreView}
 use Rattle.gc_policy.specs.Accounts.{Account, HoldsAccount}
 use Rattle.gc_store.specs.declared.root.GcRootIndex.{GcRootIndex}
+use Rattle.gc_store.specs.Roots.{owned_handle}
 use Rattle.gc_lists.specs.declared.fault.ListFault.{ListFault}
 use Rattle.gc_lists.specs.declared.fault.ListFault.TheVariants as fault
 use Rattle.gc_lists.specs.declared.kit.Kit.{Kit}
@@ -157,6 +158,7 @@ module _ {D : Type 0} (layouts : Layouts) (counter : Option ℕ) (kit : Kit) (t 
           account = ends.account;
           holds = left ends.after ends.account ends.holds;
           stands = record { reference = root.reference; names = root.names; is = record { tree = b.tree; is = root.is; balanced = b.balanced; entries = es_are b.tree b.pairs_are } };
+          has_new_root = tt;
           changed = grows_left kit t 277 829 ends.after (omega arith) ends.changed.0;
         })
 
@@ -178,6 +180,7 @@ module _ {D : Type 0} (layouts : Layouts) (counter : Option ℕ) (kit : Kit) (t 
         names = record { number = ends.after.owns; names = kept.1.0; live = next_owned layouts mid ends.after (held_table layouts mid ends.after ends.account ends.holds) is_root.reference };
         is = record { tree = ends.changed.1.tree; is = is_root.is; balanced = ends.changed.1.balanced; entries = es_are ends.changed.1.tree ends.changed.1.pairs_are };
       };
+      has_new_root = kept.1.0 ∙ ap (λ (u : Table D). owned_handle new u.owns) ends.changed.0.rest;
       changed = grows_owned kit t 277 829 ends.after is_root.reference (omega arith) ends.changed.0;
     }
 
