@@ -10,6 +10,7 @@ pub mod Leaving
 pub mod NodeMaking
 pub mod Opening
 pub mod Steps
+pub mod Visiting
 pub mod Turning
 pub mod LoweringLeft
 pub mod LoweringRight

@@ -4,6 +4,7 @@ pub mod Parts
 pub mod Ends
 pub mod Searching
 pub mod Answers
+pub mod Copies
 pub mod Makes
 pub mod Lowering
 pub mod Paths

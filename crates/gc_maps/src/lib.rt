@@ -5,6 +5,7 @@
 //! whatever is called and collected in between, as long as that root is live.
 #![tactic(auto)]
 
+mod copying;
 mod finding;
 mod joining;
 pub mod laws;

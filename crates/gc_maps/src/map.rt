@@ -1,6 +1,6 @@
 //! Maps.
 
-ghost use Rattle.std.specs.Prelude.{◌≡◌, ◌&&◌, ◌+◌, ◌-◌, ◌*◌, ◌^◌, ◌≤◌, ℕ, None, Err, OnOk, OnErr, MatchResult, true, false, length};
+ghost use Rattle.std.specs.Prelude.{◌≡◌, ◌&&◌, ◌+◌, ◌-◌, ◌*◌, ◌^◌, ◌≤◌, ℕ, None, Err, OnOk, OnErr, MatchResult, true, false, IsErrOf, length};
 ghost use Rattle.std.specs.FinMap as finite;
 ghost use Rattle.gc_model.specs.Table.{Table};
 ghost use Rattle.gc_policy.specs.Accounts.{Account, HoldsAccount};
@@ -9,15 +9,18 @@ ghost use Rattle.gc_lists.specs.Answers.{Releases};
 ghost use Rattle.gc_lists.specs.Kits.{KitStands, is_kit_of};
 ghost use Rattle.gc_lists.specs.Versions.{is_version_of};
 ghost use Rattle.gc_maps.specs.Answers.{AnswersMap, Gets};
+ghost use Rattle.gc_maps.specs.Copies.{CopiedEntries, FailsToCopyEntries};
 ghost use Rattle.gc_maps.specs.Maps.{IntMap, MapOfStands, MapStands, StandsForMap, StandsForMapOf};
 
-use crate::finding::look_up;
+use crate::copying::copy_part;
+use crate::finding::{MOST_HEIGHT, look_up};
 use crate::ways::put;
 use gc_heap::GcHeap;
 use gc_lists::roots::{is_kit_of, is_version_of, keep};
 use gc_lists::{Kit, ListFault};
 use gc_steps::Steps;
 use gc_store::{GcRootIndex, ResourceLimiter, Store};
+use std::alloc::Global;
 use std::sync::ledger::Ledger;
 
 /// A version of a map: empty, or an owned root. What that names is kept until the version is released: one that is
@@ -105,6 +108,34 @@ impl HeapMap {
                 store.exit_gc_lifo_scope(scope);
                 Err(fault)
             }
+        }
+    }
+
+    /// All keys with their values, by rising key, in a time and a memory that are linear in their number. It leaves a scope for
+    /// each key, so that it needs fewer than 1,024 scoped roots, however many keys there are.
+    ///
+    /// Refused are, in this order: `WrongStore` where the map is another store's; and `RootsFull` where no further scoped
+    /// root may be made, at first or on the way.
+    pub fn copy_out<H: GcHeap, D: Drop>(
+        &self,
+        alloc: Global,
+        store: &mut Store<H, D>,
+    ) -> Result<Vec<(i64, i64)>, ListFault>
+        requires stands { MapStands D H.KIND store.old self.now.root }
+        ensures wrong_store { is_version_of store.old self.now.root ≡ false → IsErrOf result ListFault.WrongStore × (store.new ≡ store.old) }
+        ensures copies { is_version_of store.old self.now.root ≡ true → (t : Table D) (a : Account) (m : IntMap) → HoldsAccount H.KIND store.old t a
+            → StandsForMap store.old t self.now.root m
+            → MatchResult result (λ entries. CopiedEntries H.KIND m t entries.items store.new)
+            (λ fault. FailsToCopyEntries H.KIND m t fault store.new) }
+        ensures same { IsSameStore store.old store.new }
+    {
+        if !is_version_of(store, self.root) {
+            return Err(ListFault::WrongStore);
+        }
+        let mut entries = Vec::new(alloc);
+        match copy_part(store, self.root, MOST_HEIGHT, &mut entries) {
+            Ok(()) => Ok(entries),
+            Err(fault) => Err(fault),
         }
     }
 

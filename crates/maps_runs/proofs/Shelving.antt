@@ -1,7 +1,7 @@
 -- A shelf stays through calls on its maps.
-use Rattle.std.proofs.Common.{int_cmp, ◌≡◌, ℕ, zero, suc, ℤ, ◌+◌, Bool, true, false, ◌&&◌, arith, List, [], ◌∷◌, ◌++◌, length, Option, Some, None, Result, Ok, Err, refl, sym, ap, ◌∙◌, subst}
+use Rattle.std.proofs.Common.{int_cmp, ◌≡◌, ℕ, zero, suc, ℤ, ◌+◌, Bool, true, false, ◌&&◌, arith, List, [], ◌∷◌, ◌++◌, length, Option, Some, None, Vec, Global, Result, Ok, Err, refl, sym, ap, ◌∙◌, subst}
 use Rattle.std.specs.List.{slice_get}
-use Rattle.std.specs.Result.{MatchResult}
+use Rattle.std.specs.Result.{IsErrOf, MatchResult}
 use Rattle.std.specs.FinMap as finite
 use Rattle.std.proofs.lemmas.List.{append-nil, length-append}
 use Rattle.std.proofs.lemmas.Option.{none-some}
@@ -12,6 +12,7 @@ use Rattle.gc_model.specs.Allocation.{Limits}
 use Rattle.gc_model.specs.Values.{Reference, null}
 use Rattle.gc_model.specs.Table.{Table, Owned}
 use Rattle.gc_model.specs.Stores.{StoreView}
+use Rattle.gc_model.specs.Holds.{HoldsTable}
 use Rattle.gc_policy.specs.Accounts.{Account, HoldsAccount}
 use Rattle.gc_policy.proofs.AccountLemmas.{some_account}
 use Rattle.gc_store.specs.declared.root.GcRootIndex.{GcRootIndex}
@@ -27,6 +28,7 @@ use Rattle.gc_lists.specs.Versions.{is_version_of}
 use Rattle.gc_lists.proofs.Standing.{named_still, objects_keep, roots_keep}
 use Rattle.gc_maps.specs.declared.map.HeapMap.{HeapMap}
 use Rattle.gc_maps.specs.Answers.{AnswersMap, AreEntries, Gets}
+use Rattle.gc_maps.specs.Copies.{CopiedEntries, FailsToCopyEntries}
 use Rattle.gc_maps.specs.Maps.{IntMap, MapOfStands, MapStands, StandsForMap, StandsForMapOf}
 use Rattle.gc_maps.specs.Trees.{leaf}
 use Rattle.gc_maps.proofs.Staying.{map_stays}
@@ -112,6 +114,21 @@ module _ (layouts : Layouts) (s new : StoreView ℕ) (kit : Kit) (vs : List (Opt
         each zero w e = (m, subst (λ (x : Option GcRootIndex). StandsForMapOf new u x kit.node m) (grind (arith, e)) stands)
         each (suc i) w e = each_kept i w e
 
+  -- all stands in the same table
+  pub shelf_moved : HoldsTable layouts new shelf.table → Shelf layouts new kit vs
+  shelf_moved holds = record { table = shelf.table; holds = holds; kit_is = shelf.kit_is; stands = each }
+    where
+      each : (i : ℕ) (w : Option GcRootIndex) → slice_get vs i ≡ Some w → (m : IntMap) × StandsForMapOf new shelf.table w kit.node m
+      each i w e =
+          let stood = shelf.stands i w e in (
+            stood.0,
+            record {
+              reference = stood.1.reference;
+              names = named_still s new shelf.table shelf.table [] same (sym (append-nil shelf.table.owned)) w stood.1.reference stood.1.names;
+              is = stood.1.is;
+            },
+          )
+
   owned_none : (u : Table ℕ) → u.owned ≡ shelf.table.owned → u.owned ≡ shelf.table.owned ++ []
   owned_none u is = is ∙ sym (append-nil shelf.table.owned)
 
@@ -195,3 +212,23 @@ module _ (layouts : Layouts) (s new : StoreView ℕ) (kit : Kit) (v : Option GcR
         by : (w : Bool) → is_version_of s v ≡ w → Shelf layouts new kit (v ∷ vs)
         by true own = got result (gets own shelf.table account.0 first_stands.0 account.1 (kit.node, first_stands.1))
         by false own = as_it_was (wrong own).1
+
+  copied : (result : Result (Vec (ℤ × ℤ) Global) ListFault) → MatchResult result (λ (entries : Vec (ℤ × ℤ) Global). CopiedEntries layouts first_stands.0 shelf.table entries.items new)
+      (λ (why : ListFault). FailsToCopyEntries layouts first_stands.0 shelf.table why new) → Shelf layouts new kit (v ∷ vs)
+  copied (Ok entries) done = shelf_read layouts s new kit (v ∷ vs) shelf same done.1
+  copied (Err fault.WrongStore) done = absurd done
+  copied (Err fault.RootsFull) done = shelf_read layouts s new kit (v ∷ vs) shelf same done.1
+  copied (Err (fault.HeapOutOfMemory f)) done = absurd done
+  copied (Err fault.Memory) done = shelf_read layouts s new kit (v ∷ vs) shelf same done
+
+  pub copy_stays : (result : Result (Vec (ℤ × ℤ) Global) ListFault) → (is_version_of s v ≡ false → IsErrOf result fault.WrongStore × (new ≡ s))
+      → (is_version_of s v ≡ true → (t : Table ℕ) (a : Account) (m : IntMap) → HoldsAccount layouts s t a → StandsForMap s t v m
+      → MatchResult result (λ (entries : Vec (ℤ × ℤ) Global). CopiedEntries layouts m t entries.items new) (λ (why : ListFault). FailsToCopyEntries layouts m t why new)) → Shelf layouts new kit (v ∷ vs)
+  copy_stays result wrong copies = by (is_version_of s v) refl
+    where
+      account : (a : Account) × HoldsAccount layouts s shelf.table a
+      account = some_account layouts s shelf.table shelf.holds
+
+      by : (w : Bool) → is_version_of s v ≡ w → Shelf layouts new kit (v ∷ vs)
+      by true own = copied result (copies own shelf.table account.0 first_stands.0 account.1 (kit.node, first_stands.1))
+      by false own = as_it_was (wrong own).1

@@ -6,11 +6,12 @@ ghost use Rattle.gc_lists.specs.declared.kit.Kit.{Kit};
 ghost use Rattle.maps_runs.specs.Shelves.{Shelf};
 
 use crate::fault::RunFault;
-use crate::shelf::{find, new_kit, put};
+use crate::shelf::{all, find, new_kit, put};
 use gc_heap::GcHeap;
 use gc_lists::{Kit, ListFault};
 use gc_maps::HeapMap;
 use gc_store::{PageLimit, Store};
+use std::alloc::Global;
 
 /// A map in which each key has itself as its value, put in turn.
 fn map_of<H: GcHeap>(
@@ -49,9 +50,20 @@ fn show<H: GcHeap>(
     Ok(())
 }
 
-/// Seven keys that rise, two that stand between others, one key a second time: what the last map has, and what the one before it has.
+/// Shows entries.
+fn show_all(rt: &impl Print, entries: &[(i64, i64)]) -> Result<(), RunFault> {
+    println!(rt; "all")?;
+    for entry in entries.iter() {
+        println!(rt; "{} {}", entry.0, entry.1)?;
+    }
+    Ok(())
+}
+
+/// Seven keys that rise, two that stand between others, one key a second time: what the last map has, what the one before
+/// it has, and all entries of the last.
 pub(crate) fn run_keys<H: GcHeap>(
     rt: &impl Print,
+    alloc: Global,
     store: &mut Store<H, u64>,
     limiter: &mut PageLimit,
 ) -> Result<(), RunFault> {
@@ -59,7 +71,9 @@ pub(crate) fn run_keys<H: GcHeap>(
     let map = map_of(store, limiter, &kit, &[10, 20, 30, 40, 50, 60, 70, 25, 22])?;
     let other = put(store, limiter, &kit, &map, 30, -3)?;
     show(rt, store, &other, &[70, 22, 25, 10, 30, 60, 5, 23, 71])?;
-    show(rt, store, &map, &[30, 40])
+    let entries = all(alloc, store, &other)?;
+    show(rt, store, &map, &[30, 40])?;
+    show_all(rt, &entries)
 }
 
 /// What a key in the empty map is answered in a store that refuses it.

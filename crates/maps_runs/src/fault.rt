@@ -11,6 +11,8 @@ use thiserror::Error;
 pub(crate) enum RunFault {
     #[error("there is no such configuration")]
     Missing,
+    #[error("a map differs from the one beside it")]
+    Differs,
     #[error("a map is refused")]
     Refused(ListFault),
     #[error(transparent)]

@@ -12,6 +12,7 @@ use gc_maps::HeapMap;
 use gc_steps::Steps;
 use gc_store::laws::stores_hold_tables;
 use gc_store::{PageLimit, Store};
+use std::alloc::Global;
 use std::marker::Brand;
 use std::sync::ledger::{Blank, Ledger};
 
@@ -41,6 +42,26 @@ pub(crate) fn put<H: GcHeap>(
         (λ fault. Shelf H.KIND store.new kit.now (map.now.root ∷ vs)) }
 {
     map.insert(kit, store, limiter, key, value)
+}
+
+/// All entries of a map.
+pub(crate) fn all<H: GcHeap>(
+    alloc: Global,
+    store: &mut Store<H, u64>,
+    map: &HeapMap,
+) -> Result<Vec<(i64, i64)>, ListFault>
+    requires { (kit : Kit) × Shelf H.KIND store.old kit (map.now.root ∷ []) }
+    ensures { (kit : Kit) (vs : List (Option GcRootIndex)) → Shelf H.KIND store.old kit (map.now.root ∷ vs)
+        → Shelf H.KIND store.new kit (map.now.root ∷ vs) }
+{
+    map.copy_out(alloc, store)
+}
+
+/// Collects.
+pub(crate) fn collect<H: GcHeap>(store: &mut Store<H, u64>)
+    ensures { (kit : Kit) (vs : List (Option GcRootIndex)) → Shelf H.KIND store.old kit vs → Shelf H.KIND store.new kit vs }
+{
+    store.gc();
 }
 
 /// The value of a key.
