@@ -95,6 +95,7 @@ module _ {D : Type 0} (layouts : Layouts) (t : Table D) (ty : ℕ) (tree : Tree)
       behind = reaches.behind;
       path = reaches.path;
       children = (refl, refl);
+      there = refl;
       balanced = record { level = record { left = omega arith; right = omega arith }; in_left = tt; in_right = tt };
       close = record { left = omega arith; right = omega arith };
       puts = reaches.puts;
@@ -164,6 +165,7 @@ module _ {D : Type 0} (layouts : Layouts) (t : Table D) (ty : ℕ) (tree : Tree)
             found_at equal (node x k v y) u b holds root pushes search reaches =
                 let ends = reads u b ty x k v y holds root in
                 let at = ends.changed.1 in
+                let order = ap (int_cmp key) (sym at.key_is) ∙ sym is ∙ equals o equal in
                 record {
                   after = ends.after;
                   account = ends.account;
@@ -178,10 +180,11 @@ module _ {D : Type 0} (layouts : Layouts) (t : Table D) (ty : ℕ) (tree : Tree)
                       behind = reaches.behind;
                       path = path_kept s u s1 ends.after (pushes_keep 2 s u s1 ends.after same ends.changed.0) ty frames (node x k v y) tree reaches.before reaches.behind reaches.path;
                       children = (at.left, at.right);
+                      there = λ i. node x (sym (int_ranked key k Equal (sym order)) i) (sym at.value_is i) y;
                       balanced = search.balanced;
                       close = record { left = omega arith; right = omega arith };
                       puts = λ value. reaches.puts value
-                          ∙ ap (λ (es : List (ℤ × ℤ)). reaches.before ++ (es ++ reaches.behind)) (put_here key value x k v y search (ap (int_cmp key) (sym at.key_is) ∙ sym is ∙ equals o equal));
+                          ∙ ap (λ (es : List (ℤ × ℤ)). reaches.before ++ (es ++ reaches.behind)) (put_here key value x k v y search order);
                     },
                   );
                 }

@@ -1,11 +1,12 @@
 -- Entries in the order of their keys: what stands left and right of a key.
-use Rattle.std.proofs.Common.{◌≡◌, Bool, true, false, not, cond, ◌&&◌, T, List, [], ◌∷◌, ◌++◌, Option, Some, None, refl, ap, ◌∙◌}
+use Rattle.std.proofs.Common.{◌≡◌, Bool, true, false, cond, ◌&&◌, T, List, [], ◌∷◌, ◌++◌, Option, Some, None, refl, ap, ◌∙◌}
 use Rattle.std.specs.Prelude.{ℤ}
 use Rattle.std.specs.Ordering.{int_cmp, eq_by_cmp, is_lt, ordering_reverse}
 use Rattle.std.proofs.Common.{Ordering, Less, Equal, Greater}
 use Rattle.std.specs.Cmp.{int_cmp_total}
-use Rattle.std.specs.FinMap.Entries.{by_order, put, find, where_key, is_sorted, below_all}
+use Rattle.std.specs.FinMap.Entries.{by_order, put, find, is_sorted, below_all}
 use Rattle.std.specs.Cmp.{tied_itself}
+use Rattle.gc_maps.specs.Gaps.{others}
 
 -- the entries' keys stand on one side of a key
 abbrev pub AllBelow : List (ℤ × ℤ) → ℤ → Type 0
@@ -16,15 +17,15 @@ abbrev pub AllAbove : List (ℤ × ℤ) → ℤ → Type 0
 AllAbove [] q = Unit {0}
 AllAbove (e ∷ es) q = (int_cmp q e.0 ≡ Less) × AllAbove es q
 
-both : (a b : Bool) → T a → T b → T (a && b)
+pub both : (a b : Bool) → T a → T b → T (a && b)
 both true b p q = q
 both false b p q = p
 
-first : (a b : Bool) → T (a && b) → T a
+pub first : (a b : Bool) → T (a && b) → T a
 first true b p = tt
 first false b p = p
 
-second : (a b : Bool) → T (a && b) → T b
+pub second : (a b : Bool) → T (a && b) → T b
 second true b p = p
 second false b p = absurd p
 
@@ -46,7 +47,7 @@ pub record Around (xs : List (ℤ × ℤ)) (e : ℤ × ℤ) (ys : List (ℤ × �
   pub below : AllBelow xs e.0
   pub above : AllAbove ys e.0
 
-all_above : (q : ℤ) (ys : List (ℤ × ℤ)) → T (below_all int_cmp q ys) → AllAbove ys q
+pub all_above : (q : ℤ) (ys : List (ℤ × ℤ)) → T (below_all int_cmp q ys) → AllAbove ys q
 all_above q [] h = tt
 all_above q (e ∷ ys) h = (less _ (first _ _ h), all_above q ys (second _ _ h))
 
@@ -54,7 +55,7 @@ is_below : (q : ℤ) (xs : List (ℤ × ℤ)) (e : ℤ × ℤ) (ys : List (ℤ �
 is_below q [] e ys h = less _ (first _ _ h)
 is_below q (x ∷ xs) e ys h = is_below q xs e ys (second _ _ h)
 
-front_below : (q : ℤ) (xs zs : List (ℤ × ℤ)) → T (below_all int_cmp q (xs ++ zs)) → T (below_all int_cmp q xs)
+pub front_below : (q : ℤ) (xs zs : List (ℤ × ℤ)) → T (below_all int_cmp q (xs ++ zs)) → T (below_all int_cmp q xs)
 front_below q [] zs h = tt
 front_below q (x ∷ xs) zs h = both _ _ (first _ _ h) (front_below q xs zs (second _ _ h))
 
@@ -120,10 +121,6 @@ put_new q v xs ys h g = put_past q v xs ys h ∙ ap (λ es. xs ++ es) (put_first
 
 pub put_there : (q v w : ℤ) (xs ys : List (ℤ × ℤ)) → AllBelow xs q → put int_cmp q v (xs ++ (q, w) ∷ ys) ≡ xs ++ (q, v) ∷ ys
 put_there q v w xs ys h = put_past q v xs ((q, w) ∷ ys) h ∙ ap (λ (es : List (ℤ × ℤ)). xs ++ es) (rw (tied_itself int_cmp_total q) refl)
-
--- the entries of other keys
-abbrev pub others : ℤ → List (ℤ × ℤ) → List (ℤ × ℤ)
-others q es = where_key int_cmp (λ x. not (eq_by_cmp int_cmp q x)) es
 
 pub others_past : (q : ℤ) (xs zs : List (ℤ × ℤ)) → AllBelow xs q → others q (xs ++ zs) ≡ xs ++ others q zs
 others_past q [] zs h = refl

@@ -26,15 +26,17 @@ use Rattle.gc_lists.specs.Versions.{is_version_of}
 use Rattle.gc_lists.proofs.Scopes.{next_owned}
 use Rattle.gc_maps.specs.declared.map.HeapMap.{HeapMap}
 use Rattle.gc_maps.specs.declared.part.Part.{Part}
-use Rattle.gc_maps.specs.Trees.{Tree, pairs}
+use Rattle.gc_maps.specs.Trees.{Tree}
 use Rattle.gc_maps.specs.Maps.{IntMap, MapOfStands}
 use Rattle.gc_maps.specs.Parts.{RootIs}
 use Rattle.gc_maps.specs.Paths.{SearchOfIn, IsBuilt}
 use Rattle.gc_maps.specs.Ends.{Grows, Ends}
 use Rattle.gc_maps.specs.Answers.{AnswersMap, AreEntries}
+use Rattle.gc_maps.specs.Gaps.{others}
 use Rattle.gc_maps.proofs.Naming.{held_table}
 use Rattle.gc_maps.proofs.Growing.{grows_within}
 use Rattle.gc_maps.proofs.Leaving.{take_front, lacks_roots, map_root, map_search}
+use Rattle.gc_maps.proofs.Removals.{entries_without}
 
 pub map_of_in : {D : Type 0} (layouts : Layouts) (s : StoreView D) (ty : ℕ) (version : Option GcRootIndex) → IsNodeType s.types ty → MapOfStands D layouts s version ty → is_version_of s version ≡ true
     → SearchOfIn D layouts s ty version
@@ -110,29 +112,32 @@ module _ {D : Type 0} (kit : Kit) (t : Table D) where
   lacks_pages n m layouts limit places o u u' (no_heap refused is) grows = grows_pages n m u u' u.made u.pages is grows
   lacks_pages n m layouts limit places o u u' (no_room may refused lacks is) grows = grows_pages n m u u' true (make_heap u).pages is grows
 
--- a map's entries with one put
-pub entries_put : (m : IntMap) (key value : ℤ) (tree : Tree) (es : List (ℤ × ℤ)) → finite.entries m ≡ es → pairs tree ≡ put int_cmp key value es → finite.entries (finite.insert m key value) ≡ pairs tree
-entries_put m key value tree es is built = finite.entries-insert int_cmp_total m key value ∙ ap (put int_cmp key value) is ∙ sym built
+-- a map's entries with one put, and without one
+pub entries_put : (m : IntMap) (key value : ℤ) (es : List (ℤ × ℤ)) → finite.entries m ≡ es → put int_cmp key value es ≡ finite.entries (finite.insert m key value)
+entries_put m key value es is = sym (finite.entries-insert int_cmp_total m key value ∙ ap (put int_cmp key value) is)
+
+pub entries_cut : (m : IntMap) (key : ℤ) (es : List (ℤ × ℤ)) → finite.entries m ≡ es → others key es ≡ finite.entries (finite.remove m key)
+entries_cut m key es is = sym (entries_without m key ∙ ap (others key) is)
 
 -- a tree was built, or not, inside the scope
-module _ {D : Type 0} (layouts : Layouts) (counter : Option ℕ) (kit : Kit) (t : Table D) (limits : Limits) (m : IntMap) (es : List (ℤ × ℤ)) (es_are : (tree : Tree) → pairs tree ≡ es → finite.entries m ≡ pairs tree) (mid new : StoreView D) where
+module _ {D : Type 0} (layouts : Layouts) (counter : Option ℕ) (kit : Kit) (nodes most : ℕ) (few : nodes ≤ most_objects) (low : most < most_objects) (t : Table D) (limits : Limits) (m : IntMap) (mid new : StoreView D) where
   abbrev pub Built : StoreView D → Table D → Part → Type 0
-  Built s u part = IsBuilt s u kit.node part es
+  Built s u part = IsBuilt s u kit.node part (finite.entries m)
 
   -- the scope was left
   module _ (left : (u : Table D) (b : Account) → HoldsAccount layouts mid u b → HoldsAccount layouts new (leave (length t.scoped) u) b) where
-    leaves_objects : (u : Table D) (b : Account) → HoldsAccount layouts mid u b → Grows kit 277 829 t u → Leaves layouts (ChangesObjects kit most_objects t t.owned) new
-    leaves_objects u b holds grows = record { after = leave (length t.scoped) u; account = b; holds = left u b holds; changed = grows_left kit t 277 829 u (omega arith) grows }
+    leaves_objects : (u : Table D) (b : Account) → HoldsAccount layouts mid u b → Grows kit nodes most t u → Leaves layouts (ChangesObjects kit most_objects t t.owned) new
+    leaves_objects u b holds grows = record { after = leave (length t.scoped) u; account = b; holds = left u b holds; changed = grows_left kit t nodes most u few grows }
 
-    pub map_refused : (f : ListFault) → Ends {A = Part} layouts counter kit 277 829 t limits Built (Err f) mid → AnswersMap layouts counter kit m t limits (Err f) new
+    pub map_refused : (f : ListFault) → Ends {A = Part} layouts counter kit nodes most t limits Built (Err f) mid → AnswersMap layouts counter kit m t limits (Err f) new
     map_refused fault.WrongStore ends = ends
-    map_refused fault.RootsFull ends = (inr (lacks_grown kit t 277 829 ends.after (omega arith) ends.changed.0 ends.changed.1), leaves_objects ends.after ends.account ends.holds ends.changed.0)
+    map_refused fault.RootsFull ends = (inr (lacks_grown kit t nodes most ends.after low ends.changed.0 ends.changed.1), leaves_objects ends.after ends.account ends.holds ends.changed.0)
     map_refused (fault.HeapOutOfMemory f) ends = (
       record {
         inside = mid;
         lacks = record {
           before = ends.before;
-          grows = grows_within kit 277 most_objects 829 most_objects t ends.before.table (omega arith) (omega arith) ends.grows;
+          grows = grows_within kit nodes most_objects most most_objects t ends.before.table few (omega (arith, low)) ends.grows;
           asked = ends.asked;
           held = ends.held;
           object = ends.object;
@@ -142,14 +147,14 @@ module _ {D : Type 0} (layouts : Layouts) (counter : Option ℕ) (kit : Kit) (t 
         left = left ends.lacks.after.table ends.lacks.after.account ends.lacks.holds;
       },
       leaves_objects ends.lacks.after.table ends.lacks.after.account ends.lacks.holds
-          (lacks_pages kit t 277 829 layouts _ _ ends.object ends.before.table ends.lacks.after.table ends.lacks.lacks ends.grows),
+          (lacks_pages kit t nodes most layouts _ _ ends.object ends.before.table ends.lacks.after.table ends.lacks.lacks ends.grows),
     )
     map_refused fault.Memory ends = leaves_objects ends.after ends.account ends.holds ends.changed
 
     none_at : (u : Table D) (root : Option GcRootIndex) (tree : Tree) → root ≡ None → RootIs mid u kit.node root tree → RootIs mid u kit.node None tree
     none_at u root tree none is = subst (λ (r : Option GcRootIndex). RootIs mid u kit.node r tree) none is
 
-    pub map_empty : (part : Part) → part.root ≡ None → Ends layouts counter kit 277 829 t limits Built (Ok part) mid → (map : HeapMap) → map.root ≡ None → AnswersMap layouts counter kit m t limits (Ok map) new
+    pub map_empty : (part : Part) → part.root ≡ None → Ends layouts counter kit nodes most t limits Built (Ok part) mid → (map : HeapMap) → map.root ≡ None → AnswersMap layouts counter kit m t limits (Ok map) new
     map_empty part none ends map empty =
         let b = ends.changed.1 in
         let root = none_at ends.after part.root b.tree none b.is.root in
@@ -157,13 +162,13 @@ module _ {D : Type 0} (layouts : Layouts) (counter : Option ℕ) (kit : Kit) (t 
           after = leave (length t.scoped) ends.after;
           account = ends.account;
           holds = left ends.after ends.account ends.holds;
-          stands = record { reference = root.reference; names = root.names; is = record { tree = b.tree; is = root.is; balanced = b.balanced; entries = es_are b.tree b.pairs_are } };
+          stands = record { reference = root.reference; names = root.names; is = record { tree = b.tree; is = root.is; balanced = b.balanced; entries = sym b.pairs_are } };
           has_new_root = tt;
-          changed = grows_left kit t 277 829 ends.after (omega arith) ends.changed.0;
+          changed = grows_left kit t nodes most ends.after few ends.changed.0;
         })
 
   -- an owned root was made, or not
-  module _ (part : Part) (root : GcRootIndex) (there : part.root ≡ Some root) (ends : Ends layouts counter kit 277 829 t limits Built (Ok part) mid) where
+  module _ (part : Part) (root : GcRootIndex) (there : part.root ≡ Some root) (ends : Ends layouts counter kit nodes most t limits Built (Ok part) mid) where
     abbrev pub is_root : RootIs mid ends.after kit.node (Some root) ends.changed.1.tree
     is_root = subst (λ (r : Option GcRootIndex). RootIs mid ends.after kit.node r ends.changed.1.tree) there ends.changed.1.is.root
 
@@ -178,25 +183,36 @@ module _ {D : Type 0} (layouts : Layouts) (counter : Option ℕ) (kit : Kit) (t 
       stands = record {
         reference = is_root.reference;
         names = record { number = ends.after.owns; names = kept.1.0; live = next_owned layouts mid ends.after (held_table layouts mid ends.after ends.account ends.holds) is_root.reference };
-        is = record { tree = ends.changed.1.tree; is = is_root.is; balanced = ends.changed.1.balanced; entries = es_are ends.changed.1.tree ends.changed.1.pairs_are };
+        is = record { tree = ends.changed.1.tree; is = is_root.is; balanced = ends.changed.1.balanced; entries = sym ends.changed.1.pairs_are };
       };
       has_new_root = kept.1.0 ∙ ap (λ (u : Table D). owned_handle new u.owns) ends.changed.0.rest;
-      changed = grows_owned kit t 277 829 ends.after is_root.reference (omega arith) ends.changed.0;
+      changed = grows_owned kit t nodes most ends.after is_root.reference few ends.changed.0;
     }
 
     pub keep_refused : (f : ListFault) → Kept (Err f) → AnswersMap layouts counter kit m t limits (Err f) new
     keep_refused fault.WrongStore kept = kept
     keep_refused fault.RootsFull kept = (
-      inl (full_owned kit t 277 829 ends.after ends.changed.0 kept.0),
-      record { after = leave (length t.scoped) ends.after; account = ends.account; holds = kept.1; changed = grows_left kit t 277 829 ends.after (omega arith) ends.changed.0 },
+      inl (full_owned kit t nodes most ends.after ends.changed.0 kept.0),
+      record { after = leave (length t.scoped) ends.after; account = ends.account; holds = kept.1; changed = grows_left kit t nodes most ends.after few ends.changed.0 },
     )
     keep_refused (fault.HeapOutOfMemory f) kept = absurd kept
-    keep_refused fault.Memory kept = record { after = leave (length t.scoped) ends.after; account = ends.account; holds = kept; changed = grows_left kit t 277 829 ends.after (omega arith) ends.changed.0 }
+    keep_refused fault.Memory kept = record { after = leave (length t.scoped) ends.after; account = ends.account; holds = kept; changed = grows_left kit t nodes most ends.after few ends.changed.0 }
 
--- a key and a value that were passed on are those that were put
-pub as_put : {D : Type 0} (layouts : Layouts) (counter : Option ℕ) (kit : Kit) (t : Table D) (limits : Limits) (key value : ℤ) (es : List (ℤ × ℤ)) → SFits w64 key → SFits w64 value → (result : Result Part ListFault) (new : StoreView D)
+-- a key and a value that were passed on are those that were put, and the entries are the map's
+pub as_put : {D : Type 0} (layouts : Layouts) (counter : Option ℕ) (kit : Kit) (t : Table D) (limits : Limits) (m : IntMap) (key value : ℤ) (es : List (ℤ × ℤ)) → finite.entries m ≡ es → SFits w64 key → SFits w64 value
+    → (result : Result Part ListFault) (new : StoreView D)
     → Ends layouts counter kit 277 829 t limits (λ s u part. IsBuilt s u kit.node part (put int_cmp (to_z w64 (of_z w64 key)) (to_z w64 (of_z w64 value)) es)) result new
-    → Ends layouts counter kit 277 829 t limits (λ s u part. IsBuilt s u kit.node part (put int_cmp key value es)) result new
-as_put layouts counter kit t limits key value es fits_k fits_v result new ends =
-    subst (λ (i : ℤ). Ends layouts counter kit 277 829 t limits (λ s u part. IsBuilt s u kit.node part (put int_cmp i value es)) result new) (to_z-of_z w64 key fits_k)
-    (subst (λ (n : ℤ). Ends layouts counter kit 277 829 t limits (λ s u part. IsBuilt s u kit.node part (put int_cmp (to_z w64 (of_z w64 key)) n es)) result new) (to_z-of_z w64 value fits_v) ends)
+    → Ends layouts counter kit 277 829 t limits (λ s u part. IsBuilt s u kit.node part (finite.entries (finite.insert m key value))) result new
+as_put layouts counter kit t limits m key value es is fits_k fits_v result new ends =
+    subst (λ (xs : List (ℤ × ℤ)). Ends layouts counter kit 277 829 t limits (λ s u part. IsBuilt s u kit.node part xs) result new) (entries_put m key value es is)
+    (subst (λ (i : ℤ). Ends layouts counter kit 277 829 t limits (λ s u part. IsBuilt s u kit.node part (put int_cmp i value es)) result new) (to_z-of_z w64 key fits_k)
+    (subst (λ (n : ℤ). Ends layouts counter kit 277 829 t limits (λ s u part. IsBuilt s u kit.node part (put int_cmp (to_z w64 (of_z w64 key)) n es)) result new) (to_z-of_z w64 value fits_v) ends))
+
+-- the same of a key that was taken out
+pub as_cut : {D : Type 0} (layouts : Layouts) (counter : Option ℕ) (kit : Kit) (t : Table D) (limits : Limits) (m : IntMap) (key : ℤ) (es : List (ℤ × ℤ)) → finite.entries m ≡ es → SFits w64 key
+    → (result : Result Part ListFault) (new : StoreView D)
+    → Ends layouts counter kit 276 1012 t limits (λ s u part. IsBuilt s u kit.node part (others (to_z w64 (of_z w64 key)) es)) result new
+    → Ends layouts counter kit 276 1012 t limits (λ s u part. IsBuilt s u kit.node part (finite.entries (finite.remove m key))) result new
+as_cut layouts counter kit t limits m key es is fits result new ends =
+    subst (λ (xs : List (ℤ × ℤ)). Ends layouts counter kit 276 1012 t limits (λ s u part. IsBuilt s u kit.node part xs) result new) (entries_cut m key es is)
+    (subst (λ (i : ℤ). Ends layouts counter kit 276 1012 t limits (λ s u part. IsBuilt s u kit.node part (others i es)) result new) (to_z-of_z w64 key fits) ends)

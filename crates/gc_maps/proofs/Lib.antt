@@ -21,4 +21,9 @@ pub mod Descending
 pub mod Rising
 pub mod Climbing
 pub mod Putting
+pub mod Removals
+pub mod GapLemmas
+pub mod LeastLemmas
+pub mod PullingUp
+pub mod TakingOut
 pub mod Inserting

@@ -33,13 +33,14 @@ module _ {D : Type 0} (s : StoreView D) (t : Table D) (ty : ℕ) where
   longer f bs as' Rest Rest' more false x k v y b a before behind takes =
       (takes.0, (more y b a takes.1.0, (ap (λ es. es ++ bs) takes.1.1.0 ∙ append_assoc (pairs x) ((k, v) ∷ b) bs, ap (λ es. as' ++ es) takes.1.1.1)))
 
-  pub path_push : (fs : List Frame) (f : Frame) (here parent whole : Tree) (b a bs as' : List (ℤ × ℤ)) → IsPath s t ty fs parent whole b a → LastStep f here parent bs as' → IsPath s t ty (fs ++ f ∷ []) here whole (b ++ bs) (as' ++ a)
-  path_push [] f here parent whole b a bs as' path last =
-      subst (λ (w : Tree). StepsDown s t ty f (IsPath s t ty [] here) w (b ++ bs) (as' ++ a)) (sym path.0)
-      (subst (λ (es : List (ℤ × ℤ)). StepsDown s t ty f (IsPath s t ty [] here) parent (es ++ bs) (as' ++ a)) (sym path.1.0)
-      (subst (λ (es : List (ℤ × ℤ)). StepsDown s t ty f (IsPath s t ty [] here) parent bs (as' ++ es)) (sym path.1.1)
-      (subst (λ (es : List (ℤ × ℤ)). StepsDown s t ty f (IsPath s t ty [] here) parent bs es) (sym (append-nil as')) last)))
-  path_push (g ∷ fs) f here parent whole b a bs as' path last = record {
+  -- one way behind another
+  pub path_append : (fs gs : List Frame) (here parent whole : Tree) (b a bs as' : List (ℤ × ℤ)) → IsPath s t ty fs parent whole b a → IsPath s t ty gs here parent bs as' → IsPath s t ty (fs ++ gs) here whole (b ++ bs) (as' ++ a)
+  path_append [] gs here parent whole b a bs as' path rest =
+      subst (λ (w : Tree). IsPath s t ty gs here w (b ++ bs) (as' ++ a)) (sym path.0)
+      (subst (λ (es : List (ℤ × ℤ)). IsPath s t ty gs here parent (es ++ bs) (as' ++ a)) (sym path.1.0)
+      (subst (λ (es : List (ℤ × ℤ)). IsPath s t ty gs here parent bs (as' ++ es)) (sym path.1.1)
+      (subst (λ (es : List (ℤ × ℤ)). IsPath s t ty gs here parent bs es) (sym (append-nil as')) rest)))
+  path_append (g ∷ fs) gs here parent whole b a bs as' path rest = record {
     left = path.left;
     key = path.key;
     value = path.value;
@@ -51,9 +52,12 @@ module _ {D : Type 0} (s : StoreView D) (t : Table D) (ty : ℕ) where
     value_fits = path.value_fits;
     b = path.b ++ bs;
     a = as' ++ path.a;
-    side = longer g bs as' (IsPath s t ty fs parent) (IsPath s t ty (fs ++ f ∷ []) here) (λ child b' a' rest. path_push fs f here parent child b' a' bs as' rest last) g.goes_left path.left path.key path.value path.right
+    side = longer g bs as' (IsPath s t ty fs parent) (IsPath s t ty (fs ++ gs) here) (λ child b' a' way. path_append fs gs here parent child b' a' bs as' way rest) g.goes_left path.left path.key path.value path.right
         path.b path.a b a path.side;
   }
+
+  pub path_push : (fs : List Frame) (f : Frame) (here parent whole : Tree) (b a bs as' : List (ℤ × ℤ)) → IsPath s t ty fs parent whole b a → LastStep f here parent bs as' → IsPath s t ty (fs ++ f ∷ []) here whole (b ++ bs) (as' ++ a)
+  path_push fs f here parent whole b a bs as' path last = path_append fs (f ∷ []) here parent whole b a bs as' path last
 
   -- a way whose last frame is taken off
   pub record Popped (fs : List Frame) (f : Frame) (here whole : Tree) (before behind : List (ℤ × ℤ)) : Type 0 where

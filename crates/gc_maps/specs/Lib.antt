@@ -8,3 +8,4 @@ pub mod Copies
 pub mod Makes
 pub mod Lowering
 pub mod Paths
+pub mod Gaps

@@ -72,6 +72,11 @@ abbrev pub HasChildren : {D : Type 0} → StoreView D → Table D → ℕ → Op
 HasChildren s t ty None left right = (left ≡ leaf) × (right ≡ leaf)
 HasChildren s t ty (Some read) left right = RootIs s t ty read.left left × RootIs s t ty read.right right
 
+-- what was found is the topmost of a part, and has the key; where nothing was found, the part has no nodes
+abbrev pub IsThere : ℤ → Option Node → Tree → Tree → Tree → Type 0
+IsThere key None left right here = here ≡ leaf
+IsThere key (Some read) left right here = here ≡ node left key read.value right
+
 -- Frames lead to where a key belongs: a node over what was found there takes the place of a part that is nearly as high.
 pub record Descended {D : Type 0} (s : StoreView D) (t : Table D) (ty : ℕ) (whole : Tree) (key : ℤ) (frames : List Frame) (found : Option Node) : Type 0 where
   pub here : Tree
@@ -81,6 +86,7 @@ pub record Descended {D : Type 0} (s : StoreView D) (t : Table D) (ty : ℕ) (wh
   pub behind : List (ℤ × ℤ)
   pub path : IsPath s t ty frames here whole before behind
   pub children : HasChildren s t ty found left right
+  pub there : IsThere key found left right here
   pub balanced : IsBalanced (node left key key right)
   pub close : AreLevel (height (node left key key right)) (height here)
   pub puts : (value : ℤ) → put int_cmp key value (pairs whole) ≡ before ++ (pairs (node left key value right) ++ behind)

@@ -13,6 +13,7 @@ mod making;
 pub mod map;
 mod part;
 mod reading;
+mod removing;
 mod ways;
 
 pub use map::HeapMap;

@@ -1,19 +1,27 @@
 //! Maps.
 
-ghost use Rattle.std.specs.Prelude.{◌≡◌, ◌&&◌, ◌+◌, ◌-◌, ◌*◌, ◌^◌, ◌≤◌, ℕ, None, Err, OnOk, OnErr, MatchResult, true, false, IsErrOf, length};
+ghost use Rattle.std.specs.Prelude.{◌≡◌, ◌&&◌, ◌+◌, ◌-◌, ◌*◌, ◌^◌, ◌≤◌, ◌<◌, ℕ, true, false, length};
+ghost use Rattle.std.specs.Prelude.{Option, None, Err, OnOk, OnErr, MatchResult, IsErrOf};
 ghost use Rattle.std.specs.FinMap as finite;
+ghost use Rattle.gc_model.specs.Allocation.{Limits};
 ghost use Rattle.gc_model.specs.Table.{Table};
 ghost use Rattle.gc_policy.specs.Accounts.{Account, HoldsAccount};
 ghost use Rattle.gc_store.specs.Stores.{IsSameStore};
+ghost use Rattle.gc_lists.specs.declared.kit.Kit.{Kit};
 ghost use Rattle.gc_lists.specs.Answers.{Releases};
+ghost use Rattle.gc_lists.specs.Frames.{most_objects};
 ghost use Rattle.gc_lists.specs.Kits.{KitStands, is_kit_of};
 ghost use Rattle.gc_lists.specs.Versions.{is_version_of};
 ghost use Rattle.gc_maps.specs.Answers.{AnswersMap, Gets};
 ghost use Rattle.gc_maps.specs.Copies.{CopiedEntries, FailsToCopyEntries};
+ghost use Rattle.gc_maps.specs.Ends.{Ends};
 ghost use Rattle.gc_maps.specs.Maps.{IntMap, MapOfStands, MapStands, StandsForMap, StandsForMapOf};
+ghost use Rattle.gc_maps.specs.Paths.{IsBuilt};
 
 use crate::copying::copy_part;
 use crate::finding::{MOST_HEIGHT, look_up};
+use crate::part::Part;
+use crate::removing::take_out;
 use crate::ways::put;
 use gc_heap::GcHeap;
 use gc_lists::roots::{is_kit_of, is_version_of, keep};
@@ -93,22 +101,40 @@ impl HeapMap {
             return Err(ListFault::WrongStore);
         }
         let scope = store.enter_gc_lifo_scope();
-        match put(store, limiter, kit, self.root, key, value) {
-            Ok(part) => match part.root {
-                Some(root) => match keep(store, scope, root) {
-                    Ok(kept) => Ok(HeapMap { root: Some(kept) }),
-                    Err(fault) => Err(fault),
-                },
-                None => {
-                    store.exit_gc_lifo_scope(scope);
-                    Ok(HeapMap::empty())
-                }
-            },
-            Err(fault) => {
-                store.exit_gc_lifo_scope(scope);
-                Err(fault)
-            }
+        let built = put(store, limiter, kit, self.root, key, value);
+        keep_built(store, scope, built)
+    }
+
+    /// A map without the key, in which every other key has what it has here; this map stays. Where it has no such key, what
+    /// comes out is the same map, by an owned root of its own, or the empty map. It makes the nodes on the way to the key
+    /// anew, and on to the least key behind that where its node has both children: at most three for each level, of which a
+    /// map has fewer than 92.
+    ///
+    /// Refused are, in this order: `WrongStore` where the kit or this map is another store's; `RootsFull` where no further
+    /// scoped root may be made; `HeapOutOfMemory` as `Store::place` tells of a node; and `RootsFull` where no further owned
+    /// root may be made.
+    pub fn remove<H: GcHeap, D: Drop, L: ResourceLimiter>(
+        &self,
+        kit: &Kit,
+        store: &mut Store<H, D>,
+        limiter: &mut L,
+        key: i64,
+    ) -> Result<HeapMap, ListFault>
+        requires kit { KitStands store.old kit.now }
+        requires stands { MapOfStands D H.KIND store.old self.now.root kit.now.node }
+        ensures wrong_store { (is_kit_of store.old kit.now && is_version_of store.old self.now.root) ≡ false
+            → (result ≡ Err ListFault.WrongStore) × (store.new ≡ store.old) }
+        ensures removes { is_kit_of store.old kit.now ≡ true → is_version_of store.old self.now.root ≡ true → (t : Table D) (a : Account) (m : IntMap)
+            → HoldsAccount H.KIND store.old t a → StandsForMapOf store.old t self.now.root kit.now.node m
+            → AnswersMap H.KIND store.old.alloc_counter kit.now (finite.remove m key) t (L.limits limiter.new) result store.new }
+        ensures same { IsSameStore store.old store.new }
+    {
+        if !is_kit_of(store, kit) || !is_version_of(store, self.root) {
+            return Err(ListFault::WrongStore);
         }
+        let scope = store.enter_gc_lifo_scope();
+        let built = take_out(store, limiter, kit, self.root, key);
+        keep_built(store, scope, built)
     }
 
     /// All keys with their values, by rising key, in a time and a memory that are linear in their number. It leaves a scope for
@@ -154,6 +180,36 @@ impl HeapMap {
         match store.release(root) {
             Ok(_) => Ok(()),
             Err(_) => Err(self),
+        }
+    }
+}
+
+/// Makes an owned root for a tree that was built, or none for one without nodes, and leaves the scope.
+fn keep_built<H: GcHeap, D: Drop>(
+    store: &mut Store<H, D>,
+    scope: usize,
+    built: Result<Part, ListFault>,
+) -> Result<HeapMap, ListFault>
+    ensures keeps { (counter : Option ℕ) (kit : Kit) (nodes most : ℕ) (t : Table D) (limits : Limits) (m : IntMap)
+        → nodes ≤ most_objects → most < most_objects → scope ≡ length t.scoped
+        → Ends H.KIND counter kit nodes most t limits (λ s u part. IsBuilt s u kit.node part (finite.entries m)) built store.old
+        → AnswersMap H.KIND counter kit m t limits result store.new }
+    ensures same { IsSameStore store.old store.new }
+{
+    match built {
+        Ok(part) => match part.root {
+            Some(root) => match keep(store, scope, root) {
+                Ok(kept) => Ok(HeapMap { root: Some(kept) }),
+                Err(fault) => Err(fault),
+            },
+            None => {
+                store.exit_gc_lifo_scope(scope);
+                Ok(HeapMap::empty())
+            }
+        },
+        Err(fault) => {
+            store.exit_gc_lifo_scope(scope);
+            Err(fault)
         }
     }
 }

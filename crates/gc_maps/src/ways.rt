@@ -50,7 +50,7 @@ fn frame_of(node: &Node, order: Ordering) -> Frame
 }
 
 /// Goes down to a key, and answers its node, where there is one. The path takes a frame for each node above it.
-fn descend<H: GcHeap, D: Drop>(
+pub(crate) fn descend<H: GcHeap, D: Drop>(
     store: &mut Store<H, D>,
     root: Option<GcRootIndex>,
     key: i64,
@@ -102,7 +102,7 @@ fn opened_at(frame: Frame, part: Part, other: Part) -> Opened
 }
 
 /// Makes the tree anew from a part upward: for each frame of the path, the last first, a balanced part.
-fn rebuild<H: GcHeap, D: Drop, L: ResourceLimiter>(
+pub(crate) fn rebuild<H: GcHeap, D: Drop, L: ResourceLimiter>(
     store: &mut Store<H, D>,
     limiter: &mut L,
     kit: &Kit,

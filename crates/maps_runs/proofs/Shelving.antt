@@ -1,7 +1,7 @@
 -- A shelf stays through calls on its maps.
 use Rattle.std.proofs.Common.{int_cmp, ◌≡◌, ℕ, zero, suc, ℤ, ◌+◌, Bool, true, false, ◌&&◌, arith, List, [], ◌∷◌, ◌++◌, length, Option, Some, None, Vec, Global, Result, Ok, Err, refl, sym, ap, ◌∙◌, subst}
 use Rattle.std.specs.List.{slice_get}
-use Rattle.std.specs.Result.{IsErrOf, MatchResult}
+use Rattle.std.specs.Result.{IfOk, IsErrOf, MatchResult}
 use Rattle.std.specs.FinMap as finite
 use Rattle.std.proofs.lemmas.List.{append-nil, length-append}
 use Rattle.std.proofs.lemmas.Option.{none-some}
@@ -11,8 +11,8 @@ use Rattle.gc_model.proofs.Lists.{slice_get-push_new, slice_get-push_old}
 use Rattle.gc_model.specs.Allocation.{Limits}
 use Rattle.gc_model.specs.Values.{Reference, null}
 use Rattle.gc_model.specs.Table.{Table, Owned}
+use Rattle.gc_model.specs.Holds.{HoldsKept, HoldsTable}
 use Rattle.gc_model.specs.Stores.{StoreView}
-use Rattle.gc_model.specs.Holds.{HoldsTable}
 use Rattle.gc_policy.specs.Accounts.{Account, HoldsAccount}
 use Rattle.gc_policy.proofs.AccountLemmas.{some_account}
 use Rattle.gc_store.specs.declared.root.GcRootIndex.{GcRootIndex}
@@ -151,6 +151,18 @@ module _ (layouts : Layouts) (s new : StoreView ℕ) (kit : Kit) (vs : List (Opt
   shelf_read leaves = shelf_kept leaves.after leaves.account leaves.holds (roots_keep shelf.table leaves.after shelf.table.owned leaves.changed) []
       (owned_none leaves.after (ap (λ (v : Table ℕ). v.owned) leaves.changed.rest))
 
+-- a collection was run
+pub shelf_collected : (layouts : Layouts) (s new : StoreView ℕ) (kit : Kit) (vs : List (Option GcRootIndex)) → IsSameStore s new → ((t : Table ℕ) → HoldsTable layouts s t → HoldsKept layouts new t) → Shelf layouts s kit vs → Shelf layouts new kit vs
+shelf_collected layouts s new kit vs same kept shelf = record { table = shelf.table; holds = (held.0, held.1.0); kit_is = shelf.kit_is; stands = each }
+  where
+    held : HoldsKept layouts new shelf.table
+    held = kept shelf.table shelf.holds
+
+    each : (i : ℕ) (w : Option GcRootIndex) → slice_get vs i ≡ Some w → (m : IntMap) × StandsForMapOf new shelf.table w kit.node m
+    each i w e =
+        let stood = shelf.stands i w e in
+        (stood.0, record { reference = stood.1.reference; names = named_still s new shelf.table shelf.table [] same (sym (append-nil shelf.table.owned)) w stood.1.reference stood.1.names; is = stood.1.is })
+
 -- What each call answers and leaves.
 
 and_false : (a b : Bool) → a ≡ false → (a && b) ≡ false
@@ -173,24 +185,25 @@ module _ (layouts : Layouts) (s new : StoreView ℕ) (kit : Kit) (v : Option GcR
   abbrev first_stands : (m : IntMap) × StandsForMapOf s shelf.table v kit.node m
   first_stands = shelf.stands zero v refl
 
-  module _ (key value : ℤ) (limits' : Limits) where
-    put_in : (counter : Option ℕ) (result : Result HeapMap ListFault) → AnswersMap layouts counter kit (finite.insert first_stands.0 key value) shelf.table limits' result new → Made result
-    put_in counter (Ok made) answers = shelf_answered layouts s new kit (v ∷ vs) shelf same (finite.insert first_stands.0 key value) made.root answers
-    put_in counter (Err fault.WrongStore) answers = absurd answers
-    put_in counter (Err fault.RootsFull) answers = shelf_refused layouts s new kit (v ∷ vs) shelf same answers.1
-    put_in counter (Err (fault.HeapOutOfMemory f)) answers = shelf_refused layouts s new kit (v ∷ vs) shelf same answers.1
-    put_in counter (Err fault.Memory) answers = shelf_refused layouts s new kit (v ∷ vs) shelf same answers
+  -- a call that answers a map whose entries are changed so
+  module _ (change : IntMap → IntMap) (limits' : Limits) where
+    changed_in : (counter : Option ℕ) (result : Result HeapMap ListFault) → AnswersMap layouts counter kit (change first_stands.0) shelf.table limits' result new → Made result
+    changed_in counter (Ok made) answers = shelf_answered layouts s new kit (v ∷ vs) shelf same (change first_stands.0) made.root answers
+    changed_in counter (Err fault.WrongStore) answers = absurd answers
+    changed_in counter (Err fault.RootsFull) answers = shelf_refused layouts s new kit (v ∷ vs) shelf same answers.1
+    changed_in counter (Err (fault.HeapOutOfMemory f)) answers = shelf_refused layouts s new kit (v ∷ vs) shelf same answers.1
+    changed_in counter (Err fault.Memory) answers = shelf_refused layouts s new kit (v ∷ vs) shelf same answers
 
-    pub put_stays : (counter : Option ℕ) (result : Result HeapMap ListFault) → ((is_kit_of s kit && is_version_of s v) ≡ false → (result ≡ Err fault.WrongStore) × (new ≡ s))
+    pub change_stays : (counter : Option ℕ) (result : Result HeapMap ListFault) → ((is_kit_of s kit && is_version_of s v) ≡ false → (result ≡ Err fault.WrongStore) × (new ≡ s))
         → (is_kit_of s kit ≡ true → is_version_of s v ≡ true → (t : Table ℕ) (a : Account) (m : IntMap) → HoldsAccount layouts s t a → StandsForMapOf s t v kit.node m
-        → AnswersMap layouts counter kit (finite.insert m key value) t limits' result new) → Made result
-    put_stays counter result wrong inserts = by (is_kit_of s kit) (is_version_of s v) refl refl
+        → AnswersMap layouts counter kit (change m) t limits' result new) → Made result
+    change_stays counter result wrong changes = by (is_kit_of s kit) (is_version_of s v) refl refl
       where
         account : (a : Account) × HoldsAccount layouts s shelf.table a
         account = some_account layouts s shelf.table shelf.holds
 
         by : (k w : Bool) → is_kit_of s kit ≡ k → is_version_of s v ≡ w → Made result
-        by true true kit_own own = put_in counter result (inserts kit_own own shelf.table account.0 first_stands.0 account.1 first_stands.1)
+        by true true kit_own own = changed_in counter result (changes kit_own own shelf.table account.0 first_stands.0 account.1 first_stands.1)
         by true false kit_own own = refused_store result (wrong (false_behind (is_kit_of s kit) (is_version_of s v) own))
         by false w kit_own own = refused_store result (wrong (and_false (is_kit_of s kit) (is_version_of s v) kit_own))
 
@@ -232,3 +245,9 @@ module _ (layouts : Layouts) (s new : StoreView ℕ) (kit : Kit) (v : Option GcR
       by : (w : Bool) → is_version_of s v ≡ w → Shelf layouts new kit (v ∷ vs)
       by true own = copied result (copies own shelf.table account.0 first_stands.0 account.1 (kit.node, first_stands.1))
       by false own = as_it_was (wrong own).1
+
+-- the map that a call answered, alone
+pub made_alone : (layouts : Layouts) (new : StoreView ℕ) (kit : Kit) (v : Option GcRootIndex) (result : Result HeapMap ListFault)
+    → MatchResult result (λ (made : HeapMap). Shelf layouts new kit (made.root ∷ (v ∷ []))) (λ (why : ListFault). Shelf layouts new kit (v ∷ [])) → IfOk result (λ (made : HeapMap). Shelf layouts new kit (made.root ∷ []))
+made_alone layouts new kit v (Ok made) shelf = alone_on layouts new kit made.root (v ∷ []) shelf
+made_alone layouts new kit v (Err why) shelf = tt

@@ -6,7 +6,7 @@ ghost use Rattle.gc_lists.specs.declared.kit.Kit.{Kit};
 ghost use Rattle.maps_runs.specs.Shelves.{Shelf};
 
 use crate::fault::RunFault;
-use crate::shelf::{all, find, new_kit, put};
+use crate::shelf::{all, cut, find, new_kit, put};
 use gc_heap::GcHeap;
 use gc_lists::{Kit, ListFault};
 use gc_maps::HeapMap;
@@ -74,6 +74,20 @@ pub(crate) fn run_keys<H: GcHeap>(
     let entries = all(alloc, store, &other)?;
     show(rt, store, &map, &[30, 40])?;
     show_all(rt, &entries)
+}
+
+/// Three keys, of which the middle one is removed: what each map has then.
+pub(crate) fn run_removed<H: GcHeap>(
+    rt: &impl Print,
+    store: &mut Store<H, u64>,
+    limiter: &mut PageLimit,
+) -> Result<(), RunFault> {
+    let kit = new_kit(store)?;
+    let map = map_of(store, limiter, &kit, &[1, 2, 3])?;
+    show(rt, store, &map, &[2])?;
+    let fewer = cut(store, limiter, &kit, &map, 2)?;
+    show(rt, store, &fewer, &[1, 3, 2])?;
+    show(rt, store, &map, &[2])
 }
 
 /// What a key in the empty map is answered in a store that refuses it.

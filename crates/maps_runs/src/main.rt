@@ -4,16 +4,16 @@
 #![tactic(auto)]
 
 mod cases;
-mod compare;
 mod fault;
+mod random;
 mod shelf;
 
 ghost use Rattle.std.specs.Prelude.{◌≡◌};
 ghost use Rattle.gc_view.specs.Heaps.{detached};
 
-use crate::cases::{run_keys, run_refused};
-use crate::compare::run_beside;
+use crate::cases::{run_keys, run_refused, run_removed};
 use crate::fault::RunFault;
+use crate::random::{CHANGES, run_random};
 use gc_copying::CopyingHeap;
 use gc_drc::DrcHeap;
 use gc_heap::{GcHeap, NullHeap};
@@ -31,18 +31,6 @@ fn config_of(max_owned: u32) -> Result<HeapConfig, RunFault> {
     HeapConfig::new(1, 2048, max_owned, None).ok_or(RunFault::Missing)
 }
 
-/// Compares maps over each heap with maps of std. Each version of a map keeps its owned root.
-fn compare_all(rt: &impl Print, alloc: Global) -> Result<(), RunFault> {
-    let config = config_of(4096)?;
-    let agreed = run_beside(alloc, NullHeap::new(alloc), config)?;
-    println!(rt; "null agrees {agreed}")?;
-    let agreed = run_beside(alloc, DrcHeap::new(alloc), config)?;
-    println!(rt; "counting agrees {agreed}")?;
-    let agreed = run_beside(alloc, CopyingHeap::new(alloc), config)?;
-    println!(rt; "copying agrees {agreed}")?;
-    Ok(())
-}
-
 /// Fills maps in a new store over that heap.
 fn keys_over<H: GcHeap + Drop>(
     rt: &impl Print,
@@ -54,7 +42,23 @@ fn keys_over<H: GcHeap + Drop>(
     requires empty { H.seen heap ≡ detached }
 {
     let mut store = Store::new(alloc, STORE, heap, config)?;
-    run_keys(rt, alloc, &mut store, &mut PageLimit::new(4))
+    let mut limiter = PageLimit::new(4);
+    run_keys(rt, alloc, &mut store, &mut limiter)?;
+    run_removed(rt, &mut store, &mut limiter)
+}
+
+/// Changes a map many times in a new store over that heap.
+fn random_over<H: GcHeap + Drop>(
+    rt: &impl Print,
+    alloc: Global,
+    heap: H,
+    config: HeapConfig,
+) -> Result<(), RunFault>
+    requires sound { H.sound heap }
+    requires empty { H.seen heap ≡ detached }
+{
+    let mut store = Store::new(alloc, STORE, heap, config)?;
+    run_random(rt, &mut store, &mut PageLimit::new(4096))
 }
 
 /// Has a key refused in a new store that may have so many pages.
@@ -77,9 +81,12 @@ fn main(rt: HostRuntime) -> Result<(), RunFault> {
     keys_over(&rt, alloc, DrcHeap::new(alloc), ample)?;
     println!(rt; "== copying")?;
     keys_over(&rt, alloc, CopyingHeap::new(alloc), ample)?;
+    println!(rt; "== random")?;
+    let roomy = config_of(CHANGES)?;
+    random_over(&rt, alloc, NullHeap::new(alloc), roomy)?;
+    random_over(&rt, alloc, DrcHeap::new(alloc), roomy)?;
+    random_over(&rt, alloc, CopyingHeap::new(alloc), roomy)?;
     println!(rt; "== refused")?;
     refused_with(&rt, alloc, config_of(0)?, 4)?;
-    refused_with(&rt, alloc, ample, 0)?;
-    println!(rt; "== beside a BTreeMap")?;
-    compare_all(&rt, alloc)
+    refused_with(&rt, alloc, ample, 0)
 }

@@ -57,7 +57,23 @@ pub(crate) fn all<H: GcHeap>(
     map.copy_out(alloc, store)
 }
 
-/// Collects.
+/// A map without the key.
+pub(crate) fn cut<H: GcHeap>(
+    store: &mut Store<H, u64>,
+    limiter: &mut PageLimit,
+    kit: &Kit,
+    map: &HeapMap,
+    key: i64,
+) -> Result<HeapMap, ListFault>
+    requires { Shelf H.KIND store.old kit.now (map.now.root ∷ []) }
+    ensures { (vs : List (Option GcRootIndex)) → Shelf H.KIND store.old kit.now (map.now.root ∷ vs)
+        → MatchResult result (λ made. Shelf H.KIND store.new kit.now (made.root ∷ (map.now.root ∷ vs)))
+        (λ fault. Shelf H.KIND store.new kit.now (map.now.root ∷ vs)) }
+{
+    map.remove(kit, store, limiter, key)
+}
+
+/// Collects the heap's garbage.
 pub(crate) fn collect<H: GcHeap>(store: &mut Store<H, u64>)
     ensures { (kit : Kit) (vs : List (Option GcRootIndex)) → Shelf H.KIND store.old kit vs → Shelf H.KIND store.new kit vs }
 {

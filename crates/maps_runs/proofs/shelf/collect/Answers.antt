@@ -1,7 +1,5 @@
 use Rattle.maps_runs.proofs.shelf.collect.Goals as goal
-use Rattle.maps_runs.proofs.Shelving.{shelf_moved}
+use Rattle.maps_runs.proofs.Shelving.{shelf_collected}
 
 pub returns : goal.returns
-returns g c kit vs shelf =
-    let after = c.gc.ensures.kept shelf.table shelf.holds in
-    shelf_moved g.H.GcHeap.KIND c.args.store.now c.gc.new.self kit vs shelf c.gc.ensures.same (after.0, after.1.0)
+returns g c = λ kit vs shelf. shelf_collected g.H.GcHeap.KIND c.args.store.now c.gc.new.self kit vs c.gc.ensures.same c.gc.ensures.kept shelf

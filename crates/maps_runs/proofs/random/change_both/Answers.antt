@@ -1,5 +1,5 @@
 use Rattle.std.proofs.Common.{[]}
-use Rattle.maps_runs.proofs.compare.fill.Goals as goal
+use Rattle.maps_runs.proofs.random.change_both.Goals as goal
 use Rattle.maps_runs.proofs.Shelving.{empty_on}
 
 pub loop-turn-init : goal.loop-turn-init

@@ -1,0 +1,10 @@
+use Rattle.std.proofs.Common.{◌∷◌, []}
+use Rattle.gc_lists.specs.declared.kit.Kit.{Kit}
+use Rattle.maps_runs.specs.Shelves.{Shelf}
+use Rattle.maps_runs.proofs.random.agrees.Given as goal
+
+abbrev pub invariant-loop-key : goal.invariant-loop-key
+invariant-loop-key g l = record {
+  stands : (kit : Kit) × Shelf g.H.GcHeap.KIND l.store kit (l.map.root ∷ []);
+  stays : (kit : Kit) → Shelf g.H.GcHeap.KIND l.fn.store kit (l.map.root ∷ []) → Shelf g.H.GcHeap.KIND l.store kit (l.map.root ∷ []);
+}
