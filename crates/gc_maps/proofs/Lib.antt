@@ -8,6 +8,7 @@ pub mod NodeReads
 pub mod Lookups
 pub mod Leaving
 pub mod NodeMaking
+pub mod Limiting
 pub mod Opening
 pub mod Steps
 pub mod Visiting

@@ -32,6 +32,7 @@ fn make_over_right<H: GcHeap, D: Drop, L: ResourceLimiter>(
         → OpenedIs store.old t kit.now.node low y k v z
         → Ends H.KIND store.old.alloc_counter kit.now 2 2 t (L.limits limiter.new) (λ s u part. PartIs s u kit.now.node part (node_of x key value (node_of y k v z)))
         result store.new }
+    ensures limit { (L.limits limiter.new).limit ≡ (L.limits limiter.old).limit }
     ensures same { IsSameStore store.old store.new }
 {
     match make_node(store, limiter, kit, low.left, low.key, low.value, low.right) {
@@ -55,6 +56,7 @@ fn make_over_left<H: GcHeap, D: Drop, L: ResourceLimiter>(
         → OpenedIs store.old t kit.now.node low y k v z
         → Ends H.KIND store.old.alloc_counter kit.now 2 2 t (L.limits limiter.new) (λ s u part. PartIs s u kit.now.node part (node_of (node_of y k v z) key value x))
         result store.new }
+    ensures limit { (L.limits limiter.new).limit ≡ (L.limits limiter.old).limit }
     ensures same { IsSameStore store.old store.new }
 {
     match make_node(store, limiter, kit, low.left, low.key, low.value, low.right) {
@@ -76,6 +78,7 @@ fn turn<H: GcHeap, D: Drop, L: ResourceLimiter>(
         → Turns store.old t kit.now.node high opened x j u b i w c k v y
         → Ends H.KIND store.old.alloc_counter kit.now 3 5 t (L.limits limiter.new)
         (λ s u' part. PartIs s u' kit.now.node part (node_of (node_of x j u b) i w (node_of c k v y))) result store.new }
+    ensures limit { (L.limits limiter.new).limit ≡ (L.limits limiter.old).limit }
     ensures same { IsSameStore store.old store.new }
 {
     let middle = match high.right.root {
@@ -120,6 +123,7 @@ fn lower_left<H: GcHeap, D: Drop, L: ResourceLimiter>(
     ensures joins { (t : Table D) (a : Account) (x y : Tree) (k v : ℤ) → HoldsAccount H.KIND store.old t a
         → IsHighLeft store.old t kit.now.node root opened x k v y
         → Ends H.KIND store.old.alloc_counter kit.now 3 7 t (L.limits limiter.new) (λ s u part. IsJoined s u kit.now.node part x (k, v) y) result store.new }
+    ensures limit { (L.limits limiter.new).limit ≡ (L.limits limiter.old).limit }
     ensures same { IsSameStore store.old store.new }
 {
     let high = match open_node(store, root) {
@@ -150,6 +154,7 @@ fn lower_right<H: GcHeap, D: Drop, L: ResourceLimiter>(
     ensures joins { (t : Table D) (a : Account) (x y : Tree) (k v : ℤ) → HoldsAccount H.KIND store.old t a
         → IsHighRight store.old t kit.now.node root opened x k v y
         → Ends H.KIND store.old.alloc_counter kit.now 3 7 t (L.limits limiter.new) (λ s u part. IsJoined s u kit.now.node part x (k, v) y) result store.new }
+    ensures limit { (L.limits limiter.new).limit ≡ (L.limits limiter.old).limit }
     ensures same { IsSameStore store.old store.new }
 {
     let high = match open_node(store, root) {
@@ -186,6 +191,7 @@ pub(crate) fn join<H: GcHeap, D: Drop, L: ResourceLimiter>(
     requires { JoinableIn D H.KIND store.old kit.now.node opened }
     ensures joins { (t : Table D) (a : Account) (x y : Tree) (k v : ℤ) → HoldsAccount H.KIND store.old t a → IsJoinable store.old t kit.now.node opened x k v y
         → Ends H.KIND store.old.alloc_counter kit.now 3 7 t (L.limits limiter.new) (λ s u part. IsJoined s u kit.now.node part x (k, v) y) result store.new }
+    ensures limit { (L.limits limiter.new).limit ≡ (L.limits limiter.old).limit }
     ensures same { IsSameStore store.old store.new }
 {
     if is_too_high(opened.left, opened.right) {

@@ -37,6 +37,7 @@ pub(crate) fn make_node<H: GcHeap, D: Drop, L: ResourceLimiter>(
     ensures makes { (t : Table D) (a : Account) (x y : Tree) → HoldsAccount H.KIND store.old t a → PartIs store.old t kit.now.node left x
         → PartIs store.old t kit.now.node right y
         → Ends H.KIND store.old.alloc_counter kit.now 1 1 t (L.limits limiter.new) (λ s u part. PartIs s u kit.now.node part (node_of x key value y)) result store.new }
+    ensures limit { (L.limits limiter.new).limit ≡ (L.limits limiter.old).limit }
     ensures same { IsSameStore store.old store.new }
 {
     let height = height_over(left.height, right.height);
@@ -76,6 +77,7 @@ pub(crate) fn make_three<H: GcHeap, D: Drop, L: ResourceLimiter>(
         → OpenedIs store.old t kit.now.node right z k v w
         → Ends H.KIND store.old.alloc_counter kit.now 3 3 t (L.limits limiter.new) (λ s u' part. PartIs s u' kit.now.node part (node_of (node_of x j u y) key value (node_of z k v w)))
         result store.new }
+    ensures limit { (L.limits limiter.new).limit ≡ (L.limits limiter.old).limit }
     ensures same { IsSameStore store.old store.new }
 {
     let low = match make_node(

@@ -95,6 +95,7 @@ impl HeapMap {
         ensures inserts { is_kit_of store.old kit.now ≡ true → is_version_of store.old self.now.root ≡ true → (t : Table D) (a : Account) (m : IntMap)
             → HoldsAccount H.KIND store.old t a → StandsForMapOf store.old t self.now.root kit.now.node m
             → AnswersMap H.KIND store.old.alloc_counter kit.now (finite.insert m key value) t (L.limits limiter.new) result store.new }
+        ensures limit { (L.limits limiter.new).limit ≡ (L.limits limiter.old).limit }
         ensures same { IsSameStore store.old store.new }
     {
         if !is_kit_of(store, kit) || !is_version_of(store, self.root) {
@@ -127,6 +128,7 @@ impl HeapMap {
         ensures removes { is_kit_of store.old kit.now ≡ true → is_version_of store.old self.now.root ≡ true → (t : Table D) (a : Account) (m : IntMap)
             → HoldsAccount H.KIND store.old t a → StandsForMapOf store.old t self.now.root kit.now.node m
             → AnswersMap H.KIND store.old.alloc_counter kit.now (finite.remove m key) t (L.limits limiter.new) result store.new }
+        ensures limit { (L.limits limiter.new).limit ≡ (L.limits limiter.old).limit }
         ensures same { IsSameStore store.old store.new }
     {
         if !is_kit_of(store, kit) || !is_version_of(store, self.root) {

@@ -127,6 +127,7 @@ pub(crate) fn take_out<H: GcHeap, D: Drop, L: ResourceLimiter>(
         → RootIs store.old t kit.now.node root tree → IsSearch tree
         → Ends H.KIND store.old.alloc_counter kit.now 276 1012 t (L.limits limiter.new)
         (λ s u part. IsBuilt s u kit.now.node part (others key (pairs tree))) result store.new }
+    ensures limit { (L.limits limiter.new).limit ≡ (L.limits limiter.old).limit }
     ensures same { IsSameStore store.old store.new }
 {
     let mut path = Vec::new(store.allocator());

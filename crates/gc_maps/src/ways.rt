@@ -115,6 +115,7 @@ pub(crate) fn rebuild<H: GcHeap, D: Drop, L: ResourceLimiter>(
         → Rises store.old t kit.now.node whole path.old.items part entries
         → Ends H.KIND store.old.alloc_counter kit.now 276 644 t (L.limits limiter.new) (λ s u built. IsBuilt s u kit.now.node built entries)
         result store.new }
+    ensures limit { (L.limits limiter.new).limit ≡ (L.limits limiter.old).limit }
     ensures same { IsSameStore store.old store.new }
 {
     let mut part = part;
@@ -147,6 +148,7 @@ fn make_between<H: GcHeap, D: Drop, L: ResourceLimiter>(
         → RootIs store.old t kit.now.node right y → height x < 400 → height y < 400
         → Ends H.KIND store.old.alloc_counter kit.now 1 1 t (L.limits limiter.new) (λ s u part. PartIs s u kit.now.node part (node_of x key value y))
         result store.new }
+    ensures limit { (L.limits limiter.new).limit ≡ (L.limits limiter.old).limit }
     ensures same { IsSameStore store.old store.new }
 {
     let left = part_of(store, left);
@@ -168,6 +170,7 @@ fn make_entry<H: GcHeap, D: Drop, L: ResourceLimiter>(
         → height x < 400 → height y < 400
         → Ends H.KIND store.old.alloc_counter kit.now 1 1 t (L.limits limiter.new) (λ s u part. PartIs s u kit.now.node part (node_of x key value y))
         result store.new }
+    ensures limit { (L.limits limiter.new).limit ≡ (L.limits limiter.old).limit }
     ensures same { IsSameStore store.old store.new }
 {
     match found {
@@ -190,6 +193,7 @@ pub(crate) fn put<H: GcHeap, D: Drop, L: ResourceLimiter>(
         → RootIs store.old t kit.now.node root tree → IsSearch tree
         → Ends H.KIND store.old.alloc_counter kit.now 277 829 t (L.limits limiter.new)
         (λ s u part. IsBuilt s u kit.now.node part (put int_cmp key value (pairs tree))) result store.new }
+    ensures limit { (L.limits limiter.new).limit ≡ (L.limits limiter.old).limit }
     ensures same { IsSameStore store.old store.new }
 {
     let mut path = Vec::new(store.allocator());

@@ -8,6 +8,7 @@ use Rattle.gc_maps.proofs.ways.rebuild.Goals as goal
 pub loop-turn-init : goal.loop-turn-init
 loop-turn-init g c = record {
   climbs = λ t a whole entries holds balanced low rises. climb_start g.H.GcHeap.KIND c.args.kit.now c.args.store.now t a holds whole entries balanced low c.args.path.now.items c.args.part rises;
+  limit = refl;
   same = record { engine = refl; number = refl; counter = refl };
 }
 
@@ -48,6 +49,7 @@ loop-turn-preserved g c = record {
       c.part_of-other.new.store c.part_of-other.ensures.same c.part_of-other.result c.part_of-other.ensures.reads
       c.opened_at.result c.opened_at.ensures.left c.opened_at.ensures.key c.opened_at.ensures.value c.opened_at.ensures.right
       c.join.new.store (g.L.ResourceLimiter.limits c.join.new.limiter) c.join.ensures.same c.in-Ok.joined c.in-Ok.ensures.joins;
+  limit = c.join.ensures.limit ∙ c.loop-turn.invariant.limit;
   same = same_then c.args.store.now c.part_of-other.new.store c.join.new.store (same_then c.args.store.now c.loop-turn.store c.part_of-other.new.store c.loop-turn.invariant.same c.part_of-other.ensures.same) c.join.ensures.same;
 }
 
@@ -57,3 +59,12 @@ returns-clause-builds g c t a whole entries holds balanced low rises =
     let few = climbs.few in
     climb_done g.H.GcHeap.KIND c.args.kit.now c.args.store.now t a holds whole entries balanced low c.loop-turn._turn c.loop-turn.path.items c.loop-turn.store c.loop-turn.part (g.L.ResourceLimiter.limits c.args.limiter.now) (omega arith)
     (nil_from_length c.loop-turn.path.items (omega (arith, few))) climbs
+
+pub returns-in-Err-clause-limit : goal.returns-in-Err-clause-limit
+returns-in-Err-clause-limit g c = c.join.ensures.limit ∙ c.loop-turn.invariant.limit
+
+pub returns-in-None-clause-limit : goal.returns-in-None-clause-limit
+returns-in-None-clause-limit g c = c.loop-turn.invariant.limit
+
+pub returns-clause-limit : goal.returns-clause-limit
+returns-clause-limit g c = c.loop-turn.invariant.limit

@@ -1,4 +1,4 @@
-use Rattle.std.proofs.Common.{ℤ, ◌<◌, List}
+use Rattle.std.proofs.Common.{◌≡◌, ℤ, ◌<◌, List}
 use Rattle.gc_model.specs.Table.{Table}
 use Rattle.gc_policy.specs.Accounts.{Account, HoldsAccount}
 use Rattle.gc_store.specs.Stores.{IsSameStore}
@@ -11,5 +11,6 @@ invariant-loop-turn g l = record {
   climbs : (t : Table g.row.D.Denot) (a : Account) (whole : Tree) (entries : List (ℤ × ℤ)) → HoldsAccount g.H.GcHeap.KIND l.fn.store t a → IsBalanced whole → height whole < 92
       → Rises l.fn.store t l.fn.kit.node whole l.fn.path.items l.fn.part entries
       → Climbs g.H.GcHeap.KIND l.fn.kit t whole l._turn l.path.items l.store l.part entries;
+  limit : (g.L.ResourceLimiter.limits l.limiter).limit ≡ (g.L.ResourceLimiter.limits l.fn.limiter).limit;
   same : IsSameStore l.fn.store l.store;
 }
