@@ -20,11 +20,12 @@ use Rattle.gc_store.specs.Stores.{IsSameStore}
 use Rattle.gc_lists.specs.declared.fault.ListFault.{ListFault}
 use Rattle.gc_lists.specs.declared.fault.ListFault.TheVariants as fault
 use Rattle.gc_lists.specs.declared.kit.Kit.{Kit}
-use Rattle.gc_lists.specs.Answers.{AnswersVersion, owned_with}
+use Rattle.gc_lists.specs.Answers.{AnswersVersion, AreApart, LeavesVersion, Releases, owned_with}
 use Rattle.gc_lists.specs.Constants.{KeepsConstants}
 use Rattle.gc_lists.specs.Frames.{ChangesObjects, ChangesRoots, Leaves, most_objects}
 use Rattle.gc_lists.specs.Kits.{IsKit, KitStands, MakesKit, cell_type, declare_kit, is_kit_of, node_type}
-use Rattle.gc_lists.specs.Versions.{is_version_of}
+use Rattle.gc_lists.specs.Versions.{VersionNames, is_version_of}
+use Rattle.gc_lists.proofs.Sparing.{new_apart, others_left}
 use Rattle.gc_lists.proofs.Standing.{named_still, objects_keep, roots_keep}
 use Rattle.gc_maps.specs.declared.map.HeapMap.{HeapMap}
 use Rattle.gc_maps.specs.Answers.{AnswersMap, AreEntries, Gets}
@@ -114,26 +115,11 @@ module _ (layouts : Layouts) (s new : StoreView ℕ) (kit : Kit) (vs : List (Opt
         each zero w e = (m, subst (λ (x : Option GcRootIndex). StandsForMapOf new u x kit.node m) (grind (arith, e)) stands)
         each (suc i) w e = each_kept i w e
 
-  -- all stands in the same table
-  pub shelf_moved : HoldsTable layouts new shelf.table → Shelf layouts new kit vs
-  shelf_moved holds = record { table = shelf.table; holds = holds; kit_is = shelf.kit_is; stands = each }
-    where
-      each : (i : ℕ) (w : Option GcRootIndex) → slice_get vs i ≡ Some w → (m : IntMap) × StandsForMapOf new shelf.table w kit.node m
-      each i w e =
-          let stood = shelf.stands i w e in (
-            stood.0,
-            record {
-              reference = stood.1.reference;
-              names = named_still s new shelf.table shelf.table [] same (sym (append-nil shelf.table.owned)) w stood.1.reference stood.1.names;
-              is = stood.1.is;
-            },
-          )
-
   owned_none : (u : Table ℕ) → u.owned ≡ shelf.table.owned → u.owned ≡ shelf.table.owned ++ []
   owned_none u is = is ∙ sym (append-nil shelf.table.owned)
 
   -- a version was answered
-  owned_more : (made : Option GcRootIndex) (r : Reference) → (more : List Owned) × (owned_with shelf.table made r ≡ shelf.table.owned ++ more)
+  pub owned_more : (made : Option GcRootIndex) (r : Reference) → (more : List Owned) × (owned_with shelf.table made r ≡ shelf.table.owned ++ more)
   owned_more None r = ([], sym (append-nil shelf.table.owned))
   owned_more (Some h) r = (_, refl)
 
@@ -251,3 +237,81 @@ pub made_alone : (layouts : Layouts) (new : StoreView ℕ) (kit : Kit) (v : Opti
     → MatchResult result (λ (made : HeapMap). Shelf layouts new kit (made.root ∷ (v ∷ []))) (λ (why : ListFault). Shelf layouts new kit (v ∷ [])) → IfOk result (λ (made : HeapMap). Shelf layouts new kit (made.root ∷ []))
 made_alone layouts new kit v (Ok made) shelf = alone_on layouts new kit made.root (v ∷ []) shelf
 made_alone layouts new kit v (Err why) shelf = tt
+
+-- a map was made and given up again, and the one that it was made of stands
+module _ (layouts : Layouts) (s mid new : StoreView ℕ) (kit : Kit) (v : Option GcRootIndex) (shelf : Shelf layouts s kit (v ∷ [])) (same : IsSameStore s mid) (after : IsSameStore mid new) (made : HeapMap) where
+  abbrev the_entries : IntMap
+  the_entries = (shelf.stands zero v refl).0
+
+  abbrev the_version : StandsForMapOf s shelf.table v kit.node the_entries
+  the_version = (shelf.stands zero v refl).1
+
+  account_of : (a : Account) × HoldsAccount layouts s shelf.table a
+  account_of = some_account layouts s shelf.table shelf.holds
+
+  module _ (m : IntMap) (answers : AnswersVersion layouts shelf.table (ChangesObjects kit most_objects shelf.table) (AreEntries kit.node m) made.root mid) (releases : Releases layouts mid answers.after answers.account made.root new) where
+    keeps : KeepsConstants shelf.table answers.after
+    keeps = objects_keep kit most_objects shelf.table answers.after (owned_with shelf.table made.root answers.stands.reference) answers.changed
+
+    named : VersionNames mid answers.after v the_version.reference
+    named =
+        let more = owned_more layouts s mid kit (v ∷ []) shelf same made.root answers.stands.reference in
+        named_still s mid shelf.table answers.after more.0 same (ap (λ (w : Table ℕ). w.owned) answers.changed.rest ∙ more.1) v the_version.reference the_version.names
+
+    apart : AreApart made.root v
+    apart h e e' = new_apart layouts s shelf.table account_of.0 account_of.1 mid same v made.root the_version.reference the_version.names answers.has_new_root h e' e
+
+    left : LeavesVersion layouts answers.after answers.account v the_version.reference new
+    left = others_left layouts mid answers.after answers.account answers.holds new after made.root v the_version.reference releases apart named
+
+    shelf_left : Shelf layouts new kit (v ∷ [])
+    shelf_left = record {
+      table = record answers.after { owned = left.owned };
+      holds = (left.holds.place, left.holds.holds);
+      kit_is = record { cells = keeps.types kit.cell _ shelf.kit_is.cells; nodes = keeps.types kit.node _ shelf.kit_is.nodes };
+      stands = one;
+    }
+      where
+        one : (i : ℕ) (w : Option GcRootIndex) → slice_get (v ∷ []) i ≡ Some w → (n : IntMap) × StandsForMapOf new (record answers.after { owned = left.owned }) w kit.node n
+        one zero w e = (
+          the_entries,
+          subst (λ (x : Option GcRootIndex). StandsForMapOf new (record answers.after { owned = left.owned }) x kit.node the_entries) (grind (arith, e)) (record {
+            reference = the_version.reference;
+            names = left.names;
+            is = map_stays shelf.table answers.after keeps the_version.reference kit.node the_entries the_version.is;
+          }),
+        )
+        one (suc i) w e = absurd (none-some w e)
+
+  abbrev Released : Result (Unit {0}) HeapMap → Table ℕ → Account → Type 0
+  Released r t a = MatchResult r (λ done. (is_version_of mid made.root ≡ true) × Releases layouts mid t a made.root new) (λ (back : HeapMap). (is_version_of mid made.root ≡ false) × (back.root ≡ made.root))
+
+  module _ (change : IntMap → IntMap) (limits' : Limits) (counter : Option ℕ) (result : Result HeapMap ListFault) (is : result ≡ Ok made) (released : Result (Unit {0}) HeapMap) (x : Unit {0}) (released_is : released ≡ Ok x)
+      (releases : (t : Table ℕ) (a : Account) → HoldsAccount layouts mid t a → Released released t a) where
+    left_in : AnswersMap layouts counter kit (change the_entries) shelf.table limits' result mid → Shelf layouts new kit (v ∷ [])
+    left_in answers =
+        let known = subst (λ (r : Result HeapMap ListFault). AnswersMap layouts counter kit (change the_entries) shelf.table limits' r mid) is answers in
+        shelf_left (change the_entries) known (subst (λ (r : Result (Unit {0}) HeapMap). Released r known.after known.account) released_is (releases known.after known.account known.holds)).1
+
+    pub given_up : ((is_kit_of s kit && is_version_of s v) ≡ false → (result ≡ Err fault.WrongStore) × (mid ≡ s))
+        → (is_kit_of s kit ≡ true → is_version_of s v ≡ true → (t : Table ℕ) (a : Account) (m : IntMap) → HoldsAccount layouts s t a → StandsForMapOf s t v kit.node m
+        → AnswersMap layouts counter kit (change m) t limits' result mid) → Shelf layouts new kit (v ∷ [])
+    given_up wrong answers = by (is_kit_of s kit) (is_version_of s v) refl refl
+      where
+        by : (k w : Bool) → is_kit_of s kit ≡ k → is_version_of s v ≡ w → Shelf layouts new kit (v ∷ [])
+        by true true kit_own own = left_in (answers kit_own own shelf.table account_of.0 the_entries account_of.1 the_version)
+        by true false kit_own own = absurd (cc (sym is ∙ (wrong (false_behind (is_kit_of s kit) (is_version_of s v) own)).0))
+        by false w kit_own own = absurd (cc (sym is ∙ (wrong (and_false (is_kit_of s kit) (is_version_of s v) kit_own)).0))
+
+-- the empty map as a call asks for it
+pub empty_in : (layouts : Layouts) (s : StoreView ℕ) (t : Table ℕ) (holds : HoldsTable layouts s t) (v : Option GcRootIndex) (ty : ℕ) → v ≡ None → MapOfStands ℕ layouts s v ty
+empty_in layouts s t holds v ty none own = record {
+  table = t;
+  holds = holds;
+  entries = nothing;
+  stands = subst (λ (x : Option GcRootIndex). StandsForMapOf s t x ty nothing) (sym none) (record {
+    reference = null;
+    names = refl;
+    is = record { tree = leaf; is = refl; balanced = tt; entries = finite.entries-from_sorted int_cmp [] tt };
+  });
+}

@@ -1,15 +1,17 @@
 //! What is done with maps.
 
-ghost use Rattle.std.specs.Prelude.{◌∷◌, [], List, Option, IfOk};
+ghost use Rattle.std.specs.Prelude.{false, ◌≡◌, ◌∷◌, [], List, Option, IfOk};
 ghost use Rattle.gc_store.specs.declared.root.GcRootIndex.{GcRootIndex};
 ghost use Rattle.gc_lists.specs.declared.kit.Kit.{Kit};
+ghost use Rattle.gc_lists.specs.Kits.{is_kit_of};
 ghost use Rattle.maps_runs.specs.Shelves.{Shelf};
 
 use crate::fault::RunFault;
-use crate::shelf::{all, cut, find, new_kit, put};
+use crate::shelf::{all, collect, cut, find, new_kit, put, put_in_vain};
 use gc_heap::GcHeap;
 use gc_lists::{Kit, ListFault};
 use gc_maps::HeapMap;
+use gc_store::laws::stores_hold_tables;
 use gc_store::{PageLimit, Store};
 use std::alloc::Global;
 
@@ -76,9 +78,10 @@ pub(crate) fn run_keys<H: GcHeap>(
     show_all(rt, &entries)
 }
 
-/// Three keys, of which the middle one is removed: what each map has then.
+/// Three keys, of which the middle one is removed: what each map has then, and all entries of the last.
 pub(crate) fn run_removed<H: GcHeap>(
     rt: &impl Print,
+    alloc: Global,
     store: &mut Store<H, u64>,
     limiter: &mut PageLimit,
 ) -> Result<(), RunFault> {
@@ -87,7 +90,47 @@ pub(crate) fn run_removed<H: GcHeap>(
     show(rt, store, &map, &[2])?;
     let fewer = cut(store, limiter, &kit, &map, 2)?;
     show(rt, store, &fewer, &[1, 3, 2])?;
-    show(rt, store, &map, &[2])
+    let entries = all(alloc, store, &fewer)?;
+    show(rt, store, &map, &[2])?;
+    show_all(rt, &entries)
+}
+
+/// Two keys, and a map with a third one that is given up: the map that it was made of has what it had.
+pub(crate) fn run_kept<H: GcHeap>(
+    rt: &impl Print,
+    store: &mut Store<H, u64>,
+    limiter: &mut PageLimit,
+) -> Result<(), RunFault> {
+    let kit = new_kit(store)?;
+    let map = map_of(store, limiter, &kit, &[1, 2])?;
+    put_in_vain(store, limiter, &kit, &map, 3, 3)?;
+    collect(store);
+    show(rt, store, &map, &[1, 2, 3])
+}
+
+/// The name of an answer.
+fn answer_name(answer: Result<HeapMap, ListFault>) -> &'static str {
+    match answer {
+        Ok(_) => "made",
+        Err(ListFault::WrongStore) => "WrongStore",
+        Err(ListFault::RootsFull) => "RootsFull",
+        Err(ListFault::HeapOutOfMemory(_)) => "HeapOutOfMemory",
+        Err(ListFault::Memory) => "Memory",
+    }
+}
+
+/// What a key in the empty map is answered with the kit of another store.
+pub(crate) fn run_foreign<H: GcHeap>(
+    rt: &impl Print,
+    store: &mut Store<H, u64>,
+    kit: &Kit,
+) -> Result<(), RunFault>
+    requires { is_kit_of store.old kit.now ≡ false }
+{
+    stores_hold_tables(store);
+    let answer = HeapMap::empty().insert(kit, store, &mut PageLimit::new(4), 1, 1);
+    println!(rt; "{}", answer_name(answer))?;
+    Ok(())
 }
 
 /// What a key in the empty map is answered in a store that refuses it.
@@ -98,13 +141,7 @@ pub(crate) fn run_refused<H: GcHeap>(
 ) -> Result<(), RunFault> {
     let kit = new_kit(store)?;
     let empty = HeapMap::empty();
-    let answer = match put(store, limiter, &kit, &empty, 1, 1) {
-        Ok(_) => "made",
-        Err(ListFault::WrongStore) => "WrongStore",
-        Err(ListFault::RootsFull) => "RootsFull",
-        Err(ListFault::HeapOutOfMemory(_)) => "HeapOutOfMemory",
-        Err(ListFault::Memory) => "Memory",
-    };
-    println!(rt; "{answer}")?;
+    let answer = put(store, limiter, &kit, &empty, 1, 1);
+    println!(rt; "{}", answer_name(answer))?;
     Ok(())
 }

@@ -11,12 +11,13 @@ mod shelf;
 ghost use Rattle.std.specs.Prelude.{◌≡◌};
 ghost use Rattle.gc_view.specs.Heaps.{detached};
 
-use crate::cases::{run_keys, run_refused, run_removed};
+use crate::cases::{run_foreign, run_kept, run_keys, run_refused, run_removed};
 use crate::fault::RunFault;
 use crate::random::{CHANGES, run_random};
 use gc_copying::CopyingHeap;
 use gc_drc::DrcHeap;
 use gc_heap::{GcHeap, NullHeap};
+use gc_lists::Kit;
 use gc_store::{HeapConfig, PageLimit, Store, StoreId};
 use std::alloc::Global;
 
@@ -24,6 +25,12 @@ use std::alloc::Global;
 const STORE: StoreId = StoreId {
     engine: 0,
     number: 0,
+};
+
+/// The id of a second store.
+const OTHER: StoreId = StoreId {
+    engine: 0,
+    number: 1,
 };
 
 /// Configures stores with so many owned roots at most.
@@ -44,7 +51,8 @@ fn keys_over<H: GcHeap + Drop>(
     let mut store = Store::new(alloc, STORE, heap, config)?;
     let mut limiter = PageLimit::new(4);
     run_keys(rt, alloc, &mut store, &mut limiter)?;
-    run_removed(rt, &mut store, &mut limiter)
+    run_removed(rt, alloc, &mut store, &mut limiter)?;
+    run_kept(rt, &mut store, &mut limiter)
 }
 
 /// Changes a map many times in a new store over that heap.
@@ -72,9 +80,17 @@ fn refused_with(
     run_refused(rt, &mut store, &mut PageLimit::new(pages))
 }
 
+/// Has a key refused for the kit of another store.
+fn foreign(rt: &impl Print, alloc: Global, config: HeapConfig) -> Result<(), RunFault> {
+    let mut own = Store::<NullHeap, u64>::new(alloc, STORE, NullHeap::new(alloc), config)?;
+    let kit = Kit::new(&mut own)?;
+    let mut other = Store::new(alloc, OTHER, NullHeap::new(alloc), config)?;
+    run_foreign(rt, &mut other, &kit)
+}
+
 fn main(rt: HostRuntime) -> Result<(), RunFault> {
     let alloc = rt.alloc();
-    let ample = config_of(16)?;
+    let ample = config_of(32)?;
     println!(rt; "== null")?;
     keys_over(&rt, alloc, NullHeap::new(alloc), ample)?;
     println!(rt; "== counting")?;
@@ -88,5 +104,6 @@ fn main(rt: HostRuntime) -> Result<(), RunFault> {
     random_over(&rt, alloc, CopyingHeap::new(alloc), roomy)?;
     println!(rt; "== refused")?;
     refused_with(&rt, alloc, config_of(0)?, 4)?;
-    refused_with(&rt, alloc, ample, 0)
+    refused_with(&rt, alloc, ample, 0)?;
+    foreign(&rt, alloc, ample)
 }

@@ -44,6 +44,25 @@ pub(crate) fn put<H: GcHeap>(
     map.insert(kit, store, limiter, key, value)
 }
 
+/// Makes a map with that value at the key, and gives it up again.
+pub(crate) fn put_in_vain<H: GcHeap>(
+    store: &mut Store<H, u64>,
+    limiter: &mut PageLimit,
+    kit: &Kit,
+    map: &HeapMap,
+    key: i64,
+    value: i64,
+) -> Result<(), RunFault>
+    requires { Shelf H.KIND store.old kit.now (map.now.root ∷ []) }
+    ensures { IfOk result (λ done. Shelf H.KIND store.new kit.now (map.now.root ∷ [])) }
+{
+    let made = map.insert(kit, store, limiter, key, value)?;
+    match made.release(store) {
+        Ok(()) => Ok(()),
+        Err(_) => Err(RunFault::Missing),
+    }
+}
+
 /// All entries of a map.
 pub(crate) fn all<H: GcHeap>(
     alloc: Global,
