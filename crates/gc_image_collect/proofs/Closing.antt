@@ -92,17 +92,18 @@ module _ (layouts : Layouts) (t : Table ℕ) (a : Account) (s : StoreView ℕ) (
 
 -- Values and the references among them
 
-record StandsAt (vs : List Value) (r : Reference) : Type 0 where
-  index : ℕ
-  class : GcClass
-  value : slice_get vs index ≡ Some (reference class r)
+-- a reference among values, by its index
+pub record StandsAt (vs : List Value) (r : Reference) : Type 0 where
+  pub index : ℕ
+  pub class : GcClass
+  pub value : slice_get vs index ≡ Some (reference class r)
 
 first_stands : (v : Value) (vs : List Value) (r : Reference) → Contains (value_references v) r → StandsAt (v ∷ vs) r
 first_stands (numeric kind n) vs r c = absurd (let inside = c.1 in omega (arith, inside))
 first_stands (function f) vs r c = absurd (let inside = c.1 in omega (arith, inside))
 first_stands (reference class q) vs r c = record { index = 0; class = class; value = ap (λ x. Some (reference class x)) (only_item q r c) }
 
-among_values : (vs : List Value) (r : Reference) → Contains (flat_map value_references vs) r → StandsAt vs r
+pub among_values : (vs : List Value) (r : Reference) → Contains (flat_map value_references vs) r → StandsAt vs r
 among_values [] r c = absurd (let inside = c.1 in omega (arith, inside))
 among_values (v ∷ vs) r c = elim (Contains-append_cases (value_references v) (flat_map value_references vs) r c) [
   | inl first ↦ first_stands v vs r first
@@ -111,13 +112,14 @@ among_values (v ∷ vs) r c = elim (Contains-append_cases (value_references v) (
 
 -- Lines of globals
 
-record HasLine (lines : List GlobalLine) (k : ℕ) : Type 0 where
-  index : ℕ
-  line : GlobalLine
-  there : slice_get lines index ≡ Some line
-  is : line.index ≡ k
+-- some line speaks of the global with that index
+pub record HasLine (lines : List GlobalLine) (k : ℕ) : Type 0 where
+  pub index : ℕ
+  pub line : GlobalLine
+  pub there : slice_get lines index ≡ Some line
+  pub is : line.index ≡ k
 
-find_line : (lines : List GlobalLine) (k : ℕ) → HasLine lines k ⊎ ((i : ℕ) (line : GlobalLine) → slice_get lines i ≡ Some line → ¬ (line.index ≡ k))
+pub find_line : (lines : List GlobalLine) (k : ℕ) → HasLine lines k ⊎ ((i : ℕ) (line : GlobalLine) → slice_get lines i ≡ Some line → ¬ (line.index ≡ k))
 find_line [] k = inr (λ i line e is. none-some line e)
 find_line (line ∷ lines) k = elim (cases_eq line.index k) [
   | inl same ↦ inl (record { index = 0; line = line; there = refl; is = same })

@@ -1,5 +1,5 @@
 -- Commands that declare types.
-use Rattle.std.proofs.Common.{◌≡◌, ℕ, ◌<◌, ◌≤◌, Bool, true, false, List, [], ◌∷◌, ◌++◌, length, take, Option, None, Some, IfSome, refl, sym, ap, subst, ◌∙◌, arith, unwrap_or, length-append}
+use Rattle.std.proofs.Common.{◌≡◌, ℕ, ◌<◌, ◌≤◌, Bool, false, List, [], ◌∷◌, ◌++◌, length, take, Option, None, Some, IfSome, refl, sym, ap, subst, ◌∙◌, arith, unwrap_or, length-append}
 use Rattle.std.specs.List.{slice_get}
 use Rattle.std.specs.Option.{option_map, option_and_then}
 use Rattle.std.proofs.lemmas.Option.{slice_get_within}
@@ -106,16 +106,16 @@ module _ (types : List Declaration) (n : ℕ) (d : Declaration) (at : slice_get 
         subst (λ e. Commanded (take n types) e (Some (command.Array is_final supertype word))) same
         (array_made (take n types) supertype is_final elem word (subst (Declarable (take n types)) (sym same) (declared.each n d at)) worded)
 
-  exn_same : (params : List ValType) → d.shape ≡ exn_of params → d.is_final ≡ true → exn_type params ≡ d
-  exn_same params shape final =
+  exn_same : (params : List ValType) → d.shape ≡ exn_of params → exn_type params ≡ d
+  exn_same params shape =
       let named : record { shape = exn_of params; supertype = d.supertype; is_final = d.is_final } ≡ d = λ i. record { shape = sym shape i; supertype = d.supertype; is_final = d.is_final } in
       let declarable : Declarable (take n types) (record { shape = exn_of params; supertype = d.supertype; is_final = d.is_final }) = subst (Declarable (take n types)) (sym named) (declared.each n d at) in
       let none = no_exn_super (take n types) params d.is_final d.supertype declarable.extends in
-      λ i. record { shape = sym shape i; supertype = sym none i; is_final = sym final i }
+      λ i. record { shape = sym shape i; supertype = sym none i; is_final = sym declarable.exn_is_final i }
 
-  pub exn_commanded : (params : List ValType) (words : List ValueWord) → d.shape ≡ exn_of params → d.is_final ≡ true → AreWordsOf WordsValue params words
+  pub exn_commanded : (params : List ValType) (words : List ValueWord) → d.shape ≡ exn_of params → AreWordsOf WordsValue params words
       → Commanded (take n types) d (Some (command.Exn words))
-  exn_commanded params words shape final worded =
-      let same = exn_same params shape final in
+  exn_commanded params words shape worded =
+      let same = exn_same params shape in
       subst (λ e. Commanded (take n types) e (Some (command.Exn words))) same
       (exn_made (take n types) params words (subst (Declarable (take n types)) (sym same) (declared.each n d at)) worded)

@@ -15,7 +15,7 @@ use Rattle.gc_image.specs.Declaring.{DeclareInTurn, Declares}
 use Rattle.gc_image.specs.Text.{FitsType}
 use Rattle.gc_model.proofs.Lists.{slice_get-push_cases}
 use Rattle.gc_image_write.specs.Plain.{ArePlain, IsPlain, IsPlainShape}
-use Rattle.gc_image_write.specs.TypeWords.{AreCommandsOf, AreFinal, Commanded}
+use Rattle.gc_image_write.specs.TypeWords.{AreCommandsOf, Commanded}
 
 -- one more command in turn
 turn_push : (types : List Declaration) (commands : List Command) (all : List Declaration) (command : Command) (d : Declaration) → DeclareInTurn types commands all → Declares all command d
@@ -32,11 +32,8 @@ pub record CommandsSoFar (types : List Declaration) (n : ℕ) (commands : List C
   pub made : AreCommandsOf (take n types) commands
   pub plain : ArePlain (take n types)
 
-abbrev pub FinalSoFar : List Declaration → ℕ → List Command → Type 0
-FinalSoFar types n commands = AreFinal types → CommandsSoFar types n commands
-
-pub none_yet : (types : List Declaration) → FinalSoFar types 0 []
-none_yet types final = record { made = record { declare = refl; fit = tt }; plain = λ k d at. absurd (none-some d at) }
+pub none_yet : (types : List Declaration) → CommandsSoFar types 0 []
+none_yet types = record { made = record { declare = refl; fit = tt }; plain = λ k d at. absurd (none-some d at) }
 
 pub one_more : (types : List Declaration) (n : ℕ) (commands : List Command) (command : Command) (d : Declaration) → slice_get types n ≡ Some d → CommandsSoFar types n commands
     → Commanded (take n types) d (Some command) → CommandsSoFar types (n + 1) (commands ++ command ∷ [])

@@ -323,5 +323,9 @@ module _ (early : ℕ → ℕ → Option ℕ) where
   visits_then old mid new true a b = visits_both old mid new a b
   visits_then old mid new false a b = b
 
+  pub visits_went : (old mid new : WalkParts) (went : Bool) → went ≡ true → Visits early old mid true → Visits early mid new went → Visits early old new true
+  visits_went old mid new true is a b = visits_both old mid new a b
+  visits_went old mid new false is a b = absurd (cc is)
+
   pub can_go_on : (count : ℕ) (old new : WalkParts) → CanVisit early count old → Visits early old new true → CanVisit early count new
   can_go_on count old new can visited = record { below = can.below; idle = visited.0; long = visited.1.long ∙ can.long }

@@ -3,3 +3,7 @@ pub mod Plain
 pub mod TypeWords
 pub mod Order
 pub mod Walking
+pub mod Visiting
+pub mod Graphs
+pub mod Renaming
+pub mod InTurn

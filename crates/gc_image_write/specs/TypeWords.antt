@@ -1,5 +1,5 @@
 -- The words that spell the types of an image.
-use Rattle.std.specs.Prelude.{◌≡◌, ℕ, ◌≤◌, List, [], Option, None, Some, true, length, slice_get}
+use Rattle.std.specs.Prelude.{◌≡◌, ℕ, ◌≤◌, List, [], Option, None, Some, length}
 use Rattle.std.specs.List.{AllByRecursion, AllZip}
 use Rattle.gc_types.specs.declared.kind.TypeKind.{TypeKind}
 use Rattle.gc_types.specs.declared.value.FieldType.{FieldType}
@@ -7,7 +7,7 @@ use Rattle.gc_types.specs.declared.value.HeapType.{HeapType}
 use Rattle.gc_types.specs.declared.value.StorageType.{StorageType}
 use Rattle.gc_types.specs.declared.value.ValType.{ValType}
 use Rattle.gc_types.specs.Declarable.{IsKnownField, IsKnownHeap, IsKnownStorage, IsKnownVal}
-use Rattle.gc_types.specs.Declarations.{Declaration, exn_of, kind_at, max_types}
+use Rattle.gc_types.specs.Declarations.{Declaration, kind_at, max_types}
 use Rattle.gc_commands.specs.declared.command.Command.{Command}
 use Rattle.gc_commands.specs.declared.command.FieldWord.{FieldWord}
 use Rattle.gc_commands.specs.declared.command.HeapWord.{HeapWord}
@@ -52,13 +52,6 @@ pub record IsCommandOf (types : List Declaration) (d : Declaration) (command : C
 
 abbrev pub Commanded : List Declaration → Declaration → Option Command → Type 0
 Commanded types = Worded IsPlain (IsCommandOf types)
-
--- an exception type is final
-abbrev pub IsFinalExn : Declaration → Type 0
-IsFinalExn d = (params : List ValType) → d.shape ≡ exn_of params → d.is_final ≡ true
-
-abbrev pub AreFinal : List Declaration → Type 0
-AreFinal types = (n : ℕ) (d : Declaration) → slice_get types n ≡ Some d → IsFinalExn d
 
 -- commands declare these types in turn, and each has a line
 pub record AreCommandsOf (types : List Declaration) (commands : List Command) : Type 0 where

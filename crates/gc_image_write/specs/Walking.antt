@@ -1,10 +1,13 @@
 -- What is known of a walk that numbers objects.
-use Rattle.std.specs.Prelude.{◌≡◌, ℕ, suc, ◌<◌, Bool, true, false, List, [], ◌∷◌, ◌++◌, Option, Some, length, slice_get}
+use Rattle.std.specs.Prelude.{◌≡◌, ℕ, suc, ◌<◌, ◌-◌, Bool, true, false, List, [], ◌∷◌, ◌++◌, Option, Some, length, slice_get}
+use Rattle.std.specs.List.{filter_map, range_with_len}
 use Rattle.gc_image_write.specs.declared.walk.Frame.{Frame}
 use Rattle.gc_image_write.specs.declared.walk.Mark.{Mark}
 use Rattle.gc_image_write.specs.declared.walk.Mark.TheVariants.{Unseen, Open, Numbered}
 use Rattle.gc_image_write.specs.declared.walk.Walk.{Walk}
+use Rattle.gc_image_write.specs.Graphs.{early_list}
 use Rattle.gc_image_write.specs.Order.{AreTangled}
+use Rattle.gc_image_write.specs.Visiting.{Visited}
 
 -- the marks of the objects, their order so far, and the objects that wait for what they need
 pub record WalkParts : Type 0 where
@@ -77,3 +80,17 @@ pub record AreNumbered (early : ℕ → ℕ → Option ℕ) (count : ℕ) (w : W
 abbrev pub Numbers : (ℕ → ℕ → Option ℕ) → ℕ → WalkParts → Bool → Type 0
 Numbers early count new true = AreNumbered early count new
 Numbers early count new false = AreTangled early
+
+-- what one that waits has yet to visit, from its index on
+abbrev pub left_of : (ℕ → ℕ → Option ℕ) → (ℕ → ℕ) → Frame → List ℕ
+left_of early counts f = filter_map (early f.object) (range_with_len f.next (counts f.object - f.next))
+
+-- From an order those that wait finish in another: the last first, each with what it has yet to visit and then its own number.
+abbrev pub Finishes : (ℕ → ℕ → Option ℕ) → (ℕ → ℕ) → List Frame → List ℕ → List ℕ → Type 0
+Finishes early counts [] order after = order ≡ after
+Finishes early counts (f ∷ stack) order after = (mid : List ℕ) × (ready : List ℕ)
+    × (Finishes early counts stack order mid × (Visited (early_list early counts) (left_of early counts f) mid ready × (ready ++ f.object ∷ [] ≡ after)))
+
+-- in whatever those that wait finish from here, they finished in from there
+abbrev pub Leads : (ℕ → ℕ → Option ℕ) → (ℕ → ℕ) → WalkParts → WalkParts → Type 0
+Leads early counts old new = (after : List ℕ) → Finishes early counts new.stack new.order after → Finishes early counts old.stack old.order after

@@ -1,11 +1,11 @@
 //! The commands that declare the types of a table.
 
-ghost use Rattle.std.specs.Prelude.{◌≡◌, ◌↔◌, List, Option, Some, IfOk, IfSome, IsSome, true, slice_get, take};
+ghost use Rattle.std.specs.Prelude.{◌≡◌, ◌↔◌, List, Option, Some, IfOk, IfSome, IsSome, slice_get, take};
 ghost use Rattle.gc_types.specs.declared.value.FieldType.{FieldType};
 ghost use Rattle.gc_types.specs.declared.value.ValType.{ValType};
 ghost use Rattle.gc_types.specs.Declarations.{Declaration, array_of, exn_of, struct_of};
 ghost use Rattle.gc_image_write.specs.Plain.{ArePlain};
-ghost use Rattle.gc_image_write.specs.TypeWords.{AreCommandsOf, AreFinal, Commanded, IsFinalExn};
+ghost use Rattle.gc_image_write.specs.TypeWords.{AreCommandsOf, Commanded};
 
 use crate::type_words::{elem_word, field_words, param_words};
 use gc_commands::{Command, FieldWords, ValueWords};
@@ -15,8 +15,8 @@ use std::alloc::{AllocError, Global};
 /// The commands that declare the types of a table in turn. None where one of them is a function type, or has a field, an
 /// element or a parameter that holds functions or continuations. Takes time and memory linear in the types' fields.
 pub fn commands_of(alloc: Global, types: &Types) -> Result<Option<Vec<Command>>, AllocError>
-    ensures declare { AreFinal types.now.declarations → IfOk result (λ found. IfSome found (λ commands. AreCommandsOf types.now.declarations commands.items)) }
-    ensures plain { AreFinal types.now.declarations → IfOk result (λ found. IsSome found ↔ ArePlain types.now.declarations) }
+    ensures declare { IfOk result (λ found. IfSome found (λ commands. AreCommandsOf types.now.declarations commands.items)) }
+    ensures plain { IfOk result (λ found. IsSome found ↔ ArePlain types.now.declarations) }
 {
     types.are_declared();
     let mut commands = Vec::new(alloc);
@@ -39,7 +39,7 @@ fn command_at(
     types: &Types,
     ty: VMSharedTypeIndex,
 ) -> Result<Option<Command>, AllocError>
-    ensures { IfOk result (λ found. (d : Declaration) → slice_get types.now.declarations ty ≡ Some d → IsFinalExn d
+    ensures { IfOk result (λ found. (d : Declaration) → slice_get types.now.declarations ty ≡ Some d
         → Commanded (take ty types.now.declarations) d found) }
 {
     match types.kind_of(ty) {
@@ -104,7 +104,7 @@ fn exn_command(
     ty: VMSharedTypeIndex,
 ) -> Result<Option<Command>, AllocError>
     ensures { IfOk result (λ found. (d : Declaration) (params : List ValType) → slice_get types.now.declarations ty ≡ Some d
-        → d.shape ≡ exn_of params → d.is_final ≡ true → Commanded (take ty types.now.declarations) d found) }
+        → d.shape ≡ exn_of params → Commanded (take ty types.now.declarations) d found) }
 {
     types.are_declared();
     match param_words(alloc, types, ty)? {

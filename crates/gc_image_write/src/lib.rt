@@ -3,6 +3,7 @@
 #![tactic(auto)]
 
 mod commands;
+mod laws;
 mod named;
 mod numbering;
 mod objects;
@@ -11,6 +12,10 @@ mod type_words;
 mod walk;
 
 pub use commands::commands_of;
+pub use laws::{
+    a_text_in_turn_comes_back, an_order_goes_with_a_renaming, an_order_is_determined,
+    an_order_stays,
+};
 pub use named::are_numbers_below;
 pub use numbering::order_of;
 pub use text::write_image;

@@ -1,9 +1,12 @@
 //! The order in which an image has its objects.
 
-ghost use Rattle.std.specs.Prelude.{◌≡◌, ◌<◌, ℕ, Some, IfOk, IfSome, IfNone, length, slice_get};
+ghost use Rattle.std.specs.Prelude.{◌≡◌, ◌<◌, ◌∷◌, [], ℕ, Some, true, IfOk, IfSome, IfNone, length, slice_get};
+ghost use Rattle.std.specs.List.{range_with_len};
 ghost use Rattle.gc_image.specs.declared.image.ImageValue.{ImageValue};
 ghost use Rattle.gc_image.specs.Well.{IsHeld, number_named};
+ghost use Rattle.gc_image_write.specs.Graphs.{early_values, graph_of, held_by, named_in, named_values};
 ghost use Rattle.gc_image_write.specs.Order.{AreClosed, AreTangled, IsOrder, early_named};
+ghost use Rattle.gc_image_write.specs.Visiting.{Followed, IsNumbering, Numbered, Visited};
 ghost use Rattle.gc_image_write.specs.Walking.{CanVisit, Numbers, Visits, parts};
 
 use crate::walk::{Mark, Walk, visit};
@@ -26,6 +29,8 @@ pub fn order_of(
     requires closed { AreClosed objects.now }
     requires held { (number : ℕ) → IsHeld globals.now number → number < length objects.now }
     ensures some { IfOk result (λ found. IfSome found (λ order. IsOrder (early_named types.now.declarations objects.now) (length objects.now) order.items)) }
+    ensures numbered { IfOk result (λ found. IfSome found (λ order.
+        IsNumbering (graph_of types.now.declarations objects.now globals.now) (length objects.now) order.items)) }
     ensures none { IfOk result (λ found. IfNone found (AreTangled (early_named types.now.declarations objects.now))) }
 {
     let mut walk = Walk {
@@ -52,7 +57,10 @@ fn visit_globals(
     requires can { CanVisit (early_named types.now.declarations objects.now) (length objects.now) (parts walk.old) }
     requires closed { AreClosed objects.now }
     requires held { (number : ℕ) → IsHeld globals.now number → number < length objects.now }
-    ensures { IfOk result (Visits (early_named types.now.declarations objects.now) (parts walk.old) (parts walk.new)) }
+    ensures visits { IfOk result (Visits (early_named types.now.declarations objects.now) (parts walk.old) (parts walk.new)) }
+    ensures numbered { IfOk result (λ went. went ≡ true
+        → Numbered (early_values types.now.declarations objects.now) (named_values objects.now) (held_by globals.now)
+        walk.old.order.items walk.new.order.items) }
 {
     for global in globals {
         let from = walk.order.len();
@@ -75,7 +83,9 @@ fn follow(
 ) -> Result<bool, AllocError>
     requires can { CanVisit (early_named types.now.declarations objects.now) (length objects.now) (parts walk.old) }
     requires closed { AreClosed objects.now }
-    ensures { IfOk result (Visits (early_named types.now.declarations objects.now) (parts walk.old) (parts walk.new)) }
+    ensures visits { IfOk result (Visits (early_named types.now.declarations objects.now) (parts walk.old) (parts walk.new)) }
+    ensures followed { IfOk result (λ went. went ≡ true → Followed (early_values types.now.declarations objects.now) (named_values objects.now) from
+        walk.old.order.items walk.new.order.items) }
 {
     for number in from..objects.len() {
         if number >= walk.order.len() {
@@ -98,7 +108,9 @@ fn visit_named(
 ) -> Result<bool, AllocError>
     requires can { CanVisit (early_named types.now.declarations objects.now) (length objects.now) (parts walk.old) }
     requires closed { AreClosed objects.now }
-    ensures { IfOk result (Visits (early_named types.now.declarations objects.now) (parts walk.old) (parts walk.new)) }
+    ensures visits { IfOk result (Visits (early_named types.now.declarations objects.now) (parts walk.old) (parts walk.new)) }
+    ensures visited { IfOk result (λ went. went ≡ true → Visited (early_values types.now.declarations objects.now) (named_values objects.now object)
+        walk.old.order.items walk.new.order.items) }
 {
     match objects.get(object) {
         Some(line) => visit_values(walk, types, objects, values_of(line)),
@@ -115,7 +127,9 @@ fn visit_values(
 ) -> Result<bool, AllocError>
     requires can { CanVisit (early_named types.now.declarations objects.now) (length objects.now) (parts walk.old) }
     requires named { (index number : ℕ) (v : ImageValue) → slice_get values.now index ≡ Some v → number_named v ≡ Some number → number < length objects.now }
-    ensures { IfOk result (Visits (early_named types.now.declarations objects.now) (parts walk.old) (parts walk.new)) }
+    ensures visits { IfOk result (Visits (early_named types.now.declarations objects.now) (parts walk.old) (parts walk.new)) }
+    ensures visited { IfOk result (λ went. went ≡ true → Visited (early_values types.now.declarations objects.now) (named_in values.now)
+        walk.old.order.items walk.new.order.items) }
 {
     for value in values {
         if !visit_value(walk, types, objects, value)? {
@@ -134,7 +148,9 @@ fn visit_value(
 ) -> Result<bool, AllocError>
     requires can { CanVisit (early_named types.now.declarations objects.now) (length objects.now) (parts walk.old) }
     requires named { (number : ℕ) → number_named value.now ≡ Some number → number < length objects.now }
-    ensures { IfOk result (Visits (early_named types.now.declarations objects.now) (parts walk.old) (parts walk.new)) }
+    ensures visits { IfOk result (Visits (early_named types.now.declarations objects.now) (parts walk.old) (parts walk.new)) }
+    ensures visited { IfOk result (λ went. went ≡ true → Visited (early_values types.now.declarations objects.now) (named_in (value.now ∷ []))
+        walk.old.order.items walk.new.order.items) }
 {
     match number_named(value) {
         Some(number) => visit(walk, types, objects, number),
@@ -145,7 +161,9 @@ fn visit_value(
 /// Visits each object, so that none is left without a number.
 fn visit_rest(walk: &mut Walk, types: &Types, objects: &[ObjectLine]) -> Result<bool, AllocError>
     requires { CanVisit (early_named types.now.declarations objects.now) (length objects.now) (parts walk.old) }
-    ensures { IfOk result (Numbers (early_named types.now.declarations objects.now) (length objects.now) (parts walk.new)) }
+    ensures all { IfOk result (Numbers (early_named types.now.declarations objects.now) (length objects.now) (parts walk.new)) }
+    ensures visited { IfOk result (λ went. went ≡ true → Visited (early_values types.now.declarations objects.now) (range_with_len 0 (length objects.now))
+        walk.old.order.items walk.new.order.items) }
 {
     for object in 0..objects.len() {
         if !visit(walk, types, objects, object)? {

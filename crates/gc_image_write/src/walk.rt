@@ -1,11 +1,13 @@
 //! A walk that numbers objects, each behind those that it must have from the start.
 
-ghost use Rattle.std.specs.Prelude.{◌≡◌, ◌++◌, ◌∷◌, [], ◌<◌, ℕ, ◌-◌, ◌^◌, List, Option, Some, None, OnOk, IfOk, length, slice_get, slice_set};
+ghost use Rattle.std.specs.Prelude.{◌≡◌, ◌++◌, ◌∷◌, [], ◌<◌, ℕ, ◌-◌, ◌^◌, List, Option, Some, None, true, OnOk, IfOk, length, slice_get, slice_set};
 ghost use Rattle.gc_types.specs.Declarations.{Declaration};
 ghost use Rattle.gc_model.specs.Stored.{value_type};
 ghost use Rattle.gc_image.specs.Well.{as_object};
+ghost use Rattle.gc_image_write.specs.Graphs.{early_values, value_count};
 ghost use Rattle.gc_image_write.specs.Order.{early_named, is_early_in};
-ghost use Rattle.gc_image_write.specs.Walking.{AreEarlyBelow, IsIdle, IsWalk, Onward, VisitsOne, Went, parts, waiting};
+ghost use Rattle.gc_image_write.specs.Visiting.{Visited};
+ghost use Rattle.gc_image_write.specs.Walking.{AreEarlyBelow, IsIdle, IsWalk, Leads, Onward, VisitsOne, Went, parts, waiting};
 
 use gc_image::{ObjectLine, is_early, number_named, value_type, values_of};
 use gc_types::Types;
@@ -59,7 +61,8 @@ fn early_named(types: &Types, objects: &[ObjectLine], object: usize, index: usiz
 
 /// How many values an object has.
 fn value_count(objects: &[ObjectLine], object: usize) -> usize
-    ensures { (types : List Declaration) (index y : ℕ) → early_named types objects.now object index ≡ Some y → index < result }
+    ensures counted { result ≡ value_count objects.now object }
+    ensures behind { (types : List Declaration) (index y : ℕ) → early_named types objects.now object index ≡ Some y → index < result }
 {
     match objects.get(object) {
         Some(line) => values_of(line).len(),
@@ -106,8 +109,11 @@ fn wait(walk: &mut Walk, frame: Frame) -> Result<(), AllocError>
 fn look_at(walk: &mut Walk, frame: Frame, needed: usize) -> Result<bool, AllocError>
     requires below { needed < length walk.old.marks.items }
     requires small { frame.next < 2 ^ 64 - 1 }
-    ensures { IfOk result (λ went. (early : ℕ → ℕ → Option ℕ) → IsWalk early (waiting (parts walk.old) frame) → early frame.object frame.next ≡ Some needed
+    ensures went { IfOk result (λ went. (early : ℕ → ℕ → Option ℕ) → IsWalk early (waiting (parts walk.old) frame) → early frame.object frame.next ≡ Some needed
         → Went early (waiting (parts walk.old) frame) (parts walk.new) went) }
+    ensures leads { IfOk result (λ went. (early : ℕ → ℕ → Option ℕ) (counts : ℕ → ℕ) → IsWalk early (waiting (parts walk.old) frame)
+        → early frame.object frame.next ≡ Some needed → frame.next < counts frame.object → went ≡ true
+        → Leads early counts (waiting (parts walk.old) frame) (parts walk.new)) }
 {
     match walk.marks[needed] {
         Mark::Unseen => {
@@ -138,7 +144,9 @@ fn step(
 ) -> Result<bool, AllocError>
     requires below { AreEarlyBelow (early_named types.now.declarations objects.now) (length walk.old.marks.items) }
     requires walks { IsWalk (early_named types.now.declarations objects.now) (waiting (parts walk.old) frame) }
-    ensures { IfOk result (Went (early_named types.now.declarations objects.now) (waiting (parts walk.old) frame) (parts walk.new)) }
+    ensures went { IfOk result (Went (early_named types.now.declarations objects.now) (waiting (parts walk.old) frame) (parts walk.new)) }
+    ensures leads { IfOk result (λ went. went ≡ true
+        → Leads (early_named types.now.declarations objects.now) (value_count objects.now) (waiting (parts walk.old) frame) (parts walk.new)) }
 {
     if frame.next >= value_count(objects, frame.object) {
         close(walk, frame.object)?;
@@ -170,7 +178,9 @@ fn visit_unseen(
     requires below { AreEarlyBelow (early_named types.now.declarations objects.now) (length walk.old.marks.items) }
     requires idle { IsIdle (early_named types.now.declarations objects.now) (parts walk.old) }
     requires unseen { slice_get walk.old.marks.items object ≡ Some Mark.Unseen }
-    ensures { IfOk result (VisitsOne (early_named types.now.declarations objects.now) (parts walk.old) (parts walk.new) object) }
+    ensures one { IfOk result (VisitsOne (early_named types.now.declarations objects.now) (parts walk.old) (parts walk.new) object) }
+    ensures visited { IfOk result (λ went. went ≡ true
+        → Visited (early_values types.now.declarations objects.now) (object ∷ []) walk.old.order.items walk.new.order.items) }
 {
     open(walk, object)?;
     for _ in 0..u64::MAX {
@@ -197,7 +207,9 @@ pub(crate) fn visit(
     requires below { AreEarlyBelow (early_named types.now.declarations objects.now) (length walk.old.marks.items) }
     requires idle { IsIdle (early_named types.now.declarations objects.now) (parts walk.old) }
     requires within { object < length walk.old.marks.items }
-    ensures { IfOk result (VisitsOne (early_named types.now.declarations objects.now) (parts walk.old) (parts walk.new) object) }
+    ensures one { IfOk result (VisitsOne (early_named types.now.declarations objects.now) (parts walk.old) (parts walk.new) object) }
+    ensures visited { IfOk result (λ went. went ≡ true
+        → Visited (early_values types.now.declarations objects.now) (object ∷ []) walk.old.order.items walk.new.order.items) }
 {
     match walk.marks[object] {
         Mark::Unseen => visit_unseen(walk, types, objects, object),

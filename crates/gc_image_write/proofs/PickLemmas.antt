@@ -1,0 +1,90 @@
+-- Where the elements of lists stand.
+use Rattle.std.proofs.Common.{◌≡◌, ℕ, suc, zero, Bool, true, false, List, [], ◌∷◌, cond, length, map, nat_eq, Option, None, Some, refl, sym, ap, ap₂, subst, ◌∙◌, arith}
+use Rattle.std.specs.List.{AllByRecursion, IsDistinct, cons_option, filter_map, slice_get}
+use Rattle.std.specs.Option.{option_map}
+use Rattle.std.proofs.lemmas.Bool.{eq-eqb, eqb-true, false≢true}
+use Rattle.std.proofs.lemmas.Option.{none-some, same_Some}
+use Rattle.gc_image_write.specs.Visiting.{Stands}
+
+-- the first place of a number in a list
+abbrev pub place_of : List ℕ → ℕ → ℕ
+place_of [] p = 0
+place_of (x ∷ xs) p = cond (nat_eq x p) 0 (suc (place_of xs p))
+
+found_from : (x : ℕ) (xs : List ℕ) (p : ℕ) → slice_get xs (place_of xs p) ≡ Some p → (b : Bool) → nat_eq x p ≡ b → slice_get (x ∷ xs) (cond b 0 (suc (place_of xs p))) ≡ Some p
+found_from x xs p behind true same = ap Some (eqb-true x p same)
+found_from x xs p behind false other = behind
+
+-- it stands there
+pub place_found : (xs : List ℕ) (n p : ℕ) → slice_get xs n ≡ Some p → slice_get xs (place_of xs p) ≡ Some p
+place_found [] n p there = absurd (none-some p there)
+place_found (x ∷ xs) zero p there = subst (λ (b : Bool). slice_get (x ∷ xs) (cond b 0 (suc (place_of xs p))) ≡ Some p) (sym (eq-eqb x p (same_Some x p there))) there
+place_found (x ∷ xs) (suc n) p there = found_from x xs p (place_found xs n p there) (nat_eq x p) refl
+
+absent : (x : ℕ) (ys : List ℕ) (j : ℕ) → AllByRecursion (λ y. nat_eq x y ≡ false) ys → slice_get ys j ≡ Some x → ⊥
+absent x [] j all there = none-some x there
+absent x (y ∷ ys) zero all there = false≢true (sym all.0 ∙ eq-eqb x y (sym (same_Some y x there)))
+absent x (y ∷ ys) (suc j) all there = absent x ys j all.1 there
+
+place_from : (x : ℕ) (xs : List ℕ) (p n : ℕ) → place_of xs p ≡ n → (nat_eq x p ≡ false) → place_of (x ∷ xs) p ≡ suc n
+place_from x xs p n is other = ap (λ b. cond b 0 (suc (place_of xs p))) other ∙ ap suc is
+
+apart_first : (x p : ℕ) (xs : List ℕ) (n : ℕ) → AllByRecursion (λ y. nat_eq x y ≡ false) xs → slice_get xs n ≡ Some p → nat_eq x p ≡ false
+apart_first x p [] n all there = absurd (none-some p there)
+apart_first x p (y ∷ ys) zero all there = subst (λ z. nat_eq x z ≡ false) (same_Some y p there) all.0
+apart_first x p (y ∷ ys) (suc n) all there = apart_first x p ys n all.1 there
+
+-- it is where the number stands, in a list without repetitions
+pub place_one : (xs : List ℕ) (n p : ℕ) → IsDistinct nat_eq xs → slice_get xs n ≡ Some p → place_of xs p ≡ n
+unfolding IsDistinct
+place_one [] n p distinct there = absurd (none-some p there)
+place_one (x ∷ xs) zero p distinct there = ap (λ b. cond b 0 (suc (place_of xs p))) (eq-eqb x p (same_Some x p there))
+place_one (x ∷ xs) (suc n) p distinct there = place_from x xs p n (place_one xs n p distinct.1 there) (apart_first x p xs n distinct.0 there)
+
+-- lists whose elements are the same
+pub same_list : {A : Type 0} (xs ys : List A) → length xs ≡ length ys → ((n : ℕ) (x : A) → slice_get xs n ≡ Some x → slice_get ys n ≡ Some x) → xs ≡ ys
+same_list [] [] long each = refl
+same_list [] (y ∷ ys) long each = absurd (omega (arith, long))
+same_list (x ∷ xs) [] long each = absurd (omega (arith, long))
+same_list (x ∷ xs) (y ∷ ys) long each = ap₂ (λ z zs. z ∷ zs) (sym (same_Some y x (each 0 x refl))) (same_list xs ys (omega (arith, long)) (λ n z there. each (suc n) z there))
+
+-- what may be there, and lists of it, under other names
+pub map_cons : (name : ℕ → ℕ) (o : Option ℕ) (ys : List ℕ) → map name (cons_option o ys) ≡ cons_option (option_map name o) (map name ys)
+map_cons name None ys = refl
+map_cons name (Some y) ys = refl
+
+pub filter_renamed : (name : ℕ → ℕ) {A : Type 0} (f g : A → Option ℕ) → ((x : A) → option_map name (f x) ≡ g x) → (xs : List A) → map name (filter_map f xs) ≡ filter_map g xs
+filter_renamed name f g same [] = refl
+filter_renamed name f g same (x ∷ xs) = map_cons name (f x) (filter_map f xs) ∙ ap₂ cons_option (same x) (filter_renamed name f g same xs)
+
+-- what a filtered list has comes from the list
+module _ {A : Type 0} (f : A → Option ℕ) where
+  abbrev Comes : List A → ℕ → Type 0
+  Comes xs y = (n : ℕ) × (x : A) × ((slice_get xs n ≡ Some x) × (f x ≡ Some y))
+
+  comes_here : (x : A) (xs : List A) (y : ℕ) → ((n : ℕ) → slice_get (filter_map f xs) n ≡ Some y → Comes xs y) → (o : Option ℕ) → f x ≡ o → (n : ℕ) → slice_get (cons_option o (filter_map f xs)) n ≡ Some y
+      → Comes (x ∷ xs) y
+  comes_here x xs y later None is n there = let rest = later n there in (suc rest.0, rest.1, rest.2)
+  comes_here x xs y later (Some z) is zero there = (0, x, (refl, is ∙ there))
+  comes_here x xs y later (Some z) is (suc n) there = let rest = later n there in (suc rest.0, rest.1, rest.2)
+
+  comes : (xs : List A) (y n : ℕ) → slice_get (filter_map f xs) n ≡ Some y → Comes xs y
+  comes [] y n there = absurd (none-some y there)
+  comes (x ∷ xs) y n there = comes_here x xs y (comes xs y) (f x) refl n there
+
+  pub from_filter : (xs : List A) (y : ℕ) → Stands (filter_map f xs) y → (n : ℕ) × (x : A) × ((slice_get xs n ≡ Some x) × (f x ≡ Some y))
+  from_filter xs y stands = comes xs y stands.0 stands.1
+
+  behind : (o : Option ℕ) (ys : List ℕ) (y : ℕ) → Stands ys y → Stands (cons_option o ys) y
+  behind None ys y stands = stands
+  behind (Some w) ys y stands = (suc stands.0, stands.1)
+
+  pub into_filter : (xs : List A) (n : ℕ) (x : A) (y : ℕ) → slice_get xs n ≡ Some x → f x ≡ Some y → Stands (filter_map f xs) y
+  into_filter [] n x y there is = absurd (none-some x there)
+  into_filter (z ∷ zs) zero x y there is = subst (λ o. Stands (cons_option o (filter_map f zs)) y) (sym (ap f (same_Some z x there) ∙ is)) (0, refl)
+  into_filter (z ∷ zs) (suc n) x y there is = behind (f z) (filter_map f zs) y (into_filter zs n x y there is)
+
+-- names that are taken back
+pub map_back : (f g : ℕ → ℕ) (xs : List ℕ) → ((x : ℕ) → Stands xs x → g (f x) ≡ x) → map g (map f xs) ≡ xs
+map_back f g [] back = refl
+map_back f g (x ∷ xs) back = ap₂ (λ y ys. y ∷ ys) (back x (0, refl)) (map_back f g xs (λ y stands. back y (suc stands.0, stands.1)))
