@@ -1,0 +1,9 @@
+pub mod Elements
+pub mod Renumbered
+pub mod FitsPlaced
+pub mod Reached
+pub mod Numbering
+pub mod Imaging
+pub mod Tangles
+pub mod Plainness
+pub mod Saving

@@ -1,0 +1,3 @@
+pub mod Saves
+pub mod Renumbering
+pub mod Keeping
