@@ -1,5 +1,5 @@
 -- What a report says where there is one.
-use Rattle.std.proofs.Common.{◌≡◌, ℕ, List, Result, Ok, Err, IfOk}
+use Rattle.std.proofs.Common.{ℕ, List, Result, Ok, Err, IfOk}
 use Rattle.gc_types.specs.declared.kind.Layouts.{Layouts}
 use Rattle.gc_model.specs.Allocation.{Limits}
 use Rattle.gc_model.specs.Holds.{HoldsKept, HoldsTable}
