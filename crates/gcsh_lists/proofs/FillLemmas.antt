@@ -1,0 +1,167 @@
+-- What an insert on the way leaves.
+use Rattle.std.proofs.Common.{◌≡◌, ◌+◌, ◌&&◌, ◌==◌, ℕ, suc, ℤ, pos, true, false, List, [], ◌<◌, ◌^◌, add-one, arith, to_z, of_z, w64, Option, Some, None, Result, Ok, Err, refl, sym, ap, ◌∙◌, subst}
+use Rattle.std.specs.FinMap as finite
+use Rattle.std.specs.Result.{MatchResult}
+use Rattle.std.proofs.lemmas.Int.{to_z-of_z}
+use Rattle.std.proofs.lemmas.List.{append-nil}
+use Rattle.gc_types.specs.declared.kind.Layouts.{Layouts}
+use Rattle.gc_types.specs.Declarations.{Declaration}
+use Rattle.gc_model.specs.Allocation.{Limits}
+use Rattle.gc_model.specs.Values.{Reference}
+use Rattle.gc_model.specs.Table.{Table}
+use Rattle.gc_model.specs.Stores.{StoreView}
+use Rattle.gc_policy.specs.Accounts.{Account, HoldsAccount}
+use Rattle.gc_store.specs.declared.root.GcRootIndex.{GcRootIndex}
+use Rattle.gc_store.specs.Roots.{is_of_store}
+use Rattle.gc_store.specs.Stores.{IsSameStore}
+use Rattle.gc_store.proofs.HandleWords.{owned-of_store}
+use Rattle.gc_lists.specs.declared.fault.ListFault.{ListFault}
+use Rattle.gc_lists.specs.declared.fault.ListFault.TheVariants as fault
+use Rattle.gc_lists.specs.declared.kit.Kit.{Kit}
+use Rattle.gc_lists.specs.Answers.{Releases, owned_with}
+use Rattle.gc_lists.specs.Constants.{KeepsConstants}
+use Rattle.gc_lists.specs.Frames.{ChangesObjects, Leaves, most_objects}
+use Rattle.gc_lists.specs.Kits.{IsKit, KitStands, is_kit_of}
+use Rattle.gc_lists.specs.Versions.{VersionNames, is_version_of}
+use Rattle.gc_lists.proofs.Sparing.{new_apart, others_left}
+use Rattle.gc_lists.proofs.Standing.{named_still, objects_keep}
+use Rattle.gc_maps.specs.declared.map.HeapMap.{HeapMap}
+use Rattle.gc_maps.specs.Answers.{AnswersMap}
+use Rattle.gc_maps.specs.Maps.{IntMap, MapOfStands, StandsForMapOf}
+use Rattle.gc_maps.proofs.Staying.{map_stays}
+use Rattle.gcsh_lists.specs.declared.fill.Filled.{Filled}
+use Rattle.gcsh_lists.specs.Filling.{Fills, FillsUpTo, GivesUp, Goes, HoldsProgress, Inserts, IsCounted, Progress, Step, begin_at, key_of, progress_of, refused, taken}
+
+-- a kit is still the store's
+kit_still : (s new : StoreView ℕ) (kit : Kit) → IsSameStore s new → is_kit_of s kit ≡ true → is_kit_of new kit ≡ true
+kit_still s new kit same is =
+    ap (λ n. (kit.store_id.engine == n) && (kit.store_id.number == new.number)) same.engine ∙ ap (λ n. (kit.store_id.engine == s.engine) && (kit.store_id.number == n)) same.number ∙ is
+
+module _ (layouts : Layouts) (kit : Kit) (p : Progress) (held : HoldsProgress layouts kit p) where
+  -- the version is the store's
+  pub version_own : is_version_of p.store p.version ≡ true
+  version_own = by p.version held.stands.reference held.stands.names
+    where
+      by : (v : Option GcRootIndex) (r : Reference) → VersionNames p.store held.table v r → is_version_of p.store v ≡ true
+      by None r names = refl
+      by (Some h) r names = ap (is_of_store p.store) names.names ∙ owned-of_store p.store names.number
+
+  -- the premises of a call
+  pub kit_stands : KitStands p.store kit
+  kit_stands own = subst (λ (types : List Declaration). IsKit types kit) (sym held.holds.holds.types) held.kit_is
+
+  pub map_stands : MapOfStands ℕ layouts p.store p.version kit.node
+  map_stands own = record { table = held.table; holds = (held.holds.place, held.holds.holds); entries = p.entries; stands = held.stands }
+
+  -- the clause of the call, where its answer is known
+  pub inserts_as : (key value key' value' : ℤ) (same_key : key' ≡ key) (same_value : value' ≡ value) (limits : Limits) (limit : Option ℕ) (same_limit : limits.limit ≡ limit) (result known : Result HeapMap ListFault) (new : StoreView ℕ) → (is_kit_of p.store kit ≡ true → is_version_of p.store p.version ≡ true → (t : Table ℕ) (a : Account) (m : IntMap) → HoldsAccount layouts p.store t a
+      → StandsForMapOf p.store t p.version kit.node m → AnswersMap layouts p.store.alloc_counter kit (finite.insert m key' value') t limits result new) → result ≡ known → Inserts layouts limit kit key value p known new
+  inserts_as key value key' value' same_key same_value limits limit same_limit result known new clause is = λ t a holds stands. (
+    limits,
+    (
+      same_limit,
+      subst (λ (r : Result HeapMap ListFault). AnswersMap layouts p.store.alloc_counter kit (finite.insert p.entries key value) t limits r new) is
+          (subst (λ (m : IntMap). AnswersMap layouts p.store.alloc_counter kit m t limits result new) (λ i. finite.insert p.entries (same_key i) (same_value i)) (clause held.kit_of version_own t a p.entries holds stands)),
+    ),
+  )
+
+  module _ (limit : Option ℕ) (key value : ℤ) (new : StoreView ℕ) where
+    -- a table that keeps what is constant
+    kit_kept : (u : Table ℕ) → KeepsConstants held.table u → IsKit u.types kit
+    kit_kept u keeps = record { cells = keeps.types kit.cell _ held.kit_is.cells; nodes = keeps.types kit.node _ held.kit_is.nodes }
+
+    -- the insert was taken, and the version before given up
+    pub goes_taken : (map : HeapMap) (mid : StoreView ℕ) → IsSameStore p.store mid → IsSameStore p.store new → IsSameStore mid new → Inserts layouts limit kit key value p (Ok map) mid → GivesUp layouts mid p.version new
+        → (q : Filled) → q.map.root ≡ map.root → q.refused ≡ p.refused → Goes layouts limit kit key value p new q
+    goes_taken map mid begun all over inserts gives_up q same counted =
+        let answers = (inserts held.table held.account held.holds held.stands).1.1 in
+        let apart = new_apart layouts p.store held.table held.account held.holds mid begun p.version map.root held.stands.reference held.stands.names answers.has_new_root in
+        let left = others_left layouts mid answers.after answers.account answers.holds new over p.version map.root answers.stands.reference (gives_up answers.after answers.account answers.holds) apart answers.stands.names in
+        let keeps = objects_keep kit most_objects held.table answers.after (owned_with held.table map.root answers.stands.reference) answers.changed in
+        record {
+          entries = finite.insert p.entries key value;
+          step = taken map mid inserts gives_up (λ i. record { store = new; version = same i; entries = finite.insert p.entries key value; refused = counted i });
+          held = record {
+            table = record answers.after { owned = left.owned };
+            account = answers.account;
+            holds = left.holds;
+            kit_is = kit_kept answers.after keeps;
+            kit_of = kit_still p.store new kit all held.kit_of;
+            stands = subst (λ (v : Option GcRootIndex). StandsForMapOf new (record answers.after { owned = left.owned }) v kit.node (finite.insert p.entries key value)) (sym same)
+                (record { reference = answers.stands.reference; names = left.names; is = answers.stands.is });
+          };
+        }
+
+    -- all stays as it was but for objects
+    still_held : (count : ℕ) → IsSameStore p.store new → Leaves layouts (ChangesObjects kit most_objects held.table held.table.owned) new → HoldsProgress layouts kit (record p { store = new; refused = count })
+    still_held count same leaves =
+        let keeps = objects_keep kit most_objects held.table leaves.after held.table.owned leaves.changed in
+        let owned = ap (λ (v : Table ℕ). v.owned) leaves.changed.rest ∙ sym (append-nil held.table.owned) in
+        record {
+          table = leaves.after;
+          account = leaves.account;
+          holds = leaves.holds;
+          kit_is = kit_kept leaves.after keeps;
+          kit_of = kit_still p.store new kit same held.kit_of;
+          stands = record {
+            reference = held.stands.reference;
+            names = named_still p.store new held.table leaves.after [] same owned p.version held.stands.reference held.stands.names;
+            is = map_stays held.table leaves.after keeps held.stands.reference kit.node p.entries held.stands.is;
+          };
+        }
+
+    -- what a refusal that counts leaves
+    leaves_of : (why : ListFault) → IsCounted why → Inserts layouts limit kit key value p (Err why) new → Leaves layouts (ChangesObjects kit most_objects held.table held.table.owned) new
+    leaves_of fault.WrongStore counts inserts = absurd counts
+    leaves_of fault.RootsFull counts inserts = (inserts held.table held.account held.holds held.stands).1.1.1
+    leaves_of (fault.HeapOutOfMemory f) counts inserts = (inserts held.table held.account held.holds held.stands).1.1.1
+    leaves_of fault.Memory counts inserts = absurd counts
+
+    -- the insert was refused
+    pub goes_refused : (why : ListFault) → IsCounted why → IsSameStore p.store new → Inserts layouts limit kit key value p (Err why) new → (q : Filled) → q.map.root ≡ p.version → q.refused ≡ p.refused + 1 → Goes layouts limit kit key value p new q
+    goes_refused why counts same inserts q version counted =
+        record {
+          entries = p.entries;
+          step = refused why inserts counts (λ i. record p { store = new; version = version i; refused = counted i });
+          held = subst (λ (v : Option GcRootIndex). HoldsProgress layouts kit (record { store = new; version = v; entries = p.entries; refused = q.refused })) (sym version) (still_held q.refused same (leaves_of why counts inserts));
+        }
+
+-- the clause of giving a version up, where it was
+pub gives_up_as : (layouts : Layouts) (mid new : StoreView ℕ) (version : Option GcRootIndex) (result : Result (Unit {0}) HeapMap) (x : Unit {0})
+    → ((t : Table ℕ) (a : Account) → HoldsAccount layouts mid t a → MatchResult result (λ done. (is_version_of mid version ≡ true) × Releases layouts mid t a version new) (λ (back : HeapMap). (is_version_of mid version ≡ false) × (back.root ≡ version)))
+    → result ≡ Ok x → GivesUp layouts mid version new
+gives_up_as layouts mid new version result x clause is = λ t a holds.
+    (subst (λ (r : Result (Unit {0}) HeapMap). MatchResult r (λ done. (is_version_of mid version ≡ true) × Releases layouts mid t a version new) (λ (back : HeapMap). (is_version_of mid version ≡ false) × (back.root ≡ version))) is (clause t a holds)).1
+
+module _ (layouts : Layouts) (limit : Option ℕ) (kit : Kit) (inserts : ℕ) (start : StoreView ℕ) where
+  -- nothing was inserted yet
+  pub fills_none : (f : Filled) → f.map.root ≡ None → f.refused ≡ 0 → HoldsProgress layouts kit (begin_at start) → FillsUpTo layouts limit kit inserts start 0 start f
+  fills_none f root count held = record {
+    entries = finite.from_sorted [];
+    fills = λ i. record { store = start; version = root i; entries = finite.from_sorted []; refused = count i };
+    held = subst (λ (p : Progress). HoldsProgress layouts kit p) (λ i. record { store = start; version = sym root i; entries = finite.from_sorted []; refused = sym count i }) held;
+  }
+
+  -- one insert more
+  pub fills_more : (k : ℕ) (s new : StoreView ℕ) (f after : Filled) (key value : ℤ) → key ≡ key_of inserts (suc k) → value ≡ pos (suc k) → (upto : FillsUpTo layouts limit kit inserts start k s f) → Goes layouts limit kit key value (progress_of s f upto.entries) new after
+      → FillsUpTo layouts limit kit inserts start (k + 1) new after
+  fills_more k s new f after key value same_key same_value upto goes = record {
+    entries = goes.entries;
+    fills = subst (λ n. Fills layouts limit kit inserts start n (progress_of new after goes.entries)) (sym (add-one k)) (
+      progress_of s f upto.entries,
+      (
+        upto.fills,
+        subst (λ (x : ℤ). Step layouts limit kit x (pos (suc k)) (progress_of s f upto.entries) (progress_of new after goes.entries)) same_key
+            (subst (λ (x : ℤ). Step layouts limit kit key x (progress_of s f upto.entries) (progress_of new after goes.entries)) same_value goes.step),
+      ),
+    );
+    held = goes.held;
+  }
+
+-- a small number that is passed on is that number
+pub passed_on : (z : ℤ) (n : ℕ) → z ≡ pos n → n < 2 ^ 63 → to_z w64 (of_z w64 z) ≡ pos n
+passed_on z n is small = ap (λ (x : ℤ). to_z w64 (of_z w64 x)) is ∙ to_z-of_z w64 (pos n) (record { sfits = omega (arith, small) })
+
+-- the same under the same limit
+pub goes_under : (layouts : Layouts) (kit : Kit) (p : Progress) (new : StoreView ℕ) (f : Filled) {key value : ℤ} (l l' : Option ℕ) → l ≡ l' → Goes layouts l kit key value p new f → Goes layouts l' kit key value p new f
+goes_under layouts kit p new f {key} {value} l l' same goes = subst (λ (m : Option ℕ). Goes layouts m kit key value p new f) same goes

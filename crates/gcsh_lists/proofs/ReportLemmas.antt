@@ -1,0 +1,125 @@
+-- What the report says of a map that was filled.
+use Rattle.std.proofs.Common.{◌≡◌, ◌+◌, ◌&&◌, ◌==◌, ℕ, ℤ, true, List, [], ◌∷◌, ◌++◌, length, slice_get, sum_by, Option, Some, Result, Ok, Err, IfOk, refl, sym, ap, ◌∙◌, subst}
+use Rattle.std.specs.Prelude.{codes, unsigned_abs}
+use Rattle.std.specs.FinMap as finite
+use Rattle.std.specs.Result.{MatchResult}
+use Rattle.std.specs.Ordering.{int_cmp}
+use Rattle.std.proofs.lemmas.Bool.{eq-eqb}
+use Rattle.std.proofs.lemmas.List.{append-nil, length-append}
+use Rattle.gc_types.specs.declared.kind.Layouts.{Layouts}
+use Rattle.gc_types.specs.declared.types.TypeFault.{TypeFault}
+use Rattle.gc_model.proofs.Lists.{slice_get-push_new, slice_get-push_old}
+use Rattle.gc_model.specs.Holds.{HoldsKept, HoldsTable}
+use Rattle.gc_model.specs.Reach.{HasNumber, IsKept}
+use Rattle.gc_model.specs.Values.{null}
+use Rattle.gc_model.specs.Table.{Table}
+use Rattle.gc_model.specs.Stores.{StoreView}
+use Rattle.gc_policy.specs.Accounts.{Account, HoldsAccount}
+use Rattle.gc_store.specs.Stores.{IsSameStore}
+use Rattle.gc_lists.specs.declared.kit.Kit.{Kit}
+use Rattle.gc_lists.specs.Kits.{IsKit, MakesKit, cell_type, declare_kit, is_kit_of, kit_behind, node_type}
+use Rattle.gc_lists.specs.declared.fault.ListFault.{ListFault}
+use Rattle.gc_lists.specs.declared.fault.ListFault.TheVariants as fault
+use Rattle.gc_lists.specs.Versions.{is_version_of}
+use Rattle.gc_lists.proofs.Standing.{named_still, roots_keep}
+use Rattle.gc_maps.specs.Copies.{CopiedEntries, FailsToCopyEntries}
+use Rattle.gc_maps.specs.Maps.{IntMap, MapStands, StandsForMap}
+use Rattle.gc_maps.specs.Trees.{leaf}
+use Rattle.gc_maps.proofs.Staying.{map_stays}
+use Rattle.gcsh_lists.specs.declared.fill.Filled.{Filled}
+use Rattle.gcsh_lists.specs.Filling.{FillsUpTo, HoldsProgress, Progress, begin_at, progress_of}
+use Rattle.gcsh_lists.proofs.FillLemmas.{version_own}
+use Rattle.gcsh_lists.specs.Reports.{TellsFill, fill_text, filled, full, sum_of}
+
+own_kit : (s : StoreView ℕ) (t : Table ℕ) → is_kit_of s (kit_behind s t) ≡ true
+own_kit s t = ap (λ b. b && (s.number == s.number)) (eq-eqb s.engine s.engine refl) ∙ eq-eqb s.number s.number refl
+
+-- what is said of an answer, in other words
+pub if_ok : {T E : Type 0} (r : Result T E) (A B : T → Type 0) → ((x : T) → A x → B x) → IfOk r A → IfOk r B
+if_ok (Ok x) A B goes said = goes x said
+if_ok (Err e) A B goes said = tt
+
+-- a kit was made, and nothing is filled yet
+pub begins : (layouts : Layouts) (t : Table ℕ) (a : Account) (new : StoreView ℕ) (kit : Kit) → MakesKit layouts t a (Ok kit) new → HoldsProgress layouts kit (begin_at new)
+begins layouts t a new kit made = record {
+  table = declare_kit t;
+  account = a;
+  holds = made.1;
+  kit_is = subst (λ (k : Kit). IsKit (declare_kit t).types k) (sym made.0) (record {
+    cells = slice_get-push_old (t.types ++ cell_type (length t.types) ∷ []) (node_type (length t.types + 1)) (length t.types) _ (slice_get-push_new t.types (cell_type (length t.types)));
+    nodes = subst (λ n. slice_get (declare_kit t).types n ≡ Some (node_type (length t.types + 1))) (length-append t.types (cell_type (length t.types) ∷ []))
+        (slice_get-push_new (t.types ++ cell_type (length t.types) ∷ []) (node_type (length t.types + 1)));
+  });
+  kit_of = subst (λ (k : Kit). is_kit_of new k ≡ true) (sym made.0) (own_kit new t);
+  stands = record { reference = null; names = refl; is = record { tree = leaf; is = refl; balanced = tt; entries = finite.entries-from_sorted int_cmp [] tt } };
+}
+
+-- the clause of making a kit, where one was made
+pub kit_known : (layouts : Layouts) (old start : StoreView ℕ) (result : Result Kit TypeFault) (kit : Kit) → ((t : Table ℕ) (a : Account) → HoldsAccount layouts old t a → MakesKit layouts t a result start) → result ≡ Ok kit
+    → (t : Table ℕ) (a : Account) → HoldsAccount layouts old t a → MakesKit layouts t a (Ok kit) start
+kit_known layouts old start result kit makes is t a holds = subst (λ (r : Result Kit TypeFault). MakesKit layouts t a r start) is (makes t a holds)
+
+module _ (layouts : Layouts) (limit : Option ℕ) (inserts : ℕ) (old start full_store : StoreView ℕ) (kit : Kit) (made : (t : Table ℕ) (a : Account) → HoldsAccount layouts old t a → MakesKit layouts t a (Ok kit) start) (f : Filled) (upto : FillsUpTo layouts limit kit inserts start inserts full_store f) where
+  abbrev done : Progress
+  done = progress_of full_store f upto.entries
+
+  -- the premise of copying
+  pub map_stands : MapStands ℕ layouts full_store f.map.root
+  map_stands own = (kit.node, record { table = upto.held.table; holds = (upto.held.holds.place, upto.held.holds.holds); entries = upto.entries; stands = upto.held.stands })
+
+  -- the clause of copying, where its answer is known
+  module _ {V : Type 0} (items : V → List (ℤ × ℤ)) (copied : StoreView ℕ) (result : Result V ListFault) where
+    abbrev Copies : Result V ListFault → Type 0
+    Copies r = MatchResult r (λ (v : V). CopiedEntries layouts upto.entries upto.held.table (items v) copied) (λ (why : ListFault). FailsToCopyEntries layouts upto.entries upto.held.table why copied)
+
+    module _ (clause : is_version_of full_store f.map.root ≡ true → (t : Table ℕ) (a : Account) (m : IntMap) → HoldsAccount layouts full_store t a → StandsForMap full_store t f.map.root m
+        → MatchResult result (λ (v : V). CopiedEntries layouts m t (items v) copied) (λ (why : ListFault). FailsToCopyEntries layouts m t why copied)) where
+      copies : Copies result
+      copies = clause (version_own layouts kit done upto.held) upto.held.table upto.held.account upto.entries upto.held.holds (kit.node, upto.held.stands)
+
+      pub copied_as : (v : V) → result ≡ Ok v → CopiedEntries layouts upto.entries upto.held.table (items v) copied
+      copied_as v is = subst Copies is copies
+
+      pub fails_as : (why : ListFault) → result ≡ Err why → FailsToCopyEntries layouts upto.entries upto.held.table why copied
+      fails_as why is = subst Copies is copies
+
+  -- the entries were copied, and the heap collected
+  pub tells_filled : (copied new : StoreView ℕ) (entries : List (ℤ × ℤ)) (held : ℕ) (text : List ℕ) → IsSameStore full_store copied → IsSameStore copied new
+      → CopiedEntries layouts upto.entries upto.held.table entries copied → ((t : Table ℕ) → HoldsTable layouts copied t → HoldsKept layouts new t) → ((t : Table ℕ) → HoldsKept layouts new t → HasNumber (IsKept layouts t) held)
+      → text ≡ fill_text (length entries) f.refused held (sum_by (λ (entry : ℤ × ℤ). unsigned_abs entry.1) entries) → TellsFill layouts limit inserts old text new
+  tells_filled copied new entries held text same after copies kept counts is =
+      let t = upto.held.table in
+      let u = copies.1.after in
+      let keeps = roots_keep t u t.owned copies.1.changed in
+      let owned = ap (λ (v : Table ℕ). v.owned) copies.1.changed.rest ∙ sym (append-nil t.owned) in
+      let all : IsSameStore full_store new = record { engine = after.engine ∙ same.engine; number = after.number ∙ same.number; counter = after.counter ∙ same.counter } in
+      let kept_is = kept u (copies.1.holds.place, copies.1.holds.holds) in
+      filled (record {
+        kit = kit;
+        done = done;
+        filled = record { start = start; kit_made = made; fills = upto.fills };
+        table = u;
+        kept = kept_is;
+        stands = record {
+          reference = upto.held.stands.reference;
+          names = named_still full_store new t u [] all owned f.map.root upto.held.stands.reference upto.held.stands.names;
+          is = map_stays t u keeps upto.held.stands.reference kit.node upto.entries upto.held.stands.is;
+        };
+        held = held;
+        held_is = counts u kept_is;
+        text_is = is ∙ ap (λ (es : List (ℤ × ℤ)). fill_text (length es) f.refused held (sum_by (λ (entry : ℤ × ℤ). unsigned_abs entry.1) es)) copies.0
+            ∙ ap (λ n. fill_text n f.refused held (sum_of upto.entries)) (sym (finite.len-entries upto.entries));
+      })
+
+  -- they could not be
+  pub tells_full : (new : StoreView ℕ) (text : List ℕ) → FailsToCopyEntries layouts upto.entries upto.held.table fault.RootsFull new → text ≡ codes "RootsFull" ++ 10 ∷ [] → TellsFill layouts limit inserts old text new
+  tells_full new text fails is = full (record {
+    kit = kit;
+    done = done;
+    filled = record { start = start; kit_made = made; fills = upto.fills };
+    table = upto.held.table;
+    account = upto.held.account;
+    holds = upto.held.holds;
+    fails = fails;
+    text_is = is;
+  })

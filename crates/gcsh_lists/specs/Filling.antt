@@ -1,0 +1,97 @@
+-- What becomes of inserts into a map of heap objects that are made one behind the other.
+use Rattle.std.specs.Prelude.{◌≡◌, ◌+◌, ◌%◌, ℕ, ℤ, pos, suc, zero, true, [], Option, None, Result, Ok, Err}
+use Rattle.std.specs.FinMap as finite
+use Rattle.gc_types.specs.declared.kind.Layouts.{Layouts}
+use Rattle.gc_model.specs.Allocation.{Limits}
+use Rattle.gc_model.specs.Stores.{StoreView}
+use Rattle.gc_model.specs.Table.{Table}
+use Rattle.gc_policy.specs.Accounts.{Account, HoldsAccount}
+use Rattle.gc_store.specs.declared.root.GcRootIndex.{GcRootIndex}
+use Rattle.gc_lists.specs.declared.fault.ListFault.{ListFault}
+use Rattle.gc_lists.specs.declared.fault.ListFault.TheVariants as fault
+use Rattle.gc_lists.specs.declared.kit.Kit.{Kit}
+use Rattle.gc_lists.specs.Answers.{Releases}
+use Rattle.gc_lists.specs.Kits.{IsKit, is_kit_of}
+use Rattle.gc_maps.specs.declared.map.HeapMap.{HeapMap}
+use Rattle.gc_maps.specs.Answers.{AnswersMap}
+use Rattle.gc_maps.specs.Maps.{IntMap, StandsForMapOf}
+use Rattle.gcsh_lists.specs.declared.fill.Filled.{Filled}
+use Rattle.gcsh_seeds.specs.Seeds.{seed_of}
+
+-- a map may get this many inserts
+abbrev pub max_inserts : ℕ
+max_inserts = 100000
+
+-- keys are below this number
+abbrev pub key_count : ℕ
+key_count = 1000
+
+-- the key of the insert with that number, of so many
+abbrev pub key_of : ℕ → ℕ → ℤ
+key_of inserts number = pos (seed_of inserts number % key_count)
+
+-- How far inserts have come: what is seen of the store, the version that stands for the entries, and how many were refused.
+pub record Progress : Type 0 where
+  pub store : StoreView ℕ
+  pub version : Option GcRootIndex
+  pub entries : IntMap
+  pub refused : ℕ
+
+-- so where that struct tells it
+abbrev pub progress_of : StoreView ℕ → Filled → IntMap → Progress
+progress_of store filled m = record { store = store; version = filled.map.root; entries = m; refused = filled.refused }
+
+-- the kit and the version stand, in some table that the store holds
+pub record HoldsProgress (layouts : Layouts) (kit : Kit) (p : Progress) : Type 0 where
+  pub table : Table ℕ
+  pub account : Account
+  pub holds : HoldsAccount layouts p.store table account
+  pub kit_is : IsKit table.types kit
+  pub kit_of : is_kit_of p.store kit ≡ true
+  pub stands : StandsForMapOf p.store table p.version kit.node p.entries
+
+-- before the first one
+abbrev pub begin_at : StoreView ℕ → Progress
+begin_at store = record { store = store; version = None; entries = finite.from_sorted []; refused = 0 }
+
+-- what an insert into the version answers and leaves under a limit of pages, in each table that the store holds and in which the version
+-- stands for the entries
+abbrev pub Inserts : Layouts → Option ℕ → Kit → ℤ → ℤ → Progress → Result HeapMap ListFault → StoreView ℕ → Type 0
+Inserts layouts limit kit key value p result new = (t : Table ℕ) (a : Account) → HoldsAccount layouts p.store t a → StandsForMapOf p.store t p.version kit.node p.entries
+    → (limits : Limits) × ((limits.limit ≡ limit) × AnswersMap layouts p.store.alloc_counter kit (finite.insert p.entries key value) t limits result new)
+
+-- what giving up a version leaves
+abbrev pub GivesUp : Layouts → StoreView ℕ → Option GcRootIndex → StoreView ℕ → Type 0
+GivesUp layouts old version new = (t : Table ℕ) (a : Account) → HoldsAccount layouts old t a → Releases layouts old t a version new
+
+-- a refusal that is counted: roots or room for nodes are wanting
+abbrev pub IsCounted : ListFault → Type 0
+IsCounted fault.WrongStore = ⊥
+IsCounted fault.RootsFull = Unit {0}
+IsCounted (fault.HeapOutOfMemory f) = Unit {0}
+IsCounted fault.Memory = ⊥
+
+-- an insert was taken, and then the version before was given up; or it was refused, and the version stays
+pub data Step (layouts : Layouts) (limit : Option ℕ) (kit : Kit) (key value : ℤ) (p q : Progress) : Type 0 where
+  taken : (map : HeapMap) (between : StoreView ℕ) → Inserts layouts limit kit key value p (Ok map) between → GivesUp layouts between p.version q.store
+      → q ≡ record { store = q.store; version = map.root; entries = finite.insert p.entries key value; refused = p.refused } → Step layouts limit kit key value p q
+  refused : (why : ListFault) → Inserts layouts limit kit key value p (Err why) q.store → IsCounted why → q ≡ record p { store = q.store; refused = p.refused + 1 }
+      → Step layouts limit kit key value p q
+
+-- so many of the inserts were made, whose values are their numbers
+abbrev pub Fills : Layouts → Option ℕ → Kit → ℕ → StoreView ℕ → ℕ → Progress → Type 0
+Fills layouts limit kit inserts start zero q = q ≡ begin_at start
+Fills layouts limit kit inserts start (suc k) q =
+    (p : Progress) × (Fills layouts limit kit inserts start k p × Step layouts limit kit (key_of inserts (suc k)) (pos (suc k)) p q)
+
+-- an insert on the way came to this, and all stands still
+pub record Goes (layouts : Layouts) (limit : Option ℕ) (kit : Kit) (key value : ℤ) (p : Progress) (store : StoreView ℕ) (filled : Filled) : Type 0 where
+  pub entries : IntMap
+  pub step : Step layouts limit kit key value p (progress_of store filled entries)
+  pub held : HoldsProgress layouts kit (progress_of store filled entries)
+
+-- so did the first so many of the inserts
+pub record FillsUpTo (layouts : Layouts) (limit : Option ℕ) (kit : Kit) (inserts : ℕ) (start : StoreView ℕ) (done : ℕ) (store : StoreView ℕ) (filled : Filled) : Type 0 where
+  pub entries : IntMap
+  pub fills : Fills layouts limit kit inserts start done (progress_of store filled entries)
+  pub held : HoldsProgress layouts kit (progress_of store filled entries)
