@@ -20,7 +20,8 @@ use Rattle.gc_script.proofs.GoesLemmas.{wants_nothing}
 use Rattle.gc_script.proofs.KeptLemmas.{kept_after, last_command, no_last}
 use Rattle.gcsh_top.specs.declared.churn_run.Churner.{Churner}
 use Rattle.gcsh_top.specs.declared.words.Form.{Form}
-use Rattle.gcsh_top.specs.Churn.{churn_script, link_fields, round_commands, rounds_up_to, seed_of}
+use Rattle.gcsh_top.specs.Churn.{churn_script, link_fields, round_commands, rounds_up_to}
+use Rattle.gcsh_seeds.specs.Seeds.{seed_of}
 use Rattle.gcsh_top.specs.ChurnRuns.{HasRun, RanChurn, RunFrom, StoppedIn, refusals_in, summary_text}
 use Rattle.gcsh_top.specs.Runs.{IsReady, first_table}
 use Rattle.gcsh_top.proofs.FormRun.{ready_state}

@@ -1,23 +1,23 @@
 -- How the run of a form ends, by its status.
-use Rattle.std.proofs.Common.{Bool, false, ◌≡◌, ℕ, ◌≤◌, List, [], ◌∷◌, codes, subst, sym, ap, refl}
+use Rattle.std.proofs.Common.{Bool, false, ◌≡◌, ℕ, ◌≤◌, List, [], ◌∷◌, codes, subst, sym, refl}
 use Rattle.std.specs.Fmt.{decimal}
 use Rattle.gc_types.specs.declared.kind.Layouts.{Layouts}
 use Rattle.gc_model.specs.Stores.{StoreView}
 use Rattle.gcsh_top.specs.declared.status.Status.{Status}
 use Rattle.gcsh_top.specs.declared.status.Status.TheVariants.{Done, Usage, ReadFault, WriteFault, TooLong, NoMemory}
+use Rattle.gcsh_lists.specs.Filling.{max_inserts}
 use Rattle.gcsh_top.specs.declared.stores.Stores.{Stores}
 use Rattle.gcsh_top.specs.declared.words.Collector.{Collector}
 use Rattle.gcsh_top.specs.declared.words.Form.{Form}
 use Rattle.gcsh_top.specs.declared.words.Task.{Task}
-use Rattle.gcsh_top.specs.declared.words.Task.TheVariants.{Script, Churn, Paths, Load}
+use Rattle.gcsh_top.specs.declared.words.Task.TheVariants.{Script, Churn, Paths, Save, Load, Lists}
 use Rattle.gcsh_top.specs.Answers.{Answers, Completed, RanOn, RanTask, RanWords, Reported, behind, within}
 use Rattle.gcsh_top.specs.Reports.{RanSilently, ReportedText, reported_text, wanted_memory, silent}
-use Rattle.gcsh_top.specs.LoadReports.{RanLoad, read_whole, not_read}
-use Rattle.gcsh_top.specs.PathReports.{ReportedPaths}
+use Rattle.gcsh_top.specs.LoadReports.{read_whole, not_read}
 use Rattle.gcsh_top.specs.Churn.{max_rounds}
-use Rattle.gcsh_top.specs.ChurnRuns.{Churned, to_its_end, within}
+use Rattle.gcsh_top.specs.ChurnRuns.{to_its_end, within}
 use Rattle.gcsh_top.specs.Chosen.{AreSameStores, OthersStay, chosen}
-use Rattle.gcsh_top.specs.Ends.{SinkRun, SourceRun, SourceTold}
+use Rattle.gcsh_top.specs.Ends.{SinkRun, SourceRun}
 use Rattle.gcsh_top.specs.Statuses.{code_of}
 use Rattle.gcsh_top.specs.Words.{FitsTask, IsForm, ReadsNothing, layouts_of, task_words}
 
@@ -36,8 +36,10 @@ no_usage Script layouts form source sink store ran = ran
 no_usage (Churn rounds) layouts form source sink store (same, to_its_end summary ran wrote) = wrote
 no_usage (Churn rounds) layouts form source sink store (same, within stopped unwritten is) = absurd (cc)
 no_usage Paths layouts form source sink store ran = no_usage_reported layouts form source sink store _ (λ mid ends. no_usage_text _ _ _ sink ends) ran
+no_usage Save layouts form source sink store ran = no_usage_reported layouts form source sink store _ (λ mid ends. no_usage_text _ _ _ sink ends) ran
 no_usage Load layouts form source sink store (read_whole input whole ends) = no_usage_text _ _ _ sink ends
 no_usage Load layouts form source sink store (not_read why unwritten ready) = why
+no_usage (Lists inserts) layouts form source sink store (same, ends) = no_usage_text _ _ _ sink ends
 
 -- the words of a form never end as words of none
 answers_of : (words : List (List ℕ)) (source : SourceRun) (sink : SinkRun) (old new : Stores) (status : Status) → RanWords words source sink old new status → Answers words source sink old new status
@@ -63,6 +65,10 @@ ran_over collector words form source sink old new status is_form over ran others
 pub fits_rounds : (task : Task) (rounds : ℕ) → task ≡ Churn rounds → FitsTask task → rounds ≤ max_rounds
 fits_rounds task rounds is fits = subst FitsTask is fits
 
+-- a map gets no more inserts than one may
+pub fits_inserts : (task : Task) (inserts : ℕ) → task ≡ Lists inserts → FitsTask task → inserts ≤ max_inserts
+fits_inserts task inserts is fits = subst FitsTask is fits
+
 -- a task that reads an input is none that reads nothing
 pub reads : (task known : Task) → task ≡ known → (ReadsNothing known → ⊥) → ReadsNothing task → ⊥
 reads task known is some nothing = some (subst ReadsNothing is nothing)
@@ -72,13 +78,17 @@ two_words : (task : Task) (name count : List ℕ) → task_words task ≡ name �
 two_words Script name count words = absurd (cc)
 two_words (Churn n) name count words = tt
 two_words Paths name count words = absurd (cc)
+two_words Save name count words = absurd (cc)
 two_words Load name count words = absurd (cc)
+two_words (Lists n) name count words = tt
 
 alone : (task other : Task) → task_words task ≡ task_words other → ReadsNothing task → ReadsNothing other
 alone Script other same nothing = absurd nothing
 alone (Churn n) other same nothing = two_words other (codes "churn") (decimal n) (sym same)
 alone Paths other same nothing = absurd nothing
+alone Save other same nothing = absurd nothing
 alone Load other same nothing = absurd nothing
+alone (Lists n) other same nothing = two_words other (codes "lists") (decimal n) (sym same)
 
 pub unread_alone : (words : List (List ℕ)) (form other : Form) → IsForm words form → IsForm words other → ReadsNothing form.task → ReadsNothing other.task
 unread_alone words form other is_form is_other nothing =

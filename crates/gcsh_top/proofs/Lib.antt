@@ -10,6 +10,7 @@ pub mod RoundLemmas
 pub mod ReadingLemmas
 mod WholeLemmas
 mod LoadLemmas
+mod ListLemmas
 pub mod FormAnswers
 pub mod StatusLaws
 pub mod ProgramLemmas

@@ -10,7 +10,7 @@ use Rattle.gcsh_top.specs.declared.status.Status.TheVariants.{Done, Usage, ReadF
 use Rattle.gcsh_top.specs.declared.stores.Stores.{Stores}
 use Rattle.gcsh_top.specs.declared.words.Form.{Form}
 use Rattle.gcsh_top.specs.declared.words.Task.{Task}
-use Rattle.gcsh_top.specs.declared.words.Task.TheVariants.{Script, Churn, Paths, Load}
+use Rattle.gcsh_top.specs.declared.words.Task.TheVariants.{Script, Churn, Paths, Save, Load, Lists}
 use Rattle.gcsh_top.specs.Answers.{Answers, IsShort, RanOn, RanTask, RanWords, Reported, behind, within}
 use Rattle.gcsh_top.specs.LoadReports.{read_whole, not_read}
 use Rattle.gcsh_top.specs.Chosen.{chosen}
@@ -100,9 +100,11 @@ given_task : (task : Task) (layouts : Layouts) (form : Form) (source : SourceRun
 given_task Script layouts form source sink store status ran = given_on layouts form source sink store status ran
 given_task (Churn rounds) layouts form source sink store status (same, ran) = nothing_given source status same (not_too_long status (churned_by layouts form rounds sink store status ran))
 given_task Paths layouts form source sink store status ran = given_reported layouts form source sink store status _ (λ mid ends. not_too_long status (reported_by _ _ _ sink status ends)) ran
+given_task Save layouts form source sink store status ran = given_reported layouts form source sink store status _ (λ mid ends. not_too_long status (reported_by _ _ _ sink status ends)) ran
 given_task Load layouts form source sink store status (read_whole input whole ends) =
     given_short source status input (not_too_long status (reported_by _ _ _ sink status ends)) whole.gave.gave whole.gave.short
 given_task Load layouts form source sink store status (not_read why unwritten ready) = given_unread source status why
+given_task (Lists inserts) layouts form source sink store status (same, ends) = nothing_given source status same (not_too_long status (reported_by _ _ _ sink status ends))
 
 pub given_exact : (words : List (List ℕ)) (source : SourceRun) (sink : SinkRun) (old new : Stores) (status : Status) → RanWords words source sink old new status → Given source status
 given_exact words source sink old new status ran = given_task ran.form.task (layouts_of ran.form.collector) ran.form source sink (chosen ran.form.collector new) status ran.ran
@@ -155,8 +157,11 @@ complete_task Script layouts form source sink store status ran whole_in whole_ou
 complete_task (Churn rounds) layouts form source sink store status (same, ran) whole_in whole_out short = whole_by status (churned_by layouts form rounds sink store status ran) whole_out
 complete_task Paths layouts form source sink store status ran whole_in whole_out short =
     complete_reported layouts form source sink store status _ (λ mid ends. whole_by status (reported_by _ _ _ sink status ends) whole_out) ran whole_in short
+complete_task Save layouts form source sink store status ran whole_in whole_out short =
+    complete_reported layouts form source sink store status _ (λ mid ends. whole_by status (reported_by _ _ _ sink status ends) whole_out) ran whole_in short
 complete_task Load layouts form source sink store status (read_whole input whole ends) whole_in whole_out short = whole_by status (reported_by _ _ _ sink status ends) whole_out
 complete_task Load layouts form source sink store status (not_read why unwritten ready) whole_in whole_out short = complete_unread source status why whole_in short
+complete_task (Lists inserts) layouts form source sink store status (same, ends) whole_in whole_out short = whole_by status (reported_by _ _ _ sink status ends) whole_out
 
 complete_words : (words : List (List ℕ)) (source : SourceRun) (sink : SinkRun) (old new : Stores) (status : Status) → RanWords words source sink old new status
     → ¬ Rose source.before.faults source.after.faults → ¬ Rose sink.before.faults sink.after.faults → IsShort source.before.left source.before.given source.after.given → (status ≡ Done) ⊎ (status ≡ NoMemory)

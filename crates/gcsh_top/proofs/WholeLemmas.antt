@@ -1,11 +1,10 @@
 -- An input that is read to its end into memory.
 use Rattle.std.proofs.Common.{◌≡◌, ℕ, ◌+◌, ◌≤◌, List, [], ◌∷◌, ◌++◌, length, length-append, refl, sym, ap, subst, ◌∙◌, arith}
-use Rattle.gc_model.specs.Allocation.{Rose}
 use Rattle.gcsh_top.specs.declared.read.ReadFault.{ReadFault as read_fault}
 use Rattle.gcsh_top.specs.declared.read.ReadFault.TheVariants as fault
 use Rattle.gcsh_top.specs.declared.status.Status.TheVariants.{ReadFault, TooLong, NoMemory}
 use Rattle.gcsh_top.specs.Ends.{Gave, SourceRun, SourceTold}
-use Rattle.gcsh_top.specs.Input.{GavePiece, GaveShort, ReadWhole, Unread, UnreadInput, max_input}
+use Rattle.gcsh_top.specs.Input.{GavePiece, ReadWhole, Unread, UnreadInput, max_input}
 use Rattle.gcsh_top.proofs.EndLemmas.{gave_no_more, gave_none, gave_on, told}
 use Rattle.gcsh_top.proofs.InputLemmas.{not_fallen, rose_since}
 use Rattle.gcsh_top.proofs.PieceLemmas.{no_bytes}

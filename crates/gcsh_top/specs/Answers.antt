@@ -8,11 +8,13 @@ use Rattle.gcsh_top.specs.declared.status.Status.TheVariants.{Done, Usage, ReadF
 use Rattle.gcsh_top.specs.declared.stores.Stores.{Stores}
 use Rattle.gcsh_top.specs.declared.words.Form.{Form}
 use Rattle.gcsh_top.specs.declared.words.Task.{Task}
-use Rattle.gcsh_top.specs.declared.words.Task.TheVariants.{Script, Churn, Paths, Load}
+use Rattle.gcsh_top.specs.declared.words.Task.TheVariants.{Script, Churn, Paths, Save, Load, Lists}
 use Rattle.gcsh_top.specs.Chosen.{AreSameStores, OthersStay, chosen}
 use Rattle.gcsh_top.specs.ChurnRuns.{Churned}
 use Rattle.gcsh_top.specs.Ends.{SinkRun, SourceRun}
 use Rattle.gcsh_top.specs.Input.{GaveLines, GaveWhole, ReadWhole, max_input}
+use Rattle.gcsh_top.specs.ImageReports.{ReportedImage}
+use Rattle.gcsh_top.specs.ListReports.{ReportedLists}
 use Rattle.gcsh_top.specs.LoadReports.{RanLoad}
 use Rattle.gcsh_top.specs.PathReports.{ReportedPaths}
 use Rattle.gcsh_top.specs.Reports.{RanSilently, silent}
@@ -58,12 +60,14 @@ pub data Reported (layouts : Layouts) (form : Form) (source : SourceRun) (sink :
   behind : (mid : StoreView ℕ) → RanSilently layouts form source mid → Ends mid → Reported layouts form source sink store status Ends
   within : (flushed : Bool) → RanOn layouts form source (record { before = silent false; after = silent flushed }) store status → ¬ (status ≡ Done) → sink.after ≡ sink.before → Reported layouts form source sink store status Ends
 
--- How a task on its new store ended, and what it left. A script that is made reads nothing.
+-- How a task on its new store ended, and what it left. A script that is made and a map that is filled read nothing.
 abbrev pub RanTask : Task → Layouts → Form → SourceRun → SinkRun → StoreView ℕ → Status → Type 0
 RanTask Script layouts form source sink store status = RanOn layouts form source sink store status
 RanTask (Churn rounds) layouts form source sink store status = (source.after ≡ source.before) × Churned layouts form rounds sink store status
 RanTask Paths layouts form source sink store status = Reported layouts form source sink store status (λ mid. ReportedPaths layouts mid sink store status)
+RanTask Save layouts form source sink store status = Reported layouts form source sink store status (λ mid. ReportedImage layouts mid sink store status)
 RanTask Load layouts form source sink store status = RanLoad layouts form source sink store status
+RanTask (Lists inserts) layouts form source sink store status = (source.after ≡ source.before) × ReportedLists layouts form inserts sink store status
 
 -- The words are those of a form, whose run on the store that they choose ended so. The other stores are as they were, and
 -- each has its id still.

@@ -1,6 +1,6 @@
 -- The script of `churn`: rounds each of which makes an object, which may name one that is kept, and keeps it in one of eight
 -- slots. It is made by formula from the number of its rounds.
-use Rattle.std.specs.Prelude.{ℕ, ◌+◌, ◌*◌, ◌/◌, ◌%◌, ◌==◌, pos, true, false, List, [], ◌∷◌, ◌++◌, None, if◌then◌else◌, suc, zero}
+use Rattle.std.specs.Prelude.{ℕ, ◌/◌, ◌%◌, ◌==◌, pos, true, false, List, [], ◌∷◌, ◌++◌, None, if◌then◌else◌, suc, zero}
 use Rattle.gc_commands.specs.declared.command.Command.{Command}
 use Rattle.gc_commands.specs.declared.command.Command.TheVariants.{Struct, New, Enter, Leave, Push, Store, Load, Gc, Cap}
 use Rattle.gc_commands.specs.declared.command.FieldWord.{FieldWord}
@@ -10,19 +10,11 @@ use Rattle.gc_commands.specs.declared.command.Operand.TheVariants as operand
 use Rattle.gc_commands.specs.declared.command.StorageWord.TheVariants as storage
 use Rattle.gc_commands.specs.declared.command.ValueWord.{ValueWord}
 use Rattle.gc_commands.specs.declared.command.ValueWord.TheVariants as value
+use Rattle.gcsh_seeds.specs.Seeds.{seed_of}
 
 -- a script may have this many rounds
 abbrev pub max_rounds : ℕ
 max_rounds = 100000
-
--- the seed of a round, by that of the round before
-abbrev pub next_seed : ℕ → ℕ
-next_seed seed = (seed * 1103515245 + 12345) % 2147483648
-
--- the seed of each of so many rounds, which are counted from 1: their number stands before the first
-abbrev pub seed_of : ℕ → ℕ → ℕ
-seed_of rounds zero = rounds
-seed_of rounds (suc k) = next_seed (seed_of rounds k)
 
 -- the slot that a round reads, and the one that it sets
 abbrev pub slot_read : ℕ → ℕ

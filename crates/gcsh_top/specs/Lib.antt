@@ -9,7 +9,9 @@ pub mod Chosen
 pub mod Runs
 pub mod Reports
 pub mod PathReports
+pub mod ImageReports
 pub mod LoadReports
+pub mod ListReports
 pub mod ChurnRuns
 pub mod Answers
 pub mod Program

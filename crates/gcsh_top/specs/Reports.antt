@@ -1,5 +1,5 @@
 -- Texts that are written at the end of a run, and forms that write a report of the store that a script leaves.
-use Rattle.std.specs.Prelude.{◌≡◌, ℕ, ◌≤◌, Bool, false, List, IsTrue, Option, Some, None, length, take}
+use Rattle.std.specs.Prelude.{◌≡◌, ℕ, ◌≤◌, Bool, List, IsTrue, Option, None, length, take}
 use Rattle.std.specs.Io.KnownBytes.{Appends}
 use Rattle.gc_types.specs.declared.kind.Layouts.{Layouts}
 use Rattle.gc_model.specs.Allocation.{Rose}
@@ -8,7 +8,7 @@ use Rattle.gcsh_top.specs.declared.status.Status.{Status}
 use Rattle.gcsh_top.specs.declared.status.Status.TheVariants.{Done, Usage, ReadFault, WriteFault, TooLong, NoMemory}
 use Rattle.gcsh_top.specs.declared.words.Form.{Form}
 use Rattle.gcsh_top.specs.Ends.{SinkRun, SinkTold, SourceRun}
-use Rattle.gcsh_top.specs.Input.{GaveWhole, ReadWhole}
+use Rattle.gcsh_top.specs.Input.{ReadWhole}
 use Rattle.gcsh_top.specs.Runs.{RanForm}
 
 -- a sink took a front of the bytes, or all of them

@@ -8,7 +8,8 @@ use Rattle.gcsh_top.specs.declared.words.Collector.{Collector}
 use Rattle.gcsh_top.specs.declared.words.Collector.TheVariants.{Copying, Counting, Null}
 use Rattle.gcsh_top.specs.declared.words.Form.{Form}
 use Rattle.gcsh_top.specs.declared.words.Task.{Task}
-use Rattle.gcsh_top.specs.declared.words.Task.TheVariants.{Script, Churn, Paths, Load}
+use Rattle.gcsh_top.specs.declared.words.Task.TheVariants.{Script, Churn, Paths, Save, Load, Lists}
+use Rattle.gcsh_lists.specs.Filling.{max_inserts}
 use Rattle.gcsh_top.specs.Churn.{max_rounds}
 
 -- the word of a collector
@@ -28,21 +29,27 @@ abbrev pub task_words : Task → List (List ℕ)
 task_words Script = []
 task_words (Churn rounds) = codes "churn" ∷ decimal rounds ∷ []
 task_words Paths = codes "paths" ∷ []
+task_words Save = codes "save" ∷ []
 task_words Load = codes "load" ∷ []
+task_words (Lists inserts) = codes "lists" ∷ decimal inserts ∷ []
 
--- a script that is made has no more rounds than one may have
+-- a script that is made has no more rounds than one may have, and a map gets no more inserts
 abbrev pub FitsTask : Task → Type 0
 FitsTask Script = Unit {0}
 FitsTask (Churn rounds) = rounds ≤ max_rounds
 FitsTask Paths = Unit {0}
+FitsTask Save = Unit {0}
 FitsTask Load = Unit {0}
+FitsTask (Lists inserts) = inserts ≤ max_inserts
 
 -- a task that reads nothing
 abbrev pub ReadsNothing : Task → Type 0
 ReadsNothing Script = ⊥
 ReadsNothing (Churn rounds) = Unit {0}
 ReadsNothing Paths = ⊥
+ReadsNothing Save = ⊥
 ReadsNothing Load = ⊥
+ReadsNothing (Lists inserts) = Unit {0}
 
 -- the words of a form: a collector, the pages that a heap begins with, the most that it may have, and those of its task
 abbrev pub words_of : Form → List (List ℕ)

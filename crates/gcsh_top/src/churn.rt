@@ -1,7 +1,7 @@
 //! The commands of the script that `churn` makes.
 
 ghost use Rattle.std.specs.Prelude.{◌≡◌, ◌≤◌, false, pos, [], ◌∷◌, IfOk, None};
-ghost use Rattle.gcsh_top.specs.Churn.{link_fields, max_rounds, mutable_field, named_by, next_seed, slot_read, slot_set};
+ghost use Rattle.gcsh_top.specs.Churn.{link_fields, max_rounds, mutable_field, named_by, slot_read, slot_set};
 
 use gc_commands::{FieldWord, FieldWords, HeapWord, Operands, StorageWord, ValueWord};
 use gc_script::{Command, Operand};
@@ -23,13 +23,6 @@ pub(crate) const MADE: u16 = 2;
 pub(crate) struct Round {
     pub(crate) number: u32,
     pub(crate) seed: u32,
-}
-
-/// The seed of a round, by that of the round before.
-pub(crate) fn next_seed(seed: u32) -> u32
-    ensures { result ≡ next_seed seed }
-{
-    ((u64::from(seed) * 1_103_515_245 + 12_345) % 2_147_483_648) as u32
 }
 
 /// `struct m:any m:i32`: declares the type of the objects that the rounds make.

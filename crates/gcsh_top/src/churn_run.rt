@@ -14,7 +14,7 @@ ghost use Rattle.gcsh_top.specs.Reports.{Wrote};
 ghost use Rattle.gcsh_top.specs.Runs.{IsReady};
 ghost use Rattle.gcsh_top.specs.declared.words.Form.{Form};
 
-use crate::churn::{MADE, READ, Round, SLOTS, declare_link, next_seed};
+use crate::churn::{MADE, READ, Round, SLOTS, declare_link};
 use crate::report::write_report;
 use crate::sink::Sink;
 use crate::status::Status;
@@ -22,6 +22,7 @@ use crate::words::Form;
 use gc_heap::GcHeap;
 use gc_script::{Command, Reply, RunError, Runner, push_reply};
 use gc_store::{PageLimit, Store};
+use gcsh_seeds::next_seed;
 use std::alloc::{AllocError, Global};
 
 /// Runs the commands of a script on a store, and counts those that are refused.

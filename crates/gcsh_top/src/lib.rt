@@ -12,6 +12,7 @@
 
 mod churn;
 mod churn_run;
+mod lists;
 mod load;
 pub mod memory;
 pub mod program;

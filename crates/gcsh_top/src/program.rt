@@ -24,16 +24,17 @@ use std::process::{ExitCode, Termination};
 pub const HELP: &str = "\
 gcsh runs a script of heap commands, and writes a reply to each.
 
-Usage: gcsh COLLECTOR FIRST MOST [paths] < SCRIPT
+Usage: gcsh COLLECTOR FIRST MOST [paths | save] < SCRIPT
        gcsh COLLECTOR FIRST MOST load < IMAGE
-       gcsh COLLECTOR FIRST MOST churn N, gcsh --help, gcsh --version
+       gcsh COLLECTOR FIRST MOST churn N | lists N, gcsh --help, gcsh --version
 
 COLLECTOR is copying or counting, which free what no root reaches, or null,
 which never frees. FIRST <= MOST <= 65535 are the pages of 65536 bytes that the
-heap begins with, and the most that it gets. With paths no reply is printed, but
-a shortest path to each object that is reached. With load a heap image is loaded.
-With churn nothing is read: a script of N <= 100000 rounds is made and run, and a
-summary of it printed.
+heap begins with, and the most that it gets. With paths or save no reply is
+printed, but a shortest path to each object that is reached, or an image of what
+the globals reach, which load takes. With churn or lists nothing is read: a
+script of N <= 100000 rounds is made and run, or a map of heap objects gets as
+many inserts, and a summary is printed.
 
   struct F..     declare a type       field R I [D]  read a field, into D
   new D T V..    make a struct        setf R I V     write a field
@@ -52,7 +53,7 @@ failed; 3 the output failed; 4 the input is over 16777216 bytes; 5 no memory.
 ";
 
 /// What `--version` shows.
-pub const VERSION: &str = concat!("gcsh ", "0.3.0", "\n");
+pub const VERSION: &str = concat!("gcsh ", "0.4.0", "\n");
 
 /// The status that the program ends with. [`gcsh_main`] alone makes one, and none can be dropped, so a `main`
 /// that returns one ends with what `gcsh_main` answered.

@@ -2,6 +2,7 @@
 
 ghost use Rattle.gcsh_top.specs.Answers.{Reported};
 ghost use Rattle.gcsh_top.specs.Chosen.{HasSameId};
+ghost use Rattle.gcsh_top.specs.ImageReports.{ReportedImage};
 ghost use Rattle.gcsh_top.specs.PathReports.{ReportedPaths};
 ghost use Rattle.gcsh_top.specs.Reports.{Wrote};
 ghost use Rattle.gcsh_top.specs.Runs.{IsReady};
@@ -16,6 +17,7 @@ use crate::write::write_all;
 use gc_heap::GcHeap;
 use gc_paths::PathFault;
 use gc_store::Store;
+use gcsh_images::save_report;
 use gcsh_paths::path_report;
 use std::alloc::Global;
 
@@ -53,6 +55,42 @@ fn report_paths<H: GcHeap, K: Sink>(
     match path_report(alloc, store) {
         Ok(text) => write_report(sink, text.as_bytes()),
         Err(PathFault::RootsFull) => write_report(sink, b"RootsFull\n"),
+        Err(_) => Status::NoMemory,
+    }
+}
+
+/// Runs the script that is the input without replies, and writes the image of what the globals reach.
+pub(crate) fn run_save<H: GcHeap, S: Source, K: Sink>(
+    alloc: Global,
+    form: Form,
+    source: &mut S,
+    sink: &mut K,
+    store: &mut Store<H, u64>,
+) -> Status
+    requires { IsReady H.KIND form store.old }
+    ensures ran { Reported H.KIND form (record { before = S.tells source.old; after = S.tells source.new })
+        (record { before = K.tells sink.old; after = K.tells sink.new }) store.new result
+        (λ mid. ReportedImage H.KIND mid (record { before = K.tells sink.old; after = K.tells sink.new }) store.new result) }
+    ensures same { HasSameId store.old store.new }
+{
+    let mut silence = Silence::new();
+    match run_form(alloc, form, source, &mut silence, store) {
+        Status::Done => report_image(alloc, sink, store),
+        status => status,
+    }
+}
+
+/// Writes the image of what the globals of a store reach.
+fn report_image<H: GcHeap, K: Sink>(
+    alloc: Global,
+    sink: &mut K,
+    store: &mut Store<H, u64>,
+) -> Status
+    ensures reported { ReportedImage H.KIND store.old (record { before = K.tells sink.old; after = K.tells sink.new }) store.new result }
+    ensures same { HasSameId store.old store.new }
+{
+    match save_report(alloc, store) {
+        Ok(text) => write_report(sink, &text),
         Err(_) => Status::NoMemory,
     }
 }

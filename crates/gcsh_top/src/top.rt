@@ -16,9 +16,10 @@ ghost use Rattle.gcsh_top.specs.declared.stores.Stores.{Stores};
 ghost use Rattle.gcsh_top.specs.declared.words.Form.{Form};
 
 use crate::churn_run::run_churn;
+use crate::lists::run_lists;
 use crate::load::run_load;
 use crate::read::{ReadFault, read_piece};
-use crate::report::run_paths;
+use crate::report::{run_paths, run_save};
 use crate::run::{run_last, run_piece};
 use crate::sink::Sink;
 use crate::source::Source;
@@ -37,9 +38,10 @@ pub(crate) const PIECE: usize = 65_536;
 /// and has at most MOST. Each line of the input is run as soon as it is whole, and its reply written,
 /// with a line feed; what was written is flushed before more is read. With `churn N` behind MOST nothing is
 /// read: a script of N rounds is made and run, and its summary written. With `paths` no reply is written: behind
-/// the script the report is written of a path to each object that a root reaches. With `load` the input is an image,
-/// which is loaded; what the heap holds then is written. The answer is the number of a [`Status`], which the program
-/// ends with.
+/// the script the report is written of a path to each object that a root reaches; with `save` it is the image of
+/// what the globals reach. With `load` the input is an image, which is loaded; what the heap holds then is written.
+/// With `lists N` nothing is read: a map of heap objects gets N inserts, and what became of them is written. The
+/// answer is the number of a [`Status`], which the program ends with.
 pub fn gcsh_top<S: Source, K: Sink>(
     alloc: Global,
     words: &[String],
@@ -104,7 +106,9 @@ fn run_on<H: GcHeap, S: Source, K: Sink>(
         Task::Script => run_form(alloc, form, source, sink, store),
         Task::Churn(rounds) => run_churn(alloc, form, rounds, sink, store),
         Task::Paths => run_paths(alloc, form, source, sink, store),
+        Task::Save => run_save(alloc, form, source, sink, store),
         Task::Load => run_load(alloc, form, source, sink, store),
+        Task::Lists(inserts) => run_lists(alloc, form, inserts, sink, store),
     }
 }
 

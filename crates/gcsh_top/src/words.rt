@@ -6,6 +6,7 @@ ghost use Rattle.gcsh_top.specs.Words.{FitsTask, IsForm, collector_word, task_wo
 
 use crate::churn::MAX_ROUNDS;
 use gc_commands::number;
+use gcsh_lists::MAX_INSERTS;
 
 /// The greatest number of pages of a heap.
 pub const MAX_PAGES: u64 = 65_535;
@@ -27,8 +28,12 @@ pub enum Task {
     Churn(u32),
     /// It runs the script that is its input, and reports a path to each object that a root reaches.
     Paths,
+    /// It runs the script that is its input, and writes the image of what the globals reach.
+    Save,
     /// It loads the image that is its input, and reports what the heap holds then.
     Load,
+    /// It makes so many inserts into a map of heap objects, and reports what became of them.
+    Lists(u32),
 }
 
 /// What the words of the program ask for: a heap, the pages that it begins with, the most
@@ -42,8 +47,9 @@ pub struct Form {
 }
 
 /// The form that the words of the program, without its own name, are: `COLLECTOR FIRST MOST` with
-/// `FIRST <= MOST <= MAX_PAGES`, and behind these none, or `paths` or `load`, or `churn N` with `N <= MAX_ROUNDS`.
-/// Numbers are plain decimals without leading zeros. None where the words are of no such form.
+/// `FIRST <= MOST <= MAX_PAGES`, and behind these none, or `paths`, `save` or `load`, or `churn N` with `N <= MAX_ROUNDS`,
+/// or `lists N` with `N <= MAX_INSERTS`. Numbers are plain decimals without leading zeros. None where the words are of
+/// no such form.
 pub fn parse_words(words: &[String]) -> Option<Form>
     ensures { MatchOption result ((form : Form) → ¬ IsForm (map string_bytes words.now) form) (IsForm (map string_bytes words.now)) }
 {
@@ -60,8 +66,8 @@ pub fn parse_words(words: &[String]) -> Option<Form>
             let task = parse_report(name.as_str())?;
             parse_heap(collector.as_str(), first.as_str(), most.as_str(), task)
         }
-        [collector, first, most, name, rounds] => {
-            let task = parse_task(name.as_str(), rounds.as_str())?;
+        [collector, first, most, name, count] => {
+            let task = parse_task(name.as_str(), count.as_str())?;
             parse_heap(collector.as_str(), first.as_str(), most.as_str(), task)
         }
         _ => None,
@@ -92,21 +98,28 @@ fn parse_report(name: &str) -> Option<Task>
 {
     match name {
         "paths" => Some(Task::Paths),
+        "save" => Some(Task::Save),
         "load" => Some(Task::Load),
         _ => None,
     }
 }
 
 /// The task that two words ask for, which reads nothing.
-fn parse_task(name: &str, rounds: &str) -> Option<Task>
-    ensures { MatchOption result ((task : Task) → FitsTask task → ¬ (name.now ∷ rounds.now ∷ [] ≡ task_words task))
-        (λ task. FitsTask task × (name.now ∷ rounds.now ∷ [] ≡ task_words task)) }
+fn parse_task(name: &str, count: &str) -> Option<Task>
+    ensures { MatchOption result ((task : Task) → FitsTask task → ¬ (name.now ∷ count.now ∷ [] ≡ task_words task))
+        (λ task. FitsTask task × (name.now ∷ count.now ∷ [] ≡ task_words task)) }
 {
-    if name != "churn" {
-        return None;
+    match name {
+        "churn" => {
+            let rounds = number(count, u64::from(MAX_ROUNDS))?;
+            Some(Task::Churn(rounds as u32))
+        }
+        "lists" => {
+            let inserts = number(count, u64::from(MAX_INSERTS))?;
+            Some(Task::Lists(inserts as u32))
+        }
+        _ => None,
     }
-    let rounds = number(rounds, u64::from(MAX_ROUNDS))?;
-    Some(Task::Churn(rounds as u32))
 }
 
 /// The collector that a word names.

@@ -5,8 +5,8 @@ use Rattle.gcsh_top.proofs.words.parse_words.Goals as goal
 pub returns-in_err-task-in-len5 : goal.returns-in_err-task-in-len5
 returns-in_err-task-in-len5 c =
     let are =
-    five_words (λ w. string_bytes w) c.args.words.now c.collector-item-then-words-lt6.result c.first-item-then-words-lt6.result c.most-item-then-words-lt6.result c.name-item-then-words-lt6.result c.rounds-item.result c.in-len5.len_at_least c.in-len5.len_below
-    c.collector-item-then-words-lt6.is c.first-item-then-words-lt6.is c.most-item-then-words-lt6.is c.name-item-then-words-lt6.is c.rounds-item.is in
+    five_words (λ w. string_bytes w) c.args.words.now c.collector-item-then-words-lt6.result c.first-item-then-words-lt6.result c.most-item-then-words-lt6.result c.name-item-then-words-lt6.result c.count-item.result c.in-len5.len_at_least c.in-len5.len_below
+    c.collector-item-then-words-lt6.is c.first-item-then-words-lt6.is c.most-item-then-words-lt6.is c.name-item-then-words-lt6.is c.count-item.is in
     let name = c.as_str-in-len5.ensures.value in
     let rounds = c.as_str-in-len5-2.ensures.value in
     rw c.from_residual-in_err-task-in-len5.ensures
@@ -15,8 +15,8 @@ returns-in_err-task-in-len5 c =
 pub returns-in_ok-task-in-len5 : goal.returns-in_ok-task-in-len5
 returns-in_ok-task-in-len5 c =
     let are =
-    five_words (λ w. string_bytes w) c.args.words.now c.collector-item-then-words-lt6.result c.first-item-then-words-lt6.result c.most-item-then-words-lt6.result c.name-item-then-words-lt6.result c.rounds-item.result c.in-len5.len_at_least c.in-len5.len_below
-    c.collector-item-then-words-lt6.is c.first-item-then-words-lt6.is c.most-item-then-words-lt6.is c.name-item-then-words-lt6.is c.rounds-item.is in
+    five_words (λ w. string_bytes w) c.args.words.now c.collector-item-then-words-lt6.result c.first-item-then-words-lt6.result c.most-item-then-words-lt6.result c.name-item-then-words-lt6.result c.count-item.result c.in-len5.len_at_least c.in-len5.len_below
+    c.collector-item-then-words-lt6.is c.first-item-then-words-lt6.is c.most-item-then-words-lt6.is c.name-item-then-words-lt6.is c.count-item.is in
     let name = c.as_str-in-len5.ensures.value in
     let rounds = c.as_str-in-len5-2.ensures.value in
     let collector = c.as_str-in-len5-3.ensures.value in

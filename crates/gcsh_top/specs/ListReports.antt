@@ -1,0 +1,19 @@
+-- How the form ends that fills a map.
+use Rattle.std.specs.Prelude.{ℕ, List, Some}
+use Rattle.gc_types.specs.declared.kind.Layouts.{Layouts}
+use Rattle.gc_model.specs.Stores.{StoreView}
+use Rattle.gcsh_lists.specs.Reports.{TellsFill}
+use Rattle.gcsh_top.specs.declared.status.Status.{Status}
+use Rattle.gcsh_top.specs.declared.words.Form.{Form}
+use Rattle.gcsh_top.specs.Ends.{SinkRun}
+use Rattle.gcsh_top.specs.Reports.{ReportedText}
+use Rattle.gcsh_top.specs.Runs.{IsReady}
+
+-- the text says what so many inserts came to in a new store under the form's limit of pages
+pub record TellsLists (layouts : Layouts) (form : Form) (inserts : ℕ) (store : StoreView ℕ) (text : List ℕ) : Type 0 where
+  pub old : StoreView ℕ
+  pub ready : IsReady layouts form old
+  pub tells : TellsFill layouts (Some form.most) inserts old text store
+
+abbrev pub ReportedLists : Layouts → Form → ℕ → SinkRun → StoreView ℕ → Status → Type 0
+ReportedLists layouts form inserts sink store status = ReportedText (TellsLists layouts form inserts store) (Unit {0}) (Unit {0}) sink status
