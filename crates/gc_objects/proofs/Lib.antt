@@ -11,6 +11,7 @@ pub mod FillingLemmas
 pub mod FitLemmas
 pub mod Handing
 pub mod LargeArrays
+pub mod LaterNames
 pub mod MakeLemmas
 pub mod Naming
 pub mod Pushed
@@ -24,7 +25,10 @@ pub mod TakenExceptions
 pub mod ThrowLemmas
 pub mod TypeLemmas
 pub mod TypedObjects
+pub mod ValueCounts
+pub mod ValueGiving
 pub mod ValueLemmas
+pub mod ValueStarts
 pub mod Widening
 pub mod WordLemmas
 pub mod WrittenValues

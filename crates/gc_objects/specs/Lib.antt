@@ -9,4 +9,6 @@ pub mod OwnTypes
 pub mod RawWords
 pub mod Reads
 pub mod Thrown
+pub mod ValueLends
+pub mod ValueRuns
 pub mod Writes

@@ -12,7 +12,7 @@
 //!
 //! A function among values, or none, is stored by an id of the store's own, which it keeps for good.
 //!
-//! Not built yet: the iterators of values, and raw words of other references than the embedder's.
+//! All values of an object are read one by one, by an iterator to which the store is lent (`Values`).
 #![tactic(auto)]
 
 mod access;
@@ -20,6 +20,7 @@ mod allocators;
 mod any;
 mod arrays;
 mod checks;
+mod each_value;
 mod exceptions;
 mod externs;
 mod faults;
@@ -32,6 +33,7 @@ mod structs;
 mod throwing;
 mod upcast;
 mod val;
+mod values;
 
 pub use allocators::{ArrayRefPre, ExnRefPre, StructRefPre};
 pub use faults::{AccessFault, AllocFault};
@@ -39,3 +41,4 @@ pub use marks::{AnyRef, ArrayRef, EqRef, ExnRef, ExternRef, StructRef};
 pub use throwing::{StoreExn, ThrowFault};
 pub use upcast::{Upcast, narrow_handles_are_wide};
 pub use val::Val;
+pub use values::{Elems, Fields, Values};
