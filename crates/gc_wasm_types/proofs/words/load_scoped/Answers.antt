@@ -1,0 +1,31 @@
+use Rattle.std.proofs.Common.{◌<◌, Some, Ok, ap, sym, ◌∙◌, subst}
+use Rattle.std.specs.Prelude.{Option}
+use Rattle.gc_model.specs.Holds.{IsWord}
+use Rattle.gc_store.specs.declared.root.GcRootIndex.{GcRootIndex}
+use Rattle.gc_store.specs.RawWords.{PushesWord}
+use Rattle.gc_objects.proofs.WordLemmas.{taken_kind, word_positive}
+use Rattle.gc_wasm_types.specs.Values.{raw_word}
+use Rattle.gc_wasm_types.proofs.Loading.{is_taken}
+use Rattle.gc_wasm_types.proofs.words.load_scoped.Goals as goal
+
+pub push_word-requires : goal.push_word-requires
+push_word-requires g c = is_taken g.row.D.Denot g.H.GcHeap.KIND c.args.store.now g.T.GcRef.KIND c.get_anyref.result (raw_word c.args.from.now) c.get_anyref.ensures c.requires
+
+pub returns-in-Ok-Some-clause-takes : goal.returns-in-Ok-Some-clause-takes
+returns-in-Ok-Some-clause-takes g c t place a r there is =
+    subst (λ (x : Option GcRootIndex). PushesWord g.H.GcHeap.KIND t place a r (Ok x) c.push_word.new.self)
+    (c.in-Ok-Some.field-0-is ∙ ap Some (sym c.from_gc_root_index.ensures)) (c.in-Ok-Some.ensures.pushes t place a r there (subst (IsWord place r) (sym c.get_anyref.ensures) is))
+
+pub returns-in-Ok-Some-clause-kind : goal.returns-in-Ok-Some-clause-kind
+returns-in-Ok-Some-clause-kind g c =
+    taken_kind g.row.D.Denot g.H.GcHeap.KIND c.args.store.now c.push_word.new.self g.T.GcRef.KIND (raw_word c.args.from.now) _
+    (c.requires (subst (λ n. 0 < n) c.get_anyref.ensures (word_positive c.get_anyref.result c.in-Ok-Some.field-0 _ c.in-Ok-Some.field-0-is c.in-Ok-Some.ensures.null)))
+    (λ t place a r there is. subst (λ (x : Option GcRootIndex). PushesWord g.H.GcHeap.KIND t place a r (Ok x) c.push_word.new.self)
+    (c.in-Ok-Some.field-0-is ∙ ap Some (sym c.from_gc_root_index.ensures)) (c.in-Ok-Some.ensures.pushes t place a r there (subst (IsWord place r) (sym c.get_anyref.ensures) is)))
+
+pub returns-in-Ok-None-clause-takes : goal.returns-in-Ok-None-clause-takes
+returns-in-Ok-None-clause-takes g c t place a r there is =
+    subst (λ (x : Option GcRootIndex). PushesWord g.H.GcHeap.KIND t place a r (Ok x) c.push_word.new.self) c.in-Ok-None.field-0-is (c.in-Ok-None.ensures.pushes t place a r there (subst (IsWord place r) (sym c.get_anyref.ensures) is))
+
+pub returns-in-Err-clause-takes : goal.returns-in-Err-clause-takes
+returns-in-Err-clause-takes g c t place a r there is = c.in-Err.ensures.pushes t place a r there (subst (IsWord place r) (sym c.get_anyref.ensures) is)

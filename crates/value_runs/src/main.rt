@@ -1,0 +1,58 @@
+//! The values of a struct and of an array, read one by one, and their references as raw words, over a heap of each kind, with
+//! what the calls answer printed.
+//!
+//! What must be printed, in `stdout`, was worked out by hand from the rules in docs/.
+#![tactic(auto)]
+
+mod fault;
+mod read;
+mod setup;
+mod words;
+
+ghost use Rattle.std.specs.Prelude.{◌≡◌};
+ghost use Rattle.gc_view.specs.Heaps.{detached};
+
+use crate::fault::RunFault;
+use crate::read::{run_array, run_struct};
+use crate::setup::declare_types;
+use crate::words::{run_numbers, run_references};
+use gc_copying::CopyingHeap;
+use gc_drc::DrcHeap;
+use gc_heap::{GcHeap, NullHeap};
+use gc_store::{HeapConfig, Store, StoreId};
+use std::alloc::Global;
+
+/// The id of each store.
+const STORE: StoreId = StoreId {
+    engine: 0,
+    number: 0,
+};
+
+/// Makes each call on a store over that heap.
+fn run_over<H: GcHeap + Drop>(
+    rt: &impl Print,
+    alloc: Global,
+    heap: H,
+    config: HeapConfig,
+) -> Result<(), RunFault>
+    requires sound { H.sound heap }
+    requires empty { H.seen heap ≡ detached }
+{
+    let mut store = Store::<H, u64>::new(alloc, STORE, heap, config)?;
+    declare_types(&mut store)?;
+    run_struct(rt, &mut store)?;
+    run_array(rt, &mut store)?;
+    run_references(rt, &mut store)?;
+    run_numbers(rt, &mut store)
+}
+
+fn main(rt: HostRuntime) -> Result<(), RunFault> {
+    let alloc = rt.alloc();
+    let config = HeapConfig::with_pages(1).ok_or(RunFault::Missing)?;
+    println!(&rt; "== null")?;
+    run_over(&rt, alloc, NullHeap::new(alloc), config)?;
+    println!(&rt; "== counting")?;
+    run_over(&rt, alloc, DrcHeap::new(alloc), config)?;
+    println!(&rt; "== copying")?;
+    run_over(&rt, alloc, CopyingHeap::new(alloc), config)
+}

@@ -1,0 +1,79 @@
+//! Values, read one by one.
+
+ghost use Rattle.std.specs.Iterator.{IsFinite};
+
+use crate::fault::RunFault;
+use crate::setup::{function, new_array, new_struct};
+use gc_heap::GcHeap;
+use gc_objects::{ArrayRef, StructRef, Upcast, Val};
+use gc_store::{Rooted, Store};
+
+/// A digit for a value: a number and a function by themselves, 8 for a reference, 9 for null and 0 for any other.
+fn digit_of(value: &Val) -> u64 {
+    match value {
+        Val::I32(number) => u64::from(number.unsigned_abs()),
+        Val::FuncRef(Some(func)) => u64::from(func.number),
+        Val::AnyRef(Some(_)) => 8,
+        Val::AnyRef(None) => 9,
+        _ => 0,
+    }
+}
+
+/// The digits of all values, the first one in front.
+fn digits_of<I: Iterator<Item = Val>>(values: I) -> u64
+    requires can { I.can_next values }
+    requires ends { IsFinite (I.remaining values) }
+{
+    let mut digits = 0u64;
+    for value in values {
+        digits = digits.wrapping_mul(10).wrapping_add(digit_of(&value));
+    }
+    digits
+}
+
+/// An array as a value.
+fn any_of(handle: Rooted<ArrayRef>) -> Val {
+    Val::AnyRef(Some(handle.to_anyref()))
+}
+
+/// Shows how many roots were made since so many might still be made.
+fn show_roots<H: GcHeap>(
+    rt: &impl Print,
+    store: &Store<H, u64>,
+    before: u64,
+) -> Result<(), RunFault> {
+    println!(rt; "roots made: {}", before.saturating_sub(store.roots_left()))?;
+    Ok(())
+}
+
+/// Reads a struct of a number, a function, null and a 31-bit number, once another function was written.
+pub(crate) fn run_struct<H: GcHeap>(
+    rt: &impl Print,
+    store: &mut Store<H, u64>,
+) -> Result<(), RunFault> {
+    let inner = new_array(store, &[])?;
+    let values = [Val::I32(1), function(2)?, Val::AnyRef(None), any_of(inner)];
+    let made = new_struct(store, &values)?;
+    let before = store.roots_left();
+    let fields = StructRef::fields(store, &made)?;
+    let len = fields.len();
+    let digits = digits_of(fields);
+    println!(rt; "{len} fields: {digits}")?;
+    show_roots(rt, store, before)
+}
+
+/// Reads an array of null, of a reference, and of none.
+pub(crate) fn run_array<H: GcHeap>(
+    rt: &impl Print,
+    store: &mut Store<H, u64>,
+) -> Result<(), RunFault> {
+    let inner = new_array(store, &[])?;
+    let values = [any_of(inner), Val::AnyRef(None), any_of(inner)];
+    let made = new_array(store, &values)?;
+    let before = store.roots_left();
+    let elems = ArrayRef::elems(store, &made)?;
+    let len = elems.len();
+    let digits = digits_of(elems);
+    println!(rt; "{len} elements: {digits}")?;
+    show_roots(rt, store, before)
+}

@@ -1,0 +1,102 @@
+//! The types of the stores, and objects of them.
+
+ghost use Rattle.std.specs.Prelude.{ℕ, IfOk};
+ghost use Rattle.gc_types.specs.declared.kind.TypeKind.{TypeKind};
+ghost use Rattle.gc_types.specs.declared.kind.VMGcKind.{VMGcKind};
+ghost use Rattle.gc_objects.specs.Kinds.{NamesKind, IsDeclaredAs};
+
+use crate::fault::RunFault;
+use gc_heap::GcHeap;
+use gc_objects::{ArrayRef, ArrayRefPre, StructRef, StructRefPre, Val};
+use gc_store::{PageLimit, Rooted, Store};
+use gc_types::{
+    FieldType, Func, HeapType, Mutability, RefType, StorageType, VMSharedTypeIndex, ValType,
+};
+
+/// A type of functions.
+const FUNCTION: u32 = 0;
+/// The type of structs of an integer, a function or none, and two references.
+const STRUCT: u32 = 1;
+/// The type of arrays of references.
+const ARRAY: u32 = 2;
+
+/// The most pages that a heap gets.
+const MOST_PAGES: u32 = 4;
+
+/// A field of that type that may be written.
+fn field(ty: ValType) -> FieldType {
+    FieldType {
+        mutability: Mutability::Var,
+        element_type: StorageType::ValType(ty),
+    }
+}
+
+/// A field of references of that type, or null.
+fn reference(heap_type: HeapType) -> FieldType {
+    field(ValType::Ref(RefType {
+        nullable: true,
+        heap_type,
+    }))
+}
+
+/// Declares the types of a new store.
+pub(crate) fn declare_types<H: GcHeap>(store: &mut Store<H, u64>) -> Result<(), RunFault> {
+    store.declare_func(&[], &[], None, false)?;
+    let fields = [
+        field(ValType::I32),
+        reference(HeapType::ConcreteFunc(VMSharedTypeIndex::new(FUNCTION))),
+        reference(HeapType::Any),
+        reference(HeapType::Any),
+    ];
+    store.declare_struct(&fields, None, false)?;
+    store.declare_array(reference(HeapType::Any), None, false)?;
+    Ok(())
+}
+
+/// The function of that number.
+pub(crate) fn function(number: u32) -> Result<Val, RunFault> {
+    let func = Func::new(number, VMSharedTypeIndex::new(FUNCTION)).ok_or(RunFault::Missing)?;
+    Ok(Val::FuncRef(Some(func)))
+}
+
+/// An allocator of structs.
+fn structs<H: GcHeap>(store: &mut Store<H, u64>) -> Result<StructRefPre, RunFault>
+    ensures { IfOk result (IsDeclaredAs store.new TypeKind.Struct) }
+{
+    match store.types().struct_type(VMSharedTypeIndex::new(STRUCT)) {
+        Some(ty) => Ok(StructRefPre::new(store, ty)?),
+        None => Err(RunFault::Missing),
+    }
+}
+
+/// An allocator of arrays.
+fn arrays<H: GcHeap>(store: &mut Store<H, u64>) -> Result<ArrayRefPre, RunFault>
+    ensures { IfOk result (IsDeclaredAs store.new TypeKind.Array) }
+{
+    match store.types().array_type(VMSharedTypeIndex::new(ARRAY)) {
+        Some(ty) => Ok(ArrayRefPre::new(store, ty)?),
+        None => Err(RunFault::Missing),
+    }
+}
+
+/// A new struct of these values.
+pub(crate) fn new_struct<H: GcHeap>(
+    store: &mut Store<H, u64>,
+    values: &[Val],
+) -> Result<Rooted<StructRef>, RunFault>
+    ensures { IfOk result (λ handle. NamesKind ℕ H.KIND store.new VMGcKind.StructRef handle.index) }
+{
+    let allocator = structs(store)?;
+    Ok(StructRef::new(store, &mut PageLimit::new(MOST_PAGES), &allocator, values)?)
+}
+
+/// A new array of these references.
+pub(crate) fn new_array<H: GcHeap>(
+    store: &mut Store<H, u64>,
+    values: &[Val],
+) -> Result<Rooted<ArrayRef>, RunFault>
+    ensures { IfOk result (λ handle. NamesKind ℕ H.KIND store.new VMGcKind.ArrayRef handle.index) }
+{
+    let allocator = arrays(store)?;
+    Ok(ArrayRef::new_fixed(store, &mut PageLimit::new(MOST_PAGES), &allocator, values)?)
+}

@@ -1,0 +1,45 @@
+//! References and 31-bit numbers as values of raw words.
+
+use crate::fault::RunFault;
+use crate::setup::new_array;
+use gc_heap::GcHeap;
+use gc_objects::ArrayRef;
+use gc_refs::{I31, ValRaw};
+use gc_store::{OwnedRooted, Rooted, Store, ref_eq};
+use gc_wasm_types::WasmTy;
+
+/// Stores an array's word and loads it, as a scoped root and as an owned one.
+pub(crate) fn run_references<H: GcHeap>(
+    rt: &impl Print,
+    store: &mut Store<H, u64>,
+) -> Result<(), RunFault> {
+    let made = new_array(store, &[])?;
+    let mut raw = ValRaw::anyref(0);
+    let before = store.roots_left();
+    made.store(store, &mut raw)?;
+    let scoped = <Rooted<ArrayRef>>::load(store, &raw)?;
+    let same = ref_eq(store, &made, &scoped)?;
+    let pushed = before.saturating_sub(store.roots_left());
+    println!(rt; "the same: {same}, roots made: {pushed}")?;
+    Ok(())
+}
+
+/// Stores a number and null and loads them, which makes no root.
+pub(crate) fn run_numbers<H: GcHeap>(
+    rt: &impl Print,
+    store: &mut Store<H, u64>,
+) -> Result<(), RunFault> {
+    let before = store.roots_left();
+    let mut raw = ValRaw::anyref(0);
+    I31::wrapping_u32(5).store(store, &mut raw)?;
+    let number = I31::load(store, &raw)?;
+    <Option<Rooted<ArrayRef>>>::store(&None, store, &mut raw)?;
+    let null = <Option<OwnedRooted<ArrayRef>>>::load(store, &raw)?;
+    println!(rt;
+        "number {}, null: {}, roots made: {}",
+        number.get_u32(),
+        null.is_none(),
+        before.saturating_sub(store.roots_left())
+    )?;
+    Ok(())
+}
