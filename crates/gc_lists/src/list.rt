@@ -82,7 +82,7 @@ impl HeapList {
         store: &mut Store<H, D>,
     ) -> Result<Option<i64>, ListFault>
         requires stands { ListStands D H.KIND store.old self.now.root }
-        ensures wrong_store { is_version_of store.old self.now.root ≡ false → result ≡ Err ListFault.WrongStore }
+        ensures wrong_store { is_version_of store.old self.now.root ≡ false → (result ≡ Err ListFault.WrongStore) × (store.new ≡ store.old) }
         ensures head { (t : Table D) (xs : List ℤ) → HoldsTable H.KIND store.old t → StandsForList store.old t self.now.root xs
             → result ≡ Ok (slice_get xs 0) }
         ensures keeps { (t : Table D) (a : Account) (xs : List ℤ) → HoldsAccount H.KIND store.old t a → StandsForList store.old t self.now.root xs
