@@ -39,7 +39,7 @@ pub second_refused : {D : Type 0} (layouts : Layouts) (t : Table D) (a : Account
 second_refused layouts t a new n m type_fault.BadType n_is m_is few declares =
     let count : length (t.types ++ cell_type n ∷ []) ≡ length t.types + 1 = length-append t.types (cell_type n ∷ []) in
     absurd (declares.0 (node_declarable (t.types ++ cell_type n ∷ []) m (omega (arith, count, n_is, m_is)) (omega (arith, count, n_is, few))))
-second_refused layouts t a new n m type_fault.Memory n_is m_is few declares = inr (subst (λ k. HoldsAccount layouts new (declare (cell_type k) t) a) n_is declares)
+second_refused layouts t a new n m type_fault.Memory n_is m_is few declares = (omega (arith, n_is, few), inr (subst (λ k. HoldsAccount layouts new (declare (cell_type k) t) a) n_is declares))
 
 -- the two calls, the second of which is refused
 pub kit_refused : {D : Type 0} (layouts : Layouts) (t : Table D) (a : Account) (mid new : StoreView D) (n cell node : ℕ) (fields others : List FieldType) (ty : TypeName) (first second : Result TypeName TypeFault) (why : TypeFault)

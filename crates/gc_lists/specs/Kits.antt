@@ -1,5 +1,5 @@
 -- The types of cells and of nodes, and kits, which name one of each.
-use Rattle.std.specs.Prelude.{◌≡◌, ◌⊎◌, ◌+◌, ◌<◌, ◌==◌, ◌&&◌, ℕ, Bool, true, List, [], ◌∷◌, Some, None, Result, Ok, Err, length, slice_get}
+use Rattle.std.specs.Prelude.{◌≡◌, ◌⊎◌, ◌+◌, ◌<◌, ◌≤◌, ◌==◌, ◌&&◌, ℕ, Bool, true, List, [], ◌∷◌, Some, None, Result, Ok, Err, length, slice_get}
 use Rattle.gc_types.specs.declared.kind.Layouts.{Layouts}
 use Rattle.gc_types.specs.declared.types.TypeFault.{TypeFault}
 use Rattle.gc_types.specs.declared.types.TypeFault.TheVariants as type_fault
@@ -60,8 +60,10 @@ declare_kit t = declare (node_type (length t.types + 1)) (declare (cell_type (le
 abbrev pub kit_behind : {D : Type 0} → StoreView D → Table D → Kit
 kit_behind s t = record { store_id = record { engine = s.engine; number = s.number }; cell = length t.types; node = length t.types + 1 }
 
--- What the making of a kit answers and leaves: memory may have been wanting for the second type alone.
+-- What the making of a kit answers and leaves: BadType exactly where fewer than two type indexes are left. Memory may have been wanting for the
+-- second type alone.
 abbrev pub MakesKit : {D : Type 0} → Layouts → Table D → Account → Result Kit TypeFault → StoreView D → Type 0
 MakesKit layouts t a (Ok kit) new = (kit ≡ kit_behind new t) × HoldsAccount layouts new (declare_kit t) a
 MakesKit layouts t a (Err type_fault.BadType) new = (max_types < length t.types + 2) × HoldsAccount layouts new t a
-MakesKit layouts t a (Err type_fault.Memory) new = HoldsAccount layouts new t a ⊎ HoldsAccount layouts new (declare (cell_type (length t.types)) t) a
+MakesKit layouts t a (Err type_fault.Memory) new =
+    (length t.types + 2 ≤ max_types) × (HoldsAccount layouts new t a ⊎ HoldsAccount layouts new (declare (cell_type (length t.types)) t) a)
