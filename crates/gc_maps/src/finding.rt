@@ -1,6 +1,6 @@
 //! Looking for a key.
 
-ghost use Rattle.std.specs.Prelude.{◌≡◌, ◌+◌, ◌≤◌, ℕ, OnOk};
+ghost use Rattle.std.specs.Prelude.{◌≡◌, ◌+◌, ◌≤◌, ℕ};
 ghost use Rattle.std.specs.Ordering.{int_cmp};
 ghost use Rattle.std.specs.FinMap.Entries.{find};
 ghost use Rattle.gc_model.specs.Table.{Table};
@@ -45,7 +45,7 @@ pub(crate) fn look_up<H: GcHeap, D: Drop, G: Ledger>(
     ensures finds { (t : Table D) (a : Account) (ty : ℕ) (tree : Tree) → HoldsAccount H.KIND store.old t a → RootIs store.old t ty root tree → IsSearch tree
         → EndsReading H.KIND 184 t (λ s u found. found ≡ find int_cmp key (pairs tree)) result store.new }
     ensures counted { (t : Table D) (a : Account) (ty : ℕ) (tree : Tree) → HoldsAccount H.KIND store.old t a → RootIs store.old t ty root tree → IsSearch tree
-        → OnOk result (steps.new ≤ steps.old + height tree) }
+        → steps.new ≤ steps.old + height tree }
     ensures same { IsSameStore store.old store.new }
 {
     let mut here = root;

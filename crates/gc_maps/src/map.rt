@@ -1,7 +1,7 @@
 //! Maps.
 
 ghost use Rattle.std.specs.Prelude.{◌≡◌, ◌&&◌, ◌+◌, ◌-◌, ◌*◌, ◌^◌, ◌≤◌, ◌<◌, ℕ, true, false, length};
-ghost use Rattle.std.specs.Prelude.{Option, None, Err, OnOk, OnErr, MatchResult, IsErrOf};
+ghost use Rattle.std.specs.Prelude.{Option, None, Err, OnErr, MatchResult, IsErrOf};
 ghost use Rattle.std.specs.FinMap as finite;
 ghost use Rattle.gc_model.specs.Allocation.{Limits};
 ghost use Rattle.gc_model.specs.Table.{Table};
@@ -62,7 +62,8 @@ impl HeapMap {
         ensures gets { is_version_of store.old self.now.root ≡ true → (t : Table D) (a : Account) (m : IntMap) → HoldsAccount H.KIND store.old t a
             → StandsForMap store.old t self.now.root m → Gets H.KIND m key t result store.new }
         ensures few_steps { (t : Table D) (a : Account) (m : IntMap) → HoldsAccount H.KIND store.old t a → StandsForMap store.old t self.now.root m
-            → OnOk result (2 ^ (steps.new - steps.old) ≤ (finite.len m + 1) * (finite.len m + 1)) }
+            → 2 ^ (steps.new - steps.old) ≤ (finite.len m + 1) * (finite.len m + 1) }
+        ensures no_step { is_version_of store.old self.now.root ≡ false → steps.new ≡ steps.old }
         ensures same { IsSameStore store.old store.new }
     {
         if !is_version_of(store, self.root) {

@@ -69,6 +69,13 @@ returns-then-is_eq-clause-finds g c t a ty tree holds is search =
     looks_here g.H.GcHeap.KIND t ty tree c.args.key c.args.steps.now c.loop-turn._turn c.loop-turn.steps c.loop-turn.store c.in-Some.handle c.read_node.new.store c.in-Ok.node c.in-Ok.ensures.reads
     c.cmp-order.result (c.cmp-order.ensures ∙ ap (λ (z : ℤ). int_cmp z c.in-Ok.node.key) (to_z-of_z w64 c.args.key c.ranges.key)) (sym c.is_eq.ensures ∙ c.if-is_eq.true) below (at_some g before t a ty tree holds is search)
 
+pub returns-in-Err-clause-counted : goal.returns-in-Err-clause-counted
+returns-in-Err-clause-counted g c t a ty tree holds is search =
+    let before = (goal.at.returns-in-Err-clause-counted g c).In-Some in
+    let counted = looks_counted g.H.GcHeap.KIND t ty tree c.args.key c.args.steps.now c.loop-turn._turn c.loop-turn.steps c.loop-turn.store c.in-Some.handle (at_some g before t a ty tree holds is search) in
+    let ticked = c.tick.ensures in
+    omega (arith, counted, ticked)
+
 pub returns-then-is_eq-clause-counted : goal.returns-then-is_eq-clause-counted
 returns-then-is_eq-clause-counted g c t a ty tree holds is search =
     let before = (goal.at.returns-then-is_eq-clause-counted g c).In-Some in

@@ -1,4 +1,4 @@
-use Rattle.std.proofs.Common.{◌≡◌, ℕ, Result, Ok, Err, OnOk, ◌∙◌, sym, subst, ℤ, Option, w64}
+use Rattle.std.proofs.Common.{◌≡◌, ℕ, ◌∙◌, sym, subst, ℤ, Option, w64, arith}
 use Rattle.std.specs.Ordering.{int_cmp}
 use Rattle.std.specs.FinMap.Entries.{find}
 use Rattle.std.proofs.lemmas.Int.{to_z-of_z}
@@ -26,14 +26,16 @@ returns-clause-gets g c own t a m holds stands =
     (subst (λ (z : ℤ). EndsReading {A = Option ℤ} g.H.GcHeap.KIND 184 t (λ s u found. found ≡ find int_cmp z (pairs map.is.tree)) c.look_up-found.result c.look_up-found.new.store) (to_z-of_z w64 c.args.key c.ranges.key)
     (c.look_up-found.ensures.finds t a stands.0 map.is.tree holds (map_root s t root stands.0 m map) search))
 
-counted : {A E : Type 0} (result : Result A E) (P Q : Type 0) → (P → Q) → OnOk result P → OnOk result Q
-counted (Ok x) P Q f p = f p
-counted (Err e) P Q f p = tt
+-- no step is within the bound of any map
+pub returns-then-not-is_version_of-clause-few_steps : goal.returns-then-not-is_version_of-clause-few_steps
+returns-then-not-is_version_of-clause-few_steps g c t a m holds stands =
+    let map = stands.1 in
+    map_steps c.args.store.now t c.args.self.now.root stands.0 m map c.args.steps.now c.args.steps.now (omega arith)
 
 pub returns-clause-few_steps : goal.returns-clause-few_steps
 returns-clause-few_steps g c t a m holds stands =
     let map = stands.1 in
     let s = c.args.store.now in
     let root = c.args.self.now.root in
-    counted c.look_up-found.result _ _ (map_steps s t root stands.0 m map c.args.steps.now c.look_up-found.new.steps)
+    map_steps s t root stands.0 m map c.args.steps.now c.look_up-found.new.steps
     (c.look_up-found.ensures.counted t a stands.0 map.is.tree holds (map_root s t root stands.0 m map) (map_search s t root stands.0 m map))
