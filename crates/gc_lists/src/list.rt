@@ -49,7 +49,7 @@ impl HeapList {
         head: i64,
     ) -> Result<HeapList, ListFault>
         requires kit { KitStands store.old kit.now }
-        requires stands { ListOfStands D H.KIND store.old self.now.root kit.now.cell }
+        requires stands { is_kit_of store.old kit.now ≡ true → ListOfStands D H.KIND store.old self.now.root kit.now.cell }
         ensures wrong_store { (is_kit_of store.old kit.now && is_version_of store.old self.now.root) ≡ false
             → (result ≡ Err ListFault.WrongStore) × (store.new ≡ store.old) }
         ensures conses { is_kit_of store.old kit.now ≡ true → is_version_of store.old self.now.root ≡ true → (t : Table D) (a : Account) (xs : List ℤ)

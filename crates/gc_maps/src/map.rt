@@ -90,7 +90,7 @@ impl HeapMap {
         value: i64,
     ) -> Result<HeapMap, ListFault>
         requires kit { KitStands store.old kit.now }
-        requires stands { MapOfStands D H.KIND store.old self.now.root kit.now.node }
+        requires stands { is_kit_of store.old kit.now ≡ true → MapOfStands D H.KIND store.old self.now.root kit.now.node }
         ensures wrong_store { (is_kit_of store.old kit.now && is_version_of store.old self.now.root) ≡ false
             → (result ≡ Err ListFault.WrongStore) × (store.new ≡ store.old) }
         ensures inserts { is_kit_of store.old kit.now ≡ true → is_version_of store.old self.now.root ≡ true → (t : Table D) (a : Account) (m : IntMap)
@@ -123,7 +123,7 @@ impl HeapMap {
         key: i64,
     ) -> Result<HeapMap, ListFault>
         requires kit { KitStands store.old kit.now }
-        requires stands { MapOfStands D H.KIND store.old self.now.root kit.now.node }
+        requires stands { is_kit_of store.old kit.now ≡ true → MapOfStands D H.KIND store.old self.now.root kit.now.node }
         ensures wrong_store { (is_kit_of store.old kit.now && is_version_of store.old self.now.root) ≡ false
             → (result ≡ Err ListFault.WrongStore) × (store.new ≡ store.old) }
         ensures removes { is_kit_of store.old kit.now ≡ true → is_version_of store.old self.now.root ≡ true → (t : Table D) (a : Account) (m : IntMap)

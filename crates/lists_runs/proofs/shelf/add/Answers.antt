@@ -2,7 +2,7 @@ use Rattle.lists_runs.proofs.shelf.add.Goals as goal
 use Rattle.lists_runs.proofs.Shelving.{kit_on, list_of_on, add_stays}
 
 pub cons-requires-clause-stands : goal.cons-requires-clause-stands
-cons-requires-clause-stands g c = list_of_on g.H.GcHeap.KIND c.args.store.now c.args.kit.now c.args.list.now.root _ c.requires
+cons-requires-clause-stands g c = λ kit_own. list_of_on g.H.GcHeap.KIND c.args.store.now c.args.kit.now c.args.list.now.root _ c.requires
 
 pub cons-requires-clause-kit : goal.cons-requires-clause-kit
 cons-requires-clause-kit g c = kit_on g.H.GcHeap.KIND c.args.store.now c.args.kit.now c.args.list.now.root _ c.requires

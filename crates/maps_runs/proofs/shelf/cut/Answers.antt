@@ -5,7 +5,7 @@ use Rattle.maps_runs.proofs.shelf.cut.Goals as goal
 use Rattle.maps_runs.proofs.Shelving.{kit_on, map_of_on, change_stays}
 
 pub remove-requires-clause-stands : goal.remove-requires-clause-stands
-remove-requires-clause-stands g c = map_of_on g.H.GcHeap.KIND c.args.store.now c.args.kit.now c.args.map.now.root _ c.requires
+remove-requires-clause-stands g c = λ kit_own. map_of_on g.H.GcHeap.KIND c.args.store.now c.args.kit.now c.args.map.now.root _ c.requires
 
 pub remove-requires-clause-kit : goal.remove-requires-clause-kit
 remove-requires-clause-kit g c = kit_on g.H.GcHeap.KIND c.args.store.now c.args.kit.now c.args.map.now.root _ c.requires

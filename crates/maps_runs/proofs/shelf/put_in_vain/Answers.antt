@@ -5,7 +5,7 @@ use Rattle.maps_runs.proofs.shelf.put_in_vain.Goals as goal
 use Rattle.maps_runs.proofs.Shelving.{given_up, kit_on, map_of_on}
 
 pub insert-requires-clause-stands : goal.insert-requires-clause-stands
-insert-requires-clause-stands g c = map_of_on g.H.GcHeap.KIND c.args.store.now c.args.kit.now c.args.map.now.root _ c.requires
+insert-requires-clause-stands g c = λ kit_own. map_of_on g.H.GcHeap.KIND c.args.store.now c.args.kit.now c.args.map.now.root _ c.requires
 
 pub insert-requires-clause-kit : goal.insert-requires-clause-kit
 insert-requires-clause-kit g c = kit_on g.H.GcHeap.KIND c.args.store.now c.args.kit.now c.args.map.now.root _ c.requires

@@ -25,7 +25,7 @@ pub place-requires : goal.place-requires
 place-requires g c =
     subst (λ (n : ℕ). CanPlaceFields g.row.D.Denot g.H.GcHeap.KIND c.args.store.now (struct_fields_at c.args.store.now.types n) (cell_values (cast_signed w64 (cast_unsigned w64 c.args.head)) c.args.self.now.root)) (sym c.cell.ensures)
     (can_place_cell g.H.GcHeap.KIND c.args.store.now c.args.self.now.root c.args.kit.now.cell (c.requires.kit (sym c.is_kit_of.ensures ∙ c.if-not-is_kit_of.false)).cells
-    (c.requires.stands (sym c.is_version_of.ensures ∙ c.if-not-is_version_of.false)) _)
+    (c.requires.stands (sym c.is_kit_of.ensures ∙ c.if-not-is_kit_of.false) (sym c.is_version_of.ensures ∙ c.if-not-is_version_of.false)) _)
 
 -- the kit's type of cells is one in each table
 cells : (g : _) (c : After-place g) (t : Table g.row.D.Denot) (a : Account) → HoldsAccount g.H.GcHeap.KIND c.args.store.now t a → IsCellType t.types c.args.kit.now.cell
@@ -48,7 +48,7 @@ placed g c t a xs holds stands result is =
 pub unreachable-requires : goal.unreachable-requires
 unreachable-requires g c =
     let at = (goal.at.unreachable-requires g c).After-place in
-    let one = c.requires.stands (sym c.is_version_of.ensures ∙ c.if-not-is_version_of.false) in
+    let one = c.requires.stands (sym c.is_kit_of.ensures ∙ c.if-not-is_kit_of.false) (sym c.is_version_of.ensures ∙ c.if-not-is_version_of.false) in
     let some = some_account g.H.GcHeap.KIND c.args.store.now one.table one.holds in
     never_ids g.H.GcHeap.KIND c.args.store.now one.table some.0 one.holds c.args.kit.now (cells g at one.table some.0 some.1) c.args.self.now.root one.numbers c.args.head c.ranges.head one.stands (g.L.ResourceLimiter.limits c.args.limiter.now)
     (g.L.ResourceLimiter.limits c.place.new.limiter) c.place.new.self
@@ -57,7 +57,7 @@ unreachable-requires g c =
 pub unreachable-requires-in-Err-TooLarge : goal.unreachable-requires-in-Err-TooLarge
 unreachable-requires-in-Err-TooLarge g c =
     let at = (goal.at.unreachable-requires-in-Err-TooLarge g c).After-place in
-    let one = c.requires.stands (sym c.is_version_of.ensures ∙ c.if-not-is_version_of.false) in
+    let one = c.requires.stands (sym c.is_kit_of.ensures ∙ c.if-not-is_kit_of.false) (sym c.is_version_of.ensures ∙ c.if-not-is_version_of.false) in
     let some = some_account g.H.GcHeap.KIND c.args.store.now one.table one.holds in
     never_too_large g.H.GcHeap.KIND c.args.store.now one.table some.0 one.holds c.args.kit.now (cells g at one.table some.0 some.1) c.args.self.now.root one.numbers c.args.head c.ranges.head one.stands (g.L.ResourceLimiter.limits c.args.limiter.now)
     (g.L.ResourceLimiter.limits c.place.new.limiter) c.place.new.self

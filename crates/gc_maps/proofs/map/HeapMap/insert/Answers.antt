@@ -8,7 +8,8 @@ use Rattle.gc_maps.proofs.map.HeapMap.insert.Goals as goal
 
 pub put-built-requires : goal.put-built-requires
 put-built-requires g c =
-    map_of_in g.H.GcHeap.KIND c.args.store.now c.args.kit.now.node c.args.self.now.root (c.requires.kit (sym c.is_kit_of.ensures ∙ c.if-not-is_kit_of.false)).nodes c.requires.stands
+    map_of_in g.H.GcHeap.KIND c.args.store.now c.args.kit.now.node c.args.self.now.root (c.requires.kit (sym c.is_kit_of.ensures ∙ c.if-not-is_kit_of.false)).nodes
+    (c.requires.stands (sym c.is_kit_of.ensures ∙ c.if-not-is_kit_of.false))
     (sym c.is_version_of.ensures ∙ c.if-not-is_version_of.false)
 
 pub returns-clause-inserts : goal.returns-clause-inserts

@@ -8,7 +8,8 @@ use Rattle.gc_maps.proofs.map.HeapMap.remove.Goals as goal
 
 pub take_out-built-requires : goal.take_out-built-requires
 take_out-built-requires g c =
-    map_of_in g.H.GcHeap.KIND c.args.store.now c.args.kit.now.node c.args.self.now.root (c.requires.kit (sym c.is_kit_of.ensures ∙ c.if-not-is_kit_of.false)).nodes c.requires.stands
+    map_of_in g.H.GcHeap.KIND c.args.store.now c.args.kit.now.node c.args.self.now.root (c.requires.kit (sym c.is_kit_of.ensures ∙ c.if-not-is_kit_of.false)).nodes
+    (c.requires.stands (sym c.is_kit_of.ensures ∙ c.if-not-is_kit_of.false))
     (sym c.is_version_of.ensures ∙ c.if-not-is_version_of.false)
 
 pub returns-clause-removes : goal.returns-clause-removes
