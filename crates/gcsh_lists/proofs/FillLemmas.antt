@@ -80,7 +80,7 @@ module _ (layouts : Layouts) (kit : Kit) (p : Progress) (held : HoldsProgress la
         let keeps = objects_keep kit most_objects held.table answers.after (owned_with held.table map.root answers.stands.reference) answers.changed in
         record {
           entries = finite.insert p.entries key value;
-          step = taken map mid inserts gives_up (λ i. record { store = new; version = same i; entries = finite.insert p.entries key value; refused = counted i });
+          step = taken map mid inserts gives_up begun over (λ i. record { store = new; version = same i; entries = finite.insert p.entries key value; refused = counted i });
           held = record {
             table = record answers.after { owned = left.owned };
             account = answers.account;
@@ -122,7 +122,7 @@ module _ (layouts : Layouts) (kit : Kit) (p : Progress) (held : HoldsProgress la
     goes_refused why counts same inserts q version counted =
         record {
           entries = p.entries;
-          step = refused why inserts counts (λ i. record p { store = new; version = version i; refused = counted i });
+          step = refused why inserts counts same (λ i. record p { store = new; version = version i; refused = counted i });
           held = subst (λ (v : Option GcRootIndex). HoldsProgress layouts kit (record { store = new; version = v; entries = p.entries; refused = q.refused })) (sym version) (still_held q.refused same (leaves_of why counts inserts));
         }
 

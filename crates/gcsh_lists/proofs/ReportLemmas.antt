@@ -98,7 +98,12 @@ module _ (layouts : Layouts) (limit : Option ℕ) (inserts : ℕ) (old start ful
         kit = kit;
         done = done;
         filled = record { start = start; kit_made = made; fills = upto.fills };
+        before = t;
+        account = upto.held.account;
+        holds = upto.held.holds;
         table = u;
+        changed = copies.1.changed;
+        same = all;
         kept = kept_is;
         stands = record {
           reference = upto.held.stands.reference;

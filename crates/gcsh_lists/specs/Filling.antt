@@ -7,6 +7,7 @@ use Rattle.gc_model.specs.Stores.{StoreView}
 use Rattle.gc_model.specs.Table.{Table}
 use Rattle.gc_policy.specs.Accounts.{Account, HoldsAccount}
 use Rattle.gc_store.specs.declared.root.GcRootIndex.{GcRootIndex}
+use Rattle.gc_store.specs.Stores.{IsSameStore}
 use Rattle.gc_lists.specs.declared.fault.ListFault.{ListFault}
 use Rattle.gc_lists.specs.declared.fault.ListFault.TheVariants as fault
 use Rattle.gc_lists.specs.declared.kit.Kit.{Kit}
@@ -71,12 +72,13 @@ IsCounted fault.RootsFull = Unit {0}
 IsCounted (fault.HeapOutOfMemory f) = Unit {0}
 IsCounted fault.Memory = ⊥
 
--- an insert was taken, and then the version before was given up; or it was refused, and the version stays
+-- An insert was taken, and then the version before was given up; or it was refused, and the version stays. The store is the same one.
 pub data Step (layouts : Layouts) (limit : Option ℕ) (kit : Kit) (key value : ℤ) (p q : Progress) : Type 0 where
   taken : (map : HeapMap) (between : StoreView ℕ) → Inserts layouts limit kit key value p (Ok map) between → GivesUp layouts between p.version q.store
+      → IsSameStore p.store between → IsSameStore between q.store
       → q ≡ record { store = q.store; version = map.root; entries = finite.insert p.entries key value; refused = p.refused } → Step layouts limit kit key value p q
-  refused : (why : ListFault) → Inserts layouts limit kit key value p (Err why) q.store → IsCounted why → q ≡ record p { store = q.store; refused = p.refused + 1 }
-      → Step layouts limit kit key value p q
+  refused : (why : ListFault) → Inserts layouts limit kit key value p (Err why) q.store → IsCounted why → IsSameStore p.store q.store
+      → q ≡ record p { store = q.store; refused = p.refused + 1 } → Step layouts limit kit key value p q
 
 -- so many of the inserts were made, whose values are their numbers
 abbrev pub Fills : Layouts → Option ℕ → Kit → ℕ → StoreView ℕ → ℕ → Progress → Type 0

@@ -8,8 +8,10 @@ use Rattle.gc_model.specs.Reach.{HasNumber, IsKept}
 use Rattle.gc_model.specs.Stores.{StoreView}
 use Rattle.gc_model.specs.Table.{Table}
 use Rattle.gc_policy.specs.Accounts.{Account, HoldsAccount}
+use Rattle.gc_store.specs.Stores.{IsSameStore}
 use Rattle.gc_lists.specs.declared.fault.ListFault.TheVariants as fault
 use Rattle.gc_lists.specs.declared.kit.Kit.{Kit}
+use Rattle.gc_lists.specs.Frames.{ChangesRoots}
 use Rattle.gc_lists.specs.Kits.{MakesKit}
 use Rattle.gc_maps.specs.Copies.{FailsToCopyEntries}
 use Rattle.gc_maps.specs.Maps.{IntMap, StandsForMapOf}
@@ -34,12 +36,17 @@ pub record Filled (layouts : Layouts) (limit : Option ℕ) (inserts : ℕ) (old 
   pub fills : Fills layouts limit kit inserts start inserts p
 
 -- The text says how many entries the map has, how many inserts were refused, how many objects a collection keeps, which the store alone
--- holds then, and what the sum of the values is.
+-- holds then, and what the sum of the values is. Behind the inserts no object came, and no owned root came or went.
 pub record TellsFilled (layouts : Layouts) (limit : Option ℕ) (inserts : ℕ) (old : StoreView ℕ) (text : List ℕ) (new : StoreView ℕ) : Type 0 where
   pub kit : Kit
   pub done : Progress
   pub filled : Filled layouts limit inserts old kit done
+  pub before : Table ℕ
+  pub account : Account
+  pub holds : HoldsAccount layouts done.store before account
   pub table : Table ℕ
+  pub changed : ChangesRoots before before.owned table
+  pub same : IsSameStore done.store new
   pub kept : HoldsKept layouts new table
   pub stands : StandsForMapOf new table done.version kit.node done.entries
   pub held : ℕ
