@@ -194,8 +194,8 @@ refused_left need limits limits' t (first_pages unmade some above rose last) = f
 refused_left need limits limits' t (past_most made past) = past_most made past
 refused_left need limits limits' t (more_pages made above rose last) = more_pages made above rose last
 
-lacks_left : (layouts : Layouts) (types : List Declaration) (lines : List ObjectLine) (limits limits' : Limits) (t : Table ℕ) → LacksHeap layouts types lines limits limits' t → LacksHeap layouts types lines limits limits' (leave 0 t)
-lacks_left layouts types lines limits limits' t lacks = record { number = lacks.number; line = lacks.line; line_is = lacks.line_is; refused = refused_left _ limits limits' t lacks.refused; full = lacks.full }
+lacks_left : (layouts : Layouts) (types : List Declaration) (lines : List ObjectLine) (need : ℕ) (limits limits' : Limits) (t : Table ℕ) → LacksHeap layouts types lines need limits limits' t → LacksHeap layouts types lines need limits limits' (leave 0 t)
+lacks_left layouts types lines need limits limits' t lacks = record { number = lacks.number; line = lacks.line; line_is = lacks.line_is; need_is = lacks.need_is; refused = refused_left need limits limits' t lacks.refused; full = lacks.full }
 
 pub loaded_image : (layouts : Layouts) (image : ImageParts) (well : IsWellImage image) (old now new : StoreView ℕ) (n scope : ℕ) → old.types ≡ well.types → scope ≡ 0 → (filled : Filled layouts image.objects image.globals old n now)
     → ((t : Table ℕ) (a : Account) → HoldsAccount layouts now t a → HoldsAccount layouts new (leave scope t) a) → LoadedImage layouts image n new
@@ -227,7 +227,7 @@ not_loaded layouts image well limits limits' most old now new scope why types sa
     by fault.BadImage c = c
     by fault.TooLarge c = subst (λ (ts : List Declaration). HasTooLarge layouts ts image.objects) types c
     by fault.RootsFull c = roots_wanted image most (length old.scoped) count (subst (λ k. k < length old.scoped + (sum_by line_roots image.objects + sum_by global_present image.globals)) same c)
-    by (fault.HeapOutOfMemory f) c = lacks_left layouts well.types image.objects limits limits' stops.bare.table (subst (λ (ts : List Declaration). LacksHeap layouts ts image.objects limits limits' stops.bare.table) types c)
+    by (fault.HeapOutOfMemory f) c = lacks_left layouts well.types image.objects f.bytes_needed limits limits' stops.bare.table (subst (λ (ts : List Declaration). LacksHeap layouts ts image.objects f.bytes_needed limits limits' stops.bare.table) types c)
     by fault.Memory c = tt
 
 pub loads_all : (layouts : Layouts) (image : ImageParts) (well : IsWellImage image) (limits limits' : Limits) (most : ℕ) (old now new : StoreView ℕ) (scope : ℕ) (result : Result ℕ LoadFault) → old.types ≡ well.types → old.max_scoped ≡ most → length old.scoped ≡ 0 → scope ≡ 0

@@ -248,7 +248,7 @@ module _ (layouts : Layouts) (lines : List ObjectLine) (handles : List GcRootInd
         let still = lacks_still l.after.table l.lacks in
         bare_of l.after.table l.after.account l.holds still.frames still.owned still.pending still.globals
 
-    lacks_heap : (need : ℕ) (l : LacksPlace layouts counter o state limits' need new) → LacksHeap layouts s.types lines limits limits' l.after.table
+    lacks_heap : (need : ℕ) (l : LacksPlace layouts counter o state limits' need new) → LacksHeap layouts s.types lines need limits limits' l.after.table
     lacks_heap need l =
         let asks = prepares_asks layouts counter (object_size layouts t.types o) state l.prepares in
         let asks' : AsksBy (need_of layouts (object_size layouts t.types o)) false limits limits' l.after.table = subst (λ (x : Limits). AsksBy (need_of layouts (object_size layouts t.types o)) false limits x l.after.table) (sym l.limits) asks in
@@ -261,7 +261,8 @@ module _ (layouts : Layouts) (lines : List ObjectLine) (handles : List GcRootInd
           number = k;
           line = line;
           line_is = here;
-          refused = subst (λ n. WasRefused (need_of layouts n) limits limits' l.after.table) (size_is layouts) refused;
+          need_is = l.asked ∙ ap (need_of layouts) (size_is layouts);
+          refused = subst (λ n. WasRefused n limits limits' l.after.table) (sym l.asked) refused;
           full = omega (arith, full, blocks, last, sums);
         }
 
@@ -351,7 +352,7 @@ module _ (layouts : Layouts) (lines : List ObjectLine) (handles : List GcRootInd
       cause = record { number = k; line = line; line_is = here; large = ap (too_large layouts) (sym (size_is layouts)) ∙ places.0 };
     }
     makes_next (Err fault.RootsFull) places = record { bare = bare_still places.1; cause = full_stops (full_is layouts handles mid new t m.account p.standing places.0) }
-    makes_next (Err (fault.HeapOutOfMemory f)) places = record { bare = lacks_bare places.0 places.1; cause = lacks_heap places.0 places.1 }
+    makes_next (Err (fault.HeapOutOfMemory f)) places = record { bare = lacks_bare f.bytes_needed places; cause = lacks_heap f.bytes_needed places }
     makes_next (Err fault.Memory) places = record { bare = elim places [ inl w ↦ wants w | inr r ↦ bare_still r ]; cause = tt }
 
 -- values of a line that weren't found stop it

@@ -33,12 +33,13 @@ refused_later need a b c t counts (past_most made past) = past_most made past
 refused_later need a b c t counts (more_pages made above rose last) =
     more_pages made (subst (λ l. MayRefuse l (t.pages + asked t.pages need)) counts.limit above) (let x = counts.refusals in omega (arith, x, rose)) last
 
-lacks_later : (layouts : Layouts) (types : List Declaration) (lines : List ObjectLine) (a b c : Limits) (t : Table ℕ) → Counts a b → LacksHeap layouts types lines b c t → LacksHeap layouts types lines a c t
-lacks_later layouts types lines a b c t counts lacks = record {
+lacks_later : (layouts : Layouts) (types : List Declaration) (lines : List ObjectLine) (need : ℕ) (a b c : Limits) (t : Table ℕ) → Counts a b → LacksHeap layouts types lines need b c t → LacksHeap layouts types lines need a c t
+lacks_later layouts types lines need a b c t counts lacks = record {
   number = lacks.number;
   line = lacks.line;
   line_is = lacks.line_is;
-  refused = refused_later _ a b c t counts lacks.refused;
+  need_is = lacks.need_is;
+  refused = refused_later need a b c t counts lacks.refused;
   full = lacks.full;
 }
 
@@ -51,7 +52,7 @@ stops_later layouts lines a b c m n most old mid why new goes counts below stops
     by fault.BadImage cause = cause
     by fault.TooLarge cause = subst (λ (ts : List Declaration). HasTooLarge layouts ts lines) goes.types cause
     by fault.RootsFull cause = (let few = goes.few in let past : mid.max_scoped < length mid.scoped + n = cause in omega (arith, few, goes.same, past, below))
-    by (fault.HeapOutOfMemory f) cause = lacks_later layouts old.types lines a b c stops.bare.table counts (subst (λ (ts : List Declaration). LacksHeap layouts ts lines b c stops.bare.table) goes.types cause)
+    by (fault.HeapOutOfMemory f) cause = lacks_later layouts old.types lines f.bytes_needed a b c stops.bare.table counts (subst (λ (ts : List Declaration). LacksHeap layouts ts lines f.bytes_needed b c stops.bare.table) goes.types cause)
     by fault.Memory cause = tt
 
 -- what stands is bare

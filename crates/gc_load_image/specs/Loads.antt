@@ -69,12 +69,14 @@ pub data WasRefused (need : ℕ) (limits limits' : Limits) (t : Table ℕ) : Typ
   more_pages : t.made ≡ true → MayRefuse limits.limit (t.pages + asked t.pages need) → Rose limits.refusals limits'.refusals
       → limits'.last_refused ≡ Some (t.pages, t.pages + asked t.pages need) → WasRefused need limits limits' t
 
--- pages were refused for an object of the image, and the objects of the image together reach further than the heap does
-pub record LacksHeap (layouts : Layouts) (types : List Declaration) (lines : List ObjectLine) (limits limits' : Limits) (t : Table ℕ) : Type 0 where
+-- pages were refused for an object of the image, which needs so many bytes, and the objects of the image together reach further than the
+-- heap does
+pub record LacksHeap (layouts : Layouts) (types : List Declaration) (lines : List ObjectLine) (need : ℕ) (limits limits' : Limits) (t : Table ℕ) : Type 0 where
   pub number : ℕ
   pub line : ObjectLine
   pub line_is : slice_get lines number ≡ Some line
-  pub refused : WasRefused (need_of layouts (line_size layouts types line)) limits limits' t
+  pub need_is : need ≡ need_of layouts (line_size layouts types line)
+  pub refused : WasRefused need limits limits' t
   pub full : heap_bound layouts t.pages < skipped + sum_by (line_block layouts types) lines
 
 -- some object of the image is too large for any heap of the kind
@@ -106,7 +108,7 @@ Causes layouts most bytes limits limits' fault.BadImage t = ¬ IsWell bytes
 Causes layouts most bytes limits limits' fault.TooLarge t = (well : IsWell bytes) × HasTooLarge layouts well.well.types well.image.objects
 Causes layouts most bytes limits limits' fault.RootsFull t = (well : IsWell bytes) × (most < length well.image.objects + 2 * reference_count well.image)
 Causes layouts most bytes limits limits' (fault.HeapOutOfMemory f) t =
-    (well : IsWell bytes) × LacksHeap layouts well.well.types well.image.objects limits limits' t
+    (well : IsWell bytes) × LacksHeap layouts well.well.types well.image.objects f.bytes_needed limits limits' t
 Causes layouts most bytes limits limits' fault.Memory t = Unit {0}
 
 -- It wasn't loaded: the globals are null, and no other root stands.

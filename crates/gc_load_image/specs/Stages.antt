@@ -177,7 +177,7 @@ PlacesLine layouts counter o p limits' (Ok handle) new = PlacesObject layouts co
 PlacesLine layouts counter o p limits' (Err fault.BadImage) new = ⊥
 PlacesLine layouts counter o p limits' (Err fault.TooLarge) new = (too_large layouts (bytes_of layouts o p.table) ≡ true) × RefusesPlace layouts p limits' new
 PlacesLine layouts counter o p limits' (Err fault.RootsFull) new = (roots_full p.table ≡ true) × RefusesPlace layouts p limits' new
-PlacesLine layouts counter o p limits' (Err (fault.HeapOutOfMemory f)) new = (need : ℕ) × LacksPlace layouts counter o p limits' need new
+PlacesLine layouts counter o p limits' (Err (fault.HeapOutOfMemory f)) new = LacksPlace layouts counter o p limits' f.bytes_needed new
 PlacesLine layouts counter o p limits' (Err fault.Memory) new = WantsPlace layouts counter o p limits' new ⊎ RefusesPlace layouts p limits' new
 
 -- where an object begins in a counting heap in which the objects lie one behind the other
@@ -218,7 +218,7 @@ abbrev pub StopCause : Layouts → List Declaration → List ObjectLine → Limi
 StopCause layouts types lines limits limits' most old fault.BadImage t = ⊥
 StopCause layouts types lines limits limits' most old fault.TooLarge t = HasTooLarge layouts types lines
 StopCause layouts types lines limits limits' most old fault.RootsFull t = old.max_scoped < length old.scoped + most
-StopCause layouts types lines limits limits' most old (fault.HeapOutOfMemory f) t = LacksHeap layouts types lines limits limits' t
+StopCause layouts types lines limits limits' most old (fault.HeapOutOfMemory f) t = LacksHeap layouts types lines f.bytes_needed limits limits' t
 StopCause layouts types lines limits limits' most old fault.Memory t = Unit {0}
 
 pub record Stops (layouts : Layouts) (types : List Declaration) (lines : List ObjectLine) (limits limits' : Limits) (most : ℕ) (old : StoreView ℕ) (why : LoadFault) (new : StoreView ℕ) : Type 0 where
@@ -368,7 +368,7 @@ abbrev pub ImageCauses : Layouts → ℕ → (image : ImageParts) → IsWellImag
 ImageCauses layouts most image well limits limits' fault.BadImage t = ⊥
 ImageCauses layouts most image well limits limits' fault.TooLarge t = HasTooLarge layouts well.types image.objects
 ImageCauses layouts most image well limits limits' fault.RootsFull t = most < length image.objects + 2 * reference_count image
-ImageCauses layouts most image well limits limits' (fault.HeapOutOfMemory f) t = LacksHeap layouts well.types image.objects limits limits' t
+ImageCauses layouts most image well limits limits' (fault.HeapOutOfMemory f) t = LacksHeap layouts well.types image.objects f.bytes_needed limits limits' t
 ImageCauses layouts most image well limits limits' fault.Memory t = Unit {0}
 
 pub record NotLoadedImage (layouts : Layouts) (most : ℕ) (image : ImageParts) (limits limits' : Limits) (why : LoadFault) (new : StoreView ℕ) : Type 0 where

@@ -23,8 +23,9 @@ use std::alloc::Global;
 ///
 /// `BadImage` exactly where the bytes are no image that is well, as `check_image` says; `TooLarge` where no heap of the kind can hold an object of
 /// it; `RootsFull` where its objects and twice its references that aren't null are more than the scoped roots that the store may have;
-/// `HeapOutOfMemory` where pages were refused for an object of it, and its objects reach further than the heap that there is. After each
-/// of these, and after `Memory`, the globals are null and no root stands; some of its types may be declared.
+/// `HeapOutOfMemory` where pages were refused for an object of it, which needs the bytes that the fault tells, and its objects reach further
+/// than the heap that there is. After each of these, and after `Memory`, the globals are null and no root stands; some of its types may be
+/// declared.
 ///
 /// Its time is linear in the bytes, beside that of collections, of new memory and of declaring types; its memory is linear in the bytes.
 pub fn load_image<H: GcHeap, L: ResourceLimiter>(

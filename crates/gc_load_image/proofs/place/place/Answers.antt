@@ -15,7 +15,7 @@ returns-in-Err-RootsFull-clause-places g c t a o holds is = let told = told_plac
 
 pub returns-in-Err-HeapOutOfMemory-clause-places : goal.returns-in-Err-HeapOutOfMemory-clause-places
 returns-in-Err-HeapOutOfMemory-clause-places g c t a o holds is =
-    (c.in-Err-HeapOutOfMemory.fault.bytes_needed, told_place g.H.GcHeap.KIND c.args.store.now.alloc_counter o (policy_state t a (g.L.ResourceLimiter.limits c.args.limiter.now)) (g.L.ResourceLimiter.limits c.place.new.limiter) c.place.new.self c.in-Err-HeapOutOfMemory.field-0 (fault.HeapOutOfMemory c.in-Err-HeapOutOfMemory.fault) c.in-Err-HeapOutOfMemory.field-0-is (c.in-Err-HeapOutOfMemory.ensures.places t a o holds is))
+    told_place g.H.GcHeap.KIND c.args.store.now.alloc_counter o (policy_state t a (g.L.ResourceLimiter.limits c.args.limiter.now)) (g.L.ResourceLimiter.limits c.place.new.limiter) c.place.new.self c.in-Err-HeapOutOfMemory.field-0 (fault.HeapOutOfMemory c.in-Err-HeapOutOfMemory.fault) c.in-Err-HeapOutOfMemory.field-0-is (c.in-Err-HeapOutOfMemory.ensures.places t a o holds is)
 
 pub returns-in-Err-Memory-clause-places : goal.returns-in-Err-Memory-clause-places
 returns-in-Err-Memory-clause-places g c t a o holds is = inl (told_place g.H.GcHeap.KIND c.args.store.now.alloc_counter o (policy_state t a (g.L.ResourceLimiter.limits c.args.limiter.now)) (g.L.ResourceLimiter.limits c.place.new.limiter) c.place.new.self c.in-Err-Memory.field-0 fault.Memory c.in-Err-Memory.field-0-is (c.in-Err-Memory.ensures.places t a o holds is))
