@@ -31,14 +31,23 @@ pub record CountsKept (layouts : Layouts) (t : Table ℕ) (text : List ℕ) : Ty
   pub keeps : KeepsNumber layouts t objects hosts
   pub text_is : text ≡ held_line objects hosts
 
--- the image was loaded, nothing but its globals is a root, the store holds what a collection keeps and no more, and the text says how
--- much that is
-pub record TellsLoaded (layouts : Layouts) (bytes text : List ℕ) (store : StoreView ℕ) : Type 0 where
+-- the image was loaded, nothing but its globals is a root, and the store holds what a collection keeps and no more
+pub record HoldsLoaded (layouts : Layouts) (bytes : List ℕ) (store : StoreView ℕ) : Type 0 where
   pub table : Table ℕ
   pub images : ImagesText table bytes
   pub alone : HasGlobalsAlone table
   pub kept : HoldsKept layouts store table
-  pub counts : CountsKept layouts table text
+
+-- that is so, and the text says how much the store holds
+pub record TellsLoaded (layouts : Layouts) (bytes text : List ℕ) (store : StoreView ℕ) : Type 0 where
+  pub held : HoldsLoaded layouts bytes store
+  pub counts : CountsKept layouts held.table text
+
+-- What the report leaves in a new store that may have so many scoped roots, whether there was memory for its text or not: the image was loaded
+-- and the store collected; or it wasn't loaded, for some reason.
+pub data LeavesLoad (layouts : Layouts) (most : ℕ) (bytes : List ℕ) (limits limits' : Limits) (store : StoreView ℕ) : Type 0 where
+  collected : HoldsLoaded layouts bytes store → LeavesLoad layouts most bytes limits limits' store
+  unloaded : (why : LoadFault) → NotLoaded layouts most bytes limits limits' why store → LeavesLoad layouts most bytes limits limits' store
 
 -- what the text says of loading an image into a new store that may have so many scoped roots
 pub data TellsLoad (layouts : Layouts) (most : ℕ) (bytes : List ℕ) (limits limits' : Limits) (text : List ℕ) (store : StoreView ℕ) : Type 0 where

@@ -4,7 +4,7 @@ ghost use Rattle.std.specs.Prelude.{◌≡◌, ℕ, IfOk, Some, string_bytes};
 ghost use Rattle.gc_model.specs.Holds.{HoldsKept};
 ghost use Rattle.gc_model.specs.Table.{Table};
 ghost use Rattle.gc_store.specs.Stores.{HoldsStart, IsSameStore};
-ghost use Rattle.gcsh_images.specs.Loading.{CountsKept, TellsLoad, refusal_line};
+ghost use Rattle.gcsh_images.specs.Loading.{CountsKept, LeavesLoad, TellsLoad, refusal_line};
 
 use gc_heap::GcHeap;
 use gc_load_image::{LoadFault, load_image};
@@ -14,7 +14,8 @@ use std::alloc::{AllocError, Global};
 
 /// Loads the image that the bytes are into a new store, collects, and says how many objects the heap holds then, and how
 /// many of them are host objects. Where the image isn't loaded the report is the name of the refusal. An error is want
-/// of memory. Its time is that of `load_image` and of a collection.
+/// of memory: the image was loaded and the heap collected all the same, or it wasn't loaded, and no root stands. Its time is that of
+/// `load_image` and of a collection.
 pub fn load_report<H: GcHeap, L: ResourceLimiter>(
     alloc: Global,
     store: &mut Store<H, u64>,
@@ -24,6 +25,7 @@ pub fn load_report<H: GcHeap, L: ResourceLimiter>(
     requires { HoldsStart ℕ H.KIND store.old }
     ensures tells { IfOk result (λ text. TellsLoad H.KIND store.old.max_scoped bytes.now (L.limits limiter.old) (L.limits limiter.new)
         (string_bytes text) store.new) }
+    ensures leaves { LeavesLoad H.KIND store.old.max_scoped bytes.now (L.limits limiter.old) (L.limits limiter.new) store.new }
     ensures same { IsSameStore store.old store.new }
 {
     match load_image(alloc, store, limiter, bytes) {
