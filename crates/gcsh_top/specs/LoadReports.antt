@@ -5,7 +5,7 @@ use Rattle.gc_model.specs.Allocation.{Limits}
 use Rattle.gc_model.specs.Stores.{StoreView}
 use Rattle.gc_model.specs.Table.{usual_roots}
 use Rattle.gc_owner.specs.Limiters.{fresh_limits}
-use Rattle.gcsh_images.specs.Loading.{TellsLoad}
+use Rattle.gcsh_images.specs.Loading.{LeavesLoad, TellsLoad}
 use Rattle.gcsh_top.specs.declared.status.Status.{Status}
 use Rattle.gcsh_top.specs.declared.words.Form.{Form}
 use Rattle.gcsh_top.specs.Ends.{SinkRun, SourceRun}
@@ -17,11 +17,17 @@ use Rattle.gcsh_top.specs.Runs.{IsReady}
 abbrev pub TellsInput : Layouts → Form → List ℕ → StoreView ℕ → List ℕ → Type 0
 TellsInput layouts form input store text = (limits : Limits) × TellsLoad layouts usual_roots input (fresh_limits (Some form.most)) limits text store
 
-abbrev pub ReportedLoad : Layouts → Form → List ℕ → SinkRun → StoreView ℕ → Status → Type 0
-ReportedLoad layouts form input sink store status = ReportedText (TellsInput layouts form input store) (Unit {0}) (Unit {0}) sink status
+-- where there is no memory for a text: the input was loaded under that limit and the store collected, or it wasn't loaded
+abbrev pub LeavesInput : Layouts → Form → List ℕ → StoreView ℕ → Type 0
+LeavesInput layouts form input store = (limits : Limits) × LeavesLoad layouts usual_roots input (fresh_limits (Some form.most)) limits store
 
--- The input was read to its end, and what loading it came to was written; or it was not, nothing was written, and the store holds the
--- empty table still.
+-- how the form ends on an input that was read to its end
+abbrev pub ReportedLoad : Layouts → Form → List ℕ → SinkRun → StoreView ℕ → Status → Type 0
+ReportedLoad layouts form input sink store status =
+    ReportedText (TellsInput layouts form input store) (Unit {0}) (LeavesInput layouts form input store) sink status
+
+-- The input was read to its end, and what loading it came to was written, or there was no memory for that; or it was not, nothing was
+-- written, and the store holds the empty table still.
 pub data RanLoad (layouts : Layouts) (form : Form) (source : SourceRun) (sink : SinkRun) (store : StoreView ℕ) (status : Status) : Type 0 where
   read_whole : (input : List ℕ) → ReadWhole source input → ReportedLoad layouts form input sink store status → RanLoad layouts form source sink store status
   not_read : UnreadInput source status → sink.after ≡ sink.before → IsReady layouts form store → RanLoad layouts form source sink store status
