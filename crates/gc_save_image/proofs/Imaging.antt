@@ -1,6 +1,6 @@
 -- What was written of a collection is an image of its table.
-use Rattle.std.proofs.Common.{◌≡◌, ◌<◌, ◌+◌, ◌^◌, ℕ, Bool, true, List, length, map, option_map, Option, None, Some, refl, sym, ap, ◌∙◌, subst, arith, unwrap_or}
-use Rattle.std.specs.List.{slice_get, AllByRecursion}
+use Rattle.std.proofs.Common.{◌≡◌, ◌<◌, ◌+◌, ◌^◌, ℕ, true, List, length, map, option_map, Option, None, Some, refl, sym, ap, ◌∙◌, subst, arith, unwrap_or}
+use Rattle.std.specs.List.{slice_get}
 use Rattle.std.proofs.lemmas.List.{length-map}
 use Rattle.std.proofs.lemmas.Option.{none-some, same_Some, slice_get_within}
 use Rattle.gc_types.specs.declared.value.FieldType.{FieldType}
@@ -30,12 +30,12 @@ use Rattle.gc_image_collect.specs.Collection.{IsCollection}
 use Rattle.gc_image_collect.specs.declared.collect.Collected.{Collected}
 use Rattle.gc_image_write.specs.Graphs.{graph_of}
 use Rattle.gc_image_write.specs.InTurn.{IsInTurn}
-use Rattle.gc_image_write.specs.Order.{AreClosed, IsBelow, IsOrder, Needs, early_in, early_named, early_of, is_early_in}
+use Rattle.gc_image_write.specs.Order.{AreClosed, IsBelow, IsOrder, early_in, early_named, early_of, is_early_in}
 use Rattle.gc_image_write.specs.TypeWords.{AreCommandsOf}
 use Rattle.gc_image_write.specs.Visiting.{IsNumbering}
 use Rattle.gc_image_write.proofs.RenumberLemmas.{in_turn}
 use Rattle.gc_save_image.specs.Keeping.{AreKept, IsKeptIn}
-use Rattle.gc_save_image.specs.Renumbering.{AreNumbersOf, IsWritten, image_by, line_at, number_in, renumbered_global, renumbered_line, renumbered_reference, renumbered_value, reordered}
+use Rattle.gc_save_image.specs.Renumbering.{AreNumbersOf, IsWritten, image_by, line_at, number_in, renumbered_global, renumbered_line, renumbered_value, reordered}
 use Rattle.gc_save_image.proofs.Elements.{all_each, element_at, map_at, mapped}
 use Rattle.gc_save_image.proofs.FitsPlaced.{fits_placed}
 use Rattle.gc_save_image.proofs.Numbering.{LineAt, all, goes, line_of, number_is, object_is, position, position_is, positions}

@@ -8,5 +8,5 @@ mod renumber;
 mod save;
 
 pub use fault::SaveFault;
-pub use laws::what_was_loaded_is_saved_as_the_same_text;
+pub use laws::{what_was_loaded_is_saved_as_the_same_text, what_was_loaded_may_be_saved};
 pub use save::save_image;
