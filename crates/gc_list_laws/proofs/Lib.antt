@@ -1,1 +1,2 @@
 pub mod StepKeeps
+pub mod OwnedKept

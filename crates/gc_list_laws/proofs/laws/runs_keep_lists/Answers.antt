@@ -1,4 +1,5 @@
 use Rattle.gc_lists.proofs.Kept.{list_kept}
+use Rattle.gc_maps.proofs.Staying.{map_stays}
 use Rattle.gc_list_laws.proofs.StepKeeps.{run_keeps}
 use Rattle.gc_list_laws.proofs.laws.runs_keep_lists.Goals as goal
 
@@ -7,3 +8,6 @@ returns-clause-constants c = λ layouts limit s u commands answers run. run_keep
 
 pub returns-clause-lists : goal.returns-clause-lists
 returns-clause-lists c = λ layouts limit s u commands answers r xs run is. list_kept s.table u.table (run_keeps layouts limit s u commands answers run) xs r is
+
+pub returns-clause-maps : goal.returns-clause-maps
+returns-clause-maps c = λ layouts limit s u commands answers r ty m run is. map_stays s.table u.table (run_keeps layouts limit s u commands answers run) r ty m is
