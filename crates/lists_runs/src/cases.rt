@@ -1,9 +1,13 @@
 //! What is done with lists.
 
+ghost use Rattle.std.specs.Prelude.{false, ◌≡◌};
+ghost use Rattle.gc_lists.specs.Kits.{is_kit_of};
+ghost use Rattle.gc_lists.specs.Versions.{is_version_of};
+
 use crate::fault::RunFault;
-use crate::shelf::{add, all, first, new_kit, rest};
+use crate::shelf::{add, add_in_vain, all, collect, first, new_kit, rest};
 use gc_heap::GcHeap;
-use gc_lists::{HeapList, ListFault};
+use gc_lists::{HeapList, Kit, ListFault};
 use gc_store::{PageLimit, Store};
 use std::alloc::Global;
 
@@ -36,6 +40,34 @@ pub(crate) fn run_two<H: GcHeap>(
     show(rt, &older)
 }
 
+/// Two numbers, and a list with a third one in front that is given up: the list that it was made of has what it had.
+pub(crate) fn run_kept<H: GcHeap>(
+    rt: &impl Print,
+    alloc: Global,
+    store: &mut Store<H, u64>,
+    limiter: &mut PageLimit,
+) -> Result<(), RunFault> {
+    let kit = new_kit(store)?;
+    let empty = HeapList::empty();
+    let one = add(store, limiter, &kit, &empty, 3)?;
+    let two = add(store, limiter, &kit, &one, 4)?;
+    add_in_vain(store, limiter, &kit, &two, 5)?;
+    collect(store);
+    let numbers = all(alloc, store, &two)?;
+    show(rt, &numbers)
+}
+
+/// The name of an answer.
+fn answer_name<T>(answer: &Result<T, ListFault>) -> &'static str {
+    match answer {
+        Ok(_) => "Ok",
+        Err(ListFault::WrongStore) => "WrongStore",
+        Err(ListFault::RootsFull) => "RootsFull",
+        Err(ListFault::HeapOutOfMemory(_)) => "HeapOutOfMemory",
+        Err(ListFault::Memory) => "Memory",
+    }
+}
+
 /// What a number in front of the empty list is answered in a store that refuses it.
 pub(crate) fn run_refused<H: GcHeap>(
     rt: &impl Print,
@@ -44,13 +76,36 @@ pub(crate) fn run_refused<H: GcHeap>(
 ) -> Result<(), RunFault> {
     let kit = new_kit(store)?;
     let empty = HeapList::empty();
-    let answer = match add(store, limiter, &kit, &empty, 1) {
-        Ok(_) => "made",
-        Err(ListFault::WrongStore) => "WrongStore",
-        Err(ListFault::RootsFull) => "RootsFull",
-        Err(ListFault::HeapOutOfMemory(_)) => "HeapOutOfMemory",
-        Err(ListFault::Memory) => "Memory",
+    let answer = add(store, limiter, &kit, &empty, 1);
+    println!(rt; "{}", answer_name(&answer))?;
+    Ok(())
+}
+
+/// What a number in front of a list of one is answered with the kit of another store; and what the calls that read a list or
+/// give it up answer for a list of that other store.
+pub(crate) fn run_foreign<H: GcHeap>(
+    rt: &impl Print,
+    store: &mut Store<H, u64>,
+    limiter: &mut PageLimit,
+    kit: &Kit,
+    list: HeapList,
+) -> Result<(), RunFault>
+    requires kit { is_kit_of store.old kit.now ≡ false }
+    requires list { is_version_of store.old list.root ≡ false }
+{
+    let own_kit = new_kit(store)?;
+    let empty = HeapList::empty();
+    let own = add(store, limiter, &own_kit, &empty, 1)?;
+    let longer = own.cons(kit, store, limiter, 2);
+    let head = list.head(store);
+    let tail = list.tail(store);
+    let released = match list.release(store) {
+        Ok(()) => "released",
+        Err(_) => "handed back",
     };
-    println!(rt; "{answer}")?;
+    println!(rt; "{}", answer_name(&longer))?;
+    println!(rt; "{}", answer_name(&head))?;
+    println!(rt; "{}", answer_name(&tail))?;
+    println!(rt; "{released}")?;
     Ok(())
 }

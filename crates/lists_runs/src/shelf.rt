@@ -1,9 +1,10 @@
 //! Calls on lists that leave all lists of a shelf standing.
 
 ghost use Rattle.std.specs.Prelude.{◌≡◌, ◌∷◌, [], List, Option, IfOk, MatchResult};
+ghost use Rattle.gc_store.specs.Stores.{IsSameStore};
 ghost use Rattle.gc_store.specs.declared.root.GcRootIndex.{GcRootIndex};
 ghost use Rattle.gc_lists.specs.declared.kit.Kit.{Kit};
-ghost use Rattle.lists_runs.specs.Shelves.{Shelf};
+ghost use Rattle.lists_runs.specs.Shelves.{IsRootedIn, Shelf, id_in};
 
 use crate::fault::RunFault;
 use gc_heap::GcHeap;
@@ -14,7 +15,9 @@ use std::alloc::Global;
 
 /// The kit of a store.
 pub(crate) fn new_kit<H: GcHeap>(store: &mut Store<H, u64>) -> Result<Kit, RunFault>
-    ensures { IfOk result (λ kit. Shelf H.KIND store.new kit []) }
+    ensures shelf { IfOk result (λ kit. Shelf H.KIND store.new kit []) }
+    ensures own { IfOk result (λ kit. kit.store_id ≡ id_in store.new) }
+    ensures same { IsSameStore store.old store.new }
 {
     stores_hold_tables(store);
     match Kit::new(store) {
@@ -32,11 +35,38 @@ pub(crate) fn add<H: GcHeap>(
     head: i64,
 ) -> Result<HeapList, ListFault>
     requires { Shelf H.KIND store.old kit.now (list.now.root ∷ []) }
-    ensures { (vs : List (Option GcRootIndex)) → Shelf H.KIND store.old kit.now (list.now.root ∷ vs)
+    ensures shelf { (vs : List (Option GcRootIndex)) → Shelf H.KIND store.old kit.now (list.now.root ∷ vs)
         → MatchResult result (λ made. Shelf H.KIND store.new kit.now (made.root ∷ (list.now.root ∷ vs)))
         (λ fault. Shelf H.KIND store.new kit.now (list.now.root ∷ vs)) }
+    ensures own { IfOk result (λ made. IsRootedIn store.new made.root) }
+    ensures same { IsSameStore store.old store.new }
 {
     list.cons(kit, store, limiter, head)
+}
+
+/// Makes a list with one more number in front, and gives it up again.
+pub(crate) fn add_in_vain<H: GcHeap>(
+    store: &mut Store<H, u64>,
+    limiter: &mut PageLimit,
+    kit: &Kit,
+    list: &HeapList,
+    head: i64,
+) -> Result<(), RunFault>
+    requires { Shelf H.KIND store.old kit.now (list.now.root ∷ []) }
+    ensures { IfOk result (λ done. Shelf H.KIND store.new kit.now (list.now.root ∷ [])) }
+{
+    let made = list.cons(kit, store, limiter, head)?;
+    match made.release(store) {
+        Ok(()) => Ok(()),
+        Err(_) => Err(RunFault::Missing),
+    }
+}
+
+/// Collects the heap's garbage.
+pub(crate) fn collect<H: GcHeap>(store: &mut Store<H, u64>)
+    ensures { (kit : Kit) (vs : List (Option GcRootIndex)) → Shelf H.KIND store.old kit vs → Shelf H.KIND store.new kit vs }
+{
+    store.gc();
 }
 
 /// The first number of a list.
