@@ -169,6 +169,10 @@ impl GcHeap for CopyingHeap {
 
     const KIND: HeapKind = Layouts::Copying;
 
+    fn unattached(alloc: Global) -> CopyingHeap {
+        CopyingHeap::new(alloc)
+    }
+
     fn is_too_large(size: u32) -> bool {
         place::is_too_large(size)
     }

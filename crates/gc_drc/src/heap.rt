@@ -214,6 +214,10 @@ impl GcHeap for DrcHeap {
 
     const KIND: HeapKind = Layouts::Counting;
 
+    fn unattached(alloc: Global) -> DrcHeap {
+        DrcHeap::new(alloc)
+    }
+
     fn is_too_large(size: u32) -> bool {
         place::is_too_large(size)
     }

@@ -7,6 +7,7 @@ use gc_roots::GcRootsList;
 use gc_steps::Steps;
 use gc_tables::ExternRefHostDataId;
 use gc_types::{GcArrayLayout, GcStructLayout, Layouts, VMSharedTypeIndex};
+use std::alloc::Global;
 use std::ops::Range;
 use std::sync::ledger::Ledger;
 use thiserror::Error;
@@ -99,6 +100,11 @@ pub trait GcHeap {
     ghost KIND: { Layouts };
 
     const KIND: HeapKind;
+
+    /// A heap with no memory and no scope. It takes no memory until some is attached.
+    fn unattached(alloc: Global) -> Self
+        ensures sound { sound result }
+        ensures seen { seen result ≡ detached_in 0 };
 
     // Sizes
 

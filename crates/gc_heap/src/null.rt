@@ -121,6 +121,10 @@ impl GcHeap for NullHeap {
 
     const KIND: HeapKind = Layouts::Null;
 
+    fn unattached(alloc: Global) -> NullHeap {
+        NullHeap::new(alloc)
+    }
+
     fn is_too_large(size: u32) -> bool {
         size >= place::SIZE_LIMIT
     }
