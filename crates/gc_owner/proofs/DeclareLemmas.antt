@@ -187,6 +187,7 @@ module _ {H S D : Type 0} (layouts : Layouts) (seen : H → HeapView) (sound : H
         can = table_more layouts d types types' (seen heap) (roots_of roots) (has_host hosts) r (is_heap heap ready.sound) did ready.can;
         unlisted = ready.unlisted;
         unused = ready.unused;
+        placed = ready.placed;
       })
 
   pub declared_seen : Declares now.seen (owner_value (seen heap) types' hosts roots last heap state).seen d r

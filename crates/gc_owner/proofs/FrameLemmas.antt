@@ -18,7 +18,7 @@ use Rattle.gc_heap.specs.Collection.{CanCollect, IsWordOf}
 use Rattle.gc_heap.proofs.AddedLemmas.{start}
 use Rattle.gc_heap.proofs.RootedLemmas.{can_collect_cloned, can_collect_exposed, can_collect_unstacked}
 use Rattle.gc_owner.specs.declared.entry.SlotEntry.{SlotEntry}
-use Rattle.gc_owner.specs.RootColumns.{RootsView, scoped_words, owned_words, slot_words, global_words, listed_as, roots_of, empty_slot, newest_start, with_frame, without_frame, with_places, RiseFrom, AreFrames}
+use Rattle.gc_owner.specs.RootColumns.{list_use, RootsView, scoped_words, owned_words, slot_words, global_words, listed_as, roots_of, empty_slot, newest_start, with_frame, without_frame, with_places, RiseFrom, AreFrames}
 use Rattle.gc_owner.specs.Owners.{raised}
 use Rattle.gc_owner.specs.ShownWords.{copied_to_slot}
 use Rattle.gc_owner.specs.Tracing.{IsCollectable}
@@ -177,9 +177,9 @@ pub opened_kept : (layouts : Layouts) (types : List Declaration) (h : HeapView) 
 opened_kept layouts types h count old new hosts (Ok done) opens can = subst (λ rs. IsCollectable layouts types h rs hosts) (sym (ap roots_of opens.ok ∙ frame_roots count old)) can
 opened_kept layouts types h count old new hosts (Err e) opens can = subst (λ rs. IsCollectable layouts types h rs hosts) (sym (ap roots_of opens.err)) can
 
-pub opened_listed : (count : ℕ) (old new : RootsView) (result : Result (Unit {0}) AllocError) → Opens count old new result → new.listed ≡ old.listed
-opened_listed count old new (Ok done) opens = ap (λ (r : RootsView). r.listed) opens.ok
-opened_listed count old new (Err e) opens = ap (λ (r : RootsView). r.listed) opens.err
+pub opened_listed : (count : ℕ) (old new : RootsView) (result : Result (Unit {0}) AllocError) → Opens count old new result → list_use new ≡ list_use old
+opened_listed count old new (Ok done) opens = ap list_use opens.ok
+opened_listed count old new (Err e) opens = ap list_use opens.err
 
 pub along_ok : (P Q : Type 0) (result : Result (Unit {0}) AllocError) → (P → Q) → OnOk result P → OnOk result Q
 along_ok P Q (Ok done) leads is = leads is
@@ -211,9 +211,9 @@ pub closed_kept : (layouts : Layouts) (types : List Declaration) (h : HeapView) 
 closed_kept layouts types h old new hosts true closes can = subst (λ (r : RootsView). IsCollectable layouts types h (roots_of r) hosts) (sym (closes.some refl).1) (frame_left layouts types h old hosts can)
 closed_kept layouts types h old new hosts false closes can = subst (λ (r : RootsView). IsCollectable layouts types h (roots_of r) hosts) (sym (closes.none refl).1) can
 
-pub closed_listed : (old new : RootsView) (closed : Bool) → Closes old new closed → new.listed ≡ old.listed
-closed_listed old new true closes = ap (λ (r : RootsView). r.listed) (closes.some refl).1
-closed_listed old new false closes = ap (λ (r : RootsView). r.listed) (closes.none refl).1
+pub closed_listed : (old new : RootsView) (closed : Bool) → Closes old new closed → list_use new ≡ list_use old
+closed_listed old new true closes = ap list_use (closes.some refl).1
+closed_listed old new false closes = ap list_use (closes.none refl).1
 
 -- Where frames begin
 

@@ -122,6 +122,7 @@ hosts_order layouts seen sound under_way heap types hosts roots last state hosts
   can = can;
   unlisted = ready.unlisted;
   unused = ready.unused;
+  placed = ready.placed;
 })
 
 pub put_seen : {H S D : Type 0} (layouts : Layouts) (before now : OwnerValue H S D) (value : D) (new : FinMap nat_cmp D) (result : Result ℕ (SlabFault D)) → before ≡ now → CanBegin layouts before.seen → PutsIn value before.seen.hosts new result

@@ -1,20 +1,19 @@
 -- Collections in increments: what begins one, what an increment leaves, and what the last one does.
-use Rattle.std.proofs.Common.{◌≡◌, ℕ, ◌+◌, Bool, true, false, List, length, map, Option, Some, None, refl, sym, ap, ◌∙◌, subst}
+use Rattle.std.proofs.Common.{◌≡◌, ℕ, ◌+◌, Bool, true, List, length, map, Option, Some, None, refl, sym, ap, ◌∙◌, subst}
 use Rattle.std.specs.FinMap.{FinMap}
 use Rattle.std.specs.Ordering.{nat_cmp}
 use Rattle.std.proofs.lemmas.Option.{same_Some}
 use Rattle.gc_types.specs.declared.kind.Layouts.{Layouts}
-use Rattle.gc_types.specs.Declarations.{Declaration, TypeTable}
+use Rattle.gc_types.specs.Declarations.{TypeTable}
 use Rattle.gc_roots.specs.Roots.{Root}
 use Rattle.gc_view.specs.Heaps.{HeapView}
 use Rattle.gc_heap.specs.Content.{IsHeap}
 use Rattle.gc_heap.specs.Collection.{Stage, Start, CanCollect, Collected, has_host, IsPartOf, moved_root}
-use Rattle.gc_heap.specs.declared.collection.GcProgress.{GcProgress}
 use Rattle.gc_heap.specs.declared.collection.GcProgress.TheVariants as progress
 use Rattle.gc_heap.proofs.AddedLemmas.{start}
 use Rattle.gc_owner.specs.RootColumns.{RootsView, roots_of, moved_roots, with_list, without_list}
 use Rattle.gc_owner.specs.Going.{IsListed, StepsRoots, HasMovedList}
-use Rattle.gc_owner.specs.Owners.{OwnerView, OwnerValue, IsReady, InOrder, Goes, IsGoing, IsUnderWay, Increments, CollectsRoots, owner_value, start_of}
+use Rattle.gc_owner.specs.Owners.{OwnerView, OwnerValue, IsReady, InOrder, Goes, IsGoing, IsUnderWay, IncrementsCounted, CollectsRoots, owner_value, start_of}
 use Rattle.gc_owner.specs.Tracing.{AreTraced, IsCollectable}
 use Rattle.gc_owner.proofs.Begins.{memory_same, memory_heap}
 use Rattle.gc_owner.proofs.CollectedRoots.{collects_roots}
@@ -30,11 +29,6 @@ completed layouts s r r' new listed hosts' heap can traced from done after moves
     collects_roots layouts s.types s.heap new r r' listed s.hosts hosts' heap can.attached after
     (record { traced = traced; collects = subst (λ h. CanCollect layouts (start h (roots_of r) s.types s.hosts)) (sym (memory_same s.heap can.attached)) can' })
     done' (moves done'.to done'.roots_moved)
-
--- the increments of two equal progresses
-steps_at : {H S D : Type 0} (layouts : Layouts) (under_way : Start → ℕ → Bool → Stage H S → Type 0) (sound : H → Type 0) (s : Start) (n : ℕ) (old new : RootsView) (heap : H) (seen : HeapView) (state : S) (types : List Declaration) (hosts : FinMap nat_cmp D) (p q : GcProgress) → p ≡ q
-    → StepsRoots layouts under_way sound s n old new heap seen state types hosts p → StepsRoots layouts under_way sound s n old new heap seen state types hosts q
-steps_at layouts under_way sound s n old new heap seen state types hosts p q is = subst (StepsRoots layouts under_way sound s n old new heap seen state types hosts) is
 
 module _ {H S D : Type 0} (layouts : Layouts) (seen : H → HeapView) (sound : H → Type 0) (under_way : Start → ℕ → Bool → Stage H S → Type 0) where
   -- A collection begins
@@ -62,6 +56,7 @@ module _ {H S D : Type 0} (layouts : Layouts) (seen : H → HeapView) (sound : H
       types = refl;
       from = sym (ap roots_of listed);
       busy = refl;
+      placed = ap (λ (r : RootsView). r.has_places) listed ∙ ready.placed attached_at;
     }
 
     pub begun_way : (roots' : RootsView) (state : S) → roots' ≡ with_list (roots_of roots) roots → roots.given ≡ 0 → ((s : Start) → sound heap → seen heap ≡ s.heap → CanCollect layouts s → under_way s 0 true (record { heap = heap; state = state; roots = s.roots; types = s.types; hosts = s.hosts }))
@@ -81,9 +76,9 @@ module _ {H S D : Type 0} (layouts : Layouts) (seen : H → HeapView) (sound : H
               ∙ ap (λ (r : RootsView). record (owner_value (seen heap) types hosts roots last heap (Some was)).seen { idle = true; roots = without_list r }) (sym listed);
         })
 
-  -- An increment is done
+  -- An increment is done; d is whether it and all before it were counted
   module _ (heap : H) (types : TypeTable) (hosts : FinMap nat_cmp D) (roots : RootsView) (last : ℕ) (was : Option S) (state : S) (of_state : was ≡ Some state)
-      (heap' : H) (hosts' : FinMap nat_cmp D) (roots' : RootsView) (state' : S) where
+      (heap' : H) (hosts' : FinMap nat_cmp D) (roots' : RootsView) (state' : S) (d : Bool) where
     abbrev before : OwnerValue H S D
     before = owner_value (seen heap) types hosts roots last heap was
 
@@ -97,8 +92,8 @@ module _ {H S D : Type 0} (layouts : Layouts) (seen : H → HeapView) (sound : H
         (goes.listed, (goes.listed_is, (at.0, (at.1.0, (at.1.1.0, goes.goes)))))
 
     -- the collection goes on
-    pub goes_on : (s : Start) (n : ℕ) (c : Bool) → Goes (kind_of layouts seen sound under_way) s n c before state → StepsRoots layouts under_way sound s n roots roots' heap' (seen heap') state' types.declarations hosts' progress.Continue
-        → Goes (kind_of layouts seen sound under_way) s (n + 1) false (owner_value (seen heap') types hosts' roots' last heap' (Some state')) state'
+    pub goes_on : (s : Start) (n : ℕ) (c : Bool) → Goes (kind_of layouts seen sound under_way) s n c before state → StepsRoots layouts under_way sound s n d roots roots' heap' (seen heap') state' types.declarations hosts' progress.Continue
+        → Goes (kind_of layouts seen sound under_way) s (n + 1) d (owner_value (seen heap') types hosts' roots' last heap' (Some state')) state'
     goes_on s n c goes step = record {
       listed = step.listed;
       listed_is = ap (λ (r : RootsView). r.listed) step.roots;
@@ -110,6 +105,7 @@ module _ {H S D : Type 0} (layouts : Layouts) (seen : H → HeapView) (sound : H
       types = goes.types;
       from = goes.from ∙ sym (ap roots_of step.roots);
       busy = refl;
+      placed = ap (λ (r : RootsView). r.has_places) step.roots ∙ goes.placed;
     }
 
     -- a collection that began somewhere, as far as it has come
@@ -118,8 +114,8 @@ module _ {H S D : Type 0} (layouts : Layouts) (seen : H → HeapView) (sound : H
         let at = (subst (IsUnderWay (kind_of layouts seen sound under_way) s n c begun) (sym is) way).going in
         subst (Goes (kind_of layouts seen sound under_way) s n c before) (same_Some at.state state (sym at.state_is ∙ of_state)) at.goes
 
-    pub way_on : (s : Start) (n : ℕ) (c : Bool) (begun now : OwnerValue H S D) → before ≡ now → IsUnderWay (kind_of layouts seen sound under_way) s n c begun now → StepsRoots layouts under_way sound s n roots roots' heap' (seen heap') state' types.declarations hosts' progress.Continue → IsPartOf hosts' hosts
-        → Increments (kind_of layouts seen sound under_way) s (n + 1) begun (owner_value (seen heap') types hosts' roots' last heap' (Some state')) progress.Continue
+    pub way_on : (s : Start) (n : ℕ) (c : Bool) (begun now : OwnerValue H S D) → before ≡ now → IsUnderWay (kind_of layouts seen sound under_way) s n c begun now → StepsRoots layouts under_way sound s n d roots roots' heap' (seen heap') state' types.declarations hosts' progress.Continue → IsPartOf hosts' hosts
+        → IncrementsCounted (kind_of layouts seen sound under_way) s (n + 1) d begun (owner_value (seen heap') types hosts' roots' last heap' (Some state')) progress.Continue
     way_on s n c begun now is way step values =
         let whole : IsUnderWay (kind_of layouts seen sound under_way) s n c begun before = subst (IsUnderWay (kind_of layouts seen sound under_way) s n c begun) (sym is) way in
         let at = whole.going in
@@ -140,7 +136,7 @@ module _ {H S D : Type 0} (layouts : Layouts) (seen : H → HeapView) (sound : H
         )
 
     -- the collection is complete, and the roots take their words from the list
-    pub has_moved : (s : Start) (n : ℕ) (c : Bool) → Goes (kind_of layouts seen sound under_way) s n c before state → StepsRoots layouts under_way sound s n roots roots' heap' (seen heap') state' types.declarations hosts' progress.Complete → HasMovedList roots'
+    pub has_moved : (s : Start) (n : ℕ) (c : Bool) → Goes (kind_of layouts seen sound under_way) s n c before state → StepsRoots layouts under_way sound s n d roots roots' heap' (seen heap') state' types.declarations hosts' progress.Complete → HasMovedList roots'
     has_moved s n c goes step =
         let done = step.steps.1.1 in
         let from : s.roots ≡ roots_of roots' = goes.from ∙ sym (ap roots_of step.roots) in (
@@ -152,14 +148,14 @@ module _ {H S D : Type 0} (layouts : Layouts) (seen : H → HeapView) (sound : H
         )
 
     module _ (roots'' : RootsView) (last' : ℕ) (takes : (to : ℕ → ℕ) → roots'.listed ≡ Some (map (moved_root to) (roots_of roots')) → roots'' ≡ moved_roots to (without_list roots')) (is_heap : (h : H) → sound h → IsHeap layouts (seen h)) where
-      took : (s : Start) (n : ℕ) (r : RootsView) → StepsRoots layouts under_way sound s n roots roots' heap' (seen heap') state' types.declarations hosts' progress.Complete → r ≡ without_list roots
+      took : (s : Start) (n : ℕ) (r : RootsView) → StepsRoots layouts under_way sound s n d roots roots' heap' (seen heap') state' types.declarations hosts' progress.Complete → r ≡ without_list roots
           → (listed : List Root) → roots'.listed ≡ Some listed → (to : ℕ → ℕ) → listed ≡ map (moved_root to) (roots_of r) → roots'' ≡ moved_roots to r
       took s n r step of_roots listed listed_is to moved_list =
           let same : roots_of r ≡ roots_of roots' = ap roots_of of_roots ∙ sym (ap roots_of step.roots) in
           takes to (listed_is ∙ ap (λ (rs : List Root). Some rs) (moved_list ∙ ap (map (moved_root to)) same))
           ∙ ap (moved_roots to) (ap without_list step.roots ∙ sym of_roots)
 
-      pub ends_ready : (s : Start) (n : ℕ) (c : Bool) → Goes (kind_of layouts seen sound under_way) s n c before state → StepsRoots layouts under_way sound s n roots roots' heap' (seen heap') state' types.declarations hosts' progress.Complete
+      pub ends_ready : (s : Start) (n : ℕ) (c : Bool) → Goes (kind_of layouts seen sound under_way) s n c before state → StepsRoots layouts under_way sound s n d roots roots' heap' (seen heap') state' types.declarations hosts' progress.Complete
           → InOrder (kind_of layouts seen sound under_way) (owner_value (seen heap') types hosts' roots'' last' heap' None) None
       ends_ready s n c goes step =
           let col = completed layouts s (without_list roots) roots'' (seen heap') step.listed (has_host hosts') goes.heap goes.can goes.traced goes.from step.steps.1.1 (is_heap heap' step.steps.1.0)
@@ -169,17 +165,18 @@ module _ {H S D : Type 0} (layouts : Layouts) (seen : H → HeapView) (sound : H
             can = subst (λ ts. IsCollectable layouts ts (seen heap') (roots_of roots'') (has_host hosts')) goes.types col.can;
             unlisted = ap (λ (r : RootsView). r.listed) col.moves;
             unused = λ none. let made : (seen heap').attached ≡ true = col.collected.attached in absurd (cc);
+            placed = λ on. ap (λ (r : RootsView). r.has_places) col.moves ∙ goes.placed;
           }
 
-      pub way_ends : (s : Start) (n : ℕ) (c : Bool) (begun now : OwnerValue H S D) → before ≡ now → IsUnderWay (kind_of layouts seen sound under_way) s n c begun now → StepsRoots layouts under_way sound s n roots roots' heap' (seen heap') state' types.declarations hosts' progress.Complete
-          → IsPartOf hosts' hosts → last' ≡ (seen heap').allocated → Increments (kind_of layouts seen sound under_way) s (n + 1) begun (owner_value (seen heap') types hosts' roots'' last' heap' None) progress.Complete
+      pub way_ends : (s : Start) (n : ℕ) (c : Bool) (begun now : OwnerValue H S D) → before ≡ now → IsUnderWay (kind_of layouts seen sound under_way) s n c begun now → StepsRoots layouts under_way sound s n d roots roots' heap' (seen heap') state' types.declarations hosts' progress.Complete
+          → IsPartOf hosts' hosts → last' ≡ (seen heap').allocated → IncrementsCounted (kind_of layouts seen sound under_way) s (n + 1) d begun (owner_value (seen heap') types hosts' roots'' last' heap' None) progress.Complete
       way_ends s n c begun now is way step values last_is =
           let whole : IsUnderWay (kind_of layouts seen sound under_way) s n c begun before = subst (IsUnderWay (kind_of layouts seen sound under_way) s n c begun) (sym is) way in
           let at = whole.going in
           let from : OwnerView D = whole.trimmed.seen in
           let goes : Goes (kind_of layouts seen sound under_way) (start_of from) n c before state = subst (λ (z : Start). Goes (kind_of layouts seen sound under_way) z n c before state) at.start (way_goes s n c begun now is way) in
-          let step' : StepsRoots layouts under_way sound (start_of from) n roots roots' heap' (seen heap') state' types.declarations hosts' progress.Complete =
-          subst (λ (z : Start). StepsRoots layouts under_way sound z n roots roots' heap' (seen heap') state' types.declarations hosts' progress.Complete) at.start step in
+          let step' : StepsRoots layouts under_way sound (start_of from) n d roots roots' heap' (seen heap') state' types.declarations hosts' progress.Complete =
+          subst (λ (z : Start). StepsRoots layouts under_way sound z n d roots roots' heap' (seen heap') state' types.declarations hosts' progress.Complete) at.start step in
           let of_roots : from.roots ≡ without_list roots = ap (λ (v : OwnerView D). v.roots) at.rest in
           let of_types : from.types ≡ types = ap (λ (v : OwnerView D). v.types) at.rest in
           let after : IsHeap layouts (seen heap') = is_heap heap' step'.steps.1.0 in

@@ -13,6 +13,7 @@ pub mod OwnerLemmas
 pub mod AllRoots
 pub mod FollowedOffsets
 pub mod WriteLemmas
+pub mod CountingLemmas
 pub mod DeclareLemmas
 pub mod ScopeLemmas
 pub mod OwnedLemmas

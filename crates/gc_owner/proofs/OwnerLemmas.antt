@@ -17,7 +17,7 @@ use Rattle.gc_heap.proofs.AddedLemmas.{start}
 use Rattle.gc_heap.proofs.ClientLemmas.{can_collect_empty}
 use Rattle.gc_owner.specs.declared.entry.RootEntry.{RootEntry}
 use Rattle.gc_owner.specs.declared.entry.SlotEntry.{SlotEntry}
-use Rattle.gc_owner.specs.RootColumns.{RootsView, scoped_words, owned_words, slot_words, global_words, listed_as, roots_of, no_roots, empty_slot, with_scoped, with_global}
+use Rattle.gc_owner.specs.RootColumns.{RootsView, ListUse, list_use, scoped_words, owned_words, slot_words, global_words, listed_as, roots_of, empty_slot, with_scoped, with_global}
 pub use Rattle.gc_owner.specs.Owners.{kind_of}
 use Rattle.gc_owner.specs.Owners.{OwnerValue, Kind, IsReady, InOrder, owner_value, raised, lowered, CanDropWord, CollectsAll, CollectsRoots}
 use Rattle.gc_owner.specs.Tracing.{IsCollectable}
@@ -43,10 +43,10 @@ empty_memory Counting = refl
 empty_memory Copying = refl
 
 -- a new owner is ready
-pub can_begin_new : (layouts : Layouts) (types : List Declaration) (h : HeapView) (r : RootsView) (hosts : ℕ → Bool) → h ≡ detached → r ≡ no_roots r.list_spare → IsCollectable layouts types h (roots_of r) hosts
+pub can_begin_new : (layouts : Layouts) (types : List Declaration) (h : HeapView) (r : RootsView) (hosts : ℕ → Bool) → h ≡ detached → roots_of r ≡ [] → IsCollectable layouts types h (roots_of r) hosts
 can_begin_new layouts types h r hosts none new =
     subst (λ (v : HeapView). IsCollectable layouts types v (roots_of r) hosts) (sym none)
-    (subst (λ (rs : List Root). IsCollectable layouts types detached rs hosts) (sym (ap roots_of new)) (record {
+    (subst (λ (rs : List Root). IsCollectable layouts types detached rs hosts) (sym new) (record {
       traced = λ w o held. absurd (none-some o (sym (get-empty nat_cmp w) ∙ held));
       collects = subst (λ (v : HeapView). CanCollect layouts (start v [] types hosts)) (empty_memory layouts) (can_collect_empty layouts types 0 hosts);
     }))
@@ -157,23 +157,36 @@ module _ {H S D : Type 0} (layouts : Layouts) (seen : H → HeapView) (sound : H
 
   -- the heap holds the same objects, and a collection may begin from the new roots
   pub changed_order : (heap' : H) (roots' : RootsView) → is_none state ≡ true → IsReady layouts (sound heap) before.seen → sound heap' → SameHeld (seen heap) (seen heap')
-      → IsCollectable layouts types.declarations (seen heap') (roots_of roots') (has_host hosts) → roots'.listed ≡ roots.listed
+      → IsCollectable layouts types.declarations (seen heap') (roots_of roots') (has_host hosts) → list_use roots' ≡ list_use roots
       → InOrder (kind_of layouts seen sound under_way) (owner_value (seen heap') types hosts roots' last heap' state) state
   changed_order heap' roots' idle ready is held can listed = in_order (kind_of layouts seen sound under_way) (owner_value (seen heap') types hosts roots' last heap' state) state idle (record {
     sound = is;
     can = can;
-    unlisted = listed ∙ ready.unlisted;
+    unlisted = ap (λ (u : ListUse). u.listed) listed ∙ ready.unlisted;
     unused = λ none. ready.unused (sym held.attached ∙ none);
+    placed = λ on. ap (λ (u : ListUse). u.has_places) listed ∙ ready.placed (sym held.attached ∙ on);
   })
 
-  -- the same where the heap got its first pages
-  pub made_order : (heap' : H) → is_none state ≡ true → IsReady layouts (sound heap) before.seen → sound heap' → IsCollectable layouts types.declarations (seen heap') (roots_of roots) (has_host hosts) → ((seen heap').attached ≡ false → (seen heap).attached ≡ false)
+  -- the same where the heap may have got its first pages
+  pub first_order : (heap' : H) → is_none state ≡ true → IsReady layouts (sound heap) before.seen → sound heap' → IsCollectable layouts types.declarations (seen heap') (roots_of roots) (has_host hosts) → ((seen heap').attached ≡ false → (seen heap).attached ≡ false)
+      → roots.has_places ≡ true → InOrder (kind_of layouts seen sound under_way) (owner_value (seen heap') types hosts roots last heap' state) state
+  first_order heap' idle ready is can kept places = in_order (kind_of layouts seen sound under_way) (owner_value (seen heap') types hosts roots last heap' state) state idle (record {
+    sound = is;
+    can = can;
+    unlisted = ready.unlisted;
+    unused = λ none. ready.unused (kept none);
+    placed = λ on. places;
+  })
+
+  -- and where it has its memory as before
+  pub made_order : (heap' : H) → is_none state ≡ true → IsReady layouts (sound heap) before.seen → sound heap' → IsCollectable layouts types.declarations (seen heap') (roots_of roots) (has_host hosts) → (seen heap').attached ≡ (seen heap).attached
       → InOrder (kind_of layouts seen sound under_way) (owner_value (seen heap') types hosts roots last heap' state) state
   made_order heap' idle ready is can kept = in_order (kind_of layouts seen sound under_way) (owner_value (seen heap') types hosts roots last heap' state) state idle (record {
     sound = is;
     can = can;
     unlisted = ready.unlisted;
-    unused = λ none. ready.unused (kept none);
+    unused = λ none. ready.unused (sym kept ∙ none);
+    placed = λ on. ready.placed (sym kept ∙ on);
   })
 
   pub changed_seen : (now : OwnerValue H S D) → before ≡ now → (heap' : H) (h' : HeapView) (roots' roots'' : RootsView) → seen heap' ≡ h' → roots' ≡ roots''
@@ -192,13 +205,14 @@ made_stays layouts first old new limits limits' (Err pages_fault.Memory) wanting
 module _ {H S D : Type 0} (layouts : Layouts) (seen : H → HeapView) (sound : H → Type 0) (under_way : Start → ℕ → Bool → Stage H S → Type 0)
     (heap : H) (types : TypeTable) (hosts : FinMap nat_cmp D) (roots : RootsView) (last : ℕ) (state : Option S) (heap' : H) (hosts' : FinMap nat_cmp D) (roots' : RootsView) (last' : ℕ)
     (col : CollectsRoots layouts types.declarations (seen heap) (seen heap') roots roots' (has_host hosts) (has_host hosts')) where
-  pub collected_order : is_none state ≡ true → IsReady layouts (sound heap) (owner_value (seen heap) types hosts roots last heap state).seen → sound heap'
+  pub collected_order : is_none state ≡ true → IsReady layouts (sound heap) (owner_value (seen heap) types hosts roots last heap state).seen → (seen heap).attached ≡ true → sound heap'
       → InOrder (kind_of layouts seen sound under_way) (owner_value (seen heap') types hosts' roots' last' heap' state) state
-  collected_order idle ready is = in_order (kind_of layouts seen sound under_way) (owner_value (seen heap') types hosts' roots' last' heap' state) state idle (record {
+  collected_order idle ready on is = in_order (kind_of layouts seen sound under_way) (owner_value (seen heap') types hosts' roots' last' heap' state) state idle (record {
     sound = is;
     can = col.can;
     unlisted = ap (λ (r : RootsView). r.listed) col.moves ∙ ready.unlisted;
     unused = λ none. let made : (seen heap').attached ≡ true = col.collected.attached in absurd (cc);
+    placed = λ still. ap (λ (r : RootsView). r.has_places) col.moves ∙ ready.placed on;
   })
 
   pub collected_seen : (now : OwnerValue H S D) → owner_value (seen heap) types hosts roots last heap state ≡ now → IsHeap layouts (seen heap') → IsPartOf hosts' hosts → last' ≡ (seen heap').allocated

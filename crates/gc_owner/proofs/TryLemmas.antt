@@ -13,7 +13,7 @@ use Rattle.gc_heap.specs.declared.heap.HeapFault.{HeapFault}
 use Rattle.gc_heap.specs.declared.heap.HeapFault.TheVariants as heap_fault
 use Rattle.gc_owner.specs.declared.allocate.AllocateFault.{AllocateFault}
 use Rattle.gc_owner.specs.declared.allocate.Description.{Description}
-use Rattle.gc_owner.specs.RootColumns.{RootsView, roots_of}
+use Rattle.gc_owner.specs.RootColumns.{RootsView, ListUse, list_use, roots_of}
 use Rattle.gc_owner.specs.Owners.{OwnerView, OwnerValue, IsReady, InOrder, owner_value}
 use Rattle.gc_owner.specs.Tracing.{IsCollectable}
 use Rattle.gc_owner.specs.Makes.{CanMake, Describes}
@@ -24,7 +24,7 @@ use Rattle.gc_owner.proofs.OwnerLemmas.{kind_of, in_order}
 -- What a try leaves: a collection may begin, no list is in use that wasn't, and the heap has its memory.
 record Leaves (layouts : Layouts) (types : List Declaration) (new : HeapView) (r r' : RootsView) (hosts : ℕ → Bool) : Type 0 where
   can : IsCollectable layouts types new (roots_of r') hosts
-  listed : r'.listed ≡ r.listed
+  listed : list_use r' ≡ list_use r
   attached : new.attached ≡ true
 
 module _ (layouts : Layouts) (types : List Declaration) (old new : HeapView) (r r' : RootsView) (hosts : ℕ → Bool) (o : HeapObject) (size : ℕ) (heap : IsHeap layouts old) (attached : old.attached ≡ true) (is : IsMakeable layouts types old hosts o)
@@ -32,14 +32,14 @@ module _ (layouts : Layouts) (types : List Declaration) (old new : HeapView) (r 
   unchanged : new ≡ old → r' ≡ r → Leaves layouts types new r r' hosts
   unchanged seen same = record {
     can = subst (λ (h : HeapView). IsCollectable layouts types h (roots_of r') hosts) (sym seen) (subst (λ (rs : RootsView). IsCollectable layouts types old (roots_of rs) hosts) (sym same) can);
-    listed = ap (λ (rs : RootsView). rs.listed) same;
+    listed = ap list_use same;
     attached = ap (λ (h : HeapView). h.attached) seen ∙ attached;
   }
 
   leaves : (answer : Result (Result ℕ ℕ) HeapFault) (result : Result ℕ AllocateFault) → Allocated layouts old new o size answer → GetsRoot answer r r' result → Leaves layouts types new r r' hosts
   leaves (Ok (Ok word)) result allocated rooted = record {
     can = subst (λ (rs : RootsView). IsCollectable layouts types new (roots_of rs) hosts) (sym rooted.0) (made_scoped layouts types old new word size o allocated r hosts heap attached is can);
-    listed = ap (λ (rs : RootsView). rs.listed) rooted.0;
+    listed = ap list_use rooted.0;
     attached = ap (λ (h : HeapView). h.attached) allocated.added ∙ attached;
   }
   leaves (Ok (Err need)) result allocated rooted = unchanged allocated.same rooted.0
@@ -77,8 +77,9 @@ module _ {H S D : Type 0} (layouts : Layouts) (seen : H → HeapView) (sound : H
       in_order (kind_of layouts seen sound under_way) after state idle (record {
         sound = is';
         can = left.can;
-        unlisted = left.listed ∙ ready.unlisted;
+        unlisted = ap (λ (u : ListUse). u.listed) left.listed ∙ ready.unlisted;
         unused = λ none. let still : (seen heap').attached ≡ true = left.attached in absurd (cc);
+        placed = λ on. ap (λ (u : ListUse). u.has_places) left.listed ∙ ready.placed can.attached;
       })
 
   -- and the try answers so

@@ -1,5 +1,5 @@
 -- What writes to held objects leave of the condition of the next collection.
-use Rattle.std.proofs.Common.{◌≡◌, ℕ, zero, suc, ◌+◌, ◌<◌, ◌≤◌, ◌^◌, ◌⊎◌, Bool, true, false, List, [], ◌∷◌, length, Option, Some, None, Contains, refl, sym, ap, ◌∙◌, subst, arith}
+use Rattle.std.proofs.Common.{◌≡◌, ℕ, zero, suc, ◌+◌, ◌<◌, ◌≤◌, ◌^◌, ◌⊎◌, Bool, true, List, [], ◌∷◌, length, Option, Some, None, Contains, refl, sym, ap, ◌∙◌, subst, arith}
 use Rattle.std.specs.Int.{w32, to_le_bytes}
 use Rattle.std.specs.FinMap.{FinMap, get}
 use Rattle.std.specs.Ordering.{nat_cmp}
@@ -158,8 +158,8 @@ module _ {H S D : Type 0} (layouts : Layouts) (seen : H → HeapView) (sound : H
   held_at : (place : ℕ) (o : HeapObject) → get now.seen.heap.content place ≡ Some o → get (seen heap).content place ≡ Some o
   held_at place o held = ap (λ (v : OwnerValue H S D). get v.seen.heap.content place) is ∙ held
 
-  stays : (heap' : H) (place : ℕ) (o : HeapObject) (c : Counts) → seen heap' ≡ record (put_object (seen heap) place o) { counts = c } → (seen heap').attached ≡ false → (seen heap).attached ≡ false
-  stays heap' place o c written none = ap (λ (h : HeapView). h.attached) (sym written) ∙ none
+  stays : (heap' : H) (place : ℕ) (o : HeapObject) (c : Counts) → seen heap' ≡ record (put_object (seen heap) place o) { counts = c } → (seen heap').attached ≡ (seen heap).attached
+  stays heap' place o c written = ap (λ (h : HeapView). h.attached) written
 
   pub number_writable : (place offset count : ℕ) → IsNumberPlace layouts now.seen place offset count → IsWritable layouts (seen heap) place offset count
   number_writable place offset count p = record { object = p.object; held = held_at place p.object p.held; from = p.from; to = p.to }

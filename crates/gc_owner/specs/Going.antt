@@ -1,5 +1,5 @@
 -- What an increment of a collection leaves of the roots and their list.
-use Rattle.std.specs.Prelude.{◌≡◌, ℕ, ◌+◌, Bool, false, List, length, map, Option, Some, None}
+use Rattle.std.specs.Prelude.{◌≡◌, ℕ, ◌+◌, Bool, List, length, map, Option, Some, None}
 use Rattle.std.specs.FinMap.{FinMap}
 use Rattle.std.specs.Ordering.{nat_cmp}
 use Rattle.gc_types.specs.declared.kind.Layouts.{Layouts}
@@ -17,14 +17,14 @@ abbrev pub IsListed : {H S D : Type 0} → (Start → ℕ → Bool → Stage H S
 IsListed under_way r heap state types hosts =
     (listed : List Root) × ((r.listed ≡ Some listed) × collection.IsUnderWay under_way (stage heap state listed types hosts))
 
--- The list changed, and the collection goes on or is complete.
+-- The list changed, and the collection goes on or is complete; c is whether each increment so far was counted.
 pub record StepsRoots {H S D : Type 0} (layouts : Layouts) (under_way : Start → ℕ → Bool → Stage H S → Type 0)
-    (sound : H → Type 0) (s : Start) (n : ℕ) (old new : RootsView) (heap : H) (seen : HeapView) (state : S) (types : List Declaration)
+    (sound : H → Type 0) (s : Start) (n : ℕ) (c : Bool) (old new : RootsView) (heap : H) (seen : HeapView) (state : S) (types : List Declaration)
     (hosts : FinMap nat_cmp D) (progress : GcProgress) : Type 0 where
   pub listed : List Root
   pub roots : new ≡ record old { listed = Some listed }
   pub steps : Stepped layouts s (n + 1) progress
-      (under_way s (n + 1) false (stage heap state listed types hosts))
+      (under_way s (n + 1) c (stage heap state listed types hosts))
       (sound heap × Collected layouts s seen listed (has_host hosts))
 
 -- the list has all roots with their words moved

@@ -1,3 +1,4 @@
+pub mod Counting
 pub mod Declares
 pub mod DroppedRoots
 pub mod Going

@@ -1,5 +1,5 @@
 -- What contracts see of an owner.
-use Rattle.std.specs.Prelude.{◌≡◌, ℕ, ◌<◌, ◌≤◌, Bool, true, false, List, [], length, Option, Some, None, zero, suc, is_none}
+use Rattle.std.specs.Prelude.{◌≡◌, ℕ, ◌<◌, Bool, true, false, List, [], length, Option, Some, None, zero, suc, is_none}
 use Rattle.std.specs.Ordering.{nat_cmp}
 use Rattle.std.specs.FinMap.{FinMap, empty}
 use Rattle.gc_types.specs.declared.kind.Layouts.{Layouts}
@@ -11,7 +11,7 @@ use Rattle.gc_heap.specs.Barriers.{cloned, dropped, CanName, CanUnname}
 use Rattle.gc_heap.specs.Collection.{Stage, stage, Start, CanCollect, Collected, has_host, IsPartOf, IsIncrements}
 use Rattle.gc_heap.specs.declared.collection.GcProgress.{GcProgress}
 use Rattle.gc_heap.specs.declared.collection.GcProgress.TheVariants as progress
-use Rattle.gc_owner.specs.RootColumns.{RootsView, no_roots, roots_of, moved_roots, with_places, without_list, with_owned_root, without_unheld, without_frame}
+use Rattle.gc_owner.specs.RootColumns.{RootsView, no_roots, spent_roots, roots_of, moved_roots, with_places, without_list, with_owned_root, without_unheld, without_frame}
 use Rattle.gc_owner.specs.Tracing.{start_from, AreTraced, IsCollectable}
 
 -- An owner: its heap, its types, the host values by their ids, the roots, the bytes that were allocated after
@@ -42,6 +42,11 @@ new_owner engine number list_spare = record {
   idle = true;
 }
 
+-- an owner of nothing, of which no further scope end and no further owned root can be counted, and that makes no heap, with the id of its
+-- types
+abbrev pub spent_owner : {D : Type 0} → ℕ → ℕ → ℕ → OwnerView D
+spent_owner engine number list_spare = record (new_owner engine number list_spare) { roots = spent_roots list_spare }
+
 -- an owner as its parts tell it
 abbrev pub owner_value : {H S D : Type 0} → HeapView → TypeTable → FinMap nat_cmp D → RootsView → ℕ → H → Option S → OwnerValue H S D
 owner_value seen types hosts roots last heap state = record {
@@ -58,12 +63,14 @@ start_of v = start_from v.types.declarations v.heap (roots_of v.roots) (has_host
 abbrev pub CanBegin : {D : Type 0} → Layouts → OwnerView D → Type 0
 CanBegin layouts v = IsCollectable layouts v.types.declarations v.heap (roots_of v.roots) (has_host v.hosts)
 
--- No collection is under way; the heap is sound, one may begin, and none ran without a heap.
+-- No collection is under way; the heap is sound, one may begin, and none ran without a heap; where the heap has its memory, the list
+-- of a collection has places for all roots.
 pub record IsReady {D : Type 0} (layouts : Layouts) (heap_is_sound : Type 0) (v : OwnerView D) : Type 0 where
   pub sound : heap_is_sound
   pub can : CanBegin layouts v
   pub unlisted : v.roots.listed ≡ None
   pub unused : v.heap.attached ≡ false → v.last ≡ 0
+  pub placed : v.heap.attached ≡ true → v.roots.has_places ≡ true
 
 -- what is under way at a heap that is a type of its own: the trait's ghost members, in one record
 pub record Kind (H S : Type 0) : Type 1 where
@@ -88,6 +95,7 @@ pub record Goes {H S D : Type 0} (k : Kind H S) (s : Start) (n : ℕ) (c : Bool)
   pub types : s.types ≡ v.seen.types.declarations
   pub from : s.roots ≡ roots_of v.seen.roots
   pub busy : v.seen.idle ≡ false
+  pub placed : v.seen.roots.has_places ≡ true
 
 -- an owner is ready, or a collection is under way
 abbrev pub InOrder : {H S D : Type 0} → Kind H S → OwnerValue H S D → Option S → Type 0
@@ -167,10 +175,14 @@ pub record IsUnderWay {H S D : Type 0} (k : Kind H S) (s : Start) (n : ℕ) (c :
 abbrev pub IsEnded : {H S D : Type 0} → Layouts → OwnerValue H S D → OwnerValue H S D → Type 0
 IsEnded layouts begun now = Collects layouts begun.seen now.seen
 
--- what an increment answers and leaves
+-- what an increment answers and leaves, where c is whether it and all before it were counted
+abbrev pub IncrementsCounted : {H S D : Type 0} → Kind H S → Start → ℕ → Bool → OwnerValue H S D → OwnerValue H S D → GcProgress → Type 0
+IncrementsCounted k s done c begun now progress.Complete = IsIncrements k.layouts s done × IsEnded k.layouts begun now
+IncrementsCounted k s done c begun now progress.Continue = ((n : ℕ) → IsIncrements k.layouts s n → done < n) × IsUnderWay k s done c begun now
+
+-- what an increment that isn't counted answers and leaves
 abbrev pub Increments : {H S D : Type 0} → Kind H S → Start → ℕ → OwnerValue H S D → OwnerValue H S D → GcProgress → Type 0
-Increments k s done begun now progress.Complete = IsIncrements k.layouts s done × IsEnded k.layouts begun now
-Increments k s done begun now progress.Continue = ((n : ℕ) → IsIncrements k.layouts s n → done < n) × IsUnderWay k s done false begun now
+Increments k s done begun now = IncrementsCounted k s done false begun now
 
 -- A collection ran from these roots, which have the words of the objects that moved.
 pub record CollectsRoots (layouts : Layouts) (types : List Declaration) (old new : HeapView) (r r' : RootsView) (hosts hosts' : ℕ → Bool) : Type 0 where

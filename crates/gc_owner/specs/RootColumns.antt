@@ -11,8 +11,9 @@ use Rattle.gc_owner.specs.declared.entry.SlotEntry.{SlotEntry}
 -- The roots: the scoped ones from the oldest on, the owned ones from the oldest on and how many were made, the slots of all open frames
 -- from the oldest on with the places where the frames begin, the globals, and the pending exception (0 for
 -- none); the generation of the next scoped root; for how many more scoped roots there is room; the list that a
--- collection under way has of the roots, and how many it was given, which is 0 while none is; and how many places
--- the list has in all.
+-- collection under way has of the roots, and how many it was given, which is 0 while none is; how many places
+-- the list has in all; and whether it has places for all roots, as it has but in what a collection in increments leaves behind
+-- while it runs.
 pub record RootsView : Type 0 where
   pub scoped : List RootEntry
   pub owned : List OwnedEntry
@@ -26,6 +27,7 @@ pub record RootsView : Type 0 where
   pub listed : Option (List Root)
   pub given : ℕ
   pub list_spare : ℕ
+  pub has_places : Bool
 
 -- how many globals there are
 abbrev pub global_count : ℕ
@@ -54,7 +56,12 @@ no_roots list_spare = record {
   listed = None;
   given = 0;
   list_spare = list_spare;
+  has_places = true;
 }
+
+-- no roots, where as many owned ones were made and as many scopes ended as are counted, and the list has no places for all
+abbrev pub spent_roots : ℕ → RootsView
+spent_roots list_spare = record (no_roots list_spare) { owns = 2 ^ 64 - 1; generation = 2 ^ 64 - 1; has_places = false }
 
 -- the words of each kind of root
 abbrev pub scoped_words : RootsView → List ℕ
@@ -151,6 +158,14 @@ Reserves count old new (Err e) = (old < count) × (new ≡ old)
 -- the roots while the list of a collection has these of them
 abbrev pub with_list : List Root → RootsView → RootsView
 with_list listed r = record r { listed = Some listed; given = length (roots_of r) }
+
+-- what roots have of the list of a collection
+pub record ListUse : Type 0 where
+  pub listed : Option (List Root)
+  pub has_places : Bool
+
+abbrev pub list_use : RootsView → ListUse
+list_use r = record { listed = r.listed; has_places = r.has_places }
 
 -- the roots with no list in use
 abbrev pub without_list : RootsView → RootsView

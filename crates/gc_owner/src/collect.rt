@@ -20,6 +20,7 @@ fn collect_in<H: GcHeap, D: Drop>(
     types: &Types,
 ) -> usize
     requires unlisted { roots.old.listed ≡ None }
+    requires placed { roots.old.has_places ≡ true }
     requires sound { H.sound heap.old }
     requires attached { (H.seen heap.old).attached ≡ true }
     requires collectable { IsCollectable H.KIND types.now.declarations (H.seen heap.old) (roots_of roots.old) (has_host hosts.old.entries) }

@@ -1,6 +1,6 @@
 //! Pages for the heap.
 
-ghost use Rattle.std.specs.Prelude.{◌≡◌, ◌≤◌, true, false};
+ghost use Rattle.std.specs.Prelude.{◌≡◌, ◌≤◌, true, false, Err};
 ghost use Rattle.gc_view.specs.Pages.{max_pages};
 ghost use Rattle.gc_heap.specs.Content.{IsHeap};
 ghost use Rattle.gc_owner.specs.Limiters.{Limits};
@@ -38,7 +38,7 @@ pub fn should_collect_first(
 
 impl<H: GcHeap, D: Drop> HeapOwner<H, D> {
     /// Gives the heap its first pages, where it has no memory: the limiter is asked once, for all of them,
-    /// and not for none.
+    /// and not for none. A spent owner (`spent`) answers `Memory`, always.
     pub fn make_heap<L: ResourceLimiter>(
         &mut self,
         limiter: &mut L,
@@ -47,8 +47,12 @@ impl<H: GcHeap, D: Drop> HeapOwner<H, D> {
         requires idle { self.old.seen.idle ≡ true }
         requires pages { first_pages ≤ max_pages }
         ensures made { MakesHeap H.KIND first_pages self.old.seen.heap self.new.seen.heap (L.limits limiter.old) (L.limits limiter.new) result }
+        ensures spent { self.old.seen.roots.has_places ≡ false → result ≡ Err PagesFault.Memory }
         ensures rest { self.new.seen ≡ record self.old.seen { heap = self.new.seen.heap } }
     {
+        if !self.roots.has_places() {
+            return Err(PagesFault::Memory);
+        }
         let alloc = self.alloc;
         make_heap(alloc, &mut self.heap, first_pages, limiter)
     }

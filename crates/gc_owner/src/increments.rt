@@ -1,8 +1,9 @@
 //! Collections in increments.
 
-ghost use Rattle.std.specs.Prelude.{◌≡◌, ◌+◌, ◌<◌, ℕ, Bool, List, Some, true};
+ghost use Rattle.std.specs.Prelude.{◌≡◌, ◌+◌, ◌<◌, ℕ, Bool, List, Some, false, true};
 ghost use Rattle.gc_roots.specs.Roots.{Root};
 ghost use Rattle.gc_heap.specs.Collection.{Start, stage, IsPartOf};
+ghost use Rattle.gc_owner.specs.Counting.{ticks_of};
 ghost use Rattle.gc_owner.specs.Going.{IsListed, StepsRoots, left_of};
 ghost use Rattle.gc_owner.specs.Owners.{OwnerValue, Increments, IsEnded, IsGoing, IsUnderWay, kind_of, start_of};
 
@@ -23,7 +24,7 @@ fn step_in<H: GcHeap, D: Drop>(
     requires { IsListed H.under_way roots.old heap.old state.old types.now.declarations hosts.old.entries }
     ensures step { (s : Start) (n : ℕ) (c : Bool) (listed : List Root) → roots.old.listed ≡ Some listed
         → H.under_way s n c (stage heap.old state.old listed types.now.declarations hosts.old.entries)
-        → StepsRoots H.KIND H.under_way H.sound s n roots.old roots.new heap.new (H.seen heap.new) state.new
+        → StepsRoots H.KIND H.under_way H.sound s n false roots.old roots.new heap.new (H.seen heap.new) state.new
         types.now.declarations hosts.new.entries result }
     ensures less { result ≡ GcProgress.Continue → H.left heap.new state.new < H.left heap.old state.old }
     ensures values { IsPartOf hosts.new.entries hosts.old.entries }
@@ -44,11 +45,13 @@ impl<H: GcHeap, D: Drop> HeapOwner<H, D> {
         self.state.is_none()
     }
 
-    /// Begins a collection from all roots.
-    fn begin_all(&mut self)
+    /// Begins a collection from all roots, which increments then do. Until it is complete the owner is not idle. It takes
+    /// no memory.
+    pub fn begin_all(&mut self)
         requires idle { self.old.seen.idle ≡ true }
         requires attached { self.old.seen.heap.attached ≡ true }
-        ensures { IsGoing (kind_of H.KIND H.seen H.sound H.under_way) (start_of self.old.seen) 0 true self.old self.new }
+        ensures going { IsGoing (kind_of H.KIND H.seen H.sound H.under_way) (start_of self.old.seen) 0 true self.old self.new }
+        ensures ticks { ticks_of H.ticks self.new.state ≡ 0 }
     {
         let state = self.heap.begin();
         self.roots.list_roots();

@@ -12,6 +12,7 @@ pub mod allocate;
 mod barriers;
 mod collect;
 mod columns;
+mod counted;
 mod declare;
 pub mod entry;
 mod frames;

@@ -2,7 +2,7 @@
 
 ghost use Rattle.std.specs.Prelude.{◌≡◌, IfOk};
 ghost use Rattle.gc_view.specs.Heaps.{detached};
-ghost use Rattle.gc_owner.specs.Owners.{new_owner};
+ghost use Rattle.gc_owner.specs.Owners.{new_owner, spent_owner};
 
 use crate::roots::Roots;
 use gc_heap::GcHeap;
@@ -62,5 +62,24 @@ impl<H: GcHeap + Drop, D: Drop> HeapOwner<H, D> {
             last: 0,
             state: None,
         })
+    }
+}
+
+impl<H: GcHeap, D: Drop> HeapOwner<H, D> {
+    /// What may stand in the place of an owner while its heap is collected elsewhere: an owner of nothing, whose types
+    /// carry that id, of which no further scope end and no further owned root can be counted, and that makes no heap. It takes
+    /// no memory.
+    pub fn spent(alloc: Global, engine: u64, number: u64) -> HeapOwner<H, D>
+        ensures { result.seen ≡ spent_owner engine number result.seen.roots.list_spare }
+    {
+        HeapOwner {
+            alloc,
+            heap: H::unattached(alloc),
+            types: Types::new(alloc, engine, number),
+            hosts: ExternRefHostDataTable::new(alloc),
+            roots: Roots::spent(alloc),
+            last: 0,
+            state: None,
+        }
     }
 }

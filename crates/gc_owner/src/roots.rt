@@ -5,7 +5,7 @@ ghost use Rattle.std.specs.Prelude.{IfOk, IfSome, IsNone, OnOk, OnErr, slice_ind
 ghost use Rattle.gc_types.specs.Declarations.{Declaration};
 ghost use Rattle.gc_roots.specs.Roots.{Root};
 ghost use Rattle.gc_heap.specs.Collection.{Start, stage, has_host, IsPartOf, moved_root};
-ghost use Rattle.gc_owner.specs.RootColumns.{no_roots, roots_of, all_roots, moved_roots, MovesAll, with_list, without_list, with_room, with_places};
+ghost use Rattle.gc_owner.specs.RootColumns.{no_roots, spent_roots, roots_of, all_roots, moved_roots, MovesAll, with_list, without_list, with_room, with_places};
 ghost use Rattle.gc_owner.specs.RootColumns.{Reserves};
 ghost use Rattle.gc_owner.specs.RootColumns.{with_scoped, with_owned_root, with_handle_count, without_unheld, with_frame, without_frame};
 ghost use Rattle.gc_owner.specs.RootColumns.{with_slot, with_global, newest_start, HasSlot, AreFrames, AreFew, global_count, empty_slot};
@@ -13,6 +13,8 @@ ghost use Rattle.gc_owner.specs.DroppedRoots.{PopsPast};
 ghost use Rattle.gc_owner.specs.Going.{IsListed, StepsRoots, HasMovedList};
 ghost use Rattle.gc_owner.specs.Tracing.{IsCollectable};
 ghost use Rattle.gc_owner.specs.Owners.{CollectsRoots};
+
+mod counted;
 
 use crate::columns::{list_column, list_word, take_column, word_from};
 use crate::entry::{GcClass, OwnedEntry, RootEntry, SlotEntry};
@@ -59,7 +61,7 @@ pub(crate) struct Roots {
     slots: Vec<SlotEntry>,
     /// Where the slots of each open frame begin.
     frames: Vec<usize>,
-    globals: Vec<SlotEntry>,
+    globals: [SlotEntry; GLOBAL_COUNT as usize],
     /// The word of the pending exception; 0 where there is none.
     pending: u32,
     /// How many scope ends dropped a root; it is the generation of the next scoped root.
@@ -70,10 +72,12 @@ pub(crate) struct Roots {
     is_listing: bool,
     /// How many roots the list was given; 0 while no collection is under way.
     given: usize,
+    /// Whether the list has places for all roots. Without, no heap may be made.
+    has_places: bool,
 }
 
 impl Model for Roots {
-    ghost use Rattle.std.specs.Prelude.{◌≡◌, ◌≤◌, ◌-◌, ◌+◌, ◌^◌, [], false, Some, None, if◌then◌else◌, min, vec_len, vec_capacity};
+    ghost use Rattle.std.specs.Prelude.{◌≡◌, ◌≤◌, ◌-◌, ◌+◌, ◌^◌, [], true, false, Some, None, if◌then◌else◌, min, length, vec_len, vec_capacity};
     ghost use Rattle.gc_owner.specs.RootColumns.{RootsView, global_count, AreFrames};
 
     ghost Value = { RootsView };
@@ -84,18 +88,19 @@ impl Model for Roots {
       owns = s.owns;
       slots = s.slots.items;
       frames = s.frames.items;
-      globals = s.globals.items;
+      globals = s.globals;
       pending = s.pending;
       generation = s.generation;
       spare = s.spare;
       listed = if s.is_listing then Some s.list.roots else None;
       given = s.given;
       list_spare = s.list.spare + s.given;
+      has_places = s.has_places;
     } };
 
     ghost invariant = { λ s. (s.is_listing ≡ false → (s.list.roots ≡ []) × (s.given ≡ 0))
-        × (vec_len s.scoped + s.spare + vec_len s.owned + vec_len s.slots + global_count + 1 ≤ s.list.spare + s.given)
-        × (vec_len s.scoped ≤ 2 ^ 32) × (vec_len s.owned ≤ 2 ^ 32) × (vec_len s.globals ≡ global_count) × AreFrames s.frames.items (vec_len s.slots)
+        × (s.has_places ≡ true → vec_len s.scoped + s.spare + vec_len s.owned + vec_len s.slots + global_count + 1 ≤ s.list.spare + s.given)
+        × (vec_len s.scoped ≤ 2 ^ 32) × (vec_len s.owned ≤ 2 ^ 32) × (length s.globals ≡ global_count) × AreFrames s.frames.items (vec_len s.slots)
         × (vec_len s.scoped + s.spare ≤ vec_capacity s.scoped) };
 }
 
@@ -146,8 +151,6 @@ impl Roots {
     pub(crate) fn new(alloc: Global) -> Result<Roots, AllocError>
         ensures { IfOk result (λ r. r ≡ no_roots r.list_spare) }
     {
-        let mut globals = Vec::new(alloc);
-        globals.resize(GLOBAL_COUNT as usize, NOTHING)?;
         let mut list = GcRootsList::new(alloc);
         list.reserve(OTHER_PLACES)?;
         Ok(Roots {
@@ -157,13 +160,44 @@ impl Roots {
             owns: 0,
             slots: Vec::new(alloc),
             frames: Vec::new(alloc),
-            globals,
+            globals: [NOTHING; GLOBAL_COUNT as usize],
             pending: 0,
             generation: 0,
             list,
             is_listing: false,
             given: 0,
+            has_places: true,
         })
+    }
+
+    /// No roots: as many scopes ended and owned roots were made as are counted, and the list of a collection has no
+    /// places. It takes no memory.
+    pub(crate) fn spent(alloc: Global) -> Roots
+        ensures { result ≡ spent_roots result.list_spare }
+    {
+        Roots {
+            scoped: Vec::new(alloc),
+            spare: 0,
+            owned: Vec::new(alloc),
+            owns: u64::MAX,
+            slots: Vec::new(alloc),
+            frames: Vec::new(alloc),
+            globals: [NOTHING; GLOBAL_COUNT as usize],
+            pending: 0,
+            generation: u64::MAX,
+            list: GcRootsList::new(alloc),
+            is_listing: false,
+            given: 0,
+            has_places: false,
+        }
+    }
+
+    /// Whether the list of a collection has places for all roots.
+    pub(crate) fn has_places(&self) -> bool
+        ensures { result ≡ self.now.has_places }
+    {
+        let _entries = &self.scoped;
+        self.has_places
     }
 
     /// There are no more scoped and owned roots than a u32 numbers, and frames lie in the slots. At run time
@@ -388,6 +422,7 @@ impl Roots {
         trace: &mut GcStoreTraceState<'_, D>,
     )
         requires unlisted { self.old.listed ≡ None }
+        requires placed { self.old.has_places ≡ true }
         requires sound { H.sound heap.old }
         requires attached { (H.seen heap.old).attached ≡ true }
         requires collectable { IsCollectable H.KIND trace.old.types.now.declarations (H.seen heap.old) (roots_of self.old)
@@ -404,7 +439,7 @@ impl Roots {
             self.scoped.as_slice(),
             self.owned.as_slice(),
             self.slots.as_slice(),
-            self.globals.as_slice(),
+            &self.globals,
             self.pending,
         );
         run(heap, &mut self.list, trace);
@@ -412,7 +447,7 @@ impl Roots {
             self.scoped.as_mut_slice(),
             self.owned.as_mut_slice(),
             self.slots.as_mut_slice(),
-            self.globals.as_mut_slice(),
+            &mut self.globals,
             self.pending,
             &self.list,
         );
@@ -422,6 +457,7 @@ impl Roots {
     /// Gives a collection that begins all roots, in its list.
     pub(crate) fn list_roots(&mut self)
         requires unlisted { self.old.listed ≡ None }
+        requires placed { self.old.has_places ≡ true }
         ensures listed { self.new ≡ with_list (roots_of self.old) self.old }
         ensures unused { self.old.given ≡ 0 }
     {
@@ -430,7 +466,7 @@ impl Roots {
             self.scoped.as_slice(),
             self.owned.as_slice(),
             self.slots.as_slice(),
-            self.globals.as_slice(),
+            &self.globals,
             self.pending,
         );
         self.given = self.list.len();
@@ -447,7 +483,7 @@ impl Roots {
         requires { IsListed H.under_way self.old heap.old state.old trace.old.types.now.declarations trace.old.host_data_table.now.entries }
         ensures step { (s : Start) (n : ℕ) (c : Bool) (listed : List Root) → self.old.listed ≡ Some listed
             → H.under_way s n c (stage heap.old state.old listed trace.old.types.now.declarations trace.old.host_data_table.now.entries)
-            → StepsRoots H.KIND H.under_way H.sound s n self.old self.new heap.new (H.seen heap.new) state.new
+            → StepsRoots H.KIND H.under_way H.sound s n false self.old self.new heap.new (H.seen heap.new) state.new
             trace.old.types.now.declarations trace.new.host_data_table.now.entries result }
         ensures less { result ≡ GcProgress.Continue → H.left heap.new state.new < H.left heap.old state.old }
         ensures values { IsPartOf trace.new.host_data_table.now.entries trace.old.host_data_table.now.entries }
@@ -466,7 +502,7 @@ impl Roots {
             self.scoped.as_mut_slice(),
             self.owned.as_mut_slice(),
             self.slots.as_mut_slice(),
-            self.globals.as_mut_slice(),
+            &mut self.globals,
             self.pending,
             &self.list,
         );

@@ -9,4 +9,4 @@ pub begin_all-requires-clause-attached : goal.begin_all-requires-clause-attached
 begin_all-requires-clause-attached g c = c.trim.ensures.changes.held.attached ∙ c.requires.attached
 
 pub returns : goal.returns
-returns g c = (start_of c.trim.new.self.seen, record { trimmed = c.trim.new.self; trims = c.trim.ensures; going = c.begin_all.ensures })
+returns g c = (start_of c.trim.new.self.seen, record { trimmed = c.trim.new.self; trims = c.trim.ensures; going = c.begin_all.ensures.going })

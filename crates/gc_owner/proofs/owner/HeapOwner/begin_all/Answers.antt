@@ -13,7 +13,7 @@ pub begin-state-requires-clause-open : goal.begin-state-requires-clause-open
 begin-state-requires-clause-open g c = (ready_at g.H.GcHeap.KIND g.H.GcHeap.seen g.H.GcHeap.sound g.H.GcHeap.under_way c.self.inside.heap c.self.inside.types c.self.inside.hosts.entries c.self.inside.roots c.self.inside.last c.self.inside.state c.args.self.now c.self.invariant c.self.view_is c.requires.idle).can.collects.open_scopes
 
 pub list_roots-requires : goal.list_roots-requires
-list_roots-requires g c = record { unlisted = (ready_at g.H.GcHeap.KIND g.H.GcHeap.seen g.H.GcHeap.sound g.H.GcHeap.under_way c.self.inside.heap c.self.inside.types c.self.inside.hosts.entries c.self.inside.roots c.self.inside.last c.self.inside.state c.args.self.now c.self.invariant c.self.view_is c.requires.idle).unlisted }
+list_roots-requires g c = record { unlisted = (ready_at g.H.GcHeap.KIND g.H.GcHeap.seen g.H.GcHeap.sound g.H.GcHeap.under_way c.self.inside.heap c.self.inside.types c.self.inside.hosts.entries c.self.inside.roots c.self.inside.last c.self.inside.state c.args.self.now c.self.invariant c.self.view_is c.requires.idle).unlisted; placed = (ready_at g.H.GcHeap.KIND g.H.GcHeap.seen g.H.GcHeap.sound g.H.GcHeap.under_way c.self.inside.heap c.self.inside.types c.self.inside.hosts.entries c.self.inside.roots c.self.inside.last c.self.inside.state c.args.self.now c.self.invariant c.self.view_is c.requires.idle).placed (attached_at g.H.GcHeap.KIND g.H.GcHeap.seen g.H.GcHeap.sound g.H.GcHeap.under_way c.self.inside.heap c.self.inside.types c.self.inside.hosts.entries c.self.inside.roots c.self.inside.last c.self.inside.state c.args.self.now c.self.invariant c.self.view_is c.requires.idle c.requires.attached g.met.H.GcHeap.is_heap) }
 
 pub invariant_of-self : goal.invariant_of-self
 invariant_of-self g c = (
@@ -27,7 +27,7 @@ invariant_of-self g c = (
   ),
 )
 
-pub returns : goal.returns
-returns g c =
+pub returns-clause-going : goal.returns-clause-going
+returns-clause-going g c =
     begun_way g.H.GcHeap.KIND g.H.GcHeap.seen g.H.GcHeap.sound g.H.GcHeap.under_way c.self.inside.heap c.self.inside.types c.self.inside.hosts.entries c.self.inside.roots c.self.inside.last c.self.inside.state c.args.self.now c.self.invariant c.self.view_is c.requires.idle c.requires.attached g.met.H.GcHeap.is_heap c.list_roots.new.self c.begin-state.result c.list_roots.ensures.listed c.list_roots.ensures.unused
     (λ s sound same can. g.met.H.GcHeap.starts s c.self.inside.heap c.begin-state.result sound c.begin-state.ensures.begun same can)

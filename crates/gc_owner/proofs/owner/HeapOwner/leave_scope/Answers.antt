@@ -2,7 +2,7 @@ use Rattle.std.proofs.Common.{◌<◌, ◌≤◌, List, length, refl, sym, ap, �
 use Rattle.gc_view.specs.Heaps.{SameHeld}
 use Rattle.gc_heap.specs.Collection.{has_host}
 use Rattle.gc_owner.specs.declared.entry.RootEntry.{RootEntry}
-use Rattle.gc_owner.specs.RootColumns.{RootsView, roots_of, left_scope}
+use Rattle.gc_owner.specs.RootColumns.{list_use, RootsView, roots_of, left_scope}
 use Rattle.gc_owner.specs.Tracing.{IsCollectable}
 use Rattle.gc_owner.proofs.OwnerLemmas.{ready_at, idle_at, changed_order, changed_seen}
 use Rattle.gc_owner.proofs.ScopeLemmas.{same_held, left_none, left_some}
@@ -24,7 +24,7 @@ invariant_of-self g c =
     changed_order g.H.GcHeap.KIND g.H.GcHeap.seen g.H.GcHeap.sound g.H.GcHeap.under_way c.self.inside.heap c.self.inside.types c.self.inside.hosts.entries c.self.inside.roots c.self.inside.last c.self.inside.state c.drop_past.new.heap c.end_generation.new.self (idle_at g.H.GcHeap.KIND g.H.GcHeap.seen g.H.GcHeap.sound g.H.GcHeap.under_way c.self.inside.heap c.self.inside.types c.self.inside.hosts.entries c.self.inside.roots c.self.inside.last c.self.inside.state c.args.self.now c.self.view_is c.requires.idle) r c.drop_past.ensures.sound c.drop_past.ensures.held
     (subst (λ (rs : RootsView). IsCollectable g.H.GcHeap.KIND c.self.inside.types.declarations (g.H.GcHeap.seen c.drop_past.new.heap) (roots_of rs) (has_host c.self.inside.hosts.entries)) (sym c.end_generation.ensures)
     (c.drop_past.ensures.keeps c.self.inside.types.declarations (has_host c.self.inside.hosts.entries) r.can))
-    (ap (λ (rs : RootsView). rs.listed) c.end_generation.ensures ∙ ap (λ (rs : RootsView). rs.listed) c.drop_past.ensures.roots)
+    (ap list_use c.end_generation.ensures ∙ ap list_use c.drop_past.ensures.roots)
 
 pub returns-then-scoped-mark : goal.returns-then-scoped-mark
 returns-then-scoped-mark g c =

@@ -1,7 +1,7 @@
 use Rattle.std.proofs.Common.{refl, sym, ap, ◌∙◌, subst}
 use Rattle.gc_view.specs.Heaps.{HeapView, SameHeld}
 use Rattle.gc_heap.specs.Collection.{has_host}
-use Rattle.gc_owner.specs.RootColumns.{RootsView, roots_of, with_places, with_owned_root}
+use Rattle.gc_owner.specs.RootColumns.{list_use, RootsView, roots_of, with_places, with_owned_root}
 use Rattle.gc_owner.specs.Tracing.{IsCollectable}
 use Rattle.gc_owner.proofs.OwnerLemmas.{ready_at, idle_at, word_at, changed_order, changed_seen}
 use Rattle.gc_owner.specs.Owners.{raised}
@@ -25,7 +25,7 @@ invariant_of-self-2 g c =
     (subst (λ v. IsCollectable g.H.GcHeap.KIND c.self.inside.types.declarations v (roots_of c.own.new.self) (has_host c.self.inside.hosts.entries)) (sym c.copy_word.ensures.seen)
     (subst (λ (rs : RootsView). IsCollectable g.H.GcHeap.KIND c.self.inside.types.declarations (raised h c.args.word) (roots_of rs) (has_host c.self.inside.hosts.entries)) (sym c.in_ok-own.ensures.ok)
     (owned_kept g.H.GcHeap.KIND c.self.inside.types.declarations h c.self.inside.roots (has_host c.self.inside.hosts.entries) c.args.word r.can (word_at g.H.GcHeap.KIND g.H.GcHeap.seen g.H.GcHeap.sound g.H.GcHeap.under_way c.self.inside.heap c.self.inside.types c.self.inside.hosts.entries c.self.inside.roots c.self.inside.last c.self.inside.state c.args.self.now c.self.view_is c.args.word c.requires.word))))
-    (ap (λ (rs : RootsView). rs.listed) c.in_ok-own.ensures.ok)
+    (ap list_use c.in_ok-own.ensures.ok)
 
 pub returns-clause-ok : goal.returns-clause-ok
 returns-clause-ok g c =

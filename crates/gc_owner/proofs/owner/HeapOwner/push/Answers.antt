@@ -1,7 +1,7 @@
 use Rattle.std.proofs.Common.{length, sym, ap, subst, arith}
 use Rattle.gc_view.specs.Heaps.{HeapView, SameHeld}
 use Rattle.gc_heap.specs.Collection.{has_host}
-use Rattle.gc_owner.specs.RootColumns.{RootsView, roots_of}
+use Rattle.gc_owner.specs.RootColumns.{list_use, roots_of}
 use Rattle.gc_owner.specs.Owners.{raised}
 use Rattle.gc_owner.specs.Tracing.{IsCollectable}
 use Rattle.gc_owner.proofs.ListedRoots.{few_held}
@@ -32,4 +32,4 @@ invariant_of-self g c =
     (subst (λ v. IsCollectable g.H.GcHeap.KIND c.self.inside.types.declarations v (roots_of c.push.new.self) (has_host c.self.inside.hosts.entries)) (sym c.copy_word.ensures.seen)
     (subst (λ rs. IsCollectable g.H.GcHeap.KIND c.self.inside.types.declarations (raised h c.args.word) (roots_of rs) (has_host c.self.inside.hosts.entries)) (sym c.push.ensures.pushed)
     (pushed_kept g.H.GcHeap.KIND c.self.inside.types.declarations h c.self.inside.roots (has_host c.self.inside.hosts.entries) c.args.word r.can (word_at g.H.GcHeap.KIND g.H.GcHeap.seen g.H.GcHeap.sound g.H.GcHeap.under_way c.self.inside.heap c.self.inside.types c.self.inside.hosts.entries c.self.inside.roots c.self.inside.last c.self.inside.state c.args.self.now c.self.view_is c.args.word c.requires.word))))
-    (ap (λ (rs : RootsView). rs.listed) c.push.ensures.pushed)
+    (ap list_use c.push.ensures.pushed)

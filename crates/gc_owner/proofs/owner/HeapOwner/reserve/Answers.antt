@@ -1,7 +1,7 @@
 use Rattle.std.proofs.Common.{refl, sym, ap, ◌∙◌, subst}
 use Rattle.gc_view.specs.Heaps.{HeapView}
 use Rattle.gc_heap.specs.Collection.{has_host}
-use Rattle.gc_owner.specs.RootColumns.{RootsView, roots_of, with_room}
+use Rattle.gc_owner.specs.RootColumns.{list_use, roots_of, with_room}
 use Rattle.gc_owner.specs.Tracing.{IsCollectable}
 use Rattle.gc_owner.proofs.OwnerLemmas.{ready_at, idle_at, changed_order, changed_seen}
 use Rattle.gc_owner.proofs.owner.HeapOwner.reserve.Goals as goal
@@ -12,7 +12,7 @@ invariant_of-self g c =
     let h : HeapView = g.H.GcHeap.seen c.self.inside.heap in
     changed_order g.H.GcHeap.KIND g.H.GcHeap.seen g.H.GcHeap.sound g.H.GcHeap.under_way c.self.inside.heap c.self.inside.types c.self.inside.hosts.entries c.self.inside.roots c.self.inside.last c.self.inside.state c.self.inside.heap c.reserve.new.self (idle_at g.H.GcHeap.KIND g.H.GcHeap.seen g.H.GcHeap.sound g.H.GcHeap.under_way c.self.inside.heap c.self.inside.types c.self.inside.hosts.entries c.self.inside.roots c.self.inside.last c.self.inside.state c.args.self.now c.self.view_is c.requires.idle) r r.sound (record { content = refl; attached = refl; capacity = refl; allocated = refl; needs_gc = refl })
     (subst (λ rs. IsCollectable g.H.GcHeap.KIND c.self.inside.types.declarations h (roots_of rs) (has_host c.self.inside.hosts.entries)) (sym c.reserve.ensures.rest) r.can)
-    (ap (λ (rs : RootsView). rs.listed) c.reserve.ensures.rest)
+    (ap list_use c.reserve.ensures.rest)
 
 pub returns-clause-rest : goal.returns-clause-rest
 returns-clause-rest g c =

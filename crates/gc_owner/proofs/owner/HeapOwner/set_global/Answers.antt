@@ -2,7 +2,7 @@ use Rattle.std.proofs.Common.{◌<◌, length, refl, sym, ap, ◌∙◌, subst, 
 use Rattle.gc_view.specs.Heaps.{HeapView, SameHeld}
 use Rattle.gc_heap.specs.Collection.{has_host}
 use Rattle.gc_owner.specs.declared.entry.SlotEntry.{SlotEntry}
-use Rattle.gc_owner.specs.RootColumns.{RootsView, roots_of, with_global}
+use Rattle.gc_owner.specs.RootColumns.{list_use, roots_of, with_global}
 use Rattle.gc_owner.specs.Owners.{raised, lowered, CanDropWord}
 use Rattle.gc_owner.specs.Tracing.{IsCollectable}
 use Rattle.gc_owner.proofs.ListedRoots.{few_held}
@@ -36,7 +36,7 @@ invariant_of-self g c =
     (subst (λ rs. IsCollectable g.H.GcHeap.KIND c.self.inside.types.declarations (lowered (raised h c.args.entry.word) c.global-old_word.result.word) (roots_of rs) (has_host c.self.inside.hosts.entries)) (sym c.set_global.ensures)
     (subst (λ (e : SlotEntry). IsCollectable g.H.GcHeap.KIND c.self.inside.types.declarations (lowered (raised h c.args.entry.word) e.word) (roots_of (with_global c.args.index c.args.entry c.self.inside.roots)) (has_host c.self.inside.hosts.entries)) (sym c.global-old_word.ensures)
     (global_kept c.self.inside.roots c.args.index c.args.entry below g.H.GcHeap.KIND c.self.inside.types.declarations h (has_host c.self.inside.hosts.entries) r.can (word_at g.H.GcHeap.KIND g.H.GcHeap.seen g.H.GcHeap.sound g.H.GcHeap.under_way c.self.inside.heap c.self.inside.types c.self.inside.hosts.entries c.self.inside.roots c.self.inside.last c.self.inside.state c.args.self.now c.self.view_is c.args.entry.word c.requires.word)))))
-    (ap (λ (rs : RootsView). rs.listed) c.set_global.ensures)
+    (ap list_use c.set_global.ensures)
 
 pub returns : goal.returns
 returns g c =

@@ -1,7 +1,7 @@
 use Rattle.std.proofs.Common.{◌<◌, length, sym, ap, subst, arith}
 use Rattle.gc_view.specs.Heaps.{HeapView}
 use Rattle.gc_heap.specs.Collection.{has_host}
-use Rattle.gc_owner.specs.RootColumns.{RootsView, roots_of}
+use Rattle.gc_owner.specs.RootColumns.{list_use, RootsView, roots_of}
 use Rattle.gc_owner.specs.Tracing.{IsCollectable}
 use Rattle.gc_owner.proofs.OwnerLemmas.{ready_at, idle_at, changed_order}
 use Rattle.gc_owner.proofs.ScopeLemmas.{same_held}
@@ -16,4 +16,4 @@ invariant_of-self g c =
     changed_order g.H.GcHeap.KIND g.H.GcHeap.seen g.H.GcHeap.sound g.H.GcHeap.under_way c.self.inside.heap c.self.inside.types c.self.inside.hosts.entries c.self.inside.roots c.self.inside.last c.self.inside.state c.self.inside.heap c.set_handles.new.self (idle_at g.H.GcHeap.KIND g.H.GcHeap.seen g.H.GcHeap.sound g.H.GcHeap.under_way c.self.inside.heap c.self.inside.types c.self.inside.hosts.entries c.self.inside.roots c.self.inside.last c.self.inside.state c.args.self.now c.self.view_is c.requires.idle) r r.sound (same_held h)
     (subst (λ (rs : RootsView). IsCollectable g.H.GcHeap.KIND c.self.inside.types.declarations h (roots_of rs) (has_host c.self.inside.hosts.entries)) (sym c.set_handles.ensures)
     (subst (λ rs. IsCollectable g.H.GcHeap.KIND c.self.inside.types.declarations h rs (has_host c.self.inside.hosts.entries)) (sym (handles_kept c.self.inside.roots c.args.index c.args.handles below)) r.can))
-    (ap (λ (rs : RootsView). rs.listed) c.set_handles.ensures)
+    (ap list_use c.set_handles.ensures)

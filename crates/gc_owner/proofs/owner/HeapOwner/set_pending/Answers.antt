@@ -1,7 +1,7 @@
 use Rattle.std.proofs.Common.{refl, sym, ap, ◌∙◌, subst}
 use Rattle.gc_view.specs.Heaps.{HeapView, SameHeld}
 use Rattle.gc_heap.specs.Collection.{has_host}
-use Rattle.gc_owner.specs.RootColumns.{RootsView, roots_of}
+use Rattle.gc_owner.specs.RootColumns.{list_use, roots_of}
 use Rattle.gc_owner.specs.Owners.{raised, lowered, CanDropWord}
 use Rattle.gc_owner.specs.Tracing.{IsCollectable}
 use Rattle.gc_owner.proofs.ListedRoots.{few_held}
@@ -33,7 +33,7 @@ invariant_of-self g c =
     (subst (λ rs. IsCollectable g.H.GcHeap.KIND c.self.inside.types.declarations (lowered (raised h c.args.word) c.pending-old_word.result) (roots_of rs) (has_host c.self.inside.hosts.entries)) (sym c.set_pending.ensures)
     (subst (λ n. IsCollectable g.H.GcHeap.KIND c.self.inside.types.declarations (lowered (raised h c.args.word) n) (roots_of (record c.self.inside.roots { pending = c.args.word })) (has_host c.self.inside.hosts.entries)) (sym c.pending-old_word.ensures)
     (pending_kept c.self.inside.roots g.H.GcHeap.KIND c.self.inside.types.declarations h (has_host c.self.inside.hosts.entries) r.can c.args.word (word_at g.H.GcHeap.KIND g.H.GcHeap.seen g.H.GcHeap.sound g.H.GcHeap.under_way c.self.inside.heap c.self.inside.types c.self.inside.hosts.entries c.self.inside.roots c.self.inside.last c.self.inside.state c.args.self.now c.self.view_is c.args.word c.requires.word)))))
-    (ap (λ (rs : RootsView). rs.listed) c.set_pending.ensures)
+    (ap list_use c.set_pending.ensures)
 
 pub returns : goal.returns
 returns g c =

@@ -1,7 +1,7 @@
 use Rattle.std.proofs.Common.{◌+◌, ◌<◌, length, refl, sym, ap, ◌∙◌, subst}
 use Rattle.gc_view.specs.Heaps.{HeapView, SameHeld}
 use Rattle.gc_heap.specs.Collection.{has_host}
-use Rattle.gc_owner.specs.RootColumns.{RootsView, roots_of}
+use Rattle.gc_owner.specs.RootColumns.{list_use, RootsView, roots_of}
 use Rattle.gc_owner.specs.Tracing.{IsCollectable}
 use Rattle.gc_owner.proofs.OwnerLemmas.{ready_at, idle_at, word_at, changed_order, changed_seen}
 use Rattle.gc_owner.specs.RootColumns.{newest_start, with_slot}
@@ -37,7 +37,7 @@ invariant_of-self g c =
     (subst (λ (rs : RootsView). IsCollectable g.H.GcHeap.KIND c.self.inside.types.declarations h' (roots_of rs) (has_host c.self.inside.hosts.entries)) (sym c.set_slot.ensures)
     (slot_kept c.self.inside.roots (newest_start c.self.inside.roots + c.args.index) c.args.entry below g.H.GcHeap.KIND c.self.inside.types.declarations h (has_host c.self.inside.hosts.entries) r.can
     (word_at g.H.GcHeap.KIND g.H.GcHeap.seen g.H.GcHeap.sound g.H.GcHeap.under_way c.self.inside.heap c.self.inside.types c.self.inside.hosts.entries c.self.inside.roots c.self.inside.last c.self.inside.state c.args.self.now c.self.view_is c.args.entry.word c.requires.word) c.show_word.ensures.copied)))
-    (ap (λ (rs : RootsView). rs.listed) c.set_slot.ensures)
+    (ap list_use c.set_slot.ensures)
 
 pub returns : goal.returns
 returns g c =

@@ -1,7 +1,7 @@
 use Rattle.std.proofs.Common.{refl, sym, ap, ◌∙◌, subst}
 use Rattle.gc_view.specs.Heaps.{SameHeld}
 use Rattle.gc_heap.specs.Collection.{has_host}
-use Rattle.gc_owner.specs.RootColumns.{RootsView, roots_of, with_places, with_handles}
+use Rattle.gc_owner.specs.RootColumns.{list_use, RootsView, roots_of, with_places, with_handles}
 use Rattle.gc_owner.specs.Tracing.{IsCollectable}
 use Rattle.gc_owner.proofs.OwnerLemmas.{ready_at, idle_at, changed_order, changed_seen}
 use Rattle.gc_owner.proofs.owner.HeapOwner.trim.Goals as goal
@@ -15,7 +15,7 @@ invariant_of-self g c =
     changed_order g.H.GcHeap.KIND g.H.GcHeap.seen g.H.GcHeap.sound g.H.GcHeap.under_way c.self.inside.heap c.self.inside.types c.self.inside.hosts.entries c.self.inside.roots c.self.inside.last c.self.inside.state c.drop_unheld.new.heap c.forget_unheld.new.self (idle_at g.H.GcHeap.KIND g.H.GcHeap.seen g.H.GcHeap.sound g.H.GcHeap.under_way c.self.inside.heap c.self.inside.types c.self.inside.hosts.entries c.self.inside.roots c.self.inside.last c.self.inside.state c.args.self.now c.self.view_is c.requires.idle) r c.drop_unheld.ensures.sound c.drop_unheld.ensures.held
     (subst (λ (rs : RootsView). IsCollectable g.H.GcHeap.KIND c.self.inside.types.declarations (g.H.GcHeap.seen c.drop_unheld.new.heap) (roots_of rs) (has_host c.self.inside.hosts.entries)) (sym c.forget_unheld.ensures)
     (c.drop_unheld.ensures.keeps c.self.inside.types.declarations (has_host c.self.inside.hosts.entries) r.can))
-    (ap (λ (rs : RootsView). rs.listed) c.forget_unheld.ensures)
+    (ap list_use c.forget_unheld.ensures)
 
 pub returns : goal.returns
 returns g c =

@@ -11,7 +11,7 @@ invariant_of-self-2 c =
     c.push_reserved.ensures.items ∙ ap₂ (λ (fs : List ℕ) (n : ℕ). fs ++ n ∷ []) c.reserve-2.ensures.items c.len-start.ensures in
     let end : vec_len c.resize.new.self ≡ vec_len c.self.inside.slots + c.args.slots = omega (arith, count, c.len-start.ensures) in (
       λ is. (c.reserve.ensures.roots ∙ (c.self.invariant.0 is).0, (c.self.invariant.0 is).1),
-      omega (arith, c.in_ok-reserve.ensures.room, c.len.ensures, c.len-2.ensures, c.len-start.ensures, end),
+      λ places. omega (arith, c.in_ok-reserve.ensures.room, c.len.ensures, c.len-2.ensures, c.len-start.ensures, end),
       c.self.invariant.2,
       c.self.invariant.3,
       c.self.invariant.4,

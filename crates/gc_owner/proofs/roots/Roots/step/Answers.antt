@@ -15,7 +15,7 @@ step-requires g c =
 pub invariant_of-self : goal.invariant_of-self
 invariant_of-self g c =
     let used = used_list c.self.inside.is_listing c.self.inside.list.roots c.requires.0 (ap (λ (r : RootsView). r.listed) c.self.view_is ∙ c.requires.1.0) in
-    (λ is. absurd (cc (used.0, is)), omega (arith, c.self.invariant.1, c.step.ensures.spare), c.self.invariant.2, c.self.invariant.3, c.self.invariant.4, c.self.invariant.5, c.self.invariant.6)
+    (λ is. absurd (cc (used.0, is)), λ places. omega (arith, c.self.invariant.1 places, c.step.ensures.spare), c.self.invariant.2, c.self.invariant.3, c.self.invariant.4, c.self.invariant.5, c.self.invariant.6)
 
 pub returns-clause-step : goal.returns-clause-step
 returns-clause-step g c = λ s n d listed is goes.
