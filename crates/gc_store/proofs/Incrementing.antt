@@ -54,6 +54,12 @@ goes_by Copying s t place v m w has trims collects number (places, (are, is)) =
     let few = few_reached Copying (shown s v) t place has.holds has.is_heap (length places) reaches in
     record { reached_so = length places; reaches = reaches; is = is; few = omega (arith, is, few) }
 
+-- where a heap is made, and the number is known
+pub takes_exactly : {D : Type 0} (layouts : Layouts) (s : StoreView D) (t : Table D) (v m w : OwnerView D) (n : ℕ) → HoldsTable layouts (shown s v) t → SlotsInFrames v.roots → IsHeap layouts v.heap → v.heap.attached ≡ true → Trims layouts v m → Collects layouts v w → IsIncrements layouts (start_of m) n → TakesIncrements layouts t n
+takes_exactly layouts s t v m w n holds in_frames is_heap attached trims collects takes =
+    let by = goes_by layouts s t holds.0 v m w (record { holds = holds.1; in_frames = in_frames; is_heap = is_heap; attached = attached }) trims collects n takes in
+    record { reached = by.reached_so; reaches = by.reaches; number = by.is ∙ ap (λ (made : Bool). increments_where made layouts by.reached_so) (sym attached ∙ holds.1.memory.made) }
+
 -- where a heap is made
 pub takes_made : {D : Type 0} (layouts : Layouts) (s : StoreView D) (t : Table D) (v w : OwnerView D) (n : ℕ) → HoldsTable layouts (shown s v) t → SlotsInFrames v.roots → IsHeap layouts v.heap → v.heap.attached ≡ true → Collects layouts v w → CountsIncrements layouts v n → TakesIncrements layouts t n
 takes_made layouts s t v w n holds in_frames is_heap attached collects counts =

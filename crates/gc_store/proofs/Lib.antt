@@ -1,5 +1,5 @@
 pub mod AskedTypes
-pub mod Collecting
+pub mod CollectedStores
 pub mod CopiedBytes
 pub mod Declaring
 pub mod Describing
@@ -49,3 +49,6 @@ pub mod HostReads
 pub mod HostChanges
 pub mod SpareLemmas
 pub mod WritingAt
+pub mod ReachedWords
+pub mod Suspending
+pub mod Stepping

@@ -1,5 +1,5 @@
 -- That a store is sound: it holds some table.
-use Rattle.std.proofs.Common.{◌≡◌, ℕ, List, [], true, false, refl, sym, ap, ◌∙◌, subst, arith}
+use Rattle.std.proofs.Common.{◌≡◌, ℕ, ◌-◌, ◌^◌, List, [], true, false, refl, sym, ap, ◌∙◌, subst, arith}
 use Rattle.std.specs.List.{IsDistinct}
 use Rattle.std.specs.Option.{option_map}
 use Rattle.std.specs.FinMap as finite
@@ -12,11 +12,15 @@ use Rattle.gc_view.specs.Heaps.{HeapView}
 use Rattle.gc_model.specs.Stores.{FunctionIds, StoreView, empty_store}
 use Rattle.gc_model.proofs.HoldsStart.{nowhere, IsUntouched, holds_untouched, untouched_new, untouched_from_parts, untouched_from_start}
 use Rattle.gc_heap.specs.Content.{IsHeap}
-use Rattle.gc_owner.specs.Owners.{OwnerView, new_owner}
+use Rattle.gc_owner.specs.Owners.{OwnerView, new_owner, spent_owner}
+use Rattle.gc_model.specs.Reach.{AreAll}
+use Rattle.gc_model.specs.Holds.{Holds, KindHolds}
+use Rattle.gc_policy.specs.Collects.{IsPlaced}
 use Rattle.gc_policy.specs.Accounts.{no_account}
 use Rattle.gc_policy.proofs.HeapGaps.{told_nowhere}
 use Rattle.gc_store.specs.declared.engine.StoreId.{StoreId}
 use Rattle.gc_store.specs.declared.config.HeapConfig.{HeapConfig}
+use Rattle.gc_store.specs.Collectings.{IsSpent, spent_table}
 use Rattle.gc_store.specs.Stores.{store_view, slot_counts, IsSound, HoldsStart, ShowsNothing, configured}
 
 -- The store has no account to speak of: nothing was allocated, counted or moved to an upper half.
@@ -25,14 +29,22 @@ pub record CountsNothing {D : Type 0} (s : StoreView D) : Type 0 where
   pub tries : s.tries ≡ 0
   pub upper : s.heap.needs_gc ≡ false
 
+-- no object is held
+nothing_held : AreAll (IsPlaced nowhere) []
+unfolding IsDistinct
+nothing_held = record { distinct = tt; all = λ p. (λ c. absurd (omega (arith, c.1)), λ placed. absurd (none-some placed.0 placed.1)) }
+
+-- the greatest number that is counted
+abbrev most : ℕ
+most = 2 ^ 64 - 1
+
 -- an untouched store that counted nothing holds the empty table
 pub starts_untouched : (D : Type 0) (layouts : Layouts) (s : StoreView D) → IsUntouched layouts s → CountsNothing s → HoldsStart D layouts s
-unfolding IsDistinct
 starts_untouched D layouts s untouched counts = record {
   place = nowhere;
   holds = holds_untouched D layouts s untouched;
   account = record {
-    held = record { distinct = tt; all = λ p. (λ c. absurd (omega (arith, c.1)), λ placed. absurd (none-some placed.0 placed.1)) };
+    held = nothing_held;
     places = told_nowhere layouts;
     last = counts.last;
     tries = counts.tries;
@@ -70,6 +82,69 @@ module _ {D : Type 0} (id : StoreId) (config : HeapConfig) (ids : FunctionIds) (
   sound_new layouts counts no_frames =
       sound_start D layouts counts v (store_view id config ids v 0) (ap (λ (o : OwnerView D). o.idle) fresh) (ap (λ (o : OwnerView D). o.types.engine) fresh) (ap (λ (o : OwnerView D). o.types.number) fresh)
       (no_frames ∙ ap (λ (s : StoreView D). slot_counts s.frames) (sym new_view)) (starts_fresh layouts)
+
+-- A spent store
+
+spent_by_kind : (D : Type 0) (layouts : Layouts) (s : StoreView D) → KindHolds {D = D} layouts (start s.first s.max_scoped s.max_owned) nowhere s.heap → KindHolds {D = D} layouts (spent_table s.first s.max_scoped s.max_owned) nowhere s.heap
+spent_by_kind D layouts s kind = kind
+
+-- the numbers of the roots that were made and of the scopes that ended play no part in the rest
+spent_holds : (D : Type 0) (layouts : Layouts) (s : StoreView D) → IsUntouched layouts s → Holds {D = D} layouts (record s { generation = most; owns = most; owned = [] }) (spent_table s.first s.max_scoped s.max_owned) nowhere
+spent_holds D layouts s untouched =
+    let points = holds_untouched D layouts s untouched in
+    record {
+      types = points.types;
+      settings = points.settings;
+      memory = points.memory;
+      objects = points.objects;
+      by_kind = spent_by_kind D layouts s points.by_kind;
+      scopes = record { generation = refl; scoped_within = omega arith; drops_within = omega arith };
+      scoped = points.scoped;
+      pushes = record { past = λ serial p e. absurd (none-some p e); early = λ serial p e. absurd (none-some p e); apart = λ a b p e f. absurd (none-some p e) };
+      frames = points.frames;
+      globals = points.globals;
+      owned = record {
+        same_owns = refl;
+        in_table = λ entry c some. absurd (omega (arith, c.1));
+        in_store = λ root c. absurd (omega (arith, c.1));
+        early = λ entry c. absurd (omega (arith, c.1));
+        rising = λ i j d less inside. absurd (omega arith);
+        in_order = λ i j d less inside. absurd (omega arith);
+      };
+      pending = points.pending;
+      funcs = points.funcs;
+      hosts = points.hosts;
+      typed = points.typed;
+    }
+
+module _ {D : Type 0} (id : StoreId) (config : HeapConfig) (ids : FunctionIds) (none : ids ≡ finite.empty) (v : OwnerView D) (spent : v ≡ spent_owner id.engine id.number v.roots.list_spare) where
+  abbrev empty_one : StoreView D
+  empty_one = empty_store id.engine id.number config.first_pages config.max_scoped config.max_owned (option_map non_zero_u32_get config.alloc_counter)
+
+  abbrev spent_one : StoreView D
+  spent_one = record empty_one { generation = most; owns = most; owned = [] }
+
+  pub spent_view : store_view id config ids v 0 ≡ spent_one
+  spent_view = ap (λ (o : OwnerView D). store_view id config ids o 0) spent ∙ ap (λ (m : FunctionIds). store_view id config m (spent_owner id.engine id.number v.roots.list_spare) 0) none
+
+  pub is_spent : (layouts : Layouts) → IsSpent D layouts (store_view id config ids v 0)
+  is_spent layouts =
+      subst (IsSpent D layouts) (sym spent_view) (record {
+        place = nowhere;
+        holds = spent_holds D layouts empty_one (untouched_new layouts id.engine id.number config.first_pages config.max_scoped config.max_owned (option_map non_zero_u32_get config.alloc_counter) config.few_pages config.few_roots);
+        account = record { held = nothing_held; places = told_nowhere layouts; last = refl; tries = refl; upper = refl };
+      })
+
+  pub sound_spent : (layouts : Layouts) (counts : List ℕ) → counts ≡ [] → IsSound D layouts counts v (store_view id config ids v 0)
+  sound_spent layouts counts no_frames = record {
+    idle = ap (λ (o : OwnerView D). o.idle) spent;
+    engine = ap (λ (o : OwnerView D). o.types.engine) spent;
+    number = ap (λ (o : OwnerView D). o.types.number) spent;
+    frames = no_frames ∙ ap (λ (s : StoreView D). slot_counts s.frames) (sym spent_view);
+    table = spent_table config.first_pages config.max_scoped config.max_owned;
+    account = no_account;
+    holds = is_spent layouts;
+  }
 
 -- another configuration leaves a store untouched, and so it holds the empty table with the new numbers
 pub starts_configured : (D : Type 0) (layouts : Layouts) (config : HeapConfig) (s : StoreView D) → HoldsStart D layouts s → HoldsStart D layouts (configured config s)

@@ -1,4 +1,5 @@
 pub mod Bytes
+pub mod Collectings
 pub mod Described
 pub mod Expansion
 pub mod Filling
@@ -27,6 +28,7 @@ pub mod Settled
 pub mod Slots
 pub mod Staying
 pub mod Stores
+pub mod Suspensions
 pub mod Subtypes
 pub mod Tagging
 pub mod Thrown

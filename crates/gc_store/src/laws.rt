@@ -1,6 +1,6 @@
 //! Laws of handles, of what is written, and of growth.
 
-ghost use Rattle.std.specs.Prelude.{◌≡◌, ◌<◌, ◌≤◌, ◌*◌, ℕ, None, Some, length, slice_get};
+ghost use Rattle.std.specs.Prelude.{◌≡◌, ◌<◌, ◌≤◌, ◌*◌, ◌-◌, ◌^◌, ℕ, None, Some, true, length, min, slice_get};
 ghost use Rattle.gc_types.specs.declared.kind.Layouts.{Layouts};
 ghost use Rattle.gc_model.specs.Values.{Reference, Object, Value};
 ghost use Rattle.gc_model.specs.Reach.{object_values};
@@ -17,11 +17,14 @@ ghost use Rattle.gc_owner.specs.Growing.{pages_of};
 ghost use Rattle.gc_policy.specs.Accounts.{Account, HoldsAccount};
 ghost use Rattle.gc_model.specs.Stores.{StoreView};
 ghost use Rattle.gc_store.specs.Roots.{Names, NamesReference, NamesSame};
+ghost use Rattle.gc_owner.specs.Owners.{kind_of};
+ghost use Rattle.gc_store.specs.Collectings.{IsOpen, IsClosed, IsCollected, IsTrimmedStore, TakesAsMany};
 ghost use Rattle.gc_store.specs.Stores.{IsSameStore};
 ghost use Rattle.gc_store.specs.declared.root.GcRootIndex.{GcRootIndex};
 
+use crate::collecting::Collecting;
 use crate::store::Store;
-use gc_heap::GcHeap;
+use gc_heap::{GcHeap, GcProgress};
 
 /// A store holds some table, with some account beside it, whatever was done with it.
 pub fn stores_hold_tables<H: GcHeap, D: Drop>(store: &Store<H, D>)
@@ -71,3 +74,51 @@ pub fn granted_growth_fits()
     ensures { (layouts : Layouts) (h : HeapView) (size : ℕ) → IsHeap layouts h
         → HasRoom layouts (grown layouts h (page * asked (pages_of h) (need_of layouts size))) size }
 {}
+
+/// A collection that is started and dropped after its first increment is one as `gc` does it.
+pub fn a_dropped_collection_is_one<H: GcHeap + Drop, D: Drop>(store: &mut Store<H, D>)
+    ensures { IsCollected H.KIND store.old store.new }
+{
+    let mut collecting = store.gc_start();
+    collecting.collect_increment();
+}
+
+/// A collection that is started and dropped at once collects nothing: the owned roots without handles go.
+pub fn a_start_only_trims<H: GcHeap + Drop, D: Drop>(store: &mut Store<H, D>)
+    ensures { IsTrimmedStore H.KIND store.old store.new }
+{
+    let _guard = store.gc_start();
+}
+
+/// Does the increments of a collection of which none was done, and says how many there were.
+fn count_increments<H: GcHeap + Drop, D: Drop>(collecting: &mut Collecting<'_, H, D>) -> u64
+    ensures same_reference { collecting.new.home.ghost_name ≡ collecting.old.home.ghost_name }
+    ensures closes { (old : StoreView D) → IsOpen (kind_of H.KIND H.seen H.sound H.under_way) old 0 true collecting.old.inside
+        → IsClosed (kind_of H.KIND H.seen H.sound H.under_way) old collecting.new.inside }
+    ensures counted { (old : StoreView D) → IsOpen (kind_of H.KIND H.seen H.sound H.under_way) old 0 true collecting.old.inside
+        → (n : ℕ) × (TakesAsMany H.KIND old n × (result ≡ min n (2 ^ 64 - 1))) }
+{
+    match collecting.collect_increment() {
+        GcProgress::Continue => {}
+        GcProgress::Complete => return 1,
+    }
+    let mut count: u64 = 1;
+    'increments: loop {
+        let progress = collecting.collect_increment();
+        count = count.saturating_add(1);
+        match progress {
+            GcProgress::Continue => {}
+            GcProgress::Complete => return count,
+        }
+    }
+}
+
+/// A collection that is started and done increment by increment is one as `gc` does it, and takes, where the heap is made, as many increments
+/// as the number of objects that the roots reach asks for. How many there were is answered.
+pub fn a_stepped_collection_is_one<H: GcHeap + Drop, D: Drop>(store: &mut Store<H, D>) -> u64
+    ensures collected { IsCollected H.KIND store.old store.new }
+    ensures counted { (n : ℕ) × (TakesAsMany H.KIND store.old n × (result ≡ min n (2 ^ 64 - 1))) }
+{
+    let mut collecting = store.gc_start();
+    count_increments(&mut collecting)
+}

@@ -8,6 +8,7 @@
 
 pub mod bytes;
 pub mod collect;
+pub mod collecting;
 pub mod config;
 pub mod counts;
 pub mod declare;
@@ -37,11 +38,13 @@ mod slot;
 pub mod store;
 mod stored;
 pub mod subtypes;
+pub mod suspended;
 mod tag;
 mod word;
 pub mod words;
 pub mod write;
 
+pub use collecting::{Collecting, Guard};
 pub use config::HeapConfig;
 pub use engine::{Engine, StoreId};
 pub use gc_owner::{GcClass, PageLimit, ResourceLimiter, Scripted, should_collect_first};
@@ -56,4 +59,5 @@ pub use root_words::{RootAt, RootName, RootWord};
 pub use rooted::{GcRef, Rooted, RootedGcRef, ref_eq};
 pub use store::{GcHeapOutOfMemory, PlaceFault, Store};
 pub use subtypes::{AskedPairs, TypePair};
+pub use suspended::{Suspended, Suspends};
 pub use write::WriteFault;

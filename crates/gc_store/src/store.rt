@@ -6,6 +6,7 @@ ghost use Rattle.std.specs.Int.NonZero.{non_zero_u32_get};
 ghost use Rattle.std.specs.FinMap as map;
 ghost use Rattle.gc_view.specs.Heaps.{detached};
 ghost use Rattle.gc_model.specs.Stores.{empty_store};
+ghost use Rattle.gc_store.specs.Collectings.{IsSpent, spent_from};
 ghost use Rattle.gc_store.specs.Stores.{HoldsStart, ShowsNothing, configured};
 
 use crate::config::HeapConfig;
@@ -19,9 +20,10 @@ use gc_types::Types;
 use std::alloc::{AllocError, Global};
 use std::fmt;
 use std::marker::Model;
+use thiserror::Error;
 
 /// The heap has no room for an allocation, and got no more. It has what was to be stored.
-#[derive(Debug, Drop)]
+#[derive(Drop)]
 pub struct GcHeapOutOfMemory<T> {
     pub(crate) inner: T,
     pub(crate) bytes_needed: u64,
@@ -65,19 +67,30 @@ impl<T> fmt::Display for GcHeapOutOfMemory<T> {
     }
 }
 
+impl<T> fmt::Debug for GcHeapOutOfMemory<T> {
+    fn fmt<W: fmt::Write>(&self, f: &mut fmt::Formatter<W>) -> fmt::Result {
+        fmt::Display::fmt(self, f)
+    }
+}
+
 /// Why an object is not placed.
-#[derive(Debug, Drop)]
+#[derive(Debug, Drop, Error)]
 pub enum PlaceFault {
     /// No ids are left for all function values of the object that are new to the store.
+    #[error("no ids are left for function values")]
     FuncTableFull,
     /// No heap of the kind can hold an object of that size.
+    #[error("no heap can hold an object of that size")]
     TooLarge,
     /// No further root may be made.
+    #[error("no further root may be made")]
     RootsFull,
     /// The heap has no room, and it was refused more.
+    #[error("{0}")]
     HeapOutOfMemory(GcHeapOutOfMemory<()>),
     /// Out of memory. The table is as it was; a collection may have run, and the heap may have got its
     /// first pages and a growth.
+    #[error("out of memory")]
     Memory,
 }
 
@@ -144,6 +157,25 @@ impl<H: GcHeap + Drop, D: Drop> Store<H, D> {
 }
 
 impl<H: GcHeap, D: Drop> Store<H, D> {
+    /// What stands in the place of a store while its heap is collected in increments: a store with nothing in it, of that id, which
+    /// gets no root. It takes no memory.
+    pub(crate) fn spent(alloc: Global, id: StoreId, config: HeapConfig) -> Store<H, D>
+        ensures spent { IsSpent D H.KIND result }
+        ensures seen { result ≡ spent_from (empty_store id.engine id.number config.first_pages config.max_scoped config.max_owned
+            (option_map non_zero_u32_get config.alloc_counter)) }
+    {
+        Store {
+            id,
+            config,
+            owner: HeapOwner::spent(alloc, id.engine, id.number),
+            functions: FuncRefTable::new(alloc),
+            slot_counts: Vec::new(alloc),
+            tries: 0,
+            mark: FIRST_MARK,
+            asked: AskedPairs::new(alloc),
+        }
+    }
+
     /// Whether nothing was done with the store yet and no allocation was counted, so that it may be
     /// configured.
     pub fn is_new(&self) -> bool

@@ -4,7 +4,7 @@ use Rattle.gc_model.specs.Holds.{HoldsTable}
 use Rattle.gc_policy.proofs.CollectedStore.{unmade_kept}
 use Rattle.gc_store.specs.Stores.{store_view}
 use Rattle.gc_store.proofs.Settling.{settled}
-use Rattle.gc_store.proofs.Collecting.{sound_collected, kept_collected, store_collected}
+use Rattle.gc_store.proofs.CollectedStores.{sound_collected, kept_collected, store_collected}
 use Rattle.gc_store.proofs.Incrementing.{takes_made, takes_none}
 use Rattle.gc_store.proofs.store.Store.gc_by_increments.Given.{Over}
 use Rattle.gc_store.proofs.store.Store.gc_by_increments.Goals as goal

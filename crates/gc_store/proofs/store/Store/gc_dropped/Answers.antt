@@ -3,7 +3,7 @@ use Rattle.gc_model.specs.Stores.{StoreView}
 use Rattle.gc_policy.proofs.CollectedStore.{unmade_kept}
 use Rattle.gc_store.specs.Stores.{store_view}
 use Rattle.gc_store.proofs.Settling.{settled}
-use Rattle.gc_store.proofs.Collecting.{sound_collected, kept_collected, store_collected}
+use Rattle.gc_store.proofs.CollectedStores.{sound_collected, kept_collected, store_collected}
 use Rattle.gc_store.proofs.store.Store.gc_dropped.Given.{Over}
 use Rattle.gc_store.proofs.store.Store.gc_dropped.Goals as goal
 use Rattle.gc_store.proofs.store.Store.gc_dropped.Goals.{After-collect_dropped}

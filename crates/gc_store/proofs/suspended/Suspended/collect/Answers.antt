@@ -1,0 +1,23 @@
+use Rattle.std.proofs.Common.{ap, ◌∙◌}
+use Rattle.gc_owner.specs.Owners.{Kind, kind_of}
+use Rattle.gc_store.specs.Suspensions.{SuspendedView}
+use Rattle.gc_store.proofs.Stepping.{collects_open}
+use Rattle.gc_store.proofs.suspended.Suspended.collect.Given.{Over}
+use Rattle.gc_store.proofs.suspended.Suspended.collect.Goals as goal
+
+abbrev kind : (g : Over) → Kind g.row.H.Denot g.row.H-State.Denot
+kind g = kind_of g.H.GcHeap.KIND g.H.GcHeap.seen g.H.GcHeap.sound g.H.GcHeap.under_way
+
+abbrev Suspension : Over → Type 0
+Suspension g = SuspendedView g.row.H.Denot g.row.H-State.Denot g.row.D.Denot
+
+pub returns-clause-closes : goal.returns-clause-closes
+returns-clause-closes g c = λ old done counted.
+    collects_open (kind g) c.args.self.now c.begin.new.self c.finish.new.self
+    (record { idle = c.begin.ensures.idle; begins = c.begin.ensures.begins; unmade = c.begin.ensures.unmade; same = c.begin.ensures.same })
+    old done counted (λ n b. c.finish.ensures.ends old n b) c.finish.ensures.none
+
+pub returns-clause-over : goal.returns-clause-over
+returns-clause-over g c = λ old closed.
+    let same = c.begin.ensures.same closed.begun in
+    c.finish.ensures.none (ap (λ (x : Suspension g). x.owner.seen.idle) same ∙ closed.idle) ∙ same
