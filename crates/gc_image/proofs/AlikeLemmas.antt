@@ -37,7 +37,7 @@ absent x (y ∷ ys) zero all there = false≢true (sym all.0 ∙ eq-eqb x y (sym
 absent x (y ∷ ys) (suc j) all there = absent x ys j all.1 there
 
 -- a number stands once in a list without repetitions
-once : (xs : List ℕ) (i j x : ℕ) → IsDistinct nat_eq xs → slice_get xs i ≡ Some x → slice_get xs j ≡ Some x → i ≡ j
+pub once : (xs : List ℕ) (i j x : ℕ) → IsDistinct nat_eq xs → slice_get xs i ≡ Some x → slice_get xs j ≡ Some x → i ≡ j
 unfolding IsDistinct
 once [] i j x distinct at_i at_j = absurd (none-some x at_i)
 once (y ∷ xs) zero zero x distinct at_i at_j = refl
@@ -46,7 +46,7 @@ once (y ∷ xs) (suc i) zero x distinct at_i at_j = absurd (absent y xs i distin
 once (y ∷ xs) (suc i) (suc j) x distinct at_i at_j = ap suc (once xs i j x distinct.1 at_i at_j)
 
 -- the first place of a number in a list
-abbrev number_of : List ℕ → ℕ → ℕ
+abbrev pub number_of : List ℕ → ℕ → ℕ
 number_of [] p = 0
 number_of (x ∷ xs) p = cond (nat_eq x p) 0 (suc (number_of xs p))
 
@@ -54,13 +54,13 @@ found_from : (x : ℕ) (xs : List ℕ) (p : ℕ) → slice_get xs (number_of xs 
 found_from x xs p behind true same = ap (λ k. Some k) (eqb-true x p same)
 found_from x xs p behind false other = behind
 
-found_number : (xs : List ℕ) (n p : ℕ) → slice_get xs n ≡ Some p → slice_get xs (number_of xs p) ≡ Some p
+pub found_number : (xs : List ℕ) (n p : ℕ) → slice_get xs n ≡ Some p → slice_get xs (number_of xs p) ≡ Some p
 found_number [] n p there = absurd (none-some p there)
 found_number (x ∷ xs) zero p there = subst (λ (b : Bool). slice_get (x ∷ xs) (cond b 0 (suc (number_of xs p))) ≡ Some p) (sym (eq-eqb x p (same_Some x p there))) there
 found_number (x ∷ xs) (suc n) p there = found_from x xs p (found_number xs n p there) (nat_eq x p) refl
 
 -- a place within a list has an element
-element_at : {X : Type 0} (xs : List X) (n : ℕ) → n < length xs → (x : X) × (slice_get xs n ≡ Some x)
+pub element_at : {X : Type 0} (xs : List X) (n : ℕ) → n < length xs → (x : X) × (slice_get xs n ≡ Some x)
 element_at [] n within = absurd (omega (arith, within))
 element_at (x ∷ xs) zero within = (x, refl)
 element_at (x ∷ xs) (suc n) within = element_at xs n (omega (arith, within))
@@ -81,7 +81,7 @@ below_when : {X : Type 0} (xs : List X) (n : ℕ) (found : Option X) → slice_g
 below_when xs n None is some = absurd (some refl)
 below_when xs n (Some x) is some = slice_get_within xs n x is
 
-named_below : (types : List Declaration) (lines : List ObjectLine) (class : GcClass) (n : ℕ) (ty : StorageType) → fits types (map as_object lines) ty (reference class (at n)) ≡ true → n < length lines
+pub named_below : (types : List Declaration) (lines : List ObjectLine) (class : GcClass) (n : ℕ) (ty : StorageType) → fits types (map as_object lines) ty (reference class (at n)) ≡ true → n < length lines
 named_below types lines class n ty fit =
     let own = named_ref types lines class n ty fit in
     below_when lines n (slice_get lines n) refl (λ none. false≢true (absent_object types lines own.0 class n none ∙ own.1))

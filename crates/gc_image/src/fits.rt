@@ -151,7 +151,7 @@ fn value_fits(types: &Types, objects: &[ObjectLine], ty: ValType, value: &ImageV
 }
 
 /// Whether a value is as a field or an element of that type keeps it: a packed number is unsigned.
-pub(crate) fn is_stored(ty: StorageType, value: &ImageValue) -> bool
+pub fn is_stored(ty: StorageType, value: &ImageValue) -> bool
     ensures { IsTrue result ↔ (stored ty (as_value value.now) ≡ as_value value.now) }
 {
     match ty {

@@ -20,7 +20,7 @@ mod sections;
 mod values;
 
 pub use check::{check_image, is_image_well};
-pub use fits::is_early;
+pub use fits::{is_early, is_stored};
 pub use image::{GlobalLine, Image, ImageReference, ImageValue, ImageValues, ObjectLine};
 pub use objects::{number_named, value_type, values_of};
 pub use parse::parse_image;

@@ -6,7 +6,7 @@ use Rattle.std.proofs.lemmas.Option.{same_Some, slice_get-get_or, slice_get_with
 use Rattle.gc_image_write.specs.declared.walk.Mark.TheVariants.{Numbered}
 use Rattle.gc_image_write.specs.Order.{IsOrder}
 use Rattle.gc_image_write.specs.Walking.{IsIdle, WalkParts}
-use Rattle.gc_image_write.proofs.PickLemmas.{place_found, place_of}
+use Rattle.gc_image.proofs.AlikeLemmas.{found_number, number_of}
 
 -- a function that avoids a number, as it takes another one in its place
 abbrev instead : {a b : ℕ} → (a ≡ b) ⊎ (¬ (a ≡ b)) → ℕ → ℕ
@@ -49,9 +49,9 @@ few_numbered early count w idle long =
 -- an order has as many numbers as there are objects
 pub order_long : (early : ℕ → ℕ → Option ℕ) (count : ℕ) (order : List ℕ) → IsOrder early count order → length order ≡ count
 order_long early count order is =
-    let there : (x : ℕ) → x < count → slice_get order (place_of order x) ≡ Some x = λ x low. let stands = is.all x low in place_found order stands.0 x stands.1 in
+    let there : (x : ℕ) → x < count → slice_get order (number_of order x) ≡ Some x = λ x low. let stands = is.all x low in found_number order stands.0 x stands.1 in
     let few = few_distinct count order is.only is.once in
     let many =
-    few_apart (length order) count (λ x. place_of order x) (λ x low. slice_get_within order (place_of order x) x (there x low))
+    few_apart (length order) count (λ x. number_of order x) (λ x low. slice_get_within order (number_of order x) x (there x low))
     (λ x y low also same. same_Some x y (sym (there x low) ∙ ap (slice_get order) same ∙ there y also)) in
     omega (arith, few, many)

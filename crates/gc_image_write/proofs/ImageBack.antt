@@ -1,17 +1,12 @@
 -- A table has one image whose objects stand in the order that the rule gives.
-use Rattle.std.proofs.Common.{◌≡◌, ℕ, ◌-◌, ◌<◌, suc, zero, true, List, [], ◌∷◌, length, map, Option, None, Some, refl, sym, ap, subst, ◌∙◌, arith}
+use Rattle.std.proofs.Common.{◌≡◌, ℕ, ◌-◌, ◌<◌, suc, zero, true, List, [], ◌∷◌, length, map, Option, Some, sym, ap, subst, ◌∙◌, arith}
 use Rattle.std.specs.List.{AllByRecursion, filter_map, range_with_len, slice_get}
 use Rattle.std.specs.Option.{option_map}
-use Rattle.std.proofs.lemmas.Bool.{false≢true}
 use Rattle.std.proofs.lemmas.Option.{none-some, same_Some, slice_get-map, slice_get_within}
-use Rattle.gc_types.specs.declared.value.RefType.{RefType}
 use Rattle.gc_types.specs.declared.value.StorageType.{StorageType}
-use Rattle.gc_types.specs.declared.value.StorageType.TheVariants as storage
-use Rattle.gc_types.specs.declared.value.ValType.TheVariants as val
 use Rattle.gc_types.specs.Declarations.{Declaration}
-use Rattle.gc_owner.specs.declared.entry.GcClass.{GcClass}
 use Rattle.gc_view.specs.Reach.{by_start}
-use Rattle.gc_model.specs.Fits.{fits, reference_fits}
+use Rattle.gc_model.specs.Fits.{fits}
 use Rattle.gc_model.specs.Reach.{slot_references}
 use Rattle.gc_model.specs.Table.{Table, Slot}
 use Rattle.gc_model.specs.Values.{Reference, null, small, at, reference, Object}
@@ -25,7 +20,7 @@ use Rattle.gc_image.specs.Images.{Images, IsGlobal, placed_object}
 use Rattle.gc_image.specs.Parts.{ImageParts}
 use Rattle.gc_image.specs.Text.{FitsImage, FitsObject}
 use Rattle.gc_image.specs.Well.{IsHeld, as_object, as_value, line_values, number_named}
-use Rattle.gc_image.proofs.FitLemmas.{absent_object}
+use Rattle.gc_image.proofs.AlikeLemmas.{named_below, number_of}
 use Rattle.gc_image_write.specs.Graphs.{graph_of, held_by, named_in, values_in}
 use Rattle.gc_image_write.specs.Order.{AreClosed, early_in}
 use Rattle.gc_image_write.specs.Renaming.{AreAllReached, IsWithin}
@@ -33,30 +28,14 @@ use Rattle.gc_image_write.specs.Visiting.{Graph, Stands}
 use Rattle.gc_image_write.proofs.GlobalBack.{held_back, lines_back, lines_one, reference_position, slot_positions}
 use Rattle.gc_image_write.proofs.GraphLemmas.{lines_reached, lines_within}
 use Rattle.gc_image_write.proofs.LineBack.{back_line, line_early, line_named, object_back, positions_early, positions_named}
-use Rattle.gc_image_write.proofs.PickLemmas.{from_filter, into_filter, map_back, place_of, place_one}
+use Rattle.gc_image_write.proofs.PickLemmas.{from_filter, into_filter, map_back, place_one}
 use Rattle.gc_image_write.proofs.RenameLemmas.{renamed_element}
 use Rattle.gc_image_write.proofs.WordLemmas.{element}
 
--- what fits a type names an object that is there
-named_ref : (types : List Declaration) (lines : List ObjectLine) (class : GcClass) (n : ℕ) (ty : StorageType) → fits types (map as_object lines) ty (reference class (at n)) ≡ true
-    → (own : RefType) × (reference_fits types (map as_object lines) own class (at n) ≡ true)
-named_ref types lines class n storage.I8 fit = absurd (cc fit)
-named_ref types lines class n storage.I16 fit = absurd (cc fit)
-named_ref types lines class n (storage.ValType val.I32) fit = absurd (cc fit)
-named_ref types lines class n (storage.ValType val.I64) fit = absurd (cc fit)
-named_ref types lines class n (storage.ValType val.F32) fit = absurd (cc fit)
-named_ref types lines class n (storage.ValType val.F64) fit = absurd (cc fit)
-named_ref types lines class n (storage.ValType val.V128) fit = absurd (cc fit)
-named_ref types lines class n (storage.ValType (val.Ref own)) fit = (own, fit)
-
-below_when : {X : Type 0} (xs : List X) (n : ℕ) (found : Option X) → slice_get xs n ≡ found → (found ≡ None → ⊥) → n < length xs
-below_when xs n None is some = absurd (some refl)
-below_when xs n (Some x) is some = slice_get_within xs n x is
-
+-- the number that a value which fits names is that of an object
 fit_below : (types : List Declaration) (lines : List ObjectLine) (ty : StorageType) (v : ImageValue) (n : ℕ) → fits types (map as_object lines) ty (as_value v) ≡ true → number_named v ≡ Some n → n < length lines
 fit_below types lines ty (value.Ref class (image_reference.Object m)) n fit named =
-    let own = named_ref types lines class m ty fit in
-    subst (λ k. k < length lines) (same_Some m n named) (below_when lines m (slice_get lines m) refl (λ none. false≢true (absent_object types lines own.0 class m none ∙ own.1)))
+    subst (λ k. k < length lines) (same_Some m n named) (named_below types lines class m ty fit)
 fit_below types lines ty (value.Ref class image_reference.Null) n fit named = absurd (none-some n named)
 fit_below types lines ty (value.Ref class (image_reference.Small k)) n fit named = absurd (none-some n named)
 fit_below types lines ty (value.I32 k) n fit named = absurd (none-some n named)
@@ -82,7 +61,7 @@ module _ (t : Table ℕ) (image : ImageParts) (is : Images t image) (fit : FitsI
   count = length image.objects
 
   abbrev pub back : ℕ → ℕ
-  back p = place_of is.positions p
+  back p = number_of is.positions p
 
   abbrev pub graph : Graph
   graph = graph_of is.well.types image.objects image.globals

@@ -1,33 +1,14 @@
 -- Where the elements of lists stand.
-use Rattle.std.proofs.Common.{◌≡◌, ℕ, suc, zero, Bool, true, false, List, [], ◌∷◌, cond, length, map, nat_eq, Option, None, Some, refl, sym, ap, ap₂, subst, ◌∙◌, arith}
+use Rattle.std.proofs.Common.{◌≡◌, ℕ, suc, zero, false, List, [], ◌∷◌, cond, length, map, nat_eq, Option, None, Some, refl, sym, ap, ap₂, subst, ◌∙◌, arith}
 use Rattle.std.specs.List.{AllByRecursion, IsDistinct, cons_option, filter_map, slice_get}
 use Rattle.std.specs.Option.{option_map}
-use Rattle.std.proofs.lemmas.Bool.{eq-eqb, eqb-true, false≢true}
+use Rattle.std.proofs.lemmas.Bool.{eq-eqb}
 use Rattle.std.proofs.lemmas.Option.{none-some, same_Some}
+use Rattle.gc_image.proofs.AlikeLemmas.{number_of}
 use Rattle.gc_image_write.specs.Visiting.{Stands}
 
--- the first place of a number in a list
-abbrev pub place_of : List ℕ → ℕ → ℕ
-place_of [] p = 0
-place_of (x ∷ xs) p = cond (nat_eq x p) 0 (suc (place_of xs p))
-
-found_from : (x : ℕ) (xs : List ℕ) (p : ℕ) → slice_get xs (place_of xs p) ≡ Some p → (b : Bool) → nat_eq x p ≡ b → slice_get (x ∷ xs) (cond b 0 (suc (place_of xs p))) ≡ Some p
-found_from x xs p behind true same = ap Some (eqb-true x p same)
-found_from x xs p behind false other = behind
-
--- it stands there
-pub place_found : (xs : List ℕ) (n p : ℕ) → slice_get xs n ≡ Some p → slice_get xs (place_of xs p) ≡ Some p
-place_found [] n p there = absurd (none-some p there)
-place_found (x ∷ xs) zero p there = subst (λ (b : Bool). slice_get (x ∷ xs) (cond b 0 (suc (place_of xs p))) ≡ Some p) (sym (eq-eqb x p (same_Some x p there))) there
-place_found (x ∷ xs) (suc n) p there = found_from x xs p (place_found xs n p there) (nat_eq x p) refl
-
-absent : (x : ℕ) (ys : List ℕ) (j : ℕ) → AllByRecursion (λ y. nat_eq x y ≡ false) ys → slice_get ys j ≡ Some x → ⊥
-absent x [] j all there = none-some x there
-absent x (y ∷ ys) zero all there = false≢true (sym all.0 ∙ eq-eqb x y (sym (same_Some y x there)))
-absent x (y ∷ ys) (suc j) all there = absent x ys j all.1 there
-
-place_from : (x : ℕ) (xs : List ℕ) (p n : ℕ) → place_of xs p ≡ n → (nat_eq x p ≡ false) → place_of (x ∷ xs) p ≡ suc n
-place_from x xs p n is other = ap (λ b. cond b 0 (suc (place_of xs p))) other ∙ ap suc is
+place_from : (x : ℕ) (xs : List ℕ) (p n : ℕ) → number_of xs p ≡ n → (nat_eq x p ≡ false) → number_of (x ∷ xs) p ≡ suc n
+place_from x xs p n is other = ap (λ b. cond b 0 (suc (number_of xs p))) other ∙ ap suc is
 
 apart_first : (x p : ℕ) (xs : List ℕ) (n : ℕ) → AllByRecursion (λ y. nat_eq x y ≡ false) xs → slice_get xs n ≡ Some p → nat_eq x p ≡ false
 apart_first x p [] n all there = absurd (none-some p there)
@@ -35,10 +16,10 @@ apart_first x p (y ∷ ys) zero all there = subst (λ z. nat_eq x z ≡ false) (
 apart_first x p (y ∷ ys) (suc n) all there = apart_first x p ys n all.1 there
 
 -- it is where the number stands, in a list without repetitions
-pub place_one : (xs : List ℕ) (n p : ℕ) → IsDistinct nat_eq xs → slice_get xs n ≡ Some p → place_of xs p ≡ n
+pub place_one : (xs : List ℕ) (n p : ℕ) → IsDistinct nat_eq xs → slice_get xs n ≡ Some p → number_of xs p ≡ n
 unfolding IsDistinct
 place_one [] n p distinct there = absurd (none-some p there)
-place_one (x ∷ xs) zero p distinct there = ap (λ b. cond b 0 (suc (place_of xs p))) (eq-eqb x p (same_Some x p there))
+place_one (x ∷ xs) zero p distinct there = ap (λ b. cond b 0 (suc (number_of xs p))) (eq-eqb x p (same_Some x p there))
 place_one (x ∷ xs) (suc n) p distinct there = place_from x xs p n (place_one xs n p distinct.1 there) (apart_first x p xs n distinct.0 there)
 
 -- lists whose elements are the same

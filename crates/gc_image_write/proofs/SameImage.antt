@@ -12,6 +12,7 @@ use Rattle.gc_image.specs.Text.{FitsImage, image_text}
 use Rattle.gc_image.specs.Well.{IsWellImage, as_object}
 use Rattle.gc_image.proofs.TextLemmas.{one_text}
 use Rattle.gc_image.proofs.TurnLemmas.{one_turn}
+use Rattle.gc_image.proofs.AlikeLemmas.{number_of}
 use Rattle.gc_image_write.specs.Graphs.{graph_of}
 use Rattle.gc_image_write.specs.InTurn.{ImagesInTurn, IsInTurn}
 use Rattle.gc_image_write.specs.Renaming.{Renames}
@@ -21,7 +22,7 @@ use Rattle.gc_image_write.proofs.FewLemmas.{few_apart}
 use Rattle.gc_image_write.proofs.GlobalBack.{lines_back}
 use Rattle.gc_image_write.proofs.ImageBack.{all_reached, back, back_position, early_there, globals_are, globals_there, graph, line_is, named_there, object_there, position_back, reached_position, there, within}
 use Rattle.gc_image_write.proofs.LineBack.{object_back}
-use Rattle.gc_image_write.proofs.PickLemmas.{map_back, place_of, same_list}
+use Rattle.gc_image_write.proofs.PickLemmas.{map_back, same_list}
 use Rattle.gc_image_write.proofs.ReachLemmas.{numbering_renamed}
 use Rattle.gc_image_write.proofs.RenameLemmas.{renamed_at}
 use Rattle.gc_image_write.proofs.TakeLemmas.{range_at}
@@ -108,7 +109,7 @@ module _ (t : Table ℕ) (one two : ImageParts) (i : Images t one) (j : Images t
       there t two j g n (omega (arith, low, counts)) ∙ ap Some (same_position n low ∙ i.position_is n p at_n))
 
   same_back : back t one i f ≡ back t two j g
-  same_back = ap (λ (ps : List ℕ). λ (p : ℕ). place_of ps p) same_positions
+  same_back = ap (λ (ps : List ℕ). λ (p : ℕ). number_of ps p) same_positions
 
   same_objects : one.objects ≡ two.objects
   same_objects =

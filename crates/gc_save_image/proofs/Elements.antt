@@ -1,18 +1,10 @@
 -- Elements of lists by their places.
-use Rattle.std.proofs.Common.{inl, inr, ◌≡◌, ◌<◌, ℕ, suc, List, [], ◌∷◌, length, map, get_or, Some, nat_eq, refl, sym, ap, ◌∙◌, arith}
+use Rattle.std.proofs.Common.{◌≡◌, ◌<◌, ℕ, suc, List, [], ◌∷◌, length, map, get_or, Some, nat_eq, refl, sym, ap, ◌∙◌, arith}
 use Rattle.std.specs.List.{slice_get, AllByRecursion, IsDistinct}
 use Rattle.std.specs.Prelude.{Option, None, option_map}
-use Rattle.std.proofs.lemmas.Bool.{cases_eq, cases_lt}
 use Rattle.std.proofs.lemmas.Bool.Decides.{Decides-eqb}
-use Rattle.std.proofs.lemmas.Map.Made.{AllPairs-from_IsDistinct, IsDistinct-from_AllPairs}
-use Rattle.std.proofs.lemmas.Option.{get_or_from_slice_get, none-some, same_Some, slice_get-get_or, slice_get-map, slice_get_cases, slice_get_within}
-
--- a place within a list has an element
-pub element_at : {X : Type 0} (xs : List X) (n : ℕ) → n < length xs → (x : X) × (slice_get xs n ≡ Some x)
-element_at xs n within = elim ((slice_get_cases xs n).1) [
-  | inl found ↦ (found.0, found.2)
-  | inr past ↦ absurd (omega (arith, within, past.0))
-]
+use Rattle.std.proofs.lemmas.Map.Made.{IsDistinct-from_AllPairs}
+use Rattle.std.proofs.lemmas.Option.{none-some, same_Some, slice_get-get_or, slice_get-map}
 
 -- a list in which each number stands at one place has no repetitions
 pub distinct_when : (xs : List ℕ) → ((i j x : ℕ) → slice_get xs i ≡ Some x → slice_get xs j ≡ Some x → i ≡ j) → IsDistinct nat_eq xs
@@ -20,20 +12,6 @@ distinct_when xs once = IsDistinct-from_AllPairs Decides-eqb xs (λ i j d below 
     let one = slice_get-get_or xs i d (omega (arith, below, inside)) in
     let two = slice_get-get_or xs j d inside in
     let e = once i j (get_or xs i d) one (two ∙ ap Some (sym same)) in omega (arith, below, e))
-
--- and in a list without repetitions each stands at one place
-pub once : (xs : List ℕ) → IsDistinct nat_eq xs → (i j x : ℕ) → slice_get xs i ≡ Some x → slice_get xs j ≡ Some x → i ≡ j
-once xs distinct i j x at_i at_j =
-    let apart = AllPairs-from_IsDistinct Decides-eqb xs distinct in
-    let one = get_or_from_slice_get xs i x x at_i in
-    let two = get_or_from_slice_get xs j x x at_j in
-    elim (cases_eq i j) [
-      | inl same ↦ same
-      | inr other ↦ elim (cases_lt i j) [
-        | inl less ↦ absurd (apart i j x less (slice_get_within xs j x at_j) (one ∙ sym two))
-        | inr more ↦ absurd (apart j i x (omega (arith, other, more)) (slice_get_within xs i x at_i) (two ∙ sym one))
-      ]
-    ]
 
 -- An element of a list that was mapped.
 pub record Mapped {X Y : Type 0} (f : X → Y) (xs : List X) (n : ℕ) (y : Y) : Type 0 where

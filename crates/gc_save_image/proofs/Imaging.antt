@@ -11,7 +11,7 @@ use Rattle.gc_model.specs.Holds.{TypedBy}
 use Rattle.gc_model.specs.Reach.{object_values}
 use Rattle.gc_model.specs.Stored.{stored, value_type}
 use Rattle.gc_model.specs.Table.{Slot, Table}
-use Rattle.gc_model.specs.Values.{Object, Reference, Value, at, null, reference}
+use Rattle.gc_model.specs.Values.{Object, Reference, at, null, reference}
 use Rattle.gc_model.specs.Values as model
 use Rattle.gc_model.proofs.Members.{get_contains}
 use Rattle.gc_commands.specs.declared.command.Command.{Command}
@@ -26,6 +26,7 @@ use Rattle.gc_image.specs.Images.{AreGlobals, Images, ImagesText, SaysSlot, plac
 use Rattle.gc_image.specs.Parts.{ImageParts}
 use Rattle.gc_image.specs.Text.{FitsImage, FitsObject}
 use Rattle.gc_image.specs.Well.{AreReached, AreRising, AreWellGlobals, AreWellObjects, HasShape, HoldsReference, IsHeld, IsWellGlobal, IsWellValue, as_object, as_value, line_values, number_named}
+use Rattle.gc_image.proofs.AlikeLemmas.{element_at}
 use Rattle.gc_image_collect.specs.Collection.{IsCollection}
 use Rattle.gc_image_collect.specs.declared.collect.Collected.{Collected}
 use Rattle.gc_image_write.specs.Graphs.{graph_of}
@@ -36,7 +37,7 @@ use Rattle.gc_image_write.specs.Visiting.{IsNumbering}
 use Rattle.gc_image_write.proofs.RenumberLemmas.{in_turn}
 use Rattle.gc_save_image.specs.Keeping.{AreKept, IsKeptIn}
 use Rattle.gc_save_image.specs.Renumbering.{AreNumbersOf, IsWritten, image_by, line_at, number_in, renumbered_global, renumbered_line, renumbered_value, reordered}
-use Rattle.gc_save_image.proofs.Elements.{all_each, element_at, map_at, mapped}
+use Rattle.gc_save_image.proofs.Elements.{all_each, map_at, mapped}
 use Rattle.gc_save_image.proofs.FitsPlaced.{fits_placed}
 use Rattle.gc_save_image.proofs.Numbering.{LineAt, all, goes, line_of, number_is, object_is, position, position_is, positions}
 use Rattle.gc_save_image.proofs.Reached.{reached_from}

@@ -9,11 +9,12 @@ use Rattle.gc_image.specs.Images.{IsGlobal, placed_object}
 use Rattle.gc_image.specs.declared.image.ObjectLine.{ObjectLine}
 use Rattle.gc_image.specs.declared.image.ObjectLine.TheVariants as object
 use Rattle.gc_image.specs.Well.{as_object}
+use Rattle.gc_image.proofs.AlikeLemmas.{element_at, once}
 use Rattle.gc_image_collect.specs.Collection.{IsCollection, IsLineOf}
 use Rattle.gc_image_collect.specs.declared.collect.Collected.{Collected}
 use Rattle.gc_image_write.specs.Order.{IsLineBelow, IsOrder}
 use Rattle.gc_save_image.specs.Renumbering.{AreNumbersOf, line_at, number_in, renumbered_line, reordered}
-use Rattle.gc_save_image.proofs.Elements.{distinct_when, element_at, map_at, mapped, once}
+use Rattle.gc_save_image.proofs.Elements.{distinct_when, map_at, mapped}
 use Rattle.gc_save_image.proofs.Renumbered.{object_again}
 
 -- the number that stands at a place of a list; 0 behind its end
@@ -55,7 +56,7 @@ module _ (t : Table ℕ) (collected : Collected) (c : IsCollection t collected) 
       let p = position_of a below in
       let q = position_of b below' in
       let same : q.p ≡ p.p = sym q.is ∙ sym e ∙ p.is in
-      once c.positions c.all.distinct a b p.p p.there (q.there ∙ ap Some same)
+      once c.positions a b p.p c.all.distinct p.there (q.there ∙ ap Some same)
 
   pub position_is : (n p : ℕ) → slice_get positions n ≡ Some p → position n ≡ p
   position_is n p e =

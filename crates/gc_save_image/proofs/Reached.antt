@@ -17,9 +17,10 @@ use Rattle.gc_image.specs.declared.image.ObjectLine.{ObjectLine}
 use Rattle.gc_image.specs.declared.image.ObjectLine.TheVariants as object
 use Rattle.gc_image.specs.Images.{AreGlobals, IsGlobal, SaysSlot, placed_object, placed_reference, placed_value}
 use Rattle.gc_image.specs.Well.{IsHeld, Names, as_object, as_reference, as_value, line_values, number_named}
+use Rattle.gc_image.proofs.AlikeLemmas.{element_at, once}
 use Rattle.gc_image_collect.proofs.Closing.{among_values, find_line}
 use Rattle.gc_image_write.specs.Order.{AreClosed}
-use Rattle.gc_save_image.proofs.Elements.{element_at, mapped, once}
+use Rattle.gc_save_image.proofs.Elements.{mapped}
 
 -- A value names the object of a number, which has that position.
 pub record NamesNumber (position : ℕ → ℕ) (v : ImageValue) (p : ℕ) : Type 0 where
@@ -92,7 +93,7 @@ module _ (t : Table ℕ) (lines : List ObjectLine) (globals : List GlobalLine) (
   one_number n m p at_n below is =
       let q = element_at positions m (let same = numbered in omega (arith, below, same)) in
       let same : q.0 ≡ p = sym (position_is m q.0 q.1) ∙ is in
-      once positions all.distinct m n p (q.1 ∙ ap Some same) at_n
+      once positions m n p all.distinct (q.1 ∙ ap Some same) at_n
 
   module _ (objects : (n p : ℕ) (line : ObjectLine) → slice_get positions n ≡ Some p → slice_get lines n ≡ Some line → slice_get t.objects p ≡ Some (placed_object position (as_object line)))
       (said : AreGlobals position globals t.globals) (closed : AreClosed lines) (held : (number : ℕ) → IsHeld globals number → number < length lines) where

@@ -17,6 +17,7 @@ use Rattle.gc_image.specs.declared.image.GlobalLine.{GlobalLine}
 use Rattle.gc_image.specs.declared.image.ObjectLine.{ObjectLine}
 use Rattle.gc_image.specs.Images.{IsGlobal}
 use Rattle.gc_image.specs.Well.{IsHeld}
+use Rattle.gc_image.proofs.AlikeLemmas.{element_at}
 use Rattle.gc_image_collect.specs.Answers.{Collects, IsFull, OnlyPushed}
 use Rattle.gc_image_collect.specs.Collection.{IsCollection}
 use Rattle.gc_image_collect.specs.declared.collect.Collected.{Collected}
@@ -27,7 +28,6 @@ use Rattle.gc_save_image.specs.Renumbering.{IsWritten}
 use Rattle.gc_save_image.specs.Saves.{IsTangled, RefusesSave, Saved, Unwritten}
 use Rattle.gc_save_image.specs.declared.fault.SaveFault.{SaveFault}
 use Rattle.gc_save_image.specs.declared.fault.SaveFault.TheVariants as fault
-use Rattle.gc_save_image.proofs.Elements.{element_at}
 use Rattle.gc_save_image.proofs.Imaging.{holds_below, images_text, text_in_turn}
 use Rattle.gc_save_image.proofs.Plainness.{no_functions}
 use Rattle.gc_save_image.proofs.Tangles.{tangled, untangled}

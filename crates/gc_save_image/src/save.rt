@@ -29,8 +29,8 @@ use std::alloc::{AllocError, Global};
 ///
 /// `NotPlain` where a type holds functions or continuations; `RootsFull` where no roots can be pushed for all references that
 /// aren't null, of the globals and of these objects; `Tangled` where objects must each be made before the other. They are tested in
-/// this order. The roots that it pushed are gone at the end, refused or not. No collection runs. Its time and memory are linear in the types,
-/// the objects and their values, and the text.
+/// this order. The roots that it pushed are gone at the end, refused or not, and the heap holds what it held, garbage too. Its time and memory
+/// are linear in the types, the objects and their values, and the text.
 pub fn save_image<H: GcHeap>(alloc: Global, store: &mut Store<H, u64>) -> Result<Vec<u8>, SaveFault>
     ensures saves { (t : Table ℕ) (a : Account) → HoldsAccount H.KIND store.old t a
         → MatchResult result (λ bytes. Saved t bytes.items) (RefusesSave t) }
