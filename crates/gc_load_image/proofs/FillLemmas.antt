@@ -29,6 +29,7 @@ use Rattle.gc_load_image.specs.Loads.{global_present, present_count}
 use Rattle.gc_load_image.specs.Stages.{AreSlots, Complete, FailedValues, Filled, FoundValues, GlobalsSet, Goes, HeldStand, IsReferenceValue, MadeAll, Stops, early_value, global_value, line_roots, with_globals}
 use Rattle.gc_load_image.proofs.MakingLemmas.{values_stop}
 use Rattle.gc_load_image.proofs.MakingLoop.{bare_standing, same_limits, stops_later}
+use Rattle.gc_load_image.proofs.SettingsLemmas.{settings_held, settings_itself, settings_twice, unused_like}
 
 -- how many roots globals want
 globals_present : (globals : List GlobalLine) → sum_by present_count (map global_value globals) ≡ sum_by global_present globals
@@ -86,7 +87,7 @@ module _ (layouts : Layouts) (lines : List ObjectLine) (globals : List GlobalLin
     goes_far : Goes (sum_by line_roots lines) old written
     goes_far = record {
       few = (let a = made.goes.few in let b = goes.few in omega (arith, a, b));
-      same = goes.same ∙ made.goes.same;
+      same = settings_twice old mid written made.goes.same goes.same;
       types = goes.types ∙ made.goes.types;
     }
 
@@ -94,7 +95,7 @@ module _ (layouts : Layouts) (lines : List ObjectLine) (globals : List GlobalLin
     pub globals_stop : (why : LoadFault) (new : StoreView ℕ) → FailedValues layouts handles (map global_value globals) written complete.table complete.account why new → Stops layouts old.types lines limits limits' most old why new
     globals_stop why new failed =
         stops_later layouts lines limits limits' limits' (sum_by line_roots lines) (sum_by global_present globals) most old written why new goes_far made.counts (omega arith)
-        (values_stop layouts handles written.types lines limits' (sum_by present_count (map global_value globals)) (sum_by global_present globals) written complete.table complete.account why new (let e = globals_present globals in omega (arith, e)) failed.pushes failed.cause)
+        (values_stop layouts handles written.types lines limits' (sum_by present_count (map global_value globals)) (sum_by global_present globals) written complete.table complete.account why new (let e = globals_present globals in omega (arith, e)) (sym complete.standing.holds.holds.types) failed.pushes failed.cause)
 
     -- all was done
     pub filled : (raws : List RawValue) (then new : StoreView ℕ) → (found : FoundValues layouts handles (map global_value globals) written complete.table complete.account raws then) → GlobalsSet layouts globals (length globals) found.pushes.table complete.account new
@@ -104,10 +105,13 @@ module _ (layouts : Layouts) (lines : List ObjectLine) (globals : List GlobalLin
       account = complete.account;
       holds = set.holds;
       objects = found.pushes.objects ∙ complete.objects;
+      unused = unused_like found.pushes.table (with_globals set.slots found.pushes.table) refl refl refl found.pushes.standing.unused;
       frames = found.pushes.standing.frames;
       owned = found.pushes.standing.owned;
       pending = found.pushes.standing.pending;
       set = subst (λ (gs : List GlobalLine). AreGlobals (λ k. k) gs set.slots) (take_all (length globals) globals (omega arith)) set.set;
+      same = settings_twice old then new (settings_twice old written then goes_far.same found.pushes.same)
+          (settings_held layouts then new found.pushes.table (with_globals set.slots found.pushes.table) complete.account complete.account found.pushes.standing.holds set.holds refl refl refl);
       types = set.holds.holds.types ∙ found.pushes.types ∙ sym complete.standing.holds.holds.types ∙ goes_far.types;
       count = count ∙ made.all;
     }
@@ -115,9 +119,14 @@ module _ (layouts : Layouts) (lines : List ObjectLine) (globals : List GlobalLin
 -- a part that stopped
 pub part_stops : (layouts : Layouts) (types : List Declaration) (lines : List ObjectLine) (limits limits' : Limits) (m most : ℕ) (old : StoreView ℕ) (why : LoadFault) (new : StoreView ℕ) → m ≤ most → types ≡ old.types → Stops layouts types lines limits limits' m old why new → Stops layouts old.types lines limits limits' most old why new
 part_stops layouts types lines limits limits' m most old why new below same stops =
-    stops_later layouts lines limits limits limits' 0 m most old old why new (record { few = omega arith; same = refl; types = refl }) (same_limits limits) (omega (arith, below))
+    stops_later layouts lines limits limits limits' 0 m most old old why new (record { few = omega arith; same = settings_itself old; types = refl }) (same_limits limits) (omega (arith, below))
     (subst (λ (ts : List Declaration). Stops layouts ts lines limits limits' m old why new) same stops)
 
 -- want of memory behind the objects
 pub count_stops : (layouts : Layouts) (lines : List ObjectLine) (limits limits' : Limits) (most : ℕ) (old mid : StoreView ℕ) (handles : List GcRootIndex) → MadeAll layouts lines limits limits' old handles mid → Stops layouts old.types lines limits limits' most old fault.Memory mid
-count_stops layouts lines limits limits' most old mid handles made = record { bare = bare_standing layouts handles mid made.making.table made.making.account made.making.standing; cause = tt }
+count_stops layouts lines limits limits' most old mid handles made = record {
+  bare = bare_standing layouts handles mid made.making.table made.making.account made.making.standing;
+  same = made.goes.same;
+  same_types = made.goes.types;
+  cause = tt;
+}

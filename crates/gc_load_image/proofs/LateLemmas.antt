@@ -1,14 +1,11 @@
 -- References that are written late.
-use Rattle.std.proofs.Common.{inl, inr, ◌≡◌, ℕ, suc, ◌+◌, ◌<◌, ◌≤◌, true, List, [], ◌∷◌, map, length, take, Some, None, Result, Ok, Err, refl, sym, ap, ap₂, ◌∙◌, subst, arith}
+use Rattle.std.proofs.Common.{inl, inr, ◌≡◌, ℕ, suc, ◌+◌, ◌<◌, ◌≤◌, true, List, [], ◌∷◌, map, length, take, Some, Result, Ok, Err, refl, sym, ap, ap₂, ◌∙◌, subst, arith}
 use Rattle.std.specs.Prelude.{option_map, slice_set}
 use Rattle.std.specs.List.{slice_get}
 use Rattle.std.proofs.lemmas.Bool.{cases_eq, cases_lt}
 use Rattle.std.proofs.lemmas.List.{length-map, length-set, take_all}
 use Rattle.std.proofs.lemmas.Option.{none-some, same_Some, slice_get-map, slice_get_cases, slice_get_within}
 use Rattle.gc_types.specs.declared.kind.Layouts.{Layouts}
-use Rattle.gc_types.specs.declared.value.StorageType.{StorageType}
-use Rattle.gc_types.specs.declared.value.StorageType.TheVariants as storage
-use Rattle.gc_types.specs.declared.value.ValType.TheVariants as val
 use Rattle.gc_types.specs.Declarations.{Declaration}
 use Rattle.gc_model.specs.Fits.{fits}
 use Rattle.gc_model.specs.Reach.{object_values}
@@ -33,11 +30,12 @@ use Rattle.gc_image.specs.declared.image.ImageValue.TheVariants as value
 use Rattle.gc_image.specs.declared.image.ObjectLine.{ObjectLine}
 use Rattle.gc_image.specs.declared.image.ObjectLine.TheVariants as object
 use Rattle.gc_image.specs.Well.{AreWellObjects, IsWellValue, as_object, as_value, line_values}
+use Rattle.gc_image.proofs.AlikeLemmas.{named_below}
 use Rattle.gc_load_image.specs.Stages.{AreWritten, Complete, Goes, Making, Standing, StandsTo, Writing, early_object, early_objects, early_value, line_object}
 use Rattle.gc_load_image.proofs.EarlyLemmas.{AreMade, early_alike, early_at, early_length, made_alike, reference_stored}
-use Rattle.gc_image.proofs.FitLemmas.{absent_object}
 use Rattle.gc_load_image.proofs.PushedRoots.{named_same}
 use Rattle.gc_load_image.proofs.FitsAlike.{AlikeObject, can_store, fits_alike}
+use Rattle.gc_load_image.proofs.SettingsLemmas.{settings_held, settings_itself, settings_twice, unused_like}
 
 -- Values
 
@@ -140,23 +138,6 @@ line_object-alike (object.Bytes ty bytes) ws = (map byte_value bytes, refl)
 line_object-alike (object.Host n) ws = (n, refl)
 line_object-alike (object.Exn ty tag values) ws = (tag, (ws, refl))
 
--- what fits as an object is one of the image
-pub fits_there : (types : List Declaration) (lines : List ObjectLine) (ty : StorageType) (class : GcClass) (p : ℕ) → fits types (map as_object lines) ty (reference class (at p)) ≡ true → p < length lines
-fits_there types lines ty class p e = elim ((slice_get_cases lines p).1) [
-  | inl found ↦ slice_get_within lines p found.0 found.2
-  | inr past ↦ absurd (by ty (past.1) e)
-]
-  where
-    by : (ty : StorageType) → slice_get lines p ≡ None → fits types (map as_object lines) ty (reference class (at p)) ≡ true → ⊥
-    by storage.I8 none e = cc e
-    by storage.I16 none e = cc e
-    by (storage.ValType val.I32) none e = cc e
-    by (storage.ValType val.I64) none e = cc e
-    by (storage.ValType val.F32) none e = cc e
-    by (storage.ValType val.F64) none e = cc e
-    by (storage.ValType val.V128) none e = cc e
-    by (storage.ValType (val.Ref ty)) none e = cc (absent_object types lines ty class p none ∙ e)
-
 -- a handle names what it named where a value was written
 written_over : (s : StoreView ℕ) (t : Table ℕ) (number index : ℕ) (v : Value) (h : GcRootIndex) (r : Reference) → NamesReference s t h r → NamesReference s (write number index v t) h r
 written_over s t number index v h r (inl named) = inl (record { serial = named.serial; names = record { push = named.names.push; pushed = named.names.pushed; is = named.names.is }; live = named.live })
@@ -216,7 +197,7 @@ module _ (layouts : Layouts) (lines : List ObjectLine) (handles : List GcRootInd
     fit = subst (λ (x : ImageValue). fits s.types (map as_object lines) typed.field.element_type (as_value x) ≡ true) is typed.is_fit
 
     pub named_inside : named < length lines
-    named_inside = fits_there s.types lines typed.field.element_type class named fit
+    named_inside = named_below s.types lines class named typed.field.element_type fit
 
     same_types : s.types ≡ t.types
     same_types = w.standing.holds.holds.types
@@ -279,7 +260,7 @@ module _ (layouts : Layouts) (lines : List ObjectLine) (handles : List GcRootInd
         standing_new = record {
           holds = holds_new;
           named = λ n h e. written_over new t number index target h (at n) (named_same s new same t h (at n) (w.standing.named n h e));
-          drops = w.standing.drops;
+          unused = unused_like t u refl refl refl w.standing.unused;
           frames = w.standing.frames;
           owned = w.standing.owned;
           pending = w.standing.pending;
@@ -309,17 +290,17 @@ module _ (layouts : Layouts) (lines : List ObjectLine) (handles : List GcRootInd
         pub goes_written : Goes 0 s new
         goes_written = record {
           few = (let before = w.standing.holds.holds.scoped.same_count in let after = holds_new.holds.scoped.same_count in omega (arith, before, after));
-          same = holds_new.holds.settings.max_scoped ∙ sym w.standing.holds.holds.settings.max_scoped;
+          same = settings_held layouts s new t u w.account w.account w.standing.holds holds_new refl refl refl;
           types = holds_new.holds.types ∙ sym same_types;
         }
 
 -- From one object to the next, and to the end
 
 pub goes_none : (s : StoreView ℕ) → Goes 0 s s
-goes_none s = record { few = omega arith; same = refl; types = refl }
+goes_none s = record { few = omega arith; same = settings_itself s; types = refl }
 
 pub goes_on : (a b c : StoreView ℕ) → Goes 0 a b → Goes 0 b c → Goes 0 a c
-goes_on a b c one two = record { few = (let x = one.few in let y = two.few in omega (arith, x, y)); same = two.same ∙ one.same; types = two.types ∙ one.types }
+goes_on a b c one two = record { few = (let x = one.few in let y = two.few in omega (arith, x, y)); same = settings_twice a b c one.same two.same; types = two.types ∙ one.types }
 
 pub writing_start : (layouts : Layouts) (lines : List ObjectLine) (handles : List GcRootIndex) (s : StoreView ℕ) → length handles ≡ length lines → Making layouts lines handles s → Writing layouts lines handles 0 0 s
 writing_start layouts lines handles s all making =

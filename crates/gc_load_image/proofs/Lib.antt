@@ -5,6 +5,7 @@ mod CountUp
 mod RoomLemmas
 pub mod TypeLemmas
 mod PushedRoots
+mod SettingsLemmas
 mod ValueLemmas
 mod ValuesLoop
 mod PlaceLemmas

@@ -1,8 +1,8 @@
 -- An image that was filled in is one of the table; and what is left where loading stopped.
-use Rattle.std.proofs.Common.{◌≡◌, ℕ, zero, suc, ◌+◌, ◌*◌, ◌<◌, List, [], ◌∷◌, map, length, Some, Result, Ok, Err, Contains, refl, sym, ap, ap₂, ◌∙◌, subst, arith}
+use Rattle.std.proofs.Common.{inr, ◌≡◌, ℕ, zero, suc, ◌+◌, ◌*◌, ◌<◌, List, [], ◌∷◌, map, length, Some, Result, Ok, Err, Contains, refl, sym, ap, ap₂, ◌∙◌, subst, arith}
 use Rattle.std.specs.Prelude.{sum_by, option_map}
 use Rattle.std.specs.List.{AllByRecursion, flat_map, slice_get}
-use Rattle.std.proofs.lemmas.List.{length-map}
+use Rattle.std.proofs.lemmas.List.{append-nil, length-map}
 use Rattle.std.proofs.lemmas.List.Elements.{Contains-append_left, Contains-append_right}
 use Rattle.std.proofs.lemmas.List.Sums.{sum_by-cons}
 use Rattle.std.proofs.lemmas.Option.{get_or_from_slice_get, none-some, same_Some, slice_get-map, slice_get_within}
@@ -32,10 +32,11 @@ use Rattle.gc_image.specs.Text.{FitsGlobal, FitsImage, FitsObject, FitsValue, im
 use Rattle.gc_image.specs.Well.{IsHeld, IsWellImage, Names, as_object, as_value, line_values, number_named}
 use Rattle.gc_load_image.specs.declared.fault.LoadFault.{LoadFault}
 use Rattle.gc_load_image.specs.declared.fault.LoadFault.TheVariants as fault
-use Rattle.gc_load_image.specs.Loads.{Causes, HasTooLarge, LacksHeap, Loads, NotLoaded, WasRefused, first_pages, global_present, line_count, more_pages, past_most, reference_count}
-use Rattle.gc_load_image.specs.Stages.{AreGlobalsInRange, AreInRange, DeclaresAll, Filled, Fills, ImageCauses, IsDense, LoadedImage, LoadsImage, Making, NotLoadedImage, StopCause, Stops, line_roots, with_types}
+use Rattle.gc_load_image.specs.Loads.{Causes, HasTooLarge, KeepsSettings, LacksHeap, Loads, NotLoaded, TypesLeft, WasRefused, first_pages, global_present, line_count, more_pages, past_most, reference_count}
+use Rattle.gc_load_image.specs.Stages.{AreGlobalsInRange, AreInRange, DeclaresAll, Filled, Fills, ImageCauses, ImageTypesLeft, IsDense, KeepsButTypes, LoadedImage, LoadsImage, Making, NotLoadedImage, StopCause, Stops, line_roots, with_types}
 use Rattle.gc_load_image.proofs.CountUp.{all_counted, count_up, counted_at, length-count_up}
 use Rattle.gc_load_image.proofs.GlobalLemmas.{placed_self}
+use Rattle.gc_load_image.proofs.SettingsLemmas.{left_alone, settings_held, settings_twice}
 
 -- Ranges
 
@@ -71,7 +72,7 @@ making_start layouts lines s first most owned types holds = record {
   standing = record {
     holds = holds;
     named = λ number handle e. absurd (none-some handle e);
-    drops = refl;
+    unused = record { drops = refl; owns = refl; funcs = refl };
     frames = refl;
     owned = refl;
     pending = refl;
@@ -207,7 +208,7 @@ loaded_image layouts image well old now new n scope types none filled leaves =
       holds = holds;
       images = is_of_table layouts image well new (leave 0 filled.table) filled.account holds filled.objects filled.set (sym filled.holds.holds.types ∙ filled.types ∙ types);
       count = filled.count;
-      alone = record { scoped = refl; frames = filled.frames; owned = filled.owned; pending = filled.pending };
+      alone = left_alone filled.table filled.unused filled.frames filled.owned filled.pending;
     }
 
 pub not_loaded : (layouts : Layouts) (image : ImageParts) (well : IsWellImage image) (limits limits' : Limits) (most : ℕ) (old now new : StoreView ℕ) (scope : ℕ) (why : LoadFault) → old.types ≡ well.types → old.max_scoped ≡ most → length old.scoped ≡ 0 → scope ≡ 0
@@ -217,12 +218,23 @@ not_loaded layouts image well limits limits' most old now new scope why types sa
   table = leave 0 stops.bare.table;
   account = stops.bare.account;
   holds = subst (λ k. HoldsAccount layouts new (leave k stops.bare.table) stops.bare.account) none (leaves stops.bare.table stops.bare.account stops.bare.holds);
-  alone = record { scoped = refl; frames = stops.bare.frames; owned = stops.bare.owned; pending = stops.bare.pending };
+  alone = left_alone stops.bare.table stops.bare.unused stops.bare.frames stops.bare.owned stops.bare.pending;
   unset = stops.bare.unset;
   well = well;
+  types = left why stops.cause;
   cause = by why stops.cause;
 }
   where
+    all : stops.bare.table.types ≡ well.types
+    all = sym stops.bare.holds.holds.types ∙ stops.same_types ∙ types
+
+    left : (w : LoadFault) → StopCause layouts old.types image.objects limits limits' (sum_by line_roots image.objects + sum_by global_present image.globals) old w stops.bare.table → ImageTypesLeft well.types w stops.bare.table.types
+    left fault.BadImage c = c
+    left fault.TooLarge c = all
+    left fault.RootsFull c = all
+    left (fault.HeapOutOfMemory f) c = all
+    left fault.Memory c = ([], sym all ∙ sym (append-nil stops.bare.table.types))
+
     by : (w : LoadFault) → StopCause layouts old.types image.objects limits limits' (sum_by line_roots image.objects + sum_by global_present image.globals) old w stops.bare.table → ImageCauses layouts most image well limits limits' w (leave 0 stops.bare.table)
     by fault.BadImage c = c
     by fault.TooLarge c = subst (λ (ts : List Declaration). HasTooLarge layouts ts image.objects) types c
@@ -242,26 +254,43 @@ declare_stops layouts image well limits most first owned types new holds fault.B
 declare_stops layouts image well limits most first owned types new holds fault.TooLarge none = absurd none
 declare_stops layouts image well limits most first owned types new holds fault.RootsFull none = absurd none
 declare_stops layouts image well limits most first owned types new holds (fault.HeapOutOfMemory f) none = absurd none
-declare_stops layouts image well limits most first owned types new holds fault.Memory none = record {
+declare_stops layouts image well limits most first owned types new holds fault.Memory front = record {
   table = with_types types (start first most owned);
   account = no_account;
   holds = holds;
-  alone = record { scoped = refl; frames = refl; owned = refl; pending = refl };
+  alone = record { scoped = refl; frames = refl; owned = refl; pending = refl; owns = refl; funcs = refl; drops = omega arith };
   unset = refl;
   well = well;
+  types = front well.types well.declared;
   cause = tt;
 }
+
+-- the configuration, when types were declared, and when the scope was left
+pub settings_declared : (layouts : Layouts) (s new : StoreView ℕ) → HoldsStart ℕ layouts s → KeepsButTypes layouts s new → KeepsSettings s new
+settings_declared layouts s new holds keeps =
+    let t = start s.first s.max_scoped s.max_owned in
+    settings_held layouts s new t (with_types new.types t) no_account no_account holds (keeps t no_account holds) refl refl refl
+
+pub settings_filled : (layouts : Layouts) (lines : List ObjectLine) (globals : List GlobalLine) (limits limits' : Limits) (old now new : StoreView ℕ) (scope : ℕ) (result : Result ℕ LoadFault) → Fills layouts lines globals limits limits' old result now
+    → ((t : Table ℕ) (a : Account) → HoldsAccount layouts now t a → HoldsAccount layouts new (leave scope t) a) → KeepsSettings old new
+settings_filled layouts lines globals limits limits' old now new scope (Ok n) filled leaves =
+    settings_twice old now new filled.same
+    (settings_held layouts now new filled.table (leave scope filled.table) filled.account filled.account filled.holds (leaves filled.table filled.account filled.holds) refl refl refl)
+settings_filled layouts lines globals limits limits' old now new scope (Err why) stops leaves =
+    settings_twice old now new stops.same
+    (settings_held layouts now new stops.bare.table (leave scope stops.bare.table) stops.bare.account stops.bare.account stops.bare.holds (leaves stops.bare.table stops.bare.account stops.bare.holds) refl refl refl)
 
 -- Bytes
 
 -- nothing was done
-pub not_begun : (layouts : Layouts) (bytes : List ℕ) (limits : Limits) (s : StoreView ℕ) (why : LoadFault) → HoldsStart ℕ layouts s → Causes layouts s.max_scoped bytes limits limits why (start s.first s.max_scoped s.max_owned) → NotLoaded layouts s.max_scoped bytes limits limits why s
-not_begun layouts bytes limits s why holds cause = record {
+pub not_begun : (layouts : Layouts) (bytes : List ℕ) (limits : Limits) (s : StoreView ℕ) (why : LoadFault) → HoldsStart ℕ layouts s → TypesLeft bytes why [] → Causes layouts s.max_scoped bytes limits limits why (start s.first s.max_scoped s.max_owned) → NotLoaded layouts s.max_scoped bytes limits limits why s
+not_begun layouts bytes limits s why holds types cause = record {
   table = start s.first s.max_scoped s.max_owned;
   account = no_account;
   holds = holds;
-  alone = record { scoped = refl; frames = refl; owned = refl; pending = refl };
+  alone = record { scoped = refl; frames = refl; owned = refl; pending = refl; owns = refl; funcs = refl; drops = omega arith };
   unset = refl;
+  types = types;
   cause = cause;
 }
 
@@ -271,6 +300,17 @@ text_causes layouts most bytes image limits limits' t fits spelled well fault.To
 text_causes layouts most bytes image limits limits' t fits spelled well fault.RootsFull c = (record { image = image; fits = fits; spelled = spelled; well = well }, c)
 text_causes layouts most bytes image limits limits' t fits spelled well (fault.HeapOutOfMemory f) c = (record { image = image; fits = fits; spelled = spelled; well = well }, c)
 text_causes layouts most bytes image limits limits' t fits spelled well fault.Memory c = tt
+
+text_types : (bytes : List ℕ) (image : ImageParts) (types : List Declaration) → FitsImage image → bytes ≡ image_text image → (well : IsWellImage image) → (why : LoadFault) → ImageTypesLeft well.types why types → TypesLeft bytes why types
+text_types bytes image types fits spelled well fault.BadImage left = absurd left
+text_types bytes image types fits spelled well fault.TooLarge left = (record { image = image; fits = fits; spelled = spelled; well = well }, left)
+text_types bytes image types fits spelled well fault.RootsFull left = (record { image = image; fits = fits; spelled = spelled; well = well }, left)
+text_types bytes image types fits spelled well (fault.HeapOutOfMemory f) left = (record { image = image; fits = fits; spelled = spelled; well = well }, left)
+text_types bytes image types fits spelled well fault.Memory left = inr (record { image = image; fits = fits; spelled = spelled; well = well }, left)
+
+-- an image that is well is not refused as a bad one
+pub never_bad : (layouts : Layouts) (most : ℕ) (image : ImageParts) (limits limits' : Limits) (new : StoreView ℕ) (result : Result ℕ LoadFault) → LoadsImage layouts most image limits limits' result new → ¬ (result ≡ Err fault.BadImage)
+never_bad layouts most image limits limits' new result loads bad = (subst (λ (r : Result ℕ LoadFault). LoadsImage layouts most image limits limits' r new) bad loads).cause
 
 pub loads_text : (layouts : Layouts) (most : ℕ) (bytes : List ℕ) (image : ImageParts) (limits limits' : Limits) (new : StoreView ℕ) → FitsImage image → bytes ≡ image_text image → (result : Result ℕ LoadFault) → LoadsImage layouts most image limits limits' result new → Loads layouts most bytes limits limits' result new
 loads_text layouts most bytes image limits limits' new fits spelled (Ok n) did = record {
@@ -287,5 +327,6 @@ loads_text layouts most bytes image limits limits' new fits spelled (Err why) di
   holds = did.holds;
   alone = did.alone;
   unset = did.unset;
+  types = text_types bytes image did.table.types fits spelled did.well why did.types;
   cause = text_causes layouts most bytes image limits limits' did.table fits spelled did.well why did.cause;
 }

@@ -8,17 +8,19 @@ use Rattle.std.proofs.lemmas.List.Sums.{sum_by_push, sum_by-take-le}
 use Rattle.std.proofs.lemmas.Option.{get_or_from_slice_get, none-some, same_Some, slice_get_cases, slice_get_within}
 use Rattle.gc_types.specs.declared.kind.Layouts.{Layouts}
 use Rattle.gc_types.specs.declared.kind.Layouts.TheVariants.{Counting}
+use Rattle.gc_types.specs.declared.value.Func.{Func}
 use Rattle.gc_types.specs.Declarations.{Declaration}
 use Rattle.gc_types.specs.Layouts.{round_up}
 use Rattle.gc_view.specs.Pages.{max_pages}
 use Rattle.gc_view.specs.Sizes.{alignment, need_of}
 use Rattle.gc_model.specs.Allocation.{Limits, LacksMemory, MayRefuse, Rose, asked, no_heap, no_room, too_large}
+use Rattle.gc_model.specs.Functions.{with_functions}
 use Rattle.gc_model.specs.Live.{rooted_among}
 use Rattle.gc_model.specs.OwnedRoots.{owned_among}
 use Rattle.gc_model.specs.Reach.{IsReached, root_references, by_start}
 use Rattle.gc_model.specs.Sizes.{object_size}
 use Rattle.gc_model.specs.Stores.{StoreView}
-use Rattle.gc_model.specs.Table.{Table, Scoped, Owned, make, make_heap, push, with_pages}
+use Rattle.gc_model.specs.Table.{Table, Scoped, Owned, made_pages, make, make_heap, push, with_pages}
 use Rattle.gc_model.specs.Values.{Reference, at, Object}
 use Rattle.gc_model.specs.Words.{Placing}
 use Rattle.gc_model.proofs.Lists.{slice_get-push_cases, slice_get-take}
@@ -35,13 +37,14 @@ use Rattle.gc_image.specs.Well.{AreWellObjects, line_values}
 use Rattle.gc_load_image.specs.declared.fault.LoadFault.{LoadFault}
 use Rattle.gc_load_image.specs.declared.fault.LoadFault.TheVariants as fault
 use Rattle.gc_load_image.specs.Loads.{LacksHeap, WasRefused, first_pages, line_block, line_count, line_size, more_pages, past_most}
-use Rattle.gc_load_image.specs.Stages.{Bare, Counts, Goes, IsDense, MadeNext, MakesNext, Making, PlacesLine, Pushes, Standing, Stops, StopsAtRoots, early_object, early_objects}
+use Rattle.gc_load_image.specs.Stages.{Counts, Goes, IsDense, MadeNext, MakesNext, Making, PlacesLine, Pushes, Standing, StopCause, Stops, StopsAtRoots, early_object, early_objects}
 use Rattle.gc_load_image.proofs.AskLemmas.{AsksBy, prepares_asks, refused_first, refused_pages, too_many, unrefused}
 use Rattle.gc_load_image.proofs.DenseLemmas.{Lies, still_lies}
 use Rattle.gc_load_image.proofs.DenseMade.{dense_made}
-use Rattle.gc_load_image.proofs.EarlyLemmas.{AreMade, early_alike, early_at, early_length, early_push}
+use Rattle.gc_load_image.proofs.EarlyLemmas.{AreMade, early_alike, early_at, early_functions, early_length, early_push}
 use Rattle.gc_load_image.proofs.PushedRoots.{named_pushed, new_named}
 use Rattle.gc_load_image.proofs.RoomLemmas.{Laid, lacks_full}
+use Rattle.gc_load_image.proofs.SettingsLemmas.{settings_held, settings_twice, unused_like}
 use Rattle.gc_load_image.proofs.SizeLemmas.{early_size, size_above, small_is_short}
 use Rattle.gc_load_image.proofs.ValueLemmas.{full_is}
 
@@ -200,37 +203,15 @@ module _ (layouts : Layouts) (lines : List ObjectLine) (handles : List GcRootInd
     abbrev state : PolicyState ℕ
     state = policy_state t m.account limits
 
-    -- what stays bare
-    abbrev bare_of : (u : Table ℕ) (b : Account) → HoldsAccount layouts new u b → u.frames ≡ t.frames → u.owned ≡ t.owned → u.pending ≡ t.pending → u.globals ≡ t.globals → Bare layouts new
-    bare_of u b holds frames owned pending globals = record {
-      table = u;
-      account = b;
-      holds = holds;
-      frames = frames ∙ p.standing.frames;
-      owned = owned ∙ p.standing.owned;
-      pending = pending ∙ p.standing.pending;
-      unset = globals ∙ p.standing.unset;
-    }
-
-    abbrev bare_still : RefusesPlace layouts state limits' new → Bare layouts new
-    bare_still refuses = bare_of t m.account refuses.holds refl refl refl refl
-
-    bare_like : (u : Table ℕ) (b : Account) → HoldsAccount layouts new u b → (pages : ℕ) → u ≡ with_pages pages t → Bare layouts new
-    bare_like u b holds pages is =
-        bare_of u b holds (ap (λ (x : Table ℕ). x.frames) is) (ap (λ (x : Table ℕ). x.owned) is) (ap (λ (x : Table ℕ). x.pending) is) (ap (λ (x : Table ℕ). x.globals) is)
-
-    -- no root may be pushed
-    full_stops : mid.max_scoped < length mid.scoped + 1 → s.max_scoped < length s.scoped + (1 + line_count line)
-    full_stops full = let few = p.few in omega (arith, full, few, p.same)
-
-    -- it stopped
-    wants : (w : WantsPlace layouts counter o state limits' new) → Bare layouts new
-    wants w = elim w.pages [
-      | inl is ↦ bare_of w.after.table w.after.account w.holds (ap (λ (x : Table ℕ). x.frames) is) (ap (λ (x : Table ℕ). x.owned) is) (ap (λ (x : Table ℕ). x.pending) is) (ap (λ (x : Table ℕ). x.globals) is)
-      | inr got ↦ bare_like w.after.table w.after.account w.holds got.0 got.1.1
-    ]
-
+    -- a table that has the types, the configuration, the roots and the numbers that there were
     record Still (u : Table ℕ) : Type 0 where
+      types : u.types ≡ t.types
+      first : u.first ≡ t.first
+      max_scoped : u.max_scoped ≡ t.max_scoped
+      max_owned : u.max_owned ≡ t.max_owned
+      drops : u.drops ≡ t.drops
+      owns : u.owns ≡ t.owns
+      funcs : u.funcs ≡ t.funcs
       frames : u.frames ≡ t.frames
       owned : u.owned ≡ t.owned
       pending : u.pending ≡ t.pending
@@ -239,14 +220,49 @@ module _ (layouts : Layouts) (lines : List ObjectLine) (handles : List GcRootInd
     still_as : (u v : Table ℕ) → u ≡ v → Still v → Still u
     still_as u v is still = subst Still (sym is) still
 
-    lacks_still : (u : Table ℕ) → LacksMemory layouts limits.limit m.account.places o t u → Still u
-    lacks_still u (no_heap refused eq) = still_as u t eq (record { frames = refl; owned = refl; pending = refl; globals = refl })
-    lacks_still u (no_room may refused lacks eq) = still_as u (make_heap t) eq (record { frames = refl; owned = refl; pending = refl; globals = refl })
+    still_itself : Still t
+    still_itself = record { types = refl; first = refl; max_scoped = refl; max_owned = refl; drops = refl; owns = refl; funcs = refl; frames = refl; owned = refl; pending = refl; globals = refl }
 
-    abbrev lacks_bare : (need : ℕ) (l : LacksPlace layouts counter o state limits' need new) → Bare layouts new
-    lacks_bare need l =
-        let still = lacks_still l.after.table l.lacks in
-        bare_of l.after.table l.after.account l.holds still.frames still.owned still.pending still.globals
+    still_pages : (pages : ℕ) → Still (with_pages pages t)
+    still_pages pages = record { types = refl; first = refl; max_scoped = refl; max_owned = refl; drops = refl; owns = refl; funcs = refl; frames = refl; owned = refl; pending = refl; globals = refl }
+
+    -- it stopped with such a table
+    stops_at : (u : Table ℕ) (b : Account) → HoldsAccount layouts new u b → Still u → (why : LoadFault) → StopCause layouts s.types lines limits limits' (1 + line_count line) s why u
+        → Stops layouts s.types lines limits limits' (1 + line_count line) s why new
+    stops_at u b holds still why cause = record {
+      bare = record {
+        table = u;
+        account = b;
+        holds = holds;
+        unused = unused_like t u still.drops still.owns still.funcs p.standing.unused;
+        frames = still.frames ∙ p.standing.frames;
+        owned = still.owned ∙ p.standing.owned;
+        pending = still.pending ∙ p.standing.pending;
+        unset = still.globals ∙ p.standing.unset;
+      };
+      same = settings_twice s mid new p.same (settings_held layouts mid new t u m.account b p.standing.holds holds still.first still.max_scoped still.max_owned);
+      same_types = holds.holds.types ∙ still.types ∙ types_are;
+      cause = cause;
+    }
+
+    stops_still : RefusesPlace layouts state limits' new → (why : LoadFault) → StopCause layouts s.types lines limits limits' (1 + line_count line) s why t
+        → Stops layouts s.types lines limits limits' (1 + line_count line) s why new
+    stops_still refuses why cause = stops_at t m.account refuses.holds still_itself why cause
+
+    -- no root may be pushed
+    full_stops : mid.max_scoped < length mid.scoped + 1 → s.max_scoped < length s.scoped + (1 + line_count line)
+    full_stops full = let few = p.few in omega (arith, full, few, p.same.max_scoped)
+
+    -- memory was wanting
+    wants : WantsPlace layouts counter o state limits' new → Stops layouts s.types lines limits limits' (1 + line_count line) s fault.Memory new
+    wants w = stops_at w.after.table w.after.account w.holds (elim w.pages [
+      | inl is ↦ still_as w.after.table t is still_itself
+      | inr got ↦ still_as w.after.table (with_pages got.0 t) got.1.1 (still_pages got.0)
+    ]) fault.Memory tt
+
+    lacks_still : (u : Table ℕ) → LacksMemory layouts limits.limit m.account.places o t u → Still u
+    lacks_still u (no_heap refused eq) = still_as u t eq still_itself
+    lacks_still u (no_room may refused lacks eq) = still_as u (make_heap t) eq (still_pages (made_pages t))
 
     lacks_heap : (need : ℕ) (l : LacksPlace layouts counter o state limits' need new) → LacksHeap layouts s.types lines need limits limits' l.after.table
     lacks_heap need l =
@@ -292,7 +308,7 @@ module _ (layouts : Layouts) (lines : List ObjectLine) (handles : List GcRootInd
       standing_next = record {
         holds = holds_next;
         named = named_next;
-        drops = p.standing.drops;
+        unused = unused_like t next refl refl (ap (λ (fs : List (Option Func)). with_functions fs t.funcs) (early_functions k line)) p.standing.unused;
         frames = p.standing.frames;
         owned = p.standing.owned;
         pending = p.standing.pending;
@@ -320,7 +336,7 @@ module _ (layouts : Layouts) (lines : List ObjectLine) (handles : List GcRootInd
             let more : length next.scoped ≡ length t.scoped + 1 = length_push t.scoped _ in
             let few = p.few in
             omega (arith, before, after, more, few));
-        same = holds_next.holds.settings.max_scoped ∙ sym p.standing.holds.holds.settings.max_scoped ∙ p.same;
+        same = settings_twice s mid new p.same (settings_held layouts mid new t next m.account account p.standing.holds holds_next refl refl refl);
         types = holds_next.holds.types ∙ types_are;
       }
 
@@ -347,25 +363,29 @@ module _ (layouts : Layouts) (lines : List ObjectLine) (handles : List GcRootInd
     pub makes_next : (result : Result GcRootIndex LoadFault) → PlacesLine layouts counter o state limits' result new → MakesNext layouts lines handles line limits limits' s result new
     makes_next (Ok handle) places = made_next handle places
     makes_next (Err fault.BadImage) places = absurd places
-    makes_next (Err fault.TooLarge) places = record {
-      bare = bare_still places.1;
-      cause = record { number = k; line = line; line_is = here; large = ap (too_large layouts) (sym (size_is layouts)) ∙ places.0 };
-    }
-    makes_next (Err fault.RootsFull) places = record { bare = bare_still places.1; cause = full_stops (full_is layouts handles mid new t m.account p.standing places.0) }
-    makes_next (Err (fault.HeapOutOfMemory f)) places = record { bare = lacks_bare f.bytes_needed places; cause = lacks_heap f.bytes_needed places }
-    makes_next (Err fault.Memory) places = record { bare = elim places [ inl w ↦ wants w | inr r ↦ bare_still r ]; cause = tt }
+    makes_next (Err fault.TooLarge) places =
+        stops_still places.1 fault.TooLarge (record { number = k; line = line; line_is = here; large = ap (too_large layouts) (sym (size_is layouts)) ∙ places.0 })
+    makes_next (Err fault.RootsFull) places = stops_still places.1 fault.RootsFull (full_stops (full_is layouts handles mid new t m.account p.standing places.0))
+    makes_next (Err (fault.HeapOutOfMemory f)) places =
+        stops_at places.after.table places.after.account places.holds (lacks_still places.after.table places.lacks) (fault.HeapOutOfMemory f) (lacks_heap f.bytes_needed places)
+    makes_next (Err fault.Memory) places = elim places [ inl w ↦ wants w | inr r ↦ stops_still r fault.Memory tt ]
 
 -- values of a line that weren't found stop it
 pub values_stop : (layouts : Layouts) (handles : List GcRootIndex) (types : List Declaration) (lines : List ObjectLine) (limits : Limits) (n most : ℕ) (s : StoreView ℕ) (t : Table ℕ) (a : Account) (why : LoadFault) (new : StoreView ℕ) → n ≤ most
-    → Pushes layouts handles n s t a new → StopsAtRoots n s why → Stops layouts types lines limits limits most s why new
-values_stop layouts handles types lines limits n most s t a why new below p cause = by why cause
+    → t.types ≡ s.types → Pushes layouts handles n s t a new → StopsAtRoots n s why → Stops layouts types lines limits limits most s why new
+values_stop layouts handles types lines limits n most s t a why new below types_before p cause = by why cause
   where
-    bare : Bare layouts new
-    bare = record { table = p.table; account = a; holds = p.standing.holds; frames = p.standing.frames; owned = p.standing.owned; pending = p.standing.pending; unset = p.standing.unset }
+    stops : (w : LoadFault) → StopCause layouts types lines limits limits most s w p.table → Stops layouts types lines limits limits most s w new
+    stops w c = record {
+      bare = record { table = p.table; account = a; holds = p.standing.holds; unused = p.standing.unused; frames = p.standing.frames; owned = p.standing.owned; pending = p.standing.pending; unset = p.standing.unset };
+      same = p.same;
+      same_types = p.standing.holds.holds.types ∙ p.types ∙ types_before;
+      cause = c;
+    }
 
     by : (w : LoadFault) → StopsAtRoots n s w → Stops layouts types lines limits limits most s w new
     by fault.BadImage c = absurd c
     by fault.TooLarge c = absurd c
-    by fault.RootsFull c = record { bare = bare; cause = (let past : s.max_scoped < length s.scoped + n = c in omega (arith, past, below)) }
+    by fault.RootsFull c = stops fault.RootsFull (let past : s.max_scoped < length s.scoped + n = c in omega (arith, past, below))
     by (fault.HeapOutOfMemory f) c = absurd c
-    by fault.Memory c = record { bare = bare; cause = tt }
+    by fault.Memory c = stops fault.Memory tt

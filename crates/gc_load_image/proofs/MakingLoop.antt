@@ -17,6 +17,7 @@ use Rattle.gc_image.specs.Well.{line_values}
 use Rattle.gc_load_image.specs.declared.fault.LoadFault.{LoadFault}
 use Rattle.gc_load_image.specs.declared.fault.LoadFault.TheVariants as fault
 use Rattle.gc_load_image.specs.Loads.{HasTooLarge, LacksHeap, WasRefused, first_pages, line_count, more_pages, past_most}
+use Rattle.gc_load_image.proofs.SettingsLemmas.{settings_itself, settings_twice}
 use Rattle.gc_load_image.specs.Stages.{Bare, Counts, Goes, MadeAll, MadeNext, Making, Standing, StopCause, Stops, line_roots}
 
 -- the limiter
@@ -46,18 +47,23 @@ lacks_later layouts types lines need a b c t counts lacks = record {
 -- a step that stopped stops what it is a part of
 pub stops_later : (layouts : Layouts) (lines : List ObjectLine) (a b c : Limits) (m n most : ℕ) (old mid : StoreView ℕ) (why : LoadFault) (new : StoreView ℕ) → Goes m old mid → Counts a b → m + n ≤ most
     → Stops layouts mid.types lines b c n mid why new → Stops layouts old.types lines a c most old why new
-stops_later layouts lines a b c m n most old mid why new goes counts below stops = record { bare = stops.bare; cause = by why stops.cause }
+stops_later layouts lines a b c m n most old mid why new goes counts below stops = record {
+  bare = stops.bare;
+  same = settings_twice old mid new goes.same stops.same;
+  same_types = stops.same_types ∙ goes.types;
+  cause = by why stops.cause;
+}
   where
     by : (w : LoadFault) → StopCause layouts mid.types lines b c n mid w stops.bare.table → StopCause layouts old.types lines a c most old w stops.bare.table
     by fault.BadImage cause = cause
     by fault.TooLarge cause = subst (λ (ts : List Declaration). HasTooLarge layouts ts lines) goes.types cause
-    by fault.RootsFull cause = (let few = goes.few in let past : mid.max_scoped < length mid.scoped + n = cause in omega (arith, few, goes.same, past, below))
+    by fault.RootsFull cause = (let few = goes.few in let past : mid.max_scoped < length mid.scoped + n = cause in omega (arith, few, goes.same.max_scoped, past, below))
     by (fault.HeapOutOfMemory f) cause = lacks_later layouts old.types lines f.bytes_needed a b c stops.bare.table counts (subst (λ (ts : List Declaration). LacksHeap layouts ts lines f.bytes_needed b c stops.bare.table) goes.types cause)
     by fault.Memory cause = tt
 
 -- what stands is bare
 pub bare_standing : (layouts : Layouts) (handles : List GcRootIndex) (s : StoreView ℕ) (t : Table ℕ) (a : _) → Standing layouts handles s t a → Bare layouts s
-bare_standing layouts handles s t a standing = record { table = t; account = a; holds = standing.holds; frames = standing.frames; owned = standing.owned; pending = standing.pending; unset = standing.unset }
+bare_standing layouts handles s t a standing = record { table = t; account = a; holds = standing.holds; unused = standing.unused; frames = standing.frames; owned = standing.owned; pending = standing.pending; unset = standing.unset }
 
 -- The first objects were made.
 pub record MadeFront (layouts : Layouts) (lines : List ObjectLine) (limits limits' : Limits) (old : StoreView ℕ) (handles : List GcRootIndex) (i : ℕ) (new : StoreView ℕ) : Type 0 where
@@ -72,13 +78,13 @@ module _ (layouts : Layouts) (lines : List ObjectLine) (limits : Limits) (old : 
   front_none making = record {
     making = making;
     count = refl;
-    goes = record { few = omega arith; same = refl; types = refl };
+    goes = record { few = omega arith; same = settings_itself old; types = refl };
     counts = same_limits limits;
     short = λ number line below e. absurd (omega (arith, below));
   }
 
   pub begun_stops : Making layouts lines [] old → Stops layouts old.types lines limits limits (sum_by line_roots lines) old fault.Memory old
-  begun_stops making = record { bare = bare_standing layouts [] old making.table making.account making.standing; cause = tt }
+  begun_stops making = record { bare = bare_standing layouts [] old making.table making.account making.standing; same = settings_itself old; same_types = refl; cause = tt }
 
   module _ (between : Limits) (handles : List GcRootIndex) (i : ℕ) (mid : StoreView ℕ) (front : MadeFront layouts lines limits between old handles i mid) (line : ObjectLine) (here : slice_get lines i ≡ Some line) where
     inside : i < length lines
@@ -93,7 +99,7 @@ module _ (layouts : Layouts) (lines : List ObjectLine) (limits : Limits) (old : 
       count = length_push handles handle ∙ ap (λ n. n + 1) front.count;
       goes = record {
         few = (let a = front.goes.few in let b = next.goes.few in omega (arith, a, b, sums));
-        same = next.goes.same ∙ front.goes.same;
+        same = settings_twice old mid new front.goes.same next.goes.same;
         types = next.goes.types ∙ front.goes.types;
       };
       counts = counts_twice limits between limits' front.counts next.counts;
@@ -112,7 +118,12 @@ module _ (layouts : Layouts) (lines : List ObjectLine) (limits : Limits) (old : 
         (let under = sum_by-take-le line_roots lines (i + 1) in omega (arith, under, sums)) stops
 
     pub front_memory : (limits' : Limits) (handle : GcRootIndex) (new : StoreView ℕ) → MadeNext layouts lines handles line between limits' mid handle new → Stops layouts old.types lines limits limits' (sum_by line_roots lines) old fault.Memory new
-    front_memory limits' handle new next = record { bare = bare_standing layouts (handles ++ handle ∷ []) new next.making.table next.making.account next.making.standing; cause = tt }
+    front_memory limits' handle new next = record {
+      bare = bare_standing layouts (handles ++ handle ∷ []) new next.making.table next.making.account next.making.standing;
+      same = settings_twice old mid new front.goes.same next.goes.same;
+      same_types = next.goes.types ∙ front.goes.types;
+      cause = tt;
+    }
 
   pub front_all : (limits' : Limits) (handles : List GcRootIndex) (i : ℕ) (new : StoreView ℕ) → i ≡ length lines → MadeFront layouts lines limits limits' old handles i new → MadeAll layouts lines limits limits' old handles new
   front_all limits' handles i new over front = record {

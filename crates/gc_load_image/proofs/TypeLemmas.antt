@@ -1,5 +1,6 @@
 -- A type that a command declares is declared in the store.
-use Rattle.std.proofs.Common.{◌≡◌, ℕ, ◌<◌, length, get_or, List, [], ◌∷◌, ◌++◌, Some, Result, Ok, Err, true, sym, ap, ◌∙◌, subst}
+use Rattle.std.proofs.Common.{◌≡◌, ℕ, ◌<◌, length, get_or, List, [], ◌∷◌, ◌++◌, append_assoc, drop, Some, Result, Ok, Err, true, sym, ap, ◌∙◌, subst}
+use Rattle.std.proofs.lemmas.List.{append-nil}
 use Rattle.gc_types.specs.declared.kind.Layouts.{Layouts}
 use Rattle.gc_types.specs.declared.types.TypeFault.{TypeFault}
 use Rattle.gc_types.specs.declared.types.TypeFault.TheVariants as type_fault
@@ -10,13 +11,14 @@ use Rattle.gc_model.specs.Stores.{StoreView}
 use Rattle.gc_model.specs.Table.{Table}
 use Rattle.gc_policy.specs.Accounts.{Account, HoldsAccount}
 use Rattle.gc_store.specs.Stores as store
-use Rattle.gc_image.specs.Declaring.{declared_by}
+use Rattle.gc_image.specs.Declaring.{DeclareInTurn, declared_by}
 use Rattle.gc_image.specs.Steps.{Declared}
 use Rattle.gc_image.proofs.TurnLemmas.{InTurn, turn_none}
 use Rattle.std.specs.Prelude.{MatchResult}
 use Rattle.std.specs.Result.{IsErrAnd}
 use Rattle.gc_load_image.specs.declared.fault.LoadFault.{LoadFault}
 use Rattle.gc_load_image.specs.declared.fault.LoadFault.TheVariants as fault
+use Rattle.gc_load_image.specs.Loads.{IsFront}
 use Rattle.gc_load_image.specs.Stages.{DeclaresAll, DeclaresType, KeepsButTypes, told_of_type, with_types}
 
 abbrev pub SomeTable : Layouts → StoreView ℕ → Type 0
@@ -40,7 +42,7 @@ module _ (layouts : Layouts) (old new : StoreView ℕ) (command : Command) (d : 
       let before = held.1.1.holds.types in
       let did = step t held.1.0 held.1.1 in
       did.0 (subst (λ (ts : List Declaration). Declarable ts d) before (subst (Declarable old.types) (sym (one_spelled e declares.spelled)) declares.declarable))
-  not_declared type_fault.Memory step = tt
+  not_declared type_fault.Memory step = (step held.0 held.1.0 held.1.1).holds.types ∙ sym held.1.1.holds.types
 
   pub declared_none : (why : TypeFault) (told : LoadFault) → told ≡ told_of_type why → ((t : Table ℕ) (a : Account) → HoldsAccount layouts old t a → store.Declares layouts d t a (Err why) new) → DeclaresType command old.types new.types (Err told)
   declared_none why told is step = subst (λ (f : LoadFault). DeclaresType command old.types new.types (Err f)) (sym is) (not_declared why step)
@@ -54,6 +56,13 @@ keeps_own layouts s t a holds = subst (λ (ts : List Declaration). HoldsAccount 
 pub keeps_twice : (layouts : Layouts) (old mid new : StoreView ℕ) → KeepsButTypes layouts old mid → KeepsButTypes layouts mid new → KeepsButTypes layouts old new
 keeps_twice layouts old mid new one two t a holds = two (with_types mid.types t) a (one t a holds)
 
+-- the types so far are the first of those that are declared in turn
+pub turn_front : (types : List Declaration) (commands : List Command) (all : List Declaration) → DeclareInTurn types commands all → IsFront types all
+turn_front types [] all turn = ([], sym turn ∙ sym (append-nil types))
+turn_front types (command ∷ commands) all turn =
+    let rest = turn_front (types ++ turn.0 ∷ []) commands all turn.1.1 in
+    (turn.0 ∷ rest.0, rest.1 ∙ append_assoc types (turn.0 ∷ []) rest.0)
+
 -- a declaration that stopped stops all
 pub stops_in_turn : (commands : List Command) (types new : List Declaration) (i : ℕ) (command : Command) → i < length commands → command ≡ get_or commands i command → InTurn commands types i
     → (why : LoadFault) → DeclaresType command types new (Err why) → DeclaresAll commands new (Err why)
@@ -61,7 +70,7 @@ stops_in_turn commands types new i command below is turn fault.BadImage none = t
 stops_in_turn commands types new i command below is turn fault.TooLarge none = none
 stops_in_turn commands types new i command below is turn fault.RootsFull none = none
 stops_in_turn commands types new i command below is turn (fault.HeapOutOfMemory f) none = none
-stops_in_turn commands types new i command below is turn fault.Memory none = tt
+stops_in_turn commands types new i command below is turn fault.Memory same = λ all start. subst (λ (ts : List Declaration). IsFront ts all) (sym same) (turn_front types (drop i commands) all (turn.onward all start))
 
 -- an error that is handed on
 pub err_is : {A E : Type 0} (r : Result A E) (why : E) → IsErrAnd r (λ (e : E). e ≡ why) → r ≡ Err why

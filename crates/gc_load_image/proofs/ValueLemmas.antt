@@ -28,6 +28,7 @@ use Rattle.gc_image.specs.Text.{FitsReference, FitsValue}
 use Rattle.gc_load_image.specs.declared.fault.LoadFault.{LoadFault}
 use Rattle.gc_load_image.specs.Stages.{FindsHandle, FindsValue, Pushes, Standing, StopsAtRoots, early_reference, told_of_root}
 use Rattle.gc_load_image.proofs.PushedRoots.{named_pushed, new_named}
+use Rattle.gc_load_image.proofs.SettingsLemmas.{settings_held, settings_itself, settings_twice, unused_like}
 
 -- nothing was pushed
 abbrev pub pushes_none : (layouts : Layouts) (handles : List GcRootIndex) (most : ℕ) (s : StoreView ℕ) (t : Table ℕ) (a : Account) → Standing layouts handles s t a → Pushes layouts handles most s t a s
@@ -38,7 +39,7 @@ pushes_none layouts handles most s t a standing = record {
   types = refl;
   stays = λ h r named. named;
   few = omega arith;
-  same = refl;
+  same = settings_itself s;
 }
 
 -- more may be pushed than were
@@ -63,7 +64,7 @@ pushes_twice layouts handles m n s t a mid new p q = record {
   types = q.types ∙ p.types;
   stays = λ h r named. q.stays h r (p.stays h r named);
   few = (let one = p.few in let two = q.few in omega (arith, one, two));
-  same = q.same ∙ p.same;
+  same = settings_twice s mid new p.same q.same;
 }
 
 module _ (layouts : Layouts) (handles : List GcRootIndex) (s new : StoreView ℕ) (t : Table ℕ) (a : Account) (standing : Standing layouts handles s t a) where
@@ -74,7 +75,7 @@ module _ (layouts : Layouts) (handles : List GcRootIndex) (s new : StoreView ℕ
       standing = record {
         holds = holds;
         named = λ number handle e. named_pushed s new same t q handle (at number) (standing.named number handle e);
-        drops = standing.drops;
+        unused = unused_like t (push q t) refl refl refl standing.unused;
         frames = standing.frames;
         owned = standing.owned;
         pending = standing.pending;
@@ -88,12 +89,12 @@ module _ (layouts : Layouts) (handles : List GcRootIndex) (s new : StoreView ℕ
           let after = holds.holds.scoped.same_count in
           let more : length (push q t).scoped ≡ length t.scoped + 1 = length_push t.scoped _ in
           omega (arith, before, after, more));
-      same = holds.holds.settings.max_scoped ∙ sym standing.holds.holds.settings.max_scoped;
+      same = settings_held layouts s new t (push q t) a a standing.holds holds refl refl refl;
     }
 
   pub full_is : roots_full t ≡ true → s.max_scoped < length s.scoped + 1
   full_is full =
-      let none : t.drops ≡ 0 = standing.drops in
+      let none : t.drops ≡ 0 = standing.unused.drops in
       let most = standing.holds.holds.settings.max_scoped in
       let count = standing.holds.holds.scoped.same_count in
       let past : t.max_scoped ≤ length t.scoped = grind (arith, nat_tests, full, none) in

@@ -85,7 +85,7 @@ module _ (layouts : Layouts) (handles : List GcRootIndex) (old : StoreView ℕ) 
         let sums = sum_by_push present_count xs v in
         record {
           pushes = pushes_more layouts handles (sum_by present_count xs + 0) (sum_by present_count all) old t a new (omega (arith, sums, part)) (pushes_twice layouts handles (sum_by present_count xs) 0 old t a mid new found.pushes one.0);
-          cause = cause_later (sum_by present_count xs) (present_count v) (sum_by present_count all) why found.pushes.few found.pushes.same (omega (arith, sums, part)) one.1;
+          cause = cause_later (sum_by present_count xs) (present_count v) (sum_by present_count all) why found.pushes.few found.pushes.same.max_scoped (omega (arith, sums, part)) one.1;
         }
 
     -- want of memory behind one

@@ -1,5 +1,5 @@
 -- What loading an image answers and leaves.
-use Rattle.std.specs.Prelude.{◌≡◌, ℕ, ◌+◌, ◌*◌, ◌/◌, ◌<◌, true, false, List, [], Some, None, Result, Ok, Err, length, replicate, slice_get, sum_by}
+use Rattle.std.specs.Prelude.{◌≡◌, ◌⊎◌, ℕ, ◌+◌, ◌*◌, ◌/◌, ◌<◌, ◌≤◌, true, false, List, [], ◌++◌, Some, None, Result, Ok, Err, length, replicate, slice_get, sum_by}
 use Rattle.gc_types.specs.declared.kind.Layouts.{Layouts}
 use Rattle.gc_types.specs.declared.kind.Layouts.TheVariants.{Null, Counting, Copying}
 use Rattle.gc_types.specs.Declarations.{Declaration}
@@ -86,12 +86,16 @@ pub record HasTooLarge (layouts : Layouts) (types : List Declaration) (lines : L
   pub line_is : slice_get lines number ≡ Some line
   pub large : too_large layouts (line_size layouts types line) ≡ true
 
--- no root stands but globals: no scoped root, no frame, no owned root with handles, and no pending exception
+-- no root stands but globals: no scoped root, no frame, no owned root with handles, and no pending exception; nor was an owned root made
+-- before or a function value interned, and at most one scope end dropped a root
 pub record HasGlobalsAlone (t : Table ℕ) : Type 0 where
   pub scoped : t.scoped ≡ []
   pub frames : t.frames ≡ []
   pub owned : t.owned ≡ []
   pub pending : t.pending ≡ None
+  pub owns : t.owns ≡ 0
+  pub funcs : t.funcs ≡ []
+  pub drops : t.drops ≤ 1
 
 -- the image of these bytes was loaded, which has so many objects
 pub record Loaded (layouts : Layouts) (bytes : List ℕ) (n : ℕ) (new : StoreView ℕ) : Type 0 where
@@ -111,16 +115,36 @@ Causes layouts most bytes limits limits' (fault.HeapOutOfMemory f) t =
     (well : IsWell bytes) × LacksHeap layouts well.well.types well.image.objects f.bytes_needed limits limits' t
 Causes layouts most bytes limits limits' fault.Memory t = Unit {0}
 
--- It wasn't loaded: the globals are null, and no other root stands.
+-- types are the first of others
+abbrev pub IsFront : List Declaration → List Declaration → Type 0
+IsFront types all = (rest : List Declaration) × (all ≡ types ++ rest)
+
+-- The types that stand then: none where the bytes are no image; where memory was wanting none, or the first that the image's lines declare; all of these
+-- where an object or a root was refused.
+abbrev pub TypesLeft : List ℕ → LoadFault → List Declaration → Type 0
+TypesLeft bytes fault.BadImage types = types ≡ []
+TypesLeft bytes fault.TooLarge types = (well : IsWell bytes) × (types ≡ well.well.types)
+TypesLeft bytes fault.RootsFull types = (well : IsWell bytes) × (types ≡ well.well.types)
+TypesLeft bytes (fault.HeapOutOfMemory f) types = (well : IsWell bytes) × (types ≡ well.well.types)
+TypesLeft bytes fault.Memory types = (types ≡ []) ⊎ ((well : IsWell bytes) × IsFront types well.well.types)
+
+-- It wasn't loaded: the globals are null, no other root stands, and no types but the image's.
 pub record NotLoaded (layouts : Layouts) (most : ℕ) (bytes : List ℕ) (limits limits' : Limits) (why : LoadFault) (new : StoreView ℕ) : Type 0 where
   pub table : Table ℕ
   pub account : Account
   pub holds : HoldsAccount layouts new table account
   pub alone : HasGlobalsAlone table
   pub unset : table.globals ≡ replicate global_count empty_slot
+  pub types : TypesLeft bytes why table.types
   pub cause : Causes layouts most bytes limits limits' why table
 
 -- what loading an image into a new store answers and leaves
 abbrev pub Loads : Layouts → ℕ → List ℕ → Limits → Limits → Result ℕ LoadFault → StoreView ℕ → Type 0
 Loads layouts most bytes limits limits' (Ok n) new = Loaded layouts bytes n new
 Loads layouts most bytes limits limits' (Err why) new = NotLoaded layouts most bytes limits limits' why new
+
+-- the configuration is as it was: the first pages, and the greatest numbers of scoped and owned roots
+pub record KeepsSettings (old new : StoreView ℕ) : Type 0 where
+  pub first : new.first ≡ old.first
+  pub max_scoped : new.max_scoped ≡ old.max_scoped
+  pub max_owned : new.max_owned ≡ old.max_owned

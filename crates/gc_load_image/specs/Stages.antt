@@ -41,7 +41,7 @@ use Rattle.gc_image.specs.Text.{FitsValue}
 use Rattle.gc_image.specs.Well.{IsWellImage, as_object, as_value, line_values}
 use Rattle.gc_load_image.specs.declared.fault.LoadFault.{LoadFault}
 use Rattle.gc_load_image.specs.declared.fault.LoadFault.TheVariants as fault
-use Rattle.gc_load_image.specs.Loads.{HasGlobalsAlone, HasTooLarge, LacksHeap, global_present, line_count, present_count, reference_count, reference_present}
+use Rattle.gc_load_image.specs.Loads.{HasGlobalsAlone, HasTooLarge, IsFront, KeepsSettings, LacksHeap, global_present, line_count, present_count, reference_count, reference_present}
 
 -- faults of the store as those of loading
 abbrev pub told_of_type : TypeFault → LoadFault
@@ -54,23 +54,23 @@ told_of_root root_fault.Unrooted = fault.Memory
 told_of_root root_fault.RootsFull = fault.RootsFull
 told_of_root root_fault.Memory = fault.Memory
 
--- the type of a command was declared behind the others, or it may not be
+-- the type of a command was declared behind the others, or it may not be; where memory was wanting the types are as they were
 abbrev pub DeclaresType : Command → List Declaration → List Declaration → Result (Unit {0}) LoadFault → Type 0
 DeclaresType command old new (Ok done) = Declared old command new true
 DeclaresType command old new (Err fault.BadImage) = Declared old command new false
 DeclaresType command old new (Err fault.TooLarge) = ⊥
 DeclaresType command old new (Err fault.RootsFull) = ⊥
 DeclaresType command old new (Err (fault.HeapOutOfMemory f)) = ⊥
-DeclaresType command old new (Err fault.Memory) = Unit {0}
+DeclaresType command old new (Err fault.Memory) = new ≡ old
 
--- so in turn the types of commands, in a store without types
+-- so in turn the types of commands, in a store without types; where memory was wanting the first of them stand
 abbrev pub DeclaresAll : List Command → List Declaration → Result (Unit {0}) LoadFault → Type 0
 DeclaresAll commands types (Ok done) = DeclareInTurn [] commands types
 DeclaresAll commands types (Err fault.BadImage) = (all : List Declaration) → ¬ DeclareInTurn [] commands all
 DeclaresAll commands types (Err fault.TooLarge) = ⊥
 DeclaresAll commands types (Err fault.RootsFull) = ⊥
 DeclaresAll commands types (Err (fault.HeapOutOfMemory f)) = ⊥
-DeclaresAll commands types (Err fault.Memory) = Unit {0}
+DeclaresAll commands types (Err fault.Memory) = (all : List Declaration) → DeclareInTurn [] commands all → IsFront types all
 
 -- the table with these types
 abbrev pub with_types : List Declaration → Table ℕ → Table ℕ
@@ -106,11 +106,17 @@ abbrev pub early_objects : ℕ → List ObjectLine → List (Object ℕ)
 early_objects number [] = []
 early_objects number (line ∷ lines) = early_object number line ∷ early_objects (number + 1) lines
 
+-- no number was used up: no scope end dropped a root, no owned root was made, and no function value interned
+pub record IsUnused (t : Table ℕ) : Type 0 where
+  pub drops : t.drops ≡ 0
+  pub owns : t.owns ≡ 0
+  pub funcs : t.funcs ≡ []
+
 -- What is so of a table all the while: no roots stand in it but scoped ones, of which the handles name objects by their numbers.
 pub record Standing (layouts : Layouts) (handles : List GcRootIndex) (s : StoreView ℕ) (t : Table ℕ) (a : Account) : Type 0 where
   pub holds : HoldsAccount layouts s t a
   pub named : (number : ℕ) (handle : GcRootIndex) → slice_get handles number ≡ Some handle → NamesReference s t handle (at number)
-  pub drops : t.drops ≡ 0
+  pub unused : IsUnused t
   pub frames : t.frames ≡ []
   pub owned : t.owned ≡ []
   pub pending : t.pending ≡ None
@@ -124,7 +130,7 @@ pub record Pushes (layouts : Layouts) (handles : List GcRootIndex) (most : ℕ) 
   pub types : table.types ≡ t.types
   pub stays : (handle : GcRootIndex) (r : Reference) → NamesReference old t handle r → NamesReference new table handle r
   pub few : length new.scoped ≤ length old.scoped + most
-  pub same : new.max_scoped ≡ old.max_scoped
+  pub same : KeepsSettings old new
 
 -- a step that may push so many roots stopped for want of them, or of memory
 abbrev pub StopsAtRoots : ℕ → StoreView ℕ → LoadFault → Type 0
@@ -208,6 +214,7 @@ pub record Bare (layouts : Layouts) (s : StoreView ℕ) : Type 0 where
   pub table : Table ℕ
   pub account : Account
   pub holds : HoldsAccount layouts s table account
+  pub unused : IsUnused table
   pub frames : table.frames ≡ []
   pub owned : table.owned ≡ []
   pub pending : table.pending ≡ None
@@ -223,12 +230,14 @@ StopCause layouts types lines limits limits' most old fault.Memory t = Unit {0}
 
 pub record Stops (layouts : Layouts) (types : List Declaration) (lines : List ObjectLine) (limits limits' : Limits) (most : ℕ) (old : StoreView ℕ) (why : LoadFault) (new : StoreView ℕ) : Type 0 where
   pub bare : Bare layouts new
+  pub same : KeepsSettings old new
+  pub same_types : new.types ≡ old.types
   pub cause : StopCause layouts types lines limits limits' most old why bare.table
 
 -- a step went on: at most so many roots were pushed, and the types are as they were
 pub record Goes (most : ℕ) (old new : StoreView ℕ) : Type 0 where
   pub few : length new.scoped ≤ length old.scoped + most
-  pub same : new.max_scoped ≡ old.max_scoped
+  pub same : KeepsSettings old new
   pub types : new.types ≡ old.types
 
 -- the next object was made
@@ -343,10 +352,12 @@ pub record Filled (layouts : Layouts) (lines : List ObjectLine) (globals : List 
   pub account : Account
   pub holds : HoldsAccount layouts new table account
   pub objects : table.objects ≡ map as_object lines
+  pub unused : IsUnused table
   pub frames : table.frames ≡ []
   pub owned : table.owned ≡ []
   pub pending : table.pending ≡ None
   pub set : AreGlobals (λ n. n) globals table.globals
+  pub same : KeepsSettings old new
   pub types : new.types ≡ old.types
   pub count : n ≡ length lines
 
@@ -371,6 +382,13 @@ ImageCauses layouts most image well limits limits' fault.RootsFull t = most < le
 ImageCauses layouts most image well limits limits' (fault.HeapOutOfMemory f) t = LacksHeap layouts well.types image.objects f.bytes_needed limits limits' t
 ImageCauses layouts most image well limits limits' fault.Memory t = Unit {0}
 
+abbrev pub ImageTypesLeft : List Declaration → LoadFault → List Declaration → Type 0
+ImageTypesLeft all fault.BadImage types = ⊥
+ImageTypesLeft all fault.TooLarge types = types ≡ all
+ImageTypesLeft all fault.RootsFull types = types ≡ all
+ImageTypesLeft all (fault.HeapOutOfMemory f) types = types ≡ all
+ImageTypesLeft all fault.Memory types = IsFront types all
+
 pub record NotLoadedImage (layouts : Layouts) (most : ℕ) (image : ImageParts) (limits limits' : Limits) (why : LoadFault) (new : StoreView ℕ) : Type 0 where
   pub table : Table ℕ
   pub account : Account
@@ -378,6 +396,7 @@ pub record NotLoadedImage (layouts : Layouts) (most : ℕ) (image : ImageParts) 
   pub alone : HasGlobalsAlone table
   pub unset : table.globals ≡ replicate global_count empty_slot
   pub well : IsWellImage image
+  pub types : ImageTypesLeft well.types why table.types
   pub cause : ImageCauses layouts most image well limits limits' why table
 
 abbrev pub LoadsImage : Layouts → ℕ → ImageParts → Limits → Limits → Result ℕ LoadFault → StoreView ℕ → Type 0

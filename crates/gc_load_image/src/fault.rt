@@ -7,19 +7,25 @@ ghost use Rattle.gc_load_image.specs.Stages.{told_of_root, told_of_type};
 use gc_store::{GcHeapOutOfMemory, RootFault};
 use gc_types::TypeFault;
 use std::alloc::AllocError;
+use thiserror::Error;
 
 /// Why an image is not loaded.
-#[derive(Debug, Drop)]
+#[derive(Debug, Drop, Error)]
 pub enum LoadFault {
     /// The bytes are no image that is well.
+    #[error("the bytes are no image that is well")]
     BadImage,
     /// No heap of the kind can hold an object of the image.
+    #[error("no heap of the kind can hold an object of the image")]
     TooLarge,
     /// No further scoped root may be made.
+    #[error("no further root may be made")]
     RootsFull,
     /// The heap has no room for the objects of the image, and it was refused more.
+    #[error("the heap has no room for an object of the image and may not grow")]
     HeapOutOfMemory(GcHeapOutOfMemory<()>),
     /// Out of memory.
+    #[error("out of memory")]
     Memory,
 }
 

@@ -1,10 +1,10 @@
 //! An image is loaded into a new store.
 
-ghost use Rattle.std.specs.Prelude.{ℕ, [], length};
+ghost use Rattle.std.specs.Prelude.{◌≡◌, ℕ, [], Err, length};
 ghost use Rattle.gc_store.specs.Stores.{HoldsStart, IsSameStore};
 ghost use Rattle.gc_image.specs.Text.{FitsImage};
 ghost use Rattle.gc_image.specs.Well.{AreRising, AreWellGlobals, AreWellObjects, IsWellImage};
-ghost use Rattle.gc_load_image.specs.Loads.{Loads};
+ghost use Rattle.gc_load_image.specs.Loads.{KeepsSettings, Loads};
 ghost use Rattle.gc_load_image.specs.Stages.{AreGlobalsInRange, AreInRange, Fills, LoadsImage, Making};
 
 use crate::declare::declare_types;
@@ -21,11 +21,13 @@ use std::alloc::Global;
 /// Loads the image that bytes spell into a new store: its types are those of the image then, and its globals reach the objects of the
 /// image. The answer is how many these are.
 ///
-/// `BadImage` exactly where the bytes are no image that is well, as `check_image` says; `TooLarge` where no heap of the kind can hold an object of
-/// it; `RootsFull` where its objects and twice its references that aren't null are more than the scoped roots that the store may have;
-/// `HeapOutOfMemory` where pages were refused for an object of it, which needs the bytes that the fault tells, and its objects reach further
-/// than the heap that there is. After each of these, and after `Memory`, the globals are null and no root stands; some of its types may be
-/// declared.
+/// `BadImage` only where the bytes are no image that is well, as `check_image` says, and there no other answer comes but `Memory`; `TooLarge` where
+/// no heap of the kind can hold an object of it; `RootsFull` where its objects and twice its references that aren't null are more than the scoped
+/// roots that the store may have; `HeapOutOfMemory` where pages were refused for an object of it, which needs the bytes that the fault tells, and its
+/// objects reach further than the heap that there is.
+///
+/// After `BadImage` the store is as it was. After each of the others, and after `Memory`, the globals are null and no root stands. Its types are all
+/// declared then; after `Memory` maybe the first of them, or none. Whatever the answer, the configuration of the store is as it was.
 ///
 /// Its time is linear in the bytes, beside that of collections, of new memory and of declaring types; its memory is linear in the bytes.
 pub fn load_image<H: GcHeap, L: ResourceLimiter>(
@@ -36,6 +38,8 @@ pub fn load_image<H: GcHeap, L: ResourceLimiter>(
 ) -> Result<u32, LoadFault>
     requires new { HoldsStart ℕ H.KIND store.old }
     ensures loads { Loads H.KIND store.old.max_scoped bytes.now (L.limits limiter.old) (L.limits limiter.new) result store.new }
+    ensures untouched { result ≡ Err LoadFault.BadImage → store.new ≡ store.old }
+    ensures settings { KeepsSettings store.old store.new }
     ensures same { IsSameStore store.old store.new }
 {
     let Some(image) = parse_image(alloc, bytes)? else {
@@ -58,6 +62,7 @@ fn load<H: GcHeap, L: ResourceLimiter>(
     requires fits { FitsImage image.now }
     requires well { IsWellImage image.now }
     ensures loads { LoadsImage H.KIND store.old.max_scoped image.now (L.limits limiter.old) (L.limits limiter.new) result store.new }
+    ensures settings { KeepsSettings store.old store.new }
     ensures same { IsSameStore store.old store.new }
 {
     declare_types(alloc, store, image.types())?;

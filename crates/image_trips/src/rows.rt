@@ -15,11 +15,37 @@ pub(crate) enum RowsFault {
     Memory(#[from(alloc)] AllocError),
 }
 
+/// Adds the bytes that a text stands for.
+fn push_text(text: &str, bytes: &mut Vec<u8>) -> Result<(), AllocError> {
+    for byte in text.as_bytes() {
+        bytes.push(if *byte == b';' { b'\n' } else { *byte })?;
+    }
+    Ok(())
+}
+
+/// Adds those of `N*TEXT`, N times the text; of other words none.
+fn push_repeated(words: &str, bytes: &mut Vec<u8>) -> Result<(), AllocError> {
+    let Some((number, text)) = words.split_once('*') else {
+        return Ok(());
+    };
+    let count: u32 = number.parse().unwrap_or(0);
+    for _ in 0..count {
+        push_text(text, bytes)?;
+    }
+    Ok(())
+}
+
 /// The bytes that a row stands for.
 pub(crate) fn bytes_of(alloc: Global, row: &str) -> Result<Vec<u8>, AllocError> {
     let mut bytes = Vec::with_capacity(alloc, row.len())?;
-    for byte in row.as_bytes() {
-        bytes.push(if *byte == b';' { b'\n' } else { *byte })?;
+    for part in row.split('{') {
+        match part.split_once('}') {
+            Some((repeated, text)) => {
+                push_repeated(repeated, &mut bytes)?;
+                push_text(text, &mut bytes)?;
+            }
+            None => push_text(part, &mut bytes)?,
+        }
     }
     Ok(bytes)
 }
@@ -32,6 +58,7 @@ pub(crate) fn write_trip<W: Write + Drop>(
 ) -> Result<(), RowsFault> {
     match trip {
         Trip::Refused(name) => writeln!(out, "{name}")?,
+        Trip::NoRoom(bytes) => writeln!(out, "HeapOutOfMemory {bytes}")?,
         Trip::Saved(saved) => {
             if saved.as_slice() == loaded {
                 writeln!(out, "same")?;

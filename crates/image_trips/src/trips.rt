@@ -11,6 +11,7 @@ use gc_load_image::{LoadFault, load_image};
 use gc_refs::I31;
 use gc_save_image::{SaveFault, save_image};
 use gc_store::{HeapConfig, PageLimit, Store, StoreId};
+use gc_types::{FieldType, HeapType, Mutability, RefType, StorageType, ValType};
 use std::alloc::{AllocError, Global};
 
 /// The id of each store.
@@ -25,19 +26,51 @@ const AMPLE_ROOTS: u32 = 16_777_216;
 /// The most roots that a crowded store gets.
 const CROWD: usize = 64;
 
-/// What a store is like into which an image is loaded.
+/// How many pages a heap may have with ample room.
+const AMPLE_PAGES: u32 = 64;
+
+/// A nullable reference to functions, which no image holds.
+const FUNCTIONS: ValType = ValType::Ref(RefType {
+    nullable: true,
+    heap_type: HeapType::Func,
+});
+
+/// A field or an element that holds functions.
+const HOLDER: FieldType = FieldType {
+    mutability: Mutability::Var,
+    element_type: StorageType::ValType(FUNCTIONS),
+};
+
+/// What is done to a store before it is saved.
+#[derive(Clone, Copy)]
+pub(crate) enum Between {
+    Nothing,
+    /// It gets as many further scoped roots as it may have.
+    Crowd,
+    /// A function type is declared.
+    DeclareFunc,
+    /// A struct type is declared with a field that holds functions.
+    DeclareField,
+    /// An array type is declared of elements that hold functions.
+    DeclareElement,
+    /// An exception type is declared with a parameter that holds functions.
+    DeclareParam,
+}
+
+/// What a store is like into which an image is loaded, and what is done to it before it is saved.
 #[derive(Clone, Copy)]
 pub(crate) struct Setup {
     max_scoped: u32,
     most_pages: u32,
-    is_crowded: bool,
+    between: Between,
 }
 
-/// What a trip came to: the image that was saved, or the name of a refusal.
+/// What a trip came to: the image that was saved, the name of a refusal, or the bytes that the heap wanted where it had no room.
 #[derive(Drop)]
 pub(crate) enum Trip {
     Saved(Vec<u8>),
     Refused(&'static str),
+    NoRoom(u64),
 }
 
 impl Setup {
@@ -45,8 +78,8 @@ impl Setup {
     pub(crate) fn ample() -> Setup {
         Setup {
             max_scoped: AMPLE_ROOTS,
-            most_pages: 64,
-            is_crowded: false,
+            most_pages: AMPLE_PAGES,
+            between: Between::Nothing,
         }
     }
 
@@ -54,8 +87,8 @@ impl Setup {
     pub(crate) fn few(max_scoped: u32) -> Setup {
         Setup {
             max_scoped,
-            most_pages: 64,
-            is_crowded: false,
+            most_pages: AMPLE_PAGES,
+            between: Between::Nothing,
         }
     }
 
@@ -63,28 +96,37 @@ impl Setup {
     pub(crate) fn crowded(max_scoped: u32) -> Setup {
         Setup {
             max_scoped,
-            most_pages: 64,
-            is_crowded: true,
+            most_pages: AMPLE_PAGES,
+            between: Between::Crowd,
         }
     }
 
-    /// One whose heap gets no page.
-    pub(crate) fn small() -> Setup {
+    /// One whose heap may have so many pages.
+    pub(crate) fn small(most_pages: u32) -> Setup {
         Setup {
             max_scoped: AMPLE_ROOTS,
-            most_pages: 0,
-            is_crowded: false,
+            most_pages,
+            between: Between::Nothing,
+        }
+    }
+
+    /// One to which this is done before it is saved.
+    pub(crate) fn with(between: Between) -> Setup {
+        Setup {
+            max_scoped: AMPLE_ROOTS,
+            most_pages: AMPLE_PAGES,
+            between,
         }
     }
 }
 
-/// The name of a refusal to load.
-fn load_name(fault: LoadFault) -> Result<&'static str, AllocError> {
+/// What a refusal to load comes to.
+fn load_refusal(fault: LoadFault) -> Result<Trip, AllocError> {
     match fault {
-        LoadFault::BadImage => Ok("BadImage"),
-        LoadFault::TooLarge => Ok("TooLarge"),
-        LoadFault::RootsFull => Ok("RootsFull at loading"),
-        LoadFault::HeapOutOfMemory(_) => Ok("HeapOutOfMemory"),
+        LoadFault::BadImage => Ok(Trip::Refused("BadImage")),
+        LoadFault::TooLarge => Ok(Trip::Refused("TooLarge")),
+        LoadFault::RootsFull => Ok(Trip::Refused("RootsFull at loading")),
+        LoadFault::HeapOutOfMemory(fault) => Ok(Trip::NoRoom(fault.bytes_needed())),
         LoadFault::Memory => Err(AllocError),
     }
 }
@@ -108,6 +150,21 @@ fn crowd<H: GcHeap>(store: &mut Store<H, u64>) {
     }
 }
 
+/// Does to a store what is to be done before it is saved; whether that was done.
+fn prepare<H: GcHeap>(store: &mut Store<H, u64>, between: Between) -> bool {
+    match between {
+        Between::Nothing => true,
+        Between::Crowd => {
+            crowd(store);
+            true
+        }
+        Between::DeclareFunc => store.declare_func(&[], &[], None, true).is_ok(),
+        Between::DeclareField => store.declare_struct(&[HOLDER], None, true).is_ok(),
+        Between::DeclareElement => store.declare_array(HOLDER, None, true).is_ok(),
+        Between::DeclareParam => store.declare_exn(&[FUNCTIONS]).is_ok(),
+    }
+}
+
 /// Loads an image into a new store, and saves it.
 fn load_and_save<H: GcHeap>(
     alloc: Global,
@@ -119,10 +176,10 @@ fn load_and_save<H: GcHeap>(
 {
     let mut limiter = PageLimit::new(setup.most_pages);
     if let Err(fault) = load_image(alloc, store, &mut limiter, bytes) {
-        return Ok(Trip::Refused(load_name(fault)?));
+        return load_refusal(fault);
     }
-    if setup.is_crowded {
-        crowd(store);
+    if !prepare(store, setup.between) {
+        return Ok(Trip::Refused("not prepared"));
     }
     match save_image(alloc, store) {
         Ok(image) => Ok(Trip::Saved(image)),

@@ -10,11 +10,12 @@ use Rattle.gc_image.specs.Well.{AreRising, AreWellGlobals, AreWellObjects}
 use Rattle.gc_image.proofs.TurnLemmas.{one_turn}
 use Rattle.gc_load_image.specs.declared.fault.LoadFault.{LoadFault}
 use Rattle.gc_load_image.specs.Stages.{AreGlobalsInRange, AreInRange, DeclaresAll, Fills, LoadsImage, with_types}
-use Rattle.gc_load_image.proofs.LoadLemmas.{declare_stops, globals_in_range, in_range, loads_all, making_start}
+use Rattle.gc_load_image.proofs.LoadLemmas.{declare_stops, globals_in_range, in_range, loads_all, making_start, settings_declared, settings_filled}
 use Rattle.gc_load_image.proofs.PushedRoots.{same_twice}
+use Rattle.gc_load_image.proofs.SettingsLemmas.{settings_twice}
 use Rattle.gc_load_image.proofs.TypeLemmas.{err_is}
 use Rattle.gc_load_image.proofs.load.load.Given.{Over}
-use Rattle.gc_load_image.proofs.load.load.Goals.{After-declare_types, In_ok-declare_types}
+use Rattle.gc_load_image.proofs.load.load.Goals.{In_ok-declare_types}
 use Rattle.gc_load_image.proofs.load.load.Goals as goal
 
 pub declare_types-requires : goal.declare_types-requires
@@ -65,6 +66,9 @@ returns g c =
           (subst (λ (gs : List GlobalLine). Fills g.H.GcHeap.KIND c.args.image.now.objects gs limits limits' c.declare_types.new.store c.fill-loaded.result c.fill-loaded.new.store) c.globals.ensures
           (subst (λ (os : List ObjectLine). Fills g.H.GcHeap.KIND os c.globals.result.now limits limits' c.declare_types.new.store c.fill-loaded.result c.fill-loaded.new.store) c.objects.ensures c.fill-loaded.ensures.fills))
           c.exit_gc_lifo_scope.ensures.leaves;
+      settings = settings_twice c.args.store.now c.declare_types.new.store c.exit_gc_lifo_scope.new.self (settings_declared g.H.GcHeap.KIND c.args.store.now c.declare_types.new.store c.requires.new c.declare_types.ensures.keeps)
+          (settings_filled g.H.GcHeap.KIND c.objects.result.now c.globals.result.now limits limits' c.declare_types.new.store c.fill-loaded.new.store c.exit_gc_lifo_scope.new.self c.enter_gc_lifo_scope-scope.result c.fill-loaded.result
+          c.fill-loaded.ensures.fills c.exit_gc_lifo_scope.ensures.leaves);
       same = same_twice c.args.store.now c.declare_types.new.store c.exit_gc_lifo_scope.new.self c.declare_types.ensures.same
           (same_twice c.declare_types.new.store c.fill-loaded.new.store c.exit_gc_lifo_scope.new.self c.fill-loaded.ensures.same c.exit_gc_lifo_scope.ensures.same);
     }
@@ -78,5 +82,6 @@ returns-in_err-declare_types g c =
           (c.declare_types.ensures.keeps (start c.args.store.now.first c.args.store.now.max_scoped c.args.store.now.max_owned) no_account c.requires.new)
           c.in_err-declare_types.field-0.0
           (subst (λ (cs : List Command). DeclaresAll cs c.declare_types.new.store.types (Err c.in_err-declare_types.field-0.0)) c.types.ensures c.in_err-declare_types.ensures.declares));
+      settings = settings_declared g.H.GcHeap.KIND c.args.store.now c.declare_types.new.store c.requires.new c.declare_types.ensures.keeps;
       same = c.declare_types.ensures.same;
     }

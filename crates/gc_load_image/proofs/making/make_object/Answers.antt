@@ -70,7 +70,7 @@ returns-in_err-raws-clause-makes g c =
     let limits = g.L.ResourceLimiter.limits c.args.limiter.now in
     subst (λ (r : Result GcRootIndex LoadFault). MakesNext g.H.GcHeap.KIND c.args.objects.now c.args.handles.now c.args.line.now limits limits c.args.store.now r c.raw_values.new.store) (sym (err_is c.from_residual.result why c.from_residual.ensures.1))
     (values_stop g.H.GcHeap.KIND c.args.handles.now c.args.store.now.types c.args.objects.now limits (line_count c.args.line.now) (1 + line_count c.args.line.now) c.args.store.now c.requires.making.table c.requires.making.account why c.raw_values.new.store
-    (omega arith) failed.pushes failed.cause)
+    (omega arith) (sym c.requires.making.standing.holds.holds.types) failed.pushes failed.cause)
 
 pub returns-clause-same : goal.returns-clause-same
 returns-clause-same g c = same_twice c.args.store.now c.raw_values.new.store c.place_line.new.store c.raw_values.ensures.same c.place_line.ensures.same
