@@ -41,12 +41,13 @@ use Rattle.gc_lists.specs.declared.fault.ListFault.TheVariants as fault
 use Rattle.gc_lists.specs.declared.kit.Kit.{Kit}
 use Rattle.gc_lists.specs.Answers.{AnswersVersion, AreNumbers, Conses, KeepsRoot}
 use Rattle.gc_lists.specs.Cells.{cell, IsNullOr, IsOfKit}
-use Rattle.gc_lists.specs.Frames.{ChangesObjects, most_objects}
+use Rattle.gc_lists.specs.Frames.{ChangesObjects, KeepsLimit, most_objects, unchanged}
 use Rattle.gc_lists.specs.Kits.{cell_fields, link, IsCellType}
 use Rattle.gc_lists.specs.Lists.{IsListOf}
 use Rattle.gc_lists.specs.Versions.{VersionNames, StandsForListOf, IsListOfIn}
 use Rattle.gc_lists.proofs.CellReads.{from_bits, never_null}
 use Rattle.gc_lists.proofs.Kept.{list_kept, appended_keeps}
+use Rattle.gc_lists.proofs.Pages.{gets_within, lacks_within, may_get_within}
 use Rattle.gc_lists.proofs.Links.{cell_root, null_or_fits, struct_in_each}
 use Rattle.gc_lists.proofs.Scopes.{next_owned, next_scoped, left_scoped, full_lacks}
 use Rattle.gc_model.proofs.Lists.{slice_get-push_new}
@@ -147,24 +148,28 @@ module _ {D : Type 0} (layouts : Layouts) (s : StoreView D) (t : Table D) (holds
   never_large of e = small_cell layouts (sym (ap (λ (fs : Option (List FieldType)). too_large layouts (fields_size layouts fs)) (fields_are t.types ty of)) ∙ e)
 
 -- What is left of a table in which nothing was made.
-module _ {D : Type 0} (kit : Kit) (t : Table D) where
-  pub only_pages : (u : Table D) (made : Bool) (pages : ℕ) → u ≡ record t { made = made; pages = pages } → ChangesObjects kit 1 t t.owned u
-  only_pages u made pages is = record {
+module _ {D : Type 0} (limit : Option ℕ) (kit : Kit) (t : Table D) where
+  pub only_pages : (u : Table D) (made : Bool) (pages : ℕ) → u ≡ record t { made = made; pages = pages } → KeepsLimit limit t u → ChangesObjects limit kit 1 t t.owned u
+  only_pages u made pages is keeps = record {
     made = [];
     few = omega arith;
     of_kit = All-nil (IsOfKit kit);
     pushes = [];
     rest = is ∙ (λ i. record t { objects = sym (append-nil t.objects) i; pushes = sym (append-nil t.pushes) i; made = made; pages = pages })
         ∙ (λ i. record t { objects = t.objects ++ []; pushes = t.pushes ++ []; drops = ap (λ (v : Table D). v.drops) (sym is) i; owns = ap (λ (v : Table D). v.owns) (sym is) i; made = ap (λ (v : Table D). v.made) (sym is) i; pages = ap (λ (v : Table D). v.pages) (sym is) i });
+    pages = keeps;
   }
 
-  pub lacks_pages : (layouts : Layouts) (limit : Option ℕ) (places : _) (o : Object D) (u : Table D) → LacksMemory layouts limit places o t u → ChangesObjects kit 1 t t.owned u
-  lacks_pages layouts limit places o u (no_heap refused is) = only_pages u t.made t.pages is
-  lacks_pages layouts limit places o u (no_room may refused lacks is) = only_pages u true (make_heap t).pages is
+  pub lacks_pages : (layouts : Layouts) (places : _) (o : Object D) (u : Table D) → LacksMemory layouts limit places o t u → ChangesObjects limit kit 1 t t.owned u
+  lacks_pages layouts places o u lacks = by lacks
+    where
+      by : LacksMemory layouts limit places o t u → ChangesObjects limit kit 1 t t.owned u
+      by (no_heap refused is) = only_pages u t.made t.pages is (lacks_within limit t u layouts places o lacks)
+      by (no_room may refused none is) = only_pages u true (make_heap t).pages is (lacks_within limit t u layouts places o lacks)
 
-  pub may_pages : (limit : Option ℕ) (bytes : ℕ) (u : Table D) → MayGetPages limit bytes t u → ChangesObjects kit 1 t t.owned u
-  may_pages limit bytes u (inl is) = only_pages u t.made t.pages is
-  may_pages limit bytes u (inr more) = only_pages u true more.0 more.1.1
+  pub may_pages : (bytes : ℕ) (u : Table D) → MayGetPages limit bytes t u → ChangesObjects limit kit 1 t t.owned u
+  may_pages bytes u (inl is) = only_pages u t.made t.pages is (may_get_within limit t u bytes (inl is))
+  may_pages bytes u (inr more) = only_pages u true more.0 more.1.1 (may_get_within limit t u bytes (inr more))
 
 module _ {D : Type 0} (layouts : Layouts) (s : StoreView D) (t : Table D) (a : Account) (holds : HoldsTable layouts s t) (kit : Kit) (of : IsCellType t.types kit.cell) (version : Option GcRootIndex) (xs : List ℤ) (x : ℤ)
     (fits_x : FitsSigned w64 x) (stands : StandsForListOf s t version kit.cell xs) (limits limits' : Limits) where
@@ -204,22 +209,27 @@ module _ {D : Type 0} (layouts : Layouts) (s : StoreView D) (t : Table D) (a : A
       made_of_kit : All (IsOfKit kit) (new_cell ∷ [])
       made_of_kit = All-cons (IsOfKit kit) new_cell [] (record { ty = kit.cell; of_kit = inl refl; values = _; object_is = refl }) (All-nil (IsOfKit kit))
 
-      changed : (u : Table D) → ChangesObjects kit 1 t t.owned (leave scope now)
+      within : (u : Table D) → u.made ≡ true → u.pages ≡ places.allocates.pages → KeepsLimit limits.limit t u
+      within u made is = gets_within limits.limit t u _ places.allocates.pages places.allocates.gets made is
+
+      changed : (u : Table D) → ChangesObjects limits.limit kit 1 t t.owned (leave scope now)
       changed u = record {
         made = new_cell ∷ [];
         few = omega arith;
         of_kit = made_of_kit;
         pushes = record { index = length t.scoped; generation = t.drops } ∷ [];
         rest = λ i. record (leave scope now) { scoped = left_scoped scope t.scoped (record { serial = length t.pushes; reference = at (length t.objects) } ∷ []) scope_is i };
+        pages = within (leave scope now) refl refl;
       }
 
-      changed_owned : ChangesObjects kit 1 t (own (at (length t.objects)) t).owned (leave scope (own (at (length t.objects)) now))
+      changed_owned : ChangesObjects limits.limit kit 1 t (own (at (length t.objects)) t).owned (leave scope (own (at (length t.objects)) now))
       changed_owned = record {
         made = new_cell ∷ [];
         few = omega arith;
         of_kit = made_of_kit;
         pushes = record { index = length t.scoped; generation = t.drops } ∷ [];
         rest = λ i. record (leave scope (own (at (length t.objects)) now)) { scoped = left_scoped scope t.scoped (record { serial = length t.pushes; reference = at (length t.objects) } ∷ []) scope_is i };
+        pages = within (leave scope (own (at (length t.objects)) now)) refl refl;
       }
 
       new_list : IsListOf now.types now.objects kit.cell (x ∷ xs) (at (length t.objects))
@@ -242,7 +252,7 @@ module _ {D : Type 0} (layouts : Layouts) (s : StoreView D) (t : Table D) (a : A
         (_, slice_get-push_new t.objects new_cell),
       )
 
-      pub cons_kept : (made : GcRootIndex) → Kept (Ok made) → AnswersVersion layouts t (ChangesObjects kit 1 t) (AreNumbers kit.cell (x ∷ xs)) (Some made) new
+      pub cons_kept : (made : GcRootIndex) → Kept (Ok made) → AnswersVersion layouts t (ChangesObjects limits.limit kit 1 t) (AreNumbers kit.cell (x ∷ xs)) (Some made) new
       cons_kept made kept = record {
         after = leave scope (own (at (length t.objects)) now);
         account = account;
@@ -263,17 +273,17 @@ module _ {D : Type 0} (layouts : Layouts) (s : StoreView D) (t : Table D) (a : A
     pub cons_full : (b : Bool) → Places layouts s.alloc_counter new_cell state limits' (Err place_fault.RootsFull) new → Answered (Err fault.RootsFull) new
     cons_full b places = (
       inr (full_lacks t most_objects (omega arith) places.1),
-      record { after = t; account = a; holds = places.2.holds; changed = only_pages kit t t t.made t.pages refl },
+      record { after = t; account = a; holds = places.2.holds; changed = only_pages limits.limit kit t t t.made t.pages refl (unchanged refl refl) },
     )
 
     pub cons_lacks : (full : GcHeapOutOfMemory (Unit {0})) → Places layouts s.alloc_counter new_cell state limits' (Err (place_fault.HeapOutOfMemory full)) new → Answered (Err (fault.HeapOutOfMemory full)) new
     cons_lacks full lacks = (
       record { next = next; names = stands.names; lacks = lacks },
-      record { after = lacks.after.table; account = lacks.after.account; holds = lacks.holds; changed = lacks_pages kit t layouts limits.limit a.places new_cell lacks.after.table lacks.lacks },
+      record { after = lacks.after.table; account = lacks.after.account; holds = lacks.holds; changed = lacks_pages limits.limit kit t layouts a.places new_cell lacks.after.table lacks.lacks },
     )
 
     pub cons_wants : Places layouts s.alloc_counter new_cell state limits' (Err place_fault.Memory) new → Answered (Err fault.Memory) new
-    cons_wants wants = record { after = wants.after.table; account = wants.after.account; holds = wants.holds; changed = may_pages kit t limits.limit _ wants.after.table wants.pages }
+    cons_wants wants = record { after = wants.after.table; account = wants.after.account; holds = wants.holds; changed = may_pages limits.limit kit t _ wants.after.table wants.pages }
 
     pub never_ids : Places layouts s.alloc_counter new_cell state limits' (Err place_fault.FuncTableFull) new → ⊥
     never_ids places = has_ids layouts s t holds kit.cell (number_bits w64 x) next places.0

@@ -6,6 +6,8 @@ pub mod CellReads
 pub mod Releasing
 pub mod Scopes
 pub mod Tailing
+pub mod Limiting
+pub mod Pages
 pub mod Consing
 pub mod Declaring
 pub mod Walking

@@ -1,5 +1,5 @@
 -- What giving a version up leaves of the others.
-use Rattle.std.proofs.Common.{◌≡◌, ◌≢◌, ◌<◌, ◌-◌, ◌==◌, ℕ, List, [], ◌∷◌, cond, not, Bool, true, false, Option, Some, None, refl, sym, ap, subst, ◌∙◌, arith}
+use Rattle.std.proofs.Common.{◌≡◌, ◌≢◌, ◌<◌, ◌-◌, ◌==◌, ℕ, List, [], ◌∷◌, cond, not, Bool, true, false, Option, Some, None, refl, sym, ap, ◌∙◌, arith}
 use Rattle.std.specs.List.{Contains}
 use Rattle.std.proofs.lemmas.Bool.{ne_eqb}
 use Rattle.std.proofs.lemmas.List.Elements.{Contains-append_left, Contains-append_right}
@@ -14,7 +14,7 @@ use Rattle.gc_model.proofs.OwnedRoots.{owned_one}
 use Rattle.gc_policy.specs.Accounts.{Account, HoldsAccount}
 use Rattle.gc_store.specs.declared.root.GcRootIndex.{GcRootIndex}
 use Rattle.gc_store.specs.OwnedRoots.{DropsHandle}
-use Rattle.gc_store.specs.Roots.{NamesOwned, owned_handle}
+use Rattle.gc_store.specs.Roots.{owned_handle}
 use Rattle.gc_store.specs.Stores.{IsSameStore}
 use Rattle.gc_lists.specs.Answers.{AreApart, HasNewRoot, LeavesVersion, Releases}
 use Rattle.gc_lists.specs.Versions.{VersionNames}
@@ -50,7 +50,7 @@ other_among n k (x ∷ xs) r differ some e =
 
 module _ {D : Type 0} (layouts : Layouts) (s : StoreView D) (t : Table D) (a : Account) (holds : HoldsAccount layouts s t a) where
   -- an owned root was made before those to come
-  numbered_before : (n : ℕ) (r : Reference) → owned_among n t.owned ≡ Some r → n < t.owns
+  pub numbered_before : (n : ℕ) (r : Reference) → owned_among n t.owned ≡ Some r → n < t.owns
   numbered_before n r e =
       let found = owned_one n t.owned r e in
       let entry = holds.holds.owned.in_store found.0 found.1.0 in

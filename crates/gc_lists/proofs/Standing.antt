@@ -17,7 +17,7 @@ use Rattle.gc_lists.proofs.Kept.{appended_keeps, list_of_kept}
 pub roots_keep : {D : Type 0} (t u : Table D) (owned : List Owned) → ChangesRoots t owned u → KeepsConstants t u
 roots_keep t u owned changes = appended_keeps t u [] [] (ap (λ (v : Table _). v.types) changes.rest ∙ sym (append-nil t.types)) (ap (λ (v : Table _). v.objects) changes.rest ∙ sym (append-nil t.objects))
 
-pub objects_keep : {D : Type 0} (kit : Kit) (most : ℕ) (t u : Table D) (owned : List Owned) → ChangesObjects kit most t owned u → KeepsConstants t u
+pub objects_keep : {D : Type 0} {limit : Option ℕ} (kit : Kit) (most : ℕ) (t u : Table D) (owned : List Owned) → ChangesObjects limit kit most t owned u → KeepsConstants t u
 objects_keep kit most t u owned changes = appended_keeps t u [] changes.made (ap (λ (v : Table _). v.types) changes.rest ∙ sym (append-nil t.types)) (ap (λ (v : Table _). v.objects) changes.rest)
 
 -- what an owned root names is named still where there are more

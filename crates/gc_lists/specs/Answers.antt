@@ -54,14 +54,18 @@ pub record LacksCell {D : Type 0} (layouts : Layouts) (counter : Option ℕ) (ty
   pub names : VersionNames old p.table version next
   pub lacks : LacksPlace layouts counter (cell ty (number_bits w64 x) next) p limits' need new
 
+-- a cell may be made, under the limit that was told at first
+abbrev pub ChangesCells : {D : Type 0} → Kit → PolicyState D → List Owned → Table D → Type 0
+ChangesCells kit p = ChangesObjects p.limits.limit kit 1 p.table
+
 -- What a number in front of a list answers and leaves.
 abbrev pub Conses : {D : Type 0} → Layouts → Kit → StoreView D → Option GcRootIndex → List ℤ → ℤ → PolicyState D → Limits → Result HeapList ListFault → StoreView D → Type 0
-Conses layouts kit old version xs x p limits' (Ok list) new = AnswersVersion layouts p.table (ChangesObjects kit 1 p.table) (AreNumbers kit.cell (x ∷ xs)) list.root new
+Conses layouts kit old version xs x p limits' (Ok list) new = AnswersVersion layouts p.table (ChangesCells kit p) (AreNumbers kit.cell (x ∷ xs)) list.root new
 Conses layouts kit old version xs x p limits' (Err fault.WrongStore) new = ⊥
-Conses layouts kit old version xs x p limits' (Err fault.RootsFull) new = LacksOwned p.table × Leaves layouts (ChangesObjects kit 1 p.table p.table.owned) new
+Conses layouts kit old version xs x p limits' (Err fault.RootsFull) new = LacksOwned p.table × Leaves layouts (ChangesCells kit p p.table.owned) new
 Conses layouts kit old version xs x p limits' (Err (fault.HeapOutOfMemory f)) new =
-    LacksCell layouts old.alloc_counter kit.cell old version x p limits' f.bytes_needed new × Leaves layouts (ChangesObjects kit 1 p.table p.table.owned) new
-Conses layouts kit old version xs x p limits' (Err fault.Memory) new = Leaves layouts (ChangesObjects kit 1 p.table p.table.owned) new
+    LacksCell layouts old.alloc_counter kit.cell old version x p limits' f.bytes_needed new × Leaves layouts (ChangesCells kit p p.table.owned) new
+Conses layouts kit old version xs x p limits' (Err fault.Memory) new = Leaves layouts (ChangesCells kit p p.table.owned) new
 
 -- What the rest of a list answers and leaves.
 abbrev pub Tails : {D : Type 0} → Layouts → ℕ → List ℤ → Table D → Result HeapList ListFault → StoreView D → Type 0

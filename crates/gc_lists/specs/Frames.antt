@@ -1,8 +1,9 @@
 -- What calls on lists and maps change of the table, and nothing more.
-use Rattle.std.specs.Prelude.{◌≡◌, ◌≤◌, ℕ, List, ◌++◌, All, length}
+use Rattle.std.specs.Prelude.{◌≡◌, ◌≤◌, ℕ, true, List, ◌++◌, Option, All, length}
 use Rattle.gc_types.specs.declared.kind.Layouts.{Layouts}
 use Rattle.gc_model.specs.Values.{Object}
-use Rattle.gc_model.specs.Table.{Table, Owned, Push}
+use Rattle.gc_model.specs.Allocation.{MayHave}
+use Rattle.gc_model.specs.Table.{Table, Owned, Push, made_pages}
 use Rattle.gc_model.specs.Stores.{StoreView}
 use Rattle.gc_policy.specs.Accounts.{Account, HoldsAccount}
 use Rattle.gc_lists.specs.declared.kit.Kit.{Kit}
@@ -17,13 +18,20 @@ pub record ChangesRoots {D : Type 0} (t : Table D) (owned : List Owned) (after :
   pub pushes : List Push
   pub rest : after ≡ record t { pushes = t.pushes ++ pushes; drops = after.drops; owns = after.owns; owned = owned }
 
--- The same, and at most so many objects were made, cells or nodes of the kit, for which the heap may have got pages.
-pub record ChangesObjects {D : Type 0} (kit : Kit) (most : ℕ) (t : Table D) (owned : List Owned) (after : Table D) : Type 0 where
+-- The heap has the pages that it had; or it was made or has grown, lost none, and has no more than a limit that is told grants.
+pub data KeepsLimit {D : Type 0} (limit : Option ℕ) (t after : Table D) : Type 0 where
+  unchanged : after.made ≡ t.made → after.pages ≡ t.pages → KeepsLimit limit t after
+  granted : after.made ≡ true → made_pages t ≤ after.pages → MayHave limit after.pages → KeepsLimit limit t after
+
+-- The same, and at most so many objects were made, cells or nodes of the kit, for which the heap may have got pages, under a limit.
+pub record ChangesObjects {D : Type 0} (limit : Option ℕ) (kit : Kit) (most : ℕ) (t : Table D) (owned : List Owned) (after : Table D) : Type 0 where
   pub made : List (Object D)
   pub few : length made ≤ most
   pub of_kit : All (IsOfKit kit) made
   pub pushes : List Push
-  pub rest : after ≡ record t { objects = t.objects ++ made; pushes = t.pushes ++ pushes; drops = after.drops; owns = after.owns; owned = owned; made = after.made; pages = after.pages }
+  pub rest : after
+      ≡ record t { objects = t.objects ++ made; pushes = t.pushes ++ pushes; drops = after.drops; owns = after.owns; owned = owned; made = after.made; pages = after.pages }
+  pub pages : KeepsLimit limit t after
 
 -- the store holds a table that a call so changed
 pub record Leaves {D : Type 0} (layouts : Layouts) (Changed : Table D → Type 0) (new : StoreView D) : Type 0 where

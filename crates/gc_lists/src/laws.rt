@@ -2,6 +2,7 @@
 
 ghost use Rattle.std.specs.Prelude.{◌≡◌, ◌++◌, ℕ, ℤ, List, Option};
 ghost use Rattle.gc_types.specs.declared.kind.Layouts.{Layouts};
+ghost use Rattle.gc_model.specs.Allocation.{MayHave};
 ghost use Rattle.gc_model.specs.Stores.{StoreView};
 ghost use Rattle.gc_model.specs.Table.{Owned, Table};
 ghost use Rattle.gc_model.specs.Values.{Reference};
@@ -10,7 +11,7 @@ ghost use Rattle.gc_store.specs.Stores.{IsSameStore};
 ghost use Rattle.gc_store.specs.declared.root.GcRootIndex.{GcRootIndex};
 ghost use Rattle.gc_lists.specs.Answers.{AreApart, HasNewRoot, LeavesVersion, Releases};
 ghost use Rattle.gc_lists.specs.Constants.{KeepsConstants};
-ghost use Rattle.gc_lists.specs.Frames.{ChangesObjects, ChangesRoots};
+ghost use Rattle.gc_lists.specs.Frames.{ChangesObjects, ChangesRoots, KeepsLimit};
 ghost use Rattle.gc_lists.specs.Lists.{IsList, IsListOf};
 ghost use Rattle.gc_lists.specs.Versions.{StandsForListOf, VersionNames};
 ghost use Rattle.gc_lists.specs.declared.kit.Kit.{Kit};
@@ -25,7 +26,15 @@ pub fn lists_stay<D: Drop>()
 /// What calls on lists and maps change leaves all that is constant.
 pub fn calls_keep_constants<D: Drop>()
     ensures roots { (t u : Table D) (owned : List Owned) → ChangesRoots t owned u → KeepsConstants t u }
-    ensures objects { (kit : Kit) (most : ℕ) (t u : Table D) (owned : List Owned) → ChangesObjects kit most t owned u → KeepsConstants t u }
+    ensures objects { (limit : Option ℕ) (kit : Kit) (most : ℕ) (t u : Table D) (owned : List Owned) → ChangesObjects limit kit most t owned u
+        → KeepsConstants t u }
+{}
+
+/// Calls under one limit, one behind the other, keep that limit; and where it granted the pages that the heap had, it grants
+/// those that it has then.
+pub fn limits_are_kept<D: Drop>()
+    ensures composes { (limit : Option ℕ) (t u v : Table D) → u.first ≡ t.first → KeepsLimit limit t u → KeepsLimit limit u v → KeepsLimit limit t v }
+    ensures within { (limit : Option ℕ) (t u : Table D) → KeepsLimit limit t u → MayHave limit t.pages → MayHave limit u.pages }
 {}
 
 /// A version stands for the same list as long as its owned root is live, where what is constant stays: also in a store whose

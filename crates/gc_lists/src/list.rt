@@ -55,6 +55,7 @@ impl HeapList {
         ensures conses { is_kit_of store.old kit.now ≡ true → is_version_of store.old self.now.root ≡ true → (t : Table D) (a : Account) (xs : List ℤ)
             → HoldsAccount H.KIND store.old t a → StandsForListOf store.old t self.now.root kit.now.cell xs
             → Conses H.KIND kit.now store.old self.now.root xs head (policy_state t a (L.limits limiter.old)) (L.limits limiter.new) result store.new }
+        ensures limit { (L.limits limiter.new).limit ≡ (L.limits limiter.old).limit }
         ensures same { IsSameStore store.old store.new }
     {
         stores_hold_tables(store);

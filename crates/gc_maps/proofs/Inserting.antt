@@ -19,18 +19,20 @@ use Rattle.gc_lists.specs.declared.fault.ListFault.{ListFault}
 use Rattle.gc_lists.specs.declared.fault.ListFault.TheVariants as fault
 use Rattle.gc_lists.specs.declared.kit.Kit.{Kit}
 use Rattle.gc_lists.specs.Answers.{AnswersVersion, KeepsRoot}
-use Rattle.gc_lists.specs.Frames.{ChangesObjects, Leaves, most_objects}
+use Rattle.gc_lists.specs.Frames.{ChangesObjects, KeepsLimit, Leaves, most_objects}
 use Rattle.gc_lists.specs.Kits.{IsNodeType}
 use Rattle.gc_lists.specs.Refusals.{LacksRoots}
 use Rattle.gc_lists.specs.Versions.{is_version_of}
 use Rattle.gc_lists.proofs.Scopes.{next_owned}
+use Rattle.gc_lists.proofs.Limiting.{lacks_limit}
+use Rattle.gc_lists.proofs.Pages.{lacks_within, same_pages, within_then}
 use Rattle.gc_maps.specs.declared.map.HeapMap.{HeapMap}
 use Rattle.gc_maps.specs.declared.part.Part.{Part}
 use Rattle.gc_maps.specs.Trees.{Tree}
 use Rattle.gc_maps.specs.Maps.{IntMap, MapOfStands}
 use Rattle.gc_maps.specs.Parts.{RootIs}
 use Rattle.gc_maps.specs.Paths.{SearchOfIn, IsBuilt}
-use Rattle.gc_maps.specs.Ends.{Grows, Ends}
+use Rattle.gc_maps.specs.Ends.{Grows, Ends, LacksNode}
 use Rattle.gc_maps.specs.Answers.{AnswersMap, AreEntries}
 use Rattle.gc_maps.specs.Gaps.{others}
 use Rattle.gc_maps.proofs.Naming.{held_table}
@@ -51,8 +53,8 @@ map_of_in layouts s ty version of stands own =
       search = map_search s in_some.table version ty in_some.entries in_some.stands;
     }
 
-module _ {D : Type 0} (kit : Kit) (t : Table D) where
-  pub grows_left : (n m : ℕ) (u : Table D) → n ≤ most_objects → Grows kit n m t u → ChangesObjects kit most_objects t t.owned (leave (length t.scoped) u)
+module _ {D : Type 0} (limit : Option ℕ) (kit : Kit) (t : Table D) where
+  pub grows_left : (n m : ℕ) (u : Table D) → n ≤ most_objects → Grows limit kit n m t u → ChangesObjects limit kit most_objects t t.owned (leave (length t.scoped) u)
   grows_left n m u below grows = let few = grows.few_made in record {
     made = grows.made;
     few = omega (arith, few, below);
@@ -67,9 +69,10 @@ module _ {D : Type 0} (kit : Kit) (t : Table D) where
       made = u.made;
       pages = u.pages;
     });
+    pages = same_pages limit t u (leave (length t.scoped) u) refl refl grows.pages;
   }
 
-  pub grows_owned : (n m : ℕ) (u : Table D) (r : Reference) → n ≤ most_objects → Grows kit n m t u → ChangesObjects kit most_objects t (own r t).owned (leave (length t.scoped) (own r u))
+  pub grows_owned : (n m : ℕ) (u : Table D) (r : Reference) → n ≤ most_objects → Grows limit kit n m t u → ChangesObjects limit kit most_objects t (own r t).owned (leave (length t.scoped) (own r u))
   grows_owned n m u r below grows = let few = grows.few_made in record {
     made = grows.made;
     few = omega (arith, few, below);
@@ -85,19 +88,20 @@ module _ {D : Type 0} (kit : Kit) (t : Table D) where
       made = u.made;
       pages = u.pages;
     });
+    pages = same_pages limit t u (leave (length t.scoped) (own r u)) refl refl grows.pages;
   }
 
-  full_owned : (n m : ℕ) (u : Table D) → Grows kit n m t u → owned_full u ≡ true → owned_full t ≡ true
+  full_owned : (n m : ℕ) (u : Table D) → Grows limit kit n m t u → owned_full u ≡ true → owned_full t ≡ true
   full_owned n m u grows full = subst (λ (w : Table D). owned_full w ≡ true) grows.rest full
 
-  lacks_grown : (n m : ℕ) (u : Table D) → m < most_objects → Grows kit n m t u → roots_full u ≡ true → LacksRoots t
+  lacks_grown : (n m : ℕ) (u : Table D) → m < most_objects → Grows limit kit n m t u → roots_full u ≡ true → LacksRoots t
   lacks_grown n m u below grows full =
       lacks_roots t m (record t { scoped = t.scoped ++ grows.scoped; pushes = t.pushes ++ grows.pushes }) below
       (record { scoped = grows.scoped; few = grows.few; pushes = grows.pushes; rest = refl }) (subst (λ (w : Table D). roots_full w ≡ true) grows.rest full)
 
   -- the heap got pages
-  grows_pages : (n m : ℕ) (u u' : Table D) (made : Bool) (pages : ℕ) → u' ≡ record u { made = made; pages = pages } → Grows kit n m t u → Grows kit n m t u'
-  grows_pages n m u u' made pages is grows = record {
+  grows_pages : (n m : ℕ) (u u' : Table D) (made : Bool) (pages : ℕ) → u' ≡ record u { made = made; pages = pages } → KeepsLimit limit u u' → Grows limit kit n m t u → Grows limit kit n m t u'
+  grows_pages n m u u' made pages is keeps grows = record {
     made = grows.made;
     of_kit = grows.of_kit;
     few_made = grows.few_made;
@@ -106,11 +110,12 @@ module _ {D : Type 0} (kit : Kit) (t : Table D) where
     pushes = grows.pushes;
     rest = is ∙ ap (λ (w : Table D). record w { made = made; pages = pages }) grows.rest
         ∙ (λ i. record t { objects = t.objects ++ grows.made; scoped = t.scoped ++ grows.scoped; pushes = t.pushes ++ grows.pushes; made = ap (λ (v : Table D). v.made) (sym is) i; pages = ap (λ (v : Table D). v.pages) (sym is) i });
+    pages = within_then limit t u u' (ap (λ (w : Table D). w.first) grows.rest) grows.pages keeps;
   }
 
-  lacks_pages : (n m : ℕ) (layouts : Layouts) (limit : Option ℕ) (places : _) (o : Object D) (u u' : Table D) → LacksMemory layouts limit places o u u' → Grows kit n m t u → Grows kit n m t u'
-  lacks_pages n m layouts limit places o u u' (no_heap refused is) grows = grows_pages n m u u' u.made u.pages is grows
-  lacks_pages n m layouts limit places o u u' (no_room may refused lacks is) grows = grows_pages n m u u' true (make_heap u).pages is grows
+  lacks_pages : (n m : ℕ) (layouts : Layouts) (known : Option ℕ) (places : _) (o : Object D) (u u' : Table D) → LacksMemory layouts known places o u u' → KeepsLimit limit u u' → Grows limit kit n m t u → Grows limit kit n m t u'
+  lacks_pages n m layouts known places o u u' (no_heap refused is) keeps grows = grows_pages n m u u' u.made u.pages is keeps grows
+  lacks_pages n m layouts known places o u u' (no_room may refused lacks is) keeps grows = grows_pages n m u u' true (make_heap u).pages is keeps grows
 
 -- a map's entries with one put, and without one
 pub entries_put : (m : IntMap) (key value : ℤ) (es : List (ℤ × ℤ)) → finite.entries m ≡ es → put int_cmp key value es ≡ finite.entries (finite.insert m key value)
@@ -126,12 +131,18 @@ module _ {D : Type 0} (layouts : Layouts) (counter : Option ℕ) (kit : Kit) (no
 
   -- the scope was left
   module _ (left : (u : Table D) (b : Account) → HoldsAccount layouts mid u b → HoldsAccount layouts new (leave (length t.scoped) u) b) where
-    leaves_objects : (u : Table D) (b : Account) → HoldsAccount layouts mid u b → Grows kit nodes most t u → Leaves layouts (ChangesObjects kit most_objects t t.owned) new
-    leaves_objects u b holds grows = record { after = leave (length t.scoped) u; account = b; holds = left u b holds; changed = grows_left kit t nodes most u few grows }
+    leaves_objects : (u : Table D) (b : Account) → HoldsAccount layouts mid u b → Grows limits.limit kit nodes most t u → Leaves layouts (ChangesObjects limits.limit kit most_objects t t.owned) new
+    leaves_objects u b holds grows = record { after = leave (length t.scoped) u; account = b; holds = left u b holds; changed = grows_left limits.limit kit t nodes most u few grows }
+
+    -- the limiter tells the same limit after the refusal
+    refused_within : {need : ℕ} (lacks : LacksNode layouts counter kit nodes most t limits need mid) → KeepsLimit limits.limit lacks.before.table lacks.lacks.after.table
+    refused_within lacks = subst (λ (l : Option ℕ). KeepsLimit l lacks.before.table lacks.lacks.after.table)
+        (sym (lacks_limit layouts counter lacks.object lacks.before limits _ mid lacks.lacks))
+        (lacks_within lacks.before.limits.limit lacks.before.table lacks.lacks.after.table layouts _ lacks.object lacks.lacks.lacks)
 
     pub map_refused : (f : ListFault) → Ends {A = Part} layouts counter kit nodes most t limits Built (Err f) mid → AnswersMap layouts counter kit m t limits (Err f) new
     map_refused fault.WrongStore ends = ends
-    map_refused fault.RootsFull ends = (inr (lacks_grown kit t nodes most ends.after low ends.changed.0 ends.changed.1), leaves_objects ends.after ends.account ends.holds ends.changed.0)
+    map_refused fault.RootsFull ends = (inr (lacks_grown limits.limit kit t nodes most ends.after low ends.changed.0 ends.changed.1), leaves_objects ends.after ends.account ends.holds ends.changed.0)
     map_refused (fault.HeapOutOfMemory f) ends = (
       record {
         inside = mid;
@@ -147,7 +158,7 @@ module _ {D : Type 0} (layouts : Layouts) (counter : Option ℕ) (kit : Kit) (no
         left = left ends.lacks.after.table ends.lacks.after.account ends.lacks.holds;
       },
       leaves_objects ends.lacks.after.table ends.lacks.after.account ends.lacks.holds
-          (lacks_pages kit t nodes most layouts _ _ ends.object ends.before.table ends.lacks.after.table ends.lacks.lacks ends.grows),
+          (lacks_pages limits.limit kit t nodes most layouts ends.before.limits.limit _ ends.object ends.before.table ends.lacks.after.table ends.lacks.lacks (refused_within ends) ends.grows),
     )
     map_refused fault.Memory ends = leaves_objects ends.after ends.account ends.holds ends.changed
 
@@ -158,13 +169,13 @@ module _ {D : Type 0} (layouts : Layouts) (counter : Option ℕ) (kit : Kit) (no
     map_empty part none ends map empty =
         let b = ends.changed.1 in
         let root = none_at ends.after part.root b.tree none b.is.root in
-        subst (λ (v : Option GcRootIndex). AnswersVersion layouts t (ChangesObjects kit most_objects t) (AreEntries kit.node m) v new) (sym empty) (record {
+        subst (λ (v : Option GcRootIndex). AnswersVersion layouts t (ChangesObjects limits.limit kit most_objects t) (AreEntries kit.node m) v new) (sym empty) (record {
           after = leave (length t.scoped) ends.after;
           account = ends.account;
           holds = left ends.after ends.account ends.holds;
           stands = record { reference = root.reference; names = root.names; is = record { tree = b.tree; is = root.is; balanced = b.balanced; entries = sym b.pairs_are } };
           has_new_root = tt;
-          changed = grows_left kit t nodes most ends.after few ends.changed.0;
+          changed = grows_left limits.limit kit t nodes most ends.after few ends.changed.0;
         })
 
   -- an owned root was made, or not
@@ -175,7 +186,7 @@ module _ {D : Type 0} (layouts : Layouts) (counter : Option ℕ) (kit : Kit) (no
     abbrev pub Kept : Result GcRootIndex ListFault → Type 0
     Kept result = KeepsRoot layouts ends.after ends.account is_root.reference (leave (length t.scoped)) result new
 
-    pub map_kept : (made : GcRootIndex) → Kept (Ok made) → AnswersVersion layouts t (ChangesObjects kit most_objects t) (AreEntries kit.node m) (Some made) new
+    pub map_kept : (made : GcRootIndex) → Kept (Ok made) → AnswersVersion layouts t (ChangesObjects limits.limit kit most_objects t) (AreEntries kit.node m) (Some made) new
     map_kept made kept = record {
       after = leave (length t.scoped) (own is_root.reference ends.after);
       account = ends.account;
@@ -186,17 +197,17 @@ module _ {D : Type 0} (layouts : Layouts) (counter : Option ℕ) (kit : Kit) (no
         is = record { tree = ends.changed.1.tree; is = is_root.is; balanced = ends.changed.1.balanced; entries = sym ends.changed.1.pairs_are };
       };
       has_new_root = kept.1.0 ∙ ap (λ (u : Table D). owned_handle new u.owns) ends.changed.0.rest;
-      changed = grows_owned kit t nodes most ends.after is_root.reference few ends.changed.0;
+      changed = grows_owned limits.limit kit t nodes most ends.after is_root.reference few ends.changed.0;
     }
 
     pub keep_refused : (f : ListFault) → Kept (Err f) → AnswersMap layouts counter kit m t limits (Err f) new
     keep_refused fault.WrongStore kept = kept
     keep_refused fault.RootsFull kept = (
-      inl (full_owned kit t nodes most ends.after ends.changed.0 kept.0),
-      record { after = leave (length t.scoped) ends.after; account = ends.account; holds = kept.1; changed = grows_left kit t nodes most ends.after few ends.changed.0 },
+      inl (full_owned limits.limit kit t nodes most ends.after ends.changed.0 kept.0),
+      record { after = leave (length t.scoped) ends.after; account = ends.account; holds = kept.1; changed = grows_left limits.limit kit t nodes most ends.after few ends.changed.0 },
     )
     keep_refused (fault.HeapOutOfMemory f) kept = absurd kept
-    keep_refused fault.Memory kept = record { after = leave (length t.scoped) ends.after; account = ends.account; holds = kept; changed = grows_left kit t nodes most ends.after few ends.changed.0 }
+    keep_refused fault.Memory kept = record { after = leave (length t.scoped) ends.after; account = ends.account; holds = kept; changed = grows_left limits.limit kit t nodes most ends.after few ends.changed.0 }
 
 -- a key and a value that were passed on are those that were put, and the entries are the map's
 pub as_put : {D : Type 0} (layouts : Layouts) (counter : Option ℕ) (kit : Kit) (t : Table D) (limits : Limits) (m : IntMap) (key value : ℤ) (es : List (ℤ × ℤ)) → finite.entries m ≡ es → SFits w64 key → SFits w64 value

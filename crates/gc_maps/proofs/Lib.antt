@@ -8,7 +8,6 @@ pub mod NodeReads
 pub mod Lookups
 pub mod Leaving
 pub mod NodeMaking
-pub mod Limiting
 pub mod Opening
 pub mod Steps
 pub mod Visiting
@@ -17,6 +16,7 @@ pub mod LoweringLeft
 pub mod LoweringRight
 pub mod Joinings
 pub mod Staying
+pub mod Reaching
 pub mod WayLemmas
 pub mod Descending
 pub mod Rising

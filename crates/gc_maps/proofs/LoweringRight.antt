@@ -84,7 +84,7 @@ module _ {D : Type 0} (layouts : Layouts) (kit : Kit) (s0 s1 s2 : StoreView D) (
         }
 
   module _ (first : Opened) (limits : Limits) (result : Result Part ListFault) where
-    joined : (Made : StoreView D → Table D → Part → Type 0) (x : Tree) (n m : ℕ) (u : Table D) → Grows kit 0 2 t u → n ≤ 3 → 2 + m ≤ 7
+    joined : (Made : StoreView D → Table D → Part → Type 0) (x : Tree) (n m : ℕ) (u : Table D) → Grows limits.limit kit 0 2 t u → n ≤ 3 → 2 + m ≤ 7
         → ((s : StoreView D) (w : Table D) (part : Part) → Made s w part → IsJoined s w kit.node part l (k, v) x)
         → Ends layouts s1.alloc_counter kit n m u limits Made result s2 → Ends layouts s0.alloc_counter kit 3 7 t limits (λ s w part. IsJoined s w kit.node part l (k, v) x) result s2
     joined Made x n m u grows few low gives ends =

@@ -36,8 +36,10 @@ use Rattle.gc_store.specs.Stores.{IsSameStore}
 use Rattle.gc_store.specs.Values.{RawStands, AllStand, CanStore}
 use Rattle.gc_lists.specs.declared.kit.Kit.{Kit}
 use Rattle.gc_lists.specs.Cells as cells
-use Rattle.gc_lists.specs.Frames.{Leaves}
+use Rattle.gc_lists.specs.Frames.{KeepsLimit, Leaves}
 use Rattle.gc_lists.specs.Kits.{node_fields, link, IsNodeType}
+use Rattle.gc_lists.proofs.Limiting.{places_limit}
+use Rattle.gc_lists.proofs.Pages.{gets_within, may_get_within}
 use Rattle.gc_lists.proofs.Links.{node_root, null_or_fits, struct_in_each}
 use Rattle.gc_maps.specs.declared.part.Part.{Part}
 use Rattle.gc_maps.specs.Trees.{Tree, leaf, node, height}
@@ -146,11 +148,11 @@ module _ {D : Type 0} (layouts : Layouts) (counter : Option ℕ) (kit : Kit) (s 
   abbrev pub Placed : Result GcRootIndex PlaceFault → Type 0
   Placed answer = Places layouts counter object (policy_state t a limits) limits' answer new
 
-  kept_as : (u : Table D) (b : Account) → HoldsAccount layouts new u b → Grows kit 1 1 t u → Leaves layouts (Grows kit 1 1 t) new
+  kept_as : (u : Table D) (b : Account) → HoldsAccount layouts new u b → Grows limits'.limit kit 1 1 t u → Leaves layouts (Grows limits'.limit kit 1 1 t) new
   kept_as u b held grows = record { after = u; account = b; holds = held; changed = grows }
 
-  pages_grow : (pages : ℕ) (u : Table D) → u ≡ with_pages pages t → Grows kit 1 1 t u
-  pages_grow pages u is = subst (Grows kit 1 1 t) (sym is) (record {
+  pages_grow : (pages : ℕ) (u : Table D) → u ≡ with_pages pages t → KeepsLimit limits'.limit t u → Grows limits'.limit kit 1 1 t u
+  pages_grow pages u is keeps = subst (λ (w : Table D). KeepsLimit limits'.limit t w → Grows limits'.limit kit 1 1 t w) (sym is) (λ within. record {
     made = [];
     of_kit = λ k d below. absurd (omega (arith, below));
     few_made = omega arith;
@@ -158,20 +160,28 @@ module _ {D : Type 0} (layouts : Layouts) (counter : Option ℕ) (kit : Kit) (s 
     few = omega arith;
     pushes = [];
     rest = λ i. record t { objects = sym (append-nil t.objects) i; scoped = sym (append-nil t.scoped) i; pushes = sym (append-nil t.pushes) i; made = true; pages = pages };
-  })
+    pages = within;
+  }) keeps
 
-  pub refused_place : RefusesPlace layouts (policy_state t a limits) limits' new → Leaves layouts (Grows kit 1 1 t) new
+  pub refused_place : RefusesPlace layouts (policy_state t a limits) limits' new → Leaves layouts (Grows limits'.limit kit 1 1 t) new
   refused_place refuses = kept_as t a refuses.holds (grows_none kit 1 1 t)
 
-  pub place_full : Placed (Err place_fault.RootsFull) → Leaves layouts (λ u. Grows kit 1 1 t u × (roots_full u ≡ true)) new
+  pub place_full : Placed (Err place_fault.RootsFull) → Leaves layouts (λ u. Grows limits'.limit kit 1 1 t u × (roots_full u ≡ true)) new
   place_full places = record { after = t; account = a; holds = places.2.holds; changed = (grows_none kit 1 1 t, places.1) }
 
-  wanted : (limit : Option ℕ) (bytes : ℕ) (u : Table D) (b : Account) → HoldsAccount layouts new u b → MayGetPages limit bytes t u → Leaves layouts (Grows kit 1 1 t) new
-  wanted limit bytes u b held (inl is) = kept_as u b held (subst (Grows kit 1 1 t) (sym is) (grows_none kit 1 1 t))
-  wanted limit bytes u b held (inr more) = kept_as u b held (pages_grow more.0 u more.1.1)
+  -- the limiter tells the same limit afterwards
+  within_after : (answer : Result GcRootIndex PlaceFault) (u : Table D) → Placed answer → KeepsLimit limits.limit t u → KeepsLimit limits'.limit t u
+  within_after answer u placed keeps = subst (λ (l : Option ℕ). KeepsLimit l t u) (sym (places_limit layouts counter object (policy_state t a limits) limits' answer new placed)) keeps
 
-  pub place_wants : Placed (Err place_fault.Memory) → Leaves layouts (Grows kit 1 1 t) new
-  place_wants wants = wanted limits.limit _ wants.after.table wants.after.account wants.holds wants.pages
+  wanted : (bytes : ℕ) (u : Table D) (b : Account) → HoldsAccount layouts new u b → Placed (Err place_fault.Memory) → MayGetPages limits.limit bytes t u → Leaves layouts (Grows limits'.limit kit 1 1 t) new
+  wanted bytes u b held wants (inl is) = kept_as u b held (subst (Grows limits'.limit kit 1 1 t) (sym is) (grows_none kit 1 1 t))
+  wanted bytes u b held wants (inr more) = kept_as u b held (pages_grow more.0 u more.1.1 (within_after (Err place_fault.Memory) u wants (may_get_within limits.limit t u bytes (inr more))))
+
+  pub place_wants : Placed (Err place_fault.Memory) → Leaves layouts (Grows limits'.limit kit 1 1 t) new
+  place_wants wants = wanted _ wants.after.table wants.after.account wants.holds wants wants.pages
+
+  pub gets_pages : (handle : GcRootIndex) (placed : Placed (Ok handle)) (u : Table D) → u.made ≡ true → u.pages ≡ placed.allocates.pages → KeepsLimit limits'.limit t u
+  gets_pages handle placed u made is = within_after (Ok handle) u placed (gets_within limits.limit t u _ placed.allocates.pages placed.allocates.gets made is)
 
   pub place_lacks : (f : GcHeapOutOfMemory (Unit {0})) → Placed (Err (place_fault.HeapOutOfMemory f)) → LacksNode layouts counter kit 1 1 t limits' f.bytes_needed new
   place_lacks f lacks = record { before = policy_state t a limits; grows = grows_none kit 1 1 t; asked = s; held = holds; object = object; of_kit = of_kit; lacks = lacks }
@@ -218,11 +228,11 @@ module _ {D : Type 0} (layouts : Layouts) (counter : Option ℕ) (kit : Kit) (s 
   is_of_kit = record { ty = kit.node; of_kit = inr refl; values = _; object_is = refl }
 
   pub place_made : (handle : GcRootIndex) → Placed layouts counter kit s t a holds limits limits' new same the_object is_of_kit (Ok handle)
-      → Leaves layouts (λ u. Grows kit 1 1 t u × PartIs new u kit.node (record { root = Some handle; height = to_z w32 (of_z w32 h) }) (node_of x k v y)) new
+      → Leaves layouts (λ u. Grows limits'.limit kit 1 1 t u × PartIs new u kit.node (record { root = Some handle; height = to_z w32 (of_z w32 h) }) (node_of x k v y)) new
   place_made handle placed =
       let pages = placed.allocates.pages in
       let u : Table D = make the_object (with_pages pages t) in
-      let grows : Grows kit 1 1 t u = record {
+      let grows : Grows limits'.limit kit 1 1 t u = record {
         made = the_object ∷ [];
         of_kit = All-cons (cells.IsOfKit kit) the_object [] is_of_kit (All-nil (cells.IsOfKit kit));
         few_made = omega arith;
@@ -230,6 +240,7 @@ module _ {D : Type 0} (layouts : Layouts) (counter : Option ℕ) (kit : Kit) (s 
         few = omega arith;
         pushes = record { index = length t.scoped; generation = t.drops } ∷ [];
         rest = refl;
+        pages = gets_pages layouts counter kit s t a holds limits limits' new same the_object is_of_kit handle placed u refl refl;
       } in
       let keeps = grows_keep kit 1 1 s t new u same grows in
       let named : NamesReference new u handle (at (length t.objects)) = subst (λ (g : GcRootIndex). NamesReference new u g (at (length t.objects))) (sym placed.handle_is)

@@ -26,7 +26,7 @@ use Rattle.gc_maps.specs.Searching.{IsSearch}
 use Rattle.gc_maps.specs.Ends.{Pushes, Grows, EndsReading, Ends}
 use Rattle.gc_maps.proofs.Naming.{Keeps, keeps_then, held_table, root_kept, part_kept}
 use Rattle.gc_maps.proofs.NodeReads.{table_keeps}
-use Rattle.gc_maps.proofs.Growing.{grows_none, grows_within, grows_keep, pushes_grow, pushes_keep, same_then}
+use Rattle.gc_maps.proofs.Growing.{grows_none, grows_under, grows_within, grows_keep, pushes_grow, pushes_keep, same_then}
 use Rattle.gc_maps.proofs.Steps.{MakesNode, refused_after, ends_after, ends_within, nodes_later}
 use Rattle.gc_maps.proofs.Descending.{path_kept}
 use Rattle.gc_maps.proofs.Rising.{path_high}
@@ -145,7 +145,7 @@ module _ {D : Type 0} (layouts : Layouts) (kit : Kit) (s0 s1 : StoreView D) (sam
         (λ s u part. PartIs s u kit.node part (node_of d.left key value d.right)) Done f (entry_ends (Err f) makes))
 
     module _ (same2 : IsSameStore s1 s2) (part : Part) (makes : MakesEntry (Ok part)) where
-      abbrev two : Leaves layouts (λ u. Grows kit 1 1 u1 u × PartIs s2 u kit.node part (node_of d.left key value d.right)) s2
+      abbrev two : Leaves layouts (λ u. Grows limits2.limit kit 1 1 u1 u × PartIs s2 u kit.node part (node_of d.left key value d.right)) s2
       two = entry_ends (Ok part) makes
 
       keeps2 : Keeps s1 u1 s2 two.after
@@ -176,14 +176,14 @@ module _ {D : Type 0} (layouts : Layouts) (kit : Kit) (s0 s1 : StoreView D) (sam
         rises = rises;
       }
 
-      pub put_ends : (s3 : StoreView D) (limits3 : Limits) (result : Result Part ListFault)
+      pub put_ends : (s3 : StoreView D) (limits3 : Limits) → limits3.limit ≡ limits2.limit → (result : Result Part ListFault)
           → ((t : Table D) (a : Account) (whole : Tree) (entries : List (ℤ × ℤ)) → HoldsAccount layouts s2 t a → IsBalanced whole → height whole < 92 → Rises s2 t kit.node whole frames part entries
           → Ends layouts s2.alloc_counter kit 276 644 t limits3 (λ s u built. IsBuilt s u kit.node built entries) result s3)
           → Ends layouts s0.alloc_counter kit 277 829 t limits3 (λ s u built. IsBuilt s u kit.node built (put int_cmp key value (pairs tree))) result s3
-      put_ends s3 limits3 result builds =
+      put_ends s3 limits3 stays result builds =
           let Built : StoreView D → Table D → Part → Type 0 = λ s u built. IsBuilt s u kit.node built (put int_cmp key value (pairs tree)) in
           ends_within layouts s0.alloc_counter kit (0 + 277) (184 + 645) 277 829 t limits3 s3 (omega arith) (omega arith) Built result
           (ends_after layouts s0.alloc_counter s1.alloc_counter same1.counter kit 0 184 277 645 t u1 limits3 s3 (pushes_grow kit 184 t u1 down.changed.0) Built result
           (ends_within layouts s1.alloc_counter kit (1 + 276) (1 + 644) 277 645 u1 limits3 s3 (omega arith) (omega arith) Built result
-          (ends_after layouts s1.alloc_counter s2.alloc_counter same2.counter kit 1 1 276 644 u1 two.after limits3 s3 two.changed.0 Built result
+          (ends_after layouts s1.alloc_counter s2.alloc_counter same2.counter kit 1 1 276 644 u1 two.after limits3 s3 (grows_under limits3.limit kit 1 1 u1 two.after stays two.changed.0) Built result
           (builds two.after two.account tree (put int_cmp key value (pairs tree)) two.holds search_is.balanced low rises))))

@@ -1,5 +1,5 @@
 -- The way back up: for each frame, the last first, a part takes the place of a child.
-use Rattle.std.proofs.Common.{◌≡◌, ℕ, ◌+◌, ◌≤◌, ◌<◌, ◌^◌, ℤ, Bool, true, false, if◌then◌else◌, List, [], ◌∷◌, ◌++◌, length, sym, ap, ◌∙◌, subst, arith, w64, FitsSigned}
+use Rattle.std.proofs.Common.{◌≡◌, ℕ, ◌+◌, ◌≤◌, ◌<◌, ◌^◌, ℤ, Option, Bool, true, false, if◌then◌else◌, List, [], ◌∷◌, ◌++◌, length, sym, ap, ◌∙◌, subst, arith, w64, FitsSigned}
 use Rattle.std.proofs.lemmas.List.{append_assoc, append-nil}
 use Rattle.gc_types.specs.declared.kind.Layouts.{Layouts}
 use Rattle.gc_model.specs.Table.{Table}
@@ -178,7 +178,7 @@ module _ {D : Type 0} (layouts : Layouts) (ty : ℕ) (s : StoreView D) (u : Tabl
       is = joinable;
     }
 
-    module _ (s2 : StoreView D) (same2 : IsSameStore s1 s2) (kit : Kit) (u2 : Table D) (grows : Grows kit 3 7 u u2) (part2 : Part) (fs : List Frame) (whole : Tree) (pb pa before behind entries : List (ℤ × ℤ))
+    module _ (s2 : StoreView D) (same2 : IsSameStore s1 s2) (limit : Option ℕ) (kit : Kit) (u2 : Table D) (grows : Grows limit kit 3 7 u u2) (part2 : Part) (fs : List Frame) (whole : Tree) (pb pa before behind entries : List (ℤ × ℤ))
         (path : IsPath s u ty fs parent whole pb pa) (before_is : before ≡ pb ++ bs) (behind_is : behind ≡ as' ++ pa) (whole_is : before ++ (pairs new ++ behind) ≡ entries) where
       whole_here : (pb ++ bs) ++ (pairs new ++ (as' ++ pa)) ≡ entries
       whole_here = (λ i. sym before_is i ++ (pairs new ++ sym behind_is i)) ∙ whole_is

@@ -21,9 +21,9 @@ use Rattle.gc_maps.specs.Parts.{PartIs, OpenedIs, node_of}
 use Rattle.gc_maps.specs.Makes.{CanMake}
 use Rattle.gc_maps.specs.Ends.{Grows, Ends}
 use Rattle.gc_maps.proofs.Naming.{Keeps, held_table, part_kept}
-use Rattle.gc_maps.proofs.Growing.{grows_none, grows_then, grows_within, grows_keep}
+use Rattle.gc_maps.proofs.Growing.{grows_none, grows_then, grows_under, grows_within, grows_keep}
 
-module _ {D A B : Type 0} (layouts : Layouts) (counter counter' : Option ℕ) (same : counter' ≡ counter) (kit : Kit) (n m n' m' : ℕ) (t u : Table D) (limits : Limits) (new : StoreView D) (grows : Grows kit n m t u) where
+module _ {D A B : Type 0} (layouts : Layouts) (counter counter' : Option ℕ) (same : counter' ≡ counter) (kit : Kit) (n m n' m' : ℕ) (t u : Table D) (limits : Limits) (new : StoreView D) (grows : Grows limits.limit kit n m t u) where
   pub refused_after : (DoneA : StoreView D → Table D → A → Type 0) (DoneB : StoreView D → Table D → B → Type 0) (f : ListFault)
       → Ends {A = A} layouts counter' kit n' m' u limits DoneA (Err f) new → Ends {A = B} layouts counter kit (n + n') (m + m') t limits DoneB (Err f) new
   refused_after DoneA DoneB fault.WrongStore ends = ends
@@ -39,7 +39,7 @@ module _ {D A B : Type 0} (layouts : Layouts) (counter counter' : Option ℕ) (s
   }
   refused_after DoneA DoneB fault.Memory ends = record { after = ends.after; account = ends.account; holds = ends.holds; changed = grows_then kit n n' m m' t u ends.after grows ends.changed }
 
-module _ {D A : Type 0} (layouts : Layouts) (counter counter' : Option ℕ) (same : counter' ≡ counter) (kit : Kit) (n m n' m' : ℕ) (t u : Table D) (limits : Limits) (new : StoreView D) (grows : Grows kit n m t u)
+module _ {D A : Type 0} (layouts : Layouts) (counter counter' : Option ℕ) (same : counter' ≡ counter) (kit : Kit) (n m n' m' : ℕ) (t u : Table D) (limits : Limits) (new : StoreView D) (grows : Grows limits.limit kit n m t u)
     (Done : StoreView D → Table D → A → Type 0) where
   pub ends_after : (result : Result A ListFault) → Ends layouts counter' kit n' m' u limits Done result new → Ends layouts counter kit (n + n') (m + m') t limits Done result new
   ends_after (Ok x) ends = record { after = ends.after; account = ends.account; holds = ends.holds; changed = (grows_then kit n n' m m' t u ends.after grows ends.changed.0, ends.changed.1) }
@@ -101,7 +101,7 @@ module _ {D : Type 0} (layouts : Layouts) (kit : Kit) (s : StoreView D) (limits 
 module _ {D : Type 0} (layouts : Layouts) (kit : Kit) (s0 s1 s2 s3 : StoreView D) (same1 : IsSameStore s0 s1) (same2 : IsSameStore s1 s2) (left right : Opened) (key value : ℤ) (fits_k : SFits w64 key) (fits_v : SFits w64 value) where
   module _ (limits1 : Limits) (low : Part) (makes1 : MakesNode layouts kit s0 limits1 left.left (to_z w64 (of_z w64 left.key)) (to_z w64 (of_z w64 left.value)) left.right (Ok low) s1)
       (t : Table D) (a : Account) (x y z w : Tree) (j u k v : ℤ) (holds : HoldsAccount layouts s0 t a) (in_left : OpenedIs s0 t kit.node left x j u y) (in_right : OpenedIs s0 t kit.node right z k v w) where
-    abbrev pub one : Leaves layouts (λ u'. Grows kit 1 1 t u' × PartIs s1 u' kit.node low (node_of x j u y)) s1
+    abbrev pub one : Leaves layouts (λ u'. Grows limits1.limit kit 1 1 t u' × PartIs s1 u' kit.node low (node_of x j u y)) s1
     one = opened_made layouts kit s0 limits1 left s1 (Ok low) makes1 t a x j u y holds in_left
 
     pub keeps1 : Keeps s0 t s1 one.after
@@ -119,16 +119,16 @@ module _ {D : Type 0} (layouts : Layouts) (kit : Kit) (s0 s1 s2 s3 : StoreView D
       in_right = record { tree = w; is = right1.right; low = omega (arith, low_w) };
     }
 
-    module _ (limits2 : Limits) where
+    module _ (limits2 : Limits) (stays2 : limits2.limit ≡ limits1.limit) where
       pub refused2 : (f : ListFault) → MakesNode layouts kit s1 limits2 right.left (to_z w64 (of_z w64 right.key)) (to_z w64 (of_z w64 right.value)) right.right (Err f) s2
           → (Done : StoreView D → Table D → Part → Type 0) → Ends {A = Part} layouts s0.alloc_counter kit 3 3 t limits2 Done (Err f) s2
       refused2 f makes2 Done =
           ends_within {A = Part} layouts s0.alloc_counter kit (1 + 1) (1 + 1) 3 3 t limits2 s2 (omega arith) (omega arith) Done (Err f)
-          (refused_after {A = Part} {B = Part} layouts s0.alloc_counter s1.alloc_counter same1.counter kit 1 1 1 1 t one.after limits2 s2 one.changed.0 (λ s' u' part. PartIs s' u' kit.node part (node_of z k v w)) Done f
+          (refused_after {A = Part} {B = Part} layouts s0.alloc_counter s1.alloc_counter same1.counter kit 1 1 1 1 t one.after limits2 s2 (grows_under limits2.limit kit 1 1 t one.after stays2 one.changed.0) (λ s' u' part. PartIs s' u' kit.node part (node_of z k v w)) Done f
           (opened_made layouts kit s1 limits2 right s2 (Err f) makes2 one.after one.account z k v w one.holds right1))
 
       module _ (high : Part) (makes2 : MakesNode layouts kit s1 limits2 right.left (to_z w64 (of_z w64 right.key)) (to_z w64 (of_z w64 right.value)) right.right (Ok high) s2) where
-        abbrev pub two : Leaves layouts (λ u'. Grows kit 1 1 one.after u' × PartIs s2 u' kit.node high (node_of z k v w)) s2
+        abbrev pub two : Leaves layouts (λ u'. Grows limits2.limit kit 1 1 one.after u' × PartIs s2 u' kit.node high (node_of z k v w)) s2
         two = opened_made layouts kit s1 limits2 right s2 (Ok high) makes2 one.after one.account z k v w one.holds right1
 
         pub keeps2 : Keeps s1 one.after s2 two.after
@@ -146,14 +146,14 @@ module _ {D : Type 0} (layouts : Layouts) (kit : Kit) (s0 s1 s2 s3 : StoreView D
           in_right = record { tree = node_of z k v w; is = two.changed.1; low = omega (arith, low_z, low_w) };
         }
 
-        pub three : (limits3 : Limits) (result : Result Part ListFault) → MakesNode layouts kit s2 limits3 low (to_z w64 (of_z w64 key)) (to_z w64 (of_z w64 value)) high result s3
+        pub three : (limits3 : Limits) → limits3.limit ≡ limits2.limit → (result : Result Part ListFault) → MakesNode layouts kit s2 limits3 low (to_z w64 (of_z w64 key)) (to_z w64 (of_z w64 value)) high result s3
             → Ends layouts s0.alloc_counter kit 3 3 t limits3 (λ s' u' part. PartIs s' u' kit.node part (node_of (node_of x j u y) key value (node_of z k v w))) result s3
-        three limits3 result makes3 =
+        three limits3 stays3 result makes3 =
             let the : ℤ → ℤ → StoreView D → Table D → Part → Type 0 = λ i n s' u' part. PartIs s' u' kit.node part (node_of (node_of x j u y) i n (node_of z k v w)) in
             ends_within layouts s0.alloc_counter kit (1 + 2) (1 + 2) 3 3 t limits3 s3 (omega arith) (omega arith) (the key value) result
-            (ends_after layouts s0.alloc_counter s1.alloc_counter same1.counter kit 1 1 2 2 t one.after limits3 s3 one.changed.0 (the key value) result
+            (ends_after layouts s0.alloc_counter s1.alloc_counter same1.counter kit 1 1 2 2 t one.after limits3 s3 (grows_under limits3.limit kit 1 1 t one.after (stays3 ∙ stays2) one.changed.0) (the key value) result
             (ends_within layouts s1.alloc_counter kit (1 + 1) (1 + 1) 2 2 one.after limits3 s3 (omega arith) (omega arith) (the key value) result
-            (ends_after layouts s1.alloc_counter s2.alloc_counter same2.counter kit 1 1 1 1 one.after two.after limits3 s3 two.changed.0 (the key value) result
+            (ends_after layouts s1.alloc_counter s2.alloc_counter same2.counter kit 1 1 1 1 one.after two.after limits3 s3 (grows_under limits3.limit kit 1 1 one.after two.after stays3 two.changed.0) (the key value) result
             (subst (λ (i : ℤ). Ends layouts s2.alloc_counter kit 1 1 two.after limits3 (the i value) result s3) (to_z-of_z w64 key fits_k)
             (subst (λ (n : ℤ). Ends layouts s2.alloc_counter kit 1 1 two.after limits3 (the (to_z w64 (of_z w64 key)) n) result s3) (to_z-of_z w64 value fits_v)
             (makes3 two.after two.account (node_of x j u y) (node_of z k v w) two.holds low2 two.changed.1))))))
@@ -178,7 +178,7 @@ module _ {D : Type 0} (layouts : Layouts) (kit : Kit) (s0 s1 s2 : StoreView D) (
 
   module _ (limits1 : Limits) (made : Part) (makes1 : MakesNode layouts kit s0 limits1 low.left (to_z w64 (of_z w64 low.key)) (to_z w64 (of_z w64 low.value)) low.right (Ok made) s1)
       (t : Table D) (a : Account) (x y : Tree) (k v : ℤ) (z : Tree) (holds : HoldsAccount layouts s0 t a) (in_other : PartIs s0 t kit.node other x) (in_low : OpenedIs s0 t kit.node low y k v z) where
-    abbrev pub first : Leaves layouts (λ u'. Grows kit 1 1 t u' × PartIs s1 u' kit.node made (node_of y k v z)) s1
+    abbrev pub first : Leaves layouts (λ u'. Grows limits1.limit kit 1 1 t u' × PartIs s1 u' kit.node made (node_of y k v z)) s1
     first = opened_made layouts kit s0 limits1 low s1 (Ok made) makes1 t a y k v z holds in_low
 
     pub first_keeps : Keeps s0 t s1 first.after
@@ -199,12 +199,12 @@ module _ {D : Type 0} (layouts : Layouts) (kit : Kit) (s0 s1 s2 : StoreView D) (
     pub can_over_left : IsNodeType s0.types kit.node → height x < 1000 → height y < 500 → height z < 500 → CanMake D layouts s1 kit.node made other
     can_over_left of low_x low_y low_z = let c = can_over_right of low_x low_y low_z in record { of_nodes = c.of_nodes; table = c.table; holds = c.holds; in_left = c.in_right; in_right = c.in_left }
 
-    module _ (limits2 : Limits) (result : Result Part ListFault) where
+    module _ (limits2 : Limits) (stays2 : limits2.limit ≡ limits1.limit) (result : Result Part ListFault) where
       over : (Done : ℤ → ℤ → StoreView D → Table D → Part → Type 0) → Ends layouts s1.alloc_counter kit 1 1 first.after limits2 (Done (to_z w64 (of_z w64 key)) (to_z w64 (of_z w64 value))) result s2
           → Ends layouts s0.alloc_counter kit 2 2 t limits2 (Done key value) result s2
       over Done ends =
           ends_within layouts s0.alloc_counter kit (1 + 1) (1 + 1) 2 2 t limits2 s2 (omega arith) (omega arith) (Done key value) result
-          (ends_after layouts s0.alloc_counter s1.alloc_counter same1.counter kit 1 1 1 1 t first.after limits2 s2 first.changed.0 (Done key value) result
+          (ends_after layouts s0.alloc_counter s1.alloc_counter same1.counter kit 1 1 1 1 t first.after limits2 s2 (grows_under limits2.limit kit 1 1 t first.after stays2 first.changed.0) (Done key value) result
           (subst (λ (i : ℤ). Ends layouts s1.alloc_counter kit 1 1 first.after limits2 (Done i value) result s2) (to_z-of_z w64 key fits_k)
           (subst (λ (n : ℤ). Ends layouts s1.alloc_counter kit 1 1 first.after limits2 (Done (to_z w64 (of_z w64 key)) n) result s2) (to_z-of_z w64 value fits_v) ends)))
 

@@ -1,10 +1,10 @@
 -- What calls on maps answer and leave, for a table that the store held.
-use Rattle.std.specs.Prelude.{◌≡◌, ℕ, ℤ, Option, Result, Ok, Err, length}
+use Rattle.std.specs.Prelude.{◌≡◌, ℕ, ℤ, List, Option, Result, Ok, Err, length}
 use Rattle.std.specs.FinMap as finite
 use Rattle.gc_types.specs.declared.kind.Layouts.{Layouts}
 use Rattle.gc_model.specs.Values.{Reference}
 use Rattle.gc_model.specs.Allocation.{Limits}
-use Rattle.gc_model.specs.Table.{Table, leave}
+use Rattle.gc_model.specs.Table.{Table, Owned, leave}
 use Rattle.gc_model.specs.Stores.{StoreView}
 use Rattle.gc_policy.specs.Accounts.{HoldsAccount}
 use Rattle.gc_lists.specs.declared.fault.ListFault.{ListFault}
@@ -35,11 +35,15 @@ pub record LacksNodes {D : Type 0} (layouts : Layouts) (counter : Option ℕ) (k
   pub lacks : LacksNode layouts counter kit most_objects most_objects t limits' need inside
   pub left : HoldsAccount layouts new (leave (length t.scoped) lacks.lacks.after.table) lacks.lacks.after.account
 
--- What a call answers and leaves that makes another map.
+-- nodes may be made, under the limit of a limiter
+abbrev pub ChangesNodes : {D : Type 0} → Kit → Limits → Table D → List Owned → Table D → Type 0
+ChangesNodes kit limits t = ChangesObjects limits.limit kit most_objects t
+
+-- What a call answers and leaves that makes another map; a limiter tells the same limit afterwards.
 abbrev pub AnswersMap : {D : Type 0} → Layouts → Option ℕ → Kit → IntMap → Table D → Limits → Result HeapMap ListFault → StoreView D → Type 0
-AnswersMap layouts counter kit m t limits' (Ok map) new = AnswersVersion layouts t (ChangesObjects kit most_objects t) (AreEntries kit.node m) map.root new
+AnswersMap layouts counter kit m t limits' (Ok map) new = AnswersVersion layouts t (ChangesNodes kit limits' t) (AreEntries kit.node m) map.root new
 AnswersMap layouts counter kit m t limits' (Err fault.WrongStore) new = ⊥
-AnswersMap layouts counter kit m t limits' (Err fault.RootsFull) new = LacksOwned t × Leaves layouts (ChangesObjects kit most_objects t t.owned) new
+AnswersMap layouts counter kit m t limits' (Err fault.RootsFull) new = LacksOwned t × Leaves layouts (ChangesNodes kit limits' t t.owned) new
 AnswersMap layouts counter kit m t limits' (Err (fault.HeapOutOfMemory f)) new =
-    LacksNodes layouts counter kit t limits' f.bytes_needed new × Leaves layouts (ChangesObjects kit most_objects t t.owned) new
-AnswersMap layouts counter kit m t limits' (Err fault.Memory) new = Leaves layouts (ChangesObjects kit most_objects t t.owned) new
+    LacksNodes layouts counter kit t limits' f.bytes_needed new × Leaves layouts (ChangesNodes kit limits' t t.owned) new
+AnswersMap layouts counter kit m t limits' (Err fault.Memory) new = Leaves layouts (ChangesNodes kit limits' t t.owned) new

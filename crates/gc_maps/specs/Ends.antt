@@ -13,7 +13,7 @@ use Rattle.gc_lists.specs.declared.fault.ListFault.{ListFault}
 use Rattle.gc_lists.specs.declared.fault.ListFault.TheVariants as fault
 use Rattle.gc_lists.specs.declared.kit.Kit.{Kit}
 use Rattle.gc_lists.specs.Cells.{IsOfKit}
-use Rattle.gc_lists.specs.Frames.{Leaves}
+use Rattle.gc_lists.specs.Frames.{KeepsLimit, Leaves}
 
 -- at most so many scoped roots were pushed
 pub record Pushes {D : Type 0} (most : ℕ) (t u : Table D) : Type 0 where
@@ -22,8 +22,8 @@ pub record Pushes {D : Type 0} (most : ℕ) (t u : Table D) : Type 0 where
   pub pushes : List Push
   pub rest : u ≡ record t { scoped = t.scoped ++ scoped; pushes = t.pushes ++ pushes }
 
--- and at most so many nodes of a kit were made, for which the heap may have got pages
-pub record Grows {D : Type 0} (kit : Kit) (nodes most : ℕ) (t u : Table D) : Type 0 where
+-- and at most so many nodes of a kit were made, for which the heap may have got pages, under a limit
+pub record Grows {D : Type 0} (limit : Option ℕ) (kit : Kit) (nodes most : ℕ) (t u : Table D) : Type 0 where
   pub made : List (Object D)
   pub of_kit : All (IsOfKit kit) made
   pub few_made : length made ≤ nodes
@@ -31,6 +31,7 @@ pub record Grows {D : Type 0} (kit : Kit) (nodes most : ℕ) (t u : Table D) : T
   pub few : length scoped ≤ most
   pub pushes : List Push
   pub rest : u ≡ record t { objects = t.objects ++ made; scoped = t.scoped ++ scoped; pushes = t.pushes ++ pushes; made = u.made; pages = u.pages }
+  pub pages : KeepsLimit limit t u
 
 -- Steps that only read end with what was read, or are refused a root.
 abbrev pub EndsReading : {D A : Type 0} → Layouts → ℕ → Table D → (StoreView D → Table D → A → Type 0) → Result A ListFault → StoreView D → Type 0
@@ -43,7 +44,7 @@ EndsReading layouts most t Done (Err fault.Memory) new = Leaves layouts (Pushes 
 -- a node was refused by the heap, behind the steps that came before it, where the store had come to such a table and account
 pub record LacksNode {D : Type 0} (layouts : Layouts) (counter : Option ℕ) (kit : Kit) (nodes most : ℕ) (t : Table D) (limits' : Limits) (need : ℕ) (new : StoreView D) : Type 0 where
   pub before : PolicyState D
-  pub grows : Grows kit nodes most t before.table
+  pub grows : Grows limits'.limit kit nodes most t before.table
   pub asked : StoreView D
   pub held : HoldsAccount layouts asked before.table before.account
   pub object : Object D
@@ -52,8 +53,8 @@ pub record LacksNode {D : Type 0} (layouts : Layouts) (counter : Option ℕ) (ki
 
 -- Steps that make nodes end with what they give, or are refused a root or a node.
 abbrev pub Ends : {D A : Type 0} → Layouts → Option ℕ → Kit → ℕ → ℕ → Table D → Limits → (StoreView D → Table D → A → Type 0) → Result A ListFault → StoreView D → Type 0
-Ends layouts counter kit nodes most t limits' Done (Ok x) new = Leaves layouts (λ u. Grows kit nodes most t u × Done new u x) new
+Ends layouts counter kit nodes most t limits' Done (Ok x) new = Leaves layouts (λ u. Grows limits'.limit kit nodes most t u × Done new u x) new
 Ends layouts counter kit nodes most t limits' Done (Err fault.WrongStore) new = ⊥
-Ends layouts counter kit nodes most t limits' Done (Err fault.RootsFull) new = Leaves layouts (λ u. Grows kit nodes most t u × (roots_full u ≡ true)) new
+Ends layouts counter kit nodes most t limits' Done (Err fault.RootsFull) new = Leaves layouts (λ u. Grows limits'.limit kit nodes most t u × (roots_full u ≡ true)) new
 Ends layouts counter kit nodes most t limits' Done (Err (fault.HeapOutOfMemory f)) new = LacksNode layouts counter kit nodes most t limits' f.bytes_needed new
-Ends layouts counter kit nodes most t limits' Done (Err fault.Memory) new = Leaves layouts (Grows kit nodes most t) new
+Ends layouts counter kit nodes most t limits' Done (Err fault.Memory) new = Leaves layouts (Grows limits'.limit kit nodes most t) new

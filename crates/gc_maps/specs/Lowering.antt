@@ -1,14 +1,18 @@
 -- Two nodes that were opened, of which the first is the left child of the second, and what becomes of them.
-use Rattle.std.specs.Prelude.{◌≡◌, ◌+◌, ◌<◌, ◌≤◌, ℕ, ℤ, Some, FitsSigned}
+use Rattle.std.specs.Prelude.{◌≡◌, ◌+◌, ◌<◌, ◌≤◌, ℕ, ℤ, Some, Result, FitsSigned}
 use Rattle.std.specs.Int.{w64}
 use Rattle.gc_types.specs.declared.kind.Layouts.{Layouts}
+use Rattle.gc_model.specs.Allocation.{Limits}
 use Rattle.gc_model.specs.Table.{Table}
 use Rattle.gc_model.specs.Stores.{StoreView}
 use Rattle.gc_model.specs.Holds.{HoldsTable}
+use Rattle.gc_lists.specs.declared.fault.ListFault.{ListFault}
+use Rattle.gc_lists.specs.declared.kit.Kit.{Kit}
 use Rattle.gc_lists.specs.Kits.{IsNodeType}
 use Rattle.gc_store.specs.declared.root.GcRootIndex.{GcRootIndex}
 use Rattle.gc_maps.specs.declared.part.Opened.{Opened}
 use Rattle.gc_maps.specs.declared.part.Part.{Part}
+use Rattle.gc_maps.specs.Ends.{Ends}
 use Rattle.gc_maps.specs.Trees.{Tree, height, IsBalanced, Joins}
 use Rattle.gc_maps.specs.Parts.{RootIs, OpenedIs, PartIs, node_of}
 
@@ -108,3 +112,8 @@ pub record JoinableIn (D : Type 0) (layouts : Layouts) (s : StoreView D) (ty : �
   pub value : ℤ
   pub y : Tree
   pub is : IsJoinable s table ty opened x key value y
+
+-- Steps that join two trees with a pair between, by at most three nodes of a kit, end with a part that does, or are refused.
+abbrev pub EndsJoining : {D : Type 0} → Layouts → StoreView D → Kit → Table D → Limits → Tree → ℤ × ℤ → Tree → Result Part ListFault → StoreView D → Type 0
+EndsJoining layouts old kit t limits' x pair y result new =
+    Ends layouts old.alloc_counter kit 3 7 t limits' (λ s u part. IsJoined s u kit.node part x pair y) result new

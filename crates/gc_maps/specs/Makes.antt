@@ -1,12 +1,16 @@
 -- Which nodes may be made of parts.
-use Rattle.std.specs.Prelude.{◌≡◌, ◌<◌, ℕ, ℤ, pos}
+use Rattle.std.specs.Prelude.{◌≡◌, ◌<◌, ℕ, ℤ, pos, Result}
 use Rattle.gc_types.specs.declared.kind.Layouts.{Layouts}
+use Rattle.gc_model.specs.Allocation.{Limits}
 use Rattle.gc_model.specs.Table.{Table}
 use Rattle.gc_model.specs.Stores.{StoreView}
 use Rattle.gc_model.specs.Holds.{HoldsTable}
+use Rattle.gc_lists.specs.declared.fault.ListFault.{ListFault}
+use Rattle.gc_lists.specs.declared.kit.Kit.{Kit}
 use Rattle.gc_lists.specs.Kits.{IsNodeType}
 use Rattle.gc_maps.specs.declared.part.Part.{Part}
 use Rattle.gc_maps.specs.declared.part.Opened.{Opened}
+use Rattle.gc_maps.specs.Ends.{Ends}
 use Rattle.gc_maps.specs.Trees.{Tree, height}
 use Rattle.gc_maps.specs.Parts.{PartIs, OpenedIs}
 
@@ -55,3 +59,8 @@ pub record CanMakeOver (D : Type 0) (layouts : Layouts) (s : StoreView D) (ty : 
   pub holds : HoldsTable layouts s table
   pub in_part : LowPart s table ty part
   pub in_low : LowOpened s table ty low
+
+-- Steps that make a tree by nodes of a kit end with a part that is that tree, or are refused.
+abbrev pub EndsMaking : {D : Type 0} → Layouts → StoreView D → Kit → ℕ → ℕ → Table D → Limits → Tree → Result Part ListFault → StoreView D → Type 0
+EndsMaking layouts old kit nodes most t limits' tree result new =
+    Ends layouts old.alloc_counter kit nodes most t limits' (λ s u part. PartIs s u kit.node part tree) result new

@@ -115,8 +115,8 @@ pub record RisesIn (D : Type 0) (layouts : Layouts) (s : StoreView D) (ty : ℕ)
   pub rises : Rises s table ty whole frames part entries
 
 -- So many nodes of the way were made anew.
-pub record Climbs {D : Type 0} (layouts : Layouts) (kit : Kit) (t : Table D) (whole : Tree) (turns : ℕ) (frames : List Frame) (s : StoreView D) (part : Part) (entries : List (ℤ × ℤ)) : Type 0 where
-  pub leaves : Leaves layouts (λ u. Grows kit (3 * turns) (7 * turns) t u × Rises s u kit.node whole frames part entries) s
+pub record Climbs {D : Type 0} (layouts : Layouts) (limit : Option ℕ) (kit : Kit) (t : Table D) (whole : Tree) (turns : ℕ) (frames : List Frame) (s : StoreView D) (part : Part) (entries : List (ℤ × ℤ)) : Type 0 where
+  pub leaves : Leaves layouts (λ u. Grows limit kit (3 * turns) (7 * turns) t u × Rises s u kit.node whole frames part entries) s
   pub few : length frames + turns ≤ 92
 
 -- a part is a balanced tree of these pairs

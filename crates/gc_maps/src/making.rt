@@ -4,8 +4,7 @@ ghost use Rattle.std.specs.Prelude.{◌≡◌, ◌+◌, ◌<◌, ℕ, ℤ, pos, 
 ghost use Rattle.gc_model.specs.Table.{Table};
 ghost use Rattle.gc_policy.specs.Accounts.{Account, HoldsAccount};
 ghost use Rattle.gc_store.specs.Stores.{IsSameStore};
-ghost use Rattle.gc_maps.specs.Ends.{Ends};
-ghost use Rattle.gc_maps.specs.Makes.{CanMake, CanMakeTwo, IsLow};
+ghost use Rattle.gc_maps.specs.Makes.{CanMake, CanMakeTwo, EndsMaking, IsLow};
 ghost use Rattle.gc_maps.specs.Parts.{OpenedIs, PartIs, node_of};
 ghost use Rattle.gc_maps.specs.Trees.{Tree, height};
 
@@ -36,7 +35,7 @@ pub(crate) fn make_node<H: GcHeap, D: Drop, L: ResourceLimiter>(
     requires { CanMake D H.KIND store.old kit.now.node left right }
     ensures makes { (t : Table D) (a : Account) (x y : Tree) → HoldsAccount H.KIND store.old t a → PartIs store.old t kit.now.node left x
         → PartIs store.old t kit.now.node right y
-        → Ends H.KIND store.old.alloc_counter kit.now 1 1 t (L.limits limiter.new) (λ s u part. PartIs s u kit.now.node part (node_of x key value y)) result store.new }
+        → EndsMaking H.KIND store.old kit.now 1 1 t (L.limits limiter.new) (node_of x key value y) result store.new }
     ensures limit { (L.limits limiter.new).limit ≡ (L.limits limiter.old).limit }
     ensures same { IsSameStore store.old store.new }
 {
@@ -75,7 +74,7 @@ pub(crate) fn make_three<H: GcHeap, D: Drop, L: ResourceLimiter>(
     ensures makes { (t : Table D) (a : Account) (x y z w : Tree) (j u k v : ℤ) → HoldsAccount H.KIND store.old t a
         → OpenedIs store.old t kit.now.node left x j u y
         → OpenedIs store.old t kit.now.node right z k v w
-        → Ends H.KIND store.old.alloc_counter kit.now 3 3 t (L.limits limiter.new) (λ s u' part. PartIs s u' kit.now.node part (node_of (node_of x j u y) key value (node_of z k v w)))
+        → EndsMaking H.KIND store.old kit.now 3 3 t (L.limits limiter.new) (node_of (node_of x j u y) key value (node_of z k v w))
         result store.new }
     ensures limit { (L.limits limiter.new).limit ≡ (L.limits limiter.old).limit }
     ensures same { IsSameStore store.old store.new }

@@ -8,7 +8,8 @@ ghost use Rattle.gc_model.specs.Table.{Table};
 ghost use Rattle.gc_policy.specs.Accounts.{Account, HoldsAccount};
 ghost use Rattle.gc_store.specs.Stores.{IsSameStore};
 ghost use Rattle.gc_maps.specs.Ends.{Ends, EndsReading};
-ghost use Rattle.gc_maps.specs.Parts.{RootIs, PartIs, node_of};
+ghost use Rattle.gc_maps.specs.Makes.{EndsMaking};
+ghost use Rattle.gc_maps.specs.Parts.{RootIs, node_of};
 ghost use Rattle.gc_maps.specs.Paths.{away, BetweenIn, Descended, FoundIn, HasChildren, IsBuilt, Rises, RisesIn, SearchOfIn};
 ghost use Rattle.gc_maps.specs.Searching.{IsSearch, SearchIn};
 ghost use Rattle.gc_maps.specs.Trees.{Tree, height, pairs, IsBalanced};
@@ -146,8 +147,7 @@ fn make_between<H: GcHeap, D: Drop, L: ResourceLimiter>(
     requires { BetweenIn D H.KIND store.old kit.now.node left right }
     ensures makes { (t : Table D) (a : Account) (x y : Tree) → HoldsAccount H.KIND store.old t a → RootIs store.old t kit.now.node left x
         → RootIs store.old t kit.now.node right y → height x < 400 → height y < 400
-        → Ends H.KIND store.old.alloc_counter kit.now 1 1 t (L.limits limiter.new) (λ s u part. PartIs s u kit.now.node part (node_of x key value y))
-        result store.new }
+        → EndsMaking H.KIND store.old kit.now 1 1 t (L.limits limiter.new) (node_of x key value y) result store.new }
     ensures limit { (L.limits limiter.new).limit ≡ (L.limits limiter.old).limit }
     ensures same { IsSameStore store.old store.new }
 {
@@ -168,8 +168,7 @@ fn make_entry<H: GcHeap, D: Drop, L: ResourceLimiter>(
     requires { FoundIn D H.KIND store.old kit.now.node found }
     ensures makes { (t : Table D) (a : Account) (x y : Tree) → HoldsAccount H.KIND store.old t a → HasChildren store.old t kit.now.node found x y
         → height x < 400 → height y < 400
-        → Ends H.KIND store.old.alloc_counter kit.now 1 1 t (L.limits limiter.new) (λ s u part. PartIs s u kit.now.node part (node_of x key value y))
-        result store.new }
+        → EndsMaking H.KIND store.old kit.now 1 1 t (L.limits limiter.new) (node_of x key value y) result store.new }
     ensures limit { (L.limits limiter.new).limit ≡ (L.limits limiter.old).limit }
     ensures same { IsSameStore store.old store.new }
 {

@@ -1,2 +1,3 @@
+mod AloneLemmas
 mod FillLemmas
 mod ReportLemmas

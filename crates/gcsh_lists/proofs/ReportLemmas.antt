@@ -1,22 +1,25 @@
 -- What the report says of a map that was filled.
-use Rattle.std.proofs.Common.{◌≡◌, ◌+◌, ◌&&◌, ◌==◌, ℕ, ℤ, true, List, [], ◌∷◌, ◌++◌, length, slice_get, sum_by, Option, Some, Result, Ok, Err, IfOk, refl, sym, ap, ◌∙◌, subst}
+use Rattle.std.proofs.Common.{inl, inr, ◌⊎◌, None, arith, Contains, ◌≡◌, ◌+◌, ◌&&◌, ◌==◌, ℕ, ℤ, true, List, [], ◌∷◌, ◌++◌, length, slice_get, sum_by, Option, Some, Result, Ok, Err, IfOk, refl, sym, ap, ◌∙◌, subst}
 use Rattle.std.specs.Prelude.{codes, unsigned_abs}
 use Rattle.std.specs.FinMap as finite
-use Rattle.std.specs.Result.{MatchResult}
+use Rattle.std.specs.Result.{MatchResult, OnErr}
 use Rattle.std.specs.Ordering.{int_cmp}
 use Rattle.std.proofs.lemmas.Bool.{eq-eqb}
 use Rattle.std.proofs.lemmas.List.{append-nil, length-append}
 use Rattle.gc_types.specs.declared.kind.Layouts.{Layouts}
 use Rattle.gc_types.specs.declared.types.TypeFault.{TypeFault}
+use Rattle.gc_types.specs.declared.types.TypeFault.TheVariants as type_fault
 use Rattle.gc_model.proofs.Lists.{slice_get-push_new, slice_get-push_old}
 use Rattle.gc_model.specs.Holds.{HoldsKept, HoldsTable}
-use Rattle.gc_model.specs.Reach.{HasNumber, IsKept}
-use Rattle.gc_model.specs.Values.{null}
-use Rattle.gc_model.specs.Table.{Table}
+use Rattle.gc_model.specs.Reach.{HasNumber, IsKept, root_references}
+use Rattle.gc_model.specs.Values.{Reference, null, at}
+use Rattle.gc_model.specs.Allocation.{MayHave}
+use Rattle.gc_model.specs.Table.{Table, Owned, declare}
 use Rattle.gc_model.specs.Stores.{StoreView}
 use Rattle.gc_policy.specs.Accounts.{Account, HoldsAccount}
 use Rattle.gc_store.specs.Stores.{IsSameStore}
 use Rattle.gc_lists.specs.declared.kit.Kit.{Kit}
+use Rattle.gc_lists.specs.Frames.{ChangesRoots, Leaves}
 use Rattle.gc_lists.specs.Kits.{IsKit, MakesKit, cell_type, declare_kit, is_kit_of, kit_behind, node_type}
 use Rattle.gc_lists.specs.declared.fault.ListFault.{ListFault}
 use Rattle.gc_lists.specs.declared.fault.ListFault.TheVariants as fault
@@ -25,9 +28,11 @@ use Rattle.gc_lists.proofs.Standing.{named_still, roots_keep}
 use Rattle.gc_maps.specs.Copies.{CopiedEntries, FailsToCopyEntries}
 use Rattle.gc_maps.specs.Maps.{IntMap, MapStands, StandsForMap}
 use Rattle.gc_maps.specs.Trees.{leaf}
+use Rattle.gc_maps.proofs.Reaching.{map_nodes}
 use Rattle.gc_maps.proofs.Staying.{map_stays}
 use Rattle.gcsh_lists.specs.declared.fill.Filled.{Filled}
-use Rattle.gcsh_lists.specs.Filling.{FillsUpTo, HoldsProgress, Progress, begin_at, progress_of}
+use Rattle.gcsh_lists.specs.Filling.{FillsUpTo, HoldsProgress, HoldsWithin, IsAlone, Progress, begin_at, progress_of}
+use Rattle.gcsh_lists.proofs.AloneLemmas.{holds_entries, reached_alone}
 use Rattle.gcsh_lists.proofs.FillLemmas.{version_own}
 use Rattle.gcsh_lists.specs.Reports.{TellsFill, fill_text, filled, full, sum_of}
 
@@ -39,9 +44,27 @@ pub if_ok : {T E : Type 0} (r : Result T E) (A B : T → Type 0) → ((x : T) �
 if_ok (Ok x) A B goes said = goes x said
 if_ok (Err e) A B goes said = tt
 
+pub always : {T E P : Type 0} (r : Result T E) → P → OnErr r P
+always (Ok x) p = tt
+always (Err e) p = p
+
+-- any limit grants no pages
+pub none_within : (limit : Option ℕ) → MayHave limit 0
+none_within None = tt
+none_within (Some most) = omega arith
+
+-- a kit was not made
+pub unmade_within : (layouts : Layouts) (limit : Option ℕ) (t : Table ℕ) (a : Account) (new : StoreView ℕ) (why : TypeFault) → MayHave limit t.pages → MakesKit layouts t a (Err why) new → HoldsWithin layouts limit new
+unmade_within layouts limit t a new type_fault.BadType within made = record { table = t; holds = (made.1.place, made.1.holds); within = within }
+unmade_within layouts limit t a new type_fault.Memory within made = by made.1
+  where
+    by : HoldsAccount layouts new t a ⊎ HoldsAccount layouts new (declare (cell_type (length t.types)) t) a → HoldsWithin layouts limit new
+    by (inl holds) = record { table = t; holds = (holds.place, holds.holds); within = within }
+    by (inr holds) = record { table = declare (cell_type (length t.types)) t; holds = (holds.place, holds.holds); within = within }
+
 -- a kit was made, and nothing is filled yet
-pub begins : (layouts : Layouts) (t : Table ℕ) (a : Account) (new : StoreView ℕ) (kit : Kit) → MakesKit layouts t a (Ok kit) new → HoldsProgress layouts kit (begin_at new)
-begins layouts t a new kit made = record {
+pub begins : (layouts : Layouts) (limit : Option ℕ) (t : Table ℕ) (a : Account) (new : StoreView ℕ) (kit : Kit) → MayHave limit t.pages → IsAlone t None null → MakesKit layouts t a (Ok kit) new → HoldsProgress layouts limit kit (begin_at new)
+begins layouts limit t a new kit within alone made = record {
   table = declare_kit t;
   account = a;
   holds = made.1;
@@ -52,6 +75,8 @@ begins layouts t a new kit made = record {
   });
   kit_of = subst (λ (k : Kit). is_kit_of new k ≡ true) (sym made.0) (own_kit new t);
   stands = record { reference = null; names = refl; is = record { tree = leaf; is = refl; balanced = tt; entries = finite.entries-from_sorted int_cmp [] tt } };
+  within = within;
+  alone = record { owned = alone.owned; others = alone.others };
 }
 
 -- the clause of making a kit, where one was made
@@ -75,13 +100,38 @@ module _ (layouts : Layouts) (limit : Option ℕ) (inserts : ℕ) (old start ful
     module _ (clause : is_version_of full_store f.map.root ≡ true → (t : Table ℕ) (a : Account) (m : IntMap) → HoldsAccount layouts full_store t a → StandsForMap full_store t f.map.root m
         → MatchResult result (λ (v : V). CopiedEntries layouts m t (items v) copied) (λ (why : ListFault). FailsToCopyEntries layouts m t why copied)) where
       copies : Copies result
-      copies = clause (version_own layouts kit done upto.held) upto.held.table upto.held.account upto.entries upto.held.holds (kit.node, upto.held.stands)
+      copies = clause (version_own layouts limit kit done upto.held) upto.held.table upto.held.account upto.entries upto.held.holds (kit.node, upto.held.stands)
 
       pub copied_as : (v : V) → result ≡ Ok v → CopiedEntries layouts upto.entries upto.held.table (items v) copied
       copied_as v is = subst Copies is copies
 
       pub fails_as : (why : ListFault) → result ≡ Err why → FailsToCopyEntries layouts upto.entries upto.held.table why copied
       fails_as why is = subst Copies is copies
+
+  -- roots that were pushed change no pages
+  roots_within : (t u : Table ℕ) (owned : List Owned) → ChangesRoots t owned u → MayHave limit t.pages → MayHave limit u.pages
+  roots_within t u owned changed within = subst (MayHave limit) (sym (ap (λ (v : Table ℕ). v.pages) changed.rest)) within
+
+  left_within : (new : StoreView ℕ) → Leaves layouts (ChangesRoots upto.held.table upto.held.table.owned) new → HoldsWithin layouts limit new
+  left_within new leaves = record {
+    table = leaves.after;
+    holds = (leaves.holds.place, leaves.holds.holds);
+    within = roots_within upto.held.table leaves.after upto.held.table.owned leaves.changed upto.held.within;
+  }
+
+  -- the entries were not copied, for want of memory or of roots
+  pub uncopied_within : (why : ListFault) (new : StoreView ℕ) → FailsToCopyEntries layouts upto.entries upto.held.table why new → HoldsWithin layouts limit new
+  uncopied_within fault.WrongStore new fails = absurd fails
+  uncopied_within fault.RootsFull new fails = left_within new fails.1
+  uncopied_within (fault.HeapOutOfMemory f) new fails = absurd fails
+  uncopied_within fault.Memory new fails = left_within new fails
+
+  -- they were, and the heap was collected
+  pub collected_within : (copied new : StoreView ℕ) (entries : List (ℤ × ℤ)) → CopiedEntries layouts upto.entries upto.held.table entries copied → ((t : Table ℕ) → HoldsTable layouts copied t → HoldsKept layouts new t) → HoldsWithin layouts limit new
+  collected_within copied new entries copies kept =
+      let here = left_within copied copies.1 in
+      let now = kept here.table here.holds in
+      record { table = here.table; holds = (now.0, now.1.0); within = here.within }
 
   -- the entries were copied, and the heap collected
   pub tells_filled : (copied new : StoreView ℕ) (entries : List (ℤ × ℤ)) (held : ℕ) (text : List ℕ) → IsSameStore full_store copied → IsSameStore copied new
@@ -94,6 +144,13 @@ module _ (layouts : Layouts) (limit : Option ℕ) (inserts : ℕ) (old start ful
       let owned = ap (λ (v : Table ℕ). v.owned) copies.1.changed.rest ∙ sym (append-nil t.owned) in
       let all : IsSameStore full_store new = record { engine = after.engine ∙ same.engine; number = after.number ∙ same.number; counter = after.counter ∙ same.counter } in
       let kept_is = kept u (copies.1.holds.place, copies.1.holds.holds) in
+      let reference = upto.held.stands.reference in
+      let names = named_still full_store new t u [] all owned f.map.root reference upto.held.stands.names in
+      let is_map = map_stays t u keeps reference kit.node upto.entries upto.held.stands.is in
+      let alone : IsAlone u f.map.root reference = record {
+        owned = ap (λ (v : Table ℕ). v.owned) copies.1.changed.rest ∙ upto.held.alone.owned;
+        others = λ p among. upto.held.alone.others p (subst (λ (roots : List Reference). Contains roots (at p)) (ap (λ (v : Table ℕ). root_references (record v { owned = [] })) copies.1.changed.rest) among);
+      } in
       filled (record {
         kit = kit;
         done = done;
@@ -105,15 +162,13 @@ module _ (layouts : Layouts) (limit : Option ℕ) (inserts : ℕ) (old start ful
         changed = copies.1.changed;
         same = all;
         kept = kept_is;
-        stands = record {
-          reference = upto.held.stands.reference;
-          names = named_still full_store new t u [] all owned f.map.root upto.held.stands.reference upto.held.stands.names;
-          is = map_stays t u keeps upto.held.stands.reference kit.node upto.entries upto.held.stands.is;
-        };
+        stands = record { reference = reference; names = names; is = is_map };
         held = held;
         held_is = counts u kept_is;
+        held_entries = holds_entries layouts u (finite.len upto.entries) held (reached_alone u f.map.root reference new names alone _ (map_nodes u.types u.objects kit.node upto.entries reference is_map)) (counts u kept_is);
         text_is = is ∙ ap (λ (es : List (ℤ × ℤ)). fill_text (length es) f.refused held (sum_by (λ (entry : ℤ × ℤ). unsigned_abs entry.1) es)) copies.0
             ∙ ap (λ n. fill_text n f.refused held (sum_of upto.entries)) (sym (finite.len-entries upto.entries));
+        within = roots_within t u t.owned copies.1.changed upto.held.within;
       })
 
   -- they could not be
@@ -125,6 +180,7 @@ module _ (layouts : Layouts) (limit : Option ℕ) (inserts : ℕ) (old start ful
     table = upto.held.table;
     account = upto.held.account;
     holds = upto.held.holds;
+    within = upto.held.within;
     fails = fails;
     text_is = is;
   })

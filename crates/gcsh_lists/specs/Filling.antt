@@ -1,10 +1,14 @@
 -- What becomes of inserts into a map of heap objects that are made one behind the other.
-use Rattle.std.specs.Prelude.{◌≡◌, ◌+◌, ◌%◌, ℕ, ℤ, pos, suc, zero, true, [], Option, None, Result, Ok, Err}
+use Rattle.std.specs.Prelude.{◌≡◌, ◌+◌, ◌%◌, ℕ, ℤ, pos, suc, zero, true, List, [], ◌∷◌, Option, Some, None, Result, Ok, Err}
+use Rattle.std.specs.List.{Contains}
 use Rattle.std.specs.FinMap as finite
 use Rattle.gc_types.specs.declared.kind.Layouts.{Layouts}
-use Rattle.gc_model.specs.Allocation.{Limits}
+use Rattle.gc_model.specs.Allocation.{Limits, MayHave}
+use Rattle.gc_model.specs.Holds.{HoldsTable}
 use Rattle.gc_model.specs.Stores.{StoreView}
-use Rattle.gc_model.specs.Table.{Table}
+use Rattle.gc_model.specs.Reach.{root_references}
+use Rattle.gc_model.specs.Table.{Table, Owned}
+use Rattle.gc_model.specs.Values.{Reference, at}
 use Rattle.gc_policy.specs.Accounts.{Account, HoldsAccount}
 use Rattle.gc_store.specs.declared.root.GcRootIndex.{GcRootIndex}
 use Rattle.gc_store.specs.Stores.{IsSameStore}
@@ -42,14 +46,32 @@ pub record Progress : Type 0 where
 abbrev pub progress_of : StoreView ℕ → Filled → IntMap → Progress
 progress_of store filled m = record { store = store; version = filled.map.root; entries = m; refused = filled.refused }
 
--- the kit and the version stand, in some table that the store holds
-pub record HoldsProgress (layouts : Layouts) (kit : Kit) (p : Progress) : Type 0 where
+-- the store holds some table, whose pages a limit grants
+pub record HoldsWithin (layouts : Layouts) (limit : Option ℕ) (s : StoreView ℕ) : Type 0 where
+  pub table : Table ℕ
+  pub holds : HoldsTable layouts s table
+  pub within : MayHave limit table.pages
+
+-- the owned root of a version, which has one handle, and none where it is empty
+abbrev pub owned_of : Option GcRootIndex → Reference → List Owned
+owned_of None r = []
+owned_of (Some handle) r = record { number = handle.generation; reference = r; handles = 1 } ∷ []
+
+-- a version's owned root is the only one, and no other root names an object
+pub record IsAlone (t : Table ℕ) (version : Option GcRootIndex) (r : Reference) : Type 0 where
+  pub owned : t.owned ≡ owned_of version r
+  pub others : (p : ℕ) → ¬ Contains (root_references (record t { owned = [] })) (at p)
+
+-- the kit and the version stand, and this alone, in some table that the store holds, whose pages a limit grants
+pub record HoldsProgress (layouts : Layouts) (limit : Option ℕ) (kit : Kit) (p : Progress) : Type 0 where
   pub table : Table ℕ
   pub account : Account
   pub holds : HoldsAccount layouts p.store table account
   pub kit_is : IsKit table.types kit
   pub kit_of : is_kit_of p.store kit ≡ true
   pub stands : StandsForMapOf p.store table p.version kit.node p.entries
+  pub within : MayHave limit table.pages
+  pub alone : IsAlone table p.version stands.reference
 
 -- before the first one
 abbrev pub begin_at : StoreView ℕ → Progress
@@ -90,10 +112,10 @@ Fills layouts limit kit inserts start (suc k) q =
 pub record Goes (layouts : Layouts) (limit : Option ℕ) (kit : Kit) (key value : ℤ) (p : Progress) (store : StoreView ℕ) (filled : Filled) : Type 0 where
   pub entries : IntMap
   pub step : Step layouts limit kit key value p (progress_of store filled entries)
-  pub held : HoldsProgress layouts kit (progress_of store filled entries)
+  pub held : HoldsProgress layouts limit kit (progress_of store filled entries)
 
 -- so did the first so many of the inserts
 pub record FillsUpTo (layouts : Layouts) (limit : Option ℕ) (kit : Kit) (inserts : ℕ) (start : StoreView ℕ) (done : ℕ) (store : StoreView ℕ) (filled : Filled) : Type 0 where
   pub entries : IntMap
   pub fills : Fills layouts limit kit inserts start done (progress_of store filled entries)
-  pub held : HoldsProgress layouts kit (progress_of store filled entries)
+  pub held : HoldsProgress layouts limit kit (progress_of store filled entries)

@@ -1,9 +1,9 @@
 //! Inserts into a map of heap objects, one behind the other.
 
-ghost use Rattle.std.specs.Prelude.{◌≡◌, ◌+◌, ◌≤◌, IfOk};
+ghost use Rattle.std.specs.Prelude.{◌≡◌, ◌+◌, ◌≤◌, IfOk, OnErr};
 ghost use Rattle.gc_store.specs.Stores.{IsSameStore};
 ghost use Rattle.gc_maps.specs.Maps.{IntMap};
-ghost use Rattle.gcsh_lists.specs.Filling.{FillsUpTo, Goes, HoldsProgress, begin_at, max_inserts, progress_of};
+ghost use Rattle.gcsh_lists.specs.Filling.{FillsUpTo, Goes, HoldsProgress, HoldsWithin, begin_at, max_inserts, progress_of};
 
 use gc_heap::GcHeap;
 use gc_lists::{Kit, ListFault};
@@ -33,8 +33,9 @@ pub(crate) fn fill<H: GcHeap, L: ResourceLimiter>(
     kit: &Kit,
     inserts: u32,
 ) -> Result<Filled, AllocError>
-    requires held { HoldsProgress H.KIND kit.now (begin_at store.old) }
+    requires held { HoldsProgress H.KIND (L.limits limiter.old).limit kit.now (begin_at store.old) }
     requires few { inserts ≤ max_inserts }
+    ensures wants { OnErr result (HoldsWithin H.KIND (L.limits limiter.old).limit store.new) }
     ensures fills { IfOk result (λ filled. FillsUpTo H.KIND (L.limits limiter.old).limit kit.now inserts store.old inserts store.new filled) }
     ensures same { IsSameStore store.old store.new }
 {
@@ -60,9 +61,10 @@ fn insert<H: GcHeap, L: ResourceLimiter>(
     key: i64,
     value: i64,
 ) -> Result<Filled, AllocError>
-    requires held { (m : IntMap) × HoldsProgress H.KIND kit.now (progress_of store.old filled m) }
+    requires held { (m : IntMap) × HoldsProgress H.KIND (L.limits limiter.old).limit kit.now (progress_of store.old filled m) }
     requires few { filled.refused ≤ max_inserts }
-    ensures goes { IfOk result (λ after. (m : IntMap) → HoldsProgress H.KIND kit.now (progress_of store.old filled m)
+    ensures wants { OnErr result (HoldsWithin H.KIND (L.limits limiter.old).limit store.new) }
+    ensures goes { IfOk result (λ after. (m : IntMap) → HoldsProgress H.KIND (L.limits limiter.old).limit kit.now (progress_of store.old filled m)
         → Goes H.KIND (L.limits limiter.old).limit kit.now key value (progress_of store.old filled m) store.new after) }
     ensures limit { (L.limits limiter.new).limit ≡ (L.limits limiter.old).limit }
     ensures few { IfOk result (λ after. after.refused ≤ filled.refused + 1) }

@@ -1,8 +1,8 @@
 //! The report of a map that was filled.
 
-ghost use Rattle.std.specs.Prelude.{◌≡◌, ◌≤◌, ◌++◌, [], ◌∷◌, ℕ, ℤ, IfOk, codes, string_bytes, sum_by, unsigned_abs};
+ghost use Rattle.std.specs.Prelude.{◌≡◌, ◌≤◌, ◌++◌, [], ◌∷◌, ℕ, ℤ, IfOk, OnErr, codes, string_bytes, sum_by, unsigned_abs};
 ghost use Rattle.gc_store.specs.Stores.{HoldsStart, IsSameStore};
-ghost use Rattle.gcsh_lists.specs.Filling.{max_inserts};
+ghost use Rattle.gcsh_lists.specs.Filling.{HoldsWithin, max_inserts};
 ghost use Rattle.gcsh_lists.specs.Reports.{TellsFill, fill_text};
 
 use crate::fill::{Filled, fill};
@@ -24,6 +24,7 @@ pub fn fill_report<H: GcHeap, L: ResourceLimiter>(
     requires start { HoldsStart ℕ H.KIND store.old }
     requires few { inserts ≤ max_inserts }
     ensures tells { IfOk result (λ text. TellsFill H.KIND (L.limits limiter.old).limit inserts store.old (string_bytes text) store.new) }
+    ensures wants { OnErr result (HoldsWithin H.KIND (L.limits limiter.old).limit store.new) }
     ensures same { IsSameStore store.old store.new }
 {
     let Ok(kit) = Kit::new(store) else {

@@ -114,7 +114,7 @@ module _ (layouts : Layouts) (s new : StoreView ℕ) (kit : Kit) (vs : List (Opt
   pub shelf_left : (Changed : Table ℕ → Type 0) → ((u : Table ℕ) → Changed u → KeepsConstants shelf.table u × (u.owned ≡ shelf.table.owned)) → Leaves layouts Changed new → Shelf layouts new kit vs
   shelf_left Changed tells leaves = let told = tells leaves.after leaves.changed in shelf_kept leaves.after leaves.account leaves.holds told.0 [] (owned_none leaves.after told.1)
 
-pub objects_tell : (kit : Kit) (t : Table ℕ) (owned : List Owned) (u : Table ℕ) → ChangesObjects kit 1 t owned u → KeepsConstants t u × (u.owned ≡ owned)
+pub objects_tell : {limit : Option ℕ} (kit : Kit) (t : Table ℕ) (owned : List Owned) (u : Table ℕ) → ChangesObjects limit kit 1 t owned u → KeepsConstants t u × (u.owned ≡ owned)
 objects_tell kit t owned u changes = (objects_keep kit 1 t u owned changes, ap (λ (v : Table ℕ). v.owned) changes.rest)
 
 pub roots_tell : (t : Table ℕ) (owned : List Owned) (u : Table ℕ) → ChangesRoots t owned u → KeepsConstants t u × (u.owned ≡ owned)
@@ -156,11 +156,11 @@ module _ (layouts : Layouts) (s new : StoreView ℕ) (kit : Kit) (v : Option GcR
 
   module _ (x : ℤ) (limits limits' : Limits) where
     added : (a : Account) (result : Result HeapList ListFault) → Conses layouts kit s v first_stands.0 x (policy_state shelf.table a limits) limits' result new → Made result
-    added a (Ok made) answers = shelf_answered layouts s new kit (v ∷ vs) shelf same (ChangesObjects kit 1 shelf.table) (objects_tell kit shelf.table) (x ∷ first_stands.0) made.root answers
+    added a (Ok made) answers = shelf_answered layouts s new kit (v ∷ vs) shelf same (ChangesObjects limits.limit kit 1 shelf.table) (objects_tell kit shelf.table) (x ∷ first_stands.0) made.root answers
     added a (Err fault.WrongStore) answers = absurd answers
-    added a (Err fault.RootsFull) answers = shelf_left layouts s new kit (v ∷ vs) shelf same (ChangesObjects kit 1 shelf.table shelf.table.owned) (objects_tell kit shelf.table shelf.table.owned) answers.1
-    added a (Err (fault.HeapOutOfMemory f)) answers = shelf_left layouts s new kit (v ∷ vs) shelf same (ChangesObjects kit 1 shelf.table shelf.table.owned) (objects_tell kit shelf.table shelf.table.owned) answers.1
-    added a (Err fault.Memory) answers = shelf_left layouts s new kit (v ∷ vs) shelf same (ChangesObjects kit 1 shelf.table shelf.table.owned) (objects_tell kit shelf.table shelf.table.owned) answers
+    added a (Err fault.RootsFull) answers = shelf_left layouts s new kit (v ∷ vs) shelf same (ChangesObjects limits.limit kit 1 shelf.table shelf.table.owned) (objects_tell kit shelf.table shelf.table.owned) answers.1
+    added a (Err (fault.HeapOutOfMemory f)) answers = shelf_left layouts s new kit (v ∷ vs) shelf same (ChangesObjects limits.limit kit 1 shelf.table shelf.table.owned) (objects_tell kit shelf.table shelf.table.owned) answers.1
+    added a (Err fault.Memory) answers = shelf_left layouts s new kit (v ∷ vs) shelf same (ChangesObjects limits.limit kit 1 shelf.table shelf.table.owned) (objects_tell kit shelf.table shelf.table.owned) answers
 
     pub add_stays : (result : Result HeapList ListFault) → ((is_kit_of s kit && is_version_of s v) ≡ false → (result ≡ Err fault.WrongStore) × (new ≡ s))
         → (is_kit_of s kit ≡ true → is_version_of s v ≡ true → (t : Table ℕ) (a : Account) (xs : List ℤ) → HoldsAccount layouts s t a → StandsForListOf s t v kit.cell xs
@@ -265,7 +265,7 @@ module _ (layouts : Layouts) (s mid new : StoreView ℕ) (kit : Kit) (v : Option
   account_of : (a : Account) × HoldsAccount layouts s shelf.table a
   account_of = some_account layouts s shelf.table shelf.holds
 
-  module _ (xs : List ℤ) (answers : AnswersVersion layouts shelf.table (ChangesObjects kit 1 shelf.table) (AreNumbers kit.cell xs) made.root mid) (releases : Releases layouts mid answers.after answers.account made.root new) where
+  module _ {limit : Option ℕ} (xs : List ℤ) (answers : AnswersVersion layouts shelf.table (ChangesObjects limit kit 1 shelf.table) (AreNumbers kit.cell xs) made.root mid) (releases : Releases layouts mid answers.after answers.account made.root new) where
     keeps : KeepsConstants shelf.table answers.after
     keeps = objects_keep kit 1 shelf.table answers.after (owned_with shelf.table made.root answers.stands.reference) answers.changed
 

@@ -123,13 +123,13 @@ module _ (layouts : Layouts) (s new : StoreView ℕ) (kit : Kit) (vs : List (Opt
   owned_more None r = ([], sym (append-nil shelf.table.owned))
   owned_more (Some h) r = (_, refl)
 
-  pub shelf_answered : (m : IntMap) (made : Option GcRootIndex) → AnswersVersion layouts shelf.table (ChangesObjects kit most_objects shelf.table) (AreEntries kit.node m) made new → Shelf layouts new kit (made ∷ vs)
+  pub shelf_answered : {limit : Option ℕ} (m : IntMap) (made : Option GcRootIndex) → AnswersVersion layouts shelf.table (ChangesObjects limit kit most_objects shelf.table) (AreEntries kit.node m) made new → Shelf layouts new kit (made ∷ vs)
   shelf_answered m made answers =
       let more = owned_more made answers.stands.reference in
       shelf_more answers.after answers.account answers.holds (objects_keep kit most_objects shelf.table answers.after (owned_with shelf.table made answers.stands.reference) answers.changed)
       more.0 (ap (λ (v : Table ℕ). v.owned) answers.changed.rest ∙ more.1) made m answers.stands
 
-  pub shelf_refused : Leaves layouts (ChangesObjects kit most_objects shelf.table shelf.table.owned) new → Shelf layouts new kit vs
+  pub shelf_refused : {limit : Option ℕ} → Leaves layouts (ChangesObjects limit kit most_objects shelf.table shelf.table.owned) new → Shelf layouts new kit vs
   shelf_refused leaves = shelf_kept leaves.after leaves.account leaves.holds (objects_keep kit most_objects shelf.table leaves.after shelf.table.owned leaves.changed) []
       (owned_none leaves.after (ap (λ (v : Table ℕ). v.owned) leaves.changed.rest))
 
@@ -249,7 +249,7 @@ module _ (layouts : Layouts) (s mid new : StoreView ℕ) (kit : Kit) (v : Option
   account_of : (a : Account) × HoldsAccount layouts s shelf.table a
   account_of = some_account layouts s shelf.table shelf.holds
 
-  module _ (m : IntMap) (answers : AnswersVersion layouts shelf.table (ChangesObjects kit most_objects shelf.table) (AreEntries kit.node m) made.root mid) (releases : Releases layouts mid answers.after answers.account made.root new) where
+  module _ {limit : Option ℕ} (m : IntMap) (answers : AnswersVersion layouts shelf.table (ChangesObjects limit kit most_objects shelf.table) (AreEntries kit.node m) made.root mid) (releases : Releases layouts mid answers.after answers.account made.root new) where
     keeps : KeepsConstants shelf.table answers.after
     keeps = objects_keep kit most_objects shelf.table answers.after (owned_with shelf.table made.root answers.stands.reference) answers.changed
 

@@ -5,4 +5,4 @@ pub returns-clause-roots : goal.returns-clause-roots
 returns-clause-roots g c = λ t u owned changes. roots_keep t u owned changes
 
 pub returns-clause-objects : goal.returns-clause-objects
-returns-clause-objects g c = λ kit most t u owned changes. objects_keep kit most t u owned changes
+returns-clause-objects g c = λ limit kit most t u owned changes. objects_keep kit most t u owned changes

@@ -24,7 +24,7 @@ make_node-requires-in-Ok g c =
 
 pub returns-in-Ok-clause-makes : goal.returns-in-Ok-clause-makes
 returns-in-Ok-clause-makes g c t a x y z k v holds in_part in_low =
-    made_over_right g.H.GcHeap.KIND c.args.kit.now c.args.store.now c.make_node.new.store c.make_node-in-Ok.new.store c.make_node.ensures.same c.args.left c.args.low c.args.key c.args.value c.ranges.key c.ranges.value (g.L.ResourceLimiter.limits c.make_node.new.limiter) c.in-Ok.right c.in-Ok.ensures.makes t a x y k v z holds in_part in_low (g.L.ResourceLimiter.limits c.make_node-in-Ok.new.limiter) c.make_node-in-Ok.result c.make_node-in-Ok.ensures.makes
+    made_over_right g.H.GcHeap.KIND c.args.kit.now c.args.store.now c.make_node.new.store c.make_node-in-Ok.new.store c.make_node.ensures.same c.args.left c.args.low c.args.key c.args.value c.ranges.key c.ranges.value (g.L.ResourceLimiter.limits c.make_node.new.limiter) c.in-Ok.right c.in-Ok.ensures.makes t a x y k v z holds in_part in_low (g.L.ResourceLimiter.limits c.make_node-in-Ok.new.limiter) c.make_node-in-Ok.ensures.limit c.make_node-in-Ok.result c.make_node-in-Ok.ensures.makes
 
 pub returns-in-Err-clause-makes : goal.returns-in-Err-clause-makes
 returns-in-Err-clause-makes g c t a x y z k v holds in_part in_low =

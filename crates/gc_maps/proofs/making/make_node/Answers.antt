@@ -15,7 +15,7 @@ use Rattle.gc_policy.specs.Accounts.{Account, HoldsAccount}
 use Rattle.gc_policy.specs.Policy.{policy_state}
 use Rattle.gc_maps.specs.Parts.{PartIs}
 use Rattle.gc_maps.specs.Trees.{Tree}
-use Rattle.gc_maps.proofs.Limiting.{places_limit}
+use Rattle.gc_lists.proofs.Limiting.{places_limit}
 use Rattle.gc_maps.proofs.making.make_node.Given as given
 use Rattle.gc_maps.proofs.making.make_node.Goals as goal
 use Rattle.gc_maps.proofs.making.make_node.Goals.{After-place}

@@ -63,4 +63,4 @@ returns-clause-puts g c t a tree holds is search =
     put_ends g.H.GcHeap.KIND c.args.kit.now c.args.store.now c.descend.new.store c.descend.ensures.same tree c.args.key c.args.value c.ranges.key c.ranges.value c.descend.new.path.items c.in-Ok.found
     t a holds search (root_low c.args.store.now t c.args.kit.now.node c.args.root tree is search) (down g before t a tree holds is search)
     c.make_entry.new.store (g.L.ResourceLimiter.limits c.make_entry.new.limiter) c.make_entry.ensures.same c.in-Ok-make_entry.part c.in-Ok-make_entry.ensures.makes
-    c.rebuild.new.store (g.L.ResourceLimiter.limits c.rebuild.new.limiter) c.rebuild.result c.rebuild.ensures.builds
+    c.rebuild.new.store (g.L.ResourceLimiter.limits c.rebuild.new.limiter) c.rebuild.ensures.limit c.rebuild.result c.rebuild.ensures.builds

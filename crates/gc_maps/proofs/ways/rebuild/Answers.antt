@@ -7,48 +7,48 @@ use Rattle.gc_maps.proofs.ways.rebuild.Goals as goal
 
 pub loop-turn-init : goal.loop-turn-init
 loop-turn-init g c = record {
-  climbs = λ t a whole entries holds balanced low rises. climb_start g.H.GcHeap.KIND c.args.kit.now c.args.store.now t a holds whole entries balanced low c.args.path.now.items c.args.part rises;
+  climbs = λ t a whole entries holds balanced low rises. climb_start g.H.GcHeap.KIND (g.L.ResourceLimiter.limits c.args.limiter.now).limit c.args.kit.now c.args.store.now t a holds whole entries balanced low c.args.path.now.items c.args.part rises;
   limit = refl;
   same = record { engine = refl; number = refl; counter = refl };
 }
 
 pub returns-in-None-clause-builds : goal.returns-in-None-clause-builds
 returns-in-None-clause-builds g c t a whole entries holds balanced low rises =
-    climb_done g.H.GcHeap.KIND c.args.kit.now c.args.store.now t a holds whole entries balanced low c.loop-turn._turn c.loop-turn.path.items c.loop-turn.store c.loop-turn.part (g.L.ResourceLimiter.limits c.args.limiter.now) (omega arith)
+    climb_done g.H.GcHeap.KIND (g.L.ResourceLimiter.limits c.args.limiter.now).limit c.args.kit.now c.args.store.now t a holds whole entries balanced low c.loop-turn._turn c.loop-turn.path.items c.loop-turn.store c.loop-turn.part (g.L.ResourceLimiter.limits c.loop-turn.limiter) c.loop-turn.invariant.limit (omega arith)
     (c.in-None.ensures.items ∙ append-nil c.pop.new.self.items ∙ c.in-None.ensures.rest ∙ ap (λ n. take (n - 1) c.loop-turn.path.items) c.in-None.ensures.cases.0) (c.loop-turn.invariant.climbs t a whole entries holds balanced low rises)
 
 pub part_of-other-requires : goal.part_of-other-requires
 part_of-other-requires g c =
     let q = c.requires in
     let some = some_account g.H.GcHeap.KIND c.args.store.now q.table q.holds in
-    sibling_in g.H.GcHeap.KIND c.args.kit.now c.args.store.now q.table some.0 some.1 q.whole q.entries q.balanced q.low c.loop-turn._turn (omega arith) c.pop.new.self.items c.loop-turn.path.items c.in-Some.frame
+    sibling_in g.H.GcHeap.KIND (g.L.ResourceLimiter.limits c.args.limiter.now).limit c.args.kit.now c.args.store.now q.table some.0 some.1 q.whole q.entries q.balanced q.low c.loop-turn._turn (omega arith) c.pop.new.self.items c.loop-turn.path.items c.in-Some.frame
     c.in-Some.ensures.items c.loop-turn.store c.loop-turn.invariant.same c.loop-turn.part (c.loop-turn.invariant.climbs q.table some.0 q.whole q.entries some.1 q.balanced q.low q.rises)
 
 pub join-requires : goal.join-requires
 join-requires g c =
     let q = c.requires in
     let some = some_account g.H.GcHeap.KIND c.args.store.now q.table q.holds in
-    can g.H.GcHeap.KIND c.args.kit.now c.args.store.now q.table some.0 some.1 q.whole q.entries q.balanced q.low c.loop-turn._turn (omega arith) c.pop.new.self.items c.loop-turn.path.items c.in-Some.frame
+    can g.H.GcHeap.KIND (g.L.ResourceLimiter.limits c.args.limiter.now).limit c.args.kit.now c.args.store.now q.table some.0 some.1 q.whole q.entries q.balanced q.low c.loop-turn._turn (omega arith) c.pop.new.self.items c.loop-turn.path.items c.in-Some.frame
     c.in-Some.ensures.items c.loop-turn.store c.loop-turn.invariant.same c.loop-turn.part (c.loop-turn.invariant.climbs q.table some.0 q.whole q.entries some.1 q.balanced q.low q.rises)
     c.part_of-other.new.store c.part_of-other.ensures.same c.part_of-other.result c.part_of-other.ensures.reads
     c.opened_at.result c.opened_at.ensures.left c.opened_at.ensures.key c.opened_at.ensures.value c.opened_at.ensures.right q.of_nodes
 
 pub returns-in-Err-clause-builds : goal.returns-in-Err-clause-builds
 returns-in-Err-clause-builds g c t a whole entries holds balanced low rises =
-    climb_refused g.H.GcHeap.KIND c.args.kit.now c.args.store.now t a holds whole entries balanced low c.loop-turn._turn (omega arith) c.pop.new.self.items c.loop-turn.path.items c.in-Some.frame
+    climb_refused g.H.GcHeap.KIND (g.L.ResourceLimiter.limits c.args.limiter.now).limit c.args.kit.now c.args.store.now t a holds whole entries balanced low c.loop-turn._turn (omega arith) c.pop.new.self.items c.loop-turn.path.items c.in-Some.frame
     c.in-Some.ensures.items c.loop-turn.store c.loop-turn.invariant.same c.loop-turn.part (c.loop-turn.invariant.climbs t a whole entries holds balanced low rises)
     c.part_of-other.new.store c.part_of-other.ensures.same c.part_of-other.result c.part_of-other.ensures.reads
     c.opened_at.result c.opened_at.ensures.left c.opened_at.ensures.key c.opened_at.ensures.value c.opened_at.ensures.right
-    c.join.new.store (g.L.ResourceLimiter.limits c.join.new.limiter) c.in-Err.fault c.in-Err.ensures.joins
+    c.join.new.store (g.L.ResourceLimiter.limits c.join.new.limiter) (c.join.ensures.limit ∙ c.loop-turn.invariant.limit) c.in-Err.fault c.in-Err.ensures.joins
 
 pub loop-turn-preserved : goal.loop-turn-preserved
 loop-turn-preserved g c = record {
   climbs = λ t a whole entries holds balanced low rises.
-      climb_next g.H.GcHeap.KIND c.args.kit.now c.args.store.now t a holds whole entries balanced low c.loop-turn._turn (omega arith) c.pop.new.self.items c.loop-turn.path.items c.in-Some.frame
+      climb_next g.H.GcHeap.KIND (g.L.ResourceLimiter.limits c.args.limiter.now).limit c.args.kit.now c.args.store.now t a holds whole entries balanced low c.loop-turn._turn (omega arith) c.pop.new.self.items c.loop-turn.path.items c.in-Some.frame
       c.in-Some.ensures.items c.loop-turn.store c.loop-turn.invariant.same c.loop-turn.part (c.loop-turn.invariant.climbs t a whole entries holds balanced low rises)
       c.part_of-other.new.store c.part_of-other.ensures.same c.part_of-other.result c.part_of-other.ensures.reads
       c.opened_at.result c.opened_at.ensures.left c.opened_at.ensures.key c.opened_at.ensures.value c.opened_at.ensures.right
-      c.join.new.store (g.L.ResourceLimiter.limits c.join.new.limiter) c.join.ensures.same c.in-Ok.joined c.in-Ok.ensures.joins;
+      c.join.new.store (g.L.ResourceLimiter.limits c.join.new.limiter) (c.join.ensures.limit ∙ c.loop-turn.invariant.limit) c.join.ensures.same c.in-Ok.joined c.in-Ok.ensures.joins;
   limit = c.join.ensures.limit ∙ c.loop-turn.invariant.limit;
   same = same_then c.args.store.now c.part_of-other.new.store c.join.new.store (same_then c.args.store.now c.loop-turn.store c.part_of-other.new.store c.loop-turn.invariant.same c.part_of-other.ensures.same) c.join.ensures.same;
 }
@@ -57,7 +57,7 @@ pub returns-clause-builds : goal.returns-clause-builds
 returns-clause-builds g c t a whole entries holds balanced low rises =
     let climbs = c.loop-turn.invariant.climbs t a whole entries holds balanced low rises in
     let few = climbs.few in
-    climb_done g.H.GcHeap.KIND c.args.kit.now c.args.store.now t a holds whole entries balanced low c.loop-turn._turn c.loop-turn.path.items c.loop-turn.store c.loop-turn.part (g.L.ResourceLimiter.limits c.args.limiter.now) (omega arith)
+    climb_done g.H.GcHeap.KIND (g.L.ResourceLimiter.limits c.args.limiter.now).limit c.args.kit.now c.args.store.now t a holds whole entries balanced low c.loop-turn._turn c.loop-turn.path.items c.loop-turn.store c.loop-turn.part (g.L.ResourceLimiter.limits c.loop-turn.limiter) c.loop-turn.invariant.limit (omega arith)
     (nil_from_length c.loop-turn.path.items (omega (arith, few))) climbs
 
 pub returns-in-Err-clause-limit : goal.returns-in-Err-clause-limit

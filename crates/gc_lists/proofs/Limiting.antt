@@ -13,7 +13,7 @@ use Rattle.gc_policy.specs.Policy as policy
 use Rattle.gc_store.specs.declared.root.GcRootIndex.{GcRootIndex}
 use Rattle.gc_store.specs.declared.store.PlaceFault.{PlaceFault}
 use Rattle.gc_store.specs.declared.store.PlaceFault.TheVariants as place_fault
-use Rattle.gc_store.specs.Places.{Places}
+use Rattle.gc_store.specs.Places.{LacksPlace, Places}
 
 -- the limit of a limiter, which is part of a state of the policy
 abbrev limit_in : {D : Type 0} → PolicyState D → Option ℕ
@@ -75,11 +75,15 @@ module _ {D : Type 0} (layouts : Layouts) where
     prepared_limit counter p q policy.not_made = refl
     prepared_limit counter p q (policy.paused {m = m} {n = n} makes dues pauses) = paused_limit n q pauses ∙ dues_limit counter m n dues ∙ makes_limit (count_try p) m true makes
 
+  -- so where the heap had no room for an object
+  pub lacks_limit : (counter : Option ℕ) (o : Object D) (p : PolicyState D) (limits' : Limits) (need : ℕ) (new : StoreView D) → LacksPlace layouts counter o p limits' need new → limits'.limit ≡ limit_in p
+  lacks_limit counter o p limits' need new lacks = ap (λ (l : Limits). l.limit) lacks.limits ∙ prepares_limit _ counter p lacks.prepares
+
   -- so where an object is placed, or isn't
   pub places_limit : (counter : Option ℕ) (o : Object D) (p : PolicyState D) (limits' : Limits) (result : Result GcRootIndex PlaceFault) (new : StoreView D) → Places layouts counter o p limits' result new → limits'.limit ≡ limit_in p
   places_limit counter o p limits' (Ok handle) new places = ap (λ (l : Limits). l.limit) places.limits ∙ prepares_limit _ counter p places.prepares
   places_limit counter o p limits' (Err place_fault.FuncTableFull) new places = ap (λ (l : Limits). l.limit) places.1.limits
   places_limit counter o p limits' (Err place_fault.TooLarge) new places = ap (λ (l : Limits). l.limit) places.1.limits
   places_limit counter o p limits' (Err place_fault.RootsFull) new places = ap (λ (l : Limits). l.limit) places.2.limits
-  places_limit counter o p limits' (Err (place_fault.HeapOutOfMemory f)) new places = ap (λ (l : Limits). l.limit) places.limits ∙ prepares_limit _ counter p places.prepares
+  places_limit counter o p limits' (Err (place_fault.HeapOutOfMemory f)) new places = lacks_limit counter o p limits' _ new places
   places_limit counter o p limits' (Err place_fault.Memory) new places = ap (λ (l : Limits). l.limit) places.limits ∙ prepared_limit _ counter p places.after places.prepared
