@@ -4,6 +4,7 @@ use Rattle.gc_types.specs.declared.kind.Layouts.{Layouts}
 use Rattle.gc_model.specs.Allocation.{Limits}
 use Rattle.gc_model.specs.Stores.{StoreView}
 use Rattle.gc_owner.specs.Limiters.{fresh_limits}
+use Rattle.gcsh_lists.specs.Filling.{HoldsWithin}
 use Rattle.gcsh_lists.specs.Reports.{TellsFill}
 use Rattle.gcsh_top.specs.declared.words.Form.{Form}
 use Rattle.gcsh_top.specs.ListReports.{TellsLists}
@@ -17,3 +18,7 @@ tells_lists layouts form inserts old store text limits bytes ready fresh same te
   tells = subst (λ (b : List ℕ). TellsFill layouts (Some form.most) inserts old b store) (sym same)
       (subst (λ (limit : Option ℕ). TellsFill layouts limit inserts old text store) (ap (λ (l : Limits). l.limit) fresh) tells);
 }
+
+-- where there is no memory for it, the store keeps within that limit
+pub within_most : (layouts : Layouts) (form : Form) (store : StoreView ℕ) (limits : Limits) → limits ≡ fresh_limits (Some form.most) → HoldsWithin layouts limits.limit store → HoldsWithin layouts (Some form.most) store
+within_most layouts form store limits fresh within = subst (λ (l : Limits). HoldsWithin layouts l.limit store) fresh within

@@ -2,6 +2,7 @@
 use Rattle.std.specs.Prelude.{ℕ, List, Some}
 use Rattle.gc_types.specs.declared.kind.Layouts.{Layouts}
 use Rattle.gc_model.specs.Stores.{StoreView}
+use Rattle.gcsh_lists.specs.Filling.{HoldsWithin}
 use Rattle.gcsh_lists.specs.Reports.{TellsFill}
 use Rattle.gcsh_top.specs.declared.status.Status.{Status}
 use Rattle.gcsh_top.specs.declared.words.Form.{Form}
@@ -15,5 +16,7 @@ pub record TellsLists (layouts : Layouts) (form : Form) (inserts : ℕ) (store :
   pub ready : IsReady layouts form old
   pub tells : TellsFill layouts (Some form.most) inserts old text store
 
+-- how the form ends; where there is no memory for a text, the store holds some table within the form's limit of pages
 abbrev pub ReportedLists : Layouts → Form → ℕ → SinkRun → StoreView ℕ → Status → Type 0
-ReportedLists layouts form inserts sink store status = ReportedText (TellsLists layouts form inserts store) (Unit {0}) (Unit {0}) sink status
+ReportedLists layouts form inserts sink store status =
+    ReportedText (TellsLists layouts form inserts store) (Unit {0}) (HoldsWithin layouts (Some form.most) store) sink status
