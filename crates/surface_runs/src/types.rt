@@ -1,6 +1,6 @@
 //! Subtypes that are asked of, and handles of wider types.
 
-ghost use Rattle.std.specs.Prelude.{IfOk};
+ghost use Rattle.std.specs.Prelude.{◌≡◌, IfOk};
 ghost use Rattle.gc_types.specs.declared.kind.TypeKind.{TypeKind};
 ghost use Rattle.gc_objects.specs.Kinds.{IsDeclaredAs};
 
@@ -57,5 +57,33 @@ pub(crate) fn run_wide<H: GcHeap>(
     let owned = made.to_owned_rooted(store)?.to_eqref();
     let same = ref_eq(store, &made.to_eqref(), &owned)?;
     println!(rt; "a struct: {is_struct}, the same: {same}")?;
+    Ok(())
+}
+
+/// A handle as one of any reference of class any.
+fn widened<U: Upcast>(handle: U) -> U::AnyRoot
+    ensures { U.AnyRoot.index result ≡ U.root handle }
+{
+    handle.to_anyref()
+}
+
+/// A handle as one of what can be compared.
+fn comparable<U: Upcast>(handle: U) -> U::EqRoot
+    ensures { U.EqRoot.index result ≡ U.root handle }
+{
+    handle.to_eqref()
+}
+
+/// Makes a struct, and takes its scoped and its owned handles as those of wider types, by what all such handles have.
+pub(crate) fn run_bound<H: GcHeap>(
+    rt: &impl Print,
+    store: &mut Store<H, u64>,
+) -> Result<(), RunFault> {
+    let allocator = structs(store)?;
+    let made = StructRef::new(store, &mut PageLimit::new(4), &allocator, &[])?;
+    let owned = made.to_owned_rooted(store)?;
+    let any = ref_eq(store, &widened(made), &made.to_anyref())?;
+    let eq = ref_eq(store, &comparable(made), &comparable(owned))?;
+    println!(rt; "the same, of class any: {any}, compared: {eq}")?;
     Ok(())
 }

@@ -1,13 +1,16 @@
-//! References by their raw words, and hashes.
+//! References by their raw words, and hashes of scoped roots.
 
 use crate::fault::RunFault;
 use gc_heap::GcHeap;
 use gc_objects::ExternRef;
-use gc_store::{OwnedRooted, PageLimit, Rooted, RootedGcRef, Store, ref_eq};
+use gc_store::{GcRootIndex, OwnedRooted, PageLimit, Rooted, RootedGcRef, Store, ref_eq};
 use std::hash::{FoldHasher, Hasher};
 
 /// What a hasher has after the reference of a handle.
-fn hash_of<H: GcHeap>(store: &Store<H, u64>, handle: &Rooted<ExternRef>) -> Result<u64, RunFault> {
+pub(crate) fn hash_of<H: GcHeap>(
+    store: &Store<H, u64>,
+    handle: &Rooted<ExternRef>,
+) -> Result<u64, RunFault> {
     let mut hasher = FoldHasher::default();
     handle.ref_hash(store, &mut hasher)?;
     Ok(hasher.finish())
@@ -68,5 +71,30 @@ pub(crate) fn run_owned<H: GcHeap>(
     let same = ref_eq(store, &host, &owned)?;
     let given_up = owned.unroot(store).is_ok();
     println!(rt; "same: {same}, given up: {given_up}")?;
+    Ok(())
+}
+
+/// Reserves room for two roots, and pushes one for the word of what a root names.
+fn push_again<H: GcHeap>(
+    store: &mut Store<H, u64>,
+    root: GcRootIndex,
+) -> Result<GcRootIndex, RunFault> {
+    store.reserve_roots(2)?;
+    let word = store.show_word(root)?;
+    let found = store.push_word(word)?;
+    found.ok_or(RunFault::Missing)
+}
+
+/// Pushes a root for the word of a host object; the room that is reserved is no root.
+pub(crate) fn run_pushed<H: GcHeap>(
+    rt: &impl Print,
+    store: &mut Store<H, u64>,
+) -> Result<(), RunFault> {
+    let host = ExternRef::new(store, &mut PageLimit::new(4), 9)?;
+    let left = store.roots_left();
+    let found = push_again(store, host.root_index())?;
+    let made = left.saturating_sub(store.roots_left());
+    let same = store.index_eq(host.root_index(), found)?;
+    println!(rt; "pushed, the same: {same}, roots made: {made}")?;
     Ok(())
 }

@@ -1,9 +1,10 @@
-//! The values of a struct and of an array, read one by one, and their references as raw words, over a heap of each kind, with
-//! what the calls answer printed.
+//! The values of a struct, of an array and of an exception, read one by one, and references as raw words, over a heap of
+//! each kind, with what the calls answer printed.
 //!
 //! What must be printed, in `stdout`, was worked out by hand from the rules in docs/.
 #![tactic(auto)]
 
+mod asked;
 mod fault;
 mod read;
 mod setup;
@@ -12,10 +13,11 @@ mod words;
 ghost use Rattle.std.specs.Prelude.{◌≡◌};
 ghost use Rattle.gc_view.specs.Heaps.{detached};
 
+use crate::asked::run_asked;
 use crate::fault::RunFault;
-use crate::read::{run_array, run_struct};
+use crate::read::{run_array, run_exception, run_struct};
 use crate::setup::declare_types;
-use crate::words::{run_numbers, run_references};
+use crate::words::{run_numbers, run_or_null, run_owned, run_references};
 use gc_copying::CopyingHeap;
 use gc_drc::DrcHeap;
 use gc_heap::{GcHeap, NullHeap};
@@ -28,6 +30,19 @@ const STORE: StoreId = StoreId {
     number: 0,
 };
 
+/// Makes each call on a new store.
+fn run_calls<H: GcHeap>(rt: &impl Print, store: &mut Store<H, u64>) -> Result<(), RunFault> {
+    declare_types(store)?;
+    run_struct(rt, store)?;
+    run_array(rt, store)?;
+    run_exception(rt, store)?;
+    run_references(rt, store)?;
+    run_owned(rt, store)?;
+    run_or_null(rt, store)?;
+    run_numbers(rt, store)?;
+    run_asked(rt, store)
+}
+
 /// Makes each call on a store over that heap.
 fn run_over<H: GcHeap + Drop>(
     rt: &impl Print,
@@ -39,11 +54,7 @@ fn run_over<H: GcHeap + Drop>(
     requires empty { H.seen heap ≡ detached }
 {
     let mut store = Store::<H, u64>::new(alloc, STORE, heap, config)?;
-    declare_types(&mut store)?;
-    run_struct(rt, &mut store)?;
-    run_array(rt, &mut store)?;
-    run_references(rt, &mut store)?;
-    run_numbers(rt, &mut store)
+    run_calls(rt, &mut store)
 }
 
 fn main(rt: HostRuntime) -> Result<(), RunFault> {

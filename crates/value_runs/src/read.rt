@@ -3,9 +3,9 @@
 ghost use Rattle.std.specs.Iterator.{IsFinite};
 
 use crate::fault::RunFault;
-use crate::setup::{function, new_array, new_struct};
+use crate::setup::{function, new_array, new_exception, new_struct};
 use gc_heap::GcHeap;
-use gc_objects::{ArrayRef, StructRef, Upcast, Val};
+use gc_objects::{ArrayRef, ExnRef, StructRef, Upcast, Val};
 use gc_store::{Rooted, Store};
 
 /// A digit for a value: a number and a function by themselves, 8 for a reference, 9 for null and 0 for any other.
@@ -75,5 +75,21 @@ pub(crate) fn run_array<H: GcHeap>(
     let len = elems.len();
     let digits = digits_of(elems);
     println!(rt; "{len} elements: {digits}")?;
+    show_roots(rt, store, before)
+}
+
+/// Reads an exception of a number, of a reference, and of null.
+pub(crate) fn run_exception<H: GcHeap>(
+    rt: &impl Print,
+    store: &mut Store<H, u64>,
+) -> Result<(), RunFault> {
+    let inner = new_array(store, &[])?;
+    let values = [Val::I32(4), any_of(inner), Val::AnyRef(None)];
+    let made = new_exception(store, &values)?;
+    let before = store.roots_left();
+    let fields = ExnRef::fields(store, &made)?;
+    let len = fields.len();
+    let digits = digits_of(fields);
+    println!(rt; "{len} fields of an exception: {digits}")?;
     show_roots(rt, store, before)
 }

@@ -7,10 +7,10 @@ ghost use Rattle.gc_objects.specs.Kinds.{NamesKind, IsDeclaredAs};
 
 use crate::fault::RunFault;
 use gc_heap::GcHeap;
-use gc_objects::{ArrayRef, ArrayRefPre, StructRef, StructRefPre, Val};
+use gc_objects::{ArrayRef, ArrayRefPre, ExnRef, ExnRefPre, StructRef, StructRefPre, Val};
 use gc_store::{PageLimit, Rooted, Store};
 use gc_types::{
-    FieldType, Func, HeapType, Mutability, RefType, StorageType, VMSharedTypeIndex, ValType,
+    FieldType, Func, HeapType, Mutability, RefType, StorageType, Tag, VMSharedTypeIndex, ValType,
 };
 
 /// A type of functions.
@@ -19,6 +19,14 @@ const FUNCTION: u32 = 0;
 const STRUCT: u32 = 1;
 /// The type of arrays of references.
 const ARRAY: u32 = 2;
+/// The type of exceptions of an integer and two references.
+const EXCEPTION: u32 = 3;
+
+/// The tag of the exceptions.
+const TAG: Tag = Tag {
+    instance: 0,
+    index: 0,
+};
 
 /// The most pages that a heap gets.
 const MOST_PAGES: u32 = 4;
@@ -31,12 +39,17 @@ fn field(ty: ValType) -> FieldType {
     }
 }
 
-/// A field of references of that type, or null.
-fn reference(heap_type: HeapType) -> FieldType {
-    field(ValType::Ref(RefType {
+/// The type of references of that type, or null.
+fn or_null(heap_type: HeapType) -> ValType {
+    ValType::Ref(RefType {
         nullable: true,
         heap_type,
-    }))
+    })
+}
+
+/// A field of references of that type, or null.
+fn reference(heap_type: HeapType) -> FieldType {
+    field(or_null(heap_type))
 }
 
 /// Declares the types of a new store.
@@ -50,6 +63,8 @@ pub(crate) fn declare_types<H: GcHeap>(store: &mut Store<H, u64>) -> Result<(), 
     ];
     store.declare_struct(&fields, None, false)?;
     store.declare_array(reference(HeapType::Any), None, false)?;
+    let params = [ValType::I32, or_null(HeapType::Any), or_null(HeapType::Any)];
+    store.declare_exn(&params)?;
     Ok(())
 }
 
@@ -79,6 +94,16 @@ fn arrays<H: GcHeap>(store: &mut Store<H, u64>) -> Result<ArrayRefPre, RunFault>
     }
 }
 
+/// An allocator of exceptions.
+fn exceptions<H: GcHeap>(store: &mut Store<H, u64>) -> Result<ExnRefPre, RunFault>
+    ensures { IfOk result (IsDeclaredAs store.new TypeKind.Exn) }
+{
+    match store.types().exn_type(VMSharedTypeIndex::new(EXCEPTION)) {
+        Some(ty) => Ok(ExnRefPre::new(store, ty)?),
+        None => Err(RunFault::Missing),
+    }
+}
+
 /// A new struct of these values.
 pub(crate) fn new_struct<H: GcHeap>(
     store: &mut Store<H, u64>,
@@ -99,4 +124,21 @@ pub(crate) fn new_array<H: GcHeap>(
 {
     let allocator = arrays(store)?;
     Ok(ArrayRef::new_fixed(store, &mut PageLimit::new(MOST_PAGES), &allocator, values)?)
+}
+
+/// A new exception of these values.
+pub(crate) fn new_exception<H: GcHeap>(
+    store: &mut Store<H, u64>,
+    values: &[Val],
+) -> Result<Rooted<ExnRef>, RunFault>
+    ensures { IfOk result (λ handle. NamesKind ℕ H.KIND store.new VMGcKind.ExnRef handle.index) }
+{
+    let allocator = exceptions(store)?;
+    Ok(ExnRef::new(
+        store,
+        &mut PageLimit::new(MOST_PAGES),
+        &allocator,
+        TAG,
+        values,
+    )?)
 }

@@ -1,4 +1,4 @@
-//! References and 31-bit numbers as values of raw words.
+//! References, as a scoped root and as an owned one, and 31-bit numbers as values of raw words.
 
 use crate::fault::RunFault;
 use crate::setup::new_array;
@@ -8,7 +8,7 @@ use gc_refs::{I31, ValRaw};
 use gc_store::{OwnedRooted, Rooted, Store, ref_eq};
 use gc_wasm_types::WasmTy;
 
-/// Stores an array's word and loads it, as a scoped root and as an owned one.
+/// Stores an array's word and loads it with a scoped root.
 pub(crate) fn run_references<H: GcHeap>(
     rt: &impl Print,
     store: &mut Store<H, u64>,
@@ -21,6 +21,38 @@ pub(crate) fn run_references<H: GcHeap>(
     let same = ref_eq(store, &made, &scoped)?;
     let pushed = before.saturating_sub(store.roots_left());
     println!(rt; "the same: {same}, roots made: {pushed}")?;
+    Ok(())
+}
+
+/// Stores an array's word and loads it with an owned root, which makes no scoped one.
+pub(crate) fn run_owned<H: GcHeap>(
+    rt: &impl Print,
+    store: &mut Store<H, u64>,
+) -> Result<(), RunFault> {
+    let made = new_array(store, &[])?;
+    let mut raw = ValRaw::anyref(0);
+    let before = store.roots_left();
+    made.store(store, &mut raw)?;
+    let owned = <OwnedRooted<ArrayRef>>::load(store, &raw)?;
+    let same = ref_eq(store, &made, &owned)?;
+    let pushed = before.saturating_sub(store.roots_left());
+    println!(rt; "owned, the same: {same}, scoped roots made: {pushed}")?;
+    Ok(())
+}
+
+/// Stores a handle that is there as one that may be none, and loads it as such.
+pub(crate) fn run_or_null<H: GcHeap>(
+    rt: &impl Print,
+    store: &mut Store<H, u64>,
+) -> Result<(), RunFault> {
+    let made = new_array(store, &[])?;
+    let mut raw = ValRaw::anyref(0);
+    let before = store.roots_left();
+    Some(made).store(store, &mut raw)?;
+    let found = <Option<Rooted<ArrayRef>>>::load(store, &raw)?;
+    let same = ref_eq(store, &made, &found.ok_or(RunFault::Missing)?)?;
+    let pushed = before.saturating_sub(store.roots_left());
+    println!(rt; "or null, the same: {same}, roots made: {pushed}")?;
     Ok(())
 }
 

@@ -1,0 +1,64 @@
+//! What values of raw words tell of themselves.
+
+use crate::fault::RunFault;
+use crate::setup::new_array;
+use gc_heap::GcHeap;
+use gc_objects::ArrayRef;
+use gc_refs::I31;
+use gc_store::{GcRootIndex, RootSlot, Rooted, Store, StoreId};
+use gc_types::{HeapType, ValType};
+use gc_wasm_types::WasmTy;
+
+/// Whether values of that type may be null.
+fn is_nullable<T: WasmTy>() -> bool {
+    match T::valtype() {
+        ValType::Ref(ty) => ty.nullable,
+        _ => false,
+    }
+}
+
+/// Shows what a value tells: whether it may be given to the store and is a handle; whether it fits the type of arrays, and
+/// that of arrays or null; and whether values of its type may be null.
+fn show_value<H: GcHeap, T: WasmTy>(
+    rt: &impl Print,
+    store: &Store<H, u64>,
+    value: &T,
+) -> Result<(), RunFault> {
+    let own = value.compatible_with_store(store);
+    let handle = value.is_vmgcref_and_points_to_object();
+    let array = value.dynamic_concrete_type_check(store, false, &HeapType::Array);
+    let or_null = value.dynamic_concrete_type_check(store, true, &HeapType::Array);
+    println!(rt;
+        "own: {own}, a handle: {handle}, nullable: {}",
+        is_nullable::<T>()
+    )?;
+    println!(rt; "an array: {}, or null: {}", array.is_ok(), or_null.is_ok())?;
+    Ok(())
+}
+
+/// A handle of another store.
+fn foreign() -> Rooted<ArrayRef> {
+    Rooted::from_gc_root_index(GcRootIndex {
+        store_id: StoreId {
+            engine: 0,
+            number: 1,
+        },
+        generation: 0,
+        slot: RootSlot::Scoped(0),
+    })
+}
+
+/// Asks an array's scoped handle and its owned one, none, a number, and another store's handle, in this order.
+pub(crate) fn run_asked<H: GcHeap>(
+    rt: &impl Print,
+    store: &mut Store<H, u64>,
+) -> Result<(), RunFault> {
+    let made = new_array(store, &[])?;
+    show_value(rt, store, &made)?;
+    let owned = made.to_owned_rooted(store)?;
+    show_value(rt, store, &owned)?;
+    let none: Option<Rooted<ArrayRef>> = None;
+    show_value(rt, store, &none)?;
+    show_value(rt, store, &I31::wrapping_u32(5))?;
+    show_value(rt, store, &foreign())
+}
