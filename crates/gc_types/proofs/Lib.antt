@@ -8,3 +8,5 @@ pub mod TableLemmas
 pub mod LawsOfMatching
 pub mod AlikeLemmas
 pub mod RefLemmas
+pub mod KindLemmas
+pub mod FewFields

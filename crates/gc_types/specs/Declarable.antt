@@ -12,15 +12,12 @@ use Rattle.gc_types.specs.declared.kind.TypeKind.TheVariants as kinds
 use Rattle.gc_types.specs.Declarations.{Shape, struct_of, array_of, exn_of, func_of, Declaration, kind_at, max_fields, max_types}
 use Rattle.gc_types.specs.Subtyping.{supertypes_of, MatchesVal, MatchesField}
 
--- An index is known where it names a type of the kind that its variant tells. Continuations are
--- not stored yet, so their types are not known.
+-- An index is known where it names a type of the kind that its variant tells; a type without an index always is.
 abbrev pub IsKnownHeap : List Declaration → HeapType → Type 0
 IsKnownHeap types (heap.ConcreteStruct ty) = kind_at types ty ≡ Some kinds.Struct
 IsKnownHeap types (heap.ConcreteArray ty) = kind_at types ty ≡ Some kinds.Array
 IsKnownHeap types (heap.ConcreteFunc ty) = kind_at types ty ≡ Some kinds.Func
 IsKnownHeap types (heap.ConcreteExn ty) = kind_at types ty ≡ Some kinds.Exn
-IsKnownHeap types heap.Cont = ⊥
-IsKnownHeap types heap.NoCont = ⊥
 IsKnownHeap types heap.Any = Unit {0}
 IsKnownHeap types heap.Eq = Unit {0}
 IsKnownHeap types heap.I31 = Unit {0}
@@ -33,6 +30,8 @@ IsKnownHeap types heap.Func = Unit {0}
 IsKnownHeap types heap.NoFunc = Unit {0}
 IsKnownHeap types heap.Exn = Unit {0}
 IsKnownHeap types heap.NoExn = Unit {0}
+IsKnownHeap types heap.Cont = Unit {0}
+IsKnownHeap types heap.NoCont = Unit {0}
 
 abbrev pub IsKnownVal : List Declaration → ValType → Type 0
 IsKnownVal types (val.Ref ty) = IsKnownHeap types ty.heap_type

@@ -1,8 +1,7 @@
 -- The type table as a plain list of declarations.
-use Rattle.std.specs.Prelude.{ℕ, ◌≡◌, Bool, false, true, List, [], ◌∷◌, ◌++◌, Option, Some, None, map, slice_get, option_map, option_and_then, unwrap_or}
-use Rattle.gc_types.specs.declared.value.Mutability.TheVariants.{Const, Var}
+use Rattle.std.specs.Prelude.{ℕ, Bool, false, true, List, [], ◌∷◌, ◌++◌, Option, Some, None, map, slice_get, option_map, option_and_then, unwrap_or}
+use Rattle.gc_types.specs.declared.value.Mutability.TheVariants.{Const}
 use Rattle.gc_types.specs.declared.value.StorageType.TheVariants as storage
-use Rattle.gc_types.specs.declared.value.ValType.TheVariants.{I32}
 use Rattle.gc_types.specs.declared.value.ValType.{ValType}
 use Rattle.gc_types.specs.declared.value.FieldType.{FieldType}
 use Rattle.gc_types.specs.declared.kind.TypeKind.{TypeKind}
@@ -111,10 +110,6 @@ func_type params results supertype is_final =
 abbrev pub exn_type : List ValType → Declaration
 exn_type params = record { shape = exn_of params; supertype = None; is_final = true }
 
--- a declared struct with these fields, that is not final and has no supertype
-abbrev pub plain_struct : List FieldType → Declaration
-plain_struct fields = struct_type fields None false
-
 -- a type may have this many fields, parameters or results
 abbrev pub max_fields : ℕ
 max_fields = 10000
@@ -122,10 +117,6 @@ max_fields = 10000
 -- a table may have this many types
 abbrev pub max_types : ℕ
 max_types = 4294967295
-
--- a mutable 32-bit number
-abbrev pub IsMutableI32 : FieldType → Type 0
-IsMutableI32 f = f ≡ record { mutability = Var; element_type = storage.ValType I32 }
 
 -- the table with one more declaration
 abbrev pub declare : Declaration → TypeTable → TypeTable

@@ -1,5 +1,5 @@
 -- The bits of a kind word.
-use Rattle.std.specs.Prelude.{◌≡◌, ℕ}
+use Rattle.std.specs.Prelude.{◌≡◌, ℕ, ◌==◌, if◌then◌else◌}
 use Rattle.gc_types.specs.declared.kind.VMGcKind.{VMGcKind}
 use Rattle.gc_types.specs.declared.kind.VMGcKind.TheVariants.{ExternRef, AnyRef, EqRef, StructRef, ArrayRef, ExnRef}
 
@@ -11,6 +11,15 @@ kind_bits EqRef = 0xA0000000
 kind_bits StructRef = 0xA4000000
 kind_bits ArrayRef = 0xA8000000
 kind_bits ExnRef = 0x10000000
+
+-- the kind of these bits; an external object's where they are no kind's
+abbrev pub kind_of : ℕ → VMGcKind
+kind_of bits =
+    if bits == kind_bits AnyRef then AnyRef else
+    (if bits == kind_bits EqRef then EqRef else
+    (if bits == kind_bits StructRef then StructRef else
+    (if bits == kind_bits ArrayRef then ArrayRef else
+    (if bits == kind_bits ExnRef then ExnRef else ExternRef))))
 
 -- the bits that tell a kind, and those that a heap may use as it likes
 abbrev pub kind_mask : ℕ

@@ -197,7 +197,6 @@ fn is_known_heap_type(types: &[Declared], ty: &HeapType) -> bool
         HeapType::ConcreteArray(ty) => is_of_kind(types, *ty, TypeKind::Array),
         HeapType::ConcreteFunc(ty) => is_of_kind(types, *ty, TypeKind::Func),
         HeapType::ConcreteExn(ty) => is_of_kind(types, *ty, TypeKind::Exn),
-        HeapType::Cont | HeapType::NoCont => false,
         HeapType::Any
         | HeapType::Eq
         | HeapType::I31
@@ -209,7 +208,9 @@ fn is_known_heap_type(types: &[Declared], ty: &HeapType) -> bool
         | HeapType::Func
         | HeapType::NoFunc
         | HeapType::Exn
-        | HeapType::NoExn => true,
+        | HeapType::NoExn
+        | HeapType::Cont
+        | HeapType::NoCont => true,
     }
 }
 

@@ -84,12 +84,12 @@ impl Types {
 
     /// Declares a struct with these fields.
     ///
-    /// `BadType` exactly where a field names an index above the new one, a type of another kind than
-    /// its variant says, or a continuation; or the supertype isn't an earlier struct, is final, or
-    /// isn't matched (each of its fields by the field at the same place); or there are more than
-    /// 10,000 fields; or the table has 4,294,967,295 types. While it is checked, the new type counts
-    /// as a subtype of its supertype, and it may name itself. Time is linear in the fields, times
-    /// the logarithm of the longest chain of supertypes.
+    /// `BadType` exactly where a field names an index above the new one, or a type of another kind than
+    /// its variant says; or the supertype isn't an earlier struct, is final, or isn't matched (each of
+    /// its fields by the field at the same place); or there are more than 10,000 fields; or the table
+    /// has 4,294,967,295 types. While it is checked, the new type counts as a subtype of its supertype,
+    /// and it may name itself. Time is linear in the fields, times the logarithm of the longest chain of
+    /// supertypes.
     pub fn declare_struct(
         &mut self,
         fields: &[FieldType],
@@ -345,7 +345,8 @@ impl Types {
     /// index names none.
     pub fn struct_layout(&self, heap: Layouts, ty: VMSharedTypeIndex) -> Option<&GcStructLayout>
         ensures value { option_copied result ≡ layout_at heap self.now.declarations ty }
-        ensures structs { IsSome (struct_fields_at self.now.declarations ty) → option_copied result ≡ option_map (struct_layout heap) (struct_fields_at self.now.declarations ty) }
+        ensures structs { IsSome (struct_fields_at self.now.declarations ty)
+            → option_copied result ≡ option_map (struct_layout heap) (struct_fields_at self.now.declarations ty) }
     {
         let declared = self.declared.get(ty.as_u32() as usize)?;
         declared.struct_layout(heap)
