@@ -3,7 +3,8 @@ use Rattle.std.proofs.Common.{◌≡◌, ℕ, ◌+◌, ◌-◌, ◌<◌, ◌≤�
 use Rattle.std.proofs.Math.Logic.{◌⊎◌}
 use Rattle.std.specs.Int.{w32, w64, to_le_bytes}
 use Rattle.std.proofs.lemmas.Bool.{cases_lt}
-use Rattle.std.proofs.lemmas.List.{same_lists, length-replicate, length-take-le, length-drop, length-append, get_or-take, get_or-drop, get_or-replicate, get_or_append_left, get_or-append_right}
+use Rattle.std.proofs.Math.Seq.{take-add}
+use Rattle.std.proofs.lemmas.List.{same_lists, drop-drop, length-replicate, length-take-le, length-drop, length-append, get_or-take, get_or-drop, get_or-replicate, get_or_append_left, get_or-append_right}
 use Rattle.std.proofs.Math.ListN.{get_or-eq_default}
 use Rattle.gc_view.specs.Bytes.{put_u32}
 use Rattle.gc_view.specs.Bytes.{put_bytes, SameBytes}
@@ -150,6 +151,36 @@ SameAcross-move bytes from to n h k =
           ∙ get_or-take n (drop from bytes) j d u
           ∙ get_or-drop from bytes j d;
     }
+
+-- bytes that are the same are one list
+same_part : (a b : List ℕ) (p k : ℕ) → SameBytes a b p (p + k) → p + k ≤ length a → take k (drop p b) ≡ take k (drop p a)
+same_part a b p k s h =
+    let old : length (take k (drop p a)) ≡ k = length-take-le k (drop p a) (omega (arith, length-drop p a)) in
+    let new : length (take k (drop p b)) ≡ k = length-take-le k (drop p b) (omega (arith, length-drop p b, s.same_length)) in
+    same_lists _ _ (new ∙ sym old) (λ j d inside.
+    get_or-take k (drop p b) j d (omega arith)
+    ∙ get_or-drop p b j d
+    ∙ s.at (p + j) d (omega arith) (omega arith)
+    ∙ sym (get_or-take k (drop p a) j d (omega arith) ∙ get_or-drop p a j d))
+
+-- Some bytes were copied to a place that has none of what is copied. With those that come next more of them are copied.
+pub copied_more : (bytes : List ℕ) (from to n d k : ℕ) → from + n ≤ length bytes → to + n ≤ length bytes → (from + n ≤ to) ⊎ (to + n ≤ from) → d + k ≤ n
+    → (now : List ℕ) → now ≡ put_bytes bytes to (take d (drop from bytes))
+    → put_bytes now (to + d) (take k (drop (from + d) now)) ≡ put_bytes bytes to (take (d + k) (drop from bytes))
+copied_more bytes from to n d k source there apart fits now is =
+    let xs : List ℕ = take d (drop from bytes) in
+    let ys : List ℕ = take k (drop (from + d) bytes) in
+    let once : List ℕ = put_bytes bytes to xs in
+    let xs_len : length xs ≡ d = length-take-le d (drop from bytes) (omega (arith, length-drop from bytes)) in
+    let ys_len : length ys ≡ k = length-take-le k (drop (from + d) bytes) (omega (arith, length-drop (from + d) bytes)) in
+    let same : SameBytes bytes once (from + d) (from + d + k) =
+    Wrote-apart (Wrote-move bytes from to d (omega arith) (omega arith)) (from + d) (from + d + k) (elim apart [ inl h ↦ inl (omega arith) | inr h ↦ inr (omega arith) ]) in
+    ap (λ m. put_bytes m (to + d) (take k (drop (from + d) m))) is
+    ∙ ap (put_bytes once (to + d)) (same_part bytes once (from + d) k same (omega arith))
+    ∙ ap (λ at. put_bytes once (to + at) ys) (sym xs_len)
+    ∙ put_bytes-append bytes to xs ys (omega arith)
+    ∙ ap (λ part. put_bytes bytes to (xs ++ take k part)) (sym (drop-drop d from bytes))
+    ∙ ap (put_bytes bytes to) (sym (take-add d k (drop from bytes)))
 
 -- what is as before is so at its place
 pub SameAcross-same : {a b : List ℕ} (p lo hi : ℕ) → SameBytes a b (p + lo) (p + hi) → SameAcross a p b p lo hi

@@ -1,7 +1,8 @@
 -- Lists of numbers as sets and as multisets.
-use Rattle.std.proofs.Common.{◌≡◌, ℕ, ◌+◌, ◌<◌, ◌≤◌, subst, cond, List, [], ◌∷◌, ◌++◌, refl, ap, ◌∙◌, inl, inr, arith}
+use Rattle.std.proofs.Common.{◌≡◌, ℕ, zero, suc, ◌+◌, ◌<◌, ◌≤◌, subst, cond, List, [], ◌∷◌, ◌++◌, map, Contains, slice_index_or, refl, ap, ◌∙◌, inl, inr, arith}
 use Rattle.std.proofs.Math.Logic.{◌⊎◌}
 use Rattle.std.proofs.lemmas.Bool.{cases_eq, eq-eqb, ne_eqb}
+use Rattle.std.proofs.lemmas.List.Elements.{Contains-append_cases, Contains-append_right}
 use Rattle.gc_memory.specs.Lists.{In, here, there, sum_over, occ}
 
 -- a number of the first list is one of both together
@@ -79,3 +80,39 @@ pub occ-none : (x : ℕ) (xs : List ℕ) → (In x xs → ⊥) → occ x xs ≡ 
 occ-none x [] no_one = refl
 occ-none x (y ∷ xs) no_one =
     occ-other x y xs (λ e. no_one (subst (λ z. In x (z ∷ xs)) e here)) ∙ occ-none x xs (λ i. no_one (there i))
+
+-- the one item of a list of one
+pub only_item : {A : Type 0} (x y : A) → Contains (x ∷ []) y → x ≡ y
+only_item {A} x y h = at h.0 h.1 h.2
+  where
+    at : (k : ℕ) → k < 1 → slice_index_or (x ∷ []) k y ≡ y → x ≡ y
+    at zero below e = e
+    at (suc k) below e = absurd (omega arith)
+
+-- the two words for an element of a list
+pub contains_in : (xs : List ℕ) (x : ℕ) → Contains xs x → In x xs
+contains_in [] x c = absurd (omega (arith, c.1))
+contains_in (y ∷ xs) x c = elim (Contains-append_cases (y ∷ []) xs x c) [
+  | inl one ↦ subst (λ z. In z (y ∷ xs)) (only_item y x one) here
+  | inr rest ↦ there (contains_in xs x rest)
+]
+
+pub in_contains : (xs : List ℕ) (x : ℕ) → In x xs → Contains xs x
+in_contains [] x i = elim i [ ]
+in_contains (_ ∷ xs) x here = (0, omega arith, refl)
+in_contains (y ∷ xs) x (there i) = Contains-append_right (y ∷ []) xs x (in_contains xs x i)
+
+pub map_in : (f : ℕ → ℕ) (xs : List ℕ) (x : ℕ) → In x xs → In (f x) (map f xs)
+map_in f [] x i = elim i [ ]
+map_in f (_ ∷ xs) x here = here
+map_in f (y ∷ xs) x (there i) = there (map_in f xs x i)
+
+pub in_map : (f : ℕ → ℕ) (xs : List ℕ) (y : ℕ) → In y (map f xs) → (x : ℕ) × (In x xs × (f x ≡ y))
+in_map f [] y i = elim i [ ]
+in_map f (x ∷ xs) _ here = (x, (here, refl))
+in_map f (x ∷ xs) y (there i) = let r = in_map f xs y i in (r.0, (there r.1.0, r.1.1))
+
+-- the first of a list, or a later one
+pub first_or_later : (y x : ℕ) (xs : List ℕ) → In x (y ∷ xs) → (x ≡ y) ⊎ In x xs
+first_or_later _ x xs here = inl refl
+first_or_later y x xs (there i) = inr i

@@ -1,6 +1,6 @@
 //! The memory of a heap.
 
-ghost use Rattle.std.specs.Prelude.{◌≡◌, ◌+◌, ◌*◌, ◌/◌, ◌≤◌, ◌<◌, ◌^◌, ◌++◌, length, take, drop, IfOk, OnOk, OnErr, replicate};
+ghost use Rattle.std.specs.Prelude.{◌≡◌, ◌+◌, ◌*◌, ◌/◌, ◌%◌, ◌⊎◌, ◌≤◌, ◌<◌, ◌^◌, ◌++◌, length, take, drop, IfOk, OnOk, OnErr, replicate};
 ghost use Rattle.gc_refs.specs.Header.{header_bytes};
 ghost use Rattle.gc_view.specs.Pages.{page, max_pages};
 ghost use Rattle.gc_view.specs.Bytes.{u32_at, put_u32};
@@ -20,6 +20,9 @@ pub const PAGE: usize = 65_536;
 /// The greatest number of pages of a heap.
 pub const MAX_PAGES: u32 = 65_535;
 
+/// How many bytes `copy_blocks` copies as one.
+pub const BLOCK: usize = 16;
+
 /// The bytes of a heap, in whole pages. Contracts see them as a list.
 #[derive(Drop)]
 pub struct HeapMemory {
@@ -38,12 +41,23 @@ impl Model for HeapMemory {
     ghost invariant = { λ m. (length m.bytes.items ≡ page * m.pages) × (m.pages ≤ max_pages) };
 }
 
+/// The N bytes from an offset on, read as one.
+fn bytes_at<const N: usize>(bytes: &[u8], at: usize) -> [u8; N]
+    requires { at + N ≤ length bytes.now }
+    ensures { result ≡ take N (drop at bytes.now) }
+{
+    match bytes[at..].first_chunk() {
+        Some(part) => *part,
+        None => unreachable!(),
+    }
+}
+
 /// The 32-bit number at an offset, its lowest byte first.
 fn word_at(bytes: &[u8], at: usize) -> u32
     requires { at + 4 ≤ length bytes.now }
     ensures { result ≡ u32_at bytes.now at }
 {
-    u32::from_le_bytes([bytes[at], bytes[at + 1], bytes[at + 2], bytes[at + 3]])
+    u32::from_le_bytes(bytes_at(bytes, at))
 }
 
 /// The same slice. A function that is given one knows that each of its numbers is a byte.
@@ -153,6 +167,33 @@ impl HeapMemory {
         self.bytes.copy_within(from..from + count, to);
     }
 
+    /// Copies a block to another place.
+    fn copy_block(&mut self, from: usize, to: usize)
+        requires source { from + 16 ≤ length self.old }
+        requires destination { to + 16 ≤ length self.old }
+        ensures bytes { self.new ≡ put_bytes self.old to (take 16 (drop from self.old)) }
+        ensures same_length { length self.new ≡ length self.old }
+    {
+        let block: [u8; BLOCK] = bytes_at(&self.bytes, from);
+        self.bytes[to..to + BLOCK].copy_from_slice(&block);
+    }
+
+    /// Copies `count` bytes, in whole blocks, to a place that has none of them, in time linear in `count`.
+    pub fn copy_blocks(&mut self, from: usize, to: usize, count: usize)
+        requires source { from + count ≤ length self.old }
+        requires destination { to + count ≤ length self.old }
+        requires apart { (from + count ≤ to) ⊎ (to + count ≤ from) }
+        requires whole { count % 16 ≡ 0 }
+        ensures bytes { self.new ≡ put_bytes self.old to (take count (drop from self.old)) }
+        ensures same_length { length self.new ≡ length self.old }
+    {
+        // The proof learns from it that a memory ends below 2^32, so that the sums fit.
+        let _pages = &self.pages;
+        for index in 0..count / BLOCK {
+            self.copy_block(from + BLOCK * index, to + BLOCK * index);
+        }
+    }
+
     /// The 32-bit number at an offset, its lowest byte first.
     pub fn read_u32(&self, at: usize) -> u32
         requires { at + 4 ≤ length self.now }
@@ -175,16 +216,7 @@ impl HeapMemory {
         requires { at + 8 ≤ length self.now }
         ensures { result ≡ u64_at self.now at }
     {
-        u64::from_le_bytes([
-            self.bytes[at],
-            self.bytes[at + 1],
-            self.bytes[at + 2],
-            self.bytes[at + 3],
-            self.bytes[at + 4],
-            self.bytes[at + 5],
-            self.bytes[at + 6],
-            self.bytes[at + 7],
-        ])
+        u64::from_le_bytes(bytes_at(&self.bytes, at))
     }
 
     /// Writes a 64-bit number at an offset, its lowest byte first.

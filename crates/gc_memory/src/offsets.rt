@@ -5,6 +5,7 @@
 //! the size of an object in the spare bits of its kind word.
 
 ghost use Rattle.std.specs.Prelude.{◌≡◌, ◌≤◌, ◌<◌, ◌+◌, ◌^◌};
+ghost use Rattle.gc_types.specs.declared.kind.Layouts.TheVariants.{Counting, Copying};
 ghost use Rattle.gc_view.specs.Sizes.{alignment};
 ghost use Rattle.gc_memory.specs.Offsets.{array_length_offset, exception_instance_offset, exception_tag_offset, host_id_offset, external_size, stored_size};
 ghost use Rattle.gc_memory.specs.Offsets.{type_word_offset, header_size, count_offset, list_offset, counting_size_offset, link_offset, copying_size_offset};
@@ -33,11 +34,17 @@ pub const COUNTING_SIZE: u32 = 20;
 /// The counting heap: the next object of those that wait to be freed.
 pub const COUNTING_LINK: u32 = 24;
 
+/// The counting heap: the id of an external object's host value.
+pub const COUNTING_HOST: u32 = 28;
+
 /// The copying heap: the size of an object, in bytes.
 pub const COPYING_SIZE: u32 = 8;
 
 /// The copying heap: where an object went, once a collection has copied it; until then its first field.
 pub const COPYING_FORWARDING: u32 = 12;
+
+/// The copying heap: the id of an external object's host value.
+pub const COPYING_HOST: u32 = 16;
 
 /// The copying heap: the next external object.
 pub const COPYING_NEXT_EXTERNAL: u32 = 20;
@@ -51,8 +58,10 @@ pub fn constants()
     ensures list { COUNTING_LIST ≡ list_offset }
     ensures counting_size { COUNTING_SIZE ≡ counting_size_offset }
     ensures link { COUNTING_LINK ≡ link_offset }
+    ensures counting_host { COUNTING_HOST ≡ host_id_offset Counting }
     ensures copying_size { COPYING_SIZE ≡ copying_size_offset }
     ensures forwarding { COPYING_FORWARDING ≡ forwarding_offset }
+    ensures copying_host { COPYING_HOST ≡ host_id_offset Copying }
     ensures next_external { COPYING_NEXT_EXTERNAL ≡ next_external_offset }
 {}
 
@@ -83,8 +92,8 @@ pub fn host_id(layouts: Layouts) -> u32
 {
     match layouts {
         Layouts::Null => 8,
-        Layouts::Counting => 28,
-        Layouts::Copying => 16,
+        Layouts::Counting => COUNTING_HOST,
+        Layouts::Copying => COPYING_HOST,
     }
 }
 

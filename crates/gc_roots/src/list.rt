@@ -10,6 +10,7 @@ use crate::place::RootPlace;
 use gc_refs::VMGcRef;
 use std::alloc::{AllocError, Global};
 use std::marker::Model;
+use std::mem;
 
 /// The roots of a collection, in the order in which they were added.
 ///
@@ -122,6 +123,15 @@ impl GcRootsList {
     {
         self.origins.clear();
         self.words.clear();
+    }
+
+    /// Takes the roots out, with the memory that they and the room for more have. An empty list stays, with no room.
+    pub fn take(&mut self) -> GcRootsList
+        ensures taken { result ≡ self.old }
+        ensures empty { self.new.roots ≡ [] }
+    {
+        let alloc = *self.words.allocator();
+        mem::replace(self, GcRootsList::new(alloc))
     }
 
     /// The number that the root of that index was added with; indexes count from 0.

@@ -1,10 +1,8 @@
 -- Fields lie one behind another, inside the object.
-use Rattle.std.proofs.Common.{◌≡◌, ℕ, ◌+◌, ◌<◌, ◌≤◌, List, [], ◌∷◌, Some, length, ap, ◌∙◌, refl, subst, arith, zero, suc}
+use Rattle.std.proofs.Common.{◌≡◌, ℕ, ◌+◌, ◌<◌, ◌≤◌, List, [], ◌∷◌, Some, length, ap, refl, subst, arith, zero, suc}
 use Rattle.std.specs.List.{slice_get}
-use Rattle.std.specs.Prelude.{All}
 use Rattle.std.proofs.lemmas.Option.{none-some}
 use Rattle.gc_types.specs.declared.value.FieldType.{FieldType}
-use Rattle.gc_types.specs.declared.value.Mutability.TheVariants.{Var}
 use Rattle.gc_types.specs.declared.value.StorageType.{StorageType}
 use Rattle.gc_types.specs.declared.value.StorageType.TheVariants as storage
 use Rattle.gc_types.specs.declared.value.ValType.{ValType}
@@ -12,8 +10,7 @@ use Rattle.gc_types.specs.declared.value.ValType.TheVariants as val
 use Rattle.gc_types.specs.declared.kind.Layouts.{Layouts}
 use Rattle.gc_types.specs.declared.kind.Layouts.TheVariants.{Null, Counting, Copying}
 use Rattle.gc_types.specs.declared.layout.FieldLayout.{FieldLayout}
-use Rattle.gc_types.specs.Declarations.{IsMutableI32}
-use Rattle.gc_types.specs.Layouts.{field_layouts, fields_end, field_offset, storage_width, value_width, round_up, ref_offsets, is_gc_storage}
+use Rattle.gc_types.specs.Layouts.{field_layouts, fields_end, field_offset, storage_width, value_width, round_up}
 use Rattle.gc_view.specs.Sizes.{stored_size}
 
 value_width_positive : (ty : ValType) → 0 < value_width ty
@@ -82,19 +79,3 @@ layouts_apart p (x ∷ fields) zero (suc j) one other field e f g lt =
     subst (λ (y : FieldType). one.offset + storage_width y.element_type ≤ other.offset) same (omega (arith, low, is))
 layouts_apart p (x ∷ fields) (suc i) (suc j) one other field e f g lt =
     layouts_apart (field_offset p x + storage_width x.element_type) fields i j one other field e f g (omega arith)
-
--- a mutable 32-bit number is four bytes wide
-pub width_i32 : (field : FieldType) → IsMutableI32 field → storage_width field.element_type ≡ 4
-width_i32 field is = ap (λ (f : FieldType). storage_width f.element_type) is
-
--- a list of which all hold, without its first element
-pub All-tail : {X : Type 0} (P : X → Type 0) (x : X) (xs : List X) → All P (x ∷ xs) → All P xs
-All-tail P x xs all = λ k d within. all (suc k) d (omega arith)
-
--- numbers are no references
-pub no_refs : (p : ℕ) (fields : List FieldType) → All IsMutableI32 fields → ref_offsets (field_layouts p fields) ≡ []
-no_refs p [] all = refl
-no_refs p (field ∷ fields) all =
-    let is : field ≡ record { mutability = Var; element_type = storage.ValType val.I32 } = all 0 field (omega arith) in
-    ap (λ (f : FieldType). ref_offsets (record { offset = field_offset p field; is_gc_ref = is_gc_storage f.element_type } ∷ field_layouts (field_offset p field + storage_width field.element_type) fields)) is
-    ∙ no_refs (field_offset p field + storage_width field.element_type) fields (All-tail IsMutableI32 field fields all)

@@ -1,4 +1,5 @@
 pub mod Content
 pub mod ByteLemmas
 pub mod Layouts
+pub mod Spacing
 pub mod SlotLemmas

@@ -10,7 +10,8 @@ use Rattle.gc_types.specs.declared.kind.Layouts.TheVariants.{Null, Counting, Cop
 use Rattle.gc_types.specs.declared.layout.FieldLayout.{FieldLayout}
 use Rattle.gc_types.specs.Declarations.{Shape, struct_of, array_of, exn_of, func_of, constant_field}
 use Rattle.gc_types.specs.Layouts.{storage_width, is_gc_storage, field_offset, field_layouts, ref_offsets, fields_end, struct_base, exception_base, array_base}
-use Rattle.gc_view.specs.Slots.{StorageSlot, slot_end, field_slots, element_slots, elements_from, shape_slots, shape_first, shape_size, AreSpaced, followed_slots, slot_offsets}
+use Rattle.gc_view.specs.Slots.{StorageSlot, field_slots, element_slots, elements_from, shape_slots, shape_size}
+use Rattle.gc_view.proofs.Spacing.{slot_end, shape_first, AreSpaced, followed_slots, slot_offsets}
 use Rattle.gc_view.proofs.Layouts.{round_up-le, storage_width_positive, offset_low}
 
 fields_spaced : (p : ℕ) (fields : List FieldType) → AreSpaced p (field_slots p fields) (fields_end p fields)

@@ -1,6 +1,6 @@
 -- Bytes of a memory, and the numbers that lie in them.
 use Rattle.std.specs.Prelude.{◌≡◌, ℕ, ◌+◌, ◌<◌, ◌≤◌, List, ◌++◌, take, drop, length, slice_index_or}
-use Rattle.std.specs.Int.{w32, w64, from_le_bytes, to_le_bytes}
+use Rattle.std.specs.Int.{w32, from_le_bytes, to_le_bytes}
 
 -- the bytes with others at an offset
 abbrev pub put_bytes : List ℕ → ℕ → List ℕ → List ℕ
@@ -14,10 +14,6 @@ pub record SameBytes (before after : List ℕ) (lo hi : ℕ) : Type 0 where
 -- the 32-bit number that lies at an offset, its lowest byte first
 abbrev pub u32_at : List ℕ → ℕ → ℕ
 u32_at bytes offset = from_le_bytes w32 (take 4 (drop offset bytes))
-
--- the 64-bit number that lies at an offset
-abbrev pub u64_at : List ℕ → ℕ → ℕ
-u64_at bytes offset = from_le_bytes w64 (take 8 (drop offset bytes))
 
 -- the bytes with that 32-bit number at an offset
 abbrev pub put_u32 : List ℕ → ℕ → ℕ → List ℕ

@@ -1,18 +1,15 @@
 -- Where the values of an object lie, by the shape of its type.
-use Rattle.std.specs.Prelude.{ℕ, zero, suc, ◌+◌, ◌*◌, ◌≤◌, List, [], ◌∷◌, map, filter}
+use Rattle.std.specs.Prelude.{ℕ, zero, suc, ◌+◌, ◌*◌, List, [], ◌∷◌, map}
 use Rattle.gc_types.specs.declared.value.FieldType.{FieldType}
 use Rattle.gc_types.specs.declared.value.StorageType.{StorageType}
 use Rattle.gc_types.specs.declared.kind.Layouts.{Layouts}
 use Rattle.gc_types.specs.Declarations.{Shape, struct_of, array_of, exn_of, func_of, constant_field}
-use Rattle.gc_types.specs.Layouts.{storage_width, is_gc_storage, field_offset, fields_end, round_up, struct_base, exception_base, array_base}
+use Rattle.gc_types.specs.Layouts.{storage_width, field_offset, fields_end, round_up, struct_base, exception_base, array_base}
 
 -- a place for one value: the type that it is stored as, and its offset from the object's first byte
 pub record StorageSlot : Type 0 where
   pub storage : StorageType
   pub offset : ℕ
-
-abbrev pub slot_end : StorageSlot → ℕ
-slot_end slot = slot.offset + storage_width slot.storage
 
 -- fields stand in order, each at a multiple of its width; the first at p or behind it
 abbrev pub field_slots : ℕ → List FieldType → List StorageSlot
@@ -37,29 +34,9 @@ shape_slots layouts (array_of element) n = element_slots element.element_type n 
 shape_slots layouts (exn_of params) n = field_slots (exception_base layouts) (map constant_field params)
 shape_slots layouts (func_of params results) n = []
 
--- the first offset that a slot may have: behind the header, an array's length, and an exception's instance and tag
-abbrev pub shape_first : Layouts → Shape → ℕ
-shape_first layouts (struct_of fields) = struct_base layouts
-shape_first layouts (array_of element) = array_base layouts
-shape_first layouts (exn_of params) = exception_base layouts
-shape_first layouts (func_of params results) = 0
-
 -- the bytes of an object of that shape, as its layout has them
 abbrev pub shape_size : Layouts → Shape → ℕ → ℕ
 shape_size layouts (struct_of fields) n = fields_end (struct_base layouts) fields
 shape_size layouts (array_of element) n = elements_from layouts element + n * storage_width element.element_type
 shape_size layouts (exn_of params) n = fields_end (exception_base layouts) (map constant_field params)
 shape_size layouts (func_of params results) n = 0
-
--- the slots lie one behind the other, from the first offset up to the second
-abbrev pub AreSpaced : ℕ → List StorageSlot → ℕ → Type 0
-AreSpaced from [] to = from ≤ to
-AreSpaced from (slot ∷ slots) to = (from ≤ slot.offset) × AreSpaced (slot_end slot) slots to
-
--- the slots that a collection follows
-abbrev pub followed_slots : List StorageSlot → List StorageSlot
-followed_slots slots = filter (λ (slot : StorageSlot). is_gc_storage slot.storage) slots
-
--- the offsets of the references among them, in order
-abbrev pub slot_offsets : List StorageSlot → List ℕ
-slot_offsets slots = map (λ (slot : StorageSlot). slot.offset) (followed_slots slots)
