@@ -1,25 +1,24 @@
 -- A collection may begin after an object was made.
-use Rattle.std.proofs.Common.{◌≡◌, ◌≢◌, ℕ, zero, suc, ◌+◌, ◌-◌, ◌*◌, ◌%◌, ◌<◌, ◌≤◌, ◌^◌, ◌⊎◌, inl, inr, Bool, true, false, nat_eq, if◌then◌else◌, List, [], ◌∷◌, ◌++◌, length, map, take, drop, replicate, Option, Some, None, Contains, option_map, refl, sym, ap, ◌∙◌, subst, arith}
+use Rattle.std.proofs.Common.{◌≡◌, ◌≢◌, ℕ, zero, suc, ◌+◌, ◌-◌, ◌*◌, ◌%◌, ◌<◌, ◌≤◌, ◌^◌, ◌⊎◌, inl, inr, Bool, true, false, nat_eq, if◌then◌else◌, List, [], ◌++◌, length, map, take, replicate, Some, None, Contains, refl, sym, ap, ◌∙◌, subst, arith}
 use Rattle.std.specs.Int.{w32, to_le_bytes, from_le_bytes}
 use Rattle.std.specs.FinMap.{get, insert}
 use Rattle.std.proofs.lemmas.Bool.Decides.{nat_tests}
-use Rattle.std.proofs.lemmas.Option.{none-some}
-use Rattle.std.proofs.lemmas.List.{drop-replicate, length-replicate, length-append, append-nil}
+use Rattle.std.proofs.lemmas.List.{drop-replicate, length-replicate, length-append}
 use Rattle.std.proofs.Math.Seq.{drop-append-add}
 use Rattle.std.specs.Prelude.{◌==◌}
 use Rattle.std.proofs.lemmas.Nat.{from_le_bytes-to_le_bytes_4}
 use Rattle.gc_types.specs.declared.kind.Layouts.{Layouts}
 use Rattle.gc_types.specs.declared.kind.Layouts.TheVariants.{Null, Counting, Copying}
 use Rattle.gc_types.specs.declared.kind.VMGcKind.{VMGcKind}
-use Rattle.gc_types.specs.declared.kind.VMGcKind.TheVariants.{ExternRef, AnyRef, EqRef, StructRef, ArrayRef, ExnRef}
+use Rattle.gc_types.specs.declared.kind.VMGcKind.TheVariants.{ExternRef, ArrayRef}
 use Rattle.gc_types.specs.declared.layout.GcStructLayout.{GcStructLayout}
 use Rattle.gc_types.specs.declared.layout.GcArrayLayout.{GcArrayLayout}
 use Rattle.gc_types.specs.Declarations.{Declaration}
 use Rattle.gc_types.specs.Layouts.{struct_base, array_base, ref_offsets, layout_at, array_layout_at}
 use Rattle.gc_refs.specs.Trace.{form_of}
-use Rattle.gc_roots.specs.Roots.{Root, root}
+use Rattle.gc_roots.specs.Roots.{Root}
 use Rattle.gc_memory.specs.Lists.{In, here, there}
-use Rattle.gc_memory.specs.Offsets.{stored_size, external_size}
+use Rattle.gc_memory.specs.Offsets.{stored_size}
 use Rattle.gc_view.specs.Bytes.{u32_at}
 use Rattle.gc_view.specs.Heaps.{HeapObject, HeapView}
 use Rattle.gc_view.proofs.Content.{get-put_same, get-put_other}
@@ -29,7 +28,8 @@ use Rattle.gc_heap.specs.Rules.{IsTyped, struct_spare, array_spare}
 use Rattle.gc_heap.specs.Content.{IsHeld}
 use Rattle.gc_heap.specs.Heap.{IsNewPlace, AddsObject, counts_with, layout_kind, exn_or_struct, new_struct, new_array, array_size}
 use Rattle.gc_heap.specs.Collection.{Start, CanCollect, AreCounted, IsWordOf, IsExternal}
-use Rattle.gc_heap.proofs.SpacedLemmas.{contains_in, in_map, Spaced-in}
+use Rattle.gc_heap.proofs.SpacedLemmas.{Spaced-in}
+use Rattle.gc_memory.proofs.ListLemmas.{contains_in, in_map}
 use Rattle.gc_heap.proofs.ReferenceLemmas.{external_none, content_by_form, typed_spaced}
 
 -- the start of a collection with these

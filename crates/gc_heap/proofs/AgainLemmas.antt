@@ -1,5 +1,5 @@
 -- A collection may begin again after a collection.
-use Rattle.std.proofs.Common.{◌≡◌, ℕ, ◌+◌, ◌-◌, ◌%◌, ◌<◌, ◌≤◌, ◌⊎◌, inl, inr, Bool, true, List, [], ◌∷◌, length, map, Option, Some, Contains, refl, sym, ap, ◌∙◌, subst, arith}
+use Rattle.std.proofs.Common.{◌≡◌, ℕ, ◌+◌, ◌-◌, ◌%◌, ◌<◌, inl, inr, Bool, true, List, [], ◌∷◌, map, Some, Contains, refl, sym, ap, ◌∙◌, subst, arith}
 use Rattle.std.specs.FinMap.{get}
 use Rattle.std.proofs.lemmas.Bool.Decides.{nat_tests}
 use Rattle.std.proofs.lemmas.List.{same_lists}
@@ -10,16 +10,15 @@ use Rattle.gc_types.specs.declared.kind.VMGcKind.TheVariants.{ExternRef, ArrayRe
 use Rattle.gc_types.specs.Declarations.{Declaration}
 use Rattle.gc_types.specs.Layouts.{struct_base, array_base}
 use Rattle.gc_roots.specs.Roots.{Root}
-use Rattle.gc_memory.specs.Lists.{In, here, there}
 use Rattle.gc_view.specs.Bytes.{u32_at}
 use Rattle.gc_view.specs.Heaps.{HeapObject, HeapView}
-use Rattle.gc_view.specs.Bytes.{SameBytes}
 use Rattle.gc_view.proofs.ByteLemmas.{u32_in_same}
-use Rattle.gc_heap.specs.Objects.{held_size, writable_offset, array_length, host_id}
-use Rattle.gc_heap.specs.References.{reference_offsets, typed_offsets, references, word_in}
+use Rattle.gc_heap.specs.Objects.{held_size, writable_offset, host_id}
+use Rattle.gc_heap.specs.References.{reference_offsets, typed_offsets, references, word_in, Spaced}
 use Rattle.gc_heap.specs.Content.{IsHeld, IsHeap, IsSpare, TracesInside}
 use Rattle.gc_heap.specs.Collection.{Start, CanCollect, AreCounted, IsWordOf, IsExternal, Reached, by_root, by_field, Kept, moved, moved_root, IsNoReference, IsMoved, Collected, KindCollected}
-use Rattle.gc_heap.proofs.SpacedLemmas.{only_item, Spaced, Spaced-in, contains_in, in_contains, in_map, map_in}
+use Rattle.gc_heap.proofs.SpacedLemmas.{Spaced-in}
+use Rattle.gc_memory.proofs.ListLemmas.{only_item, contains_in, in_contains, in_map, map_in}
 use Rattle.gc_heap.proofs.ReferenceLemmas.{HasSameShape, references_spaced, same_offsets, typed_kept, external_none}
 use Rattle.gc_heap.proofs.AddedLemmas.{start, array_bases}
 

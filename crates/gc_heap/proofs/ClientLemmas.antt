@@ -1,6 +1,6 @@
 -- A collection may begin after a struct without references was made and rooted.
-use Rattle.std.proofs.Common.{◌≡◌, ℕ, ◌+◌, ◌<◌, Bool, true, false, List, [], ◌∷◌, ◌++◌, length, map, Option, Some, None, Contains, option_map, slice_get, refl, sym, ap, ◌∙◌, subst, arith}
-use Rattle.std.specs.FinMap.{get, insert, empty, get-empty}
+use Rattle.std.proofs.Common.{◌≡◌, ℕ, Bool, false, List, [], ◌∷◌, ◌++◌, length, map, Option, Some, None, Contains, option_map, slice_get, refl, sym, ap, ◌∙◌, subst, arith}
+use Rattle.std.specs.FinMap.{get, empty, get-empty}
 use Rattle.std.proofs.lemmas.Option.{none-some}
 use Rattle.std.specs.Ordering.{nat_cmp}
 use Rattle.std.proofs.lemmas.List.{same_lists}
@@ -16,7 +16,7 @@ use Rattle.gc_view.specs.Heaps.{HeapObject, HeapView}
 use Rattle.gc_heap.specs.References.{reference_offsets, references, typed_offsets, info_offsets, traced_offsets, word_in, HoldsType}
 use Rattle.gc_heap.specs.Rules.{IsTyped}
 use Rattle.gc_heap.specs.Heap.{empty_heap}
-use Rattle.gc_heap.specs.Collection.{CanCollect, AreCounted, CountsExact, IsExternal, occurrences, IsMoved, moved_root}
+use Rattle.gc_heap.specs.Collection.{CanCollect, AreCounted, occurrences, IsMoved, moved_root}
 use Rattle.gc_heap.specs.Client.{IsPlainObject, AddsPlain}
 use Rattle.gc_heap.proofs.AddedLemmas.{start, Adds, IsBlank, owns_none}
 use Rattle.gc_heap.proofs.MadeLemmas.{NamesNone, can_collect_rooted}

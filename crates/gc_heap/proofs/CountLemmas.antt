@@ -1,25 +1,16 @@
 -- Counts stay exact: how often a place is named, and what barriers make of its count.
-use Rattle.std.proofs.Common.{◌≡◌, ◌≢◌, ℕ, zero, suc, ◌+◌, ◌-◌, ◌<◌, ◌≤◌, ◌⊎◌, inl, inr, Bool, true, false, not, cond, nat_eq, List, [], ◌∷◌, ◌++◌, length, map, filter, Option, Some, None, Contains, refl, sym, ap, ap₂, ◌∙◌, subst, arith}
+use Rattle.std.proofs.Common.{◌≡◌, ◌≢◌, ℕ, ◌+◌, ◌-◌, ◌⊎◌, inl, inr, Bool, true, false, not, cond, nat_eq, List, [], ◌∷◌, ◌++◌, length, map, filter, Option, Some, None, Contains, refl, sym, ap, ◌∙◌, arith}
 use Rattle.std.specs.FinMap.{FinMap, get, insert, gets}
-use Rattle.std.specs.FinSet as finset
 use Rattle.std.specs.Ordering.{nat_cmp}
 use Rattle.std.proofs.lemmas.Bool.Decides.{nat_tests}
 use Rattle.std.proofs.lemmas.Grind.{common_steps}
 use Rattle.std.proofs.lemmas.List.Elements.{Contains-append_cases, Contains-append_right, filter-append}
 use Rattle.std.proofs.lemmas.List.{map-append, length-append}
-use Rattle.gc_types.specs.declared.kind.Layouts.{Layouts}
-use Rattle.gc_types.specs.declared.kind.Layouts.TheVariants.{Null, Counting, Copying}
-use Rattle.gc_types.specs.Declarations.{Declaration}
-use Rattle.gc_roots.specs.Roots.{Root, root}
-use Rattle.gc_view.specs.Heaps.{HeapObject, HeapView, Counts}
-use Rattle.gc_heap.specs.References.{references}
-use Rattle.gc_heap.specs.Content.{total, IsHeld}
-use Rattle.gc_heap.specs.Barriers.{raise, lower, show, cloned, dropped, exposed}
-use Rattle.gc_heap.specs.Heap.{counts_with}
-use Rattle.gc_heap.specs.Collection.{CountsExact, AreCounted, IsWordOf, names_of, occurrences, held_words, stack_words}
-use Rattle.gc_heap.specs.Totals.{total-insert, total-replace, total-zero}
-use Rattle.gc_heap.proofs.SpacedLemmas.{only_item}
-use Rattle.gc_heap.proofs.AddedLemmas.{Adds, no_word, held_other}
+use Rattle.gc_roots.specs.Roots.{Root}
+use Rattle.gc_view.specs.Heaps.{Counts}
+use Rattle.gc_heap.specs.Barriers.{raise, lower, show}
+use Rattle.gc_heap.specs.Collection.{occurrences, held_words}
+use Rattle.gc_memory.proofs.ListLemmas.{only_item}
 
 -- a root whose word stands among the words of the roots that pass a test
 pub root_of_word : (p : Root → Bool) (roots : List Root) (w : ℕ) → Contains (map (λ (r : Root). r.word) (filter p roots)) w → (r : Root) × (Contains roots r × (r.word ≡ w))

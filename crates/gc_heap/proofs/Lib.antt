@@ -3,6 +3,7 @@ pub mod AddedLemmas
 pub mod AgainLemmas
 pub mod ClientLemmas
 pub mod CountLemmas
+pub mod GivenLemmas
 pub mod HeapLemmas
 pub mod KindLemmas
 pub mod MadeLemmas
@@ -16,4 +17,6 @@ pub mod ReferenceLemmas
 pub mod RootedLemmas
 pub mod SpacedLemmas
 pub mod StoredLemmas
+pub mod TakenLayouts
+pub mod TotalLemmas
 pub mod WrittenLemmas

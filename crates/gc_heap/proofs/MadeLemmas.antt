@@ -1,6 +1,6 @@
 -- A collection may begin after an object was made and rooted: counts stay exact.
-use Rattle.std.proofs.Common.{◌≡◌, ◌≢◌, ℕ, ◌+◌, ◌%◌, ◌<◌, ◌⊎◌, inl, inr, Bool, true, false, not, List, [], ◌∷◌, ◌++◌, map, Option, Some, None, Contains, refl, sym, ap, ap₂, ◌∙◌, subst, arith}
-use Rattle.std.specs.FinMap.{get, insert}
+use Rattle.std.proofs.Common.{◌≡◌, ◌≢◌, ℕ, ◌+◌, ◌%◌, ◌<◌, inl, inr, Bool, false, not, List, [], ◌∷◌, ◌++◌, Some, Contains, refl, sym, ap, ap₂, ◌∙◌, subst, arith}
+use Rattle.std.specs.FinMap.{get}
 use Rattle.std.specs.FinSet as finset
 use Rattle.std.specs.Prelude.{is_some}
 use Rattle.std.proofs.lemmas.List.{append-nil}
@@ -14,8 +14,9 @@ use Rattle.gc_heap.specs.References.{references}
 use Rattle.gc_heap.specs.Content.{total, IsHeld, IsHeap}
 use Rattle.gc_heap.specs.Heap.{AddsObject}
 use Rattle.gc_heap.specs.Collection.{CanCollect, CountsExact, AreCounted, IsWordOf, names_of, occurrences, held_words, stack_words}
-use Rattle.gc_heap.specs.Totals.{total-insert, total-zero}
-use Rattle.gc_heap.proofs.SpacedLemmas.{only_item}
+use Rattle.gc_heap.specs.Totals.{total-insert}
+use Rattle.gc_heap.proofs.TotalLemmas.{total-zero}
+use Rattle.gc_memory.proofs.ListLemmas.{only_item}
 use Rattle.gc_heap.proofs.AddedLemmas.{start, Adds, adds_of, IsBlank, OwnsHost, held_new, held_other, word_still, no_word, can_collect_added}
 use Rattle.gc_heap.proofs.CountLemmas.{root_of_word, no_occurrence, once, never, words-append, held-append, put_cases}
 

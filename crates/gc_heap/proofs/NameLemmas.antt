@@ -13,12 +13,11 @@ use Rattle.gc_types.specs.Declarations.{Declaration}
 use Rattle.gc_roots.specs.Roots.{Root}
 use Rattle.gc_view.specs.Heaps.{HeapObject, HeapView, Counts, no_counts}
 use Rattle.gc_heap.specs.Objects.{held_size}
-use Rattle.gc_heap.specs.References.{references, reference_offsets, word_in}
+use Rattle.gc_heap.specs.References.{references, reference_offsets, word_in, Spaced}
 use Rattle.gc_heap.specs.Content.{IsHeap, total}
-use Rattle.gc_heap.specs.Totals.{total-same}
+use Rattle.gc_heap.proofs.TotalLemmas.{total-same}
 use Rattle.gc_heap.specs.Barriers.{CanName, CanUnname, IsNamed}
 use Rattle.gc_heap.specs.Collection.{CanCollect, AreCounted, IsWordOf, names_of, occurrences, held_words}
-use Rattle.gc_heap.proofs.SpacedLemmas.{Spaced}
 use Rattle.gc_heap.proofs.ReferenceLemmas.{references_spaced}
 use Rattle.gc_heap.proofs.AddedLemmas.{start}
 use Rattle.gc_heap.proofs.CountLemmas.{held-between, held_one, once}

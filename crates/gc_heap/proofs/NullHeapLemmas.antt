@@ -26,7 +26,8 @@ use Rattle.gc_heap.specs.Objects.{held_size, size_with, first_offset, data_offse
 use Rattle.gc_heap.specs.Heap.{grown, put_object, with_data, IsWritable}
 use Rattle.gc_heap.specs.Barriers.{cloned, dropped, exposed, copied, emptied, overwritten, raise, lower, show}
 use Rattle.gc_heap.specs.NullWalk.{first_place, size_at, object_at, IsHost, LiesAt, placed, header_in, CanBegin, HasObject, HasFirstWord}
-use Rattle.gc_heap.specs.NullWalkLaws.{least, object_bytes, object_ty, size_word, length-object, held_is, len_entries, LiesAmong}
+use Rattle.gc_heap.specs.NullWalkLaws.{least, object_bytes, length-object, held_is, LiesAmong}
+use Rattle.gc_heap.proofs.NullWalkLemmas.{object_ty, size_word, len_entries}
 use Rattle.gc_heap.specs.NullStates.{bump_view, view_of, null_seen, HasMemory, IsBumped, IsNullSound, IsNullTaken}
 use Rattle.gc_heap.specs.NullLaws.{data_begins, nothing_in_detached, null_is_heap}
 use Rattle.gc_heap.specs.declared.null.NullHeap.{NullHeap}

@@ -11,9 +11,10 @@ use Rattle.std.proofs.lemmas.List.{length-replicate, length-append, length-drop,
 use Rattle.gc_types.specs.declared.kind.VMGcKind.{VMGcKind}
 use Rattle.gc_types.specs.declared.kind.VMGcKind.TheVariants.{ExternRef, AnyRef, EqRef, StructRef, ArrayRef, ExnRef}
 use Rattle.gc_types.specs.declared.kind.Layouts.TheVariants.{Null}
-use Rattle.gc_types.specs.Kinds.{kind_bits}
+use Rattle.gc_types.specs.Kinds.{kind_bits, kind_of}
+use Rattle.gc_types.proofs.KindLemmas.{kind_of-kind_bits}
 use Rattle.gc_types.specs.Layouts.{round_up}
-use Rattle.gc_refs.specs.Header.{spare_bits, kind_part, IsOfKind}
+use Rattle.gc_refs.specs.Header.{spare_bits, kind_part}
 use Rattle.gc_view.specs.Sizes.{alignment}
 use Rattle.gc_view.specs.Pages.{page, max_pages}
 use Rattle.gc_view.specs.Bytes.{u32_at, put_u32}
@@ -21,11 +22,11 @@ use Rattle.gc_view.specs.Heaps.{HeapObject}
 use Rattle.gc_view.specs.Bytes.{put_bytes, SameBytes}
 use Rattle.gc_heap.specs.Objects.{held_size, first_offset, writable_offset, IsObjectKind}
 use Rattle.gc_heap.specs.Heap.{IsWritable, with_data, put_object, AddsObject}
-use Rattle.gc_heap.specs.NullWalk.{first_place, kind_of, size_at, object_at, place_after, entries, IsHost, LiesAt, Follow, data_with, word_end, placed, PlacesObject}
+use Rattle.gc_heap.specs.NullWalk.{first_place, size_at, object_at, place_after, entries, IsHost, LiesAt, Follow, data_with, word_end, placed, PlacesObject}
 use Rattle.gc_heap.specs.NullStates.{bump_view, IsBumped}
-use Rattle.gc_heap.specs.NullWalkLaws.{first_least, least, spare_is, object_bytes, length-object, held_is, LiesAmong, some_is, found_lies, find_behind}
+use Rattle.gc_heap.specs.NullWalkLaws.{first_least, least, spare_is, object_bytes, length-object, held_is, LiesAmong, some_is, found_lies}
+use Rattle.gc_heap.proofs.NullWalkLemmas.{find_behind, size_in_same, kind_in_same, ty_in_same, same_object, lies_in_header, follow_in_same, follow_push, rewritten}
 use Rattle.gc_view.proofs.ByteLemmas.{SameBytes-part, SameBytes-then, u32_in_same, part_in_same, length-put_bytes, put_bytes-below, put_bytes-above, part-put_bytes, part-put_bytes_inside, u32_at-put_u32}
-use Rattle.gc_heap.proofs.NullWalkLemmas.{size_in_same, kind_in_same, ty_in_same, same_object, lies_in_header, follow_in_same, follow_push, rewritten}
 
 -- what is held lies in the memory
 pub held_lies : (bytes : List ℕ) (next n scopes q : ℕ) (object : HeapObject) → IsBumped bytes next n
@@ -180,18 +181,6 @@ kind_word_tells EqRef size h = record { small = omega arith; tells = omega arith
 kind_word_tells StructRef size h = record { small = omega arith; tells = omega arith; spare = omega arith }
 kind_word_tells ArrayRef size h = record { small = omega arith; tells = omega arith; spare = omega arith }
 kind_word_tells ExnRef size h = record { small = omega arith; tells = omega arith; spare = omega arith }
-
--- the bits of a kind tell it
-kind_of-kind_bits : (kind : VMGcKind) → kind_of (kind_bits kind) ≡ kind
-kind_of-kind_bits ExternRef = refl
-kind_of-kind_bits AnyRef = refl
-kind_of-kind_bits EqRef = refl
-kind_of-kind_bits StructRef = refl
-kind_of-kind_bits ArrayRef = refl
-kind_of-kind_bits ExnRef = refl
-
-pub same_kind : (k k' : VMGcKind) (word : ℕ) → IsOfKind k word → IsOfKind k' word → k ≡ k'
-same_kind k k' word is is' = sym (kind_of-kind_bits k) ∙ ap kind_of (is ∙ sym is') ∙ kind_of-kind_bits k'
 
 pub length-data_with : (word : Option ℕ) (size : ℕ) → word_end word ≤ size → length (data_with word size) ≡ size - 8
 length-data_with None size fits = length-replicate {A = ℕ} (size - 8) 0

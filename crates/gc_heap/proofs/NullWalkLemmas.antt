@@ -1,22 +1,23 @@
 -- What a write leaves of the objects that follow each other in a memory.
-use Rattle.std.proofs.Common.{◌≡◌, ◌≢◌, ℕ, zero, suc, ◌+◌, ◌-◌, ◌*◌, ◌%◌, ◌≤◌, Bool, true, false, cond, List, [], ◌∷◌, ◌++◌, take, drop, Option, Some, refl, sym, ap, subst, ◌∙◌, inl, inr, arith}
+use Rattle.std.proofs.Common.{◌≡◌, ◌≢◌, ℕ, zero, suc, ◌+◌, ◌-◌, ◌*◌, ◌%◌, ◌≤◌, Bool, true, false, cond, is_some, List, [], ◌∷◌, ◌++◌, take, drop, Option, Some, None, refl, sym, ap, subst, ◌∙◌, inl, inr, arith}
 use Rattle.std.specs.Ordering.{nat_cmp, eq_by_cmp}
 use Rattle.std.specs.FinMap as map
 use Rattle.std.specs.Cmp.{unsigned_tied}
+use Rattle.std.proofs.lemmas.Cmp.{nat_cmp_total}
 use Rattle.std.proofs.lemmas.Bool.{cases_eq, ne_eqb}
 use Rattle.gc_types.specs.declared.kind.Layouts.TheVariants.{Null}
 use Rattle.gc_types.specs.declared.kind.VMGcKind.{VMGcKind}
 use Rattle.gc_types.specs.declared.kind.VMGcKind.TheVariants.{ExternRef}
-use Rattle.gc_types.specs.Kinds.{kind_bits}
+use Rattle.gc_types.specs.Kinds.{kind_bits, kind_of}
 use Rattle.gc_types.specs.Layouts.{round_up}
 use Rattle.gc_refs.specs.Header.{spare_bits, kind_part}
 use Rattle.gc_view.specs.Sizes.{alignment}
 use Rattle.gc_view.specs.Heaps.{HeapObject}
 use Rattle.gc_heap.specs.Objects.{first_offset, IsObjectKind}
-use Rattle.gc_heap.specs.NullWalk.{kind_of, size_at, object_at, place_after, entries, IsHost, LiesAt, Follow}
-use Rattle.gc_view.specs.Bytes.{SameBytes}
+use Rattle.gc_heap.specs.NullWalk.{size_at, object_at, place_after, entries, IsHost, LiesAt, Follow}
+use Rattle.gc_view.specs.Bytes.{u32_at, SameBytes}
 use Rattle.gc_view.proofs.ByteLemmas.{SameBytes-part, part_in_same, u32_in_same}
-use Rattle.gc_heap.specs.NullWalkLaws.{least, follow_bounds, find_other, found_lies, spare_is}
+use Rattle.gc_heap.specs.NullWalkLaws.{least, follow_bounds, find_other, first_missing, found_lies, spare_is}
 
 pub size_in_same : (a b : List ℕ) (p : ℕ) → SameBytes a b p (p + 8) → size_at b p ≡ size_at a p
 unfolding size_at
@@ -162,3 +163,32 @@ rewritten (suc n) a b p e q object h found front back lies =
           let later = rewritten n a b next e q object h.1 found_in (SameBytes-part front next (q + 8) (omega (arith, least h.0)) (omega arith)) back lies in
           rewritten_later n a b p e q h l.from front later
     ]
+
+-- nothing lies from the end on
+pub find_behind : (n : ℕ) (bytes : List ℕ) (p e q : ℕ) → Follow n bytes p e → e ≤ q → map.find nat_cmp q (entries n bytes p) ≡ None
+find_behind zero bytes p e q h above = refl
+find_behind (suc n) bytes p e q h above =
+    let bound : place_after bytes p + 8 * n ≤ e = follow_bounds n bytes (place_after bytes p) e h.1 in
+    let ne : q ≢ p = λ is. absurd (omega (arith, least h.0)) in
+    find_other q p (object_at bytes p) (entries n bytes (place_after bytes p)) ne
+    ∙ find_behind n bytes (place_after bytes p) e q h.1 above
+
+-- the words of its header
+pub object_ty : (bytes : List ℕ) (q : ℕ) → (object_at bytes q).ty ≡ u32_at bytes (q + 4)
+unfolding object_at
+object_ty bytes q = refl
+
+pub size_word : (bytes : List ℕ) (q : ℕ) → size_at bytes q ≡ u32_at bytes q % spare_bits
+unfolding size_at
+size_word bytes q = refl
+
+-- there are as many objects as the walk takes
+pub len_entries : (n : ℕ) (bytes : List ℕ) (p e : ℕ) → Follow n bytes p e → map.len {R = nat_cmp} (map.from_entries (entries n bytes p)) ≡ n
+len_entries zero bytes p e h = map.len-empty nat_cmp HeapObject
+len_entries (suc n) bytes p e h =
+    let rest : map.FinMap nat_cmp HeapObject = map.from_entries (entries n bytes (place_after bytes p)) in
+    let missing : map.get rest p ≡ None = first_missing n bytes p h.0 in
+    map.len-insert nat_cmp_total rest p (object_at bytes p)
+    ∙ ap (λ (o : Option HeapObject). cond (is_some o) (map.len rest) (map.len rest + 1)) missing
+    ∙ ap (λ k. k + 1) (len_entries n bytes (place_after bytes p) e h.1)
+    ∙ omega arith

@@ -9,7 +9,6 @@ use Rattle.std.proofs.lemmas.List.{length-replicate}
 use Rattle.std.proofs.lemmas.List.Elements.{Contains-append_right}
 use Rattle.std.proofs.lemmas.Nat.{from_le_bytes-to_le_bytes_4}
 use Rattle.gc_types.specs.declared.kind.Layouts.{Layouts}
-use Rattle.gc_types.specs.declared.kind.Layouts.TheVariants.{Null, Counting, Copying}
 use Rattle.gc_types.specs.declared.kind.VMGcKind.TheVariants.{StructRef}
 use Rattle.gc_types.specs.declared.layout.GcStructLayout.{GcStructLayout}
 use Rattle.gc_types.specs.Declarations.{Declaration}

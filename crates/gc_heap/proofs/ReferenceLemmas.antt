@@ -1,5 +1,5 @@
 -- The references of an object: how they are found, where they lie, and what leaves them where they are.
-use Rattle.std.proofs.Common.{◌≡◌, ℕ, ◌+◌, ◌-◌, ◌*◌, ◌/◌, ◌%◌, ◌≤◌, ◌⊎◌, inl, inr, Bool, true, false, nat_eq, if◌then◌else◌, List, [], ◌∷◌, length, map, Option, Some, None, option_map, refl, sym, ap, ap₂, subst, ◌∙◌, arith}
+use Rattle.std.proofs.Common.{◌≡◌, ℕ, ◌+◌, ◌*◌, ◌%◌, ◌≤◌, inl, inr, Bool, true, false, nat_eq, if◌then◌else◌, List, [], length, map, Option, Some, None, option_map, refl, sym, ap, ap₂, subst, ◌∙◌, arith}
 use Rattle.std.specs.Prelude.{All, ◌==◌, slice_get}
 use Rattle.std.proofs.lemmas.Bool.{cases_eq, eq-eqb, ne_eqb}
 use Rattle.std.proofs.lemmas.Option.{none-some}
@@ -19,10 +19,11 @@ use Rattle.gc_refs.specs.Trace.{form_of}
 use Rattle.gc_memory.specs.Lists.{In}
 use Rattle.gc_view.specs.Heaps.{HeapObject}
 use Rattle.gc_heap.specs.Objects.{held_size, size_with, array_length, writable_offset, HasFields}
-use Rattle.gc_heap.specs.References.{bit_offsets, word_offsets, bitmap_offsets, element_offsets, info_offsets, typed_offsets, traced_offsets, reference_offsets, HoldsType, HoldsLayout, HoldsArrayLayout}
+use Rattle.gc_heap.specs.References.{bit_offsets, word_offsets, bitmap_offsets, element_offsets, info_offsets, typed_offsets, traced_offsets, reference_offsets, HoldsType, HoldsLayout, HoldsArrayLayout, Spaced}
 use Rattle.gc_heap.specs.Rules.{IsTyped}
 use Rattle.gc_heap.specs.Content.{TracesInside, IsSpare}
-use Rattle.gc_heap.proofs.SpacedLemmas.{Spaced, spaced_wider, spaced_bits, spaced_words, spaced_fields, ref_width, no_bits, in_contains, aligned_bits, aligned_words, aligned_fields}
+use Rattle.gc_heap.proofs.SpacedLemmas.{spaced_wider, spaced_bits, spaced_words, spaced_fields, ref_width, no_bits, aligned_bits, aligned_words, aligned_fields}
+use Rattle.gc_memory.proofs.ListLemmas.{in_contains}
 
 -- How an object of a copying heap is traced.
 pub data Form (o : HeapObject) (k : VMGcKind) : Type 0 where

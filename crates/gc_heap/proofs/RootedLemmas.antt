@@ -1,6 +1,6 @@
 -- A collection may begin after a root was added, taken away or shown, and after the barrier of it.
-use Rattle.std.proofs.Common.{◌≡◌, ◌≢◌, ℕ, ◌+◌, ◌%◌, ◌<◌, ◌⊎◌, inl, inr, Bool, true, false, not, cond, nat_eq, ◌||◌, List, [], ◌∷◌, ◌++◌, map, filter, Option, Some, None, Contains, IsTrue, IsSome, refl, sym, ap, ap₂, ◌∙◌, subst, arith}
-use Rattle.std.specs.FinMap.{get, insert}
+use Rattle.std.proofs.Common.{◌≡◌, ◌≢◌, ℕ, ◌+◌, ◌%◌, ◌<◌, ◌⊎◌, inl, inr, Bool, true, false, cond, ◌||◌, List, [], ◌∷◌, ◌++◌, map, filter, Option, Some, None, Contains, IsSome, refl, sym, ap, ◌∙◌, subst, arith}
+use Rattle.std.specs.FinMap.{get}
 use Rattle.std.specs.FinSet as finset
 use Rattle.std.specs.Cmp.{nat_cmp_total, unsigned_tied}
 use Rattle.std.specs.Ordering.{nat_cmp, eq_by_cmp}
@@ -10,13 +10,13 @@ use Rattle.std.proofs.lemmas.List.Elements.{Contains-append_cases, Contains-appe
 use Rattle.gc_types.specs.declared.kind.Layouts.{Layouts}
 use Rattle.gc_types.specs.declared.kind.Layouts.TheVariants.{Null, Counting, Copying}
 use Rattle.gc_types.specs.Declarations.{Declaration}
-use Rattle.gc_roots.specs.Roots.{Root, root}
-use Rattle.gc_view.specs.Heaps.{HeapObject, HeapView, Counts}
+use Rattle.gc_roots.specs.Roots.{Root}
+use Rattle.gc_view.specs.Heaps.{HeapView, Counts}
 use Rattle.gc_heap.specs.References.{references}
-use Rattle.gc_heap.specs.Content.{total, IsHeld, IsHeap}
+use Rattle.gc_heap.specs.Content.{total, IsHeap}
 use Rattle.gc_heap.specs.Barriers.{raise, lower, show, cloned, dropped, exposed}
-use Rattle.gc_heap.specs.Collection.{Start, CanCollect, CountsExact, AreCounted, IsWordOf, names_of, occurrences, held_words, stack_words}
-use Rattle.gc_heap.proofs.SpacedLemmas.{only_item}
+use Rattle.gc_heap.specs.Collection.{CanCollect, CountsExact, AreCounted, IsWordOf, names_of, occurrences, stack_words}
+use Rattle.gc_memory.proofs.ListLemmas.{only_item}
 use Rattle.gc_heap.proofs.AddedLemmas.{start}
 use Rattle.gc_heap.proofs.MadeLemmas.{counted_place, uncounted}
 use Rattle.gc_heap.proofs.CountLemmas.{raise_are, lower_are, show_are, raise_shown, lower_shown, root_names, held_one, stack_one, held-between, words-append, never}

@@ -1,7 +1,6 @@
 -- Offsets of references that lie one behind the other.
-use Rattle.std.proofs.Common.{◌≡◌, ℕ, zero, suc, ◌+◌, ◌-◌, ◌*◌, ◌/◌, ◌%◌, ◌<◌, ◌≤◌, ◌⊎◌, inl, inr, Bool, true, false, nat_eq, cond, if◌then◌else◌, List, [], ◌∷◌, ◌++◌, map, filter, Contains, slice_index_or, refl, sym, ap, subst, ◌∙◌, arith}
+use Rattle.std.proofs.Common.{◌≡◌, ℕ, zero, suc, ◌+◌, ◌-◌, ◌*◌, ◌/◌, ◌%◌, ◌≤◌, ◌⊎◌, inl, inr, true, false, nat_eq, cond, if◌then◌else◌, List, [], ◌∷◌, ◌++◌, map, filter, refl, sym, ap, subst, ◌∙◌, arith}
 use Rattle.std.proofs.lemmas.Bool.{cases_eq}
-use Rattle.std.proofs.lemmas.List.Elements.{Contains-append_cases, Contains-append_right}
 use Rattle.gc_types.specs.declared.value.FieldType.{FieldType}
 use Rattle.gc_types.specs.declared.value.StorageType.{StorageType}
 use Rattle.gc_types.specs.declared.value.StorageType.TheVariants as storage
@@ -10,47 +9,8 @@ use Rattle.gc_types.specs.declared.value.ValType.TheVariants as val
 use Rattle.gc_types.specs.declared.layout.FieldLayout.{FieldLayout}
 use Rattle.gc_types.specs.Layouts.{ref_offsets, field_layouts, fields_end, field_offset, is_gc_storage, storage_width}
 use Rattle.gc_memory.specs.Lists.{In, here, there}
-use Rattle.gc_heap.specs.References.{word_offsets, bit_offsets}
-
--- Offsets of words inside a range, one behind the other.
-abbrev pub Spaced : ℕ → ℕ → List ℕ → Type 0
-Spaced lo hi [] = Unit {0}
-Spaced lo hi (o ∷ os) = (lo ≤ o) × (o + 4 ≤ hi) × Spaced (o + 4) hi os
-
-pub only_item : {A : Type 0} (x y : A) → Contains (x ∷ []) y → x ≡ y
-only_item {A} x y h = at h.0 h.1 h.2
-  where
-    at : (k : ℕ) → k < 1 → slice_index_or (x ∷ []) k y ≡ y → x ≡ y
-    at zero below e = e
-    at (suc k) below e = absurd (omega arith)
-
--- the two words for an element of a list
-pub contains_in : (xs : List ℕ) (x : ℕ) → Contains xs x → In x xs
-contains_in [] x c = absurd (omega (arith, c.1))
-contains_in (y ∷ xs) x c = elim (Contains-append_cases (y ∷ []) xs x c) [
-  | inl one ↦ subst (λ z. In z (y ∷ xs)) (only_item y x one) here
-  | inr rest ↦ there (contains_in xs x rest)
-]
-
-pub in_contains : (xs : List ℕ) (x : ℕ) → In x xs → Contains xs x
-in_contains [] x i = elim i [ ]
-in_contains (_ ∷ xs) x here = (0, omega arith, refl)
-in_contains (y ∷ xs) x (there i) = Contains-append_right (y ∷ []) xs x (in_contains xs x i)
-
-pub map_in : (f : ℕ → ℕ) (xs : List ℕ) (x : ℕ) → In x xs → In (f x) (map f xs)
-map_in f [] x i = elim i [ ]
-map_in f (_ ∷ xs) x here = here
-map_in f (y ∷ xs) x (there i) = there (map_in f xs x i)
-
-pub in_map : (f : ℕ → ℕ) (xs : List ℕ) (y : ℕ) → In y (map f xs) → (x : ℕ) × (In x xs × (f x ≡ y))
-in_map f [] y i = elim i [ ]
-in_map f (x ∷ xs) _ here = (x, (here, refl))
-in_map f (x ∷ xs) y (there i) = let r = in_map f xs y i in (r.0, (there r.1.0, r.1.1))
-
--- the first of a list, or a later one
-pub first_or_later : (y x : ℕ) (xs : List ℕ) → In x (y ∷ xs) → (x ≡ y) ⊎ In x xs
-first_or_later _ x xs here = inl refl
-first_or_later y x xs (there i) = inr i
+use Rattle.gc_memory.proofs.ListLemmas.{first_or_later}
+use Rattle.gc_heap.specs.References.{Spaced, word_offsets, bit_offsets}
 
 -- offsets that are spaced lie in their range
 pub Spaced-in : (lo hi : ℕ) (os : List ℕ) (o : ℕ) → Spaced lo hi os → In o os → (lo ≤ o) × (o + 4 ≤ hi)

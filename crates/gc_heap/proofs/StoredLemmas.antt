@@ -1,5 +1,5 @@
 -- A collection may begin after a number or a reference was written to an object, and after the barrier of it.
-use Rattle.std.proofs.Common.{◌≡◌, ◌≢◌, ℕ, ◌+◌, ◌-◌, ◌%◌, ◌<◌, ◌≤◌, ◌^◌, ◌⊎◌, inl, inr, Bool, true, false, nat_eq, List, [], ◌∷◌, ◌++◌, length, map, Option, Some, None, Contains, refl, sym, ap, ap₂, ◌∙◌, subst, arith}
+use Rattle.std.proofs.Common.{◌≡◌, ◌≢◌, ℕ, ◌+◌, ◌-◌, ◌%◌, ◌<◌, ◌≤◌, ◌^◌, ◌⊎◌, inl, inr, Bool, List, [], ◌∷◌, length, map, Option, Some, None, Contains, refl, sym, ap, ap₂, ◌∙◌, subst, arith}
 use Rattle.std.specs.Int.{w32, to_le_bytes}
 use Rattle.std.specs.FinMap.{get, insert}
 use Rattle.std.specs.FinSet as finset
@@ -11,14 +11,15 @@ use Rattle.gc_types.specs.Layouts.{struct_base}
 use Rattle.gc_roots.specs.Roots.{Root}
 use Rattle.gc_memory.specs.Lists.{In, here, there}
 use Rattle.gc_view.specs.Heaps.{HeapObject, HeapView, Counts}
-use Rattle.gc_heap.specs.Objects.{held_size, writable_offset, HasFields}
-use Rattle.gc_heap.specs.References.{reference_offsets, references, word_in}
-use Rattle.gc_heap.specs.Content.{total, IsHeld, IsHeap}
+use Rattle.gc_heap.specs.Objects.{held_size, writable_offset}
+use Rattle.gc_heap.specs.References.{reference_offsets, references, word_in, Spaced}
+use Rattle.gc_heap.specs.Content.{total, IsHeap}
 use Rattle.gc_heap.specs.Barriers.{raise, lower, copied, emptied, overwritten}
 use Rattle.gc_heap.specs.Heap.{with_data, put_object}
-use Rattle.gc_heap.specs.Collection.{CanCollect, CountsExact, AreCounted, IsWordOf, names_of, occurrences, held_words, stack_words}
-use Rattle.gc_heap.specs.Totals.{total-replace, total-least}
-use Rattle.gc_heap.proofs.SpacedLemmas.{Spaced, Spaced-in, Spaced-apart, spaced_wider, contains_in, in_contains, map_in}
+use Rattle.gc_heap.specs.Collection.{CanCollect, CountsExact, AreCounted, IsWordOf, names_of, occurrences}
+use Rattle.gc_heap.proofs.TotalLemmas.{total-replace, total-least}
+use Rattle.gc_heap.proofs.SpacedLemmas.{Spaced-in, Spaced-apart}
+use Rattle.gc_memory.proofs.ListLemmas.{contains_in, in_contains, map_in}
 use Rattle.gc_heap.proofs.ReferenceLemmas.{references_spaced, same_offsets, references_aligned}
 use Rattle.gc_heap.proofs.AddedLemmas.{start}
 use Rattle.gc_heap.proofs.CountLemmas.{CountsAre, raise_are, lower_are, raise_shown, lower_shown, put_cases, occurrences-append, never}

@@ -1,30 +1,27 @@
 -- A collection may begin after a write to an object.
-use Rattle.std.proofs.Common.{◌≡◌, ◌≢◌, ℕ, ◌+◌, ◌-◌, ◌%◌, ◌<◌, ◌≤◌, ◌^◌, ◌⊎◌, inl, inr, Bool, true, false, nat_eq, List, [], ◌∷◌, ◌++◌, length, map, take, drop, Option, Some, None, Contains, refl, sym, ap, ap₂, ◌∙◌, subst, arith}
+use Rattle.std.proofs.Common.{◌≡◌, ◌≢◌, ℕ, ◌+◌, ◌-◌, ◌<◌, ◌≤◌, ◌^◌, ◌⊎◌, inl, inr, Bool, true, false, nat_eq, List, length, map, Some, Contains, refl, sym, ap, ◌∙◌, subst, arith}
 use Rattle.std.specs.Int.{w32, to_le_bytes, from_le_bytes}
 use Rattle.std.specs.FinMap.{get, insert}
 use Rattle.std.proofs.lemmas.Bool.Decides.{nat_tests}
 use Rattle.std.proofs.lemmas.Nat.{from_le_bytes-to_le_bytes_4}
 use Rattle.gc_types.specs.declared.kind.Layouts.{Layouts}
-use Rattle.gc_types.specs.declared.kind.Layouts.TheVariants.{Null, Counting, Copying}
 use Rattle.gc_types.specs.declared.kind.VMGcKind.{VMGcKind}
 use Rattle.gc_types.specs.declared.kind.VMGcKind.TheVariants.{ExternRef, AnyRef, EqRef, StructRef, ArrayRef, ExnRef}
 use Rattle.gc_types.specs.Declarations.{Declaration}
 use Rattle.gc_types.specs.Layouts.{struct_base, array_base}
 use Rattle.gc_roots.specs.Roots.{Root}
-use Rattle.gc_memory.specs.Lists.{In}
-use Rattle.gc_view.specs.Bytes.{u32_at}
 use Rattle.gc_view.specs.Heaps.{HeapObject, HeapView}
 use Rattle.gc_view.specs.Bytes.{put_bytes}
 use Rattle.gc_view.proofs.Content.{get-put_same, get-put_other}
 use Rattle.gc_view.proofs.ByteLemmas.{u32_in_same, length-put_bytes, put_bytes-below, put_bytes-above, part-put_bytes}
-use Rattle.gc_heap.specs.Objects.{held_size, size_with, writable_offset, array_length, HasFields, IsObjectKind}
+use Rattle.gc_heap.specs.Objects.{held_size, size_with, writable_offset, HasFields}
 use Rattle.gc_heap.specs.References.{reference_offsets, references, word_in}
 use Rattle.gc_heap.specs.Rules.{IsTyped}
-use Rattle.gc_heap.specs.Content.{IsHeld, IsHeap, IsSpare}
-use Rattle.gc_heap.specs.Heap.{IsWritable, with_data, put_object}
-use Rattle.gc_heap.specs.Collection.{Start, CanCollect, AreCounted, IsWordOf, IsExternal}
-use Rattle.gc_heap.proofs.SpacedLemmas.{Spaced, Spaced-in, Spaced-apart, contains_in, in_contains, in_map, map_in}
-use Rattle.gc_heap.proofs.ReferenceLemmas.{HasSameShape, references_spaced, same_offsets, typed_kept}
+use Rattle.gc_heap.specs.Content.{IsHeld, IsSpare}
+use Rattle.gc_heap.specs.Heap.{with_data}
+use Rattle.gc_heap.specs.Collection.{CanCollect, AreCounted, IsWordOf, IsExternal}
+use Rattle.gc_memory.proofs.ListLemmas.{contains_in, in_contains, in_map}
+use Rattle.gc_heap.proofs.ReferenceLemmas.{HasSameShape, same_offsets, typed_kept}
 use Rattle.gc_heap.proofs.AddedLemmas.{start, array_bases}
 
 -- Another object was put in the place of one.

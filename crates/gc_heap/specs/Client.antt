@@ -43,7 +43,8 @@ pub record AddsPlain (layouts : Layouts) (types : List Declaration) (layout : Gc
   pub counts : new.counts ≡ counts_with layouts old.counts place
 
 -- such an object was made, and the number lies in it
-pub record MakesNumber (layouts : Layouts) (types : List Declaration) (layout : GcStructLayout) (offset number : ℕ) (old new : HeapView) (place : ℕ) : Type 0 where
+pub record MakesNumber (layouts : Layouts) (types : List Declaration) (layout : GcStructLayout) (offset number : ℕ)
+    (old new : HeapView) (place : ℕ) : Type 0 where
   pub object : HeapObject
   pub adds : AddsPlain layouts types layout old new place object
   pub number_is : unsigned_at w32 (data_part layouts object offset 4) ≡ number

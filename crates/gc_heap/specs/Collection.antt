@@ -84,7 +84,8 @@ pub record IsMoved (layouts : Layouts) (types : List Declaration) (to : ℕ → 
   pub spare : new.spare ≡ old.spare
   pub size : length new.bytes ≡ length old.bytes
   pub refers : (offset : ℕ) → Contains (reference_offsets layouts types old) offset → word_in layouts new offset ≡ moved to (word_in layouts old offset)
-  pub rest : (at d : ℕ) → IsNoReference (reference_offsets layouts types old) (struct_base layouts + at) → slice_index_or new.bytes at d ≡ slice_index_or old.bytes at d
+  pub rest : (at d : ℕ) → IsNoReference (reference_offsets layouts types old) (struct_base layouts + at)
+      → slice_index_or new.bytes at d ≡ slice_index_or old.bytes at d
 
 -- A collection is complete: the objects are those that are kept, at their new places and with their
 -- references moved; the root words are moved with them; and the host table has lost the values of the

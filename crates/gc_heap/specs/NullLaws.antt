@@ -81,7 +81,8 @@ bumped_is_heap bytes next n scopes s small =
           let l = lies q o held in
           subst (LiesAtPlace Null (length bytes) q) (sym l.is) (lies_at_place bytes q l.lies l.aligned (omega (arith, l.from)));
       apart = λ p q o o' at_p at_q before.
-          let before_end : p + size_at bytes p ≤ q = apart_among n bytes first_place e p q o o' (omega arith) s.follow (found p o at_p) (found q o' at_q) before in
+          let before_end : p + size_at bytes p ≤ q =
+          apart_among n bytes first_place e p q o o' (omega arith) s.follow (found p o at_p) (found q o' at_q) before in
           omega (arith, size p o at_p);
       fits = omega arith;
       pages = s.pages;
@@ -93,7 +94,8 @@ bumped_is_heap bytes next n scopes s small =
       scopes = small;
     }
 
-memory_is_heap : (memory : Option (List ℕ)) (next objects scopes : ℕ) → HasMemory memory next objects → scopes < 2 ^ 64 → IsHeap Null (view_of memory next objects scopes)
+memory_is_heap : (memory : Option (List ℕ)) (next objects scopes : ℕ) → HasMemory memory next objects → scopes < 2 ^ 64
+    → IsHeap Null (view_of memory next objects scopes)
 memory_is_heap None next objects scopes s small = detached_is_heap scopes small
 memory_is_heap (Some bytes) next objects scopes s small = bumped_is_heap bytes next objects scopes s small
 

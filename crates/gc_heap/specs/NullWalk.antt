@@ -1,11 +1,11 @@
 -- A memory whose objects follow each other from a first place on, as in the null heap: each begins
 -- with its kind word, whose spare bits are its size, and its type word.
-use Rattle.std.specs.Prelude.{◌≡◌, ℕ, zero, suc, ◌+◌, ◌-◌, ◌%◌, ◌<◌, ◌≤◌, ◌==◌, if◌then◌else◌, List, [], ◌∷◌, ◌++◌, take, drop, replicate, length, Option, Some, None}
+use Rattle.std.specs.Prelude.{◌≡◌, ℕ, zero, suc, ◌+◌, ◌-◌, ◌%◌, ◌<◌, ◌≤◌, List, [], ◌∷◌, ◌++◌, take, drop, replicate, length, Option, Some, None}
 use Rattle.std.specs.Int.{w32, to_le_bytes}
 use Rattle.gc_types.specs.declared.kind.Layouts.TheVariants.{Null}
 use Rattle.gc_types.specs.declared.kind.VMGcKind.{VMGcKind}
-use Rattle.gc_types.specs.declared.kind.VMGcKind.TheVariants.{ExternRef, AnyRef, EqRef, StructRef, ArrayRef, ExnRef}
-use Rattle.gc_types.specs.Kinds.{kind_bits}
+use Rattle.gc_types.specs.declared.kind.VMGcKind.TheVariants.{ExternRef}
+use Rattle.gc_types.specs.Kinds.{kind_bits, kind_of}
 use Rattle.gc_types.specs.Layouts.{round_up}
 use Rattle.gc_refs.specs.Header.{Header, spare_bits, kind_part, IsOfKind}
 use Rattle.gc_tables.specs.SideTables.{max_entries}
@@ -22,15 +22,6 @@ first_place = 16
 -- the bytes of a header
 abbrev pub header_size : ℕ
 header_size = 8
-
--- the kind of these bits; an external object's where they are no kind's
-abbrev pub kind_of : ℕ → VMGcKind
-kind_of bits =
-    if bits == kind_bits AnyRef then AnyRef else
-    (if bits == kind_bits EqRef then EqRef else
-    (if bits == kind_bits StructRef then StructRef else
-    (if bits == kind_bits ArrayRef then ArrayRef else
-    (if bits == kind_bits ExnRef then ExnRef else ExternRef))))
 
 -- the bytes of the object at a place
 unfoldable pub size_at : List ℕ → ℕ → ℕ

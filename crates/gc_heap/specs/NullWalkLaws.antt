@@ -1,5 +1,5 @@
 -- Laws of objects that follow each other: where they lie, and what they take together.
-use Rattle.std.proofs.Common.{◌≡◌, ◌≢◌, ℕ, zero, suc, ◌+◌, ◌-◌, ◌*◌, ◌%◌, ◌≤◌, ◌<◌, is_some, length, cond, List, ◌∷◌, take, drop, Option, Some, None, refl, sym, ap, subst, ◌∙◌, inl, inr, arith, eq-eqb}
+use Rattle.std.proofs.Common.{◌≡◌, ◌≢◌, ℕ, zero, suc, ◌+◌, ◌-◌, ◌*◌, ◌%◌, ◌≤◌, ◌<◌, length, cond, List, ◌∷◌, take, drop, Some, None, refl, sym, ap, subst, ◌∙◌, inl, inr, arith, eq-eqb}
 use Rattle.std.specs.Ordering.{nat_cmp}
 use Rattle.std.specs.FinMap as map
 use Rattle.std.specs.Cmp.{unsigned_tied}
@@ -9,8 +9,6 @@ use Rattle.std.proofs.lemmas.Bool.{cases_eq, ne_eqb}
 use Rattle.gc_types.specs.declared.kind.Layouts.TheVariants.{Null}
 use Rattle.gc_types.specs.declared.kind.VMGcKind.{VMGcKind}
 use Rattle.gc_types.specs.declared.kind.VMGcKind.TheVariants.{ExternRef, AnyRef, EqRef, StructRef, ArrayRef, ExnRef}
-use Rattle.gc_refs.specs.Header.{spare_bits}
-use Rattle.gc_view.specs.Bytes.{u32_at}
 use Rattle.gc_view.specs.Heaps.{HeapObject}
 use Rattle.gc_heap.specs.Objects.{first_offset, held_size, size_with}
 use Rattle.gc_heap.specs.Content.{total}
@@ -45,15 +43,6 @@ find_tied q o es = ap (λ b. cond b (Some o) (map.find nat_cmp q es)) (unsigned_
 pub find_other : (q p : ℕ) (o : HeapObject) (es : List (ℕ × HeapObject)) → q ≢ p → map.find nat_cmp q ((p, o) ∷ es) ≡ map.find nat_cmp q es
 find_other q p o es ne = ap (λ b. cond b (Some o) (map.find nat_cmp q es)) (unsigned_tied q p ∙ ne_eqb q p ne)
 
--- nothing lies from the end on
-pub find_behind : (n : ℕ) (bytes : List ℕ) (p e q : ℕ) → Follow n bytes p e → e ≤ q → map.find nat_cmp q (entries n bytes p) ≡ None
-find_behind zero bytes p e q h above = refl
-find_behind (suc n) bytes p e q h above =
-    let bound : place_after bytes p + 8 * n ≤ e = follow_bounds n bytes (place_after bytes p) e h.1 in
-    let ne : q ≢ p = λ is. absurd (omega (arith, least h.0)) in
-    find_other q p (object_at bytes p) (entries n bytes (place_after bytes p)) ne
-    ∙ find_behind n bytes (place_after bytes p) e q h.1 above
-
 -- an object that lies among those from p up to e
 pub record LiesAmong (bytes : List ℕ) (p e q : ℕ) (object : HeapObject) : Type 0 where
   pub lies : LiesAt bytes q
@@ -74,7 +63,8 @@ found_lies (suc n) bytes p e q object aligned h found =
     let rest : List (ℕ × HeapObject) = entries n bytes (place_after bytes p) in
     elim (cases_eq q p) [
       | inl here ↦
-          let at : map.find nat_cmp p ((p, object_at bytes p) ∷ rest) ≡ Some object = subst (λ k. map.find nat_cmp k ((p, object_at bytes p) ∷ rest) ≡ Some object) here found in
+          let at : map.find nat_cmp p ((p, object_at bytes p) ∷ rest) ≡ Some object =
+          subst (λ k. map.find nat_cmp k ((p, object_at bytes p) ∷ rest) ≡ Some object) here found in
           let is : object ≡ object_at bytes p = some_is _ _ (sym (find_tied p (object_at bytes p) rest) ∙ at) in
           subst (λ k. LiesAmong bytes p e k object) (sym here) (record { lies = h.0; is = is; aligned = aligned; from = omega arith; to = omega arith })
       | inr there ↦
@@ -85,14 +75,6 @@ found_lies (suc n) bytes p e q object aligned h found =
 pub object_bytes : (bytes : List ℕ) (q : ℕ) → (object_at bytes q).bytes ≡ take (size_at bytes q - 8) (drop (q + 8) bytes)
 unfolding object_at
 object_bytes bytes q = refl
-
-pub object_ty : (bytes : List ℕ) (q : ℕ) → (object_at bytes q).ty ≡ u32_at bytes (q + 4)
-unfolding object_at
-object_ty bytes q = refl
-
-pub size_word : (bytes : List ℕ) (q : ℕ) → size_at bytes q ≡ u32_at bytes q % spare_bits
-unfolding size_at
-size_word bytes q = refl
 
 -- the length of what lies behind the header of an object
 pub length-object : (bytes : List ℕ) (q : ℕ) → LiesAt bytes q → length (object_at bytes q).bytes ≡ size_at bytes q - 8
@@ -125,21 +107,11 @@ find_before (suc n) bytes p q below =
     ∙ find_before n bytes (place_after bytes p) q (omega arith)
 
 -- the place of an object isn't that of a later one
-pub first_missing : (n : ℕ) (bytes : List ℕ) (p : ℕ) → LiesAt bytes p → map.get {R = nat_cmp} (map.from_entries (entries n bytes (place_after bytes p))) p ≡ None
+pub first_missing : (n : ℕ) (bytes : List ℕ) (p : ℕ) → LiesAt bytes p
+    → map.get {R = nat_cmp} (map.from_entries (entries n bytes (place_after bytes p))) p ≡ None
 first_missing n bytes p lies =
     map.get-from_entries nat_cmp_total (entries n bytes (place_after bytes p)) p
     ∙ find_before n bytes (place_after bytes p) p (omega (arith, least lies))
-
--- there are as many objects as the walk takes
-pub len_entries : (n : ℕ) (bytes : List ℕ) (p e : ℕ) → Follow n bytes p e → map.len {R = nat_cmp} (map.from_entries (entries n bytes p)) ≡ n
-len_entries zero bytes p e h = map.len-empty nat_cmp HeapObject
-len_entries (suc n) bytes p e h =
-    let rest : map.FinMap nat_cmp HeapObject = map.from_entries (entries n bytes (place_after bytes p)) in
-    let missing : map.get rest p ≡ None = first_missing n bytes p h.0 in
-    map.len-insert nat_cmp_total rest p (object_at bytes p)
-    ∙ ap (λ (o : Option HeapObject). cond (is_some o) (map.len rest) (map.len rest + 1)) missing
-    ∙ ap (λ k. k + 1) (len_entries n bytes (place_after bytes p) e h.1)
-    ∙ omega arith
 
 -- the objects together take no more bytes than they lie in
 pub total_entries : (n : ℕ) (bytes : List ℕ) (p e : ℕ) → Follow n bytes p e → total (held_size Null) (map.from_entries (entries n bytes p)) + p ≤ e
@@ -164,5 +136,6 @@ apart_among (suc n) bytes s e p q o o' aligned h at_p at_q before =
     let l = found_lies n bytes (place_after bytes s) e q o' (omega arith) h.1 q_in in
     elim (cases_eq p s) [
       | inl here ↦ subst (λ k. k + size_at bytes k ≤ q) (sym here) (omega (arith, l.from))
-      | inr there ↦ apart_among n bytes (place_after bytes s) e p q o o' (omega arith) h.1 (sym (find_other p s (object_at bytes s) rest there) ∙ at_p) q_in before
+      | inr there ↦
+          apart_among n bytes (place_after bytes s) e p q o o' (omega arith) h.1 (sym (find_other p s (object_at bytes s) rest there) ∙ at_p) q_in before
     ]

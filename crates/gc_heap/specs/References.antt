@@ -20,6 +20,11 @@ abbrev pub word_offsets : ℕ → ℕ → List ℕ
 word_offsets from zero = []
 word_offsets from (suc n) = from ∷ word_offsets (from + 4) n
 
+-- offsets of words inside a range, one behind the other
+abbrev pub Spaced : ℕ → ℕ → List ℕ → Type 0
+Spaced lo hi [] = Unit {0}
+Spaced lo hi (o ∷ os) = (lo ≤ o) × (o + 4 ≤ hi) × Spaced (o + 4) hi os
+
 -- an offset, where the lowest bit is set
 abbrev pub if_bit : ℕ → ℕ → List ℕ
 if_bit bits offset = if bits % 2 == 1 then offset ∷ [] else []

@@ -1,6 +1,6 @@
 -- What differs between the kinds of heap: one record, with one value a kind. How large objects are, and how
 -- many bytes a heap wants, stands below (`SizeRules` of `gc_view`); where references lie in `References`.
-use Rattle.std.specs.Prelude.{Bool, List, Some, false, not, true, if◌then◌else◌, length, map, nat_le, sum, ℕ, ◌%◌, ◌*◌, ◌+◌, ◌-◌, ◌/◌, ◌^◌, ◌<◌, ◌==◌, ◌≡◌, ◌≤◌, ◌⊎◌, All}
+use Rattle.std.specs.Prelude.{Bool, List, Some, false, not, true, if◌then◌else◌, length, map, sum, ℕ, ◌%◌, ◌*◌, ◌+◌, ◌-◌, ◌/◌, ◌^◌, ◌<◌, ◌==◌, ◌≡◌, ◌≤◌, ◌⊎◌, All}
 use Rattle.std.specs.FinMap as finite
 use Rattle.gc_types.specs.Declarations.{Declaration}
 use Rattle.gc_types.specs.declared.kind.Layouts.{Layouts}
@@ -147,7 +147,8 @@ copying_rules = record {
   Keeps = λ s place. Reached Copying s place;
   Increments = λ s n. (places : List ℕ) × (AreReached Copying s places × (n ≡ length places / objects_per_increment + 3));
   StepCount = λ s n. (places : List ℕ) × (AreReached Copying s places
-      × (n ≡ length places + sum (map (λ (place : ℕ). reference_count Copying s.types (finite.get s.heap.content place)) places) + length (present_words s.roots)));
+      × (n ≡ length places + sum (map (λ (place : ℕ). reference_count Copying s.types (finite.get s.heap.content place)) places)
+      + length (present_words s.roots)));
   Leaves = λ s to h roots. h.needs_gc ≡ not s.heap.needs_gc;
 }
 

@@ -36,9 +36,6 @@ use std::sync::ledger::Ledger;
 /// Every object begins at a multiple of this many bytes.
 const ALIGNMENT: u64 = 16;
 
-/// Bytes of a header. The data of an object begins there.
-const HEADER_SIZE: u32 = 8;
-
 /// Bytes of a word.
 const WORD: u32 = 4;
 

@@ -20,7 +20,7 @@ use Rattle.gc_heap.specs.Content.{IsHeap, IsHeld}
 use Rattle.gc_heap.specs.Access.{IsReadable, data_part}
 use Rattle.gc_heap.proofs.AccessLemmas.{reads_data}
 use Rattle.gc_heap.proofs.WrittenLemmas.{writable_from}
-use Rattle.gc_heap.proofs.SpacedLemmas.{first_or_later, contains_in, in_contains}
+use Rattle.gc_memory.proofs.ListLemmas.{first_or_later, contains_in, in_contains}
 use Rattle.gc_mutator.specs.Fields.{HasWord, StepsTo, Leads, slot_word}
 
 element_in : (n from x : ℕ) → from ≤ x → (x - from) % 4 ≡ 0 → (x - from) / 4 < n → In x (word_offsets from n)

@@ -22,10 +22,10 @@ use Rattle.gc_heap.specs.Content.{IsHeap, total}
 use Rattle.gc_heap.specs.Heap.{IsWritable, with_data, put_object}
 use Rattle.gc_heap.specs.Barriers.{CanUnname, CanUnnameSlot, raise, lower, copied, emptied, overwritten}
 use Rattle.gc_heap.specs.Collection.{CanCollect, IsWordOf, names_of, occurrences}
-use Rattle.gc_heap.specs.Totals.{total-least}
+use Rattle.gc_heap.proofs.TotalLemmas.{total-least}
 use Rattle.gc_heap.proofs.AddedLemmas.{start}
 use Rattle.gc_heap.proofs.CountLemmas.{occurrences-append, once}
-use Rattle.gc_heap.proofs.SpacedLemmas.{contains_in, in_contains, map_in}
+use Rattle.gc_memory.proofs.ListLemmas.{contains_in, in_contains, map_in}
 use Rattle.gc_heap.proofs.StoredLemmas.{IsSlotOf, IsWrite, can_collect_word, can_collect_stored, can_collect_number}
 use Rattle.gc_heap.proofs.WrittenLemmas.{fits_data}
 use Rattle.gc_mutator.specs.Mutators.{MutatorView, word_of, source_word}

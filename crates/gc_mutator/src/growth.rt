@@ -8,11 +8,7 @@ ghost use Rattle.gc_mutator.specs.Refusals.{CanGrow, RefusesGrowth};
 use crate::fault::MutatorFault;
 use crate::mutator::Mutator;
 use gc_heap::GcHeap;
-
-/// The bytes of a page, and the pages of the largest memory.
-const PAGE: u64 = 65536;
-
-const MOST_PAGES: u64 = 65535;
+use gc_memory::memory::{MAX_PAGES, PAGE};
 
 /// Takes the memory of a heap, and gives it back with so many pages more. Without memory for them it is
 /// given back as it was.
@@ -29,7 +25,7 @@ fn grow_heap<H: GcHeap>(heap: &mut H, pages: u32) -> Result<(), MutatorFault>
     let mut memory = heap.take_memory();
     match memory.grow(pages) {
         Ok(()) => {
-            heap.replace_memory(memory, PAGE * u64::from(pages));
+            heap.replace_memory(memory, PAGE as u64 * u64::from(pages));
             Ok(())
         }
         Err(_) => {
@@ -54,7 +50,7 @@ impl<H: GcHeap> Mutator<H> {
             return Err(MutatorFault::CollectFirst);
         }
         let capacity = self.heap.heap_slice().len() as u64;
-        if capacity + PAGE * u64::from(pages) > PAGE * MOST_PAGES {
+        if capacity + PAGE as u64 * u64::from(pages) > PAGE as u64 * u64::from(MAX_PAGES) {
             return Err(MutatorFault::Full);
         }
         grow_heap(&mut self.heap, pages)

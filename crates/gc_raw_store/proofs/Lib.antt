@@ -1,3 +1,2 @@
-pub mod GiveLemmas
 mod PairLemmas
 pub mod StoreLemmas

@@ -18,7 +18,8 @@ use Rattle.gc_heap.specs.Content.{IsHeap, total}
 use Rattle.gc_heap.specs.Extents.{held_size, size_with}
 use Rattle.gc_heap.specs.Objects.{external, host_id}
 use Rattle.gc_heap.specs.Collection.{has_host}
-use Rattle.gc_heap.specs.Totals.{total-empty, total-insert, total-remove}
+use Rattle.gc_heap.specs.Totals.{total-empty, total-insert}
+use Rattle.gc_heap.proofs.TotalLemmas.{total-remove}
 use Rattle.gc_heap.proofs.AddedLemmas.{external_id}
 use Rattle.gc_heap.proofs.NameLemmas.{total-le}
 use Rattle.gc_tables.specs.SideTables.{max_entries}

@@ -1,3 +1,3 @@
-mod GiveLemmas
 mod RootLemmas
+mod StayLemmas
 mod StepLemmas

@@ -20,7 +20,7 @@ use Rattle.gc_heap.specs.Collection.{CanCollect, IsWordOf}
 use Rattle.gc_heap.proofs.AddedLemmas.{start, IsBlank, owns_none, blank_traced}
 use Rattle.gc_heap.proofs.MadeLemmas.{can_collect_made}
 use Rattle.gc_heap.proofs.RootedLemmas.{can_collect_any_roots}
-use Rattle.gc_heap.proofs.SpacedLemmas.{only_item}
+use Rattle.gc_memory.proofs.ListLemmas.{only_item}
 use Rattle.gc_heap.proofs.ReferenceLemmas.{content_by_form}
 use Rattle.gc_heap.proofs.StoredLemmas.{can_collect_word, can_collect_number}
 use Rattle.gc_heap.proofs.WrittenLemmas.{fits_data}

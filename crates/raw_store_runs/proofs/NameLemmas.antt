@@ -13,7 +13,7 @@ use Rattle.gc_heap.specs.Barriers.{CanName, CanNameSlot, CanUnname, CanUnnameSlo
 use Rattle.gc_heap.specs.Heap.{AddsObject, CanGiveBack}
 use Rattle.gc_raw_store.specs.Stores.{GcStoreView, HoldsNoObject}
 use Rattle.gc_raw_store.proofs.StoreLemmas.{number_unnamed}
-use Rattle.gc_raw_store.proofs.GiveLemmas.{can_give_back}
+use Rattle.gc_heap.proofs.GivenLemmas.{can_give_back}
 use Rattle.raw_store_runs.specs.Names.{HasNames}
 
 -- a new object has one name

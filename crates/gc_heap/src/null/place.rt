@@ -11,9 +11,10 @@ ghost use Rattle.gc_heap.specs.Heap.{Allocated};
 ghost use Rattle.gc_heap.specs.NullWalk.{data_with, word_end, placed, IsNew, PlacesObject};
 ghost use Rattle.gc_heap.specs.NullStates.{bump_view, null_seen, IsBumped, IsNullSound};
 
-use super::{ALIGNMENT, HEADER_SIZE, NullHeap, WORD};
+use super::{ALIGNMENT, NullHeap, WORD};
 use crate::heap::HeapFault;
 use gc_memory::HeapMemory;
+use gc_memory::offsets::HEADER_SIZE;
 use gc_refs::{VMGcHeader, VMGcRef};
 
 /// The least size, in bytes, that the spare bits of a kind word can't tell.

@@ -10,8 +10,9 @@ ghost use Rattle.gc_heap.specs.Objects.{held_size, IsHeaderOf, IsObjectData};
 ghost use Rattle.gc_heap.specs.NullWalk.{header_in, CanBegin, HasObject, HasFirstWord};
 ghost use Rattle.gc_heap.specs.NullStates.{null_seen, IsNullSound};
 
-use super::{ALIGNMENT, HEADER_SIZE, NullHeap, WORD};
+use super::{ALIGNMENT, NullHeap, WORD};
 use gc_memory::HeapMemory;
+use gc_memory::offsets::HEADER_SIZE;
 use gc_refs::{RefFault, VMGcHeader, VMGcRef};
 use gc_types::VMGcKind;
 

@@ -1,7 +1,8 @@
 use Rattle.std.proofs.Common.{refl}
 use Rattle.gc_heap.specs.Heap.{IsArray, new_array, array_size}
 use Rattle.heap_client.specs.Made.{MadeArray}
-use Rattle.heap_client.proofs.GiveLemmas.{can_give_back, given_stays, held_made}
+use Rattle.heap_client.proofs.StayLemmas.{given_stays, held_made}
+use Rattle.gc_heap.proofs.GivenLemmas.{can_give_back}
 use Rattle.heap_client.proofs.allocation.give_array_back.Goals as goal
 use Rattle.heap_client.proofs.allocation.give_array_back.Goals.{In-Ok}
 

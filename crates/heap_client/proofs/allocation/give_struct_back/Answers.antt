@@ -1,6 +1,7 @@
 use Rattle.gc_heap.specs.Heap.{IsStructOrExn, new_struct}
 use Rattle.heap_client.specs.Made.{MadeStruct}
-use Rattle.heap_client.proofs.GiveLemmas.{can_give_back, struct_or_exn, given_stays, held_made}
+use Rattle.heap_client.proofs.StayLemmas.{given_stays, held_made}
+use Rattle.gc_heap.proofs.GivenLemmas.{can_give_back, struct_or_exn}
 use Rattle.heap_client.proofs.allocation.give_struct_back.Goals as goal
 use Rattle.heap_client.proofs.allocation.give_struct_back.Goals.{In-Ok}
 

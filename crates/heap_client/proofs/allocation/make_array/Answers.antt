@@ -1,7 +1,7 @@
 use Rattle.std.specs.Option.{option_copied}
 use Rattle.std.proofs.Common.{◌≡◌, Some, sym, ap, ◌∙◌}
 use Rattle.gc_types.specs.Layouts.{array_layout_at}
-use Rattle.gc_mutator.proofs.MakeLemmas.{taken_array}
+use Rattle.gc_heap.proofs.TakenLayouts.{taken_array}
 use Rattle.heap_client.proofs.allocation.make_array.Goals as goal
 use Rattle.heap_client.proofs.allocation.make_array.Goals.{In-Some}
 

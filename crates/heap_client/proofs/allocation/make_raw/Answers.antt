@@ -2,7 +2,7 @@ use Rattle.gc_types.specs.declared.kind.VMGcKind.TheVariants.{StructRef}
 use Rattle.gc_refs.specs.Header.{Header, kind_part, spare_bits}
 use Rattle.std.proofs.Common.{◌%◌, sym, ap}
 use Rattle.gc_heap.specs.Objects.{zeroed}
-use Rattle.heap_client.proofs.GiveLemmas.{allocated_stays}
+use Rattle.heap_client.proofs.StayLemmas.{allocated_stays}
 use Rattle.heap_client.proofs.allocation.make_raw.Goals as goal
 
 pub returns-clause-stays : goal.returns-clause-stays

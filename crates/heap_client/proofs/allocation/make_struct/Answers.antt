@@ -1,7 +1,7 @@
 use Rattle.std.specs.Option.{option_copied}
 use Rattle.std.proofs.Common.{◌≡◌, Some, sym, ap, ◌∙◌}
 use Rattle.gc_types.specs.Layouts.{layout_at}
-use Rattle.gc_mutator.proofs.MakeLemmas.{taken_layout}
+use Rattle.gc_heap.proofs.TakenLayouts.{taken_layout}
 use Rattle.heap_client.proofs.allocation.make_struct.Goals as goal
 use Rattle.heap_client.proofs.allocation.make_struct.Goals.{In-Some}
 

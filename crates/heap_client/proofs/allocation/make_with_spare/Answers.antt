@@ -1,5 +1,5 @@
 use Rattle.gc_heap.specs.Heap.{new_struct}
-use Rattle.heap_client.proofs.GiveLemmas.{held_made}
+use Rattle.heap_client.proofs.StayLemmas.{held_made}
 use Rattle.heap_client.proofs.allocation.make_with_spare.Goals as goal
 
 pub set_spare-requires-clause-held : goal.set_spare-requires-clause-held

@@ -5,7 +5,7 @@ use Rattle.gc_refs.proofs.RoundTrips.{kind_stays}
 use Rattle.gc_heap.specs.Heap.{IsSameHeader, with_spare_of}
 use Rattle.gc_heap.specs.Objects.{IsHeaderOf}
 use Rattle.heap_client.specs.Made.{StaysOpen}
-use Rattle.heap_client.proofs.GiveLemmas.{put_stays}
+use Rattle.heap_client.proofs.StayLemmas.{put_stays}
 use Rattle.heap_client.proofs.allocation.set_spare.Goals as goal
 use Rattle.heap_client.proofs.allocation.set_spare.Goals.{After-set_header}
 

@@ -1,6 +1,6 @@
 use Rattle.std.proofs.Common.{refl}
 use Rattle.gc_heap.specs.Heap.{AddsObject, IsArray, array_size, new_array}
-use Rattle.gc_raw_store.proofs.GiveLemmas.{can_give_back}
+use Rattle.gc_heap.proofs.GivenLemmas.{can_give_back}
 use Rattle.raw_store_runs.proofs.making.make_array.Goals as goal
 
 pub returns-in-Ok-Ok : goal.returns-in-Ok-Ok

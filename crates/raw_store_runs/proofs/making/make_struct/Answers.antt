@@ -2,8 +2,8 @@ use Rattle.std.specs.Option.{option_copied}
 use Rattle.std.proofs.Common.{◌≡◌, Some, sym, ap, ◌∙◌}
 use Rattle.gc_types.specs.Layouts.{layout_at}
 use Rattle.gc_heap.specs.Heap.{AddsObject, IsStructOrExn, new_struct}
-use Rattle.gc_mutator.proofs.MakeLemmas.{IsTakenLayout, taken_layout}
-use Rattle.gc_raw_store.proofs.GiveLemmas.{can_give_back, struct_or_exn}
+use Rattle.gc_heap.proofs.TakenLayouts.{IsTakenLayout, taken_layout}
+use Rattle.gc_heap.proofs.GivenLemmas.{can_give_back, struct_or_exn}
 use Rattle.raw_store_runs.proofs.making.make_struct.Goals as goal
 use Rattle.raw_store_runs.proofs.making.make_struct.Goals.{In-Some}
 

@@ -5,7 +5,8 @@ use Rattle.gc_refs.specs.Header.{Header}
 use Rattle.gc_view.specs.Bytes.{put_u32}
 use Rattle.gc_view.specs.Bytes.{SameBytes}
 use Rattle.gc_heap.specs.NullWalk.{placed, PlacesObject}
-use Rattle.gc_heap.proofs.NullMemoryLemmas.{places_new, same_kind}
+use Rattle.gc_types.proofs.KindLemmas.{same_kind}
+use Rattle.gc_heap.proofs.NullMemoryLemmas.{places_new}
 use Rattle.gc_heap.proofs.null.place.write_object.Goals as goal
 
 pub returns : goal.returns
@@ -23,5 +24,5 @@ returns c = λ kind is_kind.
     let second = c.write_u32-2.ensures.bytes ∙ ap (put_u32 c.write_u32.new.self (place + 4)) ty_is ∙ ap (λ b. put_u32 b (place + 4) ty) first in
     let same = subst (λ (b : List ℕ). SameBytes b c.write_data.new.memory 0 (place + 8)) second c.write_data.ensures.below in
     subst (λ (k : VMGcKind). PlacesObject bytes c.write_data.new.memory place (placed k ty c.args.word size) size)
-    (same_kind new.kind kind c.args.header.kind_word new.is_kind is_kind)
+    (same_kind new.kind kind (new.is_kind ∙ sym is_kind))
     (places_new bytes c.write_data.new.memory place new.kind ty size c.args.word new.object_kind new.least new.room new.host c.requires.small ty_small c.requires.room same c.write_data.ensures.data_is)

@@ -2,7 +2,8 @@ use Rattle.std.specs.Option.{option_copied}
 use Rattle.std.proofs.Common.{◌≡◌, Some, sym, ap, ◌∙◌}
 use Rattle.gc_types.specs.Layouts.{layout_at}
 use Rattle.gc_heap.specs.Collection.{has_host}
-use Rattle.gc_mutator.proofs.MakeLemmas.{taken_layout, struct_made}
+use Rattle.gc_mutator.proofs.MakeLemmas.{struct_made}
+use Rattle.gc_heap.proofs.TakenLayouts.{taken_layout}
 use Rattle.gc_mutator.proofs.mutator.Mutator.make_struct.Goals as goal
 use Rattle.gc_mutator.proofs.mutator.Mutator.make_struct.Goals.{In-Some}
 
