@@ -12,7 +12,7 @@ use Rattle.gc_heap.specs.Heap.{put_object, grown}
 use Rattle.gc_heap.specs.Barriers.{raise, lower, show, cloned, dropped, exposed, copied, emptied, overwritten}
 use Rattle.gc_copying.specs.Layout.{first_place, places_in}
 use Rattle.gc_copying.specs.Growth.{bump_in_more}
-use Rattle.gc_copying.specs.ObjectLaws.{len-at}
+use Rattle.gc_copying.proofs.ObjectLemmas.{len-at}
 use Rattle.gc_copying.specs.CopyingHeapLaw.{copying_is_heap}
 use Rattle.gc_copying.specs.States.{seen_in, seen_of, copying_seen, IsSound, IsOut, IsCopyingSound}
 use Rattle.gc_copying.specs.declared.space.Space.{Space}

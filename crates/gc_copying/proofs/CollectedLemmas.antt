@@ -12,7 +12,7 @@ use Rattle.gc_memory.specs.Words.{word}
 use Rattle.gc_memory.specs.Lists.{In, here, there, sum_over, occ}
 use Rattle.gc_memory.specs.Chains.{Chain}
 use Rattle.gc_memory.proofs.ChainLemmas.{LiesInChain, Chain-lies, Chain-places}
-use Rattle.gc_memory.proofs.ListLemmas.{occ-same, In-occ}
+use Rattle.gc_memory.proofs.ListLemmas.{occ-same, In-occ, contains_in, in_contains}
 use Rattle.gc_view.specs.Pages.{page, max_pages}
 use Rattle.gc_view.specs.Heaps.{HeapObject, HeapView}
 use Rattle.gc_heap.specs.Objects.{host_id}
@@ -22,7 +22,8 @@ use Rattle.gc_copying.specs.declared.space.Space.{Space}
 use Rattle.gc_copying.specs.Spaces.{half_first}
 use Rattle.gc_copying.specs.Layout.{first_place, size_at, places_in, object_at}
 use Rattle.gc_copying.specs.Content.{Linked, last, link, space_view, IsWhole, IsSpace}
-use Rattle.gc_copying.specs.ObjectLaws.{held_in, held_only}
+use Rattle.gc_copying.specs.ObjectLaws.{held_only}
+use Rattle.gc_copying.proofs.ObjectLemmas.{held_in}
 use Rattle.gc_copying.specs.HeapLaws.{half_lies}
 use Rattle.gc_copying.specs.CopyWords.{host_word, IsExternal}
 use Rattle.gc_copying.specs.CopyStart.{From, refs, ListsExternals}
@@ -31,7 +32,6 @@ use Rattle.gc_copying.specs.CopyEnd.{IsRenamed, IsRenamedRoot, HostsSwept, Lists
 use Rattle.gc_copying.specs.CopyBetween.{start_of, BeginsIn}
 use Rattle.gc_copying.proofs.SpaceLemmas.{space_of}
 use Rattle.gc_copying.proofs.ReadLemmas.{HeldAt, host_of}
-use Rattle.gc_copying.proofs.ReferenceLemmas.{contains_in, in_contains}
 use Rattle.gc_copying.proofs.StartLemmas.{lies_so, held, found, refs_so, first_same, external_bits_are, kind_by_bits, reached_so, reached_in, reached_back}
 use Rattle.gc_copying.proofs.MovedLemmas.{same_size, moved_whole, is_moved}
 

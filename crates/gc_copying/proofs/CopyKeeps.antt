@@ -15,7 +15,8 @@ use Rattle.gc_copying.specs.CopyStart.{From, refs, Reached}
 use Rattle.gc_copying.specs.CopyMiddle.{Leads, CopyOf, left_at, IsCopied, Mid, Later}
 use Rattle.gc_copying.specs.CopySteps.{Copies}
 use Rattle.gc_copying.proofs.MoreBytes.{flag_set}
-use Rattle.gc_copying.proofs.MidLemmas.{Spaced-in, lies, new_lies, halves_apart, old_apart, no_both, copy_size, copy_kept}
+use Rattle.gc_copying.proofs.MidLemmas.{lies, new_lies, halves_apart, old_apart, no_both, copy_size, copy_kept}
+use Rattle.gc_heap.proofs.SpacedLemmas.{Spaced-in}
 
 -- a number of the places is at most the sum
 pub sum_over-member : (f : ℕ → ℕ) (ps : List ℕ) (p : ℕ) → In p ps → f p ≤ sum_over f ps

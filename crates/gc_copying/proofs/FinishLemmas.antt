@@ -11,7 +11,8 @@ use Rattle.gc_copying.specs.CopyWords.{size_at, forwarding, IsPlaceWord, offsets
 use Rattle.gc_copying.specs.CopyStart.{From, refs, Reached, by_root, by_field}
 use Rattle.gc_copying.specs.CopyMiddle.{Leads, Moves, Mid}
 use Rattle.gc_copying.specs.CopySteps.{RootsMoved, words_of}
-use Rattle.gc_copying.proofs.MidLemmas.{lies, new_lies, Spaced-in}
+use Rattle.gc_copying.proofs.MidLemmas.{lies, new_lies}
+use Rattle.gc_heap.proofs.SpacedLemmas.{Spaced-in}
 use Rattle.gc_copying.proofs.CopyKeeps.{copy_range}
 use Rattle.gc_copying.proofs.WorkLemmas.{copy_refs}
 

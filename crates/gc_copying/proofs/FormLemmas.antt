@@ -12,7 +12,8 @@ use Rattle.gc_memory.specs.Words.{word}
 use Rattle.gc_memory.specs.Changes.{SameAcross}
 use Rattle.gc_memory.proofs.WordLemmas.{word-is, word_across}
 use Rattle.gc_copying.specs.declared.space.Space.{Space}
-use Rattle.gc_copying.specs.CopyWords.{size_at, Spaced, bitmap_places, element_places, info_places, traced, offsets_at}
+use Rattle.gc_copying.specs.CopyWords.{size_at, bitmap_places, element_places, info_places, traced, offsets_at}
+use Rattle.gc_heap.specs.References.{Spaced}
 use Rattle.gc_copying.specs.CopyStart.{From, refs}
 use Rattle.gc_copying.specs.CopyMiddle.{CopyOf}
 use Rattle.gc_copying.specs.CopySteps.{Scanning, CanScan, ScansAll}

@@ -38,6 +38,7 @@ can_copy {s = s} {m = m} {bump = bump} {limit = limit} mid p i fresh =
       least = omega (arith, at.least);
       apart = subst (λ (n : ℕ). (p + n ≤ bump) ⊎ (bump + n ≤ p)) (sym size)
           (halves_apart mid p (p + size_at s.memory p) bump (bump + size_at s.memory p) at.from at.to (omega (arith, mid.from, mid.frontier)) fits);
+      whole = omega (arith, at.whole);
       fresh = fresh;
       small = omega (arith, mid.start.small);
     }

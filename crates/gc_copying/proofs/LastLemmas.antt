@@ -20,7 +20,8 @@ use Rattle.gc_copying.specs.CopyMiddle.{Leads}
 use Rattle.gc_copying.specs.CopySteps.{Midway}
 use Rattle.gc_copying.specs.CopySweep.{Sweeps, SameCounts}
 use Rattle.gc_copying.specs.CopyEnd.{AtSweep, IsLink, IsRenamed, HostsSwept, IsFinished}
-use Rattle.gc_copying.proofs.MidLemmas.{lies, no_both, Spaced-in}
+use Rattle.gc_copying.proofs.MidLemmas.{lies, no_both}
+use Rattle.gc_heap.proofs.SpacedLemmas.{Spaced-in}
 use Rattle.gc_copying.proofs.CopyKeeps.{copy_range}
 use Rattle.gc_copying.proofs.ScanKeeps.{new_apart}
 use Rattle.gc_copying.proofs.FormLemmas.{head_word}

@@ -15,8 +15,10 @@ pub mod MakeLemmas
 pub mod MidLemmas
 pub mod MoreBytes
 pub mod MovedLemmas
+pub mod ObjectLemmas
 pub mod OffsetLemmas
 pub mod PhaseLemmas
+pub mod PlacedObjects
 pub mod ReadLemmas
 pub mod ReferenceLemmas
 pub mod RootLemmas

@@ -8,7 +8,8 @@ use Rattle.std.proofs.lemmas.Nat.{from_le_bytes-to_le_bytes_4}
 use Rattle.gc_types.specs.declared.kind.Layouts.TheVariants.{Copying}
 use Rattle.gc_types.specs.declared.kind.VMGcKind.{VMGcKind}
 use Rattle.gc_types.specs.declared.kind.VMGcKind.TheVariants.{ExternRef, AnyRef, EqRef, StructRef, ArrayRef, ExnRef}
-use Rattle.gc_types.specs.Kinds.{kind_bits}
+use Rattle.gc_types.specs.Kinds.{kind_bits, kind_of}
+use Rattle.gc_types.proofs.KindLemmas.{kind_of-kind_bits, same_kind}
 use Rattle.gc_types.specs.Layouts.{round_up}
 use Rattle.gc_refs.specs.Header.{Header, header_of, spare_bits, kind_part, IsOfKind}
 use Rattle.gc_tables.specs.SideTables.{max_entries}
@@ -29,13 +30,14 @@ use Rattle.gc_heap.specs.References.{bitmap_offsets}
 use Rattle.gc_heap.specs.Rules.{SpareFits, array_spare}
 use Rattle.gc_heap.specs.Content.{IsSpare}
 use Rattle.gc_copying.specs.Spaces.{half_start, half_end}
-use Rattle.gc_copying.specs.Layout.{first_place, places_in, size_at, kind_of, kind_at, data_at, object_at}
+use Rattle.gc_copying.specs.Layout.{first_place, places_in, size_at, kind_at, data_at, object_at}
 use Rattle.gc_copying.specs.Content.{Linked, last, link, space_view, IsExternalAt, IsWhole, IsSpace}
 use Rattle.gc_copying.specs.HeapLaws.{nothing, sixteen, skips, half_lies, first_aligned, lies_in_space}
 use Rattle.gc_copying.specs.declared.place.Room.TheVariants as room
 use Rattle.gc_copying.specs.States.{IsSound, seen_in}
 use Rattle.gc_copying.specs.declared.space.Space.{Space}
-use Rattle.gc_copying.specs.Placing.{CanPlace, WritesBlock, PutsObject, MovesHead, FindsRoom}
+use Rattle.gc_copying.specs.Placing.{CanPlace, WritesBlock, FindsRoom}
+use Rattle.gc_copying.proofs.PlacedObjects.{PutsObject, MovesHead}
 use Rattle.gc_copying.proofs.SpaceLemmas.{same_object, adds, room_is}
 
 -- a header, a size and zeros, written one behind the other
@@ -59,19 +61,6 @@ writes_block m a b d p h size least room first kind ty second third small =
           ∙ ap (λ n. take n (drop (p + 12) (put_bytes b (p + 12) (replicate (size - 12) 0)))) (sym zeros_len)
           ∙ part-put_bytes b (p + 12) (replicate (size - 12) 0) (omega arith);
     }
-
--- the bits of a kind tell it
-pub kind_of-kind_bits : (kind : VMGcKind) → kind_of (kind_bits kind) ≡ kind
-kind_of-kind_bits ExternRef = refl
-kind_of-kind_bits AnyRef = refl
-kind_of-kind_bits EqRef = refl
-kind_of-kind_bits StructRef = refl
-kind_of-kind_bits ArrayRef = refl
-kind_of-kind_bits ExnRef = refl
-
--- a kind word has one kind
-pub kinds_same : (k j : VMGcKind) (w : ℕ) → IsOfKind k w → IsOfKind j w → k ≡ j
-kinds_same k j w e f = sym (kind_of-kind_bits k) ∙ ap kind_of (e ∙ sym f) ∙ kind_of-kind_bits j
 
 -- the kind of an object is that of its header
 kind_by_header : (b : List ℕ) (p w : ℕ) (k : VMGcKind) → word b p ≡ w → IsOfKind k w → kind_at b p ≡ k
@@ -374,7 +363,7 @@ pub makes_zeroed : (old new : Space) (place block size : ℕ) (h : Header) (k : 
     → new ≡ record old { memory = new.memory; bump = old.bump + block; objects = old.objects + 1 } → place ≡ old.bump → IsOfKind k h.kind_word
     → MakesObject old new place (zeroed Copying k h.type_word (h.kind_word % spare_bits) size) size
 makes_zeroed old new place block size h k s fits found w moved at is =
-    let same : fits.kind ≡ k = kinds_same fits.kind k h.kind_word fits.is_kind is in
+    let same : fits.kind ≡ k = same_kind fits.kind k (fits.is_kind ∙ sym is) in
     let fields : HasFields k = subst HasFields same fits.has_fields in
     let least : first_offset Copying k ≤ size = subst (λ j. first_offset Copying j ≤ size) same fits.least in
     let spare : SpareFits Copying k size (h.kind_word % spare_bits) = subst (λ j. SpareFits Copying j size (h.kind_word % spare_bits)) same fits.spare in

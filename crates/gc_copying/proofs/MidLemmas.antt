@@ -1,33 +1,19 @@
 -- The middle of a collection is kept by a copy, by a moved reference, and by a frontier that advances.
-use Rattle.std.proofs.Common.{◌≡◌, ℕ, ◌+◌, ◌<◌, ◌≤◌, List, [], ◌∷◌, refl, sym, subst, ◌∙◌, inl, inr, arith}
+use Rattle.std.proofs.Common.{◌≡◌, ℕ, ◌+◌, ◌<◌, ◌≤◌, List, sym, subst, ◌∙◌, inl, inr, arith}
 use Rattle.std.proofs.Math.Logic.{◌⊎◌}
 use Rattle.std.proofs.lemmas.Bool.{cases_lt}
 use Rattle.gc_view.specs.Bytes.{SameBytes}
 use Rattle.gc_view.proofs.ByteLemmas.{SameBytes-part}
 use Rattle.gc_memory.specs.Words.{word}
 use Rattle.gc_memory.specs.Changes.{SameAcross}
-use Rattle.gc_memory.specs.Lists.{In, here, there}
+use Rattle.gc_memory.specs.Lists.{In}
 use Rattle.gc_memory.proofs.WordLemmas.{word_in_same, word_across}
 use Rattle.gc_memory.proofs.ChainLemmas.{LiesInChain, Chain-lies, Chain-apart}
-use Rattle.gc_copying.specs.CopyWords.{size_at, Spaced}
+use Rattle.gc_heap.proofs.SpacedLemmas.{Spaced-in}
+use Rattle.gc_copying.specs.CopyWords.{size_at}
+use Rattle.gc_heap.specs.References.{Spaced}
 use Rattle.gc_copying.specs.CopyStart.{From, refs}
 use Rattle.gc_copying.specs.CopyMiddle.{Moves, IsOutside, CopyOf, Mid, Later}
-
--- offsets that are spaced lie in their range
-pub Spaced-in : (lo hi : ℕ) (os : List ℕ) (o : ℕ) → Spaced lo hi os → In o os → (lo ≤ o) × (o + 4 ≤ hi)
-Spaced-in lo hi [] o s i = elim i [ ]
-Spaced-in lo hi (_ ∷ os) o s here = (s.0, s.1)
-Spaced-in lo hi (x ∷ os) o s (there i) =
-    let r = Spaced-in (x + 4) hi os o s.2 i in
-    (omega (arith, r.0, s.0), r.1)
-
--- two of them are one, or apart
-pub Spaced-apart : (lo hi : ℕ) (os : List ℕ) (o o' : ℕ) → Spaced lo hi os → In o os → In o' os → (o ≡ o') ⊎ ((o + 4 ≤ o') ⊎ (o' + 4 ≤ o))
-Spaced-apart lo hi [] o o' s i j = elim i [ ]
-Spaced-apart lo hi (_ ∷ os) _ _ s here here = inl refl
-Spaced-apart lo hi (x ∷ os) _ o' s here (there j) = inr (inl (Spaced-in (x + 4) hi os o' s.2 j).0)
-Spaced-apart lo hi (x ∷ os) o _ s (there i) here = inr (inr (Spaced-in (x + 4) hi os o s.2 i).0)
-Spaced-apart lo hi (x ∷ os) o o' s (there i) (there j) = Spaced-apart (x + 4) hi os o o' s.2 i j
 
 -- what lies before all of them is outside
 pub Spaced-outside : (lo hi : ℕ) (os : List ℕ) (j : ℕ) → Spaced lo hi os → j < lo → IsOutside os j

@@ -5,26 +5,28 @@ use Rattle.std.proofs.lemmas.List.{get_or_past, get_or-take, get_or-drop, length
 use Rattle.gc_types.specs.declared.kind.Layouts.TheVariants.{Copying}
 use Rattle.gc_types.specs.declared.kind.VMGcKind.{VMGcKind}
 use Rattle.gc_types.specs.declared.kind.VMGcKind.TheVariants.{ExternRef, AnyRef, EqRef, StructRef, ArrayRef, ExnRef}
-use Rattle.gc_types.specs.Kinds.{kind_bits}
+use Rattle.gc_types.specs.Kinds.{kind_bits, kind_of}
 use Rattle.gc_refs.specs.Header.{spare_bits, kind_part}
 use Rattle.gc_tables.specs.SideTables.{max_entries}
 use Rattle.gc_memory.specs.Words.{word}
 use Rattle.gc_memory.specs.Lists.{In}
 use Rattle.gc_memory.proofs.WordLemmas.{word_by_bytes}
 use Rattle.gc_heap.specs.Objects.{held_size, first_offset, array_length, HasFields, IsObjectKind}
-use Rattle.gc_heap.specs.References.{reference_offsets}
+use Rattle.gc_heap.specs.References.{reference_offsets, Spaced}
 use Rattle.gc_heap.specs.Content.{IsSpare, TracesInside}
 use Rattle.gc_heap.specs.Collection.{Start, moved, IsMoved}
-use Rattle.gc_copying.specs.Layout.{size_at, places_in, kind_of, kind_at, data_at, object_at}
+use Rattle.gc_copying.specs.Layout.{size_at, places_in, kind_at, data_at, object_at}
 use Rattle.gc_copying.specs.Content.{IsWhole, IsExternalAt}
 use Rattle.gc_copying.specs.ObjectLaws.{held_size-at, length-data_at, length-external}
-use Rattle.gc_copying.specs.CopyWords.{offsets_at, Spaced}
+use Rattle.gc_copying.specs.CopyWords.{offsets_at}
 use Rattle.gc_copying.specs.CopyMiddle.{IsOutside}
 use Rattle.gc_copying.specs.CopyEnd.{IsRenamed}
 use Rattle.gc_copying.specs.CopyBetween.{start_of, BeginsIn}
-use Rattle.gc_copying.proofs.MidLemmas.{Spaced-in, Spaced-outside}
+use Rattle.gc_copying.proofs.MidLemmas.{Spaced-outside}
+use Rattle.gc_heap.proofs.SpacedLemmas.{Spaced-in}
 use Rattle.gc_copying.proofs.WriteLemmas.{traces_same}
-use Rattle.gc_copying.proofs.ReferenceLemmas.{in_contains, contains_in, length_is, field_word, external_none, array_spaced}
+use Rattle.gc_copying.proofs.ReferenceLemmas.{length_is, field_word, external_none, array_spaced}
+use Rattle.gc_memory.proofs.ListLemmas.{in_contains, contains_in}
 use Rattle.gc_copying.proofs.StartLemmas.{lies_so, refs_so, spaced_so, ref_fields, word_so, kind_by_bits}
 
 kind_same : (m m' : List ℕ) (p q : ℕ) → word m' q ≡ word m p → kind_at m' q ≡ kind_at m p
@@ -152,7 +154,7 @@ module _ (s : Start) (m : List ℕ) (upper : Bool) (bump head objects scopes : �
   array_byte e j d from h =
       let l = least in
       let sp : Spaced 16 (held_size Copying (object_at m p)) (offsets_at s.types m p) =
-      subst (Spaced 16 (held_size Copying (object_at m p))) (refs_so s m upper bump head objects scopes b p i) (array_spaced s.types (object_at m p) e whole.spare.1) in
+      subst (Spaced 16 (held_size Copying (object_at m p))) (refs_so s m upper bump head objects scopes b p i) (array_spaced s.types (object_at m p) e whole.spare) in
       r.rest j d (omega arith) (Spaced-outside 16 (held_size Copying (object_at m p)) (offsets_at s.types m p) j sp h) (λ k. let f = k.from in absurd (omega arith))
 
   array_same : kind_at m p ≡ ArrayRef → word m' (q + 12) ≡ word m (p + 12)

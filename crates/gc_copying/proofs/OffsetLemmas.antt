@@ -1,7 +1,8 @@
 -- The offsets that are left to scan, of each form.
-use Rattle.std.proofs.Common.{◌≡◌, ℕ, zero, suc, ◌+◌, ◌*◌, ◌/◌, ◌%◌, ◌<◌, ◌≤◌, ◌^◌, nat_eq, if◌then◌else◌, List, [], ◌∷◌, ◌++◌, length, drop, get_or, refl, ap, subst, ◌∙◌, arith}
+use Rattle.std.proofs.Common.{◌≡◌, ℕ, zero, suc, ◌+◌, ◌*◌, ◌/◌, ◌%◌, ◌<◌, ◌≤◌, ◌^◌, List, [], ◌∷◌, length, drop, get_or, refl, ap, subst, ◌∙◌, arith}
 use Rattle.gc_heap.specs.References.{bit_offsets, word_offsets}
 use Rattle.std.proofs.Math.Seq.{drop-cons, drop-length}
+use Rattle.gc_heap.proofs.SpacedLemmas.{no_bits, bit_set, bit_clear}
 use Rattle.gc_copying.specs.declared.space.Space.{Space}
 use Rattle.gc_copying.specs.CopySteps.{CanScan}
 use Rattle.gc_copying.specs.CopyWords.{bitmap_places}
@@ -15,18 +16,6 @@ HasBits (suc n) bits = HasBits n (bits / 2)
 -- a bitmap has 23 bits
 pub bitmap_bits : (bits : ℕ) → bits < 8388608 → HasBits 23 bits
 bitmap_bits bits h = omega arith
-
--- no bits name no offsets
-pub no_bits : (from n : ℕ) → bit_offsets from n 0 ≡ []
-no_bits from zero = refl
-no_bits from (suc n) = no_bits (from + 4) n
-
--- where a bit is set the first offset is its
-pub bit_set : (from n bits : ℕ) → bits % 2 ≡ 1 → bit_offsets from (suc n) bits ≡ from ∷ bit_offsets (from + 4) n (bits / 2)
-bit_set from n bits e = ap (λ (b : ℕ). (if nat_eq b 1 then from ∷ [] else []) ++ bit_offsets (from + 4) n (bits / 2)) e
-
-pub bit_clear : (from n bits : ℕ) → bits % 2 ≡ 0 → bit_offsets from (suc n) bits ≡ bit_offsets (from + 4) n (bits / 2)
-bit_clear from n bits e = ap (λ (b : ℕ). (if nat_eq b 1 then from ∷ [] else []) ++ bit_offsets (from + 4) n (bits / 2)) e
 
 -- The bits that are left, and how many there may be.
 pub record BitsLeft (old now : Space) (q : ℕ) (all : List ℕ) (rest offset counted count : ℕ) : Type 0 where
@@ -104,9 +93,6 @@ last_element old now q all elements index counted count left none = last_by left
 
 pub elements_start : (h : Space) (q elements count : ℕ) → ElementsLeft h h q (word_offsets 16 elements) elements 0 count count
 elements_start h q elements count = record { n = elements; rest = omega arith; going = going_start h q (word_offsets 16 elements) count }
-
-pub bit_is_0 : (bits : ℕ) → (bits % 2 ≡ 1 → ⊥) → bits % 2 ≡ 0
-bit_is_0 bits ne = omega arith
 
 -- the last count
 pub going_ticks : (old now : Space) (q : ℕ) (all : List ℕ) (counted count : ℕ) → Going old now q all [] counted count → count + old.objects ≡ counted + now.objects + length all

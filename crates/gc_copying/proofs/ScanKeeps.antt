@@ -14,7 +14,8 @@ use Rattle.gc_memory.proofs.ChainLemmas.{LiesInChain, Chain-apart, Chain-resized
 use Rattle.gc_copying.specs.CopyWords.{size_at}
 use Rattle.gc_copying.specs.CopyStart.{From, refs}
 use Rattle.gc_copying.specs.CopyMiddle.{Leads, Moves, CopyOf, left_at, IsCopied, Mid, Later}
-use Rattle.gc_copying.proofs.MidLemmas.{Spaced-in, Spaced-apart, lies, new_lies, halves_apart, less_by_ne, copy_kept, moves_later}
+use Rattle.gc_copying.proofs.MidLemmas.{lies, new_lies, halves_apart, less_by_ne, copy_kept, moves_later}
+use Rattle.gc_heap.proofs.SpacedLemmas.{Spaced-in, Spaced-apart}
 use Rattle.gc_copying.proofs.CopyKeeps.{flag_same, left_same, leads_in_same, leads_before, copy_range}
 
 -- two copies are one, or apart

@@ -8,12 +8,14 @@ use Rattle.gc_memory.specs.Lists.{In, here, there}
 use Rattle.gc_memory.proofs.WordLemmas.{word-is}
 use Rattle.gc_copying.specs.declared.space.Space.{Space}
 use Rattle.gc_copying.specs.Spaces.{half_first, half_end}
-use Rattle.gc_copying.specs.CopyWords.{size_at, IsPlaceWord, Spaced}
+use Rattle.gc_copying.specs.CopyWords.{size_at, IsPlaceWord}
+use Rattle.gc_heap.specs.References.{Spaced}
 use Rattle.gc_copying.specs.CopyStart.{From, IsWord, refs, by_field}
 use Rattle.gc_copying.specs.CopyMiddle.{Leads, Moves}
 use Rattle.gc_copying.specs.CopySteps.{Midway, Known, SameSides, Forwards, Scanning, CanScan, CanScanAt, Scans, ScansAll}
 use Rattle.gc_copying.proofs.MoreBytes.{wrote_word, word_written}
-use Rattle.gc_copying.proofs.MidLemmas.{Spaced-in, new_lies}
+use Rattle.gc_copying.proofs.MidLemmas.{new_lies}
+use Rattle.gc_heap.proofs.SpacedLemmas.{Spaced-in}
 use Rattle.gc_copying.proofs.CopyKeeps.{copy_range}
 use Rattle.gc_copying.proofs.ScanKeeps.{mid_written, write_later, mid_advanced}
 use Rattle.gc_copying.proofs.ForwardLemmas.{midway}

@@ -8,7 +8,7 @@ use Rattle.std.proofs.lemmas.List.{length-append, map-append}
 use Rattle.gc_types.specs.declared.kind.Layouts.TheVariants.{Copying}
 use Rattle.gc_types.specs.declared.kind.VMGcKind.{VMGcKind}
 use Rattle.gc_types.specs.declared.kind.VMGcKind.TheVariants.{ExternRef, AnyRef, EqRef, StructRef, ArrayRef, ExnRef}
-use Rattle.gc_types.specs.Kinds.{kind_bits}
+use Rattle.gc_types.specs.Kinds.{kind_bits, kind_of}
 use Rattle.gc_types.specs.Layouts.{round_up}
 use Rattle.gc_refs.specs.Header.{spare_bits, kind_part}
 use Rattle.gc_memory.specs.Words.{word}
@@ -26,11 +26,11 @@ use Rattle.gc_heap.specs.Objects.{first_offset, IsObjectKind}
 use Rattle.gc_heap.specs.Content.{IsSpare}
 use Rattle.gc_heap.specs.Heap.{HasRoom}
 use Rattle.gc_copying.specs.Spaces.{half_end}
-use Rattle.gc_copying.specs.Layout.{first_place, size_at, places_in, kind_of, kind_at, data_at, object_at}
+use Rattle.gc_copying.specs.Layout.{first_place, size_at, places_in, kind_at, data_at, object_at}
 use Rattle.gc_copying.specs.Content.{objects_at, space_view, IsWhole, Linked, last, link, ExternalsLinked, IsSpace}
 use Rattle.gc_copying.specs.ObjectLaws.{held_none}
 use Rattle.gc_copying.specs.HeapLaws.{nothing, sixteen, skips, lies_in_space, blocks_are}
-use Rattle.gc_copying.specs.Placing.{PutsObject, MovesHead}
+use Rattle.gc_copying.proofs.PlacedObjects.{PutsObject, MovesHead}
 
 -- the kind of an object whose kind word stays
 pub kind_in_same : (a b : List ℕ) (p : ℕ) → word b p ≡ word a p → kind_at b p ≡ kind_at a p

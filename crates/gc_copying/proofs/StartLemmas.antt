@@ -1,11 +1,11 @@
 -- Where a collection begins in objects, it begins in bytes.
-use Rattle.std.proofs.Common.{◌≡◌, ℕ, zero, suc, ◌+◌, ◌*◌, ◌/◌, ◌%◌, ◌<◌, ◌≤◌, ◌^◌, Bool, cond, List, [], ◌∷◌, length, Some, slice_index_or, refl, sym, ap, subst, ◌∙◌, inl, inr, arith, Contains}
+use Rattle.std.proofs.Common.{◌≡◌, ℕ, ◌+◌, ◌*◌, ◌/◌, ◌%◌, ◌<◌, ◌≤◌, ◌^◌, Bool, cond, List, [], ◌∷◌, length, Some, refl, sym, ap, subst, ◌∙◌, inl, inr, arith, Contains}
 use Rattle.std.specs.FinMap as finite
 use Rattle.std.proofs.lemmas.Bool.{cases_eq, eq-eqb, ne_eqb}
 use Rattle.std.proofs.lemmas.List.Elements.{Contains-append_cases, Contains-append_right}
 use Rattle.gc_types.specs.declared.kind.Layouts.TheVariants.{Copying}
 use Rattle.gc_types.specs.declared.kind.VMGcKind.TheVariants.{ExternRef}
-use Rattle.gc_types.specs.Kinds.{kind_bits}
+use Rattle.gc_types.specs.Kinds.{kind_bits, kind_of}
 use Rattle.gc_refs.specs.Header.{spare_bits, kind_part}
 use Rattle.gc_refs.specs.Trace.{form_of}
 use Rattle.gc_roots.specs.Roots.{Root}
@@ -14,29 +14,25 @@ use Rattle.gc_memory.specs.Lists.{In, here, there}
 use Rattle.gc_view.specs.Pages.{page}
 use Rattle.gc_view.specs.Heaps.{HeapObject, HeapView}
 use Rattle.gc_heap.specs.Objects.{held_size, HasFields}
-use Rattle.gc_heap.specs.References.{reference_offsets, references, word_in}
+use Rattle.gc_heap.specs.References.{reference_offsets, references, word_in, Spaced}
 use Rattle.gc_heap.specs.Content.{IsHeld, half_of}
 use Rattle.gc_heap.specs.Collection.{Start, IsWordOf, CanCollect}
 use Rattle.gc_heap.specs.Collection as content
 use Rattle.gc_copying.specs.Spaces.{half_start, half_end, half_first}
-use Rattle.gc_copying.specs.Layout.{first_place, size_at, places_in, kind_of, kind_at, object_at}
+use Rattle.gc_copying.specs.Layout.{first_place, size_at, places_in, kind_at, object_at}
 use Rattle.gc_copying.specs.Content.{Linked, last, link, IsWhole}
-use Rattle.gc_copying.specs.ObjectLaws.{held_size-at, held_in, held_only, FoundAt}
+use Rattle.gc_copying.specs.ObjectLaws.{held_size-at, held_only, FoundAt}
+use Rattle.gc_copying.proofs.ObjectLemmas.{held_in}
 use Rattle.gc_copying.specs.HeapLaws.{nothing, sixteen, skips, half_lies, first_aligned, LiesInSpace, lies_in_space}
-use Rattle.gc_copying.specs.CopyWords.{offsets_at, IsExternal, Spaced}
+use Rattle.gc_copying.specs.CopyWords.{offsets_at, IsExternal}
 use Rattle.gc_copying.specs.CopyStart.{From, IsFrom, IsWord, ListsExternals}
 use Rattle.gc_copying.specs.CopyStart as start
 use Rattle.gc_copying.specs.CopySteps.{words_of}
 use Rattle.gc_copying.specs.CopyBetween.{start_of, BeginsIn}
-use Rattle.gc_copying.proofs.MidLemmas.{Spaced-in}
-use Rattle.gc_copying.proofs.ReferenceLemmas.{contains_in, in_contains, map_in, in_map, outside, by_bits, by_length, by_type, form_is, field_word, same_form, refs_are, refs_fields, external_none, refs_spaced}
-
-only_item : {A : Type 0} (x y : A) → Contains (x ∷ []) y → x ≡ y
-only_item {A} x y h = at h.0 h.1 h.2
-  where
-    at : (k : ℕ) → k < 1 → slice_index_or (x ∷ []) k y ≡ y → x ≡ y
-    at zero below e = e
-    at (suc k) below e = absurd (omega arith)
+use Rattle.gc_heap.proofs.SpacedLemmas.{Spaced-in}
+use Rattle.gc_copying.proofs.ReferenceLemmas.{field_word, same_form, refs_are, refs_fields, external_none, refs_spaced}
+use Rattle.gc_heap.proofs.ReferenceLemmas.{outside, by_bits, by_length, by_type, form_is}
+use Rattle.gc_memory.proofs.ListLemmas.{only_item, contains_in, in_contains, map_in, in_map}
 
 -- the words of roots, and the roots of words
 pub word_of_root : (rs : List Root) (r : Root) → Contains rs r → In r.word (words_of rs)
@@ -124,7 +120,7 @@ module _ (s : Start) (m : List ℕ) (upper : Bool) (bump head objects scopes : �
   spaced_so p i =
       let l = lies_so p i in
       let w = b.space.whole p i in
-      let s1 : Spaced 12 (held_size Copying (object_at m p)) (reference_offsets Copying s.types (object_at m p)) = refs_spaced s.types (object_at m p) w.spare.1 (b.can.typed p (object_at m p) (held p i)) in
+      let s1 : Spaced 12 (held_size Copying (object_at m p)) (reference_offsets Copying s.types (object_at m p)) = refs_spaced s.types (object_at m p) w.spare (b.can.typed p (object_at m p) (held p i)) in
       let s2 : Spaced 12 (size_at m p) (reference_offsets Copying s.types (object_at m p)) = subst (λ n. Spaced 12 n (reference_offsets Copying s.types (object_at m p))) (held_size-at m p w l.inside) s1 in
       subst (Spaced 12 (size_at m p)) (refs_so p i) s2
 

@@ -1,7 +1,7 @@
 -- The trace word of a new struct or exception.
 use Rattle.std.proofs.Common.{◌≡◌, ℕ, zero, suc, ◌+◌, ◌-◌, ◌*◌, ◌/◌, ◌%◌, ◌<◌, ◌≤◌, ◌^◌, Bool, true, false, cond, max, List, [], ◌∷◌, ◌++◌, drop, length, get_or, refl, sym, ap, ap₂, subst, ◌∙◌, inl, inr, arith}
 use Rattle.std.proofs.Math.Logic.{◌⊎◌}
-use Rattle.std.specs.Prelude.{All, filter, map, bit_or}
+use Rattle.std.specs.Prelude.{if◌then◌else◌, All, bit_or}
 use Rattle.std.specs.Int.{bit_at}
 use Rattle.std.proofs.lemmas.Bool.{cases_eq, cases_lt, eq-eqb, ne_eqb, le-leb, lt-leb}
 use Rattle.std.proofs.lemmas.List.Elements.{All-cons, All-nil}
@@ -20,7 +20,11 @@ use Rattle.gc_heap.specs.Objects.{first_offset, HasFields}
 use Rattle.gc_heap.specs.Heap.{exn_or_struct, layout_kind, CanAllocate}
 use Rattle.gc_heap.specs.References.{IsTraceable, bitmap_of, is_past_bitmap, bit_offsets, bitmap_offsets}
 use Rattle.gc_heap.specs.Rules.{SpareFits, LayoutTraces, struct_spare}
-use Rattle.gc_copying.specs.Tracing.{traced_from}
+use Rattle.gc_heap.proofs.SpacedLemmas.{refs-skip, refs-take}
+
+-- the trace word of references at these offsets, where those before them gave these bits
+abbrev pub traced_from : ℕ → List ℕ → ℕ
+traced_from bits offsets = if is_past_bitmap offsets then 2 * form_unit else bit_or bits (bitmap_of offsets)
 
 -- bits of two bitmaps together
 pub or_below : (a b : ℕ) → a < form_unit → b < form_unit → bit_or a b < form_unit
@@ -57,13 +61,6 @@ pub traced-step : (bits offset : ℕ) (rest : List ℕ) → offset ≤ 100 → t
 traced-step bits offset rest h =
     ap (λ b. cond (cond b (is_past_bitmap rest) true) (2 * form_unit) (bit_or bits (bitmap_of (offset ∷ rest)))) (le-leb offset 100 h)
     ∙ ap (cond (is_past_bitmap rest) (2 * form_unit)) (or_assoc bits (2 ^ ((offset - 12) / 4)) (bitmap_of rest))
-
--- the offsets of references, field by field
-pub refs-skip : (f : FieldLayout) (fs : List FieldLayout) → f.is_gc_ref ≡ false → ref_offsets (f ∷ fs) ≡ ref_offsets fs
-refs-skip f fs e = ap (λ b. map (λ (p : FieldLayout). p.offset) (cond b (f ∷ filter (λ (p : FieldLayout). p.is_gc_ref) fs) (filter (λ (p : FieldLayout). p.is_gc_ref) fs))) e
-
-pub refs-take : (f : FieldLayout) (fs : List FieldLayout) → f.is_gc_ref ≡ true → ref_offsets (f ∷ fs) ≡ f.offset ∷ ref_offsets fs
-refs-take f fs e = ap (λ b. map (λ (p : FieldLayout). p.offset) (cond b (f ∷ filter (λ (p : FieldLayout). p.is_gc_ref) fs) (filter (λ (p : FieldLayout). p.is_gc_ref) fs))) e
 
 All-head : {X : Type 0} (P : X → Type 0) (x : X) (xs : List X) → All P (x ∷ xs) → P x
 All-head P x xs all = all 0 x (omega arith)

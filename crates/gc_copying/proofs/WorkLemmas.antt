@@ -7,7 +7,7 @@ use Rattle.gc_types.specs.declared.layout.TraceInfo.TheVariants as trace
 use Rattle.gc_types.specs.Declarations.{Declaration}
 use Rattle.gc_types.specs.Layouts.{trace_at}
 use Rattle.gc_refs.specs.Trace.{form_of}
-use Rattle.gc_heap.specs.References.{word_offsets}
+use Rattle.gc_heap.specs.References.{word_offsets, Spaced}
 use Rattle.gc_view.specs.Bytes.{u32_at}
 use Rattle.gc_memory.specs.Words.{word}
 use Rattle.gc_memory.specs.Changes.{SameAcross}
@@ -18,7 +18,7 @@ use Rattle.gc_memory.proofs.ListLemmas.{sum_over-same, sum_over-append}
 use Rattle.gc_memory.proofs.ChainLemmas.{Chain-end, Chain-first, Chain-push, Chain-resized}
 use Rattle.gc_copying.specs.declared.space.Space.{Space}
 use Rattle.gc_copying.specs.Spaces.{half_first}
-use Rattle.gc_copying.specs.CopyWords.{size_at, Spaced, offsets_at, traced, element_places, info_places}
+use Rattle.gc_copying.specs.CopyWords.{size_at, offsets_at, traced, element_places, info_places}
 use Rattle.gc_copying.specs.CopyStart.{From, refs}
 use Rattle.gc_copying.specs.CopyMiddle.{Leads, CopyOf, Mid, Later}
 use Rattle.gc_copying.specs.CopySteps.{Midway, SameSides, Scanning, CanScan, ScansAll, WorkAt, Works, WorksOn, CanWork}

@@ -30,7 +30,8 @@ use Rattle.gc_view.specs.Pages.{page, max_pages}
 use Rattle.gc_copying.specs.Spaces.{half_start, half_end}
 use Rattle.gc_copying.specs.Layout.{first_place, size_at, places_in, kind_at, data_at, object_at}
 use Rattle.gc_copying.specs.Content.{objects_at, space_view, IsWhole, ExternalsLinked, IsSpace}
-use Rattle.gc_copying.specs.ObjectLaws.{length-data_at, held_size-at, held_only, held_in, held_none}
+use Rattle.gc_copying.specs.ObjectLaws.{length-data_at, held_size-at, held_only, held_none}
+use Rattle.gc_copying.proofs.ObjectLemmas.{held_in}
 use Rattle.gc_copying.specs.HeapLaws.{lies_in_space}
 use Rattle.gc_copying.proofs.SpaceLemmas.{SameObject, same_object, kind_in_same, object_in_same, whole_in_same, linked_in_same, space_of}
 

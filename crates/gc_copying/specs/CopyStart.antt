@@ -6,7 +6,8 @@ use Rattle.gc_tables.specs.SideTables.{max_entries}
 use Rattle.gc_memory.specs.Words.{word}
 use Rattle.gc_memory.specs.Lists.{In, occ}
 use Rattle.gc_memory.specs.Chains.{Chain}
-use Rattle.gc_copying.specs.CopyWords.{flag, size_at, host_word, next_external, IsExternal, offsets_at, Spaced}
+use Rattle.gc_copying.specs.CopyWords.{flag, size_at, host_word, next_external, IsExternal, offsets_at}
+use Rattle.gc_heap.specs.References.{Spaced}
 
 -- The memory, the types, the words of the roots that aren't null, where the objects begin and end, their
 -- places, and the first of the list of external objects.

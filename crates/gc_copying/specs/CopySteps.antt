@@ -1,5 +1,5 @@
 -- What the steps of a collection of a copying heap do to its memory.
-use Rattle.std.specs.Prelude.{◌≡◌, ℕ, ◌+◌, ◌<◌, ◌≤◌, ◌^◌, ◌⊎◌, List, [], ◌∷◌, length}
+use Rattle.std.specs.Prelude.{◌≡◌, ℕ, ◌+◌, ◌%◌, ◌<◌, ◌≤◌, ◌^◌, ◌⊎◌, List, [], ◌∷◌, length}
 use Rattle.gc_view.specs.Bytes.{SameBytes}
 use Rattle.gc_memory.specs.Words.{word}
 use Rattle.gc_memory.specs.Changes.{SameAcross}
@@ -9,7 +9,8 @@ use Rattle.gc_memory.specs.Chains.{Chain}
 use Rattle.gc_roots.specs.Roots.{Root, root_at}
 use Rattle.gc_copying.specs.declared.space.Space.{Space}
 use Rattle.gc_copying.specs.Spaces.{half_end, half_first}
-use Rattle.gc_copying.specs.CopyWords.{flag, size_at, forwarding, copied_unit, IsPlaceWord, Spaced, offsets_at}
+use Rattle.gc_copying.specs.CopyWords.{flag, size_at, forwarding, copied_unit, IsPlaceWord, offsets_at}
+use Rattle.gc_heap.specs.References.{Spaced}
 use Rattle.gc_copying.specs.CopyStart.{From, refs, Reached}
 use Rattle.gc_copying.specs.CopyMiddle.{Mid, Leads, Moves, Later}
 
@@ -19,6 +20,7 @@ pub record CanCopy (m : List ℕ) (p q : ℕ) : Type 0 where
   pub destination : q + size_at m p ≤ length m
   pub least : 16 ≤ size_at m p
   pub apart : (p + size_at m p ≤ q) ⊎ (q + size_at m p ≤ p)
+  pub whole : size_at m p % 16 ≡ 0
   pub fresh : flag m p ≡ 0
   pub small : length m < 2 ^ 32
 

@@ -1,5 +1,5 @@
 -- The words of an object of a copying heap.
-use Rattle.std.specs.Prelude.{◌≡◌, ℕ, ◌+◌, ◌/◌, ◌%◌, ◌<◌, ◌≤◌, ◌==◌, if◌then◌else◌, Bool, true, false, List, [], ◌∷◌, Option, Some, None}
+use Rattle.std.specs.Prelude.{◌≡◌, ℕ, ◌+◌, ◌/◌, ◌%◌, ◌<◌, ◌==◌, if◌then◌else◌, Bool, true, false, List, [], Option, Some, None}
 use Rattle.gc_types.specs.declared.kind.Layouts.TheVariants.{Copying}
 use Rattle.gc_types.specs.declared.layout.TraceInfo.{TraceInfo}
 use Rattle.gc_types.specs.declared.layout.TraceInfo.TheVariants as trace
@@ -65,11 +65,6 @@ traced types kind_word ty count =
 -- the same of the object at a place
 unfoldable pub offsets_at : List Declaration → List ℕ → ℕ → List ℕ
 offsets_at types m p = traced types (word m p) (word m (p + 4)) (word m (p + 12))
-
--- Offsets of words inside a range, one behind the other.
-abbrev pub Spaced : ℕ → ℕ → List ℕ → Type 0
-Spaced lo hi [] = Unit {0}
-Spaced lo hi (o ∷ os) = (lo ≤ o) × (o + 4 ≤ hi) × Spaced (o + 4) hi os
 
 -- a word of a root or a field is the place of an object: neither null nor a 31-bit number
 pub record IsPlaceWord (w : ℕ) : Type 0 where

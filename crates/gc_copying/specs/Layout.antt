@@ -2,7 +2,7 @@
 use Rattle.std.specs.Prelude.{ℕ, ◌+◌, ◌-◌, ◌%◌, ◌==◌, if◌then◌else◌, Bool, List, take, drop, length}
 use Rattle.gc_types.specs.declared.kind.VMGcKind.{VMGcKind}
 use Rattle.gc_types.specs.declared.kind.VMGcKind.TheVariants.{ExternRef, AnyRef, EqRef, StructRef, ArrayRef, ExnRef}
-use Rattle.gc_types.specs.Kinds.{kind_bits}
+use Rattle.gc_types.specs.Kinds.{kind_of}
 use Rattle.gc_refs.specs.Header.{spare_bits, kind_part}
 use Rattle.gc_memory.specs.Words.{word}
 use Rattle.gc_memory.specs.Chains.{places}
@@ -24,15 +24,6 @@ size_at bytes place = word bytes (place + 8)
 -- the places of the objects of the active half, which ends at a bump place
 abbrev pub places_in : List ℕ → Bool → ℕ → List ℕ
 places_in bytes upper bump = places (size_at bytes) (first_place (length bytes) upper) bump
-
--- the kind of these bits; an external object's where they are no kind's
-abbrev pub kind_of : ℕ → VMGcKind
-kind_of bits =
-    if bits == kind_bits AnyRef then AnyRef else
-    (if bits == kind_bits EqRef then EqRef else
-    (if bits == kind_bits StructRef then StructRef else
-    (if bits == kind_bits ArrayRef then ArrayRef else
-    (if bits == kind_bits ExnRef then ExnRef else ExternRef))))
 
 -- the kind of the object at a place
 unfoldable pub kind_at : List ℕ → ℕ → VMGcKind

@@ -17,4 +17,3 @@ pub mod Placing
 pub mod Reading
 pub mod Spaces
 pub mod States
-pub mod Tracing

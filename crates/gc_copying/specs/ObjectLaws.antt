@@ -14,7 +14,7 @@ use Rattle.gc_memory.proofs.ChainLemmas.{Chain-lies}
 use Rattle.gc_view.specs.Heaps.{HeapObject}
 use Rattle.gc_heap.specs.Objects.{size_with, held_size, first_offset, IsObjectKind}
 use Rattle.gc_heap.specs.Content.{total}
-use Rattle.gc_heap.specs.Totals.{total-empty, total-insert, len_with}
+use Rattle.gc_heap.specs.Totals.{total-empty, total-insert}
 use Rattle.gc_copying.specs.Layout.{size_at, kind_at, data_at, object_at}
 use Rattle.gc_copying.specs.Content.{objects_at, IsWhole}
 
@@ -49,7 +49,8 @@ find_other q p o es ne = ap (λ b. cond b (Some o) (finite.find nat_cmp q es)) (
 abbrev entries : List ℕ → List ℕ → List (ℕ × HeapObject)
 entries bytes ps = map (λ (p : ℕ). (p, object_at bytes p)) ps
 
-find_in : (bytes : List ℕ) (q : ℕ) (ps : List ℕ) → In q ps → finite.find nat_cmp q (entries bytes ps) ≡ Some (object_at bytes q)
+-- what is found at one of the places
+pub find_in : (bytes : List ℕ) (q : ℕ) (ps : List ℕ) → In q ps → finite.find nat_cmp q (entries bytes ps) ≡ Some (object_at bytes q)
 find_in bytes q [] i = elim i [ ]
 find_in bytes q (_ ∷ ps) here = find_tied q (object_at bytes q) (entries bytes ps)
 find_in bytes q (p ∷ ps) (there i) = elim (cases_eq q p) [
@@ -82,10 +83,6 @@ find_none bytes q (p ∷ ps) none =
     find_other q p (object_at bytes p) (entries bytes ps) (λ e. none (subst (λ k. In q (k ∷ ps)) e here))
     ∙ find_none bytes q ps (λ i. none (there i))
 
--- the object at one of the places
-pub held_in : (bytes : List ℕ) (q : ℕ) (ps : List ℕ) → In q ps → finite.get (objects_at bytes ps) q ≡ Some (object_at bytes q)
-held_in bytes q ps i = finite.get-from_entries nat_cmp_total (entries bytes ps) q ∙ find_in bytes q ps i
-
 -- what is held is one of them
 pub held_only : (bytes : List ℕ) (q : ℕ) (o : HeapObject) (ps : List ℕ) → finite.get (objects_at bytes ps) q ≡ Some o → FoundAt bytes ps q o
 held_only bytes q o ps e = find_only bytes q o ps (sym (finite.get-from_entries nat_cmp_total (entries bytes ps) q) ∙ e)
@@ -95,7 +92,7 @@ pub held_none : (bytes : List ℕ) (q : ℕ) (ps : List ℕ) → (In q ps → �
 held_none bytes q ps none = finite.get-from_entries nat_cmp_total (entries bytes ps) q ∙ find_none bytes q ps none
 
 -- an object of a chain is none of those behind it
-not_behind : (size : ℕ → ℕ) (a e : ℕ) (ps : List ℕ) → 16 ≤ size a → Chain size (a + size a) e ps → In a ps → ⊥
+pub not_behind : (size : ℕ → ℕ) (a e : ℕ) (ps : List ℕ) → 16 ≤ size a → Chain size (a + size a) e ps → In a ps → ⊥
 not_behind size a e ps l c i = omega (arith, (Chain-lies size (a + size a) e a ps c i).from)
 
 -- a sum over the objects is a sum over their places
@@ -106,11 +103,3 @@ total-at f bytes a e (_ ∷ ps) (next l w c) =
     let rest = total-at f bytes (a + size_at bytes a) e ps c in
     let none = held_none bytes a ps (not_behind (size_at bytes) a e ps l c) in
     omega (arith, total-insert f (objects_at bytes ps) a (object_at bytes a) none, rest)
-
--- as many objects as places
-pub len-at : (bytes : List ℕ) (a e : ℕ) (ps : List ℕ) → Chain (size_at bytes) a e ps → finite.len (objects_at bytes ps) ≡ length ps
-len-at bytes a _ [] done = finite.len-empty nat_cmp HeapObject
-len-at bytes a e (_ ∷ ps) (next l w c) =
-    let rest = len-at bytes (a + size_at bytes a) e ps c in
-    let none = held_none bytes a ps (not_behind (size_at bytes) a e ps l c) in
-    omega (arith, len_with (objects_at bytes ps) a (object_at bytes a) none, rest)

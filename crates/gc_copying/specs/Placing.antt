@@ -1,19 +1,16 @@
 -- What an allocation writes.
-use Rattle.std.specs.Prelude.{◌≡◌, ℕ, ◌+◌, ◌-◌, ◌≤◌, ◌<◌, ◌^◌, ◌⊎◌, List, length, take, drop, replicate}
+use Rattle.std.specs.Prelude.{◌≡◌, ℕ, ◌+◌, ◌-◌, ◌≤◌, ◌<◌, ◌^◌, List, length, take, drop, replicate}
 use Rattle.gc_types.specs.declared.kind.Layouts.TheVariants.{Copying}
-use Rattle.gc_types.specs.declared.kind.VMGcKind.TheVariants.{ExternRef}
 use Rattle.gc_types.specs.Layouts.{round_up}
 use Rattle.gc_refs.specs.Header.{Header}
 use Rattle.gc_memory.specs.Words.{word}
 use Rattle.gc_memory.specs.Changes.{Wrote}
 use Rattle.gc_view.specs.Sizes.{alignment}
-use Rattle.gc_view.specs.Heaps.{HeapObject, HeapView}
+use Rattle.gc_view.specs.Heaps.{HeapView}
 use Rattle.gc_heap.specs.Heap.{IsTooLarge, HasRoom}
 use Rattle.gc_view.specs.Sizes.{need_of}
 use Rattle.gc_copying.specs.declared.place.Room.{Room}
 use Rattle.gc_copying.specs.declared.place.Room.TheVariants as room
-use Rattle.gc_copying.specs.Layout.{size_at, kind_at, object_at}
-use Rattle.gc_copying.specs.Content.{IsWhole}
 
 -- What lets an object be written behind the last one.
 pub record CanPlace (bytes : List ℕ) (bump objects block : ℕ) : Type 0 where
@@ -30,20 +27,6 @@ pub record WritesBlock (before after : List ℕ) (place : ℕ) (header : Header)
   pub type_word : word after (place + 4) ≡ header.type_word
   pub size_word : word after (place + 8) ≡ size
   pub zeros : take (size - 12) (drop (place + 12) after) ≡ replicate (size - 12) 0
-
--- a whole object was written at a place, and nothing else
-pub record PutsObject (before after : List ℕ) (place : ℕ) (object : HeapObject) (size : ℕ) : Type 0 where
-  pub around : Wrote before after place size
-  pub size_is : size_at after place ≡ size
-  pub whole : IsWhole after place
-  pub object_is : object_at after place ≡ object
-
--- the head of the list of external objects after an object was made: it is the new one where that is
--- external, which is then linked to the old head
-abbrev pub MovesHead : List ℕ → ℕ → ℕ → ℕ → Type 0
-MovesHead after place old new =
-    ((kind_at after place ≡ ExternRef → ⊥) × (new ≡ old))
-    ⊎ ((kind_at after place ≡ ExternRef) × ((new ≡ place) × (word after (place + 20) ≡ old)))
 
 -- What is found of an object of that size: it fits, and takes so many bytes; the heap would have to grow
 -- by so many; or no heap can hold it.

@@ -18,9 +18,6 @@ pub(crate) const ARRAY_LENGTH: usize = 12;
 /// Where the elements of an array of references begin.
 pub(crate) const FIRST_ELEMENT: u32 = 16;
 
-/// Where an external object keeps the number of its host value.
-pub(crate) const HOST_WORD: usize = 16;
-
 /// The greatest number of copies that one increment scans.
 pub(crate) const OBJECTS_PER_INCREMENT: u32 = 16_384;
 

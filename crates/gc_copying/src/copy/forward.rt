@@ -27,7 +27,7 @@ impl Space {
         let from = place as usize;
         let to = self.bump;
         let size = self.memory.read_u32(from + COPYING_SIZE as usize);
-        self.memory.move_bytes(from, to as usize, size as usize);
+        self.memory.copy_blocks(from, to as usize, size as usize);
         self.memory.write_u32(from, kind_word + COPIED);
         self.memory
             .write_u32(from + COPYING_FORWARDING as usize, to);

@@ -6,8 +6,8 @@ ghost use Rattle.gc_copying.specs.CopySweep.{FreesHost, CanSweepOne, ListsCopy, 
 ghost use Rattle.gc_copying.specs.CopyStart.{From};
 ghost use Rattle.gc_copying.specs.CopySteps.{Midway};
 
-use crate::space::{COPIED, HOST_WORD, Space};
-use gc_memory::offsets::{COPYING_FORWARDING, COPYING_NEXT_EXTERNAL};
+use crate::space::{COPIED, Space};
+use gc_memory::offsets::{COPYING_FORWARDING, COPYING_HOST, COPYING_NEXT_EXTERNAL};
 use gc_tables::{ExternRefHostDataId, ExternRefHostDataTable, HostFault};
 
 /// Takes the value out of the table whose id that number stands for.
@@ -43,7 +43,7 @@ impl Space {
             );
             self.externals = copy;
         } else {
-            free_host(hosts, self.memory.read_u32(at + HOST_WORD));
+            free_host(hosts, self.memory.read_u32(at + COPYING_HOST as usize));
         }
     }
 

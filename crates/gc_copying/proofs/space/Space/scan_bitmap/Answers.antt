@@ -2,7 +2,8 @@ use Rattle.std.proofs.Common.{◌+◌, ◌/◌, sym, subst}
 use Rattle.gc_heap.specs.References.{bit_offsets}
 use Rattle.gc_copying.specs.CopyWords.{bitmap_places}
 use Rattle.gc_copying.proofs.ScanLemmas.{Going, going_can, going_step, going_end}
-use Rattle.gc_copying.proofs.OffsetLemmas.{bits_start, first_bit, first_set, first_clear, last_bit, bit_is_0, going_ticks}
+use Rattle.gc_copying.proofs.OffsetLemmas.{bits_start, first_bit, first_set, first_clear, last_bit, going_ticks}
+use Rattle.gc_heap.proofs.SpacedLemmas.{bit_is_0}
 use Rattle.gc_copying.proofs.space.Space.scan_bitmap.Goals.{then-rest-eq1, else-rest-eq1}
 use Rattle.gc_copying.proofs.space.Space.scan_bitmap.Goals as goal
 
