@@ -17,7 +17,7 @@ use Rattle.gc_drc.specs.declared.heap.Backing.TheVariants as backing
 use Rattle.gc_drc.specs.Layout.{object_at}
 use Rattle.gc_drc.specs.Content.{at_places, seen_in, IsSoundSpace}
 use Rattle.gc_drc.specs.Growth.{with_bytes}
-use Rattle.gc_drc.specs.PlaceLaws.{len-at}
+use Rattle.gc_drc.proofs.PlaceLemmas.{len-at}
 use Rattle.gc_drc.specs.SpaceLaws.{blocks_apart, places_are}
 use Rattle.gc_free.specs.Space.{places_end}
 use Rattle.gc_drc.specs.States.{seen_of, drc_seen, IsOut, IsDrcSound}

@@ -12,7 +12,8 @@ use Rattle.gc_drc.specs.SpaceLaws.{blocks_apart}
 use Rattle.gc_drc.specs.CollectOps.{same, unmarked}
 use Rattle.gc_drc.specs.CollectMemory.{Context, At, CanRelease, CanUnmark}
 use Rattle.gc_drc.specs.CollectWalk.{IsBorder, IsNext, CanWalk, walk_end}
-use Rattle.gc_drc.specs.CollectClear.{AllMarked, Clearing, Unmarked, Clears}
+use Rattle.gc_drc.specs.CollectClear.{AllMarked, Unmarked}
+use Rattle.gc_drc.proofs.WalkStates.{Clearing, Clears}
 use Rattle.gc_drc.proofs.OccLemmas.{same-is, same-not, occ-cases, occ-without}
 use Rattle.gc_drc.proofs.TraceLemmas.{done_unmarked}
 use Rattle.gc_drc.proofs.WalkMemory.{end_is}

@@ -1,5 +1,5 @@
 -- What giving an object back leaves of a space.
-use Rattle.std.proofs.Common.{◌≡◌, ℕ, ◌+◌, ◌-◌, ◌<◌, ◌≤◌, ◌^◌, true, false, cond, List, [], ◌∷◌, length, map, None, refl, sym, ap, subst, ◌∙◌, inl, inr, arith}
+use Rattle.std.proofs.Common.{◌≡◌, ℕ, ◌+◌, ◌-◌, ◌<◌, ◌≤◌, ◌^◌, true, false, cond, List, [], ◌∷◌, length, map, None, refl, sym, ap, subst, ◌∙◌, inl, inr, arith, filter}
 use Rattle.std.proofs.Math.Logic.{◌⊎◌}
 use Rattle.std.specs.Prelude.{nat_eq, not, suc, Contains}
 use Rattle.std.specs.Cmp.{unsigned_tied, nat_cmp_total}
@@ -19,11 +19,18 @@ use Rattle.gc_heap.specs.Heap.{CanGiveBack}
 use Rattle.gc_drc.specs.declared.space.CountedSpace.{CountedSpace}
 use Rattle.gc_drc.specs.Layout.{size_at, block_of, object_at}
 use Rattle.gc_drc.specs.View.{View, block_at, Holds, IsPart}
-use Rattle.gc_drc.specs.Content.{at_places, places_of, counts_at, counts_of, seen_in, IsSoundSpace}
-use Rattle.gc_drc.specs.PlaceLaws.{in_or_not, get_in, get_none, found_in, spread-not_behind, filter_in, in_filter, contains_in}
-use Rattle.gc_drc.specs.SpaceLaws.{lies, blocks_apart, places_are, counts_are, held_size-in}
-use Rattle.gc_drc.specs.Giving.{without_place, CanGive, Gives}
+use Rattle.gc_drc.specs.Content.{at_places, places_of, counts_at, seen_in, IsSoundSpace}
+use Rattle.gc_drc.proofs.CountsSeen.{counts_of}
+use Rattle.gc_drc.specs.PlaceLaws.{in_or_not, get_in, get_none, found_in, spread-not_behind, in_filter}
+use Rattle.gc_drc.proofs.PlaceLemmas.{filter_in, contains_in}
+use Rattle.gc_drc.specs.SpaceLaws.{lies, blocks_apart, places_are, held_size-in}
+use Rattle.gc_drc.proofs.CountsSeen.{counts_are}
+use Rattle.gc_drc.specs.Giving.{CanGive, Gives}
 use Rattle.gc_drc.proofs.SeenLemmas.{same_view}
+
+-- the others than a place
+abbrev pub without_place : ℕ → List ℕ → List ℕ
+without_place x ps = filter (λ (y : ℕ). not (nat_eq y x)) ps
 
 -- PLACES
 

@@ -3,7 +3,7 @@ use Rattle.std.proofs.Common.{◌≡◌, ℕ, ◌+◌, ◌-◌, ◌*◌, ◌/◌
 use Rattle.std.specs.Prelude.{min, max}
 use Rattle.std.proofs.lemmas.List.{drop-append-le, take-append-le, length-drop, length-append, length-replicate}
 use Rattle.gc_types.specs.declared.kind.Layouts.TheVariants.{Counting}
-use Rattle.gc_types.specs.Kinds.{kind_bits}
+use Rattle.gc_types.specs.Kinds.{kind_bits, kind_of}
 use Rattle.gc_refs.specs.Header.{spare_bits, kind_part}
 use Rattle.gc_heap.specs.Objects.{first_offset, IsObjectKind}
 use Rattle.gc_heap.specs.Heap.{empty_heap, grown}
@@ -16,11 +16,12 @@ use Rattle.gc_free.specs.Runs.{gap}
 use Rattle.gc_free.specs.Space.{Space, IsSound, new_space, places_end, merge_all, grow}
 use Rattle.gc_free.specs.declared.run.TheConstants.{ALIGN}
 use Rattle.gc_drc.specs.declared.space.CountedSpace.{CountedSpace}
-use Rattle.gc_drc.specs.Layout.{size_at, kind_of, kind_at, data_at, object_at, IsWhole}
+use Rattle.gc_drc.specs.Layout.{size_at, kind_at, data_at, object_at, IsWhole}
 use Rattle.gc_drc.specs.View.{View, Holds, Linked, last}
 use Rattle.gc_drc.specs.Content.{at_places, places_of, counts_at, seen_in, IsSoundSpace}
-use Rattle.gc_drc.specs.PlaceLaws.{at_places-same}
-use Rattle.gc_drc.specs.SpaceLaws.{lies, places_are, counts_are, least_size}
+use Rattle.gc_drc.proofs.PlaceLemmas.{at_places-same}
+use Rattle.gc_drc.specs.SpaceLaws.{lies, places_are, least_size}
+use Rattle.gc_drc.proofs.CountsSeen.{counts_are}
 use Rattle.gc_drc.proofs.TendLemmas.{same_object, linked_in_same}
 use Rattle.gc_drc.proofs.SeenLemmas.{same_view}
 

@@ -1,3 +1,7 @@
+pub mod PlaceLemmas
+pub mod CountsSeen
+pub mod NewObjects
+pub mod WalkStates
 pub mod TendLemmas
 pub mod BarrierLemmas
 pub mod SeenLemmas

@@ -27,9 +27,12 @@ use Rattle.gc_drc.specs.declared.space.CountedSpace.{CountedSpace}
 use Rattle.gc_drc.specs.Layout.{count_at, flags_at, block_of, object_at}
 use Rattle.gc_drc.specs.View.{View, block_at, Holds, ShowsObject, IsPart, Linked}
 use Rattle.gc_drc.specs.Content.{at_places, places_of, counts_at, seen_in, IsSoundSpace}
-use Rattle.gc_drc.specs.PlaceLaws.{found_in, get_in, get_none, spread-lies, spread-apart, spread-total, spread-length}
-use Rattle.gc_drc.specs.SpaceLaws.{lies, aligned_at, blocks_apart, places_are, counts_are, held_size-in}
-use Rattle.gc_drc.specs.Placing.{insert_place, with_place, placed_space, TakesBlock, KeepsBlocks, IsFull, PutsObject, CanPlace}
+use Rattle.gc_drc.specs.PlaceLaws.{found_in, get_in, get_none, spread-lies, spread-apart, spread-total}
+use Rattle.gc_drc.proofs.PlaceLemmas.{spread-length}
+use Rattle.gc_drc.specs.SpaceLaws.{lies, aligned_at, blocks_apart, places_are, held_size-in}
+use Rattle.gc_drc.proofs.CountsSeen.{counts_are}
+use Rattle.gc_drc.specs.Placing.{placed_space, TakesBlock, KeepsBlocks, IsFull, CanPlace}
+use Rattle.gc_drc.proofs.NewObjects.{insert_place, with_place, PutsObject}
 use Rattle.gc_drc.proofs.TendLemmas.{SameObject, object_in_same, linked_in_same}
 use Rattle.gc_drc.proofs.SeenLemmas.{same_view}
 use Rattle.gc_drc.proofs.FrontLemmas.{Begins, taken_begins}

@@ -6,7 +6,8 @@ use Rattle.std.proofs.lemmas.List.{drop-replicate}
 use Rattle.gc_types.specs.declared.kind.Layouts.TheVariants.{Counting}
 use Rattle.gc_types.specs.declared.kind.VMGcKind.{VMGcKind}
 use Rattle.gc_types.specs.declared.kind.VMGcKind.TheVariants.{ExternRef, AnyRef, EqRef, StructRef, ArrayRef, ExnRef}
-use Rattle.gc_types.specs.Kinds.{kind_bits}
+use Rattle.gc_types.specs.Kinds.{kind_bits, kind_of}
+use Rattle.gc_types.proofs.KindLemmas.{kind_of-kind_bits, same_kind}
 use Rattle.gc_refs.specs.Header.{Header, header_of, spare_bits, kind_part, IsOfKind}
 use Rattle.gc_tables.specs.SideTables.{max_entries}
 use Rattle.gc_memory.specs.Words.{word}
@@ -23,24 +24,12 @@ use Rattle.gc_view.specs.Sizes.{need_of}
 use Rattle.gc_heap.specs.declared.heap.HeapFault.{HeapFault}
 use Rattle.gc_heap.specs.declared.heap.HeapFault.TheVariants as fault
 use Rattle.gc_drc.specs.declared.space.CountedSpace.{CountedSpace}
-use Rattle.gc_drc.specs.Layout.{count_at, size_at, kind_of, kind_at, data_at, object_at, IsWhole, IsExternalAt}
+use Rattle.gc_drc.specs.Layout.{count_at, size_at, kind_at, data_at, object_at, IsWhole, IsExternalAt}
 use Rattle.gc_drc.specs.Content.{seen_in, IsSoundSpace}
-use Rattle.gc_drc.specs.Placing.{placed_space, WritesBlock, PutsObject, IsPlaced, TakesBlock, KeepsBlocks, IsFull, PlacesObject}
+use Rattle.gc_drc.specs.Placing.{placed_space, WritesBlock, IsPlaced, TakesBlock, KeepsBlocks, IsFull, PlacesObject}
+use Rattle.gc_drc.proofs.NewObjects.{PutsObject}
 use Rattle.gc_drc.proofs.TendLemmas.{same_object}
 use Rattle.gc_drc.proofs.MakeLemmas.{new_place, Makes, makes, no_room, kept_seen, kept_sound}
-
--- the bits of a kind tell it
-pub kind_of-kind_bits : (kind : VMGcKind) → kind_of (kind_bits kind) ≡ kind
-kind_of-kind_bits ExternRef = refl
-kind_of-kind_bits AnyRef = refl
-kind_of-kind_bits EqRef = refl
-kind_of-kind_bits StructRef = refl
-kind_of-kind_bits ArrayRef = refl
-kind_of-kind_bits ExnRef = refl
-
--- a kind word has one kind
-kinds_same : (k j : VMGcKind) (w : ℕ) → IsOfKind k w → IsOfKind j w → k ≡ j
-kinds_same k j w e f = sym (kind_of-kind_bits k) ∙ ap kind_of (e ∙ sym f) ∙ kind_of-kind_bits j
 
 -- the kind of an object is that of its header
 pub kind_by_header : (b : List ℕ) (p w : ℕ) (k : VMGcKind) → word b p ≡ w → IsOfKind k w → kind_at b p ≡ k
@@ -187,7 +176,7 @@ room_of s u p size sound taken least = let inside = (new_place sound.view s u p 
 pub alloc_zeroed : (s t : CountedSpace) (p size : ℕ) (h : Header) (k : VMGcKind) → IsSoundSpace s → CanAllocate Counting h size → (IsTooLarge Counting size → ⊥) → IsPlaced s t h size p
     → IsOfKind k h.kind_word → Makes s t p size (zeroed Counting k h.type_word (h.kind_word % spare_bits) size)
 alloc_zeroed s t p size h k sound can small placed is =
-    let same : can.kind ≡ k = kinds_same can.kind k h.kind_word can.is_kind is in
+    let same : can.kind ≡ k = same_kind can.kind k (can.is_kind ∙ sym is) in
     let least : first_offset Counting k ≤ size = subst (λ j. first_offset Counting j ≤ size) same can.least in
     let many = least_first k size least in
     makes s placed.between t t.memory p size _ sound small placed.taken (omega arith)

@@ -12,7 +12,7 @@ use Rattle.gc_types.specs.Declarations.{Declaration}
 use Rattle.gc_types.specs.Layouts.{trace_at}
 use Rattle.gc_memory.specs.Words.{word}
 use Rattle.gc_memory.specs.Lists.{In, here, there, occ, sum_over}
-use Rattle.gc_memory.proofs.ListLemmas.{sum_over-same}
+use Rattle.gc_memory.proofs.ListLemmas.{sum_over-same, contains_in, in_contains}
 use Rattle.gc_memory.proofs.WordLemmas.{word-is}
 use Rattle.gc_view.specs.Bytes.{u32_at}
 use Rattle.gc_view.specs.Heaps.{HeapObject, HeapView, Counts}
@@ -29,7 +29,8 @@ use Rattle.gc_drc.specs.View.{View, Holds}
 use Rattle.gc_drc.specs.Content.{at_places, places_of, seen_in}
 use Rattle.gc_drc.specs.PlaceLaws.{get_in, found_in, total-at}
 use Rattle.gc_drc.specs.PlaceLaws as place
-use Rattle.gc_drc.specs.SpaceLaws.{blocks_apart, places_are, lies, apart, held_size-at, counts_are}
+use Rattle.gc_drc.specs.SpaceLaws.{blocks_apart, places_are, lies, apart, held_size-at}
+use Rattle.gc_drc.proofs.CountsSeen.{counts_are}
 use Rattle.gc_drc.specs.Graph.{names}
 use Rattle.gc_drc.specs.Graph as graph
 use Rattle.gc_drc.specs.Unheld as memory
@@ -38,7 +39,7 @@ use Rattle.gc_drc.specs.CollectMemory.{offsets_at, words_at, info_at, traced_off
 use Rattle.gc_drc.specs.CollectSpan.{IsOf, Begins}
 use Rattle.gc_drc.specs.Objects.{context_of, BeginsIn}
 use Rattle.gc_drc.proofs.SeenLemmas.{seen_count}
-use Rattle.gc_drc.proofs.ObjectsRoots.{contains_in, in_contains, occ_is, root_word, held_root, stack_root}
+use Rattle.gc_drc.proofs.ObjectsRoots.{occ_is, root_word, held_root, stack_root}
 use Rattle.gc_drc.proofs.ObjectsOffsets.{Traced, traced_by, typed_is, offsets_by, offsets_inside, array_by}
 
 -- A WHOLE OBJECT

@@ -15,15 +15,18 @@ use Rattle.gc_heap.specs.Collection.{Start, held_words, stack_words, occurrences
 use Rattle.gc_drc.specs.declared.space.CountedSpace.{CountedSpace}
 use Rattle.gc_drc.specs.Layout.{kind_at, object_at}
 use Rattle.gc_drc.specs.View.{View, Holds}
-use Rattle.gc_drc.specs.Content.{places_of, counts_of, seen_in, IsSoundSpace}
-use Rattle.gc_drc.specs.PlaceLaws.{get_in, found_in, contains_in, in_contains}
-use Rattle.gc_drc.specs.SpaceLaws.{places_are, counts_are}
+use Rattle.gc_drc.specs.Content.{places_of, seen_in, IsSoundSpace}
+use Rattle.gc_drc.proofs.CountsSeen.{counts_of}
+use Rattle.gc_drc.specs.PlaceLaws.{get_in, found_in, in_contains}
+use Rattle.gc_drc.proofs.PlaceLemmas.{contains_in}
+use Rattle.gc_drc.specs.SpaceLaws.{places_are}
+use Rattle.gc_drc.proofs.CountsSeen.{counts_are}
 use Rattle.gc_drc.specs.Graph.{names}
 use Rattle.gc_drc.specs.CollectMemory.{Context, SameObject}
 use Rattle.gc_drc.specs.CollectHosts.{host_word}
 use Rattle.gc_drc.specs.Objects.{BeginsIn}
 use Rattle.gc_drc.proofs.TendLemmas.{object_by_words}
-use Rattle.gc_drc.proofs.ObjectsRoots as list
+use Rattle.gc_memory.proofs.ListLemmas as list
 use Rattle.gc_drc.proofs.ObjectsRoots.{occ_is}
 use Rattle.gc_drc.proofs.ObjectsBegin.{data_word, total_names, start, held, found, held_at, references_so}
 

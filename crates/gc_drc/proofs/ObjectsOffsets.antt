@@ -23,7 +23,8 @@ use Rattle.gc_view.specs.Heaps.{HeapObject}
 use Rattle.gc_heap.specs.Objects.{held_size, array_length, IsObjectKind}
 use Rattle.gc_heap.specs.References.{word_offsets, info_offsets, typed_offsets, HoldsType}
 use Rattle.gc_drc.specs.CollectMemory.{traced_offsets, info_of}
-use Rattle.gc_drc.proofs.ObjectsRoots.{in_contains, in_first}
+use Rattle.gc_drc.proofs.ObjectsRoots.{in_first}
+use Rattle.gc_memory.proofs.ListLemmas.{in_contains}
 
 -- offsets of words that lie in an object, behind the heap's own words
 abbrev pub AreInside : ℕ → List ℕ → Type 0

@@ -1,32 +1,12 @@
 -- The words of roots, and lists that are counted in two ways.
-use Rattle.std.proofs.Common.{◌≡◌, ℕ, zero, suc, ◌+◌, ◌%◌, ◌<◌, cond, not, nat_eq, Bool, true, false, List, [], ◌∷◌, length, map, slice_index_or, refl, sym, ap, ap₂, subst, ◌∙◌, inl, inr, arith, Contains}
+use Rattle.std.proofs.Common.{◌≡◌, ℕ, ◌+◌, ◌%◌, cond, not, nat_eq, Bool, true, false, List, [], ◌∷◌, length, map, refl, sym, ap, ap₂, subst, ◌∙◌, inl, inr, arith, Contains}
 use Rattle.std.proofs.Math.Logic.{◌⊎◌}
 use Rattle.std.specs.Prelude.{filter, ◌&&◌}
 use Rattle.std.proofs.lemmas.List.Elements.{Contains-append_cases, Contains-append_right}
 use Rattle.gc_roots.specs.Roots.{Root}
 use Rattle.gc_memory.specs.Lists.{In, here, there, occ}
+use Rattle.gc_memory.proofs.ListLemmas.{only_item}
 use Rattle.gc_heap.specs.Collection.{occurrences, held_words, stack_words, moved, moved_root}
-
--- the one item of a list of one
-pub only_item : {A : Type 0} (x y : A) → Contains (x ∷ []) y → x ≡ y
-only_item {A} x y h = at h.0 h.1 h.2
-  where
-    at : (k : ℕ) → k < 1 → slice_index_or (x ∷ []) k y ≡ y → x ≡ y
-    at zero below e = e
-    at (suc k) below e = absurd (omega arith)
-
--- the two words for an element of a list
-pub contains_in : (xs : List ℕ) (x : ℕ) → Contains xs x → In x xs
-contains_in [] x c = absurd (omega (arith, c.1))
-contains_in (y ∷ xs) x c = elim (Contains-append_cases (y ∷ []) xs x c) [
-  | inl one ↦ subst (λ z. In z (y ∷ xs)) (only_item y x one) here
-  | inr rest ↦ there (contains_in xs x rest)
-]
-
-pub in_contains : (xs : List ℕ) (x : ℕ) → In x xs → Contains xs x
-in_contains [] x i = elim i [ ]
-in_contains (_ ∷ xs) x here = (0, omega arith, refl)
-in_contains (y ∷ xs) x (there i) = Contains-append_right (y ∷ []) xs x (in_contains xs x i)
 
 -- the first of a list, or one of the others
 pub in_first : (q h : ℕ) (ps : List ℕ) → In q (h ∷ ps) → (q ≡ h) ⊎ In q ps

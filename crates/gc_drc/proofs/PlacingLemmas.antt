@@ -21,7 +21,8 @@ use Rattle.gc_drc.specs.Layout.{count_at, size_at, block_of}
 use Rattle.gc_drc.specs.View.{block_at}
 use Rattle.gc_drc.specs.Content.{at_places}
 use Rattle.gc_drc.specs.PlaceLaws.{in_or_not, get_in, get_none, spread-lies}
-use Rattle.gc_drc.specs.Placing.{insert_place, WritesBlock}
+use Rattle.gc_drc.specs.Placing.{WritesBlock}
+use Rattle.gc_drc.proofs.NewObjects.{insert_place}
 use Rattle.gc_drc.proofs.SeenLemmas.{get-insert-same, get-insert-other}
 
 -- zeros, a header, a count and a size, written one after the other

@@ -21,9 +21,12 @@ use Rattle.gc_heap.specs.Barriers.{ShowsCount, one_in}
 use Rattle.gc_drc.specs.declared.space.CountedSpace.{CountedSpace}
 use Rattle.gc_drc.specs.Layout.{size_at, kind_at, data_at, object_at, IsWhole, IsExternalAt}
 use Rattle.gc_drc.specs.View.{View, Holds}
-use Rattle.gc_drc.specs.Content.{places_of, counts_of, seen_in, IsSoundSpace}
-use Rattle.gc_drc.specs.PlaceLaws.{found_in, in_or_not, contains_in, contains_not}
-use Rattle.gc_drc.specs.SpaceLaws.{lies, places_are, counts_are, held_size-at, length-data_at}
+use Rattle.gc_drc.specs.Content.{places_of, seen_in, IsSoundSpace}
+use Rattle.gc_drc.proofs.CountsSeen.{counts_of}
+use Rattle.gc_drc.specs.PlaceLaws.{found_in, in_or_not}
+use Rattle.gc_drc.proofs.PlaceLemmas.{contains_in, contains_not}
+use Rattle.gc_drc.specs.SpaceLaws.{lies, places_are, held_size-at, length-data_at}
+use Rattle.gc_drc.proofs.CountsSeen.{counts_are}
 
 -- What is known of the place of a held object.
 pub record HeldAt (s : CountedSpace) (q : ℕ) (o : HeapObject) : Type 0 where

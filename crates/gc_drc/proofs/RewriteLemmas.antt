@@ -14,7 +14,8 @@ use Rattle.gc_memory.specs.Changes.{Wrote}
 use Rattle.gc_memory.specs.Lists.{In, here, there}
 use Rattle.gc_memory.proofs.ChangeLemmas.{Wrote-put_u32, Wrote-put_u64, Wrote-within, Wrote-then, Wrote-behind, Wrote-before}
 use Rattle.gc_memory.proofs.WordLemmas.{word_apart, word64_apart, word-put_u32, word64-put_u64, word_in_same}
-use Rattle.gc_drc.specs.Layout.{size_at, kind_at, kind_of, IsWhole, IsExternalAt}
+use Rattle.gc_drc.specs.Layout.{size_at, kind_at, IsWhole, IsExternalAt}
+use Rattle.gc_types.specs.Kinds.{kind_of}
 use Rattle.gc_drc.specs.View.{Linked, last, link}
 use Rattle.gc_drc.specs.CollectMemory.{Context, IsContext, SameObject, Intact}
 

@@ -27,7 +27,7 @@ use Rattle.gc_heap.specs.Heap.{empty_heap, with_object, put_object, with_data, A
 use Rattle.gc_heap.specs.Access.{WritesData}
 use Rattle.gc_heap.specs.Collection.{CanCollect, IsWordOf, occurrences}
 use Rattle.gc_drc.proofs.SeenLemmas.{get-insert-same, get-insert-other}
-use Rattle.gc_drc.proofs.ObjectsRoots.{only_item}
+use Rattle.gc_memory.proofs.ListLemmas.{only_item}
 
 -- one entry alone
 only_entry : {X : Type 0} (place q : ℕ) (x y : X) → get (insert (empty {X = X} {R = nat_cmp}) place x) q ≡ Some y → (q ≡ place) × (y ≡ x)

@@ -15,9 +15,12 @@ use Rattle.gc_heap.specs.Barriers.{IsNamed, is_alone, raise, lower, show, cloned
 use Rattle.gc_drc.specs.declared.space.CountedSpace.{CountedSpace}
 use Rattle.gc_drc.specs.Layout.{block_of, object_at}
 use Rattle.gc_drc.specs.View.{View, count_of, Holds}
-use Rattle.gc_drc.specs.Content.{at_places, places_of, counts_at, counts_of, seen_in, IsSoundSpace}
-use Rattle.gc_drc.specs.PlaceLaws.{in_or_not, get_in, get_none, found_in, at_places-same, contains_in, contains_not}
-use Rattle.gc_drc.specs.SpaceLaws.{lies, places_are, counts_are}
+use Rattle.gc_drc.specs.Content.{at_places, places_of, counts_at, seen_in, IsSoundSpace}
+use Rattle.gc_drc.proofs.CountsSeen.{counts_of}
+use Rattle.gc_drc.specs.PlaceLaws.{in_or_not, get_in, get_none, found_in}
+use Rattle.gc_drc.proofs.PlaceLemmas.{at_places-same, contains_in, contains_not}
+use Rattle.gc_drc.specs.SpaceLaws.{lies, places_are}
+use Rattle.gc_drc.proofs.CountsSeen.{counts_are}
 use Rattle.gc_drc.specs.Operations as operation
 use Rattle.gc_drc.specs.Operations.{Tends}
 use Rattle.gc_drc.proofs.TendLemmas.{tended_object}

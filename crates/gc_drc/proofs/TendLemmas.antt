@@ -2,7 +2,7 @@
 use Rattle.std.proofs.Common.{◌≡◌, ℕ, ◌+◌, ◌-◌, ◌*◌, ◌/◌, ◌%◌, ◌<◌, ◌≤◌, ◌^◌, List, [], ◌∷◌, take, drop, length, refl, sym, ap, subst, ◌∙◌, inl, inr, arith}
 use Rattle.std.proofs.Math.Logic.{◌⊎◌}
 use Rattle.std.proofs.lemmas.Bool.{cases_eq, cases_lt}
-use Rattle.gc_types.specs.Kinds.{kind_bits}
+use Rattle.gc_types.specs.Kinds.{kind_bits, kind_of}
 use Rattle.gc_refs.specs.Header.{kind_part}
 use Rattle.gc_heap.specs.Objects.{first_offset, IsObjectKind}
 use Rattle.gc_types.specs.declared.kind.Layouts.TheVariants.{Counting}
@@ -17,7 +17,7 @@ use Rattle.gc_view.specs.Bytes.{put_u32}
 use Rattle.gc_view.specs.Heaps.{HeapObject}
 use Rattle.gc_view.specs.Pages.{page}
 use Rattle.gc_drc.specs.declared.space.CountedSpace.{CountedSpace}
-use Rattle.gc_drc.specs.Layout.{count_at, size_at, block_of, flags_at, kind_of, kind_at, data_at, object_at, IsWhole}
+use Rattle.gc_drc.specs.Layout.{count_at, size_at, block_of, flags_at, kind_at, data_at, object_at, IsWhole}
 use Rattle.gc_drc.specs.View.{View, count_of, flags_of, Holds, ShowsObject, IsPart, Linked, last, link}
 use Rattle.gc_drc.specs.SpaceLaws.{Lies, lies, apart, least_size}
 use Rattle.gc_drc.specs.Operations.{Tends, Sets}

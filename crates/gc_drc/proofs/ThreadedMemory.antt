@@ -4,7 +4,7 @@ use Rattle.gc_view.specs.Heaps.{Counts, detached_in}
 use Rattle.gc_drc.specs.declared.space.CountedSpace.{CountedSpace}
 use Rattle.gc_drc.specs.View as view
 use Rattle.gc_drc.specs.Content.{seen_in, IsSoundSpace}
-use Rattle.gc_drc.specs.SpaceLaws.{counts_are}
+use Rattle.gc_drc.proofs.CountsSeen.{counts_are}
 use Rattle.gc_drc.specs.ThreadedLists.{ThreadsLists}
 
 pub threads_lists : (s : CountedSpace) (scopes : ℕ) → IsSoundSpace s → ThreadsLists (seen_in scopes s) s.memory

@@ -10,7 +10,6 @@ use Rattle.gc_memory.specs.Lists.{In, here, there, occ, sum_over}
 use Rattle.gc_memory.proofs.ListLemmas.{In-occ, occ-In, occ-same, sum_over-same}
 use Rattle.gc_drc.specs.declared.space.CountedSpace.{CountedSpace}
 use Rattle.gc_drc.specs.View.{View, Linked, last, link}
-use Rattle.gc_drc.specs.Content.{places_of}
 use Rattle.gc_drc.specs.SpaceLaws.{places_are}
 use Rattle.gc_drc.specs.Graph.{Graph}
 use Rattle.gc_drc.specs.CollectOps.{same, without_one, marked_also}
@@ -18,7 +17,7 @@ use Rattle.gc_drc.specs.CollectStates.{Tracing}
 use Rattle.gc_drc.specs.CollectMemory.{Context, At, CanMark}
 use Rattle.gc_drc.specs.CollectVisits.{CanVisitObject}
 use Rattle.gc_drc.specs.CollectDrain.{IsPlaceWord}
-use Rattle.gc_drc.specs.CollectTrace.{Settled, Traces, CanScan, root_words, chain_length, trace_left}
+use Rattle.gc_drc.specs.CollectTrace.{Settled, Traces, CanScan, root_words, chain_length, trace_left, fresh_in}
 use Rattle.gc_drc.proofs.OccLemmas.{same-is, same-not, occ-without}
 use Rattle.gc_drc.proofs.SweepLemmas.{marked_is_view}
 use Rattle.gc_drc.proofs.TraceLemmas.{trace_marks, trace_passes, trace_scans}
@@ -33,16 +32,16 @@ use Rattle.gc_drc.proofs.SweepMemory.{mark_read, fresh_read, marked_read, sum_ch
 
 -- WORDS
 
-word_held : (c : Context) (unscanned : List ℕ) (s : CountedSpace) (head w : ℕ) (rest : List ℕ) (t : Traces c unscanned s head (w ∷ rest)) → IsPlaceWord w → In w t.view.places
-word_held c unscanned s head w rest t is = subst (λ (ps : List ℕ). In w ps) (sym t.settled.all_held) (place_in c w (t.known w here) is)
+word_held : (c : Context) (unscanned : List ℕ) (s : CountedSpace) (head fresh w : ℕ) (rest : List ℕ) (t : Traces c unscanned s head fresh (w ∷ rest)) → IsPlaceWord w → In w t.view.places
+word_held c unscanned s head fresh w rest t is = subst (λ (ps : List ℕ). In w ps) (sym t.settled.all_held) (place_in c w (t.known w here) is)
 
-pub word_room : (c : Context) (unscanned : List ℕ) (s : CountedSpace) (head w : ℕ) (rest : List ℕ) → Traces c unscanned s head (w ∷ rest) → IsPlaceWord w → w + 28 ≤ length s.memory
-word_room c unscanned s head w rest t is = room_at c t.view s w t.at (word_held c unscanned s head w rest t is)
+pub word_room : (c : Context) (unscanned : List ℕ) (s : CountedSpace) (head fresh w : ℕ) (rest : List ℕ) → Traces c unscanned s head fresh (w ∷ rest) → IsPlaceWord w → w + 28 ≤ length s.memory
+word_room c unscanned s head fresh w rest t is = room_at c t.view s w t.at (word_held c unscanned s head fresh w rest t is)
 
-pub word_can : (c : Context) (unscanned : List ℕ) (s : CountedSpace) (head w : ℕ) (rest : List ℕ) (b : Bool) → Traces c unscanned s head (w ∷ rest) → IsPlaceWord w → b ≡ nat_eq (word s.memory w % 2) 1 → b ≡ false → CanMark s w
-word_can c unscanned s head w rest b t is read fresh =
-    let held = word_held c unscanned s head w rest t is in
-    record { context = c; view = t.view; at = t.at; held = held; fresh = fresh_read c t.view s w b t.at held read fresh }
+pub word_can : (c : Context) (unscanned : List ℕ) (s : CountedSpace) (head fresh w : ℕ) (rest : List ℕ) (b : Bool) → Traces c unscanned s head fresh (w ∷ rest) → IsPlaceWord w → b ≡ nat_eq (word s.memory w % 2) 1 → b ≡ false → CanMark s w
+word_can c unscanned s head fresh w rest b t is read off =
+    let held = word_held c unscanned s head fresh w rest t is in
+    record { context = c; view = t.view; at = t.at; held = held; fresh = fresh_read c t.view s w b t.at held read off }
 
 settled_marked : (g : Graph) (v : View) (w : ℕ) → Settled g v → In w v.places → occ w v.marked ≡ 0 → Settled g (marked_also v w)
 settled_marked g v w t i none = record {
@@ -93,15 +92,15 @@ link_free c v s s' x n at i none small is =
     )
 
 -- an object is marked, and is to be scanned
-pub traces_marks : (c : Context) (unscanned : List ℕ) (s s1 s2 : CountedSpace) (head w : ℕ) (rest : List ℕ) (b : Bool) → Traces c unscanned s head (w ∷ rest) → IsPlaceWord w
+pub traces_marks : (c : Context) (unscanned : List ℕ) (s s1 s2 : CountedSpace) (head fresh w : ℕ) (rest : List ℕ) (b : Bool) → Traces c unscanned s head fresh (w ∷ rest) → IsPlaceWord w
     → b ≡ nat_eq (word s.memory w % 2) 1 → b ≡ false → head < 2 ^ 32
     → ((o : Context) (v : View) → At o v s → In w v.places → occ w v.marked ≡ 0 → At o (marked_also v w) s1)
     → ((o : Context) (v : View) (h : ℕ) (list : List ℕ) → At o v s → In w v.places → ((p : ℕ) → In p list → In p v.places) → Linked s.memory 24 h list → Linked s1.memory 24 h list)
-    → s2 ≡ record s1 { memory = put_u32 s1.memory (w + 24) head } → Traces c unscanned s2 w rest
-traces_marks c unscanned s s1 s2 head w rest b t is read fresh small marks links wrote =
+    → s2 ≡ record s1 { memory = put_u32 s1.memory (w + 24) head } → Traces c unscanned s2 w (fresh - 1) rest
+traces_marks c unscanned s s1 s2 head fresh w rest b t is read off small marks links wrote =
     let v = t.view in
-    let held = word_held c unscanned s head w rest t is in
-    let none = fresh_read c v s w b t.at held read fresh in
+    let held = word_held c unscanned s head fresh w rest t is in
+    let none = fresh_read c v s w b t.at held read off in
     let place = In-occ w c.graph.places (place_in c w (t.known w here) is) in
     let at1 = marks c v t.at held none in
     let work_part = λ (p : ℕ) (i : In p t.work). t.at.holds.marked_part.inside p (occ-In p v.marked (let some = In-occ p t.work i in let w1 = t.tracing.waiting p in omega arith)) in
@@ -125,13 +124,14 @@ traces_marks c unscanned s s1 s2 head w rest b t is read fresh small marks links
       tracing = trace_marks c.graph v w rest t.work t.tracing place;
       linked = link lies.not_null (subst (λ (n : ℕ). Linked s2.memory 24 n t.work) (sym free.1.0) linked2);
       known = λ q i. t.known q (there i);
-      left_is = omega arith;
+      fresh_is = omega (arith, t.fresh_is);
+      left_is = omega (arith, t.fresh_is);
     }
 
-pub traces_passes : (c : Context) (unscanned : List ℕ) (s : CountedSpace) (head w : ℕ) (rest : List ℕ) (b : Bool) → Traces c unscanned s head (w ∷ rest) → IsPlaceWord w
-    → b ≡ nat_eq (word s.memory w % 2) 1 → b ≡ true → Traces c unscanned s head rest
-traces_passes c unscanned s head w rest b t is read on =
-    let held = word_held c unscanned s head w rest t is in
+pub traces_passes : (c : Context) (unscanned : List ℕ) (s : CountedSpace) (head fresh w : ℕ) (rest : List ℕ) (b : Bool) → Traces c unscanned s head fresh (w ∷ rest) → IsPlaceWord w
+    → b ≡ nat_eq (word s.memory w % 2) 1 → b ≡ true → Traces c unscanned s head fresh rest
+traces_passes c unscanned s head fresh w rest b t is read on =
+    let held = word_held c unscanned s head fresh w rest t is in
     record {
       view = t.view;
       at = t.at;
@@ -140,11 +140,12 @@ traces_passes c unscanned s head w rest b t is read on =
       tracing = trace_passes c.graph t.view w rest t.work t.tracing (inr (marked_read c t.view s w b t.at held read on));
       linked = t.linked;
       known = λ q i. t.known q (there i);
+      fresh_is = t.fresh_is;
       left_is = t.left_is;
     }
 
-pub traces_skips : (c : Context) (unscanned : List ℕ) (s : CountedSpace) (head w : ℕ) (rest : List ℕ) → Traces c unscanned s head (w ∷ rest) → (IsPlaceWord w → ⊥) → Traces c unscanned s head rest
-traces_skips c unscanned s head w rest t isnt = record {
+pub traces_skips : (c : Context) (unscanned : List ℕ) (s : CountedSpace) (head fresh w : ℕ) (rest : List ℕ) → Traces c unscanned s head fresh (w ∷ rest) → (IsPlaceWord w → ⊥) → Traces c unscanned s head fresh rest
+traces_skips c unscanned s head fresh w rest t isnt = record {
   view = t.view;
   at = t.at;
   settled = t.settled;
@@ -152,20 +153,21 @@ traces_skips c unscanned s head w rest t isnt = record {
   tracing = trace_passes c.graph t.view w rest t.work t.tracing (inl (no_place c w t.at.start isnt));
   linked = t.linked;
   known = λ q i. t.known q (there i);
+  fresh_is = t.fresh_is;
   left_is = t.left_is;
 }
 
 -- SCANNING
 
 -- the first object that is to be scanned
-pub record Popped (c : Context) (unscanned : List ℕ) (s : CountedSpace) (head n : ℕ) : Type 0 where
+pub record Popped (c : Context) (unscanned : List ℕ) (s : CountedSpace) (head fresh n : ℕ) : Type 0 where
   pub place_in : In head c.graph.places
   pub left : List ℕ
-  pub traces : Traces c left s n (c.graph.words head)
+  pub traces : Traces c left s n fresh (c.graph.words head)
   pub shorter : length left < length unscanned
 
-pub popped : (c : Context) (unscanned : List ℕ) (s : CountedSpace) (head n : ℕ) → 0 < head → Traces c unscanned s head [] → n ≡ word s.memory (head + 24) → Popped c unscanned s head n
-popped c unscanned s head n some t read =
+pub popped : (c : Context) (unscanned : List ℕ) (s : CountedSpace) (head fresh n : ℕ) → 0 < head → Traces c unscanned s head fresh [] → n ≡ word s.memory (head + 24) → Popped c unscanned s head fresh n
+popped c unscanned s head fresh n some t read =
     let b = linked_begins s.memory 24 head t.work t.linked (λ (e : head ≡ 0). absurd (omega arith)) in
     let one = occ-same head b.rest in
     let times : occ head t.work ≡ occ head (head ∷ b.rest) = ap (λ (xs : List ℕ). occ head xs) b.is in
@@ -189,6 +191,7 @@ popped c unscanned s head n some t read =
         tracing = trace_scans c.graph t.view head b.rest tracing;
         linked = subst (λ (h : ℕ). Linked s.memory 24 h b.rest) (sym read) (rest_linked s.memory head b.rest linked);
         known = λ q j. t.at.start.fields head q i j;
+        fresh_is = t.fresh_is;
         left_is = omega arith;
       };
       shorter = omega arith;
@@ -225,65 +228,87 @@ length_part (y ∷ ys) ps part =
     let rest = length_part ys (without_one y ps) (λ x. let w = occ-without y x ps some in let p : same x y + occ x ys ≤ occ x ps = part x in omega arith) in
     omega arith
 
-pub trace_left_is : (c : Context) (unscanned : List ℕ) (s : CountedSpace) (head : ℕ) (pending : List ℕ) → Traces c unscanned s head pending → trace_left s head ≡ length unscanned
-trace_left_is c unscanned s head pending t =
+-- the objects that aren't marked are those whose mark bits say so
+pub fresh_in_is : (c : Context) (unscanned : List ℕ) (s : CountedSpace) (head fresh : ℕ) (pending : List ℕ) → Traces c unscanned s head fresh pending → fresh ≡ fresh_in s
+fresh_in_is c unscanned s head fresh pending t =
     let v = t.view in
-    let count = t.at.holds.count in
-    let bits : sum_over (λ p. 1 - word s.memory p % 2) (places_of s.free.space.held) ≡ sum_over (λ p. 1 - occ p v.marked) v.places =
+    let bits : fresh_in s ≡ sum_over (λ p. 1 - occ p v.marked) v.places =
     ap (λ (ps : List ℕ). sum_over (λ p. 1 - word s.memory p % 2) ps) (places_are v s t.at.holds)
     ∙ sum_over-same (λ p. 1 - occ p v.marked) (λ p. 1 - word s.memory p % 2) v.places (λ p i. ap (λ (n : ℕ). 1 - n) (mark_read c v s p t.at i)) in
+    sym (bits ∙ t.fresh_is)
+
+pub trace_left_is : (c : Context) (unscanned : List ℕ) (s : CountedSpace) (head fresh : ℕ) (pending : List ℕ) → Traces c unscanned s head fresh pending → trace_left s head ≡ length unscanned
+trace_left_is c unscanned s head fresh pending t =
+    let v = t.view in
+    let count = t.at.holds.count in
+    let bits = fresh_in_is c unscanned s head fresh pending t in
     let few = length_part t.work v.places (λ x. let w = t.tracing.waiting x in let m = t.settled.is_view.marked x in omega arith) in
     let chain = chain_is s.memory s.objects head t.work t.linked (omega arith) in
     let total = t.left_is in
     omega arith
 
-pub scan_can : (types : List Declaration) (s : CountedSpace) (head n : ℕ) → CanScan types s head → 0 < head → n ≡ word s.memory (head + 24)
-    → CanVisitObject (λ o unscanned words. Traces o unscanned s n words) types head
-scan_can types s head n can some read =
-    let p = popped can.context can.unscanned s head n some can.traces read in
+-- an object that isn't marked is one of them
+pub some_fresh : (c : Context) (unscanned : List ℕ) (s : CountedSpace) (head fresh w : ℕ) (rest : List ℕ) (b : Bool) → Traces c unscanned s head fresh (w ∷ rest) → IsPlaceWord w
+    → b ≡ nat_eq (word s.memory w % 2) 1 → b ≡ false → 0 < fresh
+some_fresh c unscanned s head fresh w rest b t is read off =
+    let v = t.view in
+    let held = word_held c unscanned s head fresh w rest t is in
+    let none = fresh_read c v s w b t.at held read off in
+    let once_w = places_once v s t.at.holds w in
+    let some_w = In-occ w v.places held in
+    let once : occ w v.places ≡ 1 = omega arith in
+    let one : same w w ≡ 1 = same-is w w refl in
+    let sums = sum_changed (λ p. 1 - occ p v.marked) (λ p. 1 - occ p (w ∷ v.marked)) w v.places once
+    (λ p i ne. let other : same p w ≡ 0 = same-not p w ne in omega arith) in
+    omega (arith, t.fresh_is)
+
+pub scan_can : (types : List Declaration) (s : CountedSpace) (head fresh n : ℕ) → CanScan types s head fresh → 0 < head → n ≡ word s.memory (head + 24)
+    → CanVisitObject (λ o unscanned words. Traces o unscanned s n fresh words) types head
+scan_can types s head fresh n can some read =
+    let p = popped can.context can.unscanned s head fresh n some can.traces read in
     record { context = can.context; places = p.left; typed = can.typed; place_in = p.place_in; is = p.traces }
 
-pub scan_room : (types : List Declaration) (s : CountedSpace) (head : ℕ) → CanScan types s head → 0 < head → head + 28 ≤ length s.memory
-scan_room types s head can some =
-    let p = popped can.context can.unscanned s head _ some can.traces refl in
+pub scan_room : (types : List Declaration) (s : CountedSpace) (head fresh : ℕ) → CanScan types s head fresh → 0 < head → head + 28 ≤ length s.memory
+scan_room types s head fresh can some =
+    let p = popped can.context can.unscanned s head fresh _ some can.traces refl in
     (object_room can.context s.memory head can.traces.at.start can.traces.at.intact p.place_in).0
 
-pub scans : (c : Context) (unscanned : List ℕ) (types : List Declaration) (s s' : CountedSpace) (head n head' : ℕ) → 0 < head → n ≡ word s.memory (head + 24)
-    → ((o : Context) (left : List ℕ) → o.types ≡ types → In head o.graph.places → Traces o left s n (o.graph.words head) → Traces o left s' head' [])
-    → c.types ≡ types → Traces c unscanned s head [] → (left : List ℕ) × (Traces c left s' head' [] × (length left < length unscanned))
-scans c unscanned types s s' head n head' some read visits typed t =
-    let p = popped c unscanned s head n some t read in
+pub scans : (c : Context) (unscanned : List ℕ) (types : List Declaration) (s s' : CountedSpace) (head fresh n head' fresh' : ℕ) → 0 < head → n ≡ word s.memory (head + 24)
+    → ((o : Context) (left : List ℕ) → o.types ≡ types → In head o.graph.places → Traces o left s n fresh (o.graph.words head) → Traces o left s' head' fresh' [])
+    → c.types ≡ types → Traces c unscanned s head fresh [] → (left : List ℕ) × (Traces c left s' head' fresh' [] × (length left < length unscanned))
+scans c unscanned types s s' head fresh n head' fresh' some read visits typed t =
+    let p = popped c unscanned s head fresh n some t read in
     (p.left, (visits c p.left typed p.place_in p.traces, p.shorter))
 
-pub scan_less : (types : List Declaration) (s s' : CountedSpace) (head n head' : ℕ) → 0 < head → n ≡ word s.memory (head + 24)
-    → ((o : Context) (left : List ℕ) → o.types ≡ types → In head o.graph.places → Traces o left s n (o.graph.words head) → Traces o left s' head' [])
-    → CanScan types s head → trace_left s' head' < trace_left s head
-scan_less types s s' head n head' some read visits can =
-    let r = scans can.context can.unscanned types s s' head n head' some read visits can.typed can.traces in
-    omega (arith, r.1.1, trace_left_is can.context can.unscanned s head [] can.traces, trace_left_is can.context r.0 s' head' [] r.1.0)
+pub scan_less : (types : List Declaration) (s s' : CountedSpace) (head fresh n head' fresh' : ℕ) → 0 < head → n ≡ word s.memory (head + 24)
+    → ((o : Context) (left : List ℕ) → o.types ≡ types → In head o.graph.places → Traces o left s n fresh (o.graph.words head) → Traces o left s' head' fresh' [])
+    → CanScan types s head fresh → trace_left s' head' < trace_left s head
+scan_less types s s' head fresh n head' fresh' some read visits can =
+    let r = scans can.context can.unscanned types s s' head fresh n head' fresh' some read visits can.typed can.traces in
+    omega (arith, r.1.1, trace_left_is can.context can.unscanned s head fresh [] can.traces, trace_left_is can.context r.0 s' head' fresh' [] r.1.0)
 
 -- the loop
-abbrev pub Scans : List Declaration → CountedSpace → ℕ → CountedSpace → ℕ → Type 0
-Scans types s head s' head' = (c : Context) (unscanned : List ℕ) → c.types ≡ types → Traces c unscanned s head [] → (left : List ℕ) × Traces c left s' head' []
+abbrev pub Scans : List Declaration → CountedSpace → ℕ → ℕ → CountedSpace → ℕ → ℕ → Type 0
+Scans types s head fresh s' head' fresh' = (c : Context) (unscanned : List ℕ) → c.types ≡ types → Traces c unscanned s head fresh [] → (left : List ℕ) × Traces c left s' head' fresh' []
 
-pub scans_can : (types : List Declaration) (s s' : CountedSpace) (head head' : ℕ) → Scans types s head s' head' → CanScan types s head → CanScan types s' head'
-scans_can types s s' head head' scanned can =
+pub scans_can : (types : List Declaration) (s s' : CountedSpace) (head fresh head' fresh' : ℕ) → Scans types s head fresh s' head' fresh' → CanScan types s head fresh → CanScan types s' head' fresh'
+scans_can types s s' head fresh head' fresh' scanned can =
     let r = scanned can.context can.unscanned can.typed can.traces in
     record { context = can.context; unscanned = r.0; typed = can.typed; traces = r.1 }
 
-pub scans_step : (types : List Declaration) (s s' s2 : CountedSpace) (head head' head2 : ℕ) → Scans types s head s' head'
-    → ((c : Context) (unscanned : List ℕ) → c.types ≡ types → Traces c unscanned s' head' [] → (left : List ℕ) × (Traces c left s2 head2 [] × (length left < length unscanned))) → Scans types s head s2 head2
-scans_step types s s' s2 head head' head2 scanned step c unscanned typed t =
+pub scans_step : (types : List Declaration) (s s' s2 : CountedSpace) (head fresh head' fresh' head2 fresh2 : ℕ) → Scans types s head fresh s' head' fresh'
+    → ((c : Context) (unscanned : List ℕ) → c.types ≡ types → Traces c unscanned s' head' fresh' [] → (left : List ℕ) × (Traces c left s2 head2 fresh2 [] × (length left < length unscanned))) → Scans types s head fresh s2 head2 fresh2
+scans_step types s s' s2 head fresh head' fresh' head2 fresh2 scanned step c unscanned typed t =
     let r = scanned c unscanned typed t in
     let q = step c r.0 typed r.1 in
     (q.0, q.1.0)
 
 -- an object that was marked has its words
-pub marked_room : (c : Context) (unscanned : List ℕ) (s s1 : CountedSpace) (head w : ℕ) (rest : List ℕ) (b : Bool) → Traces c unscanned s head (w ∷ rest) → IsPlaceWord w → b ≡ nat_eq (word s.memory w % 2) 1 → b ≡ false
+pub marked_room : (c : Context) (unscanned : List ℕ) (s s1 : CountedSpace) (head fresh w : ℕ) (rest : List ℕ) (b : Bool) → Traces c unscanned s head fresh (w ∷ rest) → IsPlaceWord w → b ≡ nat_eq (word s.memory w % 2) 1 → b ≡ false
     → ((o : Context) (v : View) → At o v s → In w v.places → occ w v.marked ≡ 0 → At o (marked_also v w) s1) → w + 28 ≤ length s1.memory
-marked_room c unscanned s s1 head w rest b t is read fresh marks =
-    let held = word_held c unscanned s head w rest t is in
-    room_at c (marked_also t.view w) s1 w (marks c t.view t.at held (fresh_read c t.view s w b t.at held read fresh)) held
+marked_room c unscanned s s1 head fresh w rest b t is read off marks =
+    let held = word_held c unscanned s head fresh w rest t is in
+    room_at c (marked_also t.view w) s1 w (marks c t.view t.at held (fresh_read c t.view s w b t.at held read off)) held
 
 -- ROOTS
 

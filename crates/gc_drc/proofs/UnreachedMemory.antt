@@ -1,12 +1,13 @@
 -- The third increment: from what the second one left to what is reached.
-use Rattle.std.proofs.Common.{◌≡◌, ℕ, zero, suc, ◌+◌, ◌-◌, ◌<◌, Bool, true, false, cond, not, List, [], ◌∷◌, length, map, refl, sym, ap, subst, inl, inr, arith}
+use Rattle.std.proofs.Common.{◌≡◌, ℕ, zero, suc, ◌+◌, ◌-◌, ◌<◌, Bool, true, false, cond, not, List, [], ◌∷◌, length, map, refl, sym, ap, subst, ◌∙◌, ◌%◌, inl, inr, arith}
 use Rattle.std.specs.Prelude.{filter}
 use Rattle.std.specs.FinMap as finite
 use Rattle.std.specs.Ordering.{nat_cmp}
 use Rattle.gc_types.specs.Declarations.{Declaration}
 use Rattle.gc_roots.specs.Roots.{Root}
 use Rattle.gc_heap.specs.Collection.{held_words, stack_words}
-use Rattle.gc_memory.specs.Lists.{In, occ, sum_over}
+use Rattle.gc_memory.specs.Lists.{In, here, there, occ, sum_over}
+use Rattle.gc_memory.specs.Words.{word}
 use Rattle.gc_memory.proofs.ListLemmas.{In-occ, occ-In, occ-same}
 use Rattle.gc_drc.specs.declared.space.CountedSpace.{CountedSpace}
 use Rattle.gc_drc.specs.View.{View, last}
@@ -14,7 +15,7 @@ use Rattle.gc_drc.specs.Graph.{Graph, names, Reached, by_root, by_frame, by_fiel
 use Rattle.gc_drc.specs.CollectStates.{Cascading, Drained, Tracing, Done}
 use Rattle.gc_drc.specs.CollectMemory.{Context, IsContext, IsWord, At}
 use Rattle.gc_drc.specs.CollectHosts.{HostsLeft}
-use Rattle.gc_drc.specs.CollectTrace.{Settled, Traces, CanScan, root_words}
+use Rattle.gc_drc.specs.CollectTrace.{Settled, Traces, CanScan, root_words, fresh_in}
 use Rattle.gc_drc.specs.CollectWalk.{Garbage, CanFreeUnmarked, FreedUnmarked}
 use Rattle.gc_drc.specs.CollectClear.{AllMarked, Unmarked}
 use Rattle.gc_drc.specs.CollectSpan.{IsOf}
@@ -24,6 +25,9 @@ use Rattle.gc_drc.proofs.SweepLemmas.{reached_kept}
 use Rattle.gc_drc.proofs.TraceLemmas.{trace_begins, trace_ends, freeing_begins, freeing_ends}
 use Rattle.gc_drc.proofs.LinkLemmas.{linked_empty}
 use Rattle.gc_drc.proofs.HostLemmas.{hosts_begin}
+use Rattle.gc_drc.specs.Content.{places_of}
+use Rattle.gc_drc.specs.SpaceLaws.{places_are}
+use Rattle.gc_drc.proofs.TraceMemory.{fresh_in_is}
 use Rattle.gc_drc.proofs.SweepMemory.{mark_read, stack_first, stack_other}
 
 -- a list in which nothing stands
@@ -54,6 +58,11 @@ occ-roots x (r ∷ roots) = by_slot r.on_stack refl (occ-roots x roots)
         let held = ap (λ (xs : List ℕ). occ x xs) (held_first r roots e) in
         let stack = ap (λ (xs : List ℕ). occ x xs) (stack_other r roots e) in
         omega arith
+
+-- where nothing is marked, no object is
+all_fresh : (marked ps : List ℕ) → ((x : ℕ) → occ x marked ≡ 0) → sum_over (λ p. 1 - occ p marked) ps ≡ length ps
+all_fresh marked [] none = refl
+all_fresh marked (p ∷ ps) none = let zero_p = none p in let rest = all_fresh marked ps none in omega arith
 
 -- WHAT IS LEFT
 
@@ -123,9 +132,9 @@ module _ (c : Context) (v : View) (s : CountedSpace) (at : At c v s) (d : Draine
       }
 
   -- the words of all roots are to be looked at
-  left_traces : (roots : List Root) (types : List Declaration) → IsOf c roots types → (unscanned : List ℕ) × Traces (held_context c v.places) unscanned s 0 (root_words roots)
+  left_traces : (roots : List Root) (types : List Declaration) → IsOf c roots types → (unscanned : List ℕ) × Traces (held_context c v.places) unscanned s 0 s.objects (root_words roots)
   left_traces roots types is =
-      let unscanned = list_of (sum_over (λ p. 1 - occ p v.marked) v.places) in (
+      let unscanned = list_of s.objects in (
         unscanned.0,
         record {
           view = v;
@@ -135,10 +144,14 @@ module _ (c : Context) (v : View) (s : CountedSpace) (at : At c v s) (d : Draine
           tracing = trace_begins (held_context c v.places).graph v (root_words roots) all d.draining.none_marked;
           linked = last;
           known = λ w j. known w (In-occ w (root_words roots) j);
+          fresh_is = fresh;
           left_is = omega (arith, unscanned.1);
         },
       )
     where
+      fresh : sum_over (λ p. 1 - occ p v.marked) v.places ≡ s.objects
+      fresh = all_fresh v.marked v.places d.draining.none_marked ∙ sym at.holds.count
+
       list_of : (n : ℕ) → (xs : List ℕ) × (length xs ≡ n)
       list_of zero = ([], refl)
       list_of (suc n) = let rest = list_of n in (0 ∷ rest.0, ap suc rest.1)
@@ -159,8 +172,8 @@ module _ (c : Context) (v : View) (s : CountedSpace) (at : At c v s) (d : Draine
 -- MARKS AND FREES
 
 -- all that is reached is marked, and the rest is to be freed
-pub traced_garbage : (D : Type 0) (c : Context) (unscanned : List ℕ) (s : CountedSpace) (head : ℕ) (hosts : finite.FinMap nat_cmp D) → head ≡ 0 → (t : Traces c unscanned s head []) → Garbage D c hosts t.view.places s hosts
-traced_garbage D c unscanned s head hosts none t =
+pub traced_garbage : (D : Type 0) (c : Context) (unscanned : List ℕ) (s : CountedSpace) (head fresh : ℕ) (hosts : finite.FinMap nat_cmp D) → head ≡ 0 → (t : Traces c unscanned s head fresh []) → Garbage D c hosts t.view.places s hosts
+traced_garbage D c unscanned s head fresh hosts none t =
     let no_work = linked_empty s.memory 24 head t.work t.linked none in
     let tracing = subst (λ (xs : List ℕ). Tracing c.graph t.view [] xs) no_work t.tracing in
     let settled = t.settled in
@@ -223,11 +236,11 @@ module _ (g : Graph) (v : View) (d : Drained g v) where
 
 -- THE INCREMENT
 
-abbrev pub MarksRoots : CountedSpace → List Root → CountedSpace → ℕ → Type 0
-MarksRoots s roots s1 h1 = (c : Context) (unscanned : List ℕ) → Traces c unscanned s 0 (root_words roots) → Traces c unscanned s1 h1 []
+abbrev pub MarksRoots : CountedSpace → List Root → CountedSpace → ℕ → ℕ → Type 0
+MarksRoots s roots s1 h1 f1 = (c : Context) (unscanned : List ℕ) → Traces c unscanned s 0 s.objects (root_words roots) → Traces c unscanned s1 h1 f1 []
 
-abbrev pub ScansAll : List Declaration → CountedSpace → ℕ → CountedSpace → ℕ → Type 0
-ScansAll types s1 h1 s2 h2 = (c : Context) (unscanned : List ℕ) → c.types ≡ types → Traces c unscanned s1 h1 [] → (left : List ℕ) × Traces c left s2 h2 []
+abbrev pub ScansAll : List Declaration → CountedSpace → ℕ → ℕ → CountedSpace → ℕ → ℕ → Type 0
+ScansAll types s1 h1 f1 s2 h2 f2 = (c : Context) (unscanned : List ℕ) → c.types ≡ types → Traces c unscanned s1 h1 f1 [] → (left : List ℕ) × Traces c left s2 h2 f2 []
 
 abbrev pub FreesRest : {D : Type 0} → List Declaration → CountedSpace → finite.FinMap nat_cmp D → CountedSpace → finite.FinMap nat_cmp D → Type 0
 FreesRest {D} types s2 hosts s3 now = (c : Context) (before : finite.FinMap nat_cmp D) (places : List ℕ) → c.types ≡ types → Garbage D c before places s2 hosts → FreedUnmarked D c before s3 now
@@ -239,45 +252,75 @@ Unmarks s3 s4 = (c : Context) (places : List ℕ) → AllMarked c places s3 → 
 abbrev pub CanFreeUnreached : CountedSpace → List Root → List Declaration → Type 0
 CanFreeUnreached s roots types = (c : Context) × ((places : List ℕ) × (IsOf c roots types × Swept c places s))
 
-pub third_marks : (types : List Declaration) (s : CountedSpace) (roots : List Root) → CanFreeUnreached s roots types → (o : Context) × ((unscanned : List ℕ) × Traces o unscanned s 0 (root_words roots))
+pub third_marks : (types : List Declaration) (s : CountedSpace) (roots : List Root) → CanFreeUnreached s roots types → (o : Context) × ((unscanned : List ℕ) × Traces o unscanned s 0 s.objects (root_words roots))
 third_marks types s roots can =
     let w = can.1.1.1 in
     (held_context can.0 w.view.places, left_traces can.0 w.view s w.at w.drained roots types can.1.1.0)
 
-pub third_scans : (types : List Declaration) (s s1 : CountedSpace) (h1 : ℕ) (roots : List Root) → MarksRoots s roots s1 h1 → CanFreeUnreached s roots types → CanScan types s1 h1
-third_scans types s s1 h1 roots marks can =
+pub third_scans : (types : List Declaration) (s s1 : CountedSpace) (h1 f1 : ℕ) (roots : List Root) → MarksRoots s roots s1 h1 f1 → CanFreeUnreached s roots types → CanScan types s1 h1 f1
+third_scans types s s1 h1 f1 roots marks can =
     let is = can.1.1.0 in
     let w = can.1.1.1 in
     let t = left_traces can.0 w.view s w.at w.drained roots types is in
     record { context = held_context can.0 w.view.places; unscanned = t.0; typed = is.types_are; traces = marks (held_context can.0 w.view.places) t.0 t.1 }
 
 -- nothing is left to scan
-traced : (types : List Declaration) (s s1 s2 : CountedSpace) (h1 h2 : ℕ) (roots : List Root) → MarksRoots s roots s1 h1 → ScansAll types s1 h1 s2 h2 → (c : Context) (places : List ℕ) → IsOf c roots types
-    → (w : Swept c places s) → (left : List ℕ) × Traces (held_context c w.view.places) left s2 h2 []
-traced types s s1 s2 h1 h2 roots marks scans c places is w =
+traced : (types : List Declaration) (s s1 s2 : CountedSpace) (h1 f1 h2 f2 : ℕ) (roots : List Root) → MarksRoots s roots s1 h1 f1 → ScansAll types s1 h1 f1 s2 h2 f2 → (c : Context) (places : List ℕ) → IsOf c roots types
+    → (w : Swept c places s) → (left : List ℕ) × Traces (held_context c w.view.places) left s2 h2 f2 []
+traced types s s1 s2 h1 f1 h2 f2 roots marks scans c places is w =
     let t = left_traces c w.view s w.at w.drained roots types is in
     scans (held_context c w.view.places) t.0 is.types_are (marks (held_context c w.view.places) t.0 t.1)
 
-pub third_frees : (D : Type 0) (types : List Declaration) (s s1 s2 : CountedSpace) (h1 h2 : ℕ) (roots : List Root) (hosts : finite.FinMap nat_cmp D) → MarksRoots s roots s1 h1 → ScansAll types s1 h1 s2 h2 → h2 ≡ 0
+pub third_frees : (D : Type 0) (types : List Declaration) (s s1 s2 : CountedSpace) (h1 f1 h2 f2 : ℕ) (roots : List Root) (hosts : finite.FinMap nat_cmp D) → MarksRoots s roots s1 h1 f1 → ScansAll types s1 h1 f1 s2 h2 f2 → h2 ≡ 0
     → CanFreeUnreached s roots types → CanFreeUnmarked D types s2 hosts
-third_frees D types s s1 s2 h1 h2 roots hosts marks scans none can =
+third_frees D types s s1 s2 h1 f1 h2 f2 roots hosts marks scans none can =
     let is = can.1.1.0 in
     let w = can.1.1.1 in
-    let t = traced types s s1 s2 h1 h2 roots marks scans can.0 can.1.0 is w in
+    let t = traced types s s1 s2 h1 f1 h2 f2 roots marks scans can.0 can.1.0 is w in
     record {
       context = held_context can.0 w.view.places;
       before = hosts;
       places = t.1.view.places;
       typed = is.types_are;
-      garbage = traced_garbage D (held_context can.0 w.view.places) t.0 s2 h2 hosts none t.1;
+      garbage = traced_garbage D (held_context can.0 w.view.places) t.0 s2 h2 f2 hosts none t.1;
     }
 
-module _ (D : Type 0) (types : List Declaration) (s s1 s2 s3 : CountedSpace) (h1 h2 : ℕ) (roots : List Root) (hosts now : finite.FinMap nat_cmp D)
-    (marks : MarksRoots s roots s1 h1) (scans : ScansAll types s1 h1 s2 h2) (none : h2 ≡ 0) (frees : FreesRest types s2 hosts s3 now) where
+-- as many aren't marked as were counted
+pub third_fresh : (types : List Declaration) (s s1 s2 : CountedSpace) (h1 f1 h2 f2 : ℕ) (roots : List Root) → MarksRoots s roots s1 h1 f1 → ScansAll types s1 h1 f1 s2 h2 f2
+    → CanFreeUnreached s roots types → f2 ≡ fresh_in s2
+third_fresh types s s1 s2 h1 f1 h2 f2 roots marks scans can =
+    let is = can.1.1.0 in
+    let w = can.1.1.1 in
+    let t = traced types s s1 s2 h1 f1 h2 f2 roots marks scans can.0 can.1.0 is w in
+    fresh_in_is (held_context can.0 w.view.places) t.0 s2 h2 f2 [] t.1
+
+-- a sum that is 0 has no part
+sum_none : (f : ℕ → ℕ) (ps : List ℕ) (p : ℕ) → sum_over f ps ≡ 0 → In p ps → f p ≡ 0
+sum_none f [] p e i = elim i [ ]
+sum_none f (_ ∷ ps) p e here = omega arith
+sum_none f (q ∷ ps) p e (there i) = sum_none f ps p (omega arith) i
+
+-- where all are marked, nothing is to be freed
+pub none_fresh : (D : Type 0) (c : Context) (before now : finite.FinMap nat_cmp D) (places : List ℕ) (s : CountedSpace) (fresh : ℕ) → fresh ≡ fresh_in s → fresh ≡ 0
+    → Garbage D c before places s now → FreedUnmarked D c before s now
+none_fresh D c before now places s fresh is none garbage = record {
+  places = places;
+  garbage = garbage;
+  all_reached = λ p i.
+      let v = garbage.view in
+      let held : In p v.places = subst (λ (ps : List ℕ). In p ps) (sym garbage.places_are) i in
+      let listed : In p (places_of s.free.space.held) = subst (λ (ps : List ℕ). In p ps) (sym (places_are v s garbage.at.holds)) held in
+      let zero_p = sum_none (λ q. 1 - word s.memory q % 2) (places_of s.free.space.held) p (sym is ∙ none) listed in
+      let bit = garbage.bits p (garbage.at.from p held) in
+      garbage.freeing.is_marked.only p (omega arith);
+}
+
+module _ (D : Type 0) (types : List Declaration) (s s1 s2 s3 : CountedSpace) (h1 f1 h2 f2 : ℕ) (roots : List Root) (hosts now : finite.FinMap nat_cmp D)
+    (marks : MarksRoots s roots s1 h1 f1) (scans : ScansAll types s1 h1 f1 s2 h2 f2) (none : h2 ≡ 0) (frees : FreesRest types s2 hosts s3 now) where
   third_freed : (c : Context) (places : List ℕ) → IsOf c roots types → (w : Swept c places s) → FreedUnmarked D (held_context c w.view.places) hosts s3 now
   third_freed c places is w =
-      let t = traced types s s1 s2 h1 h2 roots marks scans c places is w in
-      frees (held_context c w.view.places) hosts t.1.view.places is.types_are (traced_garbage D (held_context c w.view.places) t.0 s2 h2 hosts none t.1)
+      let t = traced types s s1 s2 h1 f1 h2 f2 roots marks scans c places is w in
+      frees (held_context c w.view.places) hosts t.1.view.places is.types_are (traced_garbage D (held_context c w.view.places) t.0 s2 h2 f2 hosts none t.1)
 
   pub third_clears : CanFreeUnreached s roots types → (o : Context) × ((ps : List ℕ) × AllMarked o ps s3)
   third_clears can =

@@ -11,12 +11,12 @@ use Rattle.gc_types.specs.declared.kind.Layouts.TheVariants.{Counting}
 use Rattle.gc_types.specs.declared.layout.TraceInfo.TheVariants as trace
 use Rattle.gc_types.specs.Declarations.{Declaration}
 use Rattle.gc_types.specs.Layouts.{trace_at}
-use Rattle.gc_types.specs.Kinds.{kind_bits}
+use Rattle.gc_types.specs.Kinds.{kind_of}
+use Rattle.gc_types.proofs.KindLemmas.{kind_of-kind_bits}
 use Rattle.gc_types.specs.declared.kind.VMGcKind.{VMGcKind}
-use Rattle.gc_types.specs.declared.kind.VMGcKind.TheVariants.{ExternRef, AnyRef, EqRef, StructRef, ArrayRef, ExnRef}
 use Rattle.gc_refs.specs.Header.{IsOfKind, kind_part}
 use Rattle.gc_drc.proofs.RewriteLemmas.{kind_at_same}
-use Rattle.gc_drc.specs.Layout.{size_at, kind_at, kind_of}
+use Rattle.gc_drc.specs.Layout.{size_at, kind_at}
 use Rattle.gc_drc.specs.CollectMemory.{Context, IsContext, Intact, words_at, traced_offsets, info_of, info_at, offsets_at}
 use Rattle.gc_drc.specs.CollectVisits.{InObject, CanVisit, CanVisitAt, CanVisitArray, CanVisitObject, Visits, VisitsArray, VisitsObject, array_offsets}
 
@@ -109,18 +109,10 @@ element_fits state place offset can start =
 
 -- KINDS
 
-kind_of-bits : (k : VMGcKind) → kind_of (kind_bits k) ≡ k
-kind_of-bits ExternRef = refl
-kind_of-bits AnyRef = refl
-kind_of-bits EqRef = refl
-kind_of-bits StructRef = refl
-kind_of-bits ArrayRef = refl
-kind_of-bits ExnRef = refl
-
 -- a kind word is of one kind
 pub kind_is : (m : List ℕ) (p : ℕ) (k : VMGcKind) → IsOfKind k (word m p) → k ≡ kind_at m p
 unfolding kind_at
-kind_is m p k e = sym (kind_of-bits k) ∙ ap kind_of e
+kind_is m p k e = sym (kind_of-kind_bits k) ∙ ap kind_of e
 
 -- what an object's references are is as it was
 pub offsets_same : (c : Context) (m : List ℕ) (p : ℕ) → IsContext c → Intact c m → In p c.graph.places → kind_at m p ≡ kind_at c.memory p × (word m (p + 4) ≡ word c.memory (p + 4))

@@ -26,7 +26,8 @@ use Rattle.gc_drc.specs.CollectMemory.{Context, At, CanUncountAt, CanRelease}
 use Rattle.gc_drc.specs.CollectVisits.{CanVisitObject}
 use Rattle.gc_drc.specs.CollectHosts.{FreesHostOf, HostsLeft}
 use Rattle.gc_drc.specs.CollectDrain.{IsPlaceWord}
-use Rattle.gc_drc.specs.CollectWalk.{Uncounts, Garbage, CanFreeGarbage, IsBorder, IsNext, CanWalk, CanSweepGarbage, SweepsGarbage, Walk, Walks, CanFreeUnmarked, FreedUnmarked, walk_end}
+use Rattle.gc_drc.specs.CollectWalk.{Uncounts, Garbage, CanFreeGarbage, IsBorder, IsNext, CanWalk, CanSweepGarbage, SweepsGarbage, CanFreeUnmarked, FreedUnmarked, walk_end}
+use Rattle.gc_drc.proofs.WalkStates.{Walk, Walks}
 use Rattle.gc_drc.proofs.OccLemmas.{same-is, same-not, occ-without}
 use Rattle.gc_drc.proofs.TraceLemmas.{freeing_can_uncount, freeing_uncounts, freeing_skips, freeing_frees, unmarked_not_shown}
 use Rattle.gc_drc.proofs.VisitLemmas.{kind_part_same, object_room}

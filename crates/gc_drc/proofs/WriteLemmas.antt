@@ -6,7 +6,7 @@ use Rattle.std.proofs.lemmas.Bool.{cases_eq}
 use Rattle.gc_types.specs.declared.kind.Layouts.TheVariants.{Counting}
 use Rattle.gc_types.specs.declared.kind.VMGcKind.{VMGcKind}
 use Rattle.gc_types.specs.declared.kind.VMGcKind.TheVariants.{ExternRef, AnyRef, EqRef, StructRef, ArrayRef, ExnRef}
-use Rattle.gc_types.specs.Kinds.{kind_bits}
+use Rattle.gc_types.specs.Kinds.{kind_bits, kind_of}
 use Rattle.gc_refs.specs.Header.{spare_bits, kind_part}
 use Rattle.gc_memory.specs.Words.{word}
 use Rattle.gc_memory.specs.Changes.{Wrote}
@@ -21,10 +21,11 @@ use Rattle.gc_heap.specs.Objects.{first_offset, writable_offset, IsObjectKind}
 use Rattle.gc_heap.specs.Heap.{IsWritable, with_data, with_spare_of, put_object}
 use Rattle.gc_view.specs.Pages.{page}
 use Rattle.gc_drc.specs.declared.space.CountedSpace.{CountedSpace}
-use Rattle.gc_drc.specs.Layout.{count_at, size_at, block_of, flags_at, kind_of, kind_at, data_at, object_at, IsWhole}
+use Rattle.gc_drc.specs.Layout.{count_at, size_at, block_of, flags_at, kind_at, data_at, object_at, IsWhole}
 use Rattle.gc_drc.specs.View.{View, count_of, flags_of, Holds, ShowsObject}
 use Rattle.gc_drc.specs.Content.{at_places, places_of, seen_in, IsSoundSpace}
-use Rattle.gc_drc.specs.SpaceLaws.{lies, places_are, counts_are}
+use Rattle.gc_drc.specs.SpaceLaws.{lies, places_are}
+use Rattle.gc_drc.proofs.CountsSeen.{counts_are}
 use Rattle.gc_drc.proofs.TendLemmas.{same_object, object_in_same, linked_in_same, other_bytes, other_words}
 use Rattle.gc_drc.proofs.SeenLemmas.{same_view, at_places-put}
 use Rattle.gc_drc.proofs.ReadLemmas.{HeldAt, held_at, size_of}

@@ -20,8 +20,8 @@ pub record Settled (g : Graph) (v : View) : Type 0 where
   pub all_held : v.places ≡ g.places
 
 -- What the roots reach is being marked. The marked objects that are still to be scanned are linked from the
--- head on; with those that aren't marked they are as many as the list `unscanned` is long.
-pub record Traces (c : Context) (unscanned : List ℕ) (s : CountedSpace) (head : ℕ) (pending : List ℕ) : Type 0 where
+-- head on; with those that aren't marked, of which there are `fresh`, they are as many as the list `unscanned` is long.
+pub record Traces (c : Context) (unscanned : List ℕ) (s : CountedSpace) (head fresh : ℕ) (pending : List ℕ) : Type 0 where
   pub view : View
   pub at : At c view s
   pub settled : Settled c.graph view
@@ -29,7 +29,12 @@ pub record Traces (c : Context) (unscanned : List ℕ) (s : CountedSpace) (head 
   pub tracing : Tracing c.graph view pending work
   pub linked : Linked s.memory 24 head work
   pub known : (w : ℕ) → In w pending → IsWord c w
-  pub left_is : sum_over (λ p. 1 - occ p view.marked) view.places + length work ≡ length unscanned
+  pub fresh_is : sum_over (λ p. 1 - occ p view.marked) view.places ≡ fresh
+  pub left_is : fresh + length work ≡ length unscanned
+
+-- how many objects the mark bits say aren't marked
+abbrev pub fresh_in : CountedSpace → ℕ
+fresh_in s = sum_over (λ p. 1 - word s.memory p % 2) (places_of s.free.space.held)
 
 -- how many objects are linked from one on, counted up to a number
 abbrev pub chain_length : ℕ → List ℕ → ℕ → ℕ
@@ -38,19 +43,20 @@ chain_length (suc n) bytes head = if head == 0 then 0 else suc (chain_length n b
 
 -- What is left to trace: the objects that aren't marked, and those that are still to be scanned.
 abbrev pub trace_left : CountedSpace → ℕ → ℕ
-trace_left s head = sum_over (λ p. 1 - word s.memory p % 2) (places_of s.free.space.held) + chain_length s.objects s.memory head
+trace_left s head = fresh_in s + chain_length s.objects s.memory head
 
 -- the next object may be scanned
-pub record CanScan (types : List Declaration) (s : CountedSpace) (head : ℕ) : Type 0 where
+pub record CanScan (types : List Declaration) (s : CountedSpace) (head fresh : ℕ) : Type 0 where
   pub context : Context
   pub unscanned : List ℕ
   pub typed : context.types ≡ types
-  pub traces : Traces context unscanned s head []
+  pub traces : Traces context unscanned s head fresh []
 
 -- the words of some roots
 abbrev pub root_words : List Root → List ℕ
 root_words roots = map (λ (r : Root). r.word) roots
 
 -- the words of roots were looked at, of which these are left
-abbrev pub TracesRoots : CountedSpace → ℕ → List Root → CountedSpace → ℕ → List Root → Type 0
-TracesRoots s head roots s' head' left = (c : Context) (unscanned : List ℕ) → Traces c unscanned s head (root_words roots) → Traces c unscanned s' head' (root_words left)
+abbrev pub TracesRoots : CountedSpace → ℕ → ℕ → List Root → CountedSpace → ℕ → ℕ → List Root → Type 0
+TracesRoots s head fresh roots s' head' fresh' left =
+    (c : Context) (unscanned : List ℕ) → Traces c unscanned s head fresh (root_words roots) → Traces c unscanned s' head' fresh' (root_words left)

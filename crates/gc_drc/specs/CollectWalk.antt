@@ -84,14 +84,6 @@ pub record SweepsGarbage (D : Type 0) (c : Context) (before : finite.FinMap nat_
   pub others : (p : ℕ) → In p places → (p ≡ x → ⊥) → In p left
   pub itself : In x left → Reached c.graph x
 
--- The walk has come to a place: what is held before it is reached.
-pub record Walk (D : Type 0) (c : Context) (before : finite.FinMap nat_cmp D) (s : CountedSpace) (now : finite.FinMap nat_cmp D) (end place : ℕ) : Type 0 where
-  pub places : List ℕ
-  pub garbage : Garbage D c before places s now
-  pub is_at : (place ≡ end) ⊎ In place places
-  pub walked : (p : ℕ) → In p places → p < place → Reached c.graph p
-  pub end_is : walk_end s ≡ end
-
 -- what isn't marked may be freed
 pub record CanFreeUnmarked (D : Type 0) (types : List Declaration) (s : CountedSpace) (now : finite.FinMap nat_cmp D) : Type 0 where
   pub context : Context
@@ -105,7 +97,3 @@ pub record FreedUnmarked (D : Type 0) (c : Context) (before : finite.FinMap nat_
   pub places : List ℕ
   pub garbage : Garbage D c before places s now
   pub all_reached : (p : ℕ) → In p places → Reached c.graph p
-
--- a walk that began there has come to here
-abbrev pub Walks : {D : Type 0} → List Declaration → CountedSpace → finite.FinMap nat_cmp D → CountedSpace → finite.FinMap nat_cmp D → ℕ → ℕ → Type 0
-Walks {D} types s old s' now end place = (c : Context) (before : finite.FinMap nat_cmp D) (places : List ℕ) → c.types ≡ types → Garbage D c before places s old → Walk D c before s' now end place

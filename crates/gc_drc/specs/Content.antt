@@ -36,14 +36,6 @@ counts_at bytes ps = record {
   queued = finset.from_list (filter (λ (p : ℕ). nat_eq (queued_at bytes p) 1) ps);
 }
 
--- the counts of a view
-abbrev pub counts_of : View → Counts
-counts_of v = record {
-  counted = at_places v.counted v.places;
-  shown = finset.from_list v.shown;
-  queued = finset.from_list v.queue;
-}
-
 -- what is seen of a space of a heap with so many scopes
 abbrev pub seen_in : ℕ → CountedSpace → HeapView
 seen_in scopes s = record (detached_in scopes) {

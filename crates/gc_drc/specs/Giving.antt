@@ -1,5 +1,5 @@
 -- What giving an object back does.
-use Rattle.std.specs.Prelude.{◌≡◌, ℕ, nat_eq, not, List, [], Some, filter}
+use Rattle.std.specs.Prelude.{◌≡◌, ℕ, [], Some}
 use Rattle.std.specs.FinMap as finite
 use Rattle.gc_types.specs.declared.kind.Layouts.TheVariants.{Counting}
 use Rattle.gc_memory.specs.Lists.{In, occ}
@@ -8,10 +8,6 @@ use Rattle.gc_heap.specs.Heap.{given_back}
 use Rattle.gc_drc.specs.declared.space.CountedSpace.{CountedSpace}
 use Rattle.gc_drc.specs.View.{View, Holds}
 use Rattle.gc_drc.specs.Content.{seen_in, IsSoundSpace}
-
--- the others than a place
-abbrev pub without_place : ℕ → List ℕ → List ℕ
-without_place x ps = filter (λ (y : ℕ). not (nat_eq y x)) ps
 
 -- An object that is on no list stands at a place.
 pub record CanGive (s : CountedSpace) (x : ℕ) : Type 0 where

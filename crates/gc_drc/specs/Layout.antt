@@ -1,9 +1,9 @@
 -- The words of an object of a counting heap.
-use Rattle.std.specs.Prelude.{◌≡◌, ℕ, ◌+◌, ◌-◌, ◌*◌, ◌/◌, ◌%◌, ◌<◌, ◌≤◌, ◌==◌, if◌then◌else◌, List, take, drop}
+use Rattle.std.specs.Prelude.{◌≡◌, ℕ, ◌+◌, ◌-◌, ◌*◌, ◌/◌, ◌%◌, ◌<◌, ◌≤◌, List, take, drop}
 use Rattle.gc_types.specs.declared.kind.Layouts.TheVariants.{Counting}
 use Rattle.gc_types.specs.declared.kind.VMGcKind.{VMGcKind}
-use Rattle.gc_types.specs.declared.kind.VMGcKind.TheVariants.{ExternRef, AnyRef, EqRef, StructRef, ArrayRef, ExnRef}
-use Rattle.gc_types.specs.Kinds.{kind_bits}
+use Rattle.gc_types.specs.declared.kind.VMGcKind.TheVariants.{ExternRef}
+use Rattle.gc_types.specs.Kinds.{kind_of}
 use Rattle.gc_types.specs.Layouts.{round_up}
 use Rattle.gc_refs.specs.Header.{spare_bits, kind_part, IsOfKind}
 use Rattle.gc_tables.specs.SideTables.{max_entries}
@@ -25,15 +25,6 @@ block_of size = round_up size alignment
 -- the three bits of the heap's own in a kind word: 1 marked, 2 on the list of shown words, 4 queued
 abbrev pub flags_at : List ℕ → ℕ → ℕ
 flags_at bytes place = word bytes place % 8
-
--- the kind of these bits; an external object's where they are no kind's
-abbrev pub kind_of : ℕ → VMGcKind
-kind_of bits =
-    if bits == kind_bits AnyRef then AnyRef else
-    (if bits == kind_bits EqRef then EqRef else
-    (if bits == kind_bits StructRef then StructRef else
-    (if bits == kind_bits ArrayRef then ArrayRef else
-    (if bits == kind_bits ExnRef then ExnRef else ExternRef))))
 
 -- the kind of the object at a place
 unfoldable pub kind_at : List ℕ → ℕ → VMGcKind

@@ -1,5 +1,5 @@
 -- Laws of maps and sets over places, and of blocks that lie apart.
-use Rattle.std.proofs.Common.{◌≡◌, ℕ, ◌+◌, ◌<◌, ◌≤◌, Bool, true, false, cond, List, [], ◌∷◌, length, map, Some, None, refl, sym, ap, ap₂, subst, ◌∙◌, inl, inr, arith}
+use Rattle.std.proofs.Common.{◌≡◌, ℕ, ◌+◌, ◌<◌, ◌≤◌, Bool, true, false, cond, List, [], ◌∷◌, map, Some, None, refl, sym, ap, subst, ◌∙◌, inl, inr, arith}
 use Rattle.std.proofs.Math.Logic.{◌⊎◌}
 use Rattle.std.specs.Prelude.{filter, nat_eq, ◌||◌}
 use Rattle.std.specs.List.{list_any}
@@ -13,7 +13,7 @@ use Rattle.gc_memory.proofs.ListLemmas.{occ-In, In-occ}
 use Rattle.gc_view.specs.Heaps.{HeapObject}
 use Rattle.gc_free.specs.Runs.{IsSpread}
 use Rattle.gc_heap.specs.Content.{total}
-use Rattle.gc_heap.specs.Totals.{total-empty, total-insert, len_with}
+use Rattle.gc_heap.specs.Totals.{total-empty, total-insert}
 use Rattle.gc_drc.specs.View.{block_at}
 use Rattle.gc_drc.specs.Layout.{block_of}
 use Rattle.gc_drc.specs.Content.{at_places, places_of}
@@ -65,11 +65,6 @@ module _ {X : Type 0} (f : ℕ → X) where
       none_some : (x : X) → None ≡ Some x → ⊥
       none_some x e = cc
 
--- functions that agree at the places give the same map
-pub at_places-same : {X : Type 0} (f g : ℕ → X) (ps : List ℕ) → ((p : ℕ) → In p ps → g p ≡ f p) → at_places g ps ≡ at_places f ps
-at_places-same f g [] same = refl
-at_places-same f g (p ∷ ps) same = ap₂ (λ m o. finite.insert m p o) (at_places-same f g ps (λ q i. same q (there i))) (same p here)
-
 -- the places of blocks
 pub places-blocks : (sizes : ℕ → ℕ) (ps : List ℕ) → places_of (map (block_at sizes) ps) ≡ ps
 places-blocks sizes [] = refl
@@ -118,12 +113,6 @@ spread-total sizes low high (p ∷ ps) up =
     let b : p + block_of (sizes p) ≤ high = up.2 in
     let rest = spread-sum sizes (p + block_of (sizes p)) high ps b up.3 in omega arith
 
-pub spread-length : (sizes : ℕ → ℕ) (low high : ℕ) (ps : List ℕ) → IsSpread low high (map (block_at sizes) ps) → length ps ≤ sum_over (λ p. block_of (sizes p)) ps
-spread-length sizes low high [] up = omega arith
-spread-length sizes low high (p ∷ ps) up =
-    let some : 0 < block_of (sizes p) = up.1 in
-    let rest = spread-length sizes (p + block_of (sizes p)) high ps up.3 in omega arith
-
 -- a sum over the objects is a sum over their places
 pub total-at : (g : HeapObject → ℕ) (f : ℕ → HeapObject) (sizes : ℕ → ℕ) (low high : ℕ) (ps : List ℕ) → IsSpread low high (map (block_at sizes) ps)
     → total g (at_places f ps) ≡ sum_over (λ p. g (f p)) ps
@@ -133,20 +122,7 @@ total-at g f sizes low high (p ∷ ps) up =
     let none = get_none f p ps (spread-not_behind sizes low high p ps up) in
     omega (arith, total-insert g (at_places f ps) p (f p) none, rest)
 
--- as many objects as places
-pub len-at : (f : ℕ → HeapObject) (sizes : ℕ → ℕ) (low high : ℕ) (ps : List ℕ) → IsSpread low high (map (block_at sizes) ps) → finite.len (at_places f ps) ≡ length ps
-len-at f sizes low high [] up = finite.len-empty nat_cmp HeapObject
-len-at f sizes low high (p ∷ ps) up =
-    let rest = len-at f sizes (p + block_of (sizes p)) high ps up.3 in
-    let none = get_none f p ps (spread-not_behind sizes low high p ps up) in
-    omega (arith, len_with (at_places f ps) p (f p) none, rest)
-
 -- SETS
-
-In-any : (q : ℕ) (xs : List ℕ) → In q xs → list_any (λ y. nat_eq y q) xs ≡ true
-In-any q [] i = elim i [ ]
-In-any q (_ ∷ xs) here = ap (λ b. b || list_any (λ y. nat_eq y q) xs) (eq-eqb q q refl)
-In-any q (y ∷ xs) (there i) = elim (nat_eq y q) as (λ b. (b || list_any (λ y. nat_eq y q) xs) ≡ true) [ true ↦ refl | false ↦ In-any q xs i ]
 
 any-In : (q : ℕ) (xs : List ℕ) → list_any (λ y. nat_eq y q) xs ≡ true → In q xs
 any-In q [] e = absurd (cc)
@@ -155,33 +131,8 @@ any-In q (y ∷ xs) e = elim (cases_eq y q) [
   | inr ne ↦ there (any-In q xs (sym (ap (λ b. b || list_any (λ y. nat_eq y q) xs) (ne_eqb y q ne)) ∙ e))
 ]
 
-same_bool : (a b : Bool) → (a ≡ true → b ≡ true) → (b ≡ true → a ≡ true) → a ≡ b
-same_bool true b f g = sym (f refl)
-same_bool false true f g = g refl
-same_bool false false f g = refl
-
--- what a set of a list has
-pub contains_in : (q : ℕ) (xs : List ℕ) → In q xs → finset.contains (finset.from_list {R = nat_cmp} xs) q ≡ true
-contains_in q xs i = finset.contains-from_list_nat xs q ∙ In-any q xs i
-
 pub in_contains : (q : ℕ) (xs : List ℕ) → finset.contains (finset.from_list {R = nat_cmp} xs) q ≡ true → In q xs
 in_contains q xs e = any-In q xs (sym (finset.contains-from_list_nat xs q) ∙ e)
-
-pub contains_not : (q : ℕ) (xs : List ℕ) → (In q xs → ⊥) → finset.contains (finset.from_list {R = nat_cmp} xs) q ≡ false
-contains_not q xs none = elim (finset.contains (finset.from_list {R = nat_cmp} xs) q) as (λ b. finset.contains (finset.from_list {R = nat_cmp} xs) q ≡ b → b ≡ false) [
-  | true ↦ λ e. absurd (none (in_contains q xs e))
-  | false ↦ λ e. refl
-] refl
-
--- lists with the same numbers are one set
-pub same_members : (xs ys : List ℕ) → ((q : ℕ) → In q xs → In q ys) → ((q : ℕ) → In q ys → In q xs) → finset.from_list {R = nat_cmp} xs ≡ finset.from_list ys
-same_members xs ys to from = finset.same_set nat_cmp_total finset.nat_cmp-IsAntisymmetric _ _ (λ q. same_bool _ _ (λ e. contains_in q ys (to q (in_contains q xs e))) (λ e. contains_in q xs (from q (in_contains q ys e))))
-
--- the numbers that pass a test
-pub filter_in : (t : ℕ → Bool) (q : ℕ) (ps : List ℕ) → In q ps → t q ≡ true → In q (filter t ps)
-filter_in t q [] i e = elim i [ ]
-filter_in t q (_ ∷ ps) here e = subst (λ b. In q (cond b (q ∷ filter t ps) (filter t ps))) (sym e) here
-filter_in t q (p ∷ ps) (there i) e = elim (t p) as (λ b. In q (cond b (p ∷ filter t ps) (filter t ps))) [ true ↦ there (filter_in t q ps i e) | false ↦ filter_in t q ps i e ]
 
 in_first : (t : ℕ → Bool) (p q : ℕ) (ps : List ℕ) → t p ≡ true → (In q (filter t ps) → In q ps × (t q ≡ true)) → In q (p ∷ filter t ps) → In q (p ∷ ps) × (t q ≡ true)
 in_first t p _ ps e rest here = (here, e)

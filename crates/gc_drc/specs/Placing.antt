@@ -1,10 +1,9 @@
 -- What an allocation takes and writes.
-use Rattle.std.specs.Prelude.{◌≡◌, ℕ, ◌+◌, ◌-◌, ◌≤◌, ◌<◌, ◌^◌, cond, nat_lt, nat_eq, All, List, [], ◌∷◌, length, take, drop, replicate, Some, Result, Ok, Err}
+use Rattle.std.specs.Prelude.{◌≡◌, ℕ, ◌+◌, ◌-◌, ◌≤◌, ◌<◌, ◌^◌, All, List, length, take, drop, replicate, Some, Result, Ok, Err}
 use Rattle.gc_types.specs.declared.kind.Layouts.TheVariants.{Counting}
 use Rattle.gc_refs.specs.Header.{Header}
 use Rattle.gc_memory.specs.Words.{word}
 use Rattle.gc_memory.specs.Changes.{Wrote}
-use Rattle.gc_view.specs.Heaps.{HeapObject}
 use Rattle.gc_free.specs.Runs.{run, insert_run}
 use Rattle.gc_free.specs.Space.{IsSound, free_runs}
 use Rattle.gc_free.specs.Space as free_list
@@ -14,21 +13,7 @@ use Rattle.gc_heap.specs.declared.heap.HeapFault.{HeapFault}
 use Rattle.gc_heap.specs.declared.heap.HeapFault.TheVariants as fault
 use Rattle.gc_drc.specs.declared.space.CountedSpace.{CountedSpace}
 use Rattle.gc_drc.specs.declared.place.NewBlock.{NewBlock}
-use Rattle.gc_drc.specs.Layout.{count_at, size_at, flags_at, block_of, object_at, IsWhole}
-use Rattle.gc_drc.specs.View.{View}
-
--- a place put among others by rising place
-abbrev pub insert_place : ℕ → List ℕ → List ℕ
-insert_place p [] = p ∷ []
-insert_place p (q ∷ qs) = cond (nat_lt q p) (q ∷ insert_place p qs) (p ∷ q ∷ qs)
-
--- the view with a new object, which one word names
-abbrev pub with_place : View → ℕ → ℕ → View
-with_place v p size = record v {
-  places = insert_place p v.places;
-  counted = λ y. cond (nat_eq y p) 1 (v.counted y);
-  sizes = λ y. cond (nat_eq y p) size (v.sizes y);
-}
+use Rattle.gc_drc.specs.Layout.{count_at, size_at, block_of}
 
 -- the free list holds one block more, at the place that it gives
 pub record TakesBlock (before after : CountedSpace) (place size : ℕ) : Type 0 where
@@ -72,15 +57,6 @@ pub record WritesBlock (before after : List ℕ) (place : ℕ) (header : Header)
   pub count_word : count_at after place ≡ 1
   pub size_word : size_at after place ≡ size
   pub zeros : take (size - 28) (drop (place + 28) after) ≡ replicate (size - 28) 0
-
--- a whole object that one word names was written at a place, and nothing else
-pub record PutsObject (before after : List ℕ) (place : ℕ) (object : HeapObject) (size : ℕ) : Type 0 where
-  pub around : Wrote before after place size
-  pub size_is : size_at after place ≡ size
-  pub count_is : count_at after place ≡ 1
-  pub flags_are : flags_at after place ≡ 0
-  pub whole : IsWhole after place
-  pub object_is : object_at after place ≡ object
 
 -- the space in which an object was put at a block that was taken
 abbrev pub placed_space : CountedSpace → CountedSpace → List ℕ → ℕ → CountedSpace

@@ -1,16 +1,16 @@
 -- A sound space of a counting heap is what a heap always is.
-use Rattle.std.proofs.Common.{◌≡◌, ℕ, ◌+◌, ◌-◌, ◌%◌, ◌<◌, ◌≤◌, ◌^◌, true, false, List, [], ◌∷◌, take, drop, length, map, Option, Some, None, refl, sym, ap, subst, ◌∙◌, inl, inr, arith}
-use Rattle.std.specs.Prelude.{filter, nat_eq, IsSome, IsTrue}
+use Rattle.std.proofs.Common.{◌≡◌, ℕ, ◌+◌, ◌-◌, ◌%◌, ◌<◌, ◌≤◌, ◌^◌, List, [], ◌∷◌, take, drop, length, map, Option, Some, None, refl, sym, ap, subst, ◌∙◌, inl, inr, arith}
+use Rattle.std.specs.Prelude.{IsSome, IsTrue}
 use Rattle.std.specs.Ordering.{nat_cmp}
 use Rattle.std.specs.FinMap as finite
 use Rattle.std.specs.FinSet as finset
-use Rattle.std.proofs.lemmas.Bool.{cases_eq, cases_lt, ne_eqb, eq-eqb}
+use Rattle.std.proofs.lemmas.Bool.{cases_lt}
 use Rattle.std.proofs.lemmas.List.{length-take-le, length-drop}
 use Rattle.gc_types.specs.declared.kind.Layouts.TheVariants.{Counting}
 use Rattle.gc_types.specs.declared.kind.VMGcKind.{VMGcKind}
 use Rattle.gc_types.specs.declared.kind.VMGcKind.TheVariants.{ExternRef, AnyRef, EqRef, StructRef, ArrayRef, ExnRef}
-use Rattle.gc_memory.specs.Lists.{In, here, there, sum_over, occ}
-use Rattle.gc_memory.proofs.ListLemmas.{occ-In, In-occ, sum_over-same, sum_over-le}
+use Rattle.gc_memory.specs.Lists.{In, here, there, sum_over}
+use Rattle.gc_memory.proofs.ListLemmas.{sum_over-same, sum_over-le}
 use Rattle.gc_view.specs.Heaps.{HeapObject, detached_in}
 use Rattle.gc_free.specs.Runs.{IsSpread}
 use Rattle.gc_free.specs.Space.{places_end, AllAligned}
@@ -19,9 +19,9 @@ use Rattle.gc_heap.specs.Content.{total, block_size, LiesAtPlace, TellsCounts, I
 use Rattle.gc_heap.specs.Totals.{total-empty}
 use Rattle.gc_drc.specs.declared.space.CountedSpace.{CountedSpace}
 use Rattle.gc_drc.specs.Layout.{size_at, block_of, kind_at, data_at, object_at, IsWhole}
-use Rattle.gc_drc.specs.View.{View, block_at, Holds, IsPart}
-use Rattle.gc_drc.specs.Content.{at_places, places_of, shown_at, queued_at, counted_at, counts_at, counts_of, seen_in, IsSoundSpace}
-use Rattle.gc_drc.specs.PlaceLaws.{get_in, found_in, at_places-same, places-blocks, spread-lies, spread-apart, spread-sum, spread-total, total-at, same_members, in_contains, filter_in, in_filter}
+use Rattle.gc_drc.specs.View.{View, block_at, Holds}
+use Rattle.gc_drc.specs.Content.{at_places, places_of, counted_at, seen_in, IsSoundSpace}
+use Rattle.gc_drc.specs.PlaceLaws.{get_in, found_in, places-blocks, spread-lies, spread-apart, spread-sum, spread-total, total-at, in_contains, in_filter}
 
 -- the blocks of a view lie apart
 pub blocks_apart : (v : View) (s : CountedSpace) → Holds v s → IsSpread 16 (places_end s.free.space.capacity) (map (block_at v.sizes) v.places)
@@ -77,54 +77,6 @@ lies v s p h i =
 -- of two objects the one ends before the other begins
 pub apart : (v : View) (s : CountedSpace) (p q : ℕ) → Holds v s → In p v.places → In q v.places → p < q → p + block_of (v.sizes p) ≤ q
 apart v s p q h i j before = spread-apart v.sizes 16 (places_end s.free.space.capacity) p q v.places (blocks_apart v s h) i j before
-
--- FLAGS AND COUNTS
-
-pub shown_is : (v : View) (s : CountedSpace) (p : ℕ) → Holds v s → In p v.places → shown_at s.memory p ≡ occ p v.shown
-shown_is v s p h i =
-    let f = (h.objects p i).flags_are in
-    let a = h.shown_part.once p in
-    let b = h.queue_part.once p in
-    let c = h.marked_part.once p in omega arith
-
-pub queued_is : (v : View) (s : CountedSpace) (p : ℕ) → Holds v s → In p v.places → queued_at s.memory p ≡ occ p v.queue
-queued_is v s p h i =
-    let f = (h.objects p i).flags_are in
-    let a = h.shown_part.once p in
-    let b = h.queue_part.once p in
-    let c = h.marked_part.once p in omega arith
-
-pub counted_is : (v : View) (s : CountedSpace) (p : ℕ) → Holds v s → In p v.places → counted_at s.memory p ≡ v.counted p
-counted_is v s p h i =
-    let c = (h.objects p i).count_is in
-    let a = shown_is v s p h i in
-    let b = queued_is v s p h i in omega arith
-
--- the places whose flag is set are those of a list
-by_flag : (flag : ℕ → ℕ) (places list : List ℕ) → IsPart places list → ((p : ℕ) → In p places → flag p ≡ occ p list)
-    → finset.from_list {R = nat_cmp} (filter (λ (p : ℕ). nat_eq (flag p) 1) places) ≡ finset.from_list list
-by_flag flag places list part is = same_members _ _
-    (λ q i. let r = in_filter (λ (p : ℕ). nat_eq (flag p) 1) q places i in to q r.0 r.1)
-    (λ q i. let p = part.inside q i in filter_in (λ (p : ℕ). nat_eq (flag p) 1) q places p (eq-eqb (flag q) 1 (let once = part.once q in let some = In-occ q list i in let e = is q p in omega arith)))
-  where
-    to : (q : ℕ) → In q places → nat_eq (flag q) 1 ≡ true → In q list
-    to q i e = elim (cases_eq (flag q) 1) [
-      | inl one ↦ occ-In q list (let f = is q i in omega arith)
-      | inr ne ↦ absurd (let f = ne_eqb (flag q) 1 ne in true_false (sym e ∙ f))
-    ]
-      where
-        true_false : true ≡ false → ⊥
-        true_false e = cc
-
--- the counts that are seen are those of the view
-pub counts_are : (v : View) (s : CountedSpace) → Holds v s → counts_at s.memory (places_of s.free.space.held) ≡ counts_of v
-counts_are v s h = ap (counts_at s.memory) (places_are v s h) ∙ (λ i. record {
-  counted = at_places-same v.counted (counted_at s.memory) v.places (λ p j. counted_is v s p h j) i;
-  shown = by_flag (shown_at s.memory) v.places v.shown h.shown_part (λ p j. shown_is v s p h j) i;
-  queued = by_flag (queued_at s.memory) v.places v.queue h.queue_part (λ p j. queued_is v s p h j) i;
-})
-
--- THE HEAP
 
 length-part : (bytes : List ℕ) (lo n : ℕ) → lo + n ≤ length bytes → length (take n (drop lo bytes)) ≡ n
 length-part bytes lo n h = length-take-le n (drop lo bytes) (omega (arith, length-drop lo bytes))

@@ -15,9 +15,9 @@
 //!    these. What is kept has a count, and so a holder that is kept, or a root.
 //! 3. `free_unreached` frees the cycles that are left. It marks what the roots reach: what a marked
 //!    object names is marked, or that object waits to be scanned, and at each step there are fewer that
-//!    aren't marked, or fewer that wait. A walk over the blocks frees the others and takes their names
-//!    off marked objects; no count comes to 0, as a marked object has a name by a marked one or by a
-//!    root. A second walk clears the marks.
+//!    aren't marked, or fewer that wait. Where some are left that aren't marked, a walk over the blocks frees
+//!    them and takes their names off marked objects; no count comes to 0, as a marked object has a name by
+//!    a marked one or by a root. Another walk clears the marks.
 //!
 //! After the second and after the third the counts are exact, shown is what frame slots name, and nothing
 //! is queued or marked.

@@ -9,11 +9,9 @@ ghost use Rattle.gc_drc.specs.Layout.{kind_at};
 ghost use Rattle.gc_drc.specs.CollectHosts.{FreesHost, FreesHostOf};
 
 use crate::space::CountedSpace;
+use gc_memory::offsets::COUNTING_HOST;
 use gc_tables::{ExternRefHostDataId, ExternRefHostDataTable, HostFault};
 use gc_types::VMGcKind;
-
-/// Where an external object keeps the number that stands for its host value.
-const HOST_WORD: usize = 28;
 
 /// Takes the value out of the table whose id that number stands for.
 fn free_host<D: Drop>(hosts: &mut ExternRefHostDataTable<D>, raw: u32)
@@ -45,7 +43,9 @@ impl CountedSpace {
         ensures spare { hosts.old.spare ≤ hosts.new.spare }
     {
         if is_external(self.kind(place)) {
-            let raw = self.memory.read_u32(place as usize + HOST_WORD);
+            let raw = self
+                .memory
+                .read_u32(place as usize + COUNTING_HOST as usize);
             free_host(hosts, raw);
         }
     }

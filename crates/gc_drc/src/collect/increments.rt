@@ -43,10 +43,13 @@ impl CountedSpace {
             → FreesUnreached D c places self.new hosts.old.entries hosts.new.entries }
         ensures spare { hosts.old.spare ≤ hosts.new.spare }
     {
-        let mut reached = MarkReached { head: 0 };
+        let mut reached = MarkReached {
+            head: 0,
+            fresh: self.objects,
+        };
         self.mark_roots(roots, &mut reached);
         self.scan_all(types, &mut reached);
-        self.free_unmarked(types, hosts);
+        self.free_rest(reached.fresh, types, hosts);
         self.clear_marks();
     }
 }

@@ -16,12 +16,14 @@ use gc_types::Types;
 pub(crate) struct MarkReached {
     /// The first object that is still to be scanned; 0 is none.
     pub(crate) head: u32,
+    /// How many objects aren't marked.
+    pub(crate) fresh: u64,
 }
 
 impl Visitor for MarkReached {
     ghost use Rattle.gc_drc.specs.CollectTrace.{Traces};
 
-    ghost state = { λ c unscanned space visitor words. Traces c unscanned space visitor.head words };
+    ghost state = { λ c unscanned space visitor words. Traces c unscanned space visitor.head visitor.fresh words };
 
     ghost intact = { λ c unscanned rest space visitor state. (state.at.start, state.at.intact) };
 
@@ -33,6 +35,7 @@ impl Visitor for MarkReached {
             space.mark(word);
             space.set_link(word, self.head);
             self.head = word;
+            self.fresh -= 1;
         }
     }
 }
@@ -40,8 +43,8 @@ impl Visitor for MarkReached {
 impl CountedSpace {
     /// Marks the objects that the words of all roots name.
     pub(crate) fn mark_roots(&mut self, roots: &GcRootsList, reached: &mut MarkReached)
-        requires { (c : Context) × ((unscanned : List ℕ) × Traces c unscanned self.old reached.old.head (root_words roots.now.roots)) }
-        ensures { TracesRoots self.old reached.old.head roots.now.roots self.new reached.new.head [] }
+        requires { (c : Context) × ((unscanned : List ℕ) × Traces c unscanned self.old reached.old.head reached.old.fresh (root_words roots.now.roots)) }
+        ensures { TracesRoots self.old reached.old.head reached.old.fresh roots.now.roots self.new reached.new.head reached.new.fresh [] }
     {
         for index in 0..roots.len() {
             let word = roots.word_at(index).as_raw_u32();
@@ -51,10 +54,10 @@ impl CountedSpace {
 
     /// Scans the first object that is still to be scanned.
     fn scan_next(&mut self, types: &Types, reached: &mut MarkReached)
-        requires can { CanScan types.now.declarations self.old reached.old.head }
+        requires can { CanScan types.now.declarations self.old reached.old.head reached.old.fresh }
         requires some { 0 < reached.old.head }
-        ensures scanned { (c : Context) (unscanned : List ℕ) → c.types ≡ types.now.declarations → Traces c unscanned self.old reached.old.head []
-            → (left : List ℕ) × (Traces c left self.new reached.new.head [] × (length left < length unscanned)) }
+        ensures scanned { (c : Context) (unscanned : List ℕ) → c.types ≡ types.now.declarations → Traces c unscanned self.old reached.old.head reached.old.fresh []
+            → (left : List ℕ) × (Traces c left self.new reached.new.head reached.new.fresh [] × (length left < length unscanned)) }
         ensures less { trace_left self.new reached.new.head < trace_left self.old reached.old.head }
     {
         let place = reached.head;
@@ -64,9 +67,9 @@ impl CountedSpace {
 
     /// Scans marked objects until none is left to be scanned.
     pub(crate) fn scan_all(&mut self, types: &Types, reached: &mut MarkReached)
-        requires { CanScan types.now.declarations self.old reached.old.head }
-        ensures scanned { (c : Context) (unscanned : List ℕ) → c.types ≡ types.now.declarations → Traces c unscanned self.old reached.old.head []
-            → (left : List ℕ) × Traces c left self.new reached.new.head [] }
+        requires { CanScan types.now.declarations self.old reached.old.head reached.old.fresh }
+        ensures scanned { (c : Context) (unscanned : List ℕ) → c.types ≡ types.now.declarations → Traces c unscanned self.old reached.old.head reached.old.fresh []
+            → (left : List ℕ) × Traces c left self.new reached.new.head reached.new.fresh [] }
         ensures none { reached.new.head ≡ 0 }
     {
         while reached.head != 0 {

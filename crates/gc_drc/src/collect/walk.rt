@@ -10,6 +10,7 @@ ghost use Rattle.gc_drc.specs.CollectOps.{without_one};
 ghost use Rattle.gc_drc.specs.CollectMemory.{Context, At, CanRelease};
 ghost use Rattle.gc_drc.specs.CollectWalk.{Garbage, CanFreeGarbage, IsBorder, IsNext, CanWalk, CanSweepGarbage, SweepsGarbage, CanFreeUnmarked, FreedUnmarked};
 ghost use Rattle.gc_drc.specs.CollectWalk.{walk_end};
+ghost use Rattle.gc_drc.specs.CollectTrace.{fresh_in};
 
 use crate::collect::cascade::is_place;
 use crate::collect::visit::Visitor;
@@ -115,5 +116,24 @@ impl CountedSpace {
             self.free_if_unmarked(types, place, hosts);
             place = next;
         }
+    }
+
+    /// Frees what isn't marked, where that is so many objects: without any, the walk is spared.
+    pub(crate) fn free_rest<D: Drop>(
+        &mut self,
+        fresh: u64,
+        types: &Types,
+        hosts: &mut ExternRefHostDataTable<D>,
+    )
+        requires can { CanFreeUnmarked D types.now.declarations self.old hosts.old.entries }
+        requires fresh { fresh ≡ fresh_in self.old }
+        ensures freed { (c : Context) (before : finite.FinMap nat_cmp D) (places : List ℕ) → c.types ≡ types.now.declarations
+            → Garbage D c before places self.old hosts.old.entries → FreedUnmarked D c before self.new hosts.new.entries }
+        ensures spare { hosts.old.spare ≤ hosts.new.spare }
+    {
+        if fresh == 0 {
+            return;
+        }
+        self.free_unmarked(types, hosts);
     }
 }

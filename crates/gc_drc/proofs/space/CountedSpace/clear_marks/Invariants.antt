@@ -1,5 +1,5 @@
 use Rattle.std.proofs.Common.{◌-◌}
-use Rattle.gc_drc.specs.CollectClear.{Clears}
+use Rattle.gc_drc.proofs.WalkStates.{Clears}
 use Rattle.gc_drc.proofs.space.CountedSpace.clear_marks.Given as goal
 
 abbrev pub invariant-loop-place : goal.invariant-loop-place

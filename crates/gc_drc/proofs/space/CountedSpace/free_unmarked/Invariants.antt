@@ -1,5 +1,5 @@
 use Rattle.std.proofs.Common.{◌-◌, ◌≤◌}
-use Rattle.gc_drc.specs.CollectWalk.{Walks}
+use Rattle.gc_drc.proofs.WalkStates.{Walks}
 use Rattle.gc_drc.proofs.space.CountedSpace.free_unmarked.Given as goal
 
 abbrev pub invariant-loop-place : goal.invariant-loop-place

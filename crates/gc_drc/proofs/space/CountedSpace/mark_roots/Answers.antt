@@ -15,7 +15,7 @@ visit-requires c =
         c.requires.1.0,
         (
           root_words (drop (i + 1) roots),
-          subst (λ (ws : List ℕ). Traces c.requires.0 c.requires.1.0 c.loop-index.self c.loop-index.reached.head ws) e (c.loop-index.invariant c.requires.0 c.requires.1.0 c.requires.1.1),
+          subst (λ (ws : List ℕ). Traces c.requires.0 c.requires.1.0 c.loop-index.self c.loop-index.reached.head c.loop-index.reached.fresh ws) e (c.loop-index.invariant c.requires.0 c.requires.1.0 c.requires.1.1),
         ),
       ),
     )
@@ -27,9 +27,9 @@ loop-index-preserved c o unscanned t =
     let inside : i < length roots = omega (arith, c.loop-index-test.true, c.len-index-end.ensures) in
     let e : root_words (drop i roots) ≡ c.as_raw_u32-word.result ∷ root_words (drop (i + 1) roots) =
     words_step roots i inside ∙ ap (λ (w : ℕ). w ∷ root_words (drop (i + 1) roots)) (sym c.word_at.ensures ∙ sym c.as_raw_u32-word.ensures.value) in
-    c.visit.ensures o unscanned (root_words (drop (i + 1) roots)) (subst (λ (ws : List ℕ). Traces o unscanned c.loop-index.self c.loop-index.reached.head ws) e (c.loop-index.invariant o unscanned t))
+    c.visit.ensures o unscanned (root_words (drop (i + 1) roots)) (subst (λ (ws : List ℕ). Traces o unscanned c.loop-index.self c.loop-index.reached.head c.loop-index.reached.fresh ws) e (c.loop-index.invariant o unscanned t))
 
 pub returns : goal.returns
 returns c o unscanned t =
     let e = words_end c.args.roots.now.roots c.loop-index.index (omega (arith, c.loop-index-test.false, c.len-index-end.ensures)) in
-    subst (λ (ws : List ℕ). Traces o unscanned c.loop-index.self c.loop-index.reached.head ws) e (c.loop-index.invariant o unscanned t)
+    subst (λ (ws : List ℕ). Traces o unscanned c.loop-index.self c.loop-index.reached.head c.loop-index.reached.fresh ws) e (c.loop-index.invariant o unscanned t)
