@@ -23,7 +23,7 @@ use Rattle.gc_heap.specs.References.{reference_offsets, typed_offsets, info_offs
 use Rattle.gc_heap.specs.Rules.{IsTyped}
 use Rattle.gc_heap.specs.Objects.{held_size, array_length}
 use Rattle.gc_heap.specs.Content.{IsHeap, IsSpare}
-use Rattle.gc_heap.specs.Totals.{total-same}
+use Rattle.gc_heap.proofs.TotalLemmas.{total-same}
 use Rattle.gc_heap.specs.Collection.{Stage, Start, AreCounted, names_of, occurrences, held_words, has_host}
 use Rattle.gc_heap.proofs.AgainLemmas.{external_offsets}
 use Rattle.gc_owner.specs.RootColumns.{RootsView, roots_of}

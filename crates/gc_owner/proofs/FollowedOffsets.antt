@@ -26,7 +26,8 @@ use Rattle.gc_memory.specs.Lists.{In, here, there}
 use Rattle.gc_view.specs.Heaps.{HeapObject}
 use Rattle.gc_heap.specs.Extents.{HasFields}
 use Rattle.gc_heap.specs.References.{bit_offsets, bitmap_of, bitmap_offsets, is_past_bitmap, element_offsets, info_offsets, typed_offsets, traced_offsets, reference_offsets}
-use Rattle.gc_heap.proofs.SpacedLemmas.{bit_set, bit_clear, bit_is_0, first_or_later, Spaced-in, spaced_fields, aligned_fields}
+use Rattle.gc_heap.proofs.SpacedLemmas.{bit_set, bit_clear, bit_is_0, Spaced-in, spaced_fields, aligned_fields}
+use Rattle.gc_memory.proofs.ListLemmas.{first_or_later}
 use Rattle.gc_heap.proofs.ReferenceLemmas.{content_by_form, typed_is}
 use Rattle.gc_owner.specs.Tracing.{IsTracedStruct, IsTracedArray, IsTraced}
 

@@ -18,7 +18,8 @@ use Rattle.gc_heap.specs.Collection.{CanCollect, IsWordOf}
 use Rattle.gc_heap.proofs.AddedLemmas.{start}
 use Rattle.gc_heap.proofs.RootedLemmas.{can_collect_cloned, can_collect_exposed, can_collect_unstacked}
 use Rattle.gc_owner.specs.declared.entry.SlotEntry.{SlotEntry}
-use Rattle.gc_owner.specs.RootColumns.{list_use, RootsView, scoped_words, owned_words, slot_words, global_words, listed_as, roots_of, empty_slot, newest_start, with_frame, without_frame, with_places, RiseFrom, AreFrames}
+use Rattle.gc_owner.specs.RootColumns.{RootsView, scoped_words, owned_words, slot_words, global_words, listed_as, roots_of, empty_slot, newest_start, with_frame, without_frame, with_places, RiseFrom, AreFrames}
+use Rattle.gc_owner.proofs.ListUse.{list_use}
 use Rattle.gc_owner.specs.Owners.{raised}
 use Rattle.gc_owner.specs.ShownWords.{copied_to_slot}
 use Rattle.gc_owner.specs.Tracing.{IsCollectable}

@@ -1,7 +1,15 @@
--- While no collection is under way, the list of one is empty.
-use Rattle.std.proofs.Common.{◌≡◌, ℕ, Bool, true, false, cond, List, [], Some, None, refl, ap, ◌∙◌}
+-- The list that a collection has of the roots: what calls leave of it, and that it is empty while none is under way.
+use Rattle.std.proofs.Common.{◌≡◌, ℕ, Bool, true, false, cond, List, [], Option, Some, None, refl, ap, ◌∙◌}
 use Rattle.gc_roots.specs.Roots.{Root}
 use Rattle.gc_owner.specs.RootColumns.{RootsView}
+
+-- what roots have of the list of a collection
+pub record ListUse : Type 0 where
+  pub listed : Option (List Root)
+  pub has_places : Bool
+
+abbrev pub list_use : RootsView → ListUse
+list_use r = record { listed = r.listed; has_places = r.has_places }
 
 idle_list : (is_listing : Bool) (roots : List Root) → cond is_listing (Some roots) None ≡ None → is_listing ≡ false
 idle_list true roots e = absurd (cc)

@@ -30,7 +30,9 @@ use Rattle.gc_heap.specs.Heap.{AddsObject, exn_or_struct, layout_kind, new_struc
 use Rattle.gc_heap.specs.Collection.{CanCollect, AreCounted, stack_words, has_host}
 use Rattle.gc_heap.proofs.AddedLemmas.{start, IsBlank, OwnsHost, array_bases, blank_struct, blank_array, blank_external, owns_none, external_id}
 use Rattle.gc_heap.proofs.MadeLemmas.{can_collect_made}
-use Rattle.gc_heap.proofs.SpacedLemmas.{contains_in, Spaced-in, spaced_fields, fields_from, aligned_fields, ref_width}
+use Rattle.gc_heap.proofs.TakenLayouts.{taken_layout, taken_array}
+use Rattle.gc_heap.proofs.SpacedLemmas.{Spaced-in, spaced_fields, fields_from, aligned_fields, ref_width}
+use Rattle.gc_memory.proofs.ListLemmas.{contains_in}
 use Rattle.gc_heap.proofs.CountLemmas.{held-append, words-append}
 use Rattle.gc_owner.specs.RootColumns.{RootsView, scoped_words, owned_words, slot_words, global_words, listed_as, roots_of, with_scoped}
 use Rattle.gc_owner.specs.declared.allocate.Description.{Description}
@@ -42,66 +44,6 @@ use Rattle.gc_owner.specs.Tracing.{IsTraced, AreTraced, IsCollectable}
 use Rattle.gc_owner.proofs.Begins.{with_memory, memory_same}
 use Rattle.gc_owner.proofs.ListedRoots.{listed-append, listed_present}
 use Rattle.gc_owner.proofs.OwnerLemmas.{scoped_more}
-
--- Layouts of declared types
-
-fields_traced : (base : ℕ) (fields : List FieldType) → All (IsTraceable base (fields_end base fields)) (ref_offsets (field_layouts base fields))
-fields_traced base fields = λ k d below.
-    let os : List ℕ = ref_offsets (field_layouts base fields) in
-    let among = contains_in os (get_or os k d) (Contains-get_or os k d below) in
-    let inside = Spaced-in base (fields_end base fields) os (get_or os k d) (spaced_fields base fields) among in
-    record { aligned = aligned_fields base fields (get_or os k d) among; from = inside.0; to = inside.1 }
-
--- What a heap asks of the layout of a struct or an exception.
-pub record IsTakenLayout (layouts : Layouts) (layout : GcStructLayout) : Type 0 where
-  pub least : first_offset layouts (layout_kind layout) ≤ layout.size
-  pub traces : LayoutTraces layouts layout (first_offset layouts (layout_kind layout))
-
-struct_traces : (layouts : Layouts) (fields : List FieldType) → LayoutTraces layouts (struct_layout layouts fields) (struct_base layouts)
-struct_traces Null fields = tt
-struct_traces Counting fields = tt
-struct_traces Copying fields = fields_traced 12 fields
-
-exn_traces : (layouts : Layouts) (params : List FieldType) → LayoutTraces layouts (record { size = fields_end (exception_base layouts) params; is_exception = true; fields = field_layouts (exception_base layouts) params }) (exception_base layouts)
-exn_traces Null params = tt
-exn_traces Counting params = tt
-exn_traces Copying params = fields_traced 20 params
-
-shape_taken : (layouts : Layouts) (shape : Shape) (layout : GcStructLayout) → shape_layout layouts shape ≡ Some layout → IsTakenLayout layouts layout
-shape_taken layouts (struct_of fields) layout e =
-    let same : struct_layout layouts fields ≡ layout = cc in
-    subst (IsTakenLayout layouts) same (record { least = fields_from (struct_base layouts) fields; traces = struct_traces layouts fields })
-shape_taken layouts (array_of elem) layout e = absurd (none-some layout e)
-shape_taken layouts (exn_of params) layout e =
-    let same : exn_layout layouts params ≡ layout = cc in
-    subst (IsTakenLayout layouts) same (record { least = fields_from (exception_base layouts) (map constant_field params); traces = exn_traces layouts (map constant_field params) })
-shape_taken layouts (func_of params results) layout e = absurd (none-some layout e)
-
-declaration_taken : (layouts : Layouts) (d : Option Declaration) (layout : GcStructLayout) → declaration_layout layouts d ≡ Some layout → IsTakenLayout layouts layout
-declaration_taken layouts None layout e = absurd (none-some layout e)
-declaration_taken layouts (Some d) layout e = shape_taken layouts d.shape layout e
-
-pub taken_layout : (layouts : Layouts) (types : List Declaration) (ty : ℕ) (layout : GcStructLayout) → layout_at layouts types ty ≡ Some layout → IsTakenLayout layouts layout
-taken_layout layouts types ty layout declared = declaration_taken layouts (slice_get types ty) layout declared
-
--- What a heap asks of the layout of an array.
-pub record IsTakenArray (layouts : Layouts) (layout : GcArrayLayout) : Type 0 where
-  pub least : array_base layouts ≤ layout.base_size
-  pub traces : ArrayTraces layouts layout
-
-array_traces : (layouts : Layouts) (elem : FieldType) → ArrayTraces layouts (array_layout layouts elem)
-array_traces Null elem = tt
-array_traces Counting elem = tt
-array_traces Copying elem = λ is. let four = ref_width elem.element_type is in (ap (round_up 16) four, four)
-
-elem_taken : (layouts : Layouts) (elem : Option FieldType) (layout : GcArrayLayout) → option_map (array_layout layouts) elem ≡ Some layout → IsTakenArray layouts layout
-elem_taken layouts None layout e = absurd (none-some layout e)
-elem_taken layouts (Some elem) layout e =
-    let same : array_layout layouts elem ≡ layout = cc in
-    subst (IsTakenArray layouts) same (record { least = layout_low (array_base layouts) (elem ∷ []) 0 _ refl; traces = array_traces layouts elem })
-
-pub taken_array : (layouts : Layouts) (types : List Declaration) (ty : ℕ) (layout : GcArrayLayout) → array_layout_at layouts types ty ≡ Some layout → IsTakenArray layouts layout
-taken_array layouts types ty layout declared = elem_taken layouts (elem_at types ty) layout declared
 
 -- Roots in another order
 

@@ -17,7 +17,8 @@ use Rattle.gc_heap.proofs.AddedLemmas.{start}
 use Rattle.gc_heap.proofs.ClientLemmas.{can_collect_empty}
 use Rattle.gc_owner.specs.declared.entry.RootEntry.{RootEntry}
 use Rattle.gc_owner.specs.declared.entry.SlotEntry.{SlotEntry}
-use Rattle.gc_owner.specs.RootColumns.{RootsView, ListUse, list_use, scoped_words, owned_words, slot_words, global_words, listed_as, roots_of, empty_slot, with_scoped, with_global}
+use Rattle.gc_owner.specs.RootColumns.{RootsView, scoped_words, owned_words, slot_words, global_words, listed_as, roots_of, empty_slot, with_scoped, with_global}
+use Rattle.gc_owner.proofs.ListUse.{ListUse, list_use}
 pub use Rattle.gc_owner.specs.Owners.{kind_of}
 use Rattle.gc_owner.specs.Owners.{OwnerValue, Kind, IsReady, InOrder, owner_value, raised, lowered, CanDropWord, CollectsAll, CollectsRoots}
 use Rattle.gc_owner.specs.Tracing.{IsCollectable}

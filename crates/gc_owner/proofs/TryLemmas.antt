@@ -13,7 +13,8 @@ use Rattle.gc_heap.specs.declared.heap.HeapFault.{HeapFault}
 use Rattle.gc_heap.specs.declared.heap.HeapFault.TheVariants as heap_fault
 use Rattle.gc_owner.specs.declared.allocate.AllocateFault.{AllocateFault}
 use Rattle.gc_owner.specs.declared.allocate.Description.{Description}
-use Rattle.gc_owner.specs.RootColumns.{RootsView, ListUse, list_use, roots_of}
+use Rattle.gc_owner.specs.RootColumns.{RootsView, roots_of}
+use Rattle.gc_owner.proofs.ListUse.{ListUse, list_use}
 use Rattle.gc_owner.specs.Owners.{OwnerView, OwnerValue, IsReady, InOrder, owner_value}
 use Rattle.gc_owner.specs.Tracing.{IsCollectable}
 use Rattle.gc_owner.specs.Makes.{CanMake, Describes}

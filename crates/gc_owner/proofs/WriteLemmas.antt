@@ -13,10 +13,11 @@ use Rattle.gc_heap.specs.Access.{IsReadable, WritesData}
 use Rattle.gc_heap.specs.Heap.{IsWritable, with_data, put_object}
 use Rattle.gc_heap.specs.References.{reference_offsets, typed_offsets, references, word_in}
 use Rattle.gc_heap.specs.Content.{IsHeap, total}
-use Rattle.gc_heap.specs.Totals.{total-least}
+use Rattle.gc_heap.proofs.TotalLemmas.{total-least}
 use Rattle.gc_heap.specs.Barriers.{overwritten}
 use Rattle.gc_heap.specs.Collection.{Stage, Start, CanCollect, IsWordOf, occurrences, has_host}
-use Rattle.gc_heap.proofs.SpacedLemmas.{Spaced-in, contains_in, in_contains, map_in}
+use Rattle.gc_heap.proofs.SpacedLemmas.{Spaced-in}
+use Rattle.gc_memory.proofs.ListLemmas.{contains_in, in_contains, map_in}
 use Rattle.gc_heap.proofs.ReferenceLemmas.{references_spaced}
 use Rattle.gc_heap.proofs.AddedLemmas.{start}
 use Rattle.gc_heap.proofs.CountLemmas.{occurrences-append, once}

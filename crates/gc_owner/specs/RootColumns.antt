@@ -159,14 +159,6 @@ Reserves count old new (Err e) = (old < count) × (new ≡ old)
 abbrev pub with_list : List Root → RootsView → RootsView
 with_list listed r = record r { listed = Some listed; given = length (roots_of r) }
 
--- what roots have of the list of a collection
-pub record ListUse : Type 0 where
-  pub listed : Option (List Root)
-  pub has_places : Bool
-
-abbrev pub list_use : RootsView → ListUse
-list_use r = record { listed = r.listed; has_places = r.has_places }
-
 -- the roots with no list in use
 abbrev pub without_list : RootsView → RootsView
 without_list r = record r { listed = None; given = 0 }

@@ -47,9 +47,12 @@ pub(crate) fn list_column<T: HoldsWord>(
     ensures spare { list.old.spare ≤ list.new.spare + length entries.now }
     ensures total { list.new.spare + length list.new.roots ≡ list.old.spare + length list.old.roots }
 {
+    // Taken out, the list is this function's alone, and how long it is stays in registers.
+    let mut filled = list.take();
     for entry in entries {
-        list_word(list, place, is_on_stack, entry.word());
+        list_word(&mut filled, place, is_on_stack, entry.word());
     }
+    *list = filled;
 }
 
 /// The word that a root has at that place of the list; null has none there.

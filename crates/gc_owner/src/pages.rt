@@ -10,14 +10,9 @@ ghost use Rattle.gc_owner.specs.Growing.{MakesHeap};
 
 use crate::limiter::ResourceLimiter;
 use gc_heap::{GcHeap, HeapMemory};
+use gc_memory::memory::{MAX_PAGES, PAGE};
 use std::alloc::Global;
 use thiserror::Error;
-
-/// The bytes of a page.
-const PAGE: usize = 65_536;
-
-/// The greatest number of pages of a heap.
-const MOST_PAGES: u32 = 65_535;
 
 /// Why a heap gets no pages.
 #[derive(Clone, Copy, Debug, PartialEq, Eq, Error)]
@@ -73,7 +68,7 @@ fn asked_pages(pages: u32, bytes: u64) -> u64
     ensures { result ≡ asked pages bytes }
 {
     let page = PAGE as u64;
-    let doubled = u64::from(pages.min(MOST_PAGES - pages));
+    let doubled = u64::from(pages.min(MAX_PAGES - pages));
     let wanted = bytes / page + u64::from(bytes % page != 0);
     doubled.max(wanted)
 }
@@ -94,7 +89,7 @@ pub(crate) fn grow_memory<H: GcHeap, L: ResourceLimiter>(
 {
     let from = pages(heap);
     let added = asked_pages(from, bytes);
-    if added > u64::from(MOST_PAGES - from) {
+    if added > u64::from(MAX_PAGES - from) {
         return Err(PagesFault::Refused);
     }
     let added = added as u32;

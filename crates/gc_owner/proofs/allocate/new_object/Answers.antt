@@ -1,7 +1,7 @@
 use Rattle.std.proofs.Common.{◌≡◌, Some, sym, ap, ◌∙◌}
 use Rattle.std.specs.Option.{option_copied}
 use Rattle.gc_types.specs.Layouts.{layout_at}
-use Rattle.gc_owner.proofs.MakeLemmas.{taken_layout}
+use Rattle.gc_heap.proofs.TakenLayouts.{taken_layout}
 use Rattle.gc_owner.proofs.allocate.new_object.Goals as goal
 use Rattle.gc_owner.proofs.allocate.new_object.Goals.{After-unwrap-layout}
 

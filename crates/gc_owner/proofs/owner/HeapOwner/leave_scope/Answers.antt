@@ -2,7 +2,8 @@ use Rattle.std.proofs.Common.{◌<◌, ◌≤◌, List, length, refl, sym, ap, �
 use Rattle.gc_view.specs.Heaps.{SameHeld}
 use Rattle.gc_heap.specs.Collection.{has_host}
 use Rattle.gc_owner.specs.declared.entry.RootEntry.{RootEntry}
-use Rattle.gc_owner.specs.RootColumns.{list_use, RootsView, roots_of, left_scope}
+use Rattle.gc_owner.specs.RootColumns.{RootsView, roots_of, left_scope}
+use Rattle.gc_owner.proofs.ListUse.{list_use}
 use Rattle.gc_owner.specs.Tracing.{IsCollectable}
 use Rattle.gc_owner.proofs.OwnerLemmas.{ready_at, idle_at, changed_order, changed_seen}
 use Rattle.gc_owner.proofs.ScopeLemmas.{same_held, left_none, left_some}

@@ -1,7 +1,8 @@
 use Rattle.std.proofs.Common.{refl, sym, ap, ◌∙◌, subst}
 use Rattle.gc_view.specs.Heaps.{HeapView, SameHeld}
 use Rattle.gc_heap.specs.Collection.{has_host}
-use Rattle.gc_owner.specs.RootColumns.{list_use, roots_of}
+use Rattle.gc_owner.specs.RootColumns.{roots_of}
+use Rattle.gc_owner.proofs.ListUse.{list_use}
 use Rattle.gc_owner.specs.Owners.{raised, lowered, CanDropWord}
 use Rattle.gc_owner.specs.Tracing.{IsCollectable}
 use Rattle.gc_owner.proofs.ListedRoots.{few_held}
