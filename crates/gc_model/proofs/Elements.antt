@@ -11,12 +11,13 @@ use Rattle.gc_view.specs.Slots.{StorageSlot, element_slots}
 use Rattle.gc_view.proofs.Layouts.{storage_width_positive}
 use Rattle.gc_view.proofs.SlotLemmas.{length-element_slots}
 use Rattle.gc_model.specs.Values.{Value}
-use Rattle.gc_model.specs.Forms.{Names, IsCode, LiesAs, IsEncodedAs, number_at}
+use Rattle.gc_model.specs.Forms.{Names, IsCode, LiesAs, number_at}
 use Rattle.gc_model.specs.Standing.{ValuesLie}
 use Rattle.gc_model.specs.Stored.{byte_value}
 use Rattle.gc_model.proofs.Encoding.{number_in, number_of_bytes}
 use Rattle.gc_model.proofs.ObjectShapes.{element_slot_at}
 use Rattle.gc_model.proofs.StoredValues.{mapped_from, replicated}
+use Rattle.gc_model.proofs.PointParts.{IsEncodedAs}
 
 -- a byte of a part of the bytes, as the number of one byte
 byte_of_part : (bytes bs : List ℕ) (from i b : ℕ) → take (length bs) (drop from bytes) ≡ bs → slice_get bs i ≡ Some b → number_at 1 bytes (from + i) ≡ b

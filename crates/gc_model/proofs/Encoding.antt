@@ -7,7 +7,8 @@ use Rattle.gc_types.specs.declared.value.StorageType.{StorageType}
 use Rattle.gc_types.specs.Layouts.{storage_width}
 use Rattle.gc_refs.proofs.LittleEndianLemmas.{sum_of_bytes}
 use Rattle.gc_model.specs.Values.{Value}
-use Rattle.gc_model.specs.Forms.{Names, IsCode, LiesAs, IsEncodedAs, number_at}
+use Rattle.gc_model.specs.Forms.{Names, IsCode, LiesAs, number_at}
+use Rattle.gc_model.proofs.PointParts.{IsEncodedAs}
 use Rattle.gc_view.specs.Bytes.{put_bytes, SameBytes}
 use Rattle.gc_view.proofs.ByteLemmas.{part_in_same, part-put_bytes, put_bytes-below, put_bytes-above}
 use Rattle.gc_view.proofs.Layouts.{storage_width_positive}

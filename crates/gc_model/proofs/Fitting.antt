@@ -19,9 +19,9 @@ use Rattle.gc_types.specs.Subtyping.{supertypes_of}
 use Rattle.gc_types.specs.Values.{heap_top}
 use Rattle.gc_owner.specs.declared.entry.GcClass.{GcClass}
 use Rattle.gc_owner.specs.declared.entry.GcClass.TheVariants.{Any, Extern, Exn}
-use Rattle.gc_model.specs.Values.{Reference, null, small, at, Value, numeric, i32, i64, f32, f64, v128, function, reference, Object, struct, array, host, exception}
-use Rattle.gc_model.specs.Fits.{meets_from, climbs, matches, is_extern, object_fits_any, object_fits_extern, object_fits_exn, has_class, is_function_top, reference_fits, function_fits, fits_type, fits}
-use Rattle.gc_model.specs.Forms.{top_form, type_form, storage_form, value_form, function_of, reference_of}
+use Rattle.gc_model.specs.Values.{Reference, null, small, at, Value, numeric, i32, i64, f32, f64, v128, function, continuation, reference, Object, struct, array, host, exception}
+use Rattle.gc_model.specs.Fits.{meets_from, climbs, matches, is_extern, object_fits_any, object_fits_extern, object_fits_exn, has_class, is_function_top, is_cont, is_cont_top, reference_fits, function_fits, cont_fits, fits_type, fits}
+use Rattle.gc_model.specs.Forms.{top_form, type_form, storage_form, value_form, function_of, continuation_of, reference_of}
 use Rattle.gc_model.specs.Reach.{object_values}
 use Rattle.gc_model.specs.Stored.{stored}
 use Rattle.gc_model.specs.Table.{change_at, with_value}
@@ -79,6 +79,19 @@ function_form true top.Func e = refl
 function_form true _ e = absurd (cc)
 function_form false t e = absurd (cc)
 
+cont_form : (nullable : Bool) (t : HeapTopType) → (nullable && is_cont_top t) ≡ true → top_form t ≡ continuation_of
+cont_form true top.Cont e = refl
+cont_form true _ e = absurd (cc)
+cont_form false t e = absurd (cc)
+
+cont_top : (ty : HeapType) → is_cont ty ≡ true → heap_top ty ≡ top.Cont
+cont_top heap.Cont e = refl
+cont_top _ e = absurd (cc)
+
+of_continuation : (ty : RefType) (c : Option ℕ) → cont_fits ty c ≡ true → top_form (heap_top ty.heap_type) ≡ continuation_of
+of_continuation ty None e = cont_form ty.nullable (heap_top ty.heap_type) e
+of_continuation ty (Some c) e = ap top_form (cont_top ty.heap_type e)
+
 module _ {D : Type 0} (types : List Declaration) where
   object_form_any : (ty : HeapType) (o : Option (Object D)) → object_fits_any types ty o ≡ true → top_form (heap_top ty) ≡ reference_of Any
   object_form_any ty None e = absurd (cc)
@@ -122,6 +135,7 @@ module _ {D : Type 0} (types : List Declaration) where
     type_form_of val.F64 (numeric f64 n) e = refl
     type_form_of val.V128 (numeric v128 n) e = refl
     type_form_of (val.Ref ty) (function f) e = of_function ty f e
+    type_form_of (val.Ref ty) (continuation c) e = of_continuation ty c e
     type_form_of (val.Ref ty) (reference class r) e = reference_form ty class r e
     type_form_of _ _ e = absurd (cc)
 
@@ -229,6 +243,7 @@ module _ {D : Type 0} (types types' : List Declaration) (objects objects' : List
   type_later val.F64 (numeric f64 n) e = refl
   type_later val.V128 (numeric v128 n) e = refl
   type_later (val.Ref ty) (function f) e = function_later ty f e
+  type_later (val.Ref ty) (continuation c) e = e
   type_later (val.Ref ty) (reference class r) e = reference_later ty class r e
   type_later _ _ e = absurd (cc)
 

@@ -10,11 +10,12 @@ use Rattle.gc_model.specs.Values.{Object, struct, array, host, exception}
 use Rattle.gc_model.specs.Table.{Table, declare}
 use Rattle.gc_view.specs.Heaps.{HeapView, HeapObject}
 use Rattle.gc_model.specs.Stores.{StoreView}
-use Rattle.gc_model.specs.Holds.{Placing, Names, FunctionIds, naming, Holds, KindHolds, NullHolds, Stands, ObjectsHold}
+use Rattle.gc_model.specs.Holds.{Placing, Names, InternedIds, naming, Holds, KindHolds, Stands, ObjectsHold}
 use Rattle.gc_model.proofs.Types.{shape_at-push, IsTyped, next_after-push_type}
 use Rattle.gc_model.proofs.ObjectStands.{stands_renamed}
 use Rattle.gc_model.proofs.Typing.{typed-declared}
 use Rattle.gc_model.proofs.HoldsParts.{types_changed}
+use Rattle.gc_model.proofs.PointParts.{NullHolds}
 
 -- the store with one more type
 abbrev pub with_type : {D : Type 0} → Declaration → StoreView D → StoreView D
@@ -37,14 +38,14 @@ typed-stands layouts types names (host value) h stands = tt
 typed-stands layouts types names (exception ty tag values) h stands = declared_type (slice_get types ty) stands.stands.shape stands.stands.declared
 
 -- in a null heap each object's type is declared
-pub all_typed : {D : Type 0} (t : Table D) (place : Placing) {ids : FunctionIds} (heap : HeapView) → ObjectsHold Null t (naming place ids) heap → NullHolds t place heap → (i : ℕ) (o : Object D) → slice_get t.objects i ≡ Some o → IsTyped t.types o
+pub all_typed : {D : Type 0} (t : Table D) (place : Placing) {ids : InternedIds} (heap : HeapView) → ObjectsHold Null t (naming place ids) heap → NullHolds t place heap → (i : ℕ) (o : Object D) → slice_get t.objects i ≡ Some o → IsTyped t.types o
 all_typed {D} t place {ids} heap objects null i o e =
     let placed = null.all_held i (slice_get_within t.objects i o e) in
     let held = objects.placed i placed.0 placed.1 in
     let same : held.entry ≡ o = grind (arith, sym held.in_table ∙ e) in
     subst (IsTyped t.types) same (typed-stands Null t.types (naming place ids) held.entry held.object held.stands)
 
-declare_by_kind : {D : Type 0} (layouts : Layouts) (d : Declaration) (t : Table D) (place : Placing) {ids : FunctionIds} (heap : HeapView) → ObjectsHold layouts t (naming place ids) heap → KindHolds layouts t place heap → KindHolds layouts (declare d t) place heap
+declare_by_kind : {D : Type 0} (layouts : Layouts) (d : Declaration) (t : Table D) (place : Placing) {ids : InternedIds} (heap : HeapView) → ObjectsHold layouts t (naming place ids) heap → KindHolds layouts t place heap → KindHolds layouts (declare d t) place heap
 declare_by_kind Null d t place heap objects null = record {
   all_held = null.all_held;
   allocated = null.allocated ∙ sym (next_after-push_type t.types d 1 t.objects (all_typed t place heap objects null));
@@ -53,7 +54,7 @@ declare_by_kind Counting d t place heap objects kind = tt
 declare_by_kind Copying d t place heap objects kind = tt
 
 -- a declaration keeps that each object stands for the table's
-objects-declared : {D : Type 0} (layouts : Layouts) (d : Declaration) (t : Table D) (place : Placing) {ids : FunctionIds} (heap : HeapView) → ObjectsHold layouts t (naming place ids) heap → ObjectsHold layouts (declare d t) (naming place ids) heap
+objects-declared : {D : Type 0} (layouts : Layouts) (d : Declaration) (t : Table D) (place : Placing) {ids : InternedIds} (heap : HeapView) → ObjectsHold layouts t (naming place ids) heap → ObjectsHold layouts (declare d t) (naming place ids) heap
 objects-declared layouts d t place {ids} heap objects = record {
   placed = λ position word e. let held = objects.placed position word e in record {
     object = held.object;

@@ -11,7 +11,7 @@ use Rattle.gc_view.specs.Pages.{page}
 use Rattle.gc_model.specs.Sizes.{next_after}
 use Rattle.gc_view.specs.Heaps.{HeapView}
 use Rattle.gc_model.specs.Stores.{StoreView}
-use Rattle.gc_model.specs.Holds.{Placing, FunctionIds, naming, Holds, KindHolds, ObjectsHold}
+use Rattle.gc_model.specs.Holds.{Placing, InternedIds, naming, Holds, KindHolds, ObjectsHold}
 use Rattle.gc_model.proofs.HoldsParts.{objects-same, hosts-same, heap_changed}
 use Rattle.gc_model.proofs.Hosts.{hosts-none}
 
@@ -27,7 +27,7 @@ abbrev pub with_heap : {D : Type 0} → HeapView → StoreView D → StoreView D
 with_heap heap s = record s { heap = heap }
 
 -- nothing is placed where there are no objects
-pub nothing_placed : {D : Type 0} (layouts : Layouts) (t : Table D) (place : Placing) {ids : FunctionIds} (heap : HeapView) → ObjectsHold layouts t (naming place ids) heap → t.objects ≡ [] → (position word : ℕ) → place position ≡ Some word → ⊥
+pub nothing_placed : {D : Type 0} (layouts : Layouts) (t : Table D) (place : Placing) {ids : InternedIds} (heap : HeapView) → ObjectsHold layouts t (naming place ids) heap → t.objects ≡ [] → (position word : ℕ) → place position ≡ Some word → ⊥
 nothing_placed layouts t place heap objects none position word e =
     let held = objects.placed position word e in
     none-some held.entry (sym (ap (λ os. slice_get os position) none) ∙ held.in_table)

@@ -18,7 +18,7 @@ use Rattle.gc_types.specs.Layouts.{round_up}
 use Rattle.gc_owner.specs.declared.entry.GcClass.TheVariants.{Any, Extern, Exn}
 use Rattle.gc_view.specs.Heaps.{HeapObject}
 use Rattle.gc_view.specs.Sizes.{alignment}
-use Rattle.gc_model.specs.Values.{null, small, at, Value, numeric, function, reference, Object, struct, array, host, exception}
+use Rattle.gc_model.specs.Values.{null, small, at, Value, numeric, function, continuation, reference, Object, struct, array, host, exception}
 use Rattle.gc_model.specs.Reach.{object_values}
 use Rattle.gc_model.specs.Table.{Table, change_at, with_host_value, set_host}
 use Rattle.gc_model.specs.Fits.{object_fits_any, object_fits_extern, object_fits_exn, fits_type, fits}
@@ -83,6 +83,7 @@ module _ {D : Type 0} (types : List Declaration) (objects : List (Object D)) (po
   type_alike val.F64 (numeric kind n) e = e
   type_alike val.V128 (numeric kind n) e = e
   type_alike (val.Ref ty) (function f) e = e
+  type_alike (val.Ref ty) (continuation c) e = e
   type_alike (val.Ref ty) (reference class null) e = e
   type_alike (val.Ref ty) (reference Any (small n)) e = e
   type_alike (val.Ref ty) (reference Extern (small n)) e = e
@@ -118,7 +119,7 @@ module _ {D : Type 0} (layouts : Layouts) (s : StoreView D) (t : Table D) (place
   abbrev changed : List (Object D)
   changed = change_at position (with_host_value w) t.objects
 
-  objects : ObjectsHold layouts (set_host position w t) (naming place s.funcs) s.heap
+  objects : ObjectsHold layouts (set_host position w t) (naming place s.ids) s.heap
   objects = record {
     placed = λ p word e.
         let held = holds.objects.placed p word e in
@@ -128,7 +129,7 @@ module _ {D : Type 0} (layouts : Layouts) (s : StoreView D) (t : Table D) (place
             entry = with_host_value w held.entry;
             in_heap = held.in_heap;
             in_table = ap (slice_get changed) same ∙ slice_get-change_at_same position (with_host_value w) t.objects held.entry (ap (slice_get t.objects) (sym same) ∙ held.in_table);
-            stands = stands_alike layouts t.types (naming place s.funcs) w held.entry held.object held.stands;
+            stands = stands_alike layouts t.types (naming place s.ids) w held.entry held.object held.stands;
           }
           | inr differ ↦ record {
             object = held.object;

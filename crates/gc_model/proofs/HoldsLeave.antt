@@ -8,9 +8,10 @@ use Rattle.gc_types.specs.declared.kind.Layouts.{Layouts}
 use Rattle.gc_model.specs.Table.{Table, Push, leave}
 use Rattle.gc_view.specs.Heaps.{HeapView}
 use Rattle.gc_model.specs.Stores.{StoreView}
-use Rattle.gc_model.specs.Holds.{Placing, Holds, IsPast, ScopedHold}
+use Rattle.gc_model.specs.Holds.{Placing, Holds, ScopedHold}
 use Rattle.gc_model.proofs.Lists.{slice_get-take}
 use Rattle.gc_model.proofs.HoldsParts.{SameHeld, scoped_changed, holds_same}
+use Rattle.gc_model.proofs.PointParts.{IsPast}
 
 -- the count of scope ends, once a scope was left that began with so many of the roots
 abbrev pub drops_after : ℕ → ℕ → ℕ → ℕ

@@ -17,7 +17,7 @@ use Rattle.gc_model.specs.Sizes.{object_size}
 use Rattle.gc_view.specs.Heaps.{HeapView, HeapObject}
 use Rattle.gc_model.specs.Stores.{StoreView}
 pub use Rattle.gc_model.specs.Words.{placed_at}
-use Rattle.gc_model.specs.Holds.{Placing, Names, naming, Holds, KindHolds, HeldAt, HostStands, HostsBy, Stands}
+use Rattle.gc_model.specs.Holds.{Placing, Names, naming, Holds, KindHolds, HostStands, HostsBy, Stands}
 use Rattle.gc_model.proofs.Lists.{slice_get-push_old, slice_get-push_new}
 use Rattle.gc_model.proofs.Types.{next_after-push}
 use Rattle.gc_model.proofs.Typing.{IsTypedObject, typed-made}
@@ -27,6 +27,7 @@ use Rattle.gc_model.proofs.Thrown.{thrown-more}
 use Rattle.gc_model.proofs.HoldsParts.{same_held-itself, places_changed}
 use Rattle.gc_model.proofs.Hosts.{hosts-added, hosts-made}
 use Rattle.gc_model.proofs.HoldsPush.{with_root, holds_push}
+use Rattle.gc_model.proofs.PointParts.{HeldAt}
 
 placed_at-new : (place : Placing) (n word : ℕ) → placed_at place n word n ≡ Some word
 placed_at-new place n word = grind (arith, common_steps)
@@ -51,7 +52,7 @@ pub record IsMadeObject {D : Type 0} (layouts : Layouts) (t : Table D) (names : 
   pub capacity : new.capacity ≡ old.capacity
   pub allocated : layouts ≡ Null → new.allocated + 1 ≡ round_up (old.allocated + 1) alignment + object_size Null t.types o
 
-module _ {D : Type 0} (layouts : Layouts) (s : StoreView D) (t : Table D) (place : Placing) (o : Object D) (heap : HeapView) (word : ℕ) (holds : Holds layouts s t place) (made : IsMadeObject layouts t (naming place s.funcs) o s.heap heap word) where
+module _ {D : Type 0} (layouts : Layouts) (s : StoreView D) (t : Table D) (place : Placing) (o : Object D) (heap : HeapView) (word : ℕ) (holds : Holds layouts s t place) (made : IsMadeObject layouts t (naming place s.ids) o s.heap heap word) where
   abbrev place' : Placing
   place' = placed_at place (length t.objects) word
 
@@ -65,11 +66,11 @@ module _ {D : Type 0} (layouts : Layouts) (s : StoreView D) (t : Table D) (place
       let ne : position ≢ length t.objects = λ same. absurd (omega arith) in
       placed_at-old place (length t.objects) word position ne ∙ e
 
-  names_within : AreWithin (naming place s.funcs) (naming place' s.funcs)
-  names_within = placed_within place place' s.funcs within
+  names_within : AreWithin (naming place s.ids) (naming place' s.ids)
+  names_within = placed_within place place' s.ids within
 
   -- an object that was held is held where it was
-  held_old : (position w : ℕ) → place position ≡ Some w → HeldAt layouts (add_object o t) (naming place' s.funcs) heap.content position w
+  held_old : (position w : ℕ) → place position ≡ Some w → HeldAt layouts (add_object o t) (naming place' s.ids) heap.content position w
   held_old position w e =
       let held = holds.objects.placed position w e in
       let ne : w ≢ word = λ same. none-some held.object (sym made.free ∙ ap (get s.heap.content) (sym same) ∙ held.in_heap) in
@@ -78,22 +79,22 @@ module _ {D : Type 0} (layouts : Layouts) (s : StoreView D) (t : Table D) (place
         entry = held.entry;
         in_heap = made.others w ne ∙ held.in_heap;
         in_table = slice_get-push_old t.objects o position held.entry held.in_table;
-        stands = stands-more (naming place s.funcs) (naming place' s.funcs) names_within layouts t.types held.entry held.object held.stands;
+        stands = stands-more (naming place s.ids) (naming place' s.ids) names_within layouts t.types held.entry held.object held.stands;
       }
 
-  held_new : HeldAt layouts (add_object o t) (naming place' s.funcs) heap.content (length t.objects) word
+  held_new : HeldAt layouts (add_object o t) (naming place' s.ids) heap.content (length t.objects) word
   held_new = record {
     object = made.object;
     entry = o;
     in_heap = made.here;
     in_table = slice_get-push_new t.objects o;
-    stands = stands-more (naming place s.funcs) (naming place' s.funcs) names_within layouts t.types o made.object made.stands;
+    stands = stands-more (naming place s.ids) (naming place' s.ids) names_within layouts t.types o made.object made.stands;
   }
 
-  held : (position w : ℕ) → place' position ≡ Some w → HeldAt layouts (add_object o t) (naming place' s.funcs) heap.content position w
+  held : (position w : ℕ) → place' position ≡ Some w → HeldAt layouts (add_object o t) (naming place' s.ids) heap.content position w
   held position w e =
       elim (placed_at-cases place (length t.objects) word position w e) [
-        | inl new ↦ subst (λ (p : ℕ). HeldAt layouts (add_object o t) (naming place' s.funcs) heap.content p w) (sym new.0) (subst (λ (q : ℕ). HeldAt layouts (add_object o t) (naming place' s.funcs) heap.content (length t.objects) q) new.1 held_new)
+        | inl new ↦ subst (λ (p : ℕ). HeldAt layouts (add_object o t) (naming place' s.ids) heap.content p w) (sym new.0) (subst (λ (q : ℕ). HeldAt layouts (add_object o t) (naming place' s.ids) heap.content (length t.objects) q) new.1 held_new)
         | inr old ↦ held_old position w old.1
       ]
 

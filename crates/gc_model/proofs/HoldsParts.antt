@@ -7,16 +7,16 @@ use Rattle.gc_model.specs.Table.{Table}
 pub use Rattle.gc_view.specs.Heaps.{SameHeld}
 use Rattle.gc_view.specs.Heaps.{HeapView, HeapObject}
 use Rattle.gc_model.specs.Stores.{StoreView}
-use Rattle.gc_model.specs.Holds.{Placing, FunctionIds, naming, Points, Holds, KindHolds, KindBy, ObjectsHold, ObjectsBy, HostsHold, HostsBy, MemoryHolds}
+use Rattle.gc_model.specs.Holds.{Placing, InternedIds, naming, Points, Holds, KindHolds, KindBy, ObjectsHold, ObjectsBy, HostsHold, HostsBy, MemoryHolds}
 
 pub same_held-itself : (heap : HeapView) → SameHeld heap heap
 same_held-itself heap = record { content = refl; attached = refl; capacity = refl; allocated = refl; needs_gc = refl }
 
 -- other facts at some points, and the same at all others
-module _ {Types Settings Memory Objects Kind Scopes Scoped Pushes Frames Globals Owned Pending Functions Hosts Typed : Type 0} (p : Points Types Settings Memory Objects Kind Scopes Scoped Pushes Frames Globals Owned Pending Functions Hosts Typed) where
+module _ {Types Settings Memory Objects Kind Scopes Scoped Pushes Frames Globals Owned Pending Interned Hosts Typed : Type 0} (p : Points Types Settings Memory Objects Kind Scopes Scoped Pushes Frames Globals Owned Pending Interned Hosts Typed) where
   -- at those on the heap
   pub heap_changed : {Memory' Objects' Kind' Hosts' Typed' : Type 0} → Memory' → Objects' → Kind' → Hosts' → Typed'
-      → Points Types Settings Memory' Objects' Kind' Scopes Scoped Pushes Frames Globals Owned Pending Functions Hosts' Typed'
+      → Points Types Settings Memory' Objects' Kind' Scopes Scoped Pushes Frames Globals Owned Pending Interned Hosts' Typed'
   heap_changed memory objects kind hosts typed = record {
     types = p.types;
     settings = p.settings;
@@ -30,13 +30,13 @@ module _ {Types Settings Memory Objects Kind Scopes Scoped Pushes Frames Globals
     globals = p.globals;
     owned = p.owned;
     pending = p.pending;
-    funcs = p.funcs;
+    interned = p.interned;
     hosts = hosts;
     typed = typed;
   }
 
   -- at those on scoped roots
-  pub scoped_changed : {Scopes' Scoped' Pushes' : Type 0} → Scopes' → Scoped' → Pushes' → Points Types Settings Memory Objects Kind Scopes' Scoped' Pushes' Frames Globals Owned Pending Functions Hosts Typed
+  pub scoped_changed : {Scopes' Scoped' Pushes' : Type 0} → Scopes' → Scoped' → Pushes' → Points Types Settings Memory Objects Kind Scopes' Scoped' Pushes' Frames Globals Owned Pending Interned Hosts Typed
   scoped_changed scopes scoped pushes = record {
     types = p.types;
     settings = p.settings;
@@ -50,13 +50,13 @@ module _ {Types Settings Memory Objects Kind Scopes Scoped Pushes Frames Globals
     globals = p.globals;
     owned = p.owned;
     pending = p.pending;
-    funcs = p.funcs;
+    interned = p.interned;
     hosts = p.hosts;
     typed = p.typed;
   }
 
   -- at those on types
-  pub types_changed : {Types' Objects' Kind' Typed' : Type 0} → Types' → Objects' → Kind' → Typed' → Points Types' Settings Memory Objects' Kind' Scopes Scoped Pushes Frames Globals Owned Pending Functions Hosts Typed'
+  pub types_changed : {Types' Objects' Kind' Typed' : Type 0} → Types' → Objects' → Kind' → Typed' → Points Types' Settings Memory Objects' Kind' Scopes Scoped Pushes Frames Globals Owned Pending Interned Hosts Typed'
   types_changed types objects kind typed = record {
     types = types;
     settings = p.settings;
@@ -70,13 +70,13 @@ module _ {Types Settings Memory Objects Kind Scopes Scoped Pushes Frames Globals
     globals = p.globals;
     owned = p.owned;
     pending = p.pending;
-    funcs = p.funcs;
+    interned = p.interned;
     hosts = p.hosts;
     typed = typed;
   }
 
   -- at those on frames
-  pub frames_changed : {Frames' : Type 0} → Frames' → Points Types Settings Memory Objects Kind Scopes Scoped Pushes Frames' Globals Owned Pending Functions Hosts Typed
+  pub frames_changed : {Frames' : Type 0} → Frames' → Points Types Settings Memory Objects Kind Scopes Scoped Pushes Frames' Globals Owned Pending Interned Hosts Typed
   frames_changed frames = record {
     types = p.types;
     settings = p.settings;
@@ -90,13 +90,13 @@ module _ {Types Settings Memory Objects Kind Scopes Scoped Pushes Frames Globals
     globals = p.globals;
     owned = p.owned;
     pending = p.pending;
-    funcs = p.funcs;
+    interned = p.interned;
     hosts = p.hosts;
     typed = p.typed;
   }
 
   -- at those on globals
-  pub globals_changed : {Globals' : Type 0} → Globals' → Points Types Settings Memory Objects Kind Scopes Scoped Pushes Frames Globals' Owned Pending Functions Hosts Typed
+  pub globals_changed : {Globals' : Type 0} → Globals' → Points Types Settings Memory Objects Kind Scopes Scoped Pushes Frames Globals' Owned Pending Interned Hosts Typed
   globals_changed globals = record {
     types = p.types;
     settings = p.settings;
@@ -110,13 +110,13 @@ module _ {Types Settings Memory Objects Kind Scopes Scoped Pushes Frames Globals
     globals = globals;
     owned = p.owned;
     pending = p.pending;
-    funcs = p.funcs;
+    interned = p.interned;
     hosts = p.hosts;
     typed = p.typed;
   }
 
   -- at that on the pending exception
-  pub pending_changed : {Pending' : Type 0} → Pending' → Points Types Settings Memory Objects Kind Scopes Scoped Pushes Frames Globals Owned Pending' Functions Hosts Typed
+  pub pending_changed : {Pending' : Type 0} → Pending' → Points Types Settings Memory Objects Kind Scopes Scoped Pushes Frames Globals Owned Pending' Interned Hosts Typed
   pending_changed pending = record {
     types = p.types;
     settings = p.settings;
@@ -130,13 +130,13 @@ module _ {Types Settings Memory Objects Kind Scopes Scoped Pushes Frames Globals
     globals = p.globals;
     owned = p.owned;
     pending = pending;
-    funcs = p.funcs;
+    interned = p.interned;
     hosts = p.hosts;
     typed = p.typed;
   }
 
   -- at that on owned roots
-  pub owned_changed : {Owned' : Type 0} → Owned' → Points Types Settings Memory Objects Kind Scopes Scoped Pushes Frames Globals Owned' Pending Functions Hosts Typed
+  pub owned_changed : {Owned' : Type 0} → Owned' → Points Types Settings Memory Objects Kind Scopes Scoped Pushes Frames Globals Owned' Pending Interned Hosts Typed
   owned_changed owned = record {
     types = p.types;
     settings = p.settings;
@@ -150,14 +150,14 @@ module _ {Types Settings Memory Objects Kind Scopes Scoped Pushes Frames Globals
     globals = p.globals;
     owned = owned;
     pending = p.pending;
-    funcs = p.funcs;
+    interned = p.interned;
     hosts = p.hosts;
     typed = p.typed;
   }
 
   -- at those on what is placed
   pub places_changed : {Memory' Objects' Kind' Scoped' Frames' Globals' Owned' Pending' Hosts' Typed' : Type 0} → Memory' → Objects' → Kind' → Scoped' → Frames' → Globals' → Owned' → Pending' → Hosts' → Typed'
-      → Points Types Settings Memory' Objects' Kind' Scopes Scoped' Pushes Frames' Globals' Owned' Pending' Functions Hosts' Typed'
+      → Points Types Settings Memory' Objects' Kind' Scopes Scoped' Pushes Frames' Globals' Owned' Pending' Interned Hosts' Typed'
   places_changed memory objects kind scoped frames globals owned pending hosts typed = record {
     types = p.types;
     settings = p.settings;
@@ -171,14 +171,14 @@ module _ {Types Settings Memory Objects Kind Scopes Scoped Pushes Frames Globals
     globals = globals;
     owned = owned;
     pending = pending;
-    funcs = p.funcs;
+    interned = p.interned;
     hosts = hosts;
     typed = typed;
   }
 
-  -- at those on function values
-  pub functions_changed : {Objects' Functions' : Type 0} → Objects' → Functions' → Points Types Settings Memory Objects' Kind Scopes Scoped Pushes Frames Globals Owned Pending Functions' Hosts Typed
-  functions_changed objects funcs = record {
+  -- at those on what is interned
+  pub interned_changed : {Objects' Interned' : Type 0} → Objects' → Interned' → Points Types Settings Memory Objects' Kind Scopes Scoped Pushes Frames Globals Owned Pending Interned' Hosts Typed
+  interned_changed objects interned = record {
     types = p.types;
     settings = p.settings;
     memory = p.memory;
@@ -191,13 +191,13 @@ module _ {Types Settings Memory Objects Kind Scopes Scoped Pushes Frames Globals
     globals = p.globals;
     owned = p.owned;
     pending = p.pending;
-    funcs = funcs;
+    interned = interned;
     hosts = p.hosts;
     typed = p.typed;
   }
 
 -- the objects, in a heap with the same content
-pub objects-same : {D : Type 0} (layouts : Layouts) (t : Table D) (place : Placing) {ids : FunctionIds} (old new : HeapView) → new.content ≡ old.content → ObjectsHold layouts t (naming place ids) old → ObjectsHold layouts t (naming place ids) new
+pub objects-same : {D : Type 0} (layouts : Layouts) (t : Table D) (place : Placing) {ids : InternedIds} (old new : HeapView) → new.content ≡ old.content → ObjectsHold layouts t (naming place ids) old → ObjectsHold layouts t (naming place ids) new
 objects-same layouts t place {ids} old new same objects = subst (λ (m : FinMap nat_cmp HeapObject). ObjectsBy layouts t.types t.objects (naming place ids) m) (sym same) objects
 
 pub kind-same : {D : Type 0} (layouts : Layouts) (t : Table D) (place : Placing) (old new : HeapView) → new.allocated ≡ old.allocated → KindHolds layouts t place old → KindHolds layouts t place new

@@ -11,9 +11,10 @@ use Rattle.gc_model.specs.Table.{Table, Scoped, Push, push}
 use Rattle.gc_model.specs.Live.{roots_full}
 use Rattle.gc_view.specs.Heaps.{HeapView}
 use Rattle.gc_model.specs.Stores.{StoreView}
-use Rattle.gc_model.specs.Holds.{Placing, IsWord, Holds, EntryStands, IsPast}
+use Rattle.gc_model.specs.Holds.{Placing, IsWord, Holds}
 use Rattle.gc_model.proofs.Lists.{slice_get-push_old, slice_get-push_new, slice_get-push_cases}
 use Rattle.gc_model.proofs.HoldsParts.{SameHeld, scoped_changed, holds_same}
+use Rattle.gc_model.proofs.PointParts.{EntryStands, IsPast}
 
 -- the store with another heap and one more scoped root
 abbrev pub with_root : {D : Type 0} → HeapView → ℕ → StoreView D → StoreView D

@@ -19,7 +19,8 @@ use Rattle.gc_model.specs.RootPoints.{FramesBy, GlobalsBy, OwnedBy}
 use Rattle.gc_model.proofs.RootsMoved.{frames-empty, globals-empty, unset_from_table, owned-none}
 use Rattle.gc_model.proofs.HoldsHeap.{nothing_placed}
 use Rattle.gc_model.proofs.Hosts.{hosts-empty, hosts-nil}
-use Rattle.gc_model.proofs.Interned.{functions-none, no_ids}
+use Rattle.gc_model.proofs.Interned.{interned-none, none_interned}
+use Rattle.gc_model.specs.SideValues.{no_ids}
 
 -- nothing was done with the store yet
 pub record IsUntouched {D : Type 0} (layouts : Layouts) (s : StoreView D) : Type 0 where
@@ -36,7 +37,7 @@ pub record IsUntouched {D : Type 0} (layouts : Layouts) (s : StoreView D) : Type
   pub globals : s.globals ≡ unset_globals
   pub owned : OwnedBy nowhere 0 s.owns [] s.owned
   pub pending : s.pending ≡ 0
-  pub funcs : s.funcs ≡ empty
+  pub ids : s.ids ≡ no_ids
   pub no_hosts : s.hosts ≡ empty
 
 start_by_kind : (D : Type 0) (layouts k : Layouts) (s : StoreView D) → layouts ≡ k → IsUntouched layouts s → KindHolds {D = D} k (start s.first s.max_scoped s.max_owned) nowhere s.heap
@@ -64,7 +65,7 @@ holds_untouched D layouts s untouched = record {
   globals = subst (λ (es : List SlotEntry). GlobalsBy nowhere (replicate global_count empty_slot) es) (sym untouched.globals) (globals-empty nowhere);
   owned = untouched.owned;
   pending = record { same_word = untouched.pending; thrown = λ r e. absurd (none-some r e) };
-  funcs = functions-none s.funcs untouched.funcs;
+  interned = interned-none s.ids untouched.ids;
   hosts = hosts-nil [] nowhere s.heap.content s.hosts refl untouched.no_hosts;
   typed = λ position index object value e f. absurd (none-some object e);
 }
@@ -74,10 +75,10 @@ untouched_allocated Null t place heap none kind is = let e : heap.allocated + 1 
 untouched_allocated Counting t place heap none kind is = absurd (cc)
 untouched_allocated Copying t place heap none kind is = absurd (cc)
 
--- a store that holds some table, and shows no type, root, generation, frame, set global, pending exception, function value or
--- memory, and of which no owned root was made, is untouched
-pub untouched_from_parts : {D : Type 0} (layouts : Layouts) (s : StoreView D) (t : Table D) (place : Placing) → Holds layouts s t place → s.types ≡ [] → s.scoped ≡ [] → s.generation ≡ 0 → s.frames ≡ [] → s.globals ≡ unset_globals → s.pending ≡ 0 → s.owns ≡ 0 → s.funcs ≡ empty → s.heap.attached ≡ false → IsUntouched layouts s
-untouched_from_parts layouts s t place holds no_types no_roots first_generation no_frames unset none_pending none_owned none_interned unmade =
+-- a store that holds some table, and shows no type, root, generation, frame, set global, pending exception, function value,
+-- continuation or memory, and of which no owned root was made, is untouched
+pub untouched_from_parts : {D : Type 0} (layouts : Layouts) (s : StoreView D) (t : Table D) (place : Placing) → Holds layouts s t place → s.types ≡ [] → s.scoped ≡ [] → s.generation ≡ 0 → s.frames ≡ [] → s.globals ≡ unset_globals → s.pending ≡ 0 → s.owns ≡ 0 → s.ids ≡ no_ids → s.heap.attached ≡ false → IsUntouched layouts s
+untouched_from_parts layouts s t place holds no_types no_roots first_generation no_frames unset none_pending none_owned no_id unmade =
     let not_made : t.made ≡ false = sym holds.memory.made ∙ unmade in
     let none : t.objects ≡ [] = holds.memory.no_objects not_made in
     record {
@@ -94,14 +95,14 @@ untouched_from_parts layouts s t place holds no_types no_roots first_generation 
       globals = unset;
       owned = owned-none place nowhere t.owns s.owns t.owned s.owned none_owned holds.owned;
       pending = none_pending;
-      funcs = none_interned;
+      ids = no_id;
       no_hosts = hosts-empty t.objects place s.heap.content s.hosts none holds.hosts;
     }
 
 -- a store that holds the empty table is untouched
 pub untouched_from_start : (D : Type 0) (layouts : Layouts) (s : StoreView D) (place : Placing) → Holds {D = D} layouts s (start s.first s.max_scoped s.max_owned) place → IsUntouched layouts s
 untouched_from_start D layouts s place holds =
-    untouched_from_parts layouts s (start s.first s.max_scoped s.max_owned) place holds holds.types (nil_from_length s.scoped holds.scoped.same_count) holds.scopes.generation (nil_from_length s.frames holds.frames.same_count) (unset_from_table place s.globals holds.globals) holds.pending.same_word holds.owned.same_owns (no_ids s.funcs holds.funcs) holds.memory.made
+    untouched_from_parts layouts s (start s.first s.max_scoped s.max_owned) place holds holds.types (nil_from_length s.scoped holds.scoped.same_count) holds.scopes.generation (nil_from_length s.frames holds.frames.same_count) (unset_from_table place s.globals holds.globals) holds.pending.same_word holds.owned.same_owns (none_interned s.ids holds.interned) holds.memory.made
 
 -- what is seen of a new store is untouched
 pub untouched_new : {D : Type 0} (layouts : Layouts) (engine number first max_scoped max_owned : ℕ) (alloc_counter : Option ℕ) → first ≤ max_pages → max_scoped ≤ 2 ^ 31 → IsUntouched {D = D} layouts (empty_store engine number first max_scoped max_owned alloc_counter)
@@ -126,6 +127,6 @@ untouched_new layouts engine number first max_scoped max_owned alloc_counter few
     in_order = λ i j d less inside. absurd (omega arith);
   };
   pending = refl;
-  funcs = refl;
+  ids = refl;
   no_hosts = refl;
 }

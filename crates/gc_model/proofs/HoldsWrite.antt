@@ -13,9 +13,8 @@ use Rattle.gc_view.specs.Slots.{StorageSlot}
 use Rattle.gc_model.specs.Values.{Value, Object}
 use Rattle.gc_model.specs.Table.{Table, change_at, with_value, put}
 use Rattle.gc_model.specs.Stores.{StoreView}
-use Rattle.gc_model.specs.Forms.{IsEncodedAs}
 use Rattle.gc_model.specs.Fits.{fits}
-use Rattle.gc_model.specs.Holds.{Placing, naming, Holds, KindHolds, HeldAt, Stands, ObjectsHold, IsTypedValue}
+use Rattle.gc_model.specs.Holds.{Placing, naming, Holds, KindHolds, Stands, ObjectsHold, IsTypedValue}
 use Rattle.gc_model.proofs.Changes.{length-change_at, slice_get-change_at_same, slice_get-change_at_other, next_after-with_value}
 use Rattle.gc_model.proofs.HeldObjects.{object_held}
 use Rattle.gc_model.proofs.HoldsParts.{heap_changed, pending_changed}
@@ -25,6 +24,7 @@ use Rattle.gc_model.proofs.ObjectStands.{slot_type, slot_not_host}
 use Rattle.gc_model.proofs.SlotObjects.{slot_written, stands_write}
 use Rattle.gc_model.proofs.Thrown.{thrown-written}
 use Rattle.gc_model.proofs.Typing.{typed-written}
+use Rattle.gc_model.proofs.PointParts.{IsEncodedAs, HeldAt}
 
 -- What a write of some bytes to an object's data left of a heap.
 pub record IsWrittenObject (old new : HeapView) (word offset : ℕ) (ws : List ℕ) : Type 0 where
@@ -36,28 +36,28 @@ pub record IsWrittenObject (old new : HeapView) (word offset : ℕ) (ws : List �
   pub capacity : new.capacity ≡ old.capacity
   pub allocated : new.allocated ≡ old.allocated
 
-module _ {D : Type 0} (layouts : Layouts) (s : StoreView D) (t : Table D) (place : Placing) (heap : HeapView) (word position index : ℕ) (o : Object D) (slot : StorageSlot) (v : Value) (ws : List ℕ) (holds : Holds layouts s t place) (placed : place position ≡ Some word) (object_is : slice_get t.objects position ≡ Some o) (is : IsSlotOf layouts t.types o index slot) (encoded : IsEncodedAs (naming place s.funcs) slot.storage v ws) (fit : fits t.types t.objects slot.storage v ≡ true) (written : IsWrittenObject s.heap heap word (slot.offset - struct_base layouts) ws) where
-  stands_before : Stands layouts t.types (naming place s.funcs) o written.before
+module _ {D : Type 0} (layouts : Layouts) (s : StoreView D) (t : Table D) (place : Placing) (heap : HeapView) (word position index : ℕ) (o : Object D) (slot : StorageSlot) (v : Value) (ws : List ℕ) (holds : Holds layouts s t place) (placed : place position ≡ Some word) (object_is : slice_get t.objects position ≡ Some o) (is : IsSlotOf layouts t.types o index slot) (encoded : IsEncodedAs (naming place s.ids) slot.storage v ws) (fit : fits t.types t.objects slot.storage v ≡ true) (written : IsWrittenObject s.heap heap word (slot.offset - struct_base layouts) ws) where
+  stands_before : Stands layouts t.types (naming place s.ids) o written.before
   stands_before = object_held layouts s t place holds position word o written.before placed written.there object_is
 
   -- the value that was written fits the type that its object says
   typed_here : IsTypedValue t.types t.objects o index v
   typed_here =
-      let ty = slot_type layouts t.types (naming place s.funcs) o written.before stands_before index slot is in
+      let ty = slot_type layouts t.types (naming place s.ids) o written.before stands_before index slot is in
       record { field = ty.field; field_is = ty.field_is; is_fit = ap (λ (st : StorageType). fits t.types t.objects st v) ty.type_is ∙ fit }
 
   -- the object that was written
-  held_here : HeldAt layouts (put position index v t) (naming place s.funcs) heap.content position word
+  held_here : HeldAt layouts (put position index v t) (naming place s.ids) heap.content position word
   held_here = record {
     object = slot_written layouts written.before slot ws;
     entry = with_value index v o;
     in_heap = written.here;
     in_table = slice_get-change_at_same position (with_value index v) t.objects o object_is;
-    stands = stands_write layouts t.types (naming place s.funcs) o written.before index slot v ws is encoded stands_before;
+    stands = stands_write layouts t.types (naming place s.ids) o written.before index slot v ws is encoded stands_before;
   }
 
   -- any other object
-  held_other : (p w : ℕ) → p ≢ position → place p ≡ Some w → HeldAt layouts (put position index v t) (naming place s.funcs) heap.content p w
+  held_other : (p w : ℕ) → p ≢ position → place p ≡ Some w → HeldAt layouts (put position index v t) (naming place s.ids) heap.content p w
   held_other p w ne e =
       let held = holds.objects.placed p w e in
       let elsewhere : w ≢ word = λ same. ne (holds.objects.injective p position w e (placed ∙ ap Some (sym same))) in
@@ -69,13 +69,13 @@ module _ {D : Type 0} (layouts : Layouts) (s : StoreView D) (t : Table D) (place
         stands = held.stands;
       }
 
-  held_all : (p w : ℕ) → place p ≡ Some w → HeldAt layouts (put position index v t) (naming place s.funcs) heap.content p w
+  held_all : (p w : ℕ) → place p ≡ Some w → HeldAt layouts (put position index v t) (naming place s.ids) heap.content p w
   held_all p w e =
       elim (cases_eq p position) [
         | inl same ↦
             let at_word : word ≡ w = grind (arith, sym placed ∙ ap place (sym same) ∙ e) in
-            subst (λ (q : ℕ). HeldAt layouts (put position index v t) (naming place s.funcs) heap.content q w) (sym same)
-            (subst (λ (q : ℕ). HeldAt layouts (put position index v t) (naming place s.funcs) heap.content position q) at_word held_here)
+            subst (λ (q : ℕ). HeldAt layouts (put position index v t) (naming place s.ids) heap.content q w) (sym same)
+            (subst (λ (q : ℕ). HeldAt layouts (put position index v t) (naming place s.ids) heap.content position q) at_word held_here)
         | inr differ ↦ held_other p w differ e
       ]
 
@@ -87,7 +87,7 @@ module _ {D : Type 0} (layouts : Layouts) (s : StoreView D) (t : Table D) (place
         | inr differ ↦ (h, sym (written.others q differ) ∙ e)
       ]
 
-  objects : ObjectsHold layouts (put position index v t) (naming place s.funcs) heap
+  objects : ObjectsHold layouts (put position index v t) (naming place s.ids) heap
   objects = record {
     placed = held_all;
     only = λ q h e. let was = was_held q h e in holds.objects.only q was.0 was.1;

@@ -1,3 +1,4 @@
+pub mod PointParts
 pub mod Lists
 pub mod Members
 pub mod ObjectShapes

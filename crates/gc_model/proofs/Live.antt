@@ -9,7 +9,8 @@ use Rattle.gc_model.specs.Values.{Reference}
 use Rattle.gc_model.specs.Table.{Table, Scoped, Push}
 use Rattle.gc_model.specs.Live.{rooted, rooted_among}
 use Rattle.gc_model.specs.Stores.{StoreView}
-use Rattle.gc_model.specs.Holds.{Placing, IsWord, Holds, EntryStands}
+use Rattle.gc_model.specs.Holds.{Placing, IsWord, Holds}
+use Rattle.gc_model.proofs.PointParts.{EntryStands}
 
 -- each root's serial is of a push whose index is the root's, counted from k
 abbrev pub AreIndexed : List Push → ℕ → List Scoped → Type 0

@@ -14,7 +14,8 @@ use Rattle.gc_types.specs.Declarations.{Declaration, Shape, struct_of, array_of,
 use Rattle.gc_types.specs.Layouts.{struct_base, exception_base, array_base, storage_width}
 use Rattle.gc_view.specs.Bytes.{u32_at}
 use Rattle.gc_view.specs.Heaps.{HeapObject}
-use Rattle.gc_view.specs.Slots.{StorageSlot, shape_slots, shape_first, shape_size}
+use Rattle.gc_view.specs.Slots.{StorageSlot, shape_slots, shape_size}
+use Rattle.gc_view.proofs.Spacing.{shape_first}
 use Rattle.gc_view.proofs.Layouts.{stored_size-le}
 use Rattle.gc_view.proofs.SlotLemmas.{shape_spaced, first_behind, slot_range}
 use Rattle.gc_model.specs.Values.{Value, Object, struct, array, host, exception}

@@ -9,24 +9,34 @@ use Rattle.gc_types.specs.declared.value.HeapType.TheVariants as heap
 use Rattle.gc_types.specs.Values.{heap_top}
 use Rattle.gc_types.specs.Layouts.{storage_width, is_gc_storage, is_gc_heap_type}
 use Rattle.gc_owner.specs.declared.entry.GcClass.{GcClass}
-use Rattle.gc_model.specs.Values.{NumberKind, Value, numeric, function, reference, Reference}
+use Rattle.gc_model.specs.Values.{NumberKind, Value, numeric, function, continuation, reference, Reference}
 use Rattle.gc_model.specs.Words.{Placing, IsWord}
-use Rattle.gc_model.specs.Forms.{Form, number_of, function_of, continuation_of, reference_of, top_form, storage_form, value_form, is_reference, Names, FunctionIds, IsFunctionCode, naming, IsCode, LiesAs, number_at}
+use Rattle.gc_model.specs.Forms.{Form, number_of, function_of, continuation_of, reference_of, top_form, storage_form, value_form, Names, InternedIds, IsIdCode, IsContCode, naming, IsCode, LiesAs, number_at}
+use Rattle.gc_model.proofs.PointParts.{is_reference}
 
 number_of_form : (kind : NumberKind) (v : Value) → number_of kind ≡ value_form v → (n : ℕ) × (v ≡ numeric kind n)
 number_of_form kind (numeric k n) e = let same : k ≡ kind = grind (arith, e) in (n, ap (λ j. numeric j n) same)
 number_of_form kind (function f) e = absurd (cc)
+number_of_form kind (continuation c) e = absurd (cc)
 number_of_form kind (reference class r) e = absurd (cc)
 
 reference_of_form : (class : GcClass) (v : Value) → reference_of class ≡ value_form v → (r : Reference) × (v ≡ reference class r)
 reference_of_form class (numeric k n) e = absurd (cc)
 reference_of_form class (function f) e = absurd (cc)
+reference_of_form class (continuation c) e = absurd (cc)
 reference_of_form class (reference c r) e = let same : c ≡ class = grind (arith, e) in (r, ap (λ j. reference j r) same)
 
 function_of_form : (v : Value) → function_of ≡ value_form v → (f : Option Func) × (v ≡ function f)
 function_of_form (numeric k n) e = absurd (cc)
 function_of_form (function f) e = (f, refl)
+function_of_form (continuation c) e = absurd (cc)
 function_of_form (reference class r) e = absurd (cc)
+
+continuation_of_form : (v : Value) → continuation_of ≡ value_form v → (c : Option ℕ) × (v ≡ continuation c)
+continuation_of_form (numeric k n) e = absurd (cc)
+continuation_of_form (function f) e = absurd (cc)
+continuation_of_form (continuation c) e = (c, refl)
+continuation_of_form (reference class r) e = absurd (cc)
 
 -- A reference of the class, with its word.
 pub record ReferenceAs (place : Placing) (class : GcClass) (v : Value) (word : ℕ) : Type 0 where
@@ -35,10 +45,16 @@ pub record ReferenceAs (place : Placing) (class : GcClass) (v : Value) (word : �
   pub is_word : IsWord place reference_is word
 
 -- A function or none, by the number that stands for it.
-pub record FunctionAs (ids : FunctionIds) (v : Value) (code : ℕ) : Type 0 where
+pub record FunctionAs (ids : InternedIds) (v : Value) (code : ℕ) : Type 0 where
   pub function_is : Option Func
   pub value_is : v ≡ function function_is
-  pub is_code : IsFunctionCode ids function_is code
+  pub is_code : IsIdCode ids.funcs function_is code
+
+-- A continuation or none, by the number that stands for it.
+pub record ContAs (ids : InternedIds) (v : Value) (code : ℕ) : Type 0 where
+  pub cont_is : Option ℕ
+  pub value_is : v ≡ continuation cont_is
+  pub is_code : IsContCode ids.conts cont_is code
 
 module _ (names : Names) (ty : StorageType) (v : Value) (bytes : List ℕ) (o : ℕ) where
   abbrev code : ℕ
@@ -58,10 +74,16 @@ module _ (names : Names) (ty : StorageType) (v : Value) (bytes : List ℕ) (o : 
       record { reference_is = r.0; value_is = r.1; is_word = subst (λ (x : Value). IsCode names x code) r.1 lies.code }
 
   -- and in one of functions a function or none
-  pub function_lying : storage_form ty ≡ function_of → LiesAs names ty v bytes o → FunctionAs names.funcs v (number_at (storage_width ty) bytes o)
+  pub function_lying : storage_form ty ≡ function_of → LiesAs names ty v bytes o → FunctionAs names.ids v (number_at (storage_width ty) bytes o)
   function_lying is lies =
       let f = function_of_form v (sym is ∙ lies.form) in
       record { function_is = f.0; value_is = f.1; is_code = subst (λ (x : Value). IsCode names x code) f.1 lies.code }
+
+  -- and in one of continuations a continuation or none
+  pub continuation_lying : storage_form ty ≡ continuation_of → LiesAs names ty v bytes o → ContAs names.ids v (number_at (storage_width ty) bytes o)
+  continuation_lying is lies =
+      let c = continuation_of_form v (sym is ∙ lies.form) in
+      record { cont_is = c.0; value_is = c.1; is_code = subst (λ (x : Value). IsCode names x code) c.1 lies.code }
 
 heap_reference : (ty : HeapType) → is_gc_heap_type ty ≡ is_reference (top_form (heap_top ty))
 heap_reference heap.Any = refl
@@ -114,9 +136,10 @@ reference_class (reference_of class) e = (class, refl)
 
 -- A value stands for itself under another placing and another number, where the number of one that is no
 -- reference is the same, and a reference's word is carried along.
-pub value_moved : (place place' : Placing) (funcs : FunctionIds) (v : Value) (was now : ℕ) → (is_reference (value_form v) ≡ false → now ≡ was)
+pub value_moved : (place place' : Placing) (ids : InternedIds) (v : Value) (was now : ℕ) → (is_reference (value_form v) ≡ false → now ≡ was)
     → ((r : Reference) → is_reference (value_form v) ≡ true → IsWord place r was → IsWord place' r now)
-    → IsCode (naming place funcs) v was → IsCode (naming place' funcs) v now
-value_moved place place' funcs (numeric kind n) was now same carried is = same refl ∙ is
-value_moved place place' funcs (function f) was now same carried is = subst (λ (c : ℕ). IsCode (naming place' funcs) (function f) c) (sym (same refl)) is
-value_moved place place' funcs (reference class r) was now same carried is = carried r refl is
+    → IsCode (naming place ids) v was → IsCode (naming place' ids) v now
+value_moved place place' ids (numeric kind n) was now same carried is = same refl ∙ is
+value_moved place place' ids (function f) was now same carried is = subst (λ (c : ℕ). IsCode (naming place' ids) (function f) c) (sym (same refl)) is
+value_moved place place' ids (continuation k) was now same carried is = subst (λ (c : ℕ). IsCode (naming place' ids) (continuation k) c) (sym (same refl)) is
+value_moved place place' ids (reference class r) was now same carried is = carried r refl is

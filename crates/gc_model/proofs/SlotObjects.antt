@@ -10,20 +10,22 @@ use Rattle.gc_types.specs.Declarations.{Declaration}
 use Rattle.gc_types.specs.Layouts.{struct_base, is_gc_storage}
 use Rattle.gc_view.specs.Bytes.{put_bytes, u32_at}
 use Rattle.gc_view.specs.Heaps.{HeapObject}
-use Rattle.gc_view.specs.Slots.{StorageSlot, shape_slots, shape_first, shape_size, followed_slots, slot_offsets}
+use Rattle.gc_view.specs.Slots.{StorageSlot, shape_slots, shape_size}
+use Rattle.gc_view.proofs.Spacing.{shape_first, followed_slots, slot_offsets}
 use Rattle.gc_view.proofs.ByteLemmas.{length-put_bytes, put_bytes-below, u32_in_same}
 use Rattle.gc_view.proofs.Layouts.{stored_size-le}
 use Rattle.gc_view.proofs.SlotLemmas.{shape_spaced, first_behind, slot_range}
-use Rattle.gc_model.specs.Values.{Value, numeric, function, reference, Reference, Object}
+use Rattle.gc_model.specs.Values.{Value, numeric, function, continuation, reference, Reference, Object}
 use Rattle.gc_model.specs.Table.{with_value}
 use Rattle.gc_model.specs.Words.{Placing, IsWord}
-use Rattle.gc_model.specs.Forms.{Names, LiesAs, IsEncodedAs, is_reference, number_at}
+use Rattle.gc_model.specs.Forms.{Names, LiesAs, number_at}
 use Rattle.gc_model.specs.Reach.{value_references, object_values}
 use Rattle.gc_model.specs.Standing.{ValuesLie, ShapeStands, Stands}
 use Rattle.gc_model.proofs.SlotWrites.{shape_write, slot_within}
 use Rattle.gc_model.proofs.ObjectShapes.{IsSlotOf}
 use Rattle.gc_model.proofs.ObjectStands.{changed_values, slot_not_host, slot_stands, stands_again}
 use Rattle.gc_model.proofs.ReadingBack.{storage_reference, reference_width}
+use Rattle.gc_model.proofs.PointParts.{IsEncodedAs, is_reference}
 
 -- the object with other bytes in a slot
 abbrev pub slot_written : Layouts → HeapObject → StorageSlot → List ℕ → HeapObject
@@ -96,6 +98,8 @@ first_word names slot (numeric kind n) bytes o rs ws true is lies rest = absurd 
 first_word names slot (numeric kind n) bytes o rs ws false is lies rest = rest
 first_word names slot (function f) bytes o rs ws true is lies rest = absurd (cc (sym is ∙ storage_reference slot.storage ∙ ap is_reference lies.form))
 first_word names slot (function f) bytes o rs ws false is lies rest = rest
+first_word names slot (continuation c) bytes o rs ws true is lies rest = absurd (cc (sym is ∙ storage_reference slot.storage ∙ ap is_reference lies.form))
+first_word names slot (continuation c) bytes o rs ws false is lies rest = rest
 first_word names slot (reference class r) bytes o rs ws true is lies rest =
     (subst (λ (w : ℕ). IsWord names.place r (number_at w bytes o)) (reference_width slot.storage (ap is_reference lies.form)) lies.code, rest)
 first_word names slot (reference class r) bytes o rs ws false is lies rest = absurd (cc (sym is ∙ storage_reference slot.storage ∙ ap is_reference lies.form))

@@ -7,14 +7,16 @@ use Rattle.std.proofs.lemmas.List.{length-set}
 use Rattle.std.proofs.lemmas.Option.{slice_get_within}
 use Rattle.gc_types.specs.Layouts.{storage_width}
 use Rattle.gc_view.specs.Bytes.{put_bytes}
-use Rattle.gc_view.specs.Slots.{StorageSlot, AreSpaced}
+use Rattle.gc_view.specs.Slots.{StorageSlot}
+use Rattle.gc_view.proofs.Spacing.{AreSpaced}
 use Rattle.gc_view.proofs.SlotLemmas.{slot_range, slots_apart}
 use Rattle.gc_model.specs.Values.{Value}
-use Rattle.gc_model.specs.Forms.{Names, LiesAs, IsEncodedAs}
+use Rattle.gc_model.specs.Forms.{Names, LiesAs}
 use Rattle.gc_model.specs.Standing.{ValuesLie}
 use Rattle.gc_model.proofs.Changes.{slice_get-set_same, slice_get-set_other}
 use Rattle.gc_model.proofs.Encoding.{IsApart, encoded_width, encoded_lies}
 use Rattle.gc_model.proofs.Lying.{lies_apart}
+use Rattle.gc_model.proofs.PointParts.{IsEncodedAs}
 
 -- The slots are spaced behind the first of the bytes, which reach to the end.
 module _ (names : Names) (base from to : ℕ) (slots : List StorageSlot) (behind : base ≤ from) (spaced : AreSpaced from slots to) where

@@ -7,7 +7,8 @@ use Rattle.gc_types.specs.Layouts.{storage_width, value_width}
 use Rattle.gc_types.specs.Values.{unpacked}
 use Rattle.gc_model.specs.Values.{Value, numeric, i32}
 use Rattle.gc_model.specs.Stored.{stored}
-use Rattle.gc_model.specs.Forms.{Names, IsCode, IsEncodedAs, storage_form, value_form}
+use Rattle.gc_model.specs.Forms.{Names, IsCode, storage_form, value_form}
+use Rattle.gc_model.proofs.PointParts.{IsEncodedAs}
 
 one_byte : (n : ℕ) → bytes_low_first 0 1 n ≡ bytes_low_first 0 1 (n % 256)
 one_byte n = ap (λ b. b ∷ []) (let e : n % 256 ≡ n % 256 % 256 = omega arith in e)

@@ -4,7 +4,7 @@ use Rattle.gc_types.specs.declared.kind.Layouts.{Layouts}
 use Rattle.gc_model.specs.Values.{Reference, null, small, at}
 use Rattle.gc_model.specs.Table.{Table}
 use Rattle.gc_view.specs.Heaps.{HeapView}
-use Rattle.gc_model.specs.Holds.{Placing, IsWord, FunctionIds, naming, ObjectsHold}
+use Rattle.gc_model.specs.Holds.{Placing, IsWord, InternedIds, naming, ObjectsHold}
 
 -- a reference has one word
 pub word_alone : (place : Placing) (r : Reference) (w w' : ℕ) → IsWord place r w → IsWord place r w' → w ≡ w'
@@ -12,7 +12,7 @@ word_alone place null w w' is is' = is ∙ sym is'
 word_alone place (small n) w w' is is' = is ∙ sym is'
 word_alone place (at p) w w' is is' = grind (arith, sym is ∙ is')
 
-module _ {D : Type 0} (layouts : Layouts) (t : Table D) (place : Placing) {ids : FunctionIds} (heap : HeapView) (objects : ObjectsHold layouts t (naming place ids) heap) where
+module _ {D : Type 0} (layouts : Layouts) (t : Table D) (place : Placing) {ids : InternedIds} (heap : HeapView) (objects : ObjectsHold layouts t (naming place ids) heap) where
   -- a place is an even number, and not 0
   pub place_even : (p word : ℕ) → place p ≡ Some word → (word % 2 ≡ 0) × (0 < word)
   place_even p word e = let held = objects.placed p word e in objects.even word held.object held.in_heap

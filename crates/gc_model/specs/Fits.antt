@@ -16,7 +16,7 @@ use Rattle.gc_types.specs.Subtyping.{supertypes_of}
 use Rattle.gc_types.specs.Values.{heap_top}
 use Rattle.gc_owner.specs.declared.entry.GcClass.{GcClass}
 use Rattle.gc_owner.specs.declared.entry.GcClass.TheVariants.{Any, Extern, Exn}
-use Rattle.gc_model.specs.Values.{Reference, null, small, at, Value, numeric, i32, i64, f32, f64, v128, function, reference, Object, struct, array, host, exception}
+use Rattle.gc_model.specs.Values.{Reference, null, small, at, Value, numeric, i32, i64, f32, f64, v128, function, continuation, reference, Object, struct, array, host, exception}
 
 -- Where a climb goes on by a type's supertype: the type is the second, or the climb on from its supertype meets it. A type
 -- that isn't declared meets none.
@@ -82,6 +82,14 @@ abbrev pub is_function_top : HeapTopType → Bool
 is_function_top top.Func = true
 is_function_top _ = false
 
+abbrev pub is_cont_top : HeapTopType → Bool
+is_cont_top top.Cont = true
+is_cont_top _ = false
+
+abbrev pub is_cont : HeapType → Bool
+is_cont heap.Cont = true
+is_cont _ = false
+
 -- null fits a type that takes it, in the class of the type's top
 abbrev pub null_fits : RefType → GcClass → Bool
 null_fits ty class = ty.nullable && has_class (heap_top ty.heap_type) class
@@ -100,6 +108,11 @@ abbrev pub function_fits : List Declaration → RefType → Option Func → Bool
 function_fits types ty None = ty.nullable && is_function_top (heap_top ty.heap_type)
 function_fits types ty (Some f) = matches (supertypes_of types) (heap.ConcreteFunc f.ty) ty.heap_type
 
+-- a continuation fits the type of them alone; none fits a nullable type of continuations
+abbrev pub cont_fits : RefType → Option ℕ → Bool
+cont_fits ty None = ty.nullable && is_cont_top (heap_top ty.heap_type)
+cont_fits ty (Some c) = is_cont ty.heap_type
+
 -- whether a value fits a type, by the declared types and the objects
 abbrev pub fits_type : {D : Type 0} → List Declaration → List (Object D) → ValType → Value → Bool
 fits_type types objects val.I32 (numeric i32 n) = true
@@ -108,6 +121,7 @@ fits_type types objects val.F32 (numeric f32 n) = true
 fits_type types objects val.F64 (numeric f64 n) = true
 fits_type types objects val.V128 (numeric v128 n) = true
 fits_type types objects (val.Ref ty) (function f) = function_fits types ty f
+fits_type types objects (val.Ref ty) (continuation c) = cont_fits ty c
 fits_type types objects (val.Ref ty) (reference class r) = reference_fits types objects ty class r
 fits_type types objects _ _ = false
 

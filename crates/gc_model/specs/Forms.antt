@@ -1,7 +1,8 @@
 -- Which form a value has, which form a field holds, and the bytes that hold a value in a field: a number with its
--- lowest byte first at every width, a function as one above its id, a reference as its word.
-use Rattle.std.specs.Prelude.{◌≡◌, ℕ, Bool, true, false, ◌-◌, ◌<◌, ◌^◌, List, take, drop, slice_index}
-use Rattle.std.specs.Int.{sum_through, byte_worth, bytes_low_first}
+-- lowest byte first at every width, a function as one above its id, and so a continuation, which is 0 where there is none; a
+-- reference as its word.
+use Rattle.std.specs.Prelude.{◌≡◌, ℕ, ◌-◌, List, take, drop, slice_index}
+use Rattle.std.specs.Int.{sum_through, byte_worth}
 use Rattle.gc_types.specs.declared.value.StorageType.{StorageType}
 use Rattle.gc_types.specs.declared.value.StorageType.TheVariants as storage
 use Rattle.gc_types.specs.declared.value.ValType.{ValType}
@@ -12,11 +13,11 @@ use Rattle.gc_types.specs.Values.{heap_top}
 use Rattle.gc_types.specs.Layouts.{storage_width}
 use Rattle.gc_owner.specs.declared.entry.GcClass.{GcClass}
 use Rattle.gc_owner.specs.declared.entry.GcClass.TheVariants.{Any, Extern, Exn}
-use Rattle.gc_model.specs.Values.{NumberKind, i32, i64, f32, f64, v128, Value, numeric, function, reference}
+use Rattle.gc_model.specs.Values.{NumberKind, i32, i64, f32, f64, v128, Value, numeric, function, continuation, reference}
 use Rattle.gc_model.specs.Words.{Placing, IsWord}
-pub use Rattle.gc_model.specs.Functions.{FunctionIds, IsFunctionCode}
+pub use Rattle.gc_model.specs.SideValues.{InternedIds, IsIdCode, IsContCode}
 
--- what a value is, and what a field holds; no value is a continuation
+-- what a value is, and what a field holds
 pub data Form : Type 0 where
   number_of : NumberKind → Form
   function_of : Form
@@ -26,6 +27,7 @@ pub data Form : Type 0 where
 abbrev pub value_form : Value → Form
 value_form (numeric kind n) = number_of kind
 value_form (function f) = function_of
+value_form (continuation c) = continuation_of
 value_form (reference class r) = reference_of class
 
 -- the form of references whose types lie under that top
@@ -50,40 +52,27 @@ storage_form storage.I8 = number_of i32
 storage_form storage.I16 = number_of i32
 storage_form (storage.ValType ty) = type_form ty
 
-abbrev pub is_reference : Form → Bool
-is_reference (number_of kind) = false
-is_reference function_of = false
-is_reference continuation_of = false
-is_reference (reference_of class) = true
-
 -- the number of so many bytes that lies at an offset, its lowest byte first
 abbrev pub number_at : ℕ → List ℕ → ℕ → ℕ
 number_at width bytes offset = sum_through (λ i. byte_worth i (slice_index (take width (drop offset bytes)) i)) (width - 1)
 
--- What stands in a heap for a position and for a function: its place, and one above its id.
+-- What stands in a heap for a position, and for a function and a continuation: its place, and one above its id.
 pub record Names : Type 0 where
   pub place : Placing
-  pub funcs : FunctionIds
+  pub ids : InternedIds
 
--- the names under a placing, with the functions by their ids
-abbrev pub naming : Placing → FunctionIds → Names
-naming place funcs = record { place = place; funcs = funcs }
+-- the names under a placing, with functions and continuations by their ids
+abbrev pub naming : Placing → InternedIds → Names
+naming place ids = record { place = place; ids = ids }
 
 -- the number that stands in a heap for a value
 abbrev pub IsCode : Names → Value → ℕ → Type 0
 IsCode names (numeric kind n) code = code ≡ n
-IsCode names (function f) code = IsFunctionCode names.funcs f code
+IsCode names (function f) code = IsIdCode names.ids.funcs f code
+IsCode names (continuation c) code = IsContCode names.ids.conts c code
 IsCode names (reference class r) code = IsWord names.place r code
 
 -- a value lies at an offset of an object's bytes, as a field of that type holds it
 pub record LiesAs (names : Names) (ty : StorageType) (v : Value) (bytes : List ℕ) (offset : ℕ) : Type 0 where
   pub form : storage_form ty ≡ value_form v
   pub code : IsCode names v (number_at (storage_width ty) bytes offset)
-
--- the bytes are those of a value in a field of that type
-pub record IsEncodedAs (names : Names) (ty : StorageType) (v : Value) (bytes : List ℕ) : Type 0 where
-  pub form : storage_form ty ≡ value_form v
-  pub word : ℕ
-  pub small : word < 256 ^ storage_width ty
-  pub code : IsCode names v word
-  pub encoded : bytes ≡ bytes_low_first 0 (storage_width ty) word

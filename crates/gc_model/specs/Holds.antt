@@ -6,13 +6,13 @@ use Rattle.gc_types.specs.declared.value.FieldType.{FieldType}
 use Rattle.gc_types.specs.declared.kind.Layouts.{Layouts}
 use Rattle.gc_types.specs.declared.kind.Layouts.TheVariants.{Null, Counting, Copying}
 use Rattle.gc_types.specs.Declarations.{Declaration}
-use Rattle.gc_model.specs.Values.{Value, Object}
-use Rattle.gc_model.specs.Reach.{IsKept, object_values}
+use Rattle.gc_model.specs.Values.{Value, Object, object_values}
+use Rattle.gc_model.specs.Reach.{IsKept}
 use Rattle.gc_model.specs.Stored.{value_type}
 use Rattle.gc_model.specs.Fits.{fits}
-use Rattle.gc_model.specs.Table.{Table, Scoped, Push}
+use Rattle.gc_model.specs.Table.{Table}
 pub use Rattle.gc_model.specs.Words.{Placing, IsWord}
-pub use Rattle.gc_model.specs.Functions.{FunctionIds, FunctionsBy}
+pub use Rattle.gc_model.specs.SideValues.{InternedIds, InternedBy}
 pub use Rattle.gc_model.specs.Forms.{Names, naming}
 pub use Rattle.gc_model.specs.RootPoints.{EntryBy, ScopedBy, IsPastBy, PushesBy, SlotBy, SlotsBy, FramesBy, GlobalsBy, OwnedRootBy, OwnedBy, PendingBy, IsException, ThrownBy}
 use Rattle.gc_model.specs.Sizes.{next_after}
@@ -85,7 +85,7 @@ TypedBy {D} types objects = (position index : ℕ) (object : Object D) (value : 
 
 -- A fact at each point: as the types of the facts are parameters, a change of one part of a store hands the
 -- other points on as they are.
-pub record Points (Types Settings Memory Objects Kind Scopes Scoped Pushes Frames Globals Owned Pending Functions Hosts Typed : Type 0) : Type 0 where
+pub record Points (Types Settings Memory Objects Kind Scopes Scoped Pushes Frames Globals Owned Pending Interned Hosts Typed : Type 0) : Type 0 where
   pub types : Types
   pub settings : Settings
   pub memory : Memory
@@ -98,20 +98,14 @@ pub record Points (Types Settings Memory Objects Kind Scopes Scoped Pushes Frame
   pub globals : Globals
   pub owned : Owned
   pub pending : Pending
-  pub funcs : Functions
+  pub interned : Interned
   pub hosts : Hosts
   pub typed : Typed
 
 module _ {D : Type 0} where
   -- the points at a table, each over the parts that it speaks of
-  abbrev pub HeldAt : Layouts → Table D → Names → map.FinMap nat_cmp HeapObject → ℕ → ℕ → Type 0
-  HeldAt layouts t names content position word = HeldBy layouts t.types t.objects names content position word
-
   abbrev pub ObjectsHold : Layouts → Table D → Names → HeapView → Type 0
   ObjectsHold layouts t names heap = ObjectsBy layouts t.types t.objects names heap.content
-
-  abbrev pub NullHolds : Table D → Placing → HeapView → Type 0
-  NullHolds t place heap = NullBy t.types t.objects place heap.allocated
 
   abbrev pub KindHolds : Layouts → Table D → Placing → HeapView → Type 0
   KindHolds layouts t place heap = KindBy layouts t.types t.objects place heap.allocated
@@ -125,14 +119,8 @@ module _ {D : Type 0} where
   abbrev pub ScopesHold : StoreView D → Table D → Type 0
   ScopesHold s t = ScopesBy s.generation t.drops (length t.scoped) t.max_scoped
 
-  abbrev pub EntryStands : Table D → Placing → ℕ → RootEntry → Scoped → Type 0
-  EntryStands t place index entry root = EntryBy t.pushes place index entry root
-
   abbrev pub ScopedHold : Table D → Placing → List RootEntry → Type 0
   ScopedHold t place entries = ScopedBy t.pushes place t.scoped entries
-
-  abbrev pub IsPast : Table D → Push → Type 0
-  IsPast t p = IsPastBy t.drops (length t.scoped) p
 
   abbrev pub PushesDiffer : Table D → Type 0
   PushesDiffer t = PushesBy t.pushes t.drops (length t.scoped)
@@ -158,7 +146,7 @@ module _ {D : Type 0} where
       (s.types ≡ t.types)
       (SettingsHold s t)
       (MemoryHolds s t)
-      (ObjectsHold layouts t (naming place s.funcs) s.heap)
+      (ObjectsHold layouts t (naming place s.ids) s.heap)
       (KindHolds layouts t place s.heap)
       (ScopesHold s t)
       (ScopedHold t place s.scoped)
@@ -167,7 +155,7 @@ module _ {D : Type 0} where
       (GlobalsHold t place s.globals)
       (OwnedHold t place s.owns s.owned)
       (PendingHolds t place s.pending)
-      (FunctionsBy t.funcs s.funcs)
+      (InternedBy t.interned s.ids)
       (HostsHold t place s.heap s.hosts)
       (TypedBy t.types t.objects)
 

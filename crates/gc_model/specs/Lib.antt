@@ -1,5 +1,5 @@
 pub mod Values
-pub mod Functions
+pub mod SideValues
 pub mod Fits
 pub mod Table
 pub mod Reach

@@ -3,7 +3,8 @@ use Rattle.std.specs.Prelude.{◌≡◌, ◌↔◌, ℕ, ◌<◌, List, [], ◌�
 use Rattle.std.specs.List.{Contains, IsDistinct, flat_map}
 use Rattle.gc_types.specs.declared.kind.Layouts.{Layouts}
 use Rattle.gc_types.specs.declared.kind.Layouts.TheVariants.{Null, Counting, Copying}
-use Rattle.gc_model.specs.Values.{Reference, at, Value, numeric, function, reference, Object, struct, array, host, exception}
+use Rattle.gc_model.specs.Values.{Reference, at, Value, numeric, function, continuation, reference, Object, struct, array, host, exception}
+pub use Rattle.gc_model.specs.Values.{object_values}
 pub use Rattle.gc_view.specs.Reach.{Reachable, by_start, by_step}
 use Rattle.gc_model.specs.Table.{Table, Scoped, Slot, Owned}
 
@@ -11,13 +12,8 @@ use Rattle.gc_model.specs.Table.{Table, Scoped, Slot, Owned}
 abbrev pub value_references : Value → List Reference
 value_references (numeric kind n) = []
 value_references (function f) = []
+value_references (continuation c) = []
 value_references (reference class r) = r ∷ []
-
-abbrev pub object_values : {D : Type 0} → Object D → List Value
-object_values (struct ty values) = values
-object_values (array ty values) = values
-object_values (host value) = []
-object_values (exception ty tag values) = values
 
 -- the references among the values of an object, in order
 abbrev pub references_in : {D : Type 0} → Object D → List Reference

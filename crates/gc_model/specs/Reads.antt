@@ -1,6 +1,6 @@
 -- Reading a value: a reference that isn't null gets a scoped root. And the value of a host object.
 use Rattle.std.specs.Prelude.{Bool, true, false, ◌==◌, Option, Some, None, slice_get, option_and_then}
-use Rattle.gc_model.specs.Values.{Reference, null, small, at, Value, numeric, function, reference, Object, struct, array, host, exception}
+use Rattle.gc_model.specs.Values.{Reference, null, small, at, Value, numeric, function, continuation, reference, Object, struct, array, host, exception}
 use Rattle.gc_model.specs.Table.{Table, push}
 
 abbrev pub is_null : Reference → Bool
@@ -12,6 +12,7 @@ is_null (at p) = false
 abbrev pub makes_root : Value → Bool
 makes_root (numeric kind n) = false
 makes_root (function f) = false
+makes_root (continuation c) = false
 makes_root (reference class null) = false
 makes_root (reference class (small n)) = true
 makes_root (reference class (at p)) = true
@@ -20,6 +21,7 @@ makes_root (reference class (at p)) = true
 abbrev pub after_read : {D : Type 0} → Value → Table D → Table D
 after_read (numeric kind n) t = t
 after_read (function f) t = t
+after_read (continuation c) t = t
 after_read (reference class null) t = t
 after_read (reference class (small n)) t = push (small n) t
 after_read (reference class (at p)) t = push (at p) t

@@ -8,7 +8,8 @@ use Rattle.gc_owner.specs.declared.entry.RootEntry.{RootEntry}
 use Rattle.gc_owner.specs.declared.entry.OwnedEntry.{OwnedEntry}
 use Rattle.gc_owner.specs.declared.entry.SlotEntry.{SlotEntry}
 use Rattle.gc_owner.specs.RootColumns.{global_count, empty_slot}
-pub use Rattle.gc_model.specs.Functions.{FunctionIds}
+pub use Rattle.gc_model.specs.SideValues.{InternedIds}
+use Rattle.gc_model.specs.SideValues.{no_ids}
 
 -- the globals of which none was set
 abbrev pub unset_globals : List SlotEntry
@@ -16,8 +17,9 @@ unset_globals = replicate global_count empty_slot
 
 -- A store: its id, its types, its heap, its host values by their ids, its scoped roots, its generation,
 -- its frames and globals, its owned roots and how many were made, the word of the pending exception (0 where
--- there is none), its function values by their ids, the bytes that were allocated after its last collection,
--- how many allocations it counted, for how many more scoped roots it has room, and its configuration.
+-- there is none), its function values and continuations by their ids, the bytes that were allocated after its last
+-- collection, how many allocations it counted, for how many more scoped roots it has room, its configuration, and
+-- the pairs of types of which it keeps whether the first is the second or one of its subtypes.
 pub record StoreView (D : Type 0) : Type 0 where
   pub engine : ℕ
   pub number : ℕ
@@ -31,7 +33,7 @@ pub record StoreView (D : Type 0) : Type 0 where
   pub owned : List OwnedEntry
   pub owns : ℕ
   pub pending : ℕ
-  pub funcs : FunctionIds
+  pub ids : InternedIds
   pub last : ℕ
   pub tries : ℕ
   pub spare : ℕ
@@ -39,6 +41,7 @@ pub record StoreView (D : Type 0) : Type 0 where
   pub max_scoped : ℕ
   pub max_owned : ℕ
   pub alloc_counter : Option ℕ
+  pub kept_pairs : List (ℕ × ℕ)
 
 -- what is seen of a store with nothing in it
 abbrev pub empty_store : {D : Type 0} → ℕ → ℕ → ℕ → ℕ → ℕ → Option ℕ → StoreView D
@@ -55,7 +58,7 @@ empty_store engine number first max_scoped max_owned alloc_counter = record {
   owned = [];
   owns = 0;
   pending = 0;
-  funcs = map.empty;
+  ids = no_ids;
   last = 0;
   tries = 0;
   spare = 0;
@@ -63,6 +66,7 @@ empty_store engine number first max_scoped max_owned alloc_counter = record {
   max_scoped = max_scoped;
   max_owned = max_owned;
   alloc_counter = alloc_counter;
+  kept_pairs = [];
 }
 
 -- the store with another value under an id of a host value

@@ -1,11 +1,11 @@
 -- The object table and its changes.
 use Rattle.std.specs.Prelude.{ℕ, zero, suc, ◌+◌, ◌-◌, ◌^◌, min, nat_lt, Bool, true, false, List, [], ◌∷◌, ◌++◌, Option, None, length, replicate, take, slice_set, if◌then◌else◌}
-use Rattle.gc_types.specs.declared.value.Func.{Func}
 use Rattle.gc_types.specs.Declarations.{Declaration}
 use Rattle.gc_owner.specs.declared.entry.GcClass.{GcClass}
 use Rattle.gc_owner.specs.declared.entry.GcClass.TheVariants.{Any}
-use Rattle.gc_model.specs.Values.{Reference, null, at, Value, Object, struct, array, host, exception}
-use Rattle.gc_model.specs.Functions.{functions_of, object_functions, with_functions}
+use Rattle.gc_model.specs.Values.{Reference, null, at, Value, Object, struct, array, host, exception, object_values}
+pub use Rattle.gc_model.specs.SideValues.{SideValues}
+use Rattle.gc_model.specs.SideValues.{no_side_values, side_values, with_side_values}
 pub use Rattle.gc_owner.specs.RootColumns.{global_count}
 
 -- a slot of a frame or a global
@@ -30,8 +30,8 @@ pub record Push : Type 0 where
   pub generation : ℕ
 
 -- The table. Objects are only added, or changed in one value; garbage is only "not reached".
--- The owned roots stand in the order in which they were made, and so do the function values that were interned, each
--- once; none is one of them where it was stored.
+-- The owned roots stand in the order in which they were made, and so do the function values and the continuations that
+-- were interned, each once. A function that is none is one of them where it was stored, a continuation that is none isn't.
 pub record Table (D : Type 0) : Type 0 where
   pub types : List Declaration
   pub objects : List (Object D)
@@ -43,7 +43,7 @@ pub record Table (D : Type 0) : Type 0 where
   pub globals : List Slot
   pub owned : List Owned
   pub pending : Option Reference
-  pub funcs : List (Option Func)
+  pub interned : SideValues
   pub made : Bool
   pub pages : ℕ
   pub first : ℕ
@@ -70,7 +70,7 @@ start first max_scoped max_owned = record {
   globals = replicate global_count empty_slot;
   owned = [];
   pending = None;
-  funcs = [];
+  interned = no_side_values;
   made = false;
   pages = 0;
   first = first;
@@ -97,13 +97,13 @@ add_object o t = record t { objects = t.objects ++ o ∷ [] }
 abbrev pub add_rooted : {D : Type 0} → Object D → Table D → Table D
 add_rooted o t = push (at (length t.objects)) (add_object o t)
 
--- the function values of a list are interned
-abbrev pub intern : {D : Type 0} → List (Option Func) → Table D → Table D
-intern fs t = record t { funcs = with_functions fs t.funcs }
+-- the function values and the continuations among values are interned
+abbrev pub intern : {D : Type 0} → List Value → Table D → Table D
+intern values t = record t { interned = with_side_values (side_values values) t.interned }
 
--- one more object, named by a new scoped root; its function values are interned
+-- one more object, named by a new scoped root; its function values and continuations are interned
 abbrev pub make : {D : Type 0} → Object D → Table D → Table D
-make o t = add_rooted o (intern (object_functions o) t)
+make o t = add_rooted o (intern (object_values o) t)
 
 -- the pages of the heap, with its first pages where it isn't made
 abbrev pub made_pages : {D : Type 0} → Table D → ℕ
@@ -142,9 +142,9 @@ change_at (suc n) change (x ∷ xs) = x ∷ change_at n change xs
 abbrev pub put : {D : Type 0} → ℕ → ℕ → Value → Table D → Table D
 put position index v t = record t { objects = change_at position (with_value index v) t.objects }
 
--- the same, and a function value is interned
+-- the same, and a function value or a continuation is interned
 abbrev pub write : {D : Type 0} → ℕ → ℕ → Value → Table D → Table D
-write position index v t = put position index v (intern (functions_of (v ∷ [])) t)
+write position index v t = put position index v (intern (v ∷ []) t)
 
 -- the host object with another value; no other object has one
 abbrev pub with_host_value : {D : Type 0} → D → Object D → Object D

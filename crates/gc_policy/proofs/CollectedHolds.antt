@@ -16,7 +16,8 @@ use Rattle.gc_model.specs.Gaps.{told, AreCut}
 use Rattle.gc_view.specs.Heaps.{HeapView, HeapObject}
 use Rattle.gc_model.specs.Stores.{StoreView}
 use Rattle.gc_model.proofs.HoldsParts.{places_changed}
-use Rattle.gc_model.specs.Holds.{Placing, IsWord, naming, HostStands, IsHostAt, HostsBy, HeldAt, ObjectsHold, KindHolds, Holds, HoldsKept, FramesBy}
+use Rattle.gc_model.specs.Holds.{Placing, IsWord, naming, HostStands, IsHostAt, HostsBy, ObjectsHold, KindHolds, Holds, HoldsKept, FramesBy}
+use Rattle.gc_model.proofs.PointParts.{HeldAt}
 use Rattle.gc_heap.specs.References.{references}
 use Rattle.gc_heap.specs.Content.{IsHeld, IsHeap, IsSpare}
 use Rattle.gc_heap.specs.Extents.{host_id}
@@ -76,7 +77,7 @@ module _ {D : Type 0} (layouts : Layouts) (s : StoreView D) (t : Table D) (place
   spare_here : (word : ℕ) (h : HeapObject) → get v.heap.content word ≡ Some h → IsSpare layouts h
   spare_here word h got = (c.was_heap.objects word h got).spare
 
-  object_after : (p word : ℕ) → place p ≡ Some word → Kept layouts begin word → HeldAt layouts t (naming after s.funcs) w.heap.content p (done.to word)
+  object_after : (p word : ℕ) → place p ≡ Some word → Kept layouts begin word → HeldAt layouts t (naming after s.ids) w.heap.content p (done.to word)
   object_after p word e kept =
       let there = c.holds.objects.placed p word e in
       let now = done.kept word there.object kept there.in_heap in
@@ -85,7 +86,7 @@ module _ {D : Type 0} (layouts : Layouts) (s : StoreView D) (t : Table D) (place
         entry = there.entry;
         in_heap = now.1.0;
         in_table = there.in_table;
-        stands = stands_moved layouts t.types done.to there.object now.0 place after s.funcs
+        stands = stands_moved layouts t.types done.to there.object now.0 place after s.ids
             (moved_here there.object now.0 now.1.1)
             (spare_here word there.object there.in_heap)
             (traced_here layouts s v t place c.holds c.in_frames c.all_held c.can.traced (has_host v.hosts) word there.object there.in_heap)
@@ -94,11 +95,11 @@ module _ {D : Type 0} (layouts : Layouts) (s : StoreView D) (t : Table D) (place
             there.entry there.stands;
       }
 
-  objects_after : ObjectsHold layouts t (naming after s.funcs) w.heap
+  objects_after : ObjectsHold layouts t (naming after s.ids) w.heap
   objects_after = record {
     placed = λ p q e.
         let was = placed_before layouts begin w.heap (roots_of w.roots) (has_host w.hosts) done place p q e in
-        subst (λ x. HeldAt layouts t (naming after s.funcs) w.heap.content p x) was.moves (object_after p was.word was.placed was.kept);
+        subst (λ x. HeldAt layouts t (naming after s.ids) w.heap.content p x) was.moves (object_after p was.word was.placed was.kept);
     only = λ q o e.
         let from = done.only q (o, e) in
         let held = kept_held layouts begin from.0 from.1.0 in

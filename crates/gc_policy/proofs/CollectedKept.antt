@@ -16,7 +16,7 @@ use Rattle.gc_model.proofs.Words.{word_names}
 use Rattle.gc_heap.specs.Content.{IsHeap}
 use Rattle.gc_heap.specs.References.{reference_offsets, references, word_in}
 use Rattle.gc_heap.specs.Collection.{Reached, by_root, by_field, Kept}
-use Rattle.gc_heap.proofs.SpacedLemmas.{contains_in, in_map}
+use Rattle.gc_memory.proofs.ListLemmas.{contains_in, in_map}
 use Rattle.gc_owner.specs.Tracing.{IsTraced, AreTraced, start_from}
 use Rattle.gc_owner.specs.RootColumns.{roots_of}
 use Rattle.gc_owner.specs.Owners.{OwnerView}
@@ -33,7 +33,7 @@ module _ {D : Type 0} (layouts : Layouts) (s : StoreView D) (t : Table D) (place
       let there = holds.objects.placed q before.0 before.1 in
       let both : Some named.object ≡ Some there.entry = sym named.there ∙ there.in_table in
       let same : named.object ≡ there.entry = grind (arith, both) in
-      reference_word layouts t.types (naming place s.funcs) there.entry there.object there.stands (at p) (subst (λ (x : Object D). Contains (references_in x) (at p)) same named.among)
+      reference_word layouts t.types (naming place s.ids) there.entry there.object there.stands (at p) (subst (λ (x : Object D). Contains (references_in x) (at p)) same named.among)
 
   value_reached : (q : ℕ) (o : Object D) → IsReached t q → slice_get t.objects q ≡ Some o → (r : Reference) (p : ℕ) → r ≡ at p → Contains (references_in o) r → IsReached t p
   value_reached q o reached e r p is c = reach.by_step reached (record { object = o; there = e; among = subst (λ (x : Reference). Contains (references_in o) x) is c })
@@ -56,7 +56,7 @@ module _ {D : Type 0} (layouts : Layouts) (s : StoreView D) (v : OwnerView D) (t
       let same : there.object ≡ o = grind (arith, both) in
       let found = in_map (word_in layouts there.object) (reference_offsets layouts t.types there.object) word
       (contains_in (references layouts t.types there.object) word (subst (λ x. Contains (references layouts t.types x) word) (sym same) (subst (λ types. Contains (references layouts types o) word) holds.types among))) in
-      let named = reference_of_word layouts t.types (naming place s.funcs) there.entry there.object there.stands (heap.objects from there.object there.in_heap).spare (traced_here from there.object there.in_heap) found.0 found.1.0 in
+      let named = reference_of_word layouts t.types (naming place s.ids) there.entry there.object there.stands (heap.objects from there.object there.in_heap).spare (traced_here from there.object there.in_heap) found.0 found.1.0 in
       let names : named.reference_is ≡ at p = word_names layouts t place v.heap holds.objects named.reference_is (at p) word (subst (IsWord place named.reference_is) found.1.1 named.is_word) e in
       value_reached layouts (shown s v) t place holds before.0 there.entry (reached_position heap from reached before.0 before.1) there.in_table named.reference_is p names named.among
 

@@ -10,12 +10,14 @@ use Rattle.gc_types.specs.declared.layout.TraceInfo.TheVariants as trace
 use Rattle.gc_types.specs.Declarations.{Shape, struct_of, array_of, exn_of, func_of, shape_kind, Declaration, constant_field}
 use Rattle.gc_types.specs.Layouts.{struct_base, exception_base, array_base, round_up, storage_width, is_gc_storage, shape_trace, declaration_trace}
 use Rattle.gc_view.specs.Heaps.{HeapObject}
-use Rattle.gc_view.specs.Slots.{StorageSlot, element_slots, elements_from, shape_slots, followed_slots, slot_offsets}
+use Rattle.gc_view.specs.Slots.{StorageSlot, element_slots, elements_from, shape_slots}
+use Rattle.gc_view.proofs.Spacing.{followed_slots, slot_offsets}
 use Rattle.gc_view.proofs.SlotLemmas.{fields_followed, elements_followed, elements_not_followed}
 use Rattle.gc_memory.specs.Lists.{In, here, there}
 use Rattle.gc_heap.specs.Extents.{HasFields, array_length}
 use Rattle.gc_heap.specs.References.{word_offsets, info_offsets, typed_offsets, reference_offsets}
-use Rattle.gc_heap.proofs.SpacedLemmas.{first_or_later, ref_width}
+use Rattle.gc_heap.proofs.SpacedLemmas.{ref_width}
+use Rattle.gc_memory.proofs.ListLemmas.{first_or_later}
 use Rattle.gc_heap.proofs.ReferenceLemmas.{typed_is}
 use Rattle.gc_owner.specs.Tracing.{IsTraced}
 use Rattle.gc_owner.proofs.FollowedOffsets.{SameElements, followed_offsets}

@@ -8,19 +8,20 @@ use Rattle.gc_types.specs.Layouts.{struct_base, is_gc_storage, storage_width}
 use Rattle.gc_memory.specs.Lists.{In}
 use Rattle.gc_owner.specs.declared.entry.GcClass.{GcClass}
 use Rattle.gc_owner.specs.Tracing.{IsTraced}
-use Rattle.gc_model.specs.Values.{Reference, Value, numeric, function, reference, Object, struct, array, host, exception}
+use Rattle.gc_model.specs.Values.{Reference, Value, numeric, function, continuation, reference, Object, struct, array, host, exception}
 use Rattle.gc_model.specs.Reach.{value_references, object_values, references_in, IsHost}
 use Rattle.gc_view.specs.Bytes.{u32_at}
 use Rattle.gc_view.specs.Heaps.{HeapObject}
 use Rattle.gc_view.specs.Slots.{StorageSlot, shape_slots}
 use Rattle.gc_model.specs.Holds.{Placing, IsWord, Stands}
-use Rattle.gc_model.specs.Forms.{Names, LiesAs, storage_form, is_reference, number_at}
+use Rattle.gc_model.specs.Forms.{Names, LiesAs, storage_form, number_at}
 use Rattle.gc_model.proofs.ReadingBack.{ReferenceAs, reference_lying, storage_reference, reference_class, reference_width}
 use Rattle.gc_model.proofs.ObjectStands.{stands_by_shape, shape_slot_value, value_lying}
+use Rattle.gc_model.proofs.PointParts.{is_reference}
 use Rattle.gc_heap.specs.Content.{IsSpare}
 use Rattle.gc_heap.specs.References.{reference_offsets, word_in}
 use Rattle.gc_heap.proofs.AgainLemmas.{external_offsets}
-use Rattle.gc_heap.proofs.SpacedLemmas.{only_item}
+use Rattle.gc_memory.proofs.ListLemmas.{only_item}
 use Rattle.gc_policy.proofs.CollectedLists.{contains_one, contains_flat, flat_contains}
 use Rattle.gc_policy.proofs.CollectedOffsets.{ref_slot, traced_slots}
 
@@ -54,6 +55,7 @@ reference_lies names ty class r bytes offset lies =
 class_of : (v : Value) (r : Reference) → Contains (value_references v) r → (class : GcClass) × (v ≡ reference class r)
 class_of (numeric kind n) r c = absurd (none_contained r c)
 class_of (function f) r c = absurd (none_contained r c)
+class_of (continuation k) r c = absurd (none_contained r c)
 class_of (reference class q) r c = (class, ap (reference class) (only_item q r c))
 
 -- a reference among the values of an object has a word

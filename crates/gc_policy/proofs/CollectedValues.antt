@@ -10,22 +10,25 @@ use Rattle.gc_types.specs.Layouts.{struct_base, storage_width, is_gc_storage}
 use Rattle.gc_memory.specs.Lists.{In}
 use Rattle.gc_view.specs.Bytes.{SameBytes, u32_at}
 use Rattle.gc_view.specs.Heaps.{HeapObject}
-use Rattle.gc_view.specs.Slots.{StorageSlot, AreSpaced, shape_slots, shape_first, shape_size, slot_offsets}
+use Rattle.gc_view.specs.Slots.{StorageSlot, shape_slots, shape_size}
+use Rattle.gc_view.proofs.Spacing.{AreSpaced, shape_first, slot_offsets}
 use Rattle.gc_view.proofs.ByteLemmas.{u32_in_same}
 use Rattle.gc_view.proofs.SlotLemmas.{shape_spaced, first_behind, slot_range, slots_apart}
 use Rattle.gc_model.specs.Values.{Reference, Value, Object, struct, array, host, exception}
 use Rattle.gc_model.specs.Reach.{object_values, IsHost}
-use Rattle.gc_model.specs.Holds.{Placing, IsWord, FunctionIds, naming, HostStands, Stands}
-use Rattle.gc_model.specs.Forms.{value_form, is_reference, LiesAs, number_at}
+use Rattle.gc_model.specs.Holds.{Placing, IsWord, InternedIds, naming, HostStands, Stands}
+use Rattle.gc_model.specs.Forms.{value_form, LiesAs, number_at}
 use Rattle.gc_model.specs.Standing.{ValuesLie}
 use Rattle.gc_model.proofs.ReadingBack.{storage_reference, reference_width, value_moved}
 use Rattle.gc_model.proofs.Encoding.{number_in_same}
 use Rattle.gc_model.proofs.ObjectStands.{with_values-own, stands_again}
+use Rattle.gc_model.proofs.PointParts.{is_reference}
 use Rattle.gc_heap.specs.References.{reference_offsets, references, word_in}
 use Rattle.gc_heap.specs.Content.{IsSpare}
 use Rattle.gc_heap.specs.Collection.{moved, IsNoReference, IsMoved}
 use Rattle.gc_heap.proofs.AgainLemmas.{external_offsets}
-use Rattle.gc_heap.proofs.SpacedLemmas.{contains_in, in_contains, map_in, ref_width}
+use Rattle.gc_heap.proofs.SpacedLemmas.{ref_width}
+use Rattle.gc_memory.proofs.ListLemmas.{contains_in, in_contains, map_in}
 use Rattle.gc_owner.specs.Tracing.{IsTraced}
 use Rattle.gc_owner.proofs.FollowedOffsets.{SameElements}
 use Rattle.gc_policy.proofs.CollectedOffsets.{ref_slot, slot_followed, traced_slots}
@@ -73,7 +76,7 @@ module _ (layouts : Layouts) (types : List Declaration) (to : ℕ → ℕ) (old 
     referenced : is_gc_storage slot.storage ≡ true → In slot.offset (reference_offsets layouts types old)
     referenced followed = offsets_are.back slot.offset (slot_followed slots i slot slot_is followed)
 
-  module _ (place place' : Placing) (funcs : FunctionIds) (carried : (r : Reference) (w : ℕ) → Contains (references layouts types old) w → IsWord place r w → IsWord place' r (moved to w)) where
+  module _ (place place' : Placing) (ids : InternedIds) (carried : (r : Reference) (w : ℕ) → Contains (references layouts types old) w → IsWord place r w → IsWord place' r (moved to w)) where
     -- the word of a reference at a traced offset is that of its new place
     word_moved : (r : Reference) (offset : ℕ) → In offset (reference_offsets layouts types old) → IsWord place r (u32_at old.bytes (offset - base)) → IsWord place' r (u32_at new.bytes (offset - base))
     word_moved r offset i is_word =
@@ -83,14 +86,14 @@ module _ (layouts : Layouts) (types : List Declaration) (to : ℕ → ℕ) (old 
         subst (IsWord place' r) (sym (is_moved.refers offset (in_contains offsets offset i))) (carried r word among is_word)
 
     lies_moved : (i : ℕ) (slot : StorageSlot) → slice_get slots i ≡ Some slot → base ≤ slot.offset → (v : Value)
-        → LiesAs (naming place funcs) slot.storage v old.bytes (slot.offset - base) → LiesAs (naming place' funcs) slot.storage v new.bytes (slot.offset - base)
+        → LiesAs (naming place ids) slot.storage v old.bytes (slot.offset - base) → LiesAs (naming place' ids) slot.storage v new.bytes (slot.offset - base)
     lies_moved i slot slot_is behind v lies =
         let ty : StorageType = slot.storage in
         let at : ℕ = slot.offset - base in
         let followed : is_gc_storage ty ≡ is_reference (value_form v) = storage_reference ty ∙ ap is_reference lies.form in
         record {
           form = lies.form;
-          code = value_moved place place' funcs v (number_at (storage_width ty) old.bytes at) (number_at (storage_width ty) new.bytes at)
+          code = value_moved place place' ids v (number_at (storage_width ty) old.bytes at) (number_at (storage_width ty) new.bytes at)
               (λ number. number_in_same (storage_width ty) old.bytes new.bytes at (number_same i slot slot_is (followed ∙ number) behind))
               (λ r refers is_word.
               let width : storage_width ty ≡ 4 = reference_width ty (ap is_reference lies.form ∙ refers) in
@@ -100,7 +103,7 @@ module _ (layouts : Layouts) (types : List Declaration) (to : ℕ → ℕ) (old 
         }
 
     -- The values lie in their slots still.
-    pub values_moved : ((i : ℕ) (slot : StorageSlot) → slice_get slots i ≡ Some slot → base ≤ from) → (values : List Value) → ValuesLie (naming place funcs) base slots values old.bytes → ValuesLie (naming place' funcs) base slots values new.bytes
+    pub values_moved : ((i : ℕ) (slot : StorageSlot) → slice_get slots i ≡ Some slot → base ≤ from) → (values : List Value) → ValuesLie (naming place ids) base slots values old.bytes → ValuesLie (naming place' ids) base slots values new.bytes
     values_moved behind values lie = record {
       same_count = lie.same_count;
       each = λ i slot value e f.
@@ -108,17 +111,17 @@ module _ (layouts : Layouts) (types : List Declaration) (to : ℕ → ℕ) (old 
     }
 
 -- An object with values is that object still, where what stood for it was moved.
-shape_moved : {D : Type 0} (layouts : Layouts) (types : List Declaration) (to : ℕ → ℕ) (old new : HeapObject) (place place' : Placing) (funcs : FunctionIds) → IsMoved layouts types to old new → IsTraced layouts types old
+shape_moved : {D : Type 0} (layouts : Layouts) (types : List Declaration) (to : ℕ → ℕ) (old new : HeapObject) (place place' : Placing) (ids : InternedIds) → IsMoved layouts types to old new → IsTraced layouts types old
     → ((r : Reference) (w : ℕ) → Contains (references layouts types old) w → IsWord place r w → IsWord place' r (moved to w))
-    → (o : Object D) → ¬ IsHost (Some o) → Stands layouts types (naming place funcs) o old → Stands layouts types (naming place' funcs) o new
-shape_moved {D} layouts types to old new place place' funcs is_moved traced carried o not_host stands =
-    subst (λ (x : Object D). Stands layouts types (naming place' funcs) x new) (with_values-own o)
-    (stands_again layouts types types (naming place funcs) (naming place' funcs) (object_values o) old new is_moved.kind o not_host refl
+    → (o : Object D) → ¬ IsHost (Some o) → Stands layouts types (naming place ids) o old → Stands layouts types (naming place' ids) o new
+shape_moved {D} layouts types to old new place place' ids is_moved traced carried o not_host stands =
+    subst (λ (x : Object D). Stands layouts types (naming place' ids) x new) (with_values-own o)
+    (stands_again layouts types types (naming place ids) (naming place' ids) (object_values o) old new is_moved.kind o not_host refl
     (λ by.
     let shape : Shape = by.stands.shape in
     let slots : List StorageSlot = shape_slots layouts shape by.stands.count in
     let spaced = shape_spaced layouts shape by.stands.count in
-    let offsets_are = traced_slots layouts types (naming place funcs) o old not_host stands traced by in
+    let offsets_are = traced_slots layouts types (naming place ids) o old not_host stands traced by in
     record {
       stands = record {
         shape = shape;
@@ -128,7 +131,7 @@ shape_moved {D} layouts types to old new place place' funcs is_moved traced carr
         count = by.stands.count;
         counted = by.stands.counted;
         size = ap (λ n. struct_base layouts + n) is_moved.size ∙ by.stands.size;
-        values_lie = values_moved layouts types to old new is_moved (shape_first layouts shape) (shape_size layouts shape by.stands.count) slots spaced offsets_are place place' funcs carried
+        values_lie = values_moved layouts types to old new is_moved (shape_first layouts shape) (shape_size layouts shape by.stands.count) slots spaced offsets_are place place' ids carried
             (first_behind layouts shape by.stands.count) (object_values o) by.stands.values_lie;
       };
       front = front_kept layouts types to old new is_moved (shape_first layouts shape) (shape_size layouts shape by.stands.count) slots spaced offsets_are;
@@ -157,13 +160,13 @@ host_was layouts types to old new id is_moved spare is =
     record { kind = external; id_is = ap (λ (bytes : List ℕ). u32_at bytes 0) (sym (host_bytes layouts types to old new is_moved spare external)) ∙ is.id_is }
 
 -- An object of the table is that object still, where what stood for it was moved.
-pub stands_moved : {D : Type 0} (layouts : Layouts) (types : List Declaration) (to : ℕ → ℕ) (old new : HeapObject) (place place' : Placing) (funcs : FunctionIds) → IsMoved layouts types to old new → IsSpare layouts old → IsTraced layouts types old
+pub stands_moved : {D : Type 0} (layouts : Layouts) (types : List Declaration) (to : ℕ → ℕ) (old new : HeapObject) (place place' : Placing) (ids : InternedIds) → IsMoved layouts types to old new → IsSpare layouts old → IsTraced layouts types old
     → ((r : Reference) (w : ℕ) → Contains (references layouts types old) w → IsWord place r w → IsWord place' r (moved to w))
-    → (o : Object D) → Stands layouts types (naming place funcs) o old → Stands layouts types (naming place' funcs) o new
-stands_moved {D} layouts types to old new place place' funcs is_moved spare traced carried (struct ty values) stands =
-    shape_moved {D = D} layouts types to old new place place' funcs is_moved traced carried (struct ty values) (λ is. is) stands
-stands_moved {D} layouts types to old new place place' funcs is_moved spare traced carried (array ty values) stands =
-    shape_moved {D = D} layouts types to old new place place' funcs is_moved traced carried (array ty values) (λ is. is) stands
-stands_moved {D} layouts types to old new place place' funcs is_moved spare traced carried (host value) stands = (stands.0, host_moved layouts types to old new stands.0 is_moved spare stands.1)
-stands_moved {D} layouts types to old new place place' funcs is_moved spare traced carried (exception ty tag values) stands =
-    shape_moved {D = D} layouts types to old new place place' funcs is_moved traced carried (exception ty tag values) (λ is. is) stands
+    → (o : Object D) → Stands layouts types (naming place ids) o old → Stands layouts types (naming place' ids) o new
+stands_moved {D} layouts types to old new place place' ids is_moved spare traced carried (struct ty values) stands =
+    shape_moved {D = D} layouts types to old new place place' ids is_moved traced carried (struct ty values) (λ is. is) stands
+stands_moved {D} layouts types to old new place place' ids is_moved spare traced carried (array ty values) stands =
+    shape_moved {D = D} layouts types to old new place place' ids is_moved traced carried (array ty values) (λ is. is) stands
+stands_moved {D} layouts types to old new place place' ids is_moved spare traced carried (host value) stands = (stands.0, host_moved layouts types to old new stands.0 is_moved spare stands.1)
+stands_moved {D} layouts types to old new place place' ids is_moved spare traced carried (exception ty tag values) stands =
+    shape_moved {D = D} layouts types to old new place place' ids is_moved traced carried (exception ty tag values) (λ is. is) stands

@@ -6,7 +6,7 @@ use Rattle.gc_roots.specs.Roots.{Root, root}
 use Rattle.gc_owner.specs.RootColumns.{present, listed_as}
 use Rattle.gc_model.specs.Values.{Reference}
 use Rattle.gc_model.specs.Words.{Placing, IsWord}
-use Rattle.gc_heap.proofs.SpacedLemmas.{only_item}
+use Rattle.gc_memory.proofs.ListLemmas.{only_item}
 
 -- A list of references names what a list of words does: each word that isn't null is that of some reference, and
 -- each reference has a word.

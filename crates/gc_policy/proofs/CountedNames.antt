@@ -14,7 +14,8 @@ use Rattle.gc_types.specs.Declarations.{Declaration}
 use Rattle.gc_types.specs.Layouts.{struct_base}
 use Rattle.gc_roots.specs.Roots.{Root, root}
 use Rattle.gc_view.specs.Heaps.{HeapObject}
-use Rattle.gc_view.specs.Slots.{shape_slots, slot_offsets}
+use Rattle.gc_view.specs.Slots.{shape_slots}
+use Rattle.gc_view.proofs.Spacing.{slot_offsets}
 use Rattle.gc_model.specs.Values.{Reference, null, small, at, Object, struct, array, host, exception}
 use Rattle.gc_model.specs.Table.{Table, Scoped, Slot, Owned}
 use Rattle.gc_model.specs.Reach.{references_in, object_values, slot_references, present, IsHost, AreAll}
@@ -157,16 +158,16 @@ module _ (place : Placing) (p word : ℕ) (is : IsPlacedAlone place p word) wher
 
 module _ {D : Type 0} (s : StoreView D) (v : OwnerView D) (t : Table D) (place : Placing) (holds : Holds Counting (shown s v) t place) (heap : IsHeap Counting v.heap) where
   -- the words of an object's references, in order
-  shape_words : (o : Object D) (h : HeapObject) → ¬ IsHost (Some o) → Stands Counting t.types (naming place s.funcs) o h → AreWordsOf place (references_in o) (references Counting t.types h)
+  shape_words : (o : Object D) (h : HeapObject) → ¬ IsHost (Some o) → Stands Counting t.types (naming place s.ids) o h → AreWordsOf place (references_in o) (references Counting t.types h)
   shape_words o h not_host stands =
-      let by = stands_by_shape Counting t.types (naming place s.funcs) o h not_host stands in
+      let by = stands_by_shape Counting t.types (naming place s.ids) o h not_host stands in
       let offsets : reference_offsets Counting t.types h ≡ slot_offsets (shape_slots Counting by.stands.shape by.stands.count) =
-      shape_offsets Counting t.types h by.stands.shape by.stands.count (ap (shape_at t.types) by.stands.same_type ∙ by.stands.declared) (stands_fields Counting t.types (naming place s.funcs) o h not_host stands)
-      (λ of_array. array_counted Counting t.types (naming place s.funcs) o h by.stands.shape stands by.of_shape of_array ∙ by.stands.counted) in
+      shape_offsets Counting t.types h by.stands.shape by.stands.count (ap (shape_at t.types) by.stands.same_type ∙ by.stands.declared) (stands_fields Counting t.types (naming place s.ids) o h not_host stands)
+      (λ of_array. array_counted Counting t.types (naming place s.ids) o h by.stands.shape stands by.of_shape of_array ∙ by.stands.counted) in
       subst (λ (at : List ℕ). AreWordsOf place (references_in o) (map (word_in Counting h) at)) (sym offsets)
-      (references_are_words (naming place s.funcs) (struct_base Counting) (shape_slots Counting by.stands.shape by.stands.count) (object_values o) h.bytes by.stands.values_lie)
+      (references_are_words (naming place s.ids) (struct_base Counting) (shape_slots Counting by.stands.shape by.stands.count) (object_values o) h.bytes by.stands.values_lie)
 
-  object_words : (o : Object D) (h : HeapObject) → IsSpare Counting h → Stands Counting t.types (naming place s.funcs) o h → AreWordsOf place (references_in o) (references Counting t.types h)
+  object_words : (o : Object D) (h : HeapObject) → IsSpare Counting h → Stands Counting t.types (naming place s.ids) o h → AreWordsOf place (references_in o) (references Counting t.types h)
   object_words (struct ty values) h spare stands = shape_words (struct ty values) h (λ is. is) stands
   object_words (array ty values) h spare stands = shape_words (array ty values) h (λ is. is) stands
   object_words (host value) h spare stands =

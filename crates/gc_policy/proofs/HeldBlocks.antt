@@ -71,7 +71,7 @@ pub held_block : {D : Type 0} (layouts : Layouts) (s : StoreView D) (t : Table D
 held_block layouts s t place holds p word h placed got =
     let there = holds.objects.placed p word placed in
     ap (block_of layouts t.types) there.in_table
-    ∙ object_block layouts t.types (naming place s.funcs) there.entry h (object_held layouts s t place holds p word there.entry h placed got there.in_table)
+    ∙ object_block layouts t.types (naming place s.ids) there.entry h (object_held layouts s t place holds p word there.entry h placed got there.in_table)
 
 -- sums over two lists that have the same positions, each once
 pub same_positions : (f : ℕ → ℕ) (IsIn : ℕ → Type 0) (xs ys : List ℕ) → AreAll IsIn xs → AreAll IsIn ys → sum_by f xs ≡ sum_by f ys

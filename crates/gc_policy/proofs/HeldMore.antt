@@ -5,7 +5,7 @@ use Rattle.std.proofs.lemmas.List.Elements.{Contains-append_cases, Contains-appe
 use Rattle.gc_model.specs.Reach.{AreAll}
 use Rattle.gc_model.specs.Holds.{Placing}
 use Rattle.gc_model.proofs.HoldsMake.{placed_at}
-use Rattle.gc_heap.proofs.SpacedLemmas.{only_item}
+use Rattle.gc_memory.proofs.ListLemmas.{only_item}
 use Rattle.gc_policy.specs.Collects.{IsPlaced}
 use Rattle.gc_policy.proofs.CollectedLists.{get_contains}
 use Rattle.gc_policy.proofs.HeldSums.{distinct_push}

@@ -8,13 +8,13 @@ use Rattle.gc_model.specs.Table.{Table}
 use Rattle.gc_model.specs.Reach.{IsKept, AreAll, HasNumber}
 use Rattle.gc_view.specs.Heaps.{HeapObject, HeapView}
 use Rattle.gc_model.specs.Stores.{StoreView}
-use Rattle.gc_model.specs.Holds.{Placing, FunctionIds, naming, ObjectsHold, Holds, HoldsKept}
+use Rattle.gc_model.specs.Holds.{Placing, InternedIds, naming, ObjectsHold, Holds, HoldsKept}
 use Rattle.gc_policy.specs.Collects.{IsPlaced}
 use Rattle.gc_policy.proofs.CollectedLists.{get_contains, contains_map, map_get}
 use Rattle.gc_policy.proofs.CollectedKept.{kept_placed}
 use Rattle.gc_policy.proofs.HeldEntries.{held_entry, entry_held, keys_differ}
 
-module _ {D : Type 0} (layouts : Layouts) (t : Table D) (place : Placing) {ids : FunctionIds} (heap : HeapView) (objects : ObjectsHold layouts t (naming place ids) heap) where
+module _ {D : Type 0} (layouts : Layouts) (t : Table D) (place : Placing) {ids : InternedIds} (heap : HeapView) (objects : ObjectsHold layouts t (naming place ids) heap) where
   abbrev position_found : (word : ℕ) (found : Option HeapObject) → get heap.content word ≡ found → ℕ
   position_found word None e = 0
   position_found word (Some o) e = (objects.only word o e).0

@@ -7,7 +7,7 @@ use Rattle.std.proofs.lemmas.Option.{slice_get_within}
 use Rattle.gc_memory.specs.Lists.{In, here, there}
 use Rattle.gc_model.specs.Values.{Reference, null, small, at, Object}
 use Rattle.gc_model.specs.Reach.{references_in, Reached, by_start, by_step}
-use Rattle.gc_heap.proofs.SpacedLemmas.{only_item}
+use Rattle.gc_memory.proofs.ListLemmas.{only_item}
 
 or_cases : (a b : Bool) → (a || b) ≡ true → (a ≡ true) ⊎ (b ≡ true)
 or_cases true b e = inl refl

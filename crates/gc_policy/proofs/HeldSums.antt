@@ -4,7 +4,7 @@ use Rattle.std.specs.List.{slice_get, IsDistinct, AllByRecursion, sum_by}
 use Rattle.std.proofs.lemmas.Bool.{cases_eq}
 use Rattle.std.proofs.lemmas.List.Sums.{sum_by-cons}
 use Rattle.std.proofs.lemmas.List.Elements.{Contains-append_cases, Contains-append_right}
-use Rattle.gc_heap.proofs.SpacedLemmas.{only_item}
+use Rattle.gc_memory.proofs.ListLemmas.{only_item}
 use Rattle.gc_policy.proofs.CollectedLists.{get_contains}
 use Rattle.gc_policy.proofs.HeldEntries.{all_others}
 

@@ -18,7 +18,7 @@ use Rattle.gc_model.specs.RootPoints.{SlotsBy, OwnedBy, PendingBy}
 use Rattle.gc_model.specs.Holds.{Holds}
 use Rattle.gc_model.proofs.Lists.{slice_get-same_length}
 use Rattle.gc_model.proofs.Members.{map_among, among_map}
-use Rattle.gc_heap.proofs.SpacedLemmas.{only_item}
+use Rattle.gc_memory.proofs.ListLemmas.{only_item}
 use Rattle.gc_policy.specs.Shown.{shown}
 use Rattle.gc_policy.proofs.Frames.{words_of, frame_words}
 use Rattle.gc_policy.proofs.CollectedLists.{get_contains, contains_map, contains_flat, flat_contains, map_get}
