@@ -83,14 +83,14 @@ module _ {D : Type 0} (layouts : Layouts) (s : StoreView D) (t : Table D) (place
     pub object : HeapObject
     pub not_zero : 0 < word
     pub is : IsHeldOf s.types s.heap word object (array_of b.element) (length values)
-    pub lie : ValuesLie (naming place s.funcs) (struct_base layouts) (element_slots storage.I8 (length values) first) values object.bytes
+    pub lie : ValuesLie (naming place s.ids) (struct_base layouts) (element_slots storage.I8 (length values) first) values object.bytes
 
   pub bytes_at : (word : ℕ) → word_of s handle ≡ Ok word → BytesAt word
   bytes_at word e =
       let named = named_word layouts s t place holds handle (at b.position) word b.named e in
       let held = holds.objects.placed b.position word named.0 in
       let same : held.entry ≡ array b.ty values = same_Some held.entry (array b.ty values) (sym held.in_table ∙ b.object_is) in
-      let stands : ArrayStands layouts t.types (naming place s.funcs) b.ty values held.object = subst (λ (o : Object D). Stands layouts t.types (naming place s.funcs) o held.object) same held.stands in
+      let stands : ArrayStands layouts t.types (naming place s.ids) b.ty values held.object = subst (λ (o : Object D). Stands layouts t.types (naming place s.ids) o held.object) same held.stands in
       let declared : shape_at t.types b.ty ≡ Some (array_of b.element) = array_shape t.types b.ty b.element b.declared in
       let shape_is : stands.stands.shape ≡ array_of b.element = same_Some stands.stands.shape (array_of b.element) (sym stands.stands.declared ∙ declared) in
       record {
@@ -101,9 +101,9 @@ module _ {D : Type 0} (layouts : Layouts) (s : StoreView D) (t : Table D) (place
           declared = ap (λ (ts : List Declaration). shape_at ts held.object.ty) holds.types ∙ ap (shape_at t.types) stands.stands.same_type ∙ declared;
           has = (stands.kind, sym stands.elements);
         };
-        lie = subst (λ (st : StorageType). ValuesLie (naming place s.funcs) (struct_base layouts) (element_slots st (length values) first) values held.object.bytes) b.of_bytes
-            (subst (λ (n : ℕ). ValuesLie (naming place s.funcs) (struct_base layouts) (shape_slots layouts (array_of b.element) n) values held.object.bytes) (sym stands.stands.counted)
-            (subst (λ (shape : Shape). ValuesLie (naming place s.funcs) (struct_base layouts) (shape_slots layouts shape stands.stands.count) values held.object.bytes) shape_is stands.stands.values_lie));
+        lie = subst (λ (st : StorageType). ValuesLie (naming place s.ids) (struct_base layouts) (element_slots st (length values) first) values held.object.bytes) b.of_bytes
+            (subst (λ (n : ℕ). ValuesLie (naming place s.ids) (struct_base layouts) (shape_slots layouts (array_of b.element) n) values held.object.bytes) (sym stands.stands.counted)
+            (subst (λ (shape : Shape). ValuesLie (naming place s.ids) (struct_base layouts) (shape_slots layouts shape stands.stands.count) values held.object.bytes) shape_is stands.stands.values_lie));
       }
 
   module _ (word : ℕ) (lies : BytesAt word) where
@@ -149,9 +149,9 @@ module _ {D : Type 0} (layouts : Layouts) (s : StoreView D) (t : Table D) (place
           let long : length bytes ≡ length values =
           ap length copied ∙ length-take (length values) (drop (first - struct_base layouts) lies.object.bytes) ∙ (let e = length-drop (first - struct_base layouts) lies.object.bytes in omega (arith, e, room, behind)) in
           let part : take (length bytes) (drop (first - struct_base layouts) lies.object.bytes) ≡ bytes = ap (λ (n : ℕ). take n (drop (first - struct_base layouts) lies.object.bytes)) long ∙ sym copied in
-          same_lying (naming place s.funcs) (struct_base layouts) (length values) first values (map byte_value bytes) lies.object.bytes lies.lie
-          (subst (λ (n : ℕ). ValuesLie (naming place s.funcs) (struct_base layouts) (element_slots storage.I8 n first) (map byte_value bytes) lies.object.bytes) long
-          (byte_elements (naming place s.funcs) (struct_base layouts) first lies.object.bytes behind bytes part))
+          same_lying (naming place s.ids) (struct_base layouts) (length values) first values (map byte_value bytes) lies.object.bytes lies.lie
+          (subst (λ (n : ℕ). ValuesLie (naming place s.ids) (struct_base layouts) (element_slots storage.I8 n first) (map byte_value bytes) lies.object.bytes) long
+          (byte_elements (naming place s.ids) (struct_base layouts) first lies.object.bytes behind bytes part))
 
 -- the array has as many elements in every table
 pub same_length : {D : Type 0} (layouts : Layouts) (s : StoreView D) (t : Table D) (place : Placing) (holds : Holds layouts s t place) (handle : GcRootIndex) (values : List Value) (b : NamesBytes s t handle values) (word : ℕ) → BytesAt layouts s t place holds handle values b word → (u : Table D) (placed : Placing) (held : Holds layouts s u placed) (others : List Value) (c : NamesBytes s u handle others) → BytesAt layouts s u placed held handle others c word → length values ≡ length others

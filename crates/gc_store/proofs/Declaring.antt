@@ -7,7 +7,7 @@ use Rattle.gc_types.specs.Declarable.{Declarable}
 use Rattle.gc_types.specs.Declarations.{Declaration, TypeName}
 use Rattle.gc_types.specs.Declarations as types
 use Rattle.gc_model.specs.Table.{Table, declare}
-use Rattle.gc_model.specs.Stores.{FunctionIds, StoreView}
+use Rattle.gc_model.specs.Stores.{StoreView}
 use Rattle.gc_model.proofs.HoldsDeclare.{with_type, holds_declare}
 use Rattle.gc_owner.specs.Declares.{Declares}
 use Rattle.gc_owner.specs.Owners.{OwnerView}
@@ -15,28 +15,28 @@ use Rattle.gc_policy.specs.Accounts.{Account, HoldsAccount}
 use Rattle.gc_policy.proofs.AccountLemmas.{account_kept}
 use Rattle.gc_store.specs.declared.engine.StoreId.{StoreId}
 use Rattle.gc_store.specs.declared.config.HeapConfig.{HeapConfig}
-use Rattle.gc_store.specs.Stores.{store_view, IsSound}
+use Rattle.gc_store.specs.Stores.{StoreTables, store_view, IsSound}
 use Rattle.gc_store.specs.Stores as stores
 use Rattle.gc_store.proofs.Keeping.{counts_of}
 
-module _ {D : Type 0} (layouts : Layouts) (id : StoreId) (config : HeapConfig) (ids : FunctionIds) (tries : ℕ) (d : Declaration) (old new : OwnerView D) where
+module _ {D : Type 0} (layouts : Layouts) (id : StoreId) (config : HeapConfig) (tables : StoreTables) (tries : ℕ) (d : Declaration) (old new : OwnerView D) where
   abbrev before : StoreView D
-  before = store_view id config ids old tries
+  before = store_view id config tables old tries
 
   abbrev after : StoreView D
-  after = store_view id config ids new tries
+  after = store_view id config tables new tries
 
   -- the store holds the table with the type
   holds_new : (t : Table D) (a : Account) → new ≡ record old { types = types.declare d old.types } → HoldsAccount layouts before t a → HoldsAccount layouts after (declare d t) a
   holds_new t a e holds =
-      subst (λ (v : OwnerView D). HoldsAccount layouts (store_view id config ids v tries) (declare d t) a) (sym e) (record {
+      subst (λ (v : OwnerView D). HoldsAccount layouts (store_view id config tables v tries) (declare d t) a) (sym e) (record {
         place = holds.place;
         holds = holds_declare layouts before t holds.place d holds.holds;
         account = account_kept before (with_type d before) holds.place a refl refl refl holds.account;
       })
 
   same_account : (t : Table D) (a : Account) → new ≡ old → HoldsAccount layouts before t a → HoldsAccount layouts after t a
-  same_account t a e holds = subst (λ (v : OwnerView D). HoldsAccount layouts (store_view id config ids v tries) t a) (sym e) holds
+  same_account t a e holds = subst (λ (v : OwnerView D). HoldsAccount layouts (store_view id config tables v tries) t a) (sym e) holds
 
   pub declared_step : (r : Result TypeName TypeFault) → Declares old new d r → (counts : List ℕ) → IsSound D layouts counts old before → (t : Table D) (a : Account) → HoldsAccount layouts before t a → stores.Declares layouts d t a r after
   declared_step (Ok ty) did counts sound t a holds = (
@@ -50,7 +50,7 @@ module _ {D : Type 0} (layouts : Layouts) (id : StoreId) (config : HeapConfig) (
   declared_step (Err Memory) did counts sound t a holds = same_account t a did holds
 
   same_sound : new ≡ old → (counts : List ℕ) → IsSound D layouts counts old before → IsSound D layouts counts new after
-  same_sound e counts sound = subst (λ (v : OwnerView D). IsSound D layouts counts v (store_view id config ids v tries)) (sym e) sound
+  same_sound e counts sound = subst (λ (v : OwnerView D). IsSound D layouts counts v (store_view id config tables v tries)) (sym e) sound
 
   pub sound_declared : (r : Result TypeName TypeFault) → Declares old new d r → (counts : List ℕ) → IsSound D layouts counts old before → IsSound D layouts counts new after
   sound_declared (Ok ty) did counts sound = record {

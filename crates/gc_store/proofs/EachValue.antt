@@ -14,7 +14,8 @@ use Rattle.gc_types.specs.Declarations.{Shape}
 use Rattle.gc_types.specs.Layouts.{struct_base, storage_width, value_width}
 use Rattle.gc_view.specs.Bytes.{put_bytes}
 use Rattle.gc_view.specs.Heaps.{HeapObject, HeapView}
-use Rattle.gc_view.specs.Slots.{StorageSlot, slot_end, shape_slots, shape_first, shape_size, AreSpaced}
+use Rattle.gc_view.specs.Slots.{StorageSlot, shape_slots, shape_size}
+use Rattle.gc_view.proofs.Spacing.{slot_end, shape_first, AreSpaced}
 use Rattle.gc_view.proofs.Layouts.{storage_width_positive}
 use Rattle.gc_view.proofs.SlotLemmas.{shape_spaced}
 use Rattle.gc_heap.specs.Content.{IsHeap}
@@ -25,11 +26,12 @@ use Rattle.gc_owner.specs.declared.entry.OwnedEntry.{OwnedEntry}
 use Rattle.gc_model.proofs.Members.{among_map}
 use Rattle.gc_policy.proofs.RootsShown.{IsRooted, scoped_rooted, owned_rooted}
 use Rattle.gc_model.specs.Values.{Value}
-use Rattle.gc_model.specs.Forms.{Form, function_of, reference_of, top_form, storage_form, Names, FunctionIds, IsEncodedAs}
+use Rattle.gc_model.specs.Forms.{Form, function_of, continuation_of, reference_of, top_form, storage_form, Names, InternedIds}
 use Rattle.gc_model.proofs.Lists.{slice_get-same_length}
 use Rattle.gc_model.proofs.ObjectShapes.{shape_at}
 use Rattle.gc_model.proofs.SlotWrites.{LieUpTo, lie_up_to-none, lie_up_to-step, lie_up_to-all}
 use Rattle.gc_model.proofs.StoredBytes.{stored_encoded}
+use Rattle.gc_model.proofs.PointParts.{IsEncodedAs}
 use Rattle.gc_store.specs.declared.slot.Slot.{Slot}
 use Rattle.gc_store.specs.declared.stored.Stored.{Stored}
 use Rattle.gc_store.specs.declared.root.RawValue.{RawValue}
@@ -94,18 +96,19 @@ slot_is_word h roots words (slot.Owned id) generation word is =
     subst (IsWordOf h) e.1.1 (words.owned e.0 e.1.0)
 
 -- what is kept of a value is of its form
-kept_form : (h : HeapView) (ids : FunctionIds) (entries : HandleRoots) (r : RawValue) (x : Stored) → AreWords h entries → KeptAs ids entries r x → OfForm h (raw_form r) x
+kept_form : (h : HeapView) (ids : InternedIds) (entries : HandleRoots) (r : RawValue) (x : Stored) → AreWords h entries → KeptAs ids entries r x → OfForm h (raw_form r) x
 kept_form h ids entries (raw.I32 n) x words is = subst (OfForm h (raw_form (raw.I32 n))) (sym is) tt
 kept_form h ids entries (raw.I64 n) x words is = subst (OfForm h (raw_form (raw.I64 n))) (sym is) tt
 kept_form h ids entries (raw.F32 n) x words is = subst (OfForm h (raw_form (raw.F32 n))) (sym is) tt
 kept_form h ids entries (raw.F64 n) x words is = subst (OfForm h (raw_form (raw.F64 n))) (sym is) tt
 kept_form h ids entries (raw.V128 n) x words is = subst (OfForm h (raw_form (raw.V128 n))) (sym is) tt
 kept_form h ids entries (raw.Func f) x words is = subst (OfForm h function_of) (sym is.1.1) tt
+kept_form h ids entries (raw.Cont c) x words is = subst (OfForm h continuation_of) (sym is.1.1) tt
 kept_form h ids entries (raw.Ref class None) x words is = subst (OfForm h (reference_of class)) (sym is) (inl refl)
 kept_form h ids entries (raw.Ref class (Some handle)) x words is =
     subst (OfForm h (reference_of class)) (sym is.1.1) (slot_is_word h entries words handle.slot handle.generation is.0 is.1.0)
 
-pub kept_of_form : (h : HeapView) (ids : FunctionIds) (entries : HandleRoots) (ty : StorageType) (r : RawValue) (x : Stored) → AreWords h entries → raw_form r ≡ storage_form ty → KeptAs ids entries r x → OfForm h (storage_form ty) x
+pub kept_of_form : (h : HeapView) (ids : InternedIds) (entries : HandleRoots) (ty : StorageType) (r : RawValue) (x : Stored) → AreWords h entries → raw_form r ≡ storage_form ty → KeptAs ids entries r x → OfForm h (storage_form ty) x
 kept_of_form h ids entries ty r x words form is = subst (λ (f : Form). OfForm h f x) form (kept_form h ids entries r x words is)
 
 -- a form is as wide as the value types that have it
@@ -127,7 +130,7 @@ storage_form_width (storage.ValType val.V128) = refl
 storage_form_width (storage.ValType (val.Ref ty)) = top_width (heap_top ty.heap_type)
 
 -- The low bytes of what is kept are those of the value that a slot keeps.
-pub kept_encoded : (ids : FunctionIds) (names : Names) (entries : HandleRoots) (ty : StorageType) (r : RawValue) (w : Value) (x : Stored) → StoredStands ids names entries ty r w → KeptAs ids entries r x → FitsForm (raw_form r) (code_of x)
+pub kept_encoded : (ids : InternedIds) (names : Names) (entries : HandleRoots) (ty : StorageType) (r : RawValue) (w : Value) (x : Stored) → StoredStands ids names entries ty r w → KeptAs ids entries r x → FitsForm (raw_form r) (code_of x)
     → IsEncodedAs names ty w (slot_bytes ty (code_of x))
 kept_encoded ids names entries ty r w x stands is small =
     let width : form_width (raw_form r) ≡ value_width (unpacked ty) = ap form_width stands.raw_form_is ∙ storage_form_width ty in
@@ -143,13 +146,13 @@ spaced_count from to (s ∷ slots) spaced =
     omega (arith, spaced.0, rest, wide)
 
 -- The first k values are written.
-pub record FillsTo {D : Type 0} (layouts : Layouts) (ids : FunctionIds) (raws : List RawValue) (old new : OwnerView D) (place : ℕ) (before : HeapObject) (shape : Shape) (count k : ℕ) : Type 0 where
+pub record FillsTo {D : Type 0} (layouts : Layouts) (ids : InternedIds) (raws : List RawValue) (old new : OwnerView D) (place : ℕ) (before : HeapObject) (shape : Shape) (count k : ℕ) : Type 0 where
   pub bytes : List ℕ
   pub rewrites : Rewrites layouts shape old new place before bytes
   pub lie : (names : Names) (values : List Value) → EachStands ids raws names (handle_roots old.roots) (shape_slots layouts shape count) values
       → LieUpTo names (struct_base layouts) (shape_slots layouts shape count) values bytes k
 
-module _ {D : Type 0} (layouts : Layouts) (ids : FunctionIds) (raws : List RawValue) (old : OwnerView D) (place ty : ℕ) (before : HeapObject) (shape : Shape) (count : ℕ) (f : IsToFill layouts old place ty (EachFits ids raws) before shape count) where
+module _ {D : Type 0} (layouts : Layouts) (ids : InternedIds) (raws : List RawValue) (old : OwnerView D) (place ty : ℕ) (before : HeapObject) (shape : Shape) (count : ℕ) (f : IsToFill layouts old place ty (EachFits ids raws) before shape count) where
   abbrev base : ℕ
   base = struct_base layouts
 

@@ -10,7 +10,8 @@ use Rattle.gc_types.specs.Declarations.{Shape}
 use Rattle.gc_types.specs.Layouts.{struct_base, storage_width}
 use Rattle.gc_view.specs.Bytes.{put_bytes}
 use Rattle.gc_view.specs.Heaps.{HeapObject}
-use Rattle.gc_view.specs.Slots.{StorageSlot, element_slots, shape_slots, shape_first, shape_size, slot_offsets}
+use Rattle.gc_view.specs.Slots.{StorageSlot, element_slots, shape_slots, shape_size}
+use Rattle.gc_view.proofs.Spacing.{shape_first, slot_offsets}
 use Rattle.gc_view.proofs.ByteLemmas.{part-put_bytes}
 use Rattle.gc_view.proofs.SlotLemmas.{SlotRange, slot_range, shape_spaced, length-element_slots, elements_not_followed}
 use Rattle.gc_heap.specs.Content.{IsHeap}
@@ -19,7 +20,7 @@ use Rattle.gc_owner.specs.Owners.{OwnerView, CanBegin}
 use Rattle.gc_owner.specs.Writes.{IsNumberPlace, WritesBytes}
 use Rattle.gc_model.specs.Values.{Value}
 use Rattle.gc_model.specs.Stored.{byte_value}
-use Rattle.gc_model.specs.Forms.{Names, FunctionIds}
+use Rattle.gc_model.specs.Forms.{Names, InternedIds}
 use Rattle.gc_model.specs.Standing.{ValuesLie}
 use Rattle.gc_model.proofs.Elements.{byte_elements, equal_elements}
 use Rattle.gc_model.proofs.ObjectShapes.{shape_at, element_slot_at}
@@ -55,17 +56,17 @@ no_elements : (ty : StorageType) (n from : ℕ) → n ≡ 0 → element_slots ty
 no_elements ty zero from none = refl
 no_elements ty (suc n) from none = absurd (omega (arith, none))
 
-same_length : (ids : FunctionIds) (r : RawValue) (names : Names) (entries : HandleRoots) (slots : List StorageSlot) (values : List Value) → SameStands ids r names entries slots values → length values ≡ length slots
+same_length : (ids : InternedIds) (r : RawValue) (names : Names) (entries : HandleRoots) (slots : List StorageSlot) (values : List Value) → SameStands ids r names entries slots values → length values ≡ length slots
 same_length ids r names entries slots values stands = ap (λ (vs : List Value). length vs) stands.values_are ∙ length-replicate (length slots) stands.kept
 
-pub none_filled : {D : Type 0} (layouts : Layouts) (v : OwnerView D) (place ty : ℕ) (ids : FunctionIds) (r : RawValue) (count : ℕ) (object : HeapObject) (shape : Shape) (n : ℕ) → IsToFill layouts v place ty (SameFits ids r count) object shape n → count ≡ 0
+pub none_filled : {D : Type 0} (layouts : Layouts) (v : OwnerView D) (place ty : ℕ) (ids : InternedIds) (r : RawValue) (count : ℕ) (object : HeapObject) (shape : Shape) (n : ℕ) → IsToFill layouts v place ty (SameFits ids r count) object shape n → count ≡ 0
     → Fills layouts (SameStands ids r) v v place object shape n
 none_filled layouts v place ty ids r count object shape n f none =
     nothing_filled layouts v place ty (SameFits ids r count) (SameStands ids r) object shape n f (f.fit.slots_are ∙ no_elements f.fit.ty count f.fit.from none)
     (λ names values. same_length ids r names (handle_roots v.roots) (shape_slots layouts shape n) values)
 
 -- One value in some elements.
-module _ {D : Type 0} (layouts : Layouts) (v : OwnerView D) (place ty : ℕ) (ids : FunctionIds) (r : RawValue) (count : ℕ) (object : HeapObject) (shape : Shape) (n : ℕ) (f : IsToFill layouts v place ty (SameFits ids r count) object shape n) (some : 0 < count) (can : CanBegin layouts v) where
+module _ {D : Type 0} (layouts : Layouts) (v : OwnerView D) (place ty : ℕ) (ids : InternedIds) (r : RawValue) (count : ℕ) (object : HeapObject) (shape : Shape) (n : ℕ) (f : IsToFill layouts v place ty (SameFits ids r count) object shape n) (some : 0 < count) (can : CanBegin layouts v) where
   abbrev pub first : StorageSlot
   first = record { storage = f.fit.ty; offset = f.fit.from }
 

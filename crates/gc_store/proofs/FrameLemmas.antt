@@ -16,7 +16,7 @@ use Rattle.gc_model.specs.Table as table
 use Rattle.gc_model.specs.Table.{Table, Slot}
 use Rattle.gc_model.specs.Frames.{newest, opened, closed, changed, push_frame, pop_frame, set_slot, slot_at}
 use Rattle.gc_model.specs.RootPoints.{SlotBy}
-use Rattle.gc_model.specs.Stores.{FunctionIds, StoreView}
+use Rattle.gc_model.specs.Stores.{StoreView}
 use Rattle.gc_model.specs.Holds.{Placing, IsWord, Holds}
 use Rattle.gc_model.proofs.FramesSet.{newest-stand}
 use Rattle.gc_model.proofs.HoldsFrames.{with_frame, without_frame, holds_frame_pushed, holds_frame_popped, holds_slot_set}
@@ -31,7 +31,7 @@ use Rattle.gc_store.specs.declared.engine.StoreId.{StoreId}
 use Rattle.gc_store.specs.declared.root.GcRootIndex.{GcRootIndex}
 use Rattle.gc_store.specs.Roots.{IsRootWord}
 use Rattle.gc_store.specs.Slots.{FindsWord}
-use Rattle.gc_store.specs.Stores.{store_view, slot_counts, IsSound}
+use Rattle.gc_store.specs.Stores.{StoreTables, store_view, slot_counts, IsSound}
 use Rattle.gc_store.proofs.SlotLemmas.{entry_of}
 
 -- How many slots frames have
@@ -65,18 +65,18 @@ popped_less counts counts' (Some n) split some = omega (arith, ap length split, 
 
 -- Steps of an owner on frames
 
-module _ {D : Type 0} (layouts : Layouts) (id : StoreId) (config : HeapConfig) (ids : FunctionIds) (tries : ℕ) (old new : OwnerView D) (are : AreFrames old.roots.frames (length old.roots.slots)) where
+module _ {D : Type 0} (layouts : Layouts) (id : StoreId) (config : HeapConfig) (tables : StoreTables) (tries : ℕ) (old new : OwnerView D) (are : AreFrames old.roots.frames (length old.roots.slots)) where
   abbrev before : StoreView D
-  before = store_view id config ids old tries
+  before = store_view id config tables old tries
 
   abbrev after : StoreView D
-  after = store_view id config ids new tries
+  after = store_view id config tables new tries
 
   -- a frame was opened
   module _ (count : ℕ) (is : new ≡ record old { roots = with_places new.roots (columns.with_frame count old.roots) }) where
     pushed_view : after ≡ with_frame count before
     pushed_view =
-        ap (λ (v : OwnerView D). store_view id config ids v tries) is
+        ap (λ (v : OwnerView D). store_view id config tables v tries) is
         ∙ ap (λ (fs : List (List SlotEntry)). record before { frames = fs }) (frames-pushed count old.roots are)
 
     pub frame_was_pushed : (t : Table D) (a : Account) → HoldsAccount layouts before t a → HoldsAccount layouts after (push_frame count t) a
@@ -102,7 +102,7 @@ module _ {D : Type 0} (layouts : Layouts) (id : StoreId) (config : HeapConfig) (
   module _ (some : 0 < length old.roots.frames) (is : new ≡ record old { roots = with_places new.roots (columns.without_frame old.roots) }) where
     popped_view : after ≡ without_frame before
     popped_view =
-        ap (λ (v : OwnerView D). store_view id config ids v tries) is
+        ap (λ (v : OwnerView D). store_view id config tables v tries) is
         ∙ ap (λ (fs : List (List SlotEntry)). record before { frames = fs }) (frames-popped old.roots are some)
 
     pub frame_was_popped : (t : Table D) (a : Account) → HoldsAccount layouts before t a → (0 < length t.frames) × HoldsAccount layouts after (pop_frame t) a
@@ -142,7 +142,7 @@ module _ {D : Type 0} (layouts : Layouts) (id : StoreId) (config : HeapConfig) (
 
     set_view : after ≡ holds_frames.with_slot index class word new.heap before
     set_view =
-        ap (λ (v : OwnerView D). store_view id config ids v tries) changes.rest
+        ap (λ (v : OwnerView D). store_view id config tables v tries) changes.rest
         ∙ ap (λ (fs : List (List SlotEntry)). record before { heap = new.heap; frames = fs }) (frames-set old.roots are some index (record { class = class; word = word }))
 
     pub slot_was_set : (t : Table D) (place : Placing) (a : Account) (r : Reference) → Holds layouts before t place → IsAccount layouts before place a → IsWord place r word → HoldsAccount layouts after (set_slot index class r t) a

@@ -46,7 +46,7 @@ use Rattle.gc_store.specs.declared.root.GcRootIndex.{GcRootIndex}
 use Rattle.gc_store.specs.declared.root.RootSlot.TheVariants as slot
 use Rattle.gc_store.specs.HostPlaces.{PlacesHost}
 use Rattle.gc_store.specs.HostSteps.{AllocatesHost, MakesHost}
-use Rattle.gc_store.specs.Places.{lacks_ids}
+use Rattle.gc_store.specs.Places.{HasIds}
 use Rattle.gc_store.specs.Making.{BeginsMaking}
 use Rattle.gc_store.proofs.Keeping.{counts_of, Keeps, keeps-trans, keeps-making, keeps-retried, keeps-paused, same_count}
 use Rattle.gc_store.proofs.Preparing.{IsReadyStore, lacks_room, lacks_pages, wants_heap, wants_room, room_found}
@@ -102,7 +102,7 @@ module _ {D : Type 0} (layouts : Layouts) (s : StoreView D) (value : D) (b e : O
   old = made.mid.owner.heap
 
   -- the object that was made stands for the table's
-  made_object : IsMadeObject layouts (with_pages pages t) (naming after.place s.funcs) (host value) old e.owner.heap word
+  made_object : IsMadeObject layouts (with_pages pages t) (naming after.place s.ids) (host value) old e.owner.heap word
   made_object =
       let added = made.adds.adds.added in
       record {
@@ -154,9 +154,12 @@ module _ {D : Type 0} (layouts : Layouts) (s : StoreView D) (v : OwnerView D) (v
   abbrev size : ℕ
   size = external_size layouts
 
-  -- a host object has no function values
-  no_more_ids : lacks_ids (host value) t ≡ false
-  no_more_ids = le-ltb max_entries (length t.funcs) is.holds.holds.funcs.few
+  -- a host object has no function values and no continuations
+  no_more_ids : HasIds (host value) t
+  no_more_ids = record {
+    functions = le-ltb max_entries (length t.interned.funcs) is.holds.holds.interned.funcs.few;
+    conts = le-ltb max_entries (length t.interned.conts) is.holds.holds.interned.conts.few;
+  }
 
   -- one that was made is in the table, under the handle of its root
   pub host_follows : (b : OwnerState D) (index : ℕ) → BeginsMaking layouts s.first due (state_of v limits) b → MadeHost layouts value b e index → (handle : GcRootIndex)

@@ -45,7 +45,7 @@ module _ {D : Type 0} (layouts : Layouts) (s : StoreView D) (t : Table D) (place
   other_told p o h kind in_table none got is differs =
       none_told (at p) (ap (λ (x : Option (Object D)). option_and_then host_value x) in_table ∙ none) (tells.other h got (λ external. differs (sym external ∙ is)))
 
-  object_told : (p : ℕ) (o : Object D) (h : HeapObject) → place p ≡ Some word → get s.heap.content word ≡ Some h → slice_get t.objects p ≡ Some o → Stands layouts t.types (naming place s.funcs) o h → IsHostIdOf s t place (at p) answer
+  object_told : (p : ℕ) (o : Object D) (h : HeapObject) → place p ≡ Some word → get s.heap.content word ≡ Some h → slice_get t.objects p ≡ Some o → Stands layouts t.types (naming place s.ids) o h → IsHostIdOf s t place (at p) answer
   object_told p (struct ty values) h placed got in_table stands = other_told p (struct ty values) h StructRef in_table refl got stands.kind (λ same. absurd (cc))
   object_told p (array ty values) h placed got in_table stands = other_told p (array ty values) h ArrayRef in_table refl got stands.kind (λ same. absurd (cc))
   object_told p (host value) h placed got in_table stands =

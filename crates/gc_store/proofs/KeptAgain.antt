@@ -6,7 +6,7 @@ use Rattle.std.specs.List.{slice_get}
 use Rattle.std.proofs.lemmas.Option.{none-some, same_Some, slice_get-map}
 use Rattle.gc_owner.specs.declared.entry.RootEntry.{RootEntry}
 use Rattle.gc_model.specs.Values.{Value}
-use Rattle.gc_model.specs.Forms.{Names, FunctionIds}
+use Rattle.gc_model.specs.Forms.{Names, InternedIds}
 use Rattle.gc_store.specs.declared.root.RawValue.{RawValue}
 use Rattle.gc_store.specs.declared.root.RawValue.TheVariants as raw
 use Rattle.gc_store.specs.declared.root.RootSlot.{RootSlot}
@@ -16,8 +16,8 @@ use Rattle.gc_store.specs.declared.stored.Stored.{Stored}
 use Rattle.gc_store.specs.declared.stored.Stored.TheVariants as stores
 use Rattle.gc_store.specs.Kept.{IsKept, KeptAs, KeptStands}
 use Rattle.gc_store.specs.Words.{HandleRoots, root_word_at, entry_word, owned_id, owned_word, owned_at}
-use Rattle.gc_store.specs.Values.{raw_functions}
-use Rattle.gc_store.proofs.GivenFunctions.{HaveIds}
+use Rattle.gc_store.specs.Values.{raw_side_values}
+use Rattle.gc_store.proofs.GivenValues.{HaveAllIds}
 use Rattle.gc_store.proofs.Keeping.{generations_of}
 use Rattle.gc_store.proofs.OwnedKept.{KeepsOwned}
 
@@ -55,6 +55,7 @@ IsRooted roots (raw.F32 n) = Unit {0}
 IsRooted roots (raw.F64 n) = Unit {0}
 IsRooted roots (raw.V128 n) = Unit {0}
 IsRooted roots (raw.Func f) = Unit {0}
+IsRooted roots (raw.Cont c) = Unit {0}
 IsRooted roots (raw.Ref class None) = Unit {0}
 IsRooted roots (raw.Ref class (Some handle)) = (word : ℕ) × (root_word_at roots handle.slot handle.generation ≡ Ok word)
 
@@ -66,18 +67,23 @@ rooted_again roots roots' (raw.F32 n) same keeps is = tt
 rooted_again roots roots' (raw.F64 n) same keeps is = tt
 rooted_again roots roots' (raw.V128 n) same keeps is = tt
 rooted_again roots roots' (raw.Func f) same keeps is = tt
+rooted_again roots roots' (raw.Cont c) same keeps is = tt
 rooted_again roots roots' (raw.Ref class None) same keeps is = tt
 rooted_again roots roots' (raw.Ref class (Some handle)) same keeps is = slot_again roots roots' handle.slot handle.generation is.0 same keeps is.1
 
--- such a value is kept, where it has an id if it is a function value
-pub rooted_kept : (ids : FunctionIds) (roots : HandleRoots) (r : RawValue) → HaveIds ids (raw_functions (r ∷ [])) → IsRooted roots r → IsKept ids roots r
+-- such a value is kept, where it has an id if it is a function value or a continuation
+pub rooted_kept : (ids : InternedIds) (roots : HandleRoots) (r : RawValue) → HaveAllIds ids (raw_side_values (r ∷ [])) → IsRooted roots r → IsKept ids roots r
 rooted_kept ids roots (raw.I32 n) have is = (stores.Number (cast_unsigned w32 n), refl)
 rooted_kept ids roots (raw.I64 n) have is = (stores.Number (cast_unsigned w64 n), refl)
 rooted_kept ids roots (raw.F32 n) have is = (stores.Number n, refl)
 rooted_kept ids roots (raw.F64 n) have is = (stores.Number n, refl)
 rooted_kept ids roots (raw.V128 n) have is = (stores.Number n, refl)
 rooted_kept ids roots (raw.Func f) have is =
-    let id = have f (0, omega arith, refl) in
+    let id = have.functions f (0, omega arith, refl) in
+    (stores.Number (id.0 + 1), (id.0 + 1, (record { id = id.0; interned = id.1; code_is = refl }, refl)))
+rooted_kept ids roots (raw.Cont None) have is = (stores.Number 0, (0, (refl, refl)))
+rooted_kept ids roots (raw.Cont (Some c)) have is =
+    let id = have.conts c (0, omega arith, refl) in
     (stores.Number (id.0 + 1), (id.0 + 1, (record { id = id.0; interned = id.1; code_is = refl }, refl)))
 rooted_kept ids roots (raw.Ref class None) have is = (stores.Ref 0, refl)
 rooted_kept ids roots (raw.Ref class (Some handle)) have is = (stores.Ref is.0, (is.0, (is.1, refl)))
@@ -107,22 +113,24 @@ rooted_more roots e (raw.F32 n) is = tt
 rooted_more roots e (raw.F64 n) is = tt
 rooted_more roots e (raw.V128 n) is = tt
 rooted_more roots e (raw.Func f) is = tt
+rooted_more roots e (raw.Cont c) is = tt
 rooted_more roots e (raw.Ref class None) is = tt
 rooted_more roots e (raw.Ref class (Some handle)) is = (is.0, slot_more roots e handle.slot handle.generation is.0 is.1)
 
 -- as it is kept by one more root it was kept before
-kept_before : (ids : FunctionIds) (roots : HandleRoots) (e : RootEntry) (r : RawValue) (x : Stored) → IsRooted roots r → KeptAs ids (with_more roots e) r x → KeptAs ids roots r x
+kept_before : (ids : InternedIds) (roots : HandleRoots) (e : RootEntry) (r : RawValue) (x : Stored) → IsRooted roots r → KeptAs ids (with_more roots e) r x → KeptAs ids roots r x
 kept_before ids roots e (raw.I32 n) x rooted is = is
 kept_before ids roots e (raw.I64 n) x rooted is = is
 kept_before ids roots e (raw.F32 n) x rooted is = is
 kept_before ids roots e (raw.F64 n) x rooted is = is
 kept_before ids roots e (raw.V128 n) x rooted is = is
 kept_before ids roots e (raw.Func f) x rooted is = is
+kept_before ids roots e (raw.Cont c) x rooted is = is
 kept_before ids roots e (raw.Ref class None) x rooted is = is
 kept_before ids roots e (raw.Ref class (Some handle)) x rooted is =
     let words : rooted.0 ≡ is.0 = grind (arith, sym (slot_more roots e handle.slot handle.generation rooted.0 rooted.1) ∙ is.1.0) in
     (rooted.0, (rooted.1, is.1.1 ∙ ap stores.Ref (sym words)))
 
 -- a value that is kept stands for what it stood for, by one more root
-pub stands_more : (ids : FunctionIds) (names : Names) (roots : HandleRoots) (e : RootEntry) (r : RawValue) (v : Value) → IsRooted roots r → KeptStands ids names roots r v → KeptStands ids names (with_more roots e) r v
+pub stands_more : (ids : InternedIds) (names : Names) (roots : HandleRoots) (e : RootEntry) (r : RawValue) (v : Value) → IsRooted roots r → KeptStands ids names roots r v → KeptStands ids names (with_more roots e) r v
 stands_more ids names roots e r v rooted stands x is small = stands x (kept_before ids roots e r x rooted is) small

@@ -5,7 +5,7 @@ use Rattle.std.proofs.lemmas.Bool.{lt-ltb}
 use Rattle.std.proofs.lemmas.Bool.Decides.{nat_tests}
 use Rattle.gc_types.specs.declared.kind.Layouts.{Layouts}
 use Rattle.gc_model.specs.Table.{Table, leave}
-use Rattle.gc_model.specs.Stores.{FunctionIds, StoreView}
+use Rattle.gc_model.specs.Stores.{StoreView}
 use Rattle.gc_model.specs.Words.{Placing}
 use Rattle.gc_model.proofs.HoldsLeave.{without_roots, holds_leave}
 use Rattle.gc_owner.specs.RootColumns.{left_scope}
@@ -15,7 +15,7 @@ use Rattle.gc_policy.proofs.AccountLemmas.{account_kept}
 use Rattle.gc_store.specs.declared.config.HeapConfig.{HeapConfig}
 use Rattle.gc_store.specs.declared.engine.StoreId.{StoreId}
 use Rattle.gc_store.specs.OwnedWords.{HoldsThere}
-use Rattle.gc_store.specs.Stores.{store_view, IsSound}
+use Rattle.gc_store.specs.Stores.{StoreTables, store_view, IsSound}
 use Rattle.gc_store.proofs.Keeping.{counts_of}
 
 -- scope ends are counted alike by the owner and by the table
@@ -28,17 +28,17 @@ counted_alike mark count generation = elim (nat_le count mark) as (λ b. nat_le 
     not_less : count ≤ mark → nat_lt mark count ≡ false
     not_less le = grind (arith, nat_tests, le)
 
-module _ {D : Type 0} (layouts : Layouts) (id : StoreId) (config : HeapConfig) (ids : FunctionIds) (tries : ℕ) (old new : OwnerView D) (mark : ℕ) (changes : ChangesRoots old new (left_scope mark old.roots)) where
+module _ {D : Type 0} (layouts : Layouts) (id : StoreId) (config : HeapConfig) (tables : StoreTables) (tries : ℕ) (old new : OwnerView D) (mark : ℕ) (changes : ChangesRoots old new (left_scope mark old.roots)) where
   abbrev before : StoreView D
-  before = store_view id config ids old tries
+  before = store_view id config tables old tries
 
-  left_view : without_roots new.heap mark before ≡ store_view id config ids new tries
+  left_view : without_roots new.heap mark before ≡ store_view id config tables new tries
   left_view =
       (λ i. record before { heap = new.heap; scoped = take mark old.roots.scoped; generation = counted_alike mark (length old.roots.scoped) old.roots.generation i })
-      ∙ sym (ap (λ (v : OwnerView D). store_view id config ids v tries) changes.rest)
+      ∙ sym (ap (λ (v : OwnerView D). store_view id config tables v tries) changes.rest)
 
   -- the store holds the table without the roots
-  pub holds_left : (t : Table D) (a : Account) → HoldsAccount layouts before t a → HoldsAccount layouts (store_view id config ids new tries) (leave mark t) a
+  pub holds_left : (t : Table D) (a : Account) → HoldsAccount layouts before t a → HoldsAccount layouts (store_view id config tables new tries) (leave mark t) a
   holds_left t a holds =
       subst (λ (s : StoreView D). HoldsAccount layouts s (leave mark t) a) left_view (record {
         place = holds.place;
@@ -47,14 +47,14 @@ module _ {D : Type 0} (layouts : Layouts) (id : StoreId) (config : HeapConfig) (
       })
 
   -- with the objects where they lay
-  pub there_left : (t : Table D) (place : Placing) (a : Account) → HoldsThere layouts before t place a → HoldsThere layouts (store_view id config ids new tries) (leave mark t) place a
+  pub there_left : (t : Table D) (place : Placing) (a : Account) → HoldsThere layouts before t place a → HoldsThere layouts (store_view id config tables new tries) (leave mark t) place a
   there_left t place a there =
       subst (λ (s : StoreView D). HoldsThere layouts s (leave mark t) place a) left_view (
         holds_leave layouts before t place new.heap mark there.0 changes.held,
         account_kept before (without_roots new.heap mark before) place a refl refl changes.held.needs_gc there.1,
       )
 
-  pub sound_left : (counts : List ℕ) → IsSound D layouts counts old before → IsSound D layouts counts new (store_view id config ids new tries)
+  pub sound_left : (counts : List ℕ) → IsSound D layouts counts old before → IsSound D layouts counts new (store_view id config tables new tries)
   sound_left counts sound = record {
     idle = ap (λ (v : OwnerView D). v.idle) changes.rest ∙ sound.idle;
     engine = ap (λ (v : OwnerView D). v.types.engine) changes.rest ∙ sound.engine;

@@ -5,7 +5,8 @@ pub mod Declaring
 pub mod Describing
 pub mod Expanding
 pub mod FrameLemmas
-pub mod GivenFunctions
+pub mod GivenValues
+pub mod KeptPairs
 pub mod Filled
 pub mod GoneRoots
 pub mod EachValue

@@ -13,11 +13,11 @@ use Rattle.gc_heap.specs.Access.{IsReadable}
 use Rattle.gc_heap.specs.Content.{IsHeap}
 use Rattle.gc_heap.specs.Extents.{array_length}
 use Rattle.gc_owner.specs.Tracing.{IsTraced}
-use Rattle.gc_model.specs.Values.{Value, numeric, function, reference, at, Object, struct, array, host, exception}
+use Rattle.gc_model.specs.Values.{Value, at, Object, struct, array, host, exception}
 use Rattle.gc_model.specs.Table.{Table}
 use Rattle.gc_model.specs.Reach.{IsHost}
 use Rattle.gc_model.specs.Stores.{StoreView}
-use Rattle.gc_model.specs.Forms.{Form, Names as Naming, naming, number_at, storage_form, value_form}
+use Rattle.gc_model.specs.Forms.{Form, Names as Naming, naming, number_at, storage_form}
 use Rattle.gc_model.specs.Holds.{Placing, Holds, Stands}
 use Rattle.gc_model.proofs.ObjectShapes.{shape_at}
 use Rattle.gc_model.proofs.ObjectStands.{StandsByShape, value_not_host, LyingValue, shape_value, slot_stands}
@@ -26,7 +26,7 @@ use Rattle.gc_store.specs.declared.root.RootFault.{RootFault}
 use Rattle.gc_store.specs.Roots.{word_of, HasValue}
 use Rattle.gc_store.specs.declared.slot.Slot.{Slot}
 use Rattle.gc_store.specs.declared.stored.Found.{Found}
-use Rattle.gc_store.specs.Kept.{FitsForm, FoundStands, IsFound, IsReadForm}
+use Rattle.gc_store.specs.Kept.{FitsForm, FoundStands, IsFound}
 use Rattle.gc_store.specs.HeldSlots.{FindsAt, FindsHeldSlot, FitsAt, HasShape, IsHeldOf, IsHeldWithSlot, storage_slot}
 use Rattle.gc_store.proofs.SlotPlaces.{bytes_reach, slot_lies, held_size_is, held_small, readable}
 use Rattle.gc_store.proofs.HandleWords.{named_word, never_gone}
@@ -65,31 +65,24 @@ shape_of layouts types names (exception ty tag values) h not_host is = record {
   has = is_exn h is.stands.shape is.stands.count is.kind is.stands.of_kind;
 }
 
--- a slot of the form of a value can be read
-read_form : (v : Value) → IsReadForm (value_form v)
-read_form (numeric kind n) = tt
-read_form (function f) = tt
-read_form (reference class r) = tt
-
 -- The value at an index of the object with that word, as the store's heap has it.
 pub record LyingAt {D : Type 0} (layouts : Layouts) (s : StoreView D) (t : Table D) (place : Placing) (position word : ℕ) (o : Object D) (index : ℕ) (value : Value) : Type 0 where
   pub object : HeapObject
   pub placed : place position ≡ Some word
   pub not_zero : 0 < word
-  pub stands : Stands layouts t.types (naming place s.funcs) o object
-  pub lying : LyingValue layouts t.types (naming place s.funcs) o object index value
+  pub stands : Stands layouts t.types (naming place s.ids) o object
+  pub lying : LyingValue layouts t.types (naming place s.ids) o object index value
   pub shape : Shape
   pub count : ℕ
   pub is : IsHeldOf s.types s.heap word object shape count
   pub slot_is : slice_get (shape_slots layouts shape count) index ≡ Some lying.slot
-  pub read_form : IsReadForm (storage_form lying.slot.storage)
 
 module _ {D : Type 0} (layouts : Layouts) (s : StoreView D) (t : Table D) (place : Placing) (holds : Holds layouts s t place) (handle : GcRootIndex) (index : ℕ) (value : Value) (has : HasValue s t handle index value) where
   pub lying_at : (word : ℕ) → word_of s handle ≡ Ok word → LyingAt layouts s t place has.position word has.object index value
   lying_at word e =
       let named = named_word layouts s t place holds handle (at has.position) word has.named e in
       let held = holds.objects.placed has.position word named.0 in
-      let names = naming place s.funcs in
+      let names = naming place s.ids in
       let same : held.entry ≡ has.object = same_Some held.entry has.object (sym held.in_table ∙ has.object_is) in
       let stands : Stands layouts t.types names has.object held.object = subst (λ (o : Object D). Stands layouts t.types names o held.object) same held.stands in
       let of = shape_of layouts t.types names has.object held.object (value_not_host has.object index value has.value_at) stands in
@@ -108,7 +101,6 @@ module _ {D : Type 0} (layouts : Layouts) (s : StoreView D) (t : Table D) (place
           has = of.has;
         };
         slot_is = slot_stands layouts t.types names has.object held.object of.by index lying.slot lying.is_slot;
-        read_form = subst IsReadForm (sym lying.lies.form) (read_form value);
       }
 
   -- its handle has a word
@@ -147,7 +139,7 @@ module _ {D : Type 0} (layouts : Layouts) (s : StoreView D) (t : Table D) (place
   pub found_stands : (x : Found) (found : Slot) → storage_slot found ≡ lies.lying.slot
       → FindsAt layouts s.heap word (storage_form found.storage) (storage_width found.storage) found.offset x
       → FitsAt layouts s.heap word (storage_form found.storage) (storage_width found.storage) found.offset
-      → FoundStands (naming place s.funcs) x value
+      → FoundStands (naming place s.ids) x value
   found_stands x found same finds fits =
       let slot = lies.lying.slot in
       let at : IsFound (storage_form slot.storage) (number_at (storage_width slot.storage) lies.object.bytes (slot.offset - struct_base layouts)) x =

@@ -17,7 +17,8 @@ use Rattle.gc_types.specs.declared.value.Tag.{Tag}
 use Rattle.gc_types.specs.declared.value.ValType.{ValType}
 use Rattle.gc_view.specs.Heaps.{HeapObject, HeapView}
 use Rattle.gc_view.specs.Sizes.{stored_size}
-use Rattle.gc_view.specs.Slots.{shape_slots, shape_first, shape_size, elements_from}
+use Rattle.gc_view.specs.Slots.{shape_slots, shape_size, elements_from}
+use Rattle.gc_view.proofs.Spacing.{shape_first}
 use Rattle.gc_view.proofs.Layouts.{stored_size-le, fields_end-le, round_up-le, storage_width_positive}
 use Rattle.gc_view.proofs.SlotLemmas.{shape_spaced, slot_range}
 use Rattle.gc_heap.specs.Heap.{new_struct, new_array, array_size}

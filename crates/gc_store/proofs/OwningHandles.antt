@@ -6,7 +6,7 @@ use Rattle.gc_owner.specs.RootColumns.{empty_entry, with_handle_count}
 use Rattle.gc_owner.specs.Owners.{OwnerView}
 use Rattle.gc_model.specs.Table.{Table, Owned}
 use Rattle.gc_model.specs.OwnedRoots.{add_handle, drop_handle}
-use Rattle.gc_model.specs.Stores.{FunctionIds, StoreView}
+use Rattle.gc_model.specs.Stores.{StoreView}
 use Rattle.gc_model.specs.Holds.{Placing, Holds}
 use Rattle.gc_model.proofs.HoldsOwned.{holds_handle_added, holds_handle_dropped}
 use Rattle.gc_policy.specs.Accounts.{Account, HoldsAccount}
@@ -21,7 +21,7 @@ use Rattle.gc_store.specs.declared.root.RootFault.TheVariants as fault
 use Rattle.gc_store.specs.OwnedRoots.{IsHandleOf, IsOfNone, ReleasesHandle}
 use Rattle.gc_store.specs.OwnedWords.{FindsHeldNumber, FindsHeld}
 use Rattle.gc_store.specs.Words.{owned_id, owned_at, FindsOwned, AreRising}
-use Rattle.gc_store.specs.Stores.{store_view, IsSound}
+use Rattle.gc_store.specs.Stores.{StoreTables, store_view, IsSound}
 use Rattle.gc_store.proofs.HandleWords.{same_store}
 use Rattle.gc_store.proofs.Keeping.{counts_of}
 use Rattle.gc_store.proofs.OwnedWords.{owned_here, owned_place, same_item}
@@ -80,35 +80,35 @@ module _ {D : Type 0} (layouts : Layouts) (s : StoreView D) (t : Table D) (place
 
 -- the same, of an owner whose root has another number of handles
 
-module _ {D : Type 0} (layouts : Layouts) (id : StoreId) (config : HeapConfig) (ids : FunctionIds) (tries : ℕ) (old new : OwnerView D) (handle : GcRootIndex) (own : is_of_store (store_view id config ids old tries) handle ≡ true) (i : ℕ) (finds : FindsHeld (store_view id config ids old tries) handle (Some i)) where
+module _ {D : Type 0} (layouts : Layouts) (id : StoreId) (config : HeapConfig) (tables : StoreTables) (tries : ℕ) (old new : OwnerView D) (handle : GcRootIndex) (own : is_of_store (store_view id config tables old tries) handle ≡ true) (i : ℕ) (finds : FindsHeld (store_view id config tables old tries) handle (Some i)) where
   abbrev before : StoreView D
-  before = store_view id config ids old tries
+  before = store_view id config tables old tries
 
   abbrev held : OwnedEntry
   held = get_or old.roots.owned i empty_entry
 
   pub handle_added : (handles : ℕ) → handles ≡ held.handles + 1 → new ≡ record old { roots = with_handle_count i handles old.roots } → (t : Table D) (a : Account) (there_is : HoldsAccount layouts before t a)
-      → HoldsAccount layouts (store_view id config ids new tries) (add_handle (of_root layouts before t there_is.place there_is.holds handle own i finds).0.number t) a
+      → HoldsAccount layouts (store_view id config tables new tries) (add_handle (of_root layouts before t there_is.place there_is.holds handle own i finds).0.number t) a
   handle_added handles is rest t a there_is =
-      subst (λ n. HoldsAccount layouts (store_view id config ids new tries) (add_handle n t) a) (sym (root_number layouts before t there_is.place there_is.holds handle own i finds))
-      (subst (λ (v : OwnerView D). HoldsAccount layouts (store_view id config ids v tries) (add_handle held.number t) a) (sym (rest ∙ ap (λ n. record old { roots = with_handle_count i n old.roots }) is)) (record {
+      subst (λ n. HoldsAccount layouts (store_view id config tables new tries) (add_handle n t) a) (sym (root_number layouts before t there_is.place there_is.holds handle own i finds))
+      (subst (λ (v : OwnerView D). HoldsAccount layouts (store_view id config tables v tries) (add_handle held.number t) a) (sym (rest ∙ ap (λ n. record old { roots = with_handle_count i n old.roots }) is)) (record {
         place = there_is.place;
         holds = holds_handle_added layouts before t there_is.place there_is.holds held (i, finds.1.0, same_item old.roots.owned i held empty_entry finds.1.0) finds.1.1.1;
         account = account_kept before _ there_is.place a refl refl refl there_is.account;
       }))
 
   pub handle_dropped : (handles : ℕ) → handles ≡ held.handles - 1 → new ≡ record old { roots = with_handle_count i handles old.roots } → (t : Table D) (a : Account) (there_is : HoldsAccount layouts before t a)
-      → HoldsAccount layouts (store_view id config ids new tries) (drop_handle (of_root layouts before t there_is.place there_is.holds handle own i finds).0.number t) a
+      → HoldsAccount layouts (store_view id config tables new tries) (drop_handle (of_root layouts before t there_is.place there_is.holds handle own i finds).0.number t) a
   handle_dropped handles is rest t a there_is =
-      subst (λ n. HoldsAccount layouts (store_view id config ids new tries) (drop_handle n t) a) (sym (root_number layouts before t there_is.place there_is.holds handle own i finds))
-      (subst (λ (v : OwnerView D). HoldsAccount layouts (store_view id config ids v tries) (drop_handle held.number t) a) (sym (rest ∙ ap (λ n. record old { roots = with_handle_count i n old.roots }) is)) (record {
+      subst (λ n. HoldsAccount layouts (store_view id config tables new tries) (drop_handle n t) a) (sym (root_number layouts before t there_is.place there_is.holds handle own i finds))
+      (subst (λ (v : OwnerView D). HoldsAccount layouts (store_view id config tables v tries) (drop_handle held.number t) a) (sym (rest ∙ ap (λ n. record old { roots = with_handle_count i n old.roots }) is)) (record {
         place = there_is.place;
         holds = holds_handle_dropped layouts before t there_is.place there_is.holds held (i, finds.1.0, same_item old.roots.owned i held empty_entry finds.1.0) finds.1.1.1;
         account = account_kept before _ there_is.place a refl refl refl there_is.account;
       }))
 
   -- the store is sound where it holds some table so
-  pub sound_changed : (counts : List ℕ) (handles : ℕ) → new ≡ record old { roots = with_handle_count i handles old.roots } → IsSound D layouts counts old before → (t : Table D) (a : Account) → HoldsAccount layouts (store_view id config ids new tries) t a → IsSound D layouts counts new (store_view id config ids new tries)
+  pub sound_changed : (counts : List ℕ) (handles : ℕ) → new ≡ record old { roots = with_handle_count i handles old.roots } → IsSound D layouts counts old before → (t : Table D) (a : Account) → HoldsAccount layouts (store_view id config tables new tries) t a → IsSound D layouts counts new (store_view id config tables new tries)
   sound_changed counts handles rest sound t a holds = record {
     idle = ap (λ (v : OwnerView D). v.idle) rest ∙ sound.idle;
     engine = ap (λ (v : OwnerView D). v.types.engine) rest ∙ sound.engine;

@@ -15,7 +15,7 @@ use Rattle.gc_model.specs.Values.{Reference}
 use Rattle.gc_model.specs.Table.{Table, Owned}
 use Rattle.gc_model.specs.OwnedRoots.{own, owned_full}
 use Rattle.gc_model.specs.RootPoints.{OwnedBy}
-use Rattle.gc_model.specs.Stores.{FunctionIds, StoreView}
+use Rattle.gc_model.specs.Stores.{StoreView}
 use Rattle.gc_model.specs.Holds.{Placing, IsWord, Holds}
 use Rattle.gc_model.proofs.Members.{map_among, among_map, pairs_map}
 use Rattle.gc_model.proofs.OwnedRoots.{trimmed_held}
@@ -32,7 +32,7 @@ use Rattle.gc_store.specs.Roots.{owned_handle, is_of_store, word_of, IsRootWord,
 use Rattle.gc_store.specs.OwnedRoots.{MakesOwned}
 use Rattle.gc_store.proofs.HandleWords.{word_of-wrong, names_nothing}
 use Rattle.gc_store.specs.OwnedWords.{HoldsThere, IsTrimmed, AddsOwned, OwnsWord, owned_is_full}
-use Rattle.gc_store.specs.Stores.{store_view, IsSound}
+use Rattle.gc_store.specs.Stores.{StoreTables, store_view, IsSound}
 use Rattle.gc_store.proofs.Keeping.{counts_of}
 
 -- Lists of rising numbers, of which one has those of the other, are no longer
@@ -100,17 +100,17 @@ owns_left s n is fits free = number_left (nat_le s.max_owned (length s.owned)) s
 
 -- An owner was trimmed
 
-module _ {D : Type 0} (layouts : Layouts) (id : StoreId) (config : HeapConfig) (ids : FunctionIds) (tries : ℕ) (old new : OwnerView D) (trims : Trims layouts old new) where
+module _ {D : Type 0} (layouts : Layouts) (id : StoreId) (config : HeapConfig) (tables : StoreTables) (tries : ℕ) (old new : OwnerView D) (trims : Trims layouts old new) where
   abbrev before : StoreView D
-  before = store_view id config ids old tries
+  before = store_view id config tables old tries
 
   abbrev after : StoreView D
-  after = store_view id config ids new tries
+  after = store_view id config tables new tries
 
   -- so the store holds the same table
   pub trimmed_there : (t : Table D) (place : Placing) (a : Account) → HoldsThere layouts before t place a → HoldsThere layouts after t place a
   trimmed_there t place a there = (
-    subst (λ (v : OwnerView D). Holds layouts (store_view id config ids v tries) t place) (sym trims.changes.rest) (holds_trimmed layouts before t place there.0 new.heap trims.changes.held),
+    subst (λ (v : OwnerView D). Holds layouts (store_view id config tables v tries) t place) (sym trims.changes.rest) (holds_trimmed layouts before t place there.0 new.heap trims.changes.held),
     account_kept before after place a (ap (λ (v : OwnerView D). v.last) trims.changes.rest) refl trims.changes.held.needs_gc there.1,
   )
 
@@ -132,16 +132,16 @@ module _ {D : Type 0} (layouts : Layouts) (id : StoreId) (config : HeapConfig) (
 
 -- An owner made an owned root
 
-module _ {D : Type 0} (layouts : Layouts) (id : StoreId) (config : HeapConfig) (ids : FunctionIds) (tries : ℕ) (old new : OwnerView D) (word : ℕ) (owns : OwnsRoot old new word) where
+module _ {D : Type 0} (layouts : Layouts) (id : StoreId) (config : HeapConfig) (tables : StoreTables) (tries : ℕ) (old new : OwnerView D) (word : ℕ) (owns : OwnsRoot old new word) where
   abbrev store_before : StoreView D
-  store_before = store_view id config ids old tries
+  store_before = store_view id config tables old tries
 
   abbrev store_after : StoreView D
-  store_after = store_view id config ids new tries
+  store_after = store_view id config tables new tries
 
   account_owned : (t : Table D) (place : Placing) (a : Account) (r : Reference) → HoldsThere layouts store_before t place a → IsWord place r word → 0 < word → HoldsAccount layouts store_after (own r t) a
   account_owned t place a r there is positive =
-      subst (λ (v : OwnerView D). HoldsAccount layouts (store_view id config ids v tries) (own r t) a) (sym owns.rest) (record {
+      subst (λ (v : OwnerView D). HoldsAccount layouts (store_view id config tables v tries) (own r t) a) (sym owns.rest) (record {
         place = place;
         holds = holds_owned layouts store_before t place there.0 new.heap (record { number = old.roots.owns; handles = 1; word = word }) r owns.held refl refl is positive;
         account = account_kept store_before _ place a refl refl owns.held.needs_gc there.1;
@@ -160,11 +160,11 @@ module _ {D : Type 0} (layouts : Layouts) (id : StoreId) (config : HeapConfig) (
 
 -- whether it was made or memory was wanting
 
-module _ {D : Type 0} (layouts : Layouts) (id : StoreId) (config : HeapConfig) (ids : FunctionIds) (tries : ℕ) (old new : OwnerView D) (word : ℕ) where
+module _ {D : Type 0} (layouts : Layouts) (id : StoreId) (config : HeapConfig) (tables : StoreTables) (tries : ℕ) (old new : OwnerView D) (word : ℕ) where
   pub sound_either : {E : Type 0} (result : Result (Unit {0}) E) (counts : List ℕ) → OnOk result (OwnsRoot old new word) → OnErr result (new ≡ record old { roots = with_places new.roots old.roots })
-      → IsSound D layouts counts old (store_view id config ids old tries) → IsRootWord D layouts (store_view id config ids old tries) word → IsSound D layouts counts new (store_view id config ids new tries)
-  sound_either (Ok done) counts ok err sound is = sound_owned layouts id config ids tries old new word ok counts sound is
-  sound_either (Err e) counts ok err sound is = subst (λ (v : OwnerView D). IsSound D layouts counts v (store_view id config ids v tries)) (sym err) (record {
+      → IsSound D layouts counts old (store_view id config tables old tries) → IsRootWord D layouts (store_view id config tables old tries) word → IsSound D layouts counts new (store_view id config tables new tries)
+  sound_either (Ok done) counts ok err sound is = sound_owned layouts id config tables tries old new word ok counts sound is
+  sound_either (Err e) counts ok err sound is = subst (λ (v : OwnerView D). IsSound D layouts counts v (store_view id config tables v tries)) (sym err) (record {
     idle = sound.idle;
     engine = sound.engine;
     number = sound.number;
@@ -174,13 +174,13 @@ module _ {D : Type 0} (layouts : Layouts) (id : StoreId) (config : HeapConfig) (
     holds = sound.holds;
   })
 
-  pub added_ok : {E : Type 0} (result : Result (Unit {0}) E) → OnOk result (OwnsRoot old new word) → 0 < word → OnOk result (AddsOwned layouts (store_view id config ids old tries) word (store_view id config ids new tries))
-  added_ok (Ok done) ok positive = λ t place a r there is. account_owned layouts id config ids tries old new word ok t place a r there is positive
+  pub added_ok : {E : Type 0} (result : Result (Unit {0}) E) → OnOk result (OwnsRoot old new word) → 0 < word → OnOk result (AddsOwned layouts (store_view id config tables old tries) word (store_view id config tables new tries))
+  added_ok (Ok done) ok positive = λ t place a r there is. account_owned layouts id config tables tries old new word ok t place a r there is positive
   added_ok (Err e) ok positive = tt
 
-  pub added_err : {E : Type 0} (result : Result (Unit {0}) E) → OnErr result (new ≡ record old { roots = with_places new.roots old.roots }) → OnErr result (store_view id config ids new tries ≡ store_view id config ids old tries)
+  pub added_err : {E : Type 0} (result : Result (Unit {0}) E) → OnErr result (new ≡ record old { roots = with_places new.roots old.roots }) → OnErr result (store_view id config tables new tries ≡ store_view id config tables old tries)
   added_err (Ok done) err = tt
-  added_err (Err e) err = ap (λ (v : OwnerView D). store_view id config ids v tries) err
+  added_err (Err e) err = ap (λ (v : OwnerView D). store_view id config tables v tries) err
 
 -- the answer, once it was added
 pub owns_word : {D : Type 0} (layouts : Layouts) (s new : StoreView D) (word : ℕ) (made : GcRootIndex) → made ≡ owned_handle new s.owns → owned_is_full s ≡ false → IsTrimmed s → AddsOwned layouts s word new

@@ -6,7 +6,7 @@ use Rattle.gc_owner.specs.Owners.{OwnerView, ChangesRoots}
 use Rattle.gc_model.specs.Values.{Reference, at, Object}
 use Rattle.gc_model.specs.Table.{Table, push}
 use Rattle.gc_model.specs.Pending.{with_pending, take_pending}
-use Rattle.gc_model.specs.Stores.{FunctionIds, StoreView}
+use Rattle.gc_model.specs.Stores.{StoreView}
 use Rattle.gc_model.specs.Holds.{Placing, IsWord, Holds, IsException, ThrownBy}
 use Rattle.gc_model.proofs.HoldsPending.{holds_pending_set}
 use Rattle.gc_policy.specs.Accounts.{Account, IsAccount, HoldsAccount}
@@ -20,7 +20,7 @@ use Rattle.gc_store.specs.declared.root.RootedObject.{RootedObject}
 use Rattle.gc_store.specs.declared.root.RootedObject.TheVariants as rooted_object
 use Rattle.gc_store.specs.Handles.{PushesRoot}
 use Rattle.gc_store.specs.Roots.{handle_of, word_of, is_of_store, IsRootWord, IsObject, IsReference}
-use Rattle.gc_store.specs.Stores.{store_view, slot_counts, IsSound, IsSameStore}
+use Rattle.gc_store.specs.Stores.{StoreTables, store_view, slot_counts, IsSound, IsSameStore}
 use Rattle.gc_store.specs.Thrown.{SetsPending, AnswersPending}
 use Rattle.gc_store.proofs.HandleWords.{word_of-wrong, names_nothing}
 
@@ -50,17 +50,17 @@ pub none_thrown : {D : Type 0} (objects : List (Object D)) (place : Placing) →
 none_thrown objects place = record { same_word = refl; thrown = λ r e. absurd (none-some r e) }
 
 -- an owner has another word of a pending exception
-module _ {D : Type 0} (layouts : Layouts) (id : StoreId) (config : HeapConfig) (ids : FunctionIds) (tries : ℕ) (old new : OwnerView D) (word : ℕ) (changes : ChangesRoots old new (record old.roots { pending = word })) where
+module _ {D : Type 0} (layouts : Layouts) (id : StoreId) (config : HeapConfig) (tables : StoreTables) (tries : ℕ) (old new : OwnerView D) (word : ℕ) (changes : ChangesRoots old new (record old.roots { pending = word })) where
   abbrev before : StoreView D
-  before = store_view id config ids old tries
+  before = store_view id config tables old tries
 
   abbrev after : StoreView D
-  after = store_view id config ids new tries
+  after = store_view id config tables new tries
 
   -- so the store holds the table with that one pending, and the same account
   pub pending_was_set : (t : Table D) (place : Placing) (a : Account) (pending : Option Reference) → Holds layouts before t place → IsAccount layouts before place a → ThrownBy t.objects place pending word → HoldsAccount layouts after (with_pending pending t) a
   pending_was_set t place a pending holds account thrown =
-      subst (λ (v : OwnerView D). HoldsAccount layouts (store_view id config ids v tries) (with_pending pending t) a) (sym changes.rest) (record {
+      subst (λ (v : OwnerView D). HoldsAccount layouts (store_view id config tables v tries) (with_pending pending t) a) (sym changes.rest) (record {
         place = place;
         holds = holds_pending_set layouts before t place pending word new.heap holds thrown changes.held;
         account = account_kept before _ place a refl refl changes.held.needs_gc account;
@@ -72,7 +72,7 @@ module _ {D : Type 0} (layouts : Layouts) (id : StoreId) (config : HeapConfig) (
     idle = ap (λ (v : OwnerView D). v.idle) changes.rest ∙ sound.idle;
     engine = ap (λ (v : OwnerView D). v.types.engine) changes.rest ∙ sound.engine;
     number = ap (λ (v : OwnerView D). v.types.number) changes.rest ∙ sound.number;
-    frames = sound.frames ∙ ap (λ (v : OwnerView D). slot_counts (store_view id config ids v tries).frames) (sym changes.rest);
+    frames = sound.frames ∙ ap (λ (v : OwnerView D). slot_counts (store_view id config tables v tries).frames) (sym changes.rest);
     table = with_pending pending sound.table;
     account = sound.account;
     holds = pending_was_set sound.table sound.holds.place sound.account pending sound.holds.holds sound.holds.account thrown;

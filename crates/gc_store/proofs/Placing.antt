@@ -1,10 +1,9 @@
 -- An object that was made and got its values is the table's.
-use Rattle.std.proofs.Common.{◌≡◌, inl, inr, ℕ, ◌+◌, ◌-◌, ◌^◌, ◌<◌, min, Bool, true, false, List, [], ◌∷◌, ◌++◌, length, Option, Some, None, slice_index_or, sym, ap, ◌∙◌, refl, subst, arith, le-leb, ◌≤◌}
+use Rattle.std.proofs.Common.{◌≡◌, inl, inr, ℕ, ◌+◌, ◌-◌, ◌^◌, ◌<◌, min, Bool, true, false, List, [], ◌∷◌, ◌++◌, length, Some, None, slice_index_or, sym, ap, ◌∙◌, refl, subst, arith, le-leb, ◌≤◌}
 use Rattle.std.specs.FinMap.{get}
 use Rattle.std.proofs.lemmas.List.{length-append}
 use Rattle.std.proofs.lemmas.Option.{slice_get_within}
 use Rattle.gc_types.specs.declared.kind.Layouts.{Layouts}
-use Rattle.gc_types.specs.declared.value.Func.{Func}
 use Rattle.gc_types.specs.declared.kind.Layouts.TheVariants.{Null, Counting, Copying}
 use Rattle.gc_types.specs.declared.kind.VMGcKind.TheVariants.{ArrayRef, ExnRef}
 use Rattle.gc_types.specs.Declarations.{Declaration, Shape, TypeTable, struct_of, array_of, exn_of, func_of}
@@ -26,8 +25,8 @@ use Rattle.gc_model.specs.Allocation.{Limits, too_large, FitsIn, GetsPages}
 use Rattle.gc_view.specs.Heaps.{HeapView, HeapObject}
 use Rattle.gc_view.proofs.Content.{get-put_other}
 use Rattle.gc_model.specs.Stores.{StoreView}
-use Rattle.gc_model.specs.Forms.{FunctionIds, naming}
-use Rattle.gc_model.specs.Functions.{FunctionsBy, object_functions, with_functions}
+use Rattle.gc_model.specs.Forms.{naming}
+use Rattle.gc_model.specs.SideValues.{InternedBy, InternedIds, SideValues, side_values, with_side_values}
 use Rattle.gc_model.specs.Holds.{Placing, Holds}
 use Rattle.gc_model.proofs.Fitting.{fits-form}
 use Rattle.gc_model.proofs.HoldsInterned.{with_ids, holds_interned}
@@ -58,13 +57,13 @@ use Rattle.gc_store.specs.declared.root.RootSlot.TheVariants as slot
 use Rattle.gc_store.specs.declared.request.Place.TheVariants as place
 use Rattle.gc_store.specs.Filling.{asked_type, front_of, ContentsFit, ContentsStand, FillsBy, IsToFill}
 use Rattle.gc_store.specs.HeldSlots.{HasShape}
-use Rattle.gc_store.specs.Interning.{Interns, given_values}
+use Rattle.gc_store.specs.Interning.{InternsAll, given_values}
 use Rattle.gc_store.specs.Kept.{KeptStands}
 use Rattle.gc_store.specs.Making.{BeginsMaking}
-use Rattle.gc_store.specs.Places.{PlacesObject, lacks_ids}
+use Rattle.gc_store.specs.Places.{PlacesObject, HasIds}
 use Rattle.gc_store.specs.Stores.{is_full}
-use Rattle.gc_store.specs.Values.{RawStands, raw_functions}
-use Rattle.gc_store.proofs.GivenFunctions.{HaveIds}
+use Rattle.gc_store.specs.Values.{RawStands, raw_side_values}
+use Rattle.gc_store.proofs.GivenValues.{HaveAllIds, held_all, keeps_all}
 use Rattle.gc_store.proofs.Keeping.{counts_of, Keeps, keeps-making, keeps-retried, keeps-trans, same_count}
 use Rattle.gc_store.specs.Roots.{NamesReference}
 use Rattle.gc_store.specs.Words.{HandleRoots, handle_roots, AreRising, owned_id}
@@ -114,6 +113,7 @@ raw_after s after t pages engine number (raw.F32 n) v stands = stands
 raw_after s after t pages engine number (raw.F64 n) v stands = stands
 raw_after s after t pages engine number (raw.V128 n) v stands = stands
 raw_after s after t pages engine number (raw.Func f) v stands = stands
+raw_after s after t pages engine number (raw.Cont c) v stands = stands
 raw_after s after t pages engine number (raw.Ref class None) v stands = stands
 raw_after s after t pages engine number (raw.Ref class (Some handle)) v stands = record {
   root = stands.root;
@@ -136,7 +136,7 @@ asked_front layouts (place.Exn ty tag) shape before after front = front
 asked_front layouts (place.Array ty count) shape before after front = tt
 
 -- One more object is in the owner's heap, with values that stand for what was given, and a root.
-pub record Creates {D : Type 0} (layouts : Layouts) (types : List Declaration) (ids : FunctionIds) (request : Place) (given : Contents) (new : IsNew D layouts types request) (b e : OwnerState D) (index : ℕ) : Type 0 where
+pub record Creates {D : Type 0} (layouts : Layouts) (types : List Declaration) (ids : InternedIds) (request : Place) (given : Contents) (new : IsNew D layouts types request) (b e : OwnerState D) (index : ℕ) : Type 0 where
   pub mid : OwnerState D
   pub retried : Retry (owner_rules layouts (shape_size layouts new.shape new.count)) b true mid
   pub added : OwnerView D
@@ -184,7 +184,7 @@ module _ {D : Type 0} (layouts : Layouts) (s : StoreView D) (v : OwnerView D) (r
   begun due due_is b begins = beginning_follows layouts counted start (count_try before) shows s.alloc_counter due (due_is ∙ ap (λ (n : ℕ). is_due s.alloc_counter (min (n + 1) (2 ^ 64 - 1))) is.holds.account.tries) begins.made b begins.begins begins.dues
 
   -- The object that was added may get its values.
-  pub may_fill : (ids : FunctionIds) → HaveIds ids (raw_functions (given_values request given)) → (due : Bool) (b : OwnerState D) → BeginsMaking layouts s.first due start b → (e : OwnerState D) (index : ℕ) (made : AllocatesRooted layouts new.blank size b e index)
+  pub may_fill : (ids : InternedIds) → HaveAllIds ids (raw_side_values (given_values request given)) → (due : Bool) (b : OwnerState D) → BeginsMaking layouts s.first due start b → (e : OwnerState D) (index : ℕ) (made : AllocatesRooted layouts new.blank size b e index)
       → IsToFill layouts e.owner made.adds.word (asked_type request) (ContentsFit ids request given) new.blank new.shape new.count
   may_fill ids have due b begins e index made =
       let keeps : Keeps v made.mid.owner = keeps-trans v b.owner made.mid.owner (keeps-making layouts s.first due start b begins) (keeps-retried layouts size b true made.mid made.retried) in
@@ -207,7 +207,7 @@ module _ {D : Type 0} (layouts : Layouts) (s : StoreView D) (v : OwnerView D) (r
       }
 
   -- its function values were interned
-  module _ (ids : FunctionIds) (interned : Interns s.funcs ids (raw_functions (given_values request given))) where
+  module _ (ids : InternedIds) (interned : InternsAll s.ids ids (raw_side_values (given_values request given))) where
     -- what is given stands for the same values by the roots with the new one
     stand_after : (due : Bool) (b : OwnerState D) → BeginsMaking layouts s.first due start b → (e : OwnerState D) (index : ℕ) (made : Creates layouts v.types.declarations ids request given new b e index) (pages : ℕ) (place : Placing) → Holds layouts (shown counted made.mid.owner) (with_pages pages t) place
         → StandsFor layouts (shown s v) t ids (naming place ids) (handle_roots made.added.roots)
@@ -227,10 +227,10 @@ module _ {D : Type 0} (layouts : Layouts) (s : StoreView D) (v : OwnerView D) (r
           raw_form_is = raw_form_is (shown s v) t r value stands ∙ sym form;
         }
 
-    module _ (o : Object D) (for : AsksFor layouts (shown s v) t request given new.shape new.count o) (functions : (known : List (Option Func)) → with_functions (raw_functions (given_values request given)) known ≡ with_functions (object_functions o) known) where
+    module _ (o : Object D) (for : AsksFor layouts (shown s v) t request given new.shape new.count o) (same_values : (known : SideValues) → with_side_values (raw_side_values (given_values request given)) known ≡ with_side_values (side_values (object_values o)) known) where
       -- the object that was made stands for the table's
       made_object : (due : Bool) (b : OwnerState D) → BeginsMaking layouts s.first due start b → (e : OwnerState D) (index : ℕ) (made : Creates layouts v.types.declarations ids request given new b e index) (pages : ℕ) (place : Placing) → Holds layouts (shown counted made.mid.owner) (with_pages pages t) place
-          → IsMadeObject layouts (intern (object_functions o) (with_pages pages t)) (naming place ids) o made.mid.owner.heap e.owner.heap made.adds.word
+          → IsMadeObject layouts (intern (object_values o) (with_pages pages t)) (naming place ids) o made.mid.owner.heap e.owner.heap made.adds.word
       made_object due b begins e index made pages place after =
           let word : ℕ = made.adds.word in
           let added = made.adds.adds.added in
@@ -258,13 +258,13 @@ module _ {D : Type 0} (layouts : Layouts) (s : StoreView D) (v : OwnerView D) (r
       owner_is : (b e : OwnerState D) (index : ℕ) (made : Creates layouts v.types.declarations ids request given new b e index) → e.owner ≡ record made.mid.owner { heap = e.owner.heap; roots = with_scoped made.adds.word made.mid.owner.roots }
       owner_is b e index made = made.fills.rewrites.rest ∙ ap (λ (x : OwnerView D). record x { heap = e.owner.heap }) made.adds.rest
 
-      module _ (small : too_large layouts size ≡ false) (room : is_full (shown s v) ≡ false) (has_ids : lacks_ids o t ≡ false) where
+      module _ (small : too_large layouts size ≡ false) (room : is_full (shown s v) ≡ false) (has_ids : HasIds o t) where
         not_full : roots_full t ≡ false
         not_full = sym (full_is layouts (shown s v) t is.holds.place is.holds.holds) ∙ room
 
-        -- the ids are those of the function values with the object's
-        by : FunctionsBy t.funcs s.funcs → FunctionsBy (with_functions (object_functions o) t.funcs) ids
-        by funcs = subst (λ (fs : List (Option Func)). FunctionsBy fs ids) (functions t.funcs) (interned.held t.funcs funcs)
+        -- the ids are those of what was interned with the object's
+        by : InternedBy t.interned s.ids → InternedBy (with_side_values (side_values (object_values o)) t.interned) ids
+        by before = subst (λ (x : SideValues). InternedBy x ids) (same_values t.interned) (held_all s.ids ids (raw_side_values (given_values request given)) t.interned interned before)
 
         -- the table with the object is held, with its root pushed
         made_holds : (due : Bool) (b : OwnerState D) → BeginsMaking layouts s.first due start b → (e : OwnerState D) (index : ℕ) (made : Creates layouts v.types.declarations ids request given new b e index) (pages : ℕ) (account : Account) → HoldsAccount layouts (shown counted made.mid.owner) (with_pages pages t) account
@@ -275,8 +275,8 @@ module _ {D : Type 0} (layouts : Layouts) (s : StoreView D) (v : OwnerView D) (r
             subst (λ (x : OwnerView D). HoldsAccount layouts (with_ids ids (shown counted x)) (make o (with_pages pages t)) (with_held layouts (length t.objects) word account)) (sym (owner_is b e index made))
             (record {
               place = placed_at after.place (length t.objects) word;
-              holds = holds_make layouts (with_ids ids (shown counted made.mid.owner)) (intern (object_functions o) (with_pages pages t)) after.place o e.owner.heap word
-                  (holds_interned layouts (shown counted made.mid.owner) (with_pages pages t) after.place (object_functions o) ids after.holds interned.keeps (by after.holds.funcs)) object for.not_host refl not_full;
+              holds = holds_make layouts (with_ids ids (shown counted made.mid.owner)) (intern (object_values o) (with_pages pages t)) after.place o e.owner.heap word
+                  (holds_interned layouts (shown counted made.mid.owner) (with_pages pages t) after.place (object_values o) ids after.holds (keeps_all s.ids ids (raw_side_values (given_values request given)) interned) (by after.holds.interned)) object for.not_host refl not_full;
               account = record {
                 held = held_more after.place account.held (length t.objects) word (λ p w placed. let held = after.holds.objects.placed p w placed in slice_get_within t.objects p held.entry held.in_table) after.account.held;
                 places = λ p. told_more layouts account.places after.place (length t.objects) word p (after.account.places p);

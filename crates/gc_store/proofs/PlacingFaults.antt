@@ -23,7 +23,7 @@ use Rattle.gc_policy.specs.Policy as policy
 use Rattle.gc_policy.specs.Policy.{PolicyState, policy_state, count_try, Prepares, Prepared}
 use Rattle.gc_policy.specs.Shown.{shown}
 use Rattle.gc_store.specs.Making.{BeginsMaking, MakesRooted}
-use Rattle.gc_store.specs.Places.{lacks_ids, Places, LacksPlace, MayGetPages, bytes_of}
+use Rattle.gc_store.specs.Places.{HasIds, Places, LacksPlace, MayGetPages, bytes_of}
 use Rattle.gc_store.specs.Stores.{is_full}
 use Rattle.gc_policy.proofs.CountedTries.{counted_store, counted_holds}
 use Rattle.gc_policy.proofs.KeptPlaces.{lacks-stay}
@@ -52,7 +52,7 @@ pub record FollowsFault {D : Type 0} (layouts : Layouts) (s : StoreView D) (o : 
   pub holds : HoldsAccount layouts (shown (counted_store s) e.owner) table account
 
 module _ {D : Type 0} (layouts : Layouts) (s : StoreView D) (v : OwnerView D) (request : Place) (given : Contents) (new : IsNew D layouts v.types.declarations request) (limits : Limits) (t : Table D) (a : Account) (is : IsStart layouts s v t a) (asked : Asks layouts (shown s v) t request given new)
-    (o : Object D) (for : AsksFor layouts (shown s v) t request given new.shape new.count o) (small : too_large layouts (shape_size layouts new.shape new.count) ≡ false) (room : is_full (shown s v) ≡ false) (has_ids : lacks_ids o t ≡ false) where
+    (o : Object D) (for : AsksFor layouts (shown s v) t request given new.shape new.count o) (small : too_large layouts (shape_size layouts new.shape new.count) ≡ false) (room : is_full (shown s v) ≡ false) (has_ids : HasIds o t) where
   abbrev p : PolicyState D
   p = policy_state t a limits
 
@@ -126,6 +126,7 @@ module _ {D : Type 0} (layouts : Layouts) (s : StoreView D) (v : OwnerView D) (r
 
     pub fault_follows : (f : PlaceFault) → MakesRooted layouts new.blank size s.first due h e (Err f) → FollowsFault layouts s o p e f
     fault_follows fault.FuncTableFull makes = absurd makes
+    fault_follows fault.ContTableFull makes = absurd makes
     fault_follows fault.TooLarge makes = absurd (cc (sym small ∙ too_large_is layouts size makes))
     fault_follows fault.RootsFull makes = absurd makes
     fault_follows (fault.HeapOutOfMemory f) (inl (no_pages, asked)) = let places = no_pages_follows f.bytes_needed no_pages asked in record { places = places; table = _; account = _; holds = places.holds }
@@ -167,6 +168,7 @@ module _ {D : Type 0} (layouts : Layouts) (s : StoreView D) (v : OwnerView D) (r
 -- what a refusal leaves of the rest of the owner
 pub fault_keeps : {D : Type 0} (layouts : Layouts) (o : HeapObject) (size first : ℕ) (due : Bool) (s e : OwnerState D) (f : PlaceFault) → too_large layouts size ≡ false → MakesRooted layouts o size first due s e (Err f) → KeepsRest s.owner e.owner
 fault_keeps layouts o size first due s e fault.FuncTableFull small makes = absurd makes
+fault_keeps layouts o size first due s e fault.ContTableFull small makes = absurd makes
 fault_keeps layouts o size first due s e fault.TooLarge small makes = absurd (cc (sym small ∙ too_large_is layouts size makes))
 fault_keeps layouts o size first due s e fault.RootsFull small makes = absurd makes
 fault_keeps {D} layouts o size first due s e (fault.HeapOutOfMemory f) small (inl (no_pages, asked)) = record { spare = (let same = ap (λ (v : OwnerView D). v.roots.spare + length v.roots.scoped) no_pages.same in omega (arith, same)); idle = ap (λ (v : OwnerView D). v.idle) no_pages.same; types = ap (λ (v : OwnerView D). v.types) no_pages.same; counts = ap counts_of no_pages.same }

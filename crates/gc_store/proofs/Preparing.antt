@@ -28,7 +28,7 @@ use Rattle.gc_policy.proofs.RootsShown.{SlotsInFrames}
 use Rattle.gc_store.specs.declared.root.GcRootIndex.{GcRootIndex}
 use Rattle.gc_store.specs.declared.root.RootSlot.TheVariants as slot
 use Rattle.gc_store.specs.Making.{BeginsMaking}
-use Rattle.gc_store.specs.Places.{PlacesObject, lacks_ids, LacksPlace, WantsPlace, MayGetPages, bytes_of}
+use Rattle.gc_store.specs.Places.{PlacesObject, HasIds, LacksPlace, WantsPlace, MayGetPages, bytes_of}
 use Rattle.gc_store.proofs.SpareLemmas.{holds_roomy}
 
 -- an owner that is ready, whose store holds a table
@@ -54,7 +54,7 @@ ends_lacking rules s e ok (after_refusal lacks first grows collects ends) none =
 
 -- an object of so many bytes is to be made, which isn't too large, and whose root may be pushed
 module _ {D : Type 0} (layouts : Layouts) (s : StoreView D) (v : OwnerView D) (limits : Limits) (t : Table D) (a : Account) (is : IsReadyStore layouts s v t a) (due : Bool) (due_is : due ≡ is_due s.alloc_counter (min (s.tries + 1) (2 ^ 64 - 1)))
-    (o : Object D) (size : ℕ) (sized : size ≡ bytes_of layouts o t) (small : too_large layouts size ≡ false) (full : roots_full t ≡ false) (has_ids : lacks_ids o t ≡ false) where
+    (o : Object D) (size : ℕ) (sized : size ≡ bytes_of layouts o t) (small : too_large layouts size ≡ false) (full : roots_full t ≡ false) (has_ids : HasIds o t) where
   abbrev p : PolicyState D
   p = policy_state t a limits
 

@@ -5,7 +5,7 @@ use Rattle.gc_model.specs.Values.{Reference, null, small, at}
 use Rattle.gc_model.specs.Table.{Table, push}
 use Rattle.gc_model.specs.Live.{roots_full}
 use Rattle.gc_view.specs.Heaps.{HeapView, SameHeld}
-use Rattle.gc_model.specs.Stores.{FunctionIds, StoreView}
+use Rattle.gc_model.specs.Stores.{StoreView}
 use Rattle.gc_model.specs.Holds.{Placing, IsWord, Holds}
 use Rattle.gc_model.proofs.HoldsPush.{holds_push}
 use Rattle.gc_heap.specs.Collection.{IsWordOf}
@@ -21,7 +21,7 @@ use Rattle.gc_store.specs.Roots.{IsRootWord}
 use Rattle.gc_store.specs.Handles.{PushesRoot}
 use Rattle.gc_store.specs.OwnedWords.{HoldsThere}
 use Rattle.gc_store.specs.Staying.{OnlyAdds}
-use Rattle.gc_store.specs.Stores.{store_view, is_full, IsSound}
+use Rattle.gc_store.specs.Stores.{StoreTables, store_view, is_full, IsSound}
 
 -- the store may push a root exactly where the table may
 pub full_is : {D : Type 0} (layouts : Layouts) (s : StoreView D) (t : Table D) (place : Placing) → Holds layouts s t place → is_full s ≡ roots_full t
@@ -46,15 +46,15 @@ pub record PushesWord {D : Type 0} (old room new : OwnerView D) (word : ℕ) : T
 abbrev pushed_owner : {D : Type 0} → RootsView → ℕ → OwnerView D → OwnerView D
 pushed_owner room word v = record v { heap = raised v.heap word; roots = with_scoped word (with_room room v.roots) }
 
-module _ {D : Type 0} (layouts : Layouts) (id : StoreId) (config : HeapConfig) (ids : FunctionIds) (tries : ℕ) (old room new : OwnerView D) (word : ℕ) (pushes : PushesWord old room new word) (positive : 0 < word) (free : is_full (store_view id config ids old tries) ≡ false) where
+module _ {D : Type 0} (layouts : Layouts) (id : StoreId) (config : HeapConfig) (tables : StoreTables) (tries : ℕ) (old room new : OwnerView D) (word : ℕ) (pushes : PushesWord old room new word) (positive : 0 < word) (free : is_full (store_view id config tables old tries) ≡ false) where
   owner_is : pushed_owner room.roots word old ≡ new
   owner_is = sym (pushes.pushed ∙ ap (λ (v : OwnerView D). record v { heap = raised v.heap word; roots = with_scoped word v.roots }) pushes.reserved)
 
   abbrev before : StoreView D
-  before = store_view id config ids old tries
+  before = store_view id config tables old tries
 
   abbrev after : StoreView D
-  after = store_view id config ids (pushed_owner room.roots word old) tries
+  after = store_view id config tables (pushed_owner room.roots word old) tries
 
   table_room : (t : Table D) (place : Placing) → Holds layouts before t place → roots_full t ≡ false
   table_room t place holds = sym (full_is layouts before t place holds) ∙ free
@@ -69,9 +69,9 @@ module _ {D : Type 0} (layouts : Layouts) (id : StoreId) (config : HeapConfig) (
 
   -- and the handle is that of its push
   pub pushes_root : (handle : GcRootIndex) → handle ≡ record { store_id = id; generation = room.roots.generation; slot = slot.Scoped (length room.roots.scoped) }
-      → (t : Table D) (place : Placing) (a : Account) (r : Reference) → Holds layouts before t place → IsAccount layouts before place a → IsWord place r word → PushesRoot layouts t a r (Ok handle) (store_view id config ids new tries)
+      → (t : Table D) (place : Placing) (a : Account) (r : Reference) → Holds layouts before t place → IsAccount layouts before place a → IsWord place r word → PushesRoot layouts t a r (Ok handle) (store_view id config tables new tries)
   pushes_root handle handle_is t place a r holds account is =
-      subst (λ (v : OwnerView D). PushesRoot layouts t a r (Ok handle) (store_view id config ids v tries)) owner_is (
+      subst (λ (v : OwnerView D). PushesRoot layouts t a r (Ok handle) (store_view id config tables v tries)) owner_is (
         table_room t place holds,
         (
           handle_is
@@ -82,26 +82,26 @@ module _ {D : Type 0} (layouts : Layouts) (id : StoreId) (config : HeapConfig) (
       )
 
   -- it holds it with the objects where they lay
-  pub pushes_there : (t : Table D) (place : Placing) (a : Account) (r : Reference) → Holds layouts before t place → IsAccount layouts before place a → IsWord place r word → HoldsThere layouts (store_view id config ids new tries) (push r t) place a
+  pub pushes_there : (t : Table D) (place : Placing) (a : Account) (r : Reference) → Holds layouts before t place → IsAccount layouts before place a → IsWord place r word → HoldsThere layouts (store_view id config tables new tries) (push r t) place a
   pushes_there t place a r holds account is =
-      subst (λ (v : OwnerView D). HoldsThere layouts (store_view id config ids v tries) (push r t) place a) owner_is (
+      subst (λ (v : OwnerView D). HoldsThere layouts (store_view id config tables v tries) (push r t) place a) owner_is (
         holds_push layouts before t place r (raised old.heap word) word holds (table_room t place holds) (raised_held old.heap word) is positive,
         account_kept before after place a refl refl (raised_held old.heap word).needs_gc account,
       )
 
   -- and nothing else of the store has changed
-  pub pushes_only : OnlyAdds before (store_view id config ids new tries)
-  pushes_only = subst (λ (v : OwnerView D). OnlyAdds before (store_view id config ids v tries)) owner_is (record {
+  pub pushes_only : OnlyAdds before (store_view id config tables new tries)
+  pushes_only = subst (λ (v : OwnerView D). OnlyAdds before (store_view id config tables v tries)) owner_is (record {
     entries = (record { generation = old.roots.generation; word = word }) ∷ [];
     held = raised_held old.heap word;
     rest = refl;
   })
 
   -- the store is sound after it
-  pub sound_pushed : (counts : List ℕ) → IsSound D layouts counts old before → IsRootWord D layouts before word → IsSound D layouts counts new (store_view id config ids new tries)
+  pub sound_pushed : (counts : List ℕ) → IsSound D layouts counts old before → IsRootWord D layouts before word → IsSound D layouts counts new (store_view id config tables new tries)
   sound_pushed counts sound is =
       let own = own_account layouts before is.table is.place is.holds in
-      subst (λ (v : OwnerView D). IsSound D layouts counts v (store_view id config ids v tries)) owner_is (record {
+      subst (λ (v : OwnerView D). IsSound D layouts counts v (store_view id config tables v tries)) owner_is (record {
         idle = sound.idle;
         engine = sound.engine;
         number = sound.number;

@@ -15,7 +15,7 @@ use Rattle.gc_heap.specs.Content.{IsHeap, IsHeld}
 use Rattle.gc_heap.specs.Collection as heap
 use Rattle.gc_heap.specs.Collection.{AreReached, IsIncrements, has_host, objects_per_increment}
 use Rattle.gc_heap.specs.References.{reference_offsets, references, word_in}
-use Rattle.gc_heap.proofs.SpacedLemmas.{only_item, in_contains}
+use Rattle.gc_memory.proofs.ListLemmas.{only_item, in_contains}
 use Rattle.gc_heap.proofs.AgainLemmas.{kept_held}
 use Rattle.gc_owner.specs.declared.entry.GcClass.{GcClass}
 use Rattle.gc_owner.specs.declared.entry.RootEntry.{RootEntry}
@@ -23,19 +23,20 @@ use Rattle.gc_owner.specs.declared.entry.SlotEntry.{SlotEntry}
 use Rattle.gc_owner.specs.declared.entry.OwnedEntry.{OwnedEntry}
 use Rattle.gc_owner.specs.Owners.{OwnerView, Trims, start_of}
 use Rattle.gc_owner.specs.Tracing.{IsTraced, AreTraced}
-use Rattle.gc_model.specs.Values.{Reference, at, Value, numeric, function, reference, Object}
+use Rattle.gc_model.specs.Values.{Reference, at, Value, numeric, function, continuation, reference, Object}
 use Rattle.gc_model.specs.Table.{Table, Scoped, Slot, Owned}
 use Rattle.gc_model.specs.Reach as reach
 use Rattle.gc_model.specs.Reach.{IsReached, AreAll, HasNumber, value_references, object_values, references_in, root_references, slot_references, owned_references, present}
 use Rattle.gc_model.specs.Stores.{StoreView}
 use Rattle.gc_model.specs.RootPoints.{PendingBy}
-use Rattle.gc_model.specs.Forms.{Names, LiesAs, is_reference, number_at}
+use Rattle.gc_model.specs.Forms.{Names, LiesAs, number_at}
 use Rattle.gc_model.specs.Holds.{Placing, IsWord, naming, Holds, HoldsTable, Stands}
 use Rattle.gc_model.proofs.Lists.{slice_get-same_length}
 use Rattle.gc_model.proofs.Members.{map_among, among_map}
 use Rattle.gc_model.proofs.OwnedRoots.{trimmed_held}
 use Rattle.gc_model.proofs.ReadingBack.{storage_reference, reference_width}
 use Rattle.gc_model.proofs.ObjectStands.{stands_by_shape, value_not_host, value_lying, slot_stands}
+use Rattle.gc_model.proofs.PointParts.{is_reference}
 use Rattle.gc_policy.specs.Shown.{shown}
 use Rattle.gc_policy.proofs.AccountLemmas.{trimmed_table}
 use Rattle.gc_policy.proofs.RootsShown.{SlotsInFrames, AllHeld, IsRooted, frames_named, scoped_rooted, slot_rooted, global_rooted, owned_rooted, pending_rooted}
@@ -127,6 +128,7 @@ module _ {D : Type 0} (layouts : Layouts) (s : StoreView D) (v : OwnerView D) (t
 class_of : (v : Value) (r : Reference) → Contains (value_references v) r → (class : GcClass) × (v ≡ reference class r)
 class_of (numeric kind n) r c = absurd (none_in r c)
 class_of (function f) r c = absurd (none_in r c)
+class_of (continuation k) r c = absurd (none_in r c)
 class_of (reference class q) r c = (class, ap (reference class) (only_item q r c))
 
 -- a reference lies in a slot as its word
@@ -178,7 +180,7 @@ module _ {D : Type 0} (layouts : Layouts) (s : StoreView D) (v : OwnerView D) (t
       let there = holds.objects.placed q before.word before.placed in
       let both : Some named.object ≡ Some there.entry = sym named.there ∙ there.in_table in
       let same : named.object ≡ there.entry = grind (arith, both) in
-      let field = field_word layouts t.types (naming place s.funcs) there.entry there.object there.stands (traced_here layouts s v t place holds in_frames all_held traced (has_host v.hosts) before.word there.object there.in_heap)
+      let field = field_word layouts t.types (naming place s.ids) there.entry there.object there.stands (traced_here layouts s v t place holds in_frames all_held traced (has_host v.hosts) before.word there.object there.in_heap)
       (at p) (subst (λ (x : Object D). Contains (references_in x) (at p)) same named.among) in
       record {
         word = field.0;

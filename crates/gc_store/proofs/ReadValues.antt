@@ -6,11 +6,11 @@ use Rattle.std.proofs.lemmas.Int.{of_z-to_z}
 use Rattle.gc_types.specs.declared.kind.Layouts.{Layouts}
 use Rattle.gc_types.specs.declared.value.Func.{Func}
 use Rattle.gc_owner.specs.declared.entry.GcClass.{GcClass}
-use Rattle.gc_model.specs.Values.{Reference, null, small, at, Value, numeric, i32, i64, f32, f64, v128, function, reference, number_bits}
+use Rattle.gc_model.specs.Values.{Reference, null, small, at, Value, numeric, i32, i64, f32, f64, v128, function, continuation, reference, number_bits}
 use Rattle.gc_model.specs.Table.{Table, push}
 use Rattle.gc_model.specs.Reads.{makes_root, after_read}
 use Rattle.gc_model.specs.Stores.{StoreView}
-use Rattle.gc_model.specs.Forms.{Names, FunctionIds, IsFunctionCode}
+use Rattle.gc_model.specs.Forms.{Names, InternedIds, IsContCode, IsIdCode}
 use Rattle.gc_model.specs.Holds.{Placing, IsWord, Holds}
 use Rattle.gc_model.proofs.Words.{place_even}
 use Rattle.gc_policy.specs.Accounts.{Account, HoldsAccount, IsAccount}
@@ -79,28 +79,52 @@ module _ {D : Type 0} (layouts : Layouts) (s : StoreView D) (t : Table D) (a : A
   reads_number (numeric f64 n) r is = (λ makes. absurd (cc makes), (same_number r _ is.found ∙ ap raw.F64 is.is_code, holds))
   reads_number (numeric v128 n) r is = (λ makes. absurd (cc makes), (same_number r _ is.found ∙ ap raw.V128 is.is_code, holds))
   reads_number (function f) r is = absurd (cc (is.found))
+  reads_number (continuation c) r is = absurd (cc (is.found))
   reads_number (reference class p) r is = absurd (cc (is.found))
 
 -- a function value or none, by the number that stands for it
-pub record FoundFunction (ids : FunctionIds) (code : ℕ) (v : Value) : Type 0 where
+pub record FoundFunction (ids : InternedIds) (code : ℕ) (v : Value) : Type 0 where
   pub func : Option Func
   pub is : v ≡ function func
-  pub is_code : IsFunctionCode ids func code
+  pub is_code : IsIdCode ids.funcs func code
 
-pub found_function : (names : Names) (code : ℕ) (v : Value) → FoundStands names (found.Func code) v → FoundFunction names.funcs code v
+pub found_function : (names : Names) (code : ℕ) (v : Value) → FoundStands names (found.Func code) v → FoundFunction names.ids code v
 found_function names code (numeric i32 n) is = absurd (cc (is.found))
 found_function names code (numeric i64 n) is = absurd (cc (is.found))
 found_function names code (numeric f32 n) is = absurd (cc (is.found))
 found_function names code (numeric f64 n) is = absurd (cc (is.found))
 found_function names code (numeric v128 n) is = absurd (cc (is.found))
-found_function names code (function f) is = record { func = f; is = refl; is_code = subst (IsFunctionCode names.funcs f) (grind (arith, sym is.found)) is.is_code }
+found_function names code (function f) is = record { func = f; is = refl; is_code = subst (IsIdCode names.ids.funcs f) (grind (arith, sym is.found)) is.is_code }
+found_function names code (continuation c) is = absurd (cc (is.found))
 found_function names code (reference class r) is = absurd (cc (is.found))
 
-pub reads_function : {D : Type 0} (layouts : Layouts) (s : StoreView D) (t : Table D) (a : Account) → HoldsAccount layouts s t a → (ids : FunctionIds) (code : ℕ) (v : Value) → FoundFunction ids code v → (answer : Option Func)
-    → ((f : Option Func) → IsFunctionCode ids f code → answer ≡ f) → ReadsValue layouts t a v (Ok (raw.Func answer)) s
+pub reads_function : {D : Type 0} (layouts : Layouts) (s : StoreView D) (t : Table D) (a : Account) → HoldsAccount layouts s t a → (ids : InternedIds) (code : ℕ) (v : Value) → FoundFunction ids code v → (answer : Option Func)
+    → ((f : Option Func) → IsIdCode ids.funcs f code → answer ≡ f) → ReadsValue layouts t a v (Ok (raw.Func answer)) s
 reads_function layouts s t a holds ids code v found answer is =
     subst (λ (x : Value). ReadsValue layouts t a x (Ok (raw.Func answer)) s) (sym found.is)
     (λ makes. absurd (cc makes), (ap raw.Func (is found.func found.is_code), holds))
+
+-- a continuation or none
+pub record FoundCont (ids : InternedIds) (code : ℕ) (v : Value) : Type 0 where
+  pub cont : Option ℕ
+  pub is : v ≡ continuation cont
+  pub is_code : IsContCode ids.conts cont code
+
+pub found_cont : (names : Names) (code : ℕ) (v : Value) → FoundStands names (found.Cont code) v → FoundCont names.ids code v
+found_cont names code (numeric i32 n) is = absurd (cc (is.found))
+found_cont names code (numeric i64 n) is = absurd (cc (is.found))
+found_cont names code (numeric f32 n) is = absurd (cc (is.found))
+found_cont names code (numeric f64 n) is = absurd (cc (is.found))
+found_cont names code (numeric v128 n) is = absurd (cc (is.found))
+found_cont names code (function f) is = absurd (cc (is.found))
+found_cont names code (continuation c) is = record { cont = c; is = refl; is_code = subst (IsContCode names.ids.conts c) (grind (arith, sym is.found)) is.is_code }
+found_cont names code (reference class r) is = absurd (cc (is.found))
+
+pub reads_cont : {D : Type 0} (layouts : Layouts) (s : StoreView D) (t : Table D) (a : Account) → HoldsAccount layouts s t a → (ids : InternedIds) (code : ℕ) (v : Value) → FoundCont ids code v → (answer : Option ℕ)
+    → ((c : Option ℕ) → IsContCode ids.conts c code → answer ≡ c) → ReadsValue layouts t a v (Ok (raw.Cont answer)) s
+reads_cont layouts s t a holds ids code v found answer is =
+    subst (λ (x : Value). ReadsValue layouts t a x (Ok (raw.Cont answer)) s) (sym found.is)
+    (λ makes. absurd (cc makes), (ap raw.Cont (is found.cont found.is_code), holds))
 
 -- or a reference of some class
 pub record FoundReference (place : Placing) (class : GcClass) (word : ℕ) (v : Value) : Type 0 where
@@ -115,6 +139,7 @@ found_reference names class word (numeric f32 n) is = absurd (cc (is.found))
 found_reference names class word (numeric f64 n) is = absurd (cc (is.found))
 found_reference names class word (numeric v128 n) is = absurd (cc (is.found))
 found_reference names class word (function f) is = absurd (cc (is.found))
+found_reference names class word (continuation c) is = absurd (cc (is.found))
 found_reference names class word (reference c r) is = record {
   root = r;
   is = ap (λ (x : GcClass). reference x r) (grind (arith, sym is.found));
@@ -144,12 +169,17 @@ pub number_there : {D : Type 0} (layouts : Layouts) (s : StoreView D) (t : Table
     → HoldsThere layouts s (after_read v t) place a
 number_there layouts s t place a names (numeric kind n) r is there = there
 number_there layouts s t place a names (function f) r is there = there
+number_there layouts s t place a names (continuation c) r is there = there
 number_there layouts s t place a names (reference class p) r is there = absurd (cc (is.found))
 
 pub found_there : {D : Type 0} (layouts : Layouts) (s : StoreView D) (t : Table D) (place : Placing) (a : Account) (class : GcClass) (word : ℕ) (v : Value) → (is : FoundReference place class word v)
     → HoldsThere layouts s (after_read (reference class is.root) t) place a → HoldsThere layouts s (after_read v t) place a
 found_there layouts s t place a class word v is there = subst (λ (x : Value). HoldsThere layouts s (after_read x t) place a) (sym is.is) there
 
-pub function_there : {D : Type 0} (layouts : Layouts) (s : StoreView D) (t : Table D) (place : Placing) (a : Account) (ids : FunctionIds) (code : ℕ) (v : Value) → (is : FoundFunction ids code v) → HoldsThere layouts s t place a
+pub function_there : {D : Type 0} (layouts : Layouts) (s : StoreView D) (t : Table D) (place : Placing) (a : Account) (ids : InternedIds) (code : ℕ) (v : Value) → (is : FoundFunction ids code v) → HoldsThere layouts s t place a
     → HoldsThere layouts s (after_read v t) place a
 function_there layouts s t place a ids code v is there = subst (λ (x : Value). HoldsThere layouts s (after_read x t) place a) (sym is.is) there
+
+pub cont_there : {D : Type 0} (layouts : Layouts) (s : StoreView D) (t : Table D) (place : Placing) (a : Account) (ids : InternedIds) (code : ℕ) (v : Value) → (is : FoundCont ids code v) → HoldsThere layouts s t place a
+    → HoldsThere layouts s (after_read v t) place a
+cont_there layouts s t place a ids code v is there = subst (λ (x : Value). HoldsThere layouts s (after_read x t) place a) (sym is.is) there

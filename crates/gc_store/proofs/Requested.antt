@@ -5,7 +5,6 @@ use Rattle.std.specs.Prelude.{option_map, unwrap_or}
 use Rattle.std.proofs.lemmas.List.{length-map, length-replicate}
 use Rattle.std.proofs.lemmas.Option.{none-some, same_Some, slice_get_within}
 use Rattle.gc_types.specs.declared.value.FieldType.{FieldType}
-use Rattle.gc_types.specs.declared.value.Func.{Func}
 use Rattle.gc_types.specs.declared.value.StorageType.{StorageType}
 use Rattle.gc_types.specs.declared.value.Tag.{Tag}
 use Rattle.gc_types.specs.declared.value.ValType.{ValType}
@@ -26,15 +25,15 @@ use Rattle.gc_store.specs.Words.{HandleRoots}
 use Rattle.gc_model.specs.Values.{Value, numeric, i32, Object, struct, array, exception}
 use Rattle.gc_model.specs.Reach.{IsHost, object_values}
 use Rattle.gc_model.specs.Sizes.{fields_size, elements_size, exception_size, exn_fields_at, object_size}
-use Rattle.gc_model.specs.Functions.{functions_of, object_functions, with_functions}
+use Rattle.gc_model.specs.SideValues.{SideValues, side_values, with_side_values}
 use Rattle.gc_model.specs.Standing.{Stands, ValuesLie}
 use Rattle.gc_model.specs.Stored.{stored, stored_in, byte_value}
 use Rattle.gc_model.specs.Fits.{fits}
 use Rattle.gc_model.specs.Table.{Table}
 use Rattle.gc_model.specs.Stores.{StoreView}
-use Rattle.gc_model.specs.Forms.{Names, FunctionIds, storage_form}
+use Rattle.gc_model.specs.Forms.{Names, InternedIds, storage_form}
 use Rattle.gc_model.specs.Holds.{Placing, Holds}
-use Rattle.gc_model.proofs.Interned.{functions-stored, functions-stored_in, functions-mapped, functions-bytes, functions-replicate}
+use Rattle.gc_model.proofs.Interned.{side-stored, side-stored_in, side-mapped, side-bytes, side-replicate}
 use Rattle.gc_model.proofs.Lists.{slice_get-same_length}
 use Rattle.gc_model.proofs.MadeObjects.{struct_stands, array_stands, exception_stands}
 use Rattle.gc_model.proofs.ObjectShapes.{shape_at, exception_shape, type_of_slot, FieldOfSlot, field_of_slot}
@@ -52,14 +51,14 @@ use Rattle.gc_store.specs.Making.{IsSizeOf}
 use Rattle.gc_store.specs.Kept.{StoredStands}
 use Rattle.gc_store.specs.Requests.{CanPlaceIn, CanPlaceFields, CanPlaceStruct, CanPlaceException, IsObjectOf, fields_of, exn_fields_of, element_of, stored_as}
 use Rattle.gc_store.specs.Tagging.{HasTag}
-use Rattle.gc_store.specs.Values.{AllStand, CanStore, RawStands, raw_functions}
-use Rattle.gc_store.proofs.GivenFunctions.{HaveIds, have_one, all-stand, raw-stands}
+use Rattle.gc_store.specs.Values.{AllStand, CanStore, RawStands, raw_side_values}
+use Rattle.gc_store.proofs.GivenValues.{HaveAllIds, have_one, all-stand, raw-stands}
 use Rattle.gc_store.proofs.NewObjects.{IsNew, new_struct_is, new_exn_is, new_array_is, struct_size_of, exn_size_of, array_size_of}
 use Rattle.gc_store.proofs.KeptAgain.{IsRooted, rooted_kept}
 use Rattle.gc_store.proofs.WritingAt.{is_rooted, storable_form, value_of}
 
 -- Slots keep, of any value that may be stored, what stands for it.
-abbrev pub StandsFor : {D : Type 0} → Layouts → StoreView D → Table D → FunctionIds → Names → HandleRoots → Type 0
+abbrev pub StandsFor : {D : Type 0} → Layouts → StoreView D → Table D → InternedIds → Names → HandleRoots → Type 0
 StandsFor {D} layouts s t ids names roots =
     (ty : StorageType) (r : RawValue) (v : Value) → CanStore D layouts s ty r → RawStands s t r v → StoredStands ids names roots ty r (stored ty v)
 
@@ -74,13 +73,13 @@ pub record AsksFor {D : Type 0} (layouts : Layouts) (s : StoreView D) (t : Table
   pub not_host : ¬ IsHost (Some o)
   pub of_size : (k : Layouts) → object_size k t.types o ≡ shape_size k shape count
   pub typed : IsTypedObject t.types t.objects o
-  pub contents : (ids : FunctionIds) (names : Names) (roots : HandleRoots) → StandsFor layouts s t ids names roots → ContentsStand ids given names roots (shape_slots layouts shape count) (object_values o)
+  pub contents : (ids : InternedIds) (names : Names) (roots : HandleRoots) → StandsFor layouts s t ids names roots → ContentsStand ids given names roots (shape_slots layouts shape count) (object_values o)
   pub stands : (names : Names) (h : HeapObject) → h.ty ≡ asked_type request → HasShape h shape count → HasAskedFront request h.bytes → struct_base layouts + length h.bytes ≡ stored_size layouts (shape_size layouts shape count)
       → ValuesLie names (struct_base layouts) (shape_slots layouts shape count) (object_values o) h.bytes → Stands layouts t.types names o h
 
 -- What is given fits what is made for a request, and stands for what is asked for.
 pub record Asks {D : Type 0} (layouts : Layouts) (s : StoreView D) (t : Table D) (request : Place) (given : Contents) (new : IsNew D layouts s.types request) : Type 0 where
-  pub fit : (ids : FunctionIds) (roots : HandleRoots) → HaveIds ids (raw_functions (given_values request given)) → ((r : RawValue) → IsRooted (store_roots s) r → IsRooted roots r) → ContentsFit ids request given roots (shape_slots layouts new.shape new.count)
+  pub fit : (ids : InternedIds) (roots : HandleRoots) → HaveAllIds ids (raw_side_values (given_values request given)) → ((r : RawValue) → IsRooted (store_roots s) r → IsRooted roots r) → ContentsFit ids request given roots (shape_slots layouts new.shape new.count)
   pub some : (o : Object D) × IsObjectOf s t request given o
   pub asks_for : (t : Table D) (p : Placing) (o : Object D) → Holds layouts s t p → IsObjectOf s t request given o → AsksFor layouts s t request given new.shape new.count o
 
@@ -142,14 +141,14 @@ values_with {D} s t (x ∷ raws) each =
     at first {vs} rest (suc i) r v e f = rest.each i r v e f
 
 -- one value for all elements: where there are some, it is looked at
-have_same : (ids : FunctionIds) (ty count : ℕ) (value : Bor RawValue) → HaveIds ids (raw_functions (given_values (place.Array ty count) (contents.Same value))) → 0 < count → HaveIds ids (raw_functions (value.now ∷ []))
+have_same : (ids : InternedIds) (ty count : ℕ) (value : Bor RawValue) → HaveAllIds ids (raw_side_values (given_values (place.Array ty count) (contents.Same value))) → 0 < count → HaveAllIds ids (raw_side_values (value.now ∷ []))
 have_same ids ty zero value have some = absurd (omega (arith, some))
 have_same ids ty (suc n) value have some = have
 
-same_functions : (ty count : ℕ) (given : Bor RawValue) (v : Value) → (0 < count → raw_functions (given.now ∷ []) ≡ functions_of (v ∷ [])) → (known : List (Option Func))
-    → with_functions (raw_functions (given_values (place.Array ty count) (contents.Same given))) known ≡ with_functions (functions_of (replicate count v)) known
-same_functions ty zero given v is known = refl
-same_functions ty (suc n) given v is known = ap (λ (fs : List (Option Func)). with_functions fs known) (is (omega arith)) ∙ sym (functions-replicate n v known)
+same_side_values : (ty count : ℕ) (given : Bor RawValue) (v : Value) → (0 < count → raw_side_values (given.now ∷ []) ≡ side_values (v ∷ [])) → (known : SideValues)
+    → with_side_values (raw_side_values (given_values (place.Array ty count) (contents.Same given))) known ≡ with_side_values (side_values (replicate count v)) known
+same_side_values ty zero given v is known = refl
+same_side_values ty (suc n) given v is known = ap (λ (given : SideValues). with_side_values given known) (is (omega arith)) ∙ sym (side-replicate n v known)
 
 module _ (D : Type 0) (layouts : Layouts) (s : StoreView D) (t0 : Table D) (place0 : Placing) (holds0 : Holds layouts s t0 place0) where
   -- Values for fields, one for each
@@ -169,7 +168,7 @@ module _ (D : Type 0) (layouts : Layouts) (s : StoreView D) (t0 : Table D) (plac
       field_type : (i : ℕ) (slot : StorageSlot) → slice_get (field_slots base fields) i ≡ Some slot → FieldOfSlot fields i slot
       field_type i slot at = field_of_slot base fields i slot at
 
-      fields_fit : (ids : FunctionIds) (roots : HandleRoots) → HaveIds ids (raw_functions raws) → ((r : RawValue) → IsRooted (store_roots s) r → IsRooted roots r) → EachFits ids raws roots (field_slots base fields)
+      fields_fit : (ids : InternedIds) (roots : HandleRoots) → HaveAllIds ids (raw_side_values raws) → ((r : RawValue) → IsRooted (store_roots s) r → IsRooted roots r) → EachFits ids raws roots (field_slots base fields)
       fields_fit ids roots have keeps = record {
         same_count = can.same_count ∙ sym (length-field_slots base fields);
         forms = λ i slot r at r_at.
@@ -178,7 +177,7 @@ module _ (D : Type 0) (layouts : Layouts) (s : StoreView D) (t0 : Table D) (plac
         kept = λ i r r_at. let f = field_of i r r_at in rooted_kept ids roots r (have_one ids raws i r r_at have) (keeps r (is_rooted D layouts s r (can.each i f.0 r f.1 r_at).live));
       }
 
-      fields_contents : (t : Table D) (vs : List Value) (all : AllStand s t raws vs) (ids : FunctionIds) (names : Names) (roots : HandleRoots) → StandsFor layouts s t ids names roots → EachStands ids raws names roots (field_slots base fields) (stored_in fields vs)
+      fields_contents : (t : Table D) (vs : List Value) (all : AllStand s t raws vs) (ids : InternedIds) (names : Names) (roots : HandleRoots) → StandsFor layouts s t ids names roots → EachStands ids raws names roots (field_slots base fields) (stored_in fields vs)
       fields_contents t vs all ids names roots stands = record {
         same_count = can.same_count ∙ sym (length-stored_in fields vs (sym all.same_count ∙ can.same_count));
         each = λ i slot r w at r_at w_at.
@@ -191,11 +190,11 @@ module _ (D : Type 0) (layouts : Layouts) (s : StoreView D) (t0 : Table D) (plac
             (stands k.field.element_type r k.value (can.each i k.field r k.field_is r_at) (all.each i r k.value r_at k.value_is)));
       }
 
-    -- the function values that are given are those of the fields
-    fields_functions : (t : Table D) (vs : List Value) (all : AllStand s t raws vs) (known : List (Option Func)) → with_functions (raw_functions raws) known ≡ with_functions (functions_of (stored_in fields vs)) known
-    fields_functions t vs all known =
-        ap (λ (fs : List (Option Func)). with_functions fs known)
-        (all-stand s t raws vs all ∙ sym (functions-stored_in fields vs (sym all.same_count ∙ can.same_count)))
+    -- the function values and continuations that are given are those of the fields
+    fields_side_values : (t : Table D) (vs : List Value) (all : AllStand s t raws vs) (known : SideValues) → with_side_values (raw_side_values raws) known ≡ with_side_values (side_values (stored_in fields vs)) known
+    fields_side_values t vs all known =
+        ap (λ (given : SideValues). with_side_values given known)
+        (all-stand s t raws vs all ∙ sym (side-stored_in fields vs (sym all.same_count ∙ can.same_count)))
 
     module _ (t : Table D) (p : Placing) (holds : Holds layouts s t p) (vs : List Value) (all : AllStand s t raws vs) where
       fields_match : (i : ℕ) (field : FieldType) (v : Value) → slice_get fields i ≡ Some field → slice_get vs i ≡ Some v → fits t.types t.objects field.element_type v ≡ true
@@ -228,7 +227,7 @@ module _ (D : Type 0) (layouts : Layouts) (s : StoreView D) (t0 : Table D) (plac
     abbrev exn_params : (params : List ValType) × ((shape_at s.types ty ≡ Some (exn_of params)) × (map constant_field params ≡ can.fields))
     exn_params = exception_shape s.types ty can.fields can.declared
 
-    exn_fit : (ids : FunctionIds) (roots : HandleRoots) → HaveIds ids (raw_functions raws) → ((r : RawValue) → IsRooted (store_roots s) r → IsRooted roots r) → EachFits ids raws roots (shape_slots layouts (exn_of exn_params.0) 0)
+    exn_fit : (ids : InternedIds) (roots : HandleRoots) → HaveAllIds ids (raw_side_values raws) → ((r : RawValue) → IsRooted (store_roots s) r → IsRooted roots r) → EachFits ids raws roots (shape_slots layouts (exn_of exn_params.0) 0)
     exn_fit ids roots have keeps =
         subst (λ (fs : List FieldType). EachFits ids raws roots (field_slots (exception_base layouts) fs)) (sym exn_params.1.1) (fields_fit (exn_fields_at s.types ty) raws can (exception_base layouts) ids roots have keeps)
 
@@ -293,7 +292,7 @@ module _ (D : Type 0) (layouts : Layouts) (s : StoreView D) (t0 : Table D) (plac
 
     -- with a value for each element
     module _ (raws : List RawValue) (same_count : length raws ≡ count) (each : (i : ℕ) (r : RawValue) → slice_get raws i ≡ Some r → CanStore D layouts s element.element_type r) where
-      elements_fit : (ids : FunctionIds) (roots : HandleRoots) → HaveIds ids (raw_functions raws) → ((r : RawValue) → IsRooted (store_roots s) r → IsRooted roots r) → EachFits ids raws roots slots
+      elements_fit : (ids : InternedIds) (roots : HandleRoots) → HaveAllIds ids (raw_side_values raws) → ((r : RawValue) → IsRooted (store_roots s) r → IsRooted roots r) → EachFits ids raws roots slots
       elements_fit ids roots have keeps = record {
         same_count = same_count ∙ sym slots_count;
         forms = λ i slot r at r_at. storable_form D layouts s t0 place0 holds0 element.element_type r (each i r r_at) ∙ ap storage_form (slot_type i slot at);
@@ -326,7 +325,7 @@ module _ (D : Type 0) (layouts : Layouts) (s : StoreView D) (t0 : Table D) (plac
 
     -- with one value for all
     module _ (r : RawValue) (can : 0 < count → CanStore D layouts s element.element_type r) where
-      same_fit : (ids : FunctionIds) (roots : HandleRoots) → (0 < count → HaveIds ids (raw_functions (r ∷ []))) → ((r : RawValue) → IsRooted (store_roots s) r → IsRooted roots r) → SameFits ids r count roots slots
+      same_fit : (ids : InternedIds) (roots : HandleRoots) → (0 < count → HaveAllIds ids (raw_side_values (r ∷ []))) → ((r : RawValue) → IsRooted (store_roots s) r → IsRooted roots r) → SameFits ids r count roots slots
       same_fit ids roots have keeps = record {
         ty = element.element_type;
         from = elements_from layouts element;
@@ -425,26 +424,26 @@ module _ (D : Type 0) (layouts : Layouts) (s : StoreView D) (t0 : Table D) (plac
   asks (place.Struct ty) (contents.Same value) counted can = absurd can
   asks (place.Struct ty) (contents.Bytes bytes) counted can = absurd can
 
-  -- its function values are those that are given
-  pub asked_functions : (request : Place) (given : Contents) → CanPlaceIn D layouts s request given → (t : Table D) (p : Placing) (o : Object D) → Holds layouts s t p → IsObjectOf s t request given o
-      → (known : List (Option Func)) → with_functions (raw_functions (given_values request given)) known ≡ with_functions (object_functions o) known
-  asked_functions (place.Struct ty) (contents.Each values) can t p o holds is known =
+  -- its function values and continuations are those that are given
+  pub asked_side_values : (request : Place) (given : Contents) → CanPlaceIn D layouts s request given → (t : Table D) (p : Placing) (o : Object D) → Holds layouts s t p → IsObjectOf s t request given o
+      → (known : SideValues) → with_side_values (raw_side_values (given_values request given)) known ≡ with_side_values (side_values (object_values o)) known
+  asked_side_values (place.Struct ty) (contents.Each values) can t p o holds is known =
       let e : o ≡ struct ty (stored_in can.fields is.0) = is.1.1 ∙ ap (λ (fs : List FieldType). struct ty (stored_in fs is.0)) (fields_are ty values.now can t p holds) in
-      fields_functions (struct_fields_at s.types ty) values.now can t is.0 is.1.0 known ∙ ap (λ (x : Object D). with_functions (object_functions x) known) (sym e)
-  asked_functions (place.Exn ty tag) (contents.Each values) can t p o holds is known =
+      fields_side_values (struct_fields_at s.types ty) values.now can t is.0 is.1.0 known ∙ ap (λ (x : Object D). with_side_values (side_values (object_values x)) known) (sym e)
+  asked_side_values (place.Exn ty tag) (contents.Each values) can t p o holds is known =
       let e : o ≡ exception ty tag (stored_in can.fields is.0) = is.1.1 ∙ ap (λ (fs : List FieldType). exception ty tag (stored_in fs is.0)) (exn_fields_are ty tag values.now can t p holds) in
-      fields_functions (exn_fields_at s.types ty) values.now can t is.0 is.1.0 known ∙ ap (λ (x : Object D). with_functions (object_functions x) known) (sym e)
-  asked_functions (place.Array ty count) (contents.Each values) can t p o holds is known =
-      ap (λ (fs : List (Option Func)). with_functions fs known) (all-stand s t values.now is.0 is.1.0 ∙ sym (functions-mapped (element_of t.types ty) is.0)) ∙ ap (λ (x : Object D). with_functions (object_functions x) known) (sym is.1.1)
-  asked_functions (place.Array ty count) (contents.Same value) can t p o holds is known =
-      same_functions ty count value (stored (element_of t.types ty) is.0) (λ some. raw-stands s t value.now is.0 (is.1.0 some) ∙ sym (functions-stored (element_of t.types ty) is.0)) known
-      ∙ ap (λ (x : Object D). with_functions (object_functions x) known) (sym is.1.1)
-  asked_functions (place.Array ty count) (contents.Bytes bytes) can t p o holds is known =
-      ap (λ (fs : List (Option Func)). with_functions fs known) (sym (functions-bytes bytes.now)) ∙ ap (λ (x : Object D). with_functions (object_functions x) known) (sym is)
-  asked_functions (place.Struct ty) (contents.Same value) can t p o holds is known = absurd can
-  asked_functions (place.Struct ty) (contents.Bytes bytes) can t p o holds is known = absurd can
-  asked_functions (place.Exn ty tag) (contents.Same value) can t p o holds is known = absurd can
-  asked_functions (place.Exn ty tag) (contents.Bytes bytes) can t p o holds is known = absurd can
+      fields_side_values (exn_fields_at s.types ty) values.now can t is.0 is.1.0 known ∙ ap (λ (x : Object D). with_side_values (side_values (object_values x)) known) (sym e)
+  asked_side_values (place.Array ty count) (contents.Each values) can t p o holds is known =
+      ap (λ (given : SideValues). with_side_values given known) (all-stand s t values.now is.0 is.1.0 ∙ sym (side-mapped (element_of t.types ty) is.0)) ∙ ap (λ (x : Object D). with_side_values (side_values (object_values x)) known) (sym is.1.1)
+  asked_side_values (place.Array ty count) (contents.Same value) can t p o holds is known =
+      same_side_values ty count value (stored (element_of t.types ty) is.0) (λ some. raw-stands s t value.now is.0 (is.1.0 some) ∙ sym (side-stored (element_of t.types ty) is.0)) known
+      ∙ ap (λ (x : Object D). with_side_values (side_values (object_values x)) known) (sym is.1.1)
+  asked_side_values (place.Array ty count) (contents.Bytes bytes) can t p o holds is known =
+      ap (λ (given : SideValues). with_side_values given known) (sym (side-bytes bytes.now)) ∙ ap (λ (x : Object D). with_side_values (side_values (object_values x)) known) (sym is)
+  asked_side_values (place.Struct ty) (contents.Same value) can t p o holds is known = absurd can
+  asked_side_values (place.Struct ty) (contents.Bytes bytes) can t p o holds is known = absurd can
+  asked_side_values (place.Exn ty tag) (contents.Same value) can t p o holds is known = absurd can
+  asked_side_values (place.Exn ty tag) (contents.Bytes bytes) can t p o holds is known = absurd can
 
   -- and how large it is
   pub sized : (request : Place) (given : Contents) → CanPlaceIn D layouts s request given → Sized layouts s request given

@@ -9,7 +9,7 @@ use Rattle.gc_types.specs.Declarations.{Declaration, Shape, struct_of, array_of,
 use Rattle.gc_types.specs.Layouts.{struct_base}
 use Rattle.gc_view.specs.Bytes.{put_bytes}
 use Rattle.gc_view.specs.Heaps.{HeapObject, HeapView}
-use Rattle.gc_view.specs.Slots.{shape_first}
+use Rattle.gc_view.proofs.Spacing.{shape_first}
 use Rattle.gc_view.proofs.ByteLemmas.{length-put_bytes, put_bytes-below, part-put_bytes, part_in_same, u32_in_same}
 use Rattle.gc_view.proofs.Content.{get-put_same, get-put_other}
 use Rattle.gc_heap.specs.Heap.{put_object, with_data}

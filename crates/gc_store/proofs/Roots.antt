@@ -41,7 +41,7 @@ describes_object layouts s t place null word answer holds is positive even tells
 describes_object layouts s t place (small n) word answer holds is positive even tells = absurd (even (omega (arith, is)))
 describes_object layouts s t place (at p) word answer holds is positive even tells =
     let held = holds.objects.placed p word is in
-    subst (λ o. IsObject o answer) (sym held.in_table) (stands_object layouts t.types (naming place s.funcs) held.entry held.object answer held.stands (tells held.object held.in_heap))
+    subst (λ o. IsObject o answer) (sym held.in_table) (stands_object layouts t.types (naming place s.ids) held.entry held.object answer held.stands (tells held.object held.in_heap))
 
 -- there is an object at an even word of a root
 pub held_object : {D : Type 0} (layouts : Layouts) (s : StoreView D) (t : Table D) (place : Placing) (r : Reference) (word : ℕ) → Holds layouts s t place → IsWord place r word → 0 < word → (word % 2 ≡ 1 → ⊥) → (object : HeapObject) × (map.get s.heap.content word ≡ Some object)

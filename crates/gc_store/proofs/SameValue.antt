@@ -11,7 +11,8 @@ use Rattle.gc_types.specs.declared.kind.Layouts.{Layouts}
 use Rattle.gc_types.specs.Layouts.{struct_base, storage_width, is_gc_storage}
 use Rattle.gc_view.specs.Bytes.{put_bytes}
 use Rattle.gc_view.specs.Heaps.{HeapObject, HeapView}
-use Rattle.gc_view.specs.Slots.{StorageSlot, shape_slots, shape_first, shape_size, slot_offsets}
+use Rattle.gc_view.specs.Slots.{StorageSlot, shape_slots, shape_size}
+use Rattle.gc_view.proofs.Spacing.{shape_first, slot_offsets}
 use Rattle.gc_view.proofs.SlotLemmas.{SlotRange, slot_range, shape_spaced, elements_not_followed}
 use Rattle.gc_heap.specs.Content.{IsHeap}
 use Rattle.gc_owner.specs.Owners.{OwnerView, CanBegin}
@@ -87,7 +88,8 @@ form_again h h' (number_of kind) (kept.Number n) again of = of
 form_again h h' (number_of kind) (kept.Ref word) again of = absurd of
 form_again h h' function_of (kept.Number n) again of = of
 form_again h h' function_of (kept.Ref word) again of = absurd of
-form_again h h' continuation_of x again of = absurd of
+form_again h h' continuation_of (kept.Number n) again of = of
+form_again h h' continuation_of (kept.Ref word) again of = absurd of
 form_again h h' (reference_of class) (kept.Number n) again of = absurd of
 form_again h h' (reference_of class) (kept.Ref word) again of = again word of
 

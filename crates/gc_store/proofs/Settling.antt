@@ -18,9 +18,8 @@ use Rattle.gc_policy.proofs.CollectedLists.{contains_map, get_contains}
 use Rattle.gc_policy.proofs.Columns.{listed_word}
 use Rattle.gc_policy.proofs.Frames.{frame_words}
 use Rattle.gc_policy.proofs.RootsShown.{SlotsInFrames}
-use Rattle.gc_model.specs.Stores.{FunctionIds}
 use Rattle.gc_store.specs.Settled.{IsSettled}
-use Rattle.gc_store.specs.Stores.{store_view}
+use Rattle.gc_store.specs.Stores.{StoreTables, store_view}
 use Rattle.gc_store.specs.declared.engine.StoreId.{StoreId}
 use Rattle.gc_store.specs.declared.config.HeapConfig.{HeapConfig}
 
@@ -96,8 +95,8 @@ module _ {D : Type 0} (layouts : Layouts) (v w : OwnerView D) (is : Collects lay
       ∙ ap (λ (x : OwnerView D). length x.roots.slots) is.trims.changes.rest in
       subst (λ (starts : List ℕ). AreFrames starts (length w.roots.slots)) (sym frames) (subst (AreFrames v.roots.frames) (sym slots) in_frames)
 
-  pub settled : (id : StoreId) (config : HeapConfig) (ids : FunctionIds) (tries : ℕ) → SlotsInFrames v.roots → IsSettled layouts (store_view id config ids w tries)
-  settled id config ids tries in_frames = record {
+  pub settled : (id : StoreId) (config : HeapConfig) (tables : StoreTables) (tries : ℕ) → SlotsInFrames v.roots → IsSettled layouts (store_view id config tables w tries)
+  settled id config tables tries in_frames = record {
     held = owned_held;
     queued = λ counting. (anew layouts (start_of is.trimmed) is.runs.collected.to w.heap (roots_of w.roots) counting is.runs.collected.by_kind).queued;
     shown = λ counting word there.

@@ -11,7 +11,7 @@ use Rattle.gc_model.specs.Values.{Reference}
 use Rattle.gc_model.specs.Table.{Table, Slot, global_count}
 use Rattle.gc_model.specs.Globals.{set_global, global_at}
 use Rattle.gc_model.specs.RootPoints.{SlotBy}
-use Rattle.gc_model.specs.Stores.{FunctionIds, StoreView, unset_globals}
+use Rattle.gc_model.specs.Stores.{StoreView, unset_globals}
 use Rattle.gc_model.specs.Holds.{Placing, IsWord, Holds}
 use Rattle.gc_model.proofs.Lists.{all_replicated}
 use Rattle.gc_model.proofs.SlotsSet.{slot_beside}
@@ -26,23 +26,23 @@ use Rattle.gc_store.specs.declared.root.RootFault.TheVariants as fault
 use Rattle.gc_store.specs.Reading.{ReadsReference, reference_value}
 use Rattle.gc_store.specs.Roots.{IsRootWord}
 use Rattle.gc_store.specs.Slots.{told_of_slot, FindsWord, ReadsSlot, slot_value}
-use Rattle.gc_store.specs.Stores.{store_view, IsSound}
+use Rattle.gc_store.specs.Stores.{StoreTables, store_view, IsSound}
 use Rattle.gc_store.specs.Values.{ReadsValue}
 use Rattle.gc_store.proofs.Keeping.{counts_of}
 
 -- an owner set a global
-module _ {D : Type 0} (layouts : Layouts) (id : StoreId) (config : HeapConfig) (ids : FunctionIds) (tries : ℕ) (old new : OwnerView D) (index : ℕ) (class : GcClass) (word : ℕ)
+module _ {D : Type 0} (layouts : Layouts) (id : StoreId) (config : HeapConfig) (tables : StoreTables) (tries : ℕ) (old new : OwnerView D) (index : ℕ) (class : GcClass) (word : ℕ)
     (changes : ChangesRoots old new (with_global index (record { class = class; word = word }) old.roots)) where
   abbrev before : StoreView D
-  before = store_view id config ids old tries
+  before = store_view id config tables old tries
 
   abbrev after : StoreView D
-  after = store_view id config ids new tries
+  after = store_view id config tables new tries
 
   -- so the store holds the table with that global set, and the same account
   pub global_was_set : (t : Table D) (place : Placing) (a : Account) (r : Reference) → Holds layouts before t place → IsAccount layouts before place a → IsWord place r word → HoldsAccount layouts after (set_global index class r t) a
   global_was_set t place a r holds account is =
-      subst (λ (v : OwnerView D). HoldsAccount layouts (store_view id config ids v tries) (set_global index class r t) a) (sym changes.rest) (record {
+      subst (λ (v : OwnerView D). HoldsAccount layouts (store_view id config tables v tries) (set_global index class r t) a) (sym changes.rest) (record {
         place = place;
         holds = holds_global_set layouts before t place index class r word new.heap holds is changes.held;
         account = account_kept before _ place a refl refl changes.held.needs_gc account;

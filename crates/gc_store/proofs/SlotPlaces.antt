@@ -14,7 +14,8 @@ use Rattle.gc_types.specs.Declarations.{Declaration, Shape, struct_of, array_of,
 use Rattle.gc_types.specs.Layouts.{struct_base, exception_base, array_base, storage_width, is_gc_storage, shape_layout, struct_layout, exn_layout, array_layout}
 use Rattle.gc_memory.specs.Lists.{In}
 use Rattle.gc_view.specs.Heaps.{HeapObject, HeapView}
-use Rattle.gc_view.specs.Slots.{StorageSlot, slot_end, shape_slots, shape_first, shape_size, slot_offsets}
+use Rattle.gc_view.specs.Slots.{StorageSlot, shape_slots, shape_size}
+use Rattle.gc_view.proofs.Spacing.{slot_end, shape_first, slot_offsets}
 use Rattle.gc_view.proofs.Layouts.{stored_size-le}
 use Rattle.gc_view.proofs.SlotLemmas.{SlotRange, shape_spaced, slot_range, slots_apart}
 use Rattle.gc_heap.specs.Extents.{held_size, size_with, writable_offset, HasFields, array_length}
@@ -22,7 +23,8 @@ use Rattle.gc_heap.specs.References.{typed_offsets}
 use Rattle.gc_heap.specs.Access.{IsReadable}
 use Rattle.gc_heap.specs.Content.{IsHeap}
 use Rattle.gc_heap.specs.Heap.{array_size}
-use Rattle.gc_heap.proofs.SpacedLemmas.{ref_width, contains_in, in_contains}
+use Rattle.gc_heap.proofs.SpacedLemmas.{ref_width}
+use Rattle.gc_memory.proofs.ListLemmas.{contains_in, in_contains}
 use Rattle.gc_owner.specs.Owners.{OwnerView, CanBegin}
 use Rattle.gc_owner.specs.Tracing.{IsTraced}
 use Rattle.gc_owner.specs.Writes.{IsNumberPlace, IsReferencePlace}

@@ -8,8 +8,9 @@ use Rattle.gc_view.specs.Heaps.{HeapView}
 use Rattle.gc_heap.specs.Heap.{put_object, with_data}
 use Rattle.gc_owner.specs.Owners.{OwnerView, CanBegin}
 use Rattle.gc_owner.specs.Writes.{IsNumberPlace, IsReferencePlace, WritesBytes, WritesWord}
-use Rattle.gc_model.specs.Forms.{Form, number_of, function_of, continuation_of, reference_of, storage_form, is_reference}
+use Rattle.gc_model.specs.Forms.{Form, number_of, function_of, continuation_of, reference_of, storage_form}
 use Rattle.gc_model.proofs.ReadingBack.{storage_reference, reference_width}
+use Rattle.gc_model.proofs.PointParts.{is_reference}
 use Rattle.gc_view.specs.Slots.{StorageSlot}
 use Rattle.gc_store.specs.declared.stored.Stored.TheVariants as kept
 use Rattle.gc_store.specs.Kept.{OfForm}

@@ -1,15 +1,15 @@
 -- That a store is sound: it holds some table.
-use Rattle.std.proofs.Common.{◌≡◌, ℕ, ◌-◌, ◌^◌, List, [], true, false, refl, sym, ap, ◌∙◌, subst, arith}
+use Rattle.std.proofs.Common.{◌≡◌, ℕ, ◌-◌, ◌^◌, List, [], map, true, false, refl, sym, ap, ◌∙◌, subst, arith}
 use Rattle.std.specs.List.{IsDistinct}
 use Rattle.std.specs.Option.{option_map}
-use Rattle.std.specs.FinMap as finite
 use Rattle.std.specs.Int.NonZero.{non_zero_u32_get}
 use Rattle.std.proofs.lemmas.Option.{none-some}
 use Rattle.gc_types.specs.declared.kind.Layouts.{Layouts}
 use Rattle.gc_types.specs.Declarations.{TypeTable}
 use Rattle.gc_model.specs.Table.{start}
 use Rattle.gc_view.specs.Heaps.{HeapView}
-use Rattle.gc_model.specs.Stores.{FunctionIds, StoreView, empty_store}
+use Rattle.gc_model.specs.SideValues.{no_ids}
+use Rattle.gc_model.specs.Stores.{StoreView, empty_store}
 use Rattle.gc_model.proofs.HoldsStart.{nowhere, IsUntouched, holds_untouched, untouched_new, untouched_from_parts, untouched_from_start}
 use Rattle.gc_heap.specs.Content.{IsHeap}
 use Rattle.gc_owner.specs.Owners.{OwnerView, new_owner, spent_owner}
@@ -20,8 +20,13 @@ use Rattle.gc_policy.specs.Accounts.{no_account}
 use Rattle.gc_policy.proofs.HeapGaps.{told_nowhere}
 use Rattle.gc_store.specs.declared.engine.StoreId.{StoreId}
 use Rattle.gc_store.specs.declared.config.HeapConfig.{HeapConfig}
+use Rattle.gc_store.specs.declared.interned.InternedValues.{InternedValues}
+use Rattle.gc_store.specs.declared.subtypes.AskedPairs.{AskedPairs}
+use Rattle.gc_store.specs.declared.subtypes.TypePair.{TypePair}
+use Rattle.gc_store.specs.Subtypes.{kept_count}
+use Rattle.std.proofs.lemmas.List.{nil_from_length}
 use Rattle.gc_store.specs.Collectings.{IsSpent, spent_table}
-use Rattle.gc_store.specs.Stores.{store_view, slot_counts, IsSound, HoldsStart, ShowsNothing, configured}
+use Rattle.gc_store.specs.Stores.{StoreTables, ids_of, tables_of, store_view, slot_counts, IsSound, HoldsStart, ShowsNothing, configured, ids_of, tables_of}
 
 -- The store has no account to speak of: nothing was allocated, counted or moved to an upper half.
 pub record CountsNothing {D : Type 0} (s : StoreView D) : Type 0 where
@@ -64,13 +69,20 @@ sound_start D layouts counts v s idle engine number frames holds = record {
   holds = holds;
 }
 
-module _ {D : Type 0} (id : StoreId) (config : HeapConfig) (ids : FunctionIds) (none : ids ≡ finite.empty) (v : OwnerView D) (fresh : v ≡ new_owner id.engine id.number v.roots.list_spare) where
+-- no value is interned, and no pair is kept
+abbrev pub no_tables : StoreTables
+no_tables = record { ids = no_ids; kept_pairs = [] }
+
+pub none_told : (interned : InternedValues) (asked : AskedPairs) → ids_of interned ≡ no_ids → kept_count asked ≡ 0 → tables_of interned asked ≡ no_tables
+none_told interned asked none few i = record { ids = none i; kept_pairs = map (λ (p : TypePair). (p.sub, p.sup)) (nil_from_length asked.pairs.keys few i) }
+
+module _ {D : Type 0} (id : StoreId) (config : HeapConfig) (tables : StoreTables) (none : tables ≡ no_tables) (v : OwnerView D) (fresh : v ≡ new_owner id.engine id.number v.roots.list_spare) where
   -- a store over a new owner shows nothing
-  pub new_view : store_view id config ids v 0 ≡ empty_store id.engine id.number config.first_pages config.max_scoped config.max_owned (option_map non_zero_u32_get config.alloc_counter)
-  new_view = ap (λ (o : OwnerView D). store_view id config ids o 0) fresh ∙ ap (λ (m : FunctionIds). store_view id config m (new_owner id.engine id.number v.roots.list_spare) 0) none
+  pub new_view : store_view id config tables v 0 ≡ empty_store id.engine id.number config.first_pages config.max_scoped config.max_owned (option_map non_zero_u32_get config.alloc_counter)
+  new_view = ap (λ (o : OwnerView D). store_view id config tables o 0) fresh ∙ ap (λ (m : StoreTables). store_view id config m (new_owner id.engine id.number v.roots.list_spare) 0) none
 
   -- so it holds the empty table
-  pub starts_fresh : (layouts : Layouts) → HoldsStart D layouts (store_view id config ids v 0)
+  pub starts_fresh : (layouts : Layouts) → HoldsStart D layouts (store_view id config tables v 0)
   starts_fresh layouts =
       subst (HoldsStart D layouts) (sym new_view)
       (starts_untouched D layouts (empty_store id.engine id.number config.first_pages config.max_scoped config.max_owned (option_map non_zero_u32_get config.alloc_counter))
@@ -78,9 +90,9 @@ module _ {D : Type 0} (id : StoreId) (config : HeapConfig) (ids : FunctionIds) (
       (record { last = refl; tries = refl; upper = refl }))
 
   -- and is sound
-  pub sound_new : (layouts : Layouts) (counts : List ℕ) → counts ≡ [] → IsSound D layouts counts v (store_view id config ids v 0)
+  pub sound_new : (layouts : Layouts) (counts : List ℕ) → counts ≡ [] → IsSound D layouts counts v (store_view id config tables v 0)
   sound_new layouts counts no_frames =
-      sound_start D layouts counts v (store_view id config ids v 0) (ap (λ (o : OwnerView D). o.idle) fresh) (ap (λ (o : OwnerView D). o.types.engine) fresh) (ap (λ (o : OwnerView D). o.types.number) fresh)
+      sound_start D layouts counts v (store_view id config tables v 0) (ap (λ (o : OwnerView D). o.idle) fresh) (ap (λ (o : OwnerView D). o.types.engine) fresh) (ap (λ (o : OwnerView D). o.types.number) fresh)
       (no_frames ∙ ap (λ (s : StoreView D). slot_counts s.frames) (sym new_view)) (starts_fresh layouts)
 
 -- A spent store
@@ -112,22 +124,22 @@ spent_holds D layouts s untouched =
         in_order = λ i j d less inside. absurd (omega arith);
       };
       pending = points.pending;
-      funcs = points.funcs;
+      interned = points.interned;
       hosts = points.hosts;
       typed = points.typed;
     }
 
-module _ {D : Type 0} (id : StoreId) (config : HeapConfig) (ids : FunctionIds) (none : ids ≡ finite.empty) (v : OwnerView D) (spent : v ≡ spent_owner id.engine id.number v.roots.list_spare) where
+module _ {D : Type 0} (id : StoreId) (config : HeapConfig) (tables : StoreTables) (none : tables ≡ no_tables) (v : OwnerView D) (spent : v ≡ spent_owner id.engine id.number v.roots.list_spare) where
   abbrev empty_one : StoreView D
   empty_one = empty_store id.engine id.number config.first_pages config.max_scoped config.max_owned (option_map non_zero_u32_get config.alloc_counter)
 
   abbrev spent_one : StoreView D
   spent_one = record empty_one { generation = most; owns = most; owned = [] }
 
-  pub spent_view : store_view id config ids v 0 ≡ spent_one
-  spent_view = ap (λ (o : OwnerView D). store_view id config ids o 0) spent ∙ ap (λ (m : FunctionIds). store_view id config m (spent_owner id.engine id.number v.roots.list_spare) 0) none
+  pub spent_view : store_view id config tables v 0 ≡ spent_one
+  spent_view = ap (λ (o : OwnerView D). store_view id config tables o 0) spent ∙ ap (λ (m : StoreTables). store_view id config m (spent_owner id.engine id.number v.roots.list_spare) 0) none
 
-  pub is_spent : (layouts : Layouts) → IsSpent D layouts (store_view id config ids v 0)
+  pub is_spent : (layouts : Layouts) → IsSpent D layouts (store_view id config tables v 0)
   is_spent layouts =
       subst (IsSpent D layouts) (sym spent_view) (record {
         place = nowhere;
@@ -135,7 +147,7 @@ module _ {D : Type 0} (id : StoreId) (config : HeapConfig) (ids : FunctionIds) (
         account = record { held = nothing_held; places = told_nowhere layouts; last = refl; tries = refl; upper = refl };
       })
 
-  pub sound_spent : (layouts : Layouts) (counts : List ℕ) → counts ≡ [] → IsSound D layouts counts v (store_view id config ids v 0)
+  pub sound_spent : (layouts : Layouts) (counts : List ℕ) → counts ≡ [] → IsSound D layouts counts v (store_view id config tables v 0)
   sound_spent layouts counts no_frames = record {
     idle = ap (λ (o : OwnerView D). o.idle) spent;
     engine = ap (λ (o : OwnerView D). o.types.engine) spent;
@@ -164,7 +176,7 @@ starts_configured D layouts config s holds =
       globals = untouched.globals;
       owned = untouched.owned;
       pending = untouched.pending;
-      funcs = untouched.funcs;
+      ids = untouched.ids;
       no_hosts = untouched.no_hosts;
     } in
     starts_untouched D layouts (configured config s) still (record { last = holds.account.last; tries = holds.account.tries; upper = holds.account.upper })
@@ -172,14 +184,14 @@ starts_configured D layouts config s holds =
 -- a sound store that shows nothing holds the empty table, where no collection ran without a heap
 pub starts_nothing : (D : Type 0) (layouts : Layouts) (counts : List ℕ) (v : OwnerView D) (s : StoreView D) → IsHeap layouts s.heap → (s.heap.attached ≡ false → s.last ≡ 0) → IsSound D layouts counts v s → ShowsNothing s → HoldsStart D layouts s
 starts_nothing D layouts counts v s heap unused sound nothing =
-    starts_untouched D layouts s (untouched_from_parts layouts s sound.table sound.holds.place sound.holds.holds nothing.types nothing.scoped nothing.generation nothing.frames nothing.globals nothing.pending nothing.owns nothing.funcs nothing.attached)
+    starts_untouched D layouts s (untouched_from_parts layouts s sound.table sound.holds.place sound.holds.holds nothing.types nothing.scoped nothing.generation nothing.frames nothing.globals nothing.pending nothing.owns nothing.ids nothing.attached)
     (record { last = unused nothing.attached; tries = nothing.tries; upper = ap (λ (h : HeapView). h.needs_gc) (heap.detached nothing.attached) })
 
 -- a store that holds the empty table shows nothing
 pub nothing_starts : (D : Type 0) (layouts : Layouts) (s : StoreView D) → HoldsStart D layouts s → ShowsNothing s
 nothing_starts D layouts s holds =
     let untouched = untouched_from_start D layouts s holds.place holds.holds in
-    record { tries = holds.account.tries; types = untouched.types; scoped = untouched.scoped; generation = untouched.generation; frames = untouched.frames; globals = untouched.globals; pending = untouched.pending; owns = holds.holds.owned.same_owns; funcs = untouched.funcs; attached = untouched.attached }
+    record { tries = holds.account.tries; types = untouched.types; scoped = untouched.scoped; generation = untouched.generation; frames = untouched.frames; globals = untouched.globals; pending = untouched.pending; owns = holds.holds.owned.same_owns; ids = untouched.ids; attached = untouched.attached }
 
 -- a table of types with that id
 pub own_types : (types : TypeTable) (e n : ℕ) → types.engine ≡ e → types.number ≡ n → types ≡ record { engine = e; number = n; declarations = types.declarations }

@@ -51,6 +51,7 @@ module _ {D : Type 0} (layouts : Layouts) (s : StoreView D) (n : ℕ) where
   stands_roomy t (raw.F64 z) v is = is
   stands_roomy t (raw.V128 z) v is = is
   stands_roomy t (raw.Func f) v is = is
+  stands_roomy t (raw.Cont c) v is = is
   stands_roomy t (raw.Ref class None) v is = is
   stands_roomy t (raw.Ref class (Some handle)) v is = record { root = is.root; named = names_roomy t handle is.root is.named; is = is.is }
 
@@ -64,6 +65,7 @@ module _ {D : Type 0} (layouts : Layouts) (s : StoreView D) (n : ℕ) where
   live_roomy (raw.F64 z) is = is
   live_roomy (raw.V128 z) is = is
   live_roomy (raw.Func f) is = is
+  live_roomy (raw.Cont c) is = is
   live_roomy (raw.Ref class None) is = is
   live_roomy (raw.Ref class (Some handle)) is = record { table = is.table; holds = is.holds; root = is.root; named = names_roomy is.table handle is.root is.named }
 

@@ -5,29 +5,30 @@ use Rattle.gc_heap.specs.declared.collection.GcProgress.{GcProgress}
 use Rattle.gc_heap.specs.declared.collection.GcProgress.TheVariants as progress
 use Rattle.gc_owner.specs.Counting.{CountsSteps}
 use Rattle.gc_owner.specs.Owners.{OwnerValue, Kind, Increments, IsUnderWay}
-use Rattle.gc_model.specs.Stores.{StoreView, FunctionIds}
+use Rattle.gc_model.specs.Stores.{StoreView}
 use Rattle.gc_model.specs.Holds.{HoldsTable}
 use Rattle.gc_store.specs.declared.engine.StoreId.{StoreId}
 use Rattle.gc_store.specs.declared.config.HeapConfig.{HeapConfig}
 use Rattle.gc_store.specs.Suspensions.{SuspendedView, IsSuspended, waits, goes, is_over}
+use Rattle.gc_store.specs.Stores.{StoreTables}
 use Rattle.gc_store.specs.Collectings.{IsAsked, IsRunning, IsOpen, IsClosed, DoesIncrement, CountsCollection, GivesStore, IsCollected}
 use Rattle.gc_store.proofs.Incrementing.{takes_exactly}
 use Rattle.gc_store.proofs.ReachedWords.{increments_taken}
 use Rattle.gc_store.proofs.Suspending.{with_owner, store_of, still_sound, still_was, closes, closes_unmade, sound_ended}
 
-module _ {H S D : Type 0} (k : Kind H S) (id : StoreId) (config : HeapConfig) (ids : FunctionIds) (tries : ℕ) where
+module _ {H S D : Type 0} (k : Kind H S) (id : StoreId) (config : HeapConfig) (tables : StoreTables) (tries : ℕ) where
   -- so the store stays sound
-  pub step_suspended : (counts : List ℕ) (v w : OwnerValue H S D) (b : Bool) (answer : GcProgress) → IsSuspended k counts (with_owner k id config ids tries v b) → (v.seen.idle ≡ true → w ≡ v)
-      → ((s : Start) (n : ℕ) (c : Bool) (from : OwnerValue H S D) → IsUnderWay k s n c from v → Increments k s (n + 1) from w answer) → IsSuspended k counts (with_owner k id config ids tries w b)
-  step_suspended counts v w b answer (waits begun sound trimmed) same steps = subst (λ (x : OwnerValue H S D). IsSuspended k counts (with_owner k id config ids tries x b)) (sym (same sound.idle)) (waits begun sound trimmed)
-  step_suspended counts v w b answer (is_over begun sound) same steps = subst (λ (x : OwnerValue H S D). IsSuspended k counts (with_owner k id config ids tries x b)) (sym (same sound.idle)) (is_over begun sound)
+  pub step_suspended : (counts : List ℕ) (v w : OwnerValue H S D) (b : Bool) (answer : GcProgress) → IsSuspended k counts (with_owner k id config tables tries v b) → (v.seen.idle ≡ true → w ≡ v)
+      → ((s : Start) (n : ℕ) (c : Bool) (from : OwnerValue H S D) → IsUnderWay k s n c from v → Increments k s (n + 1) from w answer) → IsSuspended k counts (with_owner k id config tables tries w b)
+  step_suspended counts v w b answer (waits begun sound trimmed) same steps = subst (λ (x : OwnerValue H S D). IsSuspended k counts (with_owner k id config tables tries x b)) (sym (same sound.idle)) (waits begun sound trimmed)
+  step_suspended counts v w b answer (is_over begun sound) same steps = subst (λ (x : OwnerValue H S D). IsSuspended k counts (with_owner k id config tables tries x b)) (sym (same sound.idle)) (is_over begun sound)
   step_suspended counts v w b answer (goes begun is) same steps = by answer (steps is.start is.done is.counted is.from is.way)
     where
-      by : (a : GcProgress) → Increments k is.start (is.done + 1) is.from w a → IsSuspended k counts (with_owner k id config ids tries w b)
-      by progress.Complete did = is_over begun (sound_ended k id config ids tries counts is.from.seen w.seen (still_sound k id config ids tries counts v.seen w.seen is.from.seen is.began) did.1)
+      by : (a : GcProgress) → Increments k is.start (is.done + 1) is.from w a → IsSuspended k counts (with_owner k id config tables tries w b)
+      by progress.Complete did = is_over begun (sound_ended k id config tables tries counts is.from.seen w.seen (still_sound k id config tables tries counts v.seen w.seen is.from.seen is.began) did.1)
       by progress.Continue did = goes begun (record {
         from = is.from;
-        began = still_sound k id config ids tries counts v.seen w.seen is.from.seen is.began;
+        began = still_sound k id config tables tries counts v.seen w.seen is.from.seen is.began;
         start = is.start;
         done = is.done + 1;
         counted = false;
@@ -35,12 +36,12 @@ module _ {H S D : Type 0} (k : Kind H S) (id : StoreId) (config : HeapConfig) (i
       })
 
   -- and an increment of a collection that is under way is one of the store's
-  pub steps_store : (old : StoreView D) (n : ℕ) (counted : Bool) (v w : OwnerValue H S D) (b : Bool) (answer : GcProgress) (is : IsRunning k old n counted (with_owner k id config ids tries v b)) → Increments k is.at (n + 1) is.from w answer
-      → (answer ≡ progress.Complete → w.seen.idle ≡ true) → DoesIncrement k old (n + 1) (with_owner k id config ids tries w b) answer
+  pub steps_store : (old : StoreView D) (n : ℕ) (counted : Bool) (v w : OwnerValue H S D) (b : Bool) (answer : GcProgress) (is : IsRunning k old n counted (with_owner k id config tables tries v b)) → Increments k is.at (n + 1) is.from w answer
+      → (answer ≡ progress.Complete → w.seen.idle ≡ true) → DoesIncrement k old (n + 1) (with_owner k id config tables tries w b) answer
   steps_store old n counted v w b progress.Complete is did idle = (
-    closes k id config ids tries old n counted v w b is did.1 (idle refl),
+    closes k id config tables tries old n counted v w b is did.1 (idle refl),
     λ t made holds.
-        takes_exactly k.layouts (store_of k id config ids tries v.seen) t is.from.seen is.way.trimmed.seen w.seen (n + 1) (subst (λ (s : StoreView D). HoldsTable k.layouts s t) (sym is.was.shows) holds)
+        takes_exactly k.layouts (store_of k id config tables tries v.seen) t is.from.seen is.way.trimmed.seen w.seen (n + 1) (subst (λ (s : StoreView D). HoldsTable k.layouts s t) (sym is.was.shows) holds)
         is.was.in_frames is.was.is_heap is.was.attached is.way.trims did.1 (subst (λ (s : Start). IsIncrements k.layouts s (n + 1)) is.way.going.start did.0),
   )
   steps_store old n counted v w b progress.Continue is did idle = (
@@ -49,14 +50,14 @@ module _ {H S D : Type 0} (k : Kind H S) (id : StoreId) (config : HeapConfig) (i
       record {
         begun = is.begun;
         from = is.from;
-        was = still_was k id config ids tries old v.seen w.seen is.from.seen is.was;
+        was = still_was k id config tables tries old v.seen w.seen is.from.seen is.was;
         at = is.at;
         way = did.1;
       },
     ),
     λ t holds number takes.
         did.0 number (subst (λ (s : Start). IsIncrements k.layouts s number) (sym is.way.going.start)
-        (increments_taken k.layouts (store_of k id config ids tries v.seen) t is.from.seen is.way.trimmed.seen (subst (λ (s : StoreView D). HoldsTable k.layouts s t) (sym is.was.shows) holds)
+        (increments_taken k.layouts (store_of k id config tables tries v.seen) t is.from.seen is.way.trimmed.seen (subst (λ (s : StoreView D). HoldsTable k.layouts s t) (sym is.was.shows) holds)
         is.was.in_frames is.was.attached is.way.trims number takes)),
   )
 

@@ -6,11 +6,11 @@ use Rattle.gc_heap.specs.Collection.{Start}
 use Rattle.gc_owner.specs.declared.entry.OwnedEntry.{OwnedEntry}
 use Rattle.gc_owner.specs.RootColumns.{RootsView, AreFrames}
 use Rattle.gc_owner.specs.Owners.{OwnerView, OwnerValue, Kind, Trims, Collects, IsGoing, IsUnderWay, IsEnded, start_of}
-use Rattle.gc_model.specs.Stores.{StoreView, FunctionIds}
+use Rattle.gc_model.specs.Stores.{StoreView}
 use Rattle.gc_model.proofs.OwnedRoots.{trimmed_held}
 use Rattle.gc_store.specs.declared.engine.StoreId.{StoreId}
 use Rattle.gc_store.specs.declared.config.HeapConfig.{HeapConfig}
-use Rattle.gc_store.specs.Stores.{store_view, IsSound}
+use Rattle.gc_store.specs.Stores.{StoreTables, store_view, IsSound}
 use Rattle.gc_store.specs.Suspensions.{SuspendedView, suspended_view, BeganSound, IsSuspended, waits, goes, is_over}
 use Rattle.gc_store.specs.Collectings.{IsCollected, IsTrimmedStore, WasStore, IsTrimmedFrom, IsAsked, IsRunning, IsOpen, IsClosed}
 use Rattle.gc_policy.proofs.CollectedStore.{unmade_kept}
@@ -51,12 +51,12 @@ module _ {H S D : Type 0} (k : Kind H S) (old : StoreView D) (c : SuspendedView 
       by (inl (none, same)) = record { begun = refl; idle = idle; collected = subst (IsCollected k.layouts old) (sym same) (nothing_collected k.layouts old unmade) }
       by (inr is) = absurd (cc (sym (ap (λ (s : StoreView D). s.heap.attached) is.was.shows) ∙ is.was.attached, unmade))
 
-module _ {H S D : Type 0} (k : Kind H S) (id : StoreId) (config : HeapConfig) (ids : FunctionIds) (tries : ℕ) where
+module _ {H S D : Type 0} (k : Kind H S) (id : StoreId) (config : HeapConfig) (tables : StoreTables) (tries : ℕ) where
   abbrev pub with_owner : OwnerValue H S D → Bool → SuspendedView H S D
-  with_owner v begun = suspended_view id config ids v tries begun
+  with_owner v begun = suspended_view id config tables v tries begun
 
   abbrev pub store_of : OwnerView D → StoreView D
-  store_of v = store_view id config ids v tries
+  store_of v = store_view id config tables v tries
 
   -- A collection is asked for
 
@@ -89,7 +89,7 @@ module _ {H S D : Type 0} (k : Kind H S) (id : StoreId) (config : HeapConfig) (i
     where
       by : (b : Bool) → v.seen.heap.attached ≡ b → IsSuspended k counts (with_owner w false)
       by true is =
-          waits refl (sound_trimmed k.layouts id config ids tries v.seen w.seen (made is) counts sound)
+          waits refl (sound_trimmed k.layouts id config tables tries v.seen w.seen (made is) counts sound)
           (λ attached. record { from = v; began = record { in_frames = in_frames; attached = is; sound = sound }; trims = made is })
       by false is =
           subst (λ (x : OwnerValue H S D). IsSuspended k counts (with_owner x false)) (sym (unmade is)) (waits refl sound (λ attached. absurd (cc (sym attached ∙ is))))
@@ -155,7 +155,7 @@ module _ {H S D : Type 0} (k : Kind H S) (id : StoreId) (config : HeapConfig) (i
   collected_from old from w was collects = record {
     kept = kept_collected k.layouts (store_of w) from w was.in_frames was.attached collects old was.shows;
     collects = λ t a limits made. store_collected k.layouts (store_of w) from w was.in_frames was.attached collects old was.shows t a limits;
-    settled = λ made. settled k.layouts from w collects id config ids tries was.in_frames;
+    settled = λ made. settled k.layouts from w collects id config tables tries was.in_frames;
     unmade = λ none. absurd (cc (sym (ap (λ (s : StoreView D). s.heap.attached) was.shows) ∙ was.attached, none));
     same = record {
       engine = ap (λ (s : StoreView D). s.engine) was.shows;
@@ -185,7 +185,7 @@ module _ {H S D : Type 0} (k : Kind H S) (id : StoreId) (config : HeapConfig) (i
           let rest = is.trims.changes.rest in
           subst (λ (s : StoreView D). IsTrimmedStore k.layouts s (store_of v.seen)) is.was.shows (record {
             holds = λ t a holds.
-                let there = trimmed_there k.layouts id config ids tries is.from.seen v.seen is.trims t holds.place a (holds.holds, holds.account) in
+                let there = trimmed_there k.layouts id config tables tries is.from.seen v.seen is.trims t holds.place a (holds.holds, holds.account) in
                 record { place = holds.place; holds = there.0; account = there.1 };
             held = λ made. subst (λ (x : OwnerView D). (e : OwnedEntry) → Contains x.roots.owned e → 0 < e.handles) (sym rest) (trimmed_held is.from.seen.roots.owned);
             objects = is.trims.changes.held;

@@ -15,17 +15,18 @@ use Rattle.gc_types.specs.Layouts.{struct_base, exception_base, storage_width}
 use Rattle.gc_memory.specs.Lists.{In}
 use Rattle.gc_view.specs.Bytes.{SameBytes, put_bytes, u32_at}
 use Rattle.gc_view.specs.Heaps.{HeapObject}
-use Rattle.gc_view.specs.Slots.{shape_slots, shape_first, shape_size}
+use Rattle.gc_view.specs.Slots.{shape_slots, shape_size}
+use Rattle.gc_view.proofs.Spacing.{shape_first}
 use Rattle.gc_view.proofs.ByteLemmas.{put_bytes-above, part_in_same, u32_at-put_u32, u32_at-put_before}
 use Rattle.gc_view.proofs.SlotLemmas.{shape_spaced, spaced-le, slot_range}
 use Rattle.gc_heap.specs.Extents.{HasFields, writable_offset}
 use Rattle.gc_heap.specs.References.{typed_offsets}
-use Rattle.gc_heap.proofs.SpacedLemmas.{contains_in}
+use Rattle.gc_memory.proofs.ListLemmas.{contains_in}
 use Rattle.gc_owner.specs.Owners.{OwnerView, CanBegin}
 use Rattle.gc_owner.specs.Writes.{IsNumberPlace, WritesBytes}
 use Rattle.gc_policy.proofs.CollectedOffsets.{ref_slot}
 use Rattle.gc_model.proofs.ObjectShapes.{shape_at}
-use Rattle.gc_model.specs.Forms.{FunctionIds}
+use Rattle.gc_model.specs.Forms.{InternedIds}
 use Rattle.gc_store.specs.Words.{handle_roots, AreRising}
 use Rattle.gc_store.specs.declared.root.RawValue.{RawValue}
 use Rattle.gc_store.specs.HeldSlots.{HasShape, IsHeldOf}
@@ -141,7 +142,7 @@ shape_params o (array_of element) n has is = absurd (cc (sym has.0 ∙ is))
 shape_params o (exn_of params) n has is = (params, refl)
 shape_params o (func_of params results) n has is = absurd has
 
-module _ {D : Type 0} (layouts : Layouts) (v : OwnerView D) (place ty : ℕ) (ids : FunctionIds) (raws : List RawValue) (object : HeapObject) (shape : Shape) (count : ℕ) (f : IsToFill layouts v place ty (EachFits ids raws) object shape count) (kind : object.kind ≡ ExnRef) where
+module _ {D : Type 0} (layouts : Layouts) (v : OwnerView D) (place ty : ℕ) (ids : InternedIds) (raws : List RawValue) (object : HeapObject) (shape : Shape) (count : ℕ) (f : IsToFill layouts v place ty (EachFits ids raws) object shape count) (kind : object.kind ≡ ExnRef) where
   -- an exception that is to be filled is one
   abbrev pub to_tag : IsExceptionAt v place
   to_tag =

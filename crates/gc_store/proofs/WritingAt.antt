@@ -1,29 +1,28 @@
 -- What a write of a value into an object that a handle names leaves of the store.
-use Rattle.std.proofs.Common.{◌≡◌, ℕ, ◌-◌, true, List, [], ◌∷◌, Option, Some, None, Ok, refl, sym, ap, ◌∙◌, subst, arith}
+use Rattle.std.proofs.Common.{◌≡◌, ℕ, ◌-◌, true, List, [], ◌∷◌, Some, None, Ok, refl, sym, ap, ◌∙◌, subst, arith}
 use Rattle.std.specs.Int.{w32, w64, cast_unsigned}
 use Rattle.std.specs.FinMap.{get, gets}
 use Rattle.std.proofs.lemmas.Grind.{common_steps}
 use Rattle.std.proofs.lemmas.Int.{of_z-to_z}
 use Rattle.std.proofs.lemmas.Option.{same_Some}
 use Rattle.gc_types.specs.declared.value.FieldType.{FieldType}
-use Rattle.gc_types.specs.declared.value.Func.{Func}
 use Rattle.gc_types.specs.declared.value.StorageType.{StorageType}
 use Rattle.gc_types.specs.declared.kind.Layouts.{Layouts}
 use Rattle.gc_types.specs.Layouts.{struct_base}
 use Rattle.gc_view.specs.Heaps.{HeapObject, HeapView}
 use Rattle.gc_view.specs.Slots.{StorageSlot}
 use Rattle.gc_heap.specs.Heap.{put_object, with_data}
-use Rattle.gc_model.specs.Values.{null, Value, numeric, i32, i64, f32, f64, v128, function, reference, number_bits}
+use Rattle.gc_model.specs.Values.{null, Value, numeric, i32, i64, f32, f64, v128, function, continuation, reference, number_bits}
 use Rattle.gc_model.specs.Fits.{fits}
 use Rattle.gc_model.specs.Stored.{stored}
 use Rattle.gc_model.specs.Table.{Table, intern, write}
 use Rattle.gc_model.specs.Stores.{StoreView}
-use Rattle.gc_model.specs.Forms.{FunctionIds, IsFunctionCode, IsCode, naming, storage_form, value_form}
+use Rattle.gc_model.specs.Forms.{InternedIds, IsIdCode, IsContCode, IsCode, naming, storage_form, value_form}
 use Rattle.gc_model.specs.Holds.{Placing, IsWord, Holds}
-use Rattle.gc_model.specs.Functions.{FunctionsBy, functions_of, with_functions}
+use Rattle.gc_model.specs.SideValues.{InternedBy, SideValues, side_values, with_side_values}
 use Rattle.gc_model.proofs.Fitting.{fits-form, fits-stored}
 use Rattle.gc_model.proofs.HoldsInterned.{with_ids, holds_interned}
-use Rattle.gc_model.proofs.Interned.{functions-stored}
+use Rattle.gc_model.proofs.Interned.{side-stored}
 use Rattle.gc_model.proofs.HoldsWrite.{IsWrittenObject, holds_write}
 use Rattle.gc_model.proofs.ObjectShapes.{IsSlotOf}
 use Rattle.gc_policy.specs.Accounts.{Account, HoldsAccount}
@@ -37,10 +36,10 @@ use Rattle.gc_store.specs.Filling.{slot_bytes}
 use Rattle.gc_store.specs.HeldSlots.{FindsHeldSlot, storage_slot}
 use Rattle.gc_store.specs.Kept.{code_of, FitsForm, IsKept, KeptAs, KeptStands, raw_form, StoredStands}
 use Rattle.gc_store.specs.Roots.{store_roots, word_of}
-use Rattle.gc_store.specs.Values.{CanStore, CanWrite, NamesLive, RawStands, KeepsValue, raw_functions}
-use Rattle.gc_store.specs.Interning.{Interns}
+use Rattle.gc_store.specs.Values.{CanStore, CanWrite, NamesLive, RawStands, KeepsValue, raw_side_values}
+use Rattle.gc_store.specs.Interning.{InternsAll}
 use Rattle.gc_store.proofs.EachValue.{kept_encoded}
-use Rattle.gc_store.proofs.GivenFunctions.{interned_ids, raw-stands}
+use Rattle.gc_store.proofs.GivenValues.{held_all, interned_ids, keeps_all, raw-stands}
 use Rattle.gc_store.proofs.KeptAgain.{IsRooted, rooted_kept}
 use Rattle.gc_store.proofs.LyingAt.{LyingAt, lying_at, slot_is_found}
 use Rattle.gc_store.proofs.HandleWords.{live_has_word, named_word, named_of_store, own_word, names_word}
@@ -53,6 +52,7 @@ raw_form_is s t (raw.F32 n) v is = sym (ap value_form is)
 raw_form_is s t (raw.F64 n) v is = sym (ap value_form is)
 raw_form_is s t (raw.V128 n) v is = sym (ap value_form is)
 raw_form_is s t (raw.Func f) v is = sym (ap value_form is)
+raw_form_is s t (raw.Cont c) v is = sym (ap value_form is)
 raw_form_is s t (raw.Ref class None) v is = sym (ap value_form is)
 raw_form_is s t (raw.Ref class (Some handle)) v is = sym (ap value_form is.is)
 
@@ -65,6 +65,7 @@ module _ (D : Type 0) (layouts : Layouts) (s : StoreView D) where
   is_rooted (raw.F64 n) live = tt
   is_rooted (raw.V128 n) live = tt
   is_rooted (raw.Func f) live = tt
+  is_rooted (raw.Cont c) live = tt
   is_rooted (raw.Ref class None) live = tt
   is_rooted (raw.Ref class (Some handle)) live =
       let word = live_has_word layouts s live.table live.holds.0 live.holds.1 handle live.root live.named in
@@ -79,6 +80,7 @@ module _ (D : Type 0) (layouts : Layouts) (s : StoreView D) where
     value_of (raw.F64 n) live = (numeric f64 n, refl)
     value_of (raw.V128 n) live = (numeric v128 n, refl)
     value_of (raw.Func f) live = (function f, refl)
+    value_of (raw.Cont c) live = (continuation c, refl)
     value_of (raw.Ref class None) live = (reference class null, refl)
     value_of (raw.Ref class (Some handle)) live =
         let word = live_has_word layouts s live.table live.holds.0 live.holds.1 handle live.root live.named in
@@ -86,7 +88,7 @@ module _ (D : Type 0) (layouts : Layouts) (s : StoreView D) where
         (reference class named.root, record { root = named.root; named = named.named; is = refl })
 
     -- what is kept of it stands for that value
-    pub kept_stands : (ids : FunctionIds) (r : RawValue) (v : Value) → RawStands s t r v → KeptStands ids (naming place ids) (store_roots s) r v
+    pub kept_stands : (ids : InternedIds) (r : RawValue) (v : Value) → RawStands s t r v → KeptStands ids (naming place ids) (store_roots s) r v
     kept_stands ids (raw.I32 n) v stands x kept small =
         let code : code_of x ≡ cast_unsigned w32 n = ap code_of kept in
         subst (λ (w : Value). IsCode (naming place ids) w (code_of x)) (sym stands)
@@ -98,7 +100,8 @@ module _ (D : Type 0) (layouts : Layouts) (s : StoreView D) where
     kept_stands ids (raw.F32 n) v stands x kept small = subst (λ (w : Value). IsCode (naming place ids) w (code_of x)) (sym stands) (ap code_of kept)
     kept_stands ids (raw.F64 n) v stands x kept small = subst (λ (w : Value). IsCode (naming place ids) w (code_of x)) (sym stands) (ap code_of kept)
     kept_stands ids (raw.V128 n) v stands x kept small = subst (λ (w : Value). IsCode (naming place ids) w (code_of x)) (sym stands) (ap code_of kept)
-    kept_stands ids (raw.Func f) v stands x kept small = subst (λ (w : Value). IsCode (naming place ids) w (code_of x)) (sym stands) (subst (IsFunctionCode ids f) (sym (ap code_of kept.1.1)) kept.1.0)
+    kept_stands ids (raw.Func f) v stands x kept small = subst (λ (w : Value). IsCode (naming place ids) w (code_of x)) (sym stands) (subst (IsIdCode ids.funcs f) (sym (ap code_of kept.1.1)) kept.1.0)
+    kept_stands ids (raw.Cont c) v stands x kept small = subst (λ (w : Value). IsCode (naming place ids) w (code_of x)) (sym stands) (subst (IsContCode ids.conts c) (sym (ap code_of kept.1.1)) kept.1.0)
     kept_stands ids (raw.Ref class None) v stands x kept small = subst (λ (w : Value). IsCode (naming place ids) w (code_of x)) (sym stands) (ap code_of kept)
     kept_stands ids (raw.Ref class (Some handle)) v stands x kept small =
         let word = own_word s handle (named_of_store s t handle stands.root stands.named) ∙ kept.1.0 in
@@ -106,7 +109,7 @@ module _ (D : Type 0) (layouts : Layouts) (s : StoreView D) where
         (subst (IsWord place stands.root) (sym (ap code_of kept.1.1)) (named_word layouts s t place holds handle stands.root kept.0 stands.named word).0)
 
     -- What a slot keeps of a value that fits it
-    pub stored_stands : (ids : FunctionIds) (ty : StorageType) (r : RawValue) (v : Value) → RawStands s t r v → fits t.types t.objects ty v ≡ true → StoredStands ids (naming place ids) (store_roots s) ty r (stored ty v)
+    pub stored_stands : (ids : InternedIds) (ty : StorageType) (r : RawValue) (v : Value) → RawStands s t r v → fits t.types t.objects ty v ≡ true → StoredStands ids (naming place ids) (store_roots s) ty r (stored ty v)
     stored_stands ids ty r v stands fit =
         let form = fits-form t.types t.objects ty v fit in
         record {
@@ -153,14 +156,14 @@ module _ (D : Type 0) (layouts : Layouts) (s : StoreView D) (handle : GcRootInde
     pub spot_form : raw_form r ≡ storage_form found.storage
     spot_form = storable_form D layouts s can.table can.holds.0 can.holds.1 can.field.element_type r can.can_store ∙ ap storage_form spot_type
 
-    module _ (ids : FunctionIds) (interned : Interns s.funcs ids (raw_functions (r ∷ []))) where
+    module _ (ids : InternedIds) (interned : InternsAll s.ids ids (raw_side_values (r ∷ []))) where
       pub spot_kept : IsKept ids (store_roots s) r
-      spot_kept = rooted_kept ids (store_roots s) r (interned_ids s.funcs ids (raw_functions (r ∷ [])) can.table.funcs can.holds.1.funcs interned) (is_rooted D layouts s r can.can_store.live)
+      spot_kept = rooted_kept ids (store_roots s) r (interned_ids s.ids ids (raw_side_values (r ∷ [])) can.table.interned can.holds.1.interned interned) (is_rooted D layouts s r can.can_store.live)
 
       module _ (heap : HeapView) (x : Stored) (kept : KeptAs ids (store_roots s) r x) (small : FitsForm (raw_form r) (code_of x))
           (written : (object : HeapObject) → get s.heap.content word ≡ Some object → heap ≡ record (put_object s.heap word (with_data layouts object found.offset (slot_bytes found.storage (code_of x)))) { counts = heap.counts }) where
         abbrev after : StoreView D
-        after = record s { heap = heap; funcs = ids }
+        after = record s { heap = heap; ids = ids }
 
         -- each table that the store held is held with the value
         pub keeps_value : (t : Table D) (a : Account) → HoldsAccount layouts s t a → KeepsValue layouts s after t a handle index r
@@ -172,12 +175,13 @@ module _ (D : Type 0) (layouts : Layouts) (s : StoreView D) (handle : GcRootInde
             let fit : fits t.types t.objects found.storage v ≡ true =
             sym (ap (λ (st : StorageType). fits t.types t.objects st v) spot_type) ∙ can.can_store.fits t v (holds.place, holds.holds) stands in
             let is : heap ≡ record (put_object s.heap word (with_data layouts lies.object found.offset (slot_bytes found.storage (code_of x)))) { counts = heap.counts } = written lies.object lies.is.held in
-            let fs : List (Option Func) = functions_of (stored found.storage v ∷ []) in
-            let given : raw_functions (r ∷ []) ≡ fs = raw-stands s t r v stands ∙ sym (functions-stored found.storage v) in
-            let by : FunctionsBy (with_functions fs t.funcs) ids = subst (λ (gs : List (Option Func)). FunctionsBy (with_functions gs t.funcs) ids) given (interned.held t.funcs holds.holds.funcs) in
+            let values : List Value = stored found.storage v ∷ [] in
+            let given : raw_side_values (r ∷ []) ≡ side_values values = raw-stands s t r v stands ∙ sym (side-stored found.storage v) in
+            let by : InternedBy (with_side_values (side_values values) t.interned) ids =
+            subst (λ (x : SideValues). InternedBy (with_side_values x t.interned) ids) given (held_all s.ids ids (raw_side_values (r ∷ [])) t.interned interned holds.holds.interned) in
             let now : Holds layouts after (write has.position index (stored found.storage v) t) holds.place =
-            holds_write layouts (with_ids ids s) (intern fs t) holds.place heap word has.position index has.object (storage_slot found) (stored found.storage v) (slot_bytes found.storage (code_of x))
-            (holds_interned layouts s t holds.place fs ids holds.holds interned.keeps by) lies.placed has.object_is
+            holds_write layouts (with_ids ids s) (intern values t) holds.place heap word has.position index has.object (storage_slot found) (stored found.storage v) (slot_bytes found.storage (code_of x))
+            (holds_interned layouts s t holds.place values ids holds.holds (keeps_all s.ids ids (raw_side_values (r ∷ [])) interned) by) lies.placed has.object_is
             (subst (IsSlotOf layouts t.types has.object index) (sym slot) lies.lying.is_slot)
             (kept_encoded ids (naming holds.place ids) (store_roots s) found.storage r (stored found.storage v) x (stored_stands D layouts s t holds.place holds.holds ids found.storage r v stands fit) kept small)
             (fits-stored t.types t.objects found.storage v fit)

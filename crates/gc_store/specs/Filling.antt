@@ -13,7 +13,7 @@ use Rattle.gc_view.specs.Slots.{StorageSlot, shape_slots, element_slots}
 use Rattle.gc_owner.specs.Owners.{OwnerView}
 use Rattle.gc_model.specs.Values.{Value}
 use Rattle.gc_model.specs.Stored.{byte_value}
-use Rattle.gc_model.specs.Forms.{Names, FunctionIds, storage_form}
+use Rattle.gc_model.specs.Forms.{Names, InternedIds, storage_form}
 use Rattle.gc_model.specs.Standing.{ValuesLie}
 use Rattle.gc_model.proofs.ObjectStands.{KeepsFront}
 use Rattle.gc_store.specs.declared.stored.Stored.{Stored}
@@ -28,13 +28,13 @@ use Rattle.gc_store.specs.HeldSlots.{IsHeldOf}
 use Rattle.gc_store.specs.Tagging.{HasTag}
 
 -- values fit slots, one for each
-pub record EachFits (ids : FunctionIds) (raws : List RawValue) (entries : HandleRoots) (slots : List StorageSlot) : Type 0 where
+pub record EachFits (ids : InternedIds) (raws : List RawValue) (entries : HandleRoots) (slots : List StorageSlot) : Type 0 where
   pub same_count : length raws ≡ length slots
   pub forms : (i : ℕ) (slot : StorageSlot) (r : RawValue) → slice_get slots i ≡ Some slot → slice_get raws i ≡ Some r → raw_form r ≡ storage_form slot.storage
   pub kept : (i : ℕ) (r : RawValue) → slice_get raws i ≡ Some r → IsKept ids entries r
 
 -- one value fits so many slots, which follow each other
-pub record SameFits (ids : FunctionIds) (r : RawValue) (count : ℕ) (entries : HandleRoots) (slots : List StorageSlot) : Type 0 where
+pub record SameFits (ids : InternedIds) (r : RawValue) (count : ℕ) (entries : HandleRoots) (slots : List StorageSlot) : Type 0 where
   pub ty : StorageType
   pub from : ℕ
   pub slots_are : slots ≡ element_slots ty count from
@@ -47,12 +47,12 @@ pub record BytesFit (bytes : List ℕ) (entries : HandleRoots) (slots : List Sto
   pub slots_are : slots ≡ element_slots storage.I8 (length bytes) from
 
 -- what slots keep of values that are given, one for each
-pub record EachStands (ids : FunctionIds) (raws : List RawValue) (names : Names) (entries : HandleRoots) (slots : List StorageSlot) (values : List Value) : Type 0 where
+pub record EachStands (ids : InternedIds) (raws : List RawValue) (names : Names) (entries : HandleRoots) (slots : List StorageSlot) (values : List Value) : Type 0 where
   pub same_count : length raws ≡ length values
   pub each : (i : ℕ) (slot : StorageSlot) (r : RawValue) (w : Value) → slice_get slots i ≡ Some slot → slice_get raws i ≡ Some r → slice_get values i ≡ Some w → StoredStands ids names entries slot.storage r w
 
 -- what they keep of one value
-pub record SameStands (ids : FunctionIds) (r : RawValue) (names : Names) (entries : HandleRoots) (slots : List StorageSlot) (values : List Value) : Type 0 where
+pub record SameStands (ids : InternedIds) (r : RawValue) (names : Names) (entries : HandleRoots) (slots : List StorageSlot) (values : List Value) : Type 0 where
   pub kept : Value
   pub values_are : values ≡ replicate (length slots) kept
   pub stands : (i : ℕ) (slot : StorageSlot) → slice_get slots i ≡ Some slot → StoredStands ids names entries slot.storage r kept
@@ -68,7 +68,7 @@ asked_type (place.Exn ty tag) = ty
 asked_type (place.Array ty count) = ty
 
 -- the contents of a request fit slots
-abbrev pub ContentsFit : FunctionIds → Place → Contents → HandleRoots → List StorageSlot → Type 0
+abbrev pub ContentsFit : InternedIds → Place → Contents → HandleRoots → List StorageSlot → Type 0
 ContentsFit ids (place.Struct ty) (contents.Each raws) entries slots = EachFits ids raws.now entries slots
 ContentsFit ids (place.Exn ty tag) (contents.Each raws) entries slots = EachFits ids raws.now entries slots
 ContentsFit ids (place.Array ty count) (contents.Each raws) entries slots = EachFits ids raws.now entries slots
@@ -77,7 +77,7 @@ ContentsFit ids (place.Array ty count) (contents.Bytes bytes) entries slots = By
 ContentsFit ids _ _ entries slots = ⊥
 
 -- what slots keep of the contents of a request
-abbrev pub ContentsStand : FunctionIds → Contents → Names → HandleRoots → List StorageSlot → List Value → Type 0
+abbrev pub ContentsStand : InternedIds → Contents → Names → HandleRoots → List StorageSlot → List Value → Type 0
 ContentsStand ids (contents.Each raws) names entries slots values = EachStands ids raws.now names entries slots values
 ContentsStand ids (contents.Same r) names entries slots values = SameStands ids r.now names entries slots values
 ContentsStand ids (contents.Bytes bytes) names entries slots values = BytesStand bytes.now names entries slots values

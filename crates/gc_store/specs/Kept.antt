@@ -3,7 +3,7 @@ use Rattle.std.specs.Prelude.{◌≡◌, ℕ, ◌^◌, ◌<◌, Some, None, Ok}
 use Rattle.std.specs.Int.{w32, w64, cast_unsigned, cast_signed}
 use Rattle.gc_types.specs.declared.value.StorageType.{StorageType}
 use Rattle.gc_model.specs.Values.{Value, i32, i64, f32, f64, v128}
-use Rattle.gc_model.specs.Forms.{Form, number_of, function_of, continuation_of, reference_of, storage_form, value_form, Names, IsCode, FunctionIds, IsFunctionCode}
+use Rattle.gc_model.specs.Forms.{Form, number_of, function_of, continuation_of, reference_of, storage_form, value_form, Names, IsCode, InternedIds, IsIdCode, IsContCode}
 use Rattle.gc_model.specs.Stored.{stored}
 use Rattle.gc_heap.specs.Collection.{IsWordOf}
 use Rattle.gc_view.specs.Heaps.{HeapView}
@@ -20,19 +20,20 @@ abbrev pub code_of : Stored → ℕ
 code_of (kept.Number n) = n
 code_of (kept.Ref word) = word
 
--- how a value that is given to the store is kept, by the ids of function values and the words that the roots have
-abbrev pub KeptAs : FunctionIds → HandleRoots → RawValue → Stored → Type 0
+-- how a value that is given to the store is kept, by the ids of what is interned and the words that the roots have
+abbrev pub KeptAs : InternedIds → HandleRoots → RawValue → Stored → Type 0
 KeptAs ids entries (raw.I32 n) x = x ≡ kept.Number (cast_unsigned w32 n)
 KeptAs ids entries (raw.I64 n) x = x ≡ kept.Number (cast_unsigned w64 n)
 KeptAs ids entries (raw.F32 n) x = x ≡ kept.Number n
 KeptAs ids entries (raw.F64 n) x = x ≡ kept.Number n
 KeptAs ids entries (raw.V128 n) x = x ≡ kept.Number n
-KeptAs ids entries (raw.Func f) x = (code : ℕ) × (IsFunctionCode ids f code × (x ≡ kept.Number code))
+KeptAs ids entries (raw.Func f) x = (code : ℕ) × (IsIdCode ids.funcs f code × (x ≡ kept.Number code))
+KeptAs ids entries (raw.Cont c) x = (code : ℕ) × (IsContCode ids.conts c code × (x ≡ kept.Number code))
 KeptAs ids entries (raw.Ref class None) x = x ≡ kept.Ref 0
 KeptAs ids entries (raw.Ref class (Some handle)) x = (word : ℕ) × ((root_word_at entries handle.slot handle.generation ≡ Ok word) × (x ≡ kept.Ref word))
 
 -- a value is kept in some way
-abbrev pub IsKept : FunctionIds → HandleRoots → RawValue → Type 0
+abbrev pub IsKept : InternedIds → HandleRoots → RawValue → Type 0
 IsKept ids entries r = (x : Stored) × KeptAs ids entries r x
 
 -- what a value is that is given to the store
@@ -43,6 +44,7 @@ raw_form (raw.F32 n) = number_of f32
 raw_form (raw.F64 n) = number_of f64
 raw_form (raw.V128 n) = number_of v128
 raw_form (raw.Func f) = function_of
+raw_form (raw.Cont c) = continuation_of
 raw_form (raw.Ref class handle) = reference_of class
 
 -- how many bytes the code of a value of a form takes at most
@@ -60,24 +62,25 @@ form_width (reference_of class) = 4
 abbrev pub FitsForm : Form → ℕ → Type 0
 FitsForm form code = code < 256 ^ form_width form
 
--- What is kept is of a form: a number, as that of a function value, or a reference's word, which is null, a 31-bit number
+-- What is kept is of a form: a number, as that of a function value or a continuation, or a reference's word, which is null, a 31-bit number
 -- or the place of an object.
 abbrev pub OfForm : HeapView → Form → Stored → Type 0
 OfForm h (number_of kind) (kept.Number n) = Unit {0}
 OfForm h (number_of kind) (kept.Ref word) = ⊥
 OfForm h function_of (kept.Number n) = Unit {0}
 OfForm h function_of (kept.Ref word) = ⊥
-OfForm h continuation_of x = ⊥
+OfForm h continuation_of (kept.Number n) = Unit {0}
+OfForm h continuation_of (kept.Ref word) = ⊥
 OfForm h (reference_of class) (kept.Number n) = ⊥
 OfForm h (reference_of class) (kept.Ref word) = IsWordOf h word
 
 -- A value that is given to the store is one of the table: whatever is kept of it is that value's code, where the code is no
 -- wider than such values are, as that of every number is.
-abbrev pub KeptStands : FunctionIds → Names → HandleRoots → RawValue → Value → Type 0
+abbrev pub KeptStands : InternedIds → Names → HandleRoots → RawValue → Value → Type 0
 KeptStands ids names entries r v = (x : Stored) → KeptAs ids entries r x → FitsForm (raw_form r) (code_of x) → IsCode names v (code_of x)
 
 -- a value of the table is what a slot of that type keeps of one that is given to the store
-pub record StoredStands (ids : FunctionIds) (names : Names) (entries : HandleRoots) (ty : StorageType) (r : RawValue) (w : Value) : Type 0 where
+pub record StoredStands (ids : InternedIds) (names : Names) (entries : HandleRoots) (ty : StorageType) (r : RawValue) (w : Value) : Type 0 where
   pub value : Value
   pub stored_is : w ≡ stored ty value
   pub form : storage_form ty ≡ value_form value
@@ -92,15 +95,8 @@ IsFound (number_of f32) n x = x ≡ found.Number (raw.F32 n)
 IsFound (number_of f64) n x = x ≡ found.Number (raw.F64 n)
 IsFound (number_of v128) n x = x ≡ found.Number (raw.V128 n)
 IsFound function_of n x = x ≡ found.Func n
-IsFound continuation_of n x = ⊥
+IsFound continuation_of n x = x ≡ found.Cont n
 IsFound (reference_of class) n x = x ≡ found.Ref class n
-
--- a slot of the form can be read
-abbrev pub IsReadForm : Form → Type 0
-IsReadForm (number_of kind) = Unit {0}
-IsReadForm function_of = Unit {0}
-IsReadForm continuation_of = ⊥
-IsReadForm (reference_of class) = Unit {0}
 
 -- what was found is a value of the table
 pub record FoundStands (names : Names) (x : Found) (v : Value) : Type 0 where

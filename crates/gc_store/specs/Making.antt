@@ -47,6 +47,7 @@ TellsSize layouts size None = too_large layouts size ≡ true
 abbrev pub AllocatesObject : {D : Type 0} → Layouts → HeapObject → ℕ → OwnerState D → OwnerState D → Result ℕ PlaceFault → Type 0
 AllocatesObject layouts o size s e (Ok index) = AllocatesRooted layouts o size s e index
 AllocatesObject layouts o size s e (Err fault.FuncTableFull) = ⊥
+AllocatesObject layouts o size s e (Err fault.ContTableFull) = ⊥
 AllocatesObject layouts o size s e (Err fault.TooLarge) = IsTooLarge layouts size
 AllocatesObject layouts o size s e (Err fault.RootsFull) = ⊥
 AllocatesObject layouts o size s e (Err (fault.HeapOutOfMemory f)) = LacksSpace layouts size s e f.bytes_needed
@@ -63,6 +64,7 @@ abbrev pub MakesRooted : {D : Type 0} → Layouts → HeapObject → ℕ → ℕ
 MakesRooted {D} layouts o size first due s e (Ok index) =
     (b : OwnerState D) × (BeginsMaking layouts first due s b × AllocatesRooted layouts o size b e index)
 MakesRooted layouts o size first due s e (Err fault.FuncTableFull) = ⊥
+MakesRooted layouts o size first due s e (Err fault.ContTableFull) = ⊥
 MakesRooted layouts o size first due s e (Err fault.TooLarge) = IsTooLarge layouts size
 MakesRooted layouts o size first due s e (Err fault.RootsFull) = ⊥
 MakesRooted {D} layouts o size first due s e (Err (fault.HeapOutOfMemory f)) =

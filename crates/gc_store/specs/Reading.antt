@@ -20,7 +20,7 @@ use Rattle.gc_store.specs.Kept.{FoundStands}
 -- what is found is the value of the table, for each table and placing that the store holds
 abbrev pub FindsValue : (D : Type 0) → Layouts → StoreView D → GcRootIndex → ℕ → Found → Type 0
 FindsValue D layouts s handle index x =
-    (t : Table D) (place : Placing) (v : Value) → Holds layouts s t place → HasValue s t handle index v → FoundStands (naming place s.funcs) x v
+    (t : Table D) (place : Placing) (v : Value) → Holds layouts s t place → HasValue s t handle index v → FoundStands (naming place s.ids) x v
 
 -- a word is 0, or that of a root of some table that the store holds
 abbrev pub IsReferenceWord : (D : Type 0) → Layouts → StoreView D → ℕ → Type 0

@@ -1,7 +1,6 @@
 -- What a store's calls do, for every table that it held.
 use Rattle.std.specs.Prelude.{◌≡◌, ℕ, ◌+◌, ◌-◌, ◌^◌, ◌==◌, ◌||◌, nat_le, Bool, true, false, List, [], Result, Ok, Err, length, map}
 use Rattle.std.specs.Option.{option_map}
-use Rattle.std.specs.FinMap as finite
 use Rattle.std.specs.Int.NonZero.{non_zero_u32_get}
 use Rattle.gc_types.specs.declared.kind.Layouts.{Layouts}
 use Rattle.gc_types.specs.declared.types.TypeFault.{TypeFault}
@@ -9,17 +8,35 @@ use Rattle.gc_types.specs.declared.types.TypeFault.TheVariants as type_fault
 use Rattle.gc_types.specs.Declarable.{Declarable}
 use Rattle.gc_types.specs.Declarations.{Declaration, TypeName}
 use Rattle.gc_model.specs.Table.{Table, start, declare}
-use Rattle.gc_model.specs.Stores.{StoreView, FunctionIds, unset_globals}
+use Rattle.gc_model.specs.SideValues.{InternedIds, no_ids}
+use Rattle.gc_model.specs.Stores.{StoreView, unset_globals}
 use Rattle.gc_policy.specs.Accounts.{Account, no_account, HoldsAccount}
 use Rattle.gc_owner.specs.declared.entry.SlotEntry.{SlotEntry}
 use Rattle.gc_owner.specs.Owners.{OwnerView}
 use Rattle.gc_policy.specs.Shown.{frames_of}
 use Rattle.gc_store.specs.declared.engine.StoreId.{StoreId}
 use Rattle.gc_store.specs.declared.config.HeapConfig.{HeapConfig}
+use Rattle.gc_store.specs.declared.interned.InternedValues.{InternedValues}
+use Rattle.gc_store.specs.declared.subtypes.AskedPairs.{AskedPairs}
+use Rattle.gc_store.specs.Subtypes.{pairs_of}
+
+-- What a store keeps beside its heap's owner: the ids of what is interned, and the pairs of types that it was asked of.
+pub record StoreTables : Type 0 where
+  pub ids : InternedIds
+  pub kept_pairs : List (ℕ × ℕ)
+
+abbrev pub ids_of : InternedValues → InternedIds
+ids_of interned = record { funcs = interned.functions.entries; conts = interned.conts.entries }
+
+abbrev pub tables_by : InternedIds → AskedPairs → StoreTables
+tables_by ids asked = record { ids = ids; kept_pairs = pairs_of asked }
+
+abbrev pub tables_of : InternedValues → AskedPairs → StoreTables
+tables_of interned asked = tables_by (ids_of interned) asked
 
 -- what is seen of a store with these parts
-abbrev pub store_view : {D : Type 0} → StoreId → HeapConfig → FunctionIds → OwnerView D → ℕ → StoreView D
-store_view id config ids v tries = record {
+abbrev pub store_view : {D : Type 0} → StoreId → HeapConfig → StoreTables → OwnerView D → ℕ → StoreView D
+store_view id config tables v tries = record {
   engine = id.engine;
   number = id.number;
   types = v.types.declarations;
@@ -32,7 +49,7 @@ store_view id config ids v tries = record {
   owned = v.roots.owned;
   owns = v.roots.owns;
   pending = v.roots.pending;
-  funcs = ids;
+  ids = tables.ids;
   last = v.last;
   tries = tries;
   spare = v.roots.spare;
@@ -40,6 +57,7 @@ store_view id config ids v tries = record {
   max_scoped = config.max_scoped;
   max_owned = config.max_owned;
   alloc_counter = option_map non_zero_u32_get config.alloc_counter;
+  kept_pairs = tables.kept_pairs;
 }
 
 -- the store with another configuration
@@ -65,8 +83,8 @@ pub record IsSound (D : Type 0) (layouts : Layouts) (counts : List ℕ) (v : Own
 abbrev pub HoldsStart : (D : Type 0) → Layouts → StoreView D → Type 0
 HoldsStart D layouts s = HoldsAccount layouts s (start {D = D} s.first s.max_scoped s.max_owned) no_account
 
--- the store shows no type, root, scope end, frame, set global, pending exception, function value, memory or allocation,
--- and no owned root was made
+-- the store shows no type, root, scope end, frame, set global, pending exception, function value, continuation, memory or
+-- allocation, and no owned root was made
 pub record ShowsNothing {D : Type 0} (s : StoreView D) : Type 0 where
   pub tries : s.tries ≡ 0
   pub types : s.types ≡ []
@@ -76,7 +94,7 @@ pub record ShowsNothing {D : Type 0} (s : StoreView D) : Type 0 where
   pub globals : s.globals ≡ unset_globals
   pub pending : s.pending ≡ 0
   pub owns : s.owns ≡ 0
-  pub funcs : s.funcs ≡ finite.empty
+  pub ids : s.ids ≡ no_ids
   pub attached : s.heap.attached ≡ false
 
 -- the store has the same id, and collects at every so many allocations as before

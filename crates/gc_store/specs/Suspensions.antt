@@ -4,11 +4,11 @@ use Rattle.gc_types.specs.declared.kind.Layouts.{Layouts}
 use Rattle.gc_heap.specs.Collection.{Start}
 use Rattle.gc_owner.specs.RootColumns.{AreFrames}
 use Rattle.gc_owner.specs.Owners.{OwnerView, OwnerValue, Kind, Trims, IsUnderWay}
-use Rattle.gc_model.specs.Stores.{StoreView, FunctionIds}
+use Rattle.gc_model.specs.Stores.{StoreView}
 use Rattle.gc_policy.specs.Shown.{shown}
 use Rattle.gc_store.specs.declared.engine.StoreId.{StoreId}
 use Rattle.gc_store.specs.declared.config.HeapConfig.{HeapConfig}
-use Rattle.gc_store.specs.Stores.{store_view, IsSound}
+use Rattle.gc_store.specs.Stores.{StoreTables, store_view, IsSound}
 
 -- Such a store: its owner, what would be seen of it in its place, and whether its collection was begun.
 pub record SuspendedView (H S D : Type 0) : Type 0 where
@@ -17,8 +17,8 @@ pub record SuspendedView (H S D : Type 0) : Type 0 where
   pub begun : Bool
 
 -- the one with these parts
-abbrev pub suspended_view : {H S D : Type 0} → StoreId → HeapConfig → FunctionIds → OwnerValue H S D → ℕ → Bool → SuspendedView H S D
-suspended_view id config ids owner tries begun = record { owner = owner; store = store_view id config ids owner.seen tries; begun = begun }
+abbrev pub suspended_view : {H S D : Type 0} → StoreId → HeapConfig → StoreTables → OwnerValue H S D → ℕ → Bool → SuspendedView H S D
+suspended_view id config tables owner tries begun = record { owner = owner; store = store_view id config tables owner.seen tries; begun = begun }
 
 -- a collection began at an owner whose store was sound, beside which the store has these parts
 pub record BeganSound {D : Type 0} (layouts : Layouts) (counts : List ℕ) (s : StoreView D) (from : OwnerView D) : Type 0 where

@@ -6,8 +6,8 @@ use Rattle.gc_types.specs.declared.value.Func.{Func}
 use Rattle.gc_types.specs.declared.value.StorageType.{StorageType}
 use Rattle.gc_types.specs.declared.kind.Layouts.{Layouts}
 use Rattle.gc_owner.specs.declared.entry.GcClass.{GcClass}
-use Rattle.gc_model.specs.Values.{Reference, null, small, at, Value, numeric, i32, i64, f32, f64, v128, function, reference, number_bits}
-use Rattle.gc_model.specs.Functions.{functions_of, functions_full}
+use Rattle.gc_model.specs.Values.{Reference, null, small, at, Value, numeric, i32, i64, f32, f64, v128, function, continuation, reference, number_bits}
+use Rattle.gc_model.specs.SideValues.{SideValues, side_values, functions_full, conts_full}
 use Rattle.gc_model.specs.Fits.{fits}
 use Rattle.gc_model.specs.Stored.{stored, value_type}
 use Rattle.gc_model.specs.Table.{Table, write}
@@ -39,6 +39,7 @@ RawStands s t (raw.F32 n) v = v ≡ numeric f32 n
 RawStands s t (raw.F64 n) v = v ≡ numeric f64 n
 RawStands s t (raw.V128 n) v = v ≡ numeric v128 n
 RawStands s t (raw.Func f) v = v ≡ function f
+RawStands s t (raw.Cont c) v = v ≡ continuation c
 RawStands s t (raw.Ref class None) v = v ≡ reference class null
 RawStands s t (raw.Ref class (Some handle)) v = RootStands s t class handle v
 
@@ -56,7 +57,25 @@ raw_functions (raw.F32 n ∷ raws) = raw_functions raws
 raw_functions (raw.F64 n ∷ raws) = raw_functions raws
 raw_functions (raw.V128 n ∷ raws) = raw_functions raws
 raw_functions (raw.Func f ∷ raws) = f ∷ raw_functions raws
+raw_functions (raw.Cont c ∷ raws) = raw_functions raws
 raw_functions (raw.Ref class handle ∷ raws) = raw_functions raws
+
+-- the continuations that are present among values that are given, in order
+abbrev pub raw_conts : List RawValue → List ℕ
+raw_conts [] = []
+raw_conts (raw.I32 n ∷ raws) = raw_conts raws
+raw_conts (raw.I64 n ∷ raws) = raw_conts raws
+raw_conts (raw.F32 n ∷ raws) = raw_conts raws
+raw_conts (raw.F64 n ∷ raws) = raw_conts raws
+raw_conts (raw.V128 n ∷ raws) = raw_conts raws
+raw_conts (raw.Func f ∷ raws) = raw_conts raws
+raw_conts (raw.Cont None ∷ raws) = raw_conts raws
+raw_conts (raw.Cont (Some c) ∷ raws) = c ∷ raw_conts raws
+raw_conts (raw.Ref class handle ∷ raws) = raw_conts raws
+
+-- both
+abbrev pub raw_side_values : List RawValue → SideValues
+raw_side_values raws = record { funcs = raw_functions raws; conts = raw_conts raws }
 
 -- the handle that a value is, where it is one
 abbrev pub raw_handle : RawValue → Option GcRootIndex
@@ -66,6 +85,7 @@ raw_handle (raw.F32 n) = None
 raw_handle (raw.F64 n) = None
 raw_handle (raw.V128 n) = None
 raw_handle (raw.Func f) = None
+raw_handle (raw.Cont c) = None
 raw_handle (raw.Ref class handle) = handle
 
 -- the handle is live in a table that the store holds
@@ -83,6 +103,7 @@ NamesLive D layouts s (raw.F32 n) = Unit {0}
 NamesLive D layouts s (raw.F64 n) = Unit {0}
 NamesLive D layouts s (raw.V128 n) = Unit {0}
 NamesLive D layouts s (raw.Func f) = Unit {0}
+NamesLive D layouts s (raw.Cont c) = Unit {0}
 NamesLive D layouts s (raw.Ref class None) = Unit {0}
 NamesLive D layouts s (raw.Ref class (Some handle)) = IsLive D layouts s handle
 
@@ -100,6 +121,7 @@ IsReadAs s t (numeric f32 n) r = r ≡ raw.F32 n
 IsReadAs s t (numeric f64 n) r = r ≡ raw.F64 n
 IsReadAs s t (numeric v128 n) r = r ≡ raw.V128 n
 IsReadAs s t (function f) r = r ≡ raw.Func f
+IsReadAs s t (continuation c) r = r ≡ raw.Cont c
 IsReadAs s t (reference class null) r = r ≡ raw.Ref class None
 IsReadAs s t (reference class (small n)) r = r ≡ raw.Ref class (Some (handle_of s (length t.scoped) t.drops))
 IsReadAs s t (reference class (at p)) r = r ≡ raw.Ref class (Some (handle_of s (length t.scoped) t.drops))
@@ -129,12 +151,18 @@ KeepsValue layouts old new t a handle index r =
     (before v : Value) (has : HasValue old t handle index before) (field : FieldType) → value_type t.types has.object index ≡ Some field
     → RawStands old t r v → HoldsAccount layouts new (write has.position index (stored field.element_type v) t) a
 
--- it is a function value that isn't interned yet, and as many are as may be
-abbrev pub IsPastIds : {D : Type 0} → StoreView D → Table D → RawValue → Bool → Type 0
-IsPastIds old t r answer = (v : Value) → RawStands old t r v → functions_full (functions_of (v ∷ [])) t.funcs ≡ answer
+-- it is a function value, or a continuation, that isn't interned yet, and as many are as may be
+abbrev pub IsPastIds : {D : Type 0} → (SideValues → SideValues → Bool) → StoreView D → Table D → RawValue → Bool → Type 0
+IsPastIds full old t r answer = (v : Value) → RawStands old t r v → full (side_values (v ∷ [])) t.interned ≡ answer
+
+-- it gets an id, where it has none
+pub record HasId {D : Type 0} (old : StoreView D) (t : Table D) (r : RawValue) : Type 0 where
+  pub functions : IsPastIds functions_full old t r false
+  pub conts : IsPastIds conts_full old t r false
 
 -- What writing a value answers and leaves, for a table and an account that the store held.
 abbrev pub WritesValue : {D : Type 0} → Layouts → StoreView D → StoreView D → Table D → Account → GcRootIndex → ℕ → RawValue → Result (Unit {0}) WriteFault → Type 0
-WritesValue layouts old new t a handle index r (Ok done) = KeepsValue layouts old new t a handle index r × IsPastIds old t r false
-WritesValue layouts old new t a handle index r (Err write_fault.FuncTableFull) = IsPastIds old t r true × HoldsAccount layouts new t a
+WritesValue layouts old new t a handle index r (Ok done) = KeepsValue layouts old new t a handle index r × HasId old t r
+WritesValue layouts old new t a handle index r (Err write_fault.FuncTableFull) = IsPastIds functions_full old t r true × HoldsAccount layouts new t a
+WritesValue layouts old new t a handle index r (Err write_fault.ContTableFull) = IsPastIds conts_full old t r true × HoldsAccount layouts new t a
 WritesValue layouts old new t a handle index r (Err write_fault.Memory) = HoldsAccount layouts new t a

@@ -3,9 +3,11 @@
 ghost use Rattle.std.specs.Prelude.{◌≡◌, ◌<◌, ◌%◌, ℕ, true, length, slice_index_or};
 ghost use Rattle.gc_store.specs.declared.stored.Stored.TheVariants as kept;
 ghost use Rattle.gc_store.specs.HeldSlots.{storage_slot};
+ghost use Rattle.gc_store.specs.Stores.{ids_of};
 ghost use Rattle.gc_store.specs.Filling.{CanFill, FillsNew, FillsAs, IsOfAskedKind, front_of, EachFits, EachStands, SameFits, SameStands, BytesFit, BytesStand};
 ghost use Rattle.gc_store.specs.Filling.{ContentsFit, ContentsStand, asked_type, AreElements, FillsAll, IsWidth};
 
+use crate::interned::InternedValues;
 use crate::request::{Contents, Place};
 use crate::root::RawValue;
 use crate::slot::{Slot, slot_at};
@@ -14,7 +16,6 @@ use crate::tag::write_tag;
 use gc_heap::GcHeap;
 use gc_owner::HeapOwner;
 use gc_refs::VMGcRef;
-use gc_tables::FuncRefTable;
 use gc_types::VMSharedTypeIndex;
 
 /// How many bytes of equal elements are written at once: a multiple of each width.
@@ -23,19 +24,19 @@ const CHUNK: usize = 256;
 /// Writes each value into the slot of its index.
 fn write_values<H: GcHeap, D: Drop>(
     owner: &mut HeapOwner<H, D>,
-    functions: &FuncRefTable,
+    interned: &InternedValues,
     gc_ref: &VMGcRef,
     ty: VMSharedTypeIndex,
     values: &[RawValue],
 )
     requires idle { owner.old.seen.idle ≡ true }
-    requires can { CanFill H.KIND owner.old.seen gc_ref.now ty (EachFits functions.now.entries values.now) }
-    ensures { FillsNew H.KIND owner.old.seen owner.new.seen gc_ref.now ty (EachFits functions.now.entries values.now) (EachStands functions.now.entries values.now) }
+    requires can { CanFill H.KIND owner.old.seen gc_ref.now ty (EachFits (ids_of interned.now) values.now) }
+    ensures { FillsNew H.KIND owner.old.seen owner.new.seen gc_ref.now ty (EachFits (ids_of interned.now) values.now) (EachStands (ids_of interned.now) values.now) }
 {
     for (index, value) in values.iter().enumerate() {
         owner.is_ready();
         let slot = slot_at(owner.types(), H::KIND, ty, index as u32);
-        let stored = stored_value(functions, owner.scoped(), owner.owned(), *value);
+        let stored = stored_value(interned, owner.scoped(), owner.owned(), *value);
         write_slot(owner, gc_ref, &slot, stored);
     }
 }
@@ -130,22 +131,22 @@ fn write_elements<H: GcHeap, D: Drop>(
 /// Writes one value into all elements of a new array, of which there are so many.
 fn write_same<H: GcHeap, D: Drop>(
     owner: &mut HeapOwner<H, D>,
-    functions: &FuncRefTable,
+    interned: &InternedValues,
     gc_ref: &VMGcRef,
     ty: VMSharedTypeIndex,
     count: u32,
     value: RawValue,
 )
     requires idle { owner.old.seen.idle ≡ true }
-    requires can { CanFill H.KIND owner.old.seen gc_ref.now ty (SameFits functions.now.entries value count) }
-    ensures { FillsNew H.KIND owner.old.seen owner.new.seen gc_ref.now ty (SameFits functions.now.entries value count) (SameStands functions.now.entries value) }
+    requires can { CanFill H.KIND owner.old.seen gc_ref.now ty (SameFits (ids_of interned.now) value count) }
+    ensures { FillsNew H.KIND owner.old.seen owner.new.seen gc_ref.now ty (SameFits (ids_of interned.now) value count) (SameStands (ids_of interned.now) value) }
 {
     if count == 0 {
         return;
     }
     owner.is_ready();
     let first = slot_at(owner.types(), H::KIND, ty, 0);
-    let stored = stored_value(functions, owner.scoped(), owner.owned(), value);
+    let stored = stored_value(interned, owner.scoped(), owner.owned(), value);
     write_elements(owner, gc_ref, &first, count, stored);
 }
 
@@ -171,32 +172,32 @@ fn write_bytes<H: GcHeap, D: Drop>(
 /// Gives a new object of that request its values, and an exception its tag.
 pub(crate) fn fill<H: GcHeap, D: Drop>(
     owner: &mut HeapOwner<H, D>,
-    functions: &FuncRefTable,
+    interned: &InternedValues,
     gc_ref: &VMGcRef,
     request: &Place,
     contents: Contents<'_>,
 )
     requires idle { owner.old.seen.idle ≡ true }
-    requires can { CanFill H.KIND owner.old.seen gc_ref.now (asked_type request.now) (ContentsFit functions.now.entries request.now contents) }
+    requires can { CanFill H.KIND owner.old.seen gc_ref.now (asked_type request.now) (ContentsFit (ids_of interned.now) request.now contents) }
     requires kind { IsOfAskedKind request.now owner.old.seen.heap gc_ref.now }
     ensures { FillsAs H.KIND (front_of H.KIND request.now) owner.old.seen owner.new.seen gc_ref.now (asked_type request.now)
-        (ContentsFit functions.now.entries request.now contents.entry) (ContentsStand functions.now.entries contents.entry) }
+        (ContentsFit (ids_of interned.now) request.now contents.entry) (ContentsStand (ids_of interned.now) contents.entry) }
 {
     match *request {
         Place::Struct(ty) => match contents {
-            Contents::Each(values) => write_values(owner, functions, gc_ref, ty, values),
+            Contents::Each(values) => write_values(owner, interned, gc_ref, ty, values),
             Contents::Same(_) => unreachable!(),
             Contents::Bytes(_) => unreachable!(),
         },
         Place::Array(ty, count) => match contents {
-            Contents::Each(values) => write_values(owner, functions, gc_ref, ty, values),
-            Contents::Same(value) => write_same(owner, functions, gc_ref, ty, count, *value),
+            Contents::Each(values) => write_values(owner, interned, gc_ref, ty, values),
+            Contents::Same(value) => write_same(owner, interned, gc_ref, ty, count, *value),
             Contents::Bytes(bytes) => write_bytes(owner, gc_ref, ty, bytes),
         },
         Place::Exn(ty, tag) => match contents {
             Contents::Each(values) => {
                 write_tag(owner, gc_ref, tag);
-                write_values(owner, functions, gc_ref, ty, values);
+                write_values(owner, interned, gc_ref, ty, values);
             }
             Contents::Same(_) => unreachable!(),
             Contents::Bytes(_) => unreachable!(),

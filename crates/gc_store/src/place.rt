@@ -15,7 +15,7 @@ ghost use Rattle.gc_store.specs.Stores.{is_full, IsSameStore, scoped_places};
 
 use crate::engine::StoreId;
 use crate::fill::fill;
-use crate::functions::{find_room, given_values, intern_all};
+use crate::interned::{find_room, given_values, intern_all};
 use crate::make::make_object;
 use crate::request::{Contents, Place};
 use crate::root::{GcRootIndex, RootSlot};
@@ -96,11 +96,12 @@ impl<H: GcHeap, D: Drop> Store<H, D> {
 
     /// Places an object of a declared type with these values, and pushes a scoped root for it.
     /// Refused are, in this order: `FuncTableFull` where the function values of the store and those of the object that it
-    /// hasn't yet, each counted once and none as well, pass 2^31; `TooLarge` where no heap of the kind can hold it; `RootsFull` where
-    /// no further scoped root may be made; `HeapOutOfMemory` where the limiter refused the heap's first pages, or where there is no room
-    /// and a growth was refused: by the limiter, or unasked, as the heap would have more than 65,535
-    /// pages. A refused call leaves the function values of the store as they were; an object that is placed adds its own,
-    /// for good.
+    /// hasn't yet, each counted once and none as well, pass 2^31; `ContTableFull` where the same is so of continuations, of
+    /// which none isn't counted; `TooLarge` where no heap of the kind can hold it; `RootsFull` where no further scoped root
+    /// may be made; `HeapOutOfMemory` where the limiter refused the heap's first pages, or where there is no room and a
+    /// growth was refused: by the limiter, or unasked, as the heap would have more than 65,535 pages. A refused call
+    /// leaves the function values and the continuations of the store as they were; an object that is placed adds its
+    /// own, for good.
     ///
     /// The allocation is counted, and each n-th one collects first where the configuration says so. A
     /// heap without room collects or grows, by `should_collect_first`: it collects, tries again, and
@@ -121,7 +122,7 @@ impl<H: GcHeap, D: Drop> Store<H, D> {
         self.owner.is_ready();
         let is_full = self.roots_full();
         let given = given_values(&request, contents);
-        find_room(*self.slot_counts.allocator(), &mut self.functions, given)?;
+        find_room(*self.slot_counts.allocator(), &mut self.interned, given)?;
         let Some(size) = object_size::<H>(self.owner.types(), &request) else {
             return Err(PlaceFault::TooLarge);
         };
@@ -143,15 +144,9 @@ impl<H: GcHeap, D: Drop> Store<H, D> {
             size,
         ) {
             Ok(index) => {
-                intern_all(&mut self.functions, given);
+                intern_all(&mut self.interned, given);
                 let holder = holder_of(self.owner.scoped(), index);
-                fill(
-                    &mut self.owner,
-                    &self.functions,
-                    &holder,
-                    &request,
-                    contents,
-                );
+                fill(&mut self.owner, &self.interned, &holder, &request, contents);
                 Ok(scoped_handle(self.id, self.owner.generation(), index))
             }
             Err(fault) => Err(fault),

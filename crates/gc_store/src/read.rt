@@ -24,7 +24,7 @@ ghost use Rattle.gc_store.specs.Stores.{IsSameStore, scoped_places};
 ghost use Rattle.gc_store.specs.Staying.{OnlyAdds};
 ghost use Rattle.gc_store.specs.OwnedWords.{HoldsThere};
 
-use crate::functions::function_at;
+use crate::interned::{cont_at, function_at};
 use crate::place::scoped_handle;
 use crate::root::{GcRootIndex, RawValue, RootFault, RootedObject};
 use crate::slot::slot_in;
@@ -252,7 +252,8 @@ impl<H: GcHeap, D: Drop> Store<H, D> {
     {
         match self.found_at(handle, index) {
             Found::Number(value) => Ok(value),
-            Found::Func(code) => Ok(RawValue::Func(function_at(&self.functions, code))),
+            Found::Func(code) => Ok(RawValue::Func(function_at(&self.interned.functions, code))),
+            Found::Cont(code) => Ok(RawValue::Cont(cont_at(&self.interned.conts, code))),
             Found::Ref(class, word) => match self.push_reference(word) {
                 Ok(found) => Ok(RawValue::Ref(class, found)),
                 Err(fault) => Err(fault),

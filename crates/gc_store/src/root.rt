@@ -37,7 +37,8 @@ pub enum RootFault {
     Memory,
 }
 
-/// A value as a store takes and gives it. Floating-point numbers are their bits.
+/// A value as a store takes and gives it. Floating-point numbers are their bits, and a continuation is the number that
+/// the embedder has for it, or none.
 #[derive(Clone, Copy, Debug)]
 pub enum RawValue {
     I32(i32),
@@ -46,6 +47,7 @@ pub enum RawValue {
     F64(u64),
     V128(V128),
     Func(Option<Func>),
+    Cont(Option<u64>),
     Ref(GcClass, Option<GcRootIndex>),
 }
 

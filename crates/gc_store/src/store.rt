@@ -3,19 +3,19 @@
 ghost use Rattle.std.specs.Prelude.{◌≡◌, ◌↔◌, IfOk, IsTrue};
 ghost use Rattle.std.specs.Option.{option_map};
 ghost use Rattle.std.specs.Int.NonZero.{non_zero_u32_get};
-ghost use Rattle.std.specs.FinMap as map;
 ghost use Rattle.gc_view.specs.Heaps.{detached};
+ghost use Rattle.gc_model.specs.SideValues.{no_ids};
 ghost use Rattle.gc_model.specs.Stores.{empty_store};
 ghost use Rattle.gc_store.specs.Collectings.{IsSpent, spent_from};
 ghost use Rattle.gc_store.specs.Stores.{HoldsStart, ShowsNothing, configured};
 
 use crate::config::HeapConfig;
 use crate::engine::StoreId;
+use crate::interned::InternedValues;
 use crate::owned::FIRST_MARK;
 use crate::subtypes::AskedPairs;
 use gc_heap::GcHeap;
 use gc_owner::HeapOwner;
-use gc_tables::FuncRefTable;
 use gc_types::Types;
 use std::alloc::{AllocError, Global};
 use std::fmt;
@@ -79,6 +79,9 @@ pub enum PlaceFault {
     /// No ids are left for all function values of the object that are new to the store.
     #[error("no ids are left for function values")]
     FuncTableFull,
+    /// No ids are left for all continuations of the object that are new to the store.
+    #[error("no ids are left for continuations")]
+    ContTableFull,
     /// No heap of the kind can hold an object of that size.
     #[error("no heap can hold an object of that size")]
     TooLarge,
@@ -100,8 +103,8 @@ pub struct Store<H: GcHeap, D: Drop> {
     pub(crate) id: StoreId,
     pub(crate) config: HeapConfig,
     pub(crate) owner: HeapOwner<H, D>,
-    /// The function values that objects were given, by the ids that stand in the heap. None is ever given back.
-    pub(crate) functions: FuncRefTable,
+    /// The function values and continuations that objects were given, by the ids that stand in the heap.
+    pub(crate) interned: InternedValues,
     /// How many slots each open frame has, the oldest first.
     pub(crate) slot_counts: Vec<u32>,
     /// How many allocations were counted, up to the greatest u64.
@@ -122,11 +125,11 @@ impl<H: GcHeap, D: Drop> Model for Store<H, D> {
 
     ghost coded = { Prim.hlevel (codes, map.code, D.code) };
 
-    ghost use Rattle.gc_store.specs.Stores.{store_view, IsSound};
+    ghost use Rattle.gc_store.specs.Stores.{store_view, tables_of, IsSound};
 
-    ghost view = { λ s. store_view s.id s.config s.functions.entries s.owner.seen s.tries };
+    ghost view = { λ s. store_view s.id s.config (tables_of s.interned s.asked) s.owner.seen s.tries };
 
-    ghost invariant = { λ s. IsSound D H.KIND s.slot_counts.items s.owner.seen (store_view s.id s.config s.functions.entries s.owner.seen s.tries) };
+    ghost invariant = { λ s. IsSound D H.KIND s.slot_counts.items s.owner.seen (store_view s.id s.config (tables_of s.interned s.asked) s.owner.seen s.tries) };
 }
 
 impl<H: GcHeap + Drop, D: Drop> Store<H, D> {
@@ -147,7 +150,7 @@ impl<H: GcHeap + Drop, D: Drop> Store<H, D> {
             id,
             config,
             owner: HeapOwner::new(alloc, heap, id.engine, id.number)?,
-            functions: FuncRefTable::new(alloc),
+            interned: InternedValues::new(alloc),
             slot_counts: Vec::new(alloc),
             tries: 0,
             mark: FIRST_MARK,
@@ -168,7 +171,7 @@ impl<H: GcHeap, D: Drop> Store<H, D> {
             id,
             config,
             owner: HeapOwner::spent(alloc, id.engine, id.number),
-            functions: FuncRefTable::new(alloc),
+            interned: InternedValues::new(alloc),
             slot_counts: Vec::new(alloc),
             tries: 0,
             mark: FIRST_MARK,
@@ -185,8 +188,8 @@ impl<H: GcHeap, D: Drop> Store<H, D> {
         self.is_untouched()
     }
 
-    /// Whether there is no type, root, generation, frame, set global, pending exception, function value, memory or
-    /// allocation, and no owned root was made.
+    /// Whether there is no type, root, generation, frame, set global, pending exception, function value, continuation,
+    /// memory or allocation, and no owned root was made.
     fn is_untouched(&self) -> bool
         ensures { IsTrue result ↔ ShowsNothing self.now }
     {
@@ -199,14 +202,14 @@ impl<H: GcHeap, D: Drop> Store<H, D> {
             && self.has_no_frame()
             && self.has_unset_globals()
             && self.owner.pending() == 0
-            && self.has_no_function()
+            && self.has_nothing_interned()
     }
 
-    /// Whether no function value is interned.
-    fn has_no_function(&self) -> bool
-        ensures { IsTrue result ↔ (self.now.funcs ≡ map.empty) }
+    /// Whether no function value and no continuation is interned.
+    fn has_nothing_interned(&self) -> bool
+        ensures { IsTrue result ↔ (self.now.ids ≡ no_ids) }
     {
-        self.functions.len() == 0
+        self.interned.is_empty()
     }
 
     /// Gives a new store another configuration.

@@ -5,10 +5,12 @@ ghost use Rattle.std.specs.Int.{bytes_low_first};
 ghost use Rattle.gc_types.specs.Layouts.{storage_width, value_width};
 ghost use Rattle.gc_model.specs.Forms.{top_form, type_form, storage_form};
 ghost use Rattle.gc_heap.specs.Access.{IsReadable};
-ghost use Rattle.gc_store.specs.Kept.{code_of, raw_form, KeptAs, IsKept, FitsForm, IsFound, IsReadForm};
+ghost use Rattle.gc_store.specs.Kept.{code_of, raw_form, KeptAs, IsKept, FitsForm, IsFound};
 ghost use Rattle.gc_store.specs.Words.{AreRising};
+ghost use Rattle.gc_store.specs.Stores.{ids_of};
 ghost use Rattle.gc_store.specs.HeldSlots.{storage_slot, CanWriteSlot, WritesAt, FindsAt, FitsAt};
 
+use crate::interned::InternedValues;
 use crate::root::RawValue;
 use crate::slot::Slot;
 use crate::word::word_at;
@@ -16,36 +18,37 @@ use gc_heap::GcHeap;
 use gc_heap::access::{read_u8, read_u16, read_u32, read_u64, read_v128};
 use gc_owner::{GcClass, HeapOwner, OwnedEntry, RootEntry};
 use gc_refs::VMGcRef;
-use gc_tables::FuncRefTable;
 use gc_types::{HeapTopType, StorageType, ValType};
 
-/// What is kept of a value: a number, of which a slot has the low bytes, as that of a function value, or the word of a
-/// reference, which is 0 for null.
+/// What is kept of a value: a number, of which a slot has the low bytes, as that of a function value or a continuation, or
+/// the word of a reference, which is 0 for null.
 #[derive(Clone, Copy)]
 pub(crate) enum Stored {
     Number(u128),
     Ref(u32),
 }
 
-/// What lies in a slot: a number, the number that stands for a function value, or a reference's class and word.
+/// What lies in a slot: a number, the number that stands for a function value or a continuation, or a reference's class and
+/// word.
 #[derive(Clone, Copy)]
 pub(crate) enum Found {
     Number(RawValue),
     Func(u32),
+    Cont(u32),
     Ref(GcClass, u32),
 }
 
-/// What is kept of a value; of a function value that is interned its number, of a reference the word that its root has
-/// now.
+/// What is kept of a value; of a function value or a continuation that is interned its number, of a reference the word that
+/// its root has now.
 pub(crate) fn stored_value(
-    functions: &FuncRefTable,
+    interned: &InternedValues,
     scoped: &[RootEntry],
     owned: &[OwnedEntry],
     value: RawValue,
 ) -> Stored
     requires rising { AreRising owned.now }
-    requires kept { IsKept functions.now.entries (record { scoped = scoped.now; owned = owned.now }) value }
-    ensures kept { KeptAs functions.now.entries (record { scoped = scoped.now; owned = owned.now }) value result }
+    requires kept { IsKept (ids_of interned.now) (record { scoped = scoped.now; owned = owned.now }) value }
+    ensures kept { KeptAs (ids_of interned.now) (record { scoped = scoped.now; owned = owned.now }) value result }
     ensures small { FitsForm (raw_form value) (code_of result) }
 {
     match &value {
@@ -54,8 +57,13 @@ pub(crate) fn stored_value(
         RawValue::F32(bits) => Stored::Number(u128::from(*bits)),
         RawValue::F64(bits) => Stored::Number(u128::from(*bits)),
         RawValue::V128(vector) => Stored::Number(vector.as_u128()),
-        RawValue::Func(func) => match functions.id_of(*func) {
+        RawValue::Func(func) => match interned.functions.id_of(*func) {
             Some(id) => Stored::Number(u128::from(id.into_raw())),
+            None => unreachable!(),
+        },
+        RawValue::Cont(None) => Stored::Number(0),
+        RawValue::Cont(Some(cont)) => match interned.conts.id_of(*cont) {
+            Some(code) => Stored::Number(u128::from(code)),
             None => unreachable!(),
         },
         RawValue::Ref(_, None) => Stored::Ref(0),
@@ -91,7 +99,6 @@ pub(crate) fn write_slot<H: GcHeap, D: Drop>(
 
 /// What a word in a slot of the types under that one is.
 fn found_under(top: HeapTopType, word: u32) -> Found
-    requires { IsReadForm (top_form top) }
     ensures { IsFound (top_form top) word result }
 {
     match top {
@@ -99,7 +106,7 @@ fn found_under(top: HeapTopType, word: u32) -> Found
         HeapTopType::Extern => Found::Ref(GcClass::Extern, word),
         HeapTopType::Exn => Found::Ref(GcClass::Exn, word),
         HeapTopType::Func => Found::Func(word),
-        HeapTopType::Cont => unreachable!(),
+        HeapTopType::Cont => Found::Cont(word),
     }
 }
 
@@ -107,7 +114,6 @@ fn found_under(top: HeapTopType, word: u32) -> Found
 fn read_typed<H: GcHeap>(heap: &H, gc_ref: &VMGcRef, offset: u32, ty: ValType) -> Found
     requires sound { H.sound heap.now }
     requires inside { IsReadable H.KIND (H.seen heap.now) gc_ref.now offset (value_width ty) }
-    requires form { IsReadForm (type_form ty) }
     ensures small { FitsAt H.KIND (H.seen heap.now) gc_ref.now (type_form ty) (value_width ty) offset }
     ensures finds { FindsAt H.KIND (H.seen heap.now) gc_ref.now (type_form ty) (value_width ty) offset result }
 {
@@ -125,7 +131,6 @@ fn read_typed<H: GcHeap>(heap: &H, gc_ref: &VMGcRef, offset: u32, ty: ValType) -
 pub(crate) fn read_slot<H: GcHeap>(heap: &H, gc_ref: &VMGcRef, slot: &Slot) -> Found
     requires sound { H.sound heap.now }
     requires inside { IsReadable H.KIND (H.seen heap.now) gc_ref.now slot.now.offset (storage_width slot.now.storage) }
-    requires form { IsReadForm (storage_form slot.now.storage) }
     ensures small { FitsAt H.KIND (H.seen heap.now) gc_ref.now (storage_form slot.now.storage) (storage_width slot.now.storage) slot.now.offset }
     ensures finds { FindsAt H.KIND (H.seen heap.now) gc_ref.now (storage_form slot.now.storage) (storage_width slot.now.storage) slot.now.offset result }
 {

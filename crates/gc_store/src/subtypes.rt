@@ -1,8 +1,8 @@
 //! Which types are subtypes of which, and of which pairs a store was asked.
 
-ghost use Rattle.std.specs.Prelude.{◌≡◌, ◌↔◌, IsTrue, IfSome, false};
+ghost use Rattle.std.specs.Prelude.{◌≡◌, ◌↔◌, IsTrue, false};
 ghost use Rattle.gc_types.specs.Subtyping.{supertypes_of, Meets};
-ghost use Rattle.gc_store.specs.Subtypes.{keeps, kept_count, Remembers, TellsKept};
+ghost use Rattle.gc_store.specs.Subtypes.{keeps, keeps_pair, kept_count, KeepsPairs, Remembers, TellsKept};
 ghost use Rattle.gc_store.specs.declared.subtypes.TypePair.{TypePair};
 
 use crate::store::Store;
@@ -80,16 +80,17 @@ impl<H: GcHeap, D: Drop> Store<H, D> {
     /// of, where both are declared, fewer than 65,536 are kept and memory is found for it.
     pub fn is_subtype_cached(&mut self, sub: VMSharedTypeIndex, sup: VMSharedTypeIndex) -> bool
         ensures value { IsTrue result ↔ Meets (supertypes_of self.old.types) sub sup }
-        ensures rest { self.new ≡ self.old }
+        ensures kept { KeepsPairs self.old.types (record { sub = sub; sup = sup }) self.old.kept_pairs self.new.kept_pairs }
+        ensures rest { self.new ≡ record self.old { kept_pairs = self.new.kept_pairs } }
     {
         let types = self.owner.types();
         self.asked.add(types, TypePair { sub, sup });
         types.is_subtype(sub, sup)
     }
 
-    /// What `is_subtype_cached` answers of a pair that is kept; None for any other. It takes no memory.
+    /// What `is_subtype_cached` answers of a pair that is kept; None exactly of any other. It takes no memory.
     pub fn cached_subtype(&self, sub: VMSharedTypeIndex, sup: VMSharedTypeIndex) -> Option<bool>
-        ensures { IfSome result (λ answer. IsTrue answer ↔ Meets (supertypes_of self.now.types) sub sup) }
+        ensures { let pair : TypePair = record { sub = sub; sup = sup } in TellsKept self.now.types (keeps_pair self.now.kept_pairs pair) pair result }
     {
         self.asked.answer(self.owner.types(), TypePair { sub, sup })
     }

@@ -11,12 +11,12 @@ ghost use Rattle.gc_store.specs.Collectings.{IsOpen, IsClosed, IsRunning, IsAske
 
 use crate::config::HeapConfig;
 use crate::engine::StoreId;
+use crate::interned::InternedValues;
 use crate::store::Store;
 use crate::subtypes::AskedPairs;
 use gc_heap::{GcHeap, GcProgress};
 use gc_owner::HeapOwner;
 use gc_steps::Steps;
-use gc_tables::FuncRefTable;
 use std::marker::Model;
 use std::sync::ledger::Ledger;
 
@@ -39,7 +39,7 @@ pub struct Suspended<H: GcHeap, D: Drop> {
     id: StoreId,
     config: HeapConfig,
     owner: HeapOwner<H, D>,
-    functions: FuncRefTable,
+    interned: InternedValues,
     slot_counts: Vec<u32>,
     tries: u64,
     mark: usize,
@@ -52,15 +52,16 @@ impl<H: GcHeap, D: Drop> Model for Suspended<H, D> {
     ghost use Rattle.std.specs.Coded.{codes};
     ghost use Rattle.std.specs.FinMap as map;
     ghost use Rattle.gc_store.specs.Suspensions.{SuspendedView, IsSuspended, suspended_view};
+    ghost use Rattle.gc_store.specs.Stores.{tables_of};
 
     ghost Value = { SuspendedView H H.State D };
 
     ghost coded = { Prim.hlevel (codes, map.code, H.code, H.State.code, D.code) };
 
-    ghost view = { λ c. suspended_view c.id c.config c.functions.entries c.owner c.tries c.begun };
+    ghost view = { λ c. suspended_view c.id c.config (tables_of c.interned c.asked) c.owner c.tries c.begun };
 
     ghost invariant = { λ c. IsSuspended (record { layouts = H.KIND; seen = H.seen; sound = H.sound; under_way = H.under_way })
-        c.slot_counts.items (suspended_view c.id c.config c.functions.entries c.owner c.tries c.begun) };
+        c.slot_counts.items (suspended_view c.id c.config (tables_of c.interned c.asked) c.owner c.tries c.begun) };
 }
 
 /// Drops the owned roots without handles, where the heap is made.
@@ -86,7 +87,7 @@ impl<H: GcHeap, D: Drop> Suspended<H, D> {
             id,
             config,
             mut owner,
-            functions,
+            interned,
             slot_counts,
             tries,
             mark,
@@ -97,7 +98,7 @@ impl<H: GcHeap, D: Drop> Suspended<H, D> {
             id,
             config,
             owner,
-            functions,
+            interned,
             slot_counts,
             tries,
             mark,
@@ -206,7 +207,7 @@ impl<H: GcHeap, D: Drop> Suspended<H, D> {
             id,
             config,
             owner: mut ended,
-            functions,
+            interned,
             slot_counts,
             tries,
             mark,
@@ -218,7 +219,7 @@ impl<H: GcHeap, D: Drop> Suspended<H, D> {
             id,
             config,
             owner: ended,
-            functions,
+            interned,
             slot_counts,
             tries,
             mark,

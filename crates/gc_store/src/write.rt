@@ -3,10 +3,11 @@
 ghost use Rattle.std.specs.Prelude.{◌≡◌, ◌≤◌, [], ◌∷◌, IsOk, OnErr};
 ghost use Rattle.gc_model.specs.Table.{Table};
 ghost use Rattle.gc_policy.specs.Accounts.{Account, HoldsAccount};
-ghost use Rattle.gc_store.specs.Values.{CanWrite, WritesValue, raw_functions};
+ghost use Rattle.gc_store.specs.Values.{CanWrite, WritesValue, raw_side_values};
+ghost use Rattle.gc_model.specs.SideValues.{no_side_values};
 ghost use Rattle.gc_store.specs.Stores.{IsSameStore};
 
-use crate::functions::intern_given;
+use crate::interned::intern_given;
 use crate::root::{GcRootIndex, RawValue};
 use crate::slot::slot_in;
 use crate::store::Store;
@@ -18,8 +19,13 @@ use thiserror::Error;
 /// Why a value is not written.
 #[derive(Clone, Copy, Debug, PartialEq, Eq, Error)]
 pub enum WriteFault {
+    /// The value is a function value that is new to the store, and no id is left for it.
     #[error("the function table is full")]
     FuncTableFull,
+    /// The value is a continuation that is new to the store, and no id is left for it.
+    #[error("the continuation table is full")]
+    ContTableFull,
+    /// Out of memory. The store is as it was.
     #[error("out of memory")]
     Memory,
 }
@@ -27,7 +33,8 @@ pub enum WriteFault {
 impl<H: GcHeap, D: Drop> Store<H, D> {
     /// Writes a value at that index into the object that the handle names: into a field of a struct or an exception, or
     /// an element of an array. Of a number that is wider than its slot the low bits are kept. It takes memory for a function
-    /// value that is new to the store alone. `FuncTableFull` where the store has 2^31 function values, none of them this one.
+    /// value or a continuation that is new to the store alone. `FuncTableFull` where the store has 2^31 function values, none of
+    /// them this one; `ContTableFull` where it has as many continuations.
     pub fn write_value(
         &mut self,
         handle: GcRootIndex,
@@ -35,7 +42,7 @@ impl<H: GcHeap, D: Drop> Store<H, D> {
         value: RawValue,
     ) -> Result<(), WriteFault>
         requires { CanWrite D H.KIND self.old handle index value }
-        ensures ok { raw_functions (value ∷ []) ≡ [] → IsOk result }
+        ensures ok { raw_side_values (value ∷ []) ≡ no_side_values → IsOk result }
         ensures writes { (t : Table D) (a : Account) → HoldsAccount H.KIND self.old t a → WritesValue H.KIND self.old self.new t a handle index value result }
         ensures err { OnErr result (self.new ≡ self.old) }
         ensures same { IsSameStore self.old self.new }
@@ -44,11 +51,11 @@ impl<H: GcHeap, D: Drop> Store<H, D> {
         self.owner.is_ready();
         match self.word_of(handle) {
             Ok(word) => {
-                intern_given(&mut self.functions, &value)?;
+                intern_given(&mut self.interned, &value)?;
                 let gc_ref = VMGcRef::from_raw_u32(word).unwrap();
                 let slot = slot_in(self.owner.heap(), self.owner.types(), &gc_ref, index);
                 let stored = stored_value(
-                    &self.functions,
+                    &self.interned,
                     self.owner.scoped(),
                     self.owner.owned(),
                     value,

@@ -69,6 +69,7 @@ allocate_object-requires g c =
 answers : {D : Type 0} (layouts : _) (o : _) (size first : ℕ) (is_due : _) (s b e : OwnerState D) (r : Result ℕ PlaceFault) → BeginsMaking layouts first is_due s b → AllocatesObject layouts o size b e r → MakesRooted layouts o size first is_due s e r
 answers layouts o size first is_due s b e (Ok index) begins made = (b, (begins, made))
 answers layouts o size first is_due s b e (Err fault.FuncTableFull) begins made = made
+answers layouts o size first is_due s b e (Err fault.ContTableFull) begins made = made
 answers layouts o size first is_due s b e (Err fault.TooLarge) begins made = made
 answers layouts o size first is_due s b e (Err fault.RootsFull) begins made = made
 answers layouts o size first is_due s b e (Err (fault.HeapOutOfMemory f)) begins made = inr (b, (begins, made))

@@ -3,7 +3,7 @@ use Rattle.std.specs.FinMap as finite
 use Rattle.gc_types.specs.declared.kind.VMGcKind.{VMGcKind}
 use Rattle.gc_view.specs.Heaps.{HeapObject}
 use Rattle.gc_heap.specs.Extents.{IsObjectKind}
-use Rattle.gc_heap.proofs.KindLemmas.{same_kind}
+use Rattle.gc_types.proofs.KindLemmas.{same_kind}
 use Rattle.gc_store.specs.declared.root.RootedObject.TheVariants as rooted_object
 use Rattle.gc_store.specs.Described.{IsOfKindAs}
 use Rattle.gc_store.proofs.read.describe_held.Given.{Over}

@@ -6,7 +6,7 @@ use Rattle.gc_policy.specs.Accounts.{HoldsAccount}
 use Rattle.gc_store.specs.Roots.{is_of_store}
 use Rattle.gc_store.specs.OwnedRoots.{IsHandleOf}
 use Rattle.gc_store.specs.OwnedWords.{FindsHeld, GivesMore}
-use Rattle.gc_store.specs.Stores.{store_view}
+use Rattle.gc_store.specs.Stores.{store_view, tables_of}
 use Rattle.gc_store.proofs.OwningHandles.{of_none, of_root, handle_added, sound_changed}
 use Rattle.gc_store.proofs.store.Store.add_own_handle.Given as given
 use Rattle.gc_store.proofs.store.Store.add_own_handle.Goals as goal
@@ -14,7 +14,7 @@ use Rattle.gc_store.proofs.store.Store.add_own_handle.Goals.{After-owned}
 
 -- the store's view, by its parts
 abbrev view : (g : given.Over) (c : After-owned g) → StoreView g.row.D.Denot
-view g c = store_view c.self.inside.id c.self.inside.config c.self.inside.functions.entries c.self.inside.owner.seen c.self.inside.tries
+view g c = store_view c.self.inside.id c.self.inside.config (tables_of c.self.inside.interned c.self.inside.asked) c.self.inside.owner.seen c.self.inside.tries
 
 own : (g : given.Over) (c : After-owned g) → is_of_store (view g c) c.args.handle ≡ true
 own g c = subst (λ (s : StoreView g.row.D.Denot). is_of_store s c.args.handle ≡ true) (sym c.self.view_is) c.requires
@@ -33,8 +33,8 @@ invariant_of-self g c =
     let at = (goal.at.invariant_of-self g c).After-owned in
     let sound = c.self.invariant in
     let fewer = subst (GivesMore (get_or c.owned.result.now c.in-Some.index empty_entry).handles) c.in-Some-more_handles.is c.more_handles.ensures in
-    sound_changed g.H.GcHeap.KIND c.self.inside.id c.self.inside.config c.self.inside.functions.entries c.self.inside.tries c.self.inside.owner.seen c.set_handles.new.self.seen c.args.handle (own g at) c.in-Some.index (finds g at) c.self.inside.slot_counts.items _ c.set_handles.ensures sound _ _
-    (handle_added g.H.GcHeap.KIND c.self.inside.id c.self.inside.config c.self.inside.functions.entries c.self.inside.tries c.self.inside.owner.seen c.set_handles.new.self.seen c.args.handle (own g at) c.in-Some.index (finds g at) _ (fewer.0 ∙ ap (λ n. n + 1) (same g at)) c.set_handles.ensures sound.table sound.account sound.holds)
+    sound_changed g.H.GcHeap.KIND c.self.inside.id c.self.inside.config (tables_of c.self.inside.interned c.self.inside.asked) c.self.inside.tries c.self.inside.owner.seen c.set_handles.new.self.seen c.args.handle (own g at) c.in-Some.index (finds g at) c.self.inside.slot_counts.items _ c.set_handles.ensures sound _ _
+    (handle_added g.H.GcHeap.KIND c.self.inside.id c.self.inside.config (tables_of c.self.inside.interned c.self.inside.asked) c.self.inside.tries c.self.inside.owner.seen c.set_handles.new.self.seen c.args.handle (own g at) c.in-Some.index (finds g at) _ (fewer.0 ∙ ap (λ n. n + 1) (same g at)) c.set_handles.ensures sound.table sound.account sound.holds)
 
 pub returns-in-None-more_handles-clause-adds : goal.returns-in-None-more_handles-clause-adds
 returns-in-None-more_handles-clause-adds g c = λ t a there.
@@ -55,7 +55,7 @@ returns-in-Some-more_handles-clause-adds g c = λ t a there.
         subst (λ (s : StoreView g.row.D.Denot). IsHandleOf s t c.args.handle of.0) c.self.view_is of.1.0,
         (
           λ full. fewer.1 (same g at ∙ sym of.1.1 ∙ full),
-          handle_added g.H.GcHeap.KIND c.self.inside.id c.self.inside.config c.self.inside.functions.entries c.self.inside.tries c.self.inside.owner.seen c.set_handles.new.self.seen c.args.handle (own g at) c.in-Some.index (finds g at) _ (fewer.0 ∙ ap (λ n. n + 1) (same g at)) c.set_handles.ensures t a holds,
+          handle_added g.H.GcHeap.KIND c.self.inside.id c.self.inside.config (tables_of c.self.inside.interned c.self.inside.asked) c.self.inside.tries c.self.inside.owner.seen c.set_handles.new.self.seen c.args.handle (own g at) c.in-Some.index (finds g at) _ (fewer.0 ∙ ap (λ n. n + 1) (same g at)) c.set_handles.ensures t a holds,
         ),
       ),
     )

@@ -9,7 +9,7 @@ use Rattle.gc_model.specs.Stores.{StoreView}
 use Rattle.gc_store.specs.Roots.{word_of}
 use Rattle.gc_store.specs.Bytes.{CanCopyBytes, NamesBytes}
 use Rattle.gc_store.specs.HeldSlots.{FindsHeldSlot, IsHeldWithSlot}
-use Rattle.gc_store.specs.Stores.{store_view}
+use Rattle.gc_store.specs.Stores.{store_view, tables_of}
 use Rattle.gc_store.proofs.Roots.{SomeIff-value, SomeIff-some}
 use Rattle.gc_store.proofs.CopiedBytes.{BytesAt, bytes_at, bytes_live, first_found, first_held, all_readable, same_length, values_are}
 use Rattle.gc_store.proofs.store.Store.copy_bytes.Given as given
@@ -18,7 +18,7 @@ use Rattle.gc_store.proofs.store.Store.copy_bytes.Goals.{In-Ok, After-unwrap-gc_
 
 -- the store, as it stands inside its invariant
 abbrev view : (g : given.Over) (c : In-Ok g) → StoreView g.row.D.Denot
-view g c = store_view c.self.inside.id c.self.inside.config c.self.inside.functions.entries c.self.inside.owner.seen c.self.inside.tries
+view g c = store_view c.self.inside.id c.self.inside.config (tables_of c.self.inside.interned c.self.inside.asked) c.self.inside.owner.seen c.self.inside.tries
 
 can : (g : given.Over) (c : In-Ok g) → CanCopyBytes g.row.D.Denot g.H.GcHeap.KIND (view g c) c.args.r (length c.args.dst.now)
 can g c = subst (λ (s : StoreView g.row.D.Denot). CanCopyBytes g.row.D.Denot g.H.GcHeap.KIND s c.args.r (length c.args.dst.now)) (sym c.self.view_is) c.requires

@@ -3,14 +3,15 @@ use Rattle.gc_types.specs.Declarations.{array_type}
 use Rattle.gc_model.specs.Stores.{StoreView}
 use Rattle.gc_policy.specs.Accounts.{HoldsAccount}
 use Rattle.gc_store.proofs.Declaring.{declared_step, sound_declared}
+use Rattle.gc_store.specs.Stores.{tables_of}
 use Rattle.gc_store.proofs.store.Store.declare_array.Goals as goal
 
 pub invariant_of-self : goal.invariant_of-self
 invariant_of-self g c =
-    sound_declared g.H.GcHeap.KIND c.self.inside.id c.self.inside.config c.self.inside.functions.entries c.self.inside.tries (array_type c.args.element c.args.supertype c.args.is_final) c.self.inside.owner.seen c.declare_array.new.self.seen c.declare_array.result
+    sound_declared g.H.GcHeap.KIND c.self.inside.id c.self.inside.config (tables_of c.self.inside.interned c.self.inside.asked) c.self.inside.tries (array_type c.args.element c.args.supertype c.args.is_final) c.self.inside.owner.seen c.declare_array.new.self.seen c.declare_array.result
     c.declare_array.ensures c.self.inside.slot_counts.items c.self.invariant
 
 pub returns-clause-step : goal.returns-clause-step
 returns-clause-step g c t a holds =
-    declared_step g.H.GcHeap.KIND c.self.inside.id c.self.inside.config c.self.inside.functions.entries c.self.inside.tries (array_type c.args.element c.args.supertype c.args.is_final) c.self.inside.owner.seen c.declare_array.new.self.seen c.declare_array.result
+    declared_step g.H.GcHeap.KIND c.self.inside.id c.self.inside.config (tables_of c.self.inside.interned c.self.inside.asked) c.self.inside.tries (array_type c.args.element c.args.supertype c.args.is_final) c.self.inside.owner.seen c.declare_array.new.self.seen c.declare_array.result
     c.declare_array.ensures c.self.inside.slot_counts.items c.self.invariant t a (subst (λ (v : StoreView g.row.D.Denot). HoldsAccount g.H.GcHeap.KIND v t a) (sym c.self.view_is) holds)

@@ -6,7 +6,7 @@ use Rattle.gc_policy.specs.Accounts.{HoldsAccount}
 use Rattle.gc_store.specs.Roots.{is_of_store}
 use Rattle.gc_store.specs.OwnedRoots.{IsHandleOf}
 use Rattle.gc_store.specs.OwnedWords.{FindsHeld}
-use Rattle.gc_store.specs.Stores.{store_view}
+use Rattle.gc_store.specs.Stores.{store_view, tables_of}
 use Rattle.gc_store.proofs.OwningHandles.{of_none, of_root, handle_dropped, sound_changed}
 use Rattle.gc_store.proofs.store.Store.drop_handle.Given as given
 use Rattle.gc_store.proofs.store.Store.drop_handle.Goals as goal
@@ -14,7 +14,7 @@ use Rattle.gc_store.proofs.store.Store.drop_handle.Goals.{After-owned}
 
 -- the store's view, by its parts
 abbrev view : (g : given.Over) (c : After-owned g) → StoreView g.row.D.Denot
-view g c = store_view c.self.inside.id c.self.inside.config c.self.inside.functions.entries c.self.inside.owner.seen c.self.inside.tries
+view g c = store_view c.self.inside.id c.self.inside.config (tables_of c.self.inside.interned c.self.inside.asked) c.self.inside.owner.seen c.self.inside.tries
 
 own : (g : given.Over) (c : After-owned g) → is_of_store (view g c) c.args.handle ≡ true
 own g c = subst (λ (s : StoreView g.row.D.Denot). is_of_store s c.args.handle ≡ true) (sym c.self.view_is) c.requires
@@ -32,8 +32,8 @@ pub invariant_of-self : goal.invariant_of-self
 invariant_of-self g c =
     let at = (goal.at.invariant_of-self g c).After-owned in
     let sound = c.self.invariant in
-    sound_changed g.H.GcHeap.KIND c.self.inside.id c.self.inside.config c.self.inside.functions.entries c.self.inside.tries c.self.inside.owner.seen c.set_handles.new.self.seen c.args.handle (own g at) c.in-Some.index (finds g at) c.self.inside.slot_counts.items _ c.set_handles.ensures sound _ _
-    (handle_dropped g.H.GcHeap.KIND c.self.inside.id c.self.inside.config c.self.inside.functions.entries c.self.inside.tries c.self.inside.owner.seen c.set_handles.new.self.seen c.args.handle (own g at) c.in-Some.index (finds g at) _ (ap (λ n. n - 1) (same g at)) c.set_handles.ensures sound.table sound.account sound.holds)
+    sound_changed g.H.GcHeap.KIND c.self.inside.id c.self.inside.config (tables_of c.self.inside.interned c.self.inside.asked) c.self.inside.tries c.self.inside.owner.seen c.set_handles.new.self.seen c.args.handle (own g at) c.in-Some.index (finds g at) c.self.inside.slot_counts.items _ c.set_handles.ensures sound _ _
+    (handle_dropped g.H.GcHeap.KIND c.self.inside.id c.self.inside.config (tables_of c.self.inside.interned c.self.inside.asked) c.self.inside.tries c.self.inside.owner.seen c.set_handles.new.self.seen c.args.handle (own g at) c.in-Some.index (finds g at) _ (ap (λ n. n - 1) (same g at)) c.set_handles.ensures sound.table sound.account sound.holds)
 
 pub returns-in-Some-clause-drops : goal.returns-in-Some-clause-drops
 returns-in-Some-clause-drops g c = λ t a there.
@@ -43,7 +43,7 @@ returns-in-Some-clause-drops g c = λ t a there.
       of.0,
       (
         subst (λ (s : StoreView g.row.D.Denot). IsHandleOf s t c.args.handle of.0) c.self.view_is of.1.0,
-        handle_dropped g.H.GcHeap.KIND c.self.inside.id c.self.inside.config c.self.inside.functions.entries c.self.inside.tries c.self.inside.owner.seen c.set_handles.new.self.seen c.args.handle (own g at) c.in-Some.index (finds g at) _ (ap (λ n. n - 1) (same g at)) c.set_handles.ensures t a holds,
+        handle_dropped g.H.GcHeap.KIND c.self.inside.id c.self.inside.config (tables_of c.self.inside.interned c.self.inside.asked) c.self.inside.tries c.self.inside.owner.seen c.set_handles.new.self.seen c.args.handle (own g at) c.in-Some.index (finds g at) _ (ap (λ n. n - 1) (same g at)) c.set_handles.ensures t a holds,
       ),
     )
 

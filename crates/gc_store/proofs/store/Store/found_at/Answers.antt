@@ -10,9 +10,9 @@ use Rattle.gc_model.specs.Table.{Table}
 use Rattle.gc_model.specs.Holds.{Placing, Holds}
 use Rattle.gc_model.specs.Stores.{StoreView}
 use Rattle.gc_store.specs.Roots.{CanRead, HasValue, word_of}
-use Rattle.gc_store.specs.Kept.{FoundStands, IsReadForm}
+use Rattle.gc_store.specs.Kept.{FoundStands}
 use Rattle.gc_store.specs.HeldSlots.{storage_slot, FindsAt, FitsAt, FindsHeldSlot, IsHeldWithSlot}
-use Rattle.gc_store.specs.Stores.{store_view}
+use Rattle.gc_store.specs.Stores.{store_view, tables_of}
 use Rattle.gc_store.proofs.Roots.{SomeIff-value, SomeIff-some}
 use Rattle.gc_store.proofs.LyingAt.{LyingAt, lying_at, value_live, has_slot, slot_readable, slot_is_found, found_stands}
 use Rattle.gc_store.proofs.store.Store.found_at.Given as given
@@ -21,7 +21,7 @@ use Rattle.gc_store.proofs.store.Store.found_at.Goals.{In-Ok, After-unwrap-gc_re
 
 -- the store, as it stands inside its invariant
 abbrev view : (g : given.Over) (c : In-Ok g) → StoreView g.row.D.Denot
-view g c = store_view c.self.inside.id c.self.inside.config c.self.inside.functions.entries c.self.inside.owner.seen c.self.inside.tries
+view g c = store_view c.self.inside.id c.self.inside.config (tables_of c.self.inside.interned c.self.inside.asked) c.self.inside.owner.seen c.self.inside.tries
 
 can : (g : given.Over) (c : In-Ok g) → CanRead g.row.D.Denot g.H.GcHeap.KIND (view g c) c.args.handle c.args.index
 can g c = subst (λ (s : StoreView g.row.D.Denot). CanRead g.row.D.Denot g.H.GcHeap.KIND s c.args.handle c.args.index) (sym c.self.view_is) c.requires
@@ -81,12 +81,6 @@ read_slot-requires-clause-inside g c =
     (subst (λ (x : StorageSlot). IsReadable g.H.GcHeap.KIND c.self.inside.owner.seen.heap c.in-Ok.word x.offset (storage_width x.storage)) (sym (slot_is g found _ _ _ _ _ lies))
     (slot_readable g.H.GcHeap.KIND (view g at) _ _ _ c.in-Ok.word _ c.args.index _ lies (c.is_ready.ensures.can.traced c.in-Ok.word lies.object lies.is.held))))
 
-pub read_slot-requires-clause-form : goal.read_slot-requires-clause-form
-read_slot-requires-clause-form g c =
-    let found = (goal.at.read_slot-requires-clause-form g c).After-slot_in-slot in
-    let lies = spot g (goal.at.After-slot_in-slot g found).In-Ok in
-    subst (λ (x : StorageSlot). IsReadForm (storage_form x.storage)) (sym (slot_is g found _ _ _ _ _ lies)) lies.read_form
-
 pub returns : goal.returns
 returns g c t place value holds has =
     let found = (goal.at.returns g c).After-slot_in-slot in
@@ -97,7 +91,7 @@ returns g c t place value holds has =
     let before : Holds g.H.GcHeap.KIND (view g at) t place = subst (λ (s : StoreView g.row.D.Denot). Holds g.H.GcHeap.KIND s t place) (sym c.self.view_is) holds in
     let had : HasValue (view g at) t c.args.handle c.args.index value = subst (λ (s : StoreView g.row.D.Denot). HasValue s t c.args.handle c.args.index value) (sym c.self.view_is) has in
     let lies = lying_at g.H.GcHeap.KIND (view g at) t place before c.args.handle c.args.index value had c.in-Ok.word (word_at g at) in
-    subst (λ (s : StoreView g.row.D.Denot). FoundStands (naming place s.funcs) c.read_slot.result value) c.self.view_is
+    subst (λ (s : StoreView g.row.D.Denot). FoundStands (naming place s.ids) c.read_slot.result value) c.self.view_is
     (found_stands g.H.GcHeap.KIND (view g at) t place _ c.in-Ok.word _ c.args.index value lies c.read_slot.result c.slot_in-slot.result (slot_is g found t place _ _ value lies)
     (subst (λ (w : ℕ). FindsAt g.H.GcHeap.KIND c.self.inside.owner.seen.heap w form width c.slot_in-slot.result.offset c.read_slot.result) (same_word g unwrapped)
     (subst (λ (h : HeapView). FindsAt g.H.GcHeap.KIND h c.unwrap-gc_ref.result form width c.slot_in-slot.result.offset c.read_slot.result) c.heap-in-Ok.ensures.seen c.read_slot.ensures.finds))

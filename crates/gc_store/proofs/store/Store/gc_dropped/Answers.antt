@@ -1,7 +1,7 @@
 use Rattle.std.proofs.Common.{◌≡◌, true, false, sym, ◌∙◌, ap}
 use Rattle.gc_model.specs.Stores.{StoreView}
 use Rattle.gc_policy.proofs.CollectedStore.{unmade_kept}
-use Rattle.gc_store.specs.Stores.{store_view}
+use Rattle.gc_store.specs.Stores.{store_view, tables_of}
 use Rattle.gc_store.proofs.Settling.{settled}
 use Rattle.gc_store.proofs.CollectedStores.{sound_collected, kept_collected, store_collected}
 use Rattle.gc_store.proofs.store.Store.gc_dropped.Given.{Over}
@@ -10,7 +10,7 @@ use Rattle.gc_store.proofs.store.Store.gc_dropped.Goals.{After-collect_dropped}
 
 -- the store before the collection
 abbrev before : (g : Over) → After-collect_dropped g → StoreView g.row.D.Denot
-before g c = store_view c.self.inside.id c.self.inside.config c.self.inside.functions.entries c.self.inside.owner.seen c.self.inside.tries
+before g c = store_view c.self.inside.id c.self.inside.config (tables_of c.self.inside.interned c.self.inside.asked) c.self.inside.owner.seen c.self.inside.tries
 
 attached : (g : Over) (c : After-collect_dropped g) → c.self.inside.owner.seen.heap.attached ≡ true
 attached g c = sym c.is_made.ensures ∙ c.if-is_made.true
@@ -31,7 +31,7 @@ returns-then-is_made-clause-collects g c = λ t a limits made.
 
 pub returns-then-is_made-clause-settled : goal.returns-then-is_made-clause-settled
 returns-then-is_made-clause-settled g c = λ made.
-    settled g.H.GcHeap.KIND c.self.inside.owner.seen c.collect_dropped.new.owner.seen c.collect_dropped.ensures c.self.inside.id c.self.inside.config c.self.inside.functions.entries c.self.inside.tries c.is_ready.ensures.frames
+    settled g.H.GcHeap.KIND c.self.inside.owner.seen c.collect_dropped.new.owner.seen c.collect_dropped.ensures c.self.inside.id c.self.inside.config (tables_of c.self.inside.interned c.self.inside.asked) c.self.inside.tries c.is_ready.ensures.frames
 
 pub returns-else-is_made-clause-settled : goal.returns-else-is_made-clause-settled
 returns-else-is_made-clause-settled g c = λ made.

@@ -9,7 +9,7 @@ use Rattle.gc_policy.specs.Policy as policy
 use Rattle.gc_policy.specs.Policy.{policy_state}
 use Rattle.gc_store.specs.declared.grow.GrowFault.{GrowFault}
 use Rattle.gc_store.specs.Expansion.{GrowsStore}
-use Rattle.gc_store.specs.Stores.{store_view}
+use Rattle.gc_store.specs.Stores.{store_view, tables_of}
 use Rattle.gc_store.proofs.Expanding.{FollowsExpansion, expansion_follows, answer_of}
 use Rattle.gc_store.proofs.store.Store.gc_heap_grow.Given.{Over}
 use Rattle.gc_store.proofs.store.Store.gc_heap_grow.Goals as goal
@@ -17,7 +17,7 @@ use Rattle.gc_store.proofs.store.Store.gc_heap_grow.Goals.{After-expand, in-Ok, 
 
 -- the store before the growth, and its owner before and after it
 abbrev view : (g : Over) → After-expand g → StoreView g.row.D.Denot
-view g c = store_view c.self.inside.id c.self.inside.config c.self.inside.functions.entries c.self.inside.owner.seen c.self.inside.tries
+view g c = store_view c.self.inside.id c.self.inside.config (tables_of c.self.inside.interned c.self.inside.asked) c.self.inside.owner.seen c.self.inside.tries
 
 abbrev start : (g : Over) → After-expand g → OwnerState g.row.D.Denot
 start g c = state_of c.self.inside.owner.seen (g.L.ResourceLimiter.limits c.args.limiter.now)
@@ -26,7 +26,7 @@ abbrev end : (g : Over) → After-expand g → OwnerState g.row.D.Denot
 end g c = state_of c.expand.new.self.seen (g.L.ResourceLimiter.limits c.expand.new.limiter)
 
 abbrev now : (g : Over) → After-expand g → StoreView g.row.D.Denot
-now g c = store_view c.self.inside.id c.self.inside.config c.self.inside.functions.entries c.expand.new.self.seen c.self.inside.tries
+now g c = store_view c.self.inside.id c.self.inside.config (tables_of c.self.inside.interned c.self.inside.asked) c.expand.new.self.seen c.self.inside.tries
 
 expanded : (g : Over) (c : After-expand g) (t : Table g.row.D.Denot) (a : Account) → HoldsAccount g.H.GcHeap.KIND (view g c) t a
     → FollowsExpansion g.H.GcHeap.KIND (view g c) c.args.bytes (end g c) (policy_state t a (g.L.ResourceLimiter.limits c.args.limiter.now)) c.expand.result c.self.inside.slot_counts.items

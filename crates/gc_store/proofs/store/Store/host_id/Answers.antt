@@ -3,7 +3,7 @@ use Rattle.gc_view.specs.Heaps.{HeapView}
 use Rattle.gc_model.specs.Stores.{StoreView}
 use Rattle.gc_store.specs.HostSteps.{TellsHostId}
 use Rattle.gc_store.specs.Roots.{word_of}
-use Rattle.gc_store.specs.Stores.{store_view}
+use Rattle.gc_store.specs.Stores.{store_view, tables_of}
 use Rattle.gc_store.proofs.HandleWords.{root_word, named_word, never_named, never_gone}
 use Rattle.gc_store.proofs.HostReads.{id_told}
 use Rattle.gc_store.proofs.Roots.{SomeIff-value, SomeIff-some}
@@ -12,7 +12,7 @@ use Rattle.gc_store.proofs.store.Store.host_id.Goals as goal
 pub unwrap-gc_ref-requires : goal.unwrap-gc_ref-requires
 unwrap-gc_ref-requires g c =
     SomeIff-some _ c.from_raw_u32.result c.in-Ok.word c.from_raw_u32.ensures
-    (root_word g.H.GcHeap.KIND (store_view c.self.inside.id c.self.inside.config c.self.inside.functions.entries c.self.inside.owner.seen c.self.inside.tries) c.self.invariant.table c.self.invariant.holds.place c.self.invariant.holds.holds c.args.handle c.in-Ok.word
+    (root_word g.H.GcHeap.KIND (store_view c.self.inside.id c.self.inside.config (tables_of c.self.inside.interned c.self.inside.asked) c.self.inside.owner.seen c.self.inside.tries) c.self.invariant.table c.self.invariant.holds.place c.self.invariant.holds.holds c.args.handle c.in-Ok.word
     (ap (λ (s : StoreView g.row.D.Denot). word_of s c.args.handle) c.self.view_is ∙ sym c.word_of.ensures ∙ c.in-Ok.is)).not_null
 
 pub returns-in-Ok-clause-live : goal.returns-in-Ok-clause-live

@@ -1,14 +1,13 @@
-use Rattle.std.proofs.Common.{inl, ◌≡◌, ℕ, ◌+◌, ◌-◌, ◌<◌, ◌^◌, ◌≤◌, le-ltb, min, true, false, List, length, Option, Result, Ok, Err, slice_index_or, refl, sym, ap, ◌∙◌, subst, arith}
+use Rattle.std.proofs.Common.{inl, ◌≡◌, ℕ, ◌+◌, ◌-◌, ◌<◌, ◌^◌, min, true, false, List, length, Result, Ok, Err, slice_index_or, refl, sym, ap, ◌∙◌, subst, arith}
 use Rattle.std.specs.Option.{option_map}
 use Rattle.std.specs.Int.NonZero.{non_zero_u32_get}
 use Rattle.gc_types.specs.Declarations.{TypeTable}
-use Rattle.gc_types.specs.declared.value.Func.{Func}
 use Rattle.gc_view.specs.Heaps.{HeapObject}
 use Rattle.gc_view.specs.Slots.{shape_size}
 use Rattle.gc_model.specs.Allocation.{too_large}
-use Rattle.gc_model.specs.Functions.{FunctionIds, FunctionsBy, max_entries, object_functions, with_functions}
+use Rattle.gc_model.specs.SideValues.{InternedIds, SideValues, side_values, with_side_values}
 use Rattle.gc_model.specs.Table.{Table}
-use Rattle.gc_model.specs.Values.{Object}
+use Rattle.gc_model.specs.Values.{Object, object_values}
 use Rattle.gc_model.specs.Stores.{StoreView}
 use Rattle.gc_model.specs.Holds.{Placing, Holds}
 use Rattle.gc_owner.specs.declared.allocate.Description.{Description}
@@ -25,19 +24,19 @@ use Rattle.gc_store.specs.declared.root.GcRootIndex.{GcRootIndex}
 use Rattle.gc_store.specs.declared.root.RootSlot.TheVariants as slot
 use Rattle.gc_store.specs.Filling.{asked_type, front_of, ContentsFit, ContentsStand, FillsBy, IsToFill}
 use Rattle.gc_store.specs.Making.{BeginsMaking, IsSizeOf, MakesRooted, TellsSize, described_by}
-use Rattle.gc_store.specs.Interning.{CanIntern, Interns, MakesRoom, given_values}
-use Rattle.gc_store.specs.Places.{Places, PlacesObject, lacks_ids}
-use Rattle.gc_store.specs.Values.{raw_functions}
+use Rattle.gc_store.specs.Interning.{CanInternAll, HaveAllIdsLeft, InternsAll, MakesRooms, given_values}
+use Rattle.gc_store.specs.Places.{Places, PlacesObject, HasIds}
+use Rattle.gc_store.specs.Values.{raw_side_values}
 use Rattle.gc_store.specs.Requests.{CanPlaceIn, IsObjectOf}
-use Rattle.gc_store.specs.Stores.{store_view, is_full, scoped_places}
-use Rattle.gc_store.proofs.GivenFunctions.{interned_ids}
+use Rattle.gc_store.specs.Stores.{ids_of, store_view, tables_by, tables_of, is_full, scoped_places}
+use Rattle.gc_store.proofs.GivenValues.{interned_ids, rooms_can, rooms_ids, rooms_left}
 use Rattle.gc_store.proofs.Keeping.{counts_of}
 use Rattle.gc_store.proofs.NewObjects.{IsNew, asked_kind}
 use Rattle.gc_store.proofs.Placing.{IsStart, reserved_start, Creates, IsLastRoot, last_root, KeepsRest, made_keeps, may_fill, placing_follows}
 use Rattle.gc_store.proofs.PlacingFaults.{FollowsFault, fault_follows, fault_keeps}
 use Rattle.gc_store.proofs.Pushing.{full_is}
-use Rattle.gc_store.proofs.Requested.{Asks, IsCounted, Sized, asked_functions, sized, few_elements, new_of, asks}
-use Rattle.gc_store.proofs.PlacingIds.{refused_ids, same_held}
+use Rattle.gc_store.proofs.Requested.{Asks, IsCounted, Sized, asked_side_values, sized, few_elements, new_of, asks}
+use Rattle.gc_store.proofs.PlacingIds.{left_ids, refused_ids, same_held}
 use Rattle.gc_store.proofs.SameRoots.{same_err}
 use Rattle.gc_store.proofs.store.Store.place.Given as given
 use Rattle.gc_store.proofs.store.Store.place.Goals.{After-is_ready, After-find_room, After-object_size, After-is_err, After-make_object, In-Ok, After-holder_of-holder, After-fill, In-Err}
@@ -46,7 +45,7 @@ use Rattle.gc_store.proofs.SpareLemmas.{reserves_more, can_roomy, asked_roomy}
 
 -- the store before the call, and its owner with room for one more root
 abbrev view : (g : given.Over) (c : After-is_ready g) → StoreView g.row.D.Denot
-view g c = store_view c.self.inside.id c.self.inside.config c.self.inside.functions.entries c.self.inside.owner.seen c.self.inside.tries
+view g c = store_view c.self.inside.id c.self.inside.config (tables_of c.self.inside.interned c.self.inside.asked) c.self.inside.owner.seen c.self.inside.tries
 
 fits_view : (g : given.Over) (c : After-is_ready g) → CanPlaceIn g.row.D.Denot g.H.GcHeap.KIND (view g c) c.args.request c.args.contents
 fits_view g c = subst (λ (x : StoreView g.row.D.Denot). CanPlaceIn g.row.D.Denot g.H.GcHeap.KIND x c.args.request c.args.contents) (sym c.self.view_is) c.requires
@@ -70,34 +69,37 @@ held g c t a holds = subst (λ (s : StoreView g.row.D.Denot). HoldsAccount g.H.G
 asked_view : (g : given.Over) (c : After-is_ready g) (t : Table g.row.D.Denot) (o : Object g.row.D.Denot) → IsObjectOf c.args.self.now t c.args.request c.args.contents o → IsObjectOf (view g c) t c.args.request c.args.contents o
 asked_view g c t o is = subst (λ (s : StoreView g.row.D.Denot). IsObjectOf s t c.args.request c.args.contents o) (sym c.self.view_is) is
 
--- what was given, and the room that was made for its function values
-abbrev fs_of : (g : given.Over) (c : After-is_ready g) → List (Option Func)
-fs_of g c = raw_functions (given_values c.args.request c.args.contents)
+-- what was given, and the room that was made for its function values and continuations
+abbrev given_of : (g : given.Over) (c : After-is_ready g) → SideValues
+given_of g c = raw_side_values (given_values c.args.request c.args.contents)
 
-given_is : (g : given.Over) (c : After-find_room g) → raw_functions c.given_values-given.result.now ≡ fs_of g (goal.at.After-find_room g c).After-is_ready
-given_is g c = ap raw_functions c.given_values-given.ensures
+given_is : (g : given.Over) (c : After-find_room g) → raw_side_values c.given_values-given.result.now ≡ given_of g (goal.at.After-find_room g c).After-is_ready
+given_is g c = ap raw_side_values c.given_values-given.ensures
 
-functions_are : (g : given.Over) (c : After-is_ready g) (t : Table g.row.D.Denot) (place : Placing) (o : Object g.row.D.Denot) → Holds g.H.GcHeap.KIND (view g c) t place → IsObjectOf (view g c) t c.args.request c.args.contents o
-    → (known : List (Option Func)) → with_functions (fs_of g c) known ≡ with_functions (object_functions o) known
-functions_are g c t place o holds is =
-    asked_functions g.row.D.Denot g.H.GcHeap.KIND (view g c) c.self.invariant.table c.self.invariant.holds.place c.self.invariant.holds.holds c.args.request c.args.contents (fits_view g c) t place o holds is
+side_values_are : (g : given.Over) (c : After-is_ready g) (t : Table g.row.D.Denot) (place : Placing) (o : Object g.row.D.Denot) → Holds g.H.GcHeap.KIND (view g c) t place → IsObjectOf (view g c) t c.args.request c.args.contents o
+    → (known : SideValues) → with_side_values (given_of g c) known ≡ with_side_values (side_values (object_values o)) known
+side_values_are g c t place o holds is =
+    asked_side_values g.row.D.Denot g.H.GcHeap.KIND (view g c) c.self.invariant.table c.self.invariant.holds.place c.self.invariant.holds.holds c.args.request c.args.contents (fits_view g c) t place o holds is
 
-room_made : (g : given.Over) (c : After-object_size g) → MakesRoom c.self.inside.functions c.find_room.new.functions (fs_of g (goal.at.After-object_size g c).After-is_ready)
-room_made g c = subst (MakesRoom c.self.inside.functions c.find_room.new.functions) (given_is g (goal.at.After-object_size g c).After-find_room) c.in_ok-find_room.ensures
+room_made : (g : given.Over) (c : After-object_size g) → MakesRooms c.self.inside.interned c.find_room.new.interned (given_of g (goal.at.After-object_size g c).After-is_ready)
+room_made g c = subst (MakesRooms c.self.inside.interned c.find_room.new.interned) (given_is g (goal.at.After-object_size g c).After-find_room) c.in_ok-find_room.ensures
 
-same_ids : (g : given.Over) (c : After-object_size g) → c.find_room.new.functions.entries ≡ c.self.inside.functions.entries
-same_ids g c = (room_made g c).same
+same_ids : (g : given.Over) (c : After-object_size g) → ids_of c.find_room.new.interned ≡ ids_of c.self.inside.interned
+same_ids g c = rooms_ids c.self.inside.interned c.find_room.new.interned (given_of g (goal.at.After-object_size g c).After-is_ready) (room_made g c)
+
+-- ids are left for it
+ids_left : (g : given.Over) (c : After-object_size g) → HaveAllIdsLeft (ids_of c.self.inside.interned) (given_of g (goal.at.After-object_size g c).After-is_ready)
+ids_left g c = rooms_left c.self.inside.interned c.find_room.new.interned (given_of g (goal.at.After-object_size g c).After-is_ready) (room_made g c)
 
 has_ids : (g : given.Over) (c : After-object_size g) (t : Table g.row.D.Denot) (place : Placing) (o : Object g.row.D.Denot) → Holds g.H.GcHeap.KIND (view g (goal.at.After-object_size g c).After-is_ready) t place
-    → IsObjectOf (view g (goal.at.After-object_size g c).After-is_ready) t c.args.request c.args.contents o → lacks_ids o t ≡ false
+    → IsObjectOf (view g (goal.at.After-object_size g c).After-is_ready) t c.args.request c.args.contents o → HasIds o t
 has_ids g c t place o holds is =
-    le-ltb max_entries (length (with_functions (object_functions o) t.funcs))
-    (subst (λ (ks : List (Option Func)). length ks ≤ max_entries) (functions_are g (goal.at.After-object_size g c).After-is_ready t place o holds is t.funcs) ((room_made g c).has_room t.funcs holds.funcs).few)
+    left_ids t o (given_of g (goal.at.After-object_size g c).After-is_ready) (side_values_are g (goal.at.After-object_size g c).After-is_ready t place o holds is t.interned) (ids_of c.self.inside.interned) holds.interned (ids_left g c)
 
 -- the table and the account that were held are held with the ids as they were
 still : (g : given.Over) (c : After-object_size g) (t : Table g.row.D.Denot) (a : Account) → HoldsAccount g.H.GcHeap.KIND (view g (goal.at.After-object_size g c).After-is_ready) t a
-    → HoldsAccount g.H.GcHeap.KIND (store_view c.self.inside.id c.self.inside.config c.find_room.new.functions.entries c.self.inside.owner.seen c.self.inside.tries) t a
-still g c t a holds = same_held g.H.GcHeap.KIND (view g (goal.at.After-object_size g c).After-is_ready) t a holds c.find_room.new.functions.entries (same_ids g c)
+    → HoldsAccount g.H.GcHeap.KIND (store_view c.self.inside.id c.self.inside.config (tables_of c.find_room.new.interned c.self.inside.asked) c.self.inside.owner.seen c.self.inside.tries) t a
+still g c t a holds = same_held g.H.GcHeap.KIND (view g (goal.at.After-object_size g c).After-is_ready) t a holds (ids_of c.find_room.new.interned) (same_ids g c)
 
 pub returns-in_err-find_room-clause-places : goal.returns-in_err-find_room-clause-places
 returns-in_err-find_room-clause-places g c t a o holds asked =
@@ -105,12 +107,12 @@ returns-in_err-find_room-clause-places g c t a o holds asked =
     let first = (goal.at.After-find_room g room).After-is_ready in
     let before = held g first t a holds in
     let fault : PlaceFault = c.in_err-find_room.field-0.0 in
-    let after : StoreView g.row.D.Denot = store_view c.self.inside.id c.self.inside.config c.find_room.new.functions.entries c.self.inside.owner.seen c.self.inside.tries in
+    let after : StoreView g.row.D.Denot = store_view c.self.inside.id c.self.inside.config (tables_of c.find_room.new.interned c.self.inside.asked) c.self.inside.owner.seen c.self.inside.tries in
     subst (λ (r : Result GcRootIndex PlaceFault). Places g.H.GcHeap.KIND c.args.self.now.alloc_counter o (policy_state t a (g.L.ResourceLimiter.limits c.args.limiter.now)) (g.L.ResourceLimiter.limits c.args.limiter.now) r after)
     (sym (same_err c.from_residual.result fault c.from_residual.ensures.1))
-    (refused_ids g.H.GcHeap.KIND c.args.self.now.alloc_counter (view g first) t a (g.L.ResourceLimiter.limits c.args.limiter.now) before o (raw_functions c.given_values-given.result.now)
-    (ap (λ (fs : List (Option Func)). with_functions fs t.funcs) (given_is g room) ∙ functions_are g first t before.place o before.holds (asked_view g first t o asked) t.funcs)
-    c.self.inside.functions c.find_room.new.functions refl fault c.in_err-find_room.ensures)
+    (refused_ids g.H.GcHeap.KIND c.args.self.now.alloc_counter (view g first) t a (g.L.ResourceLimiter.limits c.args.limiter.now) before o (raw_side_values c.given_values-given.result.now)
+    (ap (λ (given : SideValues). with_side_values given t.interned) (given_is g room) ∙ side_values_are g first t before.place o before.holds (asked_view g first t o asked) t.interned)
+    c.self.inside.interned c.find_room.new.interned refl fault c.in_err-find_room.ensures)
 
 pub returns-in_default-clause-places : goal.returns-in_default-clause-places
 returns-in_default-clause-places g c t a o holds asked =
@@ -157,7 +159,7 @@ returns-then-is_err-clause-places g c t a o holds asked =
       prepared = policy.not_begun;
       begun = inl refl;
       pages = inl refl;
-      holds = same_held g.H.GcHeap.KIND (shown (view g first) (now g at)) t a (reserved g at t a (held g first t a holds)).holds c.find_room.new.functions.entries (same_ids g (goal.at.After-is_err g at).After-object_size);
+      holds = same_held g.H.GcHeap.KIND (shown (view g first) (now g at)) t a (reserved g at t a (held g first t a holds)).holds (ids_of c.find_room.new.interned) (same_ids g (goal.at.After-is_err g at).After-object_size);
       limits = refl;
     }
 
@@ -209,15 +211,14 @@ room g c =
     ap (λ (v : OwnerView g.row.D.Denot). is_full (shown (view g (first_of g c)) v)) c.reserve.ensures.rest ∙ ap is_full c.self.view_is ∙ sym c.roots_full-is_full.ensures ∙ c.if-is_full.false
 
 -- the function values of what is asked, with room for one more root
-functions_now : (g : given.Over) (c : After-is_err g) (t : Table g.row.D.Denot) (place : Placing) (o : Object g.row.D.Denot) → Holds g.H.GcHeap.KIND (store_now g c) t place → IsObjectOf (store_now g c) t c.args.request c.args.contents o
-    → (known : List (Option Func)) → with_functions (raw_functions (given_values c.args.request c.args.contents)) known ≡ with_functions (object_functions o) known
-functions_now g c t place o holds is =
-    asked_functions g.row.D.Denot g.H.GcHeap.KIND (store_now g c) c.self.invariant.table (start_of g c).holds.place (start_of g c).holds.holds c.args.request c.args.contents (can g c) t place o holds is
+side_values_now : (g : given.Over) (c : After-is_err g) (t : Table g.row.D.Denot) (place : Placing) (o : Object g.row.D.Denot) → Holds g.H.GcHeap.KIND (store_now g c) t place → IsObjectOf (store_now g c) t c.args.request c.args.contents o
+    → (known : SideValues) → with_side_values (raw_side_values (given_values c.args.request c.args.contents)) known ≡ with_side_values (side_values (object_values o)) known
+side_values_now g c t place o holds is =
+    asked_side_values g.row.D.Denot g.H.GcHeap.KIND (store_now g c) c.self.invariant.table (start_of g c).holds.place (start_of g c).holds.holds c.args.request c.args.contents (can g c) t place o holds is
 
-has_ids_now : (g : given.Over) (c : After-is_err g) (t : Table g.row.D.Denot) (place : Placing) (o : Object g.row.D.Denot) → Holds g.H.GcHeap.KIND (store_now g c) t place → IsObjectOf (store_now g c) t c.args.request c.args.contents o → lacks_ids o t ≡ false
+has_ids_now : (g : given.Over) (c : After-is_err g) (t : Table g.row.D.Denot) (place : Placing) (o : Object g.row.D.Denot) → Holds g.H.GcHeap.KIND (store_now g c) t place → IsObjectOf (store_now g c) t c.args.request c.args.contents o → HasIds o t
 has_ids_now g c t place o holds is =
-    le-ltb max_entries (length (with_functions (object_functions o) t.funcs))
-    (subst (λ (ks : List (Option Func)). length ks ≤ max_entries) (functions_now g c t place o holds is t.funcs) ((room_made g (goal.at.After-is_err g c).After-object_size).has_room t.funcs holds.funcs).few)
+    left_ids t o (raw_side_values (given_values c.args.request c.args.contents)) (side_values_now g c t place o holds is t.interned) (ids_of c.self.inside.interned) holds.interned (ids_left g (goal.at.After-is_err g c).After-object_size)
 
 -- what was made, where the owner stood in one state and came to another
 abbrev start : (g : given.Over) (c : After-make_object g) → OwnerState g.row.D.Denot
@@ -292,17 +293,14 @@ sized_of g c = (goal.at.After-is_err g (err_of g (made_of g c))).After-object_si
 pub intern_all-requires : goal.intern_all-requires
 intern_all-requires g c =
     let at = sized_of g (goal.at.intern_all-requires g c).In-Ok in
-    subst (CanIntern c.find_room.new.functions) (sym (given_is g (goal.at.After-object_size g at).After-find_room)) (record {
-      known = c.self.invariant.table.funcs;
-      held = subst (FunctionsBy c.self.invariant.table.funcs) (sym (same_ids g at)) c.self.invariant.holds.holds.funcs;
-      has_room = (room_made g at).has_room c.self.invariant.table.funcs c.self.invariant.holds.holds.funcs;
-    })
+    subst (CanInternAll c.find_room.new.interned) (sym (given_is g (goal.at.After-object_size g at).After-find_room))
+    (rooms_can c.self.inside.interned c.find_room.new.interned (given_of g (goal.at.After-object_size g at).After-is_ready) (room_made g at) c.self.invariant.table.interned c.self.invariant.holds.holds.interned)
 
-interned : (g : given.Over) (c : After-holder_of-holder g) → Interns c.self.inside.functions.entries c.intern_all.new.functions.entries (raw_functions (given_values c.args.request c.args.contents))
+interned : (g : given.Over) (c : After-holder_of-holder g) → InternsAll (ids_of c.self.inside.interned) (ids_of c.intern_all.new.interned) (raw_side_values (given_values c.args.request c.args.contents))
 interned g c =
     let at = sized_of g (goal.at.After-holder_of-holder g c).In-Ok in
-    subst (λ (ids : FunctionIds). Interns ids c.intern_all.new.functions.entries (raw_functions (given_values c.args.request c.args.contents))) (same_ids g at)
-    (subst (Interns c.find_room.new.functions.entries c.intern_all.new.functions.entries) (given_is g (goal.at.After-object_size g at).After-find_room) c.intern_all.ensures)
+    subst (λ (ids : InternedIds). InternsAll ids (ids_of c.intern_all.new.interned) (raw_side_values (given_values c.args.request c.args.contents))) (same_ids g at)
+    (subst (InternsAll (ids_of c.find_room.new.interned) (ids_of c.intern_all.new.interned)) (given_is g (goal.at.After-object_size g at).After-find_room) c.intern_all.ensures)
 
 pub fill-requires-clause-idle : goal.fill-requires-clause-idle
 fill-requires-clause-idle g c = idle_now g (goal.at.fill-requires-clause-idle g c).In-Ok
@@ -317,16 +315,16 @@ abbrev err_at : (g : given.Over) (c : After-holder_of-holder g) → After-is_err
 err_at g c = err_of g (made_of g (goal.at.After-holder_of-holder g c).In-Ok)
 
 fills_of : (g : given.Over) (c : After-holder_of-holder g)
-    → IsToFill g.H.GcHeap.KIND c.make_object.new.owner.seen c.holder_of-holder.result (asked_type c.args.request) (ContentsFit c.intern_all.new.functions.entries c.args.request c.args.contents) (new g (err_at g c)).blank (new g (err_at g c)).shape (new g (err_at g c)).count
+    → IsToFill g.H.GcHeap.KIND c.make_object.new.owner.seen c.holder_of-holder.result (asked_type c.args.request) (ContentsFit (ids_of c.intern_all.new.interned) c.args.request c.args.contents) (new g (err_at g c)).blank (new g (err_at g c)).shape (new g (err_at g c)).count
 fills_of g c =
     let ok = (goal.at.After-holder_of-holder g c).In-Ok in
     let err = err_at g c in
     let p = in_ok g ok in
     let is = start_of g err in
-    subst (λ (n : ℕ). IsToFill g.H.GcHeap.KIND c.make_object.new.owner.seen n (asked_type c.args.request) (ContentsFit c.intern_all.new.functions.entries c.args.request c.args.contents) (new g err).blank (new g err).shape (new g err).count) (sym (holder_is g c))
+    subst (λ (n : ℕ). IsToFill g.H.GcHeap.KIND c.make_object.new.owner.seen n (asked_type c.args.request) (ContentsFit (ids_of c.intern_all.new.interned) c.args.request c.args.contents) (new g err).blank (new g err).shape (new g err).count) (sym (holder_is g c))
     (may_fill g.H.GcHeap.KIND (view g (first_of g err)) c.reserve.new.self.seen c.args.request c.args.contents (new g err) (g.L.ResourceLimiter.limits c.args.limiter.now) c.self.invariant.table c.self.invariant.account is
-    (asked_of g err c.self.invariant.table is.holds.place is.holds.holds) c.intern_all.new.functions.entries
-    (interned_ids c.self.inside.functions.entries c.intern_all.new.functions.entries (raw_functions (given_values c.args.request c.args.contents)) c.self.invariant.table.funcs c.self.invariant.holds.holds.funcs (interned g c))
+    (asked_of g err c.self.invariant.table is.holds.place is.holds.holds) (ids_of c.intern_all.new.interned)
+    (interned_ids (ids_of c.self.inside.interned) (ids_of c.intern_all.new.interned) (raw_side_values (given_values c.args.request c.args.contents)) c.self.invariant.table.interned c.self.invariant.holds.holds.interned (interned g c))
     c.count_allocation-is_due.result p.0 p.1.0 (made_state g (made_of g ok)) c.in-Ok.index p.1.1)
 
 pub fill-requires-clause-can : goal.fill-requires-clause-can
@@ -352,12 +350,12 @@ abbrev last_state : (g : given.Over) (c : After-fill g) → OwnerState g.row.D.D
 last_state g c = state_of c.fill.new.owner.seen (g.L.ResourceLimiter.limits c.make_object.new.limiter)
 
 filled : (g : given.Over) (c : After-fill g)
-    → FillsBy g.H.GcHeap.KIND (front_of g.H.GcHeap.KIND c.args.request (new g (err_at g (holder_at g c))).shape) (ContentsStand c.intern_all.new.functions.entries c.args.contents) c.make_object.new.owner.seen c.fill.new.owner.seen c.holder_of-holder.result (new g (err_at g (holder_at g c))).blank (new g (err_at g (holder_at g c))).shape (new g (err_at g (holder_at g c))).count
+    → FillsBy g.H.GcHeap.KIND (front_of g.H.GcHeap.KIND c.args.request (new g (err_at g (holder_at g c))).shape) (ContentsStand (ids_of c.intern_all.new.interned) c.args.contents) c.make_object.new.owner.seen c.fill.new.owner.seen c.holder_of-holder.result (new g (err_at g (holder_at g c))).blank (new g (err_at g (holder_at g c))).shape (new g (err_at g (holder_at g c))).count
 filled g c =
     let err = err_at g (holder_at g c) in
     c.fill.ensures (new g err).blank (new g err).shape (new g err).count (fills_of g (holder_at g c))
 
-created : (g : given.Over) (c : After-fill g) → Creates g.H.GcHeap.KIND (now g (err_at g (holder_at g c))).types.declarations c.intern_all.new.functions.entries c.args.request c.args.contents (new g (err_at g (holder_at g c))) (in_ok g (ok_at g c)).0 (last_state g c) c.in-Ok.index
+created : (g : given.Over) (c : After-fill g) → Creates g.H.GcHeap.KIND (now g (err_at g (holder_at g c))).types.declarations (ids_of c.intern_all.new.interned) c.args.request c.args.contents (new g (err_at g (holder_at g c))) (in_ok g (ok_at g c)).0 (last_state g c) c.in-Ok.index
 created g c =
     let err = err_at g (holder_at g c) in
     let p = in_ok g (ok_at g c) in
@@ -366,13 +364,13 @@ created g c =
       retried = p.1.1.retried;
       added = c.make_object.new.owner.seen;
       adds = p.1.1.adds;
-      fills = subst (λ (n : ℕ). FillsBy g.H.GcHeap.KIND (front_of g.H.GcHeap.KIND c.args.request (new g err).shape) (ContentsStand c.intern_all.new.functions.entries c.args.contents) c.make_object.new.owner.seen c.fill.new.owner.seen n (new g err).blank (new g err).shape (new g err).count) (holder_is g (holder_at g c)) (filled g c);
+      fills = subst (λ (n : ℕ). FillsBy g.H.GcHeap.KIND (front_of g.H.GcHeap.KIND c.args.request (new g err).shape) (ContentsStand (ids_of c.intern_all.new.interned) c.args.contents) c.make_object.new.owner.seen c.fill.new.owner.seen n (new g err).blank (new g err).shape (new g err).count) (holder_is g (holder_at g c)) (filled g c);
       limits = p.1.1.limits;
     }
 
 -- the store afterwards
 abbrev later : (g : given.Over) (c : After-fill g) → StoreView g.row.D.Denot
-later g c = store_view c.self.inside.id c.self.inside.config c.intern_all.new.functions.entries c.fill.new.owner.seen c.count_allocation-is_due.new.tries
+later g c = store_view c.self.inside.id c.self.inside.config (tables_of c.intern_all.new.interned c.self.inside.asked) c.fill.new.owner.seen c.count_allocation-is_due.new.tries
 
 -- what an object that was made and has its values leaves
 placed : (g : given.Over) (c : After-fill g) (t : Table g.row.D.Denot) (a : Account) (o : Object g.row.D.Denot) → HoldsAccount g.H.GcHeap.KIND (view g (first_of g (err_at g (holder_at g c)))) t a
@@ -385,10 +383,10 @@ placed g c t a o holds is_asked handle handle_is =
     let p = in_ok g (ok_at g c) in
     let is = reserved g err t a holds in
     let asked = asked_of g err t is.holds.place is.holds.holds in
-    subst (λ (n : ℕ). PlacesObject g.H.GcHeap.KIND (option_map non_zero_u32_get c.self.inside.config.alloc_counter) o (policy_state t a (g.L.ResourceLimiter.limits c.args.limiter.now)) (g.L.ResourceLimiter.limits c.make_object.new.limiter) handle (store_view c.self.inside.id c.self.inside.config c.intern_all.new.functions.entries c.fill.new.owner.seen n))
+    subst (λ (n : ℕ). PlacesObject g.H.GcHeap.KIND (option_map non_zero_u32_get c.self.inside.config.alloc_counter) o (policy_state t a (g.L.ResourceLimiter.limits c.args.limiter.now)) (g.L.ResourceLimiter.limits c.make_object.new.limiter) handle (store_view c.self.inside.id c.self.inside.config (tables_of c.intern_all.new.interned c.self.inside.asked) c.fill.new.owner.seen n))
     (sym c.count_allocation-is_due.ensures.counted)
     (placing_follows g.H.GcHeap.KIND (view g (first_of g err)) c.reserve.new.self.seen c.args.request c.args.contents (new g err) (g.L.ResourceLimiter.limits c.args.limiter.now) t a is asked
-    c.intern_all.new.functions.entries (interned g (holder_at g c)) o (asked.asks_for t is.holds.place o is.holds.holds is_asked) (functions_now g err t is.holds.place o is.holds.holds is_asked) (told g err).1 (room g err) (has_ids_now g err t is.holds.place o is.holds.holds is_asked)
+    (ids_of c.intern_all.new.interned) (interned g (holder_at g c)) o (asked.asks_for t is.holds.place o is.holds.holds is_asked) (side_values_now g err t is.holds.place o is.holds.holds is_asked) (told g err).1 (room g err) (has_ids_now g err t is.holds.place o is.holds.holds is_asked)
     c.count_allocation-is_due.result (due_is g at) p.0 (last_state g c) c.in-Ok.index p.1.0 (created g c) handle handle_is)
 
 pub invariant_of-self-in-Ok : goal.invariant_of-self-in-Ok
@@ -423,7 +421,7 @@ returns-in-Ok-clause-places g c t a o holds is_asked =
 
 -- the store where none was made
 abbrev left : (g : given.Over) (c : In-Err g) → StoreView g.row.D.Denot
-left g c = store_view c.self.inside.id c.self.inside.config c.find_room.new.functions.entries c.make_object.new.owner.seen c.count_allocation-is_due.new.tries
+left g c = store_view c.self.inside.id c.self.inside.config (tables_of c.find_room.new.interned c.self.inside.asked) c.make_object.new.owner.seen c.count_allocation-is_due.new.tries
 
 abbrev failed_of : (g : given.Over) (c : In-Err g) → After-make_object g
 failed_of g c = (goal.at.In-Err g c).After-make_object
@@ -464,8 +462,8 @@ invariant_of-self-in-Err g c =
       frames = c.self.invariant.frames ∙ sym (rest.counts ∙ ap counts_of c.reserve.ensures.rest);
       table = after.table;
       account = after.account;
-      holds = subst (λ (ids : FunctionIds). HoldsAccount g.H.GcHeap.KIND (store_view c.self.inside.id c.self.inside.config ids c.make_object.new.owner.seen c.count_allocation-is_due.new.tries) after.table after.account) (sym (same_ids g (goal.at.After-is_err g err).After-object_size))
-          (subst (λ (n : ℕ). HoldsAccount g.H.GcHeap.KIND (store_view c.self.inside.id c.self.inside.config c.self.inside.functions.entries c.make_object.new.owner.seen n) after.table after.account) (sym c.count_allocation-is_due.ensures.counted) after.holds);
+      holds = subst (λ (ids : InternedIds). HoldsAccount g.H.GcHeap.KIND (store_view c.self.inside.id c.self.inside.config (tables_by ids c.self.inside.asked) c.make_object.new.owner.seen c.count_allocation-is_due.new.tries) after.table after.account) (sym (same_ids g (goal.at.After-is_err g err).After-object_size))
+          (subst (λ (n : ℕ). HoldsAccount g.H.GcHeap.KIND (store_view c.self.inside.id c.self.inside.config (tables_of c.self.inside.interned c.self.inside.asked) c.make_object.new.owner.seen n) after.table after.account) (sym c.count_allocation-is_due.ensures.counted) after.holds);
     }
 
 pub returns-in-Err-clause-places : goal.returns-in-Err-clause-places
@@ -474,9 +472,9 @@ returns-in-Err-clause-places g c t a o holds is_asked =
     let err = err_of g (failed_of g fault) in
     let first = first_of g err in
     subst (λ (n : _). Places g.H.GcHeap.KIND n o (policy_state t a (g.L.ResourceLimiter.limits c.args.limiter.now)) (g.L.ResourceLimiter.limits c.make_object.new.limiter) (Err c.in-Err.fault) (left g fault)) (ap (λ (s : StoreView g.row.D.Denot). s.alloc_counter) c.self.view_is)
-    (subst (λ (ids : FunctionIds). Places g.H.GcHeap.KIND (option_map non_zero_u32_get c.self.inside.config.alloc_counter) o (policy_state t a (g.L.ResourceLimiter.limits c.args.limiter.now)) (g.L.ResourceLimiter.limits c.make_object.new.limiter) (Err c.in-Err.fault) (store_view c.self.inside.id c.self.inside.config ids c.make_object.new.owner.seen c.count_allocation-is_due.new.tries))
+    (subst (λ (ids : InternedIds). Places g.H.GcHeap.KIND (option_map non_zero_u32_get c.self.inside.config.alloc_counter) o (policy_state t a (g.L.ResourceLimiter.limits c.args.limiter.now)) (g.L.ResourceLimiter.limits c.make_object.new.limiter) (Err c.in-Err.fault) (store_view c.self.inside.id c.self.inside.config (tables_by ids c.self.inside.asked) c.make_object.new.owner.seen c.count_allocation-is_due.new.tries))
     (sym (same_ids g (goal.at.After-is_err g err).After-object_size))
-    (subst (λ (n : ℕ). Places g.H.GcHeap.KIND (option_map non_zero_u32_get c.self.inside.config.alloc_counter) o (policy_state t a (g.L.ResourceLimiter.limits c.args.limiter.now)) (g.L.ResourceLimiter.limits c.make_object.new.limiter) (Err c.in-Err.fault) (store_view c.self.inside.id c.self.inside.config c.self.inside.functions.entries c.make_object.new.owner.seen n))
+    (subst (λ (n : ℕ). Places g.H.GcHeap.KIND (option_map non_zero_u32_get c.self.inside.config.alloc_counter) o (policy_state t a (g.L.ResourceLimiter.limits c.args.limiter.now)) (g.L.ResourceLimiter.limits c.make_object.new.limiter) (Err c.in-Err.fault) (store_view c.self.inside.id c.self.inside.config (tables_of c.self.inside.interned c.self.inside.asked) c.make_object.new.owner.seen n))
     (sym c.count_allocation-is_due.ensures.counted) (refused g fault t a o (held g first t a holds) (asked_now g err t o (asked_view g first t o is_asked))).places))
 
 -- No fewer places for scoped roots are left.

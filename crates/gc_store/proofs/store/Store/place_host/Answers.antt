@@ -14,7 +14,7 @@ use Rattle.gc_policy.specs.Policy as policy
 use Rattle.gc_policy.specs.Policy.{policy_state}
 use Rattle.gc_policy.specs.Shown.{shown}
 use Rattle.gc_policy.proofs.HeldHosts.{few_hosts}
-use Rattle.gc_store.specs.Stores.{store_view, is_full, scoped_places}
+use Rattle.gc_store.specs.Stores.{store_view, is_full, scoped_places, tables_of}
 use Rattle.gc_store.specs.declared.hosts.PlaceHostFault.{PlaceHostFault}
 use Rattle.gc_store.specs.declared.root.GcRootIndex.{GcRootIndex}
 use Rattle.gc_store.specs.declared.root.RootSlot.TheVariants as slot
@@ -31,7 +31,7 @@ use Rattle.gc_store.proofs.SpareLemmas.{reserves_more}
 
 -- the store before the call, and its owner with room for one more root
 abbrev view : (g : given.Over) (c : After-is_ready g) → StoreView g.row.D.Denot
-view g c = store_view c.self.inside.id c.self.inside.config c.self.inside.functions.entries c.self.inside.owner.seen c.self.inside.tries
+view g c = store_view c.self.inside.id c.self.inside.config (tables_of c.self.inside.interned c.self.inside.asked) c.self.inside.owner.seen c.self.inside.tries
 
 ready : (g : given.Over) (c : After-is_ready g) (t : Table g.row.D.Denot) (a : Account) → HoldsAccount g.H.GcHeap.KIND (view g c) t a → IsReadyStore g.H.GcHeap.KIND (view g c) c.self.inside.owner.seen t a
 ready g c t a holds = record { heap = c.is_ready.ensures.heap; can = c.is_ready.ensures.can; in_frames = c.is_ready.ensures.frames; holds = holds }
@@ -106,12 +106,12 @@ invariant_of-self-2 g c =
       frames = c.self.invariant.frames ∙ sym (keeps.counts ∙ ap counts_of c.reserve.ensures.rest);
       table = after.0;
       account = after.1.0;
-      holds = subst (λ (n : ℕ). HoldsAccount g.H.GcHeap.KIND (store_view c.self.inside.id c.self.inside.config c.self.inside.functions.entries c.make_host.new.owner.seen n) after.0 after.1.0) (sym c.count_allocation-is_due.ensures.counted) after.1.1;
+      holds = subst (λ (n : ℕ). HoldsAccount g.H.GcHeap.KIND (store_view c.self.inside.id c.self.inside.config (tables_of c.self.inside.interned c.self.inside.asked) c.make_host.new.owner.seen n) after.0 after.1.0) (sym c.count_allocation-is_due.ensures.counted) after.1.1;
     }
 
 -- the store afterwards
 abbrev later : (g : given.Over) (c : Joined-make_host g) → ℕ → StoreView g.row.D.Denot
-later g c tries = store_view c.self.inside.id c.self.inside.config c.self.inside.functions.entries c.make_host.new.owner.seen tries
+later g c tries = store_view c.self.inside.id c.self.inside.config (tables_of c.self.inside.interned c.self.inside.asked) c.make_host.new.owner.seen tries
 
 -- what the store answers, by the parts that it had
 answers : (g : given.Over) (c : Joined-make_host g) (t : Table g.row.D.Denot) (a : Account) (r : Result GcRootIndex (PlaceHostFault g.row.D.Denot))

@@ -1,5 +1,4 @@
-use Rattle.std.proofs.Common.{sym, subst, arith}
-use Rattle.gc_model.specs.Values.{Reference}
+use Rattle.std.proofs.Common.{subst, arith}
 use Rattle.gc_model.specs.Holds.{IsWord}
 use Rattle.gc_store.proofs.ReadValues.{null_word}
 use Rattle.gc_store.proofs.store.Store.push_word.Goals as goal

@@ -1,12 +1,12 @@
 use Rattle.std.proofs.Common.{Ok, Err, sym, subst}
-use Rattle.gc_model.specs.Forms.{naming, IsFunctionCode}
+use Rattle.gc_model.specs.Forms.{naming, IsIdCode, IsContCode}
 use Rattle.gc_model.specs.Stores.{StoreView}
-use Rattle.gc_store.proofs.ReadValues.{reads_number, found_reference, reads_found, found_function, reads_function, number_there, found_there, function_there}
+use Rattle.gc_store.proofs.ReadValues.{reads_number, found_reference, reads_found, found_function, reads_function, found_cont, reads_cont, number_there, found_there, function_there, cont_there}
 use Rattle.gc_store.proofs.store.Store.read_value.Goals as goal
 
 pub returns-in-Number-clause-reads : goal.returns-in-Number-clause-reads
 returns-in-Number-clause-reads g c t a value holds has =
-    reads_number g.H.GcHeap.KIND c.args.self.now t a holds (naming holds.place c.args.self.now.funcs) value c.in-Number.value (c.in-Number.ensures t holds.place value holds.holds has)
+    reads_number g.H.GcHeap.KIND c.args.self.now t a holds (naming holds.place c.args.self.now.ids) value c.in-Number.value (c.in-Number.ensures t holds.place value holds.holds has)
 
 pub push_reference-requires : goal.push_reference-requires
 push_reference-requires g c = λ positive.
@@ -33,16 +33,26 @@ returns-in-Err-clause-reads g c t a value holds has =
 pub function_at-requires : goal.function_at-requires
 function_at-requires g c =
     let is = found_function _ c.in-Func.code c.requires.value (c.in-Func.ensures c.requires.table c.requires.holds.0 c.requires.value c.requires.holds.1 c.requires.has) in
-    (is.func, subst (λ (s : StoreView g.row.D.Denot). IsFunctionCode s.funcs is.func c.in-Func.code) (sym c.self.view_is) is.is_code)
+    (is.func, subst (λ (s : StoreView g.row.D.Denot). IsIdCode s.ids.funcs is.func c.in-Func.code) (sym c.self.view_is) is.is_code)
 
 pub returns-in-Func-clause-reads : goal.returns-in-Func-clause-reads
 returns-in-Func-clause-reads g c t a value holds has =
-    reads_function g.H.GcHeap.KIND c.args.self.now t a holds c.args.self.now.funcs c.in-Func.code value (found_function _ c.in-Func.code value (c.in-Func.ensures t holds.place value holds.holds has)) c.function_at.result
-    (λ f is. c.function_at.ensures f (subst (λ (s : StoreView g.row.D.Denot). IsFunctionCode s.funcs f c.in-Func.code) (sym c.self.view_is) is))
+    reads_function g.H.GcHeap.KIND c.args.self.now t a holds c.args.self.now.ids c.in-Func.code value (found_function _ c.in-Func.code value (c.in-Func.ensures t holds.place value holds.holds has)) c.function_at.result
+    (λ f is. c.function_at.ensures f (subst (λ (s : StoreView g.row.D.Denot). IsIdCode s.ids.funcs f c.in-Func.code) (sym c.self.view_is) is))
+
+pub cont_at-requires : goal.cont_at-requires
+cont_at-requires g c =
+    let is = found_cont _ c.in-Cont.code c.requires.value (c.in-Cont.ensures c.requires.table c.requires.holds.0 c.requires.value c.requires.holds.1 c.requires.has) in
+    (is.cont, subst (λ (s : StoreView g.row.D.Denot). IsContCode s.ids.conts is.cont c.in-Cont.code) (sym c.self.view_is) is.is_code)
+
+pub returns-in-Cont-clause-reads : goal.returns-in-Cont-clause-reads
+returns-in-Cont-clause-reads g c t a value holds has =
+    reads_cont g.H.GcHeap.KIND c.args.self.now t a holds c.args.self.now.ids c.in-Cont.code value (found_cont _ c.in-Cont.code value (c.in-Cont.ensures t holds.place value holds.holds has)) c.cont_at.result
+    (λ k is. c.cont_at.ensures k (subst (λ (s : StoreView g.row.D.Denot). IsContCode s.ids.conts k c.in-Cont.code) (sym c.self.view_is) is))
 
 pub returns-in-Number-clause-there : goal.returns-in-Number-clause-there
 returns-in-Number-clause-there g c t place a value there has =
-    number_there g.H.GcHeap.KIND c.args.self.now t place a (naming place c.args.self.now.funcs) value c.in-Number.value (c.in-Number.ensures t place value there.0 has) there
+    number_there g.H.GcHeap.KIND c.args.self.now t place a (naming place c.args.self.now.ids) value c.in-Number.value (c.in-Number.ensures t place value there.0 has) there
 
 pub returns-in-Ok-clause-there : goal.returns-in-Ok-clause-there
 returns-in-Ok-clause-there g c t place a value there has =
@@ -51,4 +61,8 @@ returns-in-Ok-clause-there g c t place a value there has =
 
 pub returns-in-Func-clause-there : goal.returns-in-Func-clause-there
 returns-in-Func-clause-there g c t place a value there has =
-    function_there g.H.GcHeap.KIND c.args.self.now t place a c.args.self.now.funcs c.in-Func.code value (found_function _ c.in-Func.code value (c.in-Func.ensures t place value there.0 has)) there
+    function_there g.H.GcHeap.KIND c.args.self.now t place a c.args.self.now.ids c.in-Func.code value (found_function _ c.in-Func.code value (c.in-Func.ensures t place value there.0 has)) there
+
+pub returns-in-Cont-clause-there : goal.returns-in-Cont-clause-there
+returns-in-Cont-clause-there g c t place a value there has =
+    cont_there g.H.GcHeap.KIND c.args.self.now t place a c.args.self.now.ids c.in-Cont.code value (found_cont _ c.in-Cont.code value (c.in-Cont.ensures t place value there.0 has)) there

@@ -7,7 +7,7 @@ use Rattle.gc_store.specs.declared.root_words.RootWord.{RootWord}
 use Rattle.gc_store.specs.declared.root_words.RootAt.TheVariants as found
 use Rattle.gc_store.specs.Roots.{IsRootWord}
 use Rattle.gc_store.specs.RootWords.{root_words, RootsWord}
-use Rattle.gc_store.specs.Stores.{store_view}
+use Rattle.gc_store.specs.Stores.{store_view, tables_of}
 use Rattle.gc_store.proofs.NamedRoots.{roots_named}
 use Rattle.gc_store.proofs.store.Store.root_at.Given as given
 use Rattle.gc_store.proofs.store.Store.root_at.Goals as goal
@@ -15,7 +15,7 @@ use Rattle.gc_store.proofs.store.Store.root_at.Goals.{After-push_root}
 
 pub push_root-requires : goal.push_root-requires
 push_root-requires g c =
-    let s : StoreView g.row.D.Denot = store_view c.self.inside.id c.self.inside.config c.self.inside.functions.entries c.self.inside.owner.seen c.self.inside.tries in
+    let s : StoreView g.row.D.Denot = store_view c.self.inside.id c.self.inside.config (tables_of c.self.inside.interned c.self.inside.asked) c.self.inside.owner.seen c.self.inside.tries in
     let some : 0 < c.in-Some.root.word = omega (arith, c.if-root-eq0.false) in
     let at : slice_get (root_words s) c.args.number ≡ Some c.in-Some.root = ap (λ (v : StoreView g.row.D.Denot). slice_get (root_words v) c.args.number) c.self.view_is ∙ sym c.in-Some.ensures in
     let named = roots_named g.H.GcHeap.KIND s c.self.invariant.table c.self.invariant.holds.place c.self.invariant.holds.holds c.args.number c.in-Some.root at some in

@@ -5,7 +5,7 @@ use Rattle.gc_model.specs.Stores.{StoreView}
 use Rattle.gc_store.specs.declared.root_words.RootName.TheVariants as name
 use Rattle.gc_store.specs.declared.root_words.RootWord.{RootWord}
 use Rattle.gc_store.specs.RootWords.{root_word, slot_roots, handle_roots, root_words}
-use Rattle.gc_store.specs.Stores.{store_view}
+use Rattle.gc_store.specs.Stores.{store_view, tables_of}
 use Rattle.gc_store.proofs.RootNumbers.{global_at, pending_at, behind_at}
 use Rattle.gc_store.proofs.store.Store.root_word.Given as given
 use Rattle.gc_store.proofs.store.Store.root_word.Goals as goal
@@ -13,7 +13,7 @@ use Rattle.gc_store.proofs.store.Store.root_word.Goals.{After-is_ready}
 
 -- the store's view, by its parts
 abbrev view : (g : given.Over) (c : After-is_ready g) → StoreView g.row.D.Denot
-view g c = store_view c.self.inside.id c.self.inside.config c.self.inside.functions.entries c.self.inside.owner.seen c.self.inside.tries
+view g c = store_view c.self.inside.id c.self.inside.config (tables_of c.self.inside.interned c.self.inside.asked) c.self.inside.owner.seen c.self.inside.tries
 
 count : (g : given.Over) (c : After-is_ready g) → length c.self.inside.owner.seen.roots.globals ≡ global_count
 count g c = c.self.invariant.holds.holds.globals.slots.same_count ∙ c.self.invariant.holds.holds.globals.count

@@ -5,7 +5,7 @@ use Rattle.gc_model.specs.Holds.{Holds, Placing, ThrownBy}
 use Rattle.gc_policy.specs.Accounts.{IsAccount}
 use Rattle.gc_store.specs.Roots.{word_of, NamesReference}
 use Rattle.gc_store.specs.Thrown.{NamesException}
-use Rattle.gc_store.specs.Stores.{store_view}
+use Rattle.gc_store.specs.Stores.{store_view, tables_of}
 use Rattle.gc_store.proofs.Pushing.{word_in_heap}
 use Rattle.gc_store.proofs.HandleWords.{NamesWord, names_word}
 use Rattle.gc_store.proofs.PendingLemmas.{refuses_pending, is_thrown, pending_was_set, sound_pending}
@@ -15,7 +15,7 @@ use Rattle.gc_store.proofs.store.Store.set_pending.Goals.{In-Ok}
 
 -- the store's view, by its parts
 abbrev view : (g : given.Over) (c : In-Ok g) → StoreView g.row.D.Denot
-view g c = store_view c.self.inside.id c.self.inside.config c.self.inside.functions.entries c.self.inside.owner.seen c.self.inside.tries
+view g c = store_view c.self.inside.id c.self.inside.config (tables_of c.self.inside.interned c.self.inside.asked) c.self.inside.owner.seen c.self.inside.tries
 
 -- what the handle names in a table that the store holds
 names : (g : given.Over) (c : In-Ok g) (t : Table g.row.D.Denot) (place : Placing) → Holds g.H.GcHeap.KIND (view g c) t place → NamesWord (view g c) t place c.args.exception c.in-Ok.word
@@ -42,7 +42,7 @@ set_pending-requires-clause-word g c =
 pub invariant_of-self : goal.invariant_of-self
 invariant_of-self g c =
     let at = (goal.at.invariant_of-self g c).In-Ok in
-    sound_pending g.H.GcHeap.KIND c.self.inside.id c.self.inside.config c.self.inside.functions.entries c.self.inside.tries c.self.inside.owner.seen c.set_pending.new.self.seen c.in-Ok.word c.set_pending.ensures
+    sound_pending g.H.GcHeap.KIND c.self.inside.id c.self.inside.config (tables_of c.self.inside.interned c.self.inside.asked) c.self.inside.tries c.self.inside.owner.seen c.set_pending.new.self.seen c.in-Ok.word c.set_pending.ensures
     c.self.inside.slot_counts.items (Some (names g at c.self.invariant.table c.self.invariant.holds.place c.self.invariant.holds.holds).root) c.self.invariant
     (thrown g at c.self.invariant.table c.self.invariant.holds.place c.self.invariant.holds.holds)
 
@@ -54,7 +54,7 @@ returns-in-Ok-clause-sets g c = λ t a held.
       is.root,
       (
         subst (λ (s : StoreView g.row.D.Denot). NamesReference s t c.args.exception is.root) c.self.view_is is.named,
-        pending_was_set g.H.GcHeap.KIND c.self.inside.id c.self.inside.config c.self.inside.functions.entries c.self.inside.tries c.self.inside.owner.seen c.set_pending.new.self.seen c.in-Ok.word c.set_pending.ensures
+        pending_was_set g.H.GcHeap.KIND c.self.inside.id c.self.inside.config (tables_of c.self.inside.interned c.self.inside.asked) c.self.inside.tries c.self.inside.owner.seen c.set_pending.new.self.seen c.in-Ok.word c.set_pending.ensures
             t held.place a (Some is.root) holds (subst (λ (s : StoreView g.row.D.Denot). IsAccount g.H.GcHeap.KIND s held.place a) (sym c.self.view_is) held.account) (thrown g at t held.place holds),
       ),
     )

@@ -8,7 +8,7 @@ use Rattle.gc_model.specs.Holds.{Holds, Placing}
 use Rattle.gc_store.specs.declared.globals.SlotFault.{SlotFault}
 use Rattle.gc_store.specs.Roots.{IsRootWord}
 use Rattle.gc_store.specs.Slots.{ReadsSlot}
-use Rattle.gc_store.specs.Stores.{store_view}
+use Rattle.gc_store.specs.Stores.{store_view, tables_of}
 use Rattle.gc_store.proofs.SlotLemmas.{entry_of, reads_slot, reads_no_root}
 use Rattle.gc_store.proofs.FrameLemmas.{found_within, never_there, slot_there, slot_is, frame_slot_stands, frame_slot_word}
 use Rattle.gc_store.proofs.store.Store.slot_get.Given as given
@@ -22,11 +22,11 @@ returns-then-not-has_slot-clause-reads g c = λ t a there holds e.
 pub slot-class-requires : goal.slot-class-requires
 slot-class-requires g c =
     slot_there c.self.inside.owner.seen c.is_ready.ensures.frames c.args.slot
-    (found_within (store_view c.self.inside.id c.self.inside.config c.self.inside.functions.entries c.self.inside.owner.seen c.self.inside.tries) c.args.self.now c.args.slot c.has_slot.result c.self.view_is c.has_slot.ensures c.if-not-has_slot.false)
+    (found_within (store_view c.self.inside.id c.self.inside.config (tables_of c.self.inside.interned c.self.inside.asked) c.self.inside.owner.seen c.self.inside.tries) c.args.self.now c.args.slot c.has_slot.result c.self.view_is c.has_slot.ensures c.if-not-has_slot.false)
 
 entry_is : (g : given.Over) (c : After-slot-class g) → entry_of (newest c.args.self.now.frames) c.args.slot ≡ c.slot-class.result
 entry_is g c =
-    let within = found_within (store_view c.self.inside.id c.self.inside.config c.self.inside.functions.entries c.self.inside.owner.seen c.self.inside.tries) c.args.self.now c.args.slot c.has_slot.result c.self.view_is c.has_slot.ensures c.if-not-has_slot.false in
+    let within = found_within (store_view c.self.inside.id c.self.inside.config (tables_of c.self.inside.interned c.self.inside.asked) c.self.inside.owner.seen c.self.inside.tries) c.args.self.now c.args.slot c.has_slot.result c.self.view_is c.has_slot.ensures c.if-not-has_slot.false in
     ap (λ (s : StoreView g.row.D.Denot). entry_of (newest s.frames) c.args.slot) (sym c.self.view_is)
     ∙ sym (slot_is c.self.inside.owner.seen c.is_ready.ensures.frames c.args.slot within)
     ∙ sym c.slot-class.ensures

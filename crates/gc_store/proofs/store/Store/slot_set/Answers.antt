@@ -4,7 +4,7 @@ use Rattle.gc_model.specs.Stores.{StoreView}
 use Rattle.gc_model.specs.Holds.{Holds}
 use Rattle.gc_policy.specs.Accounts.{IsAccount}
 use Rattle.gc_store.specs.Slots.{FindsWord}
-use Rattle.gc_store.specs.Stores.{store_view}
+use Rattle.gc_store.specs.Stores.{store_view, tables_of}
 use Rattle.gc_store.proofs.Pushing.{word_in_heap}
 use Rattle.gc_store.proofs.FrameLemmas.{found_within, never_there, slot_there, slot_was_set, sound_slot_set}
 use Rattle.gc_store.proofs.store.Store.slot_set.Given as given
@@ -17,7 +17,7 @@ returns-then-not-has_slot-clause-sets g c = λ t a there holds e.
 
 -- the store's view, by its parts
 abbrev view : (g : given.Over) (c : In-Ok g) → StoreView g.row.D.Denot
-view g c = store_view c.self.inside.id c.self.inside.config c.self.inside.functions.entries c.self.inside.owner.seen c.self.inside.tries
+view g c = store_view c.self.inside.id c.self.inside.config (tables_of c.self.inside.interned c.self.inside.asked) c.self.inside.owner.seen c.self.inside.tries
 
 within : (g : given.Over) (c : In-Ok g) → c.args.slot < length (newest (view g c).frames)
 within g c = found_within (view g c) c.args.self.now c.args.slot c.has_slot.result c.self.view_is c.has_slot.ensures c.if-not-has_slot.false
@@ -43,7 +43,7 @@ set_slot-requires-clause-word g c =
 pub invariant_of-self : goal.invariant_of-self
 invariant_of-self g c =
     let at = (goal.at.invariant_of-self g c).In-Ok in
-    sound_slot_set g.H.GcHeap.KIND c.self.inside.id c.self.inside.config c.self.inside.functions.entries c.self.inside.tries c.self.inside.owner.seen c.set_slot.new.self.seen c.is_ready.ensures.frames c.args.slot c.args.class c.in-Ok.word (within g at) c.set_slot.ensures
+    sound_slot_set g.H.GcHeap.KIND c.self.inside.id c.self.inside.config (tables_of c.self.inside.interned c.self.inside.asked) c.self.inside.tries c.self.inside.owner.seen c.set_slot.new.self.seen c.is_ready.ensures.frames c.args.slot c.args.class c.in-Ok.word (within g at) c.set_slot.ensures
     c.self.inside.slot_counts.items c.args.r c.self.invariant (found g at)
 
 pub returns-clause-sets : goal.returns-clause-sets
@@ -53,7 +53,7 @@ returns-clause-sets g c = λ t a there holds e.
       finds.0,
       (
         finds.1.0,
-        slot_was_set g.H.GcHeap.KIND c.self.inside.id c.self.inside.config c.self.inside.functions.entries c.self.inside.tries c.self.inside.owner.seen c.set_slot.new.self.seen c.is_ready.ensures.frames c.args.slot c.args.class c.in-Ok.word (within g at) c.set_slot.ensures
+        slot_was_set g.H.GcHeap.KIND c.self.inside.id c.self.inside.config (tables_of c.self.inside.interned c.self.inside.asked) c.self.inside.tries c.self.inside.owner.seen c.set_slot.new.self.seen c.is_ready.ensures.frames c.args.slot c.args.class c.in-Ok.word (within g at) c.set_slot.ensures
             t holds.place a finds.0
             (subst (λ (s : StoreView g.row.D.Denot). Holds g.H.GcHeap.KIND s t holds.place) (sym c.self.view_is) holds.holds)
             (subst (λ (s : StoreView g.row.D.Denot). IsAccount g.H.GcHeap.KIND s holds.place a) (sym c.self.view_is) holds.account)

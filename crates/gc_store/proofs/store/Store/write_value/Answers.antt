@@ -1,4 +1,4 @@
-use Rattle.std.proofs.Common.{◌≡◌, ℕ, List, [], ◌∷◌, Ok, Some, sym, ap, ◌∙◌, subst, arith}
+use Rattle.std.proofs.Common.{◌≡◌, ℕ, List, [], ◌∷◌, Result, Ok, Err, Some, sym, ap, ◌∙◌, subst, arith}
 use Rattle.std.specs.FinMap as finite
 use Rattle.gc_types.specs.Declarations.{TypeTable, Declaration}
 use Rattle.gc_view.specs.Heaps.{HeapObject, HeapView}
@@ -9,16 +9,19 @@ use Rattle.gc_policy.specs.Accounts.{Account, HoldsAccount}
 use Rattle.gc_model.specs.Stored.{stored}
 use Rattle.gc_model.specs.Table.{Table, write}
 use Rattle.gc_model.specs.Stores.{StoreView}
-use Rattle.gc_model.specs.Holds.{FunctionIds, Placing, Holds, FunctionsBy}
+use Rattle.gc_model.specs.Holds.{InternedIds}
 use Rattle.gc_store.specs.Filling.{slot_bytes}
 use Rattle.gc_store.specs.Kept.{code_of, KeptAs, IsKept}
 use Rattle.gc_store.specs.HeldSlots.{FindsHeldSlot, IsHeldWithSlot}
 use Rattle.gc_store.specs.Roots.{word_of}
-use Rattle.gc_store.specs.Values.{CanWrite, KeepsValue, raw_functions}
-use Rattle.gc_store.specs.Stores.{IsSound, store_view}
-use Rattle.gc_store.specs.Interning.{Interns}
+use Rattle.gc_store.specs.Values.{CanWrite, KeepsValue, WritesValue, raw_side_values}
+use Rattle.gc_store.specs.declared.write.WriteFault.{WriteFault}
+use Rattle.gc_store.proofs.PlacingIds.{refused_value}
+use Rattle.gc_store.proofs.SameRoots.{same_err}
+use Rattle.gc_store.specs.Stores.{IsSound, ids_of, store_view, tables_by, tables_of}
+use Rattle.gc_store.specs.Interning.{HaveAllIdsLeft, InternsAll}
 use Rattle.gc_store.proofs.EachValue.{are_words, kept_of_form}
-use Rattle.gc_store.proofs.GivenFunctions.{given_refused, within_ids}
+use Rattle.gc_store.proofs.GivenValues.{given_refused, within_ids}
 use Rattle.gc_store.proofs.Keeping.{counts_of}
 use Rattle.gc_store.proofs.Roots.{SomeIff-value, SomeIff-some}
 use Rattle.gc_store.proofs.LyingAt.{value_live, has_slot}
@@ -29,7 +32,7 @@ use Rattle.gc_store.proofs.store.Store.write_value.Goals.{In-Ok, After-unwrap-gc
 
 -- the store's view, by its parts
 abbrev view : (g : given.Over) (c : In-Ok g) → StoreView g.row.D.Denot
-view g c = store_view c.self.inside.id c.self.inside.config c.self.inside.functions.entries c.self.inside.owner.seen c.self.inside.tries
+view g c = store_view c.self.inside.id c.self.inside.config (tables_of c.self.inside.interned c.self.inside.asked) c.self.inside.owner.seen c.self.inside.tries
 
 can : (g : given.Over) (c : In-Ok g) → CanWrite g.row.D.Denot g.H.GcHeap.KIND (view g c) c.args.handle c.args.index c.args.value
 can g c = subst (λ (s : StoreView g.row.D.Denot). CanWrite g.row.D.Denot g.H.GcHeap.KIND s c.args.handle c.args.index c.args.value) (sym c.self.view_is) c.requires
@@ -72,12 +75,8 @@ finds g c =
     (subst (λ (h : HeapView). FindsHeldSlot g.H.GcHeap.KIND c.self.inside.owner.seen.types.declarations h c.unwrap-gc_ref.result c.args.index c.slot_in-slot.result) c.heap.ensures.seen
     (subst (λ (n : TypeTable). FindsHeldSlot g.H.GcHeap.KIND n.declarations (g.H.GcHeap.seen c.heap.result.now) c.unwrap-gc_ref.result c.args.index c.slot_in-slot.result) c.types.ensures c.slot_in-slot.ensures))
 
--- the function values of a table that the store held, by their ids
-ids_of : (g : given.Over) (c : After-slot_in-slot g) (t : Table g.row.D.Denot) (place : Placing) → Holds g.H.GcHeap.KIND c.args.self.now t place → FunctionsBy t.funcs c.self.inside.functions.entries
-ids_of g c t place holds = subst (λ (s : StoreView g.row.D.Denot). FunctionsBy t.funcs s.funcs) (sym c.self.view_is) holds.funcs
-
--- a function value that is given has an id
-interned : (g : given.Over) (c : After-slot_in-slot g) → Interns c.self.inside.functions.entries c.intern_given.new.functions.entries (raw_functions (c.args.value ∷ []))
+-- a function value or a continuation that is given has an id
+interned : (g : given.Over) (c : After-slot_in-slot g) → InternsAll (ids_of c.self.inside.interned) (ids_of c.intern_given.new.interned) (raw_side_values (c.args.value ∷ []))
 interned g c = c.in_ok-intern_given-in-Ok.ensures.interns.0
 
 pub stored_value-stored-requires-clause-rising : goal.stored_value-stored-requires-clause-rising
@@ -88,13 +87,13 @@ stored_value-stored-requires-clause-kept g c =
     let slot = (goal.at.stored_value-stored-requires-clause-kept g c).After-slot_in-slot in
     let at = (goal.at.After-slot_in-slot g slot).In-Ok in
     let same : record { scoped = c.scoped.result.now; owned = c.owned.result.now } ≡ handle_roots c.self.inside.owner.seen.roots = λ i. record { scoped = c.scoped.ensures i; owned = c.owned.ensures i } in
-    subst (λ (es : HandleRoots). IsKept c.intern_given.new.functions.entries es c.args.value) (sym same)
-    (spot_kept _ _ (view g at) c.args.handle c.args.index c.args.value (can g at) c.in-Ok.word (word_at g at) c.slot_in-slot.result (finds g slot) c.intern_given.new.functions.entries (interned g slot))
+    subst (λ (es : HandleRoots). IsKept (ids_of c.intern_given.new.interned) es c.args.value) (sym same)
+    (spot_kept _ _ (view g at) c.args.handle c.args.index c.args.value (can g at) c.in-Ok.word (word_at g at) c.slot_in-slot.result (finds g slot) (ids_of c.intern_given.new.interned) (interned g slot))
 
-kept_is : (g : given.Over) (c : After-stored_value-stored g) → KeptAs c.intern_given.new.functions.entries (handle_roots c.self.inside.owner.seen.roots) c.args.value c.stored_value-stored.result
+kept_is : (g : given.Over) (c : After-stored_value-stored g) → KeptAs (ids_of c.intern_given.new.interned) (handle_roots c.self.inside.owner.seen.roots) c.args.value c.stored_value-stored.result
 kept_is g c =
     let same : record { scoped = c.scoped.result.now; owned = c.owned.result.now } ≡ handle_roots c.self.inside.owner.seen.roots = λ i. record { scoped = c.scoped.ensures i; owned = c.owned.ensures i } in
-    subst (λ (es : HandleRoots). KeptAs c.intern_given.new.functions.entries es c.args.value c.stored_value-stored.result) same c.stored_value-stored.ensures.kept
+    subst (λ (es : HandleRoots). KeptAs (ids_of c.intern_given.new.interned) es c.args.value c.stored_value-stored.result) same c.stored_value-stored.ensures.kept
 
 pub write_slot-requires-clause-idle : goal.write_slot-requires-clause-idle
 write_slot-requires-clause-idle g c = c.self.invariant.idle
@@ -117,7 +116,7 @@ write_slot-requires-clause-can g c =
       };
       index = c.args.index;
       slot_is = lies.slot_is ∙ ap Some (sym (spot_slot _ _ (view g at) c.args.handle c.args.index c.args.value (can g at) c.in-Ok.word (word_at g at) c.slot_in-slot.result (finds g slot)));
-      of_form = kept_of_form heap c.intern_given.new.functions.entries (handle_roots c.self.inside.owner.seen.roots) c.slot_in-slot.result.storage c.args.value c.stored_value-stored.result
+      of_form = kept_of_form heap (ids_of c.intern_given.new.interned) (handle_roots c.self.inside.owner.seen.roots) c.slot_in-slot.result.storage c.args.value c.stored_value-stored.result
           (are_words g.H.GcHeap.KIND c.self.inside.owner.seen c.is_ready.ensures.can)
           (spot_form _ _ (view g at) c.args.handle c.args.index c.args.value (can g at) c.in-Ok.word (word_at g at) c.slot_in-slot.result (finds g slot))
           (kept_is g stored);
@@ -148,18 +147,18 @@ rest_is g c =
     e ∙ ap (λ (h : HeapView). record c.self.inside.owner.seen { heap = h }) (sym (ap (λ (v : OwnerView g.row.D.Denot). v.heap) e))
 
 abbrev later : (g : given.Over) (c : After-write_slot g) → StoreView g.row.D.Denot
-later g c = store_view c.self.inside.id c.self.inside.config c.intern_given.new.functions.entries c.write_slot.new.owner.seen c.self.inside.tries
+later g c = store_view c.self.inside.id c.self.inside.config (tables_of c.intern_given.new.interned c.self.inside.asked) c.write_slot.new.owner.seen c.self.inside.tries
 
 abbrev at_of : (g : given.Over) (c : After-write_slot g) → In-Ok g
 at_of g c = (goal.at.After-slot_in-slot g (goal.at.After-stored_value-stored g (goal.at.After-write_slot g c).After-stored_value-stored).After-slot_in-slot).In-Ok
 
-later_is : (g : given.Over) (c : After-write_slot g) → later g c ≡ record (view g (at_of g c)) { heap = c.write_slot.new.owner.seen.heap; funcs = c.intern_given.new.functions.entries }
-later_is g c = ap (λ (v : OwnerView g.row.D.Denot). store_view c.self.inside.id c.self.inside.config c.intern_given.new.functions.entries v c.self.inside.tries) (rest_is g c)
+later_is : (g : given.Over) (c : After-write_slot g) → later g c ≡ record (view g (at_of g c)) { heap = c.write_slot.new.owner.seen.heap; ids = (ids_of c.intern_given.new.interned) }
+later_is g c = ap (λ (v : OwnerView g.row.D.Denot). store_view c.self.inside.id c.self.inside.config (tables_of c.intern_given.new.interned c.self.inside.asked) v c.self.inside.tries) (rest_is g c)
 
 pub invariant_of-self : goal.invariant_of-self
 invariant_of-self g c =
-    let same = given_refused c.self.inside.functions.entries c.intern_given.new.functions.entries (raw_functions (c.args.value ∷ [])) c.in_err-intern_given-in-Ok.field-0.0 c.in_err-intern_given-in-Ok.ensures.interns in
-    subst (λ (ids : FunctionIds). IsSound g.row.D.Denot g.H.GcHeap.KIND c.self.inside.slot_counts.items c.self.inside.owner.seen (store_view c.self.inside.id c.self.inside.config ids c.self.inside.owner.seen c.self.inside.tries)) (sym same) c.self.invariant
+    let same = given_refused (ids_of c.self.inside.interned) (ids_of c.intern_given.new.interned) (raw_side_values (c.args.value ∷ [])) c.in_err-intern_given-in-Ok.field-0.0 c.in_err-intern_given-in-Ok.ensures.interns in
+    subst (λ (ids : InternedIds). IsSound g.row.D.Denot g.H.GcHeap.KIND c.self.inside.slot_counts.items c.self.inside.owner.seen (store_view c.self.inside.id c.self.inside.config (tables_by ids c.self.inside.asked) c.self.inside.owner.seen c.self.inside.tries)) (sym same) c.self.invariant
 
 pub invariant_of-self-in-Ok : goal.invariant_of-self-in-Ok
 invariant_of-self-in-Ok g c =
@@ -167,7 +166,7 @@ invariant_of-self-in-Ok g c =
     let stored = (goal.at.After-write_slot g after).After-stored_value-stored in
     let slot = (goal.at.After-stored_value-stored g stored).After-slot_in-slot in
     let at = (goal.at.After-slot_in-slot g slot).In-Ok in
-    let some = some_written g.row.D.Denot g.H.GcHeap.KIND (view g at) c.args.handle c.args.index c.args.value (can g at) c.in-Ok.word (word_at g at) c.slot_in-slot.result (finds g slot) c.intern_given.new.functions.entries (interned g slot) c.write_slot.new.owner.seen.heap c.stored_value-stored.result (kept_is g stored) c.stored_value-stored.ensures.small (heap_written g after) in
+    let some = some_written g.row.D.Denot g.H.GcHeap.KIND (view g at) c.args.handle c.args.index c.args.value (can g at) c.in-Ok.word (word_at g at) c.slot_in-slot.result (finds g slot) (ids_of c.intern_given.new.interned) (interned g slot) c.write_slot.new.owner.seen.heap c.stored_value-stored.result (kept_is g stored) c.stored_value-stored.ensures.small (heap_written g after) in
     record {
       idle = ap (λ (v : OwnerView g.row.D.Denot). v.idle) (rest_is g after) ∙ c.self.invariant.idle;
       engine = ap (λ (v : OwnerView g.row.D.Denot). v.types.engine) (rest_is g after) ∙ c.self.invariant.engine;
@@ -178,21 +177,32 @@ invariant_of-self-in-Ok g c =
       holds = subst (λ (s : StoreView g.row.D.Denot). HoldsAccount g.H.GcHeap.KIND s some.0 some.1.0) (sym (later_is g after)) some.1.1;
     }
 
+pub returns-in_err-intern_given-in-Ok-clause-writes : goal.returns-in_err-intern_given-in-Ok-clause-writes
+returns-in_err-intern_given-in-Ok-clause-writes g c t a holds =
+    let at = (goal.at.returns-in_err-intern_given-in-Ok-clause-writes g c).In-Ok in
+    let fault : WriteFault = c.in_err-intern_given-in-Ok.field-0.0 in
+    let after : StoreView g.row.D.Denot = store_view c.self.inside.id c.self.inside.config (tables_of c.intern_given.new.interned c.self.inside.asked) c.self.inside.owner.seen c.self.inside.tries in
+    subst (λ (r : Result (Unit {0}) WriteFault). WritesValue g.H.GcHeap.KIND c.args.self.now after t a c.args.handle c.args.index c.args.value r)
+    (sym (same_err c.from_residual.result fault c.from_residual.ensures.1))
+    (subst (λ (s : StoreView g.row.D.Denot). WritesValue g.H.GcHeap.KIND s after t a c.args.handle c.args.index c.args.value (Err fault)) c.self.view_is
+    (refused_value g.H.GcHeap.KIND (view g at) t a (subst (λ (s : StoreView g.row.D.Denot). HoldsAccount g.H.GcHeap.KIND s t a) (sym c.self.view_is) holds) c.args.handle c.args.index c.args.value
+    (ids_of c.intern_given.new.interned) fault c.in_err-intern_given-in-Ok.ensures.interns))
+
 pub returns-clause-writes : goal.returns-clause-writes
 returns-clause-writes g c t a holds =
     let after = (goal.at.returns-clause-writes g c).After-write_slot in
     let kept = (goal.at.After-write_slot g after).After-stored_value-stored in
     let slot = (goal.at.After-stored_value-stored g kept).After-slot_in-slot in
     let at = (goal.at.After-slot_in-slot g slot).In-Ok in
-    let later_store : StoreView g.row.D.Denot = record (view g at) { heap = c.write_slot.new.owner.seen.heap; funcs = c.intern_given.new.functions.entries } in
+    let later_store : StoreView g.row.D.Denot = record (view g at) { heap = c.write_slot.new.owner.seen.heap; ids = (ids_of c.intern_given.new.interned) } in
     let keeps : (t : Table g.row.D.Denot) (a : Account) → HoldsAccount g.H.GcHeap.KIND c.args.self.now t a → KeepsValue g.H.GcHeap.KIND c.args.self.now later_store t a c.args.handle c.args.index c.args.value =
     subst (λ (s : StoreView g.row.D.Denot). (t : Table g.row.D.Denot) (a : Account) → HoldsAccount g.H.GcHeap.KIND s t a → KeepsValue g.H.GcHeap.KIND s later_store t a c.args.handle c.args.index c.args.value) c.self.view_is
-    (keeps_value g.row.D.Denot g.H.GcHeap.KIND (view g at) c.args.handle c.args.index c.args.value (can g at) c.in-Ok.word (word_at g at) c.slot_in-slot.result (finds g slot) c.intern_given.new.functions.entries (interned g slot) c.write_slot.new.owner.seen.heap c.stored_value-stored.result (kept_is g kept) c.stored_value-stored.ensures.small (heap_written g after)) in (
+    (keeps_value g.row.D.Denot g.H.GcHeap.KIND (view g at) c.args.handle c.args.index c.args.value (can g at) c.in-Ok.word (word_at g at) c.slot_in-slot.result (finds g slot) (ids_of c.intern_given.new.interned) (interned g slot) c.write_slot.new.owner.seen.heap c.stored_value-stored.result (kept_is g kept) c.stored_value-stored.ensures.small (heap_written g after)) in (
       λ before v has field field_is stands.
           subst (λ (s : StoreView g.row.D.Denot). HoldsAccount g.H.GcHeap.KIND s (write has.position c.args.index (stored field.element_type v) t) a) (sym (later_is g after))
           (keeps t a holds before v has field field_is stands),
-      λ v stands. within_ids c.args.self.now t c.args.value v stands
-          (c.in_ok-intern_given-in-Ok.ensures.interns.1 t.funcs (ids_of g slot t holds.place holds.holds)),
+      within_ids c.args.self.now t c.args.value holds.holds.interned
+          (subst (λ (s : StoreView g.row.D.Denot). HaveAllIdsLeft s.ids (raw_side_values (c.args.value ∷ []))) c.self.view_is c.in_ok-intern_given-in-Ok.ensures.interns.1),
     )
 
 pub returns-clause-spare : goal.returns-clause-spare

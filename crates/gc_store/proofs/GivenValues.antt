@@ -1,0 +1,167 @@
+-- The function values and continuations among values that are given, and the ids that they have.
+use Rattle.std.proofs.Common.{◌≡◌, ℕ, zero, suc, ◌+◌, ◌<◌, Bool, true, false, ◌++◌, List, [], ◌∷◌, length, get_or, take, drop, Some, None, Err, Contains, refl, sym, ap, ap₂, ◌∙◌, subst, arith, le-ltb, lt-ltb}
+use Rattle.std.specs.List.{slice_get}
+use Rattle.std.specs.Ordering.{nat_cmp}
+use Rattle.std.specs.FinMap.{FinMap, get}
+use Rattle.std.proofs.lemmas.Option.{none-some, same_Some}
+use Rattle.std.proofs.lemmas.List.{append_assoc, take_more, take-append-drop}
+use Rattle.std.proofs.lemmas.List.Elements.{Contains-append_left, Contains-append_right}
+use Rattle.gc_tables.specs.SideTables.{SideTable}
+use Rattle.gc_model.specs.Values.{Value}
+use Rattle.gc_model.specs.SideValues.{IdsBy, InternedBy, InternedIds, SideValues, conts_full, functions_full, max_entries, passes_most, same_cont, same_function, side_values, with_each, with_side_values}
+use Rattle.gc_model.specs.Table.{Table}
+use Rattle.gc_model.specs.Stores.{StoreView}
+use Rattle.gc_model.proofs.Interned.{IsExact, all-given, conts_exact, functions_exact, ids_same, side-first, side_joined, side_same}
+use Rattle.gc_model.proofs.Placings.{KeepsAllIds}
+use Rattle.gc_store.specs.declared.root.RawValue.{RawValue}
+use Rattle.gc_store.specs.declared.root.RawValue.TheVariants as raw
+use Rattle.gc_store.specs.declared.write.WriteFault.{WriteFault}
+use Rattle.gc_store.specs.declared.write.WriteFault.TheVariants as fault
+use Rattle.gc_store.specs.Interning.{CanIntern, CanInternAll, HaveAllIdsLeft, HaveIdsLeft, Interns, InternsAll, InternsGiven, MakesRoom, MakesRooms, PassesIds}
+use Rattle.gc_store.specs.declared.interned.InternedValues.{InternedValues}
+use Rattle.gc_store.specs.Stores.{ids_of}
+use Rattle.gc_store.specs.Values.{RawStands, AllStand, HasId, IsPastIds, raw_side_values}
+
+-- the values of a list have ids
+abbrev pub HaveIds : {A : Type 0} → FinMap nat_cmp A → List A → Type 0
+HaveIds {A} ids xs = (x : A) → Contains xs x → (id : ℕ) × (get ids id ≡ Some x)
+
+-- so do function values and continuations
+pub record HaveAllIds (ids : InternedIds) (given : SideValues) : Type 0 where
+  pub functions : HaveIds ids.funcs given.funcs
+  pub conts : HaveIds ids.conts given.conts
+
+-- those of the first, and those of the rest
+pub raw-first : (r : RawValue) (raws : List RawValue) → raw_side_values (r ∷ raws) ≡ side_joined (raw_side_values (r ∷ [])) (raw_side_values raws)
+raw-first (raw.I32 n) raws = refl
+raw-first (raw.I64 n) raws = refl
+raw-first (raw.F32 n) raws = refl
+raw-first (raw.F64 n) raws = refl
+raw-first (raw.V128 n) raws = refl
+raw-first (raw.Func f) raws = refl
+raw-first (raw.Cont None) raws = refl
+raw-first (raw.Cont (Some c)) raws = refl
+raw-first (raw.Ref class handle) raws = refl
+
+joined_assoc : (a b c : SideValues) → side_joined (side_joined a b) c ≡ side_joined a (side_joined b c)
+joined_assoc a b c = side_same (side_joined (side_joined a b) c) (side_joined a (side_joined b c)) (append_assoc a.funcs b.funcs c.funcs) (append_assoc a.conts b.conts c.conts)
+
+raw-append : (xs ys : List RawValue) → raw_side_values (xs ++ ys) ≡ side_joined (raw_side_values xs) (raw_side_values ys)
+raw-append [] ys = refl
+raw-append (x ∷ xs) ys =
+    raw-first x (xs ++ ys) ∙ ap (side_joined (raw_side_values (x ∷ []))) (raw-append xs ys)
+    ∙ sym (joined_assoc (raw_side_values (x ∷ [])) (raw_side_values xs) (raw_side_values ys)) ∙ ap (λ (s : SideValues). side_joined s (raw_side_values ys)) (sym (raw-first x xs))
+
+-- the ids of some of them, and of the others
+have_left : (ids : InternedIds) (a b : SideValues) → HaveAllIds ids (side_joined a b) → HaveAllIds ids a
+have_left ids a b have = record { functions = λ f c. have.functions f (Contains-append_left a.funcs b.funcs f c); conts = λ k c. have.conts k (Contains-append_left a.conts b.conts k c) }
+
+have_right : (ids : InternedIds) (a b : SideValues) → HaveAllIds ids (side_joined a b) → HaveAllIds ids b
+have_right ids a b have = record { functions = λ f c. have.functions f (Contains-append_right a.funcs b.funcs f c); conts = λ k c. have.conts k (Contains-append_right a.conts b.conts k c) }
+
+-- what one of them has
+pub have_one : (ids : InternedIds) (raws : List RawValue) (i : ℕ) (r : RawValue) → slice_get raws i ≡ Some r → HaveAllIds ids (raw_side_values raws) → HaveAllIds ids (raw_side_values (r ∷ []))
+have_one ids [] i r e have = absurd (none-some r e)
+have_one ids (x ∷ raws) zero r e have =
+    let all = subst (HaveAllIds ids) (raw-first x raws) have in
+    subst (λ (y : RawValue). HaveAllIds ids (raw_side_values (y ∷ []))) (same_Some x r e) (have_left ids (raw_side_values (x ∷ [])) (raw_side_values raws) all)
+have_one ids (x ∷ raws) (suc i) r e have =
+    let all = subst (HaveAllIds ids) (raw-first x raws) have in
+    have_one ids raws i r e (have_right ids (raw_side_values (x ∷ [])) (raw_side_values raws) all)
+
+-- the function values and continuations of what is given are those of what it stands for
+pub raw-stands : {D : Type 0} (s : StoreView D) (t : Table D) (r : RawValue) (v : Value) → RawStands s t r v → raw_side_values (r ∷ []) ≡ side_values (v ∷ [])
+raw-stands s t (raw.I32 n) v is = ap (λ (x : Value). side_values (x ∷ [])) (sym is)
+raw-stands s t (raw.I64 n) v is = ap (λ (x : Value). side_values (x ∷ [])) (sym is)
+raw-stands s t (raw.F32 n) v is = ap (λ (x : Value). side_values (x ∷ [])) (sym is)
+raw-stands s t (raw.F64 n) v is = ap (λ (x : Value). side_values (x ∷ [])) (sym is)
+raw-stands s t (raw.V128 n) v is = ap (λ (x : Value). side_values (x ∷ [])) (sym is)
+raw-stands s t (raw.Func f) v is = ap (λ (x : Value). side_values (x ∷ [])) (sym is)
+raw-stands s t (raw.Cont None) v is = ap (λ (x : Value). side_values (x ∷ [])) (sym is)
+raw-stands s t (raw.Cont (Some c)) v is = ap (λ (x : Value). side_values (x ∷ [])) (sym is)
+raw-stands s t (raw.Ref class None) v is = ap (λ (x : Value). side_values (x ∷ [])) (sym is)
+raw-stands s t (raw.Ref class (Some handle)) v is = ap (λ (x : Value). side_values (x ∷ [])) (sym is.is)
+
+pub all-stand : {D : Type 0} (s : StoreView D) (t : Table D) (raws : List RawValue) (vs : List Value) → AllStand s t raws vs → raw_side_values raws ≡ side_values vs
+all-stand s t [] [] all = refl
+all-stand s t [] (v ∷ vs) all = absurd (omega (arith, all.same_count))
+all-stand s t (r ∷ raws) [] all = absurd (omega (arith, all.same_count))
+all-stand s t (r ∷ raws) (v ∷ vs) all =
+    raw-first r raws
+    ∙ ap₂ side_joined (raw-stands s t r v (all.each 0 r v refl refl)) (all-stand s t raws vs (record { same_count = omega (arith, all.same_count); each = λ i x w e f. all.each (suc i) x w e f }))
+    ∙ sym (side-first v vs)
+
+-- what was interned has ids
+have_interned : {A : Type 0} (same : A → A → Bool) → IsExact same → (old new : FinMap nat_cmp A) (xs known : List A) → IdsBy known old → Interns same old new xs → HaveIds new xs
+have_interned same tells old new xs known by interned x c = (interned.held known by).in_store x (all-given same tells xs known x c)
+
+pub interned_ids : (old new : InternedIds) (given known : SideValues) → InternedBy known old → InternsAll old new given → HaveAllIds new given
+interned_ids old new given known by interned = record {
+  functions = have_interned same_function functions_exact old.funcs new.funcs given.funcs known.funcs by.funcs interned.functions;
+  conts = have_interned same_cont conts_exact old.conts new.conts given.conts known.conts by.conts interned.conts;
+}
+
+-- and is known
+pub held_all : (old new : InternedIds) (given known : SideValues) → InternsAll old new given → InternedBy known old → InternedBy (with_side_values given known) new
+held_all old new given known interned by = record { funcs = interned.functions.held known.funcs by.funcs; conts = interned.conts.held known.conts by.conts }
+
+pub keeps_all : (old new : InternedIds) (given : SideValues) → InternsAll old new given → KeepsAllIds old new
+keeps_all old new given interned = record { functions = interned.functions.keeps; conts = interned.conts.keeps }
+
+-- whether they are more than may be
+pub most_left : {A : Type 0} (same : A → A → Bool) (ids : FinMap nat_cmp A) (xs known : List A) → HaveIdsLeft same ids xs → IdsBy known ids → passes_most same xs known ≡ false
+most_left same ids xs known few by = le-ltb max_entries (length (with_each same xs known)) (few known by)
+
+pub most_passed : {A : Type 0} (same : A → A → Bool) (ids : FinMap nat_cmp A) (xs known : List A) → PassesIds same ids xs → IdsBy known ids → passes_most same xs known ≡ true
+most_passed same ids xs known past by = lt-ltb max_entries (length (with_each same xs known)) (past known by)
+
+-- so it is of a value, by what is given
+module _ {D : Type 0} (s : StoreView D) (t : Table D) (r : RawValue) (by : InternedBy t.interned s.ids) where
+  told_ids : (full : SideValues → SideValues → Bool) (answer : Bool) → full (raw_side_values (r ∷ [])) t.interned ≡ answer → IsPastIds full s t r answer
+  told_ids full answer is v stands = ap (λ (given : SideValues). full given t.interned) (sym (raw-stands s t r v stands)) ∙ is
+
+  pub within_ids : HaveAllIdsLeft s.ids (raw_side_values (r ∷ [])) → HasId s t r
+  within_ids left = record {
+    functions = told_ids functions_full false (most_left same_function s.ids.funcs (raw_side_values (r ∷ [])).funcs t.interned.funcs left.functions by.funcs);
+    conts = told_ids conts_full false (most_left same_cont s.ids.conts (raw_side_values (r ∷ [])).conts t.interned.conts left.conts by.conts);
+  }
+
+  pub past_functions : PassesIds same_function s.ids.funcs (raw_side_values (r ∷ [])).funcs → IsPastIds functions_full s t r true
+  past_functions past = told_ids functions_full true (most_passed same_function s.ids.funcs (raw_side_values (r ∷ [])).funcs t.interned.funcs past by.funcs)
+
+  pub past_conts : PassesIds same_cont s.ids.conts (raw_side_values (r ∷ [])).conts → IsPastIds conts_full s t r true
+  past_conts past = told_ids conts_full true (most_passed same_cont s.ids.conts (raw_side_values (r ∷ [])).conts t.interned.conts past by.conts)
+
+-- where room was made for what is given, the ids are as they were, some are left, and what is given may be interned
+pub rooms_ids : (old new : InternedValues) (given : SideValues) → MakesRooms old new given → ids_of new ≡ ids_of old
+rooms_ids old new given room = ids_same (ids_of new) (ids_of old) room.functions.unchanged room.conts.unchanged
+
+pub rooms_left : (old new : InternedValues) (given : SideValues) → MakesRooms old new given → HaveAllIdsLeft (ids_of old) given
+rooms_left old new given room = record { functions = λ known by. (room.functions.has_room known by).few; conts = λ known by. (room.conts.has_room known by).few }
+
+can_by : {A : Type 0} (same : A → A → Bool) (old new : SideTable A) (xs known : List A) → MakesRoom same old new xs → IdsBy known old.entries → CanIntern same new xs
+can_by same old new xs known room by = record { known = known; held = subst (IdsBy known) (sym room.unchanged) by; has_room = room.has_room known by }
+
+pub rooms_can : (old new : InternedValues) (given : SideValues) → MakesRooms old new given → (known : SideValues) → InternedBy known (ids_of old) → CanInternAll new given
+rooms_can old new given room known by = record {
+  functions = can_by same_function old.functions new.functions given.funcs known.funcs room.functions by.funcs;
+  conts = can_by same_cont old.conts new.conts given.conts known.conts room.conts by.conts;
+}
+
+-- those of one value more, and those of a list around one
+pub raw-more : (raws : List RawValue) (i : ℕ) (r : RawValue) → i < length raws → r ≡ get_or raws i r → raw_side_values (take (i + 1) raws) ≡ side_joined (raw_side_values (take i raws)) (raw_side_values (r ∷ []))
+raw-more raws i r below is =
+    ap raw_side_values (take_more raws i r below ∙ ap (λ (x : RawValue). take i raws ++ x ∷ []) (sym is)) ∙ raw-append (take i raws) (r ∷ [])
+
+pub raw-split : (raws : List RawValue) (i : ℕ) (r : RawValue) → i < length raws → r ≡ get_or raws i r
+    → raw_side_values raws ≡ side_joined (raw_side_values (take i raws)) (side_joined (raw_side_values (r ∷ [])) (raw_side_values (drop (i + 1) raws)))
+raw-split raws i r below is =
+    ap raw_side_values (sym (take-append-drop (i + 1) raws)) ∙ raw-append (take (i + 1) raws) (drop (i + 1) raws)
+    ∙ ap (λ (s : SideValues). side_joined s (raw_side_values (drop (i + 1) raws))) (raw-more raws i r below is)
+    ∙ joined_assoc (raw_side_values (take i raws)) (raw_side_values (r ∷ [])) (raw_side_values (drop (i + 1) raws))
+
+-- a value that was refused leaves what was interned
+pub given_refused : (old new : InternedIds) (given : SideValues) (e : WriteFault) → InternsGiven old new given (Err e) → new ≡ old
+given_refused old new given fault.FuncTableFull is = is.0
+given_refused old new given fault.ContTableFull is = is.0
+given_refused old new given fault.Memory is = is

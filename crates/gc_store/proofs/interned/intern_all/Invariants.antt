@@ -1,0 +1,11 @@
+use Rattle.std.proofs.Common.{take}
+use Rattle.gc_store.specs.Interning.{InternsAll, KeepsRooms}
+use Rattle.gc_store.specs.Stores.{ids_of}
+use Rattle.gc_store.specs.Values.{raw_side_values}
+use Rattle.gc_store.proofs.interned.intern_all.Given as goal
+
+abbrev pub invariant-loop-value : goal.invariant-loop-value
+invariant-loop-value l = record {
+  interns : InternsAll (ids_of l.initial.interned) (ids_of l.interned) (raw_side_values (take l.value-index l.values));
+  room : KeepsRooms l.initial.interned l.interned (raw_side_values (take l.value-index l.values));
+}
