@@ -20,6 +20,7 @@ module _ {D T : Type 0} (layouts : Layouts) (counter : Option ℕ) (o : Object D
   handed_on (Ok root) is places =
       subst Asked (sym is.1.0) (subst (λ (h : GcRootIndex). PlacesObject layouts counter o p limits' h new) (sym is.1.1) places)
   handed_on (Err place.FuncTableFull) is places = subst Asked (sym is) places
+  handed_on (Err place.ContTableFull) is places = subst Asked (sym is) places
   handed_on (Err place.TooLarge) is places = subst Asked (sym is) (record { large = places.0; has_ids = λ few. places.2; refuses = places.1 })
   handed_on (Err place.RootsFull) is places = subst Asked (sym is) places
   handed_on (Err (place.HeapOutOfMemory f)) is places = subst Asked (sym is) places

@@ -1,7 +1,7 @@
 -- What handles name where one more root stands, or none.
 use Rattle.std.proofs.Common.{inl, inr, ◌≡◌, ℕ, List, [], ◌∷◌, ◌++◌, length, Some, true, false, cond, eqb, sym, ◌∙◌}
 use Rattle.std.proofs.lemmas.Option.{none-some}
-use Rattle.gc_model.specs.Values.{Reference, null, small, at, Value, numeric, function, reference}
+use Rattle.gc_model.specs.Values.{Reference, null, small, at, Value, numeric, function, continuation, reference}
 use Rattle.gc_model.specs.Table.{Table, Scoped, push}
 use Rattle.gc_model.specs.Live.{rooted_among}
 use Rattle.gc_model.specs.Reads.{after_read}
@@ -69,6 +69,7 @@ module _ {D : Type 0} (s new : StoreView D) (same : IsSameStore s new) where
   pub named_read : (x : Value) (t : Table D) (h : GcRootIndex) (r : Reference) → NamesReference s t h r → NamesReference new (after_read x t) h r
   named_read (numeric kind n) t h r named = named_same t h r named
   named_read (function f) t h r named = named_same t h r named
+  named_read (continuation c) t h r named = named_same t h r named
   named_read (reference class null) t h r named = named_same t h r named
   named_read (reference class (small n)) t h r named = named_pushed t (small n) h r named
   named_read (reference class (at p)) t h r named = named_pushed t (at p) h r named

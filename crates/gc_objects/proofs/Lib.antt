@@ -1,4 +1,3 @@
-pub mod FewFields
 pub mod ArrayLemmas
 pub mod ArrayMaking
 pub mod CheckLemmas

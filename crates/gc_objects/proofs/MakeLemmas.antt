@@ -87,6 +87,7 @@ module _ {D T : Type 0} (causes : Fault → Type 0) (asks : Object D → Type 0)
     makes_asked (Err fault.Unrooted) asks_store = absurd asks_store
     makes_asked (Err fault.TypeMismatch) asks_store = absurd asks_store
     makes_asked (Err fault.FuncTableFull) asks_store = (o, (asked, asks_store))
+    makes_asked (Err fault.ContTableFull) asks_store = (o, (asked, asks_store))
     makes_asked (Err fault.TooLarge) asks_store = (o, (asked, asks_store))
     makes_asked (Err fault.RootsFull) asks_store = (o, (asked, asks_store))
     makes_asked (Err (fault.HeapOutOfMemory f)) asks_store = (o, (asked, asks_store))

@@ -6,8 +6,7 @@ use Rattle.std.proofs.lemmas.Option.{slice_get_within, slice_get_cases}
 use Rattle.gc_types.specs.declared.kind.Layouts.{Layouts}
 use Rattle.gc_types.specs.declared.kind.VMGcKind.{VMGcKind}
 use Rattle.gc_owner.specs.declared.entry.RootEntry.{RootEntry}
-use Rattle.gc_model.specs.Values.{Reference, at, Object}
-use Rattle.gc_model.specs.Functions.{object_functions}
+use Rattle.gc_model.specs.Values.{Reference, at, Object, object_values}
 use Rattle.gc_model.specs.Table.{Table, Scoped, push, make, with_pages, add_object, intern}
 use Rattle.gc_model.specs.Live.{rooted, rooted_among}
 use Rattle.gc_model.specs.OwnedRoots.{owned_reference}
@@ -60,7 +59,7 @@ names_pushed t before new r = inl (record {
 -- so does that of an object that was made
 pub names_made : {D : Type 0} (t : Table D) → AreBefore t → (new : StoreView D) (o : Object D) (pages : ℕ)
     → NamesReference new (make o (with_pages pages t)) (handle_of new (length t.scoped) t.drops) (at (length t.objects))
-names_made t before new o pages = names_pushed (add_object o (intern (object_functions o) (with_pages pages t))) before new (at (length t.objects))
+names_made t before new o pages = names_pushed (add_object o (intern (object_values o) (with_pages pages t))) before new (at (length t.objects))
 
 module _ {D : Type 0} (layouts : Layouts) (s : StoreView D) (t : Table D) (holds : HoldsTable layouts s t) (handle : GcRootIndex) where
   scoped_once : (r q : Reference) → NamesScoped s t handle r → NamesScoped s t handle q → r ≡ q

@@ -11,7 +11,7 @@ use Rattle.gc_types.specs.declared.value.ValType.TheVariants as val_type
 use Rattle.gc_types.specs.Declarations.{Declaration}
 use Rattle.gc_owner.specs.declared.entry.GcClass.{GcClass}
 use Rattle.gc_owner.specs.declared.entry.GcClass.TheVariants.{Any, Extern, Exn}
-use Rattle.gc_model.specs.Values.{Reference, null, small, at, Value, numeric, i32, i64, f32, f64, v128, function, reference, Object, struct, array, host, exception}
+use Rattle.gc_model.specs.Values.{Reference, null, small, at, Value, numeric, i32, i64, f32, f64, v128, function, continuation, reference, Object, struct, array, host, exception}
 use Rattle.gc_model.specs.Fits.{fits, object_fits_any, object_fits_extern, object_fits_exn}
 use Rattle.gc_model.specs.Reads.{after_read}
 use Rattle.gc_model.specs.Table.{Table, push}
@@ -107,6 +107,7 @@ read_root new t (numeric f32 n) class handle is = absurd (cc is)
 read_root new t (numeric f64 n) class handle is = absurd (cc is)
 read_root new t (numeric v128 n) class handle is = absurd (cc is)
 read_root new t (function f) class handle is = absurd (cc is)
+read_root new t (continuation c) class handle is = absurd (cc is)
 read_root new t (reference own null) class handle is = absurd (cc is)
 read_root new t (reference own (small n)) class handle is =
     let class_is : own ≡ class = grind (arith, is) in
@@ -154,6 +155,7 @@ module _ {D : Type 0} (layouts : Layouts) (old new : StoreView D) (index : ℕ) 
   value_kind (val.F64 n) is = tt
   value_kind (val.V128 n) is = tt
   value_kind (val.FuncRef f) is = tt
+  value_kind (val.ContRef c) is = tt
   value_kind (val.ExternRef handle) is = any_root Extern (root_of handle) (sym is)
   value_kind (val.AnyRef handle) is = any_root Any (root_of handle) (sym is)
   value_kind (val.ExnRef handle) is = any_root Exn (root_of handle) (sym is)

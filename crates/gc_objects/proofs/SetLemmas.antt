@@ -121,7 +121,7 @@ module _ {D : Type 0} (layouts : Layouts) (s new : StoreView D) (t : Table D) (a
     by_store : (result : Result (Unit {0}) AccessFault) → WritesAs layouts s new t a root index v result → SetsBy root result
     by_store (Ok x) writes = (
       given_own,
-      record { there = there; has_id = writes.1 value goes.stands; holds = writes.0 typed.value value typed.has field typed.field_is goes.stands },
+      record { there = there; has_function_id = writes.1.functions value goes.stands; has_cont_id = writes.1.conts value goes.stands; holds = writes.0 typed.value value typed.has field typed.field_is goes.stands },
     )
     by_store (Err fault.WrongStore) writes = absurd writes
     by_store (Err fault.Unrooted) writes = absurd writes
@@ -132,8 +132,8 @@ module _ {D : Type 0} (layouts : Layouts) (s new : StoreView D) (t : Table D) (a
     by_store (Err fault.NotI8Array) writes = absurd writes
     by_store (Err fault.RootsFull) writes = absurd writes
     by_store (Err fault.FuncTableFull) writes = (given_own, record { there = there; lacks = writes.0 value goes.stands })
-    by_store (Err fault.Memory) writes =
-        (given_own, record { there = there; func = writes.0; value_is = subst (λ (w : Val). ValStands s t w value) writes.1 goes.stands })
+    by_store (Err fault.ContTableFull) writes = (given_own, record { there = there; lacks = writes.0 value goes.stands })
+    by_store (Err fault.Memory) writes = (given_own, record { there = there; takes = writes })
 
     pub sets_by_store : (result : Result (Unit {0}) AccessFault) → WritesAs layouts s new t a root index v result → SetsBy this result
     sets_by_store result writes = here result (by_store result writes)

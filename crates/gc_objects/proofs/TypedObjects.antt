@@ -82,7 +82,7 @@ pub record ArrayTyped {D : Type 0} (t : Table D) (ty : ℕ) : Type 0 where
 
 module _ {D : Type 0} (layouts : Layouts) (s : StoreView D) (t : Table D) (holds : HoldsTable layouts s t) (handle : GcRootIndex) where
   -- an object that a handle names stands in the heap
-  pub stands_named : (p : ℕ) (o : Object D) → NamesReference s t handle (at p) → slice_get t.objects p ≡ Some o → (h : HeapObject) × Stands layouts t.types (naming holds.0 s.funcs) o h
+  pub stands_named : (p : ℕ) (o : Object D) → NamesReference s t handle (at p) → slice_get t.objects p ≡ Some o → (h : HeapObject) × Stands layouts t.types (naming holds.0 s.ids) o h
   stands_named p o named e =
       let word = named_held layouts s t holds.0 holds.1 handle (at p) named in
       let held = holds.1.objects.placed p word.0 word.1.0 in

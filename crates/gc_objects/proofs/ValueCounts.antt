@@ -10,8 +10,8 @@ use Rattle.gc_types.specs.declared.value.FieldType.{FieldType}
 use Rattle.gc_types.specs.Declarable.{AreDeclared}
 use Rattle.gc_types.specs.Declarations.{Declaration, fields_at, elem_at, max_fields}
 use Rattle.gc_types.specs.Layouts.{is_gc_storage}
-use Rattle.gc_model.specs.Values.{Reference, null, small, at, Value, numeric, function, reference, Object, struct, array, exception}
-use Rattle.gc_model.specs.Forms.{is_reference, value_form}
+use Rattle.gc_model.specs.Values.{Reference, null, small, at, Value, numeric, function, continuation, reference, Object, struct, array, exception}
+use Rattle.gc_model.specs.Forms.{value_form}
 use Rattle.gc_model.specs.Holds.{HoldsTable}
 use Rattle.gc_model.specs.Reach.{object_values}
 use Rattle.gc_model.specs.Stored.{value_type, listed_type}
@@ -19,6 +19,7 @@ use Rattle.gc_model.specs.Stores.{StoreView}
 use Rattle.gc_model.specs.Table.{Table}
 use Rattle.gc_model.proofs.Fitting.{fits-form}
 use Rattle.gc_model.proofs.ReadingBack.{storage_reference}
+use Rattle.gc_model.proofs.PointParts.{is_reference}
 use Rattle.gc_store.specs.declared.root.GcRootIndex.{GcRootIndex}
 use Rattle.gc_store.specs.declared.root.RootFault.{RootFault}
 use Rattle.gc_store.specs.declared.root.RootedObject.TheVariants as rooted_object
@@ -30,7 +31,7 @@ use Rattle.gc_objects.specs.Exns.{IsNamedExn}
 use Rattle.gc_objects.specs.Given.{field_types}
 use Rattle.gc_objects.specs.ValueRuns.{one_if, is_reference_field, reference_count, reference_fields, HasCounts}
 use Rattle.gc_objects.proofs.ExnLemmas.{tells_exn, exn_typed}
-use Rattle.gc_objects.proofs.FewFields.{few_fields}
+use Rattle.gc_types.proofs.FewFields.{few_fields}
 use Rattle.gc_objects.proofs.Questions.{tells_struct}
 use Rattle.gc_objects.proofs.TypedObjects.{struct_typed, array_typed, listed_at}
 use Rattle.gc_objects.proofs.ValueGiving.{first_left}
@@ -42,6 +43,7 @@ is_ref x = is_reference (value_form x)
 pub count_head : (x : Value) (xs : List Value) → reference_count (x ∷ xs) ≡ one_if (is_ref x) + reference_count xs
 count_head (numeric kind n) xs = omega (arith)
 count_head (function f) xs = omega (arith)
+count_head (continuation c) xs = omega (arith)
 count_head (reference class r) xs = omega (arith)
 
 -- a value for each field, which is a reference exactly where the field keeps references

@@ -4,7 +4,7 @@ use Rattle.std.specs.List.{slice_get}
 use Rattle.std.proofs.lemmas.Grind.{common_steps}
 use Rattle.std.proofs.lemmas.List.{length-drop, length-append}
 use Rattle.gc_types.specs.declared.kind.Layouts.{Layouts}
-use Rattle.gc_model.specs.Values.{Reference, null, small, at, Value, numeric, function, reference, Object}
+use Rattle.gc_model.specs.Values.{Reference, null, small, at, Value, numeric, function, continuation, reference, Object}
 use Rattle.gc_model.specs.Holds.{HoldsTable}
 use Rattle.gc_model.specs.Live.{roots_full}
 use Rattle.gc_model.specs.Reach.{object_values}
@@ -40,6 +40,7 @@ first_left (suc n) (y ∷ ys) x rest e =
 objects_read : {D : Type 0} (x : Value) (t : Table D) → t.objects ≡ (after_read x t).objects
 objects_read (numeric kind n) t = refl
 objects_read (function f) t = refl
+objects_read (continuation c) t = refl
 objects_read (reference class null) t = refl
 objects_read (reference class (small n)) t = refl
 objects_read (reference class (at p)) t = refl
@@ -68,6 +69,7 @@ module _ (x : Value) (rest : List Value) where
       by : (v : Value) → makes_root v ≡ true → 0 < reference_count (v ∷ rest)
       by (numeric kind n) e = absurd (cc e)
       by (function f) e = absurd (cc e)
+      by (continuation c) e = absurd (cc e)
       by (reference class null) e = absurd (cc e)
       by (reference class (small n)) e = omega (arith)
       by (reference class (at p)) e = omega (arith)
@@ -76,6 +78,7 @@ module _ (x : Value) (rest : List Value) where
 roots_read : {D : Type 0} (x : Value) (rest : List Value) (t : Table D) → reference_count (x ∷ rest) ≤ roots_left t → reference_count rest ≤ roots_left (after_read x t)
 roots_read (numeric kind n) rest t may = may
 roots_read (function f) rest t may = may
+roots_read (continuation c) rest t may = may
 roots_read (reference class null) rest t may = omega (arith, may)
 roots_read (reference class (small n)) rest t may = left_pushed (small n) t (reference_count rest) (omega (arith, may))
 roots_read (reference class (at p)) rest t may = left_pushed (at p) t (reference_count rest) (omega (arith, may))
@@ -92,6 +95,7 @@ module _ {D : Type 0} (layouts : Layouts) (s new : StoreView D) (t : Table D) (h
   room_read : (x : Value) (rest : List Value) → HoldsTable layouts new (after_read x t) → reference_count (x ∷ rest) ≤ s.spare → reference_count rest ≤ new.spare
   room_read (numeric kind n) rest later room = room_same (reference_count rest) later room
   room_read (function f) rest later room = room_same (reference_count rest) later room
+  room_read (continuation c) rest later room = room_same (reference_count rest) later room
   room_read (reference class null) rest later room = room_same (reference_count rest) later (omega (arith, room))
   room_read (reference class (small n)) rest later room = room_pushed (small n) (reference_count rest) later (omega (arith, room))
   room_read (reference class (at p)) rest later room = room_pushed (at p) (reference_count rest) later (omega (arith, room))

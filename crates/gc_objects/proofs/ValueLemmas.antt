@@ -3,7 +3,7 @@ use Rattle.std.proofs.Common.{◌≡◌, Bool, true, Some, None, Result, Ok, Err
 use Rattle.std.specs.Prelude.{is_ok}
 use Rattle.std.specs.Int.{w32, w64}
 use Rattle.std.proofs.lemmas.Option.{none-some}
-use Rattle.gc_model.specs.Values.{Reference, null, Value, numeric, i32, i64, f32, f64, v128, function, reference, number_bits}
+use Rattle.gc_model.specs.Values.{Reference, null, Value, numeric, i32, i64, f32, f64, v128, function, continuation, reference, number_bits}
 use Rattle.gc_types.specs.declared.value.ValType.{ValType}
 use Rattle.gc_model.specs.Fits.{fits_type}
 use Rattle.gc_model.specs.Table.{Table}
@@ -30,6 +30,7 @@ module _ {D : Type 0} (s : StoreView D) (t : Table D) where
   plain_stands (raw.F64 n) none = (numeric f64 n, refl)
   plain_stands (raw.V128 n) none = (numeric v128 n, refl)
   plain_stands (raw.Func f) none = (function f, refl)
+  plain_stands (raw.Cont c) none = (continuation c, refl)
   plain_stands (raw.Ref class None) none = (reference class null, refl)
   plain_stands (raw.Ref class (Some handle)) none = absurd (none-some handle (sym none))
 
@@ -41,6 +42,7 @@ module _ {D : Type 0} (s : StoreView D) (t : Table D) where
   root_stands (raw.F64 n) handle is r named = absurd (none-some handle is)
   root_stands (raw.V128 n) handle is r named = absurd (none-some handle is)
   root_stands (raw.Func f) handle is r named = absurd (none-some handle is)
+  root_stands (raw.Cont c) handle is r named = absurd (none-some handle is)
   root_stands (raw.Ref class None) handle is r named = absurd (none-some handle is)
   root_stands (raw.Ref class (Some h)) handle is r named =
       let same : h ≡ handle = grind (arith, is) in

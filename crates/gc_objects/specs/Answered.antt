@@ -187,4 +187,5 @@ CopiesTo s t handle room bytes (Err access.Immutable) = ⊥
 CopiesTo s t handle room bytes (Err access.TypeMismatch) = ⊥
 CopiesTo s t handle room bytes (Err access.RootsFull) = ⊥
 CopiesTo s t handle room bytes (Err access.FuncTableFull) = ⊥
+CopiesTo s t handle room bytes (Err access.ContTableFull) = ⊥
 CopiesTo s t handle room bytes (Err access.Memory) = ⊥

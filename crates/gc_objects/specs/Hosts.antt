@@ -42,6 +42,7 @@ MakesHost layouts counter value p limits' (Err fault.NotI8Array) new = ⊥
 MakesHost layouts counter value p limits' (Err fault.TooLarge) new = ⊥
 MakesHost layouts counter value p limits' (Err fault.RootsFull) new = PlacesHost layouts counter value p limits' (Err place.RootsFull) new
 MakesHost layouts counter value p limits' (Err fault.FuncTableFull) new = ⊥
+MakesHost layouts counter value p limits' (Err fault.ContTableFull) new = ⊥
 MakesHost layouts counter value p limits' (Err (fault.HeapOutOfMemory f)) new = PlacesHost layouts counter value p limits' (Err (place.HeapOutOfMemory f)) new
 MakesHost layouts counter value p limits' (Err fault.Memory) new = PlacesHost layouts counter value p limits' (Err place.Memory) new
 

@@ -4,9 +4,8 @@ use Rattle.gc_types.specs.declared.kind.Layouts.{Layouts}
 use Rattle.gc_types.specs.declared.value.FieldType.{FieldType}
 use Rattle.gc_types.specs.declared.value.StorageType.TheVariants as storage
 use Rattle.gc_types.specs.Declarations.{TypeName, elem_at}
-use Rattle.gc_model.specs.Values.{at, Value, Object, struct, array, exception}
+use Rattle.gc_model.specs.Values.{at, Value, Object, struct, array, exception, object_values}
 use Rattle.gc_model.specs.Allocation.{Limits, too_large}
-use Rattle.gc_model.specs.Reach.{object_values}
 use Rattle.gc_model.specs.Stored.{stored, stored_in, byte_value}
 use Rattle.gc_model.specs.Table.{Table, make}
 use Rattle.gc_model.specs.Stores.{StoreView}
@@ -15,7 +14,7 @@ use Rattle.gc_store.specs.declared.root.GcRootIndex.{GcRootIndex}
 use Rattle.gc_store.specs.declared.rooted.Rooted.{Rooted}
 use Rattle.gc_store.specs.declared.store.PlaceFault.{PlaceFault}
 use Rattle.gc_store.specs.declared.store.PlaceFault.TheVariants as place
-use Rattle.gc_store.specs.Places.{Places, PlacesObject, RefusesPlace, bytes_of, lacks_ids}
+use Rattle.gc_store.specs.Places.{Places, PlacesObject, RefusesPlace, HasIds, bytes_of}
 use Rattle.gc_store.specs.declared.request.Place.{Place}
 use Rattle.gc_store.specs.declared.request.Place.TheVariants as request
 use Rattle.gc_store.specs.Requests.{fields_of, exn_fields_of, element_of, CanPlaceStruct, CanPlaceException, CanPlaceElements}
@@ -38,16 +37,17 @@ IsHandle {T} root result = (handle : Rooted T) × ((result ≡ Ok handle) × (ha
 abbrev pub IsHanded : {T : Type 0} → Result GcRootIndex PlaceFault → Result (Rooted T) Fault → Type 0
 IsHanded (Ok root) result = IsHandle root result
 IsHanded (Err place.FuncTableFull) result = result ≡ Err fault.FuncTableFull
+IsHanded (Err place.ContTableFull) result = result ≡ Err fault.ContTableFull
 IsHanded (Err place.TooLarge) result = result ≡ Err fault.TooLarge
 IsHanded (Err place.RootsFull) result = result ≡ Err fault.RootsFull
 IsHanded (Err (place.HeapOutOfMemory f)) result = result ≡ Err (fault.HeapOutOfMemory f)
 IsHanded (Err place.Memory) result = result ≡ Err fault.Memory
 
--- No heap can hold the object. There are ids for its function values, which are looked at before its size, but behind an
--- array's length that doesn't fit 32 bits.
+-- No heap can hold the object. There are ids for its function values and continuations, which are looked at before its size,
+-- but behind an array's length that doesn't fit 32 bits.
 pub record RefusesLarge {D : Type 0} (layouts : Layouts) (o : Object D) (p : PolicyState D) (limits' : Limits) (new : StoreView D) : Type 0 where
   pub large : too_large layouts (bytes_of layouts o p.table) ≡ true
-  pub has_ids : length (object_values o) < 2 ^ 32 → lacks_ids o p.table ≡ false
+  pub has_ids : length (object_values o) < 2 ^ 32 → HasIds o p.table
   pub refuses : RefusesPlace layouts p limits' new
 
 -- what the store answers and leaves, by a typed handle and the faults of such a call; no test refuses any more
@@ -59,6 +59,7 @@ MakesAsked layouts counter o p limits' (Err fault.NotI8Array) new = ⊥
 MakesAsked layouts counter o p limits' (Err fault.Unrooted) new = ⊥
 MakesAsked layouts counter o p limits' (Err fault.TypeMismatch) new = ⊥
 MakesAsked layouts counter o p limits' (Err fault.FuncTableFull) new = Places layouts counter o p limits' (Err place.FuncTableFull) new
+MakesAsked layouts counter o p limits' (Err fault.ContTableFull) new = Places layouts counter o p limits' (Err place.ContTableFull) new
 MakesAsked layouts counter o p limits' (Err fault.TooLarge) new = RefusesLarge layouts o p limits' new
 MakesAsked layouts counter o p limits' (Err fault.RootsFull) new = Places layouts counter o p limits' (Err place.RootsFull) new
 MakesAsked layouts counter o p limits' (Err (fault.HeapOutOfMemory f)) new = Places layouts counter o p limits' (Err (place.HeapOutOfMemory f)) new
@@ -108,6 +109,7 @@ Makes causes asks layouts counter p limits' (Err fault.NotI8Array) new = causes 
 Makes causes asks layouts counter p limits' (Err fault.Unrooted) new = causes fault.Unrooted × RefusesPlace layouts p limits' new
 Makes causes asks layouts counter p limits' (Err fault.TypeMismatch) new = causes fault.TypeMismatch × RefusesPlace layouts p limits' new
 Makes causes asks layouts counter p limits' (Err fault.FuncTableFull) new = Refuses asks layouts counter p limits' place.FuncTableFull new
+Makes causes asks layouts counter p limits' (Err fault.ContTableFull) new = Refuses asks layouts counter p limits' place.ContTableFull new
 Makes causes asks layouts counter p limits' (Err fault.TooLarge) new = RefusesAsLarge asks layouts p limits' new
 Makes causes asks layouts counter p limits' (Err fault.RootsFull) new = Refuses asks layouts counter p limits' place.RootsFull new
 Makes causes asks layouts counter p limits' (Err (fault.HeapOutOfMemory f)) new = Refuses asks layouts counter p limits' (place.HeapOutOfMemory f) new

@@ -60,4 +60,5 @@ ReadsAt layouts old t a handle index (Err fault.LengthMismatch) new = ⊥
 ReadsAt layouts old t a handle index (Err fault.NotI8Array) new = ⊥
 ReadsAt layouts old t a handle index (Err fault.RootsFull) new = FailsToRead layouts old t a handle index root_fault.RootsFull new
 ReadsAt layouts old t a handle index (Err fault.FuncTableFull) new = ⊥
+ReadsAt layouts old t a handle index (Err fault.ContTableFull) new = ⊥
 ReadsAt layouts old t a handle index (Err fault.Memory) new = FailsToRead layouts old t a handle index root_fault.Memory new

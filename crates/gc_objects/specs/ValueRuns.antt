@@ -112,6 +112,7 @@ RefusesValues s t handle fault.LengthMismatch = ⊥
 RefusesValues s t handle fault.NotI8Array = ⊥
 RefusesValues s t handle fault.RootsFull = (named : NamesObject s t handle) × (roots_left t < reference_count (object_values named.object))
 RefusesValues s t handle fault.FuncTableFull = ⊥
+RefusesValues s t handle fault.ContTableFull = ⊥
 RefusesValues s t handle fault.Memory =
     (named : NamesObject s t handle) × ((reference_count (object_values named.object) ≤ roots_left t) × (s.spare < reference_count (object_values named.object)))
 

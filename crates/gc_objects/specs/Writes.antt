@@ -1,12 +1,11 @@
 -- What calls that write a field or an element answer and leave.
-use Rattle.std.specs.Prelude.{◌≡◌, ◌⊎◌, ℕ, ◌&&◌, Bool, true, false, [], ◌∷◌, Option, Result, Ok, Err, Some, slice_get}
+use Rattle.std.specs.Prelude.{◌≡◌, ◌⊎◌, ℕ, ◌&&◌, Bool, true, false, [], ◌∷◌, Result, Ok, Err, Some, is_some, slice_get}
 use Rattle.gc_types.specs.declared.kind.Layouts.{Layouts}
 use Rattle.gc_types.specs.declared.value.FieldType.{FieldType}
-use Rattle.gc_types.specs.declared.value.Func.{Func}
 use Rattle.gc_types.specs.declared.value.Mutability.{Mutability}
 use Rattle.gc_types.specs.declared.value.Mutability.TheVariants.{Const, Var}
-use Rattle.gc_model.specs.Values.{at, Value, function, Object}
-use Rattle.gc_model.specs.Functions.{functions_of, functions_full}
+use Rattle.gc_model.specs.Values.{at, Value, Object}
+use Rattle.gc_model.specs.SideValues.{SideValues, side_values, functions_full, conts_full}
 use Rattle.gc_model.specs.Stored.{stored, value_type}
 use Rattle.gc_model.specs.Table.{Table, write}
 use Rattle.gc_model.specs.Stores.{StoreView}
@@ -52,27 +51,33 @@ pub record GoesThere {D : Type 0} (s : StoreView D) (t : Table D) (handle : GcRo
   pub value : Value
   pub goes : Goes s t (Some field) v value
 
--- no id is left for a value, which is a function that isn't interned yet
-abbrev pub lacks_id : {D : Type 0} → Table D → Value → Bool
-lacks_id t x = functions_full (functions_of (x ∷ [])) t.funcs
+-- no id is left for a value that isn't interned yet: for a function, or for a continuation
+abbrev pub lacks_id : {D : Type 0} → (SideValues → SideValues → Bool) → Table D → Value → Bool
+lacks_id full t x = full (side_values (x ∷ [])) t.interned
 
 -- the field or element has the value now, as its type keeps it
 pub record WritesAt {D : Type 0} (layouts : Layouts) (old : StoreView D) (t : Table D) (a : Account) (handle : GcRootIndex)
     (index : ℕ) (v : Val) (new : StoreView D) : Type 0 where
   pub there : GoesThere old t handle index v
-  pub has_id : lacks_id t there.value ≡ false
+  pub has_function_id : lacks_id functions_full t there.value ≡ false
+  pub has_cont_id : lacks_id conts_full t there.value ≡ false
   pub holds : HoldsAccount layouts new (write there.has.position index (stored there.field.element_type there.value) t) a
 
 -- no id is left for the value
-pub record LacksId {D : Type 0} (s : StoreView D) (t : Table D) (handle : GcRootIndex) (index : ℕ) (v : Val) : Type 0 where
+pub record LacksId {D : Type 0} (full : SideValues → SideValues → Bool) (s : StoreView D) (t : Table D) (handle : GcRootIndex) (index : ℕ) (v : Val) : Type 0 where
   pub there : GoesThere s t handle index v
-  pub lacks : lacks_id t there.value ≡ true
+  pub lacks : lacks_id full t there.value ≡ true
 
--- the value is a function, or none: for no other one memory is taken
+-- a value that gets an id where it is written: a function, or none, or a continuation
+abbrev pub takes_id : Val → Bool
+takes_id (val.FuncRef f) = true
+takes_id (val.ContRef c) = is_some c
+takes_id _ = false
+
+-- such a value goes there: for no other one memory is taken
 pub record TakesId {D : Type 0} (s : StoreView D) (t : Table D) (handle : GcRootIndex) (index : ℕ) (v : Val) : Type 0 where
   pub there : GoesThere s t handle index v
-  pub func : Option Func
-  pub value_is : there.value ≡ function func
+  pub takes : takes_id v ≡ true
 
 -- the value's root is gone, or it doesn't fit, where the field or element is mutable
 abbrev pub LosesValue : {D : Type 0} → StoreView D → Table D → GcRootIndex → ℕ → Val → Type 0
@@ -100,11 +105,12 @@ Sets Outside layouts old t a handle index v (Err fault.TypeMismatch) new = (are_
 Sets Outside layouts old t a handle index v (Err fault.LengthMismatch) new = ⊥
 Sets Outside layouts old t a handle index v (Err fault.NotI8Array) new = ⊥
 Sets Outside layouts old t a handle index v (Err fault.RootsFull) new = ⊥
-Sets Outside layouts old t a handle index v (Err fault.FuncTableFull) new = (are_own_both old handle v ≡ true) × LacksId old t handle index v
+Sets Outside layouts old t a handle index v (Err fault.FuncTableFull) new = (are_own_both old handle v ≡ true) × LacksId functions_full old t handle index v
+Sets Outside layouts old t a handle index v (Err fault.ContTableFull) new = (are_own_both old handle v ≡ true) × LacksId conts_full old t handle index v
 Sets Outside layouts old t a handle index v (Err fault.Memory) new = (are_own_both old handle v ≡ true) × TakesId old t handle index v
 
--- What the store answers to a write whose tests all passed, and leaves, by the faults of such a call: memory is wanted for a
--- function alone.
+-- What the store answers to a write whose tests all passed, and leaves, by the faults of such a call: memory is wanted for
+-- values that get ids alone.
 abbrev pub WritesAs : {D : Type 0} → Layouts → StoreView D → StoreView D → Table D → Account → GcRootIndex → ℕ → Val → Result (Unit {0}) AccessFault
     → Type 0
 WritesAs layouts old new t a handle index v (Ok done) = WritesValue layouts old new t a handle index (raw_of v) (Ok done)
@@ -117,7 +123,8 @@ WritesAs layouts old new t a handle index v (Err fault.LengthMismatch) = ⊥
 WritesAs layouts old new t a handle index v (Err fault.NotI8Array) = ⊥
 WritesAs layouts old new t a handle index v (Err fault.RootsFull) = ⊥
 WritesAs layouts old new t a handle index v (Err fault.FuncTableFull) = WritesValue layouts old new t a handle index (raw_of v) (Err write_fault.FuncTableFull)
-WritesAs layouts old new t a handle index v (Err fault.Memory) = (func : Option Func) × (v ≡ val.FuncRef func)
+WritesAs layouts old new t a handle index v (Err fault.ContTableFull) = WritesValue layouts old new t a handle index (raw_of v) (Err write_fault.ContTableFull)
+WritesAs layouts old new t a handle index v (Err fault.Memory) = takes_id v ≡ true
 
 abbrev pub SetsField : {D : Type 0} → Layouts → StoreView D → Table D → Account → GcRootIndex → ℕ → Val → Result (Unit {0}) AccessFault → StoreView D → Type 0
 SetsField layouts old t a handle index v result new = Sets (IsOutside old t handle index) layouts old t a handle index v result new

@@ -38,7 +38,7 @@ pub(crate) fn read<H: GcHeap, D: Drop>(
 }
 
 /// Writes a value that goes there into the object that a root names. `FuncTableFull` comes where no id is left for a function
-/// that is new to the store, and `Memory` for a function alone.
+/// that is new to the store, `ContTableFull` where none is left for a continuation, and `Memory` for these values alone.
 pub(crate) fn write<H: GcHeap, D: Drop>(
     store: &mut Store<H, D>,
     root: GcRootIndex,
@@ -55,6 +55,7 @@ pub(crate) fn write<H: GcHeap, D: Drop>(
     match store.write_value(root, index, raw_of(value)) {
         Ok(()) => Ok(()),
         Err(WriteFault::FuncTableFull) => Err(AccessFault::FuncTableFull),
+        Err(WriteFault::ContTableFull) => Err(AccessFault::ContTableFull),
         Err(WriteFault::Memory) => Err(AccessFault::Memory),
     }
 }

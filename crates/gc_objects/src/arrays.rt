@@ -187,7 +187,7 @@ impl ArrayRef {
     ///
     /// Refused are, in this order: `WrongStore` where the handle or that of the value is another store's;
     /// `Unrooted` where the array's is gone; `Immutable`; of the value `Unrooted`, then `TypeMismatch`;
-    /// `OutOfBounds`; and `FuncTableFull`.
+    /// `OutOfBounds`; and `FuncTableFull` and `ContTableFull`.
     pub fn set<H: GcHeap, D: Drop, R: RootedGcRef<ArrayRef>>(
         store: &mut Store<H, D>,
         this: &R,

@@ -25,6 +25,8 @@ pub enum AllocFault<T> {
     RootsFull,
     /// No ids are left for the functions among the values that are new to the store.
     FuncTableFull,
+    /// No ids are left for the continuations among the values that are new to the store.
+    ContTableFull,
     /// The heap has no room, and it was refused more.
     HeapOutOfMemory(GcHeapOutOfMemory<T>),
     /// Out of memory.
@@ -52,6 +54,8 @@ pub enum AccessFault {
     RootsFull,
     #[error("the function table is full")]
     FuncTableFull,
+    #[error("the continuation table is full")]
+    ContTableFull,
     #[error("out of memory")]
     Memory,
 }

@@ -2,7 +2,7 @@
 
 ghost use Rattle.std.specs.Prelude.{◌≡◌};
 ghost use Rattle.gc_types.specs.Subtyping.{supertypes_of};
-ghost use Rattle.gc_model.specs.Fits.{has_class, null_fits, matches, function_fits, fits_type};
+ghost use Rattle.gc_model.specs.Fits.{has_class, null_fits, matches, function_fits, cont_fits, fits_type};
 ghost use Rattle.gc_model.specs.Holds.{HoldsTable};
 ghost use Rattle.gc_model.specs.Table.{Table};
 ghost use Rattle.gc_model.specs.Values.{Value};
@@ -122,6 +122,16 @@ fn function_fits<H: GcHeap, D: Drop>(store: &Store<H, D>, ty: &RefType, func: &O
     }
 }
 
+/// Whether a continuation or none fits a type.
+fn cont_fits(ty: &RefType, cont: &Option<u64>) -> bool
+    ensures { result ≡ cont_fits ty.now cont.now }
+{
+    match cont {
+        Some(_) => matches!(ty.heap_type, HeapType::Cont),
+        None => ty.nullable && matches!(ty.heap_type.top(), HeapTopType::Cont),
+    }
+}
+
 /// Whether a value fits a type. Of a reference that isn't null its root has to be live.
 pub(crate) fn value_fits<H: GcHeap, D: Drop>(
     store: &Store<H, D>,
@@ -138,6 +148,10 @@ pub(crate) fn value_fits<H: GcHeap, D: Drop>(
         RawValue::V128(_) => matches!(ty, ValType::V128),
         RawValue::Func(func) => match ty {
             ValType::Ref(ty) => function_fits(store, ty, func),
+            _ => false,
+        },
+        RawValue::Cont(cont) => match ty {
+            ValType::Ref(ty) => cont_fits(ty, cont),
             _ => false,
         },
         RawValue::Ref(class, handle) => match ty {

@@ -10,7 +10,8 @@
 //! (`NamesKind`). Each call that gives a handle promises that it does; `cast` says only that the root is the
 //! same.
 //!
-//! A function among values, or none, is stored by an id of the store's own, which it keeps for good.
+//! A function among values, or none, and a continuation are stored by ids of the store's own, which it keeps
+//! for good; a continuation that is none has no id.
 //!
 //! All values of an object are read one by one, by an iterator to which the store is lent (`Values`).
 #![tactic(auto)]

@@ -38,6 +38,7 @@ fn handed<T: GcRef>(answer: Result<GcRootIndex, PlaceFault>) -> Result<Rooted<T>
     match answer {
         Ok(root) => Ok(Rooted::from_gc_root_index(root)),
         Err(PlaceFault::FuncTableFull) => Err(AllocFault::FuncTableFull),
+        Err(PlaceFault::ContTableFull) => Err(AllocFault::ContTableFull),
         Err(PlaceFault::TooLarge) => Err(AllocFault::TooLarge),
         Err(PlaceFault::RootsFull) => Err(AllocFault::RootsFull),
         Err(PlaceFault::HeapOutOfMemory(full)) => Err(AllocFault::HeapOutOfMemory(full)),

@@ -37,8 +37,9 @@ impl StructRef {
     /// Refused are, in this order: `WrongStore` where the allocator or a handle among the values is
     /// another store's; `FieldCount` where there aren't as many values as fields; of each value in turn
     /// `Unrooted` where its root is gone, then `TypeMismatch` where it doesn't fit its field; and then, as
-    /// `Store::place` tells, `FuncTableFull`, `TooLarge`, `RootsFull` and `HeapOutOfMemory`. `Memory` comes only
-    /// where all tests of values passed. The allocation goes by the store's policy of growth.
+    /// `Store::place` tells, `FuncTableFull`, `ContTableFull`, `TooLarge`, `RootsFull` and `HeapOutOfMemory`.
+    /// `Memory` comes only where all tests of values passed. The allocation goes by the store's policy of
+    /// growth.
     pub fn new<H: GcHeap, D: Drop, L: ResourceLimiter>(
         store: &mut Store<H, D>,
         limiter: &mut L,
@@ -107,8 +108,9 @@ impl StructRef {
     ///
     /// Refused are, in this order: `WrongStore` where the handle or that of the value is another store's;
     /// `Unrooted` where the struct's is gone; `OutOfBounds`; `Immutable`; of the value `Unrooted`, then
-    /// `TypeMismatch`; and `FuncTableFull` where no id is left for a function that is new to the store. A
-    /// refused write changes nothing. It takes memory for a function alone.
+    /// `TypeMismatch`; and `FuncTableFull` and `ContTableFull` where no id is left for a function or a
+    /// continuation that is new to the store. A refused write changes nothing. It takes memory for these
+    /// values alone.
     pub fn set_field<H: GcHeap, D: Drop, R: RootedGcRef<StructRef>>(
         store: &mut Store<H, D>,
         this: &R,

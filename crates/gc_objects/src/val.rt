@@ -24,6 +24,8 @@ pub enum Val {
     V128(V128),
     /// A function, or none.
     FuncRef(Option<Func>),
+    /// A continuation, which is a number of the embedder's, or none.
+    ContRef(Option<u64>),
     ExternRef(Option<Rooted<ExternRef>>),
     AnyRef(Option<Rooted<AnyRef>>),
     ExnRef(Option<Rooted<ExnRef>>),
@@ -50,6 +52,7 @@ pub(crate) fn raw_of(value: &Val) -> RawValue
         Val::F64(bits) => RawValue::F64(*bits),
         Val::V128(bits) => RawValue::V128(*bits),
         Val::FuncRef(func) => RawValue::Func(*func),
+        Val::ContRef(cont) => RawValue::Cont(*cont),
         Val::ExternRef(handle) => RawValue::Ref(GcClass::Extern, root_of(handle)),
         Val::AnyRef(handle) => RawValue::Ref(GcClass::Any, root_of(handle)),
         Val::ExnRef(handle) => RawValue::Ref(GcClass::Exn, root_of(handle)),
@@ -88,6 +91,7 @@ pub(crate) fn val_of(value: &RawValue) -> Val
         RawValue::F64(bits) => Val::F64(*bits),
         RawValue::V128(bits) => Val::V128(*bits),
         RawValue::Func(func) => Val::FuncRef(*func),
+        RawValue::Cont(cont) => Val::ContRef(*cont),
         RawValue::Ref(class, root) => reference_of(*class, *root),
     }
 }
@@ -95,8 +99,9 @@ pub(crate) fn val_of(value: &RawValue) -> Val
 impl Val {
     /// Whether the value fits a type, as the store's types and objects say: `WrongStore` where its handle
     /// is another store's, `Unrooted` where it isn't live. A number fits its own type, null a nullable type
-    /// of its class, a reference what its object's type matches, a function what its own type matches, and
-    /// none a nullable type of functions. It changes nothing.
+    /// of its class, a reference what its object's type matches, a function what its own type matches, a
+    /// continuation the type of all continuations, and none a nullable type of functions or of
+    /// continuations. It changes nothing.
     pub fn matches_ty<H: GcHeap, D: Drop>(
         &self,
         store: &Store<H, D>,

@@ -8,6 +8,7 @@ use Rattle.gc_model.specs.Stores.{StoreView}
 use Rattle.gc_model.specs.Holds.{Placing, Holds, IsWord}
 use Rattle.gc_policy.specs.Accounts.{Account}
 use Rattle.gc_store.specs.declared.root.RootFault.{RootFault}
+use Rattle.gc_store.specs.declared.root.RootFault.TheVariants as fault
 use Rattle.gc_store.specs.declared.owned_rooted.OwnedRooted.{OwnedRooted}
 use Rattle.gc_store.specs.OwnedWords.{HoldsThere}
 use Rattle.gc_store.specs.RawWords.{PushesWord, OwnsReference}
@@ -70,3 +71,9 @@ abbrev pub KeepsRoom : {D : Type 0} → Manner → StoreView D → StoreView D �
 KeepsRoom by_number old new = old.spare ≤ new.spare
 KeepsRoom scoped old new = scoped_places old ≤ scoped_places new
 KeepsRoom owned old new = old.spare ≤ new.spare
+
+-- A number wants no memory; nor does a scoped root where there is room for one.
+abbrev pub WantsNoMemory : {D A : Type 0} → Manner → StoreView D → Result A RootFault → Type 0
+WantsNoMemory by_number old result = result ≡ Err fault.Memory → ⊥
+WantsNoMemory scoped old result = 0 < old.spare → result ≡ Err fault.Memory → ⊥
+WantsNoMemory owned old result = Unit {0}

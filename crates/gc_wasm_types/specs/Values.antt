@@ -106,6 +106,7 @@ ChecksReference s t class v ty (Err fault.LengthMismatch) = ⊥
 ChecksReference s t class v ty (Err fault.NotI8Array) = ⊥
 ChecksReference s t class v ty (Err fault.RootsFull) = ⊥
 ChecksReference s t class v ty (Err fault.FuncTableFull) = ⊥
+ChecksReference s t class v ty (Err fault.ContTableFull) = ⊥
 ChecksReference s t class v ty (Err fault.Memory) = ⊥
 
 -- What the check of a value against a type answers: whether it fits; a 31-bit number by itself is refused by every type.

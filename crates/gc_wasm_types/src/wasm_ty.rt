@@ -16,7 +16,7 @@ pub trait WasmTy {
     ghost use Rattle.gc_policy.specs.Accounts.{Account};
     ghost use Rattle.gc_store.specs.OwnedWords.{HoldsThere};
     ghost use Rattle.gc_store.specs.Stores.{IsSameStore};
-    ghost use Rattle.gc_wasm_types.specs.Loads.{CanLoad, LoadsValue, RefusesLoad, ValueIsOf, KeepsRoom};
+    ghost use Rattle.gc_wasm_types.specs.Loads.{CanLoad, LoadsValue, RefusesLoad, ValueIsOf, KeepsRoom, WantsNoMemory};
     ghost use Rattle.gc_wasm_types.specs.Values.{WasmValue, WasmForm, named, is_own, reference_type, ChecksType, raw_word, StoresWord};
 
     /// Null, the number, or the root that it names.
@@ -62,8 +62,9 @@ pub trait WasmTy {
         ensures rest { store.new ≡ store.old };
 
     /// The reference with the word that is kept, with a new root of its own; none is made for null and for an `I31`.
-    /// `RootsFull` where no further one may be made. The word has to be that of a reference which the
-    /// type takes, as `store` wrote it and the heap still has it, and is 0 only for an `Option`.
+    /// `RootsFull` where no further one may be made; with room reserved for it a scoped one wants no memory. The word has
+    /// to be that of a reference which the type takes, as `store` wrote it and the heap still has it, and is 0 only for
+    /// an `Option`.
     fn load<H: GcHeap, D: Drop>(store: &mut Store<H, D>, from: &ValRaw) -> Result<Self, RootFault>
         requires { CanLoad D H.KIND store.old FORM.kind FORM.ty.nullable (raw_word from.now) }
         ensures loads { (t : Table D) (place : Placing) (a : Account) (r : Reference) → HoldsThere H.KIND store.old t place a
@@ -72,5 +73,6 @@ pub trait WasmTy {
             (λ why. RefusesLoad FORM.manner H.KIND t place a r why store.new) }
         ensures kind { IfOk result (λ v. ValueIsOf D H.KIND store.new FORM.kind (value v)) }
         ensures same { IsSameStore store.old store.new }
-        ensures room { KeepsRoom FORM.manner store.old store.new };
+        ensures room { KeepsRoom FORM.manner store.old store.new }
+        ensures reserved { WantsNoMemory FORM.manner store.old result };
 }

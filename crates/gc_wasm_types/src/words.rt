@@ -1,6 +1,6 @@
 //! References as raw words.
 
-ghost use Rattle.std.specs.Prelude.{◌≡◌, ◌↔◌, ◌≤◌, IfOk, IfSome, OnErr, OnOk, Bool, option_map, None};
+ghost use Rattle.std.specs.Prelude.{◌≡◌, ◌↔◌, ◌<◌, ◌≤◌, IfOk, IfSome, OnErr, OnOk, Bool, option_map, None};
 ghost use Rattle.gc_types.specs.declared.kind.VMGcKind.{VMGcKind};
 ghost use Rattle.gc_model.specs.Holds.{Holds, Placing, IsWord};
 ghost use Rattle.gc_model.specs.Table.{Table};
@@ -59,6 +59,7 @@ pub(crate) fn load_scoped<H: GcHeap, D: Drop, T: GcRef>(
     ensures kind { IfOk result (λ found. IfSome found (λ handle. NamesKind D H.KIND store.new T.KIND handle.index)) }
     ensures same { IsSameStore store.old store.new }
     ensures spare { scoped_places store.old ≤ scoped_places store.new }
+    ensures reserved { 0 < store.old.spare → result ≡ Err RootFault.Memory → ⊥ }
 {
     match store.push_word(from.get_anyref()) {
         Ok(Some(root)) => Ok(Some(Rooted::from_gc_root_index(root))),

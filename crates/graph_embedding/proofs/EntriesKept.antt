@@ -5,7 +5,7 @@ use Rattle.std.proofs.lemmas.Bool.{cases_eq}
 use Rattle.std.proofs.lemmas.List.Elements.{Contains-append_left}
 use Rattle.gc_types.specs.declared.kind.Layouts.{Layouts}
 use Rattle.gc_types.specs.declared.kind.VMGcKind.TheVariants as kinds
-use Rattle.gc_model.specs.Values.{Reference, null, small, at, Value, numeric, function, reference, Object, struct, array, host, exception}
+use Rattle.gc_model.specs.Values.{Reference, null, small, at, Value, numeric, function, continuation, reference, Object, struct, array, host, exception}
 use Rattle.gc_model.specs.Reach.{object_values}
 use Rattle.gc_model.specs.Reads.{after_read}
 use Rattle.gc_model.specs.Table.{Table, Owned, push, make, with_pages, make_heap, leave, write, with_value, change_at}
@@ -132,6 +132,7 @@ keeps_pushed t r = record { owned = λ n q e. e; keys = λ p key has. has }
 pub keeps_read : (t : Table ℕ) (x : Value) → KeepsTable t (after_read x t)
 keeps_read t (numeric kind n) = keeps_itself t
 keeps_read t (function f) = keeps_itself t
+keeps_read t (continuation cont) = keeps_itself t
 keeps_read t (reference class null) = keeps_itself t
 keeps_read t (reference class (small n)) = keeps_pushed t (small n)
 keeps_read t (reference class (at p)) = keeps_pushed t (at p)

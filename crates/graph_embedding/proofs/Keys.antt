@@ -47,6 +47,7 @@ key_given (val.F32 n) key is = absurd (cc is)
 key_given (val.F64 n) key is = absurd (cc is)
 key_given (val.V128 n) key is = absurd (cc is)
 key_given (val.FuncRef f) key is = absurd (cc is)
+key_given (val.ContRef cont) key is = absurd (cc is)
 key_given (val.ExternRef handle) key is = absurd (cc is)
 key_given (val.AnyRef handle) key is = absurd (cc is)
 key_given (val.ExnRef handle) key is = absurd (cc is)
@@ -91,6 +92,7 @@ module _ (layouts : Layouts) (old new : StoreView ℕ) (handle : GcRootIndex) (k
   not_refused a access.NotI8Array never = never
   not_refused a access.RootsFull fails = no_root fails.0 fails.1.0 fails.1.1.0
   not_refused a access.FuncTableFull never = never
+  not_refused a access.ContTableFull never = never
   not_refused a access.Memory fails = no_root fails.0 fails.1.0 fails.1.1.0
 
   pub never_refused : (why : AccessFault) → ((u : Table ℕ) (a : Account) → HoldsAccount layouts old u a → ReadsAt layouts old u a handle 0 (Err why) new) → ⊥

@@ -58,6 +58,7 @@ module _ (layouts : Layouts) (new : StoreView ℕ) (t : Table ℕ) (a : Account)
   making_kept causes asks (Err fault.Unrooted) makes = refused makes.1
   making_kept causes asks (Err fault.TypeMismatch) makes = refused makes.1
   making_kept causes asks (Err fault.FuncTableFull) makes = refused makes.1.1.1
+  making_kept causes asks (Err fault.ContTableFull) makes = refused makes.1.1.1
   making_kept causes asks (Err fault.TooLarge) makes = refused makes.1.1.refuses
   making_kept causes asks (Err fault.RootsFull) makes = refused makes.1.1.2
   making_kept causes asks (Err (fault.HeapOutOfMemory f)) makes = let lacks = makes.1.1 in lacking limits.limit a.places makes.0 lacks.after.table lacks.after.account lacks.holds lacks.lacks

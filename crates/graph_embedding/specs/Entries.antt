@@ -26,6 +26,7 @@ key_in (val.F32 n) = pos 0
 key_in (val.F64 n) = pos 0
 key_in (val.V128 n) = pos 0
 key_in (val.FuncRef f) = pos 0
+key_in (val.ContRef c) = pos 0
 key_in (val.ExternRef handle) = pos 0
 key_in (val.AnyRef handle) = pos 0
 key_in (val.ExnRef handle) = pos 0

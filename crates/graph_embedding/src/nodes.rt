@@ -144,6 +144,7 @@ fn key_in(value: &Val) -> i64
         Val::F64(_) => 0,
         Val::V128(_) => 0,
         Val::FuncRef(_) => 0,
+        Val::ContRef(_) => 0,
         Val::ExternRef(_) => 0,
         Val::AnyRef(_) => 0,
         Val::ExnRef(_) => 0,

@@ -1,5 +1,5 @@
 use Rattle.std.proofs.Common.{sym, ◌∙◌, arith}
-use Rattle.gc_objects.proofs.FewFields.{few_indexes}
+use Rattle.gc_types.proofs.FewFields.{few_indexes}
 use Rattle.gc_objects.proofs.places.field_of.Goals as goal
 
 pub overflow_cast-result : goal.overflow_cast-result
