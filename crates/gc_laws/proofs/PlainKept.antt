@@ -7,7 +7,7 @@ use Rattle.gc_types.specs.declared.value.FieldType.{FieldType}
 use Rattle.gc_types.specs.declared.value.StorageType.{StorageType}
 use Rattle.gc_types.specs.declared.value.StorageType.TheVariants as storage
 use Rattle.gc_owner.specs.declared.entry.GcClass.TheVariants as class
-use Rattle.gc_model.specs.Values.{Reference, null, small, at, Value, numeric, i32, i64, f32, f64, v128, function, Object}
+use Rattle.gc_model.specs.Values.{Reference, null, small, at, Value, numeric, i32, i64, f32, f64, v128, function, continuation, Object}
 use Rattle.gc_model.specs.Values as values
 use Rattle.gc_model.specs.Table.{Table, Slot, Owned, empty_slot, push, write, with_value}
 use Rattle.gc_model.specs.Reach.{present, IsReached}
@@ -86,6 +86,8 @@ reads_kept s t (numeric kind n) into rooted sound known =
     kept_rooted s (reads (numeric kind n) into t).1 rooted (sound_put (length s.table.pushes) (length t.table.pushes) rooted.pushes t.registers sound into (Some (number (numeric kind n))) refl)
 reads_kept s t (function f) into rooted sound known =
     kept_rooted s (reads (function f) into t).1 rooted (sound_put (length s.table.pushes) (length t.table.pushes) rooted.pushes t.registers sound into None tt)
+reads_kept s t (continuation cont) into rooted sound known =
+    kept_rooted s (reads (continuation cont) into t).1 rooted (sound_put (length s.table.pushes) (length t.table.pushes) rooted.pushes t.registers sound into None tt)
 reads_kept s t (values.reference c null) into rooted sound known =
     kept_rooted s (reads (values.reference c null) into t).1 rooted (sound_put (length s.table.pushes) (length t.table.pushes) rooted.pushes t.registers sound into (Some (reference c None)) tt)
 reads_kept s t (values.reference c (small n)) into rooted sound known =
@@ -100,6 +102,7 @@ reads_kept s t (values.reference c (at p)) into rooted sound known =
 slot_known : (t : Table ℕ) (v : Value) → KnownValue t v → Known t (slot_of v).reference
 slot_known t (numeric kind n) known = known_null t
 slot_known t (function f) known = known_null t
+slot_known t (continuation cont) known = known_null t
 slot_known t (values.reference c r) known = All-head (Known t) r [] known
 
 pending_known : (t : Table ℕ) (pending : Option Reference) → All (Known t) (present pending) → KnownValue t (pending_value pending)

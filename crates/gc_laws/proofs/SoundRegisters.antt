@@ -4,7 +4,7 @@ use Rattle.std.specs.List.{All, slice_get}
 use Rattle.std.proofs.lemmas.List.Elements.{All-nil, All-cons, All-head, All-same}
 use Rattle.gc_owner.specs.declared.entry.GcClass.{GcClass}
 use Rattle.gc_owner.specs.declared.entry.GcClass.TheVariants as class
-use Rattle.gc_model.specs.Values.{Reference, null, small, at, Value, numeric, function, Object}
+use Rattle.gc_model.specs.Values.{Reference, null, small, at, Value, numeric, function, continuation, Object}
 use Rattle.gc_model.specs.Values as values
 use Rattle.gc_model.specs.Table.{Table}
 use Rattle.gc_model.specs.Reach.{value_references, IsReached}
@@ -80,6 +80,7 @@ module _ (t : Table ℕ) where
   target_known : (v : Value) → KnownValue t v → KnownTarget (target_among t.objects (value_named v))
   target_known (numeric kind n) known = tt
   target_known (function f) known = tt
+  target_known (continuation cont) known = tt
   target_known (values.reference c null) known = tt
   target_known (values.reference c (small n)) known = tt
   target_known (values.reference c (at p)) known = object_target_known p (slice_get t.objects p) (All-head (Known t) (at p) [] known p refl) refl

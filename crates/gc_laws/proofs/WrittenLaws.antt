@@ -7,7 +7,7 @@ use Rattle.std.proofs.lemmas.Bool.Decides.{nat_tests}
 use Rattle.std.proofs.lemmas.Option.{none-some, slice_get_cases}
 use Rattle.gc_types.specs.declared.kind.Layouts.{Layouts}
 use Rattle.gc_owner.specs.declared.entry.GcClass.{GcClass}
-use Rattle.gc_model.specs.Values.{null, small, at, Value, numeric, function, reference, Object, struct, array, host, exception}
+use Rattle.gc_model.specs.Values.{null, small, at, Value, numeric, function, continuation, reference, Object, struct, array, host, exception}
 use Rattle.gc_model.specs.Table.{Table, change_at, with_value}
 use Rattle.gc_model.specs.Reach.{object_values}
 use Rattle.gc_model.specs.Allocation as allocation
@@ -41,6 +41,7 @@ object_stands t p (Some o) e = e
 value_stands : (t : Table ℕ) (v : Value) → StandsAt t (target_among t.objects (value_named v))
 value_stands t (numeric kind n) = tt
 value_stands t (function f) = tt
+value_stands t (continuation cont) = tt
 value_stands t (reference c null) = tt
 value_stands t (reference c (small n)) = tt
 value_stands t (reference c (at p)) = object_stands t p (slice_get t.objects p) refl
@@ -160,6 +161,7 @@ written_is layouts limit s s' c p i v step writes = absurd writes
 read_objects : (t : State) (v : Value) (into : Option ℕ) → (reads v into t).1.table.objects ≡ t.table.objects
 read_objects t (numeric kind n) into = refl
 read_objects t (function f) into = refl
+read_objects t (continuation cont) into = refl
 read_objects t (reference c null) into = refl
 read_objects t (reference c (small n)) into = refl
 read_objects t (reference c (at p)) into = refl

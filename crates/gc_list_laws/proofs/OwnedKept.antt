@@ -6,7 +6,7 @@ use Rattle.std.proofs.lemmas.List.Elements.{Contains-push_cases}
 use Rattle.gc_types.specs.declared.kind.Layouts.{Layouts}
 use Rattle.gc_types.specs.Declarations.{Declaration}
 use Rattle.gc_owner.specs.declared.entry.GcClass.{GcClass}
-use Rattle.gc_model.specs.Values.{Reference, null, small, at, Value, numeric, function, Object}
+use Rattle.gc_model.specs.Values.{Reference, null, small, at, Value, numeric, function, continuation, Object}
 use Rattle.gc_model.specs.Values as values
 use Rattle.gc_model.specs.Table.{Table, Owned, make, with_pages, declare, make_heap}
 use Rattle.gc_model.specs.Holds.{HoldsTable}
@@ -103,6 +103,7 @@ owns_owned t r held = record {
 read_owned : (t : Table ℕ) (v : Value) → KeepsOwned t (after_read v t)
 read_owned t (numeric kind n) = stay_owned t t refl refl
 read_owned t (function f) = stay_owned t t refl refl
+read_owned t (continuation cont) = stay_owned t t refl refl
 read_owned t (values.reference c null) = stay_owned t t refl refl
 read_owned t (values.reference c (small n)) = stay_owned t (after_read (values.reference c (small n)) t) refl refl
 read_owned t (values.reference c (at p)) = stay_owned t (after_read (values.reference c (at p)) t) refl refl

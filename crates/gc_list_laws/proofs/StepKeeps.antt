@@ -6,7 +6,7 @@ use Rattle.std.proofs.lemmas.List.{append-nil}
 use Rattle.gc_types.specs.declared.kind.Layouts.{Layouts}
 use Rattle.gc_types.specs.Declarations.{Declaration, declaration_struct_fields}
 use Rattle.gc_owner.specs.declared.entry.GcClass.{GcClass}
-use Rattle.gc_model.specs.Values.{Reference, null, small, at, Value, numeric, function, Object}
+use Rattle.gc_model.specs.Values.{Reference, null, small, at, Value, numeric, function, continuation, Object}
 use Rattle.gc_model.specs.Values as values
 use Rattle.gc_model.specs.Table.{Table, make, with_pages, with_value, write, change_at}
 use Rattle.gc_model.specs.Reads.{after_read}
@@ -47,6 +47,7 @@ keeps_twice t u v first second = record {
 read_keeps : (t : Table ℕ) (v : Value) → KeepsConstants t (after_read v t)
 read_keeps t (numeric kind n) = keeps_same t t refl refl
 read_keeps t (function f) = keeps_same t t refl refl
+read_keeps t (continuation cont) = keeps_same t t refl refl
 read_keeps t (values.reference c null) = keeps_same t t refl refl
 read_keeps t (values.reference c (small n)) = keeps_same t (after_read (values.reference c (small n)) t) refl refl
 read_keeps t (values.reference c (at p)) = keeps_same t (after_read (values.reference c (at p)) t) refl refl

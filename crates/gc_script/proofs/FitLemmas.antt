@@ -1,11 +1,13 @@
 -- Which values fit a type, by what a store says of their roots.
-use Rattle.std.proofs.Common.{◌≡◌, ℕ, List, Bool, Option, Some, None, refl, sym, ap, ◌∙◌}
+use Rattle.std.proofs.Common.{◌≡◌, ℕ, List, Bool, false, Option, Some, None, refl, sym, ap, ◌∙◌}
+use Rattle.std.proofs.lemmas.Option.{none-some}
 use Rattle.std.specs.List.{slice_get}
 use Rattle.gc_types.specs.declared.value.HeapType.{HeapType}
 use Rattle.gc_types.specs.declared.value.HeapType.TheVariants as heap
 use Rattle.gc_types.specs.declared.value.RefType.{RefType}
 use Rattle.gc_types.specs.declared.value.StorageType.{StorageType}
 use Rattle.gc_types.specs.declared.value.StorageType.TheVariants as storage
+use Rattle.gc_types.specs.declared.value.ValType.{ValType}
 use Rattle.gc_types.specs.declared.value.ValType.TheVariants as val
 use Rattle.gc_types.specs.Declarations.{Declaration}
 use Rattle.gc_types.specs.Subtyping.{supertypes_of}
@@ -15,9 +17,14 @@ use Rattle.gc_owner.specs.declared.entry.GcClass.TheVariants.{Any, Extern, Exn}
 use Rattle.gc_model.specs.Values.{Reference, null, small, at, Value, reference, Object, struct, array, host, exception}
 use Rattle.gc_model.specs.Table.{Table}
 use Rattle.gc_model.specs.Fits.{matches, is_extern, fits_type, reference_fits, object_fits_any, object_fits_extern, object_fits_exn, fits}
+use Rattle.gc_model.specs.Stores.{StoreView}
+use Rattle.gc_store.specs.declared.root.RawValue.{RawValue}
+use Rattle.gc_store.specs.declared.root.RawValue.TheVariants as raw
 use Rattle.gc_store.specs.declared.root.RootedObject.{RootedObject}
 use Rattle.gc_store.specs.Roots.{IsReference, IsObject}
-use Rattle.gc_script.specs.OwnTypes.{own_type, own_fits}
+use Rattle.gc_store.specs.Values.{RawStands}
+use Rattle.gc_script.specs.OwnTypes.{own_type, own_fits, number_fits}
+use Rattle.gc_script.specs.Values.{is_opaque, raw_slot}
 
 -- extern matches extern alone
 extern_matches : (supers : List (Option ℕ)) (ty : HeapType) → is_extern ty ≡ matches supers heap.Extern ty
@@ -88,3 +95,40 @@ pub fits_unpacked : (types : List Declaration) (objects : List (Object ℕ)) (ty
 fits_unpacked types objects storage.I8 v = refl
 fits_unpacked types objects storage.I16 v = refl
 fits_unpacked types objects (storage.ValType ty) v = refl
+
+-- a value that is neither a reference nor opaque is a number, which fits its own type
+module _ (s : StoreView ℕ) (t : Table ℕ) where
+  pub numbers_fit : (ty : ValType) (r : RawValue) (v : Value) → raw_slot r ≡ None → is_opaque r ≡ false → RawStands s t r v → number_fits ty r ≡ fits_type t.types t.objects ty v
+  numbers_fit val.I32 (raw.I32 n) v none plain stands = sym (ap (fits_type t.types t.objects val.I32) stands)
+  numbers_fit val.I64 (raw.I32 n) v none plain stands = sym (ap (fits_type t.types t.objects val.I64) stands)
+  numbers_fit val.F32 (raw.I32 n) v none plain stands = sym (ap (fits_type t.types t.objects val.F32) stands)
+  numbers_fit val.F64 (raw.I32 n) v none plain stands = sym (ap (fits_type t.types t.objects val.F64) stands)
+  numbers_fit val.V128 (raw.I32 n) v none plain stands = sym (ap (fits_type t.types t.objects val.V128) stands)
+  numbers_fit (val.Ref ref) (raw.I32 n) v none plain stands = sym (ap (fits_type t.types t.objects (val.Ref ref)) stands)
+  numbers_fit val.I32 (raw.I64 n) v none plain stands = sym (ap (fits_type t.types t.objects val.I32) stands)
+  numbers_fit val.I64 (raw.I64 n) v none plain stands = sym (ap (fits_type t.types t.objects val.I64) stands)
+  numbers_fit val.F32 (raw.I64 n) v none plain stands = sym (ap (fits_type t.types t.objects val.F32) stands)
+  numbers_fit val.F64 (raw.I64 n) v none plain stands = sym (ap (fits_type t.types t.objects val.F64) stands)
+  numbers_fit val.V128 (raw.I64 n) v none plain stands = sym (ap (fits_type t.types t.objects val.V128) stands)
+  numbers_fit (val.Ref ref) (raw.I64 n) v none plain stands = sym (ap (fits_type t.types t.objects (val.Ref ref)) stands)
+  numbers_fit val.I32 (raw.F32 n) v none plain stands = sym (ap (fits_type t.types t.objects val.I32) stands)
+  numbers_fit val.I64 (raw.F32 n) v none plain stands = sym (ap (fits_type t.types t.objects val.I64) stands)
+  numbers_fit val.F32 (raw.F32 n) v none plain stands = sym (ap (fits_type t.types t.objects val.F32) stands)
+  numbers_fit val.F64 (raw.F32 n) v none plain stands = sym (ap (fits_type t.types t.objects val.F64) stands)
+  numbers_fit val.V128 (raw.F32 n) v none plain stands = sym (ap (fits_type t.types t.objects val.V128) stands)
+  numbers_fit (val.Ref ref) (raw.F32 n) v none plain stands = sym (ap (fits_type t.types t.objects (val.Ref ref)) stands)
+  numbers_fit val.I32 (raw.F64 n) v none plain stands = sym (ap (fits_type t.types t.objects val.I32) stands)
+  numbers_fit val.I64 (raw.F64 n) v none plain stands = sym (ap (fits_type t.types t.objects val.I64) stands)
+  numbers_fit val.F32 (raw.F64 n) v none plain stands = sym (ap (fits_type t.types t.objects val.F32) stands)
+  numbers_fit val.F64 (raw.F64 n) v none plain stands = sym (ap (fits_type t.types t.objects val.F64) stands)
+  numbers_fit val.V128 (raw.F64 n) v none plain stands = sym (ap (fits_type t.types t.objects val.V128) stands)
+  numbers_fit (val.Ref ref) (raw.F64 n) v none plain stands = sym (ap (fits_type t.types t.objects (val.Ref ref)) stands)
+  numbers_fit val.I32 (raw.V128 n) v none plain stands = sym (ap (fits_type t.types t.objects val.I32) stands)
+  numbers_fit val.I64 (raw.V128 n) v none plain stands = sym (ap (fits_type t.types t.objects val.I64) stands)
+  numbers_fit val.F32 (raw.V128 n) v none plain stands = sym (ap (fits_type t.types t.objects val.F32) stands)
+  numbers_fit val.F64 (raw.V128 n) v none plain stands = sym (ap (fits_type t.types t.objects val.F64) stands)
+  numbers_fit val.V128 (raw.V128 n) v none plain stands = sym (ap (fits_type t.types t.objects val.V128) stands)
+  numbers_fit (val.Ref ref) (raw.V128 n) v none plain stands = sym (ap (fits_type t.types t.objects (val.Ref ref)) stands)
+  numbers_fit ty (raw.Func f) v none plain stands = absurd (cc plain)
+  numbers_fit ty (raw.Cont cont) v none plain stands = absurd (cc plain)
+  numbers_fit ty (raw.Ref c h) v none plain stands = absurd (none-some (c, h) (sym none))

@@ -46,6 +46,7 @@ names_root s t (raw.F32 n) v handle e stands = absurd (none-some handle e)
 names_root s t (raw.F64 n) v handle e stands = absurd (none-some handle e)
 names_root s t (raw.V128 n) v handle e stands = absurd (none-some handle e)
 names_root s t (raw.Func f) v handle e stands = absurd (none-some handle e)
+names_root s t (raw.Cont cont) v handle e stands = absurd (none-some handle e)
 names_root s t (raw.Ref class None) v handle e stands = absurd (none-some handle e)
 names_root s t (raw.Ref class (Some h)) v handle e stands =
     let same : h ≡ handle = grind (arith, e) in
@@ -64,6 +65,7 @@ plain_unnamed s t (raw.F32 n) v e stands = ap value_named stands
 plain_unnamed s t (raw.F64 n) v e stands = ap value_named stands
 plain_unnamed s t (raw.V128 n) v e stands = ap value_named stands
 plain_unnamed s t (raw.Func f) v e stands = ap value_named stands
+plain_unnamed s t (raw.Cont cont) v e stands = ap value_named stands
 plain_unnamed s t (raw.Ref class None) v e stands = ap value_named stands
 plain_unnamed s t (raw.Ref class (Some handle)) v e stands = absurd (none-some handle (sym e))
 

@@ -1,4 +1,3 @@
-pub mod FewFields
 pub mod AskLemmas
 pub mod CheckLemmas
 pub mod CollectionLemmas

@@ -20,18 +20,23 @@ use Rattle.gc_commands.specs.declared.command.Operand.{Operand}
 use Rattle.gc_commands.specs.declared.reply.Reply.{Reply}
 use Rattle.gc_commands.specs.declared.reply.Refusal.{Refusal}
 use Rattle.gc_commands.specs.declared.reply.Refusal.TheVariants as refusal
+use Rattle.gc_model.specs.Table.{Table}
 use Rattle.gc_script.specs.declared.runner.RunError.{RunError}
 use Rattle.gc_script.specs.declared.objects.ValueTypes.TheVariants as types_of
 use Rattle.gc_script.specs.Slots.{RunnerView}
 use Rattle.gc_script.specs.State.{State, Stands}
 use Rattle.gc_script.specs.Given.{held_operand, given, is_unset, holds_bytes}
-use Rattle.gc_script.specs.Steps.{tests, first_failing, any_unset, field_count, value_tests, all_value_tests, element_tests, heap_tests}
+use Rattle.gc_script.specs.Steps.{tests, first_failing, any_unset, count_in, value_tests, all_value_tests, element_tests, heap_tests}
 use Rattle.gc_script.specs.Shapes.{shape, new_struct, new_array, new_fixed, new_bytes}
 use Rattle.gc_script.specs.Run.{WantsAfter, RunsOn, RunsOne}
 use Rattle.gc_script.specs.Named.{type_at}
 use Rattle.gc_script.specs.Values.{AllHeld, typed_tests}
 use Rattle.gc_script.proofs.TestLemmas.{passes, stops, passes_all, stops_all, answers_by, follows_by}
 use Rattle.gc_script.proofs.WriteLemmas.{is_set}
+
+-- how many fields the struct type has; 0 where it isn't declared
+abbrev field_count : Table ℕ → ℕ → ℕ
+field_count t ty = count_in (struct_fields_at t.types ty)
 
 -- a command whose first tests passed runs as the rest of its tests say
 pub runs_rest : (layouts : Layouts) (counter : Option ℕ) (limits limits' : Limits) (s : State) (c : Command) (left : List (Bool × Refusal)) (result : Result Reply RunError) (new : StoreView ℕ) (runner : RunnerView)

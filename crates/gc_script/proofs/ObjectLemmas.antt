@@ -92,17 +92,17 @@ no_host wanted.WithFields v = refl
 
 module _ (layouts : Layouts) (store : StoreView ℕ) (t : Table ℕ) (holds : HoldsTable layouts store t) (root : GcRootIndex) where
   -- what stands in the heap for an object that a root names
-  pub held_object : (p : ℕ) (o : Object ℕ) → NamesReference store t root (at p) → slice_get t.objects p ≡ Some o → (h : HeapObject) × Stands layouts t.types (naming holds.0 store.funcs) o h
+  pub held_object : (p : ℕ) (o : Object ℕ) → NamesReference store t root (at p) → slice_get t.objects p ≡ Some o → (h : HeapObject) × Stands layouts t.types (naming holds.0 store.ids) o h
   held_object p o named object_is =
       let word = named_held layouts store t holds.0 holds.1 root (at p) named in
       let held = holds.1.objects.placed p word.0 word.1.0 in
       (held.object, object_held layouts store t holds.0 holds.1 p word.0 o held.object word.1.0 held.in_heap object_is)
 
   -- the shape of its type
-  by_shape : (p : ℕ) (o : Object ℕ) → ¬ IsHost (Some o) → NamesReference store t root (at p) → slice_get t.objects p ≡ Some o → (h : HeapObject) × StandsByShape layouts t.types (naming holds.0 store.funcs) o h
+  by_shape : (p : ℕ) (o : Object ℕ) → ¬ IsHost (Some o) → NamesReference store t root (at p) → slice_get t.objects p ≡ Some o → (h : HeapObject) × StandsByShape layouts t.types (naming holds.0 store.ids) o h
   by_shape p o not_host named object_is =
       let held = held_object p o named object_is in
-      (held.0, stands_by_shape layouts t.types (naming holds.0 store.funcs) o held.0 not_host held.1)
+      (held.0, stands_by_shape layouts t.types (naming holds.0 store.ids) o held.0 not_host held.1)
 
   module _ (kind : Wanted) (p : ℕ) (named : NamesReference store t root (at p)) where
     tells_struct : (ty : ℕ) (vs : List Value) → slice_get t.objects p ≡ Some (struct ty vs) → wants kind (struct ty vs) ≡ true → TellsObject store t kind (at p) (Some (with_fields t.types root ty))

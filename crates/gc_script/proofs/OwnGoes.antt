@@ -8,7 +8,7 @@ use Rattle.std.proofs.lemmas.List.Elements.{Contains-append_left, Contains-appen
 use Rattle.std.proofs.lemmas.Option.{none-some, same_Some, slice_get_within}
 use Rattle.gc_types.specs.declared.kind.Layouts.{Layouts}
 use Rattle.gc_owner.specs.declared.entry.GcClass.{GcClass}
-use Rattle.gc_model.specs.Values.{Reference, null, small, at, Value, numeric, function}
+use Rattle.gc_model.specs.Values.{Reference, null, small, at, Value, numeric, function, continuation}
 use Rattle.gc_model.specs.Values as values
 use Rattle.gc_model.specs.Table.{Table, Owned, push}
 use Rattle.gc_model.specs.OwnedRoots.{own, drop_handle, owned_among, owned_full, handles_changed, with_handles}
@@ -178,6 +178,7 @@ owning_refused unset full why e = e
 owning_refused gone full why e = e
 owning_refused (is (numeric kind n)) full why e = e
 owning_refused (is (function f)) full why e = e
+owning_refused (is (continuation cont)) full why e = e
 owning_refused (is (values.reference c r)) full why e = absurd (cc e)
 
 owning_passes : (c : GcClass) (r : Reference) (full : Bool) → r ≢ null → first_failing (owning_tests (is (values.reference c r)) full) ≡ first_failing ((full, refusal.RootsFull) ∷ [])

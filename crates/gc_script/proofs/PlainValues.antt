@@ -1,4 +1,4 @@
--- No register holds a function, so that no command gives one to an object.
+-- No register holds a function or a continuation, so that no command gives one to an object.
 use Rattle.std.proofs.Common.{◌≡◌, ℕ, zero, suc, ◌≤◌, true, false, List, [], ◌∷◌, map, length, replicate, Option, Some, None, refl, sym, ap, ◌∙◌, arith}
 use Rattle.std.specs.Prelude.{unwrap_or}
 use Rattle.std.proofs.lemmas.Bool.Decides.{nat_tests}
@@ -8,8 +8,8 @@ use Rattle.gc_types.specs.declared.value.Func.{Func}
 use Rattle.gc_types.specs.declared.value.StorageType.{StorageType}
 use Rattle.gc_types.specs.declared.value.StorageType.TheVariants as storage
 use Rattle.gc_owner.specs.declared.entry.GcClass.{GcClass}
-use Rattle.gc_model.specs.Functions.{functions_of, object_functions, functions_full, max_entries}
-use Rattle.gc_model.specs.Values.{Reference, Value, numeric, i32, i64, f32, f64, v128, function, Object}
+use Rattle.gc_model.specs.SideValues.{SideValues, side_values, no_side_values, functions_of, conts_of, functions_full, conts_full, max_entries}
+use Rattle.gc_model.specs.Values.{Reference, Value, numeric, i32, i64, f32, f64, v128, function, continuation, Object, object_values}
 use Rattle.gc_model.specs.Values as values
 use Rattle.gc_model.specs.Stored.{stored, stored_in, byte_value}
 use Rattle.gc_model.specs.Table.{Table}
@@ -20,7 +20,7 @@ use Rattle.gc_store.specs.declared.root.RawValue.{RawValue}
 use Rattle.gc_store.specs.declared.root.RawValue.TheVariants as raw
 use Rattle.gc_store.specs.declared.request.Place.{Place}
 use Rattle.gc_store.specs.declared.request.Place.TheVariants as place
-use Rattle.gc_store.specs.Places.{lacks_ids}
+use Rattle.gc_store.specs.Places.{HasIds, lacks_ids}
 use Rattle.gc_commands.specs.declared.command.Operand.{Operand}
 use Rattle.gc_commands.specs.declared.command.Operand.TheVariants as operand
 use Rattle.gc_script.specs.Slots.{RunnerView, register_at}
@@ -28,43 +28,64 @@ use Rattle.gc_script.specs.State.{State, Held, number, reference, Stands, HoldsS
 use Rattle.gc_script.specs.Given.{given_root, given_held, given, given_value, given_values}
 use Rattle.gc_script.specs.Requested.{requested, requested_fields}
 
--- a value that is no function
+-- values that get no ids: none is a function or a continuation
+abbrev pub ArePlain : List Value → Type 0
+ArePlain vs = side_values vs ≡ no_side_values
+
 abbrev pub IsPlain : Value → Type 0
-IsPlain v = functions_of (v ∷ []) ≡ []
+IsPlain v = ArePlain (v ∷ [])
+
+some_function : (f : Option Func) (vs : List Value) → ¬ ArePlain (function f ∷ vs)
+some_function f vs plain = let none : f ∷ functions_of vs ≡ [] = ap (λ (x : SideValues). x.funcs) plain in cc none
+
+some_cont : (c : ℕ) (vs : List Value) → ¬ ArePlain (continuation (Some c) ∷ vs)
+some_cont c vs plain = let none : c ∷ conts_of vs ≡ [] = ap (λ (x : SideValues). x.conts) plain in cc none
 
 -- one more value
-plain_more : (v : Value) (vs : List Value) → IsPlain v → functions_of vs ≡ [] → functions_of (v ∷ vs) ≡ []
+plain_more : (v : Value) (vs : List Value) → IsPlain v → ArePlain vs → ArePlain (v ∷ vs)
 plain_more (numeric kind n) vs plain rest = rest
-plain_more (function f) vs plain rest = absurd (cc plain)
+plain_more (function f) vs plain rest = absurd (some_function f [] plain)
+plain_more (continuation None) vs plain rest = rest
+plain_more (continuation (Some c)) vs plain rest = absurd (some_cont c [] plain)
 plain_more (values.reference c r) vs plain rest = rest
 
 -- what a field keeps of a plain value is one
 stored_plain : (ty : StorageType) (v : Value) → IsPlain v → IsPlain (stored ty v)
 stored_plain storage.I8 (numeric i32 n) plain = refl
 stored_plain storage.I16 (numeric i32 n) plain = refl
-stored_plain storage.I8 (function f) plain = absurd (cc plain)
-stored_plain storage.I16 (function f) plain = absurd (cc plain)
+stored_plain storage.I8 (function f) plain = plain
+stored_plain storage.I16 (function f) plain = plain
+stored_plain storage.I8 (continuation c) plain = plain
+stored_plain storage.I16 (continuation c) plain = plain
 stored_plain ty v plain = plain
 
-all_stored : (fields : List FieldType) (vs : List Value) → functions_of vs ≡ [] → functions_of (stored_in fields vs) ≡ []
+-- the first of plain values, and the rest
+first_plain : (v : Value) (vs : List Value) → ArePlain (v ∷ vs) → IsPlain v × ArePlain vs
+first_plain (numeric kind n) vs plain = (refl, plain)
+first_plain (function f) vs plain = absurd (some_function f vs plain)
+first_plain (continuation None) vs plain = (refl, plain)
+first_plain (continuation (Some c)) vs plain = absurd (some_cont c vs plain)
+first_plain (values.reference c r) vs plain = (refl, plain)
+
+all_stored : (fields : List FieldType) (vs : List Value) → ArePlain vs → ArePlain (stored_in fields vs)
 all_stored [] vs plain = refl
 all_stored (field ∷ fields) [] plain = refl
-all_stored (field ∷ fields) (numeric kind n ∷ vs) plain = plain_more (stored field.element_type (numeric kind n)) (stored_in fields vs) (stored_plain field.element_type (numeric kind n) refl) (all_stored fields vs plain)
-all_stored (field ∷ fields) (function f ∷ vs) plain = absurd (cc plain)
-all_stored (field ∷ fields) (values.reference c r ∷ vs) plain = plain_more (stored field.element_type (values.reference c r)) (stored_in fields vs) (stored_plain field.element_type (values.reference c r) refl) (all_stored fields vs plain)
+all_stored (field ∷ fields) (v ∷ vs) plain =
+    let parts = first_plain v vs plain in
+    plain_more (stored field.element_type v) (stored_in fields vs) (stored_plain field.element_type v parts.0) (all_stored fields vs parts.1)
 
-same_stored : (ty : StorageType) (vs : List Value) → functions_of vs ≡ [] → functions_of (map (stored ty) vs) ≡ []
+same_stored : (ty : StorageType) (vs : List Value) → ArePlain vs → ArePlain (map (stored ty) vs)
 same_stored ty [] plain = refl
-same_stored ty (numeric kind n ∷ vs) plain = plain_more (stored ty (numeric kind n)) (map (stored ty) vs) (stored_plain ty (numeric kind n) refl) (same_stored ty vs plain)
-same_stored ty (function f ∷ vs) plain = absurd (cc plain)
-same_stored ty (values.reference c r ∷ vs) plain = plain_more (stored ty (values.reference c r)) (map (stored ty) vs) (stored_plain ty (values.reference c r) refl) (same_stored ty vs plain)
+same_stored ty (v ∷ vs) plain =
+    let parts = first_plain v vs plain in
+    plain_more (stored ty v) (map (stored ty) vs) (stored_plain ty v parts.0) (same_stored ty vs parts.1)
 
-all_same : (n : ℕ) (v : Value) → IsPlain v → functions_of (replicate n v) ≡ []
+all_same : (n : ℕ) (v : Value) → IsPlain v → ArePlain (replicate n v)
 all_same zero v plain = refl
 all_same (suc n) v plain = plain_more v (replicate n v) plain (all_same n v plain)
 
 -- bytes are numbers
-pub bytes_plain : (bytes : List ℕ) → functions_of (map byte_value bytes) ≡ []
+pub bytes_plain : (bytes : List ℕ) → ArePlain (map byte_value bytes)
 bytes_plain [] = refl
 bytes_plain (b ∷ bytes) = bytes_plain bytes
 
@@ -75,12 +96,13 @@ root_plain c (Some r) = refl
 
 number_plain : (store : StoreView ℕ) (t : Table ℕ) (found : Option RawValue) (v : Value) → Stands store t found (Some (number v)) → IsPlain v
 number_plain store t None v stands = absurd stands
-number_plain store t (Some (raw.I32 n)) v stands = ap (λ (x : Value). functions_of (x ∷ [])) stands
-number_plain store t (Some (raw.I64 n)) v stands = ap (λ (x : Value). functions_of (x ∷ [])) stands
-number_plain store t (Some (raw.F32 n)) v stands = ap (λ (x : Value). functions_of (x ∷ [])) stands
-number_plain store t (Some (raw.F64 n)) v stands = ap (λ (x : Value). functions_of (x ∷ [])) stands
-number_plain store t (Some (raw.V128 n)) v stands = ap (λ (x : Value). functions_of (x ∷ [])) stands
+number_plain store t (Some (raw.I32 n)) v stands = ap (λ (x : Value). side_values (x ∷ [])) stands
+number_plain store t (Some (raw.I64 n)) v stands = ap (λ (x : Value). side_values (x ∷ [])) stands
+number_plain store t (Some (raw.F32 n)) v stands = ap (λ (x : Value). side_values (x ∷ [])) stands
+number_plain store t (Some (raw.F64 n)) v stands = ap (λ (x : Value). side_values (x ∷ [])) stands
+number_plain store t (Some (raw.V128 n)) v stands = ap (λ (x : Value). side_values (x ∷ [])) stands
 number_plain store t (Some (raw.Func f)) v stands = absurd stands
+number_plain store t (Some (raw.Cont cont)) v stands = absurd stands
 number_plain store t (Some (raw.Ref c None)) v stands = absurd stands
 number_plain store t (Some (raw.Ref c (Some handle))) v stands = absurd stands
 
@@ -103,33 +125,42 @@ module _ (layouts : Layouts) (store : StoreView ℕ) (runner : RunnerView) (s : 
   operand_plain operand.ExnNull = refl
   operand_plain (operand.Register r) = held_plain store s.table (register_at runner.registers r) (s.registers r) (holds.registers r)
 
-  operands_plain : (vs : List Operand) → functions_of (given_values s vs) ≡ []
+  operands_plain : (vs : List Operand) → ArePlain (given_values s vs)
   operands_plain [] = refl
   operands_plain (v ∷ vs) = plain_more (given_value (given s v)) (given_values s vs) (operand_plain v) (operands_plain vs)
 
-  fields_plain : (request : Place) (vs : List Operand) → functions_of (stored_in (unwrap_or (requested_fields s.table.types request) []) (given_values s vs)) ≡ []
+  fields_plain : (request : Place) (vs : List Operand) → ArePlain (stored_in (unwrap_or (requested_fields s.table.types request) []) (given_values s vs))
   fields_plain request vs = all_stored (unwrap_or (requested_fields s.table.types request) []) (given_values s vs) (operands_plain vs)
 
-  -- so no object that is requested has a function: one with fields
-  pub requested_plain : (request : Place) (vs : List Operand) → object_functions (requested request vs s) ≡ []
+  -- so no object that is requested has a function or a continuation: one with fields
+  pub requested_plain : (request : Place) (vs : List Operand) → ArePlain (object_values (requested request vs s))
   requested_plain (place.Struct ty) vs = fields_plain (place.Struct ty) vs
   requested_plain (place.Exn ty tag) vs = fields_plain (place.Exn ty tag) vs
   requested_plain (place.Array ty n) vs = fields_plain (place.Array ty n) vs
 
   -- an array of listed elements
-  pub elements_plain : (ty : StorageType) (vs : List Operand) → functions_of (map (stored ty) (given_values s vs)) ≡ []
+  pub elements_plain : (ty : StorageType) (vs : List Operand) → ArePlain (map (stored ty) (given_values s vs))
   elements_plain ty vs = same_stored ty (given_values s vs) (operands_plain vs)
 
   -- and one of equal elements
-  pub filled_plain : (ty : StorageType) (n : ℕ) (v : Operand) → functions_of (replicate n (stored ty (given_value (given s v)))) ≡ []
+  pub filled_plain : (ty : StorageType) (n : ℕ) (v : Operand) → ArePlain (replicate n (stored ty (given_value (given s v))))
   filled_plain ty n v = all_same n (stored ty (given_value (given s v))) (stored_plain ty (given_value (given s v)) (operand_plain v))
 
--- there are ids for an object without functions
-pub has_ids : (layouts : Layouts) (store : StoreView ℕ) (t : Table ℕ) → HoldsTable layouts store t → (o : Object ℕ) → object_functions o ≡ [] → lacks_ids o t ≡ false
-has_ids layouts store t holds o plain =
-    let few : length t.funcs ≤ max_entries = holds.1.funcs.few in
-    let not_full : functions_full [] t.funcs ≡ false = grind (arith, nat_tests, few) in
-    ap (λ (fs : List (Option Func)). functions_full fs t.funcs) plain ∙ not_full
+-- there are ids for an object without functions and continuations
+module _ (layouts : Layouts) (store : StoreView ℕ) (t : Table ℕ) (holds : HoldsTable layouts store t) (o : Object ℕ) (plain : ArePlain (object_values o)) where
+  pub has_ids : HasIds o t
+  has_ids =
+      let few : length t.interned.funcs ≤ max_entries = holds.1.interned.funcs.few in
+      let few_conts : length t.interned.conts ≤ max_entries = holds.1.interned.conts.few in
+      let functions : functions_full no_side_values t.interned ≡ false = grind (arith, nat_tests, few) in
+      let conts : conts_full no_side_values t.interned ≡ false = grind (arith, nat_tests, few_conts) in
+      record {
+        functions = ap (λ (given : SideValues). functions_full given t.interned) plain ∙ functions;
+        conts = ap (λ (given : SideValues). conts_full given t.interned) plain ∙ conts;
+      }
 
-pub never_lacks_ids : (layouts : Layouts) (store : StoreView ℕ) (t : Table ℕ) → HoldsTable layouts store t → (o : Object ℕ) → object_functions o ≡ [] → lacks_ids o t ≡ true → ⊥
-never_lacks_ids layouts store t holds o plain lacks = cc (sym lacks ∙ has_ids layouts store t holds o plain)
+  pub never_lacks_ids : lacks_ids functions_full o t ≡ true → ⊥
+  never_lacks_ids lacks = cc (sym lacks ∙ has_ids.functions)
+
+  pub never_lacks_cont_ids : lacks_ids conts_full o t ≡ true → ⊥
+  never_lacks_cont_ids lacks = cc (sym lacks ∙ has_ids.conts)

@@ -6,7 +6,7 @@ use Rattle.std.proofs.lemmas.Option.{slice_get_within, slice_get_cases}
 use Rattle.gc_types.specs.declared.kind.Layouts.{Layouts}
 use Rattle.gc_owner.specs.declared.entry.GcClass.{GcClass}
 use Rattle.gc_owner.specs.declared.entry.RootEntry.{RootEntry}
-use Rattle.gc_model.specs.Values.{Reference, null, small, at, Value, numeric, i32, i64, f32, f64, v128, function}
+use Rattle.gc_model.specs.Values.{Reference, null, small, at, Value, numeric, i32, i64, f32, f64, v128, function, continuation}
 use Rattle.gc_model.specs.Values as values
 use Rattle.gc_model.specs.Table.{Table, Scoped, push}
 use Rattle.gc_model.specs.Live.{rooted, rooted_among}
@@ -83,6 +83,7 @@ module _ (layouts : Layouts) (s : StoreView ℕ) (t : Table ℕ) (holds : HoldsT
   read_stands new (numeric f64 n) r is = subst (λ (x : RawValue). RawStands new t x (numeric f64 n)) (sym is) refl
   read_stands new (numeric v128 n) r is = subst (λ (x : RawValue). RawStands new t x (numeric v128 n)) (sym is) refl
   read_stands new (function f) r is = subst (λ (x : RawValue). RawStands new t x (function f)) (sym is) refl
+  read_stands new (continuation cont) r is = subst (λ (x : RawValue). RawStands new t x (continuation cont)) (sym is) refl
   read_stands new (values.reference c null) r is = subst (λ (x : RawValue). RawStands new t x (values.reference c null)) (sym is) refl
   read_stands new (values.reference c (small n)) r is = subst (λ (x : RawValue). RawStands new (push (small n) t) x (values.reference c (small n))) (sym is) (root_pushed new c (small n))
   read_stands new (values.reference c (at p)) r is = subst (λ (x : RawValue). RawStands new (push (at p) t) x (values.reference c (at p))) (sym is) (root_pushed new c (at p))
@@ -95,6 +96,7 @@ module _ (layouts : Layouts) (s : StoreView ℕ) (t : Table ℕ) (holds : HoldsT
   register_stands new (numeric f64 n) r is = subst (λ (x : RawValue). Stands new t (registered x) (Some (number (numeric f64 n)))) (sym is) refl
   register_stands new (numeric v128 n) r is = subst (λ (x : RawValue). Stands new t (registered x) (Some (number (numeric v128 n)))) (sym is) refl
   register_stands new (function f) r is = subst (λ (x : RawValue). Stands new t (registered x) None) (sym is) tt
+  register_stands new (continuation cont) r is = subst (λ (x : RawValue). Stands new t (registered x) None) (sym is) tt
   register_stands new (values.reference c null) r is = subst (λ (x : RawValue). Stands new t (registered x) (Some (reference c None))) (sym is) refl
   register_stands new (values.reference c (small n)) r is = subst (λ (x : RawValue). Stands new (push (small n) t) (registered x) (Some (reference c (Some (length t.pushes))))) (sym is) (refl, names_pushed new (small n))
   register_stands new (values.reference c (at p)) r is = subst (λ (x : RawValue). Stands new (push (at p) t) (registered x) (Some (reference c (Some (length t.pushes))))) (sym is) (refl, names_pushed new (at p))
@@ -107,6 +109,7 @@ shown_after t (numeric f32 n) = refl
 shown_after t (numeric f64 n) = refl
 shown_after t (numeric v128 n) = refl
 shown_after t (function f) = refl
+shown_after t (continuation cont) = refl
 shown_after t (values.reference c null) = refl
 shown_after t (values.reference c (small n)) = refl
 shown_after t (values.reference c (at p)) = refl
@@ -119,6 +122,7 @@ keeps_read t (numeric f32 n) = keeps_same t.pushes t.pushes refl
 keeps_read t (numeric f64 n) = keeps_same t.pushes t.pushes refl
 keeps_read t (numeric v128 n) = keeps_same t.pushes t.pushes refl
 keeps_read t (function f) = keeps_same t.pushes t.pushes refl
+keeps_read t (continuation cont) = keeps_same t.pushes t.pushes refl
 keeps_read t (values.reference c null) = keeps_same t.pushes t.pushes refl
 keeps_read t (values.reference c (small n)) = keeps_pushed t.pushes (push (small n) t).pushes (record { index = length t.scoped; generation = t.drops }) refl
 keeps_read t (values.reference c (at p)) = keeps_pushed t.pushes (push (at p) t).pushes (record { index = length t.scoped; generation = t.drops }) refl
@@ -136,6 +140,7 @@ none_held s t (raw.F32 n) stands = stands
 none_held s t (raw.F64 n) stands = stands
 none_held s t (raw.V128 n) stands = stands
 none_held s t (raw.Func f) stands = stands
+none_held s t (raw.Cont cont) stands = stands
 none_held s t (raw.Ref c None) stands = stands
 none_held s t (raw.Ref c (Some handle)) stands = stands
 

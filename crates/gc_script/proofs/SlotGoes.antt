@@ -48,6 +48,7 @@ no_reference s t (raw.F32 n) v none stands = ap is_reference stands
 no_reference s t (raw.F64 n) v none stands = ap is_reference stands
 no_reference s t (raw.V128 n) v none stands = ap is_reference stands
 no_reference s t (raw.Func f) v none stands = ap is_reference stands
+no_reference s t (raw.Cont cont) v none stands = ap is_reference stands
 no_reference s t (raw.Ref c h) v none stands = absurd (none-some (c, h) (sym none))
 
 -- a reference, by what stands for it

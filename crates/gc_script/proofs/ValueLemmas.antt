@@ -23,7 +23,7 @@ use Rattle.gc_store.specs.Words.{owned_id}
 use Rattle.gc_store.proofs.HandleWords.{names-store, named_alone}
 use Rattle.gc_script.specs.State.{Held, number, reference, Stands}
 use Rattle.gc_script.specs.Given.{gone, is, given_held, given_root}
-use Rattle.gc_script.specs.Values.{raw_handle, raw_slot, is_function, IsFound}
+use Rattle.gc_script.specs.Values.{raw_handle, raw_slot, is_opaque, IsFound}
 
 -- what is no handle stands for a value
 pub found_plain : (s : StoreView ℕ) (t : Table ℕ) (r : RawValue) (held : Option Held) → raw_handle r ≡ None → Stands s t (Some r) held → IsFound s t r (given_held t held) true
@@ -48,27 +48,35 @@ found_plain s t (raw.V128 n) (Some (number v)) plain stands = (v, (refl, stands)
 found_plain s t (raw.V128 n) (Some (reference c None)) plain stands = absurd stands
 found_plain s t (raw.V128 n) (Some (reference c (Some k))) plain stands = absurd stands
 found_plain s t (raw.Func f) None plain stands = absurd stands
+found_plain s t (raw.Cont cont) None plain stands = absurd stands
 found_plain s t (raw.Func f) (Some (number v)) plain stands = absurd stands
+found_plain s t (raw.Cont cont) (Some (number v)) plain stands = absurd stands
 found_plain s t (raw.Func f) (Some (reference c None)) plain stands = absurd stands
+found_plain s t (raw.Cont cont) (Some (reference c None)) plain stands = absurd stands
 found_plain s t (raw.Func f) (Some (reference c (Some k))) plain stands = absurd stands
+found_plain s t (raw.Cont cont) (Some (reference c (Some k))) plain stands = absurd stands
 found_plain s t (raw.Ref class None) None plain stands = absurd stands
 found_plain s t (raw.Ref class None) (Some (number v)) plain stands = absurd stands
 found_plain s t (raw.Ref class None) (Some (reference c None)) plain stands = (values.reference class null, (ap (λ (x : GcClass). is (values.reference x null)) (sym stands), refl))
 found_plain s t (raw.Ref class None) (Some (reference c (Some k))) plain stands = absurd stands
 found_plain s t (raw.Ref class (Some handle)) held plain stands = absurd (none-some handle (sym plain))
 
--- no register holds a function
-pub held_no_function : (s : StoreView ℕ) (t : Table ℕ) (r : RawValue) (held : Option Held) → Stands s t (Some r) held → is_function r ≡ false
-held_no_function s t (raw.I32 n) held stands = refl
-held_no_function s t (raw.I64 n) held stands = refl
-held_no_function s t (raw.F32 n) held stands = refl
-held_no_function s t (raw.F64 n) held stands = refl
-held_no_function s t (raw.V128 n) held stands = refl
-held_no_function s t (raw.Func f) None stands = absurd stands
-held_no_function s t (raw.Func f) (Some (number v)) stands = absurd stands
-held_no_function s t (raw.Func f) (Some (reference c None)) stands = absurd stands
-held_no_function s t (raw.Func f) (Some (reference c (Some k))) stands = absurd stands
-held_no_function s t (raw.Ref class handle) held stands = refl
+-- no register holds an opaque value
+pub held_not_opaque : (s : StoreView ℕ) (t : Table ℕ) (r : RawValue) (held : Option Held) → Stands s t (Some r) held → is_opaque r ≡ false
+held_not_opaque s t (raw.I32 n) held stands = refl
+held_not_opaque s t (raw.I64 n) held stands = refl
+held_not_opaque s t (raw.F32 n) held stands = refl
+held_not_opaque s t (raw.F64 n) held stands = refl
+held_not_opaque s t (raw.V128 n) held stands = refl
+held_not_opaque s t (raw.Func f) None stands = absurd stands
+held_not_opaque s t (raw.Cont cont) None stands = absurd stands
+held_not_opaque s t (raw.Func f) (Some (number v)) stands = absurd stands
+held_not_opaque s t (raw.Cont cont) (Some (number v)) stands = absurd stands
+held_not_opaque s t (raw.Func f) (Some (reference c None)) stands = absurd stands
+held_not_opaque s t (raw.Cont cont) (Some (reference c None)) stands = absurd stands
+held_not_opaque s t (raw.Func f) (Some (reference c (Some k))) stands = absurd stands
+held_not_opaque s t (raw.Cont cont) (Some (reference c (Some k))) stands = absurd stands
+held_not_opaque s t (raw.Ref class handle) held stands = refl
 
 -- a handle names one reference
 pub names_one : (layouts : Layouts) (s : StoreView ℕ) (t : Table ℕ) → HoldsTable layouts s t → (handle : GcRootIndex) (x y : ℕ) → Names s t handle x → Names s t handle y → x ≡ y
@@ -112,6 +120,7 @@ module _ (layouts : Layouts) (s : StoreView ℕ) (t : Table ℕ) (holds : HoldsT
   found_handle (raw.F64 n) held is_handle stands = absurd (none-some handle is_handle)
   found_handle (raw.V128 n) held is_handle stands = absurd (none-some handle is_handle)
   found_handle (raw.Func f) held is_handle stands = absurd (none-some handle is_handle)
+  found_handle (raw.Cont cont) held is_handle stands = absurd (none-some handle is_handle)
   found_handle (raw.Ref class None) held is_handle stands = absurd (none-some handle is_handle)
   found_handle (raw.Ref class (Some h)) None is_handle stands = absurd stands
   found_handle (raw.Ref class (Some h)) (Some (number v)) is_handle stands = absurd stands
@@ -129,6 +138,7 @@ slot_stands s t (raw.F32 n) v c h e stands = absurd (none-some (c, h) e)
 slot_stands s t (raw.F64 n) v c h e stands = absurd (none-some (c, h) e)
 slot_stands s t (raw.V128 n) v c h e stands = absurd (none-some (c, h) e)
 slot_stands s t (raw.Func f) v c h e stands = absurd (none-some (c, h) e)
+slot_stands s t (raw.Cont cont) v c h e stands = absurd (none-some (c, h) e)
 slot_stands s t (raw.Ref c' h') v c h e stands =
     let class : c' ≡ c = grind (arith, e) in
     let handle : h' ≡ h = grind (arith, e) in

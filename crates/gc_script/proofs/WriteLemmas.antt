@@ -47,6 +47,7 @@ is_set s t (raw.F32 n) None stands = absurd stands
 is_set s t (raw.F64 n) None stands = absurd stands
 is_set s t (raw.V128 n) None stands = absurd stands
 is_set s t (raw.Func f) None stands = absurd stands
+is_set s t (raw.Cont cont) None stands = absurd stands
 is_set s t (raw.Ref class None) None stands = absurd stands
 is_set s t (raw.Ref class (Some handle)) None stands = absurd stands
 is_set s t r (Some (number v)) stands = refl

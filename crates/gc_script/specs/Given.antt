@@ -9,7 +9,7 @@ use Rattle.gc_types.specs.declared.value.StorageType.TheVariants as storage
 use Rattle.gc_types.specs.Declarations.{Declaration}
 use Rattle.gc_owner.specs.declared.entry.GcClass.{GcClass}
 use Rattle.gc_owner.specs.declared.entry.GcClass.TheVariants as class
-use Rattle.gc_model.specs.Values.{Reference, null, small, at, Value, numeric, i32, i64, f32, f64, v128, function, Object, struct, array, host, exception, number_bits}
+use Rattle.gc_model.specs.Values.{Reference, null, small, at, Value, numeric, i32, i64, f32, f64, v128, function, continuation, Object, struct, array, host, exception, number_bits}
 use Rattle.gc_model.specs.Values as values
 use Rattle.gc_model.specs.Fits.{fits}
 use Rattle.gc_model.specs.Reach.{object_values}
@@ -75,6 +75,7 @@ is_gone (is v) = false
 abbrev pub is_reference : Value → Bool
 is_reference (numeric kind n) = false
 is_reference (function f) = false
+is_reference (continuation c) = false
 is_reference (values.reference c r) = true
 
 -- the value that is given; a null where there is none
@@ -91,6 +92,7 @@ given_values s vs = map (λ (v : Operand). given_value (given s v)) vs
 abbrev pub value_named : Value → Option Reference
 value_named (numeric kind n) = None
 value_named (function f) = None
+value_named (continuation c) = None
 value_named (values.reference c null) = None
 value_named (values.reference c (small n)) = Some (small n)
 value_named (values.reference c (at p)) = Some (at p)

@@ -5,7 +5,7 @@ use Rattle.gc_types.specs.declared.value.FieldType.{FieldType}
 use Rattle.gc_types.specs.Declarations.{Declaration}
 use Rattle.gc_owner.specs.declared.entry.GcClass.{GcClass}
 use Rattle.gc_owner.specs.declared.entry.GcClass.TheVariants as class
-use Rattle.gc_model.specs.Values.{Reference, null, small, at, Value, numeric, i32, i64, f32, f64, v128, function, Object, struct, array, host, exception}
+use Rattle.gc_model.specs.Values.{Reference, null, small, at, Value, numeric, i32, i64, f32, f64, v128, function, continuation, Object, struct, array, host, exception}
 use Rattle.gc_model.specs.Values as values
 use Rattle.gc_model.specs.Table.{Table, Slot, Owned, empty_slot, push, leave, write}
 use Rattle.gc_model.specs.OwnedRoots.{own, owned_among, handles_changed, with_handles}
@@ -62,6 +62,7 @@ shown_among objects (numeric f32 n) = reply_value.F32 n
 shown_among objects (numeric f64 n) = reply_value.F64 n
 shown_among objects (numeric v128 n) = reply_value.V128 n
 shown_among objects (function f) = reply_value.Opaque
+shown_among objects (continuation c) = reply_value.Opaque
 shown_among objects (values.reference c null) = reply_value.Null
 shown_among objects (values.reference c (small n)) = reply_value.I31 n
 shown_among objects (values.reference c (at p)) = shown_object (slice_get objects p)
@@ -70,10 +71,11 @@ abbrev pub shown : Table ℕ → Value → ReplyValue
 shown t v = shown_among t.objects v
 
 -- What a register holds of a value that was read: a reference by its new root, whose serial is the next one. None holds a
--- function, or the value that is none.
+-- function or a continuation, or the values that are none.
 abbrev pub held_next : ℕ → Value → Option Held
 held_next serial (numeric kind n) = Some (number (numeric kind n))
 held_next serial (function f) = None
+held_next serial (continuation c) = None
 held_next serial (values.reference c null) = Some (reference c None)
 held_next serial (values.reference c (small n)) = Some (reference c (Some serial))
 held_next serial (values.reference c (at p)) = Some (reference c (Some serial))
@@ -128,6 +130,7 @@ tells_host r s = (reply.HostNumber (host_number (target s r)), s)
 abbrev pub byte_of : Value → ℕ
 byte_of (numeric kind n) = n
 byte_of (function f) = 0
+byte_of (continuation c) = 0
 byte_of (values.reference c r) = 0
 
 abbrev pub tells_bytes : ℕ → State → Reply × State
@@ -156,6 +159,7 @@ leaves s = (reply.Done, with_marks (older s.marks) (with_table (leave (newest s.
 abbrev pub slot_of : Value → Slot
 slot_of (numeric kind n) = empty_slot
 slot_of (function f) = empty_slot
+slot_of (continuation c) = empty_slot
 slot_of (values.reference c r) = record { class = c; reference = r }
 
 -- a frame is opened, and the newest is closed

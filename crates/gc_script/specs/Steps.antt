@@ -36,10 +36,6 @@ use Rattle.gc_script.specs.Shapes.{Shape, plain, declaring, making, growing, col
 abbrev pub count_in : Option (List FieldType) → ℕ
 count_in fields = unwrap_or (option_map length fields) 0
 
--- how many fields the struct type has; 0 where it isn't declared
-abbrev pub field_count : Table ℕ → ℕ → ℕ
-field_count t ty = count_in (struct_fields_at t.types ty)
-
 -- the tests of a value that goes into a field, by the types and the objects
 abbrev pub given_tests : List Declaration → List (Object ℕ) → Option FieldType → Given → List (Bool × Refusal)
 given_tests types objects field g =

@@ -55,6 +55,7 @@ raw_handle (raw.F32 n) = None
 raw_handle (raw.F64 n) = None
 raw_handle (raw.V128 n) = None
 raw_handle (raw.Func f) = None
+raw_handle (raw.Cont c) = None
 raw_handle (raw.Ref class handle) = handle
 
 -- the class and the handle of a value, where it is a reference
@@ -65,21 +66,23 @@ raw_slot (raw.F32 n) = None
 raw_slot (raw.F64 n) = None
 raw_slot (raw.V128 n) = None
 raw_slot (raw.Func f) = None
+raw_slot (raw.Cont c) = None
 raw_slot (raw.Ref class handle) = Some (class, handle)
 
--- whether a value is a function or none
-abbrev pub is_function : RawValue → Bool
-is_function (raw.I32 n) = false
-is_function (raw.I64 n) = false
-is_function (raw.F32 n) = false
-is_function (raw.F64 n) = false
-is_function (raw.V128 n) = false
-is_function (raw.Func f) = true
-is_function (raw.Ref class handle) = false
+-- whether a value is a function or a continuation, or none: it is shown as opaque
+abbrev pub is_opaque : RawValue → Bool
+is_opaque (raw.I32 n) = false
+is_opaque (raw.I64 n) = false
+is_opaque (raw.F32 n) = false
+is_opaque (raw.F64 n) = false
+is_opaque (raw.V128 n) = false
+is_opaque (raw.Func f) = true
+is_opaque (raw.Cont c) = true
+is_opaque (raw.Ref class handle) = false
 
--- what a register holds of a value that the store gave: nothing of a function
+-- what a register holds of a value that the store gave: nothing of an opaque one
 abbrev pub registered : RawValue → Option RawValue
-registered r = if is_function r then None else Some r
+registered r = if is_opaque r then None else Some r
 
 -- A value that is found live stands for what is given; else its root is gone.
 abbrev pub IsFound : StoreView ℕ → Table ℕ → RawValue → Given → Bool → Type 0

@@ -8,7 +8,7 @@ ghost use Rattle.gc_model.specs.Table.{Table};
 ghost use Rattle.gc_model.specs.Values.{Value};
 ghost use Rattle.gc_store.specs.Values.{RawStands};
 ghost use Rattle.gc_script.specs.OwnTypes.{own_type, own_fits, number_fits};
-ghost use Rattle.gc_script.specs.Values.{is_function};
+ghost use Rattle.gc_script.specs.Values.{is_opaque};
 
 use crate::values::slot_of;
 use gc_heap::GcHeap;
@@ -127,9 +127,9 @@ fn number_fits(ty: ValType, value: &RawValue) -> bool
     }
 }
 
-/// Whether a value that is no function, and whose root is live, fits the type of a field or an element.
+/// Whether a value that is no function or continuation, and whose root is live, fits the type of a field or an element.
 pub(crate) fn fits<H: GcHeap>(store: &Store<H, u64>, ty: StorageType, value: &RawValue) -> bool
-    ensures { (t : Table ℕ) (v : Value) → HoldsTable H.KIND store.now t → is_function value.now ≡ false → RawStands store.now t value.now v
+    ensures { (t : Table ℕ) (v : Value) → HoldsTable H.KIND store.now t → is_opaque value.now ≡ false → RawStands store.now t value.now v
         → result ≡ fits t.types t.objects ty v }
 {
     let ty = ty.unpack();

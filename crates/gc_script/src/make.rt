@@ -1,11 +1,11 @@
 //! The commands that make objects and small integers.
 
-ghost use Rattle.std.specs.Prelude.{◌≡◌, ℕ, [], length};
+ghost use Rattle.std.specs.Prelude.{◌≡◌, ℕ, length};
 ghost use Rattle.std.specs.Option.{option_map};
 ghost use Rattle.gc_commands.specs.declared.command.Command.TheVariants as Command;
-ghost use Rattle.gc_model.specs.Functions.{object_functions};
+ghost use Rattle.gc_model.specs.SideValues.{side_values, no_side_values};
 ghost use Rattle.gc_model.specs.Sizes.{exn_fields_at};
-ghost use Rattle.gc_model.specs.Values.{Object};
+ghost use Rattle.gc_model.specs.Values.{Object, object_values};
 ghost use Rattle.gc_script.specs.Requested.{class_of, type_of, requested, requested_fields, requested_tests};
 ghost use Rattle.gc_script.specs.State.{State, HoldsState, visible};
 ghost use Rattle.gc_script.specs.Shapes.{making};
@@ -67,7 +67,7 @@ fn fields_len(types: &Types, request: &Place) -> Option<usize>
 }
 
 impl Runner {
-    /// Places an object that may be placed and has no function, and puts it into register `d`.
+    /// Places an object that may be placed and has no function and no continuation, and puts it into register `d`.
     pub(crate) fn place<H: GcHeap, L: ResourceLimiter>(
         &mut self,
         store: &mut Store<H, u64>,
@@ -78,7 +78,7 @@ impl Runner {
     ) -> Result<Reply, RunError>
         requires { CanPlaceIn ℕ H.KIND store.old request contents }
         ensures runs { (s : State) (object : State → Object ℕ) → HoldsState H.KIND store.old self.old s
-            → IsObjectOf store.old s.table request contents.entry (object (visible s)) → object_functions (object (visible s)) ≡ []
+            → IsObjectOf store.old s.table request contents.entry (object (visible s)) → side_values (object_values (object (visible s))) ≡ no_side_values
             → RunsOn H.KIND store.old.alloc_counter (L.limits limiter.old) (L.limits limiter.new) s (making d (class_of request) object)
             (heap_tests H.KIND s (object (visible s))) result store.new self.new }
         ensures same { IsSameStore store.old store.new }
@@ -95,8 +95,9 @@ impl Runner {
             Err(PlaceFault::TooLarge) => Ok(Reply::Refused(Refusal::TooLarge)),
             Err(PlaceFault::RootsFull) => Ok(Reply::Refused(Refusal::RootsFull)),
             Err(PlaceFault::HeapOutOfMemory(_)) => Ok(Reply::Refused(Refusal::GcHeapOutOfMemory)),
-            // No register holds a function, so that the store never answers this.
+            // No register holds a function or a continuation, so that the store never answers these.
             Err(PlaceFault::FuncTableFull) => Err(RunError::OutOfMemory),
+            Err(PlaceFault::ContTableFull) => Err(RunError::OutOfMemory),
             Err(PlaceFault::Memory) => Err(RunError::OutOfMemory),
         }
     }

@@ -16,7 +16,7 @@ use crate::objects::{Wanted, find_object, type_at};
 use crate::registers::Registers;
 use crate::runner::{RunError, Runner};
 use crate::shown::shown;
-use crate::values::is_function;
+use crate::values::is_opaque;
 use gc_commands::{ByteText, Refusal, Reply};
 use gc_heap::GcHeap;
 use gc_store::{RawValue, RootFault, Store};
@@ -45,8 +45,8 @@ fn put_into(registers: &mut Registers, into: Option<u16>, value: RawValue)
     }
 }
 
-/// Puts a value that was read into a register, where one is named, and shows it. No register takes a function: it stays
-/// as it was.
+/// Puts a value that was read into a register, where one is named, and shows it. No register takes a function or a
+/// continuation: it stays as it was.
 pub(crate) fn put_read<H: GcHeap>(
     registers: &mut Registers,
     store: &Store<H, u64>,
@@ -58,7 +58,7 @@ pub(crate) fn put_read<H: GcHeap>(
     ensures shows { ShowsRead H.KIND store.now value result }
 {
     let shows = shown(store, &value);
-    if !is_function(&value) {
+    if !is_opaque(&value) {
         put_into(registers, into, value);
     }
     Reply::Value(shows)

@@ -52,7 +52,7 @@ pub(crate) fn shown<H: GcHeap>(store: &Store<H, u64>, value: &RawValue) -> Reply
         RawValue::F32(bits) => ReplyValue::F32(*bits),
         RawValue::F64(bits) => ReplyValue::F64(*bits),
         RawValue::V128(bits) => ReplyValue::V128(*bits),
-        RawValue::Func(_) => ReplyValue::Opaque,
+        RawValue::Func(_) | RawValue::Cont(_) => ReplyValue::Opaque,
         RawValue::Ref(_, handle) => shown_root(store, *handle),
     }
 }

@@ -7,7 +7,7 @@ ghost use Rattle.gc_commands.specs.declared.command.Operand.{Operand};
 ghost use Rattle.gc_store.specs.Values.{NamesLive};
 ghost use Rattle.gc_script.specs.State.{State, Held, Stands};
 ghost use Rattle.gc_script.specs.Given.{held_operand, given_held};
-ghost use Rattle.gc_script.specs.Values.{HoldsOperand, HoldsOperands, HasUnset, AllHeld, raw_handle, raw_slot, is_function, IsFound, CanStoreAs, AllStorable};
+ghost use Rattle.gc_script.specs.Values.{HoldsOperand, HoldsOperands, HasUnset, AllHeld, raw_handle, raw_slot, is_opaque, IsFound, CanStoreAs, AllStorable};
 ghost use Rattle.gc_script.specs.Values.{ChecksValue, ChecksValues};
 
 use crate::fits::fits;
@@ -75,23 +75,24 @@ pub(crate) fn slot_of(value: &RawValue) -> Option<(GcClass, Option<GcRootIndex>)
     }
 }
 
-/// Whether a value is a function or none.
-pub(crate) fn is_function(value: &RawValue) -> bool
-    ensures { result ≡ is_function value.now }
+/// Whether a value is a function or a continuation, or none.
+pub(crate) fn is_opaque(value: &RawValue) -> bool
+    ensures { result ≡ is_opaque value.now }
 {
-    matches!(value, RawValue::Func(_))
+    matches!(value, RawValue::Func(_) | RawValue::Cont(_))
 }
 
-/// Whether a value is a number, null, or the handle of a live root. No function stands in a register.
+/// Whether a value is a number, null, or the handle of a live root. No function and no continuation stands in a
+/// register.
 pub(crate) fn is_live<H: GcHeap>(store: &Store<H, u64>, value: &RawValue) -> bool
     ensures live { IsTrue result → NamesLive ℕ H.KIND store.now value.now }
-    ensures plain { IsTrue result → is_function value.now ≡ false }
+    ensures plain { IsTrue result → is_opaque value.now ≡ false }
     ensures found { (t : Table ℕ) (held : Option Held) → HoldsTable H.KIND store.now t → Stands store.now t (Some value.now) held
         → IsFound store.now t value.now (given_held t held) result }
 {
     match handle_of(value) {
         Some(handle) => store.object(handle).is_ok(),
-        None => !is_function(value),
+        None => !is_opaque(value),
     }
 }
 
@@ -103,7 +104,7 @@ pub(crate) fn check_value<H: GcHeap>(
     value: &RawValue,
 ) -> Result<(), Refusal>
     ensures stores { OnOk result (CanStoreAs H.KIND store.now field value.now) }
-    ensures plain { OnOk result (is_function value.now ≡ false) }
+    ensures plain { OnOk result (is_opaque value.now ≡ false) }
     ensures checks { (s : State) (v : Operand) → HoldsTable H.KIND store.now s.table → Stands store.now s.table (Some value.now) (held_operand s v)
         → ChecksValue store.now s field v value.now result }
 {

@@ -10,7 +10,7 @@ ghost use Rattle.gc_script.specs.State.{State, HoldsState, Stands};
 ghost use Rattle.gc_script.specs.Given.{held_operand, is_constant};
 ghost use Rattle.gc_script.specs.Run.{GoesOn};
 ghost use Rattle.gc_script.specs.Named.{type_at, IsNamed};
-ghost use Rattle.gc_script.specs.Values.{is_function, CanStoreAs};
+ghost use Rattle.gc_script.specs.Values.{is_opaque, CanStoreAs};
 ghost use Rattle.gc_script.specs.Writing.{ChecksWrite, FindsWritten};
 ghost use Rattle.gc_store.specs.Stores.{IsSameStore};
 ghost use Rattle.gc_store.specs.Values.{CanWrite, KeepsValue};
@@ -47,7 +47,7 @@ fn check_write<H: GcHeap>(
     index: u32,
 ) -> Result<(), Refusal>
     ensures stores { OnOk result (CanStoreAs H.KIND store.now (type_at store.now.types written.now.object.types index) written.now.value) }
-    ensures plain { OnOk result (is_function written.now.value ≡ false) }
+    ensures plain { OnOk result (is_opaque written.now.value ≡ false) }
     ensures checks { (s : State) (v : Operand) → HoldsTable H.KIND store.now s.table → Stands store.now s.table (Some written.now.value) (held_operand s v)
         → ChecksWrite store.now s (type_at s.table.types written.now.object.types index) v written.now.value result }
 {
@@ -58,10 +58,10 @@ fn check_write<H: GcHeap>(
     check_value(store, field, &written.value)
 }
 
-/// Writes a value that may be written and is no function. Takes no memory.
+/// Writes a value that may be written and is no function or continuation. Takes no memory.
 fn write<H: GcHeap>(store: &mut Store<H, u64>, written: &Written, index: u32) -> Reply
     requires can { CanWrite ℕ H.KIND store.old written.now.object.root index written.now.value }
-    requires plain { is_function written.now.value ≡ false }
+    requires plain { is_opaque written.now.value ≡ false }
     ensures done { result ≡ Reply.Done }
     ensures writes { (t : Table ℕ) (a : Account) → HoldsAccount H.KIND store.old t a
         → KeepsValue H.KIND store.old store.new t a written.now.object.root index written.now.value }

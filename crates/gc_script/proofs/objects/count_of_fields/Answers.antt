@@ -1,5 +1,5 @@
 use Rattle.std.proofs.Common.{sym, ◌∙◌, arith}
-use Rattle.gc_script.proofs.FewFields.{few_counted}
+use Rattle.gc_types.proofs.FewFields.{few_counted}
 use Rattle.gc_script.proofs.objects.count_of_fields.Goals as goal
 
 pub overflow_cast-result : goal.overflow_cast-result

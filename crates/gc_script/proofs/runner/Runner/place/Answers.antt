@@ -13,7 +13,7 @@ use Rattle.gc_script.specs.declared.runner.RunError.TheVariants as error
 use Rattle.gc_script.specs.Slots.{RunnerView, register_at}
 use Rattle.gc_script.specs.State.{State, HoldsState, visible}
 use Rattle.gc_script.specs.Policy.{policy_of}
-use Rattle.gc_script.proofs.PlainValues.{never_lacks_ids}
+use Rattle.gc_script.proofs.PlainValues.{never_lacks_cont_ids, never_lacks_ids}
 use Rattle.gc_script.proofs.StandLemmas.{holds_table, same_store, holds_same}
 use Rattle.gc_script.proofs.GoesLemmas.{wants_nothing}
 use Rattle.gc_script.proofs.PlaceLemmas.{placed, refused_large, refused_full, lacked, unplaced}
@@ -70,6 +70,12 @@ returns-in-Err-FuncTableFull-clause-runs g c s object holds is_object plain =
     let at = (goal.at.returns-in-Err-FuncTableFull-clause-runs g c).After-place in
     absurd (never_lacks_ids g.H.GcHeap.KIND c.args.store.now s.table (holds_table holds.table) (object (visible s)) plain
     (places_as g at s (object (visible s)) (Err fault.FuncTableFull) (c.in-Err-FuncTableFull.is ∙ ap Err c.in-Err-FuncTableFull.field-0-is) holds is_object).0)
+
+pub returns-in-Err-ContTableFull-clause-runs : goal.returns-in-Err-ContTableFull-clause-runs
+returns-in-Err-ContTableFull-clause-runs g c s object holds is_object plain =
+    let at = (goal.at.returns-in-Err-ContTableFull-clause-runs g c).After-place in
+    absurd (never_lacks_cont_ids g.H.GcHeap.KIND c.args.store.now s.table (holds_table holds.table) (object (visible s)) plain
+    (places_as g at s (object (visible s)) (Err fault.ContTableFull) (c.in-Err-ContTableFull.is ∙ ap Err c.in-Err-ContTableFull.field-0-is) holds is_object).0)
 
 pub returns-in-Err-Memory-clause-runs : goal.returns-in-Err-Memory-clause-runs
 returns-in-Err-Memory-clause-runs g c s object holds is_object plain =
