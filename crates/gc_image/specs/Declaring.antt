@@ -21,4 +21,5 @@ pub record Declares (types : List Declaration) (command : Command) (declaration 
 -- commands that come behind the types declare in turn what makes them all
 abbrev pub DeclareInTurn : List Declaration → List Command → List Declaration → Type 0
 DeclareInTurn types [] all = types ≡ all
-DeclareInTurn types (command ∷ commands) all = (declaration : Declaration) × (Declares types command declaration × DeclareInTurn (types ++ declaration ∷ []) commands all)
+DeclareInTurn types (command ∷ commands) all =
+    (declaration : Declaration) × (Declares types command declaration × DeclareInTurn (types ++ declaration ∷ []) commands all)

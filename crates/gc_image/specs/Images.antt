@@ -2,7 +2,7 @@
 use Rattle.std.specs.Prelude.{◌≡◌, ℕ, List, Some, length, map, slice_get}
 use Rattle.gc_model.specs.Reach.{Reached, AreAll, slot_references}
 use Rattle.gc_model.specs.Table.{Table, Slot, empty_slot}
-use Rattle.gc_model.specs.Values.{Reference, null, small, at, Value, numeric, function, reference, Object, struct, array, host, exception}
+use Rattle.gc_model.specs.Values.{Reference, null, small, at, Value, numeric, function, continuation, reference, Object, struct, array, host, exception}
 use Rattle.gc_image.specs.declared.image.GlobalLine.{GlobalLine}
 use Rattle.gc_image.specs.declared.image.ImageValue.{ImageValue}
 use Rattle.gc_image.specs.declared.image.ImageValue.TheVariants as value
@@ -20,6 +20,7 @@ placed_reference position (at number) = at (position number)
 abbrev pub placed_value : (ℕ → ℕ) → Value → Value
 placed_value position (numeric kind n) = numeric kind n
 placed_value position (function f) = function f
+placed_value position (continuation c) = continuation c
 placed_value position (reference class r) = reference class (placed_reference position r)
 
 abbrev pub placed_object : {D : Type 0} → (ℕ → ℕ) → Object D → Object D
@@ -35,7 +36,8 @@ SaysSlot position v slot = ⊥
 
 -- Globals are those of the lines: each line says what its global holds, and a global of which none speaks is null of class Any.
 pub record AreGlobals (position : ℕ → ℕ) (lines : List GlobalLine) (globals : List Slot) : Type 0 where
-  pub said : (i : ℕ) (line : GlobalLine) → slice_get lines i ≡ Some line → (slot : Slot) × ((slice_get globals line.index ≡ Some slot) × SaysSlot position line.value slot)
+  pub said : (i : ℕ) (line : GlobalLine) → slice_get lines i ≡ Some line
+      → (slot : Slot) × ((slice_get globals line.index ≡ Some slot) × SaysSlot position line.value slot)
   pub unsaid : (k : ℕ) (slot : Slot) → slice_get globals k ≡ Some slot
       → ((i : ℕ) (line : GlobalLine) → slice_get lines i ≡ Some line → ¬ (line.index ≡ k)) → slot ≡ empty_slot
 

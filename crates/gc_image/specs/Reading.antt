@@ -61,7 +61,8 @@ pub record ReadsTypes (lines : List (List ℕ)) (types : List Command) (rest : L
 -- so many objects, or none where the lines begin with no such
 abbrev pub ReadsObjects : ℕ → List (List ℕ) → Option (List ObjectLine) → List (List ℕ) → Type 0
 ReadsObjects count lines None rest =
-    (objects : List ObjectLine) (others : List (List ℕ)) → AllByRecursion FitsObject objects → length objects ≡ count → ¬ (lines ≡ map object_text objects ++ others)
+    (objects : List ObjectLine) (others : List (List ℕ)) → AllByRecursion FitsObject objects → length objects ≡ count
+    → ¬ (lines ≡ map object_text objects ++ others)
 ReadsObjects count lines (Some objects) rest = AllByRecursion FitsObject objects × (length objects ≡ count) × (lines ≡ map object_text objects ++ rest)
 
 -- globals to the end of the text, whose last line ends with a line feed

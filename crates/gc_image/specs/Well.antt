@@ -98,7 +98,8 @@ pub record IsWellValue (types : List Declaration) (objects : List (Object ℕ)) 
   pub early : is_early field ≡ true → (named : ℕ) → number_named v ≡ Some named → named < number
 
 abbrev pub AreWellValues : List Declaration → List (Object ℕ) → ℕ → ObjectLine → Type 0
-AreWellValues types objects number line = (index : ℕ) (v : ImageValue) → slice_get (line_values line) index ≡ Some v → IsWellValue types objects number line index v
+AreWellValues types objects number line =
+    (index : ℕ) (v : ImageValue) → slice_get (line_values line) index ≡ Some v → IsWellValue types objects number line index v
 
 -- an object's line
 pub record IsWellObject (types : List Declaration) (objects : List (Object ℕ)) (number : ℕ) (line : ObjectLine) : Type 0 where
@@ -134,7 +135,8 @@ IsHeld globals number = (i : ℕ) × (global : GlobalLine) × ((slice_get global
 -- the object with one number names that with another
 abbrev pub Names : List ObjectLine → ℕ → ℕ → Type 0
 Names objects from to =
-    (line : ObjectLine) × (i : ℕ) × (v : ImageValue) × ((slice_get objects from ≡ Some line) × ((slice_get (line_values line) i ≡ Some v) × (number_named v ≡ Some to)))
+    (line : ObjectLine) × (i : ℕ) × (v : ImageValue)
+    × ((slice_get objects from ≡ Some line) × ((slice_get (line_values line) i ≡ Some v) × (number_named v ≡ Some to)))
 
 -- the globals reach every object
 abbrev pub AreReached : List ObjectLine → List GlobalLine → Type 0

@@ -7,7 +7,7 @@ use Rattle.std.proofs.lemmas.List.{take_all}
 use Rattle.std.proofs.lemmas.List.Elements.{Contains-append_left, Contains-append_right, Contains-append_cases}
 use Rattle.std.proofs.lemmas.List.Sums.{sum_by-cons}
 use Rattle.std.proofs.lemmas.Option.{none-some, same_Some, slice_get_within, slice_get_cases, get_or_from_slice_get}
-use Rattle.gc_heap.proofs.SpacedLemmas.{only_item}
+use Rattle.gc_memory.proofs.ListLemmas.{only_item}
 use Rattle.gc_types.specs.declared.kind.Layouts.{Layouts}
 use Rattle.gc_types.specs.declared.value.Func.{Func}
 use Rattle.gc_owner.specs.declared.entry.GcClass.{GcClass}
@@ -17,7 +17,7 @@ use Rattle.gc_model.specs.Reach.{AreAll, Reached, by_start, by_step, object_valu
 use Rattle.gc_model.specs.Reads.{is_null}
 use Rattle.gc_model.specs.Stores.{StoreView}
 use Rattle.gc_model.specs.Table.{Slot, Table, Scoped, empty_slot, global_count}
-use Rattle.gc_model.specs.Values.{Object, Reference, Value, null, small, at, numeric, function, reference}
+use Rattle.gc_model.specs.Values.{Object, Reference, Value, null, small, at, numeric, function, continuation, reference}
 use Rattle.gc_model.proofs.Members.{contains_get, map_among}
 use Rattle.gc_policy.proofs.CollectedKept.{reached_placed}
 use Rattle.gc_policy.proofs.HeldNumber as held
@@ -101,6 +101,7 @@ pub record StandsAt (vs : List Value) (r : Reference) : Type 0 where
 first_stands : (v : Value) (vs : List Value) (r : Reference) → Contains (value_references v) r → StandsAt (v ∷ vs) r
 first_stands (numeric kind n) vs r c = absurd (let inside = c.1 in omega (arith, inside))
 first_stands (function f) vs r c = absurd (let inside = c.1 in omega (arith, inside))
+first_stands (continuation cont) vs r c = absurd (let inside = c.1 in omega (arith, inside))
 first_stands (reference class q) vs r c = record { index = 0; class = class; value = ap (λ x. Some (reference class x)) (only_item q r c) }
 
 pub among_values : (vs : List Value) (r : Reference) → Contains (flat_map value_references vs) r → StandsAt vs r
@@ -212,12 +213,9 @@ module _ (layouts : Layouts) (b : Basis ℕ) (count : ℕ) (s s' : StoreView ℕ
   agrees : Agrees ended.told position
   agrees n p e = get_or_from_slice_get ended.told n p 0 e
 
-  no_function : (slot : Slot) (g : Option Func) → ¬ (slot_value slot ≡ function g)
-  no_function slot g e = absurd (cc e)
-
   module _ (line : GlobalLine) (said : IsSaid goes.told b.table.globals line) where
     says_slot : SaysSlot position line.value said.slot
-    says_slot = slot_says position said.slot line.value (said.says.is (λ g e. no_function said.slot g e) position (λ n p e. agrees n p (ended.kept n p e)))
+    says_slot = slot_says position said.slot line.value (said.says.is refl position (λ n p e. agrees n p (ended.kept n p e)))
 
     names_number : (n : ℕ) → number_named line.value ≡ Some n → n < length ended.told
     names_number n e = below_kept goes.told ended.told ended.kept n (said.says.named n e)
@@ -240,7 +238,7 @@ module _ (layouts : Layouts) (b : Basis ℕ) (count : ℕ) (s s' : StoreView ℕ
           let o = object_there layouts b ended.told ended.total s' f' ended.progress n p at_p in
           let says = ended.says n p o.0 l at_p (ap (λ ls. slice_get ls n) (sym objects_are) ∙ at_l) o.1 in
           record {
-            is = o.1 ∙ ap Some (says.is (λ i v at_v g e. plain p i o.0 g o.1 (at_v ∙ ap Some e)) position agrees);
+            is = o.1 ∙ ap Some (says.is (λ i v at_v. plain p i o.0 v o.1 at_v) position agrees);
             shape = says.shape;
             named = says.named;
             fits = says.fits;

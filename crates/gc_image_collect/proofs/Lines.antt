@@ -31,7 +31,8 @@ use Rattle.gc_image.specs.declared.image.ObjectLine.TheVariants as line
 use Rattle.gc_image.specs.Images.{placed_value}
 use Rattle.gc_image.specs.Text.{FitsValue}
 use Rattle.gc_image.specs.Well.{IsPacked, as_value, number_named}
-use Rattle.gc_image_collect.specs.Progress.{Agrees, IsNoFunction, SaysFirst, SaysObject, SaysValue}
+use Rattle.gc_image_collect.specs.Collection.{is_plain}
+use Rattle.gc_image_collect.specs.Progress.{Agrees, SaysFirst, SaysObject, SaysValue}
 use Rattle.gc_image_collect.specs.Steps.{IsWordsLine}
 
 -- the numbers of a list of bytes are below 256
@@ -122,7 +123,7 @@ all_fit told [] (x ∷ ws) same each = absurd (omega (arith, same))
 all_fit told (v ∷ vs) (x ∷ ws) same each = ((each 0 v x refl refl).fits, all_fit told vs ws (omega (arith, same)) (λ j. each (suc j)))
 
 module _ (told : List ℕ) (vs : List Value) (ws : List ImageValue) (says : SaysFirst told (length vs) vs ws) where
-  values_placed : ((i : ℕ) (v : Value) → slice_get vs i ≡ Some v → IsNoFunction v) → (position : ℕ → ℕ) → Agrees told position → vs ≡ map (placed_value position) (map as_value ws)
+  values_placed : ((i : ℕ) (v : Value) → slice_get vs i ≡ Some v → is_plain v ≡ true) → (position : ℕ → ℕ) → Agrees told position → vs ≡ map (placed_value position) (map as_value ws)
   values_placed plain position agrees = words_are position vs ws says.same_count (λ i v x at_v at_x. (says.each i v x at_v at_x).is (plain i v at_v) position agrees)
 
   values_named : (i number : ℕ) (x : ImageValue) → slice_get ws i ≡ Some x → number_named x ≡ Some number → number < length told

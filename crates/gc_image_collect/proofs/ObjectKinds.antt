@@ -125,7 +125,7 @@ module _ (layouts : Layouts) (b : Basis ℕ) (told : List ℕ) (count : ℕ) (s 
         let held = named_held layouts s now b.place progress.holds.there.0 h (at reading.position) (names_one layouts b told count s f progress number o reading h at_h) in
         let placed = progress.holds.there.0.objects.placed reading.position held.0 held.1.0 in
         subst (λ (ts : List Declaration). IsDeclared ts o) (ap (λ (t : Table ℕ). t.types) progress.holds.grown.is)
-        (is_declared layouts now.types (naming b.place s.funcs) o placed.object
+        (is_declared layouts now.types (naming b.place s.ids) o placed.object
         (object_held layouts s now b.place progress.holds.there.0 reading.position held.0 o placed.object held.1.0 placed.in_heap (object_here layouts b told count s f progress number o reading h at_h)))
 
     pub words_taken : AreDeclared s.types → NoBytes s.types kind → (total : ℕ) (new : StoreView ℕ) (after : FoundParts) (ws : List ImageValue) (l : ObjectLine)

@@ -4,7 +4,7 @@ use Rattle.std.specs.List.{slice_get, flat_map}
 use Rattle.std.proofs.lemmas.List.Elements.{Contains-append_left, Contains-append_right}
 use Rattle.std.proofs.lemmas.Option.{none-some, same_Some, slice_get_within}
 use Rattle.gc_types.specs.declared.kind.Layouts.{Layouts}
-use Rattle.gc_model.specs.Values.{Reference, null, small, at, Value, numeric, i32, i64, f32, f64, v128, function, reference, Object}
+use Rattle.gc_model.specs.Values.{Reference, null, small, at, Value, numeric, i32, i64, f32, f64, v128, function, continuation, reference, Object}
 use Rattle.gc_model.specs.Reach.{object_values, value_references, by_step}
 use Rattle.gc_model.specs.Reads.{after_read, makes_root}
 use Rattle.gc_model.specs.Table.{Table, push}
@@ -43,6 +43,7 @@ raw_live_in layouts s t hold v (raw.F32 n) stands = tt
 raw_live_in layouts s t hold v (raw.F64 n) stands = tt
 raw_live_in layouts s t hold v (raw.V128 n) stands = tt
 raw_live_in layouts s t hold v (raw.Func f) stands = tt
+raw_live_in layouts s t hold v (raw.Cont cont) stands = tt
 raw_live_in layouts s t hold v (raw.Ref class None) stands = tt
 raw_live_in layouts s t hold v (raw.Ref class (Some h)) stands = record { table = t; holds = hold; root = stands.root; named = stands.named }
 
@@ -127,6 +128,7 @@ module _ {D : Type 0} (layouts : Layouts) (b : Basis D) (told : List ℕ) (count
   was_read (numeric f64 n) r reads there = plain_read (numeric f64 n) refl r (subst (λ (x : RawValue). RawStands new table x (numeric f64 n)) (sym reads.1.0) refl) there
   was_read (numeric v128 n) r reads there = plain_read (numeric v128 n) refl r (subst (λ (x : RawValue). RawStands new table x (numeric v128 n)) (sym reads.1.0) refl) there
   was_read (function g) r reads there = plain_read (function g) refl r (subst (λ (x : RawValue). RawStands new table x (function g)) (sym reads.1.0) refl) there
+  was_read (continuation cont) r reads there = plain_read (continuation cont) refl r (subst (λ (x : RawValue). RawStands new table x (continuation cont)) (sym reads.1.0) refl) there
   was_read (reference class null) r reads there = plain_read (reference class null) refl r (subst (λ (x : RawValue). RawStands new table x (reference class null)) (sym reads.1.0) refl) there
   was_read (reference class (small n)) r reads there = record {
     progress = progress_pushed layouts b told count s f progress new same (small n) (reads.0 refl) there;
@@ -142,6 +144,7 @@ module _ {D : Type 0} (layouts : Layouts) (b : Basis D) (told : List ℕ) (count
   makes_count : (v : Value) → makes_root v ≡ true → 1 ≡ value_count v
   makes_count (numeric kind n) e = absurd (cc)
   makes_count (function f) e = absurd (cc)
+  makes_count (continuation cont) e = absurd (cc)
   makes_count (reference class null) e = absurd (cc)
   makes_count (reference class (small n)) e = refl
   makes_count (reference class (at p)) e = refl

@@ -7,7 +7,7 @@ use Rattle.gc_model.specs.Table.{Table, Push}
 use Rattle.gc_policy.specs.Accounts.{Account, HoldsAccount}
 use Rattle.gc_image.specs.Images.{IsGlobal}
 use Rattle.gc_paths.specs.Answers.{LacksRoots, drops_after, held_count, present_count}
-use Rattle.gc_image_collect.specs.Collection.{HasNoFunctions, IsCollection}
+use Rattle.gc_image_collect.specs.Collection.{HasPlainValues, IsCollection}
 use Rattle.gc_image_collect.specs.declared.collect.Collected.{Collected}
 use Rattle.gc_image_collect.specs.declared.fault.CollectFault.{CollectFault}
 use Rattle.gc_image_collect.specs.declared.fault.CollectFault.TheVariants as fault
@@ -19,9 +19,9 @@ pub record NeedsRoots {D : Type 0} (t : Table D) (count : ℕ) : Type 0 where
   pub are : AreAll (IsGlobal t) reached
   pub count_is : count ≡ present_count (slot_references t.globals) + sum_by (λ p. held_count (slice_get t.objects p)) reached
 
--- the lines are what the globals reach, where no object has a function, and there is room for the roots that this needs
+-- the lines are what the globals reach, where no object has a function or a continuation, and there is room for the roots that this needs
 pub record Collects (t : Table ℕ) (collected : Collected) : Type 0 where
-  pub collection : HasNoFunctions t → IsCollection t collected
+  pub collection : HasPlainValues t → IsCollection t collected
   pub count : ℕ
   pub needs : NeedsRoots t count
   pub room : ¬ LacksRoots t count

@@ -1,10 +1,9 @@
 -- What the globals of a table reach, as the lines of an image.
-use Rattle.std.specs.Prelude.{◌≡◌, ◌<◌, ℕ, List, Option, Some, length, slice_get}
+use Rattle.std.specs.Prelude.{◌≡◌, ◌<◌, ℕ, Bool, true, false, List, Some, length, slice_get}
 use Rattle.std.specs.List.{AllByRecursion}
-use Rattle.gc_types.specs.declared.value.Func.{Func}
 use Rattle.gc_model.specs.Reach.{AreAll, object_values}
 use Rattle.gc_model.specs.Table.{Table}
-use Rattle.gc_model.specs.Values.{Object, function}
+use Rattle.gc_model.specs.Values.{Object, Value, numeric, function, continuation, reference}
 use Rattle.gc_image.specs.declared.image.ImageValue.{ImageValue}
 use Rattle.gc_image.specs.declared.image.ObjectLine.{ObjectLine}
 use Rattle.gc_image.specs.Images.{AreGlobals, IsGlobal, placed_object}
@@ -12,10 +11,17 @@ use Rattle.gc_image.specs.Text.{FitsGlobal, FitsObject}
 use Rattle.gc_image.specs.Well.{AreRising, AreWellGlobals, HasShape, as_object, line_values, number_named}
 use Rattle.gc_image_collect.specs.declared.collect.Collected.{Collected}
 
--- no value of an object is a function
-abbrev pub HasNoFunctions : {D : Type 0} → Table D → Type 0
-HasNoFunctions {D} t =
-    (p index : ℕ) (object : Object D) (f : Option Func) → slice_get t.objects p ≡ Some object → ¬ (slice_get (object_values object) index ≡ Some (function f))
+-- whether an image has a word for a value: a function and a continuation, and the values that are none, have none
+abbrev pub is_plain : Value → Bool
+is_plain (numeric kind n) = true
+is_plain (function f) = false
+is_plain (continuation c) = false
+is_plain (reference class r) = true
+
+-- it has one for each value of an object
+abbrev pub HasPlainValues : {D : Type 0} → Table D → Type 0
+HasPlainValues {D} t =
+    (p index : ℕ) (object : Object D) (v : Value) → slice_get t.objects p ≡ Some object → slice_get (object_values object) index ≡ Some v → is_plain v ≡ true
 
 -- The line is the object at a position, where the position of each number is known. Each number that it names is one of so many.
 pub record IsLineOf (t : Table ℕ) (position : ℕ → ℕ) (count p : ℕ) (line : ObjectLine) : Type 0 where

@@ -1,14 +1,13 @@
 -- What is known on the way: which roots were pushed, and which objects have numbers.
-use Rattle.std.specs.Prelude.{◌≡◌, ◌<◌, ◌+◌, ℕ, List, Some, Option, Result, Ok, Err, length, nat_eq, slice_get, sum_by}
+use Rattle.std.specs.Prelude.{◌≡◌, ◌<◌, ◌+◌, ℕ, true, List, Some, Option, Result, Ok, Err, length, nat_eq, slice_get, sum_by}
 use Rattle.std.specs.List.{Contains, IsDistinct}
 use Rattle.gc_types.specs.declared.kind.Layouts.{Layouts}
-use Rattle.gc_types.specs.declared.value.Func.{Func}
 use Rattle.gc_types.specs.Declarations.{Declaration}
 use Rattle.gc_owner.specs.declared.entry.GcClass.{GcClass}
 use Rattle.gc_model.specs.Reach.{object_values}
 use Rattle.gc_model.specs.Stores.{StoreView}
 use Rattle.gc_model.specs.Table.{Table}
-use Rattle.gc_model.specs.Values.{Object, Value, at, function, reference}
+use Rattle.gc_model.specs.Values.{Object, Value, at, reference}
 use Rattle.gc_store.specs.declared.root.GcRootIndex.{GcRootIndex}
 use Rattle.gc_store.specs.Roots.{NamesReference}
 use Rattle.gc_paths.specs.Answers.{LacksRoots, held_count}
@@ -20,6 +19,7 @@ use Rattle.gc_image.specs.Text.{FitsObject, FitsValue}
 use Rattle.gc_image.specs.Well.{HasShape, as_object, as_value, line_values, number_named}
 use Rattle.gc_image_collect.specs.declared.fault.CollectFault.{CollectFault}
 use Rattle.gc_image_collect.specs.declared.fault.CollectFault.TheVariants as fault
+use Rattle.gc_image_collect.specs.Collection.{is_plain}
 use Rattle.gc_image_collect.specs.Parts.{FoundParts}
 
 -- the objects at these positions have the numbers, each with a handle and by its word
@@ -57,12 +57,9 @@ AnswersPart layouts b Went Full (Err fault.Memory) s = Stopped layouts b s
 abbrev pub Agrees : List ℕ → (ℕ → ℕ) → Type 0
 Agrees told position = (number p : ℕ) → slice_get told number ≡ Some p → position number ≡ p
 
-abbrev pub IsNoFunction : Value → Type 0
-IsNoFunction v = (f : Option Func) → ¬ (v ≡ function f)
-
 -- A value's word in a line: it says the value, where the numbers stand for these positions.
 pub record SaysValue (told : List ℕ) (v : Value) (x : ImageValue) : Type 0 where
-  pub is : IsNoFunction v → (position : ℕ → ℕ) → Agrees told position → v ≡ placed_value position (as_value x)
+  pub is : is_plain v ≡ true → (position : ℕ → ℕ) → Agrees told position → v ≡ placed_value position (as_value x)
   pub named : (number : ℕ) → number_named x ≡ Some number → number < length told
   pub leads : (class : GcClass) (p : ℕ) → v ≡ reference class (at p) → Contains told p
   pub fits : FitsValue x
@@ -74,7 +71,7 @@ pub record SaysFirst (told : List ℕ) (count : ℕ) (values : List Value) (word
 
 -- An object's line.
 pub record SaysObject (types : List Declaration) (told : List ℕ) (o : Object ℕ) (line : ObjectLine) : Type 0 where
-  pub is : ((i : ℕ) (v : Value) → slice_get (object_values o) i ≡ Some v → IsNoFunction v) → (position : ℕ → ℕ) → Agrees told position → o ≡ placed_object position (as_object line)
+  pub is : ((i : ℕ) (v : Value) → slice_get (object_values o) i ≡ Some v → is_plain v ≡ true) → (position : ℕ → ℕ) → Agrees told position → o ≡ placed_object position (as_object line)
   pub shape : HasShape types line
   pub named : (i number : ℕ) (x : ImageValue) → slice_get (line_values line) i ≡ Some x → number_named x ≡ Some number → number < length told
   pub leads : (i : ℕ) (class : GcClass) (p : ℕ) → slice_get (object_values o) i ≡ Some (reference class (at p)) → Contains told p

@@ -25,7 +25,7 @@ pub struct Collected {
     pub globals: Vec<GlobalLine>,
 }
 
-/// Collects what the globals reach. A value that is a function has no line: null stands in its place.
+/// Collects what the globals reach. A function and a continuation have no word: null stands in their place.
 ///
 /// `RootsFull` where no roots can be pushed for all that is looked at: one for each reference in the globals and in these objects,
 /// that isn't null. The roots that were pushed are gone at the end, refused or not. Its time and memory are linear in the objects

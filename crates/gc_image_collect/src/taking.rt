@@ -64,7 +64,7 @@ pub(crate) fn take_reference<H: GcHeap>(
     }
 }
 
-/// A value that was read. A function has no word: null stands in its place.
+/// A value that was read. A function and a continuation have no word: null stands in their place.
 pub(crate) fn take_raw<H: GcHeap>(
     store: &Store<H, u64>,
     found: &mut Found,
@@ -82,6 +82,7 @@ pub(crate) fn take_raw<H: GcHeap>(
         RawValue::F64(bits) => Ok(ImageValue::F64(bits)),
         RawValue::V128(bits) => Ok(ImageValue::V128(bits)),
         RawValue::Func(_) => Ok(ImageValue::Ref(GcClass::Any, ImageReference::Null)),
+        RawValue::Cont(_) => Ok(ImageValue::Ref(GcClass::Any, ImageReference::Null)),
         RawValue::Ref(class, handle) => take_reference(store, found, class, handle),
     }
 }

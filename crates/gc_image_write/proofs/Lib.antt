@@ -7,6 +7,7 @@ mod ImageBack
 mod JoinLemmas
 mod KindLemmas
 mod LineBack
+pub mod LineBelow
 mod OrderLemmas
 mod PickLemmas
 mod ReachLemmas

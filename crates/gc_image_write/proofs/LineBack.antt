@@ -10,7 +10,7 @@ use Rattle.gc_types.specs.declared.value.StorageType.TheVariants as storage
 use Rattle.gc_types.specs.Declarations.{Declaration, elem_at}
 use Rattle.gc_model.specs.Reach.{object_values}
 use Rattle.gc_model.specs.Stored.{byte_value, value_type}
-use Rattle.gc_model.specs.Values.{Reference, null, small, at, Value, numeric, function, reference, NumberKind, i32, i64, f32, f64, v128, Object, struct, array, host, exception}
+use Rattle.gc_model.specs.Values.{Reference, null, small, at, Value, numeric, function, continuation, reference, NumberKind, i32, i64, f32, f64, v128, Object, struct, array, host, exception}
 use Rattle.gc_image.specs.declared.image.ImageReference.{ImageReference}
 use Rattle.gc_image.specs.declared.image.ImageReference.TheVariants as image_reference
 use Rattle.gc_image.specs.declared.image.ImageValue.{ImageValue}
@@ -21,7 +21,8 @@ use Rattle.gc_image.specs.Images.{placed_object, placed_reference, placed_value}
 use Rattle.gc_image.specs.Text.{FitsObject, FitsValue}
 use Rattle.gc_image.specs.Well.{HasShape, IsPacked, as_object, as_reference, as_value, line_values, number_named}
 use Rattle.gc_image_write.specs.Graphs.{named_in}
-use Rattle.gc_image_write.specs.Order.{AreBelow, IsBelow, IsLineBelow, early_in, early_of, is_early_in}
+use Rattle.gc_image_write.specs.Order.{AreBelow, IsBelow, early_in, early_of, is_early_in}
+use Rattle.gc_image_write.proofs.LineBelow.{IsLineBelow}
 use Rattle.gc_image_write.proofs.PickLemmas.{filter_renamed, map_cons}
 
 -- whether elements are spelled as bytes
@@ -37,6 +38,7 @@ are_bytes (Some elem) = is_byte elem.element_type
 abbrev byte_back : Value → ℕ
 byte_back (numeric kind n) = n
 byte_back (function f) = 0
+byte_back (continuation cont) = 0
 byte_back (reference class r) = 0
 
 module _ (back : ℕ → ℕ) where
@@ -55,6 +57,7 @@ module _ (back : ℕ → ℕ) where
   abbrev value_back : Value → ImageValue
   value_back (numeric kind n) = number_back kind n
   value_back (function f) = value.F32 0
+  value_back (continuation cont) = value.F32 0
   value_back (reference class r) = value.Ref class (reference_back r)
 
   abbrev array_back : Bool → ℕ → List Value → ObjectLine
@@ -71,6 +74,7 @@ module _ (back : ℕ → ℕ) where
 abbrev named_at : Value → Option ℕ
 named_at (numeric kind n) = None
 named_at (function f) = None
+named_at (continuation cont) = None
 named_at (reference class null) = None
 named_at (reference class (small n)) = None
 named_at (reference class (at p)) = Some p

@@ -45,7 +45,8 @@ pub record AreTangled (early : ℕ → ℕ → Option ℕ) : Type 0 where
 
 -- each object that a value of one of the objects names is one of them
 abbrev pub AreClosed : List ObjectLine → Type 0
-AreClosed objects = (from index named : ℕ) (line : ObjectLine) (v : ImageValue) → slice_get objects from ≡ Some line → slice_get (line_values line) index ≡ Some v
+AreClosed objects =
+    (from index named : ℕ) (line : ObjectLine) (v : ImageValue) → slice_get objects from ≡ Some line → slice_get (line_values line) index ≡ Some v
     → number_named v ≡ Some named → named < length objects
 
 -- what a value names is among so many objects, and so what the values of a line name
@@ -54,6 +55,3 @@ IsBelow count v = (number : ℕ) → number_named v ≡ Some number → number <
 
 abbrev pub AreBelow : ℕ → List ImageValue → Type 0
 AreBelow count values = (k : ℕ) (v : ImageValue) → slice_get values k ≡ Some v → IsBelow count v
-
-abbrev pub IsLineBelow : ℕ → ObjectLine → Type 0
-IsLineBelow count line = AreBelow count (line_values line)

@@ -20,7 +20,8 @@ use Rattle.gc_image.specs.Text.{FitsType}
 use Rattle.gc_image_write.specs.Plain.{IsPlain, IsPlainField, IsPlainHeap, IsPlainStorage, IsPlainVal}
 
 -- A word of a type: among types that know the type it spells that type, and its number is in range.
-pub record IsWordOf {A W : Type 0} (Known : List Declaration → A → Type 0) (Fits : W → Type 0) (read : (ℕ → Option TypeKind) → W → Option A) (x : A) (w : W) : Type 0 where
+pub record IsWordOf {A W : Type 0} (Known : List Declaration → A → Type 0) (Fits : W → Type 0)
+    (read : (ℕ → Option TypeKind) → W → Option A) (x : A) (w : W) : Type 0 where
   pub spelled : (types : List Declaration) → Known types x → read (kind_at types) w ≡ Some x
   pub fits : (types : List Declaration) → length types ≤ max_types → Known types x → Fits w
 

@@ -33,7 +33,8 @@ pub record IsWalk (early : ℕ → ℕ → Option ℕ) (w : WalkParts) : Type 0 
   pub waits : (x : ℕ) → slice_get w.marks x ≡ Some Open → (j : ℕ) × (f : Frame) × ((slice_get w.stack j ≡ Some f) × (f.object ≡ x))
   pub opened : (j : ℕ) (f : Frame) → slice_get w.stack j ≡ Some f → slice_get w.marks f.object ≡ Some Open
   pub apart : (j k : ℕ) (f g : Frame) → slice_get w.stack j ≡ Some f → slice_get w.stack k ≡ Some g → f.object ≡ g.object → j ≡ k
-  pub looked : (j : ℕ) (f : Frame) (index y : ℕ) → slice_get w.stack j ≡ Some f → index < f.next → early f.object index ≡ Some y → slice_get w.marks y ≡ Some Numbered
+  pub looked : (j : ℕ) (f : Frame) (index y : ℕ) → slice_get w.stack j ≡ Some f → index < f.next
+      → early f.object index ≡ Some y → slice_get w.marks y ≡ Some Numbered
   pub linked : (j : ℕ) (f g : Frame) → slice_get w.stack j ≡ Some f → slice_get w.stack (suc j) ≡ Some g → early f.object f.next ≡ Some g.object
 
 -- A walk went on: the order has grown, what was seen is seen.

@@ -3,7 +3,7 @@
 ghost use Rattle.std.specs.Prelude.{◌≡◌, ◌<◌, ℕ, Some, IsTrue, length, slice_get};
 ghost use Rattle.gc_image.specs.declared.image.ImageValue.{ImageValue};
 ghost use Rattle.gc_image.specs.Well.{IsHeld, number_named};
-ghost use Rattle.gc_image_write.specs.Order.{AreBelow, AreClosed, IsBelow, IsLineBelow};
+ghost use Rattle.gc_image_write.specs.Order.{AreBelow, AreClosed, IsBelow};
 
 use gc_image::{GlobalLine, ImageValue, ObjectLine, number_named, values_of};
 

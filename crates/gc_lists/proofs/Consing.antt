@@ -16,7 +16,7 @@ use Rattle.gc_types.specs.Declarations.{Declaration, struct_fields_at, declarati
 use Rattle.gc_owner.specs.declared.entry.GcClass.TheVariants.{Any}
 use Rattle.gc_model.specs.Values.{Reference, null, small, at, Value, numeric, i64, reference, Object, struct, number_bits}
 use Rattle.gc_model.specs.Fits.{fits}
-use Rattle.gc_model.specs.Functions.{max_entries}
+use Rattle.gc_model.specs.SideValues.{functions_full, conts_full, max_entries}
 use Rattle.gc_model.specs.Sizes.{fields_size}
 use Rattle.gc_model.specs.Stored.{stored_in}
 use Rattle.gc_model.specs.Table.{Table, make, leave, make_heap, with_pages}
@@ -133,10 +133,16 @@ module _ {D : Type 0} (layouts : Layouts) (s : StoreView D) (version : Option Gc
 
 -- No heap lacks ids for it, and it is not too large.
 module _ {D : Type 0} (layouts : Layouts) (s : StoreView D) (t : Table D) (holds : HoldsTable layouts s t) (ty bits : ℕ) (r : Reference) where
-  pub has_ids : lacks_ids (cell {D = D} ty bits r) t ≡ true → ⊥
+  pub has_ids : lacks_ids functions_full (cell {D = D} ty bits r) t ≡ true → ⊥
   has_ids full =
-      let few = holds.1.funcs.few in
-      let free : nat_lt max_entries (length t.funcs) ≡ false = grind (arith, nat_tests, few) in
+      let few = holds.1.interned.funcs.few in
+      let free : nat_lt max_entries (length t.interned.funcs) ≡ false = grind (arith, nat_tests, few) in
+      absurd (cc (sym full ∙ free))
+
+  pub has_cont_ids : lacks_ids conts_full (cell {D = D} ty bits r) t ≡ true → ⊥
+  has_cont_ids full =
+      let few = holds.1.interned.conts.few in
+      let free : nat_lt max_entries (length t.interned.conts) ≡ false = grind (arith, nat_tests, few) in
       absurd (cc (sym full ∙ free))
 
   small_cell : (l : Layouts) → too_large l (fields_size l (Some (cell_fields ty))) ≡ true → ⊥
@@ -287,6 +293,9 @@ module _ {D : Type 0} (layouts : Layouts) (s : StoreView D) (t : Table D) (a : A
 
     pub never_ids : Places layouts s.alloc_counter new_cell state limits' (Err place_fault.FuncTableFull) new → ⊥
     never_ids places = has_ids layouts s t holds kit.cell (number_bits w64 x) next places.0
+
+    pub never_cont_ids : Places layouts s.alloc_counter new_cell state limits' (Err place_fault.ContTableFull) new → ⊥
+    never_cont_ids places = has_cont_ids layouts s t holds kit.cell (number_bits w64 x) next places.0
 
     pub never_too_large : Places layouts s.alloc_counter new_cell state limits' (Err place_fault.TooLarge) new → ⊥
     never_too_large places = never_large layouts s t holds kit.cell (number_bits w64 x) next of places.0

@@ -83,6 +83,7 @@ module _ {D : Type 0} (layouts : Layouts) where
   pub places_limit : (counter : Option ℕ) (o : Object D) (p : PolicyState D) (limits' : Limits) (result : Result GcRootIndex PlaceFault) (new : StoreView D) → Places layouts counter o p limits' result new → limits'.limit ≡ limit_in p
   places_limit counter o p limits' (Ok handle) new places = ap (λ (l : Limits). l.limit) places.limits ∙ prepares_limit _ counter p places.prepares
   places_limit counter o p limits' (Err place_fault.FuncTableFull) new places = ap (λ (l : Limits). l.limit) places.1.limits
+  places_limit counter o p limits' (Err place_fault.ContTableFull) new places = ap (λ (l : Limits). l.limit) places.1.limits
   places_limit counter o p limits' (Err place_fault.TooLarge) new places = ap (λ (l : Limits). l.limit) places.1.limits
   places_limit counter o p limits' (Err place_fault.RootsFull) new places = ap (λ (l : Limits). l.limit) places.2.limits
   places_limit counter o p limits' (Err (place_fault.HeapOutOfMemory f)) new places = lacks_limit counter o p limits' _ new places

@@ -79,7 +79,7 @@ module _ {D : Type 0} (layouts : Layouts) (s : StoreView D) (t t' : Table D) (pl
       let stands = object_held layouts s t place holds p word (struct ty values) held.object is held.in_heap here in
       let kind : held'.object.kind ≡ StructRef = ap (λ (h : HeapObject). h.kind) (sym same) ∙ stands.kind in
       let type_is : held'.object.ty ≡ ty = ap (λ (h : HeapObject). h.ty) (sym same) ∙ stands.stands.same_type in
-      let found = kind_of_struct layouts t'.types (naming place' s.funcs) held'.entry held'.object ty kind type_is held'.stands in
+      let found = kind_of_struct layouts t'.types (naming place' s.ids) held'.entry held'.object ty kind type_is held'.stands in
       (found.0, held'.in_table ∙ ap Some found.1)
 
   -- a handle of a struct of a type names one in each table that the store holds

@@ -28,12 +28,21 @@ use Rattle.gc_lists.specs.Answers.{Copied, FailsToCopy}
 use Rattle.gc_lists.specs.Faults.{refused}
 use Rattle.gc_lists.specs.Frames.{ChangesRoots, Leaves, most_objects}
 use Rattle.gc_lists.specs.Lists.{IsList}
-use Rattle.gc_lists.specs.Progress.{NamesCell, IsCellIn, Steps, StepsTo, Pushed, HoldsPushed, Walked, WalkedAll, StopsWalk}
+use Rattle.gc_lists.specs.Progress.{NamesCell, IsCellIn, Steps, StepsTo, Pushed, HoldsPushed, WalkedAll, StopsWalk}
 use Rattle.gc_lists.specs.Refusals.{LacksScoped}
 use Rattle.gc_lists.specs.Versions.{IsListIn, StandsForList, VersionNames}
 use Rattle.gc_lists.proofs.CellReads.{first_cell}
 use Rattle.gc_lists.proofs.Keeping.{owned_same}
 use Rattle.gc_lists.proofs.Scopes.{next_scoped, left_scoped, full_lacks}
+
+-- These numbers were read, and the handle names the list of the rest.
+pub record Walked {D : Type 0} (layouts : Layouts) (t : Table D) (a : Account) (xs : List ℤ) (read : List ℤ) (here : Option GcRootIndex) (s : StoreView D) : Type 0 where
+  pub there : HoldsPushed layouts t a (length read) s
+  pub reference : Reference
+  pub names : HandleStands s there.now here reference
+  pub rest : List ℤ
+  pub is : IsList there.now.types there.now.objects reference rest
+  pub whole : xs ≡ read ++ rest
 
 -- a handle names in a store what it names in one that is the same
 pub names_moved : {D : Type 0} (s new : StoreView D) (t : Table D) (h : GcRootIndex) (r : Reference) → IsSameStore s new → NamesReference s t h r → NamesReference new t h r

@@ -21,6 +21,7 @@ number_in (raw.F32 n) = pos 0
 number_in (raw.F64 n) = pos 0
 number_in (raw.V128 n) = pos 0
 number_in (raw.Func f) = pos 0
+number_in (raw.Cont c) = pos 0
 number_in (raw.Ref class handle) = pos 0
 
 -- a cell: the bits of its number, and the next cell

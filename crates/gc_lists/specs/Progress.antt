@@ -64,15 +64,6 @@ pub record HoldsPushed {D : Type 0} (layouts : Layouts) (t : Table D) (a : Accou
   pub holds : HoldsAccount layouts s now a
   pub pushed : Pushed t now count
 
--- These numbers were read, and the handle names the list of the rest.
-pub record Walked {D : Type 0} (layouts : Layouts) (t : Table D) (a : Account) (xs : List ℤ) (read : List ℤ) (here : Option GcRootIndex) (s : StoreView D) : Type 0 where
-  pub there : HoldsPushed layouts t a (length read) s
-  pub reference : Reference
-  pub names : HandleStands s there.now here reference
-  pub rest : List ℤ
-  pub is : IsList there.now.types there.now.objects reference rest
-  pub whole : xs ≡ read ++ rest
-
 -- all numbers were read
 pub record WalkedAll {D : Type 0} (layouts : Layouts) (t : Table D) (a : Account) (xs : List ℤ) (read : List ℤ) (s : StoreView D) : Type 0 where
   pub there : HoldsPushed layouts t a (length xs) s

@@ -70,6 +70,7 @@ impl HeapList {
                 Err(fault) => Err(fault),
             },
             Err(PlaceFault::FuncTableFull) => unreachable!(),
+            Err(PlaceFault::ContTableFull) => unreachable!(),
             Err(PlaceFault::TooLarge) => unreachable!(),
             Err(PlaceFault::RootsFull) => Err(ListFault::RootsFull),
             Err(PlaceFault::HeapOutOfMemory(full)) => Err(ListFault::HeapOutOfMemory(full)),

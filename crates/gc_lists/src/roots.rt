@@ -58,6 +58,7 @@ pub fn raw_handle(value: &RawValue) -> Option<GcRootIndex>
         RawValue::F64(_) => None,
         RawValue::V128(_) => None,
         RawValue::Func(_) => None,
+        RawValue::Cont(_) => None,
         RawValue::Ref(_, handle) => *handle,
     }
 }
@@ -73,6 +74,7 @@ pub fn number_in(value: &RawValue) -> i64
         RawValue::F64(_) => 0,
         RawValue::V128(_) => 0,
         RawValue::Func(_) => 0,
+        RawValue::Cont(_) => 0,
         RawValue::Ref(..) => 0,
     }
 }

@@ -17,10 +17,10 @@ use Rattle.gc_types.specs.Values.{heap_top}
 use Rattle.gc_owner.specs.declared.entry.GcClass.{GcClass}
 use Rattle.gc_owner.specs.declared.entry.GcClass.TheVariants.{Any, Extern, Exn}
 use Rattle.gc_model.specs.Fits.{fits, has_class}
-use Rattle.gc_model.specs.Functions.{functions_of, object_functions}
+use Rattle.gc_model.specs.SideValues.{side_values, no_side_values}
 use Rattle.gc_model.specs.Forms.{top_form, storage_form, reference_of}
 use Rattle.gc_model.specs.Stored.{byte_value, stored}
-use Rattle.gc_model.specs.Values.{Reference, null, small, at, reference, Object}
+use Rattle.gc_model.specs.Values.{Reference, null, small, at, reference, Object, object_values}
 use Rattle.gc_model.proofs.Fitting.{fits-form}
 use Rattle.gc_image.specs.declared.image.ImageReference.TheVariants as image_reference
 use Rattle.gc_image.specs.declared.image.ImageValue.{ImageValue}
@@ -53,26 +53,26 @@ early_alike number (object.Bytes ty bytes) = (map byte_value bytes, refl)
 early_alike number (object.Host n) = (n, refl)
 early_alike number (object.Exn ty tag values) = (tag, (map (early_value number) values, refl))
 
--- it has no functions
-no_functions : (number : ℕ) (values : List ImageValue) → functions_of (map (early_value number) values) ≡ []
-no_functions number [] = refl
-no_functions number (value.I32 n ∷ values) = no_functions number values
-no_functions number (value.I64 n ∷ values) = no_functions number values
-no_functions number (value.F32 n ∷ values) = no_functions number values
-no_functions number (value.F64 n ∷ values) = no_functions number values
-no_functions number (value.V128 n ∷ values) = no_functions number values
-no_functions number (value.Ref class r ∷ values) = no_functions number values
+-- it has no functions and no continuations
+values_plain : (number : ℕ) (values : List ImageValue) → side_values (map (early_value number) values) ≡ no_side_values
+values_plain number [] = refl
+values_plain number (value.I32 n ∷ values) = values_plain number values
+values_plain number (value.I64 n ∷ values) = values_plain number values
+values_plain number (value.F32 n ∷ values) = values_plain number values
+values_plain number (value.F64 n ∷ values) = values_plain number values
+values_plain number (value.V128 n ∷ values) = values_plain number values
+values_plain number (value.Ref class r ∷ values) = values_plain number values
 
-bytes_functions : (bytes : List ℕ) → functions_of (map byte_value bytes) ≡ []
-bytes_functions [] = refl
-bytes_functions (b ∷ bytes) = bytes_functions bytes
+bytes_plain : (bytes : List ℕ) → side_values (map byte_value bytes) ≡ no_side_values
+bytes_plain [] = refl
+bytes_plain (b ∷ bytes) = bytes_plain bytes
 
-pub early_functions : (number : ℕ) (line : ObjectLine) → object_functions (early_object number line) ≡ []
-early_functions number (object.Struct ty values) = no_functions number values
-early_functions number (object.Array ty values) = no_functions number values
-early_functions number (object.Bytes ty bytes) = bytes_functions bytes
-early_functions number (object.Host n) = refl
-early_functions number (object.Exn ty tag values) = no_functions number values
+pub early_plain : (number : ℕ) (line : ObjectLine) → side_values (object_values (early_object number line)) ≡ no_side_values
+early_plain number (object.Struct ty values) = values_plain number values
+early_plain number (object.Array ty values) = values_plain number values
+early_plain number (object.Bytes ty bytes) = bytes_plain bytes
+early_plain number (object.Host n) = refl
+early_plain number (object.Exn ty tag values) = values_plain number values
 
 -- what is kept of a reference is that reference
 pub reference_stored : (ty : StorageType) (class : GcClass) (r : Reference) → stored ty (reference class r) ≡ reference class r

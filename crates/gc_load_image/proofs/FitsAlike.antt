@@ -14,7 +14,7 @@ use Rattle.gc_types.specs.Declarations.{Declaration}
 use Rattle.gc_owner.specs.declared.entry.GcClass.{GcClass}
 use Rattle.gc_owner.specs.declared.entry.GcClass.TheVariants.{Any, Extern, Exn}
 use Rattle.gc_view.specs.Heaps.{HeapObject}
-use Rattle.gc_model.specs.Values.{Reference, null, small, at, Value, numeric, i32, i64, f32, f64, v128, function, reference, Object, struct, array, host, exception}
+use Rattle.gc_model.specs.Values.{Reference, null, small, at, Value, numeric, i32, i64, f32, f64, v128, function, continuation, reference, Object, struct, array, host, exception}
 use Rattle.gc_model.specs.Fits.{object_fits_any, object_fits_extern, object_fits_exn, reference_fits, fits_type, fits}
 use Rattle.gc_model.specs.Forms.{Names}
 use Rattle.gc_model.specs.Standing.{Stands}
@@ -45,6 +45,7 @@ AlikeReference os os' (at p) r = (q : ℕ) × ((r ≡ at q) × ((o : Object ℕ)
 abbrev pub AlikeValue : List (Object ℕ) → List (Object ℕ) → Value → Value → Type 0
 AlikeValue os os' (numeric kind n) v = v ≡ numeric kind n
 AlikeValue os os' (function f) v = v ≡ function f
+AlikeValue os os' (continuation cont) v = v ≡ continuation cont
 AlikeValue os os' (reference class r) v = (q : Reference) × ((v ≡ reference class q) × AlikeReference os os' r q)
 
 module _ (types : List Declaration) where
@@ -95,6 +96,7 @@ module _ (types : List Declaration) where
     type_alike val.F64 (numeric f64 n) w is e = ap (fits_type types os' val.F64) is
     type_alike val.V128 (numeric v128 n) w is e = ap (fits_type types os' val.V128) is
     type_alike (val.Ref ty) (function f) w is e = ap (fits_type types os' (val.Ref ty)) is ∙ e
+    type_alike (val.Ref ty) (continuation cont) w is e = ap (fits_type types os' (val.Ref ty)) is ∙ e
     type_alike (val.Ref ty) (reference class r) w is e = ap (fits_type types os' (val.Ref ty)) is.1.0 ∙ reference_alike ty class r is.0 is.1.1 e
     type_alike _ _ w is e = absurd (cc)
 
@@ -146,7 +148,7 @@ module _ (layouts : Layouts) (s : StoreView ℕ) (t u : Table ℕ) (place place'
             (
               other.in_table,
               subst (λ (x : Object ℕ). AlikeObject x other.entry) same
-                  (stand_alike layouts t.types u.types (naming place s.funcs) (naming place' s.funcs) one.object one.entry other.entry one.stands (subst (λ (h : HeapObject). Stands layouts u.types (naming place' s.funcs) other.entry h) there' other.stands)),
+                  (stand_alike layouts t.types u.types (naming place s.ids) (naming place' s.ids) one.object one.entry other.entry one.stands (subst (λ (h : HeapObject). Stands layouts u.types (naming place' s.ids) other.entry h) there' other.stands)),
             ),
           ),
     ),
@@ -167,6 +169,7 @@ module _ (layouts : Layouts) (s : StoreView ℕ) (t u : Table ℕ) (holds : Hold
   given_alike (raw.F64 n) v w is is' = subst (λ (x : Value). AlikeValue t.objects u.objects x w) (sym is) is'
   given_alike (raw.V128 n) v w is is' = subst (λ (x : Value). AlikeValue t.objects u.objects x w) (sym is) is'
   given_alike (raw.Func f) v w is is' = subst (λ (x : Value). AlikeValue t.objects u.objects x w) (sym is) is'
+  given_alike (raw.Cont cont) v w is is' = subst (λ (x : Value). AlikeValue t.objects u.objects x w) (sym is) is'
   given_alike (raw.Ref class None) v w is is' = subst (λ (x : Value). AlikeValue t.objects u.objects x w) (sym is) (null, (is', refl))
   given_alike (raw.Ref class (Some handle)) v w is is' =
       subst (λ (x : Value). AlikeValue t.objects u.objects x w) (sym is.is) (is'.root, (is'.is, handles_alike handle is.root is'.root is.named is'.named))
@@ -183,6 +186,7 @@ given_live layouts s t holds (raw.F32 n) v is = tt
 given_live layouts s t holds (raw.F64 n) v is = tt
 given_live layouts s t holds (raw.V128 n) v is = tt
 given_live layouts s t holds (raw.Func f) v is = tt
+given_live layouts s t holds (raw.Cont cont) v is = tt
 given_live layouts s t holds (raw.Ref class None) v is = tt
 given_live layouts s t holds (raw.Ref class (Some handle)) v is = record { table = t; holds = holds; root = is.root; named = is.named }
 

@@ -134,6 +134,7 @@ no_number s t (raw.F32 n) class r is none = cc is
 no_number s t (raw.F64 n) class r is none = cc is
 no_number s t (raw.V128 n) class r is none = cc is
 no_number s t (raw.Func f) class r is none = cc is
+no_number s t (raw.Cont cont) class r is none = cc is
 no_number s t (raw.Ref c h) class r is none = none c h refl
 
 a_reference : (v : ImageValue) → IsReferenceValue v → (class : GcClass) × ((r : ImageReference) × (v ≡ value.Ref class r))

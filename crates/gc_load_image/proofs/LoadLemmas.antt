@@ -13,7 +13,7 @@ use Rattle.gc_model.specs.Allocation.{Limits}
 use Rattle.gc_model.specs.Reach.{Reached, by_start, by_step, references_in, root_references, slot_references, value_references, object_values}
 use Rattle.gc_model.specs.Stores.{StoreView}
 use Rattle.gc_model.specs.Table.{Scoped, Slot, Table, leave, start}
-use Rattle.gc_model.specs.Values.{Reference, at, Value, numeric, function, reference, Object, struct, array, host, exception}
+use Rattle.gc_model.specs.Values.{Reference, at, Value, numeric, function, continuation, reference, Object, struct, array, host, exception}
 use Rattle.gc_policy.specs.Accounts.{Account, HoldsAccount, no_account}
 use Rattle.gc_policy.proofs.CollectedKept.{reached_placed}
 use Rattle.gc_policy.proofs.CollectedLists.{flat_contains}
@@ -72,7 +72,7 @@ making_start layouts lines s first most owned types holds = record {
   standing = record {
     holds = holds;
     named = λ number handle e. absurd (none-some handle e);
-    unused = record { drops = refl; owns = refl; funcs = refl };
+    unused = record { drops = refl; owns = refl; interned = refl };
     frames = refl;
     owned = refl;
     pending = refl;
@@ -91,6 +91,7 @@ placed_values (v ∷ vs) = ap₂ (λ x xs. x ∷ xs) (one v) (placed_values vs)
     one : (v : Value) → placed_value (λ n. n) v ≡ v
     one (numeric kind n) = refl
     one (function f) = refl
+    one (continuation cont) = refl
     one (reference c r) = ap (reference c) (placed_self r)
 
 placed_object_self : (o : Object ℕ) → placed_object (λ n. n) o ≡ o
@@ -258,7 +259,7 @@ declare_stops layouts image well limits most first owned types new holds fault.M
   table = with_types types (start first most owned);
   account = no_account;
   holds = holds;
-  alone = record { scoped = refl; frames = refl; owned = refl; pending = refl; owns = refl; funcs = refl; drops = omega arith };
+  alone = record { scoped = refl; frames = refl; owned = refl; pending = refl; owns = refl; interned = refl; drops = omega arith };
   unset = refl;
   well = well;
   types = front well.types well.declared;
@@ -288,7 +289,7 @@ not_begun layouts bytes limits s why holds types cause = record {
   table = start s.first s.max_scoped s.max_owned;
   account = no_account;
   holds = holds;
-  alone = record { scoped = refl; frames = refl; owned = refl; pending = refl; owns = refl; funcs = refl; drops = omega arith };
+  alone = record { scoped = refl; frames = refl; owned = refl; pending = refl; owns = refl; interned = refl; drops = omega arith };
   unset = refl;
   types = types;
   cause = cause;

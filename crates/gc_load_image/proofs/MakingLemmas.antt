@@ -14,7 +14,7 @@ use Rattle.gc_types.specs.Layouts.{round_up}
 use Rattle.gc_view.specs.Pages.{max_pages}
 use Rattle.gc_view.specs.Sizes.{alignment, need_of}
 use Rattle.gc_model.specs.Allocation.{Limits, LacksMemory, MayRefuse, Rose, asked, no_heap, no_room, too_large}
-use Rattle.gc_model.specs.Functions.{with_functions}
+use Rattle.gc_model.specs.SideValues.{SideValues, with_side_values}
 use Rattle.gc_model.specs.Live.{rooted_among}
 use Rattle.gc_model.specs.OwnedRoots.{owned_among}
 use Rattle.gc_model.specs.Reach.{IsReached, root_references, by_start}
@@ -41,7 +41,7 @@ use Rattle.gc_load_image.specs.Stages.{Counts, Goes, IsDense, MadeNext, MakesNex
 use Rattle.gc_load_image.proofs.AskLemmas.{AsksBy, prepares_asks, refused_first, refused_pages, too_many, unrefused}
 use Rattle.gc_load_image.proofs.DenseLemmas.{Lies, still_lies}
 use Rattle.gc_load_image.proofs.DenseMade.{dense_made}
-use Rattle.gc_load_image.proofs.EarlyLemmas.{AreMade, early_alike, early_at, early_functions, early_length, early_push}
+use Rattle.gc_load_image.proofs.EarlyLemmas.{AreMade, early_alike, early_at, early_plain, early_length, early_push}
 use Rattle.gc_load_image.proofs.PushedRoots.{named_pushed, new_named}
 use Rattle.gc_load_image.proofs.RoomLemmas.{Laid, lacks_full}
 use Rattle.gc_load_image.proofs.SettingsLemmas.{settings_held, settings_twice, unused_like}
@@ -211,7 +211,7 @@ module _ (layouts : Layouts) (lines : List ObjectLine) (handles : List GcRootInd
       max_owned : u.max_owned ≡ t.max_owned
       drops : u.drops ≡ t.drops
       owns : u.owns ≡ t.owns
-      funcs : u.funcs ≡ t.funcs
+      interned : u.interned ≡ t.interned
       frames : u.frames ≡ t.frames
       owned : u.owned ≡ t.owned
       pending : u.pending ≡ t.pending
@@ -221,10 +221,10 @@ module _ (layouts : Layouts) (lines : List ObjectLine) (handles : List GcRootInd
     still_as u v is still = subst Still (sym is) still
 
     still_itself : Still t
-    still_itself = record { types = refl; first = refl; max_scoped = refl; max_owned = refl; drops = refl; owns = refl; funcs = refl; frames = refl; owned = refl; pending = refl; globals = refl }
+    still_itself = record { types = refl; first = refl; max_scoped = refl; max_owned = refl; drops = refl; owns = refl; interned = refl; frames = refl; owned = refl; pending = refl; globals = refl }
 
     still_pages : (pages : ℕ) → Still (with_pages pages t)
-    still_pages pages = record { types = refl; first = refl; max_scoped = refl; max_owned = refl; drops = refl; owns = refl; funcs = refl; frames = refl; owned = refl; pending = refl; globals = refl }
+    still_pages pages = record { types = refl; first = refl; max_scoped = refl; max_owned = refl; drops = refl; owns = refl; interned = refl; frames = refl; owned = refl; pending = refl; globals = refl }
 
     -- it stopped with such a table
     stops_at : (u : Table ℕ) (b : Account) → HoldsAccount layouts new u b → Still u → (why : LoadFault) → StopCause layouts s.types lines limits limits' (1 + line_count line) s why u
@@ -234,7 +234,7 @@ module _ (layouts : Layouts) (lines : List ObjectLine) (handles : List GcRootInd
         table = u;
         account = b;
         holds = holds;
-        unused = unused_like t u still.drops still.owns still.funcs p.standing.unused;
+        unused = unused_like t u still.drops still.owns still.interned p.standing.unused;
         frames = still.frames ∙ p.standing.frames;
         owned = still.owned ∙ p.standing.owned;
         pending = still.pending ∙ p.standing.pending;
@@ -308,7 +308,7 @@ module _ (layouts : Layouts) (lines : List ObjectLine) (handles : List GcRootInd
       standing_next = record {
         holds = holds_next;
         named = named_next;
-        unused = unused_like t next refl refl (ap (λ (fs : List (Option Func)). with_functions fs t.funcs) (early_functions k line)) p.standing.unused;
+        unused = unused_like t next refl refl (ap (λ (given : SideValues). with_side_values given t.interned) (early_plain k line)) p.standing.unused;
         frames = p.standing.frames;
         owned = p.standing.owned;
         pending = p.standing.pending;

@@ -22,8 +22,8 @@ settings_held layouts s new t u a b before after first scoped owned = record {
 }
 
 -- a table that changed elsewhere
-pub unused_like : (t u : Table ℕ) → u.drops ≡ t.drops → u.owns ≡ t.owns → u.funcs ≡ t.funcs → IsUnused t → IsUnused u
-unused_like t u drops owns funcs unused = record { drops = drops ∙ unused.drops; owns = owns ∙ unused.owns; funcs = funcs ∙ unused.funcs }
+pub unused_like : (t u : Table ℕ) → u.drops ≡ t.drops → u.owns ≡ t.owns → u.interned ≡ t.interned → IsUnused t → IsUnused u
+unused_like t u drops owns interned unused = record { drops = drops ∙ unused.drops; owns = owns ∙ unused.owns; interned = interned ∙ unused.interned }
 
 one_end : (drops : ℕ) (b : Bool) → drops ≡ 0 → cond b (min (drops + 1) (2 ^ 64 - 1)) drops ≤ 1
 one_end drops true none = omega (arith, none)
@@ -37,6 +37,6 @@ left_alone t unused frames owned pending = record {
   owned = owned;
   pending = pending;
   owns = unused.owns;
-  funcs = unused.funcs;
+  interned = unused.interned;
   drops = one_end t.drops (nat_lt 0 (length t.scoped)) unused.drops;
 }

@@ -30,6 +30,7 @@ raw_stays s new t u stays (raw.F32 n) v is = is
 raw_stays s new t u stays (raw.F64 n) v is = is
 raw_stays s new t u stays (raw.V128 n) v is = is
 raw_stays s new t u stays (raw.Func f) v is = is
+raw_stays s new t u stays (raw.Cont cont) v is = is
 raw_stays s new t u stays (raw.Ref class None) v is = is
 raw_stays s new t u stays (raw.Ref class (Some handle)) v is = record { root = is.root; named = stays handle is.root is.named; is = is.is }
 

@@ -9,6 +9,7 @@ use Rattle.gc_view.specs.Sizes.{alignment, need_of}
 use Rattle.gc_model.specs.Allocation.{Limits, MayRefuse, Rose, asked, skipped, too_large}
 use Rattle.gc_model.specs.Sizes.{object_size}
 use Rattle.gc_model.specs.Stores.{StoreView}
+use Rattle.gc_model.specs.SideValues.{no_side_values}
 use Rattle.gc_model.specs.Table.{Table, empty_slot, global_count}
 use Rattle.gc_policy.specs.Accounts.{Account, HoldsAccount}
 use Rattle.gc_image.specs.declared.image.GlobalLine.{GlobalLine}
@@ -87,14 +88,14 @@ pub record HasTooLarge (layouts : Layouts) (types : List Declaration) (lines : L
   pub large : too_large layouts (line_size layouts types line) ≡ true
 
 -- no root stands but globals: no scoped root, no frame, no owned root with handles, and no pending exception; nor was an owned root made
--- before or a function value interned, and at most one scope end dropped a root
+-- before or a function value or a continuation interned, and at most one scope end dropped a root
 pub record HasGlobalsAlone (t : Table ℕ) : Type 0 where
   pub scoped : t.scoped ≡ []
   pub frames : t.frames ≡ []
   pub owned : t.owned ≡ []
   pub pending : t.pending ≡ None
   pub owns : t.owns ≡ 0
-  pub funcs : t.funcs ≡ []
+  pub interned : t.interned ≡ no_side_values
   pub drops : t.drops ≤ 1
 
 -- the image of these bytes was loaded, which has so many objects

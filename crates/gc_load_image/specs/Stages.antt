@@ -11,6 +11,7 @@ use Rattle.gc_model.specs.Live.{roots_full}
 use Rattle.gc_model.specs.Sizes.{block_of}
 use Rattle.gc_model.specs.Stored.{stored, stored_in, byte_value}
 use Rattle.gc_model.specs.Stores.{StoreView}
+use Rattle.gc_model.specs.SideValues.{no_side_values}
 use Rattle.gc_model.specs.Table.{Table, Slot, empty_slot, global_count}
 use Rattle.gc_model.specs.Values.{Reference, null, small, at, Value, reference, Object, struct, array, host, exception}
 use Rattle.gc_model.specs.Words.{Placing}
@@ -106,11 +107,11 @@ abbrev pub early_objects : ℕ → List ObjectLine → List (Object ℕ)
 early_objects number [] = []
 early_objects number (line ∷ lines) = early_object number line ∷ early_objects (number + 1) lines
 
--- no number was used up: no scope end dropped a root, no owned root was made, and no function value interned
+-- no number was used up: no scope end dropped a root, no owned root was made, and no function value or continuation interned
 pub record IsUnused (t : Table ℕ) : Type 0 where
   pub drops : t.drops ≡ 0
   pub owns : t.owns ≡ 0
-  pub funcs : t.funcs ≡ []
+  pub interned : t.interned ≡ no_side_values
 
 -- What is so of a table all the while: no roots stand in it but scoped ones, of which the handles name objects by their numbers.
 pub record Standing (layouts : Layouts) (handles : List GcRootIndex) (s : StoreView ℕ) (t : Table ℕ) (a : Account) : Type 0 where

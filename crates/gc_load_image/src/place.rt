@@ -33,8 +33,9 @@ fn place<H: GcHeap, L: ResourceLimiter>(
 {
     match store.place(limiter, request, contents) {
         Ok(handle) => Ok(handle),
-        // No image has function values.
+        // No image has functions or continuations.
         Err(PlaceFault::FuncTableFull) => Err(LoadFault::Memory),
+        Err(PlaceFault::ContTableFull) => Err(LoadFault::Memory),
         Err(PlaceFault::TooLarge) => Err(LoadFault::TooLarge),
         Err(PlaceFault::RootsFull) => Err(LoadFault::RootsFull),
         Err(PlaceFault::HeapOutOfMemory(fault)) => Err(LoadFault::HeapOutOfMemory(fault)),

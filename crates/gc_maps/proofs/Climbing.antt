@@ -10,12 +10,13 @@ use Rattle.gc_store.specs.Stores.{IsSameStore}
 use Rattle.gc_lists.specs.declared.fault.ListFault.{ListFault}
 use Rattle.gc_lists.specs.declared.kit.Kit.{Kit}
 use Rattle.gc_lists.specs.Kits.{IsNodeType}
+use Rattle.gc_lists.specs.Frames.{Leaves}
 use Rattle.gc_maps.specs.declared.part.Frame.{Frame}
 use Rattle.gc_maps.specs.declared.part.Opened.{Opened}
 use Rattle.gc_maps.specs.declared.part.Part.{Part}
 use Rattle.gc_maps.specs.Trees.{Tree, height, pairs, IsBalanced}
 use Rattle.gc_maps.specs.Parts.{RootIs, PartIs, RootIn}
-use Rattle.gc_maps.specs.Paths.{IsPath, Rises, Climbs, IsBuilt}
+use Rattle.gc_maps.specs.Paths.{IsPath, Rises, IsBuilt}
 use Rattle.gc_maps.specs.Lowering.{IsJoinable, IsJoined, JoinableIn}
 use Rattle.gc_maps.specs.Ends.{Ends, Grows}
 use Rattle.gc_maps.proofs.Naming.{keeps_then}
@@ -24,6 +25,11 @@ use Rattle.gc_maps.proofs.Growing.{grows_none, grows_then, grows_under, grows_wi
 use Rattle.gc_maps.proofs.Steps.{refused_after, ends_within, nodes_later}
 use Rattle.gc_maps.proofs.Rising.{path_high, path_balanced, other_in, read, can_join, joinable, left_of, right_of, lifted}
 use Rattle.gc_maps.proofs.WayLemmas.{Popped, path_pop}
+
+-- So many nodes of the way were made anew.
+pub record Climbs {D : Type 0} (layouts : Layouts) (limit : Option ℕ) (kit : Kit) (t : Table D) (whole : Tree) (turns : ℕ) (frames : List Frame) (s : StoreView D) (part : Part) (entries : List (ℤ × ℤ)) : Type 0 where
+  pub leaves : Leaves layouts (λ u. Grows limit kit (3 * turns) (7 * turns) t u × Rises s u kit.node whole frames part entries) s
+  pub few : length frames + turns ≤ 92
 
 module _ {D : Type 0} (layouts : Layouts) (limit : Option ℕ) (kit : Kit) (s0 : StoreView D) (t : Table D) (a : Account) (holds : HoldsAccount layouts s0 t a) (whole : Tree) (entries : List (ℤ × ℤ)) (balanced : IsBalanced whole)
     (low : height whole < 92) where

@@ -16,7 +16,7 @@ use Rattle.gc_maps.specs.declared.part.Frame.{Frame}
 use Rattle.gc_maps.specs.declared.part.Node.{Node}
 use Rattle.gc_maps.specs.Trees.{Tree, leaf, node, height, pairs}
 use Rattle.gc_maps.specs.Parts.{RootIs, NodeIs, NodeIn}
-use Rattle.gc_maps.specs.Paths.{TakesSide, IsPath, Reaches, Descends, Descended, away}
+use Rattle.gc_maps.specs.Paths.{TakesSide, IsPath, Descended, away}
 use Rattle.gc_maps.specs.Searching.{IsSearch, toward}
 use Rattle.gc_maps.specs.Ends.{Pushes, EndsReading}
 use Rattle.gc_maps.proofs.Naming.{Keeps, held_table, root_kept}
@@ -25,6 +25,20 @@ use Rattle.gc_maps.proofs.NodeReads.{not_null, refused_later}
 use Rattle.gc_maps.proofs.Growing.{pushes_none, pushes_then, pushes_keep}
 use Rattle.gc_maps.proofs.Lookups.{pushes_within, refused_within, root_low, left_search, right_search}
 use Rattle.gc_maps.proofs.WayLemmas.{LastStep, path_push}
+
+-- Frames lead from a whole tree to a part of it, and a key is put into the whole as into that part.
+pub record Reaches {D : Type 0} (s : StoreView D) (t : Table D) (ty : ℕ) (whole : Tree) (key : ℤ) (frames : List Frame) (here : Tree) : Type 0 where
+  pub before : List (ℤ × ℤ)
+  pub behind : List (ℤ × ℤ)
+  pub path : IsPath s t ty frames here whole before behind
+  pub puts : (value : ℤ) → put int_cmp key value (pairs whole) ≡ before ++ (put int_cmp key value (pairs here) ++ behind)
+
+-- So many nodes were read on the way down.
+pub record Descends {D : Type 0} (layouts : Layouts) (t : Table D) (ty : ℕ) (tree : Tree) (key : ℤ) (read : ℕ) (frames : List Frame) (s : StoreView D) (here : Option GcRootIndex) : Type 0 where
+  pub part : Tree
+  pub leaves : Leaves layouts (λ u. Pushes (2 * read) t u × (RootIs s u ty here part × Reaches s u ty tree key frames part)) s
+  pub search : IsSearch part
+  pub low : height part + read ≤ height tree
 
 -- a way stays as a table grows
 module _ {D : Type 0} (s : StoreView D) (t : Table D) (s' : StoreView D) (u : Table D) (keeps : Keeps s t s' u) (ty : ℕ) where

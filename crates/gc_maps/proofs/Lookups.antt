@@ -13,17 +13,27 @@ use Rattle.gc_policy.specs.Accounts.{Account, HoldsAccount}
 use Rattle.gc_store.specs.declared.root.GcRootIndex.{GcRootIndex}
 use Rattle.gc_lists.specs.declared.fault.ListFault.{ListFault}
 use Rattle.gc_lists.specs.declared.fault.ListFault.TheVariants as fault
+use Rattle.gc_lists.specs.Frames.{Leaves}
 use Rattle.gc_maps.specs.declared.part.Node.{Node}
 use Rattle.gc_maps.specs.Trees.{Tree, leaf, node, height, pairs}
 use Rattle.gc_maps.specs.Maps.{IsTree}
 use Rattle.gc_maps.specs.Parts.{RootIs, NodeIs, NodeIn}
-use Rattle.gc_maps.specs.Searching.{IsSearch, Looks, toward}
+use Rattle.gc_maps.specs.Searching.{IsSearch, toward}
 use Rattle.gc_maps.specs.Ends.{Pushes, EndsReading}
 use Rattle.gc_maps.proofs.Naming.{held_table}
 use Rattle.gc_maps.proofs.Entries.{around, AllBelow, below_further, above_further, find_past, find_front, lesser}
 use Rattle.gc_maps.proofs.Sizes.{AllFit, fit_append, low_height}
 use Rattle.gc_maps.proofs.NodeReads.{not_null, number_fits, refused_later}
 use Rattle.gc_maps.proofs.Growing.{pushes_none, pushes_then}
+
+-- So many nodes were read, and a key is found in the tree that is looked at now exactly as in the whole.
+pub record Looks {D : Type 0} (layouts : Layouts) (t : Table D) (ty : ℕ) (tree : Tree) (key : ℤ) (read before now : ℕ) (s : StoreView D) (here : Option GcRootIndex) : Type 0 where
+  pub part : Tree
+  pub leaves : Leaves layouts (λ u. Pushes (2 * read) t u × RootIs s u ty here part) s
+  pub search : IsSearch part
+  pub found : find int_cmp key (pairs tree) ≡ find int_cmp key (pairs part)
+  pub low : height part + read ≤ height tree
+  pub counted : now ≡ before + read
 
 pub pushes_within : {D : Type 0} (m n : ℕ) (t u : Table D) → m ≤ n → Pushes m t u → Pushes n t u
 pushes_within m n t u below pushes = let few = pushes.few in record { scoped = pushes.scoped; few = omega (arith, few, below); pushes = pushes.pushes; rest = pushes.rest }

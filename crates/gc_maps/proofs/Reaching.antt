@@ -11,9 +11,9 @@ use Rattle.std.proofs.lemmas.Map.Keys.{IsDistinct-cons}
 use Rattle.std.proofs.lemmas.Option.{same_Some}
 use Rattle.gc_types.specs.Declarations.{Declaration}
 use Rattle.gc_model.specs.Reach.{HasNumber, NamesPosition, Reached, by_start, by_step, references_in}
-use Rattle.gc_model.specs.Values.{Reference, at, Value, numeric, function, reference, Object, struct, array, host, exception}
+use Rattle.gc_model.specs.Values.{Reference, at, Value, numeric, function, continuation, reference, Object, struct, array, host, exception}
 use Rattle.gc_model.proofs.Members.{get_contains}
-use Rattle.gc_heap.proofs.SpacedLemmas.{only_item}
+use Rattle.gc_memory.proofs.ListLemmas.{only_item}
 use Rattle.gc_lists.specs.Cells as cells
 use Rattle.gc_maps.specs.Maps.{IntMap, IsMap, IsTree}
 use Rattle.gc_maps.specs.Trees.{Tree, leaf, node, height, pairs}
@@ -24,6 +24,7 @@ abbrev key_of : List Value → ℤ
 key_of [] = pos 0
 key_of (numeric kind bits ∷ values) = cells.number_of bits
 key_of (function f ∷ values) = pos 0
+key_of (continuation c ∷ values) = pos 0
 key_of (reference class r ∷ values) = pos 0
 
 abbrev key_in : {D : Type 0} → Option (Object D) → ℤ

@@ -24,6 +24,7 @@ long_in (raw.F32 n) = pos 0
 long_in (raw.F64 n) = pos 0
 long_in (raw.V128 n) = pos 0
 long_in (raw.Func f) = pos 0
+long_in (raw.Cont c) = pos 0
 long_in (raw.Ref class handle) = pos 0
 
 abbrev pub int_in : RawValue → ℤ
@@ -33,6 +34,7 @@ int_in (raw.F32 n) = pos 0
 int_in (raw.F64 n) = pos 0
 int_in (raw.V128 n) = pos 0
 int_in (raw.Func f) = pos 0
+int_in (raw.Cont c) = pos 0
 int_in (raw.Ref class handle) = pos 0
 
 -- a root names the reference, or there is none and it is null

@@ -53,20 +53,6 @@ away read Less = read.right
 away read Equal = read.left
 away read Greater = read.left
 
--- Frames lead from a whole tree to a part of it, and a key is put into the whole as into that part.
-pub record Reaches {D : Type 0} (s : StoreView D) (t : Table D) (ty : ℕ) (whole : Tree) (key : ℤ) (frames : List Frame) (here : Tree) : Type 0 where
-  pub before : List (ℤ × ℤ)
-  pub behind : List (ℤ × ℤ)
-  pub path : IsPath s t ty frames here whole before behind
-  pub puts : (value : ℤ) → put int_cmp key value (pairs whole) ≡ before ++ (put int_cmp key value (pairs here) ++ behind)
-
--- So many nodes were read on the way down.
-pub record Descends {D : Type 0} (layouts : Layouts) (t : Table D) (ty : ℕ) (tree : Tree) (key : ℤ) (read : ℕ) (frames : List Frame) (s : StoreView D) (here : Option GcRootIndex) : Type 0 where
-  pub part : Tree
-  pub leaves : Leaves layouts (λ u. Pushes (2 * read) t u × (RootIs s u ty here part × Reaches s u ty tree key frames part)) s
-  pub search : IsSearch part
-  pub low : height part + read ≤ height tree
-
 -- what was found has these children, which are empty where nothing was
 abbrev pub HasChildren : {D : Type 0} → StoreView D → Table D → ℕ → Option Node → Tree → Tree → Type 0
 HasChildren s t ty None left right = (left ≡ leaf) × (right ≡ leaf)
@@ -113,11 +99,6 @@ pub record RisesIn (D : Type 0) (layouts : Layouts) (s : StoreView D) (ty : ℕ)
   pub balanced : IsBalanced whole
   pub low : height whole < 92
   pub rises : Rises s table ty whole frames part entries
-
--- So many nodes of the way were made anew.
-pub record Climbs {D : Type 0} (layouts : Layouts) (limit : Option ℕ) (kit : Kit) (t : Table D) (whole : Tree) (turns : ℕ) (frames : List Frame) (s : StoreView D) (part : Part) (entries : List (ℤ × ℤ)) : Type 0 where
-  pub leaves : Leaves layouts (λ u. Grows limit kit (3 * turns) (7 * turns) t u × Rises s u kit.node whole frames part entries) s
-  pub few : length frames + turns ≤ 92
 
 -- a part is a balanced tree of these pairs
 pub record IsBuilt {D : Type 0} (s : StoreView D) (t : Table D) (ty : ℕ) (part : Part) (entries : List (ℤ × ℤ)) : Type 0 where

@@ -34,12 +34,3 @@ abbrev pub toward : Node → Ordering → Option GcRootIndex
 toward read Less = read.left
 toward read Equal = read.right
 toward read Greater = read.right
-
--- So many nodes were read, and a key is found in the tree that is looked at now exactly as in the whole.
-pub record Looks {D : Type 0} (layouts : Layouts) (t : Table D) (ty : ℕ) (tree : Tree) (key : ℤ) (read before now : ℕ) (s : StoreView D) (here : Option GcRootIndex) : Type 0 where
-  pub part : Tree
-  pub leaves : Leaves layouts (λ u. Pushes (2 * read) t u × RootIs s u ty here part) s
-  pub search : IsSearch part
-  pub found : find int_cmp key (pairs tree) ≡ find int_cmp key (pairs part)
-  pub low : height part + read ≤ height tree
-  pub counted : now ≡ before + read

@@ -53,6 +53,7 @@ pub(crate) fn make_node<H: GcHeap, D: Drop, L: ResourceLimiter>(
             height,
         }),
         Err(PlaceFault::FuncTableFull) => Err(ListFault::Memory),
+        Err(PlaceFault::ContTableFull) => Err(ListFault::Memory),
         Err(PlaceFault::TooLarge) => Err(ListFault::Memory),
         Err(PlaceFault::RootsFull) => Err(ListFault::RootsFull),
         Err(PlaceFault::HeapOutOfMemory(full)) => Err(ListFault::HeapOutOfMemory(full)),

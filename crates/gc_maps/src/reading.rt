@@ -40,6 +40,7 @@ fn long_in(value: &RawValue) -> i64
         RawValue::F64(_) => 0,
         RawValue::V128(_) => 0,
         RawValue::Func(_) => 0,
+        RawValue::Cont(_) => 0,
         RawValue::Ref(..) => 0,
     }
 }
@@ -55,6 +56,7 @@ fn int_in(value: &RawValue) -> i32
         RawValue::F64(_) => 0,
         RawValue::V128(_) => 0,
         RawValue::Func(_) => 0,
+        RawValue::Cont(_) => 0,
         RawValue::Ref(..) => 0,
     }
 }

@@ -65,7 +65,7 @@ pub values_counted : {D : Type 0} (layouts : Layouts) (s : StoreView D) (t : Tab
 values_counted layouts s t holds handle p o object count named e is counts =
     let word = named_held layouts s t holds.0 holds.1 handle (at p) named in
     let placed = holds.1.objects.placed p word.0 word.1.0 in
-    count_of layouts t.types (naming holds.0 s.funcs) count o placed.object object
+    count_of layouts t.types (naming holds.0 s.ids) count o placed.object object
     (object_held layouts s t holds.0 holds.1 p word.0 o placed.object word.1.0 placed.in_heap e)
     (subst (λ (x : Option (Object _)). IsObject x object) e is)
     (subst (λ (ts : List Declaration). CountsIn ts object count) holds.1.types counts)

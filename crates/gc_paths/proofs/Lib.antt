@@ -1,4 +1,3 @@
-pub mod FewFields
 pub mod Counting
 pub mod Ending
 pub mod Growing
@@ -7,6 +6,7 @@ pub mod Reaching
 pub mod Reading
 pub mod Rooting
 pub mod RootsLoop
+pub mod StartRoots
 pub mod Starts
 pub mod Taken
 pub mod ValuesLoop

@@ -5,10 +5,10 @@ use Rattle.std.specs.List.{slice_get, flat_map, IsDistinct}
 use Rattle.std.proofs.lemmas.List.{map-append}
 use Rattle.std.proofs.lemmas.List.Elements.{Contains-append_left, Contains-append_right, Contains-append_cases}
 use Rattle.std.proofs.lemmas.Option.{none-some, same_Some}
-use Rattle.gc_heap.proofs.SpacedLemmas.{only_item}
+use Rattle.gc_memory.proofs.ListLemmas.{only_item}
 use Rattle.gc_types.specs.declared.kind.Layouts.{Layouts}
 use Rattle.gc_owner.specs.declared.entry.GcClass.{GcClass}
-use Rattle.gc_model.specs.Values.{Reference, at, Value, numeric, function, reference, Object}
+use Rattle.gc_model.specs.Values.{Reference, at, Value, numeric, function, continuation, reference, Object}
 use Rattle.gc_model.specs.Reach.{value_references, object_values, slot_references, owned_references, present, root_references, Reached, IsReached, AreAll, by_start, by_step}
 use Rattle.gc_model.specs.Table.{Table, Slot, Owned, Scoped}
 use Rattle.gc_model.specs.Words.{Placing}
@@ -149,6 +149,7 @@ record StandsAt (vs : List Value) (r : Reference) : Type 0 where
 first_stands : (v : Value) (vs : List Value) (r : Reference) → Contains (value_references v) r → StandsAt (v ∷ vs) r
 first_stands (numeric kind n) vs r c = absurd (let inside = c.1 in omega (arith, inside))
 first_stands (function f) vs r c = absurd (let inside = c.1 in omega (arith, inside))
+first_stands (continuation cont) vs r c = absurd (let inside = c.1 in omega (arith, inside))
 first_stands (reference class q) vs r c = record { index = 0; class = class; value = ap (λ x. Some (reference class x)) (only_item q r c) }
 
 among_values : (vs : List Value) (r : Reference) → Contains (flat_map value_references vs) r → StandsAt vs r

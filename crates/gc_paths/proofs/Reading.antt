@@ -2,10 +2,10 @@
 use Rattle.std.proofs.Common.{◌≡◌, ℕ, ◌+◌, ◌<◌, ◌≤◌, suc, List, length, Some, None, Result, Ok, Err, true, false, sym, ap, ◌∙◌, refl, subst, arith, Contains}
 use Rattle.std.specs.List.{slice_get}
 use Rattle.std.proofs.lemmas.Option.{none-some, same_Some, slice_get_within}
-use Rattle.gc_heap.proofs.SpacedLemmas.{only_item}
+use Rattle.gc_memory.proofs.ListLemmas.{only_item}
 use Rattle.gc_types.specs.declared.kind.Layouts.{Layouts}
 use Rattle.gc_owner.specs.declared.entry.GcClass.{GcClass}
-use Rattle.gc_model.specs.Values.{Reference, null, small, at, Value, numeric, i32, i64, f32, f64, v128, function, reference, Object}
+use Rattle.gc_model.specs.Values.{Reference, null, small, at, Value, numeric, i32, i64, f32, f64, v128, function, continuation, reference, Object}
 use Rattle.gc_model.specs.Reach.{object_values, value_references}
 use Rattle.gc_model.specs.Reads.{after_read, makes_root}
 use Rattle.gc_model.specs.Table.{Table, push}
@@ -180,6 +180,7 @@ module _ {D : Type 0} (layouts : Layouts) (b : Basis D) (told : List Told) (boun
   read_taken (numeric f64 n) value_at r reads there found some after result takes = absurd (no_handle r (raw.F64 n) found reads.1.0 refl some)
   read_taken (numeric v128 n) value_at r reads there found some after result takes = absurd (no_handle r (raw.V128 n) found reads.1.0 refl some)
   read_taken (function f) value_at r reads there found some after result takes = absurd (no_handle r (raw.Func f) found reads.1.0 refl some)
+  read_taken (continuation cont) value_at r reads there found some after result takes = absurd (no_handle r (raw.Cont cont) found reads.1.0 refl some)
   read_taken (reference class null) value_at r reads there found some after result takes = absurd (no_handle r (raw.Ref class None) found reads.1.0 refl some)
   read_taken (reference class (small n)) value_at r reads there found some after result takes =
       answers_more layouts b told bound (count + 1) new after (λ then. Unit {0}) (TellsValue bound (reference class (small n))) (LacksRoots b.table (count + 1)) result
@@ -201,6 +202,7 @@ module _ {D : Type 0} (layouts : Layouts) (b : Basis D) (told : List Told) (boun
       → GoesOn layouts b told bound (count + value_count v) new old (TellsValue bound v)
   read_passed (numeric kind n) value_at r reads there none = nothing_named layouts b told bound count s old progress number o reading h at_h index (numeric kind n) value_at new same (count + 0) (omega arith) there (λ p c. absurd (let inside = c.1 in omega (arith, inside)))
   read_passed (function f) value_at r reads there none = nothing_named layouts b told bound count s old progress number o reading h at_h index (function f) value_at new same (count + 0) (omega arith) there (λ p c. absurd (let inside = c.1 in omega (arith, inside)))
+  read_passed (continuation cont) value_at r reads there none = nothing_named layouts b told bound count s old progress number o reading h at_h index (continuation cont) value_at new same (count + 0) (omega arith) there (λ p c. absurd (let inside = c.1 in omega (arith, inside)))
   read_passed (reference class null) value_at r reads there none = nothing_named layouts b told bound count s old progress number o reading h at_h index (reference class null) value_at new same (count + 0) (omega arith) there (λ p c. differ p (only_item null (at p) c))
     where
       differ : (p : ℕ) → null ≡ at p → ⊥
@@ -211,6 +213,7 @@ module _ {D : Type 0} (layouts : Layouts) (b : Basis D) (told : List Told) (boun
   makes_count : (v : Value) → makes_root v ≡ true → 1 ≡ value_count v
   makes_count (numeric kind n) e = absurd (cc)
   makes_count (function f) e = absurd (cc)
+  makes_count (continuation cont) e = absurd (cc)
   makes_count (reference class null) e = absurd (cc)
   makes_count (reference class (small n)) e = refl
   makes_count (reference class (at p)) e = refl
@@ -234,6 +237,7 @@ module _ {D : Type 0} (layouts : Layouts) (b : Basis D) (told : List Told) (boun
   read_live (numeric f64 n) value_at r reads there found some = absurd (no_handle r (raw.F64 n) found reads.1.0 refl some)
   read_live (numeric v128 n) value_at r reads there found some = absurd (no_handle r (raw.V128 n) found reads.1.0 refl some)
   read_live (function f) value_at r reads there found some = absurd (no_handle r (raw.Func f) found reads.1.0 refl some)
+  read_live (continuation cont) value_at r reads there found some = absurd (no_handle r (raw.Cont cont) found reads.1.0 refl some)
   read_live (reference class null) value_at r reads there found some = absurd (no_handle r (raw.Ref class None) found reads.1.0 refl some)
   read_live (reference class (small n)) value_at r reads there found some = record {
     table = push (small n) table;

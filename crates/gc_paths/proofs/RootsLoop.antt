@@ -26,8 +26,9 @@ use Rattle.gc_paths.specs.declared.fault.PathFault.TheVariants as path_fault
 use Rattle.gc_paths.specs.Walks.{start_roots, start_references}
 use Rattle.gc_paths.specs.Answers.{LacksRoots, present_count}
 use Rattle.gc_paths.specs.Parts.{Parts, empty_parts}
-use Rattle.gc_paths.specs.Progress.{Basis, Progress, GoesOn, AnswersPart, IsStartWord, TellsRoot, TellsRoots, TellsStarts, word_count}
-use Rattle.gc_paths.specs.StartWords.{is_start_name, scoped_words, start_words}
+use Rattle.gc_paths.specs.Progress.{Basis, Progress, GoesOn, AnswersPart, IsStartWord, TellsRoot, TellsStarts, word_count}
+use Rattle.gc_paths.proofs.StartRoots.{TellsRoots, scoped_words, start_words}
+use Rattle.gc_paths.specs.StartWords.{is_start_name}
 use Rattle.gc_paths.proofs.Growing.{grown_none, lacks_more}
 use Rattle.gc_paths.proofs.Taken.{keeps_itself, keeps_twice, told_kept}
 use Rattle.gc_paths.proofs.Starts.{StandFor, starts_stand}

@@ -31,7 +31,7 @@ use Rattle.gc_store.specs.Words.{owned_id}
 use Rattle.gc_paths.specs.Walks.{Root, root, global_root, pending_roots, slot_root, frame_roots, owned_root, scoped_root, scoped_roots, start_roots}
 use Rattle.gc_paths.specs.Answers.{present_count}
 use Rattle.gc_paths.specs.Progress.{word_count}
-use Rattle.gc_paths.specs.StartWords.{scoped_words, start_words}
+use Rattle.gc_paths.proofs.StartRoots.{scoped_words, start_words}
 
 abbrev references : List Root → List Reference
 references roots = map (λ (r : Root). r.reference) roots

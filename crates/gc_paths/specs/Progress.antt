@@ -131,10 +131,6 @@ IsStartWord b w = 0 < w.word → (r : Root) × (Contains (start_roots b.scoped b
 abbrev pub TellsRoot : {D : Type 0} → Basis D → RootWord → List Told → Type 0
 TellsRoot b w told = (p : ℕ) → b.place p ≡ Some w.word → IsToldBy told p 0
 
--- the objects that root words name are told
-abbrev pub TellsRoots : {D : Type 0} → Basis D → List RootWord → List Told → Type 0
-TellsRoots b words told = (i : ℕ) (w : RootWord) → slice_get words i ≡ Some w → TellsRoot b w told
-
 -- each object that a root names is told, at length 0
 abbrev pub TellsStarts : {D : Type 0} → Basis D → List Told → Type 0
 TellsStarts b told = (r : Root) (p : ℕ) → Contains (start_roots b.scoped b.table) r → r.reference ≡ at p → IsToldBy told p 0

@@ -14,14 +14,3 @@ is_start_name scoped count name.Pending = true
 is_start_name scoped count (name.Slot frame slot) = true
 is_start_name scoped count (name.Owned id) = true
 is_start_name scoped count (name.Scoped index) = scoped && nat_lt index count
-
--- the words of the scoped roots, where they are asked for
-abbrev pub scoped_words : Bool → List RootEntry → List RootWord
-scoped_words false entries = []
-scoped_words true entries = numbered scoped_root 0 entries
-
--- the words of the roots from which walks begin
-abbrev pub start_words : {D : Type 0} → Bool → StoreView D → List RootWord
-start_words scoped s =
-    numbered global_root 0 s.globals
-    ++ (root_word name.Pending s.pending ∷ (slot_roots 0 s.frames ++ (map owned_root s.owned ++ scoped_words scoped s.scoped)))

@@ -39,6 +39,7 @@ pub(crate) fn raw_handle(value: &RawValue) -> Option<GcRootIndex>
         RawValue::F64(_) => None,
         RawValue::V128(_) => None,
         RawValue::Func(_) => None,
+        RawValue::Cont(_) => None,
         RawValue::Ref(_, handle) => *handle,
     }
 }

@@ -12,7 +12,7 @@ use Rattle.gc_types.specs.Declarations.{Declaration}
 use Rattle.gc_owner.specs.declared.entry.GcClass.{GcClass}
 use Rattle.gc_owner.specs.declared.entry.GcClass.TheVariants.{Any, Extern, Exn}
 use Rattle.gc_model.specs.Fits.{fits, fits_type, object_fits_any, object_fits_exn, object_fits_extern, reference_fits}
-use Rattle.gc_model.specs.Values.{Reference, null, small, at, Value, numeric, i32, i64, f32, f64, v128, function, reference, Object, struct, array, host, exception}
+use Rattle.gc_model.specs.Values.{Reference, null, small, at, Value, numeric, i32, i64, f32, f64, v128, function, continuation, reference, Object, struct, array, host, exception}
 use Rattle.gc_image.specs.Images.{placed_object, placed_reference, placed_value}
 
 module _ (types : List Declaration) (position : ℕ → ℕ) where
@@ -60,6 +60,7 @@ module _ (types : List Declaration) (position : ℕ → ℕ) where
     type_placed val.F64 (numeric f64 n) there e = refl
     type_placed val.V128 (numeric v128 n) there e = refl
     type_placed (val.Ref ty) (function f) there e = e
+    type_placed (val.Ref ty) (continuation cont) there e = e
     type_placed (val.Ref ty) (reference class r) there e = sym (reference_placed ty class r (there class r refl)) ∙ e
     type_placed _ _ there e = absurd (cc)
 

@@ -12,7 +12,8 @@ use Rattle.gc_image.specs.Well.{as_object}
 use Rattle.gc_image.proofs.AlikeLemmas.{element_at, once}
 use Rattle.gc_image_collect.specs.Collection.{IsCollection, IsLineOf}
 use Rattle.gc_image_collect.specs.declared.collect.Collected.{Collected}
-use Rattle.gc_image_write.specs.Order.{IsLineBelow, IsOrder}
+use Rattle.gc_image_write.specs.Order.{IsOrder}
+use Rattle.gc_image_write.proofs.LineBelow.{IsLineBelow}
 use Rattle.gc_save_image.specs.Renumbering.{AreNumbersOf, line_at, number_in, renumbered_line, reordered}
 use Rattle.gc_save_image.proofs.Elements.{distinct_when, map_at, mapped}
 use Rattle.gc_save_image.proofs.Renumbered.{object_again}

@@ -1,5 +1,5 @@
--- Objects of plain types have no functions.
-use Rattle.std.proofs.Common.{◌≡◌, ℕ, List, Option, None, Some, refl, sym, ap, ◌∙◌, subst}
+-- Objects of plain types have no functions and no continuations.
+use Rattle.std.proofs.Common.{◌≡◌, ℕ, true, List, Option, None, Some, refl, sym, ap, ◌∙◌, subst}
 use Rattle.std.specs.List.{slice_get}
 use Rattle.std.specs.Option.{option_and_then}
 use Rattle.std.proofs.lemmas.List.Elements.{All-contains}
@@ -13,15 +13,15 @@ use Rattle.gc_types.specs.declared.value.Tag.{Tag}
 use Rattle.gc_types.specs.declared.value.ValType.TheVariants as val
 use Rattle.gc_types.specs.Declarations.{Declaration, Shape, array_of, constant_field, declaration_elem, declaration_struct_fields, exn_of, func_of, shape_elem, shape_struct_fields, struct_of}
 use Rattle.gc_types.specs.Values.{heap_top}
-use Rattle.gc_model.specs.Forms.{function_of, storage_form, top_form}
+use Rattle.gc_model.specs.Forms.{Form, function_of, continuation_of, storage_form, top_form, value_form}
 use Rattle.gc_model.specs.Holds.{TypedBy}
 use Rattle.gc_model.specs.Sizes.{shape_exn_fields}
 use Rattle.gc_model.specs.Stored.{listed_type, value_type}
 use Rattle.gc_model.specs.Table.{Table}
-use Rattle.gc_model.specs.Values.{Object, Value, array, exception, function, host, struct}
+use Rattle.gc_model.specs.Values.{Object, Value, array, continuation, exception, function, host, numeric, reference, struct}
 use Rattle.gc_model.proofs.Fitting.{fits-form}
 use Rattle.gc_model.proofs.Members.{get_contains}
-use Rattle.gc_image_collect.specs.Collection.{HasNoFunctions}
+use Rattle.gc_image_collect.specs.Collection.{HasPlainValues, is_plain}
 use Rattle.gc_image_write.specs.Plain.{ArePlain, IsPlainField, IsPlainShape, IsPlainStorage, IsPlainVal}
 use Rattle.gc_save_image.proofs.Elements.{mapped}
 
@@ -69,25 +69,36 @@ module _ (index : ℕ) (field : FieldType) where
     field_plain (host n) e = absurd (none-some field e)
     field_plain (exception ty tag values) e = exn_at ty tag values (slice_get types ty) refl e
 
--- what is plain holds no function
-not_top : (heap : HeapTopType) → ¬ (heap ≡ top.Func) → top_form heap ≡ function_of → ⊥
-not_top top.Any plain e = cc e
-not_top top.Extern plain e = cc e
-not_top top.Exn plain e = cc e
-not_top top.Func plain e = plain refl
-not_top top.Cont plain e = cc e
+-- what is plain holds no functions and no continuations
+abbrev IsPlainForm : Form → Type 0
+IsPlainForm form = ¬ (form ≡ function_of) × ¬ (form ≡ continuation_of)
 
-no_function : (ty : StorageType) → IsPlainStorage ty → storage_form ty ≡ function_of → ⊥
-no_function storage.I8 plain e = cc e
-no_function storage.I16 plain e = cc e
-no_function (storage.ValType val.I32) plain e = cc e
-no_function (storage.ValType val.I64) plain e = cc e
-no_function (storage.ValType val.F32) plain e = cc e
-no_function (storage.ValType val.F64) plain e = cc e
-no_function (storage.ValType val.V128) plain e = cc e
-no_function (storage.ValType (val.Ref ty)) plain e = not_top (heap_top ty.heap_type) plain.0 e
+top_plain : (heap : HeapTopType) → ¬ (heap ≡ top.Func) → ¬ (heap ≡ top.Cont) → IsPlainForm (top_form heap)
+top_plain top.Any func cont = (λ e. cc e, λ e. cc e)
+top_plain top.Extern func cont = (λ e. cc e, λ e. cc e)
+top_plain top.Exn func cont = (λ e. cc e, λ e. cc e)
+top_plain top.Func func cont = absurd (func refl)
+top_plain top.Cont func cont = absurd (cont refl)
 
-pub no_functions : (t : Table ℕ) → TypedBy t.types t.objects → ArePlain t.types → HasNoFunctions t
-no_functions t typed plain p index o f there e =
-    let is = typed p index o (function f) there e in
-    no_function is.field.element_type (field_plain index is.field t.types plain o is.field_is) (fits-form t.types t.objects is.field.element_type (function f) is.is_fit)
+form_plain : (ty : StorageType) → IsPlainStorage ty → IsPlainForm (storage_form ty)
+form_plain storage.I8 plain = (λ e. cc e, λ e. cc e)
+form_plain storage.I16 plain = (λ e. cc e, λ e. cc e)
+form_plain (storage.ValType val.I32) plain = (λ e. cc e, λ e. cc e)
+form_plain (storage.ValType val.I64) plain = (λ e. cc e, λ e. cc e)
+form_plain (storage.ValType val.F32) plain = (λ e. cc e, λ e. cc e)
+form_plain (storage.ValType val.F64) plain = (λ e. cc e, λ e. cc e)
+form_plain (storage.ValType val.V128) plain = (λ e. cc e, λ e. cc e)
+form_plain (storage.ValType (val.Ref ty)) plain = top_plain (heap_top ty.heap_type) plain.0 plain.1
+
+-- so a value that goes there is plain
+value_plain : (v : Value) (form : Form) → IsPlainForm form → form ≡ value_form v → is_plain v ≡ true
+value_plain (numeric kind n) form plain e = refl
+value_plain (function f) form plain e = absurd (plain.0 e)
+value_plain (continuation c) form plain e = absurd (plain.1 e)
+value_plain (reference class r) form plain e = refl
+
+pub plain_values : (t : Table ℕ) → TypedBy t.types t.objects → ArePlain t.types → HasPlainValues t
+plain_values t typed plain p index o v there e =
+    let is = typed p index o v there e in
+    value_plain v (storage_form is.field.element_type) (form_plain is.field.element_type (field_plain index is.field t.types plain o is.field_is))
+    (fits-form t.types t.objects is.field.element_type v is.is_fit)

@@ -19,7 +19,8 @@ use Rattle.gc_image.specs.declared.image.ObjectLine.TheVariants as object
 use Rattle.gc_image.specs.Images.{placed_object, placed_reference, placed_value}
 use Rattle.gc_image.specs.Text.{FitsGlobal, FitsObject, FitsValue}
 use Rattle.gc_image.specs.Well.{HasShape, as_object, as_reference, as_value, line_values, number_named}
-use Rattle.gc_image_write.specs.Order.{AreBelow, IsBelow, IsLineBelow}
+use Rattle.gc_image_write.specs.Order.{AreBelow, IsBelow}
+use Rattle.gc_image_write.proofs.LineBelow.{IsLineBelow}
 use Rattle.gc_save_image.specs.Renumbering.{line_at, renumbered_global, renumbered_line, renumbered_reference, renumbered_value, reordered}
 
 -- where each new number has the position of the old one, values and objects are the same

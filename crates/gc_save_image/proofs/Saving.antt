@@ -29,7 +29,7 @@ use Rattle.gc_save_image.specs.Saves.{IsTangled, RefusesSave, Saved, Unwritten}
 use Rattle.gc_save_image.specs.declared.fault.SaveFault.{SaveFault}
 use Rattle.gc_save_image.specs.declared.fault.SaveFault.TheVariants as fault
 use Rattle.gc_save_image.proofs.Imaging.{holds_below, images_text, text_in_turn}
-use Rattle.gc_save_image.proofs.Plainness.{no_functions}
+use Rattle.gc_save_image.proofs.Plainness.{plain_values}
 use Rattle.gc_save_image.proofs.Tangles.{tangled, untangled}
 
 -- no roots were pushed
@@ -41,7 +41,7 @@ none_pushed layouts t a s held = record {
 
 module _ (t : Table ℕ) (typed : TypedBy t.types t.objects) (plain : ArePlain t.types) (collected : Collected) (collects : Collects t collected) where
   abbrev collection : IsCollection t collected
-  collection = collects.collection (no_functions t typed plain)
+  collection = collects.collection (plain_values t typed plain)
 
   -- what objects and globals name are objects
   pub closed : AreClosed collected.objects.items

@@ -7,7 +7,7 @@ use Rattle.std.proofs.lemmas.List.Elements.{Contains-append_cases, Contains-appe
 use Rattle.std.proofs.lemmas.List.Sums.{sum_by-cons}
 use Rattle.gc_types.specs.declared.kind.Layouts.{Layouts}
 use Rattle.gc_types.specs.declared.kind.Layouts.TheVariants.{Null, Counting, Copying}
-use Rattle.gc_heap.proofs.SpacedLemmas.{only_item}
+use Rattle.gc_memory.proofs.ListLemmas.{only_item}
 use Rattle.gc_model.specs.OwnedRoots.{handles_changed, with_handles}
 use Rattle.gc_model.specs.Reach.{HasNumber, IsKept, IsReached, NamesPosition, Reachable, Reached, by_start, by_step, owned_references, present, root_references, slot_references}
 use Rattle.gc_model.specs.Stores.{StoreView}

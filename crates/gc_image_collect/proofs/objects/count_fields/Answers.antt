@@ -1,5 +1,5 @@
 use Rattle.std.proofs.Common.{sym, ◌∙◌, arith}
-use Rattle.gc_paths.proofs.FewFields.{few_counted}
+use Rattle.gc_types.proofs.FewFields.{few_counted}
 use Rattle.gc_image_collect.proofs.objects.count_fields.Goals as goal
 
 pub overflow_cast-result : goal.overflow_cast-result

@@ -1,5 +1,5 @@
 use Rattle.std.proofs.Common.{length}
-use Rattle.gc_image_write.specs.Order.{IsLineBelow}
+use Rattle.gc_image_write.proofs.LineBelow.{IsLineBelow}
 use Rattle.gc_image.proofs.ElementLemmas.{Below}
 use Rattle.gc_image_write.proofs.named.are_objects_below.Given as goal
 

@@ -7,6 +7,9 @@ use Rattle.gc_load_image.proofs.place.place.Goals as goal
 pub returns-in-Err-FuncTableFull-clause-places : goal.returns-in-Err-FuncTableFull-clause-places
 returns-in-Err-FuncTableFull-clause-places g c t a o holds is = inr (told_place g.H.GcHeap.KIND c.args.store.now.alloc_counter o (policy_state t a (g.L.ResourceLimiter.limits c.args.limiter.now)) (g.L.ResourceLimiter.limits c.place.new.limiter) c.place.new.self c.in-Err-FuncTableFull.field-0 fault.FuncTableFull c.in-Err-FuncTableFull.field-0-is (c.in-Err-FuncTableFull.ensures.places t a o holds is)).1
 
+pub returns-in-Err-ContTableFull-clause-places : goal.returns-in-Err-ContTableFull-clause-places
+returns-in-Err-ContTableFull-clause-places g c t a o holds is = inr (told_place g.H.GcHeap.KIND c.args.store.now.alloc_counter o (policy_state t a (g.L.ResourceLimiter.limits c.args.limiter.now)) (g.L.ResourceLimiter.limits c.place.new.limiter) c.place.new.self c.in-Err-ContTableFull.field-0 fault.ContTableFull c.in-Err-ContTableFull.field-0-is (c.in-Err-ContTableFull.ensures.places t a o holds is)).1
+
 pub returns-in-Err-TooLarge-clause-places : goal.returns-in-Err-TooLarge-clause-places
 returns-in-Err-TooLarge-clause-places g c t a o holds is = let told = told_place g.H.GcHeap.KIND c.args.store.now.alloc_counter o (policy_state t a (g.L.ResourceLimiter.limits c.args.limiter.now)) (g.L.ResourceLimiter.limits c.place.new.limiter) c.place.new.self c.in-Err-TooLarge.field-0 fault.TooLarge c.in-Err-TooLarge.field-0-is (c.in-Err-TooLarge.ensures.places t a o holds is) in (told.0, told.1)
 

@@ -6,10 +6,10 @@ use Rattle.gc_policy.specs.Accounts.{Account, HoldsAccount}
 use Rattle.gc_policy.proofs.AccountLemmas.{some_account}
 use Rattle.gc_store.specs.declared.root.GcRootIndex.{GcRootIndex}
 use Rattle.gc_maps.specs.Parts.{RootIs}
-use Rattle.gc_maps.specs.Searching.{IsSearch, Looks}
+use Rattle.gc_maps.specs.Searching.{IsSearch}
+use Rattle.gc_maps.proofs.Lookups.{Looks, looks_start, looks_none, looks_count, looks_counted, looks_past, looks_node, looks_refused, looks_here, looks_next, with_key, as_passed}
 use Rattle.gc_maps.specs.Trees.{Tree}
 use Rattle.gc_maps.proofs.Growing.{same_then}
-use Rattle.gc_maps.proofs.Lookups.{looks_start, looks_none, looks_count, looks_counted, looks_past, looks_node, looks_refused, looks_here, looks_next, with_key, as_passed}
 use Rattle.gc_maps.proofs.finding.look_up.Given as given
 use Rattle.gc_maps.proofs.finding.look_up.Goals as goal
 use Rattle.gc_maps.proofs.finding.look_up.Goals.{In-Some, After-loop-turn}

@@ -3,7 +3,8 @@ use Rattle.gc_model.specs.Table.{Table}
 use Rattle.gc_policy.specs.Accounts.{Account, HoldsAccount}
 use Rattle.gc_store.specs.Stores.{IsSameStore}
 use Rattle.gc_maps.specs.Parts.{RootIs}
-use Rattle.gc_maps.specs.Searching.{IsSearch, Looks}
+use Rattle.gc_maps.specs.Searching.{IsSearch}
+use Rattle.gc_maps.proofs.Lookups.{Looks}
 use Rattle.gc_maps.specs.Trees.{Tree}
 use Rattle.gc_maps.proofs.finding.look_up.Given as goal
 

@@ -44,6 +44,13 @@ returns-in-Err-FuncTableFull-clause-makes g c t a x y holds in_left in_right =
     let placed : Placed g.H.GcHeap.KIND c.args.store.now.alloc_counter c.args.kit.now c.args.store.now t a holds (g.L.ResourceLimiter.limits c.args.limiter.now) (g.L.ResourceLimiter.limits c.place.new.limiter) c.place.new.self c.place.ensures.same (the_object g.H.GcHeap.KIND c.args.store.now.alloc_counter c.args.kit.now c.args.store.now t a holds (g.L.ResourceLimiter.limits c.args.limiter.now) (g.L.ResourceLimiter.limits c.place.new.limiter) c.place.new.self c.place.ensures.same c.requires.of_nodes c.args.key c.args.value c.ranges.key c.ranges.value c.args.left c.args.right x y in_left in_right (part_low c.args.store.now c.requires.table c.args.kit.now.node c.args.left c.requires.in_left) (part_low c.args.store.now c.requires.table c.args.kit.now.node c.args.right c.requires.in_right) c.height_over-height.result c.height_over-height.ensures) (is_of_kit g.H.GcHeap.KIND c.args.store.now.alloc_counter c.args.kit.now c.args.store.now t a holds (g.L.ResourceLimiter.limits c.args.limiter.now) (g.L.ResourceLimiter.limits c.place.new.limiter) c.place.new.self c.place.ensures.same c.requires.of_nodes c.args.key c.args.value c.ranges.key c.ranges.value c.args.left c.args.right x y in_left in_right (part_low c.args.store.now c.requires.table c.args.kit.now.node c.args.left c.requires.in_left) (part_low c.args.store.now c.requires.table c.args.kit.now.node c.args.right c.requires.in_right) c.height_over-height.result c.height_over-height.ensures) (Err place_fault.FuncTableFull) = subst (λ (f : PlaceFault). Placed g.H.GcHeap.KIND c.args.store.now.alloc_counter c.args.kit.now c.args.store.now t a holds (g.L.ResourceLimiter.limits c.args.limiter.now) (g.L.ResourceLimiter.limits c.place.new.limiter) c.place.new.self c.place.ensures.same (the_object g.H.GcHeap.KIND c.args.store.now.alloc_counter c.args.kit.now c.args.store.now t a holds (g.L.ResourceLimiter.limits c.args.limiter.now) (g.L.ResourceLimiter.limits c.place.new.limiter) c.place.new.self c.place.ensures.same c.requires.of_nodes c.args.key c.args.value c.ranges.key c.ranges.value c.args.left c.args.right x y in_left in_right (part_low c.args.store.now c.requires.table c.args.kit.now.node c.args.left c.requires.in_left) (part_low c.args.store.now c.requires.table c.args.kit.now.node c.args.right c.requires.in_right) c.height_over-height.result c.height_over-height.ensures) (is_of_kit g.H.GcHeap.KIND c.args.store.now.alloc_counter c.args.kit.now c.args.store.now t a holds (g.L.ResourceLimiter.limits c.args.limiter.now) (g.L.ResourceLimiter.limits c.place.new.limiter) c.place.new.self c.place.ensures.same c.requires.of_nodes c.args.key c.args.value c.ranges.key c.ranges.value c.args.left c.args.right x y in_left in_right (part_low c.args.store.now c.requires.table c.args.kit.now.node c.args.left c.requires.in_left) (part_low c.args.store.now c.requires.table c.args.kit.now.node c.args.right c.requires.in_right) c.height_over-height.result c.height_over-height.ensures) (Err f)) c.in-Err-FuncTableFull.field-0-is (c.in-Err-FuncTableFull.ensures.places t a object holds is) in
     refused_place g.H.GcHeap.KIND c.args.store.now.alloc_counter c.args.kit.now c.args.store.now t a holds (g.L.ResourceLimiter.limits c.args.limiter.now) (g.L.ResourceLimiter.limits c.place.new.limiter) c.place.new.self c.place.ensures.same (the_object g.H.GcHeap.KIND c.args.store.now.alloc_counter c.args.kit.now c.args.store.now t a holds (g.L.ResourceLimiter.limits c.args.limiter.now) (g.L.ResourceLimiter.limits c.place.new.limiter) c.place.new.self c.place.ensures.same c.requires.of_nodes c.args.key c.args.value c.ranges.key c.ranges.value c.args.left c.args.right x y in_left in_right (part_low c.args.store.now c.requires.table c.args.kit.now.node c.args.left c.requires.in_left) (part_low c.args.store.now c.requires.table c.args.kit.now.node c.args.right c.requires.in_right) c.height_over-height.result c.height_over-height.ensures) (is_of_kit g.H.GcHeap.KIND c.args.store.now.alloc_counter c.args.kit.now c.args.store.now t a holds (g.L.ResourceLimiter.limits c.args.limiter.now) (g.L.ResourceLimiter.limits c.place.new.limiter) c.place.new.self c.place.ensures.same c.requires.of_nodes c.args.key c.args.value c.ranges.key c.ranges.value c.args.left c.args.right x y in_left in_right (part_low c.args.store.now c.requires.table c.args.kit.now.node c.args.left c.requires.in_left) (part_low c.args.store.now c.requires.table c.args.kit.now.node c.args.right c.requires.in_right) c.height_over-height.result c.height_over-height.ensures) placed.1
 
+pub returns-in-Err-ContTableFull-clause-makes : goal.returns-in-Err-ContTableFull-clause-makes
+returns-in-Err-ContTableFull-clause-makes g c t a x y holds in_left in_right =
+    let object = the_object g.H.GcHeap.KIND c.args.store.now.alloc_counter c.args.kit.now c.args.store.now t a holds (g.L.ResourceLimiter.limits c.args.limiter.now) (g.L.ResourceLimiter.limits c.place.new.limiter) c.place.new.self c.place.ensures.same c.requires.of_nodes c.args.key c.args.value c.ranges.key c.ranges.value c.args.left c.args.right x y in_left in_right (part_low c.args.store.now c.requires.table c.args.kit.now.node c.args.left c.requires.in_left) (part_low c.args.store.now c.requires.table c.args.kit.now.node c.args.right c.requires.in_right) c.height_over-height.result c.height_over-height.ensures in
+    let is : IsAsked g.row.D.Denot c.args.store.now t (node_values (to_z w64 (of_z w64 c.args.key)) (to_z w64 (of_z w64 c.args.value)) (to_z w32 (of_z w32 c.height_over-height.result)) c.args.left.root c.args.right.root) object c.node.result = subst (IsAsked g.row.D.Denot c.args.store.now t (node_values (to_z w64 (of_z w64 c.args.key)) (to_z w64 (of_z w64 c.args.value)) (to_z w32 (of_z w32 c.height_over-height.result)) c.args.left.root c.args.right.root) object) (sym c.node.ensures) (asked g.H.GcHeap.KIND c.args.store.now.alloc_counter c.args.kit.now c.args.store.now t a holds (g.L.ResourceLimiter.limits c.args.limiter.now) (g.L.ResourceLimiter.limits c.place.new.limiter) c.place.new.self c.place.ensures.same c.requires.of_nodes c.args.key c.args.value c.ranges.key c.ranges.value c.args.left c.args.right x y in_left in_right (part_low c.args.store.now c.requires.table c.args.kit.now.node c.args.left c.requires.in_left) (part_low c.args.store.now c.requires.table c.args.kit.now.node c.args.right c.requires.in_right) c.height_over-height.result c.height_over-height.ensures) in
+    let placed : Placed g.H.GcHeap.KIND c.args.store.now.alloc_counter c.args.kit.now c.args.store.now t a holds (g.L.ResourceLimiter.limits c.args.limiter.now) (g.L.ResourceLimiter.limits c.place.new.limiter) c.place.new.self c.place.ensures.same (the_object g.H.GcHeap.KIND c.args.store.now.alloc_counter c.args.kit.now c.args.store.now t a holds (g.L.ResourceLimiter.limits c.args.limiter.now) (g.L.ResourceLimiter.limits c.place.new.limiter) c.place.new.self c.place.ensures.same c.requires.of_nodes c.args.key c.args.value c.ranges.key c.ranges.value c.args.left c.args.right x y in_left in_right (part_low c.args.store.now c.requires.table c.args.kit.now.node c.args.left c.requires.in_left) (part_low c.args.store.now c.requires.table c.args.kit.now.node c.args.right c.requires.in_right) c.height_over-height.result c.height_over-height.ensures) (is_of_kit g.H.GcHeap.KIND c.args.store.now.alloc_counter c.args.kit.now c.args.store.now t a holds (g.L.ResourceLimiter.limits c.args.limiter.now) (g.L.ResourceLimiter.limits c.place.new.limiter) c.place.new.self c.place.ensures.same c.requires.of_nodes c.args.key c.args.value c.ranges.key c.ranges.value c.args.left c.args.right x y in_left in_right (part_low c.args.store.now c.requires.table c.args.kit.now.node c.args.left c.requires.in_left) (part_low c.args.store.now c.requires.table c.args.kit.now.node c.args.right c.requires.in_right) c.height_over-height.result c.height_over-height.ensures) (Err place_fault.ContTableFull) = subst (λ (f : PlaceFault). Placed g.H.GcHeap.KIND c.args.store.now.alloc_counter c.args.kit.now c.args.store.now t a holds (g.L.ResourceLimiter.limits c.args.limiter.now) (g.L.ResourceLimiter.limits c.place.new.limiter) c.place.new.self c.place.ensures.same (the_object g.H.GcHeap.KIND c.args.store.now.alloc_counter c.args.kit.now c.args.store.now t a holds (g.L.ResourceLimiter.limits c.args.limiter.now) (g.L.ResourceLimiter.limits c.place.new.limiter) c.place.new.self c.place.ensures.same c.requires.of_nodes c.args.key c.args.value c.ranges.key c.ranges.value c.args.left c.args.right x y in_left in_right (part_low c.args.store.now c.requires.table c.args.kit.now.node c.args.left c.requires.in_left) (part_low c.args.store.now c.requires.table c.args.kit.now.node c.args.right c.requires.in_right) c.height_over-height.result c.height_over-height.ensures) (is_of_kit g.H.GcHeap.KIND c.args.store.now.alloc_counter c.args.kit.now c.args.store.now t a holds (g.L.ResourceLimiter.limits c.args.limiter.now) (g.L.ResourceLimiter.limits c.place.new.limiter) c.place.new.self c.place.ensures.same c.requires.of_nodes c.args.key c.args.value c.ranges.key c.ranges.value c.args.left c.args.right x y in_left in_right (part_low c.args.store.now c.requires.table c.args.kit.now.node c.args.left c.requires.in_left) (part_low c.args.store.now c.requires.table c.args.kit.now.node c.args.right c.requires.in_right) c.height_over-height.result c.height_over-height.ensures) (Err f)) c.in-Err-ContTableFull.field-0-is (c.in-Err-ContTableFull.ensures.places t a object holds is) in
+    refused_place g.H.GcHeap.KIND c.args.store.now.alloc_counter c.args.kit.now c.args.store.now t a holds (g.L.ResourceLimiter.limits c.args.limiter.now) (g.L.ResourceLimiter.limits c.place.new.limiter) c.place.new.self c.place.ensures.same (the_object g.H.GcHeap.KIND c.args.store.now.alloc_counter c.args.kit.now c.args.store.now t a holds (g.L.ResourceLimiter.limits c.args.limiter.now) (g.L.ResourceLimiter.limits c.place.new.limiter) c.place.new.self c.place.ensures.same c.requires.of_nodes c.args.key c.args.value c.ranges.key c.ranges.value c.args.left c.args.right x y in_left in_right (part_low c.args.store.now c.requires.table c.args.kit.now.node c.args.left c.requires.in_left) (part_low c.args.store.now c.requires.table c.args.kit.now.node c.args.right c.requires.in_right) c.height_over-height.result c.height_over-height.ensures) (is_of_kit g.H.GcHeap.KIND c.args.store.now.alloc_counter c.args.kit.now c.args.store.now t a holds (g.L.ResourceLimiter.limits c.args.limiter.now) (g.L.ResourceLimiter.limits c.place.new.limiter) c.place.new.self c.place.ensures.same c.requires.of_nodes c.args.key c.args.value c.ranges.key c.ranges.value c.args.left c.args.right x y in_left in_right (part_low c.args.store.now c.requires.table c.args.kit.now.node c.args.left c.requires.in_left) (part_low c.args.store.now c.requires.table c.args.kit.now.node c.args.right c.requires.in_right) c.height_over-height.result c.height_over-height.ensures) placed.1
+
 pub returns-in-Err-TooLarge-clause-makes : goal.returns-in-Err-TooLarge-clause-makes
 returns-in-Err-TooLarge-clause-makes g c t a x y holds in_left in_right =
     let object = the_object g.H.GcHeap.KIND c.args.store.now.alloc_counter c.args.kit.now c.args.store.now t a holds (g.L.ResourceLimiter.limits c.args.limiter.now) (g.L.ResourceLimiter.limits c.place.new.limiter) c.place.new.self c.place.ensures.same c.requires.of_nodes c.args.key c.args.value c.ranges.key c.ranges.value c.args.left c.args.right x y in_left in_right (part_low c.args.store.now c.requires.table c.args.kit.now.node c.args.left c.requires.in_left) (part_low c.args.store.now c.requires.table c.args.kit.now.node c.args.right c.requires.in_right) c.height_over-height.result c.height_over-height.ensures in
@@ -90,6 +97,9 @@ returns-in-Ok-clause-limit g c = limit_at g (goal.at.returns-in-Ok-clause-limit 
 
 pub returns-in-Err-FuncTableFull-clause-limit : goal.returns-in-Err-FuncTableFull-clause-limit
 returns-in-Err-FuncTableFull-clause-limit g c = limit_at g (goal.at.returns-in-Err-FuncTableFull-clause-limit g c).After-place
+
+pub returns-in-Err-ContTableFull-clause-limit : goal.returns-in-Err-ContTableFull-clause-limit
+returns-in-Err-ContTableFull-clause-limit g c = limit_at g (goal.at.returns-in-Err-ContTableFull-clause-limit g c).After-place
 
 pub returns-in-Err-TooLarge-clause-limit : goal.returns-in-Err-TooLarge-clause-limit
 returns-in-Err-TooLarge-clause-limit g c = limit_at g (goal.at.returns-in-Err-TooLarge-clause-limit g c).After-place

@@ -8,11 +8,11 @@ use Rattle.gc_policy.proofs.AccountLemmas.{some_account}
 use Rattle.gc_store.specs.declared.root.GcRootIndex.{GcRootIndex}
 use Rattle.gc_maps.specs.declared.part.Frame.{Frame}
 use Rattle.gc_maps.specs.Parts.{RootIs}
-use Rattle.gc_maps.specs.Paths.{Descends, Descended}
+use Rattle.gc_maps.specs.Paths.{Descended}
+use Rattle.gc_maps.proofs.Descending.{Descends, begun, nothing_there, too_far, node_there, node_refused, wanting, found_there, gone_on}
 use Rattle.gc_maps.specs.Searching.{IsSearch}
 use Rattle.gc_maps.specs.Trees.{Tree}
 use Rattle.gc_maps.proofs.Growing.{same_then}
-use Rattle.gc_maps.proofs.Descending.{begun, nothing_there, too_far, node_there, node_refused, wanting, found_there, gone_on}
 use Rattle.gc_maps.proofs.ways.descend.Given as given
 use Rattle.gc_maps.proofs.ways.descend.Goals as goal
 use Rattle.gc_maps.proofs.ways.descend.Goals.{In-Some, After-loop-turn}

@@ -4,7 +4,7 @@ use Rattle.gc_policy.specs.Accounts.{Account, HoldsAccount}
 use Rattle.gc_store.specs.Stores.{IsSameStore}
 use Rattle.gc_maps.specs.Parts.{RootIs}
 use Rattle.gc_maps.specs.Searching.{IsSearch}
-use Rattle.gc_maps.specs.Paths.{Descends}
+use Rattle.gc_maps.proofs.Descending.{Descends}
 use Rattle.gc_maps.specs.Trees.{Tree}
 use Rattle.gc_maps.proofs.ways.descend.Given as goal
 

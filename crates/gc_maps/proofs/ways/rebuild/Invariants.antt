@@ -2,7 +2,8 @@ use Rattle.std.proofs.Common.{◌≡◌, ℤ, ◌<◌, List}
 use Rattle.gc_model.specs.Table.{Table}
 use Rattle.gc_policy.specs.Accounts.{Account, HoldsAccount}
 use Rattle.gc_store.specs.Stores.{IsSameStore}
-use Rattle.gc_maps.specs.Paths.{Rises, Climbs}
+use Rattle.gc_maps.specs.Paths.{Rises}
+use Rattle.gc_maps.proofs.Climbing.{Climbs}
 use Rattle.gc_maps.specs.Trees.{Tree, IsBalanced, height}
 use Rattle.gc_maps.proofs.ways.rebuild.Given as goal
 

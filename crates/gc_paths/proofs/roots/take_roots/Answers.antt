@@ -5,7 +5,8 @@ use Rattle.gc_paths.specs.declared.fault.PathFault.{PathFault}
 use Rattle.gc_paths.specs.Answers.{LacksRoots, present_count}
 use Rattle.gc_paths.specs.Parts.{parts}
 use Rattle.gc_paths.specs.Progress.{AnswersPart, GoesOn, TellsRoot, TellsStarts, word_count}
-use Rattle.gc_paths.specs.StartWords.{is_start_name, start_words}
+use Rattle.gc_paths.specs.StartWords.{is_start_name}
+use Rattle.gc_paths.proofs.StartRoots.{start_words}
 use Rattle.gc_paths.specs.Walks.{start_references}
 use Rattle.gc_paths.proofs.Growing.{same_itself, same_twice, err_is}
 use Rattle.gc_paths.proofs.RootsLoop.{start_found, none_left, adds_none, adds_twice, is_start_word, roots_begin, roots_more, roots_end, roots_refused}

@@ -4,8 +4,8 @@ use Rattle.gc_store.specs.OwnedWords.{HoldsThere}
 use Rattle.gc_store.specs.Staying.{OnlyAdds}
 use Rattle.gc_store.specs.Stores.{IsSameStore}
 use Rattle.gc_paths.specs.Parts.{parts}
-use Rattle.gc_paths.specs.Progress.{Basis, GoesOn, TellsRoots, word_count}
-use Rattle.gc_paths.specs.StartWords.{start_words}
+use Rattle.gc_paths.specs.Progress.{Basis, GoesOn, word_count}
+use Rattle.gc_paths.proofs.StartRoots.{TellsRoots, start_words}
 use Rattle.gc_paths.proofs.roots.take_roots.Given as goal
 
 abbrev pub invariant-loop-number : goal.invariant-loop-number

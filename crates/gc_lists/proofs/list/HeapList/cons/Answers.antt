@@ -19,7 +19,7 @@ use Rattle.gc_lists.specs.Versions.{StandsForListOf}
 use Rattle.gc_lists.proofs.list.HeapList.cons.Given as given
 use Rattle.gc_lists.proofs.list.HeapList.cons.Goals as goal
 use Rattle.gc_lists.proofs.list.HeapList.cons.Goals.{After-place}
-use Rattle.gc_lists.proofs.Consing.{can_place_cell, cell_values, object_asked, holds_grown, names_grown, cons_kept, cons_refused, cons_full, cons_lacks, cons_wants, never_ids, never_too_large, Kept, now, account}
+use Rattle.gc_lists.proofs.Consing.{can_place_cell, cell_values, object_asked, holds_grown, names_grown, cons_kept, cons_refused, cons_full, cons_lacks, cons_wants, never_cont_ids, never_ids, never_too_large, Kept, now, account}
 use Rattle.gc_lists.proofs.CellReads.{back}
 use Rattle.gc_lists.proofs.Limiting.{places_limit}
 
@@ -55,6 +55,15 @@ unreachable-requires g c =
     never_ids g.H.GcHeap.KIND c.args.store.now one.table some.0 one.holds c.args.kit.now (cells g at one.table some.0 some.1) c.args.self.now.root one.numbers c.args.head c.ranges.head one.stands (g.L.ResourceLimiter.limits c.args.limiter.now)
     (g.L.ResourceLimiter.limits c.place.new.limiter) c.place.new.self
     (placed g at one.table some.0 one.numbers some.1 one.stands (Err place_fault.FuncTableFull) (c.in-Err-FuncTableFull.is ∙ ap Err c.in-Err-FuncTableFull.field-0-is))
+
+pub unreachable-requires-in-Err-ContTableFull : goal.unreachable-requires-in-Err-ContTableFull
+unreachable-requires-in-Err-ContTableFull g c =
+    let at = (goal.at.unreachable-requires-in-Err-ContTableFull g c).After-place in
+    let one = c.requires.stands (sym c.is_kit_of.ensures ∙ c.if-not-is_kit_of.false) (sym c.is_version_of.ensures ∙ c.if-not-is_version_of.false) in
+    let some = some_account g.H.GcHeap.KIND c.args.store.now one.table one.holds in
+    never_cont_ids g.H.GcHeap.KIND c.args.store.now one.table some.0 one.holds c.args.kit.now (cells g at one.table some.0 some.1) c.args.self.now.root one.numbers c.args.head c.ranges.head one.stands (g.L.ResourceLimiter.limits c.args.limiter.now)
+    (g.L.ResourceLimiter.limits c.place.new.limiter) c.place.new.self
+    (placed g at one.table some.0 one.numbers some.1 one.stands (Err place_fault.ContTableFull) (c.in-Err-ContTableFull.is ∙ ap Err c.in-Err-ContTableFull.field-0-is))
 
 pub unreachable-requires-in-Err-TooLarge : goal.unreachable-requires-in-Err-TooLarge
 unreachable-requires-in-Err-TooLarge g c =
