@@ -87,10 +87,10 @@ fn walk<W: Write + Drop>(list: &mut GcRootsList, out: &mut W) -> Result<(), Case
     Ok(())
 }
 
-/// Writes a root that is lent.
+/// Writes a root that is lent, and its text.
 fn show_lent<W: Write + Drop>(root: &GcRoot<'_>, out: &mut W) -> Result<(), CaseFault> {
     let on_stack = root.is_on_wasm_stack();
     let raw = root.get().as_raw_u32();
-    write!(out, "; {} {on_stack} {raw}", root.place().number)?;
+    write!(out, "; {} {on_stack} {raw} {root:?}", root.place().number)?;
     Ok(())
 }

@@ -27,12 +27,13 @@ pub(crate) fn show_faults<W: Write + Drop>(out: &mut W) -> Result<(), CaseFault>
     Ok(())
 }
 
-/// Writes which ids there are of a number: that of a slab's entry, a host value's and a function's.
+/// Writes which ids there are of a number: that of a slab's entry, a host value's and a function's; and the texts of the last two.
 pub(crate) fn show_ids<W: Write + Drop>(raw: u32, out: &mut W) -> Result<(), CaseFault> {
     let id = Id::try_from_raw(raw).map(|id| id.into_raw());
-    let host = ExternRefHostDataId::from_raw(raw).map(|id| id.into_raw());
-    let func = FuncRefTableId::from_raw(raw).map(|id| id.into_raw());
-    write!(out, "{id:?} {host:?} {func:?}")?;
+    let host = ExternRefHostDataId::from_raw(raw);
+    let func = FuncRefTableId::from_raw(raw);
+    write!(out, "{id:?} {:?} ", host.map(|id| id.into_raw()))?;
+    write!(out, "{:?}; {host:?} {func:?}", func.map(|id| id.into_raw()))?;
     Ok(())
 }
 

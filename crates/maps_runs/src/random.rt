@@ -62,6 +62,23 @@ fn agrees<H: GcHeap>(
     Ok(true)
 }
 
+/// At the end of a round a collection runs, and a map has to agree with a table.
+fn agrees_at<H: GcHeap>(
+    store: &mut Store<H, u64>,
+    turn: u32,
+    map: &HeapMap,
+    table: &[Option<i64>; KEYS],
+) -> Result<bool, ListFault>
+    requires { (kit : Kit) × Shelf H.KIND store.old kit (map.now.root ∷ []) }
+    ensures { (kit : Kit) → Shelf H.KIND store.old kit (map.now.root ∷ []) → Shelf H.KIND store.new kit (map.now.root ∷ []) }
+{
+    if turn % CHANGES_A_ROUND != 0 {
+        return Ok(true);
+    }
+    collect(store);
+    agrees(store, map, table)
+}
+
 /// Changes a map and a table alike, and says whether they agreed after each round.
 fn change_both<H: GcHeap>(
     store: &mut Store<H, u64>,
@@ -83,11 +100,8 @@ fn change_both<H: GcHeap>(
         };
         map = change(store, limiter, kit, &map, key as i64, value)?;
         table[key] = value;
-        if turn % CHANGES_A_ROUND == 0 {
-            collect(store);
-            if !agrees(store, &map, &table)? {
-                return Ok(false);
-            }
+        if !agrees_at(store, turn, &map, &table)? {
+            return Ok(false);
         }
     }
     agrees(store, &map, &table)

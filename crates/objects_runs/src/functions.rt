@@ -1,46 +1,21 @@
 //! Functions among values: stored, read and overwritten, and refused where they don't fit.
 
-ghost use Rattle.std.specs.Prelude.{ℕ, IfOk};
-ghost use Rattle.gc_types.specs.declared.kind.VMGcKind.{VMGcKind};
-ghost use Rattle.gc_objects.specs.Kinds.{NamesKind};
-
 use crate::fault::RunFault;
 use crate::setup::{
     FUNCTION, FUNCTIONS, HOLDER, OTHER_FUNCTION, ample, arrays_of, function_type, structs_of,
 };
 use crate::show::show_made;
+use crate::structs::{new_holder, write_and_read};
 use crate::{arrays, structs};
 use gc_heap::GcHeap;
 use gc_objects::{ArrayRef, StructRef, Val};
-use gc_store::{Rooted, Store};
+use gc_store::Store;
 use gc_types::{Func, VMSharedTypeIndex};
 
 /// The function of that number and type.
 fn function(number: u32, ty: u32) -> Result<Val, RunFault> {
     let func = Func::new(number, VMSharedTypeIndex::new(ty)).ok_or(RunFault::Missing)?;
     Ok(Val::FuncRef(Some(func)))
-}
-
-/// A new struct that holds a function.
-fn new_holder<H: GcHeap>(
-    store: &mut Store<H, u64>,
-    value: &Val,
-) -> Result<Rooted<StructRef>, RunFault>
-    ensures { IfOk result (λ handle. NamesKind ℕ H.KIND store.new VMGcKind.StructRef handle.index) }
-{
-    let allocator = structs_of(store, HOLDER)?;
-    Ok(StructRef::new(store, &mut ample(), &allocator, &[*value])?)
-}
-
-/// Writes the field of such a struct, and reads it.
-fn write_and_read<H: GcHeap>(
-    rt: &impl Print,
-    store: &mut Store<H, u64>,
-    handle: Rooted<StructRef>,
-    value: &Val,
-) -> Result<(), RunFault> {
-    structs::write(rt, store, handle, 0, value)?;
-    structs::read(rt, store, handle, 0)
 }
 
 /// Shows whether functions fit a type of functions.
@@ -59,7 +34,7 @@ pub(crate) fn run_fields<H: GcHeap>(
     store: &mut Store<H, u64>,
 ) -> Result<(), RunFault> {
     show_fits(rt, store)?;
-    let handle = new_holder(store, &function(7, FUNCTION)?)?;
+    let handle = new_holder(store, HOLDER, &function(7, FUNCTION)?)?;
     structs::read(rt, store, handle, 0)?;
     write_and_read(rt, store, handle, &function(8, FUNCTION)?)?;
     write_and_read(rt, store, handle, &Val::FuncRef(None))?;

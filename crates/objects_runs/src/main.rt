@@ -4,9 +4,11 @@
 #![tactic(auto)]
 
 mod arrays;
+mod continuations;
 mod exceptions;
 mod fault;
 mod functions;
+mod gone;
 mod owned;
 mod references;
 mod scopes;
@@ -15,9 +17,11 @@ mod show;
 mod structs;
 
 use crate::arrays::{run_bytes, run_references, run_refused_arrays};
+use crate::continuations::{run_cont_elements, run_cont_fields};
 use crate::exceptions::run_exceptions;
 use crate::fault::RunFault;
 use crate::functions::{run_elements, run_fields};
+use crate::gone::run_gone;
 use crate::owned::run_owned;
 use crate::references::{run_hosts, run_number};
 use crate::scopes::run_scopes;
@@ -60,7 +64,10 @@ fn run_calls<H: GcHeap>(
     run_exceptions(rt, store)?;
     run_fields(rt, store)?;
     run_elements(rt, store)?;
-    run_owned(rt, store)
+    run_cont_fields(rt, store)?;
+    run_cont_elements(rt, store)?;
+    run_owned(rt, store)?;
+    run_gone(rt, store, stranger)
 }
 
 /// Makes each call over null heaps.

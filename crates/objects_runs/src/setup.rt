@@ -18,7 +18,7 @@ pub(crate) const BYTES: u32 = 1;
 /// The type of arrays of constant references.
 pub(crate) const CONSTANTS: u32 = 2;
 /// The type of exceptions with a 32-bit integer.
-const EXCEPTION: u32 = 3;
+pub(crate) const EXCEPTION: u32 = 3;
 /// A type of functions, and another one.
 pub(crate) const FUNCTION: u32 = 4;
 
@@ -27,6 +27,12 @@ pub(crate) const OTHER_FUNCTION: u32 = 5;
 pub(crate) const HOLDER: u32 = 6;
 
 pub(crate) const FUNCTIONS: u32 = 7;
+/// The type of structs of one continuation or none, that of arrays of such, and that of structs of none.
+pub(crate) const CONT_HOLDER: u32 = 8;
+
+pub(crate) const CONTINUATIONS: u32 = 9;
+
+pub(crate) const NO_CONT_HOLDER: u32 = 10;
 
 /// The most pages that a heap gets.
 const MOST_PAGES: u32 = 64;
@@ -52,6 +58,18 @@ pub(crate) fn function_type() -> ValType {
     })
 }
 
+/// The type of continuations, or none.
+pub(crate) const CONT_TYPE: ValType = ValType::Ref(RefType {
+    nullable: true,
+    heap_type: HeapType::Cont,
+});
+
+/// The type of the value that is no continuation, alone.
+pub(crate) const NO_CONT_TYPE: ValType = ValType::Ref(RefType {
+    nullable: true,
+    heap_type: HeapType::NoCont,
+});
+
 /// A field that is stored so.
 fn field(mutability: Mutability, element_type: StorageType) -> FieldType {
     FieldType {
@@ -70,6 +88,11 @@ fn function() -> FieldType {
     field(Mutability::Var, StorageType::ValType(function_type()))
 }
 
+/// A field of continuations of that type.
+fn continuation(ty: ValType) -> FieldType {
+    field(Mutability::Var, StorageType::ValType(ty))
+}
+
 /// Declares the types of a new store.
 pub(crate) fn declare_types<H: GcHeap>(store: &mut Store<H, u64>) -> Result<(), RunFault> {
     let fields = [
@@ -81,7 +104,8 @@ pub(crate) fn declare_types<H: GcHeap>(store: &mut Store<H, u64>) -> Result<(), 
     store.declare_array(field(Mutability::Var, StorageType::I8), None, false)?;
     store.declare_array(reference(Mutability::Const), None, false)?;
     store.declare_exn(&[ValType::I32])?;
-    declare_functions(store)
+    declare_functions(store)?;
+    declare_continuations(store)
 }
 
 /// Declares two types of functions, and those of what holds functions.
@@ -91,6 +115,16 @@ fn declare_functions<H: GcHeap>(store: &mut Store<H, u64>) -> Result<(), RunFaul
     let fields = [function()];
     store.declare_struct(&fields, None, false)?;
     store.declare_array(function(), None, false)?;
+    Ok(())
+}
+
+/// Declares the types of what holds continuations.
+fn declare_continuations<H: GcHeap>(store: &mut Store<H, u64>) -> Result<(), RunFault> {
+    let fields = [continuation(CONT_TYPE)];
+    store.declare_struct(&fields, None, false)?;
+    store.declare_array(continuation(CONT_TYPE), None, false)?;
+    let fields = [continuation(NO_CONT_TYPE)];
+    store.declare_struct(&fields, None, false)?;
     Ok(())
 }
 

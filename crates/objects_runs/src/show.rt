@@ -33,6 +33,8 @@ pub(crate) fn show_read(
             func.number
         )?,
         Ok(Val::FuncRef(None)) => println!(rt; "{place} {index} is no function")?,
+        Ok(Val::ContRef(Some(cont))) => println!(rt; "{place} {index} is continuation {cont}")?,
+        Ok(Val::ContRef(None)) => println!(rt; "{place} {index} is no continuation")?,
         Ok(_) => println!(rt; "{place} {index} is a reference")?,
         Err(fault) => println!(rt; "{place} {index}: {fault:?}")?,
     }

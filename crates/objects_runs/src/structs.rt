@@ -15,7 +15,9 @@ use gc_store::{Rooted, RootedGcRef, Store, ref_eq};
 const VALUES: [Val; 3] = [Val::I32(-1), Val::I64(5), Val::AnyRef(None)];
 
 /// A new struct.
-fn new_struct<H: GcHeap>(store: &mut Store<H, u64>) -> Result<Rooted<StructRef>, RunFault>
+pub(crate) fn new_struct<H: GcHeap>(
+    store: &mut Store<H, u64>,
+) -> Result<Rooted<StructRef>, RunFault>
     ensures { IfOk result (λ handle. NamesKind ℕ H.KIND store.new VMGcKind.StructRef handle.index) }
 {
     let allocator = structs_of(store, STRUCT)?;
@@ -37,6 +39,29 @@ fn make<H: GcHeap>(
     let allocator = structs_of(store, STRUCT)?;
     let answer = StructRef::new(store, &mut ample(), &allocator, values);
     show_made(rt, name, answer)
+}
+
+/// A new struct of that type, which has one field.
+pub(crate) fn new_holder<H: GcHeap>(
+    store: &mut Store<H, u64>,
+    ty: u32,
+    value: &Val,
+) -> Result<Rooted<StructRef>, RunFault>
+    ensures { IfOk result (λ handle. NamesKind ℕ H.KIND store.new VMGcKind.StructRef handle.index) }
+{
+    let allocator = structs_of(store, ty)?;
+    Ok(StructRef::new(store, &mut ample(), &allocator, &[*value])?)
+}
+
+/// Writes the field of such a struct, and reads it.
+pub(crate) fn write_and_read<H: GcHeap>(
+    rt: &impl Print,
+    store: &mut Store<H, u64>,
+    handle: Rooted<StructRef>,
+    value: &Val,
+) -> Result<(), RunFault> {
+    write(rt, store, handle, 0, value)?;
+    read(rt, store, handle, 0)
 }
 
 /// Reads a field of a struct.

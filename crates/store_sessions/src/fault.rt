@@ -1,7 +1,7 @@
 //! Why sessions can't be run.
 
 use gc_script::RunError;
-use gc_store::{RootFault, SlotFault};
+use gc_store::{GrowFault, RootFault, SlotFault};
 use gc_types::TypeFault;
 use session_table::TableFault;
 use std::alloc::AllocError;
@@ -13,14 +13,16 @@ use thiserror::Error;
 pub(crate) enum SessionFault {
     #[error(transparent)]
     Table(#[from] TableFault),
-    #[error("the store can't be made to hold a function")]
-    NoFunction,
+    #[error("the store can't be made to hold a function or a continuation")]
+    NoOpaque,
     #[error(transparent)]
     Types(#[from] TypeFault),
     #[error(transparent)]
     Root(#[from] RootFault),
     #[error(transparent)]
     Slot(#[from] SlotFault),
+    #[error(transparent)]
+    Grow(#[from] GrowFault),
     #[error(transparent)]
     Run(#[from] RunError),
     #[error(transparent)]

@@ -11,15 +11,17 @@
 //!   and which may have so many scoped roots, and as many owned ones. Printed are the header, each reply, `refusals N` and
 //!   `last FROM TO`, the last ask that the limiter refused, or `last none`. The limiter answers by the list of
 //!   `| answers yes no..` and yes behind it, or grants up to the pages of `| most N`. With `| counter N` each N-th allocation
-//!   collects first. With `| function` global 0 names a struct of type 1 whose field holds a function, of type 0. Lines `---` cut the script into several, which the store runs one after the other, each as a whole and with
-//!   unset registers.
+//!   collects first. With `| function` global 0 names a struct of type 1 whose field holds a function, of type 0; with
+//!   `| continuation` one of type 0 whose field holds a continuation; with `| dropped N` the heap has grown by a byte, and a
+//!   collection of it was dropped after N increments. Lines `---` cut the script into several, which the store runs one after the
+//!   other, each as a whole and with unset registers.
 //!
 //! What the table must give, in `stdout`, was worked out by hand from the rules in docs/.
 #![tactic(auto)]
 
 mod ends;
 mod fault;
-mod functions;
+mod opaque;
 mod setup;
 mod stores;
 mod traced;

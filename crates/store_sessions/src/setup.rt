@@ -1,5 +1,6 @@
 //! What the header of a session asks for.
 
+use crate::opaque::Opaque;
 use gc_store::HeapConfig;
 use gcsh_top::Collector;
 use session_table::{TableFault, name_and_value, numbers_of};
@@ -35,8 +36,10 @@ pub(crate) struct StoreSetup {
     max_roots: u32,
     /// After how many allocations one collects first.
     counter: Option<NonZeroU32>,
-    /// Whether the first global names a struct that holds a function.
-    holds_function: bool,
+    /// What a struct holds that the first global names, where it names one.
+    held: Option<Opaque>,
+    /// After how many increments a collection was dropped.
+    dropped_after: Option<u64>,
     pub(crate) limit: Limit,
 }
 
@@ -45,7 +48,8 @@ pub(crate) struct StoreSetup {
 pub(crate) struct NewStore {
     pub(crate) collector: Collector,
     pub(crate) config: HeapConfig,
-    pub(crate) holds_function: bool,
+    pub(crate) held: Option<Opaque>,
+    pub(crate) dropped_after: Option<u64>,
 }
 
 /// What the limiter of a store grants.
@@ -107,7 +111,8 @@ impl StoreSetup {
             first_pages: first_pages.parse()?,
             max_roots: max_roots.parse()?,
             counter: None,
-            holds_function: false,
+            held: None,
+            dropped_after: None,
             limit: Limit::Answers(Vec::new(alloc)),
         };
         for part in parts {
@@ -122,7 +127,9 @@ impl StoreSetup {
             ("most", number) => self.limit = Limit::Most(number.parse()?),
             ("answers", answers) => self.limit = Limit::Answers(answers_of(alloc, answers)?),
             ("counter", number) => self.counter = NonZeroU32::new(number.parse()?),
-            ("function", "") => self.holds_function = true,
+            ("function", "") => self.held = Some(Opaque::Function),
+            ("continuation", "") => self.held = Some(Opaque::Continuation),
+            ("dropped", number) => self.dropped_after = Some(number.parse()?),
             _ => return Err(TableFault::BadOption),
         }
         Ok(())
@@ -140,7 +147,8 @@ impl StoreSetup {
         Ok(NewStore {
             collector: self.collector,
             config,
-            holds_function: self.holds_function,
+            held: self.held,
+            dropped_after: self.dropped_after,
         })
     }
 }

@@ -1,7 +1,7 @@
 //! Runs scripts on stores, and writes what they give.
 
 use crate::fault::SessionFault;
-use crate::functions::hold_function;
+use crate::opaque::hold_opaque;
 use crate::setup::{Limit, NewStore, StoreSetup};
 use gc_copying::CopyingHeap;
 use gc_drc::DrcHeap;
@@ -81,8 +81,22 @@ fn run_heap<L: ResourceLimiter, W: Write + Drop>(
     }
 }
 
-/// Runs a script on a store, which is made to hold a function where that is asked for.
-fn run_prepared<H: GcHeap, L: ResourceLimiter, W: Write + Drop>(
+/// Lets the heap grow by a byte, starts a collection, and drops it after so many increments.
+fn drop_collection<H: GcHeap + Drop, L: ResourceLimiter>(
+    store: &mut Store<H, u64>,
+    limiter: &mut L,
+    increments: u64,
+) -> Result<(), SessionFault> {
+    store.gc_heap_grow(limiter, 1)?;
+    let mut collecting = store.gc_start();
+    for _ in 0..increments {
+        collecting.collect_increment();
+    }
+    Ok(())
+}
+
+/// Runs a script on a store, which holds a function or a continuation, or has dropped a collection, where that is asked for.
+fn run_prepared<H: GcHeap + Drop, L: ResourceLimiter, W: Write + Drop>(
     alloc: Global,
     store: &mut Store<H, u64>,
     new: NewStore,
@@ -90,8 +104,11 @@ fn run_prepared<H: GcHeap, L: ResourceLimiter, W: Write + Drop>(
     script: &str,
     out: &mut W,
 ) -> Result<(), SessionFault> {
-    if new.holds_function {
-        hold_function(store, limiter)?;
+    if let Some(held) = new.held {
+        hold_opaque(store, limiter, held)?;
+    }
+    if let Some(increments) = new.dropped_after {
+        drop_collection(store, limiter, increments)?;
     }
     run_parts(alloc, store, limiter, script, out)
 }

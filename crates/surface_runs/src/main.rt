@@ -15,7 +15,7 @@ ghost use Rattle.gc_view.specs.Heaps.{detached};
 
 use crate::fault::RunFault;
 use crate::hashes::run_owned_hashes;
-use crate::texts::{run_refused, run_texts};
+use crate::texts::{run_refused, run_texts, run_traced};
 use crate::types::{run_bound, run_subtypes, run_wide};
 use crate::words::{run_owned, run_pushed, run_words};
 use gc_copying::CopyingHeap;
@@ -65,5 +65,7 @@ fn main(rt: HostRuntime) -> Result<(), RunFault> {
     println!(&rt; "== counting")?;
     run_over(&rt, alloc, DrcHeap::new(alloc), config)?;
     println!(&rt; "== copying")?;
-    run_over(&rt, alloc, CopyingHeap::new(alloc), config)
+    run_over(&rt, alloc, CopyingHeap::new(alloc), config)?;
+    println!(&rt; "== traced")?;
+    run_traced(&rt, alloc)
 }
