@@ -1,26 +1,33 @@
 -- What is seen of a heap by where it has its memory.
-use Rattle.std.proofs.Common.{◌≡◌, ℕ, ◌*◌, ◌%◌, ◌≤◌, ◌++◌, false, cond, List, length, replicate, Option, Some, None, refl, sym, ap, subst, ◌∙◌, inl, inr, arith}
+use Rattle.std.proofs.Common.{drop, take, ◌≡◌, ℕ, ◌*◌, ◌%◌, ◌≤◌, ◌++◌, false, cond, List, length, replicate, Option, Some, None, refl, sym, ap, subst, ◌∙◌, inl, inr, arith}
 use Rattle.std.proofs.Math.Logic.{◌⊎◌}
 use Rattle.std.specs.Ordering.{nat_cmp, eq_by_cmp}
 use Rattle.std.specs.Cmp.{unsigned_tied, nat_cmp_total}
 use Rattle.std.specs.FinMap as finite
 use Rattle.std.proofs.lemmas.Bool.{cases_eq, ne_eqb, eq-eqb}
 use Rattle.gc_types.specs.declared.kind.Layouts.TheVariants.{Copying}
+use Rattle.gc_types.specs.declared.kind.VMGcKind.TheVariants.{ExternRef}
+use Rattle.gc_view.specs.Bytes.{u32_at}
 use Rattle.gc_view.specs.Pages.{page, max_pages}
 use Rattle.gc_view.specs.Heaps.{HeapObject, HeapView, Counts, no_counts, detached_in}
+use Rattle.gc_heap.specs.Content.{LiesAtPlace}
+use Rattle.gc_heap.specs.FreedHosts.{IsHostWord}
+use Rattle.gc_heap.specs.Lying.{LiesIn}
+use Rattle.gc_heap.specs.Objects.{IsObjectData}
 use Rattle.gc_heap.specs.Heap.{put_object, grown}
 use Rattle.gc_heap.specs.Barriers.{raise, lower, show, cloned, dropped, exposed, copied, emptied, overwritten}
 use Rattle.gc_copying.specs.Layout.{first_place, places_in}
 use Rattle.gc_copying.specs.Growth.{bump_in_more}
 use Rattle.gc_copying.proofs.ObjectLemmas.{len-at}
 use Rattle.gc_copying.specs.CopyingHeapLaw.{copying_is_heap}
-use Rattle.gc_copying.specs.States.{seen_in, seen_of, copying_seen, IsSound, IsOut, IsCopyingSound}
+use Rattle.gc_copying.specs.States.{IsBacked, seen_in, seen_of, copying_seen, IsSound, IsOut, IsCopyingSound}
 use Rattle.gc_copying.specs.declared.space.Space.{Space}
 use Rattle.gc_copying.specs.declared.growth.Marks.{Marks}
 use Rattle.gc_copying.specs.declared.heap.CopyingHeap.{CopyingHeap}
 use Rattle.gc_copying.specs.declared.heap.Backing.{Backing}
 use Rattle.gc_copying.specs.declared.heap.Backing.TheVariants as backing
 use Rattle.gc_copying.proofs.GrowLemmas.{grows}
+use Rattle.gc_copying.proofs.ReadLemmas.{HeldAt, held_at, size_of, data_of, host_of}
 
 -- where no memory is attached, what is seen is a heap without one
 pub not_attached : (scopes : ℕ) (b : Backing) → ((s : Space) → b ≡ backing.Attached s → ⊥) → seen_of scopes b ≡ detached_in scopes
@@ -34,6 +41,26 @@ nothing_empty q o e = cc (finite.get-empty nat_cmp q)
 -- and it holds nothing
 pub nothing_held : (scopes : ℕ) (b : Backing) (q : ℕ) (o : HeapObject) → ((s : Space) → b ≡ backing.Attached s → ⊥) → finite.get (seen_of scopes b).content q ≡ Some o → ⊥
 nothing_held scopes b q o never held = nothing_empty q o (sym (ap (λ (h : HeapView). finite.get h.content q) (not_attached scopes b never)) ∙ held)
+
+attached_at : (h : CopyingHeap) (s : Space) (q : ℕ) (o : HeapObject) → h.backing ≡ backing.Attached s → IsCopyingSound h → finite.get (copying_seen h).content q ≡ Some o → HeldAt s.memory s.upper s.bump q o
+attached_at h s q o is sound held =
+    held_at s.memory s.upper s.bump s.externals s.objects q o (subst IsBacked is sound.backed) (subst (λ b. finite.get (seen_of h.scopes b).content q ≡ Some o) is held)
+
+-- what it holds where its memory is attached lies in that
+pub held_lies : (h : CopyingHeap) (s : Space) (q : ℕ) (o : HeapObject) → h.backing ≡ backing.Attached s → IsCopyingSound h → finite.get (copying_seen h).content q ≡ Some o → LiesIn Copying s.memory q o
+held_lies h s q o is sound held =
+    let at = attached_at h s q o is sound held in
+    record {
+      lies = subst (λ b. LiesAtPlace Copying (seen_of h.scopes b).capacity q o) is ((copying_is_heap h sound).objects q o held);
+      object = subst (λ n. IsObjectData Copying o (take n (drop q s.memory))) (sym (size_of s.memory s.upper s.bump q o at)) (data_of s.memory s.upper s.bump q o at);
+    }
+
+-- the host id of what it holds is one that a table may give
+pub host_number : (h : CopyingHeap) (s : Space) (q : ℕ) (o : HeapObject) → h.backing ≡ backing.Attached s → IsCopyingSound h → finite.get (copying_seen h).content q ≡ Some o → o.kind ≡ ExternRef
+    → IsHostWord (u32_at o.bytes 0)
+host_number h s q o is sound held kind =
+    let x = host_of s.memory s.upper s.bump q o (attached_at h s q o is sound held) kind in
+    (omega (arith, x.external.from, x.word_is), omega (arith, x.external.to, x.word_is))
 
 pub scopes_of : (scopes : ℕ) (b : Backing) → (seen_of scopes b).scopes ≡ scopes
 scopes_of scopes backing.Detached = refl

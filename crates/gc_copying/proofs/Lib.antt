@@ -9,7 +9,6 @@ pub mod FinishLemmas
 pub mod FormLemmas
 pub mod ForwardLemmas
 pub mod GrowLemmas
-pub mod HostLemmas
 pub mod LastLemmas
 pub mod MakeLemmas
 pub mod MidLemmas

@@ -1,6 +1,5 @@
 -- What the words of a held object tell.
-use Rattle.std.proofs.Common.{◌≡◌, ℕ, ◌+◌, ◌-◌, ◌%◌, ◌<◌, ◌≤◌, Bool, List, take, drop, length, get_or, Some, Ok, Err, refl, sym, ap, subst, ◌∙◌, arith}
-use Rattle.std.specs.Prelude.{Result, IsOkAnd, MatchResult}
+use Rattle.std.proofs.Common.{◌≡◌, ℕ, ◌+◌, ◌-◌, ◌%◌, ◌<◌, ◌≤◌, Bool, List, take, drop, length, get_or, Some, refl, sym, ap, subst, ◌∙◌, arith}
 use Rattle.std.specs.FinMap as finite
 use Rattle.std.proofs.lemmas.List.{same_lists, get_or-take, get_or-drop, length-take-le, length-drop}
 use Rattle.gc_types.specs.declared.kind.Layouts.TheVariants.{Copying}
@@ -14,12 +13,11 @@ use Rattle.gc_memory.proofs.WordLemmas.{word-is}
 use Rattle.gc_view.proofs.ByteLemmas.{u32_at-part}
 use Rattle.gc_view.specs.Bytes.{u32_at}
 use Rattle.gc_view.specs.Heaps.{HeapObject}
-use Rattle.gc_heap.specs.Objects.{held_size, first_offset, data_offset, array_length, IsObjectKind, IsHeaderOf, IsObjectData}
+use Rattle.gc_heap.specs.Objects.{held_size, first_offset, data_offset, IsObjectKind, IsHeaderOf, IsObjectData}
 use Rattle.gc_copying.specs.Layout.{size_at, places_in, kind_at, data_at, object_at}
 use Rattle.gc_copying.specs.Content.{objects_at, IsWhole, IsExternalAt, IsSpace}
 use Rattle.gc_copying.specs.ObjectLaws.{held_size-at, held_only}
 use Rattle.gc_copying.specs.HeapLaws.{LiesInSpace, lies_in_space}
-use Rattle.gc_copying.proofs.WriteLemmas.{array_word}
 
 -- What is known of the place of a held object.
 pub record HeldAt (m : List ℕ) (upper : Bool) (bump q : ℕ) (o : HeapObject) : Type 0 where
@@ -46,12 +44,6 @@ header_of m upper bump q o kind_word type_word h kind ty = record {
 -- its size word is its size
 pub size_of : (m : List ℕ) (upper : Bool) (bump q : ℕ) (o : HeapObject) → HeldAt m upper bump q o → held_size Copying o ≡ size_at m q
 size_of m upper bump q o h = ap (held_size Copying) h.is ∙ held_size-at m q h.whole h.lies.inside
-
--- the word behind the size of an array is its length
-pub array_of : (m : List ℕ) (upper : Bool) (bump q : ℕ) (o : HeapObject) → HeldAt m upper bump q o → o.kind ≡ ArrayRef → word m (q + 12) ≡ array_length o
-array_of m upper bump q o h kind =
-    let at : kind_at m q ≡ ArrayRef = sym (ap (λ (x : HeapObject). x.kind) h.is) ∙ kind in
-    sym (ap array_length h.is ∙ ap (λ k. u32_at (data_at m q k) 0) at ∙ array_word m q h.lies.least h.lies.inside)
 
 host_word : (m : List ℕ) (q : ℕ) → q + 20 ≤ length m → u32_at (data_at m q ExternRef) 0 ≡ word m (q + 16)
 unfolding data_at
@@ -124,8 +116,3 @@ data_of m upper bump q o h =
       data_is = subst (λ (x : HeapObject). take (length x.bytes) (drop (data_offset Copying x.kind) part) ≡ x.bytes) (sym h.is)
           (data_read m q (kind_at m q) h.whole.object_kind h.whole.least (λ e. (h.whole.external e).size) inside);
     }
-
--- an answer that is right where it is one, and is one
-pub match_ok : {A E : Type 0} (r : Result A E) (P R : A → Type 0) (N : E → Type 0) → MatchResult r P N → ((x : A) → P x → R x) → ((e : E) → N e → ⊥) → IsOkAnd r R
-match_ok (Ok x) P R N m right never = right x m
-match_ok (Err e) P R N m right never = absurd (never e m)

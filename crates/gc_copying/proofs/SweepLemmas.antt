@@ -17,10 +17,11 @@ use Rattle.gc_heap.specs.Collection.{IsPartOf}
 use Rattle.gc_copying.specs.declared.space.Space.{Space}
 use Rattle.gc_copying.specs.Spaces.{half_first, half_end}
 use Rattle.gc_copying.specs.CopyWords.{flag, size_at, forwarding, host_word, next_external, IsExternal, copied_unit}
-use Rattle.gc_copying.specs.CopyStart.{From, Linked, none, link, IsHostWord}
+use Rattle.gc_copying.specs.CopyStart.{From, Linked, none, link}
 use Rattle.gc_copying.specs.CopyMiddle.{Leads, Mid}
 use Rattle.gc_copying.specs.CopySteps.{Midway}
-use Rattle.gc_copying.specs.CopySweep.{FreesHost, CanSweepOne, ListsCopy, Sweeps}
+use Rattle.gc_heap.specs.FreedHosts.{FreesHost, IsHostWord}
+use Rattle.gc_copying.specs.CopySweep.{CanSweepOne, ListsCopy, Sweeps}
 use Rattle.gc_copying.proofs.MoreBytes.{wrote_word, word_written}
 use Rattle.gc_copying.proofs.MidLemmas.{lies, new_lies, halves_apart, no_both}
 use Rattle.gc_copying.proofs.CopyKeeps.{copy_range}

@@ -2,10 +2,10 @@
 use Rattle.std.specs.Prelude.{◌≡◌, ℕ, ◌+◌, ◌%◌, ◌<◌, ◌≤◌, ◌^◌, ◌⊎◌, List, [], ◌∷◌, length}
 use Rattle.gc_types.specs.Declarations.{Declaration}
 use Rattle.gc_refs.specs.Trace.{form_of}
-use Rattle.gc_tables.specs.SideTables.{max_entries}
 use Rattle.gc_memory.specs.Words.{word}
 use Rattle.gc_memory.specs.Lists.{In, occ}
 use Rattle.gc_memory.specs.Chains.{Chain}
+use Rattle.gc_heap.specs.FreedHosts.{IsHostWord}
 use Rattle.gc_copying.specs.CopyWords.{flag, size_at, host_word, next_external, IsExternal, offsets_at}
 use Rattle.gc_heap.specs.References.{Spaced}
 
@@ -32,10 +32,6 @@ IsWord s w = (w ≡ 0) ⊎ ((w % 2 ≡ 1) ⊎ In w s.places)
 pub data Linked (m : List ℕ) : ℕ → List ℕ → Type 0 where
   none : Linked m 0 []
   link : {p : ℕ} {ps : List ℕ} → 0 < p → Linked m (next_external m p) ps → Linked m p (p ∷ ps)
-
--- what an external object keeps of its host value is the id plus 1
-abbrev pub IsHostWord : ℕ → Type 0
-IsHostWord w = (0 < w) × (w ≤ max_entries)
 
 -- The list of external objects that begins there has each of these places that is external, once.
 pub record ListsExternals (m : List ℕ) (head : ℕ) (places : List ℕ) : Type 0 where

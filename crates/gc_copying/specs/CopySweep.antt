@@ -7,15 +7,9 @@ use Rattle.gc_heap.specs.Collection.{IsPartOf}
 use Rattle.gc_copying.specs.declared.space.Space.{Space}
 use Rattle.gc_copying.specs.CopyWords.{flag, forwarding, host_word, IsExternal}
 use Rattle.gc_memory.specs.Lists.{In, occ}
-use Rattle.gc_copying.specs.CopyStart.{From, IsHostWord, Linked}
+use Rattle.gc_copying.specs.CopyStart.{From, Linked}
 use Rattle.gc_copying.specs.CopyMiddle.{Leads}
 use Rattle.gc_copying.specs.CopySteps.{Midway}
-
--- The value whose id that number stands for is gone, and no other.
-pub record FreesHost (D : Type 0) (old new : finite.FinMap nat_cmp D) (raw : ℕ) : Type 0 where
-  pub lost : IsHostWord raw → finite.get new (raw - 1) ≡ None
-  pub others : (id : ℕ) → (raw ≡ id + 1 → ⊥) → finite.get new id ≡ finite.get old id
-  pub part : IsPartOf new old
 
 -- An external object may be swept: its words lie in the memory, and those of its copy where there is one.
 pub record CanSweepOne (m : List ℕ) (p : ℕ) : Type 0 where

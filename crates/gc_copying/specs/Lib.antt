@@ -14,6 +14,5 @@ pub mod HeapLaws
 pub mod Layout
 pub mod ObjectLaws
 pub mod Placing
-pub mod Reading
 pub mod Spaces
 pub mod States

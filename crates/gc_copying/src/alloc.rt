@@ -15,6 +15,7 @@ use crate::place::Room;
 use crate::space::Space;
 use crate::trace::struct_trace;
 use gc_heap::HeapFault;
+use gc_heap::layouts::{array_bytes, kind_of_layout};
 use gc_memory::offsets::{COPYING_NEXT_EXTERNAL, array_length, external_size, host_id};
 use gc_refs::{InlineTraceInfo, VMArrayRef, VMExternRef, VMGcHeader, VMGcRef};
 use gc_tables::ExternRefHostDataId;
@@ -30,24 +31,6 @@ pub(crate) fn header_with(kind: VMGcKind, ty: VMSharedTypeIndex, spare: u32) -> 
     let mut header = VMGcHeader::from_kind_and_index(kind, ty);
     header.set_reserved_u26(spare);
     header
-}
-
-/// The kind of an object with that layout.
-fn kind_of_layout(layout: &GcStructLayout) -> VMGcKind
-    ensures { result ≡ layout_kind layout.now }
-{
-    if layout.is_exception {
-        VMGcKind::ExnRef
-    } else {
-        VMGcKind::StructRef
-    }
-}
-
-/// The bytes of an array of that length.
-fn array_bytes(layout: &GcArrayLayout, length: u32) -> u64
-    ensures { result ≡ array_size layout.now length }
-{
-    u64::from(layout.base_size) + u64::from(length) * u64::from(layout.elem_size)
 }
 
 impl Space {

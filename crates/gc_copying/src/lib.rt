@@ -18,10 +18,10 @@ mod growth;
 pub mod heap;
 pub mod layout;
 mod place;
-mod read;
 pub(crate) mod space;
 pub(crate) mod ticks;
 mod trace;
+mod write;
 
 pub use collection::CopyingCollection;
 pub use heap::CopyingHeap;

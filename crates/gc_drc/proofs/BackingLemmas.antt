@@ -1,12 +1,18 @@
 -- What is seen of a heap by where it has its memory.
-use Rattle.std.proofs.Common.{◌≡◌, ℕ, ◌+◌, ◌*◌, ◌%◌, ◌<◌, ◌≤◌, ◌++◌, false, List, length, replicate, Option, Some, None, refl, sym, ap, subst, ◌∙◌, inl, inr, arith}
+use Rattle.std.proofs.Common.{drop, take, ◌≡◌, ℕ, ◌+◌, ◌*◌, ◌%◌, ◌<◌, ◌≤◌, ◌++◌, false, List, length, replicate, Option, Some, None, refl, sym, ap, subst, ◌∙◌, inl, inr, arith}
 use Rattle.std.specs.Ordering.{nat_cmp}
 use Rattle.std.specs.FinMap as finite
 use Rattle.std.proofs.lemmas.Bool.{cases_eq}
 use Rattle.gc_types.specs.declared.kind.Layouts.TheVariants.{Counting}
+use Rattle.gc_types.specs.declared.kind.VMGcKind.TheVariants.{ExternRef}
+use Rattle.gc_view.specs.Bytes.{u32_at}
 use Rattle.gc_view.specs.Pages.{page, max_pages}
 use Rattle.gc_view.specs.Heaps.{HeapObject, HeapView, detached_in}
 use Rattle.gc_free.specs.Space.{IsSound, grow}
+use Rattle.gc_heap.specs.Content.{LiesAtPlace}
+use Rattle.gc_heap.specs.FreedHosts.{IsHostWord}
+use Rattle.gc_heap.specs.Lying.{LiesIn}
+use Rattle.gc_heap.specs.Objects.{IsObjectData}
 use Rattle.gc_heap.specs.Heap.{grown}
 use Rattle.gc_heap.specs.Barriers.{raise, lower, show, cloned, dropped, exposed, copied, CanUnname, CanUnnameSlot, IsNamed}
 use Rattle.gc_drc.specs.declared.space.CountedSpace.{CountedSpace}
@@ -20,9 +26,10 @@ use Rattle.gc_drc.specs.Growth.{with_bytes}
 use Rattle.gc_drc.proofs.PlaceLemmas.{len-at}
 use Rattle.gc_drc.specs.SpaceLaws.{blocks_apart, places_are}
 use Rattle.gc_free.specs.Space.{places_end}
-use Rattle.gc_drc.specs.States.{seen_of, drc_seen, IsOut, IsDrcSound}
+use Rattle.gc_drc.specs.States.{IsBacked, seen_of, drc_seen, IsOut, IsDrcSound}
 use Rattle.gc_drc.specs.DrcHeapLaw.{drc_is_heap}
 use Rattle.gc_drc.proofs.GrowLemmas.{grows}
+use Rattle.gc_drc.proofs.ReadLemmas.{HeldAt, held_at, size_of, data_of, host_of}
 use Rattle.gc_drc.proofs.SeenLemmas.{get-insert-same, get-insert-other}
 
 -- where no memory is attached, what is seen is a heap without one
@@ -37,6 +44,25 @@ nothing_empty q o e = cc (finite.get-empty nat_cmp q)
 -- and it holds nothing
 pub nothing_held : (scopes : ℕ) (b : Backing) (q : ℕ) (o : HeapObject) → ((s : CountedSpace) → b ≡ backing.Attached s → ⊥) → finite.get (seen_of scopes b).content q ≡ Some o → ⊥
 nothing_held scopes b q o never held = nothing_empty q o (sym (ap (λ (h : HeapView). finite.get h.content q) (not_attached scopes b never)) ∙ held)
+
+attached_at : (h : DrcHeap) (s : CountedSpace) (q : ℕ) (o : HeapObject) → h.backing ≡ backing.Attached s → IsDrcSound h → finite.get (drc_seen h).content q ≡ Some o → HeldAt s q o
+attached_at h s q o is sound held = held_at s h.scopes q o (subst IsBacked is sound.backed) (subst (λ b. finite.get (seen_of h.scopes b).content q ≡ Some o) is held)
+
+-- what it holds where its memory is attached lies in that
+pub held_lies : (h : DrcHeap) (s : CountedSpace) (q : ℕ) (o : HeapObject) → h.backing ≡ backing.Attached s → IsDrcSound h → finite.get (drc_seen h).content q ≡ Some o → LiesIn Counting s.memory q o
+held_lies h s q o is sound held =
+    let at = attached_at h s q o is sound held in
+    record {
+      lies = subst (λ b. LiesAtPlace Counting (seen_of h.scopes b).capacity q o) is ((drc_is_heap h sound).objects q o held);
+      object = subst (λ n. IsObjectData Counting o (take n (drop q s.memory))) (sym (size_of s q o at)) (data_of s q o at);
+    }
+
+-- the host id of what it holds is one that a table may give
+pub host_number : (h : DrcHeap) (s : CountedSpace) (q : ℕ) (o : HeapObject) → h.backing ≡ backing.Attached s → IsDrcSound h → finite.get (drc_seen h).content q ≡ Some o → o.kind ≡ ExternRef
+    → IsHostWord (u32_at o.bytes 0)
+host_number h s q o is sound held kind =
+    let x = host_of s q o (attached_at h s q o is sound held) kind in
+    (omega (arith, x.external.from, x.word_is), omega (arith, x.external.to, x.word_is))
 
 pub nothing_counted : (scopes : ℕ) (b : Backing) (q n : ℕ) → ((s : CountedSpace) → b ≡ backing.Attached s → ⊥) → finite.get (seen_of scopes b).counts.counted q ≡ Some n → ⊥
 nothing_counted scopes b q n never held = no_count q n (sym (ap (λ (h : HeapView). finite.get h.counts.counted q) (not_attached scopes b never)) ∙ held)

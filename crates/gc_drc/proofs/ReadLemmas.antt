@@ -1,6 +1,5 @@
 -- What the words of a held object tell.
-use Rattle.std.proofs.Common.{◌≡◌, ℕ, ◌+◌, ◌-◌, ◌/◌, ◌*◌, ◌%◌, ◌<◌, ◌≤◌, cond, List, [], take, drop, length, get_or, Some, Ok, Err, refl, sym, ap, subst, ◌∙◌, inl, inr, arith}
-use Rattle.std.specs.Prelude.{Result, IsOkAnd, MatchResult}
+use Rattle.std.proofs.Common.{◌≡◌, ℕ, ◌+◌, ◌-◌, ◌/◌, ◌*◌, ◌%◌, ◌<◌, ◌≤◌, cond, List, [], take, drop, length, get_or, Some, refl, sym, ap, subst, ◌∙◌, inl, inr, arith}
 use Rattle.std.specs.FinMap as finite
 use Rattle.std.specs.FinSet as finset
 use Rattle.std.proofs.lemmas.List.{same_lists, get_or-take, get_or-drop, length-take-le, length-drop}
@@ -16,7 +15,7 @@ use Rattle.gc_memory.proofs.WordLemmas.{word-is, word64-is}
 use Rattle.gc_view.proofs.ByteLemmas.{u32_at-part}
 use Rattle.gc_view.specs.Bytes.{u32_at}
 use Rattle.gc_view.specs.Heaps.{HeapObject, Counts}
-use Rattle.gc_heap.specs.Objects.{held_size, data_offset, first_offset, array_length, IsHeaderOf, IsObjectData}
+use Rattle.gc_heap.specs.Objects.{held_size, data_offset, IsHeaderOf, IsObjectData}
 use Rattle.gc_heap.specs.Barriers.{ShowsCount, one_in}
 use Rattle.gc_drc.specs.declared.space.CountedSpace.{CountedSpace}
 use Rattle.gc_drc.specs.Layout.{size_at, kind_at, data_at, object_at, IsWhole, IsExternalAt}
@@ -73,16 +72,6 @@ data_word : (m : List ℕ) (q : ℕ) → 32 ≤ size_at m q → q + size_at m q 
 data_word m q least inside =
     let at : q + 28 + 0 ≡ q + 28 = omega arith in
     u32_at-part m (q + 28) (size_at m q - 28) 0 (omega arith) (omega arith) ∙ ap (u32_at m) at ∙ sym (word-is m (q + 28))
-
--- the word behind the link word of an array is its length
-pub array_of : (s : CountedSpace) (q : ℕ) (o : HeapObject) → HeldAt s q o → o.kind ≡ ArrayRef → (kind_at s.memory q ≡ ArrayRef) × ((32 ≤ size_at s.memory q) × (word s.memory (q + 28) ≡ array_length o))
-array_of s q o h kind =
-    let at : kind_at s.memory q ≡ ArrayRef = sym (ap (λ (x : HeapObject). x.kind) h.is) ∙ kind in
-    let least = large (kind_at s.memory q) at h.whole.least in
-    (at, (least, sym (ap array_length h.is ∙ data_word s.memory q least h.inside)))
-  where
-    large : (k : VMGcKind) → k ≡ ArrayRef → first_offset Counting k ≤ size_at s.memory q → 32 ≤ size_at s.memory q
-    large k e l = subst (λ j. first_offset Counting j ≤ size_at s.memory q) e l
 
 -- What the words of an external object are.
 pub record HostAt (m : List ℕ) (q : ℕ) (o : HeapObject) : Type 0 where
@@ -184,8 +173,3 @@ pub shows_count : (s : CountedSpace) (scopes q n : ℕ) → IsSoundSpace s → f
 shows_count s scopes q n sound =
     subst (λ (c : Counts). finite.get c.counted q ≡ Some n → ShowsCount (record (seen_in scopes s) { counts = c }) s.memory q n) (sym (counts_are sound.view s sound.holds))
     (shows_view sound.view s scopes q n sound.holds sound.unmarked)
-
--- an answer that is right where it is one, and is one
-pub match_ok : {A E : Type 0} (r : Result A E) (P R : A → Type 0) (N : E → Type 0) → MatchResult r P N → ((x : A) → P x → R x) → ((e : E) → N e → ⊥) → IsOkAnd r R
-match_ok (Ok x) P R N m right never = right x m
-match_ok (Err e) P R N m right never = absurd (never e m)

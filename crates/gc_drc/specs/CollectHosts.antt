@@ -1,24 +1,14 @@
 -- The host values of external objects in a collection.
-use Rattle.std.specs.Prelude.{◌≡◌, ℕ, ◌+◌, ◌-◌, ◌<◌, ◌≤◌, List, None}
+use Rattle.std.specs.Prelude.{◌≡◌, ℕ, ◌+◌, ◌-◌, List, None}
 use Rattle.std.specs.FinMap as finite
 use Rattle.std.specs.Ordering.{nat_cmp}
 use Rattle.gc_types.specs.declared.kind.VMGcKind.TheVariants.{ExternRef}
-use Rattle.gc_tables.specs.SideTables.{max_entries}
 use Rattle.gc_memory.specs.Words.{word}
 use Rattle.gc_memory.specs.Lists.{In}
 use Rattle.gc_heap.specs.Collection.{IsPartOf}
+use Rattle.gc_heap.specs.FreedHosts.{FreesHost}
 use Rattle.gc_drc.specs.Layout.{kind_at}
 use Rattle.gc_drc.specs.CollectMemory.{Context}
-
--- a number that stands for a host value: its id plus 1
-abbrev pub IsHostWord : ℕ → Type 0
-IsHostWord w = (0 < w) × (w ≤ max_entries)
-
--- The value whose id that number stands for is gone, and no other.
-pub record FreesHost (D : Type 0) (old new : finite.FinMap nat_cmp D) (raw : ℕ) : Type 0 where
-  pub lost : IsHostWord raw → finite.get new (raw - 1) ≡ None
-  pub others : (id : ℕ) → (raw ≡ id + 1 → ⊥) → finite.get new id ≡ finite.get old id
-  pub part : IsPartOf new old
 
 -- an external object at a place keeps the number of its host value behind the words of the heap
 abbrev pub host_word : List ℕ → ℕ → ℕ

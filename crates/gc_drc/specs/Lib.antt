@@ -4,7 +4,6 @@ pub mod Content
 pub mod PlaceLaws
 pub mod SpaceLaws
 pub mod Operations
-pub mod Reading
 pub mod Placing
 pub mod Giving
 pub mod Graph

@@ -13,28 +13,11 @@ ghost use Rattle.gc_drc.specs.Content.{IsSoundSpace, seen_in};
 
 use crate::space::CountedSpace;
 use gc_heap::HeapFault;
+use gc_heap::layouts::{array_bytes, kind_of_layout};
 use gc_memory::offsets::{array_length, external_size, host_id};
 use gc_refs::{VMArrayRef, VMExternRef, VMGcHeader, VMGcRef};
 use gc_tables::ExternRefHostDataId;
 use gc_types::{GcArrayLayout, GcStructLayout, Layouts, VMGcKind, VMSharedTypeIndex};
-
-/// The kind of an object with that layout.
-fn kind_of_layout(layout: &GcStructLayout) -> VMGcKind
-    ensures { result ≡ layout_kind layout.now }
-{
-    if layout.is_exception {
-        VMGcKind::ExnRef
-    } else {
-        VMGcKind::StructRef
-    }
-}
-
-/// The bytes of an array of that length.
-fn array_bytes(layout: &GcArrayLayout, length: u32) -> u64
-    ensures { result ≡ array_size layout.now length }
-{
-    u64::from(layout.base_size) + u64::from(length) * u64::from(layout.elem_size)
-}
 
 impl CountedSpace {
     /// Allocates an object of `size` bytes with that header, whose data is 0.

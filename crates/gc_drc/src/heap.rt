@@ -27,7 +27,7 @@ use crate::collection::DrcCollection;
 use crate::growth::Marks;
 use crate::place;
 use crate::space::CountedSpace;
-use gc_heap::{GcHeap, GcProgress, GcStoreTraceState, HeapFault, HeapKind, HeapMemory};
+use gc_heap::{GcHeap, GcProgress, GcStoreTraceState, HeapFault, HeapKind, HeapMemory, read};
 use gc_refs::{RefFault, VMArrayRef, VMExternRef, VMGcHeader, VMGcObjectData, VMGcRef};
 use gc_roots::GcRootsList;
 use gc_steps::Steps;
@@ -358,14 +358,14 @@ impl GcHeap for DrcHeap {
 
     fn externref_host_data(&self, r: &VMExternRef) -> Result<ExternRefHostDataId, RefFault> {
         match &self.backing {
-            Backing::Attached(space) => space.host_data(r),
+            Backing::Attached(space) => read::host_data(&space.memory, Layouts::Counting, r),
             _ => Err(RefFault::BadRef),
         }
     }
 
     fn header(&self, r: &VMGcRef) -> Result<VMGcHeader, RefFault> {
         match &self.backing {
-            Backing::Attached(space) => space.header(r),
+            Backing::Attached(space) => read::header(&space.memory, Layouts::Counting, r),
             _ => Err(RefFault::BadRef),
         }
     }
@@ -379,28 +379,28 @@ impl GcHeap for DrcHeap {
 
     fn object_size(&self, r: &VMGcRef) -> Result<usize, RefFault> {
         match &self.backing {
-            Backing::Attached(space) => space.object_size(r),
+            Backing::Attached(space) => read::object_size(&space.memory, Layouts::Counting, r),
             _ => Err(RefFault::BadRef),
         }
     }
 
     fn object_range(&self, r: &VMGcRef) -> Result<Range<usize>, RefFault> {
         match &self.backing {
-            Backing::Attached(space) => space.range(r),
+            Backing::Attached(space) => read::object_range(&space.memory, Layouts::Counting, r),
             _ => Err(RefFault::BadRef),
         }
     }
 
     fn array_len(&self, r: &VMArrayRef) -> Result<u32, RefFault> {
         match &self.backing {
-            Backing::Attached(space) => space.array_len(r),
+            Backing::Attached(space) => read::array_len(&space.memory, Layouts::Counting, r),
             _ => Err(RefFault::BadRef),
         }
     }
 
     fn gc_object_data(&self, r: &VMGcRef) -> Result<VMGcObjectData<'_>, RefFault> {
         match &self.backing {
-            Backing::Attached(space) => space.object_data(r),
+            Backing::Attached(space) => read::object_data(&space.memory, Layouts::Counting, r),
             _ => Err(RefFault::BadRef),
         }
     }

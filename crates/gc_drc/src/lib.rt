@@ -31,7 +31,6 @@ mod growth;
 pub mod heap;
 pub mod laws;
 mod place;
-mod read;
 pub(crate) mod space;
 mod write;
 

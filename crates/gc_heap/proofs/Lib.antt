@@ -5,7 +5,9 @@ pub mod ClientLemmas
 pub mod CountLemmas
 pub mod GivenLemmas
 pub mod HeapLemmas
+pub mod HostLemmas
 pub mod KindLemmas
+pub mod LyingLemmas
 pub mod MadeLemmas
 pub mod NameLemmas
 pub mod NullHeapLemmas

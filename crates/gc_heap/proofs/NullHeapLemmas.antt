@@ -1,8 +1,7 @@
 -- A null heap with no memory holds nothing; with one, what is read there is what is held.
-use Rattle.std.proofs.Common.{◌≡◌, ◌↔◌, ◌⊎◌, inl, inr, IfSome, IsNone, ℕ, ◌+◌, ◌-◌, ◌*◌, ◌%◌, ◌<◌, ◌≤◌, ◌^◌, ◌++◌, List, [], take, drop, length, replicate, Option, Some, None, Result, Ok, Err, MatchResult, IsOkAnd, Bor, refl, sym, ap, subst, ◌∙◌, arith}
+use Rattle.std.proofs.Common.{◌≡◌, ℕ, ◌+◌, ◌-◌, ◌*◌, ◌%◌, ◌<◌, ◌≤◌, ◌^◌, ◌++◌, List, [], take, drop, length, replicate, Option, Some, None, refl, sym, ap, subst, ◌∙◌, arith}
 use Rattle.std.specs.Ordering.{nat_cmp}
 use Rattle.std.specs.FinMap as map
-use Rattle.std.specs.Result.{result_ok}
 use Rattle.gc_tables.specs.SideTables.{max_entries}
 use Rattle.std.specs.Int.{w32, to_le_bytes}
 use Rattle.std.proofs.lemmas.Cmp.{nat_cmp_total}
@@ -10,22 +9,22 @@ use Rattle.std.proofs.lemmas.Nat.{from_le_bytes-to_le_bytes_4}
 use Rattle.std.proofs.lemmas.Grind.{common_steps}
 use Rattle.std.proofs.lemmas.List.{append-nil, length-replicate, length-take-le, length-drop, drop-take, drop-drop, take-take}
 use Rattle.gc_types.specs.declared.kind.Layouts.TheVariants.{Null}
-use Rattle.gc_types.specs.declared.kind.VMGcKind.{VMGcKind}
-use Rattle.gc_types.specs.declared.kind.VMGcKind.TheVariants.{ExternRef, ArrayRef}
+use Rattle.gc_types.specs.declared.kind.VMGcKind.TheVariants.{ExternRef}
 use Rattle.gc_types.specs.Kinds.{kind_bits}
 use Rattle.gc_types.specs.Layouts.{round_up}
 use Rattle.gc_refs.specs.Header.{Header, spare_bits}
-use Rattle.gc_refs.specs.declared.fault.RefFault.{RefFault}
 use Rattle.gc_view.specs.Sizes.{alignment}
 use Rattle.gc_view.specs.Pages.{page, max_pages}
 use Rattle.gc_view.specs.Bytes.{put_bytes}
 use Rattle.gc_view.specs.Bytes.{u32_at}
 use Rattle.gc_view.specs.Heaps.{Counts, no_counts, HeapObject, HeapView, Counts, no_counts}
 use Rattle.gc_view.proofs.ByteLemmas.{u32_at-part}
-use Rattle.gc_heap.specs.Objects.{held_size, size_with, first_offset, data_offset, external, IsHeaderOf, IsObjectData}
+use Rattle.gc_heap.specs.Objects.{held_size, external, IsHeaderOf, IsObjectData}
+use Rattle.gc_heap.specs.Content.{LiesAtPlace}
+use Rattle.gc_heap.specs.Lying.{LiesIn}
 use Rattle.gc_heap.specs.Heap.{grown, put_object, with_data, IsWritable}
 use Rattle.gc_heap.specs.Barriers.{cloned, dropped, exposed, copied, emptied, overwritten, raise, lower, show}
-use Rattle.gc_heap.specs.NullWalk.{first_place, size_at, object_at, IsHost, LiesAt, placed, header_in, CanBegin, HasObject, HasFirstWord}
+use Rattle.gc_heap.specs.NullWalk.{first_place, size_at, object_at, IsHost, LiesAt, placed, header_in}
 use Rattle.gc_heap.specs.NullWalkLaws.{least, object_bytes, length-object, held_is, LiesAmong}
 use Rattle.gc_heap.proofs.NullWalkLemmas.{object_ty, size_word, len_entries}
 use Rattle.gc_heap.specs.NullStates.{bump_view, view_of, null_seen, HasMemory, IsBumped, IsNullSound, IsNullTaken}
@@ -84,9 +83,6 @@ lies_whole h bytes q object sound is held =
       length_is = ap (λ (o : HeapObject). length o.bytes) l.is ∙ length-object bytes q l.lies;
     }
 
-begins : (bytes : List ℕ) (q : ℕ) (object : HeapObject) → Lies bytes q object → CanBegin bytes q
-begins bytes q object l = record { aligned = l.aligned; inside = omega (arith, l.lies.inside, least l.lies) }
-
 -- the words at a held object are its header
 header_is : (bytes : List ℕ) (q : ℕ) (object : HeapObject) → Lies bytes q object → IsHeaderOf Null object (header_in bytes q)
 header_is bytes q object l = record {
@@ -94,12 +90,6 @@ header_is bytes q object l = record {
   ty = sym (object_ty bytes q) ∙ ap (λ (x : HeapObject). x.ty) (sym l.is);
   spare = l.size;
 }
-
-pub header_reads : (bytes : List ℕ) (q : ℕ) (object : HeapObject) (result : Result Header RefFault) → Lies bytes q object
-    → MatchResult result (λ header. CanBegin bytes q × (header ≡ header_in bytes q)) (λ _. CanBegin bytes q → ⊥)
-    → IsOkAnd result (IsHeaderOf Null object)
-header_reads bytes q object (Ok header) l read = subst (IsHeaderOf Null object) (sym read.1) (header_is bytes q object l)
-header_reads bytes q object (Err fault) l read = absurd (read (begins bytes q object l))
 
 -- the bytes at a held object are its own
 pub data_is : (bytes : List ℕ) (q : ℕ) (object : HeapObject) → Lies bytes q object → IsObjectData Null object (take (held_size Null object) (drop q bytes))
@@ -128,27 +118,12 @@ data_is bytes q object l =
           ∙ sym object_is;
     }
 
--- the first word behind the header of an object is that of its data
-pub first_word_is : (bytes : List ℕ) (q : ℕ) (object : HeapObject) → Lies bytes q object → 12 ≤ held_size Null object
-    → (q + 12 ≤ length bytes) × (u32_at bytes (q + 8) ≡ u32_at object.bytes 0)
-first_word_is bytes q object l least_size =
-    let size : held_size Null object ≡ size_at bytes q = sym l.size ∙ sym (size_word bytes q) in
-    let inside : q + size_at bytes q ≤ length bytes = l.lies.inside in
-    let object_is : object.bytes ≡ take (size_at bytes q - 8) (drop (q + 8) bytes) = ap (λ (x : HeapObject). x.bytes) l.is ∙ object_bytes bytes q in (
-      omega arith,
-      sym (ap (λ bs. u32_at bs 0) object_is ∙ u32_at-part bytes (q + 8) (size_at bytes q - 8) 0 (omega arith) (omega arith) ∙ ap (u32_at bytes) (let e : q + 8 + 0 ≡ q + 8 = omega arith in e)),
-    )
-
-pub word_reads : (bytes : List ℕ) (q : ℕ) (kind : VMGcKind) (object : HeapObject) (result : Result ℕ RefFault) → Lies bytes q object → object.kind ≡ kind → 12 ≤ held_size Null object
-    → MatchResult result (λ word. HasFirstWord bytes q kind × (word ≡ u32_at bytes (q + 8))) (λ _. HasFirstWord bytes q kind → ⊥)
-    → IsOkAnd result (λ word. word ≡ u32_at object.bytes 0)
-word_reads bytes q kind object (Ok word) l is_kind least_size read = read.1 ∙ (first_word_is bytes q object l least_size).1
-word_reads bytes q kind object (Err fault) l is_kind least_size read =
-    absurd (read (record {
-      begins = begins bytes q object l;
-      is_kind = ap kind_bits (sym is_kind ∙ ap (λ (o : HeapObject). o.kind) l.is) ∙ sym l.lies.kind;
-      inside = omega (arith, (first_word_is bytes q object l least_size).0);
-    }))
+-- what is held lies in the memory, whole
+pub null_lies : (h : NullHeap) (bytes : List ℕ) (q : ℕ) (object : HeapObject) → IsNullSound h → h.memory ≡ Some bytes → map.get (null_seen h).content q ≡ Some object → LiesIn Null bytes q object
+null_lies h bytes q object sound is held = record {
+  lies = subst (λ (v : HeapView). LiesAtPlace Null v.capacity q object) (seen_in h bytes is) ((null_is_heap h sound).objects q object held);
+  object = data_is bytes q object (lies_whole h bytes q object sound is held);
+}
 
 -- a null heap tells no counts, so barriers leave it as it is
 no_counts_in : (m : Option (List ℕ)) (next objects scopes : ℕ) → (view_of m next objects scopes).counts ≡ no_counts
@@ -253,26 +228,6 @@ put_same v q object held =
     ap (λ (m : map.FinMap nat_cmp HeapObject). record v { content = m })
     (map.same_map nat_cmp_total map.nat_cmp-IsAntisymmetric v.content (map.insert v.content q object) (λ k. grind (arith, common_steps, map.gets)))
 
-pub object_reads : (bytes : List ℕ) (q : ℕ) (object : HeapObject) (result : Result (Bor (List ℕ)) RefFault) → Lies bytes q object
-    → MatchResult result (λ part. HasObject bytes q × (part.now ≡ take (u32_at bytes q % spare_bits) (drop q bytes))) (λ _. HasObject bytes q → ⊥)
-    → IsOkAnd result (λ part. IsObjectData Null object part.now)
-object_reads bytes q object (Ok part) l read =
-    subst (IsObjectData Null object) (sym (read.1 ∙ ap (λ n. take n (drop q bytes)) l.size)) (data_is bytes q object l)
-object_reads bytes q object (Err fault) l read =
-    absurd (read (record { begins = begins bytes q object l; inside = omega (arith, l.lies.inside, size_word bytes q) }))
-
--- an array has a first word, and so has an external object, whose number is one of an id
-pub array_size_least : (h : NullHeap) (q : ℕ) (object : HeapObject) → IsNullSound h → map.get (null_seen h).content q ≡ Some object
-    → object.kind ≡ ArrayRef → 12 ≤ held_size Null object
-array_size_least h q object sound held kind =
-    let o = (null_is_heap h sound).objects q object held in
-    let whole : first_offset Null object.kind ≤ data_offset Null object.kind + length object.bytes = o.whole in
-    let array : 12 ≤ data_offset Null ArrayRef + length object.bytes = subst (λ (k : VMGcKind). first_offset Null k ≤ data_offset Null k + length object.bytes) kind whole in
-    subst (λ (k : VMGcKind). 12 ≤ size_with Null k (length object.bytes)) (sym kind) array
-
-pub extern_size_least : (object : HeapObject) → object.kind ≡ ExternRef → 12 ≤ held_size Null object
-extern_size_least object kind = subst (λ (k : VMGcKind). 12 ≤ size_with Null k (length object.bytes)) (sym kind) (omega arith)
-
 host_in : (h : NullHeap) (m : Option (List ℕ)) (q : ℕ) (object : HeapObject) → h.memory ≡ m → IsNullSound h → map.get (null_seen h).content q ≡ Some object
     → object.kind ≡ ExternRef → IsHost object
 host_in h None q object is sound held kind = absurd (nothing_held h q object is held)
@@ -298,14 +253,3 @@ extern_host number ty from to =
       from = subst (λ n. 0 < n) (sym read) from;
       to = subst (λ n. n ≤ max_entries) (sym read) to;
     }
-
--- the number of an id is read as that id
-pub host_number : (o : Option ℕ) (r : Result ℕ RefFault) (number n : ℕ) → IfSome o (λ id. id + 1 ≡ number)
-    → (IsNone o ↔ ((number ≡ 0) ⊎ (max_entries < number))) → o ≡ result_ok r → number ≡ n → 0 < n → n ≤ max_entries
-    → IsOkAnd r (λ id. id + 1 ≡ n)
-host_number (Some id) (Ok id') number n some none same is from to = (let e : id' ≡ id = cc in ap (λ k. k + 1) e) ∙ some ∙ is
-host_number (Some id) (Err fault) number n some none same is from to = cc
-host_number None r number n some none same is from to = elim (none.0 refl) [
-  | inl zero_is ↦ absurd (omega arith)
-  | inr above ↦ absurd (omega arith)
-]

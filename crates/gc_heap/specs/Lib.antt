@@ -4,8 +4,10 @@ pub mod Client
 pub mod Collection
 pub mod Content
 pub mod Extents
+pub mod FreedHosts
 pub mod Heap
 pub mod Kinds
+pub mod Lying
 pub mod NullLaws
 pub mod NullStates
 pub mod NullWalk

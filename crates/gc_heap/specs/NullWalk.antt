@@ -97,19 +97,3 @@ pub record PlacesObject (before after : List ℕ) (place : ℕ) (object : HeapOb
 -- the header whose words lie at a place
 abbrev pub header_in : List ℕ → ℕ → Header
 header_in bytes place = record { kind_word = u32_at bytes place; type_word = u32_at bytes (place + 4) }
-
--- an object may begin there: the place is a whole multiple of 16, and a header fits
-pub record CanBegin (bytes : List ℕ) (place : ℕ) : Type 0 where
-  pub aligned : place % alignment ≡ 0
-  pub inside : place + header_size ≤ length bytes
-
--- an object may begin there, and the bytes that its header tells lie in the memory
-pub record HasObject (bytes : List ℕ) (place : ℕ) : Type 0 where
-  pub begins : CanBegin bytes place
-  pub inside : place + u32_at bytes place % spare_bits ≤ length bytes
-
--- an object of that kind may begin there, and the first word of its data lies in the memory
-pub record HasFirstWord (bytes : List ℕ) (place : ℕ) (kind : VMGcKind) : Type 0 where
-  pub begins : CanBegin bytes place
-  pub is_kind : IsOfKind kind (u32_at bytes place)
-  pub inside : place + header_size + 4 ≤ length bytes

@@ -12,8 +12,12 @@ pub mod client;
 pub mod collect;
 pub mod collection;
 pub mod heap;
+pub mod hosts;
+pub mod layouts;
 pub mod null;
+pub mod read;
 pub mod ref_kinds;
+pub mod words;
 
 pub use collection::{GcProgress, GcStoreTraceState};
 pub use gc_memory::HeapMemory;

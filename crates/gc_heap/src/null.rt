@@ -19,10 +19,11 @@ ghost use Rattle.gc_view.specs.Heaps.{detached_in};
 ghost use Rattle.gc_heap.specs.NullStates.{null_seen, IsNullSound};
 
 mod place;
-mod read;
 
 use crate::collection::{GcProgress, GcStoreTraceState};
 use crate::heap::{GcHeap, HeapFault, HeapKind};
+use crate::layouts::kind_of_layout;
+use crate::read;
 use gc_memory::HeapMemory;
 use gc_refs::{RefFault, VMArrayRef, VMExternRef, VMGcHeader, VMGcObjectData, VMGcRef};
 use gc_roots::GcRootsList;
@@ -216,12 +217,8 @@ impl GcHeap for NullHeap {
         ty: VMSharedTypeIndex,
         layout: &GcStructLayout,
     ) -> Result<Result<VMGcRef, u64>, HeapFault> {
-        let kind = if layout.is_exception {
-            VMGcKind::ExnRef
-        } else {
-            VMGcKind::StructRef
-        };
-        self.allocate(VMGcHeader::from_kind_and_index(kind, ty), layout.size, None)
+        let header = VMGcHeader::from_kind_and_index(kind_of_layout(layout), ty);
+        self.allocate(header, layout.size, None)
     }
 
     fn alloc_uninit_array(
@@ -246,46 +243,51 @@ impl GcHeap for NullHeap {
     fn dealloc_uninit_array(&mut self, _array: VMArrayRef) {}
 
     fn externref_host_data(&self, r: &VMExternRef) -> Result<ExternRefHostDataId, RefFault> {
-        match self.first_word(r.as_gc_ref(), VMGcKind::ExternRef) {
-            Ok(number) => ExternRefHostDataId::from_raw(number).ok_or(RefFault::BadRef),
-            Err(fault) => Err(fault),
+        match &self.memory {
+            Some(memory) => read::host_data(memory, Layouts::Null, r),
+            None => Err(RefFault::BadRef),
         }
     }
 
     fn header(&self, r: &VMGcRef) -> Result<VMGcHeader, RefFault> {
-        self.header_of(r)
+        match &self.memory {
+            Some(memory) => read::header(memory, Layouts::Null, r),
+            None => Err(RefFault::BadRef),
+        }
     }
 
     fn set_header(&mut self, r: &VMGcRef, _header: VMGcHeader) -> Result<(), RefFault> {
-        match self.header_of(r) {
+        match self.header(r) {
             Ok(_) => Ok(()),
             Err(fault) => Err(fault),
         }
     }
 
     fn object_size(&self, r: &VMGcRef) -> Result<usize, RefFault> {
-        match self.header_of(r) {
-            Ok(header) => Ok(header.reserved_u26() as usize),
-            Err(fault) => Err(fault),
+        match &self.memory {
+            Some(memory) => read::object_size(memory, Layouts::Null, r),
+            None => Err(RefFault::BadRef),
         }
     }
 
     fn object_range(&self, r: &VMGcRef) -> Result<Range<usize>, RefFault> {
-        let start = r.as_raw_u32() as usize;
-        match self.object_bytes(r) {
-            Ok(bytes) => Ok(start..start + bytes.len()),
-            Err(fault) => Err(fault),
+        match &self.memory {
+            Some(memory) => read::object_range(memory, Layouts::Null, r),
+            None => Err(RefFault::BadRef),
         }
     }
 
     fn array_len(&self, r: &VMArrayRef) -> Result<u32, RefFault> {
-        self.first_word(r.as_gc_ref(), VMGcKind::ArrayRef)
+        match &self.memory {
+            Some(memory) => read::array_len(memory, Layouts::Null, r),
+            None => Err(RefFault::BadRef),
+        }
     }
 
     fn gc_object_data(&self, r: &VMGcRef) -> Result<VMGcObjectData<'_>, RefFault> {
-        match self.object_bytes(r) {
-            Ok(bytes) => Ok(VMGcObjectData::from_slice(bytes)),
-            Err(fault) => Err(fault),
+        match &self.memory {
+            Some(memory) => read::object_data(memory, Layouts::Null, r),
+            None => Err(RefFault::BadRef),
         }
     }
 

@@ -7,8 +7,9 @@ ghost use Rattle.gc_mutator.specs.Makes.{Roots, MakesStruct, MakesArray, MakesHo
 use crate::fault::MutatorFault;
 use crate::mutator::Mutator;
 use crate::rooting::{OBJECT, make_room};
+use gc_heap::words::{array_word, external_word};
 use gc_heap::{GcHeap, HeapFault};
-use gc_refs::{VMArrayRef, VMExternRef, VMGcRef};
+use gc_refs::VMGcRef;
 use gc_roots::GcRootsList;
 use gc_tables::SlabFault;
 use gc_types::VMSharedTypeIndex;
@@ -30,32 +31,6 @@ fn root_new(
         Ok(Err(need)) => Err(MutatorFault::NoRoom(need)),
         Err(HeapFault::TooLarge) => Err(MutatorFault::TooLarge),
         Err(HeapFault::Memory) => Err(MutatorFault::Memory),
-    }
-}
-
-/// The same answer of an allocation, with the word of the array alone.
-fn array_word(
-    made: Result<Result<VMArrayRef, u64>, HeapFault>,
-) -> Result<Result<VMGcRef, u64>, HeapFault>
-    ensures { result ≡ made }
-{
-    match made {
-        Ok(Ok(array)) => Ok(Ok(VMGcRef::from(array))),
-        Ok(Err(need)) => Ok(Err(need)),
-        Err(fault) => Err(fault),
-    }
-}
-
-/// The same answer of an allocation, with the word of the external object alone.
-fn external_word(
-    made: Result<Result<VMExternRef, u64>, HeapFault>,
-) -> Result<Result<VMGcRef, u64>, HeapFault>
-    ensures { result ≡ made }
-{
-    match made {
-        Ok(Ok(external)) => Ok(Ok(VMGcRef::from(external))),
-        Ok(Err(need)) => Ok(Err(need)),
-        Err(fault) => Err(fault),
     }
 }
 

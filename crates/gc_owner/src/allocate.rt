@@ -12,8 +12,9 @@ use crate::limiter::ResourceLimiter;
 use crate::owner::HeapOwner;
 use crate::pages::PagesFault;
 use crate::roots::Roots;
+use gc_heap::words::{array_word, external_word};
 use gc_heap::{GcHeap, HeapFault};
-use gc_refs::{VMArrayRef, VMExternRef, VMGcRef};
+use gc_refs::VMGcRef;
 use gc_tables::ExternRefHostDataId;
 use gc_types::{Types, VMSharedTypeIndex};
 use thiserror::Error;
@@ -40,32 +41,6 @@ pub enum AllocateFault {
     /// Out of memory. A collection may have run, and the heap may have grown.
     #[error("out of memory")]
     Memory,
-}
-
-/// The same answer of an allocation, with the word of the array alone.
-fn array_word(
-    made: Result<Result<VMArrayRef, u64>, HeapFault>,
-) -> Result<Result<VMGcRef, u64>, HeapFault>
-    ensures { result ≡ made }
-{
-    match made {
-        Ok(Ok(array)) => Ok(Ok(VMGcRef::from(array))),
-        Ok(Err(need)) => Ok(Err(need)),
-        Err(fault) => Err(fault),
-    }
-}
-
-/// The same answer of an allocation, with the word of the external object alone.
-fn external_word(
-    made: Result<Result<VMExternRef, u64>, HeapFault>,
-) -> Result<Result<VMGcRef, u64>, HeapFault>
-    ensures { result ≡ made }
-{
-    match made {
-        Ok(Ok(external)) => Ok(Ok(VMGcRef::from(external))),
-        Ok(Err(need)) => Ok(Err(need)),
-        Err(fault) => Err(fault),
-    }
 }
 
 /// Allocates what is described in the heap, with no root.

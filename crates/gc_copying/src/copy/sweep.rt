@@ -1,27 +1,16 @@
 //! Freeing the host values of external objects that were not copied.
 
 ghost use Rattle.std.specs.Prelude.{ℕ, ◌≡◌, ◌+◌, ◌<◌, ◌≤◌, length};
+ghost use Rattle.gc_heap.specs.FreedHosts.{FreesHost};
 ghost use Rattle.gc_copying.specs.CopyWords.{flag, host_word};
-ghost use Rattle.gc_copying.specs.CopySweep.{FreesHost, CanSweepOne, ListsCopy, SameCounts, CanSweep, Sweeps};
+ghost use Rattle.gc_copying.specs.CopySweep.{CanSweepOne, ListsCopy, SameCounts, CanSweep, Sweeps};
 ghost use Rattle.gc_copying.specs.CopyStart.{From};
 ghost use Rattle.gc_copying.specs.CopySteps.{Midway};
 
 use crate::space::{COPIED, Space};
+use gc_heap::hosts::free_host;
 use gc_memory::offsets::{COPYING_FORWARDING, COPYING_HOST, COPYING_NEXT_EXTERNAL};
-use gc_tables::{ExternRefHostDataId, ExternRefHostDataTable, HostFault};
-
-/// Takes the value out of the table whose id that number stands for.
-fn free_host<D: Drop>(hosts: &mut ExternRefHostDataTable<D>, raw: u32)
-    ensures frees { FreesHost D hosts.old.entries hosts.new.entries raw }
-    ensures spare { hosts.old.spare ≤ hosts.new.spare }
-{
-    if let Some(id) = ExternRefHostDataId::from_raw(raw) {
-        match hosts.dealloc(id) {
-            Ok(_) => (),
-            Err(HostFault::BadHostDataId) => (),
-        }
-    }
-}
+use gc_tables::ExternRefHostDataTable;
 
 impl Space {
     /// Puts the copy of an external object in front of the list, or frees its host value where it was not

@@ -6,25 +6,13 @@ ghost use Rattle.gc_types.specs.declared.kind.VMGcKind.TheVariants.{ExternRef};
 ghost use Rattle.gc_refs.specs.Header.{IsOfKind};
 ghost use Rattle.gc_memory.specs.Words.{word};
 ghost use Rattle.gc_drc.specs.Layout.{kind_at};
-ghost use Rattle.gc_drc.specs.CollectHosts.{FreesHost, FreesHostOf};
+ghost use Rattle.gc_drc.specs.CollectHosts.{FreesHostOf};
 
 use crate::space::CountedSpace;
+use gc_heap::hosts::free_host;
 use gc_memory::offsets::COUNTING_HOST;
-use gc_tables::{ExternRefHostDataId, ExternRefHostDataTable, HostFault};
+use gc_tables::ExternRefHostDataTable;
 use gc_types::VMGcKind;
-
-/// Takes the value out of the table whose id that number stands for.
-fn free_host<D: Drop>(hosts: &mut ExternRefHostDataTable<D>, raw: u32)
-    ensures frees { FreesHost D hosts.old.entries hosts.new.entries raw }
-    ensures spare { hosts.old.spare ≤ hosts.new.spare }
-{
-    if let Some(id) = ExternRefHostDataId::from_raw(raw) {
-        match hosts.dealloc(id) {
-            Ok(_) => (),
-            Err(HostFault::BadHostDataId) => (),
-        }
-    }
-}
 
 /// Whether that is the kind of external objects.
 fn is_external(kind: VMGcKind) -> bool

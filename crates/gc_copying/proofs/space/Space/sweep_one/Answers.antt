@@ -2,7 +2,7 @@ use Rattle.std.proofs.Common.{ℕ, ◌≡◌, ◌+◌, refl, sym, ap, subst, ◌
 use Rattle.gc_view.specs.Bytes.{put_u32}
 use Rattle.gc_memory.proofs.WordLemmas.{word-is}
 use Rattle.gc_copying.specs.CopyWords.{forwarding, host_word}
-use Rattle.gc_copying.specs.CopySweep.{FreesHost}
+use Rattle.gc_heap.specs.FreedHosts.{FreesHost}
 use Rattle.gc_copying.proofs.MidLemmas.{no_both}
 use Rattle.gc_copying.proofs.ForwardLemmas.{flag_read}
 use Rattle.gc_copying.proofs.space.Space.sweep_one.Goals as goal

@@ -1,6 +1,12 @@
 use Rattle.std.proofs.Common.{refl}
-use Rattle.gc_drc.proofs.BackingLemmas.{nothing_held}
+use Rattle.gc_drc.proofs.BackingLemmas.{held_lies, host_number, nothing_held}
 use Rattle.gc_drc.proofs.heap.DrcHeapGcHeap.externref_host_data.Goals as goal
+
+pub returns-in-Attached-clause-held : goal.returns-in-Attached-clause-held
+returns-in-Attached-clause-held c = λ object held kind.
+    let lies = held_lies c.args.self.now c.in-Attached.space c.args.r.now object c.in-Attached.is c.requires held in
+    let host = host_number c.args.self.now c.in-Attached.space c.args.r.now object c.in-Attached.is c.requires held kind in
+    c.host_data.ensures.held object lies kind host
 
 pub returns-in_default : goal.returns-in_default
 returns-in_default c =

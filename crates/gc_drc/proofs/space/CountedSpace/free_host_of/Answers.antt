@@ -2,7 +2,8 @@ use Rattle.std.proofs.Common.{ℕ, ◌≡◌, ◌+◌, sym, ◌∙◌, subst}
 use Rattle.gc_types.specs.declared.kind.VMGcKind.TheVariants.{ExternRef}
 use Rattle.gc_memory.proofs.WordLemmas.{word-is}
 use Rattle.gc_drc.specs.Layout.{kind_at}
-use Rattle.gc_drc.specs.CollectHosts.{FreesHost, host_word}
+use Rattle.gc_heap.specs.FreedHosts.{FreesHost}
+use Rattle.gc_drc.specs.CollectHosts.{host_word}
 use Rattle.gc_drc.proofs.space.CountedSpace.free_host_of.Goals as goal
 
 pub returns-then-is_external-clause-frees : goal.returns-then-is_external-clause-frees
