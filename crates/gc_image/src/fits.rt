@@ -2,37 +2,17 @@
 
 ghost use Rattle.std.specs.Prelude.{◌≡◌, ◌↔◌, IsTrue, map};
 ghost use Rattle.gc_types.specs.Subtyping.{supertypes_of};
-ghost use Rattle.gc_model.specs.Fits.{fits, fits_type, has_class, matches, null_fits, reference_fits};
+ghost use Rattle.gc_model.specs.Fits.{fits, fits_type, matches, reference_fits};
 ghost use Rattle.gc_model.specs.Stored.{stored};
 ghost use Rattle.gc_image.specs.Steps.{IsBelow, own_fits, own_type, small_type};
 ghost use Rattle.gc_image.specs.Well.{as_object, as_reference, as_value, is_early};
 
 use crate::image::{ImageReference, ImageValue, ObjectLine};
+use gc_model::classes::null_fits;
 use gc_owner::GcClass;
 use gc_types::{
-    FieldType, HeapTopType, HeapType, Mutability, RefType, StorageType, Types, VMSharedTypeIndex,
-    ValType,
+    FieldType, HeapType, Mutability, RefType, StorageType, Types, VMSharedTypeIndex, ValType,
 };
-
-/// Whether references whose types lie under that top have the class.
-fn has_class(top: HeapTopType, class: GcClass) -> bool
-    ensures { result ≡ has_class top class }
-{
-    match top {
-        HeapTopType::Any => matches!(class, GcClass::Any),
-        HeapTopType::Extern => matches!(class, GcClass::Extern),
-        HeapTopType::Exn => matches!(class, GcClass::Exn),
-        HeapTopType::Func => false,
-        HeapTopType::Cont => false,
-    }
-}
-
-/// Whether null fits the type in that class.
-fn null_fits(ty: &RefType, class: GcClass) -> bool
-    ensures { result ≡ null_fits ty.now class }
-{
-    ty.nullable && has_class(ty.heap_type.top(), class)
-}
 
 /// The type of an object by itself, as a reference of that class; None where it fits no type of the class.
 fn own_type(class: GcClass, object: &ObjectLine) -> Option<HeapType>

@@ -6,3 +6,5 @@
 //! succeeds), `Stores` (what is seen of a store) and `Holds` (the store holds the table), whose points
 //! stand each by itself: those on roots in `RootPoints`.
 #![tactic(auto)]
+
+pub mod classes;

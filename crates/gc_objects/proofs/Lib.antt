@@ -7,7 +7,6 @@ pub mod ExnMaking
 pub mod ExternLemmas
 pub mod FieldLemmas
 pub mod FillingLemmas
-pub mod FitLemmas
 pub mod Handing
 pub mod LargeArrays
 pub mod LaterNames

@@ -5,7 +5,6 @@ pub mod Given
 pub mod Hosts
 pub mod Kinds
 pub mod Makes
-pub mod OwnTypes
 pub mod RawWords
 pub mod Reads
 pub mod Thrown

@@ -8,7 +8,6 @@ ghost use Rattle.gc_objects.specs.Given.{named_root, is_own, is_own_of, are_own,
 ghost use Rattle.gc_objects.specs.Given.{CanStoreAs, AllStorable, IsLiveOrGone};
 
 use crate::faults::ValueFault;
-use crate::fits::value_fits;
 use crate::places::object_at;
 use crate::val::{Val, raw_of};
 use gc_heap::GcHeap;
@@ -93,7 +92,7 @@ pub(crate) fn check_value<H: GcHeap, D: Drop>(
         Some(field) => field,
         None => return Err(ValueFault::TypeMismatch),
     };
-    if value_fits(store, &field.element_type.unpack(), &raw_of(value)) {
+    if store.value_fits(&field.element_type.unpack(), &raw_of(value)) {
         Ok(())
     } else {
         Err(ValueFault::TypeMismatch)

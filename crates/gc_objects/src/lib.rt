@@ -25,7 +25,6 @@ mod each_value;
 mod exceptions;
 mod externs;
 mod faults;
-mod fits;
 mod making;
 mod marks;
 mod places;

@@ -7,7 +7,6 @@ ghost use Rattle.gc_objects.specs.Given.{root_of, raw_of};
 ghost use Rattle.gc_objects.specs.Answered.{FitsType};
 
 use crate::checks::{is_live, is_own};
-use crate::fits::value_fits;
 use crate::marks::{AnyRef, ExnRef, ExternRef};
 use gc_heap::GcHeap;
 use gc_refs::V128;
@@ -115,6 +114,6 @@ impl Val {
         if !is_live(store, self) {
             return Err(RootFault::Unrooted);
         }
-        Ok(value_fits(store, ty, &raw_of(self)))
+        Ok(store.value_fits(ty, &raw_of(self)))
     }
 }

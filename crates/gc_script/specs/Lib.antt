@@ -7,7 +7,6 @@ pub mod Steps
 pub mod Requested
 pub mod Policy
 pub mod Named
-pub mod OwnTypes
 pub mod Values
 pub mod Writing
 pub mod Run

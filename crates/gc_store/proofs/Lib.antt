@@ -8,6 +8,7 @@ pub mod FrameLemmas
 pub mod GivenValues
 pub mod KeptPairs
 pub mod Filled
+pub mod OwnFits
 pub mod GoneRoots
 pub mod EachValue
 pub mod Rewriting

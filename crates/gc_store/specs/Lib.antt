@@ -15,6 +15,7 @@ pub mod IncrementCounts
 pub mod Kept
 pub mod Making
 pub mod Marks
+pub mod OwnTypes
 pub mod OwnedRoots
 pub mod OwnedWords
 pub mod Places

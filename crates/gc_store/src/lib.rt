@@ -14,6 +14,7 @@ pub mod counts;
 pub mod declare;
 pub mod engine;
 mod fill;
+pub mod fits;
 pub mod frames;
 pub mod globals;
 pub mod grow;

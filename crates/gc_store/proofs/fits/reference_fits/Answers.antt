@@ -6,8 +6,8 @@ use Rattle.gc_store.specs.declared.root.RootFault.{RootFault}
 use Rattle.gc_store.specs.declared.root.RootedObject.{RootedObject}
 use Rattle.gc_store.specs.Roots.{TellsReference}
 use Rattle.gc_store.specs.Values.{RawStands}
-use Rattle.gc_script.proofs.FitLemmas.{root_fits}
-use Rattle.gc_script.proofs.fits.reference_fits.Goals as goal
+use Rattle.gc_store.proofs.OwnFits.{root_fits}
+use Rattle.gc_store.proofs.fits.reference_fits.Goals as goal
 
 pub returns-in-Ok : goal.returns-in-Ok
 returns-in-Ok g c t v holds stands =

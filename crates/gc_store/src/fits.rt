@@ -2,37 +2,19 @@
 
 ghost use Rattle.std.specs.Prelude.{◌≡◌};
 ghost use Rattle.gc_types.specs.Subtyping.{supertypes_of};
-ghost use Rattle.gc_model.specs.Fits.{has_class, null_fits, matches, function_fits, cont_fits, fits_type};
+ghost use Rattle.gc_model.specs.Fits.{matches, function_fits, cont_fits, fits_type};
 ghost use Rattle.gc_model.specs.Holds.{HoldsTable};
 ghost use Rattle.gc_model.specs.Table.{Table};
 ghost use Rattle.gc_model.specs.Values.{Value};
+ghost use Rattle.gc_store.specs.OwnTypes.{own_type, own_fits};
 ghost use Rattle.gc_store.specs.Values.{RawStands};
-ghost use Rattle.gc_objects.specs.OwnTypes.{own_type, own_fits};
 
-use crate::places::object_at;
+use crate::root::{GcRootIndex, RawValue, RootedObject};
+use crate::store::Store;
 use gc_heap::GcHeap;
-use gc_store::{GcClass, GcRootIndex, RawValue, RootedObject, Store};
+use gc_model::classes::null_fits;
+use gc_owner::GcClass;
 use gc_types::{Func, HeapTopType, HeapType, RefType, ValType};
-
-/// Whether references whose types lie under that top have the class.
-fn has_class(top: HeapTopType, class: GcClass) -> bool
-    ensures { result ≡ has_class top class }
-{
-    match top {
-        HeapTopType::Any => matches!(class, GcClass::Any),
-        HeapTopType::Extern => matches!(class, GcClass::Extern),
-        HeapTopType::Exn => matches!(class, GcClass::Exn),
-        HeapTopType::Func => false,
-        HeapTopType::Cont => false,
-    }
-}
-
-/// Whether null fits the type in that class.
-fn null_fits(ty: &RefType, class: GcClass) -> bool
-    ensures { result ≡ null_fits ty.now class }
-{
-    ty.nullable && has_class(ty.heap_type.top(), class)
-}
 
 /// The type of an object by itself, as a reference of class any.
 fn own_any_type(object: &RootedObject) -> Option<HeapType>
@@ -106,7 +88,7 @@ fn reference_fits<H: GcHeap, D: Drop>(
         Some(handle) => handle,
         None => return null_fits(ty, class),
     };
-    match &object_at(store, handle) {
+    match &store.object(handle) {
         Ok(object) => object_fits(store, ty, class, object),
         Err(_) => false,
     }
@@ -132,31 +114,32 @@ fn cont_fits(ty: &RefType, cont: &Option<u64>) -> bool
     }
 }
 
-/// Whether a value fits a type. Of a reference that isn't null its root has to be live.
-pub(crate) fn value_fits<H: GcHeap, D: Drop>(
-    store: &Store<H, D>,
-    ty: &ValType,
-    value: &RawValue,
-) -> bool
-    ensures { (t : Table D) (x : Value) → HoldsTable H.KIND store.now t → RawStands store.now t value.now x → result ≡ fits_type t.types t.objects ty.now x }
-{
-    match value {
-        RawValue::I32(_) => matches!(ty, ValType::I32),
-        RawValue::I64(_) => matches!(ty, ValType::I64),
-        RawValue::F32(_) => matches!(ty, ValType::F32),
-        RawValue::F64(_) => matches!(ty, ValType::F64),
-        RawValue::V128(_) => matches!(ty, ValType::V128),
-        RawValue::Func(func) => match ty {
-            ValType::Ref(ty) => function_fits(store, ty, func),
-            _ => false,
-        },
-        RawValue::Cont(cont) => match ty {
-            ValType::Ref(ty) => cont_fits(ty, cont),
-            _ => false,
-        },
-        RawValue::Ref(class, handle) => match ty {
-            ValType::Ref(ty) => reference_fits(store, ty, *class, *handle),
-            _ => false,
-        },
+impl<H: GcHeap, D: Drop> Store<H, D> {
+    /// Whether a value fits a type, as the WebAssembly GC proposal matches value types: a number its own, null each nullable
+    /// type of its class, what a handle names the type that the object has by itself and all above that. Where a handle's
+    /// root isn't live, it fits none.
+    pub fn value_fits(&self, ty: &ValType, value: &RawValue) -> bool
+        ensures { (t : Table D) (x : Value) → HoldsTable H.KIND self.now t → RawStands self.now t value.now x
+            → result ≡ fits_type t.types t.objects ty.now x }
+    {
+        match value {
+            RawValue::I32(_) => matches!(ty, ValType::I32),
+            RawValue::I64(_) => matches!(ty, ValType::I64),
+            RawValue::F32(_) => matches!(ty, ValType::F32),
+            RawValue::F64(_) => matches!(ty, ValType::F64),
+            RawValue::V128(_) => matches!(ty, ValType::V128),
+            RawValue::Func(func) => match ty {
+                ValType::Ref(ty) => function_fits(self, ty, func),
+                _ => false,
+            },
+            RawValue::Cont(cont) => match ty {
+                ValType::Ref(ty) => cont_fits(ty, cont),
+                _ => false,
+            },
+            RawValue::Ref(class, handle) => match ty {
+                ValType::Ref(ty) => reference_fits(self, ty, *class, *handle),
+                _ => false,
+            },
+        }
     }
 }

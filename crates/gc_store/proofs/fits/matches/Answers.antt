@@ -4,7 +4,7 @@ use Rattle.gc_types.specs.Declarable.{AreDeclared}
 use Rattle.gc_types.specs.Declarations.{TypeTable}
 use Rattle.gc_types.specs.Subtyping.{supertypes_of, MatchesRef}
 use Rattle.gc_model.proofs.Matching.{matches-ref, declared_older}
-use Rattle.gc_script.proofs.fits.matches.Goals as goal
+use Rattle.gc_store.proofs.fits.matches.Goals as goal
 
 pub returns : goal.returns
 returns g c =
