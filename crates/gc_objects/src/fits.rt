@@ -6,12 +6,13 @@ ghost use Rattle.gc_model.specs.Fits.{has_class, null_fits, matches, function_fi
 ghost use Rattle.gc_model.specs.Holds.{HoldsTable};
 ghost use Rattle.gc_model.specs.Table.{Table};
 ghost use Rattle.gc_model.specs.Values.{Value};
-ghost use Rattle.gc_store.specs.Values.{RawStands};
+ghost use Rattle.gc_store.specs.Values.{RawStands, raw_handle};
+ghost use Rattle.gc_objects.specs.Answered.{ChecksHandle, RawFitsType};
 ghost use Rattle.gc_objects.specs.OwnTypes.{own_type, own_fits};
 
 use crate::places::object_at;
 use gc_heap::GcHeap;
-use gc_store::{GcClass, GcRootIndex, RawValue, RootedObject, Store};
+use gc_store::{GcClass, GcRootIndex, RawValue, RootFault, RootedObject, Store};
 use gc_types::{Func, HeapTopType, HeapType, RefType, ValType};
 
 /// Whether references whose types lie under that top have the class.
@@ -158,5 +159,42 @@ pub(crate) fn value_fits<H: GcHeap, D: Drop>(
             ValType::Ref(ty) => reference_fits(store, ty, *class, *handle),
             _ => false,
         },
+    }
+}
+
+/// The handle of a value as the store takes it, where it has one.
+fn handle_in(value: &RawValue) -> Option<GcRootIndex>
+    ensures { result ≡ raw_handle value.now }
+{
+    match value {
+        RawValue::Ref(_, handle) => *handle,
+        _ => None,
+    }
+}
+
+/// Whether a value has no handle or a live one: `WrongStore`, then `Unrooted`.
+fn check_handle<H: GcHeap, D: Drop>(store: &Store<H, D>, value: &RawValue) -> Result<(), RootFault>
+    ensures { (t : Table D) → HoldsTable H.KIND store.now t → ChecksHandle store.now t value.now result }
+{
+    match handle_in(value) {
+        Some(handle) => match &object_at(store, handle) {
+            Ok(_) => Ok(()),
+            Err(fault) => Err(*fault),
+        },
+        None => Ok(()),
+    }
+}
+
+/// Whether a value, as the store takes it, fits a type, as `Val::matches_ty` tells.
+pub fn raw_matches_ty<H: GcHeap, D: Drop>(
+    store: &Store<H, D>,
+    value: &RawValue,
+    ty: &ValType,
+) -> Result<bool, RootFault>
+    ensures { (t : Table D) → HoldsTable H.KIND store.now t → RawFitsType store.now t ty.now value.now result }
+{
+    match check_handle(store, value) {
+        Ok(()) => Ok(value_fits(store, ty, value)),
+        Err(fault) => Err(fault),
     }
 }
