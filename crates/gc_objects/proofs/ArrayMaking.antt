@@ -16,11 +16,13 @@ use Rattle.gc_model.specs.Table.{Table}
 use Rattle.gc_model.specs.Stores.{StoreView}
 use Rattle.gc_policy.specs.Accounts.{Account, HoldsAccount}
 use Rattle.gc_policy.specs.Policy.{policy_state}
+use Rattle.gc_store.specs.declared.root.GcRootIndex.{GcRootIndex}
 use Rattle.gc_store.specs.declared.root.RawValue.{RawValue}
 use Rattle.gc_store.specs.declared.rooted.Rooted.{Rooted}
 use Rattle.gc_store.specs.Places.{RefusesPlace}
 use Rattle.gc_store.specs.Requests.{CanPlaceElements, CanPlaceSame, CanPlaceBytes, IsFilled, element_of}
 use Rattle.gc_store.specs.Values.{RawStands}
+use Rattle.gc_store.specs.Kinds.{IsScopedOfKind}
 use Rattle.gc_objects.specs.declared.checks.ValueTypes.TheVariants as value_types
 use Rattle.gc_objects.specs.declared.faults.AllocFault.TheVariants as fault
 use Rattle.gc_objects.specs.declared.faults.ValueFault.{ValueFault}
@@ -28,9 +30,9 @@ use Rattle.gc_objects.specs.declared.faults.ValueFault.TheVariants as value_faul
 use Rattle.gc_objects.specs.declared.val.Val.{Val}
 use Rattle.gc_objects.specs.Faults.{allocated_value}
 use Rattle.gc_objects.specs.Given.{raw_of, types_of, element_types, Goes, Misfits, ChecksValues, ChecksFilling, CanStoreAs, AllStorable, AllGo}
-use Rattle.gc_objects.specs.Kinds.{IsDeclaredAs, NamesKind, is_type_of, object_kind}
-use Rattle.gc_objects.specs.Makes.{Fault, Makes, MakesAsked, ElementsCauses, AsksElements, FillingCauses, AsksFilling, BytesCauses, AsksBytes, OfBytes, IsArrayOf, are_given_own, is_filling_own}
-use Rattle.gc_objects.proofs.MakeLemmas.{all_stand, can_make_elements, makes_asked, makes_kind, makes_no_value, refused_before}
+use Rattle.gc_objects.specs.Kinds.{IsDeclaredAs, is_type_of}
+use Rattle.gc_objects.specs.Makes.{Fault, Makes, handle_answer, MakesAsked, ElementsCauses, AsksElements, FillingCauses, AsksFilling, BytesCauses, AsksBytes, OfBytes, IsArrayOf, are_given_own, is_filling_own}
+use Rattle.gc_objects.proofs.MakeLemmas.{all_stand, can_make_elements, makes_handed, asked_kind, makes_no_value, refused_before}
 use Rattle.gc_objects.proofs.Pushing.{held_table}
 
 -- an array type has elements
@@ -93,8 +95,8 @@ module _ {D : Type 0} (T : Type 0) (layouts : Layouts) (counter : Option ℕ) (s
     filling_refused why answer e checks =
         makes_no_value T (FillingCauses s t ty v count) (AsksFilling s t ty v count) layouts counter (policy_state t a limits) limits s why answer e (filling_cause why checks) refuses
 
-    module _ (limits' : Limits) (new : StoreView D) (result : Answer) (given : RawValue) (same : given ≡ raw_of v) (checks : ChecksFilling s t (Some element) v count (Ok tt))
-        (makes : (o : Object D) → IsFilled s t index count given o → MakesAsked layouts counter o (policy_state t a limits) limits' result new) where
+    module _ (limits' : Limits) (new : StoreView D) (answer : Result GcRootIndex Fault) (given : RawValue) (same : given ≡ raw_of v) (checks : ChecksFilling s t (Some element) v count (Ok tt))
+        (makes : (o : Object D) → IsFilled s t index count given o → MakesAsked layouts counter o (policy_state t a limits) limits' answer new) where
       abbrev filled : Object D
       filled = array ty.index (replicate count (stored (element_of t.types ty.index) checks.0))
 
@@ -115,13 +117,12 @@ module _ {D : Type 0} (T : Type 0) (layouts : Layouts) (counter : Option ℕ) (s
         ),
       )
 
-      pub filling_makes : FillingMakes limits' result new
-      filling_makes =
-          makes_asked (FillingCauses s t ty v count) (AsksFilling s t ty v count) layouts counter s new t a limits limits' holds filled asked result (makes filled is_filled)
+      pub filling_makes : (result : Answer) → handle_answer result ≡ answer → FillingMakes limits' result new
+      filling_makes result same_answer =
+          makes_handed (FillingCauses s t ty v count) (AsksFilling s t ty v count) layouts counter s new t a limits limits' holds filled asked result answer same_answer (makes filled is_filled)
 
-      pub filling_kind : IfOk result (λ handle. NamesKind D layouts new kinds.ArrayRef handle.index)
-      filling_kind =
-          makes_kind (FillingCauses s t ty v count) (AsksFilling s t ty v count) layouts counter s new t a limits limits' kinds.ArrayRef (λ o asks. ap object_kind asks.object_is) result filling_makes
+      pub filling_kind : IfOk answer (IsScopedOfKind D layouts new kinds.ArrayRef)
+      filling_kind = asked_kind layouts counter s new t a limits limits' holds filled kinds.ArrayRef refl answer (makes filled is_filled)
 
   -- a value for each
   module _ (vs : List Val) (own : are_given_own s ty vs ≡ true) where
@@ -144,8 +145,8 @@ module _ {D : Type 0} (T : Type 0) (layouts : Layouts) (counter : Option ℕ) (s
     elements_refused why answer e checks =
         makes_no_value T (ElementsCauses s t ty vs) (AsksElements s t ty vs) layouts counter (policy_state t a limits) limits s why answer e (elements_cause why checks) refuses
 
-    module _ (limits' : Limits) (new : StoreView D) (result : Answer) (checks : ChecksEach (Ok tt))
-        (makes : (o : Object D) → IsArrayOf s t index vs o → MakesAsked layouts counter o (policy_state t a limits) limits' result new) where
+    module _ (limits' : Limits) (new : StoreView D) (answer : Result GcRootIndex Fault) (checks : ChecksEach (Ok tt))
+        (makes : (o : Object D) → IsArrayOf s t index vs o → MakesAsked layouts counter o (policy_state t a limits) limits' answer new) where
       abbrev listed : Object D
       listed = array ty.index (map (stored (element_of t.types ty.index)) checks.0)
 
@@ -163,13 +164,12 @@ module _ {D : Type 0} (T : Type 0) (layouts : Layouts) (counter : Option ℕ) (s
         (all_stand s t (types_of s.types (value_types.Elements index)) vs checks.0 checks.1, ap (λ (n : ℕ). array n (map (stored (element_of t.types n)) checks.0)) (sym index_is)),
       )
 
-      pub elements_make : ElementsMake limits' result new
-      elements_make =
-          makes_asked (ElementsCauses s t ty vs) (AsksElements s t ty vs) layouts counter s new t a limits limits' holds listed listed_asked result (makes listed is_listed)
+      pub elements_make : (result : Answer) → handle_answer result ≡ answer → ElementsMake limits' result new
+      elements_make result same_answer =
+          makes_handed (ElementsCauses s t ty vs) (AsksElements s t ty vs) layouts counter s new t a limits limits' holds listed listed_asked result answer same_answer (makes listed is_listed)
 
-      pub elements_kind : IfOk result (λ handle. NamesKind D layouts new kinds.ArrayRef handle.index)
-      elements_kind =
-          makes_kind (ElementsCauses s t ty vs) (AsksElements s t ty vs) layouts counter s new t a limits limits' kinds.ArrayRef (λ o asks. ap object_kind asks.object_is) result elements_make
+      pub elements_kind : IfOk answer (IsScopedOfKind D layouts new kinds.ArrayRef)
+      elements_kind = asked_kind layouts counter s new t a limits limits' holds listed kinds.ArrayRef refl answer (makes listed is_listed)
 
   -- bytes
   module _ (own : is_type_of s ty ≡ true) (bytes : List ℕ) where
@@ -185,15 +185,14 @@ module _ {D : Type 0} (T : Type 0) (layouts : Layouts) (counter : Option ℕ) (s
     pub bytes_refused : ¬ (element.element_type ≡ storage.I8) → BytesMake limits (Err fault.NotI8Array) s
     bytes_refused other = ((own, other_elements other), refuses)
 
-    module _ (of_bytes : element.element_type ≡ storage.I8) (limits' : Limits) (new : StoreView D) (result : Answer)
-        (makes : MakesAsked layouts counter (array index (map byte_value bytes)) (policy_state t a limits) limits' result new) where
+    module _ (of_bytes : element.element_type ≡ storage.I8) (limits' : Limits) (new : StoreView D) (answer : Result GcRootIndex Fault)
+        (makes : MakesAsked layouts counter (array index (map byte_value bytes)) (policy_state t a limits) limits' answer new) where
       bytes_asked : AsksBytes s t ty bytes (array index (map byte_value bytes))
       bytes_asked = record { own = own; of_bytes = (element, (sym element_is, of_bytes)); object_is = ap (λ (n : ℕ). array n (map byte_value bytes)) index_is }
 
-      pub bytes_make : BytesMake limits' result new
-      bytes_make =
-          makes_asked (BytesCauses s t ty) (AsksBytes s t ty bytes) layouts counter s new t a limits limits' holds (array index (map byte_value bytes)) bytes_asked result makes
+      pub bytes_make : (result : Answer) → handle_answer result ≡ answer → BytesMake limits' result new
+      bytes_make result same_answer =
+          makes_handed (BytesCauses s t ty) (AsksBytes s t ty bytes) layouts counter s new t a limits limits' holds (array index (map byte_value bytes)) bytes_asked result answer same_answer makes
 
-      pub bytes_kind : IfOk result (λ handle. NamesKind D layouts new kinds.ArrayRef handle.index)
-      bytes_kind =
-          makes_kind (BytesCauses s t ty) (AsksBytes s t ty bytes) layouts counter s new t a limits limits' kinds.ArrayRef (λ o asks. ap object_kind asks.object_is) result bytes_make
+      pub bytes_kind : IfOk answer (IsScopedOfKind D layouts new kinds.ArrayRef)
+      bytes_kind = asked_kind layouts counter s new t a limits limits' holds (array index (map byte_value bytes)) kinds.ArrayRef refl answer makes

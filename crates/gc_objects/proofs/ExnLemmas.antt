@@ -24,11 +24,11 @@ use Rattle.gc_store.specs.declared.root.RootFault.{RootFault}
 use Rattle.gc_store.specs.declared.root.RootedObject.{RootedObject}
 use Rattle.gc_store.specs.declared.root.RootedObject.TheVariants as rooted_object
 use Rattle.gc_store.specs.Roots.{is_of_store, NamesReference, IsReference, IsObject, FindsRoot}
+use Rattle.gc_store.specs.Kinds.{object_kind, IsOfKind, NamesKind}
 use Rattle.gc_objects.specs.declared.places.NamedExn.{NamedExn}
 use Rattle.gc_objects.specs.declared.places.NamedField.{NamedField}
 use Rattle.gc_objects.specs.Answered.{Answers, IsFieldOf, HasField}
 use Rattle.gc_objects.specs.Exns.{exn_in, IsNamedExn}
-use Rattle.gc_objects.specs.Kinds.{object_kind, IsOfKind, NamesKind}
 use Rattle.gc_objects.specs.Reads.{IsTyped}
 use Rattle.gc_objects.proofs.Questions.{answers_named, found_ok}
 use Rattle.gc_objects.proofs.TypedObjects.{stands_named, listed_at, typed_at}

@@ -1,16 +1,14 @@
 -- References of the embedder: host objects that are made, and other references that are converted.
-use Rattle.std.proofs.Common.{inl, inr, ◌≡◌, ℕ, length, true, false, Option, Some, Result, Ok, Err, IfOk, sym, ap, ◌∙◌, refl, subst}
+use Rattle.std.proofs.Common.{inl, inr, ◌≡◌, ℕ, true, false, Option, Result, Ok, Err, IfOk, sym, ap, ◌∙◌, refl, subst}
 use Rattle.std.specs.Result.{IsOkAnd, IsErrAnd}
-use Rattle.std.specs.List.{slice_get}
 use Rattle.gc_types.specs.declared.kind.Layouts.{Layouts}
 use Rattle.gc_types.specs.declared.kind.VMGcKind.TheVariants as kinds
 use Rattle.gc_model.specs.Values.{Reference, null, small, at, Object, host}
 use Rattle.gc_model.specs.Allocation.{Limits}
-use Rattle.gc_model.specs.Table.{Table, push, make}
+use Rattle.gc_model.specs.Table.{Table, push}
 use Rattle.gc_model.specs.Stores.{StoreView}
 use Rattle.gc_model.specs.Holds.{HoldsTable}
-use Rattle.gc_model.proofs.Lists.{slice_get-push_new}
-use Rattle.gc_policy.specs.Accounts.{Account, HoldsAccount, with_held}
+use Rattle.gc_policy.specs.Accounts.{Account, HoldsAccount}
 use Rattle.gc_policy.specs.Policy.{policy_state}
 use Rattle.gc_policy.proofs.AccountLemmas.{some_account}
 use Rattle.gc_store.specs.declared.hosts.PlaceHostFault.{PlaceHostFault}
@@ -22,15 +20,15 @@ use Rattle.gc_store.specs.declared.rooted.Rooted.{Rooted}
 use Rattle.gc_store.specs.Handles.{PushesRoot}
 use Rattle.gc_store.specs.HostPlaces.{PlacesHost}
 use Rattle.gc_store.specs.Places.{PlacesObject}
-use Rattle.gc_store.specs.Roots.{is_of_store, NamesReference, NamesNothing}
+use Rattle.gc_store.specs.Roots.{is_of_store, NamesScoped, NamesReference, NamesNothing}
+use Rattle.gc_store.specs.Kinds.{IsOfKind, NamesKind, IsScopedOfKind}
 use Rattle.gc_objects.specs.declared.faults.AllocFault.{AllocFault}
 use Rattle.gc_objects.specs.Answered.{Answers}
 use Rattle.gc_objects.specs.Hosts.{IsHostHanded, MakesHost, CopiesRoot, CopiesHandle}
-use Rattle.gc_objects.specs.Kinds.{IsOfKind, NamesKind}
 use Rattle.gc_objects.specs.Makes.{MakesObject}
-use Rattle.gc_objects.proofs.MakeLemmas.{made}
+use Rattle.gc_objects.proofs.MakeLemmas.{made, asked_kind}
 use Rattle.gc_objects.proofs.Naming.{bool_cases, names_own, named_or_not}
-use Rattle.gc_objects.proofs.Pushed.{are_before, names_pushed, named_kind}
+use Rattle.gc_objects.proofs.Pushed.{are_before, names_pushed}
 use Rattle.gc_objects.proofs.Pushing.{held_table}
 
 -- What is asked of a handle is answered: by what the call says where it is another store's, live or gone.
@@ -94,15 +92,11 @@ module _ {D T : Type 0} (layouts : Layouts) (counter : Option ℕ) (value : D) (
   host_handed result (Err (place.HeapOutOfMemory f)) is places = subst Made (sym is) places
   host_handed result (Err place.Memory) is places = subst Made (sym is) places
 
-  -- its handle names one of the embedder's references
-  pub host_kind : (result : Result (Rooted T) (AllocFault D)) → Made result → IfOk result (λ handle. NamesKind D layouts new kinds.ExternRef handle.index)
-  host_kind (Ok handle) makes =
-      let u : Table D = make makes.object makes.placed.after.table in
-      let position : slice_get u.objects (length t.objects) ≡ Some makes.object =
-      ap (λ (x : Table D). slice_get x.objects (length t.objects)) makes.placed.allocates.made ∙ slice_get-push_new t.objects makes.object in
-      named_kind layouts new u (held_table layouts new u (with_held layouts (length t.objects) makes.placed.word makes.placed.after.account) makes.placed.holds) handle.index kinds.ExternRef (at (length t.objects)) makes.named
-      (host value, (position ∙ ap Some makes.asked, λ is. absurd (cc is)))
-  host_kind (Err why) makes = tt
+-- its root is one of the embedder's references
+pub host_kind : {D : Type 0} (layouts : Layouts) (counter : Option ℕ) (value : D) (s new : StoreView D) (t : Table D) (a : Account) (limits limits' : Limits) → HoldsAccount layouts s t a
+    → (answer : Result GcRootIndex (PlaceHostFault D)) → PlacesHost layouts counter value (policy_state t a limits) limits' answer new → IfOk answer (IsScopedOfKind D layouts new kinds.ExternRef)
+host_kind layouts counter value s new t a limits limits' holds (Ok root) places = asked_kind layouts counter s new t a limits limits' holds (host value) kinds.ExternRef (λ is. cc is) (Ok root) places
+host_kind layouts counter value s new t a limits limits' holds (Err why) places = tt
 
 -- A root that was pushed for what a handle names.
 module _ {D : Type 0} (layouts : Layouts) (old new : StoreView D) (handle : GcRootIndex) (result : Result GcRootIndex RootFault)
@@ -151,17 +145,21 @@ module _ {D : Type 0} (layouts : Layouts) (old new : StoreView D) (handle : GcRo
     ),
   )
 
-  pub copied_kind : (this : GcRootIndex) → handle ≡ this → NamesKind D layouts old kinds.AnyRef this → (root made : GcRootIndex) → result ≡ Ok root → made ≡ root → NamesKind D layouts new kinds.ExternRef made
-  copied_kind this same kind_given root made is index =
+  pub copied_kind : (this : GcRootIndex) → handle ≡ this → NamesKind D layouts old kinds.AnyRef this → (root : GcRootIndex) → result ≡ Ok root → IsScopedOfKind D layouts new kinds.ExternRef root
+  copied_kind this same kind_given root is =
       let kind = subst (NamesKind D layouts old kinds.AnyRef) (sym same) kind_given in
       elim (named_or_not old kind.table handle) [
         | inl named ↦
             let account = some_account layouts old kind.table kind.holds in
-            let pushes : PushesRoot layouts kind.table account.0 named.0 (Ok made) new =
-            subst (λ (q : Result GcRootIndex RootFault). PushesRoot layouts kind.table account.0 named.0 q new) (is ∙ ap Ok (sym index)) (live kind.table account.0 named.0 account.1 named.1) in
-            let names : NamesReference new (push named.0 kind.table) made named.0 =
-            subst (λ (h : GcRootIndex). NamesReference new (push named.0 kind.table) h named.0) (sym pushes.1.0) (names_pushed kind.table (are_before layouts old kind.table kind.holds) new named.0) in
-            named_kind layouts new (push named.0 kind.table) (held_table layouts new (push named.0 kind.table) account.0 pushes.1.1) made kinds.ExternRef named.0 names (extern_takes kind.table named.0 (kind.is named.0 named.1))
+            let pushes : PushesRoot layouts kind.table account.0 named.0 (Ok root) new =
+            subst (λ (q : Result GcRootIndex RootFault). PushesRoot layouts kind.table account.0 named.0 q new) is (live kind.table account.0 named.0 account.1 named.1) in
+            record {
+              table = push named.0 kind.table;
+              holds = held_table layouts new (push named.0 kind.table) account.0 pushes.1.1;
+              root = named.0;
+              named = subst (λ (h : GcRootIndex). NamesScoped new (push named.0 kind.table) h named.0) (sym pushes.1.0) (names_pushed kind.table (are_before layouts old kind.table kind.holds) new named.0);
+              of_kind = extern_takes kind.table named.0 (kind.is named.0 named.1);
+            }
         | inr nothing ↦ elim (bool_cases (is_of_store old handle)) [
           | inl own ↦ absurd (cc (sym is ∙ gone own kind.table kind.holds nothing))
           | inr other ↦ absurd (cc (sym is ∙ wrong other))

@@ -7,10 +7,9 @@ use Rattle.std.proofs.lemmas.List.{length-map}
 use Rattle.std.proofs.lemmas.Option.{none-some}
 use Rattle.gc_types.specs.declared.kind.Layouts.{Layouts}
 use Rattle.gc_types.specs.declared.kind.VMGcKind.{VMGcKind}
-use Rattle.gc_types.specs.declared.kind.VMGcKind.TheVariants as kinds
 use Rattle.gc_types.specs.declared.kind.TypeKind.TheVariants as type_kinds
 use Rattle.gc_types.specs.declared.value.FieldType.{FieldType}
-use Rattle.gc_types.specs.Declarations.{Declaration, TypeName, Shape, struct_of, array_of, exn_of, func_of, shape_kind, shape_fields, shape_struct_fields, fields_at, struct_fields_at, elem_at, kind_at, declaration_fields, declaration_struct_fields}
+use Rattle.gc_types.specs.Declarations.{Declaration, Shape, struct_of, array_of, exn_of, func_of, shape_kind, shape_fields, shape_struct_fields, fields_at, struct_fields_at, elem_at, kind_at, declaration_fields, declaration_struct_fields}
 use Rattle.gc_model.specs.Values.{at, Value, Object}
 use Rattle.gc_model.specs.Allocation.{Limits}
 use Rattle.gc_model.specs.Table.{Table, make, with_pages}
@@ -25,17 +24,17 @@ use Rattle.gc_store.specs.declared.rooted.Rooted.{Rooted}
 use Rattle.gc_store.specs.declared.store.PlaceFault.TheVariants as place
 use Rattle.gc_store.specs.Places.{Places, PlacesObject, RefusesPlace}
 use Rattle.gc_store.specs.Requests.{CanPlaceStruct, CanPlaceElements}
-use Rattle.gc_store.specs.Roots.{NamesReference}
+use Rattle.gc_store.specs.Roots.{NamesScoped}
 use Rattle.gc_store.specs.Values.{AllStand, RawStands, CanStore}
+use Rattle.gc_store.specs.Kinds.{object_kind, Takes, IsScopedOfKind}
 use Rattle.gc_objects.specs.declared.faults.AllocFault.TheVariants as fault
 use Rattle.gc_objects.specs.declared.faults.ValueFault.{ValueFault}
 use Rattle.gc_objects.specs.declared.faults.ValueFault.TheVariants as value_fault
 use Rattle.gc_objects.specs.declared.val.Val.{Val}
 use Rattle.gc_objects.specs.Faults.{allocated_value}
 use Rattle.gc_objects.specs.Given.{raw_of, field_types, element_types, CanStoreAs, AllStorable, AllGo}
-use Rattle.gc_objects.specs.Kinds.{object_kind, Takes, NamesKind}
-use Rattle.gc_objects.specs.Makes.{Fault, AsksStruct, MakesAsked, Makes, MakesObject}
-use Rattle.gc_objects.proofs.Pushed.{are_before, names_made, named_kind}
+use Rattle.gc_objects.specs.Makes.{Fault, handle_answer, MakesAsked, Makes, MakesObject}
+use Rattle.gc_objects.proofs.Pushed.{are_before, names_made}
 use Rattle.gc_objects.proofs.Pushing.{held_table}
 
 -- the store wasn't asked, for want of memory
@@ -62,6 +61,27 @@ module _ {D : Type 0} (T : Type 0) (causes : Fault → Type 0) (asks : Object D 
   pub makes_no_value : (why : ValueFault) (answer : Fault) → answer ≡ allocated_value why → causes (allocated_value why) → RefusesPlace layouts p limits' new → Makes {T = T} causes asks layouts counter p limits' (Err answer) new
   makes_no_value why answer e cause refuses = subst (λ (f : Fault). Makes {T = T} causes asks layouts counter p limits' (Err f) new) (sym e) (refused_by why cause refuses)
 
+module _ {D : Type 0} (layouts : Layouts) (counter : Option ℕ) (s new : StoreView D) (t : Table D) (a : Account) (limits limits' : Limits) (holds : HoldsAccount layouts s t a) (o : Object D) where
+  -- the root of an object that was made stands
+  stands : (root : GcRootIndex) (places : PlacesObject layouts counter o (policy_state t a limits) limits' root new) → NamesScoped new (make o places.after.table) root (at (length t.objects))
+  stands root places =
+      subst (λ (u : Table D). NamesScoped new u root (at (length t.objects))) (sym places.allocates.made)
+      (subst (λ (h : GcRootIndex). NamesScoped new (make o (with_pages places.allocates.pages t)) h (at (length t.objects))) (sym places.handle_is)
+      (names_made t (are_before layouts s t (held_table layouts s t a holds)) new o places.allocates.pages))
+
+  -- and is of its kind
+  pub asked_kind : (kind : VMGcKind) → Takes kind (object_kind o) → (answer : Result GcRootIndex Fault) → MakesAsked layouts counter o (policy_state t a limits) limits' answer new → IfOk answer (IsScopedOfKind D layouts new kind)
+  asked_kind kind takes (Ok root) places =
+      let u : Table D = make o places.after.table in
+      record {
+        table = u;
+        holds = held_table layouts new u (with_held layouts (length t.objects) places.word places.after.account) places.holds;
+        root = at (length t.objects);
+        named = stands root places;
+        of_kind = (o, (ap (λ (x : Table D). slice_get x.objects (length t.objects)) places.allocates.made ∙ slice_get-push_new t.objects o, takes));
+      }
+  asked_kind kind takes (Err why) places = tt
+
 module _ {D T : Type 0} (causes : Fault → Type 0) (asks : Object D → Type 0) (layouts : Layouts) (counter : Option ℕ) (s new : StoreView D) (t : Table D) (a : Account) (limits limits' : Limits) where
   abbrev MakesBy : Result (Rooted T) Fault → Type 0
   MakesBy result = Makes causes asks layouts counter (policy_state t a limits) limits' result new
@@ -73,13 +93,11 @@ module _ {D T : Type 0} (causes : Fault → Type 0) (asks : Object D → Type 0)
       asked = asked;
       placed = places;
       named =
-          subst (λ (u : Table D). NamesReference new u handle.index (at (length t.objects))) (sym places.allocates.made)
-          (subst (λ (h : GcRootIndex). NamesReference new (make o (with_pages places.allocates.pages t)) h (at (length t.objects))) (sym places.handle_is)
-          (names_made t (are_before layouts s t (held_table layouts s t a holds)) new o places.allocates.pages));
+          inl (stands layouts counter s new t a limits limits' holds o handle.index places);
     }
 
     -- the store was asked for it
-    pub makes_asked : (result : Result (Rooted T) Fault) → MakesAsked layouts counter o (policy_state t a limits) limits' result new → MakesBy result
+    makes_asked : (result : Result (Rooted T) Fault) → MakesAsked layouts counter o (policy_state t a limits) limits' (handle_answer result) new → MakesBy result
     makes_asked (Ok handle) asks_store = made handle asks_store
     makes_asked (Err fault.WrongStore) asks_store = absurd asks_store
     makes_asked (Err fault.FieldCount) asks_store = absurd asks_store
@@ -93,15 +111,10 @@ module _ {D T : Type 0} (causes : Fault → Type 0) (asks : Object D → Type 0)
     makes_asked (Err (fault.HeapOutOfMemory f)) asks_store = (o, (asked, asks_store))
     makes_asked (Err fault.Memory) asks_store = (o, (asked, asks_store))
 
-  -- the handle of an object that was made names one of its kind
-  pub makes_kind : (kind : VMGcKind) → ((o : Object D) → asks o → Takes kind (object_kind o)) → (result : Result (Rooted T) Fault) → MakesBy result → IfOk result (λ handle. NamesKind D layouts new kind handle.index)
-  makes_kind kind of_kind (Ok handle) makes =
-      let u : Table D = make makes.object makes.placed.after.table in
-      let position : slice_get u.objects (length t.objects) ≡ Some makes.object =
-      ap (λ (x : Table D). slice_get x.objects (length t.objects)) makes.placed.allocates.made ∙ slice_get-push_new t.objects makes.object in
-      named_kind layouts new u (held_table layouts new u (with_held layouts (length t.objects) makes.placed.word makes.placed.after.account) makes.placed.holds) handle.index kind (at (length t.objects)) makes.named
-      (makes.object, (position, of_kind makes.object makes.asked))
-  makes_kind kind of_kind (Err why) makes = tt
+    -- and answered by its root, of which there is a typed handle now
+    pub makes_handed : (result : Result (Rooted T) Fault) (answer : Result GcRootIndex Fault) → handle_answer result ≡ answer → MakesAsked layouts counter o (policy_state t a limits) limits' answer new → MakesBy result
+    makes_handed result answer same asks_store =
+        makes_asked result (subst (λ (q : Result GcRootIndex Fault). MakesAsked layouts counter o (policy_state t a limits) limits' q new) (sym same) asks_store)
 
 -- the values that all go stand for those of the table
 pub all_stand : {D : Type 0} (s : StoreView D) (t : Table D) (types : ℕ → Option FieldType) (vs : List Val) (xs : List Value) → AllGo s t types vs xs → AllStand s t (map raw_of vs) xs
@@ -153,7 +166,3 @@ module _ (D : Type 0) (layouts : Layouts) (s : StoreView D) (ty : ℕ) (vs : Lis
         let from = mapped_from raw_of vs i r f in
         subst (CanStore D layouts s element.element_type) from.is (subst (λ (o : Option FieldType). CanStoreAs D layouts s o from.element) declared (storable i from.element from.there));
   }
-
--- a struct that is asked for is one, and so an array
-pub struct_takes : {D : Type 0} (s : StoreView D) (t : Table D) (ty : TypeName) (vs : List Val) (o : Object D) → AsksStruct s t ty vs o → Takes kinds.StructRef (object_kind o)
-struct_takes s t ty vs o asked = ap object_kind asked.object_is

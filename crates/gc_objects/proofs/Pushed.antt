@@ -17,7 +17,7 @@ use Rattle.gc_store.specs.declared.root.GcRootIndex.{GcRootIndex}
 use Rattle.gc_store.specs.declared.root.RootSlot.TheVariants as slot
 use Rattle.gc_store.specs.Roots.{handle_of, NamesScoped, NamesOwned, NamesReference}
 use Rattle.gc_store.specs.Words.{owned_id}
-use Rattle.gc_objects.specs.Kinds.{IsOfKind, NamesKind}
+use Rattle.gc_store.specs.Kinds.{IsOfKind, NamesKind, IsScopedOfKind}
 
 -- a root at the end is found by its serial, where no other has it
 rooted_at_end : (serial : ℕ) (roots : List Scoped) (r : Reference) → ((i : ℕ) (root : Scoped) → slice_get roots i ≡ Some root → root.serial ≢ serial)
@@ -44,9 +44,9 @@ are_before layouts s t holds i root e =
     ] in
     slice_get_within t.pushes root.serial _ ((holds.1.scoped.each i entry.0 root entry.1 e).pushed)
 
--- a new root is live and names what it was pushed for, by its handle
-pub names_pushed : {D : Type 0} (t : Table D) → AreBefore t → (new : StoreView D) (r : Reference) → NamesReference new (push r t) (handle_of new (length t.scoped) t.drops) r
-names_pushed t before new r = inl (record {
+-- a new root stands and names what it was pushed for, by its handle
+pub names_pushed : {D : Type 0} (t : Table D) → AreBefore t → (new : StoreView D) (r : Reference) → NamesScoped new (push r t) (handle_of new (length t.scoped) t.drops) r
+names_pushed t before new r = record {
   serial = length t.pushes;
   names = record {
     push = record { index = length t.scoped; generation = t.drops };
@@ -54,11 +54,11 @@ names_pushed t before new r = inl (record {
     is = refl;
   };
   live = rooted_at_end (length t.pushes) t.scoped r (λ i root e is. let first = before i root e in omega (arith, first, is));
-})
+}
 
 -- so does that of an object that was made
 pub names_made : {D : Type 0} (t : Table D) → AreBefore t → (new : StoreView D) (o : Object D) (pages : ℕ)
-    → NamesReference new (make o (with_pages pages t)) (handle_of new (length t.scoped) t.drops) (at (length t.objects))
+    → NamesScoped new (make o (with_pages pages t)) (handle_of new (length t.scoped) t.drops) (at (length t.objects))
 names_made t before new o pages = names_pushed (add_object o (intern (object_values o) (with_pages pages t))) before new (at (length t.objects))
 
 module _ {D : Type 0} (layouts : Layouts) (s : StoreView D) (t : Table D) (holds : HoldsTable layouts s t) (handle : GcRootIndex) where
@@ -95,3 +95,11 @@ module _ {D : Type 0} (layouts : Layouts) (s : StoreView D) (t : Table D) (holds
   -- what it names is of a kind, so the handle is given as that kind
   pub named_kind : (kind : VMGcKind) (r : Reference) → NamesReference s t handle r → IsOfKind kind t r → NamesKind D layouts s kind handle
   named_kind kind r named is = record { table = t; holds = holds; is = λ q other. subst (IsOfKind kind t) (names_once r q named other) is }
+
+-- a scoped root of a kind names no reference of another
+module _ {D : Type 0} (layouts : Layouts) (s : StoreView D) (kind : VMGcKind) where
+  pub scoped_kind : (root : GcRootIndex) → IsScopedOfKind D layouts s kind root → NamesKind D layouts s kind root
+  scoped_kind root is = named_kind layouts s is.table is.holds root kind is.root (inl is.named) is.of_kind
+
+  pub handle_kind : (root handle : GcRootIndex) → handle ≡ root → IsScopedOfKind D layouts s kind root → NamesKind D layouts s kind handle
+  handle_kind root handle same is = subst (NamesKind D layouts s kind) (sym same) (scoped_kind root is)

@@ -17,8 +17,8 @@ use Rattle.gc_objects.specs.Faults.{accessed}
 use Rattle.gc_store.specs.declared.root.RootedObject.{RootedObject}
 use Rattle.gc_store.specs.declared.rooted.Rooted.{Rooted}
 use Rattle.gc_store.specs.Roots.{is_of_store, NamesReference, IsReference, IsObject, FindsRoot}
+use Rattle.gc_store.specs.Kinds.{object_kind, IsOfKind, NamesKind}
 use Rattle.gc_objects.specs.declared.places.NamedArray.{NamedArray}
-use Rattle.gc_objects.specs.Kinds.{object_kind, IsOfKind, NamesKind}
 use Rattle.gc_objects.specs.Answered.{Answers, named_object, IsStruct, IsNamedArray, IsNumber, number_in, struct_in, array_in, is_struct, is_array, IsStructRoot, IsArrayRoot}
 use Rattle.gc_objects.proofs.Pushed.{named_kind}
 

@@ -16,26 +16,19 @@ use Rattle.gc_model.specs.Fits.{fits, object_fits_any, object_fits_extern, objec
 use Rattle.gc_model.specs.Reads.{after_read}
 use Rattle.gc_model.specs.Table.{Table, push}
 use Rattle.gc_model.specs.Stores.{StoreView}
-use Rattle.gc_model.specs.Holds.{HoldsTable}
 use Rattle.gc_policy.specs.Accounts.{Account, HoldsAccount}
 use Rattle.gc_policy.proofs.AccountLemmas.{some_account}
 use Rattle.gc_store.specs.declared.root.GcRootIndex.{GcRootIndex}
 use Rattle.gc_store.specs.declared.root.RawValue.{RawValue}
 use Rattle.gc_store.specs.declared.root.RawValue.TheVariants as raw
-use Rattle.gc_store.specs.Roots.{handle_of, NamesReference, HasValue, CanRead}
+use Rattle.gc_store.specs.Roots.{handle_of, NamesScoped, HasValue, CanRead}
 use Rattle.gc_store.specs.Values.{IsReadAs, ReadsValue}
+use Rattle.gc_store.specs.Kinds.{object_kind, Takes, IsOfKind, IsScopedOfKind}
 use Rattle.gc_objects.specs.declared.val.Val.{Val}
 use Rattle.gc_objects.specs.declared.val.Val.TheVariants as val
-use Rattle.gc_objects.specs.Kinds.{object_kind, Takes, IsOfKind, NamesKind}
-use Rattle.gc_objects.specs.Given.{root_of, raw_of, RootNamesKind, ValNamesKind}
-use Rattle.gc_objects.proofs.Pushed.{are_before, names_pushed, named_kind}
+use Rattle.gc_objects.specs.Given.{root_of, raw_of, class_kind, RootIsOfKind, IsGiven, RootNamesKind, ValNamesKind}
+use Rattle.gc_objects.proofs.Pushed.{are_before, names_pushed, scoped_kind}
 use Rattle.gc_objects.proofs.Pushing.{held_table}
-
--- the kind that handles of a class are given as
-abbrev class_kind : GcClass → VMGcKind
-class_kind Any = kinds.AnyRef
-class_kind Extern = kinds.ExternRef
-class_kind Exn = kinds.ExnRef
 
 -- an object is there, and a handle of that kind names it
 abbrev IsTaken : {D : Type 0} → VMGcKind → Option (Object D) → Type 0
@@ -130,7 +123,7 @@ read_root new t (reference own (at p)) class handle is =
 
 module _ {D : Type 0} (layouts : Layouts) (old new : StoreView D) (index : ℕ) (root : GcRootIndex) (can : CanRead D layouts old root index) (given : RawValue)
     (reads : (t : Table D) (a : Account) (x : Value) → HoldsAccount layouts old t a → HasValue old t root index x → ReadsValue layouts t a x (Ok given) new) where
-  root_kind : (class : GcClass) (handle : GcRootIndex) → given ≡ raw.Ref class (Some handle) → NamesKind D layouts new (class_kind class) handle
+  root_kind : (class : GcClass) (handle : GcRootIndex) → given ≡ raw.Ref class (Some handle) → IsScopedOfKind D layouts new (class_kind class) handle
   root_kind class handle is =
       let t = can.table in
       let a = some_account layouts old t can.holds in
@@ -138,14 +131,35 @@ module _ {D : Type 0} (layouts : Layouts) (old new : StoreView D) (index : ℕ) 
       let root = read_root new t can.value class handle (subst (IsReadAs new t can.value) is ok.1.0) in
       let typed = can.holds.1.typed can.has.position index can.has.object can.value can.has.object_is can.has.value_at in
       let r = root.reference_read in
-      let holds : HoldsTable layouts new (push r t) = held_table layouts new (push r t) a.0 (subst (λ (u : Table D). HoldsAccount layouts new u a.0) root.after_is ok.1.1) in
-      let named : NamesReference new (push r t) handle r =
-      subst (λ (h : GcRootIndex). NamesReference new (push r t) h r) (sym root.handle_is) (names_pushed t (are_before layouts old t can.holds) new r) in
-      named_kind layouts new (push r t) holds handle (class_kind class) r named (root.kind_is typed.field.element_type typed.is_fit)
+      record {
+        table = push r t;
+        holds = held_table layouts new (push r t) a.0 (subst (λ (u : Table D). HoldsAccount layouts new u a.0) root.after_is ok.1.1);
+        root = r;
+        named = subst (λ (h : GcRootIndex). NamesScoped new (push r t) h r) (sym root.handle_is) (names_pushed t (are_before layouts old t can.holds) new r);
+        of_kind = root.kind_is typed.field.element_type typed.is_fit;
+      }
 
-  any_root : (class : GcClass) (o : Option GcRootIndex) → given ≡ raw.Ref class o → RootNamesKind D layouts new (class_kind class) o
+  any_root : (class : GcClass) (o : Option GcRootIndex) → given ≡ raw.Ref class o → RootIsOfKind D layouts new (class_kind class) o
   any_root class None is = tt
   any_root class (Some handle) is = root_kind class handle is
+
+  root_given : (x : RawValue) → given ≡ x → IsGiven D layouts new x
+  root_given (raw.I32 n) is = tt
+  root_given (raw.I64 n) is = tt
+  root_given (raw.F32 n) is = tt
+  root_given (raw.F64 n) is = tt
+  root_given (raw.V128 n) is = tt
+  root_given (raw.Func f) is = tt
+  root_given (raw.Cont c) is = tt
+  root_given (raw.Ref class root) is = any_root class root is
+
+  -- what is read is a value that the store gave
+  pub is_given : IsGiven D layouts new given
+  is_given = root_given given refl
+
+  names_kind : (kind : VMGcKind) (o : Option GcRootIndex) → RootIsOfKind D layouts new kind o → RootNamesKind D layouts new kind o
+  names_kind kind None is = tt
+  names_kind kind (Some root) is = scoped_kind layouts new kind root is
 
   -- the handle of a value that is read names what it is given as
   pub value_kind : (v : Val) → raw_of v ≡ given → ValNamesKind D layouts new v
@@ -156,6 +170,6 @@ module _ {D : Type 0} (layouts : Layouts) (old new : StoreView D) (index : ℕ) 
   value_kind (val.V128 n) is = tt
   value_kind (val.FuncRef f) is = tt
   value_kind (val.ContRef c) is = tt
-  value_kind (val.ExternRef handle) is = any_root Extern (root_of handle) (sym is)
-  value_kind (val.AnyRef handle) is = any_root Any (root_of handle) (sym is)
-  value_kind (val.ExnRef handle) is = any_root Exn (root_of handle) (sym is)
+  value_kind (val.ExternRef handle) is = names_kind kinds.ExternRef (root_of handle) (any_root Extern (root_of handle) (sym is))
+  value_kind (val.AnyRef handle) is = names_kind kinds.AnyRef (root_of handle) (any_root Any (root_of handle) (sym is))
+  value_kind (val.ExnRef handle) is = names_kind kinds.ExnRef (root_of handle) (any_root Exn (root_of handle) (sym is))

@@ -20,7 +20,7 @@ use Rattle.gc_objects.specs.declared.faults.ValueFault.TheVariants as value_faul
 use Rattle.gc_objects.specs.declared.val.Val.{Val}
 use Rattle.gc_objects.specs.Answered.{Answers}
 use Rattle.gc_objects.specs.Faults.{accessed, accessed_value}
-use Rattle.gc_objects.specs.Given.{is_own, raw_of, ValStands, Goes, ChecksValue, CanStoreAs}
+use Rattle.gc_objects.specs.Given.{is_own, raw_of, Goes, ChecksValue, CanStoreAs}
 use Rattle.gc_objects.specs.Reads.{IsTypedAt, IsTyped}
 use Rattle.gc_objects.specs.Writes.{HasType, GoesThere, Sets, WritesAs, are_own_both}
 use Rattle.gc_objects.proofs.Naming.{both, found_true}

@@ -1,5 +1,5 @@
 -- The values that are given, as the store takes them.
-use Rattle.std.proofs.Common.{◌≡◌, Bool, true, Some, None, Result, Ok, Err, sym, refl, subst, arith}
+use Rattle.std.proofs.Common.{◌≡◌, Bool, true, Some, None, Result, Ok, Err, sym, ap, ◌∙◌, refl, subst, arith}
 use Rattle.std.specs.Prelude.{is_ok}
 use Rattle.std.specs.Int.{w32, w64}
 use Rattle.std.proofs.lemmas.Option.{none-some}
@@ -17,8 +17,8 @@ use Rattle.gc_store.specs.declared.root.RootedObject.{RootedObject}
 use Rattle.gc_store.specs.Roots.{is_of_store, NamesReference, NamesNothing, IsReference}
 use Rattle.gc_store.specs.Values.{RawStands, raw_handle}
 use Rattle.gc_objects.specs.declared.val.Val.{Val}
-use Rattle.gc_objects.specs.Answered.{Answers, FitsType}
-use Rattle.gc_objects.specs.Given.{raw_of, named_root, is_own, IsLiveOrGone}
+use Rattle.gc_objects.specs.Answered.{Answers, ChecksHandle, RawFitsType}
+use Rattle.gc_objects.specs.Given.{raw_of, named_root, is_own_root, IsLiveOrGone}
 use Rattle.gc_objects.proofs.Naming.{other_names_nothing}
 
 module _ {D : Type 0} (s : StoreView D) (t : Table D) where
@@ -48,6 +48,19 @@ module _ {D : Type 0} (s : StoreView D) (t : Table D) where
       let same : h ≡ handle = grind (arith, is) in
       (reference class r, record { root = r; named = subst (λ (x : GcRootIndex). NamesReference s t x r) (sym same) named; is = refl })
 
+  -- a value without a handle, and one whose handle the store answered
+  pub plain_checked : (v : RawValue) → raw_handle v ≡ None → ChecksHandle s t v (Ok tt)
+  plain_checked v none = (ap (is_own_root s) none, plain_stands v none)
+
+  pub handle_found : (v : RawValue) (handle : GcRootIndex) → raw_handle v ≡ Some handle → (x : RootedObject) → Answers s t (is_of_store s handle) handle (IsReference t) (Ok x) → ChecksHandle s t v (Ok tt)
+  handle_found v handle is x answers = (ap (is_own_root s) is ∙ answers.0, root_stands v handle is answers.1.0 answers.1.1.0)
+
+  pub handle_refused : (v : RawValue) (handle : GcRootIndex) → raw_handle v ≡ Some handle → (why : RootFault) → Answers s t (is_of_store s handle) handle (IsReference t) (Err why) → ChecksHandle s t v (Err why)
+  handle_refused v handle is fault.WrongStore answers = ap (is_own_root s) is ∙ answers
+  handle_refused v handle is fault.Unrooted answers = (ap (is_own_root s) is ∙ answers.0, (handle, (is, answers.1)))
+  handle_refused v handle is fault.RootsFull answers = absurd answers
+  handle_refused v handle is fault.Memory answers = absurd answers
+
   pub live_plain : (v : Val) → named_root v ≡ None → IsLiveOrGone s t v true
   live_plain v none = plain_stands (raw_of v) none
 
@@ -66,6 +79,6 @@ module _ {D : Type 0} (s : StoreView D) (t : Table D) where
   live_root v handle is result b e answers = subst (IsLiveOrGone s t v) (sym e) (by_result v handle is result answers)
 
 -- whether a value fits a type is what is asked of the one that it stands for
-pub fits_given : {D : Type 0} (s : StoreView D) (t : Table D) (v : Val) (ty : ValType) (given : RawValue) (b : Bool) → given ≡ raw_of v → is_own s v ≡ true → IsLiveOrGone s t v true
-    → ((x : Value) → RawStands s t given x → b ≡ fits_type t.types t.objects ty x) → FitsType s t ty v (Ok b)
-fits_given s t v ty given b is own live answers = (own, (live.0, (live.1, answers live.0 (subst (λ (r : RawValue). RawStands s t r live.0) (sym is) live.1))))
+pub fits_given : {D : Type 0} (s : StoreView D) (t : Table D) (v : RawValue) (ty : ValType) (b : Bool) → ChecksHandle s t v (Ok tt)
+    → ((x : Value) → RawStands s t v x → b ≡ fits_type t.types t.objects ty x) → RawFitsType s t ty v (Ok b)
+fits_given s t v ty b checks answers = (checks.0, (checks.1.0, (checks.1.1, answers checks.1.0 checks.1.1)))

@@ -6,7 +6,7 @@ use Rattle.gc_model.specs.Values.{Reference, null, small, at}
 use Rattle.gc_model.specs.Table.{Table}
 use Rattle.gc_model.specs.Stores.{StoreView}
 use Rattle.gc_store.specs.declared.root.GcRootIndex.{GcRootIndex}
-use Rattle.gc_objects.specs.Kinds.{IsOfKind, NamesKind}
+use Rattle.gc_store.specs.Kinds.{IsOfKind, NamesKind}
 
 module _ {D : Type 0} (t : Table D) where
   struct_any : (r : Reference) → IsOfKind kinds.StructRef t r → IsOfKind kinds.AnyRef t r

@@ -13,12 +13,11 @@ use Rattle.gc_store.specs.declared.root.GcRootIndex.{GcRootIndex}
 use Rattle.gc_store.specs.declared.root.RootFault.{RootFault}
 use Rattle.gc_store.specs.declared.root.RootFault.TheVariants as fault
 use Rattle.gc_store.specs.OwnedWords.{HoldsThere}
-use Rattle.gc_store.specs.RawWords.{PushesWord}
-use Rattle.gc_store.specs.Roots.{is_of_store, NamesReference, NamesNothing, TellsWord}
-use Rattle.gc_objects.specs.Kinds.{IsOfKind, NamesKind}
-use Rattle.gc_objects.specs.RawWords.{IsWordOfKind, IsRawWord}
+use Rattle.gc_store.specs.RawWords.{IsWordOfKind, IsRawWord, PushesWord}
+use Rattle.gc_store.specs.Roots.{is_of_store, NamesScoped, NamesReference, NamesNothing, TellsWord}
+use Rattle.gc_store.specs.Kinds.{IsOfKind, NamesKind, IsScopedOfKind}
 use Rattle.gc_objects.proofs.Naming.{bool_cases, named_or_not}
-use Rattle.gc_objects.proofs.Pushed.{are_before, names_pushed, named_kind}
+use Rattle.gc_objects.proofs.Pushed.{are_before, names_pushed}
 
 -- What a handle of a kind is told as is the word of a reference of that kind.
 pub told_kind : (D : Type 0) (layouts : Layouts) (s : StoreView D) (kind : VMGcKind) (handle : GcRootIndex) → NamesKind D layouts s kind handle → (result : Result ℕ RootFault)
@@ -58,16 +57,20 @@ kind_pushed kind t q null is = is
 kind_pushed kind t q (small n) is = is
 kind_pushed kind t q (at p) is = is
 
--- The handle of a new root for a word of that kind is one of the kind.
+-- The new root for a word of that kind is one of the kind.
 pub taken_kind : (D : Type 0) (layouts : Layouts) (old new : StoreView D) (kind : VMGcKind) (word : ℕ) (handle : GcRootIndex) → IsWordOfKind D layouts old kind word
     → ((t : Table D) (place : Placing) (a : Account) (r : Reference) → HoldsThere layouts old t place a → IsWord place r word → PushesWord layouts t place a r (Ok (Some handle)) new)
-    → NamesKind D layouts new kind handle
+    → IsScopedOfKind D layouts new kind handle
 taken_kind D layouts old new kind word handle is pushes =
     let own = own_account layouts old is.table is.place is.holds in
     let pushed = pushes is.table is.place own.0 is.root (is.holds, own.1) is.is_word in
-    let named : NamesReference new (push is.root is.table) handle is.root =
-    subst (λ (h : GcRootIndex). NamesReference new (push is.root is.table) h is.root) (sym pushed.0.1.0) (names_pushed is.table (are_before layouts old is.table (is.place, is.holds)) new is.root) in
-    named_kind layouts new (push is.root is.table) (is.place, pushed.1.0) handle kind is.root named (kind_pushed kind is.table is.root is.root is.of_kind)
+    record {
+      table = push is.root is.table;
+      holds = (is.place, pushed.1.0);
+      root = is.root;
+      named = subst (λ (h : GcRootIndex). NamesScoped new (push is.root is.table) h is.root) (sym pushed.0.1.0) (names_pushed is.table (are_before layouts old is.table (is.place, is.holds)) new is.root);
+      of_kind = kind_pushed kind is.table is.root is.root is.of_kind;
+    }
 
 -- the word that a handle was made for is not 0
 pub word_positive : (word : ℕ) (found : Option GcRootIndex) (index : GcRootIndex) → found ≡ Some index → (found ≡ None) ↔ (word ≡ 0) → 0 < word

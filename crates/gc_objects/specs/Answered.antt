@@ -14,6 +14,7 @@ use Rattle.gc_model.specs.Table.{Table}
 use Rattle.gc_model.specs.Stores.{StoreView}
 use Rattle.gc_policy.specs.Accounts.{Account}
 use Rattle.gc_store.specs.declared.root.GcRootIndex.{GcRootIndex}
+use Rattle.gc_store.specs.declared.root.RawValue.{RawValue}
 use Rattle.gc_store.specs.declared.root.RootFault.{RootFault}
 use Rattle.gc_store.specs.declared.root.RootFault.TheVariants as fault
 use Rattle.gc_store.specs.declared.root.RootedObject.{RootedObject}
@@ -22,13 +23,14 @@ use Rattle.gc_store.specs.declared.rooted.Rooted.{Rooted}
 use Rattle.gc_store.specs.Roots.{is_of_store, NamesReference, NamesNothing}
 use Rattle.gc_store.specs.Bytes.{NamesBytes}
 use Rattle.gc_store.specs.Handles.{PushesRoot}
+use Rattle.gc_store.specs.Values.{RawStands, raw_handle}
 use Rattle.gc_objects.specs.declared.faults.AccessFault.{AccessFault}
 use Rattle.gc_objects.specs.declared.faults.AccessFault.TheVariants as access
 use Rattle.gc_objects.specs.declared.places.NamedArray.{NamedArray}
 use Rattle.gc_objects.specs.declared.places.NamedField.{NamedField}
 use Rattle.gc_objects.specs.declared.val.Val.{Val}
 use Rattle.gc_objects.specs.Kinds.{is_type_of}
-use Rattle.gc_objects.specs.Given.{is_own, field_types, ValStands, IsGone}
+use Rattle.gc_objects.specs.Given.{raw_of, is_own_root, field_types, RawIsGone}
 
 -- A question about what a handle names: `WrongStore` exactly where not all that is given is the store's, then `Unrooted` where
 -- the handle isn't live; else an answer that tells of the reference.
@@ -156,13 +158,22 @@ abbrev pub PushesHandle : {D T : Type 0} → Layouts → Table D → Account →
 PushesHandle layouts t a r (Ok handle) new = PushesRoot layouts t a r (Ok handle.index) new
 PushesHandle layouts t a r (Err why) new = PushesRoot layouts t a r (Err why) new
 
+-- what the test of a value's handle finds: `WrongStore` where it is another store's, `Unrooted` where it isn't live
+abbrev pub ChecksHandle : {D : Type 0} → StoreView D → Table D → RawValue → Result (Unit {0}) RootFault → Type 0
+ChecksHandle s t r (Ok done) = (is_own_root s (raw_handle r) ≡ true) × ((x : Value) × RawStands s t r x)
+ChecksHandle s t r (Err fault.WrongStore) = is_own_root s (raw_handle r) ≡ false
+ChecksHandle s t r (Err fault.Unrooted) = (is_own_root s (raw_handle r) ≡ true) × RawIsGone s t r
+ChecksHandle s t r (Err fault.RootsFull) = ⊥
+ChecksHandle s t r (Err fault.Memory) = ⊥
+
+-- whether a value, as the store takes it, fits a type
+abbrev pub RawFitsType : {D : Type 0} → StoreView D → Table D → ValType → RawValue → Result Bool RootFault → Type 0
+RawFitsType s t ty r (Ok answer) = (is_own_root s (raw_handle r) ≡ true) × ((x : Value) × (RawStands s t r x × (answer ≡ fits_type t.types t.objects ty x)))
+RawFitsType s t ty r (Err why) = ChecksHandle s t r (Err why)
+
 -- whether a value fits a type
 abbrev pub FitsType : {D : Type 0} → StoreView D → Table D → ValType → Val → Result Bool RootFault → Type 0
-FitsType s t ty v (Ok answer) = (is_own s v ≡ true) × ((x : Value) × (ValStands s t v x × (answer ≡ fits_type t.types t.objects ty x)))
-FitsType s t ty v (Err fault.WrongStore) = is_own s v ≡ false
-FitsType s t ty v (Err fault.Unrooted) = (is_own s v ≡ true) × IsGone s t v
-FitsType s t ty v (Err fault.RootsFull) = ⊥
-FitsType s t ty v (Err fault.Memory) = ⊥
+FitsType s t ty v result = RawFitsType s t ty (raw_of v) result
 
 -- the handle names an array whose elements are not of 8 bits
 pub record NamesOther {D : Type 0} (s : StoreView D) (t : Table D) (handle : GcRootIndex) : Type 0 where

@@ -7,6 +7,7 @@ use Rattle.gc_types.specs.declared.kind.VMGcKind.{VMGcKind}
 use Rattle.gc_types.specs.declared.kind.VMGcKind.TheVariants as kinds
 use Rattle.gc_types.specs.declared.value.FieldType.{FieldType}
 use Rattle.gc_types.specs.Declarations.{Declaration, fields_at, elem_at}
+use Rattle.gc_owner.specs.declared.entry.GcClass.{GcClass}
 use Rattle.gc_owner.specs.declared.entry.GcClass.TheVariants.{Any, Extern, Exn}
 use Rattle.gc_model.specs.Values.{Value}
 use Rattle.gc_model.specs.Fits.{fits}
@@ -18,13 +19,13 @@ use Rattle.gc_store.specs.declared.root.RawValue.TheVariants as raw
 use Rattle.gc_store.specs.declared.rooted.Rooted.{Rooted}
 use Rattle.gc_store.specs.Roots.{is_of_store, NamesNothing}
 use Rattle.gc_store.specs.Values.{IsLive, RawStands, raw_handle, CanStore}
+use Rattle.gc_store.specs.Kinds.{NamesKind, IsScopedOfKind}
 use Rattle.gc_objects.specs.declared.checks.ValueTypes.{ValueTypes}
 use Rattle.gc_objects.specs.declared.checks.ValueTypes.TheVariants as value_types
 use Rattle.gc_objects.specs.declared.faults.ValueFault.{ValueFault}
 use Rattle.gc_objects.specs.declared.faults.ValueFault.TheVariants as value_fault
 use Rattle.gc_objects.specs.declared.val.Val.{Val}
 use Rattle.gc_objects.specs.declared.val.Val.TheVariants as val
-use Rattle.gc_objects.specs.Kinds.{NamesKind}
 
 -- the root of a handle, where there is one
 abbrev pub root_of : {T : Type 0} → Option (Rooted T) → Option GcRootIndex
@@ -68,8 +69,11 @@ abbrev pub ValStands : {D : Type 0} → StoreView D → Table D → Val → Valu
 ValStands s t v x = RawStands s t (raw_of v) x
 
 -- the root of a value is gone
+abbrev pub RawIsGone : {D : Type 0} → StoreView D → Table D → RawValue → Type 0
+RawIsGone s t r = (handle : GcRootIndex) × ((raw_handle r ≡ Some handle) × NamesNothing s t handle)
+
 abbrev pub IsGone : {D : Type 0} → StoreView D → Table D → Val → Type 0
-IsGone s t v = (handle : GcRootIndex) × ((named_root v ≡ Some handle) × NamesNothing s t handle)
+IsGone s t v = RawIsGone s t (raw_of v)
 
 -- the root stands in some table that the store holds, where there is one
 abbrev pub RootIsLive : (D : Type 0) → Layouts → StoreView D → Option GcRootIndex → Type 0
@@ -154,6 +158,28 @@ AllStorable D layouts s types vs =
 abbrev pub RootNamesKind : (D : Type 0) → Layouts → StoreView D → VMGcKind → Option GcRootIndex → Type 0
 RootNamesKind D layouts s kind None = Unit {0}
 RootNamesKind D layouts s kind (Some handle) = NamesKind D layouts s kind handle
+
+-- the kind that handles of a class are given as
+abbrev pub class_kind : GcClass → VMGcKind
+class_kind Any = kinds.AnyRef
+class_kind Extern = kinds.ExternRef
+class_kind Exn = kinds.ExnRef
+
+-- a scoped root of that kind, where there is one
+abbrev pub RootIsOfKind : (D : Type 0) → Layouts → StoreView D → VMGcKind → Option GcRootIndex → Type 0
+RootIsOfKind D layouts s kind None = Unit {0}
+RootIsOfKind D layouts s kind (Some handle) = IsScopedOfKind D layouts s kind handle
+
+-- a value that the store gave: a reference that isn't null is a scoped root, of the kind of its class
+abbrev pub IsGiven : (D : Type 0) → Layouts → StoreView D → RawValue → Type 0
+IsGiven D layouts s (raw.I32 n) = Unit {0}
+IsGiven D layouts s (raw.I64 n) = Unit {0}
+IsGiven D layouts s (raw.F32 n) = Unit {0}
+IsGiven D layouts s (raw.F64 n) = Unit {0}
+IsGiven D layouts s (raw.V128 n) = Unit {0}
+IsGiven D layouts s (raw.Func f) = Unit {0}
+IsGiven D layouts s (raw.Cont c) = Unit {0}
+IsGiven D layouts s (raw.Ref class root) = RootIsOfKind D layouts s (class_kind class) root
 
 -- the handle of a value names what it is given as
 abbrev pub ValNamesKind : (D : Type 0) → Layouts → StoreView D → Val → Type 0

@@ -30,18 +30,20 @@ use Rattle.gc_objects.specs.Given.{raw_of, is_own_of, are_own, field_types, elem
 abbrev pub Fault : Type 0
 Fault = AllocFault (Unit {0})
 
-abbrev pub IsHandle : {T : Type 0} → GcRootIndex → Result (Rooted T) Fault → Type 0
-IsHandle {T} root result = (handle : Rooted T) × ((result ≡ Ok handle) × (handle.index ≡ root))
+-- what the store answered, by the faults of such a call
+abbrev pub asked : Result GcRootIndex PlaceFault → Result GcRootIndex Fault
+asked (Ok root) = Ok root
+asked (Err place.FuncTableFull) = Err fault.FuncTableFull
+asked (Err place.ContTableFull) = Err fault.ContTableFull
+asked (Err place.TooLarge) = Err fault.TooLarge
+asked (Err place.RootsFull) = Err fault.RootsFull
+asked (Err (place.HeapOutOfMemory f)) = Err (fault.HeapOutOfMemory f)
+asked (Err place.Memory) = Err fault.Memory
 
--- what the store answered, as a typed handle
-abbrev pub IsHanded : {T : Type 0} → Result GcRootIndex PlaceFault → Result (Rooted T) Fault → Type 0
-IsHanded (Ok root) result = IsHandle root result
-IsHanded (Err place.FuncTableFull) result = result ≡ Err fault.FuncTableFull
-IsHanded (Err place.ContTableFull) result = result ≡ Err fault.ContTableFull
-IsHanded (Err place.TooLarge) result = result ≡ Err fault.TooLarge
-IsHanded (Err place.RootsFull) result = result ≡ Err fault.RootsFull
-IsHanded (Err (place.HeapOutOfMemory f)) result = result ≡ Err (fault.HeapOutOfMemory f)
-IsHanded (Err place.Memory) result = result ≡ Err fault.Memory
+-- the answer of such a call by the root of its handle
+abbrev pub handle_answer : {T : Type 0} → Result (Rooted T) Fault → Result GcRootIndex Fault
+handle_answer (Ok handle) = Ok handle.index
+handle_answer (Err why) = Err why
 
 -- No heap can hold the object. There are ids for its function values and continuations, which are looked at before its size,
 -- but behind an array's length that doesn't fit 32 bits.
@@ -50,9 +52,9 @@ pub record RefusesLarge {D : Type 0} (layouts : Layouts) (o : Object D) (p : Pol
   pub has_ids : length (object_values o) < 2 ^ 32 → HasIds o p.table
   pub refuses : RefusesPlace layouts p limits' new
 
--- what the store answers and leaves, by a typed handle and the faults of such a call; no test refuses any more
-abbrev pub MakesAsked : {D T : Type 0} → Layouts → Option ℕ → Object D → PolicyState D → Limits → Result (Rooted T) Fault → StoreView D → Type 0
-MakesAsked layouts counter o p limits' (Ok handle) new = PlacesObject layouts counter o p limits' handle.index new
+-- what the store answers and leaves, by the faults of such a call; no test refuses any more
+abbrev pub MakesAsked : {D : Type 0} → Layouts → Option ℕ → Object D → PolicyState D → Limits → Result GcRootIndex Fault → StoreView D → Type 0
+MakesAsked layouts counter o p limits' (Ok root) new = PlacesObject layouts counter o p limits' root new
 MakesAsked layouts counter o p limits' (Err fault.WrongStore) new = ⊥
 MakesAsked layouts counter o p limits' (Err fault.FieldCount) new = ⊥
 MakesAsked layouts counter o p limits' (Err fault.NotI8Array) new = ⊥

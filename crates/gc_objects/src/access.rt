@@ -32,7 +32,7 @@ pub(crate) fn read<H: GcHeap, D: Drop>(
     ensures reserved { 0 < store.old.spare → result ≡ Err RootFault.Memory → ⊥ }
 {
     match store.read_value(root, index) {
-        Ok(value) => Ok(val_of(&value)),
+        Ok(value) => Ok(val_of(store, &value)),
         Err(fault) => Err(fault),
     }
 }

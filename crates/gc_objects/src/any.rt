@@ -8,7 +8,7 @@ ghost use Rattle.gc_model.specs.Values.{Reference, small};
 ghost use Rattle.gc_policy.specs.Accounts.{Account, HoldsAccount};
 ghost use Rattle.gc_store.specs.Roots.{is_of_store};
 ghost use Rattle.gc_store.specs.Stores.{IsSameStore, scoped_places};
-ghost use Rattle.gc_objects.specs.Kinds.{NamesKind};
+ghost use Rattle.gc_store.specs.Kinds.{NamesKind};
 ghost use Rattle.gc_objects.specs.Answered.{Answers, IsNumber, IsStructRoot, IsArrayRoot, PushesHandle};
 
 use crate::marks::{AnyRef, ArrayRef, StructRef};
@@ -33,7 +33,7 @@ impl AnyRef {
     {
         stores_hold_tables(store);
         match store.push_i31(value) {
-            Ok(root) => Ok(Rooted::from_gc_root_index(root)),
+            Ok(root) => Ok(Rooted::from_gc_root_index(store, root)),
             Err(fault) => Err(fault),
         }
     }

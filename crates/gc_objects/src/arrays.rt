@@ -9,7 +9,8 @@ ghost use Rattle.gc_policy.specs.Accounts.{Account, HoldsAccount};
 ghost use Rattle.gc_policy.specs.Policy.{policy_state};
 ghost use Rattle.gc_store.specs.Roots.{is_of_store};
 ghost use Rattle.gc_store.specs.Stores.{IsSameStore, scoped_places};
-ghost use Rattle.gc_objects.specs.Kinds.{NamesKind, IsDeclaredAs};
+ghost use Rattle.gc_store.specs.Kinds.{NamesKind};
+ghost use Rattle.gc_objects.specs.Kinds.{IsDeclaredAs};
 ghost use Rattle.gc_objects.specs.Given.{ValNamesKind};
 ghost use Rattle.gc_objects.specs.Answered.{Answers, IsArray, HasLength, HasTypeNamed, MatchesType, CopiesTo, are_own_names};
 ghost use Rattle.gc_objects.specs.Makes.{Makes, ElementsCauses, AsksElements, FillingCauses, AsksFilling, BytesCauses, AsksBytes};
@@ -23,7 +24,7 @@ use crate::checks::{
     is_own_of,
 };
 use crate::faults::{AccessFault, AllocFault, accessed, accessed_value, allocated_value};
-use crate::making::{make, make_bytes, make_elements};
+use crate::making::{handed, make, make_bytes, make_elements};
 use crate::marks::ArrayRef;
 use crate::places::{array_at, element_of};
 use crate::val::{Val, raw_of};
@@ -60,12 +61,11 @@ impl ArrayRef {
         }
         let index = ty.index();
         match check_filling(store, element_of(store, index), elem, len) {
-            Ok(()) => make(
-                store,
-                limiter,
-                Place::Array(index, len),
-                Contents::Same(&raw_of(elem)),
-            ),
+            Ok(()) => {
+                let elems = Contents::Same(&raw_of(elem));
+                let made = make(store, limiter, Place::Array(index, len), elems);
+                handed(store, made)
+            }
             Err(why) => Err(allocated_value(why)),
         }
     }
@@ -94,7 +94,10 @@ impl ArrayRef {
         }
         let index = ty.index();
         match check_values(store, &ValueTypes::Elements(index), elems) {
-            Ok(()) => make_elements(store, limiter, index, elems),
+            Ok(()) => {
+                let made = make_elements(store, limiter, index, elems);
+                handed(store, made)
+            }
             Err(why) => Err(allocated_value(why)),
         }
     }
@@ -124,7 +127,8 @@ impl ArrayRef {
         if !element_of(store, index).element_type.is_i8() {
             return Err(AllocFault::NotI8Array);
         }
-        make_bytes(store, limiter, index, elems)
+        let made = make_bytes(store, limiter, index, elems);
+        handed(store, made)
     }
 
     /// Copies the elements of an array of 8-bit elements. Refused are, in this order: `WrongStore`;

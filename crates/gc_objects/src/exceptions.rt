@@ -9,7 +9,8 @@ ghost use Rattle.gc_policy.specs.Accounts.{Account, HoldsAccount};
 ghost use Rattle.gc_policy.specs.Policy.{policy_state};
 ghost use Rattle.gc_store.specs.Roots.{is_of_store};
 ghost use Rattle.gc_store.specs.Stores.{IsSameStore, scoped_places};
-ghost use Rattle.gc_objects.specs.Kinds.{NamesKind, IsDeclaredAs};
+ghost use Rattle.gc_store.specs.Kinds.{NamesKind};
+ghost use Rattle.gc_objects.specs.Kinds.{IsDeclaredAs};
 ghost use Rattle.gc_objects.specs.Given.{ValNamesKind};
 ghost use Rattle.gc_objects.specs.Answered.{Answers, HasTypeNamed, MatchesType, are_own_names};
 ghost use Rattle.gc_objects.specs.Exns.{IsExn, HasTag, ExnCauses, AsksExn};
@@ -20,7 +21,7 @@ use crate::access::read;
 use crate::allocators::ExnRefPre;
 use crate::checks::{ValueTypes, are_own, carries_id, check_values, is_of_store};
 use crate::faults::{AccessFault, AllocFault, accessed, allocated_value};
-use crate::making::make_of;
+use crate::making::{handed, make_of};
 use crate::marks::ExnRef;
 use crate::places::{exn_at, has_param_count, param_at};
 use crate::val::Val;
@@ -57,7 +58,10 @@ impl ExnRef {
             return Err(AllocFault::FieldCount);
         }
         match check_values(store, &ValueTypes::Fields(index), fields) {
-            Ok(()) => make_of(store, limiter, Place::Exn(index, tag), fields),
+            Ok(()) => {
+                let made = make_of(store, limiter, Place::Exn(index, tag), fields);
+                handed(store, made)
+            }
             Err(why) => Err(allocated_value(why)),
         }
     }

@@ -12,27 +12,30 @@ ghost use Rattle.gc_policy.specs.Policy.{policy_state};
 ghost use Rattle.gc_store.specs.HostLends.{LendsValue, lends_host};
 ghost use Rattle.gc_store.specs.Roots.{is_of_store, NamesReference, NamesNothing};
 ghost use Rattle.gc_store.specs.Stores.{IsSameStore, scoped_places};
+ghost use Rattle.gc_store.specs.Kinds.{NamesKind, IsScopedOfKind};
 ghost use Rattle.gc_objects.specs.Answered.{Answers};
 ghost use Rattle.gc_objects.specs.Hosts.{IsHostHanded, MakesHost, TellsHostValue, CopiesHandle};
-ghost use Rattle.gc_objects.specs.Kinds.{NamesKind};
 
 use crate::faults::AllocFault;
 use crate::marks::{AnyRef, ExternRef};
 use gc_heap::GcHeap;
 use gc_store::laws::stores_hold_tables;
 use gc_store::{
-    GcRef, GcRootIndex, HostDataFault, PlaceHostFault, ResourceLimiter, RootFault, Rooted,
-    RootedGcRef, Store,
+    GcRootIndex, HostDataFault, PlaceHostFault, ResourceLimiter, RootFault, Rooted, RootedGcRef,
+    Store,
 };
 
 /// What the store answered to a host value, as a typed handle.
-fn handed<D, T: GcRef>(
+fn handed<H: GcHeap, D: Drop>(
+    store: &Store<H, D>,
     answer: Result<GcRootIndex, PlaceHostFault<D>>,
-) -> Result<Rooted<T>, AllocFault<D>>
-    ensures { IsHostHanded answer result }
+) -> Result<Rooted<ExternRef>, AllocFault<D>>
+    requires { IfOk answer (IsScopedOfKind D H.KIND store.now VMGcKind.ExternRef) }
+    ensures answer { IsHostHanded answer result }
+    ensures kind { IfOk result (λ handle. NamesKind D H.KIND store.now VMGcKind.ExternRef handle.index) }
 {
     match answer {
-        Ok(root) => Ok(Rooted::from_gc_root_index(root)),
+        Ok(root) => Ok(Rooted::from_gc_root_index(store, root)),
         Err(PlaceHostFault::RootsFull) => Err(AllocFault::RootsFull),
         Err(PlaceHostFault::HeapOutOfMemory(full)) => Err(AllocFault::HeapOutOfMemory(full)),
         Err(PlaceHostFault::Memory) => Err(AllocFault::Memory),
@@ -56,7 +59,8 @@ impl ExternRef {
         ensures spare { scoped_places store.old ≤ scoped_places store.new }
     {
         stores_hold_tables(store);
-        handed(store.place_host(limiter, value))
+        let placed = store.place_host(limiter, value);
+        handed(store, placed)
     }
 
     /// The value of the host object; None exactly where the reference is no host object. `WrongStore`, then `Unrooted`.
@@ -100,7 +104,7 @@ impl ExternRef {
         ensures reserved { 0 < store.old.spare → result ≡ Err RootFault.Memory → ⊥ }
     {
         match store.push_copy(any.root_index()) {
-            Ok(root) => Ok(Rooted::from_gc_root_index(root)),
+            Ok(root) => Ok(Rooted::from_gc_root_index(store, root)),
             Err(fault) => Err(fault),
         }
     }

@@ -37,6 +37,7 @@ mod values;
 
 pub use allocators::{ArrayRefPre, ExnRefPre, StructRefPre};
 pub use faults::{AccessFault, AllocFault};
+pub use fits::raw_matches_ty;
 pub use marks::{AnyRef, ArrayRef, EqRef, ExnRef, ExternRef, StructRef};
 pub use throwing::{StoreExn, ThrowFault};
 pub use upcast::{Upcast, narrow_handles_are_wide};

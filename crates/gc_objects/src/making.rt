@@ -6,10 +6,11 @@ ghost use Rattle.gc_model.specs.Values.{Object, array};
 ghost use Rattle.gc_model.specs.Stored.{byte_value};
 ghost use Rattle.gc_policy.specs.Accounts.{Account, HoldsAccount};
 ghost use Rattle.gc_policy.specs.Policy.{policy_state};
+ghost use Rattle.gc_store.specs.Kinds.{NamesKind, IsScopedOfKind};
 ghost use Rattle.gc_store.specs.Requests.{CanPlaceIn, CanPlaceElements, CanPlaceBytes, IsObjectOf};
 ghost use Rattle.gc_store.specs.Stores.{IsSameStore, scoped_places};
 ghost use Rattle.gc_objects.specs.Given.{raw_of};
-ghost use Rattle.gc_objects.specs.Makes.{IsHanded, MakesAsked, CanMakeOf, IsMadeOf, IsArrayOf};
+ghost use Rattle.gc_objects.specs.Makes.{asked, handle_answer, MakesAsked, CanMakeOf, IsMadeOf, IsArrayOf};
 
 use crate::faults::AllocFault;
 use crate::val::{Val, raw_of};
@@ -31,12 +32,12 @@ fn raw_values(alloc: Global, values: &[Val]) -> Result<Vec<RawValue>, AllocError
     Ok(raws)
 }
 
-/// What the store answered, as a typed handle.
-fn handed<T: GcRef>(answer: Result<GcRootIndex, PlaceFault>) -> Result<Rooted<T>, AllocFault<()>>
-    ensures { IsHanded answer result }
+/// What the store answered, by the faults of a call that gives nothing back.
+fn asked(answer: Result<GcRootIndex, PlaceFault>) -> Result<GcRootIndex, AllocFault<()>>
+    ensures { result ≡ asked answer }
 {
     match answer {
-        Ok(root) => Ok(Rooted::from_gc_root_index(root)),
+        Ok(root) => Ok(root),
         Err(PlaceFault::FuncTableFull) => Err(AllocFault::FuncTableFull),
         Err(PlaceFault::ContTableFull) => Err(AllocFault::ContTableFull),
         Err(PlaceFault::TooLarge) => Err(AllocFault::TooLarge),
@@ -46,29 +47,44 @@ fn handed<T: GcRef>(answer: Result<GcRootIndex, PlaceFault>) -> Result<Rooted<T>
     }
 }
 
-/// Makes an object whose tests all passed.
-pub(crate) fn make<H: GcHeap, D: Drop, L: ResourceLimiter, T: GcRef>(
+/// A typed handle of the root of an object that was made, whose kind is the handle's; or why none was made.
+pub(crate) fn handed<H: GcHeap, D: Drop, T: GcRef>(
+    store: &Store<H, D>,
+    made: Result<GcRootIndex, AllocFault<()>>,
+) -> Result<Rooted<T>, AllocFault<()>>
+    requires { IfOk made (IsScopedOfKind D H.KIND store.now T.KIND) }
+    ensures answer { handle_answer result ≡ made }
+    ensures kind { IfOk result (λ handle. NamesKind D H.KIND store.now T.KIND handle.index) }
+{
+    match made {
+        Ok(root) => Ok(Rooted::from_gc_root_index(store, root)),
+        Err(fault) => Err(fault),
+    }
+}
+
+/// Makes an object whose tests all passed. The root is a scoped one.
+pub(crate) fn make<H: GcHeap, D: Drop, L: ResourceLimiter>(
     store: &mut Store<H, D>,
     limiter: &mut L,
     request: Place,
     contents: Contents<'_>,
-) -> Result<Rooted<T>, AllocFault<()>>
+) -> Result<GcRootIndex, AllocFault<()>>
     requires { CanPlaceIn D H.KIND store.old request contents }
     ensures same { IsSameStore store.old store.new }
     ensures spare { scoped_places store.old ≤ scoped_places store.new }
     ensures makes { (t : Table D) (a : Account) (o : Object D) → HoldsAccount H.KIND store.old t a → IsObjectOf store.old t request contents.entry o
         → MakesAsked H.KIND store.old.alloc_counter o (policy_state t a (L.limits limiter.old)) (L.limits limiter.new) result store.new }
 {
-    handed(store.place(limiter, request, contents))
+    asked(store.place(limiter, request, contents))
 }
 
 /// Makes an object of values whose tests all passed, one for each field or element.
-pub(crate) fn make_of<H: GcHeap, D: Drop, L: ResourceLimiter, T: GcRef>(
+pub(crate) fn make_of<H: GcHeap, D: Drop, L: ResourceLimiter>(
     store: &mut Store<H, D>,
     limiter: &mut L,
     request: Place,
     values: &[Val],
-) -> Result<Rooted<T>, AllocFault<()>>
+) -> Result<GcRootIndex, AllocFault<()>>
     requires { CanMakeOf D H.KIND store.old request values.now }
     ensures same { IsSameStore store.old store.new }
     ensures spare { scoped_places store.old ≤ scoped_places store.new }
@@ -82,12 +98,12 @@ pub(crate) fn make_of<H: GcHeap, D: Drop, L: ResourceLimiter, T: GcRef>(
 }
 
 /// Makes an array of elements whose tests all passed; `TooLarge` where there are 2^32 or more.
-pub(crate) fn make_elements<H: GcHeap, D: Drop, L: ResourceLimiter, T: GcRef>(
+pub(crate) fn make_elements<H: GcHeap, D: Drop, L: ResourceLimiter>(
     store: &mut Store<H, D>,
     limiter: &mut L,
     ty: VMSharedTypeIndex,
     elems: &[Val],
-) -> Result<Rooted<T>, AllocFault<()>>
+) -> Result<GcRootIndex, AllocFault<()>>
     requires { CanPlaceElements D H.KIND store.old ty (length elems.now) (map raw_of elems.now) }
     ensures same { IsSameStore store.old store.new }
     ensures spare { scoped_places store.old ≤ scoped_places store.new }
@@ -101,12 +117,12 @@ pub(crate) fn make_elements<H: GcHeap, D: Drop, L: ResourceLimiter, T: GcRef>(
 }
 
 /// Makes an array of 8-bit elements; `TooLarge` where there are 2^32 bytes or more.
-pub(crate) fn make_bytes<H: GcHeap, D: Drop, L: ResourceLimiter, T: GcRef>(
+pub(crate) fn make_bytes<H: GcHeap, D: Drop, L: ResourceLimiter>(
     store: &mut Store<H, D>,
     limiter: &mut L,
     ty: VMSharedTypeIndex,
     elems: &[u8],
-) -> Result<Rooted<T>, AllocFault<()>>
+) -> Result<GcRootIndex, AllocFault<()>>
     requires { CanPlaceBytes store.old ty (length elems.now) elems.now }
     ensures same { IsSameStore store.old store.new }
     ensures spare { scoped_places store.old ≤ scoped_places store.new }

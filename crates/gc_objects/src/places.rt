@@ -7,7 +7,7 @@ ghost use Rattle.gc_model.specs.Holds.{HoldsTable};
 ghost use Rattle.gc_model.specs.Table.{Table};
 ghost use Rattle.gc_model.specs.Values.{Reference};
 ghost use Rattle.gc_store.specs.Roots.{is_of_store, IsReference, FindsRoot, NamesReference, TellsReference};
-ghost use Rattle.gc_objects.specs.Kinds.{NamesKind};
+ghost use Rattle.gc_store.specs.Kinds.{NamesKind};
 ghost use Rattle.gc_objects.specs.Answered.{Answers, IsStruct, IsNamedArray, HasField, IsFieldOf, number_in, struct_in, array_in};
 ghost use Rattle.gc_objects.specs.Exns.{IsNamedExn, exn_in};
 ghost use Rattle.gc_objects.specs.Reads.{IsTyped};

@@ -9,9 +9,10 @@ ghost use Rattle.gc_policy.specs.Accounts.{Account};
 ghost use Rattle.gc_store.specs.OwnedWords.{HoldsThere};
 ghost use Rattle.gc_store.specs.Roots.{is_of_store, NamesReference, NamesNothing, TellsWord};
 ghost use Rattle.gc_store.specs.Stores.{IsSameStore, scoped_places};
+ghost use Rattle.gc_store.specs.Kinds.{NamesKind};
+ghost use Rattle.gc_store.specs.RawWords.{IsRawWord};
 ghost use Rattle.gc_objects.specs.Given.{root_of};
-ghost use Rattle.gc_objects.specs.Kinds.{NamesKind};
-ghost use Rattle.gc_objects.specs.RawWords.{IsRawWord, TakesWord};
+ghost use Rattle.gc_objects.specs.RawWords.{TakesWord};
 
 use crate::marks::ExternRef;
 use gc_heap::GcHeap;
@@ -54,7 +55,7 @@ impl ExternRef {
         ensures reserved { 0 < store.old.spare → result ≡ Err RootFault.Memory → ⊥ }
     {
         match store.push_word(raw) {
-            Ok(Some(root)) => Ok(Some(Rooted::from_gc_root_index(root))),
+            Ok(Some(root)) => Ok(Some(Rooted::from_gc_root_index(store, root))),
             Ok(None) => Ok(None),
             Err(fault) => Err(fault),
         }

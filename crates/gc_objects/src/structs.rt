@@ -9,7 +9,8 @@ ghost use Rattle.gc_policy.specs.Accounts.{Account, HoldsAccount};
 ghost use Rattle.gc_policy.specs.Policy.{policy_state};
 ghost use Rattle.gc_store.specs.Roots.{is_of_store};
 ghost use Rattle.gc_store.specs.Stores.{IsSameStore, scoped_places};
-ghost use Rattle.gc_objects.specs.Kinds.{NamesKind, IsDeclaredAs};
+ghost use Rattle.gc_store.specs.Kinds.{NamesKind};
+ghost use Rattle.gc_objects.specs.Kinds.{IsDeclaredAs};
 ghost use Rattle.gc_objects.specs.Given.{ValNamesKind};
 ghost use Rattle.gc_objects.specs.Answered.{Answers, IsStruct, HasTypeNamed, MatchesType, are_own_names};
 ghost use Rattle.gc_objects.specs.Makes.{Makes, StructCauses, AsksStruct};
@@ -22,7 +23,7 @@ use crate::checks::{
     ValueTypes, are_own, carries_id, check_value, check_values, is_of_store, is_own,
 };
 use crate::faults::{AccessFault, AllocFault, accessed, accessed_value, allocated_value};
-use crate::making::make_of;
+use crate::making::{handed, make_of};
 use crate::marks::StructRef;
 use crate::places::{field_at, has_field_count, struct_at};
 use crate::val::Val;
@@ -64,7 +65,10 @@ impl StructRef {
             return Err(AllocFault::FieldCount);
         }
         match check_values(store, &ValueTypes::Fields(index), fields) {
-            Ok(()) => make_of(store, limiter, Place::Struct(index), fields),
+            Ok(()) => {
+                let made = make_of(store, limiter, Place::Struct(index), fields);
+                handed(store, made)
+            }
             Err(why) => Err(allocated_value(why)),
         }
     }

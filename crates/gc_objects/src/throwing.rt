@@ -61,8 +61,8 @@ impl<H: GcHeap, D: Drop> StoreExn for Store<H, D> {
     ghost use Rattle.gc_model.specs.Table.{Table};
     ghost use Rattle.gc_policy.specs.Accounts.{Account, HoldsAccount};
     ghost use Rattle.gc_store.specs.Stores.{IsSameStore, scoped_places};
+    ghost use Rattle.gc_store.specs.Kinds.{NamesKind};
     ghost use Rattle.gc_objects.specs.Given.{root_of, RootNamesKind};
-    ghost use Rattle.gc_objects.specs.Kinds.{NamesKind};
     ghost use Rattle.gc_objects.specs.Thrown.{Throws, TakesThrown};
 
     ghost may_throw = { λ s root. NamesKind D H.KIND s VMGcKind.ExnRef root };
@@ -92,7 +92,7 @@ impl<H: GcHeap, D: Drop> StoreExn for Store<H, D> {
     {
         stores_hold_tables(self);
         match self.take_pending() {
-            Ok(Some(index)) => Ok(Some(Rooted::from_gc_root_index(index))),
+            Ok(Some(index)) => Ok(Some(Rooted::from_gc_root_index(self, index))),
             Ok(None) => Ok(None),
             Err(fault) => Err(fault),
         }

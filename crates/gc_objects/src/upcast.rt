@@ -4,7 +4,7 @@ ghost use Rattle.gc_types.specs.declared.kind.VMGcKind.{VMGcKind};
 ghost use Rattle.gc_types.specs.declared.kind.Layouts.{Layouts};
 ghost use Rattle.gc_model.specs.Stores.{StoreView};
 ghost use Rattle.gc_store.specs.declared.root.GcRootIndex.{GcRootIndex};
-ghost use Rattle.gc_objects.specs.Kinds.{NamesKind};
+ghost use Rattle.gc_store.specs.Kinds.{NamesKind};
 
 use crate::marks::{AnyRef, ArrayRef, EqRef, StructRef};
 use gc_store::{OwnedRooted, Rooted, RootedGcRef};

@@ -3,10 +3,10 @@
 ghost use Rattle.std.specs.Prelude.{◌≡◌};
 ghost use Rattle.gc_model.specs.Holds.{HoldsTable};
 ghost use Rattle.gc_model.specs.Table.{Table};
-ghost use Rattle.gc_objects.specs.Given.{root_of, raw_of};
+ghost use Rattle.gc_objects.specs.Given.{root_of, raw_of, class_kind, IsGiven, RootIsOfKind};
 ghost use Rattle.gc_objects.specs.Answered.{FitsType};
 
-use crate::checks::{is_live, is_own};
+use crate::fits::raw_matches_ty;
 use crate::marks::{AnyRef, ExnRef, ExternRef};
 use gc_heap::GcHeap;
 use gc_refs::V128;
@@ -59,28 +59,38 @@ pub(crate) fn raw_of(value: &Val) -> RawValue
 }
 
 /// A handle of a root, where there is one.
-fn handle_of<T: GcRef>(root: Option<GcRootIndex>) -> Option<Rooted<T>>
+fn handle_of<H: GcHeap, D: Drop, T: GcRef>(
+    store: &Store<H, D>,
+    root: Option<GcRootIndex>,
+) -> Option<Rooted<T>>
+    requires { RootIsOfKind D H.KIND store.now T.KIND root }
     ensures { root_of result ≡ root }
 {
     match root {
-        Some(root) => Some(Rooted::from_gc_root_index(root)),
+        Some(root) => Some(Rooted::from_gc_root_index(store, root)),
         None => None,
     }
 }
 
 /// A reference of that class.
-fn reference_of(class: GcClass, root: Option<GcRootIndex>) -> Val
+fn reference_of<H: GcHeap, D: Drop>(
+    store: &Store<H, D>,
+    class: GcClass,
+    root: Option<GcRootIndex>,
+) -> Val
+    requires { RootIsOfKind D H.KIND store.now (class_kind class) root }
     ensures { raw_of result ≡ RawValue.Ref class root }
 {
     match class {
-        GcClass::Any => Val::AnyRef(handle_of(root)),
-        GcClass::Extern => Val::ExternRef(handle_of(root)),
-        GcClass::Exn => Val::ExnRef(handle_of(root)),
+        GcClass::Any => Val::AnyRef(handle_of(store, root)),
+        GcClass::Extern => Val::ExternRef(handle_of(store, root)),
+        GcClass::Exn => Val::ExnRef(handle_of(store, root)),
     }
 }
 
 /// A value that the store gave.
-pub(crate) fn val_of(value: &RawValue) -> Val
+pub(crate) fn val_of<H: GcHeap, D: Drop>(store: &Store<H, D>, value: &RawValue) -> Val
+    requires { IsGiven D H.KIND store.now value.now }
     ensures { raw_of result ≡ value.now }
 {
     match value {
@@ -91,7 +101,7 @@ pub(crate) fn val_of(value: &RawValue) -> Val
         RawValue::V128(bits) => Val::V128(*bits),
         RawValue::Func(func) => Val::FuncRef(*func),
         RawValue::Cont(cont) => Val::ContRef(*cont),
-        RawValue::Ref(class, root) => reference_of(*class, *root),
+        RawValue::Ref(class, root) => reference_of(store, *class, *root),
     }
 }
 
@@ -108,12 +118,6 @@ impl Val {
     ) -> Result<bool, RootFault>
         ensures { (t : Table D) → HoldsTable H.KIND store.now t → FitsType store.now t ty.now self.now result }
     {
-        if !is_own(store, self) {
-            return Err(RootFault::WrongStore);
-        }
-        if !is_live(store, self) {
-            return Err(RootFault::Unrooted);
-        }
-        Ok(store.value_fits(ty, &raw_of(self)))
+        raw_matches_ty(store, &raw_of(self), ty)
     }
 }

@@ -13,6 +13,7 @@ pub mod Ids
 pub mod Interning
 pub mod IncrementCounts
 pub mod Kept
+pub mod Kinds
 pub mod Making
 pub mod Marks
 pub mod OwnTypes

@@ -21,18 +21,18 @@ is_exception (rooted_object.Array ty count) = false
 is_exception rooted_object.Host = false
 is_exception (rooted_object.Exn ty tag) = true
 
--- What a root of the class of structs and arrays names is of a kind. A 31-bit number is compared by what it is, and so of
--- the kind of what can be compared.
-abbrev pub IsOfKind : VMGcKind → RootedObject → Type 0
-IsOfKind kind (rooted_object.I31 number) = IsKindOf EqRef kind
-IsOfKind kind (rooted_object.Struct ty) = IsKindOf StructRef kind
-IsOfKind kind (rooted_object.Array ty count) = IsKindOf ArrayRef kind
-IsOfKind kind rooted_object.Host = ⊥
-IsOfKind kind (rooted_object.Exn ty tag) = ⊥
+-- What a root names is of class any, and of a kind there. A 31-bit number is compared by what it is, and so of the kind of
+-- what can be compared.
+abbrev pub IsAnyOfKind : VMGcKind → RootedObject → Type 0
+IsAnyOfKind kind (rooted_object.I31 number) = IsKindOf EqRef kind
+IsAnyOfKind kind (rooted_object.Struct ty) = IsKindOf StructRef kind
+IsAnyOfKind kind (rooted_object.Array ty count) = IsKindOf ArrayRef kind
+IsAnyOfKind kind rooted_object.Host = ⊥
+IsAnyOfKind kind (rooted_object.Exn ty tag) = ⊥
 
 -- what a root names is of a marker's class, and of its kind where the class has more than one
 abbrev pub IsOfMark : GcClass → VMGcKind → RootedObject → Type 0
-IsOfMark Any kind object = IsOfKind kind object
+IsOfMark Any kind object = IsAnyOfKind kind object
 IsOfMark Extern kind object = is_exception object ≡ false
 IsOfMark Exn kind object = is_exception object ≡ true
 

@@ -10,8 +10,7 @@ ghost use Rattle.gc_policy.specs.Accounts.{Account, HoldsAccount};
 ghost use Rattle.gc_store.specs.Handles.{PushesRoot};
 ghost use Rattle.gc_store.specs.OwnedRoots.{MakesOwned, AddsHandle, DropsHandle};
 ghost use Rattle.gc_store.specs.OwnedWords.{HoldsThere};
-ghost use Rattle.gc_store.specs.RawWords.{OwnsReference};
-ghost use Rattle.gc_store.specs.Reading.{IsReferenceWord};
+ghost use Rattle.gc_store.specs.RawWords.{IsRawWord, OwnsReference};
 ghost use Rattle.gc_store.specs.Roots.{is_of_store, NamesReference, NamesNothing};
 ghost use Rattle.gc_store.specs.Stores.{IsSameStore, scoped_places};
 ghost use Rattle.gc_store.specs.declared.root.RootFault.TheVariants as RootFault;
@@ -40,8 +39,8 @@ impl<T: GcRef> RootedGcRef<T> for OwnedRooted<T> {
 }
 
 impl<T: GcRef> OwnedRooted<T> {
-    /// A handle of that root, whose reference the caller knows to be of this type.
-    fn from_gc_root_index(index: GcRootIndex) -> OwnedRooted<T>
+    /// A handle of that root.
+    fn of_root(index: GcRootIndex) -> OwnedRooted<T>
         ensures { result.index ≡ index }
     {
         OwnedRooted {
@@ -54,17 +53,16 @@ impl<T: GcRef> OwnedRooted<T> {
     pub fn cast<U: GcRef>(self) -> OwnedRooted<U>
         ensures { result.index ≡ self.index }
     {
-        OwnedRooted::from_gc_root_index(self.index)
+        OwnedRooted::of_root(self.index)
     }
 
-    /// Makes an owned root for the reference with that word, which the caller knows to be of this type, and no scoped root;
-    /// None exactly for 0. `RootsFull` where no further owned root may be made. The word has to be one that `push_word`
-    /// takes.
+    /// Makes an owned root for the reference with that word, and no scoped root; None exactly for 0. `RootsFull` where no
+    /// further owned root may be made. The word has to be one that `push_word` takes, of a reference of this type.
     pub fn from_word<H: GcHeap, D: Drop>(
         store: &mut Store<H, D>,
         word: u32,
     ) -> Result<Option<OwnedRooted<T>>, RootFault>
-        requires { IsReferenceWord D H.KIND store.old word }
+        requires { IsRawWord D H.KIND store.old T.KIND word }
         ensures owns { (t : Table D) (place : Placing) (a : Account) (r : Reference) → HoldsThere H.KIND store.old t place a → IsWord place r word
             → MatchResult result (λ found. OwnsReference H.KIND t a r (Ok (option_map (λ (h : OwnedRooted T). h.index) found)) store.new)
             (λ fault. OwnsReference H.KIND t a r (Err fault) store.new) }
@@ -73,7 +71,7 @@ impl<T: GcRef> OwnedRooted<T> {
         ensures spare { store.old.spare ≤ store.new.spare }
     {
         match store.own_reference(word) {
-            Ok(Some(index)) => Ok(Some(OwnedRooted::from_gc_root_index(index))),
+            Ok(Some(index)) => Ok(Some(OwnedRooted::of_root(index))),
             Ok(None) => Ok(None),
             Err(fault) => Err(fault),
         }
@@ -96,7 +94,7 @@ impl<T: GcRef> OwnedRooted<T> {
         ensures reserved { 0 < store.old.spare → result ≡ Err RootFault.Memory → ⊥ }
     {
         match store.push_copy(self.index) {
-            Ok(index) => Ok(Rooted::from_gc_root_index(index)),
+            Ok(index) => Ok(Rooted::of_root(index)),
             Err(fault) => Err(fault),
         }
     }
@@ -115,7 +113,7 @@ impl<T: GcRef> OwnedRooted<T> {
         ensures spare { store.old.spare ≤ store.new.spare }
     {
         match store.add_handle(self.index) {
-            Ok(()) => Ok(OwnedRooted::from_gc_root_index(self.index)),
+            Ok(()) => Ok(OwnedRooted::of_root(self.index)),
             Err(fault) => Err(fault),
         }
     }
@@ -152,7 +150,7 @@ impl<T: GcRef> Rooted<T> {
         ensures spare { store.old.spare ≤ store.new.spare }
     {
         match store.own_root(self.root_index()) {
-            Ok(index) => Ok(OwnedRooted::from_gc_root_index(index)),
+            Ok(index) => Ok(OwnedRooted::of_root(index)),
             Err(fault) => Err(fault),
         }
     }

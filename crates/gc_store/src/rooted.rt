@@ -5,7 +5,8 @@ ghost use Rattle.gc_model.specs.Values.{Reference};
 ghost use Rattle.gc_model.specs.Table.{Table};
 ghost use Rattle.gc_model.specs.Reads.{same_reference};
 ghost use Rattle.gc_model.specs.Holds.{HoldsTable};
-ghost use Rattle.gc_store.specs.Marks.{is_exception, IsOfKind, IsOfMark, FindsMarked};
+ghost use Rattle.gc_store.specs.Kinds.{IsScopedOfKind};
+ghost use Rattle.gc_store.specs.Marks.{is_exception, IsAnyOfKind, IsOfMark, FindsMarked};
 ghost use Rattle.gc_store.specs.Roots.{is_of_store, NamesReference, NamesNothing};
 
 use crate::root::{GcRootIndex, RootFault, RootSlot, RootedObject};
@@ -71,9 +72,9 @@ fn is_exception(object: &RootedObject) -> bool
     }
 }
 
-/// Whether what a root of the class of structs and arrays names is of a kind.
-fn is_of_kind(object: &RootedObject, kind: VMGcKind) -> bool
-    ensures { IsTrue result ↔ IsOfKind kind object.now }
+/// Whether what a root names is of class any, and of a kind there.
+fn is_any_of_kind(object: &RootedObject, kind: VMGcKind) -> bool
+    ensures { IsTrue result ↔ IsAnyOfKind kind object.now }
 {
     match object {
         RootedObject::I31(_) => VMGcKind::EqRef.matches(kind),
@@ -89,7 +90,7 @@ fn is_of_mark(object: &RootedObject, class: GcClass, kind: VMGcKind) -> bool
     ensures { IsTrue result ↔ IsOfMark class kind object.now }
 {
     match class {
-        GcClass::Any => is_of_kind(object, kind),
+        GcClass::Any => is_any_of_kind(object, kind),
         GcClass::Extern => !is_exception(object),
         GcClass::Exn => is_exception(object),
     }
@@ -114,16 +115,27 @@ impl<T: GcRef> Rooted<T> {
             RootSlot::Owned(_) => Ok(None),
             RootSlot::Scoped(_) => {
                 if is_of_mark(&object, T::CLASS, T::KIND) {
-                    return Ok(Some(Rooted::from_gc_root_index(index)));
+                    return Ok(Some(Rooted::of_root(index)));
                 }
                 Ok(None)
             }
         }
     }
 
-    /// A handle of that root. That its reference is of this type is for the caller to know: the calls on
-    /// typed handles say what they need of them.
-    pub fn from_gc_root_index(index: GcRootIndex) -> Rooted<T>
+    /// A handle of the scoped root that an index names, whose reference the caller knows to be of this type, as `from_index`
+    /// finds out. Nothing is looked at.
+    pub fn from_gc_root_index<H: GcHeap, D: Drop>(
+        store: &Store<H, D>,
+        index: GcRootIndex,
+    ) -> Rooted<T>
+        requires { IsScopedOfKind D H.KIND store.now T.KIND index }
+        ensures { result.index ≡ index }
+    {
+        Rooted::of_root(index)
+    }
+
+    /// A handle of that root.
+    pub(crate) fn of_root(index: GcRootIndex) -> Rooted<T>
         ensures { result.index ≡ index }
     {
         Rooted {
@@ -132,11 +144,12 @@ impl<T: GcRef> Rooted<T> {
         }
     }
 
-    /// The same root under another type.
+    /// The same root under another type, which isn't asked of its reference: the calls on typed handles say what they
+    /// need of them.
     pub fn cast<U: GcRef>(self) -> Rooted<U>
         ensures { result.index ≡ self.index }
     {
-        Rooted::from_gc_root_index(self.index)
+        Rooted::of_root(self.index)
     }
 
     /// Whether two handles are of the same root. Two roots may name the same object: see `ref_eq`.

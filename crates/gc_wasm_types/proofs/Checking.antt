@@ -6,46 +6,26 @@ use Rattle.gc_owner.specs.declared.entry.GcClass.{GcClass}
 use Rattle.gc_model.specs.Fits.{fits_type}
 use Rattle.gc_model.specs.Stores.{StoreView}
 use Rattle.gc_model.specs.Table.{Table}
-use Rattle.gc_model.specs.Values.{null, Value}
+use Rattle.gc_model.specs.Values.{null}
 use Rattle.gc_store.specs.declared.root.GcRootIndex.{GcRootIndex}
-use Rattle.gc_store.specs.declared.root.RawValue.{RawValue}
 use Rattle.gc_store.specs.declared.root.RawValue.TheVariants as raw
 use Rattle.gc_store.specs.declared.root.RootFault.{RootFault}
 use Rattle.gc_store.specs.declared.root.RootFault.TheVariants as root_fault
 use Rattle.gc_store.specs.Roots.{NamesNothing}
-use Rattle.gc_store.specs.Values.{raw_handle, RawStands}
-use Rattle.gc_objects.specs.declared.val.Val.{Val}
 use Rattle.gc_objects.specs.declared.faults.AccessFault.{AccessFault}
-use Rattle.gc_objects.specs.Answered.{FitsType}
+use Rattle.gc_objects.specs.Answered.{RawFitsType}
 use Rattle.gc_objects.specs.Faults.{accessed}
-use Rattle.gc_objects.specs.Given.{raw_of, is_own_root}
 use Rattle.gc_wasm_types.specs.Values.{WasmValue, absent, handle, or_absent, is_own, FitsAs, ChecksReference, ChecksType}
 
 module _ {D : Type 0} (s : StoreView D) (t : Table D) (ty : ValType) where
-  -- what is found of a value as the store takes it
-  abbrev FitsRaw : RawValue → Bool → Type 0
-  FitsRaw r b = (is_own_root s (raw_handle r) ≡ true) × ((x : Value) × (RawStands s t r x × (b ≡ fits_type t.types t.objects ty x)))
-
-  abbrev RefusesRaw : RawValue → RootFault → Type 0
-  RefusesRaw r root_fault.WrongStore = is_own_root s (raw_handle r) ≡ false
-  RefusesRaw r root_fault.Unrooted = (is_own_root s (raw_handle r) ≡ true) × ((h : GcRootIndex) × ((raw_handle r ≡ Some h) × NamesNothing s t h))
-  RefusesRaw r root_fault.RootsFull = ⊥
-  RefusesRaw r root_fault.Memory = ⊥
-
-  refuses_raw : (v : Val) (why : RootFault) → FitsType s t ty v (Err why) → RefusesRaw (raw_of v) why
-  refuses_raw v root_fault.WrongStore is = is
-  refuses_raw v root_fault.Unrooted is = is
-  refuses_raw v root_fault.RootsFull is = is
-  refuses_raw v root_fault.Memory is = is
-
   module _ (class : GcClass) where
-    fits_as : (root : Option GcRootIndex) (b : Bool) → FitsRaw (raw.Ref class root) b → (is_own s (or_absent handle root) ≡ true) × FitsAs s t class (or_absent handle root) ty b
+    fits_as : (root : Option GcRootIndex) (b : Bool) → RawFitsType s t ty (raw.Ref class root) (Ok b) → (is_own s (or_absent handle root) ≡ true) × FitsAs s t class (or_absent handle root) ty b
     fits_as None b is = (is.0, (null, (refl, sym (is.1.1.1 ∙ ap (fits_type t.types t.objects ty) is.1.1.0))))
     fits_as (Some h) b is =
         let stands = is.1.1.0 in
         (is.0, (stands.root, (stands.named, sym (is.1.1.1 ∙ ap (fits_type t.types t.objects ty) stands.is))))
 
-    refused_as : (root : Option GcRootIndex) (why : RootFault) → RefusesRaw (raw.Ref class root) why → ChecksReference s t class (or_absent handle root) ty (Err (accessed why))
+    refused_as : (root : Option GcRootIndex) (why : RootFault) → RawFitsType s t ty (raw.Ref class root) (Err why) → ChecksReference s t class (or_absent handle root) ty (Err (accessed why))
     refused_as None root_fault.WrongStore is = is
     refused_as None root_fault.Unrooted is = absurd (none-some is.1.0 is.1.1.0)
     refused_as None root_fault.RootsFull is = absurd is
@@ -57,16 +37,12 @@ module _ {D : Type 0} (s : StoreView D) (t : Table D) (ty : ValType) where
     refused_as (Some h) root_fault.RootsFull is = absurd is
     refused_as (Some h) root_fault.Memory is = absurd is
 
-    module _ (root : Option GcRootIndex) (v : Val) (given : raw_of v ≡ raw.Ref class root) where
-      pub fit_told : (b answer : Bool) → b ≡ answer → FitsType s t ty v (Ok b) → (is_own s (or_absent handle root) ≡ true) × FitsAs s t class (or_absent handle root) ty answer
-      fit_told b answer e is =
-          subst (λ (q : Bool). (is_own s (or_absent handle root) ≡ true) × FitsAs s t class (or_absent handle root) ty q) e
-          (fits_as root b (subst (λ (r : RawValue). FitsRaw r b) given is))
+    module _ (root : Option GcRootIndex) where
+      pub fit_told : (b answer : Bool) → b ≡ answer → RawFitsType s t ty (raw.Ref class root) (Ok b) → (is_own s (or_absent handle root) ≡ true) × FitsAs s t class (or_absent handle root) ty answer
+      fit_told b answer e is = subst (λ (q : Bool). (is_own s (or_absent handle root) ≡ true) × FitsAs s t class (or_absent handle root) ty q) e (fits_as root b is)
 
-      pub refusal_told : (why : RootFault) (answer : AccessFault) → answer ≡ accessed why → FitsType s t ty v (Err why) → ChecksReference s t class (or_absent handle root) ty (Err answer)
-      refusal_told why answer e is =
-          subst (λ (f : AccessFault). ChecksReference s t class (or_absent handle root) ty (Err f)) (sym e)
-          (refused_as root why (subst (λ (r : RawValue). RefusesRaw r why) given (refuses_raw v why is)))
+      pub refusal_told : (why : RootFault) (answer : AccessFault) → answer ≡ accessed why → RawFitsType s t ty (raw.Ref class root) (Err why) → ChecksReference s t class (or_absent handle root) ty (Err answer)
+      refusal_told why answer e is = subst (λ (f : AccessFault). ChecksReference s t class (or_absent handle root) ty (Err f)) (sym e) (refused_as root why is)
 
 -- so of a value that is null or a handle
 module _ {D : Type 0} (s : StoreView D) (t : Table D) (ty : ValType) (given class : GcClass) (class_is : given ≡ class) (v : WasmValue) (result : Result (Unit {0}) AccessFault) where

@@ -12,7 +12,7 @@ use Rattle.gc_store.specs.declared.owned_rooted.OwnedRooted.{OwnedRooted}
 use Rattle.gc_store.specs.declared.root.RootFault.{RootFault}
 use Rattle.gc_store.specs.declared.rooted.Rooted.{Rooted}
 use Rattle.gc_store.specs.RawWords.{PushesWord, OwnsReference}
-use Rattle.gc_objects.specs.Kinds.{NamesKind}
+use Rattle.gc_store.specs.Kinds.{NamesKind}
 use Rattle.gc_objects.specs.RawWords.{TakesWord}
 use Rattle.gc_wasm_types.specs.Loads.{OwnsWordOf, LoadsValue, RefusesLoad, ValueIsOf}
 use Rattle.gc_wasm_types.specs.Values.{handle, or_absent, references, scoped, owned}

@@ -15,11 +15,10 @@ use Rattle.gc_store.specs.declared.root.GcRootIndex.{GcRootIndex}
 use Rattle.gc_store.specs.declared.owned_rooted.OwnedRooted.{OwnedRooted}
 use Rattle.gc_store.specs.declared.root.RootFault.{RootFault}
 use Rattle.gc_store.specs.OwnedWords.{HoldsThere}
-use Rattle.gc_store.specs.RawWords.{OwnsReference}
+use Rattle.gc_store.specs.RawWords.{IsWordOfKind, IsRawWord, OwnsReference}
 use Rattle.gc_store.specs.Reading.{IsReferenceWord}
 use Rattle.gc_store.specs.Roots.{NamesReference}
-use Rattle.gc_objects.specs.Kinds.{NamesKind}
-use Rattle.gc_objects.specs.RawWords.{IsWordOfKind, IsRawWord}
+use Rattle.gc_store.specs.Kinds.{NamesKind}
 use Rattle.gc_objects.proofs.Pushed.{named_kind}
 use Rattle.gc_objects.proofs.Pushing.{held_table}
 use Rattle.gc_objects.proofs.WordLemmas.{word_positive}

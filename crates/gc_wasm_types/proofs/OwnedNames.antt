@@ -11,7 +11,7 @@ use Rattle.gc_model.specs.Stores.{StoreView}
 use Rattle.gc_model.specs.Table.{Table, Owned}
 use Rattle.gc_model.specs.Values.{Reference, null, small, at}
 use Rattle.gc_store.specs.Roots.{owned_handle, NamesReference}
-use Rattle.gc_objects.specs.Kinds.{IsOfKind}
+use Rattle.gc_store.specs.Kinds.{IsOfKind}
 
 -- a root at the end is found by its number, where no other has it
 owned_at_end : (number : ℕ) (roots : List Owned) (r : Reference) → ((root : Owned) → Contains roots root → root.number ≢ number)

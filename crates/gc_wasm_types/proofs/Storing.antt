@@ -12,8 +12,8 @@ use Rattle.gc_store.specs.declared.root.GcRootIndex.{GcRootIndex}
 use Rattle.gc_store.specs.declared.root.RootFault.{RootFault}
 use Rattle.gc_store.specs.declared.root.RootFault.TheVariants as fault
 use Rattle.gc_store.specs.Roots.{is_of_store, NamesReference, NamesNothing, TellsWord}
-use Rattle.gc_objects.specs.Kinds.{NamesKind}
-use Rattle.gc_objects.specs.RawWords.{IsRawWord}
+use Rattle.gc_store.specs.Kinds.{NamesKind}
+use Rattle.gc_store.specs.RawWords.{IsRawWord}
 use Rattle.gc_objects.proofs.WordLemmas.{told_kind}
 use Rattle.gc_objects.proofs.Naming.{bool_cases, named_or_not}
 use Rattle.gc_wasm_types.specs.Loads.{CanLoad, IsWordOf, ValueIsOf}

@@ -13,7 +13,7 @@ use Rattle.gc_store.specs.declared.owned_rooted.OwnedRooted.{OwnedRooted}
 use Rattle.gc_store.specs.OwnedWords.{HoldsThere}
 use Rattle.gc_store.specs.RawWords.{PushesWord, OwnsReference}
 use Rattle.gc_store.specs.Stores.{scoped_places}
-use Rattle.gc_objects.specs.Kinds.{IsOfKind, NamesKind}
+use Rattle.gc_store.specs.Kinds.{IsOfKind, NamesKind}
 use Rattle.gc_wasm_types.specs.Values.{WasmValue, absent, number, handle, WasmKind, numbers, references, Manner, by_number, scoped, owned}
 
 -- a new owned root for the reference with a word, by a typed handle; null gets none

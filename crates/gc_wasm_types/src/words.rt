@@ -8,9 +8,10 @@ ghost use Rattle.gc_model.specs.Values.{Reference};
 ghost use Rattle.gc_policy.specs.Accounts.{Account};
 ghost use Rattle.gc_store.specs.OwnedWords.{HoldsThere};
 ghost use Rattle.gc_store.specs.Stores.{IsSameStore, scoped_places};
-ghost use Rattle.gc_objects.specs.Kinds.{NamesKind};
+ghost use Rattle.gc_store.specs.Kinds.{NamesKind};
+ghost use Rattle.gc_store.specs.RawWords.{IsRawWord};
 ghost use Rattle.gc_objects.specs.Given.{root_of};
-ghost use Rattle.gc_objects.specs.RawWords.{IsRawWord, TakesWord};
+ghost use Rattle.gc_objects.specs.RawWords.{TakesWord};
 ghost use Rattle.gc_wasm_types.specs.Loads.{OwnsWordOf, CanLoad};
 ghost use Rattle.gc_wasm_types.specs.Values.{handle, references, raw_word, word_bytes, StoresWord};
 
@@ -62,7 +63,7 @@ pub(crate) fn load_scoped<H: GcHeap, D: Drop, T: GcRef>(
     ensures reserved { 0 < store.old.spare → result ≡ Err RootFault.Memory → ⊥ }
 {
     match store.push_word(from.get_anyref()) {
-        Ok(Some(root)) => Ok(Some(Rooted::from_gc_root_index(root))),
+        Ok(Some(root)) => Ok(Some(Rooted::from_gc_root_index(store, root))),
         Ok(None) => Ok(None),
         Err(fault) => Err(fault),
     }

@@ -19,8 +19,8 @@ use Rattle.gc_store.specs.declared.owned_rooted.OwnedRooted.{OwnedRooted}
 use Rattle.gc_store.specs.OwnedRoots.{MakesOwned, MadeOwned}
 use Rattle.gc_store.specs.Stores.{IsSameStore}
 use Rattle.gc_store.specs.Words.{owned_id}
+use Rattle.gc_store.specs.Kinds.{NamesKind}
 use Rattle.gc_objects.specs.declared.val.Val.{Val}
-use Rattle.gc_objects.specs.Kinds.{NamesKind}
 use Rattle.gc_objects.specs.Writes.{SetsField}
 use Rattle.gc_objects.proofs.Pushed.{names_once, named_kind}
 use Rattle.gc_objects.proofs.Pushing.{held_table}

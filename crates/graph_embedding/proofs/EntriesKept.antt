@@ -22,7 +22,7 @@ use Rattle.gc_store.specs.declared.root.RootSlot.TheVariants as slot
 use Rattle.gc_store.specs.Roots.{NamesOwned, NamesReference, owned_handle}
 use Rattle.gc_store.specs.Stores.{IsSameStore}
 use Rattle.gc_store.specs.Words.{owned_id}
-use Rattle.gc_objects.specs.Kinds.{object_kind}
+use Rattle.gc_store.specs.Kinds.{object_kind}
 use Rattle.gc_objects.proofs.Pushing.{held_table}
 use Rattle.graph_embedding.specs.Entries.{key_value, HoldsEntry, KeepsEntries}
 

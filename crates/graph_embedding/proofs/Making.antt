@@ -24,10 +24,10 @@ use Rattle.gc_store.specs.Places.{MayGetPages, RefusesPlace}
 use Rattle.gc_store.specs.Requests.{fields_of}
 use Rattle.gc_store.specs.Roots.{NamesReference}
 use Rattle.gc_store.specs.Stores.{IsSameStore}
+use Rattle.gc_store.specs.Kinds.{object_kind}
 use Rattle.gc_objects.specs.declared.faults.AllocFault.TheVariants as fault
 use Rattle.gc_objects.specs.declared.val.Val.{Val}
 use Rattle.gc_objects.specs.declared.val.Val.TheVariants as val
-use Rattle.gc_objects.specs.Kinds.{object_kind}
 use Rattle.gc_objects.specs.Makes.{Fault, Makes, MakesObject, AsksStruct}
 use Rattle.gc_objects.proofs.Pushing.{held_table}
 use Rattle.graph_embedding.specs.Entries.{key_value, IsNode, KeepsEntries}

@@ -10,9 +10,9 @@ use Rattle.gc_model.specs.Holds.{HoldsTable}
 use Rattle.gc_store.specs.declared.root.GcRootIndex.{GcRootIndex}
 use Rattle.gc_store.specs.declared.root.RootSlot.TheVariants as slot
 use Rattle.gc_store.specs.Roots.{HasValue}
+use Rattle.gc_store.specs.Kinds.{object_kind}
 use Rattle.gc_objects.specs.declared.val.Val.{Val}
 use Rattle.gc_objects.specs.declared.val.Val.TheVariants as val
-use Rattle.gc_objects.specs.Kinds.{object_kind}
 
 -- a key as the first value of its node
 abbrev pub key_value : ℤ → Value

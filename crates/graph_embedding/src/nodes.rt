@@ -3,7 +3,8 @@
 ghost use Rattle.std.specs.Prelude.{◌≡◌, ℕ, ℤ, IfOk, Ok, Some, slice_get};
 ghost use Rattle.gc_types.specs.declared.kind.TypeKind.{TypeKind};
 ghost use Rattle.gc_types.specs.declared.kind.VMGcKind.{VMGcKind};
-ghost use Rattle.gc_objects.specs.Kinds.{IsDeclaredAs, NamesKind};
+ghost use Rattle.gc_store.specs.Kinds.{NamesKind};
+ghost use Rattle.gc_objects.specs.Kinds.{IsDeclaredAs};
 ghost use Rattle.gc_objects.specs.declared.val.Val.TheVariants as Val;
 ghost use Rattle.graph_embedding.specs.Entries.{key_in, IsNode, HoldsEntry, KeepsEntries};
 

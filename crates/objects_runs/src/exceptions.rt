@@ -2,7 +2,7 @@
 
 ghost use Rattle.std.specs.Prelude.{ℕ, IfOk};
 ghost use Rattle.gc_types.specs.declared.kind.VMGcKind.{VMGcKind};
-ghost use Rattle.gc_objects.specs.Kinds.{NamesKind};
+ghost use Rattle.gc_store.specs.Kinds.{NamesKind};
 
 use crate::fault::RunFault;
 use crate::setup::{ample, exceptions};

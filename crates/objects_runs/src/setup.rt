@@ -3,7 +3,8 @@
 ghost use Rattle.std.specs.Prelude.{ℕ, IfOk};
 ghost use Rattle.gc_types.specs.declared.kind.TypeKind.{TypeKind};
 ghost use Rattle.gc_types.specs.declared.kind.VMGcKind.{VMGcKind};
-ghost use Rattle.gc_objects.specs.Kinds.{NamesKind, IsDeclaredAs};
+ghost use Rattle.gc_store.specs.Kinds.{NamesKind};
+ghost use Rattle.gc_objects.specs.Kinds.{IsDeclaredAs};
 
 use crate::fault::RunFault;
 use gc_heap::GcHeap;

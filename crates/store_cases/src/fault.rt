@@ -15,6 +15,8 @@ pub(crate) enum CaseFault {
     NotPlaced,
     #[error("a host object is not refused for want of room")]
     NotRefused,
+    #[error("a root is not of its marker")]
+    NotMarked,
     #[error(transparent)]
     Root(#[from] RootFault),
     #[error(transparent)]

@@ -60,7 +60,7 @@ pub(crate) fn run_unnamed<H: GcHeap, W: Write + Drop>(
 /// A new root of a small integer.
 fn push<H: GcHeap>(store: &mut Store<H, u64>, value: u32) -> Result<Rooted<Small>, CaseFault> {
     let index = store.push_i31(I31::wrapping_u32(value))?;
-    Ok(Rooted::from_gc_root_index(index))
+    Rooted::from_index(store, index)?.ok_or(CaseFault::NotMarked)
 }
 
 /// Writes whether two handles name the same reference.

@@ -61,7 +61,7 @@ pub(crate) fn run_owned<H: GcHeap>(
 ) -> Result<(), RunFault> {
     let host = ExternRef::new(store, &mut PageLimit::new(4), 8)?;
     let left = store.roots_left();
-    let word = store.show_word(host.root_index())?;
+    let word = ExternRef::to_raw(store, &host)?;
     let found = OwnedRooted::<ExternRef>::from_word(store, word)?;
     println!(rt;
         "scoped roots made: {}",

@@ -1,13 +1,20 @@
 //! What values of raw words tell of themselves.
 
 use crate::fault::RunFault;
-use crate::setup::new_array;
-use gc_heap::GcHeap;
+use crate::setup::{declare_types, new_array};
+use gc_heap::{GcHeap, NullHeap};
 use gc_objects::ArrayRef;
 use gc_refs::I31;
-use gc_store::{GcRootIndex, RootSlot, Rooted, Store, StoreId};
+use gc_store::{HeapConfig, Rooted, Store, StoreId};
 use gc_types::{HeapType, ValType};
 use gc_wasm_types::WasmTy;
+use std::alloc::Global;
+
+/// The id of a store beside those of the other calls.
+const OTHER: StoreId = StoreId {
+    engine: 0,
+    number: 1,
+};
 
 /// Whether values of that type may be null.
 fn is_nullable<T: WasmTy>() -> bool {
@@ -36,16 +43,12 @@ fn show_value<H: GcHeap, T: WasmTy>(
     Ok(())
 }
 
-/// A handle of another store.
-fn foreign() -> Rooted<ArrayRef> {
-    Rooted::from_gc_root_index(GcRootIndex {
-        store_id: StoreId {
-            engine: 0,
-            number: 1,
-        },
-        generation: 0,
-        slot: RootSlot::Scoped(0),
-    })
+/// A handle of an array of another store.
+fn foreign(alloc: Global) -> Result<Rooted<ArrayRef>, RunFault> {
+    let config = HeapConfig::with_pages(1).ok_or(RunFault::Missing)?;
+    let mut other = Store::<NullHeap, u64>::new(alloc, OTHER, NullHeap::new(alloc), config)?;
+    declare_types(&mut other)?;
+    new_array(&mut other, &[])
 }
 
 /// Asks an array's scoped handle and its owned one, none, a number, and another store's handle, in this order.
@@ -60,5 +63,6 @@ pub(crate) fn run_asked<H: GcHeap>(
     let none: Option<Rooted<ArrayRef>> = None;
     show_value(rt, store, &none)?;
     show_value(rt, store, &I31::wrapping_u32(5))?;
-    show_value(rt, store, &foreign())
+    let foreign = foreign(store.allocator())?;
+    show_value(rt, store, &foreign)
 }

@@ -4,5 +4,5 @@ use Rattle.gc_objects.proofs.making.make.Goals as goal
 
 pub returns-clause-makes : goal.returns-clause-makes
 returns-clause-makes g c t a o holds is =
-    handed_on g.H.GcHeap.KIND c.args.store.now.alloc_counter o (policy_state t a (g.L.ResourceLimiter.limits c.args.limiter.now)) (g.L.ResourceLimiter.limits c.place.new.limiter) c.place.new.self c.handed.result c.place.result c.handed.ensures
+    handed_on g.H.GcHeap.KIND c.args.store.now.alloc_counter o (policy_state t a (g.L.ResourceLimiter.limits c.args.limiter.now)) (g.L.ResourceLimiter.limits c.place.new.limiter) c.place.new.self c.asked.result c.place.result c.asked.ensures
     (c.place.ensures.places t a o holds is)

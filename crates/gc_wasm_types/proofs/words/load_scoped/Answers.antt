@@ -3,6 +3,7 @@ use Rattle.std.specs.Prelude.{Option}
 use Rattle.gc_model.specs.Holds.{IsWord}
 use Rattle.gc_store.specs.declared.root.GcRootIndex.{GcRootIndex}
 use Rattle.gc_store.specs.RawWords.{PushesWord}
+use Rattle.gc_objects.proofs.Pushed.{handle_kind}
 use Rattle.gc_objects.proofs.WordLemmas.{taken_kind, word_positive}
 use Rattle.gc_wasm_types.specs.Values.{raw_word}
 use Rattle.gc_wasm_types.proofs.Loading.{is_taken}
@@ -16,12 +17,20 @@ returns-in-Ok-Some-clause-takes g c t place a r there is =
     subst (λ (x : Option GcRootIndex). PushesWord g.H.GcHeap.KIND t place a r (Ok x) c.push_word.new.self)
     (c.in-Ok-Some.field-0-is ∙ ap Some (sym c.from_gc_root_index.ensures)) (c.in-Ok-Some.ensures.pushes t place a r there (subst (IsWord place r) (sym c.get_anyref.ensures) is))
 
+pub from_gc_root_index-requires : goal.from_gc_root_index-requires
+from_gc_root_index-requires g c =
+    taken_kind g.row.D.Denot g.H.GcHeap.KIND c.args.store.now c.push_word.new.self g.T.GcRef.KIND (raw_word c.args.from.now) c.in-Ok-Some.root
+    (c.requires (subst (λ n. 0 < n) c.get_anyref.ensures (word_positive c.get_anyref.result c.in-Ok-Some.field-0 _ c.in-Ok-Some.field-0-is c.in-Ok-Some.ensures.null)))
+    (λ t place a r there is. subst (λ (x : Option GcRootIndex). PushesWord g.H.GcHeap.KIND t place a r (Ok x) c.push_word.new.self) c.in-Ok-Some.field-0-is
+    (c.in-Ok-Some.ensures.pushes t place a r there (subst (IsWord place r) (sym c.get_anyref.ensures) is)))
+
 pub returns-in-Ok-Some-clause-kind : goal.returns-in-Ok-Some-clause-kind
 returns-in-Ok-Some-clause-kind g c =
-    taken_kind g.row.D.Denot g.H.GcHeap.KIND c.args.store.now c.push_word.new.self g.T.GcRef.KIND (raw_word c.args.from.now) _
+    handle_kind g.H.GcHeap.KIND c.push_word.new.self g.T.GcRef.KIND c.in-Ok-Some.root c.from_gc_root_index.result.index c.from_gc_root_index.ensures
+    (taken_kind g.row.D.Denot g.H.GcHeap.KIND c.args.store.now c.push_word.new.self g.T.GcRef.KIND (raw_word c.args.from.now) c.in-Ok-Some.root
     (c.requires (subst (λ n. 0 < n) c.get_anyref.ensures (word_positive c.get_anyref.result c.in-Ok-Some.field-0 _ c.in-Ok-Some.field-0-is c.in-Ok-Some.ensures.null)))
-    (λ t place a r there is. subst (λ (x : Option GcRootIndex). PushesWord g.H.GcHeap.KIND t place a r (Ok x) c.push_word.new.self)
-    (c.in-Ok-Some.field-0-is ∙ ap Some (sym c.from_gc_root_index.ensures)) (c.in-Ok-Some.ensures.pushes t place a r there (subst (IsWord place r) (sym c.get_anyref.ensures) is)))
+    (λ t place a r there is. subst (λ (x : Option GcRootIndex). PushesWord g.H.GcHeap.KIND t place a r (Ok x) c.push_word.new.self) c.in-Ok-Some.field-0-is
+    (c.in-Ok-Some.ensures.pushes t place a r there (subst (IsWord place r) (sym c.get_anyref.ensures) is))))
 
 pub returns-in-Ok-None-clause-takes : goal.returns-in-Ok-None-clause-takes
 returns-in-Ok-None-clause-takes g c t place a r there is =

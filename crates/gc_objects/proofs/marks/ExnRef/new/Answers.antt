@@ -1,16 +1,16 @@
-use Rattle.std.proofs.Common.{◌≡◌, length, Some, true, ap, ◌∙◌}
+use Rattle.std.proofs.Common.{◌≡◌, length, Some, true, refl, ap, ◌∙◌}
 use Rattle.std.specs.Prelude.{option_map}
 use Rattle.gc_types.specs.declared.kind.VMGcKind.TheVariants as kinds
 use Rattle.gc_types.specs.Declarations.{TypeName, fields_at}
 use Rattle.gc_policy.specs.Policy.{policy_state}
 use Rattle.gc_objects.specs.declared.marks.ExnRef.{ExnRef}
-use Rattle.gc_objects.specs.Kinds.{is_type_of, object_kind}
+use Rattle.gc_objects.specs.Kinds.{is_type_of}
 use Rattle.gc_objects.specs.Given.{are_own}
 use Rattle.gc_objects.specs.Exns.{ExnCauses, AsksExn}
 use Rattle.gc_objects.specs.Makes.{are_given_own}
 use Rattle.gc_objects.proofs.Naming.{both, found_true}
 use Rattle.gc_objects.proofs.Pushing.{held_table}
-use Rattle.gc_objects.proofs.MakeLemmas.{makes_no_value, makes_asked, makes_kind, refused_before}
+use Rattle.gc_objects.proofs.MakeLemmas.{makes_no_value, makes_handed, asked_kind, refused_before}
 use Rattle.gc_objects.proofs.ExnMaking.{exn_may_be, exn_cause, exn_asked, exn_made_of}
 use Rattle.gc_objects.proofs.TypeLemmas.{carries_type}
 use Rattle.gc_objects.proofs.marks.ExnRef.new.Given as given
@@ -32,31 +32,30 @@ own g c = both (is_type_of c.args.store.now c.args.allocator.now) (are_own c.arg
 counted : (g : given.Over) (c : After-check_values g) → option_map length (fields_at c.args.store.now.types c.index-index.result) ≡ Some (length c.args.fields.now)
 counted g c = c.has_param_count.ensures.0 c.if-not-has_param_count.false
 
-pub make_of-requires : goal.make_of-requires
-make_of-requires g c =
-    let at = (goal.at.make_of-requires g c).After-check_values in
+pub make_of-made-requires : goal.make_of-made-requires
+make_of-made-requires g c =
+    let at = (goal.at.make_of-made-requires g c).After-check_values in
     exn_may_be g.H.GcHeap.KIND c.args.store.now c.index-index.result c.args.allocator.now (index_is g at) c.args.fields.now (own g at) (of_store g at) c.requires (counted g at) c.in-Ok.ensures.stores
+
+pub handed-requires : goal.handed-requires
+handed-requires g c =
+    let at = (goal.at.handed-requires g c).After-check_values in
+    let t = c.stores_hold_tables.ensures.0 in
+    let a = c.stores_hold_tables.ensures.1.0 in
+    let holds = c.stores_hold_tables.ensures.1.1 in
+    let table = held_table g.H.GcHeap.KIND c.args.store.now t a holds in
+    let checks = c.in-Ok.ensures.checks t table in
+    asked_kind g.H.GcHeap.KIND c.args.store.now.alloc_counter c.args.store.now c.make_of-made.new.store t a (g.L.ResourceLimiter.limits c.args.limiter.now) (g.L.ResourceLimiter.limits c.make_of-made.new.limiter) holds _ kinds.ExnRef refl c.make_of-made.result
+    (c.make_of-made.ensures.makes t a _ holds (exn_made_of g.H.GcHeap.KIND c.args.store.now c.index-index.result c.args.allocator.now (index_is g at) c.args.fields.now (own g at) (of_store g at) c.requires (counted g at) t table c.args.tag checks))
 
 pub returns-in-Ok-clause-makes : goal.returns-in-Ok-clause-makes
 returns-in-Ok-clause-makes g c t a holds =
     let at = (goal.at.returns-in-Ok-clause-makes g c).After-check_values in
     let table = held_table g.H.GcHeap.KIND c.args.store.now t a holds in
     let checks = c.in-Ok.ensures.checks t table in
-    makes_asked (ExnCauses c.args.store.now t c.args.allocator.now c.args.fields.now) (AsksExn c.args.store.now t c.args.allocator.now c.args.tag c.args.fields.now) g.H.GcHeap.KIND c.args.store.now.alloc_counter c.args.store.now c.make_of.new.store t a (g.L.ResourceLimiter.limits c.args.limiter.now) (g.L.ResourceLimiter.limits c.make_of.new.limiter) holds
-    _ (exn_asked g.H.GcHeap.KIND c.args.store.now c.index-index.result c.args.allocator.now (index_is g at) c.args.fields.now (own g at) (of_store g at) c.requires (counted g at) t table c.args.tag checks) c.make_of.result (c.make_of.ensures.makes t a _ holds (exn_made_of g.H.GcHeap.KIND c.args.store.now c.index-index.result c.args.allocator.now (index_is g at) c.args.fields.now (own g at) (of_store g at) c.requires (counted g at) t table c.args.tag checks))
-
-pub returns-in-Ok-clause-kind : goal.returns-in-Ok-clause-kind
-returns-in-Ok-clause-kind g c =
-    let at = (goal.at.returns-in-Ok-clause-kind g c).After-check_values in
-    let t = c.stores_hold_tables.ensures.0 in
-    let a = c.stores_hold_tables.ensures.1.0 in
-    let holds = c.stores_hold_tables.ensures.1.1 in
-    let table = held_table g.H.GcHeap.KIND c.args.store.now t a holds in
-    let checks = c.in-Ok.ensures.checks t table in
-    makes_kind (ExnCauses c.args.store.now t c.args.allocator.now c.args.fields.now) (AsksExn c.args.store.now t c.args.allocator.now c.args.tag c.args.fields.now) g.H.GcHeap.KIND c.args.store.now.alloc_counter c.args.store.now c.make_of.new.store t a (g.L.ResourceLimiter.limits c.args.limiter.now) (g.L.ResourceLimiter.limits c.make_of.new.limiter)
-    kinds.ExnRef (λ o asks. ap object_kind asks.object_is) c.make_of.result
-    (makes_asked (ExnCauses c.args.store.now t c.args.allocator.now c.args.fields.now) (AsksExn c.args.store.now t c.args.allocator.now c.args.tag c.args.fields.now) g.H.GcHeap.KIND c.args.store.now.alloc_counter c.args.store.now c.make_of.new.store t a (g.L.ResourceLimiter.limits c.args.limiter.now) (g.L.ResourceLimiter.limits c.make_of.new.limiter) holds
-    _ (exn_asked g.H.GcHeap.KIND c.args.store.now c.index-index.result c.args.allocator.now (index_is g at) c.args.fields.now (own g at) (of_store g at) c.requires (counted g at) t table c.args.tag checks) c.make_of.result (c.make_of.ensures.makes t a _ holds (exn_made_of g.H.GcHeap.KIND c.args.store.now c.index-index.result c.args.allocator.now (index_is g at) c.args.fields.now (own g at) (of_store g at) c.requires (counted g at) t table c.args.tag checks)))
+    makes_handed (ExnCauses c.args.store.now t c.args.allocator.now c.args.fields.now) (AsksExn c.args.store.now t c.args.allocator.now c.args.tag c.args.fields.now) g.H.GcHeap.KIND c.args.store.now.alloc_counter c.args.store.now c.make_of-made.new.store t a (g.L.ResourceLimiter.limits c.args.limiter.now) (g.L.ResourceLimiter.limits c.make_of-made.new.limiter) holds
+    _ (exn_asked g.H.GcHeap.KIND c.args.store.now c.index-index.result c.args.allocator.now (index_is g at) c.args.fields.now (own g at) (of_store g at) c.requires (counted g at) t table c.args.tag checks) c.handed.result c.make_of-made.result c.handed.ensures.answer
+    (c.make_of-made.ensures.makes t a _ holds (exn_made_of g.H.GcHeap.KIND c.args.store.now c.index-index.result c.args.allocator.now (index_is g at) c.args.fields.now (own g at) (of_store g at) c.requires (counted g at) t table c.args.tag checks))
 
 pub returns-in-Err-clause-makes : goal.returns-in-Err-clause-makes
 returns-in-Err-clause-makes g c t a holds =

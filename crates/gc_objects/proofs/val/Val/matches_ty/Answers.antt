@@ -1,8 +1,7 @@
-use Rattle.std.proofs.Common.{◌∙◌, sym}
-use Rattle.gc_objects.proofs.ValueLemmas.{fits_given}
+use Rattle.std.proofs.Common.{subst}
+use Rattle.gc_store.specs.declared.root.RawValue.{RawValue}
+use Rattle.gc_objects.specs.Answered.{RawFitsType}
 use Rattle.gc_objects.proofs.val.Val.matches_ty.Goals as goal
 
 pub returns : goal.returns
-returns g c t holds =
-    fits_given c.args.store.now t c.args.self.now c.args.ty.now c.raw_of.result c.value_fits.result c.raw_of.ensures (sym c.is_own.ensures ∙ c.if-not-is_own.false)
-    (c.if-not-is_live.ensures.live t holds) (λ x. c.value_fits.ensures t x holds)
+returns g c t holds = subst (λ (r : RawValue). RawFitsType c.args.store.now t c.args.ty.now r c.raw_matches_ty.result) c.raw_of.ensures (c.raw_matches_ty.ensures t holds)
