@@ -56,14 +56,14 @@ module _ (layouts : Layouts) (limit : Option ℕ) (kit : Kit) (p : Progress) (he
   map_stands own = record { table = held.table; holds = (held.holds.place, held.holds.holds); entries = p.entries; stands = held.stands }
 
   -- the clause of the call, where its answer is known
-  pub inserts_as : (key value key' value' : ℤ) (same_key : key' ≡ key) (same_value : value' ≡ value) (limits : Limits) (same_limit : limits.limit ≡ limit) (result known : Result HeapMap ListFault) (new : StoreView ℕ) → (is_kit_of p.store kit ≡ true → is_version_of p.store p.version ≡ true → (t : Table ℕ) (a : Account) (m : IntMap) → HoldsAccount layouts p.store t a
-      → StandsForMapOf p.store t p.version kit.node m → AnswersMap layouts p.store.alloc_counter kit (finite.insert m key' value') t limits result new) → result ≡ known → Inserts layouts limit kit key value p known new
-  inserts_as key value key' value' same_key same_value limits same_limit result known new clause is = λ t a holds stands. (
-    limits,
+  pub inserts_as : (key value key' value' : ℤ) (same_key : key' ≡ key) (same_value : value' ≡ value) (limits limits' : Limits) (same_limit : limits'.limit ≡ limit) (result known : Result HeapMap ListFault) (new : StoreView ℕ) → (is_kit_of p.store kit ≡ true → is_version_of p.store p.version ≡ true → (t : Table ℕ) (a : Account) (m : IntMap) → HoldsAccount layouts p.store t a
+      → StandsForMapOf p.store t p.version kit.node m → AnswersMap layouts p.store.alloc_counter kit (finite.insert m key' value') t limits limits' result new) → result ≡ known → Inserts layouts limit kit key value p known new
+  inserts_as key value key' value' same_key same_value limits limits' same_limit result known new clause is = λ t a holds stands. (
+    (limits, limits'),
     (
       same_limit,
-      subst (λ (r : Result HeapMap ListFault). AnswersMap layouts p.store.alloc_counter kit (finite.insert p.entries key value) t limits r new) is
-          (subst (λ (m : IntMap). AnswersMap layouts p.store.alloc_counter kit m t limits result new) (λ i. finite.insert p.entries (same_key i) (same_value i)) (clause held.kit_of version_own t a p.entries holds stands)),
+      subst (λ (r : Result HeapMap ListFault). AnswersMap layouts p.store.alloc_counter kit (finite.insert p.entries key value) t limits limits' r new) is
+          (subst (λ (m : IntMap). AnswersMap layouts p.store.alloc_counter kit m t limits limits' result new) (λ i. finite.insert p.entries (same_key i) (same_value i)) (clause held.kit_of version_own t a p.entries holds stands)),
     ),
   )
 
@@ -96,7 +96,7 @@ module _ (layouts : Layouts) (limit : Option ℕ) (kit : Kit) (p : Progress) (he
 
     -- memory was wanting
     pub wants_within : Inserts layouts limit kit key value p (Err fault.Memory) new → HoldsWithin layouts limit new
-    wants_within inserts = let inserted = inserts held.table held.account held.holds held.stands in left_within (left_under inserted.0 inserted.1.0 inserted.1.1)
+    wants_within inserts = let inserted = inserts held.table held.account held.holds held.stands in left_within (left_under inserted.0.1 inserted.1.0 inserted.1.1)
 
     -- the version was taken, and then the one before was not the store's, which it is
     pub never_foreign : Inserts layouts limit kit key value p (Err fault.WrongStore) new → ⊥
@@ -109,7 +109,7 @@ module _ (layouts : Layouts) (limit : Option ℕ) (kit : Kit) (p : Progress) (he
         record {
           table = answers.after;
           holds = (answers.holds.place, answers.holds.holds);
-          within = grants inserted.0 inserted.1.0 answers.after answers.changed.pages;
+          within = grants inserted.0.1 inserted.1.0 answers.after answers.changed.pages;
         }
 
     -- the insert was taken, and the version before given up
@@ -134,7 +134,7 @@ module _ (layouts : Layouts) (limit : Option ℕ) (kit : Kit) (p : Progress) (he
             kit_is = kit_kept answers.after keeps;
             kit_of = kit_still p.store new kit all held.kit_of;
             stands = record { reference = answers.stands.reference; names = subst (λ (v : Option GcRootIndex). VersionNames new u v answers.stands.reference) (sym same) names; is = answers.stands.is };
-            within = grants inserted.0 inserted.1.0 answers.after answers.changed.pages;
+            within = grants inserted.0.1 inserted.1.0 answers.after answers.changed.pages;
             alone = record { owned = ap (λ (v : Option GcRootIndex). owned_of v answers.stands.reference) (sym same); others = others_stay answers.after answers.changed };
           };
         }
@@ -162,8 +162,8 @@ module _ (layouts : Layouts) (limit : Option ℕ) (kit : Kit) (p : Progress) (he
     -- what a refusal that counts leaves
     leaves_of : (why : ListFault) → IsCounted why → Inserts layouts limit kit key value p (Err why) new → Left
     leaves_of fault.WrongStore counts inserts = absurd counts
-    leaves_of fault.RootsFull counts inserts = left_under (inserts held.table held.account held.holds held.stands).0 (inserts held.table held.account held.holds held.stands).1.0 (inserts held.table held.account held.holds held.stands).1.1.1
-    leaves_of (fault.HeapOutOfMemory f) counts inserts = left_under (inserts held.table held.account held.holds held.stands).0 (inserts held.table held.account held.holds held.stands).1.0 (inserts held.table held.account held.holds held.stands).1.1.1
+    leaves_of fault.RootsFull counts inserts = left_under (inserts held.table held.account held.holds held.stands).0.1 (inserts held.table held.account held.holds held.stands).1.0 (inserts held.table held.account held.holds held.stands).1.1.1
+    leaves_of (fault.HeapOutOfMemory f) counts inserts = left_under (inserts held.table held.account held.holds held.stands).0.1 (inserts held.table held.account held.holds held.stands).1.0 (inserts held.table held.account held.holds held.stands).1.1.1
     leaves_of fault.Memory counts inserts = absurd counts
 
     -- the insert was refused

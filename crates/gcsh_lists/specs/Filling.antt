@@ -78,10 +78,10 @@ abbrev pub begin_at : StoreView ℕ → Progress
 begin_at store = record { store = store; version = None; entries = finite.from_sorted []; refused = 0 }
 
 -- what an insert into the version answers and leaves under a limit of pages, in each table that the store holds and in which the version
--- stands for the entries
+-- stands for the entries, by what the limiter told before and after
 abbrev pub Inserts : Layouts → Option ℕ → Kit → ℤ → ℤ → Progress → Result HeapMap ListFault → StoreView ℕ → Type 0
 Inserts layouts limit kit key value p result new = (t : Table ℕ) (a : Account) → HoldsAccount layouts p.store t a → StandsForMapOf p.store t p.version kit.node p.entries
-    → (limits : Limits) × ((limits.limit ≡ limit) × AnswersMap layouts p.store.alloc_counter kit (finite.insert p.entries key value) t limits result new)
+    → (told : Limits × Limits) × ((told.1.limit ≡ limit) × AnswersMap layouts p.store.alloc_counter kit (finite.insert p.entries key value) t told.0 told.1 result new)
 
 -- what giving up a version leaves
 abbrev pub GivesUp : Layouts → StoreView ℕ → Option GcRootIndex → StoreView ℕ → Type 0

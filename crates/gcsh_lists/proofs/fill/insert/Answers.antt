@@ -19,7 +19,7 @@ answered : (g : given.Over) (c : After-insert g) (m : IntMap) → HoldsProgress 
     → Inserts g.H.GcHeap.KIND (g.L.ResourceLimiter.limits c.args.limiter.now).limit c.args.kit.now c.args.key c.args.value (progress_of c.args.store.now c.args.filled m) known c.insert.new.store
 answered g c m held known is =
     inserts_as g.H.GcHeap.KIND (g.L.ResourceLimiter.limits c.args.limiter.now).limit c.args.kit.now (progress_of c.args.store.now c.args.filled m) held c.args.key c.args.value _ _ (to_z-of_z w64 c.args.key c.ranges.key) (to_z-of_z w64 c.args.value c.ranges.value)
-    (g.L.ResourceLimiter.limits c.insert.new.limiter) c.insert.ensures.limit c.insert.result known c.insert.new.store c.insert.ensures.inserts is
+    (g.L.ResourceLimiter.limits c.args.limiter.now) (g.L.ResourceLimiter.limits c.insert.new.limiter) c.insert.ensures.limit c.insert.result known c.insert.new.store c.insert.ensures.inserts is
 
 pub returns-in-Ok-release-clause-goes : goal.returns-in-Ok-release-clause-goes
 returns-in-Ok-release-clause-goes g c = λ m held.
