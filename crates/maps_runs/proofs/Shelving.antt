@@ -14,13 +14,16 @@ use Rattle.gc_types.specs.Declarations.{Declaration}
 use Rattle.gc_model.proofs.Lists.{slice_get-push_new, slice_get-push_old}
 use Rattle.gc_model.specs.Allocation.{Limits}
 use Rattle.gc_model.specs.Values.{Reference, null}
-use Rattle.gc_model.specs.Table.{Table, Owned}
+use Rattle.gc_model.specs.Table.{Table, Owned, push}
 use Rattle.gc_model.specs.Holds.{HoldsKept, HoldsTable}
 use Rattle.gc_model.specs.Stores.{StoreView}
 use Rattle.gc_policy.specs.Accounts.{Account, HoldsAccount}
 use Rattle.gc_policy.proofs.AccountLemmas.{some_account}
 use Rattle.gc_store.specs.declared.engine.StoreId.{StoreId}
 use Rattle.gc_store.specs.declared.root.GcRootIndex.{GcRootIndex}
+use Rattle.gc_store.specs.declared.root.RootFault.{RootFault}
+use Rattle.gc_store.specs.declared.root.RootFault.TheVariants as root_fault
+use Rattle.gc_store.specs.Handles.{PushesRoot}
 use Rattle.gc_store.specs.Stores.{IsSameStore}
 use Rattle.gc_lists.specs.declared.fault.ListFault.{ListFault}
 use Rattle.gc_lists.specs.declared.fault.ListFault.TheVariants as fault
@@ -360,6 +363,27 @@ empty_in layouts s t holds v ty none own = record {
     is = record { tree = leaf; is = refl; balanced = tt; entries = finite.entries-from_sorted int_cmp [] tt };
   });
 }
+
+-- a scoped root was pushed, or not
+pub still_pushed : (layouts : Layouts) (s new : StoreView ℕ) (kit : Kit) (vs : List (Option GcRootIndex)) → Shelf layouts s kit vs → IsSameStore s new → (r : Reference) (result : Result GcRootIndex RootFault)
+    → ((t : Table ℕ) (a : Account) → HoldsAccount layouts s t a → PushesRoot layouts t a r result new) → Shelf layouts new kit vs
+still_pushed layouts s new kit vs shelf same r result pushes = by result (pushes shelf.table account.0 account.1)
+  where
+    account : (a : Account) × HoldsAccount layouts s shelf.table a
+    account = some_account layouts s shelf.table shelf.holds
+
+    at : (u : Table ℕ) → HoldsAccount layouts new u account.0 → KeepsConstants shelf.table u → u.owned ≡ shelf.table.owned → Shelf layouts new kit vs
+    at u holds keeps owned = shelf_kept layouts s new kit vs shelf same u account.0 holds keeps [] (owned ∙ sym (append-nil shelf.table.owned))
+
+    as_before : HoldsAccount layouts new shelf.table account.0 → Shelf layouts new kit vs
+    as_before holds = at shelf.table holds (record { types = λ ty d e. e; cells = λ p ty bits next of e. e; nodes = λ p ty key value height left right of e. e }) refl
+
+    by : (answer : Result GcRootIndex RootFault) → PushesRoot layouts shelf.table account.0 r answer new → Shelf layouts new kit vs
+    by (Ok handle) pushed = at (push r shelf.table) pushed.1.1 (record { types = λ ty d e. e; cells = λ p ty bits next of e. e; nodes = λ p ty key value height left right of e. e }) refl
+    by (Err root_fault.WrongStore) pushed = absurd pushed
+    by (Err root_fault.Unrooted) pushed = absurd pushed
+    by (Err root_fault.RootsFull) pushed = as_before pushed.1
+    by (Err root_fault.Memory) pushed = as_before pushed
 
 -- What was made in one store is none of another.
 pub other_kit : (s other : StoreView ℕ) (kit : Kit) → kit.store_id ≡ id_in s → (s.number == other.number) ≡ false → is_kit_of other kit ≡ false

@@ -7,7 +7,7 @@ ghost use Rattle.maps_runs.specs.Shelves.{Shelf};
 
 use crate::fault::RunFault;
 use crate::foreign::answer_name;
-use crate::shelf::{all, collect, cut, find, new_kit, put, put_in_vain};
+use crate::shelf::{all, collect, cut, find, leave_roots, new_kit, put, put_in_vain};
 use gc_heap::GcHeap;
 use gc_lists::Kit;
 use gc_maps::HeapMap;
@@ -118,4 +118,36 @@ pub(crate) fn run_refused<H: GcHeap>(
     let answer = put(store, limiter, &kit, &empty, 1, 1);
     println!(rt; "{}", answer_name(&answer))?;
     Ok(())
+}
+
+/// What copying the entries of a map out is answered where so many further scoped roots may be made.
+fn show_scarce<H: GcHeap>(
+    rt: &impl Print,
+    alloc: Global,
+    store: &mut Store<H, u64>,
+    map: &HeapMap,
+    left: u64,
+) -> Result<(), RunFault>
+    requires { (kit : Kit) × Shelf H.KIND store.old kit (map.now.root ∷ []) }
+    ensures { IfOk result (λ done. (kit : Kit) (vs : List (Option GcRootIndex)) → Shelf H.KIND store.old kit (map.now.root ∷ vs)
+        → Shelf H.KIND store.new kit (map.now.root ∷ vs)) }
+{
+    leave_roots(store, left)?;
+    let answer = all(alloc, store, map);
+    println!(rt; "{left} left: {}", answer_name(&answer))?;
+    Ok(())
+}
+
+/// The entries of a map of three keys, whose topmost node has two children, are copied out where two further scoped roots may
+/// be made, as it needs, and where one may.
+pub(crate) fn run_scarce<H: GcHeap>(
+    rt: &impl Print,
+    alloc: Global,
+    store: &mut Store<H, u64>,
+    limiter: &mut PageLimit,
+) -> Result<(), RunFault> {
+    let kit = new_kit(store)?;
+    let map = map_of(store, limiter, &kit, &[1, 2, 3])?;
+    show_scarce(rt, alloc, store, &map, 2)?;
+    show_scarce(rt, alloc, store, &map, 1)
 }

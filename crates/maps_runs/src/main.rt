@@ -12,7 +12,7 @@ mod shelf;
 ghost use Rattle.std.specs.Prelude.{◌≡◌};
 ghost use Rattle.gc_view.specs.Heaps.{detached};
 
-use crate::cases::{run_kept, run_keys, run_refused, run_removed};
+use crate::cases::{run_kept, run_keys, run_refused, run_removed, run_scarce};
 use crate::fault::RunFault;
 use crate::foreign::run_foreign;
 use crate::random::{CHANGES, run_random};
@@ -53,7 +53,8 @@ fn keys_over<H: GcHeap + Drop>(
     let mut limiter = PageLimit::new(4);
     run_keys(rt, alloc, &mut store, &mut limiter)?;
     run_removed(rt, alloc, &mut store, &mut limiter)?;
-    run_kept(rt, &mut store, &mut limiter)
+    run_kept(rt, &mut store, &mut limiter)?;
+    run_scarce(rt, alloc, &mut store, &mut limiter)
 }
 
 /// Changes a map many times in a new store over that heap.

@@ -11,6 +11,7 @@ use crate::fault::RunFault;
 use gc_heap::GcHeap;
 use gc_lists::{Kit, ListFault};
 use gc_maps::HeapMap;
+use gc_refs::I31;
 use gc_steps::Steps;
 use gc_store::laws::stores_hold_tables;
 use gc_store::{PageLimit, Store};
@@ -103,6 +104,18 @@ pub(crate) fn collect<H: GcHeap>(store: &mut Store<H, u64>)
     ensures { (kit : Kit) (vs : List (Option GcRootIndex)) → Shelf H.KIND store.old kit vs → Shelf H.KIND store.new kit vs }
 {
     store.gc();
+}
+
+/// Pushes scoped roots until so many more may be pushed.
+pub(crate) fn leave_roots<H: GcHeap>(store: &mut Store<H, u64>, left: u64) -> Result<(), RunFault>
+    ensures { IfOk result (λ done. (kit : Kit) (vs : List (Option GcRootIndex)) → Shelf H.KIND store.old kit vs → Shelf H.KIND store.new kit vs) }
+{
+    for _root in left..store.roots_left() {
+        if store.push_i31(I31::wrapping_u32(0)).is_err() {
+            return Err(RunFault::Missing);
+        }
+    }
+    Ok(())
 }
 
 /// The value of a key.
