@@ -48,6 +48,7 @@ use Rattle.gc_lists.specs.Versions.{VersionNames, StandsForListOf, IsListOfIn}
 use Rattle.gc_lists.proofs.CellReads.{from_bits, never_null}
 use Rattle.gc_lists.proofs.Kept.{list_kept, appended_keeps}
 use Rattle.gc_lists.proofs.Pages.{gets_within, lacks_within, may_get_within}
+use Rattle.gc_lists.proofs.Refusing.{lacks_refused}
 use Rattle.gc_lists.proofs.Links.{cell_root, null_or_fits, struct_in_each}
 use Rattle.gc_lists.proofs.Scopes.{next_owned, next_scoped, left_scoped, full_lacks}
 use Rattle.gc_model.proofs.Lists.{slice_get-push_new}
@@ -284,7 +285,7 @@ module _ {D : Type 0} (layouts : Layouts) (s : StoreView D) (t : Table D) (a : A
 
     pub cons_lacks : (full : GcHeapOutOfMemory (Unit {0})) → Places layouts s.alloc_counter new_cell state limits' (Err (place_fault.HeapOutOfMemory full)) new → Answered (Err (fault.HeapOutOfMemory full)) new
     cons_lacks full lacks = (
-      record { next = next; names = stands.names; lacks = lacks },
+      record { next = next; names = stands.names; lacks = lacks; refused = lacks_refused layouts s.alloc_counter new_cell state limits' full.bytes_needed new lacks },
       record { after = lacks.after.table; account = lacks.after.account; holds = lacks.holds; changed = lacks_pages limits.limit kit t layouts a.places new_cell lacks.after.table lacks.lacks },
     )
 

@@ -7,6 +7,7 @@ pub mod Releasing
 pub mod Scopes
 pub mod Tailing
 pub mod Limiting
+pub mod Refusing
 pub mod Pages
 pub mod Consing
 pub mod Declaring

@@ -20,7 +20,7 @@ use Rattle.gc_lists.specs.declared.list.HeapList.{HeapList}
 use Rattle.gc_lists.specs.Cells.{cell}
 use Rattle.gc_lists.specs.Frames.{ChangesRoots, ChangesObjects, Leaves, most_objects}
 use Rattle.gc_lists.specs.Lists.{IsListOf}
-use Rattle.gc_lists.specs.Refusals.{LacksScoped, LacksOwned}
+use Rattle.gc_lists.specs.Refusals.{LacksScoped, LacksOwned, RefusedInCall}
 use Rattle.gc_lists.specs.Versions.{Stands, VersionNames}
 
 -- the owned roots that stand where a version was answered: one more where it isn't empty
@@ -53,6 +53,7 @@ pub record LacksCell {D : Type 0} (layouts : Layouts) (counter : Option ℕ) (ty
   pub next : Reference
   pub names : VersionNames old p.table version next
   pub lacks : LacksPlace layouts counter (cell ty (number_bits w64 x) next) p limits' need new
+  pub refused : RefusedInCall need p.limits limits' lacks.after.table
 
 -- a cell may be made, under the limit that was told at first
 abbrev pub ChangesCells : {D : Type 0} → Kit → PolicyState D → List Owned → Table D → Type 0

@@ -8,6 +8,7 @@ ghost use Rattle.gc_policy.specs.Policy.{policy_state};
 ghost use Rattle.gc_store.specs.Stores.{IsSameStore};
 ghost use Rattle.gc_lists.specs.Answers.{Conses, Copied, FailsToCopy, Releases, Tails};
 ghost use Rattle.gc_lists.specs.Kits.{KitStands, is_kit_of};
+ghost use Rattle.gc_lists.specs.Refusals.{CountsOn};
 ghost use Rattle.gc_lists.specs.Versions.{ListOfStands, ListStands, StandsForList, StandsForListOf, is_version_of};
 
 use crate::fault::ListFault;
@@ -56,6 +57,7 @@ impl HeapList {
             → HoldsAccount H.KIND store.old t a → StandsForListOf store.old t self.now.root kit.now.cell xs
             → Conses H.KIND kit.now store.old self.now.root xs head (policy_state t a (L.limits limiter.old)) (L.limits limiter.new) result store.new }
         ensures limit { (L.limits limiter.new).limit ≡ (L.limits limiter.old).limit }
+        ensures counts { CountsOn (L.limits limiter.old) (L.limits limiter.new) }
         ensures same { IsSameStore store.old store.new }
     {
         stores_hold_tables(store);

@@ -11,6 +11,7 @@ use Rattle.gc_lists.specs.declared.fault.ListFault.{ListFault}
 use Rattle.gc_lists.specs.declared.kit.Kit.{Kit}
 use Rattle.gc_lists.specs.Kits.{IsNodeType}
 use Rattle.gc_lists.specs.Frames.{Leaves}
+use Rattle.gc_lists.specs.Refusals.{CountsOn}
 use Rattle.gc_maps.specs.declared.part.Frame.{Frame}
 use Rattle.gc_maps.specs.declared.part.Opened.{Opened}
 use Rattle.gc_maps.specs.declared.part.Part.{Part}
@@ -49,16 +50,16 @@ module _ {D : Type 0} (layouts : Layouts) (limit : Option ℕ) (kit : Kit) (s0 :
   abbrev pub Builds : StoreView D → Table D → Part → Type 0
   Builds s u part = IsBuilt s u kit.node part entries
 
-  pub climb_done : (i : ℕ) (fs : List Frame) (s : StoreView D) (part : Part) (limits : Limits) → limits.limit ≡ limit → i ≤ 92 → fs ≡ [] → Climbs layouts limit kit t whole i fs s part entries
-      → Ends layouts s0.alloc_counter kit 276 644 t limits Builds (Ok part) s
-  climb_done i fs s part limits stays few none climbs =
+  pub climb_done : (i : ℕ) (fs : List Frame) (s : StoreView D) (part : Part) (limits limits' : Limits) → limits'.limit ≡ limit → i ≤ 92 → fs ≡ [] → Climbs layouts limit kit t whole i fs s part entries
+      → Ends layouts s0.alloc_counter kit 276 644 t limits limits' Builds (Ok part) s
+  climb_done i fs s part limits limits' stays few none climbs =
       let at = climbs.leaves in
       record {
         after = at.after;
         account = at.account;
         holds = at.holds;
         changed = (
-          grows_under limits.limit kit 276 644 t at.after stays (grows_within kit (3 * i) 276 (7 * i) 644 t at.after (omega (arith, few)) (omega (arith, few)) at.changed.0),
+          grows_under limits'.limit kit 276 644 t at.after stays (grows_within kit (3 * i) 276 (7 * i) 644 t at.after (omega (arith, few)) (omega (arith, few)) at.changed.0),
           built s at.after part (subst (λ (z : List Frame). Rises s at.after kit.node whole z part entries) none at.changed.1),
         );
       }
@@ -96,10 +97,10 @@ module _ {D : Type 0} (layouts : Layouts) (limit : Option ℕ) (kit : Kit) (s0 :
           can_join layouts kit.node s u climbs.leaves.account climbs.leaves.holds f r.old at.parent at.bs at.as' at.last parent_balanced parent_low s1 same1 other reads part r.new r.is r.balanced r.close o left_is key_is value_is right_is
           (nodes_later layouts s0 t a s1 u climbs.leaves.account kit.node holds held1 (keeps_then s0 t s u s1 u (grows_keep kit (3 * i) (7 * i) s0 t s u same climbs.leaves.changed.0) (table_keeps s u s1 same1)) of)
 
-      module _ (s2 : StoreView D) (limits : Limits) (stays : limits.limit ≡ limit) where
+      module _ (s2 : StoreView D) (limits between limits' : Limits) (counts : CountsOn limits between) (stays : limits'.limit ≡ limit) where
         abbrev pub Joining : Result Part ListFault → Type 0
         Joining result = (t : Table D) (a : Account) (x y : Tree) (k v : ℤ) → HoldsAccount layouts s1 t a → IsJoinable s1 t kit.node o x k v y
-            → Ends layouts s1.alloc_counter kit 3 7 t limits (λ s u part. IsJoined s u kit.node part x (k, v) y) result s2
+            → Ends layouts s1.alloc_counter kit 3 7 t between limits' (λ s u part. IsJoined s u kit.node part x (k, v) y) result s2
 
         abbrev xl : Tree
         xl = left_of layouts kit.node s u climbs.leaves.account climbs.leaves.holds f r.old at.parent at.bs at.as' at.last parent_balanced parent_low s1 same1 other reads part r.new r.is r.balanced r.close o left_is key_is value_is right_is f.goes_left
@@ -108,14 +109,14 @@ module _ {D : Type 0} (layouts : Layouts) (limit : Option ℕ) (kit : Kit) (s0 :
         xr = right_of layouts kit.node s u climbs.leaves.account climbs.leaves.holds f r.old at.parent at.bs at.as' at.last parent_balanced parent_low s1 same1 other reads part r.new r.is r.balanced r.close o left_is key_is value_is right_is f.goes_left
 
         join_ends : (result : Result Part ListFault) → Joining result
-            → Ends layouts s1.alloc_counter kit 3 7 u limits (λ s u part. IsJoined s u kit.node part xl (at.last.key, at.last.value) xr) result s2
+            → Ends layouts s1.alloc_counter kit 3 7 u between limits' (λ s u part. IsJoined s u kit.node part xl (at.last.key, at.last.value) xr) result s2
         join_ends result joins = joins u climbs.leaves.account xl xr at.last.key at.last.value held1
             (joinable layouts kit.node s u climbs.leaves.account climbs.leaves.holds f r.old at.parent at.bs at.as' at.last parent_balanced parent_low s1 same1 other reads part r.new r.is r.balanced r.close o left_is key_is value_is right_is)
 
-        pub climb_refused : (why : ListFault) → Joining (Err why) → Ends {A = Part} layouts s0.alloc_counter kit 276 644 t limits Builds (Err why) s2
+        pub climb_refused : (why : ListFault) → Joining (Err why) → Ends {A = Part} layouts s0.alloc_counter kit 276 644 t limits limits' Builds (Err why) s2
         climb_refused why joins =
-            ends_within {A = Part} layouts s0.alloc_counter kit (3 * i + 3) (7 * i + 7) 276 644 t limits s2 (omega (arith, below)) (omega (arith, below)) Builds (Err why)
-            (refused_after {A = Part} {B = Part} layouts s0.alloc_counter s1.alloc_counter (same_then s0 s s1 same same1).counter kit (3 * i) (7 * i) 3 7 t u limits s2 (grows_under limits.limit kit (3 * i) (7 * i) t u stays climbs.leaves.changed.0)
+            ends_within {A = Part} layouts s0.alloc_counter kit (3 * i + 3) (7 * i + 7) 276 644 t limits limits' s2 (omega (arith, below)) (omega (arith, below)) Builds (Err why)
+            (refused_after {A = Part} {B = Part} layouts s0.alloc_counter s1.alloc_counter (same_then s0 s s1 same same1).counter kit (3 * i) (7 * i) 3 7 t u limits between limits' counts s2 (grows_under limits'.limit kit (3 * i) (7 * i) t u stays climbs.leaves.changed.0)
             (λ s u part. IsJoined s u kit.node part xl (at.last.key, at.last.value) xr) Builds why (join_ends (Err why) joins))
 
         pub climb_next : IsSameStore s1 s2 → (joined : Part) → Joining (Ok joined) → Climbs layouts limit kit t whole (i + 1) fs s2 joined entries

@@ -24,7 +24,8 @@ use Rattle.gc_lists.specs.Kits.{IsNodeType}
 use Rattle.gc_lists.specs.Refusals.{LacksRoots}
 use Rattle.gc_lists.specs.Versions.{is_version_of}
 use Rattle.gc_lists.proofs.Scopes.{next_owned}
-use Rattle.gc_lists.proofs.Limiting.{lacks_limit}
+use Rattle.gc_lists.proofs.Limiting.{counts_same, lacks_limit}
+use Rattle.gc_lists.proofs.Refusing.{lacks_refused, refused_within}
 use Rattle.gc_lists.proofs.Pages.{lacks_within, same_pages, within_then}
 use Rattle.gc_maps.specs.declared.map.HeapMap.{HeapMap}
 use Rattle.gc_maps.specs.declared.part.Part.{Part}
@@ -125,29 +126,30 @@ pub entries_cut : (m : IntMap) (key : ℤ) (es : List (ℤ × ℤ)) → finite.e
 entries_cut m key es is = sym (entries_without m key ∙ ap (others key) is)
 
 -- a tree was built, or not, inside the scope
-module _ {D : Type 0} (layouts : Layouts) (counter : Option ℕ) (kit : Kit) (nodes most : ℕ) (few : nodes ≤ most_objects) (low : most < most_objects) (t : Table D) (limits : Limits) (m : IntMap) (mid new : StoreView D) where
+module _ {D : Type 0} (layouts : Layouts) (counter : Option ℕ) (kit : Kit) (nodes most : ℕ) (few : nodes ≤ most_objects) (low : most < most_objects) (t : Table D) (limits limits' : Limits) (m : IntMap) (mid new : StoreView D) where
   abbrev pub Built : StoreView D → Table D → Part → Type 0
   Built s u part = IsBuilt s u kit.node part (finite.entries m)
 
   -- the scope was left
   module _ (left : (u : Table D) (b : Account) → HoldsAccount layouts mid u b → HoldsAccount layouts new (leave (length t.scoped) u) b) where
-    leaves_objects : (u : Table D) (b : Account) → HoldsAccount layouts mid u b → Grows limits.limit kit nodes most t u → Leaves layouts (ChangesObjects limits.limit kit most_objects t t.owned) new
-    leaves_objects u b holds grows = record { after = leave (length t.scoped) u; account = b; holds = left u b holds; changed = grows_left limits.limit kit t nodes most u few grows }
+    leaves_objects : (u : Table D) (b : Account) → HoldsAccount layouts mid u b → Grows limits'.limit kit nodes most t u → Leaves layouts (ChangesObjects limits'.limit kit most_objects t t.owned) new
+    leaves_objects u b holds grows = record { after = leave (length t.scoped) u; account = b; holds = left u b holds; changed = grows_left limits'.limit kit t nodes most u few grows }
 
     -- the limiter tells the same limit after the refusal
-    refused_within : {need : ℕ} (lacks : LacksNode layouts counter kit nodes most t limits need mid) → KeepsLimit limits.limit lacks.before.table lacks.lacks.after.table
-    refused_within lacks = subst (λ (l : Option ℕ). KeepsLimit l lacks.before.table lacks.lacks.after.table)
-        (sym (lacks_limit layouts counter lacks.object lacks.before limits _ mid lacks.lacks))
+    keeps_within : {need : ℕ} (lacks : LacksNode layouts counter kit nodes most t limits limits' need mid) → KeepsLimit limits'.limit lacks.before.table lacks.lacks.after.table
+    keeps_within lacks = subst (λ (l : Option ℕ). KeepsLimit l lacks.before.table lacks.lacks.after.table)
+        (sym (lacks_limit layouts counter lacks.object lacks.before limits' _ mid lacks.lacks))
         (lacks_within lacks.before.limits.limit lacks.before.table lacks.lacks.after.table layouts _ lacks.object lacks.lacks.lacks)
 
-    pub map_refused : (f : ListFault) → Ends {A = Part} layouts counter kit nodes most t limits Built (Err f) mid → AnswersMap layouts counter kit m t limits (Err f) new
+    pub map_refused : (f : ListFault) → Ends {A = Part} layouts counter kit nodes most t limits limits' Built (Err f) mid → AnswersMap layouts counter kit m t limits limits' (Err f) new
     map_refused fault.WrongStore ends = ends
-    map_refused fault.RootsFull ends = (inr (lacks_grown limits.limit kit t nodes most ends.after low ends.changed.0 ends.changed.1), leaves_objects ends.after ends.account ends.holds ends.changed.0)
+    map_refused fault.RootsFull ends = (inr (lacks_grown limits'.limit kit t nodes most ends.after low ends.changed.0 ends.changed.1), leaves_objects ends.after ends.account ends.holds ends.changed.0)
     map_refused (fault.HeapOutOfMemory f) ends = (
       record {
         inside = mid;
         lacks = record {
           before = ends.before;
+          counts = ends.counts;
           grows = grows_within kit nodes most_objects most most_objects t ends.before.table few (omega (arith, low)) ends.grows;
           asked = ends.asked;
           held = ends.held;
@@ -155,38 +157,40 @@ module _ {D : Type 0} (layouts : Layouts) (counter : Option ℕ) (kit : Kit) (no
           of_kit = ends.of_kit;
           lacks = ends.lacks;
         };
+        refused = refused_within f.bytes_needed limits ends.before.limits limits' limits' ends.lacks.after.table ends.lacks.after.table ends.counts (counts_same limits') refl
+            (lacks_refused layouts counter ends.object ends.before limits' f.bytes_needed mid ends.lacks);
         left = left ends.lacks.after.table ends.lacks.after.account ends.lacks.holds;
       },
       leaves_objects ends.lacks.after.table ends.lacks.after.account ends.lacks.holds
-          (lacks_pages limits.limit kit t nodes most layouts ends.before.limits.limit _ ends.object ends.before.table ends.lacks.after.table ends.lacks.lacks (refused_within ends) ends.grows),
+          (lacks_pages limits'.limit kit t nodes most layouts ends.before.limits.limit _ ends.object ends.before.table ends.lacks.after.table ends.lacks.lacks (keeps_within ends) ends.grows),
     )
     map_refused fault.Memory ends = leaves_objects ends.after ends.account ends.holds ends.changed
 
     none_at : (u : Table D) (root : Option GcRootIndex) (tree : Tree) → root ≡ None → RootIs mid u kit.node root tree → RootIs mid u kit.node None tree
     none_at u root tree none is = subst (λ (r : Option GcRootIndex). RootIs mid u kit.node r tree) none is
 
-    pub map_empty : (part : Part) → part.root ≡ None → Ends layouts counter kit nodes most t limits Built (Ok part) mid → (map : HeapMap) → map.root ≡ None → AnswersMap layouts counter kit m t limits (Ok map) new
+    pub map_empty : (part : Part) → part.root ≡ None → Ends layouts counter kit nodes most t limits limits' Built (Ok part) mid → (map : HeapMap) → map.root ≡ None → AnswersMap layouts counter kit m t limits limits' (Ok map) new
     map_empty part none ends map empty =
         let b = ends.changed.1 in
         let root = none_at ends.after part.root b.tree none b.is.root in
-        subst (λ (v : Option GcRootIndex). AnswersVersion layouts t (ChangesObjects limits.limit kit most_objects t) (AreEntries kit.node m) v new) (sym empty) (record {
+        subst (λ (v : Option GcRootIndex). AnswersVersion layouts t (ChangesObjects limits'.limit kit most_objects t) (AreEntries kit.node m) v new) (sym empty) (record {
           after = leave (length t.scoped) ends.after;
           account = ends.account;
           holds = left ends.after ends.account ends.holds;
           stands = record { reference = root.reference; names = root.names; is = record { tree = b.tree; is = root.is; balanced = b.balanced; entries = sym b.pairs_are } };
           has_new_root = tt;
-          changed = grows_left limits.limit kit t nodes most ends.after few ends.changed.0;
+          changed = grows_left limits'.limit kit t nodes most ends.after few ends.changed.0;
         })
 
   -- an owned root was made, or not
-  module _ (part : Part) (root : GcRootIndex) (there : part.root ≡ Some root) (ends : Ends layouts counter kit nodes most t limits Built (Ok part) mid) where
+  module _ (part : Part) (root : GcRootIndex) (there : part.root ≡ Some root) (ends : Ends layouts counter kit nodes most t limits limits' Built (Ok part) mid) where
     abbrev pub is_root : RootIs mid ends.after kit.node (Some root) ends.changed.1.tree
     is_root = subst (λ (r : Option GcRootIndex). RootIs mid ends.after kit.node r ends.changed.1.tree) there ends.changed.1.is.root
 
     abbrev pub Kept : Result GcRootIndex ListFault → Type 0
     Kept result = KeepsRoot layouts ends.after ends.account is_root.reference (leave (length t.scoped)) result new
 
-    pub map_kept : (made : GcRootIndex) → Kept (Ok made) → AnswersVersion layouts t (ChangesObjects limits.limit kit most_objects t) (AreEntries kit.node m) (Some made) new
+    pub map_kept : (made : GcRootIndex) → Kept (Ok made) → AnswersVersion layouts t (ChangesObjects limits'.limit kit most_objects t) (AreEntries kit.node m) (Some made) new
     map_kept made kept = record {
       after = leave (length t.scoped) (own is_root.reference ends.after);
       account = ends.account;
@@ -197,33 +201,33 @@ module _ {D : Type 0} (layouts : Layouts) (counter : Option ℕ) (kit : Kit) (no
         is = record { tree = ends.changed.1.tree; is = is_root.is; balanced = ends.changed.1.balanced; entries = sym ends.changed.1.pairs_are };
       };
       has_new_root = kept.1.0 ∙ ap (λ (u : Table D). owned_handle new u.owns) ends.changed.0.rest;
-      changed = grows_owned limits.limit kit t nodes most ends.after is_root.reference few ends.changed.0;
+      changed = grows_owned limits'.limit kit t nodes most ends.after is_root.reference few ends.changed.0;
     }
 
-    pub keep_refused : (f : ListFault) → Kept (Err f) → AnswersMap layouts counter kit m t limits (Err f) new
+    pub keep_refused : (f : ListFault) → Kept (Err f) → AnswersMap layouts counter kit m t limits limits' (Err f) new
     keep_refused fault.WrongStore kept = kept
     keep_refused fault.RootsFull kept = (
-      inl (full_owned limits.limit kit t nodes most ends.after ends.changed.0 kept.0),
-      record { after = leave (length t.scoped) ends.after; account = ends.account; holds = kept.1; changed = grows_left limits.limit kit t nodes most ends.after few ends.changed.0 },
+      inl (full_owned limits'.limit kit t nodes most ends.after ends.changed.0 kept.0),
+      record { after = leave (length t.scoped) ends.after; account = ends.account; holds = kept.1; changed = grows_left limits'.limit kit t nodes most ends.after few ends.changed.0 },
     )
     keep_refused (fault.HeapOutOfMemory f) kept = absurd kept
-    keep_refused fault.Memory kept = record { after = leave (length t.scoped) ends.after; account = ends.account; holds = kept; changed = grows_left limits.limit kit t nodes most ends.after few ends.changed.0 }
+    keep_refused fault.Memory kept = record { after = leave (length t.scoped) ends.after; account = ends.account; holds = kept; changed = grows_left limits'.limit kit t nodes most ends.after few ends.changed.0 }
 
 -- a key and a value that were passed on are those that were put, and the entries are the map's
-pub as_put : {D : Type 0} (layouts : Layouts) (counter : Option ℕ) (kit : Kit) (t : Table D) (limits : Limits) (m : IntMap) (key value : ℤ) (es : List (ℤ × ℤ)) → finite.entries m ≡ es → SFits w64 key → SFits w64 value
+pub as_put : {D : Type 0} (layouts : Layouts) (counter : Option ℕ) (kit : Kit) (t : Table D) (limits limits' : Limits) (m : IntMap) (key value : ℤ) (es : List (ℤ × ℤ)) → finite.entries m ≡ es → SFits w64 key → SFits w64 value
     → (result : Result Part ListFault) (new : StoreView D)
-    → Ends layouts counter kit 277 829 t limits (λ s u part. IsBuilt s u kit.node part (put int_cmp (to_z w64 (of_z w64 key)) (to_z w64 (of_z w64 value)) es)) result new
-    → Ends layouts counter kit 277 829 t limits (λ s u part. IsBuilt s u kit.node part (finite.entries (finite.insert m key value))) result new
-as_put layouts counter kit t limits m key value es is fits_k fits_v result new ends =
-    subst (λ (xs : List (ℤ × ℤ)). Ends layouts counter kit 277 829 t limits (λ s u part. IsBuilt s u kit.node part xs) result new) (entries_put m key value es is)
-    (subst (λ (i : ℤ). Ends layouts counter kit 277 829 t limits (λ s u part. IsBuilt s u kit.node part (put int_cmp i value es)) result new) (to_z-of_z w64 key fits_k)
-    (subst (λ (n : ℤ). Ends layouts counter kit 277 829 t limits (λ s u part. IsBuilt s u kit.node part (put int_cmp (to_z w64 (of_z w64 key)) n es)) result new) (to_z-of_z w64 value fits_v) ends))
+    → Ends layouts counter kit 277 829 t limits limits' (λ s u part. IsBuilt s u kit.node part (put int_cmp (to_z w64 (of_z w64 key)) (to_z w64 (of_z w64 value)) es)) result new
+    → Ends layouts counter kit 277 829 t limits limits' (λ s u part. IsBuilt s u kit.node part (finite.entries (finite.insert m key value))) result new
+as_put layouts counter kit t limits limits' m key value es is fits_k fits_v result new ends =
+    subst (λ (xs : List (ℤ × ℤ)). Ends layouts counter kit 277 829 t limits limits' (λ s u part. IsBuilt s u kit.node part xs) result new) (entries_put m key value es is)
+    (subst (λ (i : ℤ). Ends layouts counter kit 277 829 t limits limits' (λ s u part. IsBuilt s u kit.node part (put int_cmp i value es)) result new) (to_z-of_z w64 key fits_k)
+    (subst (λ (n : ℤ). Ends layouts counter kit 277 829 t limits limits' (λ s u part. IsBuilt s u kit.node part (put int_cmp (to_z w64 (of_z w64 key)) n es)) result new) (to_z-of_z w64 value fits_v) ends))
 
 -- the same of a key that was taken out
-pub as_cut : {D : Type 0} (layouts : Layouts) (counter : Option ℕ) (kit : Kit) (t : Table D) (limits : Limits) (m : IntMap) (key : ℤ) (es : List (ℤ × ℤ)) → finite.entries m ≡ es → SFits w64 key
+pub as_cut : {D : Type 0} (layouts : Layouts) (counter : Option ℕ) (kit : Kit) (t : Table D) (limits limits' : Limits) (m : IntMap) (key : ℤ) (es : List (ℤ × ℤ)) → finite.entries m ≡ es → SFits w64 key
     → (result : Result Part ListFault) (new : StoreView D)
-    → Ends layouts counter kit 276 1012 t limits (λ s u part. IsBuilt s u kit.node part (others (to_z w64 (of_z w64 key)) es)) result new
-    → Ends layouts counter kit 276 1012 t limits (λ s u part. IsBuilt s u kit.node part (finite.entries (finite.remove m key))) result new
-as_cut layouts counter kit t limits m key es is fits result new ends =
-    subst (λ (xs : List (ℤ × ℤ)). Ends layouts counter kit 276 1012 t limits (λ s u part. IsBuilt s u kit.node part xs) result new) (entries_cut m key es is)
-    (subst (λ (i : ℤ). Ends layouts counter kit 276 1012 t limits (λ s u part. IsBuilt s u kit.node part (others i es)) result new) (to_z-of_z w64 key fits) ends)
+    → Ends layouts counter kit 276 1012 t limits limits' (λ s u part. IsBuilt s u kit.node part (others (to_z w64 (of_z w64 key)) es)) result new
+    → Ends layouts counter kit 276 1012 t limits limits' (λ s u part. IsBuilt s u kit.node part (finite.entries (finite.remove m key))) result new
+as_cut layouts counter kit t limits limits' m key es is fits result new ends =
+    subst (λ (xs : List (ℤ × ℤ)). Ends layouts counter kit 276 1012 t limits limits' (λ s u part. IsBuilt s u kit.node part xs) result new) (entries_cut m key es is)
+    (subst (λ (i : ℤ). Ends layouts counter kit 276 1012 t limits limits' (λ s u part. IsBuilt s u kit.node part (others i es)) result new) (to_z-of_z w64 key fits) ends)

@@ -60,12 +60,12 @@ module _ {D : Type 0} (s : StoreView D) (t : Table D) (ty : ℕ) (opened : Opene
         low = is.low_right;
       }
 
-  pub is_level : (layouts : Layouts) (kit : Kit) (a : Account) (limits : Limits) (new : StoreView D) (result : Result Part ListFault) (one two : Bool) → ty ≡ kit.node → Tested opened.left opened.right one → Tested opened.right opened.left two → one ≡ false → two ≡ false
-      → HoldsAccount layouts s t a → ((made : Ends layouts s.alloc_counter kit 1 1 t limits (λ s' u part. PartIs s' u ty part (node_of x k v y)) result new)
-      → Ends layouts s.alloc_counter kit 3 7 t limits (λ s' u part. IsJoined s' u ty part x (k, v) y) result new)
-  is_level layouts kit a limits new result one two same tested_one tested_two off_one off_two holds made =
+  pub is_level : (layouts : Layouts) (kit : Kit) (a : Account) (limits limits' : Limits) (new : StoreView D) (result : Result Part ListFault) (one two : Bool) → ty ≡ kit.node → Tested opened.left opened.right one → Tested opened.right opened.left two → one ≡ false → two ≡ false
+      → HoldsAccount layouts s t a → ((made : Ends layouts s.alloc_counter kit 1 1 t limits limits' (λ s' u part. PartIs s' u ty part (node_of x k v y)) result new)
+      → Ends layouts s.alloc_counter kit 3 7 t limits limits' (λ s' u part. IsJoined s' u ty part x (k, v) y) result new)
+  is_level layouts kit a limits limits' new result one two same tested_one tested_two off_one off_two holds made =
       let p = ltb-false (height y + 1) (height x) (sym (left_test one tested_one) ∙ off_one) in
       let q = ltb-false (height x + 1) (height y) (sym (right_test two tested_two) ∙ off_two) in
-      ends_within layouts s.alloc_counter kit 1 1 3 7 t limits new (omega arith) (omega arith) (λ s' u part. IsJoined s' u ty part x (k, v) y) result
-      (ends_map layouts s.alloc_counter kit 1 1 t limits new (λ s' u part. PartIs s' u ty part (node_of x k v y)) (λ s' u part. IsJoined s' u ty part x (k, v) y)
+      ends_within layouts s.alloc_counter kit 1 1 3 7 t limits limits' new (omega arith) (omega arith) (λ s' u part. IsJoined s' u ty part x (k, v) y) result
+      (ends_map layouts s.alloc_counter kit 1 1 t limits limits' new (λ s' u part. PartIs s' u ty part (node_of x k v y)) (λ s' u part. IsJoined s' u ty part x (k, v) y)
       (λ s' u part is'. record { tree = node_of x k v y; is = is'; joins = level x k v y is.left is.right (record { left = omega (arith, p); right = omega (arith, q) }) }) result made)

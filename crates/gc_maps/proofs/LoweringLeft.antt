@@ -11,6 +11,7 @@ use Rattle.gc_lists.specs.declared.fault.ListFault.{ListFault}
 use Rattle.gc_lists.specs.declared.kit.Kit.{Kit}
 use Rattle.gc_lists.specs.Frames.{Leaves}
 use Rattle.gc_lists.specs.Kits.{IsNodeType}
+use Rattle.gc_lists.proofs.Limiting.{counts_same}
 use Rattle.gc_maps.specs.declared.part.Part.{Part}
 use Rattle.gc_maps.specs.declared.part.Opened.{Opened}
 use Rattle.gc_maps.specs.Trees.{Tree, leaf, node, height}
@@ -39,12 +40,12 @@ module _ {D : Type 0} (layouts : Layouts) (kit : Kit) (s0 s1 s2 : StoreView D) (
   Opens answer = (t : Table D) (a : Account) (ty : ℕ) (x : Tree) (k v : ℤ) (y : Tree) → HoldsAccount layouts s0 t a → RootIs s0 t ty (Some root) (node_of x k v y)
       → height (node_of x k v y) < 2 ^ 31 → EndsReading layouts 2 t (λ s u o. OpenedIs s u ty o x k v y) answer s1
 
-  pub high_refused : (limits : Limits) (f : ListFault) → Opens (Err f) → (Done : StoreView D → Table D → Part → Type 0) → (x : Tree) → High x → Ends {A = Part} layouts s0.alloc_counter kit 3 7 t limits Done (Err f) s1
-  high_refused limits f opens Done leaf high = let e = high.high in absurd (omega (arith, e))
-  high_refused limits f opens Done (node x j u b) high =
+  pub high_refused : (limits limits' : Limits) (f : ListFault) → Opens (Err f) → (Done : StoreView D → Table D → Part → Type 0) → (x : Tree) → High x → Ends {A = Part} layouts s0.alloc_counter kit 3 7 t limits limits' Done (Err f) s1
+  high_refused limits limits' f opens Done leaf high = let e = high.high in absurd (omega (arith, e))
+  high_refused limits limits' f opens Done (node x j u b) high =
       let p = high.low in
-      ends_within {A = Part} layouts s0.alloc_counter kit 0 2 3 7 t limits s1 (omega arith) (omega arith) Done (Err f)
-      (reading_refused {A = Opened} {B = Part} layouts s0.alloc_counter kit 0 2 t limits (λ s w o. OpenedIs s w kit.node o x j u b) Done f s1 (opens t a kit.node x j u b holds high.root_is (omega (arith, p))))
+      ends_within {A = Part} layouts s0.alloc_counter kit 0 2 3 7 t limits limits' s1 (omega arith) (omega arith) Done (Err f)
+      (reading_refused {A = Opened} {B = Part} layouts s0.alloc_counter kit 0 2 t limits limits' (λ s w o. OpenedIs s w kit.node o x j u b) Done f s1 (opens t a kit.node x j u b holds high.root_is (omega (arith, p))))
 
   module _ (first : Opened) (opens : Opens (Ok first)) (x : Tree) (j u : ℤ) (b : Tree) (high : High (node x j u b)) where
     pub small : height (node_of x j u b) < 2 ^ 31
@@ -83,14 +84,14 @@ module _ {D : Type 0} (layouts : Layouts) (kit : Kit) (s0 s1 s2 : StoreView D) (
           in_low = record { left = b; key = k; value = v; right = y; is = low_is; low_left = omega (arith, p); low_right = omega (arith, p, q) };
         }
 
-  module _ (first : Opened) (limits : Limits) (result : Result Part ListFault) where
-    joined : (Made : StoreView D → Table D → Part → Type 0) (x : Tree) (n m : ℕ) (u : Table D) → Grows limits.limit kit 0 2 t u → n ≤ 3 → 2 + m ≤ 7
+  module _ (first : Opened) (limits limits' : Limits) (result : Result Part ListFault) where
+    joined : (Made : StoreView D → Table D → Part → Type 0) (x : Tree) (n m : ℕ) (u : Table D) → Grows limits'.limit kit 0 2 t u → n ≤ 3 → 2 + m ≤ 7
         → ((s : StoreView D) (w : Table D) (part : Part) → Made s w part → IsJoined s w kit.node part x (k, v) y)
-        → Ends layouts s1.alloc_counter kit n m u limits Made result s2 → Ends layouts s0.alloc_counter kit 3 7 t limits (λ s w part. IsJoined s w kit.node part x (k, v) y) result s2
+        → Ends layouts s1.alloc_counter kit n m u limits limits' Made result s2 → Ends layouts s0.alloc_counter kit 3 7 t limits limits' (λ s w part. IsJoined s w kit.node part x (k, v) y) result s2
     joined Made x n m u grows few low gives ends =
-        ends_within layouts s0.alloc_counter kit (0 + n) (2 + m) 3 7 t limits s2 (omega (arith, few)) low (λ s w part. IsJoined s w kit.node part x (k, v) y) result
-        (ends_after layouts s0.alloc_counter s1.alloc_counter same1.counter kit 0 2 n m t u limits s2 grows (λ s w part. IsJoined s w kit.node part x (k, v) y) result
-        (ends_map layouts s1.alloc_counter kit n m u limits s2 Made (λ s w part. IsJoined s w kit.node part x (k, v) y) gives result ends))
+        ends_within layouts s0.alloc_counter kit (0 + n) (2 + m) 3 7 t limits limits' s2 (omega (arith, few)) low (λ s w part. IsJoined s w kit.node part x (k, v) y) result
+        (ends_after layouts s0.alloc_counter s1.alloc_counter same1.counter kit 0 2 n m t u limits limits limits' (counts_same limits) s2 grows (λ s w part. IsJoined s w kit.node part x (k, v) y) result
+        (ends_map layouts s1.alloc_counter kit n m u limits limits' s2 Made (λ s w part. IsJoined s w kit.node part x (k, v) y) gives result ends))
 
   -- one turn suffices, or two are wanted
   module _ (first : Opened) (opens : Opens (Ok first)) (test : Bool) (tested : (m n : ℕ) → first.right.height ≡ pos m → first.left.height ≡ pos n → m < 1000 → n < 1000 → test ≡ nat_le m n) where
@@ -104,21 +105,21 @@ module _ {D : Type 0} (layouts : Layouts) (kit : Kit) (s0 s1 s2 : StoreView D) (
     over_in of leaf high = let e = high.high in absurd (omega (arith, e))
     over_in of (node x j u b) high = can_over first opens x j u b high of
 
-    pub over_joined : test ≡ true → (limits : Limits) (result : Result Part ListFault)
+    pub over_joined : test ≡ true → (limits limits' : Limits) (result : Result Part ListFault)
         → ((t : Table D) (a : Account) (x y z : Tree) (k v : ℤ) → HoldsAccount layouts s1 t a → PartIs s1 t kit.node first.left x
         → OpenedIs s1 t kit.node (record { left = first.right; key = to_z w64 (of_z w64 opened.key); value = to_z w64 (of_z w64 opened.value); right = opened.right }) y k v z
-        → Ends layouts s1.alloc_counter kit 2 2 t limits (λ s u part. PartIs s u kit.node part (node_of x (to_z w64 (of_z w64 first.key)) (to_z w64 (of_z w64 first.value)) (node_of y k v z))) result s2)
-        → (x : Tree) → High x → Ends layouts s0.alloc_counter kit 3 7 t limits (λ s u part. IsJoined s u kit.node part x (k, v) y) result s2
-    over_joined is limits result makes leaf high = let e = high.high in absurd (omega (arith, e))
-    over_joined is limits result makes (node x j u b) high =
+        → Ends layouts s1.alloc_counter kit 2 2 t limits limits' (λ s u part. PartIs s u kit.node part (node_of x (to_z w64 (of_z w64 first.key)) (to_z w64 (of_z w64 first.value)) (node_of y k v z))) result s2)
+        → (x : Tree) → High x → Ends layouts s0.alloc_counter kit 3 7 t limits limits' (λ s u part. IsJoined s u kit.node part x (k, v) y) result s2
+    over_joined is limits limits' result makes leaf high = let e = high.high in absurd (omega (arith, e))
+    over_joined is limits limits' result makes (node x j u b) high =
         let here = at first opens x j u b high in
         let outer = leb-true (height b) (height x) (sym (heights x j u b high) ∙ is) in
         let key = here.changed.1 in
         let Made : ℤ → ℤ → StoreView D → Table D → Part → Type 0 = λ m n s w part. PartIs s w kit.node part (node_of x m n (node_of b k v y)) in
-        joined first limits result (Made j u) (node x j u b) 2 2 here.after (pushes_grow kit 2 t here.after here.changed.0) (omega arith) (omega arith)
+        joined first limits limits' result (Made j u) (node x j u b) 2 2 here.after (pushes_grow kit 2 t here.after here.changed.0) (omega arith) (omega arith)
         (λ s w part made. record { tree = node_of x j u (node_of b k v y); is = made; joins = left_outer x j u b k v y high.left high.right high.high outer })
-        (subst (λ (m : ℤ). Ends layouts s1.alloc_counter kit 2 2 here.after limits (Made m u) result s2) (passed first.key j key.key_fits key.key_is)
-        (subst (λ (n : ℤ). Ends layouts s1.alloc_counter kit 2 2 here.after limits (Made (to_z w64 (of_z w64 first.key)) n) result s2) (passed first.value u key.value_fits key.value_is)
+        (subst (λ (m : ℤ). Ends layouts s1.alloc_counter kit 2 2 here.after limits limits' (Made m u) result s2) (passed first.key j key.key_fits key.key_is)
+        (subst (λ (n : ℤ). Ends layouts s1.alloc_counter kit 2 2 here.after limits limits' (Made (to_z w64 (of_z w64 first.key)) n) result s2) (passed first.value u key.value_fits key.value_is)
         (makes here.after here.account x b y k v here.holds key.left (low_is first opens x j u b high))))
 
     turns_here : test ≡ false → (x : Tree) (j u : ℤ) (b : Tree) (i w : ℤ) (c : Tree) (high : High (node x j u (node b i w c))) → Turns s1 (at first opens x j u (node b i w c) high).after kit.node first opened x j u b i w c k v y
@@ -163,15 +164,15 @@ module _ {D : Type 0} (layouts : Layouts) (kit : Kit) (s0 s1 s2 : StoreView D) (
           turns = turns_here is x j u b i w c high;
         }
 
-    pub turn_joined : test ≡ false → (limits : Limits) (result : Result Part ListFault)
+    pub turn_joined : test ≡ false → (limits limits' : Limits) (result : Result Part ListFault)
         → ((t : Table D) (a : Account) (x b c y : Tree) (j u i w k v : ℤ) → HoldsAccount layouts s1 t a → Turns s1 t kit.node first opened x j u b i w c k v y
-        → Ends layouts s1.alloc_counter kit 3 5 t limits (λ s u' part. PartIs s u' kit.node part (node_of (node_of x j u b) i w (node_of c k v y))) result s2)
-        → (x : Tree) → High x → Ends layouts s0.alloc_counter kit 3 7 t limits (λ s u part. IsJoined s u kit.node part x (k, v) y) result s2
-    turn_joined is limits result makes leaf high = let e = high.high in absurd (omega (arith, e))
-    turn_joined is limits result makes (node x j u leaf) high = let e = inner_high is x j u leaf high in absurd (omega (arith, e))
-    turn_joined is limits result makes (node x j u (node b i w c)) high =
+        → Ends layouts s1.alloc_counter kit 3 5 t limits limits' (λ s u' part. PartIs s u' kit.node part (node_of (node_of x j u b) i w (node_of c k v y))) result s2)
+        → (x : Tree) → High x → Ends layouts s0.alloc_counter kit 3 7 t limits limits' (λ s u part. IsJoined s u kit.node part x (k, v) y) result s2
+    turn_joined is limits limits' result makes leaf high = let e = high.high in absurd (omega (arith, e))
+    turn_joined is limits limits' result makes (node x j u leaf) high = let e = inner_high is x j u leaf high in absurd (omega (arith, e))
+    turn_joined is limits limits' result makes (node x j u (node b i w c)) high =
         let here = at first opens x j u (node b i w c) high in
-        joined first limits result (λ s w' part. PartIs s w' kit.node part (node_of (node_of x j u b) i w (node_of c k v y))) (node x j u (node b i w c)) 3 5 here.after
+        joined first limits limits' result (λ s w' part. PartIs s w' kit.node part (node_of (node_of x j u b) i w (node_of c k v y))) (node x j u (node b i w c)) 3 5 here.after
         (pushes_grow kit 2 t here.after here.changed.0) (omega arith) (omega arith)
         (λ s w' part made. record { tree = node_of (node_of x j u b) i w (node_of c k v y); is = made; joins = left_inner x j u b i w c k v y high.left high.right high.high (inner_high is x j u (node b i w c) high) })
         (makes here.after here.account x b c y j u i w k v here.holds (turns_here is x j u b i w c high))

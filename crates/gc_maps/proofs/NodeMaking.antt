@@ -38,7 +38,7 @@ use Rattle.gc_lists.specs.declared.kit.Kit.{Kit}
 use Rattle.gc_lists.specs.Cells as cells
 use Rattle.gc_lists.specs.Frames.{KeepsLimit, Leaves}
 use Rattle.gc_lists.specs.Kits.{node_fields, link, IsNodeType}
-use Rattle.gc_lists.proofs.Limiting.{places_limit}
+use Rattle.gc_lists.proofs.Limiting.{counts_same, places_limit}
 use Rattle.gc_lists.proofs.Pages.{gets_within, may_get_within}
 use Rattle.gc_lists.proofs.Links.{node_root, null_or_fits, struct_in_each}
 use Rattle.gc_maps.specs.declared.part.Part.{Part}
@@ -183,8 +183,8 @@ module _ {D : Type 0} (layouts : Layouts) (counter : Option ℕ) (kit : Kit) (s 
   pub gets_pages : (handle : GcRootIndex) (placed : Placed (Ok handle)) (u : Table D) → u.made ≡ true → u.pages ≡ placed.allocates.pages → KeepsLimit limits'.limit t u
   gets_pages handle placed u made is = within_after (Ok handle) u placed (gets_within limits.limit t u _ placed.allocates.pages placed.allocates.gets made is)
 
-  pub place_lacks : (f : GcHeapOutOfMemory (Unit {0})) → Placed (Err (place_fault.HeapOutOfMemory f)) → LacksNode layouts counter kit 1 1 t limits' f.bytes_needed new
-  place_lacks f lacks = record { before = policy_state t a limits; grows = grows_none kit 1 1 t; asked = s; held = holds; object = object; of_kit = of_kit; lacks = lacks }
+  pub place_lacks : (f : GcHeapOutOfMemory (Unit {0})) → Placed (Err (place_fault.HeapOutOfMemory f)) → LacksNode layouts counter kit 1 1 t limits limits' f.bytes_needed new
+  place_lacks f lacks = record { before = policy_state t a limits; counts = counts_same limits; grows = grows_none kit 1 1 t; asked = s; held = holds; object = object; of_kit = of_kit; lacks = lacks }
 
 low_of : (h : ℤ) (n : ℕ) → IsLow h → h ≡ pos n → n < 1000
 low_of h n low is = let same : pos low.number ≡ pos n = sym low.is ∙ is in let e : low.number ≡ n = grind (arith, same) in let below = low.low in omega (arith, e, below)

@@ -12,6 +12,7 @@ use Rattle.gc_lists.specs.declared.fault.ListFault.{ListFault}
 use Rattle.gc_lists.specs.declared.kit.Kit.{Kit}
 use Rattle.gc_lists.specs.Frames.{Leaves}
 use Rattle.gc_lists.specs.Kits.{IsNodeType}
+use Rattle.gc_lists.proofs.Limiting.{counts_same}
 use Rattle.gc_maps.specs.declared.part.Frame.{Frame}
 use Rattle.gc_maps.specs.declared.part.Node.{Node}
 use Rattle.gc_maps.specs.declared.part.Part.{Part}
@@ -60,8 +61,8 @@ module _ {D : Type 0} (layouts : Layouts) (kit : Kit) (s0 s1 : StoreView D) (sam
         path_pairs s1 u kit.node frames d.here tree d.before d.behind d.path ∙ ap (λ (here : Tree). d.before ++ (pairs here ++ d.behind)) d.there
         ∙ sym (gap.without ∙ ap (λ (left : Tree). d.before ++ ((pairs left ++ pairs d.right) ++ d.behind)) d.children.0 ∙ ap (λ (right : Tree). d.before ++ (pairs right ++ d.behind)) d.children.1)
 
-    pub stays : (s2 : StoreView D) (part : Part) (limits : Limits) → ReadsPart layouts s1 s2 root part → Ends layouts s0.alloc_counter kit 276 1012 t limits Built (Ok part) s2
-    stays s2 part limits reads =
+    pub stays : (s2 : StoreView D) (part : Part) (limits limits' : Limits) → ReadsPart layouts s1 s2 root part → Ends layouts s0.alloc_counter kit 276 1012 t limits limits' Built (Ok part) s2
+    stays s2 part limits limits' reads =
         let got : PartIs s2 down.after kit.node part tree × HoldsAccount layouts s2 down.after down.account = reads down.after down.account kit.node tree down.holds root1 (omega (arith, low)) in
         record {
           after = down.after;
@@ -88,11 +89,11 @@ module _ {D : Type 0} (layouts : Layouts) (kit : Kit) (s0 s1 : StoreView D) (sam
       abbrev Closing : Result Part ListFault → Type 0
       Closing result = ClosesGap layouts s1 frames read fs s2 key result
 
-      pub gap_refused : (limits : Limits) (f : ListFault) → Closing (Err f) → Ends {A = Part} layouts s0.alloc_counter kit 276 1012 t limits Built (Err f) s2
-      gap_refused limits f closes =
-          ends_within {A = Part} layouts s0.alloc_counter kit (0 + 0) (184 + 184) 276 1012 t limits s2 (omega arith) (omega arith) Built (Err f)
-          (refused_after {A = Part} {B = Part} layouts s0.alloc_counter s1.alloc_counter same1.counter kit 0 184 0 184 t u1 limits s2 (pushes_grow kit 184 t u1 down.changed.0) Built Built f
-          (read_refused {A = Part} {B = Part} layouts s1.alloc_counter kit 0 184 184 u1 limits (λ s u part. Closes s u kit.node fs part (others key (pairs tree))) Built f s2 (omega arith)
+      pub gap_refused : (limits limits' : Limits) (f : ListFault) → Closing (Err f) → Ends {A = Part} layouts s0.alloc_counter kit 276 1012 t limits limits' Built (Err f) s2
+      gap_refused limits limits' f closes =
+          ends_within {A = Part} layouts s0.alloc_counter kit (0 + 0) (184 + 184) 276 1012 t limits limits' s2 (omega arith) (omega arith) Built (Err f)
+          (refused_after {A = Part} {B = Part} layouts s0.alloc_counter s1.alloc_counter same1.counter kit 0 184 0 184 t u1 limits limits limits' (counts_same limits) s2 (pushes_grow kit 184 t u1 down.changed.0) Built Built f
+          (read_refused {A = Part} {B = Part} layouts s1.alloc_counter kit 0 184 184 u1 limits limits' (λ s u part. Closes s u kit.node fs part (others key (pairs tree))) Built f s2 (omega arith)
           (closes u1 down.account kit.node tree down.holds search_is low down.changed.1)))
 
       module _ (same2 : IsSameStore s1 s2) (part : Part) (closes : Closing (Ok part)) where
@@ -114,13 +115,13 @@ module _ {D : Type 0} (layouts : Layouts) (kit : Kit) (s0 s1 : StoreView D) (sam
           rises = c.rises;
         }
 
-        pub taken_out : (s3 : StoreView D) (limits3 : Limits) (result : Result Part ListFault)
+        pub taken_out : (s3 : StoreView D) (limits limits' : Limits) (result : Result Part ListFault)
             → ((t : Table D) (a : Account) (whole : Tree) (entries : List (ℤ × ℤ)) → HoldsAccount layouts s2 t a → IsBalanced whole → height whole < 92 → Rises s2 t kit.node whole fs part entries
-            → Ends layouts s2.alloc_counter kit 276 644 t limits3 (λ s u built. IsBuilt s u kit.node built entries) result s3)
-            → Ends layouts s0.alloc_counter kit 276 1012 t limits3 Built result s3
-        taken_out s3 limits3 result builds =
-            ends_within layouts s0.alloc_counter kit (0 + 276) (184 + 828) 276 1012 t limits3 s3 (omega arith) (omega arith) Built result
-            (ends_after layouts s0.alloc_counter s1.alloc_counter same1.counter kit 0 184 276 828 t u1 limits3 s3 (pushes_grow kit 184 t u1 down.changed.0) Built result
-            (ends_within layouts s1.alloc_counter kit (0 + 276) (184 + 644) 276 828 u1 limits3 s3 (omega arith) (omega arith) Built result
-            (ends_after layouts s1.alloc_counter s2.alloc_counter same2.counter kit 0 184 276 644 u1 two.after limits3 s3 (pushes_grow kit 184 u1 two.after two.changed.0) Built result
+            → Ends layouts s2.alloc_counter kit 276 644 t limits limits' (λ s u built. IsBuilt s u kit.node built entries) result s3)
+            → Ends layouts s0.alloc_counter kit 276 1012 t limits limits' Built result s3
+        taken_out s3 limits limits' result builds =
+            ends_within layouts s0.alloc_counter kit (0 + 276) (184 + 828) 276 1012 t limits limits' s3 (omega arith) (omega arith) Built result
+            (ends_after layouts s0.alloc_counter s1.alloc_counter same1.counter kit 0 184 276 828 t u1 limits limits limits' (counts_same limits) s3 (pushes_grow kit 184 t u1 down.changed.0) Built result
+            (ends_within layouts s1.alloc_counter kit (0 + 276) (184 + 644) 276 828 u1 limits limits' s3 (omega arith) (omega arith) Built result
+            (ends_after layouts s1.alloc_counter s2.alloc_counter same2.counter kit 0 184 276 644 u1 two.after limits limits limits' (counts_same limits) s3 (pushes_grow kit 184 u1 two.after two.changed.0) Built result
             (builds two.after two.account c.whole (others key (pairs tree)) two.holds c.balanced c.low c.rises))))

@@ -12,6 +12,7 @@ use Rattle.gc_lists.specs.declared.fault.ListFault.TheVariants as fault
 use Rattle.gc_lists.specs.declared.kit.Kit.{Kit}
 use Rattle.gc_lists.specs.Frames.{Leaves}
 use Rattle.gc_lists.specs.Kits.{IsNodeType}
+use Rattle.gc_lists.proofs.Limiting.{counts_same}
 use Rattle.gc_maps.specs.declared.part.Part.{Part}
 use Rattle.gc_maps.specs.declared.part.Opened.{Opened}
 use Rattle.gc_maps.specs.Trees.{Tree, node, height}
@@ -24,12 +25,12 @@ use Rattle.gc_maps.proofs.Growing.{pushes_keep, pushes_grow}
 use Rattle.gc_maps.proofs.Steps.{ends_after, ends_within, nodes_later, passed}
 
 -- a refusal of steps that only read, where nodes are made
-pub reading_refused : {D A B : Type 0} (layouts : Layouts) (counter : Option ℕ) (kit : Kit) (n m : ℕ) (t : Table D) (limits : Limits) (DoneA : StoreView D → Table D → A → Type 0) (DoneB : StoreView D → Table D → B → Type 0)
-    (f : ListFault) (new : StoreView D) → EndsReading {A = A} layouts m t DoneA (Err f) new → Ends {A = B} layouts counter kit 0 m t limits DoneB (Err f) new
-reading_refused layouts counter kit n m t limits DoneA DoneB fault.WrongStore new ends = ends
-reading_refused layouts counter kit n m t limits DoneA DoneB fault.RootsFull new ends = record { after = ends.after; account = ends.account; holds = ends.holds; changed = (pushes_grow kit m t ends.after ends.changed.0, ends.changed.1) }
-reading_refused layouts counter kit n m t limits DoneA DoneB (fault.HeapOutOfMemory f) new ends = absurd ends
-reading_refused layouts counter kit n m t limits DoneA DoneB fault.Memory new ends = record { after = ends.after; account = ends.account; holds = ends.holds; changed = pushes_grow kit m t ends.after ends.changed }
+pub reading_refused : {D A B : Type 0} (layouts : Layouts) (counter : Option ℕ) (kit : Kit) (n m : ℕ) (t : Table D) (limits limits' : Limits) (DoneA : StoreView D → Table D → A → Type 0) (DoneB : StoreView D → Table D → B → Type 0)
+    (f : ListFault) (new : StoreView D) → EndsReading {A = A} layouts m t DoneA (Err f) new → Ends {A = B} layouts counter kit 0 m t limits limits' DoneB (Err f) new
+reading_refused layouts counter kit n m t limits limits' DoneA DoneB fault.WrongStore new ends = ends
+reading_refused layouts counter kit n m t limits limits' DoneA DoneB fault.RootsFull new ends = record { after = ends.after; account = ends.account; holds = ends.holds; changed = (pushes_grow kit m t ends.after ends.changed.0, ends.changed.1) }
+reading_refused layouts counter kit n m t limits limits' DoneA DoneB (fault.HeapOutOfMemory f) new ends = absurd ends
+reading_refused layouts counter kit n m t limits limits' DoneA DoneB fault.Memory new ends = record { after = ends.after; account = ends.account; holds = ends.holds; changed = pushes_grow kit m t ends.after ends.changed }
 
 module _ {D : Type 0} (layouts : Layouts) (kit : Kit) (s0 s1 s2 : StoreView D) (same1 : IsSameStore s0 s1) (high opened : Opened) (middle : GcRootIndex) (is_middle : high.right.root ≡ Some middle)
     (t : Table D) (a : Account) (holds : HoldsAccount layouts s0 t a) (x : Tree) (j u : ℤ) (b : Tree) (i w : ℤ) (c : Tree) (k v : ℤ) (y : Tree) (turns : Turns s0 t kit.node high opened x j u b i w c k v y) where
@@ -51,10 +52,10 @@ module _ {D : Type 0} (layouts : Layouts) (kit : Kit) (s0 s1 s2 : StoreView D) (
   Opens answer = (t : Table D) (a : Account) (ty : ℕ) (x : Tree) (k v : ℤ) (y : Tree) → HoldsAccount layouts s0 t a → RootIs s0 t ty (Some middle) (node_of x k v y)
       → height (node_of x k v y) < 2 ^ 31 → EndsReading layouts 2 t (λ s u o. OpenedIs s u ty o x k v y) answer s1
 
-  pub turn_refused : (limits : Limits) (f : ListFault) → Opens (Err f) → (Done : StoreView D → Table D → Part → Type 0) → Ends {A = Part} layouts s0.alloc_counter kit 3 5 t limits Done (Err f) s1
-  turn_refused limits f opens Done =
-      ends_within {A = Part} layouts s0.alloc_counter kit 0 2 3 5 t limits s1 (omega arith) (omega arith) Done (Err f)
-      (reading_refused {A = Opened} {B = Part} layouts s0.alloc_counter kit 0 2 t limits (λ s u o. OpenedIs s u kit.node o b i w c) Done f s1 (opens t a kit.node b i w c holds middle_root middle_low))
+  pub turn_refused : (limits limits' : Limits) (f : ListFault) → Opens (Err f) → (Done : StoreView D → Table D → Part → Type 0) → Ends {A = Part} layouts s0.alloc_counter kit 3 5 t limits limits' Done (Err f) s1
+  turn_refused limits limits' f opens Done =
+      ends_within {A = Part} layouts s0.alloc_counter kit 0 2 3 5 t limits limits' s1 (omega arith) (omega arith) Done (Err f)
+      (reading_refused {A = Opened} {B = Part} layouts s0.alloc_counter kit 0 2 t limits limits' (λ s u o. OpenedIs s u kit.node o b i w c) Done f s1 (opens t a kit.node b i w c holds middle_root middle_low))
 
   module _ (inner : Opened) (opens : Opens (Ok inner)) where
     abbrev pub at : Leaves layouts (λ u. Pushes 2 t u × OpenedIs s1 u kit.node inner b i w c) s1
@@ -100,15 +101,15 @@ module _ {D : Type 0} (layouts : Layouts) (kit : Kit) (s0 s1 s2 : StoreView D) (
           in_right = record { left = c; key = k; value = v; right = y; is = right_is; low_left = omega (arith, r); low_right = omega (arith, l) };
         }
 
-    pub turned : (limits : Limits) (result : Result Part ListFault)
+    pub turned : (limits limits' : Limits) (result : Result Part ListFault)
         → ((t : Table D) (a : Account) (x y z w : Tree) (j u k v : ℤ) → HoldsAccount layouts s1 t a → OpenedIs s1 t kit.node low_left x j u y → OpenedIs s1 t kit.node low_right z k v w
-        → Ends layouts s1.alloc_counter kit 3 3 t limits (λ s u' part. PartIs s u' kit.node part (node_of (node_of x j u y) (to_z w64 (of_z w64 inner.key)) (to_z w64 (of_z w64 inner.value)) (node_of z k v w))) result s2)
-        → Ends layouts s0.alloc_counter kit 3 5 t limits (λ s u' part. PartIs s u' kit.node part (node_of (node_of x j u b) i w (node_of c k v y))) result s2
-    turned limits result makes =
+        → Ends layouts s1.alloc_counter kit 3 3 t limits limits' (λ s u' part. PartIs s u' kit.node part (node_of (node_of x j u y) (to_z w64 (of_z w64 inner.key)) (to_z w64 (of_z w64 inner.value)) (node_of z k v w))) result s2)
+        → Ends layouts s0.alloc_counter kit 3 5 t limits limits' (λ s u' part. PartIs s u' kit.node part (node_of (node_of x j u b) i w (node_of c k v y))) result s2
+    turned limits limits' result makes =
         let the : ℤ → ℤ → StoreView D → Table D → Part → Type 0 = λ m n s u' part. PartIs s u' kit.node part (node_of (node_of x j u b) m n (node_of c k v y)) in
         let is = at.changed.1 in
-        ends_within layouts s0.alloc_counter kit (0 + 3) (2 + 3) 3 5 t limits s2 (omega arith) (omega arith) (the i w) result
-        (ends_after layouts s0.alloc_counter s1.alloc_counter same1.counter kit 0 2 3 3 t at.after limits s2 (pushes_grow kit 2 t at.after at.changed.0) (the i w) result
-        (subst (λ (m : ℤ). Ends layouts s1.alloc_counter kit 3 3 at.after limits (the m w) result s2) (passed inner.key i is.key_fits is.key_is)
-        (subst (λ (n : ℤ). Ends layouts s1.alloc_counter kit 3 3 at.after limits (the (to_z w64 (of_z w64 inner.key)) n) result s2) (passed inner.value w is.value_fits is.value_is)
+        ends_within layouts s0.alloc_counter kit (0 + 3) (2 + 3) 3 5 t limits limits' s2 (omega arith) (omega arith) (the i w) result
+        (ends_after layouts s0.alloc_counter s1.alloc_counter same1.counter kit 0 2 3 3 t at.after limits limits limits' (counts_same limits) s2 (pushes_grow kit 2 t at.after at.changed.0) (the i w) result
+        (subst (λ (m : ℤ). Ends layouts s1.alloc_counter kit 3 3 at.after limits limits' (the m w) result s2) (passed inner.key i is.key_fits is.key_is)
+        (subst (λ (n : ℤ). Ends layouts s1.alloc_counter kit 3 3 at.after limits limits' (the (to_z w64 (of_z w64 inner.key)) n) result s2) (passed inner.value w is.value_fits is.value_is)
         (makes at.after at.account x b c y j u k v at.holds left_is right_is))))

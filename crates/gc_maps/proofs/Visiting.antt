@@ -21,7 +21,7 @@ use Rattle.gc_maps.specs.Trees.{Tree, leaf, node, height, pairs}
 use Rattle.gc_maps.specs.Maps.{IntMap, MapStands, StandsForMapOf}
 use Rattle.gc_maps.specs.Parts.{RootIs, NodeIs, node_of}
 use Rattle.gc_maps.specs.Ends.{Pushes, EndsReading}
-use Rattle.gc_maps.specs.Copies.{Visits, LacksVisits, RootWithin, NodeWithin, EndsCopying, CopiedEntries, FailsToCopyEntries}
+use Rattle.gc_maps.specs.Copies.{Visits, LacksVisits, StopsForRoots, RootWithin, NodeWithin, EndsCopying, CopiedEntries, FailsToCopyEntries}
 use Rattle.gc_maps.proofs.Naming.{Keeps, keeps_then, names_more, root_kept, held_table}
 use Rattle.gc_maps.proofs.Growing.{pushes_none}
 use Rattle.gc_maps.proofs.NodeReads.{not_null}
@@ -128,6 +128,19 @@ module _ {D : Type 0} where
     | inr end ↦ inr (omega (arith, end))
   ]
 
+-- so where steps stop
+module _ {D : Type 0} (layouts : Layouts) where
+  stops_then : (m a roots ends : ℕ) (t u : Table D) → Visits m a t u → StopsForRoots layouts roots ends u → StopsForRoots layouts (m + roots) (a + ends) t
+  stops_then m a roots ends t u visits stops =
+      record { inside = stops.inside; step = stops.step; account = stops.account; holds = stops.holds; visits = visits_then m a roots ends t u stops.step visits stops.visits; full = stops.full }
+
+  stops_within : (roots ends roots' ends' : ℕ) (t : Table D) → roots ≤ roots' → ends ≤ ends' → StopsForRoots layouts roots ends t → StopsForRoots layouts roots' ends' t
+  stops_within roots ends roots' ends' t below fewer stops =
+      record { inside = stops.inside; step = stops.step; account = stops.account; holds = stops.holds; visits = visits_within roots ends roots' ends' t stops.step below fewer stops.visits; full = stops.full }
+
+  stops_lack : (roots ends : ℕ) (t : Table D) → StopsForRoots layouts roots ends t → LacksVisits t (roots + 1) (ends + 0)
+  stops_lack roots ends t stops = lacks_then roots ends 1 0 t stops.step stops.visits (lacks_full stops.step stops.full)
+
 -- Steps behind those that came before, within what is allowed for all
 module _ {D : Type 0} (layouts : Layouts) (t u : Table D) (new : StoreView D) (m a n roots ends n' roots' ends' : ℕ) (before : Visits m a t u) (within : m + n ≤ n') (room : m + roots ≤ roots') (fewer : a + ends ≤ ends') where
   leaves_after : Leaves layouts (Visits n ends u) new → Leaves layouts (Visits n' ends' t) new
@@ -141,7 +154,7 @@ module _ {D : Type 0} (layouts : Layouts) (t u : Table D) (new : StoreView D) (m
   pub refused_after : (copied copied' : Type 0) (f : ListFault) → EndsCopying layouts n roots ends u copied (Err f) new → EndsCopying layouts n' roots' ends' t copied' (Err f) new
   refused_after copied copied' fault.WrongStore stopped = stopped
   refused_after copied copied' fault.RootsFull stopped =
-      (lacks_within (m + roots) (a + ends) roots' ends' t room fewer (lacks_then m a roots ends t u before stopped.0), leaves_after stopped.1)
+      (stops_within layouts (m + roots) (a + ends) roots' ends' t room fewer (stops_then layouts m a roots ends t u before stopped.0), leaves_after stopped.1)
   refused_after copied copied' (fault.HeapOutOfMemory f) stopped = stopped
   refused_after copied copied' fault.Memory stopped = leaves_after stopped
 
@@ -152,12 +165,12 @@ module _ {D : Type 0} (layouts : Layouts) (t u : Table D) (new : StoreView D) (m
 -- what a copy of a part and of a node says
 abbrev pub CopiesPart : {D : Type 0} → Layouts → StoreView D → Option GcRootIndex → ℕ → List (ℤ × ℤ) → List (ℤ × ℤ) → Result (Unit {0}) ListFault → StoreView D → Type 0
 CopiesPart {D} layouts s root depth old now result new = (t : Table D) (a : Account) (ty : ℕ) (tree : Tree) → HoldsAccount layouts s t a → RootIs s t ty root tree → height tree ≤ depth
-    → EndsCopying layouts 0 (2 * depth + 1) (length (pairs tree)) t (now ≡ old ++ pairs tree) result new
+    → EndsCopying layouts 0 (2 * depth) (length (pairs tree)) t (now ≡ old ++ pairs tree) result new
 
 abbrev pub CopiesNode : {D : Type 0} → Layouts → StoreView D → GcRootIndex → ℕ → List (ℤ × ℤ) → List (ℤ × ℤ) → Result (Unit {0}) ListFault → StoreView D → Type 0
 CopiesNode {D} layouts s h depth old now result new = (t : Table D) (a : Account) (ty : ℕ) (x : Tree) (k v : ℤ) (y : Tree) → HoldsAccount layouts s t a → RootIs s t ty (Some h) (node_of x k v y)
     → height (node_of x k v y) ≤ depth + 1
-    → EndsCopying layouts 2 (2 * depth + 3) (length (pairs x) + length (pairs y)) t (now ≡ old ++ pairs (node_of x k v y)) result new
+    → EndsCopying layouts 2 (2 * depth + 2) (length (pairs x) + length (pairs y)) t (now ≡ old ++ pairs (node_of x k v y)) result new
 
 abbrev pub ReadsNode : {D : Type 0} → Layouts → StoreView D → GcRootIndex → Result Node ListFault → StoreView D → Type 0
 ReadsNode {D} layouts s h result new = (t : Table D) (a : Account) (ty : ℕ) (x : Tree) (k v : ℤ) (y : Tree) → HoldsAccount layouts s t a → RootIs s t ty (Some h) (node_of x k v y)
@@ -167,7 +180,7 @@ ReadsNode {D} layouts s h result new = (t : Table D) (a : Account) (ty : ℕ) (x
 pub nothing_copied : {D : Type 0} (layouts : Layouts) (s : StoreView D) (root : Option GcRootIndex) (depth : ℕ) (old : List (ℤ × ℤ)) → root ≡ None → CopiesPart layouts s root depth old old (Ok tt) s
 nothing_copied {D} layouts s root depth old none t a ty tree holds is low = by tree (subst (λ (r : Option GcRootIndex). RootIs s t ty r tree) none is)
   where
-    by : (part : Tree) → RootIs s t ty None part → EndsCopying layouts 0 (2 * depth + 1) (length (pairs part)) t (old ≡ old ++ pairs part) (Ok tt) s
+    by : (part : Tree) → RootIs s t ty None part → EndsCopying layouts 0 (2 * depth) (length (pairs part)) t (old ≡ old ++ pairs part) (Ok tt) s
     by leaf at = (record { after = t; account = a; holds = holds; changed = visits_none t }, sym (append-nil old))
     by (node x k v y) at = let named = at.is.is_node.named in let null_is = at.names in absurd (cc (named, null_is))
 
@@ -200,7 +213,7 @@ module _ {D : Type 0} (layouts : Layouts) (s : StoreView D) (root : Option GcRoo
     ends_left t a holds roots roots' ends ends' room count copied (Ok x) done = (leaves_left t a holds 2 ends ends' count done.0, done.1)
     ends_left t a holds roots roots' ends ends' room count copied (Err fault.WrongStore) done = done
     ends_left t a holds roots roots' ends ends' room count copied (Err fault.RootsFull) done =
-        (lacks_within roots ends roots' ends' t (omega (arith, room)) (omega (arith, count)) done.0, leaves_left t a holds 2 ends ends' count done.1)
+        (stops_within layouts roots ends roots' ends' t (omega (arith, room)) (omega (arith, count)) done.0, leaves_left t a holds 2 ends ends' count done.1)
     ends_left t a holds roots roots' ends ends' room count copied (Err (fault.HeapOutOfMemory f)) done = done
     ends_left t a holds roots roots' ends ends' room count copied (Err fault.Memory) done = leaves_left t a holds 2 ends ends' count done
 
@@ -208,11 +221,11 @@ module _ {D : Type 0} (layouts : Layouts) (s : StoreView D) (root : Option GcRoo
         → CopiesPart layouts s root depth old now result new
     part_copied depth below is old now result copies t a ty tree holds at = by tree (subst (λ (r : Option GcRootIndex). RootIs s t ty r tree) some at)
       where
-        by : (part : Tree) → RootIs s t ty (Some h) part → height part ≤ depth → EndsCopying layouts 0 (2 * depth + 1) (length (pairs part)) t (now ≡ old ++ pairs part) result new
+        by : (part : Tree) → RootIs s t ty (Some h) part → height part ≤ depth → EndsCopying layouts 0 (2 * depth) (length (pairs part)) t (now ≡ old ++ pairs part) result new
         by leaf here low = absurd (not_null layouts s t (held_table layouts s t a holds) h here.reference here.names here.is)
         by (node x k v y) here low =
             let count : length (pairs (node x k v y)) ≡ length (pairs x) + length ((k, v) ∷ pairs y) = length-append (pairs x) ((k, v) ∷ pairs y) in
-            ends_left t a holds (2 * below + 3) (2 * depth + 1) (length (pairs x) + length (pairs y)) (length (pairs (node x k v y))) (omega (arith, is)) (omega (arith, count)) (now ≡ old ++ pairs (node x k v y)) result
+            ends_left t a holds (2 * below + 2) (2 * depth) (length (pairs x) + length (pairs y)) (length (pairs (node x k v y))) (omega (arith, is)) (omega (arith, count)) (now ≡ old ++ pairs (node x k v y)) result
             (copies t a ty x k v y holds here (omega (arith, low, is)))
 
 -- a node that can't be read
@@ -227,11 +240,11 @@ node_refused {D} layouts s h depth old now new f reads t a ty x k v y holds is l
     left_as u b held pushes = record { after = u; account = b; holds = held; changed = visits_within 2 0 2 ends t u (omega arith) (omega arith) (pushes_visit 2 t u pushes) }
 
     by : (g : ListFault) → EndsReading {A = Node} layouts 2 t (λ s' u read. NodeIs s' u ty read x k v y) (Err g) new
-        → EndsCopying layouts 2 (2 * depth + 3) ends t (now ≡ old ++ pairs (node x k v y)) (Err g) new
+        → EndsCopying layouts 2 (2 * depth + 2) ends t (now ≡ old ++ pairs (node x k v y)) (Err g) new
     by fault.WrongStore stopped = stopped
     by fault.RootsFull stopped = (
-      lacks_within (2 + 1) (0 + 0) (2 * depth + 3) ends t (omega arith) (omega arith)
-          (lacks_then 2 0 1 0 t stopped.after (pushes_visit 2 t stopped.after stopped.changed.0) (lacks_full stopped.after stopped.changed.1)),
+      stops_within layouts 2 0 (2 * depth + 2) ends t (omega arith) (omega arith)
+          (record { inside = new; step = stopped.after; account = stopped.account; holds = stopped.holds; visits = pushes_visit 2 t stopped.after stopped.changed.0; full = stopped.changed.1 }),
       left_as stopped.after stopped.account stopped.holds stopped.changed.0,
     )
     by (fault.HeapOutOfMemory g) stopped = stopped
@@ -253,9 +266,9 @@ module _ {D : Type 0} (layouts : Layouts) (s0 s1 s2 s3 : StoreView D) (h : GcRoo
     visited = pushes_visit 2 t one.after one.changed.0
 
     pub left_refused : (old mid now : List (ℤ × ℤ)) (f : ListFault) → CopiesPart layouts s1 read.left depth old mid (Err f) s2 → height (node_of x k v y) ≤ depth + 1
-        → EndsCopying layouts 2 (2 * depth + 3) (length (pairs x) + length (pairs y)) t (now ≡ old ++ pairs (node_of x k v y)) (Err f) s2
+        → EndsCopying layouts 2 (2 * depth + 2) (length (pairs x) + length (pairs y)) t (now ≡ old ++ pairs (node_of x k v y)) (Err f) s2
     left_refused old mid now f copies low =
-        refused_after layouts t one.after s2 2 0 0 (2 * depth + 1) (length (pairs x)) 2 (2 * depth + 3) (length (pairs x) + length (pairs y)) visited (omega arith) (omega arith) (omega arith)
+        refused_after layouts t one.after s2 2 0 0 (2 * depth) (length (pairs x)) 2 (2 * depth + 2) (length (pairs x) + length (pairs y)) visited (omega arith) (omega arith) (omega arith)
         (mid ≡ old ++ pairs x) (now ≡ old ++ pairs (node_of x k v y)) f (copies one.after one.account ty x one.holds one.changed.1.left (omega (arith, low)))
 
     -- and its left child copied
@@ -275,7 +288,7 @@ module _ {D : Type 0} (layouts : Layouts) (s0 s1 s2 s3 : StoreView D) (h : GcRoo
       visited_both : Visits (2 + 0) (0 + length (pairs x)) t two.0.after
       visited_both = visits_then 2 0 0 (length (pairs x)) t one.after two.0.after visited two.0.changed
 
-      pub no_room : (now : List (ℤ × ℤ)) → EndsCopying layouts 2 (2 * depth + 3) (length (pairs x) + length (pairs y)) t (now ≡ old ++ pairs (node_of x k v y)) (Err fault.Memory) s2
+      pub no_room : (now : List (ℤ × ℤ)) → EndsCopying layouts 2 (2 * depth + 2) (length (pairs x) + length (pairs y)) t (now ≡ old ++ pairs (node_of x k v y)) (Err fault.Memory) s2
       no_room now = record {
         after = two.0.after;
         account = two.0.account;
@@ -291,9 +304,9 @@ module _ {D : Type 0} (layouts : Layouts) (s0 s1 s2 s3 : StoreView D) (h : GcRoo
           ∙ append_assoc (old ++ pairs x) ((k, v) ∷ []) (pairs y) ∙ append_assoc old (pairs x) ((k, v) ∷ pairs y)
 
       pub right_copied : (pushed now : List (ℤ × ℤ)) → pushed ≡ mid ++ (to_z w64 (of_z w64 read.key), to_z w64 (of_z w64 read.value)) ∷ [] → (result : Result (Unit {0}) ListFault) → CopiesPart layouts s2 read.right depth pushed now result s3
-          → EndsCopying layouts 2 (2 * depth + 3) (length (pairs x) + length (pairs y)) t (now ≡ old ++ pairs (node_of x k v y)) result s3
+          → EndsCopying layouts 2 (2 * depth + 2) (length (pairs x) + length (pairs y)) t (now ≡ old ++ pairs (node_of x k v y)) result s3
       right_copied pushed now push result right =
-          copied_after layouts t two.0.after s3 (2 + 0) (0 + length (pairs x)) 0 (2 * depth + 1) (length (pairs y)) 2 (2 * depth + 3) (length (pairs x) + length (pairs y)) visited_both
+          copied_after layouts t two.0.after s3 (2 + 0) (0 + length (pairs x)) 0 (2 * depth) (length (pairs y)) 2 (2 * depth + 2) (length (pairs x) + length (pairs y)) visited_both
           (omega arith) (omega arith) (omega arith) (now ≡ pushed ++ pairs y) (now ≡ old ++ pairs (node_of x k v y)) (all_copied pushed now push) result
           (right two.0.after two.0.account ty y two.0.holds right_is (omega (arith, low)))
 
@@ -306,7 +319,7 @@ module _ {D : Type 0} (layouts : Layouts) (s : StoreView D) (version : Option Gc
       record { here = record { table = within.table; holds = within.holds; ty = within.ty; tree = within.tree; is = within.is }; low = omega (arith, low) }
 
   module _ (old now : List (ℤ × ℤ)) (empty : old ≡ []) (new : StoreView D) (t : Table D) (a : Account) (ty : ℕ) (m : IntMap) (holds : HoldsAccount layouts s t a) (stands : StandsForMapOf s t version ty m) where
-    ended : (result : Result (Unit {0}) ListFault) → CopiesPart layouts s version 92 old now result new → EndsCopying layouts 0 185 (length (pairs stands.is.tree)) t (now ≡ old ++ pairs stands.is.tree) result new
+    ended : (result : Result (Unit {0}) ListFault) → CopiesPart layouts s version 92 old now result new → EndsCopying layouts 0 184 (length (pairs stands.is.tree)) t (now ≡ old ++ pairs stands.is.tree) result new
     ended result copies =
         let is = map_root s t version ty m stands in
         let low = root_low s t ty version stands.is.tree is (map_search s t version ty m stands) in
@@ -326,8 +339,14 @@ module _ {D : Type 0} (layouts : Layouts) (s : StoreView D) (version : Option Gc
         count : length (pairs stands.is.tree) ≡ finite.len m
         count = ap length (sym stands.is.entries) ∙ sym (finite.len-entries m)
 
-        by : (g : ListFault) → EndsCopying layouts 0 185 (length (pairs stands.is.tree)) t (now ≡ old ++ pairs stands.is.tree) (Err g) new → FailsToCopyEntries layouts m t g new
+        by : (g : ListFault) → EndsCopying layouts 0 184 (length (pairs stands.is.tree)) t (now ≡ old ++ pairs stands.is.tree) (Err g) new → FailsToCopyEntries layouts m t g new
         by fault.WrongStore stopped = stopped
-        by fault.RootsFull stopped = (lacks_within 185 (length (pairs stands.is.tree)) most_objects (finite.len m) t (omega arith) (omega (arith, count)) stopped.0, roots_changed stopped.1)
+        by fault.RootsFull stopped = (
+          (
+            stops_within layouts 184 (length (pairs stands.is.tree)) most_objects (finite.len m) t (omega arith) (omega (arith, count)) stopped.0,
+            lacks_within (184 + 1) (length (pairs stands.is.tree) + 0) most_objects (finite.len m) t (omega arith) (omega (arith, count)) (stops_lack layouts 184 (length (pairs stands.is.tree)) t stopped.0),
+          ),
+          roots_changed stopped.1,
+        )
         by (fault.HeapOutOfMemory g) stopped = stopped
         by fault.Memory stopped = roots_changed stopped

@@ -1,9 +1,11 @@
 -- How the entries of a map are copied out: what that leaves of the table, and why it is refused.
-use Rattle.std.specs.Prelude.{◌≡◌, ◌⊎◌, ◌+◌, ◌-◌, ◌≤◌, ◌<◌, ◌^◌, ℕ, ℤ, List, ◌++◌, Option, Result, Ok, Err, length}
+use Rattle.std.specs.Prelude.{◌≡◌, ◌⊎◌, ◌+◌, ◌-◌, ◌≤◌, ◌<◌, ◌^◌, ℕ, ℤ, true, List, ◌++◌, Option, Result, Ok, Err, length}
 use Rattle.std.specs.FinMap as finite
 use Rattle.gc_types.specs.declared.kind.Layouts.{Layouts}
+use Rattle.gc_model.specs.Live.{roots_full}
 use Rattle.gc_model.specs.Table.{Table, Scoped, Push}
 use Rattle.gc_model.specs.Stores.{StoreView}
+use Rattle.gc_policy.specs.Accounts.{Account, HoldsAccount}
 use Rattle.gc_store.specs.declared.root.GcRootIndex.{GcRootIndex}
 use Rattle.gc_lists.specs.declared.fault.ListFault.{ListFault}
 use Rattle.gc_lists.specs.declared.fault.ListFault.TheVariants as fault
@@ -26,6 +28,15 @@ pub record Visits {D : Type 0} (most ends : ℕ) (t u : Table D) : Type 0 where
 abbrev pub LacksVisits : {D : Type 0} → Table D → ℕ → ℕ → Type 0
 LacksVisits t roots ends = (t.max_scoped < length t.scoped + roots) ⊎ (2 ^ 64 - 1 ≤ t.drops + ends)
 
+-- Steps stopped for want of a root: in a table that the store had come to by them, before the scopes were left, no further one may be made.
+pub record StopsForRoots {D : Type 0} (layouts : Layouts) (roots ends : ℕ) (t : Table D) : Type 0 where
+  pub inside : StoreView D
+  pub step : Table D
+  pub account : Account
+  pub holds : HoldsAccount layouts inside step account
+  pub visits : Visits roots ends t step
+  pub full : roots_full step ≡ true
+
 -- the root is a tree no higher than that, in some table that the store holds
 pub record RootWithin (D : Type 0) (layouts : Layouts) (s : StoreView D) (root : Option GcRootIndex) (most : ℕ) : Type 0 where
   pub here : RootIn D layouts s root
@@ -40,7 +51,7 @@ pub record NodeWithin (D : Type 0) (layouts : Layouts) (s : StoreView D) (handle
 abbrev pub EndsCopying : {D : Type 0} → Layouts → ℕ → ℕ → ℕ → Table D → Type 0 → Result (Unit {0}) ListFault → StoreView D → Type 0
 EndsCopying layouts most roots ends t copied (Ok x) new = Leaves layouts (Visits most ends t) new × copied
 EndsCopying layouts most roots ends t copied (Err fault.WrongStore) new = ⊥
-EndsCopying layouts most roots ends t copied (Err fault.RootsFull) new = LacksVisits t roots ends × Leaves layouts (Visits most ends t) new
+EndsCopying layouts most roots ends t copied (Err fault.RootsFull) new = StopsForRoots layouts roots ends t × Leaves layouts (Visits most ends t) new
 EndsCopying layouts most roots ends t copied (Err (fault.HeapOutOfMemory f)) new = ⊥
 EndsCopying layouts most roots ends t copied (Err fault.Memory) new = Leaves layouts (Visits most ends t) new
 
@@ -48,9 +59,10 @@ EndsCopying layouts most roots ends t copied (Err fault.Memory) new = Leaves lay
 abbrev pub CopiedEntries : {D : Type 0} → Layouts → IntMap → Table D → List (ℤ × ℤ) → StoreView D → Type 0
 CopiedEntries layouts m t entries new = (entries ≡ finite.entries m) × Leaves layouts (ChangesRoots t t.owned) new
 
--- A scope end may come for each entry.
+-- A scope end may come for each entry. A root is wanting at a step of the copy, so fewer are left than that needs, or scope ends are counted to their end on the way.
 abbrev pub FailsToCopyEntries : {D : Type 0} → Layouts → IntMap → Table D → ListFault → StoreView D → Type 0
 FailsToCopyEntries layouts m t fault.WrongStore new = ⊥
-FailsToCopyEntries layouts m t fault.RootsFull new = LacksVisits t most_objects (finite.len m) × Leaves layouts (ChangesRoots t t.owned) new
+FailsToCopyEntries layouts m t fault.RootsFull new =
+    (StopsForRoots layouts most_objects (finite.len m) t × LacksVisits t most_objects (finite.len m)) × Leaves layouts (ChangesRoots t t.owned) new
 FailsToCopyEntries layouts m t (fault.HeapOutOfMemory f) new = ⊥
 FailsToCopyEntries layouts m t fault.Memory new = Leaves layouts (ChangesRoots t t.owned) new

@@ -14,6 +14,7 @@ use Rattle.gc_lists.specs.declared.fault.ListFault.TheVariants as fault
 use Rattle.gc_lists.specs.declared.kit.Kit.{Kit}
 use Rattle.gc_lists.specs.Cells.{IsOfKit}
 use Rattle.gc_lists.specs.Frames.{KeepsLimit, Leaves}
+use Rattle.gc_lists.specs.Refusals.{CountsOn}
 
 -- at most so many scoped roots were pushed
 pub record Pushes {D : Type 0} (most : ℕ) (t u : Table D) : Type 0 where
@@ -41,9 +42,11 @@ EndsReading layouts most t Done (Err fault.RootsFull) new = Leaves layouts (λ u
 EndsReading layouts most t Done (Err (fault.HeapOutOfMemory f)) new = ⊥
 EndsReading layouts most t Done (Err fault.Memory) new = Leaves layouts (Pushes most t) new
 
--- a node was refused by the heap, behind the steps that came before it, where the store had come to such a table and account
-pub record LacksNode {D : Type 0} (layouts : Layouts) (counter : Option ℕ) (kit : Kit) (nodes most : ℕ) (t : Table D) (limits' : Limits) (need : ℕ) (new : StoreView D) : Type 0 where
+-- a node was refused by the heap, behind the steps that came before it, where the store had come to such a table and account, and the limiter, which had
+-- lost no refusal, to such limits
+pub record LacksNode {D : Type 0} (layouts : Layouts) (counter : Option ℕ) (kit : Kit) (nodes most : ℕ) (t : Table D) (limits limits' : Limits) (need : ℕ) (new : StoreView D) : Type 0 where
   pub before : PolicyState D
+  pub counts : CountsOn limits before.limits
   pub grows : Grows limits'.limit kit nodes most t before.table
   pub asked : StoreView D
   pub held : HoldsAccount layouts asked before.table before.account
@@ -51,10 +54,10 @@ pub record LacksNode {D : Type 0} (layouts : Layouts) (counter : Option ℕ) (ki
   pub of_kit : IsOfKit kit object
   pub lacks : LacksPlace layouts counter object before limits' need new
 
--- Steps that make nodes end with what they give, or are refused a root or a node.
-abbrev pub Ends : {D A : Type 0} → Layouts → Option ℕ → Kit → ℕ → ℕ → Table D → Limits → (StoreView D → Table D → A → Type 0) → Result A ListFault → StoreView D → Type 0
-Ends layouts counter kit nodes most t limits' Done (Ok x) new = Leaves layouts (λ u. Grows limits'.limit kit nodes most t u × Done new u x) new
-Ends layouts counter kit nodes most t limits' Done (Err fault.WrongStore) new = ⊥
-Ends layouts counter kit nodes most t limits' Done (Err fault.RootsFull) new = Leaves layouts (λ u. Grows limits'.limit kit nodes most t u × (roots_full u ≡ true)) new
-Ends layouts counter kit nodes most t limits' Done (Err (fault.HeapOutOfMemory f)) new = LacksNode layouts counter kit nodes most t limits' f.bytes_needed new
-Ends layouts counter kit nodes most t limits' Done (Err fault.Memory) new = Leaves layouts (Grows limits'.limit kit nodes most t) new
+-- Steps that make nodes end with what they give, or are refused a root or a node. A limiter tells these limits before and after.
+abbrev pub Ends : {D A : Type 0} → Layouts → Option ℕ → Kit → ℕ → ℕ → Table D → Limits → Limits → (StoreView D → Table D → A → Type 0) → Result A ListFault → StoreView D → Type 0
+Ends layouts counter kit nodes most t limits limits' Done (Ok x) new = Leaves layouts (λ u. Grows limits'.limit kit nodes most t u × Done new u x) new
+Ends layouts counter kit nodes most t limits limits' Done (Err fault.WrongStore) new = ⊥
+Ends layouts counter kit nodes most t limits limits' Done (Err fault.RootsFull) new = Leaves layouts (λ u. Grows limits'.limit kit nodes most t u × (roots_full u ≡ true)) new
+Ends layouts counter kit nodes most t limits limits' Done (Err (fault.HeapOutOfMemory f)) new = LacksNode layouts counter kit nodes most t limits limits' f.bytes_needed new
+Ends layouts counter kit nodes most t limits limits' Done (Err fault.Memory) new = Leaves layouts (Grows limits'.limit kit nodes most t) new

@@ -114,6 +114,6 @@ pub record JoinableIn (D : Type 0) (layouts : Layouts) (s : StoreView D) (ty : �
   pub is : IsJoinable s table ty opened x key value y
 
 -- Steps that join two trees with a pair between, by at most three nodes of a kit, end with a part that does, or are refused.
-abbrev pub EndsJoining : {D : Type 0} → Layouts → StoreView D → Kit → Table D → Limits → Tree → ℤ × ℤ → Tree → Result Part ListFault → StoreView D → Type 0
-EndsJoining layouts old kit t limits' x pair y result new =
-    Ends layouts old.alloc_counter kit 3 7 t limits' (λ s u part. IsJoined s u kit.node part x pair y) result new
+abbrev pub EndsJoining : {D : Type 0} → Layouts → StoreView D → Kit → Table D → Limits → Limits → Tree → ℤ × ℤ → Tree → Result Part ListFault → StoreView D → Type 0
+EndsJoining layouts old kit t limits limits' x pair y result new =
+    Ends layouts old.alloc_counter kit 3 7 t limits limits' (λ s u part. IsJoined s u kit.node part x pair y) result new

@@ -61,6 +61,6 @@ pub record CanMakeOver (D : Type 0) (layouts : Layouts) (s : StoreView D) (ty : 
   pub in_low : LowOpened s table ty low
 
 -- Steps that make a tree by nodes of a kit end with a part that is that tree, or are refused.
-abbrev pub EndsMaking : {D : Type 0} → Layouts → StoreView D → Kit → ℕ → ℕ → Table D → Limits → Tree → Result Part ListFault → StoreView D → Type 0
-EndsMaking layouts old kit nodes most t limits' tree result new =
-    Ends layouts old.alloc_counter kit nodes most t limits' (λ s u part. PartIs s u kit.node part tree) result new
+abbrev pub EndsMaking : {D : Type 0} → Layouts → StoreView D → Kit → ℕ → ℕ → Table D → Limits → Limits → Tree → Result Part ListFault → StoreView D → Type 0
+EndsMaking layouts old kit nodes most t limits limits' tree result new =
+    Ends layouts old.alloc_counter kit nodes most t limits limits' (λ s u part. PartIs s u kit.node part tree) result new

@@ -1,5 +1,5 @@
 -- Ways down a tree: which frames lead from a tree to a part of it, and what stands left and right of that part.
-use Rattle.std.specs.Prelude.{◌≡◌, ◌+◌, ◌*◌, ◌≤◌, ◌<◌, ℕ, ℤ, Bool, true, false, List, [], ◌∷◌, ◌++◌, Option, Some, None, FitsSigned, length}
+use Rattle.std.specs.Prelude.{◌≡◌, ◌<◌, ℕ, ℤ, Bool, true, false, List, [], ◌∷◌, ◌++◌, Option, Some, None, FitsSigned}
 use Rattle.std.specs.Int.{w64}
 use Rattle.std.specs.Ordering.{int_cmp}
 use Rattle.std.specs.declared.cmp.Ordering.{Ordering}
@@ -10,15 +10,12 @@ use Rattle.gc_model.specs.Table.{Table}
 use Rattle.gc_model.specs.Stores.{StoreView}
 use Rattle.gc_model.specs.Holds.{HoldsTable}
 use Rattle.gc_store.specs.declared.root.GcRootIndex.{GcRootIndex}
-use Rattle.gc_lists.specs.declared.kit.Kit.{Kit}
-use Rattle.gc_lists.specs.Frames.{Leaves}
 use Rattle.gc_lists.specs.Kits.{IsNodeType}
 use Rattle.gc_maps.specs.declared.part.Frame.{Frame}
 use Rattle.gc_maps.specs.declared.part.Node.{Node}
 use Rattle.gc_maps.specs.declared.part.Part.{Part}
 use Rattle.gc_maps.specs.Trees.{Tree, leaf, node, height, pairs, AreLevel, IsBalanced}
 use Rattle.gc_maps.specs.Parts.{RootIs, PartIs}
-use Rattle.gc_maps.specs.Ends.{Pushes, Grows}
 use Rattle.gc_maps.specs.Searching.{IsSearch}
 
 -- the child on one side is taken, in which the rest leads on between these pairs; the frame has a root of the other child

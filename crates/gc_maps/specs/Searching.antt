@@ -1,19 +1,17 @@
 -- Search trees, and how far a look for a key has come.
-use Rattle.std.specs.Prelude.{◌≡◌, ◌+◌, ◌*◌, ◌≤◌, ℕ, ℤ, T, Option}
+use Rattle.std.specs.Prelude.{ℕ, T, Option}
 use Rattle.std.specs.Ordering.{int_cmp}
 use Rattle.std.specs.declared.cmp.Ordering.{Ordering}
 use Rattle.std.specs.declared.cmp.Ordering.TheVariants.{Less, Equal, Greater}
-use Rattle.std.specs.FinMap.Entries.{find, is_sorted}
+use Rattle.std.specs.FinMap.Entries.{is_sorted}
 use Rattle.gc_types.specs.declared.kind.Layouts.{Layouts}
 use Rattle.gc_model.specs.Table.{Table}
 use Rattle.gc_model.specs.Stores.{StoreView}
 use Rattle.gc_model.specs.Holds.{HoldsTable}
 use Rattle.gc_store.specs.declared.root.GcRootIndex.{GcRootIndex}
-use Rattle.gc_lists.specs.Frames.{Leaves}
 use Rattle.gc_maps.specs.declared.part.Node.{Node}
-use Rattle.gc_maps.specs.Trees.{Tree, height, pairs, IsBalanced}
+use Rattle.gc_maps.specs.Trees.{Tree, pairs, IsBalanced}
 use Rattle.gc_maps.specs.Parts.{RootIs}
-use Rattle.gc_maps.specs.Ends.{Pushes}
 
 -- balanced, and the keys rise from left to right
 pub record IsSearch (tree : Tree) : Type 0 where

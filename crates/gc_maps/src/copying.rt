@@ -27,7 +27,7 @@ pub(crate) fn copy_part<H: GcHeap, D: Drop>(
     requires { RootWithin D H.KIND store.old root depth }
     ensures copies { (t : Table D) (a : Account) (ty : ℕ) (tree : Tree) → HoldsAccount H.KIND store.old t a → RootIs store.old t ty root tree
         → height tree ≤ depth
-        → EndsCopying H.KIND 0 (2 * depth + 1) (length (pairs tree)) t (entries.new.items ≡ entries.old.items ++ pairs tree) result store.new }
+        → EndsCopying H.KIND 0 (2 * depth) (length (pairs tree)) t (entries.new.items ≡ entries.old.items ++ pairs tree) result store.new }
     ensures same { IsSameStore store.old store.new }
 {
     let node = match root {
@@ -55,7 +55,7 @@ fn copy_node<H: GcHeap, D: Drop>(
     requires { NodeWithin D H.KIND store.old node (depth + 1) }
     ensures copies { (t : Table D) (a : Account) (ty : ℕ) (x : Tree) (k v : ℤ) (y : Tree) → HoldsAccount H.KIND store.old t a
         → RootIs store.old t ty (Some node) (node_of x k v y) → height (node_of x k v y) ≤ depth + 1
-        → EndsCopying H.KIND 2 (2 * depth + 3) (length (pairs x) + length (pairs y)) t
+        → EndsCopying H.KIND 2 (2 * depth + 2) (length (pairs x) + length (pairs y)) t
         (entries.new.items ≡ entries.old.items ++ pairs (node_of x k v y)) result store.new }
     ensures same { IsSameStore store.old store.new }
 {

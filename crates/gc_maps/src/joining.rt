@@ -4,6 +4,7 @@ ghost use Rattle.std.specs.Prelude.{◌≡◌, ◌+◌, ◌<◌, ℕ, ℤ, pos, 
 ghost use Rattle.gc_model.specs.Table.{Table};
 ghost use Rattle.gc_policy.specs.Accounts.{Account, HoldsAccount};
 ghost use Rattle.gc_store.specs.Stores.{IsSameStore};
+ghost use Rattle.gc_lists.specs.Refusals.{CountsOn};
 ghost use Rattle.gc_maps.specs.Lowering.{CanTurn, EndsJoining, HighLeftIn, HighRightIn, IsHighLeft, IsHighRight, IsJoinable, JoinableIn, Turns};
 ghost use Rattle.gc_maps.specs.Makes.{CanMakeOver, EndsMaking, IsLow};
 ghost use Rattle.gc_maps.specs.Parts.{OpenedIs, PartIs, node_of};
@@ -29,8 +30,9 @@ fn make_over_right<H: GcHeap, D: Drop, L: ResourceLimiter>(
     requires { CanMakeOver D H.KIND store.old kit.now.node left low }
     ensures makes { (t : Table D) (a : Account) (x y z : Tree) (k v : ℤ) → HoldsAccount H.KIND store.old t a → PartIs store.old t kit.now.node left x
         → OpenedIs store.old t kit.now.node low y k v z
-        → EndsMaking H.KIND store.old kit.now 2 2 t (L.limits limiter.new) (node_of x key value (node_of y k v z)) result store.new }
+        → EndsMaking H.KIND store.old kit.now 2 2 t (L.limits limiter.old) (L.limits limiter.new) (node_of x key value (node_of y k v z)) result store.new }
     ensures limit { (L.limits limiter.new).limit ≡ (L.limits limiter.old).limit }
+    ensures counts { CountsOn (L.limits limiter.old) (L.limits limiter.new) }
     ensures same { IsSameStore store.old store.new }
 {
     match make_node(store, limiter, kit, low.left, low.key, low.value, low.right) {
@@ -52,8 +54,9 @@ fn make_over_left<H: GcHeap, D: Drop, L: ResourceLimiter>(
     requires { CanMakeOver D H.KIND store.old kit.now.node right low }
     ensures makes { (t : Table D) (a : Account) (x y z : Tree) (k v : ℤ) → HoldsAccount H.KIND store.old t a → PartIs store.old t kit.now.node right x
         → OpenedIs store.old t kit.now.node low y k v z
-        → EndsMaking H.KIND store.old kit.now 2 2 t (L.limits limiter.new) (node_of (node_of y k v z) key value x) result store.new }
+        → EndsMaking H.KIND store.old kit.now 2 2 t (L.limits limiter.old) (L.limits limiter.new) (node_of (node_of y k v z) key value x) result store.new }
     ensures limit { (L.limits limiter.new).limit ≡ (L.limits limiter.old).limit }
+    ensures counts { CountsOn (L.limits limiter.old) (L.limits limiter.new) }
     ensures same { IsSameStore store.old store.new }
 {
     match make_node(store, limiter, kit, low.left, low.key, low.value, low.right) {
@@ -73,8 +76,10 @@ fn turn<H: GcHeap, D: Drop, L: ResourceLimiter>(
     requires { CanTurn D H.KIND store.old kit.now.node high opened }
     ensures turns { (t : Table D) (a : Account) (x b c y : Tree) (j u i w k v : ℤ) → HoldsAccount H.KIND store.old t a
         → Turns store.old t kit.now.node high opened x j u b i w c k v y
-        → EndsMaking H.KIND store.old kit.now 3 5 t (L.limits limiter.new) (node_of (node_of x j u b) i w (node_of c k v y)) result store.new }
+        → EndsMaking H.KIND store.old kit.now 3 5 t (L.limits limiter.old) (L.limits limiter.new) (node_of (node_of x j u b) i w (node_of c k v y))
+        result store.new }
     ensures limit { (L.limits limiter.new).limit ≡ (L.limits limiter.old).limit }
+    ensures counts { CountsOn (L.limits limiter.old) (L.limits limiter.new) }
     ensures same { IsSameStore store.old store.new }
 {
     let middle = match high.right.root {
@@ -118,8 +123,9 @@ fn lower_left<H: GcHeap, D: Drop, L: ResourceLimiter>(
     requires { HighLeftIn D H.KIND store.old kit.now.node root opened }
     ensures joins { (t : Table D) (a : Account) (x y : Tree) (k v : ℤ) → HoldsAccount H.KIND store.old t a
         → IsHighLeft store.old t kit.now.node root opened x k v y
-        → EndsJoining H.KIND store.old kit.now t (L.limits limiter.new) x (k, v) y result store.new }
+        → EndsJoining H.KIND store.old kit.now t (L.limits limiter.old) (L.limits limiter.new) x (k, v) y result store.new }
     ensures limit { (L.limits limiter.new).limit ≡ (L.limits limiter.old).limit }
+    ensures counts { CountsOn (L.limits limiter.old) (L.limits limiter.new) }
     ensures same { IsSameStore store.old store.new }
 {
     let high = match open_node(store, root) {
@@ -149,8 +155,9 @@ fn lower_right<H: GcHeap, D: Drop, L: ResourceLimiter>(
     requires { HighRightIn D H.KIND store.old kit.now.node root opened }
     ensures joins { (t : Table D) (a : Account) (x y : Tree) (k v : ℤ) → HoldsAccount H.KIND store.old t a
         → IsHighRight store.old t kit.now.node root opened x k v y
-        → EndsJoining H.KIND store.old kit.now t (L.limits limiter.new) x (k, v) y result store.new }
+        → EndsJoining H.KIND store.old kit.now t (L.limits limiter.old) (L.limits limiter.new) x (k, v) y result store.new }
     ensures limit { (L.limits limiter.new).limit ≡ (L.limits limiter.old).limit }
+    ensures counts { CountsOn (L.limits limiter.old) (L.limits limiter.new) }
     ensures same { IsSameStore store.old store.new }
 {
     let high = match open_node(store, root) {
@@ -186,8 +193,9 @@ pub(crate) fn join<H: GcHeap, D: Drop, L: ResourceLimiter>(
 ) -> Result<Part, ListFault>
     requires { JoinableIn D H.KIND store.old kit.now.node opened }
     ensures joins { (t : Table D) (a : Account) (x y : Tree) (k v : ℤ) → HoldsAccount H.KIND store.old t a → IsJoinable store.old t kit.now.node opened x k v y
-        → EndsJoining H.KIND store.old kit.now t (L.limits limiter.new) x (k, v) y result store.new }
+        → EndsJoining H.KIND store.old kit.now t (L.limits limiter.old) (L.limits limiter.new) x (k, v) y result store.new }
     ensures limit { (L.limits limiter.new).limit ≡ (L.limits limiter.old).limit }
+    ensures counts { CountsOn (L.limits limiter.old) (L.limits limiter.new) }
     ensures same { IsSameStore store.old store.new }
 {
     if is_too_high(opened.left, opened.right) {

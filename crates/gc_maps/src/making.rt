@@ -4,6 +4,7 @@ ghost use Rattle.std.specs.Prelude.{◌≡◌, ◌+◌, ◌<◌, ℕ, ℤ, pos, 
 ghost use Rattle.gc_model.specs.Table.{Table};
 ghost use Rattle.gc_policy.specs.Accounts.{Account, HoldsAccount};
 ghost use Rattle.gc_store.specs.Stores.{IsSameStore};
+ghost use Rattle.gc_lists.specs.Refusals.{CountsOn};
 ghost use Rattle.gc_maps.specs.Makes.{CanMake, CanMakeTwo, EndsMaking, IsLow};
 ghost use Rattle.gc_maps.specs.Parts.{OpenedIs, PartIs, node_of};
 ghost use Rattle.gc_maps.specs.Trees.{Tree, height};
@@ -35,8 +36,9 @@ pub(crate) fn make_node<H: GcHeap, D: Drop, L: ResourceLimiter>(
     requires { CanMake D H.KIND store.old kit.now.node left right }
     ensures makes { (t : Table D) (a : Account) (x y : Tree) → HoldsAccount H.KIND store.old t a → PartIs store.old t kit.now.node left x
         → PartIs store.old t kit.now.node right y
-        → EndsMaking H.KIND store.old kit.now 1 1 t (L.limits limiter.new) (node_of x key value y) result store.new }
+        → EndsMaking H.KIND store.old kit.now 1 1 t (L.limits limiter.old) (L.limits limiter.new) (node_of x key value y) result store.new }
     ensures limit { (L.limits limiter.new).limit ≡ (L.limits limiter.old).limit }
+    ensures counts { CountsOn (L.limits limiter.old) (L.limits limiter.new) }
     ensures same { IsSameStore store.old store.new }
 {
     let height = height_over(left.height, right.height);
@@ -75,9 +77,10 @@ pub(crate) fn make_three<H: GcHeap, D: Drop, L: ResourceLimiter>(
     ensures makes { (t : Table D) (a : Account) (x y z w : Tree) (j u k v : ℤ) → HoldsAccount H.KIND store.old t a
         → OpenedIs store.old t kit.now.node left x j u y
         → OpenedIs store.old t kit.now.node right z k v w
-        → EndsMaking H.KIND store.old kit.now 3 3 t (L.limits limiter.new) (node_of (node_of x j u y) key value (node_of z k v w))
+        → EndsMaking H.KIND store.old kit.now 3 3 t (L.limits limiter.old) (L.limits limiter.new) (node_of (node_of x j u y) key value (node_of z k v w))
         result store.new }
     ensures limit { (L.limits limiter.new).limit ≡ (L.limits limiter.old).limit }
+    ensures counts { CountsOn (L.limits limiter.old) (L.limits limiter.new) }
     ensures same { IsSameStore store.old store.new }
 {
     let low = match make_node(

@@ -11,6 +11,7 @@ ghost use Rattle.gc_lists.specs.declared.kit.Kit.{Kit};
 ghost use Rattle.gc_lists.specs.Answers.{Releases};
 ghost use Rattle.gc_lists.specs.Frames.{most_objects};
 ghost use Rattle.gc_lists.specs.Kits.{KitStands, is_kit_of};
+ghost use Rattle.gc_lists.specs.Refusals.{CountsOn};
 ghost use Rattle.gc_lists.specs.Versions.{is_version_of};
 ghost use Rattle.gc_maps.specs.Answers.{AnswersMap, Gets};
 ghost use Rattle.gc_maps.specs.Copies.{CopiedEntries, FailsToCopyEntries};
@@ -95,8 +96,9 @@ impl HeapMap {
             → (result ≡ Err ListFault.WrongStore) × (store.new ≡ store.old) }
         ensures inserts { is_kit_of store.old kit.now ≡ true → is_version_of store.old self.now.root ≡ true → (t : Table D) (a : Account) (m : IntMap)
             → HoldsAccount H.KIND store.old t a → StandsForMapOf store.old t self.now.root kit.now.node m
-            → AnswersMap H.KIND store.old.alloc_counter kit.now (finite.insert m key value) t (L.limits limiter.new) result store.new }
+            → AnswersMap H.KIND store.old.alloc_counter kit.now (finite.insert m key value) t (L.limits limiter.old) (L.limits limiter.new) result store.new }
         ensures limit { (L.limits limiter.new).limit ≡ (L.limits limiter.old).limit }
+        ensures counts { CountsOn (L.limits limiter.old) (L.limits limiter.new) }
         ensures same { IsSameStore store.old store.new }
     {
         if !is_kit_of(store, kit) || !is_version_of(store, self.root) {
@@ -128,8 +130,9 @@ impl HeapMap {
             → (result ≡ Err ListFault.WrongStore) × (store.new ≡ store.old) }
         ensures removes { is_kit_of store.old kit.now ≡ true → is_version_of store.old self.now.root ≡ true → (t : Table D) (a : Account) (m : IntMap)
             → HoldsAccount H.KIND store.old t a → StandsForMapOf store.old t self.now.root kit.now.node m
-            → AnswersMap H.KIND store.old.alloc_counter kit.now (finite.remove m key) t (L.limits limiter.new) result store.new }
+            → AnswersMap H.KIND store.old.alloc_counter kit.now (finite.remove m key) t (L.limits limiter.old) (L.limits limiter.new) result store.new }
         ensures limit { (L.limits limiter.new).limit ≡ (L.limits limiter.old).limit }
+        ensures counts { CountsOn (L.limits limiter.old) (L.limits limiter.new) }
         ensures same { IsSameStore store.old store.new }
     {
         if !is_kit_of(store, kit) || !is_version_of(store, self.root) {
@@ -193,10 +196,10 @@ fn keep_built<H: GcHeap, D: Drop>(
     scope: usize,
     built: Result<Part, ListFault>,
 ) -> Result<HeapMap, ListFault>
-    ensures keeps { (counter : Option ℕ) (kit : Kit) (nodes most : ℕ) (t : Table D) (limits : Limits) (m : IntMap)
+    ensures keeps { (counter : Option ℕ) (kit : Kit) (nodes most : ℕ) (t : Table D) (limits limits' : Limits) (m : IntMap)
         → nodes ≤ most_objects → most < most_objects → scope ≡ length t.scoped
-        → Ends H.KIND counter kit nodes most t limits (λ s u part. IsBuilt s u kit.node part (finite.entries m)) built store.old
-        → AnswersMap H.KIND counter kit m t limits result store.new }
+        → Ends H.KIND counter kit nodes most t limits limits' (λ s u part. IsBuilt s u kit.node part (finite.entries m)) built store.old
+        → AnswersMap H.KIND counter kit m t limits limits' result store.new }
     ensures same { IsSameStore store.old store.new }
 {
     match built {

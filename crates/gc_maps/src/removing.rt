@@ -7,6 +7,7 @@ ghost use Rattle.std.specs.FinMap.Entries.{below_all};
 ghost use Rattle.gc_model.specs.Table.{Table};
 ghost use Rattle.gc_policy.specs.Accounts.{Account, HoldsAccount};
 ghost use Rattle.gc_store.specs.Stores.{IsSameStore};
+ghost use Rattle.gc_lists.specs.Refusals.{CountsOn};
 ghost use Rattle.gc_maps.specs.Ends.{Ends, EndsReading};
 ghost use Rattle.gc_maps.specs.Gaps.{AboveIn, Closes, GapIn, IsLeast, others};
 ghost use Rattle.gc_maps.specs.Parts.{RootIs};
@@ -125,9 +126,10 @@ pub(crate) fn take_out<H: GcHeap, D: Drop, L: ResourceLimiter>(
     requires { SearchOfIn D H.KIND store.old kit.now.node root }
     ensures takes_out { (t : Table D) (a : Account) (tree : Tree) → HoldsAccount H.KIND store.old t a
         → RootIs store.old t kit.now.node root tree → IsSearch tree
-        → Ends H.KIND store.old.alloc_counter kit.now 276 1012 t (L.limits limiter.new)
+        → Ends H.KIND store.old.alloc_counter kit.now 276 1012 t (L.limits limiter.old) (L.limits limiter.new)
         (λ s u part. IsBuilt s u kit.now.node part (others key (pairs tree))) result store.new }
     ensures limit { (L.limits limiter.new).limit ≡ (L.limits limiter.old).limit }
+    ensures counts { CountsOn (L.limits limiter.old) (L.limits limiter.new) }
     ensures same { IsSameStore store.old store.new }
 {
     let mut path = Vec::new(store.allocator());

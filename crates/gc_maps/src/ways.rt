@@ -7,6 +7,7 @@ ghost use Rattle.std.specs.FinMap.Entries.{put};
 ghost use Rattle.gc_model.specs.Table.{Table};
 ghost use Rattle.gc_policy.specs.Accounts.{Account, HoldsAccount};
 ghost use Rattle.gc_store.specs.Stores.{IsSameStore};
+ghost use Rattle.gc_lists.specs.Refusals.{CountsOn};
 ghost use Rattle.gc_maps.specs.Ends.{Ends, EndsReading};
 ghost use Rattle.gc_maps.specs.Makes.{EndsMaking};
 ghost use Rattle.gc_maps.specs.Parts.{RootIs, node_of};
@@ -114,9 +115,10 @@ pub(crate) fn rebuild<H: GcHeap, D: Drop, L: ResourceLimiter>(
     ensures builds { (t : Table D) (a : Account) (whole : Tree) (entries : List (ℤ × ℤ)) → HoldsAccount H.KIND store.old t a
         → IsBalanced whole → height whole < 92
         → Rises store.old t kit.now.node whole path.old.items part entries
-        → Ends H.KIND store.old.alloc_counter kit.now 276 644 t (L.limits limiter.new) (λ s u built. IsBuilt s u kit.now.node built entries)
-        result store.new }
+        → Ends H.KIND store.old.alloc_counter kit.now 276 644 t (L.limits limiter.old) (L.limits limiter.new)
+        (λ s u built. IsBuilt s u kit.now.node built entries) result store.new }
     ensures limit { (L.limits limiter.new).limit ≡ (L.limits limiter.old).limit }
+    ensures counts { CountsOn (L.limits limiter.old) (L.limits limiter.new) }
     ensures same { IsSameStore store.old store.new }
 {
     let mut part = part;
@@ -147,8 +149,9 @@ fn make_between<H: GcHeap, D: Drop, L: ResourceLimiter>(
     requires { BetweenIn D H.KIND store.old kit.now.node left right }
     ensures makes { (t : Table D) (a : Account) (x y : Tree) → HoldsAccount H.KIND store.old t a → RootIs store.old t kit.now.node left x
         → RootIs store.old t kit.now.node right y → height x < 400 → height y < 400
-        → EndsMaking H.KIND store.old kit.now 1 1 t (L.limits limiter.new) (node_of x key value y) result store.new }
+        → EndsMaking H.KIND store.old kit.now 1 1 t (L.limits limiter.old) (L.limits limiter.new) (node_of x key value y) result store.new }
     ensures limit { (L.limits limiter.new).limit ≡ (L.limits limiter.old).limit }
+    ensures counts { CountsOn (L.limits limiter.old) (L.limits limiter.new) }
     ensures same { IsSameStore store.old store.new }
 {
     let left = part_of(store, left);
@@ -168,8 +171,9 @@ fn make_entry<H: GcHeap, D: Drop, L: ResourceLimiter>(
     requires { FoundIn D H.KIND store.old kit.now.node found }
     ensures makes { (t : Table D) (a : Account) (x y : Tree) → HoldsAccount H.KIND store.old t a → HasChildren store.old t kit.now.node found x y
         → height x < 400 → height y < 400
-        → EndsMaking H.KIND store.old kit.now 1 1 t (L.limits limiter.new) (node_of x key value y) result store.new }
+        → EndsMaking H.KIND store.old kit.now 1 1 t (L.limits limiter.old) (L.limits limiter.new) (node_of x key value y) result store.new }
     ensures limit { (L.limits limiter.new).limit ≡ (L.limits limiter.old).limit }
+    ensures counts { CountsOn (L.limits limiter.old) (L.limits limiter.new) }
     ensures same { IsSameStore store.old store.new }
 {
     match found {
@@ -190,9 +194,10 @@ pub(crate) fn put<H: GcHeap, D: Drop, L: ResourceLimiter>(
     requires { SearchOfIn D H.KIND store.old kit.now.node root }
     ensures puts { (t : Table D) (a : Account) (tree : Tree) → HoldsAccount H.KIND store.old t a
         → RootIs store.old t kit.now.node root tree → IsSearch tree
-        → Ends H.KIND store.old.alloc_counter kit.now 277 829 t (L.limits limiter.new)
+        → Ends H.KIND store.old.alloc_counter kit.now 277 829 t (L.limits limiter.old) (L.limits limiter.new)
         (λ s u part. IsBuilt s u kit.now.node part (put int_cmp key value (pairs tree))) result store.new }
     ensures limit { (L.limits limiter.new).limit ≡ (L.limits limiter.old).limit }
+    ensures counts { CountsOn (L.limits limiter.old) (L.limits limiter.new) }
     ensures same { IsSameStore store.old store.new }
 {
     let mut path = Vec::new(store.allocator());

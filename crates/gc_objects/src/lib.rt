@@ -25,6 +25,7 @@ mod each_value;
 mod exceptions;
 mod externs;
 mod faults;
+mod fits;
 mod making;
 mod marks;
 mod places;

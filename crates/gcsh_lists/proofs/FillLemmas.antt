@@ -56,18 +56,15 @@ module _ (layouts : Layouts) (limit : Option ℕ) (kit : Kit) (p : Progress) (he
   map_stands own = record { table = held.table; holds = (held.holds.place, held.holds.holds); entries = p.entries; stands = held.stands }
 
   -- the clause of the call, where its answer is known
-  pub inserts_as : (key value key' value' : ℤ) (same_key : key' ≡ key) (same_value : value' ≡ value) (limits : Limits) (same_limit : limits.limit ≡ limit) (result known : Result HeapMap ListFault) (new : StoreView ℕ) → (is_kit_of p.store kit ≡ true → is_version_of p.store p.version ≡ true → (t : Table ℕ) (a : Account) (m : IntMap) → HoldsAccount layouts p.store t a
-      → StandsForMapOf p.store t p.version kit.node m → AnswersMap layouts p.store.alloc_counter kit (finite.insert m key' value') t limits result new) → result ≡ known → Inserts layouts limit kit key value p known new
-  inserts_as key value key' value' same_key same_value limits same_limit result known new clause is = λ t a holds stands. (
-    limits,
-    (
-      same_limit,
-      subst (λ (r : Result HeapMap ListFault). AnswersMap layouts p.store.alloc_counter kit (finite.insert p.entries key value) t limits r new) is
-          (subst (λ (m : IntMap). AnswersMap layouts p.store.alloc_counter kit m t limits result new) (λ i. finite.insert p.entries (same_key i) (same_value i)) (clause held.kit_of version_own t a p.entries holds stands)),
-    ),
+  pub inserts_as : (key value key' value' : ℤ) (same_key : key' ≡ key) (same_value : value' ≡ value) (limits' : Limits) (same_limit : limits'.limit ≡ limit) (result known : Result HeapMap ListFault) (new : StoreView ℕ) → (is_kit_of p.store kit ≡ true → is_version_of p.store p.version ≡ true → (t : Table ℕ) (a : Account) (m : IntMap) → HoldsAccount layouts p.store t a
+      → StandsForMapOf p.store t p.version kit.node m → AnswersMap layouts p.store.alloc_counter kit (finite.insert m key' value') t p.limits limits' result new) → result ≡ known → Inserts layouts limit kit key value p known limits' new
+  inserts_as key value key' value' same_key same_value limits' same_limit result known new clause is = λ t a holds stands. (
+    same_limit,
+    subst (λ (r : Result HeapMap ListFault). AnswersMap layouts p.store.alloc_counter kit (finite.insert p.entries key value) t p.limits limits' r new) is
+        (subst (λ (m : IntMap). AnswersMap layouts p.store.alloc_counter kit m t p.limits limits' result new) (λ i. finite.insert p.entries (same_key i) (same_value i)) (clause held.kit_of version_own t a p.entries holds stands)),
   )
 
-  module _ (key value : ℤ) (new : StoreView ℕ) where
+  module _ (key value : ℤ) (limits' : Limits) (new : StoreView ℕ) where
     -- a table that keeps what is constant
     kit_kept : (u : Table ℕ) → KeepsConstants held.table u → IsKit u.types kit
     kit_kept u keeps = record { cells = keeps.types kit.cell _ held.kit_is.cells; nodes = keeps.types kit.node _ held.kit_is.nodes }
@@ -95,29 +92,29 @@ module _ (layouts : Layouts) (limit : Option ℕ) (kit : Kit) (p : Progress) (he
     }
 
     -- memory was wanting
-    pub wants_within : Inserts layouts limit kit key value p (Err fault.Memory) new → HoldsWithin layouts limit new
-    wants_within inserts = let inserted = inserts held.table held.account held.holds held.stands in left_within (left_under inserted.0 inserted.1.0 inserted.1.1)
+    pub wants_within : Inserts layouts limit kit key value p (Err fault.Memory) limits' new → HoldsWithin layouts limit new
+    wants_within inserts = let inserted = inserts held.table held.account held.holds held.stands in left_within (left_under limits' inserted.0 inserted.1)
 
     -- the version was taken, and then the one before was not the store's, which it is
-    pub never_foreign : Inserts layouts limit kit key value p (Err fault.WrongStore) new → ⊥
-    never_foreign inserts = (inserts held.table held.account held.holds held.stands).1.1
+    pub never_foreign : Inserts layouts limit kit key value p (Err fault.WrongStore) limits' new → ⊥
+    never_foreign inserts = (inserts held.table held.account held.holds held.stands).1
 
-    pub taken_within : (map : HeapMap) → Inserts layouts limit kit key value p (Ok map) new → HoldsWithin layouts limit new
+    pub taken_within : (map : HeapMap) → Inserts layouts limit kit key value p (Ok map) limits' new → HoldsWithin layouts limit new
     taken_within map inserts =
         let inserted = inserts held.table held.account held.holds held.stands in
-        let answers = inserted.1.1 in
+        let answers = inserted.1 in
         record {
           table = answers.after;
           holds = (answers.holds.place, answers.holds.holds);
-          within = grants inserted.0 inserted.1.0 answers.after answers.changed.pages;
+          within = grants limits' inserted.0 answers.after answers.changed.pages;
         }
 
     -- the insert was taken, and the version before given up
-    pub goes_taken : (map : HeapMap) (mid : StoreView ℕ) → IsSameStore p.store mid → IsSameStore p.store new → IsSameStore mid new → Inserts layouts limit kit key value p (Ok map) mid → GivesUp layouts mid p.version new
-        → (q : Filled) → q.map.root ≡ map.root → q.refused ≡ p.refused → Goes layouts limit kit key value p new q
+    pub goes_taken : (map : HeapMap) (mid : StoreView ℕ) → IsSameStore p.store mid → IsSameStore p.store new → IsSameStore mid new → Inserts layouts limit kit key value p (Ok map) limits' mid → GivesUp layouts mid p.version new
+        → (q : Filled) → q.map.root ≡ map.root → q.refused ≡ p.refused → Goes layouts limit kit key value p new limits' q
     goes_taken map mid begun all over inserts gives_up q same counted =
         let inserted = inserts held.table held.account held.holds held.stands in
-        let answers = inserted.1.1 in
+        let answers = inserted.1 in
         let owned = ap (λ (v : Table ℕ). v.owned) answers.changed.rest in
         let left = given_up layouts p.store held.table held.account held.holds mid new begun over map.root answers.stands.reference answers.has_new_root answers.after answers.account answers.holds owned p.version held.stands.reference
         held.stands.names held.alone.owned (gives_up answers.after answers.account answers.holds) in
@@ -126,7 +123,7 @@ module _ (layouts : Layouts) (limit : Option ℕ) (kit : Kit) (p : Progress) (he
         let keeps = objects_keep kit most_objects held.table answers.after (owned_with held.table map.root answers.stands.reference) answers.changed in
         record {
           entries = finite.insert p.entries key value;
-          step = taken map mid inserts gives_up begun over (λ i. record { store = new; version = same i; entries = finite.insert p.entries key value; refused = counted i });
+          step = taken map mid inserts gives_up begun over (λ i. record { store = new; limits = limits'; version = same i; entries = finite.insert p.entries key value; refused = counted i });
           held = record {
             table = u;
             account = answers.account;
@@ -134,13 +131,13 @@ module _ (layouts : Layouts) (limit : Option ℕ) (kit : Kit) (p : Progress) (he
             kit_is = kit_kept answers.after keeps;
             kit_of = kit_still p.store new kit all held.kit_of;
             stands = record { reference = answers.stands.reference; names = subst (λ (v : Option GcRootIndex). VersionNames new u v answers.stands.reference) (sym same) names; is = answers.stands.is };
-            within = grants inserted.0 inserted.1.0 answers.after answers.changed.pages;
+            within = grants limits' inserted.0 answers.after answers.changed.pages;
             alone = record { owned = ap (λ (v : Option GcRootIndex). owned_of v answers.stands.reference) (sym same); others = others_stay answers.after answers.changed };
           };
         }
 
     -- all stays as it was but for objects
-    still_held : (count : ℕ) → IsSameStore p.store new → Left → HoldsProgress layouts limit kit (record p { store = new; refused = count })
+    still_held : (count : ℕ) → IsSameStore p.store new → Left → HoldsProgress layouts limit kit (record p { store = new; limits = limits'; refused = count })
     still_held count same leaves =
         let keeps = objects_keep kit most_objects held.table leaves.after held.table.owned leaves.changed in
         let owned = ap (λ (v : Table ℕ). v.owned) leaves.changed.rest ∙ sym (append-nil held.table.owned) in
@@ -160,19 +157,19 @@ module _ (layouts : Layouts) (limit : Option ℕ) (kit : Kit) (p : Progress) (he
         }
 
     -- what a refusal that counts leaves
-    leaves_of : (why : ListFault) → IsCounted why → Inserts layouts limit kit key value p (Err why) new → Left
+    leaves_of : (why : ListFault) → IsCounted why → Inserts layouts limit kit key value p (Err why) limits' new → Left
     leaves_of fault.WrongStore counts inserts = absurd counts
-    leaves_of fault.RootsFull counts inserts = left_under (inserts held.table held.account held.holds held.stands).0 (inserts held.table held.account held.holds held.stands).1.0 (inserts held.table held.account held.holds held.stands).1.1.1
-    leaves_of (fault.HeapOutOfMemory f) counts inserts = left_under (inserts held.table held.account held.holds held.stands).0 (inserts held.table held.account held.holds held.stands).1.0 (inserts held.table held.account held.holds held.stands).1.1.1
+    leaves_of fault.RootsFull counts inserts = left_under limits' (inserts held.table held.account held.holds held.stands).0 (inserts held.table held.account held.holds held.stands).1.1
+    leaves_of (fault.HeapOutOfMemory f) counts inserts = left_under limits' (inserts held.table held.account held.holds held.stands).0 (inserts held.table held.account held.holds held.stands).1.1
     leaves_of fault.Memory counts inserts = absurd counts
 
     -- the insert was refused
-    pub goes_refused : (why : ListFault) → IsCounted why → IsSameStore p.store new → Inserts layouts limit kit key value p (Err why) new → (q : Filled) → q.map.root ≡ p.version → q.refused ≡ p.refused + 1 → Goes layouts limit kit key value p new q
+    pub goes_refused : (why : ListFault) → IsCounted why → IsSameStore p.store new → Inserts layouts limit kit key value p (Err why) limits' new → (q : Filled) → q.map.root ≡ p.version → q.refused ≡ p.refused + 1 → Goes layouts limit kit key value p new limits' q
     goes_refused why counts same inserts q version counted =
         record {
           entries = p.entries;
-          step = refused why inserts counts same (λ i. record p { store = new; version = version i; refused = counted i });
-          held = subst (λ (v : Option GcRootIndex). HoldsProgress layouts limit kit (record { store = new; version = v; entries = p.entries; refused = q.refused })) (sym version) (still_held q.refused same (leaves_of why counts inserts));
+          step = refused why inserts counts same (λ i. record p { store = new; limits = limits'; version = version i; refused = counted i });
+          held = subst (λ (v : Option GcRootIndex). HoldsProgress layouts limit kit (record { store = new; limits = limits'; version = v; entries = p.entries; refused = q.refused })) (sym version) (still_held q.refused same (leaves_of why counts inserts));
         }
 
 -- the clause of giving a version up, where it was
@@ -182,26 +179,26 @@ pub gives_up_as : (layouts : Layouts) (mid new : StoreView ℕ) (version : Optio
 gives_up_as layouts mid new version result x clause is = λ t a holds.
     (subst (λ (r : Result (Unit {0}) HeapMap). MatchResult r (λ done. (is_version_of mid version ≡ true) × Releases layouts mid t a version new) (λ (back : HeapMap). (is_version_of mid version ≡ false) × (back.root ≡ version))) is (clause t a holds)).1
 
-module _ (layouts : Layouts) (limit : Option ℕ) (kit : Kit) (inserts : ℕ) (start : StoreView ℕ) where
+module _ (layouts : Layouts) (limits : Limits) (kit : Kit) (inserts : ℕ) (start : StoreView ℕ) where
   -- nothing was inserted yet
-  pub fills_none : (f : Filled) → f.map.root ≡ None → f.refused ≡ 0 → HoldsProgress layouts limit kit (begin_at start) → FillsUpTo layouts limit kit inserts start 0 start f
+  pub fills_none : (f : Filled) → f.map.root ≡ None → f.refused ≡ 0 → HoldsProgress layouts limits.limit kit (begin_at start limits) → FillsUpTo layouts limits kit inserts start 0 start limits f
   fills_none f root count held = record {
     entries = finite.from_sorted [];
-    fills = λ i. record { store = start; version = root i; entries = finite.from_sorted []; refused = count i };
-    held = subst (λ (p : Progress). HoldsProgress layouts limit kit p) (λ i. record { store = start; version = sym root i; entries = finite.from_sorted []; refused = sym count i }) held;
+    fills = λ i. record { store = start; limits = limits; version = root i; entries = finite.from_sorted []; refused = count i };
+    held = subst (λ (p : Progress). HoldsProgress layouts limits.limit kit p) (λ i. record { store = start; limits = limits; version = sym root i; entries = finite.from_sorted []; refused = sym count i }) held;
   }
 
   -- one insert more
-  pub fills_more : (k : ℕ) (s new : StoreView ℕ) (f after : Filled) (key value : ℤ) → key ≡ key_of inserts (suc k) → value ≡ pos (suc k) → (upto : FillsUpTo layouts limit kit inserts start k s f) → Goes layouts limit kit key value (progress_of s f upto.entries) new after
-      → FillsUpTo layouts limit kit inserts start (k + 1) new after
-  fills_more k s new f after key value same_key same_value upto goes = record {
+  pub fills_more : (k : ℕ) (s new : StoreView ℕ) (between limits' : Limits) (f after : Filled) (key value : ℤ) → key ≡ key_of inserts (suc k) → value ≡ pos (suc k) → (upto : FillsUpTo layouts limits kit inserts start k s between f) → Goes layouts limits.limit kit key value (progress_of s between f upto.entries) new limits' after
+      → FillsUpTo layouts limits kit inserts start (k + 1) new limits' after
+  fills_more k s new between limits' f after key value same_key same_value upto goes = record {
     entries = goes.entries;
-    fills = subst (λ n. Fills layouts limit kit inserts start n (progress_of new after goes.entries)) (sym (add-one k)) (
-      progress_of s f upto.entries,
+    fills = subst (λ n. Fills layouts limits kit inserts start n (progress_of new limits' after goes.entries)) (sym (add-one k)) (
+      progress_of s between f upto.entries,
       (
         upto.fills,
-        subst (λ (x : ℤ). Step layouts limit kit x (pos (suc k)) (progress_of s f upto.entries) (progress_of new after goes.entries)) same_key
-            (subst (λ (x : ℤ). Step layouts limit kit key x (progress_of s f upto.entries) (progress_of new after goes.entries)) same_value goes.step),
+        subst (λ (x : ℤ). Step layouts limits.limit kit x (pos (suc k)) (progress_of s between f upto.entries) (progress_of new limits' after goes.entries)) same_key
+            (subst (λ (x : ℤ). Step layouts limits.limit kit key x (progress_of s between f upto.entries) (progress_of new limits' after goes.entries)) same_value goes.step),
       ),
     );
     held = goes.held;
@@ -212,8 +209,8 @@ pub passed_on : (z : ℤ) (n : ℕ) → z ≡ pos n → n < 2 ^ 63 → to_z w64 
 passed_on z n is small = ap (λ (x : ℤ). to_z w64 (of_z w64 x)) is ∙ to_z-of_z w64 (pos n) (record { sfits = omega (arith, small) })
 
 -- the same under the same limit
-pub goes_under : (layouts : Layouts) (kit : Kit) (p : Progress) (new : StoreView ℕ) (f : Filled) {key value : ℤ} (l l' : Option ℕ) → l ≡ l' → Goes layouts l kit key value p new f → Goes layouts l' kit key value p new f
-goes_under layouts kit p new f {key} {value} l l' same goes = subst (λ (m : Option ℕ). Goes layouts m kit key value p new f) same goes
+pub goes_under : (layouts : Layouts) (kit : Kit) (p : Progress) (new : StoreView ℕ) (limits' : Limits) (f : Filled) {key value : ℤ} (l l' : Option ℕ) → l ≡ l' → Goes layouts l kit key value p new limits' f → Goes layouts l' kit key value p new limits' f
+goes_under layouts kit p new limits' f {key} {value} l l' same goes = subst (λ (m : Option ℕ). Goes layouts m kit key value p new limits' f) same goes
 
 pub held_under : (layouts : Layouts) (kit : Kit) (p : Progress) (l l' : Option ℕ) → l' ≡ l → HoldsProgress layouts l kit p → HoldsProgress layouts l' kit p
 held_under layouts kit p l l' same held = subst (λ (m : Option ℕ). HoldsProgress layouts m kit p) (sym same) held

@@ -13,7 +13,7 @@ use Rattle.gc_model.proofs.Lists.{slice_get-push_new, slice_get-push_old}
 use Rattle.gc_model.specs.Holds.{HoldsKept, HoldsTable}
 use Rattle.gc_model.specs.Reach.{HasNumber, IsKept, root_references}
 use Rattle.gc_model.specs.Values.{Reference, null, at}
-use Rattle.gc_model.specs.Allocation.{MayHave}
+use Rattle.gc_model.specs.Allocation.{Limits, MayHave}
 use Rattle.gc_model.specs.Table.{Table, Owned, declare}
 use Rattle.gc_model.specs.Stores.{StoreView}
 use Rattle.gc_policy.specs.Accounts.{Account, HoldsAccount}
@@ -63,8 +63,8 @@ unmade_within layouts limit t a new type_fault.Memory within made = by made.1
     by (inr holds) = record { table = declare (cell_type (length t.types)) t; holds = (holds.place, holds.holds); within = within }
 
 -- a kit was made, and nothing is filled yet
-pub begins : (layouts : Layouts) (limit : Option ℕ) (t : Table ℕ) (a : Account) (new : StoreView ℕ) (kit : Kit) → MayHave limit t.pages → IsAlone t None null → MakesKit layouts t a (Ok kit) new → HoldsProgress layouts limit kit (begin_at new)
-begins layouts limit t a new kit within alone made = record {
+pub begins : (layouts : Layouts) (limits : Limits) (t : Table ℕ) (a : Account) (new : StoreView ℕ) (kit : Kit) → MayHave limits.limit t.pages → IsAlone t None null → MakesKit layouts t a (Ok kit) new → HoldsProgress layouts limits.limit kit (begin_at new limits)
+begins layouts limits t a new kit within alone made = record {
   table = declare_kit t;
   account = a;
   holds = made.1;
@@ -84,9 +84,10 @@ pub kit_known : (layouts : Layouts) (old start : StoreView ℕ) (result : Result
     → (t : Table ℕ) (a : Account) → HoldsAccount layouts old t a → MakesKit layouts t a (Ok kit) start
 kit_known layouts old start result kit makes is t a holds = subst (λ (r : Result Kit TypeFault). MakesKit layouts t a r start) is (makes t a holds)
 
-module _ (layouts : Layouts) (limit : Option ℕ) (inserts : ℕ) (old start full_store : StoreView ℕ) (kit : Kit) (made : (t : Table ℕ) (a : Account) → HoldsAccount layouts old t a → MakesKit layouts t a (Ok kit) start) (f : Filled) (upto : FillsUpTo layouts limit kit inserts start inserts full_store f) where
+module _ (layouts : Layouts) (limits : Limits) (inserts : ℕ) (old start full_store : StoreView ℕ) (kit : Kit) (made : (t : Table ℕ) (a : Account) → HoldsAccount layouts old t a → MakesKit layouts t a (Ok kit) start) (limits' : Limits) (f : Filled)
+    (upto : FillsUpTo layouts limits kit inserts start inserts full_store limits' f) where
   abbrev done : Progress
-  done = progress_of full_store f upto.entries
+  done = progress_of full_store limits' f upto.entries
 
   -- the premise of copying
   pub map_stands : MapStands ℕ layouts full_store f.map.root
@@ -100,7 +101,7 @@ module _ (layouts : Layouts) (limit : Option ℕ) (inserts : ℕ) (old start ful
     module _ (clause : is_version_of full_store f.map.root ≡ true → (t : Table ℕ) (a : Account) (m : IntMap) → HoldsAccount layouts full_store t a → StandsForMap full_store t f.map.root m
         → MatchResult result (λ (v : V). CopiedEntries layouts m t (items v) copied) (λ (why : ListFault). FailsToCopyEntries layouts m t why copied)) where
       copies : Copies result
-      copies = clause (version_own layouts limit kit done upto.held) upto.held.table upto.held.account upto.entries upto.held.holds (kit.node, upto.held.stands)
+      copies = clause (version_own layouts limits.limit kit done upto.held) upto.held.table upto.held.account upto.entries upto.held.holds (kit.node, upto.held.stands)
 
       pub copied_as : (v : V) → result ≡ Ok v → CopiedEntries layouts upto.entries upto.held.table (items v) copied
       copied_as v is = subst Copies is copies
@@ -109,10 +110,10 @@ module _ (layouts : Layouts) (limit : Option ℕ) (inserts : ℕ) (old start ful
       fails_as why is = subst Copies is copies
 
   -- roots that were pushed change no pages
-  roots_within : (t u : Table ℕ) (owned : List Owned) → ChangesRoots t owned u → MayHave limit t.pages → MayHave limit u.pages
-  roots_within t u owned changed within = subst (MayHave limit) (sym (ap (λ (v : Table ℕ). v.pages) changed.rest)) within
+  roots_within : (t u : Table ℕ) (owned : List Owned) → ChangesRoots t owned u → MayHave limits.limit t.pages → MayHave limits.limit u.pages
+  roots_within t u owned changed within = subst (MayHave limits.limit) (sym (ap (λ (v : Table ℕ). v.pages) changed.rest)) within
 
-  left_within : (new : StoreView ℕ) → Leaves layouts (ChangesRoots upto.held.table upto.held.table.owned) new → HoldsWithin layouts limit new
+  left_within : (new : StoreView ℕ) → Leaves layouts (ChangesRoots upto.held.table upto.held.table.owned) new → HoldsWithin layouts limits.limit new
   left_within new leaves = record {
     table = leaves.after;
     holds = (leaves.holds.place, leaves.holds.holds);
@@ -120,14 +121,14 @@ module _ (layouts : Layouts) (limit : Option ℕ) (inserts : ℕ) (old start ful
   }
 
   -- the entries were not copied, for want of memory or of roots
-  pub uncopied_within : (why : ListFault) (new : StoreView ℕ) → FailsToCopyEntries layouts upto.entries upto.held.table why new → HoldsWithin layouts limit new
+  pub uncopied_within : (why : ListFault) (new : StoreView ℕ) → FailsToCopyEntries layouts upto.entries upto.held.table why new → HoldsWithin layouts limits.limit new
   uncopied_within fault.WrongStore new fails = absurd fails
   uncopied_within fault.RootsFull new fails = left_within new fails.1
   uncopied_within (fault.HeapOutOfMemory f) new fails = absurd fails
   uncopied_within fault.Memory new fails = left_within new fails
 
   -- they were, and the heap was collected
-  pub collected_within : (copied new : StoreView ℕ) (entries : List (ℤ × ℤ)) → CopiedEntries layouts upto.entries upto.held.table entries copied → ((t : Table ℕ) → HoldsTable layouts copied t → HoldsKept layouts new t) → HoldsWithin layouts limit new
+  pub collected_within : (copied new : StoreView ℕ) (entries : List (ℤ × ℤ)) → CopiedEntries layouts upto.entries upto.held.table entries copied → ((t : Table ℕ) → HoldsTable layouts copied t → HoldsKept layouts new t) → HoldsWithin layouts limits.limit new
   collected_within copied new entries copies kept =
       let here = left_within copied copies.1 in
       let now = kept here.table here.holds in
@@ -136,7 +137,7 @@ module _ (layouts : Layouts) (limit : Option ℕ) (inserts : ℕ) (old start ful
   -- the entries were copied, and the heap collected
   pub tells_filled : (copied new : StoreView ℕ) (entries : List (ℤ × ℤ)) (held : ℕ) (text : List ℕ) → IsSameStore full_store copied → IsSameStore copied new
       → CopiedEntries layouts upto.entries upto.held.table entries copied → ((t : Table ℕ) → HoldsTable layouts copied t → HoldsKept layouts new t) → ((t : Table ℕ) → HoldsKept layouts new t → HasNumber (IsKept layouts t) held)
-      → text ≡ fill_text (length entries) f.refused held (sum_by (λ (entry : ℤ × ℤ). unsigned_abs entry.1) entries) → TellsFill layouts limit inserts old text new
+      → text ≡ fill_text (length entries) f.refused held (sum_by (λ (entry : ℤ × ℤ). unsigned_abs entry.1) entries) → TellsFill layouts limits inserts old text new
   tells_filled copied new entries held text same after copies kept counts is =
       let t = upto.held.table in
       let u = copies.1.after in
@@ -172,7 +173,7 @@ module _ (layouts : Layouts) (limit : Option ℕ) (inserts : ℕ) (old start ful
       })
 
   -- they could not be
-  pub tells_full : (new : StoreView ℕ) (text : List ℕ) → FailsToCopyEntries layouts upto.entries upto.held.table fault.RootsFull new → text ≡ codes "RootsFull" ++ 10 ∷ [] → TellsFill layouts limit inserts old text new
+  pub tells_full : (new : StoreView ℕ) (text : List ℕ) → FailsToCopyEntries layouts upto.entries upto.held.table fault.RootsFull new → text ≡ codes "RootsFull" ++ 10 ∷ [] → TellsFill layouts limits inserts old text new
   tells_full new text fails is = full (record {
     kit = kit;
     done = done;

@@ -35,16 +35,17 @@ key_count = 1000
 abbrev pub key_of : ℕ → ℕ → ℤ
 key_of inserts number = pos (seed_of inserts number % key_count)
 
--- How far inserts have come: what is seen of the store, the version that stands for the entries, and how many were refused.
+-- How far inserts have come: what is seen of the store, what the limiter tells, the version that stands for the entries, and how many were refused.
 pub record Progress : Type 0 where
   pub store : StoreView ℕ
+  pub limits : Limits
   pub version : Option GcRootIndex
   pub entries : IntMap
   pub refused : ℕ
 
 -- so where that struct tells it
-abbrev pub progress_of : StoreView ℕ → Filled → IntMap → Progress
-progress_of store filled m = record { store = store; version = filled.map.root; entries = m; refused = filled.refused }
+abbrev pub progress_of : StoreView ℕ → Limits → Filled → IntMap → Progress
+progress_of store limits filled m = record { store = store; limits = limits; version = filled.map.root; entries = m; refused = filled.refused }
 
 -- the store holds some table, whose pages a limit grants
 pub record HoldsWithin (layouts : Layouts) (limit : Option ℕ) (s : StoreView ℕ) : Type 0 where
@@ -74,14 +75,14 @@ pub record HoldsProgress (layouts : Layouts) (limit : Option ℕ) (kit : Kit) (p
   pub alone : IsAlone table p.version stands.reference
 
 -- before the first one
-abbrev pub begin_at : StoreView ℕ → Progress
-begin_at store = record { store = store; version = None; entries = finite.from_sorted []; refused = 0 }
+abbrev pub begin_at : StoreView ℕ → Limits → Progress
+begin_at store limits = record { store = store; limits = limits; version = None; entries = finite.from_sorted []; refused = 0 }
 
 -- what an insert into the version answers and leaves under a limit of pages, in each table that the store holds and in which the version
--- stands for the entries
-abbrev pub Inserts : Layouts → Option ℕ → Kit → ℤ → ℤ → Progress → Result HeapMap ListFault → StoreView ℕ → Type 0
-Inserts layouts limit kit key value p result new = (t : Table ℕ) (a : Account) → HoldsAccount layouts p.store t a → StandsForMapOf p.store t p.version kit.node p.entries
-    → (limits : Limits) × ((limits.limit ≡ limit) × AnswersMap layouts p.store.alloc_counter kit (finite.insert p.entries key value) t limits result new)
+-- stands for the entries, by what the limiter tells before and after
+abbrev pub Inserts : Layouts → Option ℕ → Kit → ℤ → ℤ → Progress → Result HeapMap ListFault → Limits → StoreView ℕ → Type 0
+Inserts layouts limit kit key value p result limits' new = (t : Table ℕ) (a : Account) → HoldsAccount layouts p.store t a → StandsForMapOf p.store t p.version kit.node p.entries
+    → (limits'.limit ≡ limit) × AnswersMap layouts p.store.alloc_counter kit (finite.insert p.entries key value) t p.limits limits' result new
 
 -- what giving up a version leaves
 abbrev pub GivesUp : Layouts → StoreView ℕ → Option GcRootIndex → StoreView ℕ → Type 0
@@ -96,26 +97,26 @@ IsCounted fault.Memory = ⊥
 
 -- An insert was taken, and then the version before was given up; or it was refused, and the version stays. The store is the same one.
 pub data Step (layouts : Layouts) (limit : Option ℕ) (kit : Kit) (key value : ℤ) (p q : Progress) : Type 0 where
-  taken : (map : HeapMap) (between : StoreView ℕ) → Inserts layouts limit kit key value p (Ok map) between → GivesUp layouts between p.version q.store
+  taken : (map : HeapMap) (between : StoreView ℕ) → Inserts layouts limit kit key value p (Ok map) q.limits between → GivesUp layouts between p.version q.store
       → IsSameStore p.store between → IsSameStore between q.store
-      → q ≡ record { store = q.store; version = map.root; entries = finite.insert p.entries key value; refused = p.refused } → Step layouts limit kit key value p q
-  refused : (why : ListFault) → Inserts layouts limit kit key value p (Err why) q.store → IsCounted why → IsSameStore p.store q.store
-      → q ≡ record p { store = q.store; refused = p.refused + 1 } → Step layouts limit kit key value p q
+      → q ≡ record { store = q.store; limits = q.limits; version = map.root; entries = finite.insert p.entries key value; refused = p.refused } → Step layouts limit kit key value p q
+  refused : (why : ListFault) → Inserts layouts limit kit key value p (Err why) q.limits q.store → IsCounted why → IsSameStore p.store q.store
+      → q ≡ record p { store = q.store; limits = q.limits; refused = p.refused + 1 } → Step layouts limit kit key value p q
 
--- so many of the inserts were made, whose values are their numbers
-abbrev pub Fills : Layouts → Option ℕ → Kit → ℕ → StoreView ℕ → ℕ → Progress → Type 0
-Fills layouts limit kit inserts start zero q = q ≡ begin_at start
-Fills layouts limit kit inserts start (suc k) q =
-    (p : Progress) × (Fills layouts limit kit inserts start k p × Step layouts limit kit (key_of inserts (suc k)) (pos (suc k)) p q)
+-- so many of the inserts were made, whose values are their numbers, where a limiter told these limits at first
+abbrev pub Fills : Layouts → Limits → Kit → ℕ → StoreView ℕ → ℕ → Progress → Type 0
+Fills layouts limits kit inserts start zero q = q ≡ begin_at start limits
+Fills layouts limits kit inserts start (suc k) q =
+    (p : Progress) × (Fills layouts limits kit inserts start k p × Step layouts limits.limit kit (key_of inserts (suc k)) (pos (suc k)) p q)
 
 -- an insert on the way came to this, and all stands still
-pub record Goes (layouts : Layouts) (limit : Option ℕ) (kit : Kit) (key value : ℤ) (p : Progress) (store : StoreView ℕ) (filled : Filled) : Type 0 where
+pub record Goes (layouts : Layouts) (limit : Option ℕ) (kit : Kit) (key value : ℤ) (p : Progress) (store : StoreView ℕ) (limits' : Limits) (filled : Filled) : Type 0 where
   pub entries : IntMap
-  pub step : Step layouts limit kit key value p (progress_of store filled entries)
-  pub held : HoldsProgress layouts limit kit (progress_of store filled entries)
+  pub step : Step layouts limit kit key value p (progress_of store limits' filled entries)
+  pub held : HoldsProgress layouts limit kit (progress_of store limits' filled entries)
 
 -- so did the first so many of the inserts
-pub record FillsUpTo (layouts : Layouts) (limit : Option ℕ) (kit : Kit) (inserts : ℕ) (start : StoreView ℕ) (done : ℕ) (store : StoreView ℕ) (filled : Filled) : Type 0 where
+pub record FillsUpTo (layouts : Layouts) (limits : Limits) (kit : Kit) (inserts : ℕ) (start : StoreView ℕ) (done : ℕ) (store : StoreView ℕ) (limits' : Limits) (filled : Filled) : Type 0 where
   pub entries : IntMap
-  pub fills : Fills layouts limit kit inserts start done (progress_of store filled entries)
-  pub held : HoldsProgress layouts limit kit (progress_of store filled entries)
+  pub fills : Fills layouts limits kit inserts start done (progress_of store limits' filled entries)
+  pub held : HoldsProgress layouts limits.limit kit (progress_of store limits' filled entries)

@@ -4,7 +4,7 @@ use Rattle.std.specs.FinMap as finite
 use Rattle.std.specs.Fmt.{decimal}
 use Rattle.gc_types.specs.declared.kind.Layouts.{Layouts}
 use Rattle.gc_types.specs.declared.kind.Layouts.TheVariants.{Null, Counting, Copying}
-use Rattle.gc_model.specs.Allocation.{MayHave}
+use Rattle.gc_model.specs.Allocation.{Limits, MayHave}
 use Rattle.gc_model.specs.Holds.{HoldsKept}
 use Rattle.gc_model.specs.Reach.{HasNumber, IsKept}
 use Rattle.gc_model.specs.Stores.{StoreView}
@@ -32,10 +32,10 @@ fill_text entries refused held sum =
     number_line (codes "entries") entries ++ (number_line (codes "refused") refused ++ (number_line (codes "held") held ++ number_line (codes "sum") sum))
 
 -- A kit was made in the store, and so many inserts became of this with it.
-pub record Filled (layouts : Layouts) (limit : Option ℕ) (inserts : ℕ) (old : StoreView ℕ) (kit : Kit) (p : Progress) : Type 0 where
+pub record Filled (layouts : Layouts) (limits : Limits) (inserts : ℕ) (old : StoreView ℕ) (kit : Kit) (p : Progress) : Type 0 where
   pub start : StoreView ℕ
   pub kit_made : (t : Table ℕ) (a : Account) → HoldsAccount layouts old t a → MakesKit layouts t a (Ok kit) start
-  pub fills : Fills layouts limit kit inserts start inserts p
+  pub fills : Fills layouts limits kit inserts start inserts p
 
 -- A heap that frees holds an object for each entry, and no other; a null heap holds what was made.
 abbrev pub HoldsEntries : Layouts → ℕ → ℕ → Type 0
@@ -46,10 +46,10 @@ HoldsEntries Copying entries held = held ≡ entries
 -- The text says how many entries the map has, how many inserts were refused, how many objects a collection keeps, which the store alone
 -- holds then, and what the sum of the values is. Behind the inserts no object came, and no owned root came or went. The limit grants
 -- the pages that the heap has.
-pub record TellsFilled (layouts : Layouts) (limit : Option ℕ) (inserts : ℕ) (old : StoreView ℕ) (text : List ℕ) (new : StoreView ℕ) : Type 0 where
+pub record TellsFilled (layouts : Layouts) (limits : Limits) (inserts : ℕ) (old : StoreView ℕ) (text : List ℕ) (new : StoreView ℕ) : Type 0 where
   pub kit : Kit
   pub done : Progress
-  pub filled : Filled layouts limit inserts old kit done
+  pub filled : Filled layouts limits inserts old kit done
   pub before : Table ℕ
   pub account : Account
   pub holds : HoldsAccount layouts done.store before account
@@ -58,25 +58,25 @@ pub record TellsFilled (layouts : Layouts) (limit : Option ℕ) (inserts : ℕ) 
   pub same : IsSameStore done.store new
   pub kept : HoldsKept layouts new table
   pub stands : StandsForMapOf new table done.version kit.node done.entries
-  pub within : MayHave limit table.pages
+  pub within : MayHave limits.limit table.pages
   pub held : ℕ
   pub held_is : HasNumber (IsKept layouts table) held
   pub held_entries : HoldsEntries layouts (finite.len done.entries) held
   pub text_is : text ≡ fill_text (finite.len done.entries) done.refused held (sum_of done.entries)
 
 -- The entries could not be read for want of roots: the text is the name of that refusal. The limit grants the heap's pages.
-pub record TellsFull (layouts : Layouts) (limit : Option ℕ) (inserts : ℕ) (old : StoreView ℕ) (text : List ℕ) (new : StoreView ℕ) : Type 0 where
+pub record TellsFull (layouts : Layouts) (limits : Limits) (inserts : ℕ) (old : StoreView ℕ) (text : List ℕ) (new : StoreView ℕ) : Type 0 where
   pub kit : Kit
   pub done : Progress
-  pub filled : Filled layouts limit inserts old kit done
+  pub filled : Filled layouts limits inserts old kit done
   pub table : Table ℕ
   pub account : Account
   pub holds : HoldsAccount layouts done.store table account
-  pub within : MayHave limit table.pages
+  pub within : MayHave limits.limit table.pages
   pub fails : FailsToCopyEntries layouts done.entries table fault.RootsFull new
   pub text_is : text ≡ codes "RootsFull" ++ 10 ∷ []
 
--- what the report says of a map that got so many inserts in a store, under a limit of pages
-pub data TellsFill (layouts : Layouts) (limit : Option ℕ) (inserts : ℕ) (old : StoreView ℕ) (text : List ℕ) (new : StoreView ℕ) : Type 0 where
-  filled : TellsFilled layouts limit inserts old text new → TellsFill layouts limit inserts old text new
-  full : TellsFull layouts limit inserts old text new → TellsFill layouts limit inserts old text new
+-- what the report says of a map that got so many inserts in a store, by what the limiter told at first
+pub data TellsFill (layouts : Layouts) (limits : Limits) (inserts : ℕ) (old : StoreView ℕ) (text : List ℕ) (new : StoreView ℕ) : Type 0 where
+  filled : TellsFilled layouts limits inserts old text new → TellsFill layouts limits inserts old text new
+  full : TellsFull layouts limits inserts old text new → TellsFill layouts limits inserts old text new

@@ -33,10 +33,11 @@ pub(crate) fn fill<H: GcHeap, L: ResourceLimiter>(
     kit: &Kit,
     inserts: u32,
 ) -> Result<Filled, AllocError>
-    requires held { HoldsProgress H.KIND (L.limits limiter.old).limit kit.now (begin_at store.old) }
+    requires held { HoldsProgress H.KIND (L.limits limiter.old).limit kit.now (begin_at store.old (L.limits limiter.old)) }
     requires few { inserts ≤ max_inserts }
     ensures wants { OnErr result (HoldsWithin H.KIND (L.limits limiter.old).limit store.new) }
-    ensures fills { IfOk result (λ filled. FillsUpTo H.KIND (L.limits limiter.old).limit kit.now inserts store.old inserts store.new filled) }
+    ensures fills { IfOk result (λ filled. FillsUpTo H.KIND (L.limits limiter.old) kit.now inserts store.old inserts store.new (L.limits limiter.new)
+        filled) }
     ensures same { IsSameStore store.old store.new }
 {
     let mut filled = Filled {
@@ -61,11 +62,12 @@ fn insert<H: GcHeap, L: ResourceLimiter>(
     key: i64,
     value: i64,
 ) -> Result<Filled, AllocError>
-    requires held { (m : IntMap) × HoldsProgress H.KIND (L.limits limiter.old).limit kit.now (progress_of store.old filled m) }
+    requires held { (m : IntMap) × HoldsProgress H.KIND (L.limits limiter.old).limit kit.now (progress_of store.old (L.limits limiter.old) filled m) }
     requires few { filled.refused ≤ max_inserts }
     ensures wants { OnErr result (HoldsWithin H.KIND (L.limits limiter.old).limit store.new) }
-    ensures goes { IfOk result (λ after. (m : IntMap) → HoldsProgress H.KIND (L.limits limiter.old).limit kit.now (progress_of store.old filled m)
-        → Goes H.KIND (L.limits limiter.old).limit kit.now key value (progress_of store.old filled m) store.new after) }
+    ensures goes { IfOk result (λ after. (m : IntMap) → HoldsProgress H.KIND (L.limits limiter.old).limit kit.now (progress_of store.old (L.limits limiter.old) filled m)
+        → Goes H.KIND (L.limits limiter.old).limit kit.now key value (progress_of store.old (L.limits limiter.old) filled m) store.new
+        (L.limits limiter.new) after) }
     ensures limit { (L.limits limiter.new).limit ≡ (L.limits limiter.old).limit }
     ensures few { IfOk result (λ after. after.refused ≤ filled.refused + 1) }
     ensures same { IsSameStore store.old store.new }

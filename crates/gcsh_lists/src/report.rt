@@ -23,7 +23,7 @@ pub fn fill_report<H: GcHeap, L: ResourceLimiter>(
 ) -> Result<String, AllocError>
     requires start { HoldsStart ℕ H.KIND store.old }
     requires few { inserts ≤ max_inserts }
-    ensures tells { IfOk result (λ text. TellsFill H.KIND (L.limits limiter.old).limit inserts store.old (string_bytes text) store.new) }
+    ensures tells { IfOk result (λ text. TellsFill H.KIND (L.limits limiter.old) inserts store.old (string_bytes text) store.new) }
     ensures wants { OnErr result (HoldsWithin H.KIND (L.limits limiter.old).limit store.new) }
     ensures same { IsSameStore store.old store.new }
 {

@@ -1,5 +1,5 @@
 -- What the report of a map that was filled tells, on a new store under the form's limit of pages.
-use Rattle.std.proofs.Common.{◌≡◌, ap, sym, subst, ℕ, List, Option, Some}
+use Rattle.std.proofs.Common.{◌≡◌, sym, subst, ℕ, List, Some}
 use Rattle.gc_types.specs.declared.kind.Layouts.{Layouts}
 use Rattle.gc_model.specs.Allocation.{Limits}
 use Rattle.gc_model.specs.Stores.{StoreView}
@@ -11,12 +11,12 @@ use Rattle.gcsh_top.specs.ListReports.{TellsLists}
 use Rattle.gcsh_top.specs.Runs.{IsReady}
 
 pub tells_lists : (layouts : Layouts) (form : Form) (inserts : ℕ) (old store : StoreView ℕ) (text : List ℕ) (limits : Limits) (bytes : List ℕ) → IsReady layouts form old → limits ≡ fresh_limits (Some form.most) → bytes ≡ text
-    → TellsFill layouts limits.limit inserts old text store → TellsLists layouts form inserts store bytes
+    → TellsFill layouts limits inserts old text store → TellsLists layouts form inserts store bytes
 tells_lists layouts form inserts old store text limits bytes ready fresh same tells = record {
   old = old;
   ready = ready;
-  tells = subst (λ (b : List ℕ). TellsFill layouts (Some form.most) inserts old b store) (sym same)
-      (subst (λ (limit : Option ℕ). TellsFill layouts limit inserts old text store) (ap (λ (l : Limits). l.limit) fresh) tells);
+  tells = subst (λ (b : List ℕ). TellsFill layouts (fresh_limits (Some form.most)) inserts old b store) (sym same)
+      (subst (λ (l : Limits). TellsFill layouts l inserts old text store) fresh tells);
 }
 
 -- where there is no memory for it, the store keeps within that limit

@@ -2,6 +2,7 @@
 use Rattle.std.specs.Prelude.{ℕ, List, Some}
 use Rattle.gc_types.specs.declared.kind.Layouts.{Layouts}
 use Rattle.gc_model.specs.Stores.{StoreView}
+use Rattle.gc_owner.specs.Limiters.{fresh_limits}
 use Rattle.gcsh_lists.specs.Filling.{HoldsWithin}
 use Rattle.gcsh_lists.specs.Reports.{TellsFill}
 use Rattle.gcsh_top.specs.declared.status.Status.{Status}
@@ -14,7 +15,7 @@ use Rattle.gcsh_top.specs.Runs.{IsReady}
 pub record TellsLists (layouts : Layouts) (form : Form) (inserts : ℕ) (store : StoreView ℕ) (text : List ℕ) : Type 0 where
   pub old : StoreView ℕ
   pub ready : IsReady layouts form old
-  pub tells : TellsFill layouts (Some form.most) inserts old text store
+  pub tells : TellsFill layouts (fresh_limits (Some form.most)) inserts old text store
 
 -- how the form ends; where there is no memory for a text, the store holds some table within the form's limit of pages
 abbrev pub ReportedLists : Layouts → Form → ℕ → SinkRun → StoreView ℕ → Status → Type 0

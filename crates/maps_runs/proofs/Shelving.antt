@@ -1,8 +1,12 @@
 -- A shelf stays through calls on its maps.
-use Rattle.std.proofs.Common.{int_cmp, ◌≡◌, ℕ, zero, suc, ℤ, ◌+◌, Bool, true, false, ◌&&◌, arith, List, [], ◌∷◌, ◌++◌, length, Option, Some, None, Vec, Global, Result, Ok, Err, refl, sym, ap, ◌∙◌, subst}
+use Rattle.std.proofs.Common.{int_cmp, ◌≡◌, ℕ, zero, suc, ℤ, ◌+◌, ◌==◌, Bool, true, false, ◌&&◌, arith, List, [], ◌∷◌, ◌++◌, length, Option, Some, None, Vec, Global, Result, Ok, Err, refl, sym, ap, ◌∙◌, subst}
 use Rattle.std.specs.List.{slice_get}
 use Rattle.std.specs.Result.{IfOk, IsErrOf, MatchResult}
 use Rattle.std.specs.FinMap as finite
+use Rattle.std.specs.FinMap.Entries.{by_order, put}
+use Rattle.std.specs.Cmp.{int_cmp_total}
+use Rattle.std.specs.declared.cmp.Ordering.{Ordering}
+use Rattle.std.specs.declared.cmp.Ordering.TheVariants.{Less, Equal, Greater}
 use Rattle.std.proofs.lemmas.List.{append-nil, length-append}
 use Rattle.std.proofs.lemmas.Option.{none-some}
 use Rattle.gc_types.specs.declared.kind.Layouts.{Layouts}
@@ -10,12 +14,16 @@ use Rattle.gc_types.specs.Declarations.{Declaration}
 use Rattle.gc_model.proofs.Lists.{slice_get-push_new, slice_get-push_old}
 use Rattle.gc_model.specs.Allocation.{Limits}
 use Rattle.gc_model.specs.Values.{Reference, null}
-use Rattle.gc_model.specs.Table.{Table, Owned}
+use Rattle.gc_model.specs.Table.{Table, Owned, push}
 use Rattle.gc_model.specs.Holds.{HoldsKept, HoldsTable}
 use Rattle.gc_model.specs.Stores.{StoreView}
 use Rattle.gc_policy.specs.Accounts.{Account, HoldsAccount}
 use Rattle.gc_policy.proofs.AccountLemmas.{some_account}
+use Rattle.gc_store.specs.declared.engine.StoreId.{StoreId}
 use Rattle.gc_store.specs.declared.root.GcRootIndex.{GcRootIndex}
+use Rattle.gc_store.specs.declared.root.RootFault.{RootFault}
+use Rattle.gc_store.specs.declared.root.RootFault.TheVariants as root_fault
+use Rattle.gc_store.specs.Handles.{PushesRoot}
 use Rattle.gc_store.specs.Stores.{IsSameStore}
 use Rattle.gc_lists.specs.declared.fault.ListFault.{ListFault}
 use Rattle.gc_lists.specs.declared.fault.ListFault.TheVariants as fault
@@ -30,10 +38,20 @@ use Rattle.gc_lists.proofs.Standing.{named_still, objects_keep, roots_keep}
 use Rattle.gc_maps.specs.declared.map.HeapMap.{HeapMap}
 use Rattle.gc_maps.specs.Answers.{AnswersMap, AreEntries, Gets}
 use Rattle.gc_maps.specs.Copies.{CopiedEntries, FailsToCopyEntries}
-use Rattle.gc_maps.specs.Maps.{IntMap, MapOfStands, MapStands, StandsForMap, StandsForMapOf}
-use Rattle.gc_maps.specs.Trees.{leaf}
+use Rattle.gc_maps.specs.Maps.{IntMap, IsMap, IsTree, MapOfStands, MapStands, StandsForMap, StandsForMapOf}
+use Rattle.gc_maps.specs.Trees.{Tree, leaf, node, pairs}
 use Rattle.gc_maps.proofs.Staying.{map_stays}
-use Rattle.maps_runs.specs.Shelves.{Shelf}
+use Rattle.maps_runs.specs.Shelves.{IsRootedIn, Shelf, id_in}
+
+-- what a key was put into has entries
+put_some : (key value : ℤ) (es : List (ℤ × ℤ)) → put int_cmp key value es ≡ [] → ⊥
+put_some key value [] none = absurd (cc none)
+put_some key value (e ∷ es) none = by (int_cmp key e.0) none
+  where
+    by : (order : Ordering) → by_order order ((key, value) ∷ e ∷ es) ((e.0, value) ∷ es) (e ∷ put int_cmp key value es) ≡ [] → ⊥
+    by Less is = absurd (cc is)
+    by Equal is = absurd (cc is)
+    by Greater is = absurd (cc is)
 
 -- the maps of a shelf as the calls ask for them
 module _ (layouts : Layouts) (s : StoreView ℕ) (kit : Kit) (v : Option GcRootIndex) (vs : List (Option GcRootIndex)) (shelf : Shelf layouts s kit (v ∷ vs)) where
@@ -172,8 +190,8 @@ module _ (layouts : Layouts) (s new : StoreView ℕ) (kit : Kit) (v : Option GcR
   first_stands = shelf.stands zero v refl
 
   -- a call that answers a map whose entries are changed so
-  module _ (change : IntMap → IntMap) (limits' : Limits) where
-    changed_in : (counter : Option ℕ) (result : Result HeapMap ListFault) → AnswersMap layouts counter kit (change first_stands.0) shelf.table limits' result new → Made result
+  module _ (change : IntMap → IntMap) (limits limits' : Limits) where
+    changed_in : (counter : Option ℕ) (result : Result HeapMap ListFault) → AnswersMap layouts counter kit (change first_stands.0) shelf.table limits limits' result new → Made result
     changed_in counter (Ok made) answers = shelf_answered layouts s new kit (v ∷ vs) shelf same (change first_stands.0) made.root answers
     changed_in counter (Err fault.WrongStore) answers = absurd answers
     changed_in counter (Err fault.RootsFull) answers = shelf_refused layouts s new kit (v ∷ vs) shelf same answers.1
@@ -182,7 +200,7 @@ module _ (layouts : Layouts) (s new : StoreView ℕ) (kit : Kit) (v : Option GcR
 
     pub change_stays : (counter : Option ℕ) (result : Result HeapMap ListFault) → ((is_kit_of s kit && is_version_of s v) ≡ false → (result ≡ Err fault.WrongStore) × (new ≡ s))
         → (is_kit_of s kit ≡ true → is_version_of s v ≡ true → (t : Table ℕ) (a : Account) (m : IntMap) → HoldsAccount layouts s t a → StandsForMapOf s t v kit.node m
-        → AnswersMap layouts counter kit (change m) t limits' result new) → Made result
+        → AnswersMap layouts counter kit (change m) t limits limits' result new) → Made result
     change_stays counter result wrong changes = by (is_kit_of s kit) (is_version_of s v) refl refl
       where
         account : (a : Account) × HoldsAccount layouts s shelf.table a
@@ -192,6 +210,36 @@ module _ (layouts : Layouts) (s new : StoreView ℕ) (kit : Kit) (v : Option GcR
         by true true kit_own own = changed_in counter result (changes kit_own own shelf.table account.0 first_stands.0 account.1 first_stands.1)
         by true false kit_own own = refused_store result (wrong (false_behind (is_kit_of s kit) (is_version_of s v) own))
         by false w kit_own own = refused_store result (wrong (and_false (is_kit_of s kit) (is_version_of s v) kit_own))
+
+  -- a map that is answered for a key isn't empty, so it has an owned root of the store
+  module _ (key value : ℤ) (limits limits' : Limits) where
+    abbrev Owns : Result HeapMap ListFault → Type 0
+    Owns result = IfOk result (λ (made : HeapMap). IsRootedIn new made.root)
+
+    rooted : (made : Option GcRootIndex) (after : Table ℕ) (r : Reference) (m : IntMap) → VersionNames new after made r → IsMap after.types after.objects kit.node (finite.insert m key value) r → IsRootedIn new made
+    rooted None after r m names is = by is.tree is.is is.entries
+      where
+        by : (tree : Tree) → IsTree after.types after.objects kit.node tree r → finite.entries (finite.insert m key value) ≡ pairs tree → ⊥
+        by leaf at entries = put_some key value (finite.entries m) (sym (finite.entries-insert int_cmp_total m key value) ∙ entries)
+        by (node a k x b) at entries = absurd (cc (sym names ∙ at.is_node.named))
+    rooted (Some h) after r m names is = ap (λ (w : GcRootIndex). w.store_id) names.names
+
+    owned_by : (counter : Option ℕ) (result : Result HeapMap ListFault) → AnswersMap layouts counter kit (finite.insert first_stands.0 key value) shelf.table limits limits' result new → Owns result
+    owned_by counter (Ok made) answers = rooted made.root answers.after answers.stands.reference first_stands.0 answers.stands.names answers.stands.is
+    owned_by counter (Err why) answers = tt
+
+    pub put_owns : (counter : Option ℕ) (result : Result HeapMap ListFault) → ((is_kit_of s kit && is_version_of s v) ≡ false → (result ≡ Err fault.WrongStore) × (new ≡ s))
+        → (is_kit_of s kit ≡ true → is_version_of s v ≡ true → (t : Table ℕ) (a : Account) (m : IntMap) → HoldsAccount layouts s t a → StandsForMapOf s t v kit.node m
+        → AnswersMap layouts counter kit (finite.insert m key value) t limits limits' result new) → Owns result
+    put_owns counter result wrong inserts = by (is_kit_of s kit) (is_version_of s v) refl refl
+      where
+        account : (a : Account) × HoldsAccount layouts s shelf.table a
+        account = some_account layouts s shelf.table shelf.holds
+
+        by : (k w : Bool) → is_kit_of s kit ≡ k → is_version_of s v ≡ w → Owns result
+        by true true kit_own own = owned_by counter result (inserts kit_own own shelf.table account.0 first_stands.0 account.1 first_stands.1)
+        by true false kit_own own = subst Owns (sym (wrong (false_behind (is_kit_of s kit) (is_version_of s v) own)).0) tt
+        by false w kit_own own = subst Owns (sym (wrong (and_false (is_kit_of s kit) (is_version_of s v) kit_own)).0) tt
 
   module _ (key : ℤ) where
     got : (result : Result (Option ℤ) ListFault) → Gets layouts first_stands.0 key shelf.table result new → Shelf layouts new kit (v ∷ vs)
@@ -286,16 +334,16 @@ module _ (layouts : Layouts) (s mid new : StoreView ℕ) (kit : Kit) (v : Option
   abbrev Released : Result (Unit {0}) HeapMap → Table ℕ → Account → Type 0
   Released r t a = MatchResult r (λ done. (is_version_of mid made.root ≡ true) × Releases layouts mid t a made.root new) (λ (back : HeapMap). (is_version_of mid made.root ≡ false) × (back.root ≡ made.root))
 
-  module _ (change : IntMap → IntMap) (limits' : Limits) (counter : Option ℕ) (result : Result HeapMap ListFault) (is : result ≡ Ok made) (released : Result (Unit {0}) HeapMap) (x : Unit {0}) (released_is : released ≡ Ok x)
+  module _ (change : IntMap → IntMap) (limits limits' : Limits) (counter : Option ℕ) (result : Result HeapMap ListFault) (is : result ≡ Ok made) (released : Result (Unit {0}) HeapMap) (x : Unit {0}) (released_is : released ≡ Ok x)
       (releases : (t : Table ℕ) (a : Account) → HoldsAccount layouts mid t a → Released released t a) where
-    left_in : AnswersMap layouts counter kit (change the_entries) shelf.table limits' result mid → Shelf layouts new kit (v ∷ [])
+    left_in : AnswersMap layouts counter kit (change the_entries) shelf.table limits limits' result mid → Shelf layouts new kit (v ∷ [])
     left_in answers =
-        let known = subst (λ (r : Result HeapMap ListFault). AnswersMap layouts counter kit (change the_entries) shelf.table limits' r mid) is answers in
+        let known = subst (λ (r : Result HeapMap ListFault). AnswersMap layouts counter kit (change the_entries) shelf.table limits limits' r mid) is answers in
         shelf_left (change the_entries) known (subst (λ (r : Result (Unit {0}) HeapMap). Released r known.after known.account) released_is (releases known.after known.account known.holds)).1
 
     pub given_up : ((is_kit_of s kit && is_version_of s v) ≡ false → (result ≡ Err fault.WrongStore) × (mid ≡ s))
         → (is_kit_of s kit ≡ true → is_version_of s v ≡ true → (t : Table ℕ) (a : Account) (m : IntMap) → HoldsAccount layouts s t a → StandsForMapOf s t v kit.node m
-        → AnswersMap layouts counter kit (change m) t limits' result mid) → Shelf layouts new kit (v ∷ [])
+        → AnswersMap layouts counter kit (change m) t limits limits' result mid) → Shelf layouts new kit (v ∷ [])
     given_up wrong answers = by (is_kit_of s kit) (is_version_of s v) refl refl
       where
         by : (k w : Bool) → is_kit_of s kit ≡ k → is_version_of s v ≡ w → Shelf layouts new kit (v ∷ [])
@@ -315,3 +363,40 @@ empty_in layouts s t holds v ty none own = record {
     is = record { tree = leaf; is = refl; balanced = tt; entries = finite.entries-from_sorted int_cmp [] tt };
   });
 }
+
+-- a scoped root was pushed, or not
+pub still_pushed : (layouts : Layouts) (s new : StoreView ℕ) (kit : Kit) (vs : List (Option GcRootIndex)) → Shelf layouts s kit vs → IsSameStore s new → (r : Reference) (result : Result GcRootIndex RootFault)
+    → ((t : Table ℕ) (a : Account) → HoldsAccount layouts s t a → PushesRoot layouts t a r result new) → Shelf layouts new kit vs
+still_pushed layouts s new kit vs shelf same r result pushes = by result (pushes shelf.table account.0 account.1)
+  where
+    account : (a : Account) × HoldsAccount layouts s shelf.table a
+    account = some_account layouts s shelf.table shelf.holds
+
+    at : (u : Table ℕ) → HoldsAccount layouts new u account.0 → KeepsConstants shelf.table u → u.owned ≡ shelf.table.owned → Shelf layouts new kit vs
+    at u holds keeps owned = shelf_kept layouts s new kit vs shelf same u account.0 holds keeps [] (owned ∙ sym (append-nil shelf.table.owned))
+
+    as_before : HoldsAccount layouts new shelf.table account.0 → Shelf layouts new kit vs
+    as_before holds = at shelf.table holds (record { types = λ ty d e. e; cells = λ p ty bits next of e. e; nodes = λ p ty key value height left right of e. e }) refl
+
+    by : (answer : Result GcRootIndex RootFault) → PushesRoot layouts shelf.table account.0 r answer new → Shelf layouts new kit vs
+    by (Ok handle) pushed = at (push r shelf.table) pushed.1.1 (record { types = λ ty d e. e; cells = λ p ty bits next of e. e; nodes = λ p ty key value height left right of e. e }) refl
+    by (Err root_fault.WrongStore) pushed = absurd pushed
+    by (Err root_fault.Unrooted) pushed = absurd pushed
+    by (Err root_fault.RootsFull) pushed = as_before pushed.1
+    by (Err root_fault.Memory) pushed = as_before pushed
+
+-- What was made in one store is none of another.
+pub other_kit : (s other : StoreView ℕ) (kit : Kit) → kit.store_id ≡ id_in s → (s.number == other.number) ≡ false → is_kit_of other kit ≡ false
+other_kit s other kit is differ = false_behind (kit.store_id.engine == other.engine) (kit.store_id.number == other.number) (ap (λ (id : StoreId). id.number == other.number) is ∙ differ)
+
+pub other_version : (s other : StoreView ℕ) (v : Option GcRootIndex) → IsRootedIn s v → (s.number == other.number) ≡ false → is_version_of other v ≡ false
+other_version s other None rooted differ = absurd rooted
+other_version s other (Some h) is differ = false_behind (h.store_id.engine == other.engine) (h.store_id.number == other.number) (ap (λ (id : StoreId). id.number == other.number) is ∙ differ)
+
+pub numbers_differ : (m n : ℕ) → m ≡ 1 → n ≡ 0 → (m == n) ≡ false
+numbers_differ m n is is' = ap (λ (k : ℕ). k == n) is ∙ ap (λ (k : ℕ). 1 == k) is'
+
+pub handed_back : (layouts : Layouts) (s new : StoreView ℕ) (v : Option GcRootIndex) (t : Table ℕ) (a : Account) (result : Result (Unit {0}) HeapMap) (back : HeapMap)
+    → MatchResult result (λ done. (is_version_of s v ≡ true) × Releases layouts s t a v new) (λ (map : HeapMap). (is_version_of s v ≡ false) × (map.root ≡ v)) → result ≡ Err back → back.root ≡ v
+handed_back layouts s new v t a result back clause is =
+    (subst (λ (r : Result (Unit {0}) HeapMap). MatchResult r (λ done. (is_version_of s v ≡ true) × Releases layouts s t a v new) (λ (map : HeapMap). (is_version_of s v ≡ false) × (map.root ≡ v))) is clause).1

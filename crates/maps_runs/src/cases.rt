@@ -1,17 +1,16 @@
 //! What is done with maps.
 
-ghost use Rattle.std.specs.Prelude.{false, ◌≡◌, ◌∷◌, [], List, Option, IfOk};
+ghost use Rattle.std.specs.Prelude.{◌∷◌, [], List, Option, IfOk};
 ghost use Rattle.gc_store.specs.declared.root.GcRootIndex.{GcRootIndex};
 ghost use Rattle.gc_lists.specs.declared.kit.Kit.{Kit};
-ghost use Rattle.gc_lists.specs.Kits.{is_kit_of};
 ghost use Rattle.maps_runs.specs.Shelves.{Shelf};
 
 use crate::fault::RunFault;
-use crate::shelf::{all, collect, cut, find, new_kit, put, put_in_vain};
+use crate::foreign::answer_name;
+use crate::shelf::{all, collect, cut, find, leave_roots, new_kit, put, put_in_vain};
 use gc_heap::GcHeap;
-use gc_lists::{Kit, ListFault};
+use gc_lists::Kit;
 use gc_maps::HeapMap;
-use gc_store::laws::stores_hold_tables;
 use gc_store::{PageLimit, Store};
 use std::alloc::Global;
 
@@ -33,7 +32,7 @@ fn map_of<H: GcHeap>(
 }
 
 /// Shows what a map has at each key.
-fn show<H: GcHeap>(
+pub(crate) fn show<H: GcHeap>(
     rt: &impl Print,
     store: &mut Store<H, u64>,
     map: &HeapMap,
@@ -108,31 +107,6 @@ pub(crate) fn run_kept<H: GcHeap>(
     show(rt, store, &map, &[1, 2, 3])
 }
 
-/// The name of an answer.
-fn answer_name(answer: Result<HeapMap, ListFault>) -> &'static str {
-    match answer {
-        Ok(_) => "made",
-        Err(ListFault::WrongStore) => "WrongStore",
-        Err(ListFault::RootsFull) => "RootsFull",
-        Err(ListFault::HeapOutOfMemory(_)) => "HeapOutOfMemory",
-        Err(ListFault::Memory) => "Memory",
-    }
-}
-
-/// What a key in the empty map is answered with the kit of another store.
-pub(crate) fn run_foreign<H: GcHeap>(
-    rt: &impl Print,
-    store: &mut Store<H, u64>,
-    kit: &Kit,
-) -> Result<(), RunFault>
-    requires { is_kit_of store.old kit.now ≡ false }
-{
-    stores_hold_tables(store);
-    let answer = HeapMap::empty().insert(kit, store, &mut PageLimit::new(4), 1, 1);
-    println!(rt; "{}", answer_name(answer))?;
-    Ok(())
-}
-
 /// What a key in the empty map is answered in a store that refuses it.
 pub(crate) fn run_refused<H: GcHeap>(
     rt: &impl Print,
@@ -142,6 +116,38 @@ pub(crate) fn run_refused<H: GcHeap>(
     let kit = new_kit(store)?;
     let empty = HeapMap::empty();
     let answer = put(store, limiter, &kit, &empty, 1, 1);
-    println!(rt; "{}", answer_name(answer))?;
+    println!(rt; "{}", answer_name(&answer))?;
     Ok(())
+}
+
+/// What copying the entries of a map out is answered where so many further scoped roots may be made.
+fn show_scarce<H: GcHeap>(
+    rt: &impl Print,
+    alloc: Global,
+    store: &mut Store<H, u64>,
+    map: &HeapMap,
+    left: u64,
+) -> Result<(), RunFault>
+    requires { (kit : Kit) × Shelf H.KIND store.old kit (map.now.root ∷ []) }
+    ensures { IfOk result (λ done. (kit : Kit) (vs : List (Option GcRootIndex)) → Shelf H.KIND store.old kit (map.now.root ∷ vs)
+        → Shelf H.KIND store.new kit (map.now.root ∷ vs)) }
+{
+    leave_roots(store, left)?;
+    let answer = all(alloc, store, map);
+    println!(rt; "{left} left: {}", answer_name(&answer))?;
+    Ok(())
+}
+
+/// The entries of a map of three keys, whose topmost node has two children, are copied out where two further scoped roots may
+/// be made, as it needs, and where one may.
+pub(crate) fn run_scarce<H: GcHeap>(
+    rt: &impl Print,
+    alloc: Global,
+    store: &mut Store<H, u64>,
+    limiter: &mut PageLimit,
+) -> Result<(), RunFault> {
+    let kit = new_kit(store)?;
+    let map = map_of(store, limiter, &kit, &[1, 2, 3])?;
+    show_scarce(rt, alloc, store, &map, 2)?;
+    show_scarce(rt, alloc, store, &map, 1)
 }

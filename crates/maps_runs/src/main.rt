@@ -5,19 +5,20 @@
 
 mod cases;
 mod fault;
+mod foreign;
 mod random;
 mod shelf;
 
 ghost use Rattle.std.specs.Prelude.{◌≡◌};
 ghost use Rattle.gc_view.specs.Heaps.{detached};
 
-use crate::cases::{run_foreign, run_kept, run_keys, run_refused, run_removed};
+use crate::cases::{run_kept, run_keys, run_refused, run_removed, run_scarce};
 use crate::fault::RunFault;
+use crate::foreign::run_foreign;
 use crate::random::{CHANGES, run_random};
 use gc_copying::CopyingHeap;
 use gc_drc::DrcHeap;
 use gc_heap::{GcHeap, NullHeap};
-use gc_lists::Kit;
 use gc_store::{HeapConfig, PageLimit, Store, StoreId};
 use std::alloc::Global;
 
@@ -52,7 +53,8 @@ fn keys_over<H: GcHeap + Drop>(
     let mut limiter = PageLimit::new(4);
     run_keys(rt, alloc, &mut store, &mut limiter)?;
     run_removed(rt, alloc, &mut store, &mut limiter)?;
-    run_kept(rt, &mut store, &mut limiter)
+    run_kept(rt, &mut store, &mut limiter)?;
+    run_scarce(rt, alloc, &mut store, &mut limiter)
 }
 
 /// Changes a map many times in a new store over that heap.
@@ -80,12 +82,22 @@ fn refused_with(
     run_refused(rt, &mut store, &mut PageLimit::new(pages))
 }
 
-/// Has a key refused for the kit of another store.
-fn foreign(rt: &impl Print, alloc: Global, config: HeapConfig) -> Result<(), RunFault> {
-    let mut own = Store::<NullHeap, u64>::new(alloc, STORE, NullHeap::new(alloc), config)?;
-    let kit = Kit::new(&mut own)?;
-    let mut other = Store::new(alloc, OTHER, NullHeap::new(alloc), config)?;
-    run_foreign(rt, &mut other, &kit)
+/// Has the kit and a map of one store refused in another, over such heaps.
+fn foreign_over<H: GcHeap + Drop>(
+    rt: &impl Print,
+    alloc: Global,
+    heap: H,
+    other_heap: H,
+    config: HeapConfig,
+) -> Result<(), RunFault>
+    requires sound { H.sound heap }
+    requires empty { H.seen heap ≡ detached }
+    requires other_sound { H.sound other_heap }
+    requires other_empty { H.seen other_heap ≡ detached }
+{
+    let mut store = Store::new(alloc, STORE, heap, config)?;
+    let mut other = Store::new(alloc, OTHER, other_heap, config)?;
+    run_foreign(rt, alloc, &mut store, &mut other, &mut PageLimit::new(8))
 }
 
 fn main(rt: HostRuntime) -> Result<(), RunFault> {
@@ -105,5 +117,20 @@ fn main(rt: HostRuntime) -> Result<(), RunFault> {
     println!(rt; "== refused")?;
     refused_with(&rt, alloc, config_of(0)?, 4)?;
     refused_with(&rt, alloc, ample, 0)?;
-    foreign(&rt, alloc, ample)
+    println!(rt; "== foreign")?;
+    foreign_over(
+        &rt,
+        alloc,
+        NullHeap::new(alloc),
+        NullHeap::new(alloc),
+        ample,
+    )?;
+    foreign_over(&rt, alloc, DrcHeap::new(alloc), DrcHeap::new(alloc), ample)?;
+    foreign_over(
+        &rt,
+        alloc,
+        CopyingHeap::new(alloc),
+        CopyingHeap::new(alloc),
+        ample,
+    )
 }

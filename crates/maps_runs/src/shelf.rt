@@ -1,14 +1,17 @@
 //! Calls on maps that leave all maps of a shelf standing.
 
-ghost use Rattle.std.specs.Prelude.{◌≡◌, ◌∷◌, ◌<◌, [], List, Option, IfOk, MatchResult};
+ghost use Rattle.std.specs.Prelude.{false, ◌≡◌, ◌∷◌, ◌<◌, [], List, Option, IfOk, MatchResult};
+ghost use Rattle.gc_store.specs.Stores.{IsSameStore};
 ghost use Rattle.gc_store.specs.declared.root.GcRootIndex.{GcRootIndex};
 ghost use Rattle.gc_lists.specs.declared.kit.Kit.{Kit};
-ghost use Rattle.maps_runs.specs.Shelves.{Shelf};
+ghost use Rattle.gc_lists.specs.Versions.{is_version_of};
+ghost use Rattle.maps_runs.specs.Shelves.{IsRootedIn, Shelf, id_in};
 
 use crate::fault::RunFault;
 use gc_heap::GcHeap;
 use gc_lists::{Kit, ListFault};
 use gc_maps::HeapMap;
+use gc_refs::I31;
 use gc_steps::Steps;
 use gc_store::laws::stores_hold_tables;
 use gc_store::{PageLimit, Store};
@@ -18,7 +21,9 @@ use std::sync::ledger::{Blank, Ledger};
 
 /// The kit of a store.
 pub(crate) fn new_kit<H: GcHeap>(store: &mut Store<H, u64>) -> Result<Kit, RunFault>
-    ensures { IfOk result (λ kit. Shelf H.KIND store.new kit []) }
+    ensures shelf { IfOk result (λ kit. Shelf H.KIND store.new kit []) }
+    ensures own { IfOk result (λ kit. kit.store_id ≡ id_in store.new) }
+    ensures same { IsSameStore store.old store.new }
 {
     stores_hold_tables(store);
     match Kit::new(store) {
@@ -37,9 +42,11 @@ pub(crate) fn put<H: GcHeap>(
     value: i64,
 ) -> Result<HeapMap, ListFault>
     requires { Shelf H.KIND store.old kit.now (map.now.root ∷ []) }
-    ensures { (vs : List (Option GcRootIndex)) → Shelf H.KIND store.old kit.now (map.now.root ∷ vs)
+    ensures shelf { (vs : List (Option GcRootIndex)) → Shelf H.KIND store.old kit.now (map.now.root ∷ vs)
         → MatchResult result (λ made. Shelf H.KIND store.new kit.now (made.root ∷ (map.now.root ∷ vs)))
         (λ fault. Shelf H.KIND store.new kit.now (map.now.root ∷ vs)) }
+    ensures own { IfOk result (λ made. IsRootedIn store.new made.root) }
+    ensures same { IsSameStore store.old store.new }
 {
     map.insert(kit, store, limiter, key, value)
 }
@@ -99,6 +106,18 @@ pub(crate) fn collect<H: GcHeap>(store: &mut Store<H, u64>)
     store.gc();
 }
 
+/// Pushes scoped roots until so many more may be pushed.
+pub(crate) fn leave_roots<H: GcHeap>(store: &mut Store<H, u64>, left: u64) -> Result<(), RunFault>
+    ensures { IfOk result (λ done. (kit : Kit) (vs : List (Option GcRootIndex)) → Shelf H.KIND store.old kit vs → Shelf H.KIND store.new kit vs) }
+{
+    for _root in left..store.roots_left() {
+        if store.push_i31(I31::wrapping_u32(0)).is_err() {
+            return Err(RunFault::Missing);
+        }
+    }
+    Ok(())
+}
+
 /// The value of a key.
 pub(crate) fn find<H: GcHeap>(
     store: &mut Store<H, u64>,
@@ -124,6 +143,34 @@ fn find_by<L: Ledger, H: GcHeap>(
     requires shelf { (kit : Kit) × Shelf H.KIND store.old kit (map.now.root ∷ []) }
     ensures { (kit : Kit) (vs : List (Option GcRootIndex)) → Shelf H.KIND store.old kit (map.now.root ∷ vs)
         → Shelf H.KIND store.new kit (map.now.root ∷ vs) }
+{
+    let mut steps = Steps::<L>::new(blank);
+    map.get(store, key, &mut steps)
+}
+
+/// The value of a key in another store's map.
+pub(crate) fn find_foreign<H: GcHeap>(
+    store: &mut Store<H, u64>,
+    map: &HeapMap,
+    key: i64,
+) -> Result<Option<i64>, ListFault>
+    requires { is_version_of store.old map.now.root ≡ false }
+    ensures { store.new ≡ store.old }
+{
+    find_foreign_by::<Brand, H>(store, map, key, Blank::new(1))
+}
+
+fn find_foreign_by<L: Ledger, H: GcHeap>(
+    store: &mut Store<H, u64>,
+    map: &HeapMap,
+    key: i64,
+    blank: Blank,
+) -> Result<Option<i64>, ListFault>
+    requires name { blank.name ≡ L.name }
+    requires parts { blank.parts ≡ L.parts }
+    requires some { 0 < blank.parts }
+    requires foreign { is_version_of store.old map.now.root ≡ false }
+    ensures { store.new ≡ store.old }
 {
     let mut steps = Steps::<L>::new(blank);
     map.get(store, key, &mut steps)

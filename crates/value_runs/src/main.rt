@@ -7,6 +7,7 @@
 mod asked;
 mod fault;
 mod read;
+mod refused;
 mod setup;
 mod words;
 
@@ -16,6 +17,7 @@ ghost use Rattle.gc_view.specs.Heaps.{detached};
 use crate::asked::run_asked;
 use crate::fault::RunFault;
 use crate::read::{run_array, run_exception, run_struct};
+use crate::refused::{run_foreign, run_given_up, run_left};
 use crate::setup::declare_types;
 use crate::words::{run_numbers, run_or_null, run_owned, run_references};
 use gc_copying::CopyingHeap;
@@ -40,7 +42,10 @@ fn run_calls<H: GcHeap>(rt: &impl Print, store: &mut Store<H, u64>) -> Result<()
     run_owned(rt, store)?;
     run_or_null(rt, store)?;
     run_numbers(rt, store)?;
-    run_asked(rt, store)
+    run_asked(rt, store)?;
+    run_left(rt, store)?;
+    run_foreign(rt, store)?;
+    run_given_up(rt, store)
 }
 
 /// Makes each call on a store over that heap.

@@ -69,6 +69,6 @@ returns-in-None-root-clause-joins g c t a x y k v holds is = record { after = t;
 
 pub returns-clause-joins : goal.returns-clause-joins
 returns-clause-joins g c t a x y k v holds is =
-    is_level c.args.store.now t c.args.kit.now.node c.args.opened x k v y is g.H.GcHeap.KIND c.args.kit.now a (g.L.ResourceLimiter.limits c.make_node.new.limiter) c.make_node.new.store c.make_node.result
+    is_level c.args.store.now t c.args.kit.now.node c.args.opened x k v y is g.H.GcHeap.KIND c.args.kit.now a (g.L.ResourceLimiter.limits c.args.limiter.now) (g.L.ResourceLimiter.limits c.make_node.new.limiter) c.make_node.new.store c.make_node.result
     c.is_too_high.result c.is_too_high-2.result refl c.is_too_high.ensures c.is_too_high-2.ensures c.if-is_too_high.false c.if-is_too_high-2.false holds
-    (opened_made g.H.GcHeap.KIND c.args.kit.now c.args.store.now (g.L.ResourceLimiter.limits c.make_node.new.limiter) c.args.opened c.make_node.new.store c.make_node.result c.make_node.ensures.makes t a x k v y holds is.is)
+    (opened_made g.H.GcHeap.KIND c.args.kit.now c.args.store.now (g.L.ResourceLimiter.limits c.args.limiter.now) (g.L.ResourceLimiter.limits c.make_node.new.limiter) c.args.opened c.make_node.new.store c.make_node.result c.make_node.ensures.makes t a x k v y holds is.is)

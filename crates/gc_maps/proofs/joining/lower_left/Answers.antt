@@ -12,7 +12,7 @@ open_node-requires g c =
 
 pub returns-in-Err-clause-joins : goal.returns-in-Err-clause-joins
 returns-in-Err-clause-joins g c t a x y k v holds high =
-    high_refused g.H.GcHeap.KIND c.args.kit.now c.args.store.now c.open_node.new.store c.open_node.new.store c.open_node.ensures.same c.args.root c.args.opened t a holds k v y (g.L.ResourceLimiter.limits c.args.limiter.now) c.in-Err.fault c.in-Err.ensures.opens (λ s u part. IsJoined s u c.args.kit.now.node part x (k, v) y) x high
+    high_refused g.H.GcHeap.KIND c.args.kit.now c.args.store.now c.open_node.new.store c.open_node.new.store c.open_node.ensures.same c.args.root c.args.opened t a holds k v y (g.L.ResourceLimiter.limits c.args.limiter.now) (g.L.ResourceLimiter.limits c.args.limiter.now) c.in-Err.fault c.in-Err.ensures.opens (λ s u part. IsJoined s u c.args.kit.now.node part x (k, v) y) x high
 
 pub make_over_right-requires : goal.make_over_right-requires
 make_over_right-requires g c =
@@ -22,7 +22,7 @@ make_over_right-requires g c =
 
 pub returns-then-is_no_higher-clause-joins : goal.returns-then-is_no_higher-clause-joins
 returns-then-is_no_higher-clause-joins g c t a x y k v holds high =
-    over_joined g.H.GcHeap.KIND c.args.kit.now c.args.store.now c.open_node.new.store c.make_over_right.new.store c.open_node.ensures.same c.args.root c.args.opened t a holds k v y c.in-Ok.high c.in-Ok.ensures.opens c.is_no_higher.result c.is_no_higher.ensures c.if-is_no_higher.true (g.L.ResourceLimiter.limits c.make_over_right.new.limiter) c.make_over_right.result c.make_over_right.ensures.makes x high
+    over_joined g.H.GcHeap.KIND c.args.kit.now c.args.store.now c.open_node.new.store c.make_over_right.new.store c.open_node.ensures.same c.args.root c.args.opened t a holds k v y c.in-Ok.high c.in-Ok.ensures.opens c.is_no_higher.result c.is_no_higher.ensures c.if-is_no_higher.true (g.L.ResourceLimiter.limits c.args.limiter.now) (g.L.ResourceLimiter.limits c.make_over_right.new.limiter) c.make_over_right.result c.make_over_right.ensures.makes x high
 
 pub turn-requires : goal.turn-requires
 turn-requires g c =
@@ -32,4 +32,4 @@ turn-requires g c =
 
 pub returns-clause-joins : goal.returns-clause-joins
 returns-clause-joins g c t a x y k v holds high =
-    turn_joined g.H.GcHeap.KIND c.args.kit.now c.args.store.now c.open_node.new.store c.turn.new.store c.open_node.ensures.same c.args.root c.args.opened t a holds k v y c.in-Ok.high c.in-Ok.ensures.opens c.is_no_higher.result c.is_no_higher.ensures c.if-is_no_higher.false (g.L.ResourceLimiter.limits c.turn.new.limiter) c.turn.result c.turn.ensures.turns x high
+    turn_joined g.H.GcHeap.KIND c.args.kit.now c.args.store.now c.open_node.new.store c.turn.new.store c.open_node.ensures.same c.args.root c.args.opened t a holds k v y c.in-Ok.high c.in-Ok.ensures.opens c.is_no_higher.result c.is_no_higher.ensures c.if-is_no_higher.false (g.L.ResourceLimiter.limits c.args.limiter.now) (g.L.ResourceLimiter.limits c.turn.new.limiter) c.turn.result c.turn.ensures.turns x high

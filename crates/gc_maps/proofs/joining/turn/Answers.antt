@@ -13,7 +13,7 @@ open_node-requires g c =
 
 pub returns-in-Err-clause-turns : goal.returns-in-Err-clause-turns
 returns-in-Err-clause-turns g c t a x b d y j u i w k v holds turns =
-    turn_refused g.H.GcHeap.KIND c.args.kit.now c.args.store.now c.open_node.new.store c.open_node.new.store c.open_node.ensures.same c.args.high c.args.opened c.in-Some.middle c.in-Some.is t a holds x j u b i w d k v y turns _ c.in-Err.fault c.in-Err.ensures.opens (λ s u' part. PartIs s u' c.args.kit.now.node part (node_of (node_of x j u b) i w (node_of d k v y)))
+    turn_refused g.H.GcHeap.KIND c.args.kit.now c.args.store.now c.open_node.new.store c.open_node.new.store c.open_node.ensures.same c.args.high c.args.opened c.in-Some.middle c.in-Some.is t a holds x j u b i w d k v y turns (g.L.ResourceLimiter.limits c.args.limiter.now) (g.L.ResourceLimiter.limits c.args.limiter.now) c.in-Err.fault c.in-Err.ensures.opens (λ s u' part. PartIs s u' c.args.kit.now.node part (node_of (node_of x j u b) i w (node_of d k v y)))
 
 pub make_three-requires : goal.make_three-requires
 make_three-requires g c =
@@ -23,7 +23,7 @@ make_three-requires g c =
 
 pub returns-clause-turns : goal.returns-clause-turns
 returns-clause-turns g c t a x b d y j u i w k v holds turns =
-    turned g.H.GcHeap.KIND c.args.kit.now c.args.store.now c.open_node.new.store c.make_three.new.store c.open_node.ensures.same c.args.high c.args.opened c.in-Some.middle c.in-Some.is t a holds x j u b i w d k v y turns c.in-Ok.inner c.in-Ok.ensures.opens (g.L.ResourceLimiter.limits c.make_three.new.limiter) c.make_three.result c.make_three.ensures.makes
+    turned g.H.GcHeap.KIND c.args.kit.now c.args.store.now c.open_node.new.store c.make_three.new.store c.open_node.ensures.same c.args.high c.args.opened c.in-Some.middle c.in-Some.is t a holds x j u b i w d k v y turns c.in-Ok.inner c.in-Ok.ensures.opens (g.L.ResourceLimiter.limits c.args.limiter.now) (g.L.ResourceLimiter.limits c.make_three.new.limiter) c.make_three.result c.make_three.ensures.makes
 
 pub returns-in-None-clause-turns : goal.returns-in-None-clause-turns
 returns-in-None-clause-turns g c t a x b d y j u i w k v holds turns = record { after = t; account = a; holds = holds; changed = grows_none c.args.kit.now 3 5 t }

@@ -15,7 +15,7 @@ use Rattle.gc_policy.specs.Accounts.{Account, HoldsAccount}
 use Rattle.gc_policy.specs.Policy.{policy_state}
 use Rattle.gc_maps.specs.Parts.{PartIs}
 use Rattle.gc_maps.specs.Trees.{Tree}
-use Rattle.gc_lists.proofs.Limiting.{places_limit}
+use Rattle.gc_lists.proofs.Limiting.{Tells, places_tell}
 use Rattle.gc_maps.proofs.making.make_node.Given as given
 use Rattle.gc_maps.proofs.making.make_node.Goals as goal
 use Rattle.gc_maps.proofs.making.make_node.Goals.{After-place}
@@ -79,36 +79,57 @@ returns-in-Err-Memory-clause-makes g c t a x y holds in_left in_right =
     let placed : Placed g.H.GcHeap.KIND c.args.store.now.alloc_counter c.args.kit.now c.args.store.now t a holds (g.L.ResourceLimiter.limits c.args.limiter.now) (g.L.ResourceLimiter.limits c.place.new.limiter) c.place.new.self c.place.ensures.same (the_object g.H.GcHeap.KIND c.args.store.now.alloc_counter c.args.kit.now c.args.store.now t a holds (g.L.ResourceLimiter.limits c.args.limiter.now) (g.L.ResourceLimiter.limits c.place.new.limiter) c.place.new.self c.place.ensures.same c.requires.of_nodes c.args.key c.args.value c.ranges.key c.ranges.value c.args.left c.args.right x y in_left in_right (part_low c.args.store.now c.requires.table c.args.kit.now.node c.args.left c.requires.in_left) (part_low c.args.store.now c.requires.table c.args.kit.now.node c.args.right c.requires.in_right) c.height_over-height.result c.height_over-height.ensures) (is_of_kit g.H.GcHeap.KIND c.args.store.now.alloc_counter c.args.kit.now c.args.store.now t a holds (g.L.ResourceLimiter.limits c.args.limiter.now) (g.L.ResourceLimiter.limits c.place.new.limiter) c.place.new.self c.place.ensures.same c.requires.of_nodes c.args.key c.args.value c.ranges.key c.ranges.value c.args.left c.args.right x y in_left in_right (part_low c.args.store.now c.requires.table c.args.kit.now.node c.args.left c.requires.in_left) (part_low c.args.store.now c.requires.table c.args.kit.now.node c.args.right c.requires.in_right) c.height_over-height.result c.height_over-height.ensures) (Err place_fault.Memory) = subst (λ (f : PlaceFault). Placed g.H.GcHeap.KIND c.args.store.now.alloc_counter c.args.kit.now c.args.store.now t a holds (g.L.ResourceLimiter.limits c.args.limiter.now) (g.L.ResourceLimiter.limits c.place.new.limiter) c.place.new.self c.place.ensures.same (the_object g.H.GcHeap.KIND c.args.store.now.alloc_counter c.args.kit.now c.args.store.now t a holds (g.L.ResourceLimiter.limits c.args.limiter.now) (g.L.ResourceLimiter.limits c.place.new.limiter) c.place.new.self c.place.ensures.same c.requires.of_nodes c.args.key c.args.value c.ranges.key c.ranges.value c.args.left c.args.right x y in_left in_right (part_low c.args.store.now c.requires.table c.args.kit.now.node c.args.left c.requires.in_left) (part_low c.args.store.now c.requires.table c.args.kit.now.node c.args.right c.requires.in_right) c.height_over-height.result c.height_over-height.ensures) (is_of_kit g.H.GcHeap.KIND c.args.store.now.alloc_counter c.args.kit.now c.args.store.now t a holds (g.L.ResourceLimiter.limits c.args.limiter.now) (g.L.ResourceLimiter.limits c.place.new.limiter) c.place.new.self c.place.ensures.same c.requires.of_nodes c.args.key c.args.value c.ranges.key c.ranges.value c.args.left c.args.right x y in_left in_right (part_low c.args.store.now c.requires.table c.args.kit.now.node c.args.left c.requires.in_left) (part_low c.args.store.now c.requires.table c.args.kit.now.node c.args.right c.requires.in_right) c.height_over-height.result c.height_over-height.ensures) (Err f)) c.in-Err-Memory.field-0-is (c.in-Err-Memory.ensures.places t a object holds is) in
     place_wants g.H.GcHeap.KIND c.args.store.now.alloc_counter c.args.kit.now c.args.store.now t a holds (g.L.ResourceLimiter.limits c.args.limiter.now) (g.L.ResourceLimiter.limits c.place.new.limiter) c.place.new.self c.place.ensures.same (the_object g.H.GcHeap.KIND c.args.store.now.alloc_counter c.args.kit.now c.args.store.now t a holds (g.L.ResourceLimiter.limits c.args.limiter.now) (g.L.ResourceLimiter.limits c.place.new.limiter) c.place.new.self c.place.ensures.same c.requires.of_nodes c.args.key c.args.value c.ranges.key c.ranges.value c.args.left c.args.right x y in_left in_right (part_low c.args.store.now c.requires.table c.args.kit.now.node c.args.left c.requires.in_left) (part_low c.args.store.now c.requires.table c.args.kit.now.node c.args.right c.requires.in_right) c.height_over-height.result c.height_over-height.ensures) (is_of_kit g.H.GcHeap.KIND c.args.store.now.alloc_counter c.args.kit.now c.args.store.now t a holds (g.L.ResourceLimiter.limits c.args.limiter.now) (g.L.ResourceLimiter.limits c.place.new.limiter) c.place.new.self c.place.ensures.same c.requires.of_nodes c.args.key c.args.value c.ranges.key c.ranges.value c.args.left c.args.right x y in_left in_right (part_low c.args.store.now c.requires.table c.args.kit.now.node c.args.left c.requires.in_left) (part_low c.args.store.now c.requires.table c.args.kit.now.node c.args.right c.requires.in_right) c.height_over-height.result c.height_over-height.ensures) placed
 
--- the limiter tells the same limit, whatever was answered
-limit_kept : (g : given.Over) (c : After-place g) (t : Table g.row.D.Denot) (a : Account) (x y : Tree) → HoldsAccount g.H.GcHeap.KIND c.args.store.now t a → PartIs c.args.store.now t c.args.kit.now.node c.args.left x → PartIs c.args.store.now t c.args.kit.now.node c.args.right y
-    → (g.L.ResourceLimiter.limits c.place.new.limiter).limit ≡ (g.L.ResourceLimiter.limits c.args.limiter.now).limit
-limit_kept g c t a x y holds in_left in_right =
+-- the limiter tells the same limit and has lost no refusal, whatever was answered
+tells_kept : (g : given.Over) (c : After-place g) (t : Table g.row.D.Denot) (a : Account) (x y : Tree) → HoldsAccount g.H.GcHeap.KIND c.args.store.now t a → PartIs c.args.store.now t c.args.kit.now.node c.args.left x → PartIs c.args.store.now t c.args.kit.now.node c.args.right y
+    → Tells (g.L.ResourceLimiter.limits c.args.limiter.now) (g.L.ResourceLimiter.limits c.place.new.limiter)
+tells_kept g c t a x y holds in_left in_right =
     let object = the_object g.H.GcHeap.KIND c.args.store.now.alloc_counter c.args.kit.now c.args.store.now t a holds (g.L.ResourceLimiter.limits c.args.limiter.now) (g.L.ResourceLimiter.limits c.place.new.limiter) c.place.new.self c.place.ensures.same c.requires.of_nodes c.args.key c.args.value c.ranges.key c.ranges.value c.args.left c.args.right x y in_left in_right (part_low c.args.store.now c.requires.table c.args.kit.now.node c.args.left c.requires.in_left) (part_low c.args.store.now c.requires.table c.args.kit.now.node c.args.right c.requires.in_right) c.height_over-height.result c.height_over-height.ensures in
     let is : IsAsked g.row.D.Denot c.args.store.now t (node_values (to_z w64 (of_z w64 c.args.key)) (to_z w64 (of_z w64 c.args.value)) (to_z w32 (of_z w32 c.height_over-height.result)) c.args.left.root c.args.right.root) object c.node.result = subst (IsAsked g.row.D.Denot c.args.store.now t (node_values (to_z w64 (of_z w64 c.args.key)) (to_z w64 (of_z w64 c.args.value)) (to_z w32 (of_z w32 c.height_over-height.result)) c.args.left.root c.args.right.root) object) (sym c.node.ensures) (asked g.H.GcHeap.KIND c.args.store.now.alloc_counter c.args.kit.now c.args.store.now t a holds (g.L.ResourceLimiter.limits c.args.limiter.now) (g.L.ResourceLimiter.limits c.place.new.limiter) c.place.new.self c.place.ensures.same c.requires.of_nodes c.args.key c.args.value c.ranges.key c.ranges.value c.args.left c.args.right x y in_left in_right (part_low c.args.store.now c.requires.table c.args.kit.now.node c.args.left c.requires.in_left) (part_low c.args.store.now c.requires.table c.args.kit.now.node c.args.right c.requires.in_right) c.height_over-height.result c.height_over-height.ensures) in
-    places_limit g.H.GcHeap.KIND c.args.store.now.alloc_counter object (policy_state t a (g.L.ResourceLimiter.limits c.args.limiter.now)) (g.L.ResourceLimiter.limits c.place.new.limiter) c.place.result c.place.new.self (c.place.ensures.places t a object holds is)
+    places_tell g.H.GcHeap.KIND c.args.store.now.alloc_counter object (policy_state t a (g.L.ResourceLimiter.limits c.args.limiter.now)) (g.L.ResourceLimiter.limits c.place.new.limiter) c.place.result c.place.new.self (c.place.ensures.places t a object holds is)
 
-limit_at : (g : given.Over) (c : After-place g) → (g.L.ResourceLimiter.limits c.place.new.limiter).limit ≡ (g.L.ResourceLimiter.limits c.args.limiter.now).limit
-limit_at g c =
+tells_at : (g : given.Over) (c : After-place g) → Tells (g.L.ResourceLimiter.limits c.args.limiter.now) (g.L.ResourceLimiter.limits c.place.new.limiter)
+tells_at g c =
     let some = some_account g.H.GcHeap.KIND c.args.store.now c.requires.table c.requires.holds in
-    limit_kept g c c.requires.table some.0 c.requires.in_left.tree c.requires.in_right.tree some.1 c.requires.in_left.is c.requires.in_right.is
+    tells_kept g c c.requires.table some.0 c.requires.in_left.tree c.requires.in_right.tree some.1 c.requires.in_left.is c.requires.in_right.is
 
 pub returns-in-Ok-clause-limit : goal.returns-in-Ok-clause-limit
-returns-in-Ok-clause-limit g c = limit_at g (goal.at.returns-in-Ok-clause-limit g c).After-place
+returns-in-Ok-clause-limit g c = (tells_at g (goal.at.returns-in-Ok-clause-limit g c).After-place).limit
 
 pub returns-in-Err-FuncTableFull-clause-limit : goal.returns-in-Err-FuncTableFull-clause-limit
-returns-in-Err-FuncTableFull-clause-limit g c = limit_at g (goal.at.returns-in-Err-FuncTableFull-clause-limit g c).After-place
+returns-in-Err-FuncTableFull-clause-limit g c = (tells_at g (goal.at.returns-in-Err-FuncTableFull-clause-limit g c).After-place).limit
 
 pub returns-in-Err-ContTableFull-clause-limit : goal.returns-in-Err-ContTableFull-clause-limit
-returns-in-Err-ContTableFull-clause-limit g c = limit_at g (goal.at.returns-in-Err-ContTableFull-clause-limit g c).After-place
+returns-in-Err-ContTableFull-clause-limit g c = (tells_at g (goal.at.returns-in-Err-ContTableFull-clause-limit g c).After-place).limit
 
 pub returns-in-Err-TooLarge-clause-limit : goal.returns-in-Err-TooLarge-clause-limit
-returns-in-Err-TooLarge-clause-limit g c = limit_at g (goal.at.returns-in-Err-TooLarge-clause-limit g c).After-place
+returns-in-Err-TooLarge-clause-limit g c = (tells_at g (goal.at.returns-in-Err-TooLarge-clause-limit g c).After-place).limit
 
 pub returns-in-Err-RootsFull-clause-limit : goal.returns-in-Err-RootsFull-clause-limit
-returns-in-Err-RootsFull-clause-limit g c = limit_at g (goal.at.returns-in-Err-RootsFull-clause-limit g c).After-place
+returns-in-Err-RootsFull-clause-limit g c = (tells_at g (goal.at.returns-in-Err-RootsFull-clause-limit g c).After-place).limit
 
 pub returns-in-Err-HeapOutOfMemory-clause-limit : goal.returns-in-Err-HeapOutOfMemory-clause-limit
-returns-in-Err-HeapOutOfMemory-clause-limit g c = limit_at g (goal.at.returns-in-Err-HeapOutOfMemory-clause-limit g c).After-place
+returns-in-Err-HeapOutOfMemory-clause-limit g c = (tells_at g (goal.at.returns-in-Err-HeapOutOfMemory-clause-limit g c).After-place).limit
 
 pub returns-in-Err-Memory-clause-limit : goal.returns-in-Err-Memory-clause-limit
-returns-in-Err-Memory-clause-limit g c = limit_at g (goal.at.returns-in-Err-Memory-clause-limit g c).After-place
+returns-in-Err-Memory-clause-limit g c = (tells_at g (goal.at.returns-in-Err-Memory-clause-limit g c).After-place).limit
+
+pub returns-in-Ok-clause-counts : goal.returns-in-Ok-clause-counts
+returns-in-Ok-clause-counts g c = (tells_at g (goal.at.returns-in-Ok-clause-counts g c).After-place).counts
+
+pub returns-in-Err-FuncTableFull-clause-counts : goal.returns-in-Err-FuncTableFull-clause-counts
+returns-in-Err-FuncTableFull-clause-counts g c = (tells_at g (goal.at.returns-in-Err-FuncTableFull-clause-counts g c).After-place).counts
+
+pub returns-in-Err-ContTableFull-clause-counts : goal.returns-in-Err-ContTableFull-clause-counts
+returns-in-Err-ContTableFull-clause-counts g c = (tells_at g (goal.at.returns-in-Err-ContTableFull-clause-counts g c).After-place).counts
+
+pub returns-in-Err-TooLarge-clause-counts : goal.returns-in-Err-TooLarge-clause-counts
+returns-in-Err-TooLarge-clause-counts g c = (tells_at g (goal.at.returns-in-Err-TooLarge-clause-counts g c).After-place).counts
+
+pub returns-in-Err-RootsFull-clause-counts : goal.returns-in-Err-RootsFull-clause-counts
+returns-in-Err-RootsFull-clause-counts g c = (tells_at g (goal.at.returns-in-Err-RootsFull-clause-counts g c).After-place).counts
+
+pub returns-in-Err-HeapOutOfMemory-clause-counts : goal.returns-in-Err-HeapOutOfMemory-clause-counts
+returns-in-Err-HeapOutOfMemory-clause-counts g c = (tells_at g (goal.at.returns-in-Err-HeapOutOfMemory-clause-counts g c).After-place).counts
+
+pub returns-in-Err-Memory-clause-counts : goal.returns-in-Err-Memory-clause-counts
+returns-in-Err-Memory-clause-counts g c = (tells_at g (goal.at.returns-in-Err-Memory-clause-counts g c).After-place).counts

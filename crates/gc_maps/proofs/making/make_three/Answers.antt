@@ -17,7 +17,7 @@ make_node-requires g c =
 
 pub returns-in-Err-clause-makes : goal.returns-in-Err-clause-makes
 returns-in-Err-clause-makes g c t a x y z w j u k v holds in_left in_right =
-    refused1 g.H.GcHeap.KIND c.args.kit.now c.args.store.now c.make_node.new.store c.make_node.new.store c.make_node.new.store c.make_node.ensures.same (record { engine = refl; number = refl; counter = refl }) c.args.left c.args.right c.args.key c.args.value c.ranges.key c.ranges.value (g.L.ResourceLimiter.limits c.make_node.new.limiter) c.in-Err.fault c.in-Err.ensures.makes t a x y j u holds in_left
+    refused1 g.H.GcHeap.KIND c.args.kit.now c.args.store.now c.make_node.new.store c.make_node.new.store c.make_node.new.store c.make_node.ensures.same (record { engine = refl; number = refl; counter = refl }) c.args.left c.args.right c.args.key c.args.value c.ranges.key c.ranges.value (g.L.ResourceLimiter.limits c.args.limiter.now) (g.L.ResourceLimiter.limits c.make_node.new.limiter) c.in-Err.fault c.in-Err.ensures.makes t a x y j u holds in_left
     (λ s u' part. PartIs s u' c.args.kit.now.node part (node_of (node_of x j u y) c.args.key c.args.value (node_of z k v w)))
 
 pub make_node-requires-2 : goal.make_node-requires-2
@@ -26,11 +26,11 @@ make_node-requires-2 g c =
     let l = q.in_left in
     let r = q.in_right in
     let some = some_account g.H.GcHeap.KIND c.args.store.now q.table q.holds in
-    can2 g.H.GcHeap.KIND c.args.kit.now c.args.store.now c.make_node.new.store c.make_node.new.store c.make_node.new.store c.make_node.ensures.same (record { engine = refl; number = refl; counter = refl }) c.args.left c.args.right c.args.key c.args.value c.ranges.key c.ranges.value (g.L.ResourceLimiter.limits c.make_node.new.limiter) c.in-Ok.low c.in-Ok.ensures.makes q.table some.0 l.left l.right r.left r.right l.key l.value r.key r.value some.1 l.is r.is q.of_nodes r.low_left r.low_right
+    can2 g.H.GcHeap.KIND c.args.kit.now c.args.store.now c.make_node.new.store c.make_node.new.store c.make_node.new.store c.make_node.ensures.same (record { engine = refl; number = refl; counter = refl }) c.args.left c.args.right c.args.key c.args.value c.ranges.key c.ranges.value (g.L.ResourceLimiter.limits c.args.limiter.now) (g.L.ResourceLimiter.limits c.make_node.new.limiter) c.in-Ok.low c.in-Ok.ensures.makes q.table some.0 l.left l.right r.left r.right l.key l.value r.key r.value some.1 l.is r.is q.of_nodes r.low_left r.low_right
 
 pub returns-in-Err-make_node-clause-makes : goal.returns-in-Err-make_node-clause-makes
 returns-in-Err-make_node-clause-makes g c t a x y z w j u k v holds in_left in_right =
-    refused2 g.H.GcHeap.KIND c.args.kit.now c.args.store.now c.make_node.new.store c.make_node-2.new.store c.make_node-2.new.store c.make_node.ensures.same c.make_node-2.ensures.same c.args.left c.args.right c.args.key c.args.value c.ranges.key c.ranges.value (g.L.ResourceLimiter.limits c.make_node.new.limiter) c.in-Ok.low c.in-Ok.ensures.makes t a x y z w j u k v holds in_left in_right (g.L.ResourceLimiter.limits c.make_node-2.new.limiter) c.make_node-2.ensures.limit c.in-Err-make_node.fault c.in-Err-make_node.ensures.makes
+    refused2 g.H.GcHeap.KIND c.args.kit.now c.args.store.now c.make_node.new.store c.make_node-2.new.store c.make_node-2.new.store c.make_node.ensures.same c.make_node-2.ensures.same c.args.left c.args.right c.args.key c.args.value c.ranges.key c.ranges.value (g.L.ResourceLimiter.limits c.args.limiter.now) (g.L.ResourceLimiter.limits c.make_node.new.limiter) c.in-Ok.low c.in-Ok.ensures.makes t a x y z w j u k v holds in_left in_right c.make_node.ensures.counts (g.L.ResourceLimiter.limits c.make_node-2.new.limiter) c.make_node-2.ensures.limit c.in-Err-make_node.fault c.in-Err-make_node.ensures.makes
     (λ s u' part. PartIs s u' c.args.kit.now.node part (node_of (node_of x j u y) c.args.key c.args.value (node_of z k v w)))
 
 pub make_node-requires-3 : goal.make_node-requires-3
@@ -39,10 +39,10 @@ make_node-requires-3 g c =
     let l = q.in_left in
     let r = q.in_right in
     let some = some_account g.H.GcHeap.KIND c.args.store.now q.table q.holds in
-    can3 g.H.GcHeap.KIND c.args.kit.now c.args.store.now c.make_node.new.store c.make_node-2.new.store c.make_node-2.new.store c.make_node.ensures.same c.make_node-2.ensures.same c.args.left c.args.right c.args.key c.args.value c.ranges.key c.ranges.value (g.L.ResourceLimiter.limits c.make_node.new.limiter) c.in-Ok.low c.in-Ok.ensures.makes q.table some.0 l.left l.right r.left r.right l.key l.value r.key r.value some.1 l.is r.is (g.L.ResourceLimiter.limits c.make_node-2.new.limiter) c.make_node-2.ensures.limit c.in-Ok-make_node.high c.in-Ok-make_node.ensures.makes
+    can3 g.H.GcHeap.KIND c.args.kit.now c.args.store.now c.make_node.new.store c.make_node-2.new.store c.make_node-2.new.store c.make_node.ensures.same c.make_node-2.ensures.same c.args.left c.args.right c.args.key c.args.value c.ranges.key c.ranges.value (g.L.ResourceLimiter.limits c.args.limiter.now) (g.L.ResourceLimiter.limits c.make_node.new.limiter) c.in-Ok.low c.in-Ok.ensures.makes q.table some.0 l.left l.right r.left r.right l.key l.value r.key r.value some.1 l.is r.is c.make_node.ensures.counts (g.L.ResourceLimiter.limits c.make_node-2.new.limiter) c.make_node-2.ensures.limit c.make_node-2.ensures.counts c.in-Ok-make_node.high c.in-Ok-make_node.ensures.makes
     q.of_nodes l.low_left l.low_right r.low_left r.low_right
 
 pub returns-clause-makes : goal.returns-clause-makes
 returns-clause-makes g c t a x y z w j u k v holds in_left in_right =
-    three g.H.GcHeap.KIND c.args.kit.now c.args.store.now c.make_node.new.store c.make_node-2.new.store c.make_node-3.new.store c.make_node.ensures.same c.make_node-2.ensures.same c.args.left c.args.right c.args.key c.args.value c.ranges.key c.ranges.value (g.L.ResourceLimiter.limits c.make_node.new.limiter) c.in-Ok.low c.in-Ok.ensures.makes t a x y z w j u k v holds in_left in_right (g.L.ResourceLimiter.limits c.make_node-2.new.limiter) c.make_node-2.ensures.limit c.in-Ok-make_node.high c.in-Ok-make_node.ensures.makes
+    three g.H.GcHeap.KIND c.args.kit.now c.args.store.now c.make_node.new.store c.make_node-2.new.store c.make_node-3.new.store c.make_node.ensures.same c.make_node-2.ensures.same c.args.left c.args.right c.args.key c.args.value c.ranges.key c.ranges.value (g.L.ResourceLimiter.limits c.args.limiter.now) (g.L.ResourceLimiter.limits c.make_node.new.limiter) c.in-Ok.low c.in-Ok.ensures.makes t a x y z w j u k v holds in_left in_right c.make_node.ensures.counts (g.L.ResourceLimiter.limits c.make_node-2.new.limiter) c.make_node-2.ensures.limit c.make_node-2.ensures.counts c.in-Ok-make_node.high c.in-Ok-make_node.ensures.makes
     (g.L.ResourceLimiter.limits c.make_node-3.new.limiter) c.make_node-3.ensures.limit c.make_node-3.result c.make_node-3.ensures.makes

@@ -20,7 +20,7 @@ use Rattle.gc_maps.proofs.removing.take_out.Goals.{In-Ok}
 
 pub returns-in-Err-clause-takes_out : goal.returns-in-Err-clause-takes_out
 returns-in-Err-clause-takes_out g c t a tree holds is ordered =
-    read_refused {A = Option Node} g.H.GcHeap.KIND c.args.store.now.alloc_counter c.args.kit.now 276 184 1012 t (g.L.ResourceLimiter.limits c.args.limiter.now)
+    read_refused {A = Option Node} g.H.GcHeap.KIND c.args.store.now.alloc_counter c.args.kit.now 276 184 1012 t (g.L.ResourceLimiter.limits c.args.limiter.now) (g.L.ResourceLimiter.limits c.args.limiter.now)
     (λ s u found. Descended s u c.args.kit.now.node tree (to_z w64 (of_z w64 c.args.key)) c.descend.new.path.items found)
     (λ s u part. IsBuilt s u c.args.kit.now.node part (others c.args.key (pairs tree)))
     c.in-Err.fault c.descend.new.store (omega arith) (c.in-Err.ensures.descends t a c.args.kit.now.node tree holds is ordered)
@@ -53,7 +53,7 @@ returns-in-None-clause-takes_out g c t a tree holds is ordered =
     let before = (goal.at.returns-in-None-clause-takes_out g c).In-Ok in
     stays g.H.GcHeap.KIND c.args.kit.now c.args.store.now c.descend.new.store c.descend.ensures.same tree c.args.key c.descend.new.path.items
     t a holds ordered (root_low c.args.store.now t c.args.kit.now.node c.args.root tree is ordered) c.args.root is (at g before None c.in-None.is t a tree holds is ordered)
-    c.part_of.new.store c.part_of.result (g.L.ResourceLimiter.limits c.args.limiter.now) c.part_of.ensures.reads
+    c.part_of.new.store c.part_of.result (g.L.ResourceLimiter.limits c.args.limiter.now) (g.L.ResourceLimiter.limits c.args.limiter.now) c.part_of.ensures.reads
 
 pub close_gap-requires : goal.close_gap-requires
 close_gap-requires g c =
@@ -69,7 +69,7 @@ returns-in-Err-close_gap-clause-takes_out g c t a tree holds is ordered =
     let before = (goal.at.returns-in-Err-close_gap-clause-takes_out g c).In-Ok in
     gap_refused g.H.GcHeap.KIND c.args.kit.now c.args.store.now c.descend.new.store c.descend.ensures.same tree c.args.key c.descend.new.path.items
     t a holds ordered (root_low c.args.store.now t c.args.kit.now.node c.args.root tree is ordered) c.in-Some.node (at g before (Some c.in-Some.node) c.in-Some.is t a tree holds is ordered)
-    c.close_gap.new.store c.close_gap.new.path.items (g.L.ResourceLimiter.limits c.args.limiter.now) c.in-Err-close_gap.fault
+    c.close_gap.new.store c.close_gap.new.path.items (g.L.ResourceLimiter.limits c.args.limiter.now) (g.L.ResourceLimiter.limits c.args.limiter.now) c.in-Err-close_gap.fault
     (closes_passed g.H.GcHeap.KIND c.descend.new.store c.descend.new.path.items c.in-Some.node c.close_gap.new.path.items c.close_gap.new.store c.args.key c.ranges.key (Err c.in-Err-close_gap.fault) c.in-Err-close_gap.ensures.closes)
 
 pub rebuild-requires : goal.rebuild-requires
@@ -90,4 +90,4 @@ returns-clause-takes_out g c t a tree holds is ordered =
     t a holds ordered (root_low c.args.store.now t c.args.kit.now.node c.args.root tree is ordered) c.in-Some.node (at g before (Some c.in-Some.node) c.in-Some.is t a tree holds is ordered)
     c.close_gap.new.store c.close_gap.new.path.items c.close_gap.ensures.same c.in-Ok-close_gap.part
     (closes_passed g.H.GcHeap.KIND c.descend.new.store c.descend.new.path.items c.in-Some.node c.close_gap.new.path.items c.close_gap.new.store c.args.key c.ranges.key (Ok c.in-Ok-close_gap.part) c.in-Ok-close_gap.ensures.closes)
-    c.rebuild.new.store (g.L.ResourceLimiter.limits c.rebuild.new.limiter) c.rebuild.result c.rebuild.ensures.builds
+    c.rebuild.new.store (g.L.ResourceLimiter.limits c.args.limiter.now) (g.L.ResourceLimiter.limits c.rebuild.new.limiter) c.rebuild.result c.rebuild.ensures.builds

@@ -22,4 +22,4 @@ returns-clause-makes g c t a x y holds left_is right_is low_x low_y =
     between_made g.H.GcHeap.KIND c.args.kit.now c.args.store.now c.part_of-left.new.store c.part_of-left.ensures.same c.args.left c.args.right c.part_of-left.result c.part_of-left.ensures.reads
     t a holds x y left_is right_is low_x low_y
     c.part_of-right.new.store c.part_of-right.ensures.same c.part_of-right.result c.part_of-right.ensures.reads
-    c.args.key c.args.value c.ranges.key c.ranges.value c.make_node.new.store (g.L.ResourceLimiter.limits c.make_node.new.limiter) c.make_node.result c.make_node.ensures.makes
+    c.args.key c.args.value c.ranges.key c.ranges.value c.make_node.new.store (g.L.ResourceLimiter.limits c.args.limiter.now) (g.L.ResourceLimiter.limits c.make_node.new.limiter) c.make_node.result c.make_node.ensures.makes

@@ -20,7 +20,7 @@ use Rattle.gc_maps.proofs.ways.put.Goals.{In-Ok}
 
 pub returns-in-Err-clause-puts : goal.returns-in-Err-clause-puts
 returns-in-Err-clause-puts g c t a tree holds is search =
-    read_refused {A = Option Node} g.H.GcHeap.KIND c.args.store.now.alloc_counter c.args.kit.now 277 184 829 t (g.L.ResourceLimiter.limits c.args.limiter.now)
+    read_refused {A = Option Node} g.H.GcHeap.KIND c.args.store.now.alloc_counter c.args.kit.now 277 184 829 t (g.L.ResourceLimiter.limits c.args.limiter.now) (g.L.ResourceLimiter.limits c.args.limiter.now)
     (λ s u found. Descended s u c.args.kit.now.node tree (to_z w64 (of_z w64 c.args.key)) c.descend.new.path.items found)
     (λ s u part. IsBuilt s u c.args.kit.now.node part (put int_cmp c.args.key c.args.value (pairs tree)))
     c.in-Err.fault c.descend.new.store (omega arith) (c.in-Err.ensures.descends t a c.args.kit.now.node tree holds is search)
@@ -45,7 +45,7 @@ returns-in-Err-make_entry-clause-puts g c t a tree holds is search =
     let before = (goal.at.returns-in-Err-make_entry-clause-puts g c).In-Ok in
     entry_refused g.H.GcHeap.KIND c.args.kit.now c.args.store.now c.descend.new.store c.descend.ensures.same tree c.args.key c.args.value c.ranges.key c.ranges.value c.descend.new.path.items c.in-Ok.found
     t a holds search (root_low c.args.store.now t c.args.kit.now.node c.args.root tree is search) (down g before t a tree holds is search)
-    c.make_entry.new.store (g.L.ResourceLimiter.limits c.make_entry.new.limiter) c.in-Err-make_entry.fault c.in-Err-make_entry.ensures.makes
+    c.make_entry.new.store (g.L.ResourceLimiter.limits c.args.limiter.now) (g.L.ResourceLimiter.limits c.make_entry.new.limiter) c.in-Err-make_entry.fault c.in-Err-make_entry.ensures.makes
     (λ s u part. IsBuilt s u c.args.kit.now.node part (put int_cmp c.args.key c.args.value (pairs tree)))
 
 pub rebuild-requires : goal.rebuild-requires
@@ -55,12 +55,12 @@ rebuild-requires g c =
     let before = (goal.at.rebuild-requires g c).In-Ok in
     rises_in g.H.GcHeap.KIND c.args.kit.now c.args.store.now c.descend.new.store c.descend.ensures.same q.tree c.args.key c.args.value c.ranges.key c.ranges.value c.descend.new.path.items c.in-Ok.found
     q.table some.0 some.1 q.search (root_low c.args.store.now q.table c.args.kit.now.node c.args.root q.tree q.is q.search) (down g before q.table some.0 q.tree some.1 q.is q.search)
-    c.make_entry.new.store (g.L.ResourceLimiter.limits c.make_entry.new.limiter) c.make_entry.ensures.same c.in-Ok-make_entry.part c.in-Ok-make_entry.ensures.makes q.of_nodes
+    c.make_entry.new.store (g.L.ResourceLimiter.limits c.args.limiter.now) (g.L.ResourceLimiter.limits c.make_entry.new.limiter) c.make_entry.ensures.same c.in-Ok-make_entry.part c.in-Ok-make_entry.ensures.makes q.of_nodes
 
 pub returns-clause-puts : goal.returns-clause-puts
 returns-clause-puts g c t a tree holds is search =
     let before = (goal.at.returns-clause-puts g c).In-Ok in
     put_ends g.H.GcHeap.KIND c.args.kit.now c.args.store.now c.descend.new.store c.descend.ensures.same tree c.args.key c.args.value c.ranges.key c.ranges.value c.descend.new.path.items c.in-Ok.found
     t a holds search (root_low c.args.store.now t c.args.kit.now.node c.args.root tree is search) (down g before t a tree holds is search)
-    c.make_entry.new.store (g.L.ResourceLimiter.limits c.make_entry.new.limiter) c.make_entry.ensures.same c.in-Ok-make_entry.part c.in-Ok-make_entry.ensures.makes
-    c.rebuild.new.store (g.L.ResourceLimiter.limits c.rebuild.new.limiter) c.rebuild.ensures.limit c.rebuild.result c.rebuild.ensures.builds
+    c.make_entry.new.store (g.L.ResourceLimiter.limits c.args.limiter.now) (g.L.ResourceLimiter.limits c.make_entry.new.limiter) c.make_entry.ensures.same c.in-Ok-make_entry.part c.in-Ok-make_entry.ensures.makes
+    c.make_entry.ensures.counts c.rebuild.new.store (g.L.ResourceLimiter.limits c.rebuild.new.limiter) c.rebuild.ensures.limit c.rebuild.result c.rebuild.ensures.builds

@@ -14,4 +14,4 @@ pub record Invariant (Same Limit Few Seeds Fills : Type 0) : Type 0 where
 
 abbrev pub invariant-loop-number : goal.invariant-loop-number
 invariant-loop-number g l = Invariant (IsSameStore l.fn.store l.store) ((g.L.ResourceLimiter.limits l.limiter).limit ≡ (g.L.ResourceLimiter.limits l.fn.limiter).limit) (l.filled.refused ≤ l.number) (l.seed ≡ seed_of l.inserts l.number)
-    (FillsUpTo g.H.GcHeap.KIND (g.L.ResourceLimiter.limits l.fn.limiter).limit l.kit l.inserts l.fn.store l.number l.store l.filled)
+    (FillsUpTo g.H.GcHeap.KIND (g.L.ResourceLimiter.limits l.fn.limiter) l.kit l.inserts l.fn.store l.number l.store (g.L.ResourceLimiter.limits l.limiter) l.filled)

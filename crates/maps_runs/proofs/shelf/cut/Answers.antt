@@ -12,4 +12,4 @@ remove-requires-clause-kit g c = kit_on g.H.GcHeap.KIND c.args.store.now c.args.
 
 pub returns : goal.returns
 returns g c = λ vs shelf. change_stays g.H.GcHeap.KIND c.args.store.now c.remove.new.store c.args.kit.now c.args.map.now.root vs shelf c.remove.ensures.same
-    (λ (m : IntMap). finite.remove m (to_z w64 (of_z w64 c.args.key))) _ _ c.remove.result c.remove.ensures.wrong_store c.remove.ensures.removes
+    (λ (m : IntMap). finite.remove m (to_z w64 (of_z w64 c.args.key))) _ _ _ c.remove.result c.remove.ensures.wrong_store c.remove.ensures.removes

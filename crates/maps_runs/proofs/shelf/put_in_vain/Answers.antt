@@ -13,5 +13,5 @@ insert-requires-clause-kit g c = kit_on g.H.GcHeap.KIND c.args.store.now c.args.
 pub returns-in-Ok : goal.returns-in-Ok
 returns-in-Ok g c =
     given_up g.H.GcHeap.KIND c.args.store.now c.insert.new.store c.release.new.store c.args.kit.now c.args.map.now.root c.requires c.insert.ensures.same c.release.ensures.same c.in_ok-made.made
-    (λ (m : IntMap). finite.insert m (to_z w64 (of_z w64 c.args.key)) (to_z w64 (of_z w64 c.args.value))) _ _ c.insert.result c.in_ok-made.was c.release.result _ c.in-Ok.is c.release.ensures.releases
+    (λ (m : IntMap). finite.insert m (to_z w64 (of_z w64 c.args.key)) (to_z w64 (of_z w64 c.args.value))) _ _ _ c.insert.result c.in_ok-made.was c.release.result _ c.in-Ok.is c.release.ensures.releases
     c.insert.ensures.wrong_store c.insert.ensures.inserts

@@ -21,7 +21,7 @@ use Rattle.gc_lists.proofs.list.HeapList.cons.Goals as goal
 use Rattle.gc_lists.proofs.list.HeapList.cons.Goals.{After-place}
 use Rattle.gc_lists.proofs.Consing.{can_place_cell, cell_values, object_asked, holds_grown, names_grown, cons_kept, cons_refused, cons_full, cons_lacks, cons_wants, never_cont_ids, never_ids, never_too_large, Kept, now, account}
 use Rattle.gc_lists.proofs.CellReads.{back}
-use Rattle.gc_lists.proofs.Limiting.{places_limit}
+use Rattle.gc_lists.proofs.Limiting.{Tells, places_tell}
 
 pub place-requires : goal.place-requires
 place-requires g c =
@@ -143,26 +143,41 @@ returns-in-Err-Memory-clause-conses g c = λ kit_own own t a xs holds stands.
     (g.L.ResourceLimiter.limits c.place.new.limiter) c.place.new.self
     (placed g at t a xs holds stands (Err place_fault.Memory) (c.in-Err-Memory.is ∙ ap Err c.in-Err-Memory.field-0-is))
 
--- the limiter tells the same limit, whatever was answered
-limit_at : (g : given.Over) (c : After-place g) → (g.L.ResourceLimiter.limits c.place.new.limiter).limit ≡ (g.L.ResourceLimiter.limits c.args.limiter.now).limit
-limit_at g c =
+-- the limiter tells the same limit and has lost no refusal, whatever was answered
+tells_at : (g : given.Over) (c : After-place g) → Tells (g.L.ResourceLimiter.limits c.args.limiter.now) (g.L.ResourceLimiter.limits c.place.new.limiter)
+tells_at g c =
     let one = c.requires.stands (sym c.is_kit_of.ensures ∙ c.if-not-is_kit_of.false) (sym c.is_version_of.ensures ∙ c.if-not-is_version_of.false) in
     let some = some_account g.H.GcHeap.KIND c.args.store.now one.table one.holds in
-    places_limit g.H.GcHeap.KIND c.args.store.now.alloc_counter (cell c.args.kit.now.cell (number_bits w64 c.args.head) one.stands.reference)
+    places_tell g.H.GcHeap.KIND c.args.store.now.alloc_counter (cell c.args.kit.now.cell (number_bits w64 c.args.head) one.stands.reference)
     (policy_state one.table some.0 (g.L.ResourceLimiter.limits c.args.limiter.now)) (g.L.ResourceLimiter.limits c.place.new.limiter) c.place.result c.place.new.self
     (placed g c one.table some.0 one.numbers some.1 one.stands c.place.result refl)
 
 pub returns-in-Ok-keep-clause-limit : goal.returns-in-Ok-keep-clause-limit
-returns-in-Ok-keep-clause-limit g c = limit_at g (goal.at.returns-in-Ok-keep-clause-limit g c).After-place
+returns-in-Ok-keep-clause-limit g c = (tells_at g (goal.at.returns-in-Ok-keep-clause-limit g c).After-place).limit
 
 pub returns-in-Err-clause-limit : goal.returns-in-Err-clause-limit
-returns-in-Err-clause-limit g c = limit_at g (goal.at.returns-in-Err-clause-limit g c).After-place
+returns-in-Err-clause-limit g c = (tells_at g (goal.at.returns-in-Err-clause-limit g c).After-place).limit
 
 pub returns-in-Err-RootsFull-clause-limit : goal.returns-in-Err-RootsFull-clause-limit
-returns-in-Err-RootsFull-clause-limit g c = limit_at g (goal.at.returns-in-Err-RootsFull-clause-limit g c).After-place
+returns-in-Err-RootsFull-clause-limit g c = (tells_at g (goal.at.returns-in-Err-RootsFull-clause-limit g c).After-place).limit
 
 pub returns-in-Err-HeapOutOfMemory-clause-limit : goal.returns-in-Err-HeapOutOfMemory-clause-limit
-returns-in-Err-HeapOutOfMemory-clause-limit g c = limit_at g (goal.at.returns-in-Err-HeapOutOfMemory-clause-limit g c).After-place
+returns-in-Err-HeapOutOfMemory-clause-limit g c = (tells_at g (goal.at.returns-in-Err-HeapOutOfMemory-clause-limit g c).After-place).limit
 
 pub returns-in-Err-Memory-clause-limit : goal.returns-in-Err-Memory-clause-limit
-returns-in-Err-Memory-clause-limit g c = limit_at g (goal.at.returns-in-Err-Memory-clause-limit g c).After-place
+returns-in-Err-Memory-clause-limit g c = (tells_at g (goal.at.returns-in-Err-Memory-clause-limit g c).After-place).limit
+
+pub returns-in-Ok-keep-clause-counts : goal.returns-in-Ok-keep-clause-counts
+returns-in-Ok-keep-clause-counts g c = (tells_at g (goal.at.returns-in-Ok-keep-clause-counts g c).After-place).counts
+
+pub returns-in-Err-clause-counts : goal.returns-in-Err-clause-counts
+returns-in-Err-clause-counts g c = (tells_at g (goal.at.returns-in-Err-clause-counts g c).After-place).counts
+
+pub returns-in-Err-RootsFull-clause-counts : goal.returns-in-Err-RootsFull-clause-counts
+returns-in-Err-RootsFull-clause-counts g c = (tells_at g (goal.at.returns-in-Err-RootsFull-clause-counts g c).After-place).counts
+
+pub returns-in-Err-HeapOutOfMemory-clause-counts : goal.returns-in-Err-HeapOutOfMemory-clause-counts
+returns-in-Err-HeapOutOfMemory-clause-counts g c = (tells_at g (goal.at.returns-in-Err-HeapOutOfMemory-clause-counts g c).After-place).counts
+
+pub returns-in-Err-Memory-clause-counts : goal.returns-in-Err-Memory-clause-counts
+returns-in-Err-Memory-clause-counts g c = (tells_at g (goal.at.returns-in-Err-Memory-clause-counts g c).After-place).counts

@@ -14,8 +14,8 @@ put-built-requires g c =
 
 pub returns-clause-inserts : goal.returns-clause-inserts
 returns-clause-inserts g c kit_own own t a m holds stands =
-    c.keep_built.ensures.keeps c.args.store.now.alloc_counter c.args.kit.now 277 829 t (g.L.ResourceLimiter.limits c.put-built.new.limiter) (finite.insert m c.args.key c.args.value) (omega arith) (omega arith)
+    c.keep_built.ensures.keeps c.args.store.now.alloc_counter c.args.kit.now 277 829 t (g.L.ResourceLimiter.limits c.args.limiter.now) (g.L.ResourceLimiter.limits c.put-built.new.limiter) (finite.insert m c.args.key c.args.value) (omega arith) (omega arith)
     (c.enter_gc_lifo_scope-scope.ensures.table t (held_table g.H.GcHeap.KIND c.args.store.now t a holds))
-    (as_put g.H.GcHeap.KIND c.args.store.now.alloc_counter c.args.kit.now t (g.L.ResourceLimiter.limits c.put-built.new.limiter) m c.args.key c.args.value (pairs stands.is.tree) stands.is.entries c.ranges.key c.ranges.value
+    (as_put g.H.GcHeap.KIND c.args.store.now.alloc_counter c.args.kit.now t (g.L.ResourceLimiter.limits c.args.limiter.now) (g.L.ResourceLimiter.limits c.put-built.new.limiter) m c.args.key c.args.value (pairs stands.is.tree) stands.is.entries c.ranges.key c.ranges.value
     c.put-built.result c.put-built.new.store
     (c.put-built.ensures.puts t a stands.is.tree holds (map_root c.args.store.now t c.args.self.now.root c.args.kit.now.node m stands) (map_search c.args.store.now t c.args.self.now.root c.args.kit.now.node m stands)))

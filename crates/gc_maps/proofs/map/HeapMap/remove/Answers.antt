@@ -14,8 +14,8 @@ take_out-built-requires g c =
 
 pub returns-clause-removes : goal.returns-clause-removes
 returns-clause-removes g c kit_own own t a m holds stands =
-    c.keep_built.ensures.keeps c.args.store.now.alloc_counter c.args.kit.now 276 1012 t (g.L.ResourceLimiter.limits c.take_out-built.new.limiter) (finite.remove m c.args.key) (omega arith) (omega arith)
+    c.keep_built.ensures.keeps c.args.store.now.alloc_counter c.args.kit.now 276 1012 t (g.L.ResourceLimiter.limits c.args.limiter.now) (g.L.ResourceLimiter.limits c.take_out-built.new.limiter) (finite.remove m c.args.key) (omega arith) (omega arith)
     (c.enter_gc_lifo_scope-scope.ensures.table t (held_table g.H.GcHeap.KIND c.args.store.now t a holds))
-    (as_cut g.H.GcHeap.KIND c.args.store.now.alloc_counter c.args.kit.now t (g.L.ResourceLimiter.limits c.take_out-built.new.limiter) m c.args.key (pairs stands.is.tree) stands.is.entries c.ranges.key
+    (as_cut g.H.GcHeap.KIND c.args.store.now.alloc_counter c.args.kit.now t (g.L.ResourceLimiter.limits c.args.limiter.now) (g.L.ResourceLimiter.limits c.take_out-built.new.limiter) m c.args.key (pairs stands.is.tree) stands.is.entries c.ranges.key
     c.take_out-built.result c.take_out-built.new.store
     (c.take_out-built.ensures.takes_out t a stands.is.tree holds (map_root c.args.store.now t c.args.self.now.root c.args.kit.now.node m stands) (map_search c.args.store.now t c.args.self.now.root c.args.kit.now.node m stands)))

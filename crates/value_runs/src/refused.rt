@@ -1,0 +1,125 @@
+//! What is answered for handles that name nothing here: those of a scope that was left and of an owned root that was given
+//! up, and those of another store.
+
+use crate::fault::RunFault;
+use crate::setup::new_array;
+use gc_heap::GcHeap;
+use gc_objects::ArrayRef;
+use gc_refs::ValRaw;
+use gc_store::{GcRootIndex, OwnedRooted, RootFault, Rooted, RootedGcRef, Store, StoreId};
+use gc_wasm_types::WasmTy;
+use std::hash::{FoldHasher, Hasher};
+
+/// A word that is stored over: that of a 31-bit number, so of no object.
+const OLD_WORD: u32 = 3;
+
+/// The id of another store than each of this program.
+const OTHER: StoreId = StoreId {
+    engine: 0,
+    number: 1,
+};
+
+/// The name of an answer.
+fn answer_name(answer: &Result<(), RootFault>) -> &'static str {
+    match answer {
+        Ok(()) => "Ok",
+        Err(RootFault::WrongStore) => "WrongStore",
+        Err(RootFault::Unrooted) => "Unrooted",
+        Err(RootFault::RootsFull) => "RootsFull",
+        Err(RootFault::Memory) => "Memory",
+    }
+}
+
+/// Shows what storing a value's word answers, and whether the word that was there stays.
+fn show_stored<H: GcHeap, T: WasmTy>(
+    rt: &impl Print,
+    store: &mut Store<H, u64>,
+    value: &T,
+) -> Result<(), RunFault> {
+    let mut raw = ValRaw::anyref(OLD_WORD);
+    let answer = value.store(store, &mut raw);
+    println!(rt;
+        "stored: {}, the word stays: {}",
+        answer_name(&answer),
+        raw.get_anyref() == OLD_WORD
+    )?;
+    Ok(())
+}
+
+/// Shows what a call answered that feeds a hasher, and whether that stays as it began.
+fn show_hashed(
+    rt: &impl Print,
+    answer: &Result<(), RootFault>,
+    hasher: &FoldHasher,
+) -> Result<(), RunFault> {
+    println!(rt;
+        "hashed: {}, the hasher stays: {}",
+        answer_name(answer),
+        hasher.finish() == FoldHasher::default().finish()
+    )?;
+    Ok(())
+}
+
+/// Shows a scoped handle, also as one that may be none.
+fn show_scoped<H: GcHeap>(
+    rt: &impl Print,
+    store: &mut Store<H, u64>,
+    handle: Rooted<ArrayRef>,
+) -> Result<(), RunFault> {
+    show_stored(rt, store, &handle)?;
+    show_stored(rt, store, &Some(handle))?;
+    let mut hasher = FoldHasher::default();
+    let answer = handle.ref_hash(store, &mut hasher);
+    show_hashed(rt, &answer, &hasher)
+}
+
+/// Shows an owned handle.
+fn show_owned<H: GcHeap>(
+    rt: &impl Print,
+    store: &mut Store<H, u64>,
+    handle: &OwnedRooted<ArrayRef>,
+) -> Result<(), RunFault> {
+    show_stored(rt, store, handle)?;
+    let mut hasher = FoldHasher::default();
+    let answer = handle.ref_hash(store, &mut hasher);
+    show_hashed(rt, &answer, &hasher)
+}
+
+/// A handle in a scope of its own, which is left before a further array takes the place of the root.
+pub(crate) fn run_left<H: GcHeap>(
+    rt: &impl Print,
+    store: &mut Store<H, u64>,
+) -> Result<(), RunFault> {
+    let scope = store.enter_gc_lifo_scope();
+    let left = new_array(store, &[])?;
+    show_scoped(rt, store, left)?;
+    store.exit_gc_lifo_scope(scope);
+    show_scoped(rt, store, left)?;
+    new_array(store, &[])?;
+    show_scoped(rt, store, left)
+}
+
+/// A handle that is another store's, of what would be a root that stands here.
+pub(crate) fn run_foreign<H: GcHeap>(
+    rt: &impl Print,
+    store: &mut Store<H, u64>,
+) -> Result<(), RunFault> {
+    let own = new_array(store, &[])?.root_index();
+    let foreign = GcRootIndex {
+        store_id: OTHER,
+        generation: own.generation,
+        slot: own.slot,
+    };
+    show_scoped(rt, store, Rooted::from_gc_root_index(foreign))
+}
+
+/// An owned handle whose root is given up.
+pub(crate) fn run_given_up<H: GcHeap>(
+    rt: &impl Print,
+    store: &mut Store<H, u64>,
+) -> Result<(), RunFault> {
+    let owned = new_array(store, &[])?.to_owned_rooted(store)?;
+    show_owned(rt, store, &owned)?;
+    store.release(owned.root_index())?;
+    show_owned(rt, store, &owned)
+}
