@@ -11,6 +11,7 @@ pub mod OwnTypes
 pub mod Values
 pub mod Writing
 pub mod Run
+pub mod Wants
 pub mod Lines
 pub mod Cutting
 pub mod Session

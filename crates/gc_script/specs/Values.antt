@@ -1,14 +1,16 @@
 -- What the values of a command's operands are found to be.
-use Rattle.std.specs.Prelude.{◌≡◌, ℕ, suc, Bool, true, false, List, [], ◌∷◌, ◌++◌, Option, Some, None, Result, Ok, Err, not, slice_get, if◌then◌else◌}
+use Rattle.std.specs.Prelude.{◌≡◌, ℕ, suc, Bool, true, false, List, [], ◌∷◌, ◌++◌, Option, Some, None, Result, Ok, Err, map, not, slice_get, unwrap_or, if◌then◌else◌}
 use Rattle.std.specs.List.{AllZip}
 use Rattle.gc_types.specs.declared.kind.Layouts.{Layouts}
 use Rattle.gc_types.specs.declared.value.FieldType.{FieldType}
 use Rattle.gc_owner.specs.declared.entry.GcClass.{GcClass}
+use Rattle.gc_owner.specs.declared.entry.GcClass.TheVariants as class
 use Rattle.gc_model.specs.Stores.{StoreView}
 use Rattle.gc_model.specs.Table.{Table}
 use Rattle.gc_model.specs.Holds.{HoldsTable}
 use Rattle.gc_model.specs.Values.{Reference, Value, reference}
 use Rattle.gc_commands.specs.declared.command.Operand.{Operand}
+use Rattle.gc_commands.specs.declared.command.Operand.TheVariants as operand
 use Rattle.gc_commands.specs.declared.reply.Refusal.{Refusal}
 use Rattle.gc_commands.specs.declared.reply.Refusal.TheVariants as refusal
 use Rattle.gc_commands.specs.declared.reply.Reply.{Reply}
@@ -35,17 +37,36 @@ abbrev pub HoldsOperand : List (Option RawValue) → Operand → Option RawValue
 HoldsOperand slots operand found =
     (store : StoreView ℕ) (s : State) → AreRegisters store slots s → Stands store s.table found (held_operand s operand)
 
+-- so by the value; none where it is a register that is unset
+abbrev pub raw_operand : List (Option RawValue) → Operand → Option RawValue
+raw_operand slots (operand.I32 n) = Some (raw.I32 n)
+raw_operand slots (operand.I64 n) = Some (raw.I64 n)
+raw_operand slots (operand.F32 n) = Some (raw.F32 n)
+raw_operand slots (operand.F64 n) = Some (raw.F64 n)
+raw_operand slots (operand.V128 n) = Some (raw.V128 n)
+raw_operand slots operand.AnyNull = Some (raw.Ref class.Any None)
+raw_operand slots operand.ExternNull = Some (raw.Ref class.Extern None)
+raw_operand slots operand.ExnNull = Some (raw.Ref class.Exn None)
+raw_operand slots (operand.Register r) = register_at slots r
+
+-- so of an operand that is set, and of several
+abbrev pub set_operand : List (Option RawValue) → Operand → RawValue
+set_operand slots v = unwrap_or (raw_operand slots v) (raw.Ref class.Any None)
+
+abbrev pub set_operands : List (Option RawValue) → List Operand → List RawValue
+set_operands slots vs = map (set_operand slots) vs
+
 -- the values are what the operands hold
 abbrev pub AllHeld : StoreView ℕ → State → List Operand → List RawValue → Type 0
 AllHeld store s = AllZip (λ (v : Operand) (r : RawValue). Stands store s.table (Some r) (held_operand s v))
 
--- so in each state that has these registers
-abbrev pub HoldsOperands : List (Option RawValue) → List Operand → List RawValue → Type 0
-HoldsOperands slots operands found = (store : StoreView ℕ) (s : State) → AreRegisters store slots s → AllHeld store s operands found
-
 -- some operand is a register that is unset, in each state that has these registers
 abbrev pub HasUnset : List (Option RawValue) → List Operand → Type 0
 HasUnset slots operands = (store : StoreView ℕ) (s : State) → AreRegisters store slots s → any_unset s operands ≡ true
+
+-- none is
+abbrev pub AreSet : List (Option RawValue) → List Operand → Type 0
+AreSet slots operands = (store : StoreView ℕ) (s : State) → AreRegisters store slots s → any_unset s operands ≡ false
 
 -- the handle that a value is, where it is one
 abbrev pub raw_handle : RawValue → Option GcRootIndex
