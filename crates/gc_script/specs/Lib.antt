@@ -4,11 +4,11 @@ pub mod Built
 pub mod Given
 pub mod Shapes
 pub mod Steps
-pub mod Requested
 pub mod Policy
 pub mod Named
 pub mod OwnTypes
 pub mod Values
+pub mod Requested
 pub mod Writing
 pub mod Run
 pub mod Wants

@@ -101,6 +101,10 @@ is_opaque (raw.Func f) = true
 is_opaque (raw.Cont c) = true
 is_opaque (raw.Ref class handle) = false
 
+-- none of the values is
+abbrev pub AllPlain : List RawValue → Type 0
+AllPlain raws = (i : ℕ) (r : RawValue) → slice_get raws i ≡ Some r → is_opaque r ≡ false
+
 -- what a register holds of a value that the store gave: nothing of an opaque one
 abbrev pub registered : RawValue → Option RawValue
 registered r = if is_opaque r then None else Some r

@@ -3,10 +3,9 @@
 ghost use Rattle.std.specs.Prelude.{◌≡◌, ℕ, length, OnErr};
 ghost use Rattle.std.specs.Option.{option_map};
 ghost use Rattle.gc_commands.specs.declared.command.Command.TheVariants as Command;
-ghost use Rattle.gc_model.specs.SideValues.{side_values, no_side_values};
 ghost use Rattle.gc_model.specs.Sizes.{exn_fields_at};
-ghost use Rattle.gc_model.specs.Values.{Object, object_values};
-ghost use Rattle.gc_script.specs.Requested.{class_of, type_of, requested, requested_fields, requested_tests};
+ghost use Rattle.gc_model.specs.Values.{Object};
+ghost use Rattle.gc_script.specs.Requested.{class_of, type_of, requested, requested_fields, requested_tests, IsPlainRequest};
 ghost use Rattle.gc_script.specs.Slots.{RunnerRest, with_registers};
 ghost use Rattle.gc_script.specs.State.{State, HoldsState, visible};
 ghost use Rattle.gc_script.specs.Shapes.{making};
@@ -23,6 +22,7 @@ use crate::values::{any_unset, check_operands, give_values};
 use gc_commands::{Operand, Refusal, Reply};
 use gc_heap::GcHeap;
 use gc_refs::I31;
+use gc_store::laws::stores_hold_tables;
 use gc_store::{Contents, GcClass, Place, PlaceFault, RawValue, ResourceLimiter, RootFault, Store};
 use gc_types::{TypeKind, Types, VMSharedTypeIndex};
 
@@ -78,13 +78,15 @@ pub(crate) fn place<H: GcHeap, L: ResourceLimiter>(
     request: Place,
     contents: Contents<'_>,
 ) -> Result<Reply, RunError>
-    requires { CanPlaceIn ℕ H.KIND store.old request contents }
+    requires can { CanPlaceIn ℕ H.KIND store.old request contents }
+    requires plain { IsPlainRequest request contents }
     ensures runs { (s : State) (rest : RunnerRest) (object : State → Object ℕ) → HoldsState H.KIND store.old (with_registers registers.old rest) s
-        → IsObjectOf store.old s.table request contents.entry (object (visible s)) → side_values (object_values (object (visible s))) ≡ no_side_values
+        → IsObjectOf store.old s.table request contents.entry (object (visible s))
         → RunsOn H.KIND store.old.alloc_counter (L.limits limiter.old) (L.limits limiter.new) s (making d (class_of request) object)
         (heap_tests H.KIND s (object (visible s))) result store.new (with_registers registers.new rest) }
     ensures same { IsSameStore store.old store.new }
 {
+    stores_hold_tables(store);
     if registers.make_room(d).is_err() {
         return Err(RunError::OutOfMemory);
     }
@@ -97,9 +99,9 @@ pub(crate) fn place<H: GcHeap, L: ResourceLimiter>(
         Err(PlaceFault::TooLarge) => Ok(Reply::Refused(Refusal::TooLarge)),
         Err(PlaceFault::RootsFull) => Ok(Reply::Refused(Refusal::RootsFull)),
         Err(PlaceFault::HeapOutOfMemory(_)) => Ok(Reply::Refused(Refusal::GcHeapOutOfMemory)),
-        // No register holds a function or a continuation, so that the store never answers these.
-        Err(PlaceFault::FuncTableFull) => Err(RunError::OutOfMemory),
-        Err(PlaceFault::ContTableFull) => Err(RunError::OutOfMemory),
+        // An object without functions and continuations needs no ids.
+        Err(PlaceFault::FuncTableFull) => unreachable!(),
+        Err(PlaceFault::ContTableFull) => unreachable!(),
         Err(PlaceFault::Memory) => Err(RunError::OutOfMemory),
     }
 }

@@ -8,7 +8,7 @@ ghost use Rattle.gc_store.specs.Values.{NamesLive};
 ghost use Rattle.gc_script.specs.State.{State, Held, Stands};
 ghost use Rattle.gc_script.specs.Given.{held_operand, given_held};
 ghost use Rattle.gc_script.specs.Values.{HoldsOperand, raw_operand, set_operand, set_operands, HasUnset, AreSet, AllHeld};
-ghost use Rattle.gc_script.specs.Values.{raw_handle, raw_slot, is_opaque, IsFound, CanStoreAs, AllStorable};
+ghost use Rattle.gc_script.specs.Values.{raw_handle, raw_slot, is_opaque, AllPlain, IsFound, CanStoreAs, AllStorable};
 ghost use Rattle.gc_script.specs.Values.{ChecksValue, ChecksValues};
 
 use crate::fits::fits;
@@ -152,6 +152,7 @@ pub(crate) fn check_operands<H: GcHeap>(
     operands: &[Operand],
 ) -> Result<(), Refusal>
     ensures stores { OnOk result (AllStorable H.KIND store.now types.now (set_operands registers.now operands.now)) }
+    ensures plain { OnOk result (AllPlain (set_operands registers.now operands.now)) }
     ensures checks { (s : State) (vs : List Operand) → HoldsTable H.KIND store.now s.table → AllHeld store.now s vs (set_operands registers.now operands.now)
         → ChecksValues store.now s types.now vs (set_operands registers.now operands.now) result }
 {

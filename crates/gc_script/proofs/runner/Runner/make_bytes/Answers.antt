@@ -10,7 +10,6 @@ use Rattle.gc_script.specs.Steps.{heap_tests}
 use Rattle.gc_script.specs.Shapes.{new_bytes}
 use Rattle.gc_script.specs.Run.{RunsOne}
 use Rattle.gc_script.proofs.MakeTests.{runs_rest, bytes_heap}
-use Rattle.gc_script.proofs.PlainValues.{bytes_plain}
 use Rattle.gc_script.proofs.ResultLemmas.{on_any_err}
 use Rattle.gc_script.proofs.WantLemmas.{room_may}
 use Rattle.gc_script.proofs.runner.Runner.make_bytes.Given as given
@@ -34,7 +33,7 @@ returns-clause-runs g c s holds =
     (runs_rest g.H.GcHeap.KIND c.args.store.now.alloc_counter (g.L.ResourceLimiter.limits c.args.limiter.now) (g.L.ResourceLimiter.limits c.place.new.limiter) s (NewBytes c.args.d c.new-ty.result c.args.bytes.now)
     (heap_tests g.H.GcHeap.KIND s (new_bytes c.new-ty.result c.args.bytes.now)) c.place.result c.place.new.store (with_registers c.place.new.registers (record { owned = c.self.inside.owned; marks = c.self.inside.marks.items }))
     (bytes_heap g.H.GcHeap.KIND s c.args.d c.new-ty.result c.args.bytes.now c.in-Some.element declared are)
-    (c.place.ensures.runs s (record { owned = c.self.inside.owned; marks = c.self.inside.marks.items }) (λ (x : State). new_bytes c.new-ty.result c.args.bytes.now) (subst (λ (r : RunnerView). HoldsState g.H.GcHeap.KIND c.args.store.now r s) (sym c.self.view_is) holds) refl (bytes_plain c.args.bytes.now)))
+    (c.place.ensures.runs s (record { owned = c.self.inside.owned; marks = c.self.inside.marks.items }) (λ (x : State). new_bytes c.new-ty.result c.args.bytes.now) (subst (λ (r : RunnerView). HoldsState g.H.GcHeap.KIND c.args.store.now r s) (sym c.self.view_is) holds) refl))
 
 pub returns-clause-cause : goal.returns-clause-cause
 returns-clause-cause g c =

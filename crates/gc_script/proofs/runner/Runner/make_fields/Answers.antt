@@ -21,13 +21,12 @@ use Rattle.gc_script.specs.Shapes.{making}
 use Rattle.gc_script.specs.Steps.{first_failing, any_unset, all_value_tests, heap_tests}
 use Rattle.gc_script.specs.Requested.{class_of, type_of, requested, requested_fields, requested_tests}
 use Rattle.gc_script.specs.Named.{type_at}
-use Rattle.gc_script.specs.Values.{AreRegisters, set_operand, set_operands, AllHeld, AllStorable, typed_tests}
+use Rattle.gc_script.specs.Values.{AreRegisters, set_operand, set_operands, AllHeld, AllPlain, AllStorable, typed_tests}
 use Rattle.gc_script.proofs.CountLemmas.{mild_found, append_mild}
 use Rattle.gc_script.proofs.FieldRequests.{requested_types, fields_request, fields_unset, fields_count, fields_value, fields_heap, typed_by, refused_on, runs_on}
 use Rattle.gc_script.proofs.GoesLemmas.{wants_nothing, values_mild}
 use Rattle.gc_script.proofs.MakeTests.{counted_fields}
 use Rattle.gc_script.proofs.OperandLemmas.{are_held}
-use Rattle.gc_script.proofs.PlainValues.{requested_plain}
 use Rattle.gc_script.proofs.ResultLemmas.{on_any_err, succeeded}
 use Rattle.gc_script.proofs.StandLemmas.{holds_table}
 use Rattle.gc_script.proofs.WantLemmas.{room_only, unrefused_by}
@@ -128,15 +127,19 @@ asks_for g c s (place.Struct ty) fields e stand = (given_values s c.args.operand
 asks_for g c s (place.Exn ty tag) fields e stand = (given_values s c.args.operands.now, (stand, refl))
 asks_for g c s (place.Array ty n) fields e stand = absurd (none-some fields e)
 
-pub place-requires : goal.place-requires
-place-requires g c =
-    let placed = (goal.at.place-requires g c).After-as_slice in
-    let after = (goal.at.place-requires g c).After-check_operands in
+pub place-requires-clause-can : goal.place-requires-clause-can
+place-requires-clause-can g c =
+    let placed = (goal.at.place-requires-clause-can g c).After-as_slice in
+    let after = (goal.at.place-requires-clause-can g c).After-check_operands in
     let at = (goal.at.After-check_operands g after).After-any_unset in
     can_place g placed c.args.request (known g at).0 (known g at).1.0
     (subst (λ (raws : List RawValue). CanPlaceFields ℕ g.H.GcHeap.KIND c.args.store.now (requested_fields c.args.store.now.types c.args.request) raws) (sym (values_are g placed))
     (fields_request g.H.GcHeap.KIND c.args.store.now c.args.request (set_operands c.self.inside.registers c.args.operands.now) (known g at).0 (known g at).1.0 (length-map c.args.operands.now (set_operand c.self.inside.registers) ∙ many g after)
     (subst (λ (ty : ℕ). AllStorable g.H.GcHeap.KIND c.args.store.now (types_of.Fields ty) (set_operands c.self.inside.registers c.args.operands.now)) c.type_of.ensures c.in_default-check_operands.ensures.stores)))
+
+pub place-requires-clause-plain : goal.place-requires-clause-plain
+place-requires-clause-plain g c =
+    subst AllPlain (sym (values_are g (goal.at.place-requires-clause-plain g c).After-as_slice)) c.in_default-check_operands.ensures.plain
 
 pub returns-clause-runs : goal.returns-clause-runs
 returns-clause-runs g c s holds =
@@ -149,8 +152,7 @@ returns-clause-runs g c s holds =
     runs_on g.H.GcHeap.KIND c.args.store.now.alloc_counter (g.L.ResourceLimiter.limits c.args.limiter.now) (g.L.ResourceLimiter.limits c.place.new.limiter) s (making c.args.d (class_of c.args.request) (requested c.args.request c.args.operands.now))
     (requested_tests g.H.GcHeap.KIND s c.args.request c.args.operands.now) (heap_tests g.H.GcHeap.KIND s (requested c.args.request c.args.operands.now s)) c.place.result c.place.new.store (with_registers c.place.new.registers (record { owned = c.self.inside.owned; marks = c.self.inside.marks.items }))
     (left g given s holds)
-    (c.place.ensures.runs s (record { owned = c.self.inside.owned; marks = c.self.inside.marks.items }) (requested c.args.request c.args.operands.now) (subst (λ (r : RunnerView). HoldsState g.H.GcHeap.KIND c.args.store.now r s) (sym c.self.view_is) holds) (asks_for g placed s c.args.request (known g at).0 (known_in g at s holds) stand)
-    (requested_plain g.H.GcHeap.KIND c.args.store.now c.args.self.now s holds c.args.request c.args.operands.now))
+    (c.place.ensures.runs s (record { owned = c.self.inside.owned; marks = c.self.inside.marks.items }) (requested c.args.request c.args.operands.now) (subst (λ (r : RunnerView). HoldsState g.H.GcHeap.KIND c.args.store.now r s) (sym c.self.view_is) holds) (asks_for g placed s c.args.request (known g at).0 (known_in g at s holds) stand))
 
 pub returns-clause-cause : goal.returns-clause-cause
 returns-clause-cause g c =

@@ -1,7 +1,6 @@
 use Rattle.std.proofs.Common.{◌≡◌, ℕ, List, Some, false, sym, ap, ◌∙◌, subst, refl, arith}
 use Rattle.gc_types.specs.Declarations.{Declaration, elem_at}
 use Rattle.gc_types.specs.declared.types.Types.{Types}
-use Rattle.gc_store.specs.Requests.{element_of}
 use Rattle.gc_commands.specs.declared.command.Command.TheVariants.{NewArr}
 use Rattle.gc_commands.specs.declared.reply.Refusal.TheVariants as refusal
 use Rattle.gc_commands.specs.declared.reply.Reply.TheVariants as reply
@@ -19,7 +18,6 @@ use Rattle.gc_script.proofs.StandLemmas.{holds_table, register_held}
 use Rattle.gc_script.proofs.WriteLemmas.{is_set}
 use Rattle.gc_script.proofs.GoesLemmas.{refused_runs}
 use Rattle.gc_script.proofs.MakeTests.{runs_rest, array_unset, array_refused, array_heap, empty_heap}
-use Rattle.gc_script.proofs.PlainValues.{filled_plain}
 use Rattle.gc_script.proofs.ResultLemmas.{on_any_err}
 use Rattle.gc_script.proofs.WantLemmas.{room_may}
 use Rattle.gc_script.proofs.runner.Runner.make_filled.Given as given
@@ -72,15 +70,13 @@ returns-clause-runs g c s holds =
           (runs_rest g.H.GcHeap.KIND c.args.store.now.alloc_counter (g.L.ResourceLimiter.limits c.args.limiter.now) (g.L.ResourceLimiter.limits c.place.new.limiter) s (NewArr c.args.d c.new-ty.result c.args.len c.args.operand.now)
           (heap_tests g.H.GcHeap.KIND s (new_array s c.new-ty.result c.args.len c.args.operand.now)) c.place.result c.place.new.store (with_registers c.place.new.registers (record { owned = c.self.inside.owned; marks = c.self.inside.marks.items }))
           (array_heap g.H.GcHeap.KIND s c.args.d c.new-ty.result c.args.len c.args.operand.now c.in-Some.element declared (set g at_value s holds) w.if-len-gt0.true (w.in_default-check_value.ensures.checks s c.args.operand.now (holds_table holds.table) (stands g at_value s holds)).0)
-          (c.place.ensures.runs s (record { owned = c.self.inside.owned; marks = c.self.inside.marks.items }) (λ (x : State). new_array x c.new-ty.result c.args.len c.args.operand.now) (subst (λ (r : RunnerView). HoldsState g.H.GcHeap.KIND c.args.store.now r s) (sym c.self.view_is) holds) (given_value (given s c.args.operand.now), ((λ some. (w.in_default-check_value.ensures.checks s c.args.operand.now (holds_table holds.table) (stands g at_value s holds)).1), refl))
-          (filled_plain g.H.GcHeap.KIND c.args.store.now c.args.self.now s holds (element_of s.table.types c.new-ty.result) c.args.len c.args.operand.now)))
+          (c.place.ensures.runs s (record { owned = c.self.inside.owned; marks = c.self.inside.marks.items }) (λ (x : State). new_array x c.new-ty.result c.args.len c.args.operand.now) (subst (λ (r : RunnerView). HoldsState g.H.GcHeap.KIND c.args.store.now r s) (sym c.self.view_is) holds) (given_value (given s c.args.operand.now), ((λ some. (w.in_default-check_value.ensures.checks s c.args.operand.now (holds_table holds.table) (stands g at_value s holds)).1), refl))))
       | else-len-gt0 w ↦
           subst (λ (ty : ℕ). RunsOne g.H.GcHeap.KIND c.args.store.now.alloc_counter (g.L.ResourceLimiter.limits c.args.limiter.now) (g.L.ResourceLimiter.limits c.place.new.limiter) s (NewArr c.args.d ty c.args.len c.args.operand.now) c.place.result c.place.new.store (with_registers c.place.new.registers (record { owned = c.self.inside.owned; marks = c.self.inside.marks.items }))) c.new-ty.ensures
           (runs_rest g.H.GcHeap.KIND c.args.store.now.alloc_counter (g.L.ResourceLimiter.limits c.args.limiter.now) (g.L.ResourceLimiter.limits c.place.new.limiter) s (NewArr c.args.d c.new-ty.result c.args.len c.args.operand.now)
           (heap_tests g.H.GcHeap.KIND s (new_array s c.new-ty.result c.args.len c.args.operand.now)) c.place.result c.place.new.store (with_registers c.place.new.registers (record { owned = c.self.inside.owned; marks = c.self.inside.marks.items }))
           (empty_heap g.H.GcHeap.KIND s c.args.d c.new-ty.result c.args.len c.args.operand.now c.in-Some.element declared (set g at_value s holds) (omega (arith, w.if-len-gt0.false)))
-          (c.place.ensures.runs s (record { owned = c.self.inside.owned; marks = c.self.inside.marks.items }) (λ (x : State). new_array x c.new-ty.result c.args.len c.args.operand.now) (subst (λ (r : RunnerView). HoldsState g.H.GcHeap.KIND c.args.store.now r s) (sym c.self.view_is) holds) (given_value (given s c.args.operand.now), ((λ some. absurd (omega (arith, some, w.if-len-gt0.false))), refl))
-          (filled_plain g.H.GcHeap.KIND c.args.store.now c.args.self.now s holds (element_of s.table.types c.new-ty.result) c.args.len c.args.operand.now)))
+          (c.place.ensures.runs s (record { owned = c.self.inside.owned; marks = c.self.inside.marks.items }) (λ (x : State). new_array x c.new-ty.result c.args.len c.args.operand.now) (subst (λ (r : RunnerView). HoldsState g.H.GcHeap.KIND c.args.store.now r s) (sym c.self.view_is) holds) (given_value (given s c.args.operand.now), ((λ some. absurd (omega (arith, some, w.if-len-gt0.false))), refl))))
     ]
 
 pub returns-clause-cause : goal.returns-clause-cause
@@ -99,3 +95,10 @@ returns-clause-cause g c =
           room_may g.H.GcHeap.KIND s (NewArr c.args.d c.new-ty.result c.args.len c.args.operand.now) (new_array s c.new-ty.result c.args.len c.args.operand.now) refl
           (empty_heap g.H.GcHeap.KIND s c.args.d c.new-ty.result c.args.len c.args.operand.now c.in-Some.element declared (set g at_value s holds) (omega (arith, w.if-len-gt0.false)))
     ]))
+
+pub place-requires-clause-plain : goal.place-requires-clause-plain
+place-requires-clause-plain g c some =
+    elim c.if-len-gt0.branch [
+      | then-len-gt0+in_default-check_value w ↦ w.in_default-check_value.ensures.plain
+      | else-len-gt0 w ↦ absurd (omega (arith, some, w.if-len-gt0.false))
+    ]

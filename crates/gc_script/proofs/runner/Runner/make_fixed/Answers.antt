@@ -15,7 +15,7 @@ use Rattle.gc_script.specs.State.{State, HoldsState}
 use Rattle.gc_script.specs.Given.{given, given_value, given_values}
 use Rattle.gc_script.specs.Shapes.{new_fixed}
 use Rattle.gc_script.specs.Run.{RunsOne}
-use Rattle.gc_script.specs.Values.{AreRegisters, set_operand, set_operands, AllHeld, AllStorable}
+use Rattle.gc_script.specs.Values.{AreRegisters, set_operand, set_operands, AllHeld, AllPlain, AllStorable}
 use Rattle.gc_script.specs.declared.objects.ValueTypes.TheVariants as types_of
 use Rattle.gc_script.proofs.StandLemmas.{holds_table, register_held}
 use Rattle.gc_script.proofs.GoesLemmas.{wants_nothing, refused_runs}
@@ -28,7 +28,6 @@ use Rattle.gc_store.specs.declared.root.RawValue.{RawValue}
 use Rattle.gc_script.proofs.OperandLemmas.{are_held}
 use Rattle.gc_script.proofs.ResultLemmas.{on_any_err, succeeded}
 use Rattle.gc_script.proofs.WantLemmas.{room_may}
-use Rattle.gc_script.proofs.PlainValues.{elements_plain}
 use Rattle.gc_script.proofs.runner.Runner.make_fixed.Given as given
 use Rattle.gc_script.proofs.runner.Runner.make_fixed.Goals as goal
 use Rattle.gc_script.proofs.runner.Runner.make_fixed.Goals.{After-any_unset, After-check_operands, After-give_values, After-as_slice}
@@ -98,13 +97,17 @@ returns-then-is_err-clause-cause g c s holds = may g (goal.at.returns-then-is_er
 values_are : (g : given.Over) (c : After-as_slice g) → c.as_slice.result.now ≡ (set_operands c.self.inside.registers c.args.operands.now)
 values_are g c = c.as_slice.ensures.value ∙ succeeded c.give_values.result (sym c.is_err.ensures.value ∙ c.if-is_err.false) c.give_values.ensures
 
-pub place-requires : goal.place-requires
-place-requires g c =
-    let placed = (goal.at.place-requires g c).After-as_slice in
-    let at = (goal.at.place-requires g c).After-any_unset in
+pub place-requires-clause-can : goal.place-requires-clause-can
+place-requires-clause-can g c =
+    let placed = (goal.at.place-requires-clause-can g c).After-as_slice in
+    let at = (goal.at.place-requires-clause-can g c).After-any_unset in
     elements_request g.H.GcHeap.KIND c.args.store.now c.new-ty.result c.in-Ok.len c.as_slice.result.now c.in-Some.element (known g at c.args.store.now.types refl)
     (ap length (values_are g placed) ∙ length-map c.args.operands.now (set_operand c.self.inside.registers) ∙ sym c.in-Ok.ensures.1)
     (subst (AllStorable g.H.GcHeap.KIND c.args.store.now (types_of.Elements c.in-Some.element)) (sym (values_are g placed)) c.in_default-check_operands.ensures.stores)
+
+pub place-requires-clause-plain : goal.place-requires-clause-plain
+place-requires-clause-plain g c =
+    subst AllPlain (sym (values_are g (goal.at.place-requires-clause-plain g c).After-as_slice)) c.in_default-check_operands.ensures.plain
 
 pub returns-clause-runs : goal.returns-clause-runs
 returns-clause-runs g c s holds =
@@ -117,8 +120,7 @@ returns-clause-runs g c s holds =
     (runs_rest g.H.GcHeap.KIND c.args.store.now.alloc_counter (g.L.ResourceLimiter.limits c.args.limiter.now) (g.L.ResourceLimiter.limits c.place.new.limiter) s (Fixed c.args.d c.new-ty.result c.args.operands.now)
     (heap_tests g.H.GcHeap.KIND s (new_fixed s c.new-ty.result c.args.operands.now)) c.place.result c.place.new.store (with_registers c.place.new.registers (record { owned = c.self.inside.owned; marks = c.self.inside.marks.items }))
     (left g given s holds)
-    (c.place.ensures.runs s (record { owned = c.self.inside.owned; marks = c.self.inside.marks.items }) (λ (x : State). new_fixed x c.new-ty.result c.args.operands.now) (subst (λ (r : RunnerView). HoldsState g.H.GcHeap.KIND c.args.store.now r s) (sym c.self.view_is) holds) (given_values s c.args.operands.now, (stand, refl))
-    (elements_plain g.H.GcHeap.KIND c.args.store.now c.args.self.now s holds (element_of s.table.types c.new-ty.result) c.args.operands.now)))
+    (c.place.ensures.runs s (record { owned = c.self.inside.owned; marks = c.self.inside.marks.items }) (λ (x : State). new_fixed x c.new-ty.result c.args.operands.now) (subst (λ (r : RunnerView). HoldsState g.H.GcHeap.KIND c.args.store.now r s) (sym c.self.view_is) holds) (given_values s c.args.operands.now, (stand, refl))))
 
 pub returns-clause-cause : goal.returns-clause-cause
 returns-clause-cause g c = on_any_err c.place.result (may g (goal.at.returns-clause-cause g c).After-give_values)
