@@ -1,5 +1,5 @@
 -- Which values fit a type, by what a store says of their roots.
-use Rattle.std.proofs.Common.{◌≡◌, ℕ, List, Bool, false, Option, Some, None, refl, sym, ap, ◌∙◌}
+use Rattle.std.proofs.Common.{◌≡◌, ℕ, List, Bool, false, Option, Some, None, refl, sym, ap, ◌∙◌, arith}
 use Rattle.std.proofs.lemmas.Option.{none-some}
 use Rattle.std.specs.List.{slice_get}
 use Rattle.gc_types.specs.declared.value.HeapType.{HeapType}
@@ -22,9 +22,10 @@ use Rattle.gc_store.specs.declared.root.RawValue.{RawValue}
 use Rattle.gc_store.specs.declared.root.RawValue.TheVariants as raw
 use Rattle.gc_store.specs.declared.root.RootedObject.{RootedObject}
 use Rattle.gc_store.specs.Roots.{IsReference, IsObject}
+use Rattle.gc_store.specs.declared.root.GcRootIndex.{GcRootIndex}
 use Rattle.gc_store.specs.Values.{RawStands}
 use Rattle.gc_script.specs.OwnTypes.{own_type, own_fits, number_fits}
-use Rattle.gc_script.specs.Values.{is_opaque, raw_slot}
+use Rattle.gc_script.specs.Values.{is_opaque, raw_handle, raw_slot, TellsHandle}
 
 -- extern matches extern alone
 extern_matches : (supers : List (Option ℕ)) (ty : HeapType) → is_extern ty ≡ matches supers heap.Extern ty
@@ -89,6 +90,24 @@ module _ (t : Table ℕ) (ty : RefType) where
   root_fits types class r v object found same tells is e =
       e ∙ ap (λ (ts : List Declaration). own_fits (supertypes_of ts) (own_type class object) ty.heap_type) same
       ∙ reference_fits_own class r object tells ∙ ap (fits_type t.types t.objects (val.Ref ty)) (sym is)
+
+-- the handle of a value that is a reference
+pub slot_handle : (r : RawValue) (c : GcClass) (h : Option GcRootIndex) → raw_slot r ≡ Some (c, h) → raw_handle r ≡ h
+slot_handle (raw.I32 n) c h e = absurd (none-some (c, h) e)
+slot_handle (raw.I64 n) c h e = absurd (none-some (c, h) e)
+slot_handle (raw.F32 n) c h e = absurd (none-some (c, h) e)
+slot_handle (raw.F64 n) c h e = absurd (none-some (c, h) e)
+slot_handle (raw.V128 n) c h e = absurd (none-some (c, h) e)
+slot_handle (raw.Func f) c h e = absurd (none-some (c, h) e)
+slot_handle (raw.Cont cont) c h e = absurd (none-some (c, h) e)
+slot_handle (raw.Ref c' h') c h e = let same : h' ≡ h = grind (arith, e) in same
+
+-- so does what is told of the handle of a value
+module _ (s : StoreView ℕ) (t : Table ℕ) (ty : RefType) (class : GcClass) where
+  pub told_fits : (types : List Declaration) (handle : Option GcRootIndex) (object : RootedObject) (v : Value) (found : Bool) → types ≡ t.types → RawStands s t (raw.Ref class handle) v → TellsHandle s t handle (Some object)
+      → found ≡ own_fits (supertypes_of types) (own_type class object) ty.heap_type → found ≡ fits_type t.types t.objects (val.Ref ty) v
+  told_fits types None object v found same stands tells e = absurd (none-some object (sym tells))
+  told_fits types (Some handle) object v found same stands tells e = root_fits t ty types class stands.root v object found same (tells stands.root stands.named) stands.is e
 
 -- small integers are given as 32-bit numbers
 pub fits_unpacked : (types : List Declaration) (objects : List (Object ℕ)) (ty : StorageType) (v : Value) → fits_type types objects (unpacked ty) v ≡ fits types objects ty v

@@ -18,6 +18,8 @@ use Rattle.gc_commands.specs.declared.reply.Reply.TheVariants as reply
 use Rattle.gc_store.specs.declared.root.GcRootIndex.{GcRootIndex}
 use Rattle.gc_store.specs.declared.root.RawValue.{RawValue}
 use Rattle.gc_store.specs.declared.root.RawValue.TheVariants as raw
+use Rattle.gc_store.specs.declared.root.RootedObject.{RootedObject}
+use Rattle.gc_store.specs.Roots.{NamesReference, IsReference}
 use Rattle.gc_store.specs.Slots.{HandleStands}
 use Rattle.gc_store.specs.Values.{RawStands, AllStand, CanStore}
 use Rattle.gc_script.specs.declared.objects.ValueTypes.{ValueTypes}
@@ -78,6 +80,12 @@ raw_handle (raw.V128 n) = None
 raw_handle (raw.Func f) = None
 raw_handle (raw.Cont c) = None
 raw_handle (raw.Ref class handle) = handle
+
+-- what is told of a handle, where there is one: what it names in a table
+abbrev pub TellsHandle : StoreView ℕ → Table ℕ → Option GcRootIndex → Option RootedObject → Type 0
+TellsHandle store t None object = object ≡ None
+TellsHandle store t (Some handle) None = ⊥
+TellsHandle store t (Some handle) (Some object) = (r : Reference) → NamesReference store t handle r → IsReference t r object
 
 -- the class and the handle of a value, where it is a reference
 abbrev pub raw_slot : RawValue → Option (GcClass × Option GcRootIndex)

@@ -1,6 +1,6 @@
 //! Which values fit a type.
 
-ghost use Rattle.std.specs.Prelude.{◌≡◌, ℕ, false};
+ghost use Rattle.std.specs.Prelude.{◌≡◌, ℕ, false, Option};
 ghost use Rattle.gc_types.specs.Subtyping.{supertypes_of};
 ghost use Rattle.gc_model.specs.Fits.{has_class, null_fits, matches, fits_type, fits};
 ghost use Rattle.gc_model.specs.Holds.{HoldsTable};
@@ -8,11 +8,12 @@ ghost use Rattle.gc_model.specs.Table.{Table};
 ghost use Rattle.gc_model.specs.Values.{Value};
 ghost use Rattle.gc_store.specs.Values.{RawStands};
 ghost use Rattle.gc_script.specs.OwnTypes.{own_type, own_fits, number_fits};
-ghost use Rattle.gc_script.specs.Values.{is_opaque};
+ghost use Rattle.gc_store.specs.declared.root.GcRootIndex.{GcRootIndex};
+ghost use Rattle.gc_script.specs.Values.{raw_handle, TellsHandle, is_opaque};
 
 use crate::values::slot_of;
 use gc_heap::GcHeap;
-use gc_store::{GcClass, GcRootIndex, RawValue, RootedObject, Store};
+use gc_store::{GcClass, RawValue, RootedObject, Store};
 use gc_types::{HeapTopType, HeapType, RefType, StorageType, ValType};
 
 /// Whether references whose types lie under that top have the class.
@@ -93,23 +94,19 @@ fn object_fits<H: GcHeap>(
     }
 }
 
-/// Whether a reference fits the type: null, or what a live root names.
+/// Whether a reference fits the type, by the object that it names: none where it is null.
 fn reference_fits<H: GcHeap>(
     store: &Store<H, u64>,
     ty: &RefType,
     class: GcClass,
-    handle: Option<GcRootIndex>,
+    object: &Option<RootedObject>,
 ) -> bool
-    ensures { (t : Table ℕ) (v : Value) → HoldsTable H.KIND store.now t → RawStands store.now t (RawValue.Ref class handle) v
-        → result ≡ fits_type t.types t.objects (ValType.Ref ty.now) v }
+    ensures { (t : Table ℕ) (v : Value) (handle : Option GcRootIndex) → HoldsTable H.KIND store.now t → RawStands store.now t (RawValue.Ref class handle) v
+        → TellsHandle store.now t handle object.now → result ≡ fits_type t.types t.objects (ValType.Ref ty.now) v }
 {
-    let handle = match handle {
-        Some(handle) => handle,
-        None => return null_fits(ty, class),
-    };
-    match &store.object(handle) {
-        Ok(object) => object_fits(store, ty, class, object),
-        Err(_) => false,
+    match object {
+        Some(object) => object_fits(store, ty, class, object),
+        None => null_fits(ty, class),
     }
 }
 
@@ -127,18 +124,24 @@ fn number_fits(ty: ValType, value: &RawValue) -> bool
     }
 }
 
-/// Whether a value that is no function or continuation, and whose root is live, fits the type of a field or an element.
-pub(crate) fn fits<H: GcHeap>(store: &Store<H, u64>, ty: StorageType, value: &RawValue) -> bool
+/// Whether a value that is no function or continuation fits the type of a field or an element, by the object that it
+/// names, where it names one.
+pub(crate) fn fits<H: GcHeap>(
+    store: &Store<H, u64>,
+    ty: StorageType,
+    value: &RawValue,
+    object: &Option<RootedObject>,
+) -> bool
     ensures { (t : Table ℕ) (v : Value) → HoldsTable H.KIND store.now t → is_opaque value.now ≡ false → RawStands store.now t value.now v
-        → result ≡ fits t.types t.objects ty v }
+        → TellsHandle store.now t (raw_handle value.now) object.now → result ≡ fits t.types t.objects ty v }
 {
     let ty = ty.unpack();
-    let (class, handle) = match slot_of(value) {
+    let (class, _) = match slot_of(value) {
         Some(slot) => slot,
         None => return number_fits(ty, value),
     };
     match &ty {
-        ValType::Ref(ty) => reference_fits(store, ty, class, handle),
+        ValType::Ref(ty) => reference_fits(store, ty, class, object),
         _ => false,
     }
 }

@@ -1,6 +1,6 @@
 //! The values that commands give, by operands and registers.
 
-ghost use Rattle.std.specs.Prelude.{◌≡◌, ℕ, false, List, Option, Some, IsTrue, OnOk};
+ghost use Rattle.std.specs.Prelude.{◌≡◌, ℕ, false, List, Option, Some, is_ok, IsTrue, OnOk, IfOk};
 ghost use Rattle.gc_model.specs.Holds.{HoldsTable};
 ghost use Rattle.gc_model.specs.Table.{Table};
 ghost use Rattle.gc_commands.specs.declared.command.Operand.{Operand};
@@ -8,7 +8,7 @@ ghost use Rattle.gc_store.specs.Values.{NamesLive};
 ghost use Rattle.gc_script.specs.State.{State, Held, Stands};
 ghost use Rattle.gc_script.specs.Given.{held_operand, given_held};
 ghost use Rattle.gc_script.specs.Values.{HoldsOperand, raw_operand, set_operand, set_operands, HasUnset, AreSet, AllHeld};
-ghost use Rattle.gc_script.specs.Values.{raw_handle, raw_slot, is_opaque, AllPlain, IsFound, CanStoreAs, AllStorable};
+ghost use Rattle.gc_script.specs.Values.{raw_handle, raw_slot, TellsHandle, is_opaque, AllPlain, IsFound, CanStoreAs, AllStorable};
 ghost use Rattle.gc_script.specs.Values.{ChecksValue, ChecksValues};
 
 use crate::fits::fits;
@@ -16,7 +16,7 @@ use crate::objects::{ValueTypes, type_at};
 use crate::registers::Registers;
 use gc_commands::{Operand, Refusal};
 use gc_heap::GcHeap;
-use gc_store::{GcClass, GcRootIndex, RawValue, Store};
+use gc_store::{GcClass, GcRootIndex, RawValue, RootedObject, Store};
 use gc_types::FieldType;
 use std::alloc::AllocError;
 
@@ -103,18 +103,41 @@ pub(crate) fn is_opaque(value: &RawValue) -> bool
     matches!(value, RawValue::Func(_) | RawValue::Cont(_))
 }
 
-/// Whether a value is a number, null, or the handle of a live root. No function and no continuation stands in a
-/// register.
+/// What a value names: nothing where it is a number or null. `Unrooted` where its root is gone. No function and no
+/// continuation stands in a register.
+fn named_by<H: GcHeap>(
+    store: &Store<H, u64>,
+    value: &RawValue,
+) -> Result<Option<RootedObject>, Refusal>
+    ensures live { OnOk result (NamesLive ℕ H.KIND store.now value.now) }
+    ensures plain { OnOk result (is_opaque value.now ≡ false) }
+    ensures tells { IfOk result (λ object. (t : Table ℕ) → HoldsTable H.KIND store.now t → TellsHandle store.now t (raw_handle value.now) object) }
+    ensures found { (t : Table ℕ) (held : Option Held) → HoldsTable H.KIND store.now t → Stands store.now t (Some value.now) held
+        → IsFound store.now t value.now (given_held t held) (is_ok result) }
+{
+    match handle_of(value) {
+        Some(handle) => match store.object(handle) {
+            Ok(object) => Ok(Some(object)),
+            Err(_) => Err(Refusal::Unrooted),
+        },
+        None => {
+            if is_opaque(value) {
+                Err(Refusal::Unrooted)
+            } else {
+                Ok(None)
+            }
+        }
+    }
+}
+
+/// Whether a value is a number, null, or the handle of a live root.
 pub(crate) fn is_live<H: GcHeap>(store: &Store<H, u64>, value: &RawValue) -> bool
     ensures live { IsTrue result → NamesLive ℕ H.KIND store.now value.now }
     ensures plain { IsTrue result → is_opaque value.now ≡ false }
     ensures found { (t : Table ℕ) (held : Option Held) → HoldsTable H.KIND store.now t → Stands store.now t (Some value.now) held
         → IsFound store.now t value.now (given_held t held) result }
 {
-    match handle_of(value) {
-        Some(handle) => store.object(handle).is_ok(),
-        None => !is_opaque(value),
-    }
+    named_by(store, value).is_ok()
 }
 
 /// Whether a value may go into a field or an element of that type: `Unrooted` where its root is gone, then
@@ -129,14 +152,14 @@ pub(crate) fn check_value<H: GcHeap>(
     ensures checks { (s : State) (v : Operand) → HoldsTable H.KIND store.now s.table → Stands store.now s.table (Some value.now) (held_operand s v)
         → ChecksValue store.now s field v value.now result }
 {
-    if !is_live(store, value) {
+    let Ok(object) = named_by(store, value) else {
         return Err(Refusal::Unrooted);
-    }
+    };
     let field = match field {
         Some(field) => field,
         None => return Err(Refusal::TypeMismatch),
     };
-    if fits(store, field.element_type, value) {
+    if fits(store, field.element_type, value, &object) {
         Ok(())
     } else {
         Err(Refusal::TypeMismatch)
