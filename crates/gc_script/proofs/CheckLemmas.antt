@@ -1,5 +1,5 @@
 -- Values that are checked one after the other.
-use Rattle.std.proofs.Common.{inl, inr, Bool, ◌≡◌, ℕ, ◌<◌, ◌≤◌, List, [], ◌∷◌, ◌++◌, drop, length, Option, Some, sym, ap, ◌∙◌, refl, subst, arith, zero, suc}
+use Rattle.std.proofs.Common.{inl, inr, Bool, false, ◌≡◌, ℕ, ◌<◌, ◌≤◌, List, [], ◌∷◌, ◌++◌, drop, length, Option, Some, sym, ap, ◌∙◌, refl, subst, arith, zero, suc}
 use Rattle.std.specs.Prelude.{◌⊎◌, Result, Ok, Err, IsErrAnd}
 use Rattle.std.specs.List.{slice_get}
 use Rattle.std.specs.Option.{option_map}
@@ -21,7 +21,7 @@ use Rattle.gc_script.specs.State.{State, Stands}
 use Rattle.gc_script.specs.Given.{held_operand, given, given_value, given_values}
 use Rattle.gc_script.specs.Steps.{first_failing, value_tests}
 use Rattle.gc_script.specs.Named.{type_at}
-use Rattle.gc_script.specs.Values.{AllHeld, CanStoreAs, AllStorable, ChecksValue, typed_tests, ChecksValues}
+use Rattle.gc_script.specs.Values.{AllHeld, is_opaque, AllPlain, CanStoreAs, AllStorable, ChecksValue, typed_tests, ChecksValues}
 use Rattle.gc_script.proofs.TestLemmas.{passes_all, stops_all}
 
 -- what is left from an element on
@@ -64,6 +64,7 @@ module _ (layouts : Layouts) (store : StoreView ℕ) (types : ValueTypes) (raws 
   -- The first values are checked: they may be stored, and whatever refusal there is comes from those left.
   pub record CheckedSoFar (i : ℕ) : Type 0 where
     pub stores : (j : ℕ) (r : RawValue) → j < i → slice_get raws j ≡ Some r → CanStoreAs layouts store (type_at store.types types j) r
+    pub plain : (j : ℕ) (r : RawValue) → j < i → slice_get raws j ≡ Some r → is_opaque r ≡ false
     pub passed : (s : State) (vs : List Operand) → HoldsTable layouts store s.table → AllHeld store s vs raws → first_failing (tests_at s 0 vs) ≡ first_failing (tests_at s i (drop i vs))
     pub stand : (s : State) (vs : List Operand) → HoldsTable layouts store s.table → AllHeld store s vs raws → (j : ℕ) (r : RawValue) (v : Operand) → j < i → slice_get raws j ≡ Some r → slice_get vs j ≡ Some v → RawStands store s.table r (given_value (given s v))
 
@@ -71,6 +72,7 @@ module _ (layouts : Layouts) (store : StoreView ℕ) (types : ValueTypes) (raws 
   pub checked_none : CheckedSoFar 0
   checked_none = record {
     stores = λ j r lt e. absurd (omega (arith, lt));
+    plain = λ j r lt e. absurd (omega (arith, lt));
     passed = λ s vs holds all. refl;
     stand = λ s vs holds all j r v lt e f. absurd (omega (arith, lt));
   }
@@ -83,8 +85,8 @@ module _ (layouts : Layouts) (store : StoreView ℕ) (types : ValueTypes) (raws 
         subst (λ (f : Option FieldType). ChecksValue store s f v r result) (field_is ∙ ap (λ (ts : List Declaration). type_at ts types i) holds.1.types) (checks s v holds stands)
 
     -- one more value passes
-    pub checked_more : (done : Unit {0}) → CanStoreAs layouts store field r → ((s : State) (v : Operand) → HoldsTable layouts store s.table → Stands store s.table (Some r) (held_operand s v) → ChecksValue store s field v r (Ok done)) → CheckedSoFar (suc i)
-    checked_more done can checks = record {
+    pub checked_more : (done : Unit {0}) → CanStoreAs layouts store field r → is_opaque r ≡ false → ((s : State) (v : Operand) → HoldsTable layouts store s.table → Stands store s.table (Some r) (held_operand s v) → ChecksValue store s field v r (Ok done)) → CheckedSoFar (suc i)
+    checked_more done can is_plain checks = record {
       stores = λ j q lt e.
           elim (cases_le_suc j i lt) [
             | inl below ↦ so_far.stores j q below e
@@ -93,6 +95,14 @@ module _ (layouts : Layouts) (store : StoreView ℕ) (types : ValueTypes) (raws 
                 let same : r ≡ q = grind (arith, q_is) in
                 subst (λ (f : Option FieldType). CanStoreAs layouts store f q) (field_is ∙ ap (type_at store.types types) (sym here))
                 (subst (CanStoreAs layouts store field) same can)
+          ];
+      plain = λ j q lt e.
+          elim (cases_le_suc j i lt) [
+            | inl below ↦ so_far.plain j q below e
+            | inr here ↦
+                let q_is : Some r ≡ Some q = sym r_is ∙ ap (slice_get raws) (sym here) ∙ e in
+                let same : r ≡ q = grind (arith, q_is) in
+                ap is_opaque (sym same) ∙ is_plain
           ];
       passed = λ s vs holds all.
           let v = hold_operand store s vs raws i r all r_is in
@@ -125,6 +135,10 @@ module _ (layouts : Layouts) (store : StoreView ℕ) (types : ValueTypes) (raws 
     -- all values are checked, so all may be stored
     pub checked_storable : AllStorable layouts store types raws
     checked_storable j r e = let within = slice_get_within raws j r e in so_far.stores j r (omega (arith, within, all)) e
+
+    -- and none is a function or a continuation
+    pub checked_plain : AllPlain raws
+    checked_plain j r e = let within = slice_get_within raws j r e in so_far.plain j r (omega (arith, within, all)) e
 
     -- what the values stand for
     checked_stand : (s : State) (vs : List Operand) → HoldsTable layouts store s.table → AllHeld store s vs raws → AllStand store s.table raws (given_values s vs)

@@ -104,12 +104,6 @@ module _ (kind : Wanted) (s : State) (r : ℕ) where
   gone_refused is_gone = ap (λ (h : Given). refusal_by h (names_kind (wants kind) (target s r))) is_gone
 
 module _ (kind : Wanted) (store : StoreView ℕ) (s : State) (r : ℕ) (value : RawValue) (found : IsFound store s.table value (given_register s r) true) where
-  -- the register has no handle
-  pub plain_refused : raw_handle value ≡ None → first_failing (target_tests (wants kind) s r) ≡ Some refusal.WrongKind
-  plain_refused plain =
-      target_by kind s r (is found.0) false found.1.0
-      (ap (λ (o : Option Reference). names_kind (wants kind) (reference_target s.table o)) (names_nothing store s r value found plain))
-
   module _ (layouts : Layouts) (holds : HoldsTable layouts store s.table) (handle : GcRootIndex) (is_handle : raw_handle value ≡ Some handle)
       (result : Option NamedObject) (tells : (q : Reference) → NamesReference store s.table handle q → TellsObject store s.table kind q result) where
     abbrev it : NamesRoot store s.table handle found.0

@@ -27,9 +27,11 @@ use Rattle.gc_script.specs.Shapes.{byte_of, shape}
 use Rattle.gc_script.specs.Steps.{first_failing, tests, target_tests}
 use Rattle.gc_script.specs.Run.{GoesOn}
 use Rattle.gc_script.specs.Named.{type_at, IsNamed, NamesObject, FoundObject}
+use Rattle.gc_script.specs.Wants.{MayWant}
 use Rattle.gc_script.proofs.StandLemmas.{holds_table}
 use Rattle.gc_script.proofs.TestLemmas.{passes, stops, passes_all, stops_all, answers_by, refuses}
 use Rattle.gc_script.proofs.ValueReads.{found_values}
+use Rattle.gc_script.proofs.WantLemmas.{unrefused_by}
 use Rattle.gc_script.proofs.WriteLemmas.{field_found}
 
 -- an array of bytes, by the type of its elements
@@ -146,6 +148,17 @@ module _ (layouts : Layouts) (store : StoreView ℕ) (runner : RunnerView) (s : 
             let other : (length (target_values (target s r)) == n) ≡ false = grind (arith, nat_tests, many, differ) in
             refuses layouts store runner s (command.ReadBytes r n) refusal.LengthMismatch holds
             (to_count ∙ stops (not (length (target_values (target s r)) == n)) refusal.LengthMismatch [] (ap not other))
+
+        -- memory may be wanted for its bytes
+        pub bytes_may : found.count ≡ n → MayWant layouts s (command.ReadBytes r n)
+        bytes_may same =
+            let many = counted found it in
+            let equal : (length (target_values (target s r)) == n) ≡ true = grind (arith, nat_tests, many, same) in
+            record {
+              takes = refl;
+              unrefused = unrefused_by (first_failing (tests layouts s (command.ReadBytes r n))) None
+                  (to_count ∙ passes (not (length (target_values (target s r)) == n)) refusal.LengthMismatch [] (ap not equal)) tt;
+            }
 
         -- its bytes were told
         pub bytes_told : found.count ≡ n → (told : List ℕ) → CopiesBytes store s.table found.root told → GoesOn layouts s (command.ReadBytes r n) (Ok (reply.Bytes told)) store runner

@@ -37,4 +37,5 @@ pub mod ThrowLemmas
 pub mod TypeLemmas
 pub mod ValueLemmas
 pub mod ValueReads
+pub mod WantLemmas
 pub mod WriteLemmas

@@ -2,6 +2,7 @@
 use Rattle.std.proofs.Common.{◌≡◌, ◌≢◌, inl, inr, ℕ, ◌-◌, ◌==◌, List, [], ◌∷◌, ◌++◌, length, Bool, true, false, not, cond, Option, Some, None, Contains, sym, ap, ◌∙◌, refl, subst, arith}
 use Rattle.std.specs.Prelude.{Result, Ok, Err, unwrap_or, ◌<◌}
 use Rattle.std.specs.List.{slice_get}
+use Rattle.std.specs.Result.{is_err}
 use Rattle.std.proofs.lemmas.Bool.{ne_eqb}
 use Rattle.std.proofs.lemmas.Bool.Decides.{nat_tests}
 use Rattle.std.proofs.lemmas.List.Elements.{Contains-append_left, Contains-append_right}
@@ -19,11 +20,12 @@ use Rattle.gc_policy.specs.Accounts.{Account, HoldsAccount}
 use Rattle.gc_store.specs.declared.root.GcRootIndex.{GcRootIndex}
 use Rattle.gc_store.specs.declared.root.RawValue.{RawValue}
 use Rattle.gc_store.specs.declared.root.RawValue.TheVariants as raw
+use Rattle.gc_store.specs.declared.root.RootedObject.{RootedObject}
 use Rattle.gc_store.specs.declared.root.RootFault.{RootFault}
 use Rattle.gc_store.specs.declared.root.RootFault.TheVariants as fault
 use Rattle.gc_store.specs.Handles.{PushesRoot}
 use Rattle.gc_store.specs.OwnedRoots.{MadeOwned, MakesOwned, DropsHandle, ReleasesHandle}
-use Rattle.gc_store.specs.Roots.{is_of_store, owned_handle, NamesReference, NamesNothing}
+use Rattle.gc_store.specs.Roots.{is_of_store, owned_handle, NamesReference, NamesNothing, TellsReference}
 use Rattle.gc_store.specs.Stores.{IsSameStore}
 use Rattle.gc_store.proofs.HandleWords.{owned-of_store, named_alone, named_held}
 use Rattle.gc_commands.specs.declared.command.Command.TheVariants as command
@@ -37,6 +39,8 @@ use Rattle.gc_script.specs.Shapes.{shape, slot_of, give_up, owns_as, owned_named
 use Rattle.gc_script.specs.Steps.{tests, first_failing, owning_tests, owned_tests}
 use Rattle.gc_script.specs.Run.{GoesOn}
 use Rattle.gc_script.specs.Values.{raw_handle, raw_slot, reference_tests, FoundReference}
+use Rattle.gc_script.specs.Wants.{IsUnrefused, MayWant}
+use Rattle.gc_script.proofs.WantLemmas.{unrefused_by, full_only}
 use Rattle.gc_script.proofs.StandLemmas.{stands_kept, owned_stands, holds_same, same_twice}
 use Rattle.gc_script.proofs.SetLemmas.{holds_pushed}
 use Rattle.gc_script.proofs.TestLemmas.{passes, stops, answers_by, refuses}
@@ -233,6 +237,10 @@ module _ (layouts : Layouts) (store : StoreView ℕ) (runner : RunnerView) (s : 
     tests_are : first_failing (tests layouts s (command.Own o r)) ≡ first_failing ((owned_full s.table, refusal.RootsFull) ∷ [])
     tests_are = ap (λ (g : Given). first_failing (owning_tests g (owned_full s.table))) found.is_given ∙ owning_passes c found.root (owned_full s.table) not_null
 
+    -- memory may be wanted
+    pub own_may : MayWant layouts s (command.Own o r)
+    own_may = record { takes = refl; unrefused = unrefused_by (first_failing (tests layouts s (command.Own o r))) (first_failing ((owned_full s.table, refusal.RootsFull) ∷ [])) tests_are (full_only (owned_full s.table)) }
+
     module _ (mid : StoreView ℕ) (same : IsSameStore store mid) where
       -- no further one may be made
       pub own_full : (runner' : RunnerView) → KeepsRegisters runner runner' → MakesOwned layouts store s.table s.account handle (Err fault.RootsFull) mid → GoesOn layouts s (command.Own o r) (Ok (reply.Refused refusal.RootsFull)) mid runner'
@@ -335,6 +343,29 @@ module _ (layouts : Layouts) (store : StoreView ℕ) (runner : RunnerView) (s : 
       names_none none_is q (inr named) =
           let same : named.number ≡ n = ap (λ (h : GcRootIndex). h.generation) (sym named.names ∙ it.1.0) in
           none-some q (sym none_is ∙ ap (λ m. owned_among m s.table.owned) (sym same) ∙ named.live)
+
+      -- whether its root is there is asked first
+      module _ (d : ℕ) (object : Result RootedObject RootFault) (live : (q : Reference) → NamesReference store s.table handle q → TellsReference s.table q object)
+          (gone : is_of_store store handle ≡ true → NamesNothing store s.table handle → object ≡ Err fault.Unrooted) where
+        told_found : (q : Reference) (found : Result RootedObject RootFault) → TellsReference s.table q found → is_err found ≡ true → ⊥
+        told_found q (Ok x) told lost = cc lost
+        told_found q (Err e) told lost = told
+
+        pub root_lost : is_err object ≡ true → GoesOn layouts s (command.Root d o) (Ok (reply.Refused refusal.Unrooted)) store runner
+        root_lost lost = by (owned_among n s.table.owned) refl
+          where
+            by : (x : Option Reference) → owned_among n s.table.owned ≡ x → GoesOn layouts s (command.Root d o) (Ok (reply.Refused refusal.Unrooted)) store runner
+            by None none_is = refuses layouts store runner s (command.Root d o) refusal.Unrooted holds (root_tests_are d None none_is)
+            by (Some q) named_is = absurd (told_found q object (live q (names q named_is)) lost)
+
+        -- memory may be wanted where it is
+        pub root_may : is_err object ≡ false → MayWant layouts s (command.Root d o)
+        root_may found = record { takes = refl; unrefused = by (owned_among n s.table.owned) refl }
+          where
+            by : (x : Option Reference) → owned_among n s.table.owned ≡ x → IsUnrefused (first_failing (tests layouts s (command.Root d o)))
+            by None none_is = absurd (cc (sym (ap is_err (gone (ap (is_of_store store) it.1.0 ∙ owned-of_store store n) (names_none none_is))) ∙ found))
+            by (Some q) named_is =
+                unrefused_by (first_failing (tests layouts s (command.Root d o))) (first_failing ((roots_full s.table, refusal.RootsFull) ∷ [])) (root_tests_are d (Some q) named_is) (full_only (roots_full s.table))
 
       module _ (d : ℕ) (new : StoreView ℕ) (runner' : RunnerView) (same : IsSameStore store new) (rest_is : runner'.rest ≡ runner.rest) (result : Result GcRootIndex RootFault)
           (live : (q : Reference) → NamesReference store s.table handle q → PushesRoot layouts s.table s.account q result new) (none_live : is_of_store store handle ≡ true → NamesNothing store s.table handle → result ≡ Err fault.Unrooted) where

@@ -1,32 +1,38 @@
--- No register holds a function or a continuation, so that no command gives one to an object.
-use Rattle.std.proofs.Common.{◌≡◌, ℕ, zero, suc, ◌≤◌, true, false, List, [], ◌∷◌, map, length, replicate, Option, Some, None, refl, sym, ap, ◌∙◌, arith}
-use Rattle.std.specs.Prelude.{unwrap_or}
+-- What is requested of a store without functions and continuations gets no ids.
+use Rattle.std.proofs.Common.{inl, inr, ◌≡◌, ℕ, zero, suc, ◌≤◌, ◌<◌, true, false, List, [], ◌∷◌, map, length, replicate, Option, Some, None, refl, sym, ap, ◌∙◌, subst, arith}
+use Rattle.std.specs.Int.{w32, w64}
+use Rattle.std.specs.List.{slice_get}
 use Rattle.std.proofs.lemmas.Bool.Decides.{nat_tests}
+use Rattle.std.proofs.lemmas.Option.{none-some, slice_get_cases, slice_get_within}
 use Rattle.gc_types.specs.declared.kind.Layouts.{Layouts}
 use Rattle.gc_types.specs.declared.value.FieldType.{FieldType}
 use Rattle.gc_types.specs.declared.value.Func.{Func}
 use Rattle.gc_types.specs.declared.value.StorageType.{StorageType}
 use Rattle.gc_types.specs.declared.value.StorageType.TheVariants as storage
-use Rattle.gc_owner.specs.declared.entry.GcClass.{GcClass}
+use Rattle.gc_types.specs.Declarations.{struct_fields_at}
+use Rattle.gc_owner.specs.declared.entry.GcClass.TheVariants as class
 use Rattle.gc_model.specs.SideValues.{SideValues, side_values, no_side_values, functions_of, conts_of, functions_full, conts_full, max_entries}
-use Rattle.gc_model.specs.Values.{Reference, Value, numeric, i32, i64, f32, f64, v128, function, continuation, Object, object_values}
+use Rattle.gc_model.specs.Sizes.{exn_fields_at}
+use Rattle.gc_model.specs.Values.{Reference, null, Value, numeric, i32, i64, f32, f64, v128, number_bits, function, continuation, Object, struct, array, exception, object_values}
 use Rattle.gc_model.specs.Values as values
 use Rattle.gc_model.specs.Stored.{stored, stored_in, byte_value}
 use Rattle.gc_model.specs.Table.{Table}
-use Rattle.gc_model.specs.Live.{rooted_among}
 use Rattle.gc_model.specs.Stores.{StoreView}
 use Rattle.gc_model.specs.Holds.{HoldsTable}
+use Rattle.gc_store.specs.declared.root.GcRootIndex.{GcRootIndex}
 use Rattle.gc_store.specs.declared.root.RawValue.{RawValue}
 use Rattle.gc_store.specs.declared.root.RawValue.TheVariants as raw
 use Rattle.gc_store.specs.declared.request.Place.{Place}
 use Rattle.gc_store.specs.declared.request.Place.TheVariants as place
+use Rattle.gc_store.specs.declared.request.Contents.{Contents}
+use Rattle.gc_store.specs.declared.request.Contents.TheVariants as contents
 use Rattle.gc_store.specs.Places.{HasIds, lacks_ids}
-use Rattle.gc_commands.specs.declared.command.Operand.{Operand}
-use Rattle.gc_commands.specs.declared.command.Operand.TheVariants as operand
-use Rattle.gc_script.specs.Slots.{RunnerView, register_at}
-use Rattle.gc_script.specs.State.{State, Held, number, reference, Stands, HoldsState}
-use Rattle.gc_script.specs.Given.{given_root, given_held, given, given_value, given_values}
-use Rattle.gc_script.specs.Requested.{requested, requested_fields}
+use Rattle.gc_store.specs.Requests.{fields_of, exn_fields_of, element_of, CanPlaceFields, CanPlaceSame, CanPlaceIn, IsFilled, IsObjectOf}
+use Rattle.gc_store.specs.Roots.{NamesReference}
+use Rattle.gc_store.specs.Values.{RawStands, AllStand, IsLive, NamesLive}
+use Rattle.gc_store.proofs.HandleWords.{names_word, live_has_word}
+use Rattle.gc_script.specs.Requested.{IsPlainRequest}
+use Rattle.gc_script.specs.Values.{is_opaque, AllPlain}
 
 -- values that get no ids: none is a function or a continuation
 abbrev pub ArePlain : List Value → Type 0
@@ -85,66 +91,101 @@ all_same zero v plain = refl
 all_same (suc n) v plain = plain_more v (replicate n v) plain (all_same n v plain)
 
 -- bytes are numbers
-pub bytes_plain : (bytes : List ℕ) → ArePlain (map byte_value bytes)
+bytes_plain : (bytes : List ℕ) → ArePlain (map byte_value bytes)
 bytes_plain [] = refl
 bytes_plain (b ∷ bytes) = bytes_plain bytes
 
--- what a register gives
-root_plain : (c : GcClass) (found : Option Reference) → IsPlain (given_value (given_root c found))
-root_plain c None = refl
-root_plain c (Some r) = refl
+-- a value that is plain and live stands for a plain one in each table that the store holds
+live_in : (layouts : Layouts) (s : StoreView ℕ) (handle : GcRootIndex) → IsLive ℕ layouts s handle → (t : Table ℕ) → HoldsTable layouts s t → (r : Reference) × NamesReference s t handle r
+live_in layouts s handle live t holds =
+    let word = live_has_word layouts s live.table live.holds.0 live.holds.1 handle live.root live.named in
+    let it = names_word layouts s t holds.0 holds.1 handle word.0 word.1 in
+    (it.root, it.named)
 
-number_plain : (store : StoreView ℕ) (t : Table ℕ) (found : Option RawValue) (v : Value) → Stands store t found (Some (number v)) → IsPlain v
-number_plain store t None v stands = absurd stands
-number_plain store t (Some (raw.I32 n)) v stands = ap (λ (x : Value). side_values (x ∷ [])) stands
-number_plain store t (Some (raw.I64 n)) v stands = ap (λ (x : Value). side_values (x ∷ [])) stands
-number_plain store t (Some (raw.F32 n)) v stands = ap (λ (x : Value). side_values (x ∷ [])) stands
-number_plain store t (Some (raw.F64 n)) v stands = ap (λ (x : Value). side_values (x ∷ [])) stands
-number_plain store t (Some (raw.V128 n)) v stands = ap (λ (x : Value). side_values (x ∷ [])) stands
-number_plain store t (Some (raw.Func f)) v stands = absurd stands
-number_plain store t (Some (raw.Cont cont)) v stands = absurd stands
-number_plain store t (Some (raw.Ref c None)) v stands = absurd stands
-number_plain store t (Some (raw.Ref c (Some handle))) v stands = absurd stands
+abbrev StandsPlain : StoreView ℕ → Table ℕ → RawValue → Type 0
+StandsPlain s t r = (v : Value) × (RawStands s t r v × IsPlain v)
 
-held_plain : (store : StoreView ℕ) (t : Table ℕ) (found : Option RawValue) (held : Option Held) → Stands store t found held → IsPlain (given_value (given_held t held))
-held_plain store t found None stands = refl
-held_plain store t found (Some (number v)) stands = number_plain store t found v stands
-held_plain store t found (Some (reference c None)) stands = refl
-held_plain store t found (Some (reference c (Some serial))) stands = root_plain c (rooted_among serial t.scoped)
+abbrev AllStandPlain : StoreView ℕ → Table ℕ → List RawValue → Type 0
+AllStandPlain s t raws = (vs : List Value) × (AllStand s t raws vs × ArePlain vs)
 
-module _ (layouts : Layouts) (store : StoreView ℕ) (runner : RunnerView) (s : State) (holds : HoldsState layouts store runner s) where
-  -- and so an operand
-  operand_plain : (v : Operand) → IsPlain (given_value (given s v))
-  operand_plain (operand.I32 n) = refl
-  operand_plain (operand.I64 n) = refl
-  operand_plain (operand.F32 n) = refl
-  operand_plain (operand.F64 n) = refl
-  operand_plain (operand.V128 n) = refl
-  operand_plain operand.AnyNull = refl
-  operand_plain operand.ExternNull = refl
-  operand_plain operand.ExnNull = refl
-  operand_plain (operand.Register r) = held_plain store s.table (register_at runner.registers r) (s.registers r) (holds.registers r)
+-- one more
+stand_each : (s : StoreView ℕ) (t : Table ℕ) (r : RawValue) (raws : List RawValue) (v : Value) (vs : List Value) → RawStands s t r v → AllStand s t raws vs
+    → (i : ℕ) (q : RawValue) (w : Value) → slice_get (r ∷ raws) i ≡ Some q → slice_get (v ∷ vs) i ≡ Some w → RawStands s t q w
+stand_each s t r raws v vs one all zero q w e f =
+    let q_is : r ≡ q = grind (arith, e) in
+    let w_is : v ≡ w = grind (arith, f) in
+    subst (λ (x : RawValue). RawStands s t x w) q_is (subst (RawStands s t r) w_is one)
+stand_each s t r raws v vs one all (suc i) q w e f = all.each i q w e f
 
-  operands_plain : (vs : List Operand) → ArePlain (given_values s vs)
-  operands_plain [] = refl
-  operands_plain (v ∷ vs) = plain_more (given_value (given s v)) (given_values s vs) (operand_plain v) (operands_plain vs)
+stand_more : (s : StoreView ℕ) (t : Table ℕ) (r : RawValue) (raws : List RawValue) → StandsPlain s t r → AllStandPlain s t raws → AllStandPlain s t (r ∷ raws)
+stand_more s t r raws one rest = (
+  one.0 ∷ rest.0,
+  (
+    record { same_count = ap suc rest.1.0.same_count; each = stand_each s t r raws one.0 rest.0 one.1.0 rest.1.0 },
+    plain_more one.0 rest.0 one.1.1 rest.1.1,
+  ),
+)
 
-  fields_plain : (request : Place) (vs : List Operand) → ArePlain (stored_in (unwrap_or (requested_fields s.table.types request) []) (given_values s vs))
-  fields_plain request vs = all_stored (unwrap_or (requested_fields s.table.types request) []) (given_values s vs) (operands_plain vs)
+module _ (layouts : Layouts) (s : StoreView ℕ) (t : Table ℕ) (holds : HoldsTable layouts s t) where
+  stands_plain : (r : RawValue) → NamesLive ℕ layouts s r → is_opaque r ≡ false → StandsPlain s t r
+  stands_plain (raw.I32 n) live plain = (numeric i32 (number_bits w32 n), (refl, refl))
+  stands_plain (raw.I64 n) live plain = (numeric i64 (number_bits w64 n), (refl, refl))
+  stands_plain (raw.F32 n) live plain = (numeric f32 n, (refl, refl))
+  stands_plain (raw.F64 n) live plain = (numeric f64 n, (refl, refl))
+  stands_plain (raw.V128 n) live plain = (numeric v128 n, (refl, refl))
+  stands_plain (raw.Func f) live plain = absurd (cc plain)
+  stands_plain (raw.Cont cont) live plain = absurd (cc plain)
+  stands_plain (raw.Ref c None) live plain = (values.reference c null, (refl, refl))
+  stands_plain (raw.Ref c (Some handle)) live plain =
+      let it = live_in layouts s handle live t holds in
+      (values.reference c it.0, (record { root = it.0; named = it.1; is = refl }, refl))
 
-  -- so no object that is requested has a function or a continuation: one with fields
-  pub requested_plain : (request : Place) (vs : List Operand) → ArePlain (object_values (requested request vs s))
-  requested_plain (place.Struct ty) vs = fields_plain (place.Struct ty) vs
-  requested_plain (place.Exn ty tag) vs = fields_plain (place.Exn ty tag) vs
-  requested_plain (place.Array ty n) vs = fields_plain (place.Array ty n) vs
+  all_stand_plain : (raws : List RawValue) → ((i : ℕ) (r : RawValue) → slice_get raws i ≡ Some r → NamesLive ℕ layouts s r) → AllPlain raws → AllStandPlain s t raws
+  all_stand_plain [] live plain = ([], (record { same_count = refl; each = λ i r v e f. absurd (none-some r e) }, refl))
+  all_stand_plain (r ∷ raws) live plain =
+      stand_more s t r raws (stands_plain r (live 0 r refl) (plain 0 r refl)) (all_stand_plain raws (λ i. live (suc i)) (λ i. plain (suc i)))
 
-  -- an array of listed elements
-  pub elements_plain : (ty : StorageType) (vs : List Operand) → ArePlain (map (stored ty) (given_values s vs))
-  elements_plain ty vs = same_stored ty (given_values s vs) (operands_plain vs)
+  -- so the values that may go into fields
+  fields_live : (found : Option (List FieldType)) (raws : List RawValue) → CanPlaceFields ℕ layouts s found raws → (i : ℕ) (r : RawValue) → slice_get raws i ≡ Some r → NamesLive ℕ layouts s r
+  fields_live found raws can i r e =
+      let within = slice_get_within raws i r e in
+      let many = can.same_count in
+      elim ((slice_get_cases can.fields i).1) [
+        | inl field ↦ (can.each i field.0 r field.2 e).live
+        | inr past ↦ absurd (omega (arith, within, many, past.0))
+      ]
 
-  -- and one of equal elements
-  pub filled_plain : (ty : StorageType) (n : ℕ) (v : Operand) → ArePlain (replicate n (stored ty (given_value (given s v))))
-  filled_plain ty n v = all_same n (stored ty (given_value (given s v))) (stored_plain ty (given_value (given s v)) (operand_plain v))
+  -- what is requested of a table, without functions and continuations
+  abbrev pub RequestedPlain : Place → Contents → Type 0
+  RequestedPlain request given = (o : Object ℕ) × (IsObjectOf s t request given o × ArePlain (object_values o))
+
+  filled : (ty n : ℕ) (r : RawValue) → StandsPlain s t r → (o : Object ℕ) × (IsFilled s t ty n r o × ArePlain (object_values o))
+  filled ty n r one =
+      let v = stored (element_of t.types ty) one.0 in
+      (array ty (replicate n v), ((one.0, ((λ some. one.1.0), refl)), all_same n v (stored_plain (element_of t.types ty) one.0 one.1.1)))
+
+  filled_by : (ty n : ℕ) (r : RawValue) → CanPlaceSame ℕ layouts s ty n r → (0 < n → is_opaque r ≡ false) → (o : Object ℕ) × (IsFilled s t ty n r o × ArePlain (object_values o))
+  filled_by ty zero r can plain = (array ty [], ((values.reference class.Any null, ((λ some. absurd (omega (arith, some))), refl)), refl))
+  filled_by ty (suc n) r can plain =
+      let some : 0 < suc n = omega arith in
+      filled ty (suc n) r (stands_plain r (can.fits some).live (plain some))
+
+  pub requested_plain : (request : Place) (given : Contents) → CanPlaceIn ℕ layouts s request given → IsPlainRequest request given → RequestedPlain request given
+  requested_plain (place.Struct ty) (contents.Each vs) can plain =
+      let all = all_stand_plain vs.now (fields_live (struct_fields_at s.types ty) vs.now can) plain in
+      (struct ty (stored_in (fields_of t.types ty) all.0), ((all.0, (all.1.0, refl)), all_stored (fields_of t.types ty) all.0 all.1.1))
+  requested_plain (place.Struct ty) (contents.Same v) can plain = absurd can
+  requested_plain (place.Struct ty) (contents.Bytes bytes) can plain = absurd can
+  requested_plain (place.Exn ty tag) (contents.Each vs) can plain =
+      let all = all_stand_plain vs.now (fields_live (exn_fields_at s.types ty) vs.now can) plain in
+      (exception ty tag (stored_in (exn_fields_of t.types ty) all.0), ((all.0, (all.1.0, refl)), all_stored (exn_fields_of t.types ty) all.0 all.1.1))
+  requested_plain (place.Exn ty tag) (contents.Same v) can plain = absurd can
+  requested_plain (place.Exn ty tag) (contents.Bytes bytes) can plain = absurd can
+  requested_plain (place.Array ty n) (contents.Each vs) can plain =
+      let all = all_stand_plain vs.now (λ i r e. (can.each i r e).live) plain in
+      (array ty (map (stored (element_of t.types ty)) all.0), ((all.0, (all.1.0, refl)), same_stored (element_of t.types ty) all.0 all.1.1))
+  requested_plain (place.Array ty n) (contents.Same v) can plain = filled_by ty n v.now can plain
+  requested_plain (place.Array ty n) (contents.Bytes bytes) can plain = (array ty (map byte_value bytes.now), (refl, bytes_plain bytes.now))
 
 -- there are ids for an object without functions and continuations
 module _ (layouts : Layouts) (store : StoreView ℕ) (t : Table ℕ) (holds : HoldsTable layouts store t) (o : Object ℕ) (plain : ArePlain (object_values o)) where

@@ -1,5 +1,5 @@
 -- What a value that a register or an operand holds is found to be.
-use Rattle.std.proofs.Common.{◌≡◌, inl, inr, ℕ, Option, Some, None, true, false, sym, ap, ◌∙◌, refl, subst, arith}
+use Rattle.std.proofs.Common.{◌≡◌, inl, inr, ℕ, Option, Some, None, true, sym, ap, ◌∙◌, refl, subst, arith}
 use Rattle.std.specs.Prelude.{Result, Ok, Err, is_ok}
 use Rattle.std.proofs.lemmas.Option.{none-some}
 use Rattle.gc_types.specs.declared.kind.Layouts.{Layouts}
@@ -23,7 +23,7 @@ use Rattle.gc_store.specs.Words.{owned_id}
 use Rattle.gc_store.proofs.HandleWords.{names-store, named_alone}
 use Rattle.gc_script.specs.State.{Held, number, reference, Stands}
 use Rattle.gc_script.specs.Given.{gone, is, given_held, given_root}
-use Rattle.gc_script.specs.Values.{raw_handle, raw_slot, is_opaque, IsFound}
+use Rattle.gc_script.specs.Values.{raw_handle, raw_slot, IsFound}
 
 -- what is no handle stands for a value
 pub found_plain : (s : StoreView ℕ) (t : Table ℕ) (r : RawValue) (held : Option Held) → raw_handle r ≡ None → Stands s t (Some r) held → IsFound s t r (given_held t held) true
@@ -60,23 +60,6 @@ found_plain s t (raw.Ref class None) (Some (number v)) plain stands = absurd sta
 found_plain s t (raw.Ref class None) (Some (reference c None)) plain stands = (values.reference class null, (ap (λ (x : GcClass). is (values.reference x null)) (sym stands), refl))
 found_plain s t (raw.Ref class None) (Some (reference c (Some k))) plain stands = absurd stands
 found_plain s t (raw.Ref class (Some handle)) held plain stands = absurd (none-some handle (sym plain))
-
--- no register holds an opaque value
-pub held_not_opaque : (s : StoreView ℕ) (t : Table ℕ) (r : RawValue) (held : Option Held) → Stands s t (Some r) held → is_opaque r ≡ false
-held_not_opaque s t (raw.I32 n) held stands = refl
-held_not_opaque s t (raw.I64 n) held stands = refl
-held_not_opaque s t (raw.F32 n) held stands = refl
-held_not_opaque s t (raw.F64 n) held stands = refl
-held_not_opaque s t (raw.V128 n) held stands = refl
-held_not_opaque s t (raw.Func f) None stands = absurd stands
-held_not_opaque s t (raw.Cont cont) None stands = absurd stands
-held_not_opaque s t (raw.Func f) (Some (number v)) stands = absurd stands
-held_not_opaque s t (raw.Cont cont) (Some (number v)) stands = absurd stands
-held_not_opaque s t (raw.Func f) (Some (reference c None)) stands = absurd stands
-held_not_opaque s t (raw.Cont cont) (Some (reference c None)) stands = absurd stands
-held_not_opaque s t (raw.Func f) (Some (reference c (Some k))) stands = absurd stands
-held_not_opaque s t (raw.Cont cont) (Some (reference c (Some k))) stands = absurd stands
-held_not_opaque s t (raw.Ref class handle) held stands = refl
 
 -- a handle names one reference
 pub names_one : (layouts : Layouts) (s : StoreView ℕ) (t : Table ℕ) → HoldsTable layouts s t → (handle : GcRootIndex) (x y : ℕ) → Names s t handle x → Names s t handle y → x ≡ y

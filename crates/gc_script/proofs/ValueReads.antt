@@ -1,5 +1,5 @@
 -- Reading a field or an element of an object that a register names.
-use Rattle.std.proofs.Common.{◌≡◌, ℕ, ◌&&◌, ◌<◌, ◌≤◌, length, List, [], ◌∷◌, ◌++◌, Option, Some, Bool, true, false, ap, ◌∙◌, refl, arith}
+use Rattle.std.proofs.Common.{◌≡◌, ℕ, ◌&&◌, ◌<◌, ◌≤◌, length, List, [], ◌∷◌, ◌++◌, Option, Some, Bool, true, false, sym, ap, ◌∙◌, refl, subst, arith}
 use Rattle.std.specs.Prelude.{Ok, unwrap_or}
 use Rattle.std.specs.List.{slice_get}
 use Rattle.std.proofs.lemmas.Bool.Decides.{nat_tests}
@@ -32,6 +32,8 @@ use Rattle.gc_script.specs.Run.{GoesBy}
 use Rattle.gc_script.specs.Named.{wants, IsNamed, NamesObject, FoundObject, register_with}
 use Rattle.gc_script.specs.Values.{ShowsRead, registered}
 use Rattle.gc_script.proofs.StandLemmas.{holds_same}
+use Rattle.gc_script.specs.Wants.{IsUnrefused, ReadTakes}
+use Rattle.gc_script.proofs.WantLemmas.{unrefused_by, full_only}
 use Rattle.gc_script.proofs.TestLemmas.{passes, stops, passes_all, stops_all, refuses_by}
 use Rattle.gc_script.proofs.ReadLemmas.{read_goes}
 
@@ -112,6 +114,14 @@ module _ (layouts : Layouts) (store : StoreView ℕ) (runner : RunnerView) (s : 
       to_full =
           to_bound ∙ passes (bound_test s r i).0 refusal.OutOfBounds (full_test (slice_get (target_values (target s r)) i) ∷ []) (within_bound store s kind r i found it below)
           ∙ ap (λ (o : Option Value). first_failing (full_test o ∷ [])) value_is
+
+      -- memory may be wanted: for a root, or for the register that the value goes into
+      read_unrefused : IsUnrefused (first_failing all_tests)
+      read_unrefused = unrefused_by (first_failing all_tests) (first_failing ((makes_root value_there.0 && roots_full s.table, refusal.RootsFull) ∷ [])) to_full (full_only (makes_root value_there.0 && roots_full s.table))
+
+      pub read_may : ReadTakes s value_there.0 into → ReadTakes s (value_in s r i) into × IsUnrefused (first_failing all_tests)
+      read_may takes =
+          (subst (λ (o : Option Value). ReadTakes s (unwrap_or o (values.reference class.Any null)) into) (sym value_is) takes, read_unrefused)
 
       module _ (new : StoreView ℕ) (runner' : RunnerView) (same : IsSameStore store new) (rest_is : runner'.rest ≡ runner.rest) where
         -- no further root may be made

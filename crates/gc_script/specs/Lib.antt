@@ -4,12 +4,13 @@ pub mod Built
 pub mod Given
 pub mod Shapes
 pub mod Steps
-pub mod Requested
 pub mod Policy
 pub mod Named
 pub mod Values
+pub mod Requested
 pub mod Writing
 pub mod Run
+pub mod Wants
 pub mod Lines
 pub mod Cutting
 pub mod Session

@@ -1,5 +1,5 @@
 -- What registers name, as it is found.
-use Rattle.std.specs.Prelude.{◌≡◌, ℕ, ◌<◌, ◌==◌, Bool, true, false, List, Option, Some, None, Result, Ok, Err, length, slice_get, unwrap_or, if◌then◌else◌}
+use Rattle.std.specs.Prelude.{◌≡◌, ℕ, ◌<◌, ◌≤◌, ◌==◌, Bool, true, false, List, Option, Some, None, Result, Ok, Err, length, slice_get, unwrap_or, if◌then◌else◌}
 use Rattle.std.specs.Option.{option_map, option_and_then}
 use Rattle.gc_types.specs.declared.kind.Layouts.{Layouts}
 use Rattle.gc_types.specs.declared.value.FieldType.{FieldType}
@@ -106,6 +106,11 @@ FindsObject store s kind r (Err why) = first_failing (target_tests (wants kind) 
 abbrev pub HasRoom : Option ℕ → List (Option RawValue) → Type 0
 HasRoom None slots = Unit {0}
 HasRoom (Some d) slots = d < length slots
+
+-- there is none for the register that is named
+abbrev pub LacksRoom : Option ℕ → List (Option RawValue) → Type 0
+LacksRoom None slots = ⊥
+LacksRoom (Some d) slots = length slots ≤ d
 
 -- what a register holds once a value was put into one, where one is named and there is a value that it may hold
 abbrev pub register_with : Option ℕ → Option RawValue → List (Option RawValue) → ℕ → Option RawValue

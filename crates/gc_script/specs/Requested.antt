@@ -1,5 +1,5 @@
 -- Requests for objects with fields that commands make.
-use Rattle.std.specs.Prelude.{ℕ, Bool, List, [], ◌++◌, Option, None, unwrap_or}
+use Rattle.std.specs.Prelude.{◌≡◌, ◌<◌, ℕ, Bool, false, List, [], ◌++◌, Option, None, unwrap_or}
 use Rattle.gc_types.specs.declared.kind.Layouts.{Layouts}
 use Rattle.gc_types.specs.declared.value.FieldType.{FieldType}
 use Rattle.gc_types.specs.Declarations.{Declaration, struct_fields_at}
@@ -12,9 +12,12 @@ use Rattle.gc_commands.specs.declared.command.Operand.{Operand}
 use Rattle.gc_commands.specs.declared.reply.Refusal.{Refusal}
 use Rattle.gc_store.specs.declared.request.Place.{Place}
 use Rattle.gc_store.specs.declared.request.Place.TheVariants as place
+use Rattle.gc_store.specs.declared.request.Contents.{Contents}
+use Rattle.gc_store.specs.declared.request.Contents.TheVariants as contents
 use Rattle.gc_script.specs.State.{State}
 use Rattle.gc_script.specs.Given.{given_values}
 use Rattle.gc_script.specs.Steps.{fields_tests, heap_tests}
+use Rattle.gc_script.specs.Values.{is_opaque, AllPlain}
 
 -- the class of references to what is requested
 abbrev pub class_of : Place → GcClass
@@ -38,6 +41,14 @@ abbrev pub object_with : Place → List Value → Object ℕ
 object_with (place.Struct ty) values = struct ty values
 object_with (place.Exn ty tag) values = exception ty tag values
 object_with (place.Array ty n) values = array ty values
+
+-- no value of what is requested is a function or a continuation; one that fills an array without elements isn't looked at
+abbrev pub IsPlainRequest : Place → Contents → Type 0
+IsPlainRequest request (contents.Each values) = AllPlain values.now
+IsPlainRequest (place.Struct ty) (contents.Same value) = is_opaque value.now ≡ false
+IsPlainRequest (place.Exn ty tag) (contents.Same value) = is_opaque value.now ≡ false
+IsPlainRequest (place.Array ty n) (contents.Same value) = 0 < n → is_opaque value.now ≡ false
+IsPlainRequest request (contents.Bytes bytes) = Unit {0}
 
 -- so with what its fields keep of the values of operands
 abbrev pub requested : Place → List Operand → State → Object ℕ

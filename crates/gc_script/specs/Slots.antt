@@ -12,6 +12,10 @@ pub record RunnerView : Type 0 where
   pub registers : List (Option RawValue)
   pub rest : RunnerRest
 
+-- the runner with these registers, and that rest
+abbrev pub with_registers : List (Option RawValue) → RunnerRest → RunnerView
+with_registers registers rest = record { registers = registers; rest = rest }
+
 abbrev pub new_runner : RunnerView
 new_runner = record { registers = []; rest = record { owned = []; marks = [] } }
 

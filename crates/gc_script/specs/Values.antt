@@ -1,14 +1,18 @@
 -- What the values of a command's operands are found to be.
-use Rattle.std.specs.Prelude.{◌≡◌, ℕ, suc, Bool, true, false, List, [], ◌∷◌, ◌++◌, Option, Some, None, Result, Ok, Err, not, slice_get, if◌then◌else◌}
+use Rattle.std.specs.Prelude.{◌≡◌, ℕ, suc, Bool, true, false, List, [], ◌∷◌, ◌++◌, Option, Some, None, Result, Ok, Err, map, not, slice_get, unwrap_or, if◌then◌else◌}
 use Rattle.std.specs.List.{AllZip}
 use Rattle.gc_types.specs.declared.kind.Layouts.{Layouts}
 use Rattle.gc_types.specs.declared.value.FieldType.{FieldType}
+use Rattle.gc_types.specs.declared.value.ValType.{ValType}
+use Rattle.gc_types.specs.declared.value.ValType.TheVariants as val
 use Rattle.gc_owner.specs.declared.entry.GcClass.{GcClass}
+use Rattle.gc_owner.specs.declared.entry.GcClass.TheVariants as class
 use Rattle.gc_model.specs.Stores.{StoreView}
 use Rattle.gc_model.specs.Table.{Table}
 use Rattle.gc_model.specs.Holds.{HoldsTable}
 use Rattle.gc_model.specs.Values.{Reference, Value, reference}
 use Rattle.gc_commands.specs.declared.command.Operand.{Operand}
+use Rattle.gc_commands.specs.declared.command.Operand.TheVariants as operand
 use Rattle.gc_commands.specs.declared.reply.Refusal.{Refusal}
 use Rattle.gc_commands.specs.declared.reply.Refusal.TheVariants as refusal
 use Rattle.gc_commands.specs.declared.reply.Reply.{Reply}
@@ -16,6 +20,8 @@ use Rattle.gc_commands.specs.declared.reply.Reply.TheVariants as reply
 use Rattle.gc_store.specs.declared.root.GcRootIndex.{GcRootIndex}
 use Rattle.gc_store.specs.declared.root.RawValue.{RawValue}
 use Rattle.gc_store.specs.declared.root.RawValue.TheVariants as raw
+use Rattle.gc_store.specs.declared.root.RootedObject.{RootedObject}
+use Rattle.gc_store.specs.Roots.{NamesReference, IsReference}
 use Rattle.gc_store.specs.Slots.{HandleStands}
 use Rattle.gc_store.specs.Values.{RawStands, AllStand, CanStore}
 use Rattle.gc_script.specs.declared.objects.ValueTypes.{ValueTypes}
@@ -35,17 +41,36 @@ abbrev pub HoldsOperand : List (Option RawValue) → Operand → Option RawValue
 HoldsOperand slots operand found =
     (store : StoreView ℕ) (s : State) → AreRegisters store slots s → Stands store s.table found (held_operand s operand)
 
+-- so by the value; none where it is a register that is unset
+abbrev pub raw_operand : List (Option RawValue) → Operand → Option RawValue
+raw_operand slots (operand.I32 n) = Some (raw.I32 n)
+raw_operand slots (operand.I64 n) = Some (raw.I64 n)
+raw_operand slots (operand.F32 n) = Some (raw.F32 n)
+raw_operand slots (operand.F64 n) = Some (raw.F64 n)
+raw_operand slots (operand.V128 n) = Some (raw.V128 n)
+raw_operand slots operand.AnyNull = Some (raw.Ref class.Any None)
+raw_operand slots operand.ExternNull = Some (raw.Ref class.Extern None)
+raw_operand slots operand.ExnNull = Some (raw.Ref class.Exn None)
+raw_operand slots (operand.Register r) = register_at slots r
+
+-- so of an operand that is set, and of several
+abbrev pub set_operand : List (Option RawValue) → Operand → RawValue
+set_operand slots v = unwrap_or (raw_operand slots v) (raw.Ref class.Any None)
+
+abbrev pub set_operands : List (Option RawValue) → List Operand → List RawValue
+set_operands slots vs = map (set_operand slots) vs
+
 -- the values are what the operands hold
 abbrev pub AllHeld : StoreView ℕ → State → List Operand → List RawValue → Type 0
 AllHeld store s = AllZip (λ (v : Operand) (r : RawValue). Stands store s.table (Some r) (held_operand s v))
 
--- so in each state that has these registers
-abbrev pub HoldsOperands : List (Option RawValue) → List Operand → List RawValue → Type 0
-HoldsOperands slots operands found = (store : StoreView ℕ) (s : State) → AreRegisters store slots s → AllHeld store s operands found
-
 -- some operand is a register that is unset, in each state that has these registers
 abbrev pub HasUnset : List (Option RawValue) → List Operand → Type 0
 HasUnset slots operands = (store : StoreView ℕ) (s : State) → AreRegisters store slots s → any_unset s operands ≡ true
+
+-- none is
+abbrev pub AreSet : List (Option RawValue) → List Operand → Type 0
+AreSet slots operands = (store : StoreView ℕ) (s : State) → AreRegisters store slots s → any_unset s operands ≡ false
 
 -- the handle that a value is, where it is one
 abbrev pub raw_handle : RawValue → Option GcRootIndex
@@ -57,6 +82,12 @@ raw_handle (raw.V128 n) = None
 raw_handle (raw.Func f) = None
 raw_handle (raw.Cont c) = None
 raw_handle (raw.Ref class handle) = handle
+
+-- what is told of a handle, where there is one: what it names in a table
+abbrev pub TellsHandle : StoreView ℕ → Table ℕ → Option GcRootIndex → Option RootedObject → Type 0
+TellsHandle store t None object = object ≡ None
+TellsHandle store t (Some handle) None = ⊥
+TellsHandle store t (Some handle) (Some object) = (r : Reference) → NamesReference store t handle r → IsReference t r object
 
 -- the class and the handle of a value, where it is a reference
 abbrev pub raw_slot : RawValue → Option (GcClass × Option GcRootIndex)
@@ -79,6 +110,10 @@ is_opaque (raw.V128 n) = false
 is_opaque (raw.Func f) = true
 is_opaque (raw.Cont c) = true
 is_opaque (raw.Ref class handle) = false
+
+-- none of the values is
+abbrev pub AllPlain : List RawValue → Type 0
+AllPlain raws = (i : ℕ) (r : RawValue) → slice_get raws i ≡ Some r → is_opaque r ≡ false
 
 -- what a register holds of a value that the store gave: nothing of an opaque one
 abbrev pub registered : RawValue → Option RawValue
@@ -137,3 +172,12 @@ abbrev pub ChecksValues : StoreView ℕ → State → ValueTypes → List Operan
 ChecksValues store s types vs raws (Ok done) =
     (first_failing (typed_tests s (type_at s.table.types types) 0 vs) ≡ None) × AllStand store s.table raws (given_values s vs)
 ChecksValues store s types vs raws (Err why) = first_failing (typed_tests s (type_at s.table.types types) 0 vs) ≡ Some why
+
+-- whether a value is a number of that type
+abbrev pub number_fits : ValType → RawValue → Bool
+number_fits val.I32 (raw.I32 n) = true
+number_fits val.I64 (raw.I64 n) = true
+number_fits val.F32 (raw.F32 n) = true
+number_fits val.F64 (raw.F64 n) = true
+number_fits val.V128 (raw.V128 n) = true
+number_fits _ _ = false

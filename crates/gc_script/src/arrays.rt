@@ -1,14 +1,16 @@
 //! The commands that make arrays.
 
-ghost use Rattle.std.specs.Prelude.{◌≡◌};
+ghost use Rattle.std.specs.Prelude.{◌≡◌, OnErr};
 ghost use Rattle.gc_commands.specs.declared.command.Command.TheVariants as Command;
 ghost use Rattle.gc_script.specs.State.{State, HoldsState};
 ghost use Rattle.gc_script.specs.Run.{RunsOne};
+ghost use Rattle.gc_script.specs.Wants.{MayWant};
 ghost use Rattle.gc_store.specs.Stores.{IsSameStore};
 
+use crate::make::place;
 use crate::objects::ValueTypes;
 use crate::runner::{RunError, Runner};
-use crate::values::{check_value, check_values, operand_value, operand_values};
+use crate::values::{any_unset, check_operands, check_value, give_values, operand_value};
 use gc_commands::{Operand, Refusal, Reply};
 use gc_heap::GcHeap;
 use gc_store::{Contents, Place, ResourceLimiter, Store};
@@ -29,6 +31,7 @@ impl Runner {
         ensures runs { (s : State) → HoldsState H.KIND store.old self.old s
             → RunsOne H.KIND store.old.alloc_counter (L.limits limiter.old) (L.limits limiter.new) s
             (Command.NewArr d t len operand.now) result store.new self.new }
+        ensures cause { OnErr result ((s : State) → HoldsState H.KIND store.old self.old s → MayWant H.KIND s (Command.NewArr d t len operand.now)) }
         ensures same { IsSameStore store.old store.new }
     {
         let ty = VMSharedTypeIndex::new(t);
@@ -43,7 +46,8 @@ impl Runner {
                 return Ok(Reply::Refused(refusal));
             }
         }
-        self.place(
+        place(
+            &mut self.registers,
             store,
             limiter,
             d,
@@ -64,32 +68,34 @@ impl Runner {
         ensures runs { (s : State) → HoldsState H.KIND store.old self.old s
             → RunsOne H.KIND store.old.alloc_counter (L.limits limiter.old) (L.limits limiter.new) s
             (Command.Fixed d t operands.now) result store.new self.new }
+        ensures cause { OnErr result ((s : State) → HoldsState H.KIND store.old self.old s → MayWant H.KIND s (Command.Fixed d t operands.now)) }
         ensures same { IsSameStore store.old store.new }
     {
         let ty = VMSharedTypeIndex::new(t);
         let Some(element) = store.types().array_elem(ty) else {
             return Ok(Reply::Refused(Refusal::NoSuchName));
         };
-        let Ok(found) = operand_values(self.alloc, &self.registers, operands) else {
-            return Err(RunError::OutOfMemory);
-        };
-        let Some(values) = found else {
+        if any_unset(&self.registers, operands) {
             return Ok(Reply::Refused(Refusal::NoSuchName));
-        };
-        let values = values.as_slice();
-        if let Err(refusal) = check_values(store, &ValueTypes::Elements(element), values) {
+        }
+        let types = ValueTypes::Elements(element);
+        if let Err(refusal) = check_operands(store, &self.registers, &types, operands) {
             return Ok(Reply::Refused(refusal));
         }
         // An array has fewer than 2^32 elements in every heap.
-        let Ok(len) = u32::try_from(values.len()) else {
+        let Ok(len) = u32::try_from(operands.len()) else {
             return Ok(Reply::Refused(Refusal::TooLarge));
         };
-        self.place(
+        if give_values(&mut self.values, &self.registers, operands).is_err() {
+            return Err(RunError::OutOfMemory);
+        }
+        place(
+            &mut self.registers,
             store,
             limiter,
             d,
             Place::Array(ty, len),
-            Contents::Each(values),
+            Contents::Each(self.values.as_slice()),
         )
     }
 
@@ -106,6 +112,7 @@ impl Runner {
         ensures runs { (s : State) → HoldsState H.KIND store.old self.old s
             → RunsOne H.KIND store.old.alloc_counter (L.limits limiter.old) (L.limits limiter.new) s
             (Command.NewBytes d t bytes.now) result store.new self.new }
+        ensures cause { OnErr result ((s : State) → HoldsState H.KIND store.old self.old s → MayWant H.KIND s (Command.NewBytes d t bytes.now)) }
         ensures same { IsSameStore store.old store.new }
     {
         let ty = VMSharedTypeIndex::new(t);
@@ -119,7 +126,8 @@ impl Runner {
         let Ok(len) = u32::try_from(bytes.len()) else {
             return Ok(Reply::Refused(Refusal::TooLarge));
         };
-        self.place(
+        place(
+            &mut self.registers,
             store,
             limiter,
             d,

@@ -1,9 +1,10 @@
 //! The commands on exceptions.
 
-ghost use Rattle.std.specs.Prelude.{◌≡◌, Ok};
+ghost use Rattle.std.specs.Prelude.{◌≡◌, Ok, OnErr};
 ghost use Rattle.gc_commands.specs.declared.command.Command.TheVariants as Command;
 ghost use Rattle.gc_script.specs.State.{State, HoldsState};
 ghost use Rattle.gc_script.specs.Run.{RunsOne, GoesOn};
+ghost use Rattle.gc_script.specs.Wants.{MayWant};
 ghost use Rattle.gc_store.specs.Stores.{IsSameStore};
 
 use crate::objects::{Wanted, find_object};
@@ -50,6 +51,7 @@ impl Runner {
         ensures runs { (s : State) → HoldsState H.KIND store.old self.old s
             → RunsOne H.KIND store.old.alloc_counter (L.limits limiter.old) (L.limits limiter.new) s
             (Command.NewExn d t tag operands.now) result store.new self.new }
+        ensures cause { OnErr result ((s : State) → HoldsState H.KIND store.old self.old s → MayWant H.KIND s (Command.NewExn d t tag operands.now)) }
         ensures same { IsSameStore store.old store.new }
     {
         let ty = VMSharedTypeIndex::new(t);
@@ -87,6 +89,7 @@ impl Runner {
         d: u16,
     ) -> Result<Reply, RunError>
         ensures goes { (s : State) → HoldsState H.KIND store.old self.old s → GoesOn H.KIND s (Command.Take d) result store.new self.new }
+        ensures cause { OnErr result ((s : State) → HoldsState H.KIND store.old self.old s → MayWant H.KIND s (Command.Take d)) }
         ensures same { IsSameStore store.old store.new }
     {
         let into = Some(d);

@@ -1,19 +1,68 @@
-//! Which values fit a field or an element.
+//! Which values fit a type.
 
-ghost use Rattle.std.specs.Prelude.{◌≡◌, ℕ};
-ghost use Rattle.gc_model.specs.Fits.{fits};
+ghost use Rattle.std.specs.Prelude.{◌≡◌, ℕ, false, Option};
+ghost use Rattle.gc_model.specs.Fits.{fits_type, fits};
 ghost use Rattle.gc_model.specs.Holds.{HoldsTable};
 ghost use Rattle.gc_model.specs.Table.{Table};
 ghost use Rattle.gc_model.specs.Values.{Value};
 ghost use Rattle.gc_store.specs.Values.{RawStands};
+ghost use Rattle.gc_store.specs.declared.root.GcRootIndex.{GcRootIndex};
+ghost use Rattle.gc_script.specs.Values.{raw_handle, TellsHandle, is_opaque, number_fits};
 
+use crate::values::slot_of;
 use gc_heap::GcHeap;
-use gc_store::{RawValue, Store};
-use gc_types::StorageType;
+use gc_model::classes::null_fits;
+use gc_store::{GcClass, RawValue, RootedObject, Store};
+use gc_types::{RefType, StorageType, ValType};
 
-/// Whether a value fits the type of a field or an element. A reference that isn't null has to be live.
-pub(crate) fn fits<H: GcHeap>(store: &Store<H, u64>, ty: StorageType, value: &RawValue) -> bool
-    ensures { (t : Table ℕ) (v : Value) → HoldsTable H.KIND store.now t → RawStands store.now t value.now v → result ≡ fits t.types t.objects ty v }
+/// Whether a reference fits the type, by the object that it names: none where it is null.
+fn reference_fits<H: GcHeap>(
+    store: &Store<H, u64>,
+    ty: &RefType,
+    class: GcClass,
+    object: &Option<RootedObject>,
+) -> bool
+    ensures { (t : Table ℕ) (v : Value) (handle : Option GcRootIndex) → HoldsTable H.KIND store.now t → RawStands store.now t (RawValue.Ref class handle) v
+        → TellsHandle store.now t handle object.now → result ≡ fits_type t.types t.objects (ValType.Ref ty.now) v }
 {
-    store.value_fits(&ty.unpack(), value)
+    match object {
+        Some(object) => store.object_fits(ty, class, object),
+        None => null_fits(ty, class),
+    }
+}
+
+/// Whether a number is of that type.
+fn number_fits(ty: ValType, value: &RawValue) -> bool
+    ensures { result ≡ number_fits ty value.now }
+{
+    match ty {
+        ValType::I32 => matches!(value, RawValue::I32(_)),
+        ValType::I64 => matches!(value, RawValue::I64(_)),
+        ValType::F32 => matches!(value, RawValue::F32(_)),
+        ValType::F64 => matches!(value, RawValue::F64(_)),
+        ValType::V128 => matches!(value, RawValue::V128(_)),
+        ValType::Ref(_) => false,
+    }
+}
+
+/// Whether a value that is no function or continuation fits the type of a field or an element, by the object that it
+/// names, where it names one.
+pub(crate) fn fits<H: GcHeap>(
+    store: &Store<H, u64>,
+    ty: StorageType,
+    value: &RawValue,
+    object: &Option<RootedObject>,
+) -> bool
+    ensures { (t : Table ℕ) (v : Value) → HoldsTable H.KIND store.now t → is_opaque value.now ≡ false → RawStands store.now t value.now v
+        → TellsHandle store.now t (raw_handle value.now) object.now → result ≡ fits t.types t.objects ty v }
+{
+    let ty = ty.unpack();
+    let (class, _) = match slot_of(value) {
+        Some(slot) => slot,
+        None => return number_fits(ty, value),
+    };
+    match &ty {
+        ValType::Ref(ty) => reference_fits(store, ty, class, object),
+        _ => false,
+    }
 }

@@ -1,9 +1,10 @@
 //! The commands that open and close frames, and set and read their slots.
 
-ghost use Rattle.std.specs.Prelude.{◌≡◌, Ok};
+ghost use Rattle.std.specs.Prelude.{◌≡◌, Ok, OnErr};
 ghost use Rattle.gc_commands.specs.declared.command.Command.TheVariants as Command;
 ghost use Rattle.gc_script.specs.State.{State, HoldsState};
 ghost use Rattle.gc_script.specs.Run.{GoesOn};
+ghost use Rattle.gc_script.specs.Wants.{MayWant};
 ghost use Rattle.gc_store.specs.Stores.{IsSameStore};
 
 use crate::reads::{make_room, put_read};
@@ -68,6 +69,7 @@ impl Runner {
         d: u16,
     ) -> Result<Reply, RunError>
         ensures goes { (s : State) → HoldsState H.KIND store.old self.old s → GoesOn H.KIND s (Command.Load k d) result store.new self.new }
+        ensures cause { OnErr result ((s : State) → HoldsState H.KIND store.old self.old s → MayWant H.KIND s (Command.Load k d)) }
         ensures same { IsSameStore store.old store.new }
     {
         let slot = u32::from(k);

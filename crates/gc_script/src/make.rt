@@ -1,25 +1,28 @@
 //! The commands that make objects and small integers.
 
-ghost use Rattle.std.specs.Prelude.{◌≡◌, ℕ, length};
+ghost use Rattle.std.specs.Prelude.{◌≡◌, ℕ, length, OnErr};
 ghost use Rattle.std.specs.Option.{option_map};
 ghost use Rattle.gc_commands.specs.declared.command.Command.TheVariants as Command;
-ghost use Rattle.gc_model.specs.SideValues.{side_values, no_side_values};
 ghost use Rattle.gc_model.specs.Sizes.{exn_fields_at};
-ghost use Rattle.gc_model.specs.Values.{Object, object_values};
-ghost use Rattle.gc_script.specs.Requested.{class_of, type_of, requested, requested_fields, requested_tests};
+ghost use Rattle.gc_model.specs.Values.{Object};
+ghost use Rattle.gc_script.specs.Requested.{class_of, type_of, requested, requested_fields, requested_tests, IsPlainRequest};
+ghost use Rattle.gc_script.specs.Slots.{RunnerRest, with_registers};
 ghost use Rattle.gc_script.specs.State.{State, HoldsState, visible};
 ghost use Rattle.gc_script.specs.Shapes.{making};
-ghost use Rattle.gc_script.specs.Steps.{heap_tests};
+ghost use Rattle.gc_script.specs.Steps.{first_failing, heap_tests};
 ghost use Rattle.gc_script.specs.Run.{RunsOne, RunsOn, GoesOn};
 ghost use Rattle.gc_store.specs.Requests.{CanPlaceIn, IsObjectOf};
+ghost use Rattle.gc_script.specs.Wants.{IsUnrefused, MayWant};
 ghost use Rattle.gc_store.specs.Stores.{IsSameStore};
 
 use crate::objects::ValueTypes;
+use crate::registers::Registers;
 use crate::runner::{RunError, Runner};
-use crate::values::{check_values, operand_values};
+use crate::values::{any_unset, check_operands, give_values};
 use gc_commands::{Operand, Refusal, Reply};
 use gc_heap::GcHeap;
 use gc_refs::I31;
+use gc_store::laws::stores_hold_tables;
 use gc_store::{Contents, GcClass, Place, PlaceFault, RawValue, ResourceLimiter, RootFault, Store};
 use gc_types::{TypeKind, Types, VMSharedTypeIndex};
 
@@ -66,42 +69,44 @@ fn fields_len(types: &Types, request: &Place) -> Option<usize>
     }
 }
 
-impl Runner {
-    /// Places an object that may be placed and has no function and no continuation, and puts it into register `d`.
-    pub(crate) fn place<H: GcHeap, L: ResourceLimiter>(
-        &mut self,
-        store: &mut Store<H, u64>,
-        limiter: &mut L,
-        d: u16,
-        request: Place,
-        contents: Contents<'_>,
-    ) -> Result<Reply, RunError>
-        requires { CanPlaceIn ℕ H.KIND store.old request contents }
-        ensures runs { (s : State) (object : State → Object ℕ) → HoldsState H.KIND store.old self.old s
-            → IsObjectOf store.old s.table request contents.entry (object (visible s)) → side_values (object_values (object (visible s))) ≡ no_side_values
-            → RunsOn H.KIND store.old.alloc_counter (L.limits limiter.old) (L.limits limiter.new) s (making d (class_of request) object)
-            (heap_tests H.KIND s (object (visible s))) result store.new self.new }
-        ensures same { IsSameStore store.old store.new }
-    {
-        if self.registers.make_room(d).is_err() {
-            return Err(RunError::OutOfMemory);
-        }
-        let class = class_of(&request);
-        match store.place(limiter, request, contents) {
-            Ok(handle) => {
-                self.registers.set(d, RawValue::Ref(class, Some(handle)));
-                Ok(Reply::Done)
-            }
-            Err(PlaceFault::TooLarge) => Ok(Reply::Refused(Refusal::TooLarge)),
-            Err(PlaceFault::RootsFull) => Ok(Reply::Refused(Refusal::RootsFull)),
-            Err(PlaceFault::HeapOutOfMemory(_)) => Ok(Reply::Refused(Refusal::GcHeapOutOfMemory)),
-            // No register holds a function or a continuation, so that the store never answers these.
-            Err(PlaceFault::FuncTableFull) => Err(RunError::OutOfMemory),
-            Err(PlaceFault::ContTableFull) => Err(RunError::OutOfMemory),
-            Err(PlaceFault::Memory) => Err(RunError::OutOfMemory),
-        }
+/// Places an object that may be placed and has no function and no continuation, and puts it into register `d`.
+pub(crate) fn place<H: GcHeap, L: ResourceLimiter>(
+    registers: &mut Registers,
+    store: &mut Store<H, u64>,
+    limiter: &mut L,
+    d: u16,
+    request: Place,
+    contents: Contents<'_>,
+) -> Result<Reply, RunError>
+    requires can { CanPlaceIn ℕ H.KIND store.old request contents }
+    requires plain { IsPlainRequest request contents }
+    ensures runs { (s : State) (rest : RunnerRest) (object : State → Object ℕ) → HoldsState H.KIND store.old (with_registers registers.old rest) s
+        → IsObjectOf store.old s.table request contents.entry (object (visible s))
+        → RunsOn H.KIND store.old.alloc_counter (L.limits limiter.old) (L.limits limiter.new) s (making d (class_of request) object)
+        (heap_tests H.KIND s (object (visible s))) result store.new (with_registers registers.new rest) }
+    ensures same { IsSameStore store.old store.new }
+{
+    stores_hold_tables(store);
+    if registers.make_room(d).is_err() {
+        return Err(RunError::OutOfMemory);
     }
+    let class = class_of(&request);
+    match store.place(limiter, request, contents) {
+        Ok(handle) => {
+            registers.set(d, RawValue::Ref(class, Some(handle)));
+            Ok(Reply::Done)
+        }
+        Err(PlaceFault::TooLarge) => Ok(Reply::Refused(Refusal::TooLarge)),
+        Err(PlaceFault::RootsFull) => Ok(Reply::Refused(Refusal::RootsFull)),
+        Err(PlaceFault::HeapOutOfMemory(_)) => Ok(Reply::Refused(Refusal::GcHeapOutOfMemory)),
+        // An object without functions and continuations needs no ids.
+        Err(PlaceFault::FuncTableFull) => unreachable!(),
+        Err(PlaceFault::ContTableFull) => unreachable!(),
+        Err(PlaceFault::Memory) => Err(RunError::OutOfMemory),
+    }
+}
 
+impl Runner {
     /// Makes an object with the fields of a type, of these values, and puts it into register `d`.
     pub(crate) fn make_fields<H: GcHeap, L: ResourceLimiter>(
         &mut self,
@@ -114,26 +119,34 @@ impl Runner {
         ensures runs { (s : State) → HoldsState H.KIND store.old self.old s
             → RunsOn H.KIND store.old.alloc_counter (L.limits limiter.old) (L.limits limiter.new) s
             (making d (class_of request) (requested request operands.now)) (requested_tests H.KIND s request operands.now) result store.new self.new }
+        ensures cause { OnErr result ((s : State) → HoldsState H.KIND store.old self.old s
+            → IsUnrefused (first_failing (requested_tests H.KIND s request operands.now))) }
         ensures same { IsSameStore store.old store.new }
     {
         let Some(count) = fields_len(store.types(), &request) else {
             return Ok(Reply::Refused(Refusal::NoSuchName));
         };
-        let Ok(found) = operand_values(self.alloc, &self.registers, operands) else {
-            return Err(RunError::OutOfMemory);
-        };
-        let values = match found {
-            Some(values) => values,
-            None => return Ok(Reply::Refused(Refusal::NoSuchName)),
-        };
-        if values.len() != count {
+        if any_unset(&self.registers, operands) {
+            return Ok(Reply::Refused(Refusal::NoSuchName));
+        }
+        if operands.len() != count {
             return Ok(Reply::Refused(Refusal::FieldCount));
         }
-        let values = values.as_slice();
-        match check_values(store, &ValueTypes::Fields(type_of(&request)), values) {
-            Ok(()) => self.place(store, limiter, d, request, Contents::Each(values)),
-            Err(refusal) => Ok(Reply::Refused(refusal)),
+        let types = ValueTypes::Fields(type_of(&request));
+        if let Err(refusal) = check_operands(store, &self.registers, &types, operands) {
+            return Ok(Reply::Refused(refusal));
         }
+        if give_values(&mut self.values, &self.registers, operands).is_err() {
+            return Err(RunError::OutOfMemory);
+        }
+        place(
+            &mut self.registers,
+            store,
+            limiter,
+            d,
+            request,
+            Contents::Each(self.values.as_slice()),
+        )
     }
 
     /// Makes a struct of type `t`, and puts it into register `d`.
@@ -147,6 +160,7 @@ impl Runner {
     ) -> Result<Reply, RunError>
         ensures runs { (s : State) → HoldsState H.KIND store.old self.old s
             → RunsOne H.KIND store.old.alloc_counter (L.limits limiter.old) (L.limits limiter.new) s (Command.New d t operands.now) result store.new self.new }
+        ensures cause { OnErr result ((s : State) → HoldsState H.KIND store.old self.old s → MayWant H.KIND s (Command.New d t operands.now)) }
         ensures same { IsSameStore store.old store.new }
     {
         let ty = VMSharedTypeIndex::new(t);

@@ -4,11 +4,11 @@ ghost use Rattle.std.specs.Prelude.{◌≡◌, ℕ, Some, IfOk, IfSome};
 ghost use Rattle.gc_model.specs.Holds.{HoldsTable};
 ghost use Rattle.gc_model.specs.Table.{Table};
 ghost use Rattle.gc_model.specs.Values.{Reference};
-ghost use Rattle.gc_store.specs.Roots.{NamesReference};
+ghost use Rattle.gc_store.specs.Roots.{NamesReference, IsReference, FindsRoot};
 ghost use Rattle.gc_script.specs.State.{State, Stands};
 ghost use Rattle.gc_script.specs.Named.{takes, count_of_fields, described, type_at, IsNamed, IsNamedEverywhere, TellsObject, FindsObject};
 
-use crate::values::{handle_of, is_live};
+use crate::values::handle_of;
 use gc_commands::Refusal;
 use gc_heap::GcHeap;
 use gc_store::{GcRootIndex, RawValue, RootedObject, Store};
@@ -97,26 +97,22 @@ fn describe<H: GcHeap>(
     }
 }
 
-/// The object that a root names, where it is one of these.
+/// The object that a root names, of which the store told this, where it is one of these.
 fn object_of<H: GcHeap>(
     store: &Store<H, u64>,
     root: GcRootIndex,
     wanted: Wanted,
+    object: &RootedObject,
 ) -> Option<NamedObject>
-    ensures named { IfSome result (IsNamed H.KIND store.now wanted) }
+    ensures named { FindsRoot ℕ H.KIND store.now root object.now → IfSome result (IsNamed H.KIND store.now wanted) }
     ensures root { IfSome result (λ found. found.root ≡ root) }
-    ensures tells { (t : Table ℕ) (r : Reference) → HoldsTable H.KIND store.now t → NamesReference store.now t root r
+    ensures tells { (t : Table ℕ) (r : Reference) → HoldsTable H.KIND store.now t → NamesReference store.now t root r → IsReference t r object.now
         → TellsObject store.now t wanted r result }
 {
-    match &store.object(root) {
-        Ok(object) => {
-            if wanted.takes(object) {
-                describe(store, root, object)
-            } else {
-                None
-            }
-        }
-        Err(_) => None,
+    if wanted.takes(object) {
+        describe(store, root, object)
+    } else {
+        None
     }
 }
 
@@ -132,16 +128,16 @@ pub(crate) fn find_object<H: GcHeap>(
     ensures finds { (s : State) (r : ℕ) → HoldsTable H.KIND store.now s.table → Stands store.now s.table (Some value.now) (s.registers r)
         → FindsObject store.now s wanted r result }
 {
-    if !is_live(store, value) {
-        return Err(Refusal::Unrooted);
-    }
     let root = match handle_of(value) {
         Some(root) => root,
         None => return Err(Refusal::WrongKind),
     };
-    match object_of(store, root, wanted) {
-        Some(object) => Ok(object),
-        None => Err(Refusal::WrongKind),
+    match &store.object(root) {
+        Ok(object) => match object_of(store, root, wanted, object) {
+            Some(found) => Ok(found),
+            None => Err(Refusal::WrongKind),
+        },
+        Err(_) => Err(Refusal::Unrooted),
     }
 }
 

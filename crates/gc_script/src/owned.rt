@@ -1,12 +1,13 @@
 //! The commands on owned roots.
 
-ghost use Rattle.std.specs.Prelude.{◌≡◌, ℕ, Ok, Option};
+ghost use Rattle.std.specs.Prelude.{◌≡◌, ℕ, Ok, Option, OnErr};
 ghost use Rattle.gc_commands.specs.declared.command.Command.TheVariants as Command;
 ghost use Rattle.gc_model.specs.Table.{Table};
 ghost use Rattle.gc_policy.specs.Accounts.{Account, HoldsAccount};
 ghost use Rattle.gc_script.specs.State.{State, HeldOwned, StandsOwned, HoldsState};
 ghost use Rattle.gc_script.specs.Shapes.{give_up};
 ghost use Rattle.gc_script.specs.Run.{GoesOn};
+ghost use Rattle.gc_script.specs.Wants.{MayWant};
 ghost use Rattle.gc_store.specs.Stores.{IsSameStore};
 
 use crate::runner::{RunError, Runner};
@@ -44,6 +45,7 @@ impl Runner {
         r: u16,
     ) -> Result<Reply, RunError>
         ensures goes { (s : State) → HoldsState H.KIND store.old self.old s → GoesOn H.KIND s (Command.Own o r) result store.new self.new }
+        ensures cause { OnErr result ((s : State) → HoldsState H.KIND store.old self.old s → MayWant H.KIND s (Command.Own o r)) }
         ensures same { IsSameStore store.old store.new }
     {
         let (class, named) = match self.reference_in(store, r) {
@@ -78,6 +80,7 @@ impl Runner {
         o: u16,
     ) -> Result<Reply, RunError>
         ensures goes { (s : State) → HoldsState H.KIND store.old self.old s → GoesOn H.KIND s (Command.Root d o) result store.new self.new }
+        ensures cause { OnErr result ((s : State) → HoldsState H.KIND store.old self.old s → MayWant H.KIND s (Command.Root d o)) }
         ensures same { IsSameStore store.old store.new }
     {
         let held = match self.owned.get(o) {
@@ -93,6 +96,9 @@ impl Runner {
             Some(handle) => handle,
             None => return Ok(Reply::Refused(Refusal::Unrooted)),
         };
+        if store.object(handle).is_err() {
+            return Ok(Reply::Refused(Refusal::Unrooted));
+        }
         if self.registers.make_room(d).is_err() {
             return Err(RunError::OutOfMemory);
         }

@@ -1,14 +1,15 @@
 //! The commands that read values of objects, and what becomes of a value that was read.
 
-ghost use Rattle.std.specs.Prelude.{◌≡◌, ℕ, Some, Ok, OnOk};
+ghost use Rattle.std.specs.Prelude.{◌≡◌, ℕ, Some, Ok, OnOk, OnErr};
 ghost use Rattle.gc_commands.specs.declared.command.Command.TheVariants as Command;
 ghost use Rattle.gc_script.specs.State.{State, HoldsState};
 ghost use Rattle.gc_script.specs.Given.{holds_bytes};
-ghost use Rattle.gc_script.specs.Shapes.{plain, reads_value};
-ghost use Rattle.gc_script.specs.Steps.{reading_tests};
+ghost use Rattle.gc_script.specs.Shapes.{plain, reads_value, value_in};
+ghost use Rattle.gc_script.specs.Steps.{first_failing, reading_tests};
 ghost use Rattle.gc_script.specs.Run.{GoesOn, GoesBy};
+ghost use Rattle.gc_script.specs.Wants.{IsUnrefused, ReadTakes, MayWant};
 ghost use Rattle.gc_script.specs.Slots.{register_at};
-ghost use Rattle.gc_script.specs.Named.{wants, HasRoom, register_with};
+ghost use Rattle.gc_script.specs.Named.{wants, HasRoom, LacksRoom, register_with};
 ghost use Rattle.gc_script.specs.Values.{ShowsRead, registered};
 ghost use Rattle.gc_store.specs.Stores.{IsSameStore};
 
@@ -26,6 +27,7 @@ use std::alloc::AllocError;
 /// Makes room for a register, where one is named.
 pub(crate) fn make_room(registers: &mut Registers, into: Option<u16>) -> Result<(), AllocError>
     ensures room { OnOk result (HasRoom into registers.new) }
+    ensures had_none { OnErr result (LacksRoom into registers.old) }
     ensures same { (d : ℕ) → register_at registers.new d ≡ register_at registers.old d }
 {
     match into {
@@ -87,6 +89,8 @@ impl Runner {
     ) -> Result<Reply, RunError>
         ensures goes { (s : State) → HoldsState H.KIND store.old self.old s
             → GoesBy H.KIND s (plain (reads_value r i into)) (reading_tests (wants wanted) s r i) result store.new self.new }
+        ensures cause { OnErr result ((s : State) → HoldsState H.KIND store.old self.old s
+            → ReadTakes s (value_in s r i) into × IsUnrefused (first_failing (reading_tests (wants wanted) s r i))) }
         ensures same { IsSameStore store.old store.new }
     {
         let value = match self.registers.get(r) {
@@ -132,7 +136,8 @@ impl Runner {
         r: u16,
         len: u32,
     ) -> Result<Reply, RunError>
-        ensures { (s : State) → HoldsState H.KIND store.now self.now s → GoesOn H.KIND s (Command.ReadBytes r len) result store.now self.now }
+        ensures goes { (s : State) → HoldsState H.KIND store.now self.now s → GoesOn H.KIND s (Command.ReadBytes r len) result store.now self.now }
+        ensures cause { OnErr result ((s : State) → HoldsState H.KIND store.now self.now s → MayWant H.KIND s (Command.ReadBytes r len)) }
     {
         let value = match self.registers.get(r) {
             Some(value) => value,

@@ -1,6 +1,6 @@
 //! The registers of a session.
 
-ghost use Rattle.std.specs.Prelude.{◌≡◌, ◌≢◌, ◌<◌, ◌≤◌, ℕ, length, Some, None, OnOk, [], slice_set};
+ghost use Rattle.std.specs.Prelude.{◌≡◌, ◌≢◌, ◌<◌, ◌≤◌, ℕ, length, Some, None, OnOk, OnErr, [], slice_set};
 ghost use Rattle.gc_script.specs.Slots.{register_at};
 
 use gc_store::RawValue;
@@ -26,6 +26,7 @@ impl Model for Registers {
 /// Adds unset registers until there are so many.
 fn extend_to(slots: &mut Vec<Option<RawValue>>, wanted: usize) -> Result<(), AllocError>
     ensures room { OnOk result (wanted ≤ length slots.new.items) }
+    ensures had_less { OnErr result (length slots.old.items < wanted) }
     ensures same { (d : ℕ) → register_at slots.new.items d ≡ register_at slots.old.items d }
 {
     let present = slots.len();
@@ -58,6 +59,7 @@ impl Registers {
     /// Makes room for the register, which stays unset.
     pub(crate) fn make_room(&mut self, number: u16) -> Result<(), AllocError>
         ensures room { OnOk result (number < length self.new) }
+        ensures had_none { OnErr result (length self.old ≤ number) }
         ensures same { (d : ℕ) → register_at self.new d ≡ register_at self.old d }
     {
         extend_to(&mut self.slots, number as usize + 1)

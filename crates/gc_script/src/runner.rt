@@ -6,6 +6,7 @@ ghost use Rattle.gc_script.specs.Slots.{new_runner};
 ghost use Rattle.gc_script.specs.State.{State, HoldsState};
 ghost use Rattle.gc_script.specs.Shapes.{is_collection};
 ghost use Rattle.gc_script.specs.Run.{RunsOne, GoesOn, asks_nothing, TakesMemory};
+ghost use Rattle.gc_script.specs.Wants.{MayWant};
 ghost use Rattle.gc_store.specs.Stores.{IsSameStore};
 
 use crate::built::is_built;
@@ -13,7 +14,7 @@ use crate::objects::Wanted;
 use crate::registers::Registers;
 use gc_commands::{Command, Refusal, Reply};
 use gc_heap::GcHeap;
-use gc_store::{ResourceLimiter, Store};
+use gc_store::{RawValue, ResourceLimiter, Store};
 use std::alloc::Global;
 use std::marker::Model;
 use thiserror::Error;
@@ -36,6 +37,8 @@ pub struct Runner {
     pub(crate) owned: Registers,
     /// The numbers of roots with which the open scopes were entered, the oldest first.
     pub(crate) marks: Vec<usize>,
+    /// The values of the command that made an object last; the next such command uses their room again.
+    pub(crate) values: Vec<RawValue>,
 }
 
 impl Model for Runner {
@@ -56,6 +59,7 @@ impl Runner {
             registers: Registers::new(alloc),
             owned: Registers::new(alloc),
             marks: Vec::new(alloc),
+            values: Vec::new(alloc),
         }
     }
 
@@ -63,7 +67,9 @@ impl Runner {
     /// error is want of memory, which leaves the table as it was, but that a command which makes an object
     /// and `grow` may have collected and got the heap pages. It comes of no command that takes no memory:
     /// `len`, `data`, `setf`, `sete`, `eq`, `leave`, `pop`, `store`, `gset`, `unroot`, `throw`, `gc`, `gcinc`,
-    /// `gcdrop`, `cap`, and those that are none.
+    /// `gcdrop`, `cap`, and those that are none; nor of one that a test refuses, but for `TooLarge` and `RootsFull`,
+    /// which the store tells once the register has its room. `field`, `elem`, `load` and `gget` take some where
+    /// they make a root or their register was never set, and `take` where an exception is pending or it never was.
     /// The time is linear in the command's length and in the number of the register that it sets, beside
     /// that of a collection and of new memory, and for `leave` in the roots that it drops.
     pub fn run_one<H: GcHeap, L: ResourceLimiter>(
@@ -75,6 +81,7 @@ impl Runner {
         ensures runs { (s : State) → HoldsState H.KIND store.old self.old s
             → RunsOne H.KIND store.old.alloc_counter (L.limits limiter.old) (L.limits limiter.new) s command.now result store.new self.new }
         ensures memory { OnErr result (TakesMemory command.now) }
+        ensures cause { OnErr result ((s : State) → HoldsState H.KIND store.old self.old s → MayWant H.KIND s command.now) }
         ensures kept { is_collection command.now ≡ true → OnOk result ((s : State) → HoldsState H.KIND store.old self.old s
             → HoldsKept H.KIND store.new s.table) }
         ensures same { IsSameStore store.old store.new }
@@ -116,6 +123,7 @@ impl Runner {
         requires { asks_nothing command.now ≡ true }
         ensures goes { (s : State) → HoldsState H.KIND store.old self.old s → GoesOn H.KIND s command.now result store.new self.new }
         ensures memory { OnErr result (TakesMemory command.now) }
+        ensures cause { OnErr result ((s : State) → HoldsState H.KIND store.old self.old s → MayWant H.KIND s command.now) }
         ensures same { IsSameStore store.old store.new }
     {
         match command {

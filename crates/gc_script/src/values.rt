@@ -1,13 +1,14 @@
 //! The values that commands give, by operands and registers.
 
-ghost use Rattle.std.specs.Prelude.{◌≡◌, ℕ, false, List, Option, Some, IsTrue, OnOk, IfOk, IfSome, IfNone};
+ghost use Rattle.std.specs.Prelude.{◌≡◌, ℕ, false, List, Option, Some, is_ok, IsTrue, OnOk, IfOk};
 ghost use Rattle.gc_model.specs.Holds.{HoldsTable};
 ghost use Rattle.gc_model.specs.Table.{Table};
 ghost use Rattle.gc_commands.specs.declared.command.Operand.{Operand};
 ghost use Rattle.gc_store.specs.Values.{NamesLive};
 ghost use Rattle.gc_script.specs.State.{State, Held, Stands};
 ghost use Rattle.gc_script.specs.Given.{held_operand, given_held};
-ghost use Rattle.gc_script.specs.Values.{HoldsOperand, HoldsOperands, HasUnset, AllHeld, raw_handle, raw_slot, is_opaque, IsFound, CanStoreAs, AllStorable};
+ghost use Rattle.gc_script.specs.Values.{HoldsOperand, raw_operand, set_operand, set_operands, HasUnset, AreSet, AllHeld};
+ghost use Rattle.gc_script.specs.Values.{raw_handle, raw_slot, TellsHandle, is_opaque, AllPlain, IsFound, CanStoreAs, AllStorable};
 ghost use Rattle.gc_script.specs.Values.{ChecksValue, ChecksValues};
 
 use crate::fits::fits;
@@ -15,13 +16,14 @@ use crate::objects::{ValueTypes, type_at};
 use crate::registers::Registers;
 use gc_commands::{Operand, Refusal};
 use gc_heap::GcHeap;
-use gc_store::{GcClass, GcRootIndex, RawValue, Store};
+use gc_store::{GcClass, GcRootIndex, RawValue, RootedObject, Store};
 use gc_types::FieldType;
-use std::alloc::{AllocError, Global};
+use std::alloc::AllocError;
 
 /// What an operand holds; None where it is a register that is unset.
 pub(crate) fn operand_value(registers: &Registers, operand: &Operand) -> Option<RawValue>
-    ensures { HoldsOperand registers.now operand.now result }
+    ensures is { result ≡ raw_operand registers.now operand.now }
+    ensures holds { HoldsOperand registers.now operand.now result }
 {
     match *operand {
         Operand::I32(number) => Some(RawValue::I32(number)),
@@ -36,23 +38,42 @@ pub(crate) fn operand_value(registers: &Registers, operand: &Operand) -> Option<
     }
 }
 
-/// What the operands hold; None where some register is unset.
-pub(crate) fn operand_values(
-    alloc: Global,
+/// What an operand holds; null where it is a register that is unset.
+fn value_or_null(registers: &Registers, operand: &Operand) -> RawValue
+    ensures { result ≡ set_operand registers.now operand.now }
+{
+    match operand_value(registers, operand) {
+        Some(value) => value,
+        None => RawValue::Ref(GcClass::Any, None),
+    }
+}
+
+/// Whether some operand is a register that is unset.
+pub(crate) fn any_unset(registers: &Registers, operands: &[Operand]) -> bool
+    ensures unset { IsTrue result → HasUnset registers.now operands.now }
+    ensures set { result ≡ false → AreSet registers.now operands.now }
+{
+    for operand in operands {
+        if operand_value(registers, operand).is_none() {
+            return true;
+        }
+    }
+    false
+}
+
+/// Makes a list that of the values of operands, none of which is a register that is unset. Its room is used again.
+pub(crate) fn give_values(
+    values: &mut Vec<RawValue>,
     registers: &Registers,
     operands: &[Operand],
-) -> Result<Option<Vec<RawValue>>, AllocError>
-    ensures set { IfOk result (λ found. IfSome found (λ values. HoldsOperands registers.now operands.now values.items)) }
-    ensures unset { IfOk result (λ found. IfNone found (HasUnset registers.now operands.now)) }
+) -> Result<(), AllocError>
+    ensures { OnOk result (values.new.items ≡ set_operands registers.now operands.now) }
 {
-    let mut values = Vec::with_capacity(alloc, operands.len())?;
+    values.clear();
     for operand in operands {
-        let Some(value) = operand_value(registers, operand) else {
-            return Ok(None);
-        };
-        values.extend_from_slice(&[value])?;
+        values.extend_from_slice(&[value_or_null(registers, operand)])?;
     }
-    Ok(Some(values))
+    Ok(())
 }
 
 /// The handle that a value is, where it is one.
@@ -82,18 +103,41 @@ pub(crate) fn is_opaque(value: &RawValue) -> bool
     matches!(value, RawValue::Func(_) | RawValue::Cont(_))
 }
 
-/// Whether a value is a number, null, or the handle of a live root. No function and no continuation stands in a
-/// register.
+/// What a value names: nothing where it is a number or null. `Unrooted` where its root is gone. No function and no
+/// continuation stands in a register.
+fn named_by<H: GcHeap>(
+    store: &Store<H, u64>,
+    value: &RawValue,
+) -> Result<Option<RootedObject>, Refusal>
+    ensures live { OnOk result (NamesLive ℕ H.KIND store.now value.now) }
+    ensures plain { OnOk result (is_opaque value.now ≡ false) }
+    ensures tells { IfOk result (λ object. (t : Table ℕ) → HoldsTable H.KIND store.now t → TellsHandle store.now t (raw_handle value.now) object) }
+    ensures found { (t : Table ℕ) (held : Option Held) → HoldsTable H.KIND store.now t → Stands store.now t (Some value.now) held
+        → IsFound store.now t value.now (given_held t held) (is_ok result) }
+{
+    match handle_of(value) {
+        Some(handle) => match store.object(handle) {
+            Ok(object) => Ok(Some(object)),
+            Err(_) => Err(Refusal::Unrooted),
+        },
+        None => {
+            if is_opaque(value) {
+                Err(Refusal::Unrooted)
+            } else {
+                Ok(None)
+            }
+        }
+    }
+}
+
+/// Whether a value is a number, null, or the handle of a live root.
 pub(crate) fn is_live<H: GcHeap>(store: &Store<H, u64>, value: &RawValue) -> bool
     ensures live { IsTrue result → NamesLive ℕ H.KIND store.now value.now }
     ensures plain { IsTrue result → is_opaque value.now ≡ false }
     ensures found { (t : Table ℕ) (held : Option Held) → HoldsTable H.KIND store.now t → Stands store.now t (Some value.now) held
         → IsFound store.now t value.now (given_held t held) result }
 {
-    match handle_of(value) {
-        Some(handle) => store.object(handle).is_ok(),
-        None => !is_opaque(value),
-    }
+    named_by(store, value).is_ok()
 }
 
 /// Whether a value may go into a field or an element of that type: `Unrooted` where its root is gone, then
@@ -108,32 +152,36 @@ pub(crate) fn check_value<H: GcHeap>(
     ensures checks { (s : State) (v : Operand) → HoldsTable H.KIND store.now s.table → Stands store.now s.table (Some value.now) (held_operand s v)
         → ChecksValue store.now s field v value.now result }
 {
-    if !is_live(store, value) {
+    let Ok(object) = named_by(store, value) else {
         return Err(Refusal::Unrooted);
-    }
+    };
     let field = match field {
         Some(field) => field,
         None => return Err(Refusal::TypeMismatch),
     };
-    if fits(store, field.element_type, value) {
+    if fits(store, field.element_type, value, &object) {
         Ok(())
     } else {
         Err(Refusal::TypeMismatch)
     }
 }
 
-/// Whether the values may go into fields or elements of these types; the first that may not says why.
-pub(crate) fn check_values<H: GcHeap>(
+/// Whether the values of operands, none of which is a register that is unset, may go into fields or elements of these
+/// types; the first that may not says why.
+pub(crate) fn check_operands<H: GcHeap>(
     store: &Store<H, u64>,
+    registers: &Registers,
     types: &ValueTypes,
-    values: &[RawValue],
+    operands: &[Operand],
 ) -> Result<(), Refusal>
-    ensures stores { OnOk result (AllStorable H.KIND store.now types.now values.now) }
-    ensures checks { (s : State) (vs : List Operand) → HoldsTable H.KIND store.now s.table → AllHeld store.now s vs values.now
-        → ChecksValues store.now s types.now vs values.now result }
+    ensures stores { OnOk result (AllStorable H.KIND store.now types.now (set_operands registers.now operands.now)) }
+    ensures plain { OnOk result (AllPlain (set_operands registers.now operands.now)) }
+    ensures checks { (s : State) (vs : List Operand) → HoldsTable H.KIND store.now s.table → AllHeld store.now s vs (set_operands registers.now operands.now)
+        → ChecksValues store.now s types.now vs (set_operands registers.now operands.now) result }
 {
-    for (index, value) in values.iter().enumerate() {
-        check_value(store, type_at(store, types, index), value)?;
+    for (index, operand) in operands.iter().enumerate() {
+        let value = value_or_null(registers, operand);
+        check_value(store, type_at(store, types, index), &value)?;
     }
     Ok(())
 }

@@ -59,21 +59,6 @@ fn matches<H: GcHeap, D: Drop>(store: &Store<H, D>, own: HeapType, ty: &RefType)
     types.matches_ref(&own, ty)
 }
 
-/// Whether an object, as a reference of that class, fits the type.
-fn object_fits<H: GcHeap, D: Drop>(
-    store: &Store<H, D>,
-    ty: &RefType,
-    class: GcClass,
-    object: &RootedObject,
-) -> bool
-    ensures { result ≡ own_fits (supertypes_of store.now.types) (own_type class object.now) ty.now.heap_type }
-{
-    match own_type(class, object) {
-        Some(own) => matches(store, own, ty),
-        None => false,
-    }
-}
-
 /// Whether a reference fits the type: null, or what a live root names.
 fn reference_fits<H: GcHeap, D: Drop>(
     store: &Store<H, D>,
@@ -89,7 +74,7 @@ fn reference_fits<H: GcHeap, D: Drop>(
         None => return null_fits(ty, class),
     };
     match &store.object(handle) {
-        Ok(object) => object_fits(store, ty, class, object),
+        Ok(object) => store.object_fits(ty, class, object),
         Err(_) => false,
     }
 }
@@ -115,6 +100,16 @@ fn cont_fits(ty: &RefType, cont: &Option<u64>) -> bool
 }
 
 impl<H: GcHeap, D: Drop> Store<H, D> {
+    /// Whether an object, as a reference of that class, fits the type: where the type that it has by itself matches it.
+    pub fn object_fits(&self, ty: &RefType, class: GcClass, object: &RootedObject) -> bool
+        ensures { result ≡ own_fits (supertypes_of self.now.types) (own_type class object.now) ty.now.heap_type }
+    {
+        match own_type(class, object) {
+            Some(own) => matches(self, own, ty),
+            None => false,
+        }
+    }
+
     /// Whether a value fits a type, as the WebAssembly GC proposal matches value types: a number its own, null each nullable
     /// type of its class, what a handle names the type that the object has by itself and all above that. Where a handle's
     /// root isn't live, it fits none.

@@ -1,35 +1,24 @@
-use Rattle.std.proofs.Common.{◌≡◌, ℕ, Option, sym, ◌∙◌, subst}
-use Rattle.std.specs.Prelude.{Result, IfOk, IfSome}
-use Rattle.gc_store.specs.declared.root.RootFault.{RootFault}
-use Rattle.gc_store.specs.declared.root.RootedObject.{RootedObject}
-use Rattle.gc_store.specs.Roots.{TellsReference, FindsRoot}
+use Rattle.std.proofs.Common.{◌≡◌, Option, sym, ◌∙◌, subst}
+use Rattle.std.specs.Prelude.{IfSome}
 use Rattle.gc_script.specs.declared.objects.NamedObject.{NamedObject}
 use Rattle.gc_script.specs.Named.{TellsObject, IsNamed}
 use Rattle.gc_script.proofs.ObjectLemmas.{found_named, tells_taken, tells_other, described_root}
 use Rattle.gc_script.proofs.objects.object_of.Goals as goal
 
 pub returns-then-takes-clause-named : goal.returns-then-takes-clause-named
-returns-then-takes-clause-named g c =
+returns-then-takes-clause-named g c finds =
     subst (λ (o : Option NamedObject). IfSome o (IsNamed g.H.GcHeap.KIND c.args.store.now c.args.wanted)) (sym c.describe.ensures)
-    (found_named g.H.GcHeap.KIND c.args.store.now c.args.root c.args.wanted c.in-Ok.object
-    (subst (λ (a : Result RootedObject RootFault). IfOk a (FindsRoot ℕ g.H.GcHeap.KIND c.args.store.now c.args.root)) c.in-Ok.is c.object.ensures.found)
-    (sym c.takes.ensures ∙ c.if-takes.true))
+    (found_named g.H.GcHeap.KIND c.args.store.now c.args.root c.args.wanted c.args.object.now finds (sym c.takes.ensures ∙ c.if-takes.true))
 
 pub returns-then-takes-clause-tells : goal.returns-then-takes-clause-tells
-returns-then-takes-clause-tells g c t r holds named =
+returns-then-takes-clause-tells g c t r holds named is =
     subst (TellsObject c.args.store.now t c.args.wanted r) (sym c.describe.ensures)
-    (tells_taken g.H.GcHeap.KIND c.args.store.now t holds c.args.root c.args.wanted c.in-Ok.object r named
-    (subst (λ (a : Result RootedObject RootFault). TellsReference t r a) c.in-Ok.is (c.object.ensures.live t r holds named)) (sym c.takes.ensures ∙ c.if-takes.true))
+    (tells_taken g.H.GcHeap.KIND c.args.store.now t holds c.args.root c.args.wanted c.args.object.now r named is (sym c.takes.ensures ∙ c.if-takes.true))
 
 pub returns-else-takes-clause-tells : goal.returns-else-takes-clause-tells
-returns-else-takes-clause-tells g c t r holds named =
-    tells_other g.H.GcHeap.KIND c.args.store.now t holds c.args.root c.args.wanted c.in-Ok.object r
-    (subst (λ (a : Result RootedObject RootFault). TellsReference t r a) c.in-Ok.is (c.object.ensures.live t r holds named)) (sym c.takes.ensures ∙ c.if-takes.false)
-
-pub returns-in-Err-clause-tells : goal.returns-in-Err-clause-tells
-returns-in-Err-clause-tells g c t r holds named =
-    absurd (subst (λ (a : Result RootedObject RootFault). TellsReference t r a) c.in-Err.is (c.object.ensures.live t r holds named))
+returns-else-takes-clause-tells g c t r holds named is =
+    tells_other g.H.GcHeap.KIND c.args.store.now t holds c.args.root c.args.wanted c.args.object.now r is (sym c.takes.ensures ∙ c.if-takes.false)
 
 pub returns-then-takes-clause-root : goal.returns-then-takes-clause-root
 returns-then-takes-clause-root g c =
-    subst (λ (o : Option NamedObject). IfSome o (λ (found : NamedObject). found.root ≡ c.args.root)) (sym c.describe.ensures) (described_root c.args.store.now.types c.args.root c.in-Ok.object)
+    subst (λ (o : Option NamedObject). IfSome o (λ (found : NamedObject). found.root ≡ c.args.root)) (sym c.describe.ensures) (described_root c.args.store.now.types c.args.root c.args.object.now)

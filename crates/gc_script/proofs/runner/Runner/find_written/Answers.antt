@@ -24,13 +24,13 @@ target_set g c s holds = is_set c.args.store.now s.table c.in-Some.value (s.regi
 
 -- what the operand holds
 value_stands : (g : given.Over) (c : After-find_object g) (s : State) → HoldsState g.H.GcHeap.KIND c.args.store.now c.args.self.now s → Stands c.args.store.now s.table (Some c.in-Some-operand_value.value) (held_operand s c.args.operand.now)
-value_stands g c s holds = c.in-Some-operand_value.ensures c.args.store.now s (are_registers g (goal.at.After-find_object g c).After-operand_value s holds)
+value_stands g c s holds = c.in-Some-operand_value.ensures.holds c.args.store.now s (are_registers g (goal.at.After-find_object g c).After-operand_value s holds)
 
 pub returns-in-None-operand_value-clause-finds : goal.returns-in-None-operand_value-clause-finds
 returns-in-None-operand_value-clause-finds g c s holds =
     let at = (goal.at.returns-in-None-operand_value-clause-finds g c).After-operand_value in
     no_operand s c.args.wanted c.args.r c.args.operand.now (target_set g at s holds)
-    (unset_held c.args.store.now s.table (held_operand s c.args.operand.now) (c.in-None-operand_value.ensures c.args.store.now s (are_registers g at s holds)))
+    (unset_held c.args.store.now s.table (held_operand s c.args.operand.now) (c.in-None-operand_value.ensures.holds c.args.store.now s (are_registers g at s holds)))
 
 pub returns-in-Ok-clause-finds : goal.returns-in-Ok-clause-finds
 returns-in-Ok-clause-finds g c s holds =

@@ -1,4 +1,4 @@
-use Rattle.std.proofs.Common.{ℕ, Some, ap, ◌∙◌, subst}
+use Rattle.std.proofs.Common.{ℕ, Some, ap, ◌∙◌, subst, inl, inr, sym}
 use Rattle.std.specs.Prelude.{Ok, Err}
 use Rattle.gc_commands.specs.declared.command.Command.TheVariants as command
 use Rattle.gc_commands.specs.declared.reply.Reply.TheVariants as reply
@@ -7,6 +7,9 @@ use Rattle.gc_store.specs.declared.globals.SlotFault.{SlotFault}
 use Rattle.gc_store.specs.declared.root.RawValue.TheVariants as raw
 use Rattle.gc_store.specs.Slots.{ReadsSlot}
 use Rattle.gc_model.specs.Globals.{global_at}
+use Rattle.gc_script.specs.Wants.{MayWant}
+use Rattle.gc_script.proofs.ResultLemmas.{failed}
+use Rattle.gc_script.proofs.WantLemmas.{new_register, slot_makes, get_global_may}
 use Rattle.gc_script.proofs.FrameGoes.{global_there, get_global_goes}
 use Rattle.gc_script.specs.Slots.{RunnerView, register_at}
 use Rattle.gc_script.specs.State.{State}
@@ -37,3 +40,15 @@ returns-in-Err-RootsFull-clause-goes g c s holds =
     (ap (λ (x : RunnerView). x.rest) c.self.view_is)
     (λ k. c.make_room.ensures.same k ∙ ap (λ (x : RunnerView). register_at x.registers k) c.self.view_is)
     told.0 told.1.0 told.1.1))
+
+pub returns-then-is_err-clause-cause : goal.returns-then-is_err-clause-cause
+returns-then-is_err-clause-cause g c s holds =
+    let there = global_there g.H.GcHeap.KIND c.args.store.now s.table (holds_table holds.table) c.from-global.result c.if-global-ge-GLOBAL_COUNT.false in
+    subst (λ (n : ℕ). MayWant g.H.GcHeap.KIND s (command.GetGlobal n c.args.d)) c.from-global.ensures
+    (get_global_may g.H.GcHeap.KIND s c.from-global.result c.args.d there.0 (inr (new_register g.H.GcHeap.KIND c.args.store.now c.args.self.now _ s c.self.view_is holds (Some c.args.d) (failed c.make_room.result (sym c.is_err.ensures.value ∙ c.if-is_err.true) c.make_room.ensures.had_none))) there.1)
+
+pub returns-in-Err-clause-cause : goal.returns-in-Err-clause-cause
+returns-in-Err-clause-cause g c s holds =
+    let there = global_there g.H.GcHeap.KIND c.args.store.now s.table (holds_table holds.table) c.from-global.result c.if-global-ge-GLOBAL_COUNT.false in
+    subst (λ (n : ℕ). MayWant g.H.GcHeap.KIND s (command.GetGlobal n c.args.d)) c.from-global.ensures
+    (get_global_may g.H.GcHeap.KIND s c.from-global.result c.args.d there.0 (inl (slot_makes g.H.GcHeap.KIND s.table s.account there.0 c.in-Err.field-0 c.global_get.new.self (c.in-Err.ensures.reads s.table s.account there.0 holds.table there.1))) there.1)

@@ -1,4 +1,4 @@
-use Rattle.std.proofs.Common.{ℕ, Some, ap, ◌∙◌, subst}
+use Rattle.std.proofs.Common.{ℕ, Some, ap, ◌∙◌, subst, inl, inr, sym}
 use Rattle.std.specs.Prelude.{Ok, Err}
 use Rattle.gc_commands.specs.declared.command.Command.TheVariants as command
 use Rattle.gc_commands.specs.declared.reply.Reply.TheVariants as reply
@@ -8,6 +8,9 @@ use Rattle.gc_store.specs.declared.root.RawValue.TheVariants as raw
 use Rattle.gc_store.specs.Slots.{ReadsSlot}
 use Rattle.gc_store.proofs.FrameLemmas.{slot_found, slot_missing}
 use Rattle.gc_model.specs.Frames.{slot_at}
+use Rattle.gc_script.specs.Wants.{MayWant}
+use Rattle.gc_script.proofs.ResultLemmas.{failed}
+use Rattle.gc_script.proofs.WantLemmas.{new_register, slot_makes, load_may}
 use Rattle.gc_script.proofs.FrameGoes.{load_goes, no_slot_read}
 use Rattle.gc_script.specs.Slots.{RunnerView, register_at}
 use Rattle.gc_script.specs.State.{State}
@@ -47,3 +50,17 @@ returns-in-Err-RootsFull-clause-goes g c s holds =
     (ap (λ (x : RunnerView). x.rest) c.self.view_is)
     (λ k. c.make_room.ensures.same k ∙ ap (λ (x : RunnerView). register_at x.registers k) c.self.view_is)
     told.0 told.1.0 told.1.1))
+
+pub returns-then-is_err-clause-cause : goal.returns-then-is_err-clause-cause
+returns-then-is_err-clause-cause g c s holds =
+    let table = holds_table holds.table in
+    let there = slot_found g.H.GcHeap.KIND c.args.store.now s.table table.0 table.1 c.from-slot.result c.has_slot.result c.has_slot.ensures c.if-not-has_slot.false in
+    subst (λ (n : ℕ). MayWant g.H.GcHeap.KIND s (command.Load n c.args.d)) c.from-slot.ensures
+    (load_may g.H.GcHeap.KIND s c.from-slot.result c.args.d there.0 (inr (new_register g.H.GcHeap.KIND c.args.store.now c.args.self.now _ s c.self.view_is holds (Some c.args.d) (failed c.make_room.result (sym c.is_err.ensures.value ∙ c.if-is_err.true) c.make_room.ensures.had_none))) there.1)
+
+pub returns-in-Err-clause-cause : goal.returns-in-Err-clause-cause
+returns-in-Err-clause-cause g c s holds =
+    let table = holds_table holds.table in
+    let there = slot_found g.H.GcHeap.KIND c.args.store.now s.table table.0 table.1 c.from-slot.result c.has_slot.result c.has_slot.ensures c.if-not-has_slot.false in
+    subst (λ (n : ℕ). MayWant g.H.GcHeap.KIND s (command.Load n c.args.d)) c.from-slot.ensures
+    (load_may g.H.GcHeap.KIND s c.from-slot.result c.args.d there.0 (inl (slot_makes g.H.GcHeap.KIND s.table s.account there.0 c.in-Err.field-0 c.slot_get.new.self (c.in-Err.ensures.reads s.table s.account there.0 holds.table there.1))) there.1)

@@ -1,12 +1,12 @@
 use Rattle.std.proofs.Common.{◌≡◌, ℕ, List, Some, false, sym, ap, ◌∙◌, subst, refl, arith}
 use Rattle.gc_types.specs.Declarations.{Declaration, elem_at}
 use Rattle.gc_types.specs.declared.types.Types.{Types}
-use Rattle.gc_store.specs.Requests.{element_of}
 use Rattle.gc_commands.specs.declared.command.Command.TheVariants.{NewArr}
 use Rattle.gc_commands.specs.declared.reply.Refusal.TheVariants as refusal
 use Rattle.gc_commands.specs.declared.reply.Reply.TheVariants as reply
 use Rattle.std.specs.Prelude.{Ok}
-use Rattle.gc_script.specs.Slots.{register_at}
+use Rattle.gc_script.specs.Slots.{RunnerView, with_registers, register_at}
+use Rattle.gc_script.specs.Wants.{MayWant}
 use Rattle.gc_script.specs.State.{State, HoldsState, Stands}
 use Rattle.gc_script.specs.Given.{held_operand, given, given_value, is_unset}
 use Rattle.gc_script.specs.Steps.{heap_tests}
@@ -18,7 +18,8 @@ use Rattle.gc_script.proofs.StandLemmas.{holds_table, register_held}
 use Rattle.gc_script.proofs.WriteLemmas.{is_set}
 use Rattle.gc_script.proofs.GoesLemmas.{refused_runs}
 use Rattle.gc_script.proofs.MakeTests.{runs_rest, array_unset, array_refused, array_heap, empty_heap}
-use Rattle.gc_script.proofs.PlainValues.{filled_plain}
+use Rattle.gc_script.proofs.ResultLemmas.{on_any_err}
+use Rattle.gc_script.proofs.WantLemmas.{room_may}
 use Rattle.gc_script.proofs.runner.Runner.make_filled.Given as given
 use Rattle.gc_script.proofs.runner.Runner.make_filled.Goals as goal
 use Rattle.gc_script.proofs.runner.Runner.make_filled.Goals.{After-operand_value, In-Some-operand_value, then-len-gt0+in_default-check_value, else-len-gt0}
@@ -36,7 +37,7 @@ are_registers g c s holds d = register_held g.H.GcHeap.KIND c.args.store.now c.a
 
 -- what the operand holds
 stands : (g : given.Over) (c : In-Some-operand_value g) (s : State) → HoldsState g.H.GcHeap.KIND c.args.store.now c.args.self.now s → Stands c.args.store.now s.table (Some c.in-Some-operand_value.value) (held_operand s c.args.operand.now)
-stands g c s holds = c.in-Some-operand_value.ensures c.args.store.now s (are_registers g (goal.at.In-Some-operand_value g c).After-operand_value s holds)
+stands g c s holds = c.in-Some-operand_value.ensures.holds c.args.store.now s (are_registers g (goal.at.In-Some-operand_value g c).After-operand_value s holds)
 
 set : (g : given.Over) (c : In-Some-operand_value g) (s : State) → HoldsState g.H.GcHeap.KIND c.args.store.now c.args.self.now s → is_unset (given s c.args.operand.now) ≡ false
 set g c s holds = is_set c.args.store.now s.table c.in-Some-operand_value.value (held_operand s c.args.operand.now) (stands g c s holds)
@@ -47,7 +48,7 @@ returns-in_default-operand_value-clause-runs g c s holds =
     subst (λ (ty : ℕ). RunsOne g.H.GcHeap.KIND c.args.store.now.alloc_counter (g.L.ResourceLimiter.limits c.args.limiter.now) (g.L.ResourceLimiter.limits c.args.limiter.now) s (NewArr c.args.d ty c.args.len c.args.operand.now) (Ok (reply.Refused refusal.NoSuchName)) c.args.store.now c.args.self.now) c.new-ty.ensures
     (refused_runs g.H.GcHeap.KIND c.args.store.now.alloc_counter (g.L.ResourceLimiter.limits c.args.limiter.now) s (NewArr c.args.d c.new-ty.result c.args.len c.args.operand.now) refusal.NoSuchName c.args.store.now c.args.self.now holds
     (array_unset g.H.GcHeap.KIND s c.args.d c.new-ty.result c.args.len c.args.operand.now c.in-Some.element (known g at s.table.types holds.table.holds.types)
-    (ap is_unset (unset_held c.args.store.now s.table (held_operand s c.args.operand.now) (c.in_default-operand_value.ensures c.args.store.now s (are_registers g at s holds))))))
+    (ap is_unset (unset_held c.args.store.now s.table (held_operand s c.args.operand.now) (c.in_default-operand_value.ensures.holds c.args.store.now s (are_registers g at s holds))))))
 
 pub returns-in-Err-clause-runs : goal.returns-in-Err-clause-runs
 returns-in-Err-clause-runs g c s holds =
@@ -65,17 +66,39 @@ returns-clause-runs g c s holds =
     let declared = known g at s.table.types holds.table.holds.types in
     elim c.if-len-gt0.branch [
       | then-len-gt0+in_default-check_value w ↦
-          subst (λ (ty : ℕ). RunsOne g.H.GcHeap.KIND c.args.store.now.alloc_counter (g.L.ResourceLimiter.limits c.args.limiter.now) (g.L.ResourceLimiter.limits c.place.new.limiter) s (NewArr c.args.d ty c.args.len c.args.operand.now) c.place.result c.place.new.store c.place.new.self) c.new-ty.ensures
+          subst (λ (ty : ℕ). RunsOne g.H.GcHeap.KIND c.args.store.now.alloc_counter (g.L.ResourceLimiter.limits c.args.limiter.now) (g.L.ResourceLimiter.limits c.place.new.limiter) s (NewArr c.args.d ty c.args.len c.args.operand.now) c.place.result c.place.new.store (with_registers c.place.new.registers (record { owned = c.self.inside.owned; marks = c.self.inside.marks.items }))) c.new-ty.ensures
           (runs_rest g.H.GcHeap.KIND c.args.store.now.alloc_counter (g.L.ResourceLimiter.limits c.args.limiter.now) (g.L.ResourceLimiter.limits c.place.new.limiter) s (NewArr c.args.d c.new-ty.result c.args.len c.args.operand.now)
-          (heap_tests g.H.GcHeap.KIND s (new_array s c.new-ty.result c.args.len c.args.operand.now)) c.place.result c.place.new.store c.place.new.self
+          (heap_tests g.H.GcHeap.KIND s (new_array s c.new-ty.result c.args.len c.args.operand.now)) c.place.result c.place.new.store (with_registers c.place.new.registers (record { owned = c.self.inside.owned; marks = c.self.inside.marks.items }))
           (array_heap g.H.GcHeap.KIND s c.args.d c.new-ty.result c.args.len c.args.operand.now c.in-Some.element declared (set g at_value s holds) w.if-len-gt0.true (w.in_default-check_value.ensures.checks s c.args.operand.now (holds_table holds.table) (stands g at_value s holds)).0)
-          (c.place.ensures.runs s (λ (x : State). new_array x c.new-ty.result c.args.len c.args.operand.now) holds (given_value (given s c.args.operand.now), ((λ some. (w.in_default-check_value.ensures.checks s c.args.operand.now (holds_table holds.table) (stands g at_value s holds)).1), refl))
-          (filled_plain g.H.GcHeap.KIND c.args.store.now c.args.self.now s holds (element_of s.table.types c.new-ty.result) c.args.len c.args.operand.now)))
+          (c.place.ensures.runs s (record { owned = c.self.inside.owned; marks = c.self.inside.marks.items }) (λ (x : State). new_array x c.new-ty.result c.args.len c.args.operand.now) (subst (λ (r : RunnerView). HoldsState g.H.GcHeap.KIND c.args.store.now r s) (sym c.self.view_is) holds) (given_value (given s c.args.operand.now), ((λ some. (w.in_default-check_value.ensures.checks s c.args.operand.now (holds_table holds.table) (stands g at_value s holds)).1), refl))))
       | else-len-gt0 w ↦
-          subst (λ (ty : ℕ). RunsOne g.H.GcHeap.KIND c.args.store.now.alloc_counter (g.L.ResourceLimiter.limits c.args.limiter.now) (g.L.ResourceLimiter.limits c.place.new.limiter) s (NewArr c.args.d ty c.args.len c.args.operand.now) c.place.result c.place.new.store c.place.new.self) c.new-ty.ensures
+          subst (λ (ty : ℕ). RunsOne g.H.GcHeap.KIND c.args.store.now.alloc_counter (g.L.ResourceLimiter.limits c.args.limiter.now) (g.L.ResourceLimiter.limits c.place.new.limiter) s (NewArr c.args.d ty c.args.len c.args.operand.now) c.place.result c.place.new.store (with_registers c.place.new.registers (record { owned = c.self.inside.owned; marks = c.self.inside.marks.items }))) c.new-ty.ensures
           (runs_rest g.H.GcHeap.KIND c.args.store.now.alloc_counter (g.L.ResourceLimiter.limits c.args.limiter.now) (g.L.ResourceLimiter.limits c.place.new.limiter) s (NewArr c.args.d c.new-ty.result c.args.len c.args.operand.now)
-          (heap_tests g.H.GcHeap.KIND s (new_array s c.new-ty.result c.args.len c.args.operand.now)) c.place.result c.place.new.store c.place.new.self
+          (heap_tests g.H.GcHeap.KIND s (new_array s c.new-ty.result c.args.len c.args.operand.now)) c.place.result c.place.new.store (with_registers c.place.new.registers (record { owned = c.self.inside.owned; marks = c.self.inside.marks.items }))
           (empty_heap g.H.GcHeap.KIND s c.args.d c.new-ty.result c.args.len c.args.operand.now c.in-Some.element declared (set g at_value s holds) (omega (arith, w.if-len-gt0.false)))
-          (c.place.ensures.runs s (λ (x : State). new_array x c.new-ty.result c.args.len c.args.operand.now) holds (given_value (given s c.args.operand.now), ((λ some. absurd (omega (arith, some, w.if-len-gt0.false))), refl))
-          (filled_plain g.H.GcHeap.KIND c.args.store.now c.args.self.now s holds (element_of s.table.types c.new-ty.result) c.args.len c.args.operand.now)))
+          (c.place.ensures.runs s (record { owned = c.self.inside.owned; marks = c.self.inside.marks.items }) (λ (x : State). new_array x c.new-ty.result c.args.len c.args.operand.now) (subst (λ (r : RunnerView). HoldsState g.H.GcHeap.KIND c.args.store.now r s) (sym c.self.view_is) holds) (given_value (given s c.args.operand.now), ((λ some. absurd (omega (arith, some, w.if-len-gt0.false))), refl))))
+    ]
+
+pub returns-clause-cause : goal.returns-clause-cause
+returns-clause-cause g c =
+    on_any_err c.place.result
+    (λ s holds.
+    let at = (goal.at.returns-clause-cause g c).After-operand_value in
+    let at_value = (goal.at.returns-clause-cause g c).In-Some-operand_value in
+    let declared = known g at s.table.types holds.table.holds.types in
+    subst (λ (ty : ℕ). MayWant g.H.GcHeap.KIND s (NewArr c.args.d ty c.args.len c.args.operand.now)) c.new-ty.ensures
+    (elim c.if-len-gt0.branch [
+      | then-len-gt0+in_default-check_value w ↦
+          room_may g.H.GcHeap.KIND s (NewArr c.args.d c.new-ty.result c.args.len c.args.operand.now) (new_array s c.new-ty.result c.args.len c.args.operand.now) refl
+          (array_heap g.H.GcHeap.KIND s c.args.d c.new-ty.result c.args.len c.args.operand.now c.in-Some.element declared (set g at_value s holds) w.if-len-gt0.true (w.in_default-check_value.ensures.checks s c.args.operand.now (holds_table holds.table) (stands g at_value s holds)).0)
+      | else-len-gt0 w ↦
+          room_may g.H.GcHeap.KIND s (NewArr c.args.d c.new-ty.result c.args.len c.args.operand.now) (new_array s c.new-ty.result c.args.len c.args.operand.now) refl
+          (empty_heap g.H.GcHeap.KIND s c.args.d c.new-ty.result c.args.len c.args.operand.now c.in-Some.element declared (set g at_value s holds) (omega (arith, w.if-len-gt0.false)))
+    ]))
+
+pub place-requires-clause-plain : goal.place-requires-clause-plain
+place-requires-clause-plain g c some =
+    elim c.if-len-gt0.branch [
+      | then-len-gt0+in_default-check_value w ↦ w.in_default-check_value.ensures.plain
+      | else-len-gt0 w ↦ absurd (omega (arith, some, w.if-len-gt0.false))
     ]

@@ -1,4 +1,4 @@
-use Rattle.std.proofs.Common.{◌≡◌, ℕ, List, Some, length, sym, ap, ◌∙◌, subst, refl, arith}
+use Rattle.std.proofs.Common.{◌≡◌, ℕ, List, Some, false, length, sym, ap, ◌∙◌, subst, refl, arith}
 use Rattle.gc_types.specs.Declarations.{Declaration, elem_at}
 use Rattle.gc_types.specs.declared.types.Types.{Types}
 use Rattle.gc_commands.specs.declared.command.Command.TheVariants.{Fixed}
@@ -10,90 +10,117 @@ use Rattle.std.proofs.lemmas.List.{length-map}
 use Rattle.gc_commands.specs.declared.command.Operand.{Operand}
 use Rattle.gc_model.specs.Stored.{stored}
 use Rattle.gc_store.specs.Requests.{element_of}
-use Rattle.gc_script.specs.Slots.{register_at}
+use Rattle.gc_script.specs.Slots.{RunnerView, with_registers, register_at}
 use Rattle.gc_script.specs.State.{State, HoldsState}
 use Rattle.gc_script.specs.Given.{given, given_value, given_values}
-use Rattle.gc_script.specs.Steps.{heap_tests}
 use Rattle.gc_script.specs.Shapes.{new_fixed}
 use Rattle.gc_script.specs.Run.{RunsOne}
-use Rattle.gc_script.specs.Values.{AreRegisters, AllHeld, HoldsOperands, HasUnset}
+use Rattle.gc_script.specs.Values.{AreRegisters, set_operand, set_operands, AllHeld, AllPlain, AllStorable}
+use Rattle.gc_script.specs.declared.objects.ValueTypes.TheVariants as types_of
 use Rattle.gc_script.proofs.StandLemmas.{holds_table, register_held}
 use Rattle.gc_script.proofs.GoesLemmas.{wants_nothing, refused_runs}
-use Rattle.gc_script.proofs.MakeTests.{runs_rest, all_set, held_count, fixed_unset, fixed_refused, fixed_heap}
+use Rattle.gc_script.proofs.MakeTests.{runs_rest, fixed_unset, fixed_refused, fixed_heap}
 use Rattle.gc_script.proofs.RequestLemmas.{elements_request, many_refused}
-use Rattle.gc_script.proofs.PlainValues.{elements_plain}
+use Rattle.gc_script.specs.Steps.{any_unset, tests, first_failing, heap_tests}
+use Rattle.gc_script.specs.Wants.{MayWant}
+use Rattle.gc_store.specs.Values.{AllStand}
+use Rattle.gc_store.specs.declared.root.RawValue.{RawValue}
+use Rattle.gc_script.proofs.OperandLemmas.{are_held}
+use Rattle.gc_script.proofs.ResultLemmas.{on_any_err, succeeded}
+use Rattle.gc_script.proofs.WantLemmas.{room_may}
 use Rattle.gc_script.proofs.runner.Runner.make_fixed.Given as given
 use Rattle.gc_script.proofs.runner.Runner.make_fixed.Goals as goal
-use Rattle.gc_script.proofs.runner.Runner.make_fixed.Goals.{After-operand_values, In-Some-found}
+use Rattle.gc_script.proofs.runner.Runner.make_fixed.Goals.{After-any_unset, After-check_operands, After-give_values, After-as_slice}
 
 -- the type of its elements, in each table that the store holds
-known : (g : given.Over) (c : After-operand_values g) (types : List Declaration) → c.args.store.now.types ≡ types → elem_at types c.new-ty.result ≡ Some c.in-Some.element
+known : (g : given.Over) (c : After-any_unset g) (types : List Declaration) → c.args.store.now.types ≡ types → elem_at types c.new-ty.result ≡ Some c.in-Some.element
 known g c types same =
     sym (c.array_elem.ensures
     ∙ ap (λ (x : Types). elem_at x.declarations c.new-ty.result) c.types.ensures
     ∙ ap (λ (ts : List Declaration). elem_at ts c.new-ty.result) same)
     ∙ c.in-Some.is
 
-are_registers : (g : given.Over) (c : After-operand_values g) (s : State) → HoldsState g.H.GcHeap.KIND c.args.store.now c.args.self.now s → AreRegisters c.args.store.now c.self.inside.registers s
+are_registers : (g : given.Over) (c : After-any_unset g) (s : State) → HoldsState g.H.GcHeap.KIND c.args.store.now c.args.self.now s → AreRegisters c.args.store.now c.self.inside.registers s
 are_registers g c s holds d = register_held g.H.GcHeap.KIND c.args.store.now c.args.self.now _ s d (register_at c.self.inside.registers d) c.self.view_is refl holds
 
-operands_held : (g : given.Over) (c : In-Some-found g) → HoldsOperands c.self.inside.registers c.args.operands.now c.in-Some-found.values.items
-operands_held g c = rw c.in-Some-found.is at c.in-Ok.ensures.set
+set : (g : given.Over) (c : After-check_operands g) (s : State) → HoldsState g.H.GcHeap.KIND c.args.store.now c.args.self.now s → any_unset s c.args.operands.now ≡ false
+set g c s holds = c.any_unset.ensures.set c.if-any_unset.false c.args.store.now s (are_registers g (goal.at.After-check_operands g c).After-any_unset s holds)
 
-pub returns-in_default-operand_values-clause-runs : goal.returns-in_default-operand_values-clause-runs
-returns-in_default-operand_values-clause-runs g c s holds = record { wants = wants_nothing _ _ _ s _ _ _ _ holds }
+held : (g : given.Over) (c : After-check_operands g) (s : State) → HoldsState g.H.GcHeap.KIND c.args.store.now c.args.self.now s → AllHeld c.args.store.now s c.args.operands.now (set_operands c.self.inside.registers c.args.operands.now)
+held g c s holds = are_held c.self.inside.registers c.args.operands.now c.args.store.now s (are_registers g (goal.at.After-check_operands g c).After-any_unset s holds) (set g c s holds)
 
-pub returns-in_default-found-clause-runs : goal.returns-in_default-found-clause-runs
-returns-in_default-found-clause-runs g c s holds =
-    let at = (goal.at.returns-in_default-found-clause-runs g c).After-operand_values in
-    let unset : HasUnset c.self.inside.registers c.args.operands.now = rw c.in_default-found.is at c.in-Ok.ensures.unset in
+pub returns-then-any_unset-clause-runs : goal.returns-then-any_unset-clause-runs
+returns-then-any_unset-clause-runs g c s holds =
+    let at = (goal.at.returns-then-any_unset-clause-runs g c).After-any_unset in
     subst (λ (ty : ℕ). RunsOne g.H.GcHeap.KIND c.args.store.now.alloc_counter (g.L.ResourceLimiter.limits c.args.limiter.now) (g.L.ResourceLimiter.limits c.args.limiter.now) s (Fixed c.args.d ty c.args.operands.now) (Ok (reply.Refused refusal.NoSuchName)) c.args.store.now c.args.self.now) c.new-ty.ensures
     (refused_runs g.H.GcHeap.KIND c.args.store.now.alloc_counter (g.L.ResourceLimiter.limits c.args.limiter.now) s (Fixed c.args.d c.new-ty.result c.args.operands.now) refusal.NoSuchName c.args.store.now c.args.self.now holds
-    (fixed_unset g.H.GcHeap.KIND s c.args.d c.new-ty.result c.args.operands.now c.in-Some.element (known g at s.table.types holds.table.holds.types) (unset c.args.store.now s (are_registers g at s holds))))
+    (fixed_unset g.H.GcHeap.KIND s c.args.d c.new-ty.result c.args.operands.now c.in-Some.element (known g at s.table.types holds.table.holds.types) (c.any_unset.ensures.unset c.if-any_unset.true c.args.store.now s (are_registers g at s holds))))
 
 pub returns-in-Err-clause-runs : goal.returns-in-Err-clause-runs
 returns-in-Err-clause-runs g c s holds =
-    let at = (goal.at.returns-in-Err-clause-runs g c).After-operand_values in
-    let at_found = (goal.at.returns-in-Err-clause-runs g c).In-Some-found in
-    let declared = known g at s.table.types holds.table.holds.types in
-    let held : AllHeld c.args.store.now s c.args.operands.now c.as_slice-values.result.now =
-    subst (AllHeld c.args.store.now s c.args.operands.now) (sym c.as_slice-values.ensures.value) (operands_held g at_found c.args.store.now s (are_registers g at s holds)) in
-    let set = all_set c.args.store.now s c.args.operands.now c.as_slice-values.result.now held in
+    let after = (goal.at.returns-in-Err-clause-runs g c).After-check_operands in
+    let at = (goal.at.After-check_operands g after).After-any_unset in
     subst (λ (ty : ℕ). RunsOne g.H.GcHeap.KIND c.args.store.now.alloc_counter (g.L.ResourceLimiter.limits c.args.limiter.now) (g.L.ResourceLimiter.limits c.args.limiter.now) s (Fixed c.args.d ty c.args.operands.now) (Ok (reply.Refused c.in-Err.refusal)) c.args.store.now c.args.self.now) c.new-ty.ensures
     (refused_runs g.H.GcHeap.KIND c.args.store.now.alloc_counter (g.L.ResourceLimiter.limits c.args.limiter.now) s (Fixed c.args.d c.new-ty.result c.args.operands.now) c.in-Err.refusal c.args.store.now c.args.self.now holds
-    (fixed_refused g.H.GcHeap.KIND s c.args.d c.new-ty.result c.args.operands.now c.in-Some.element declared set c.in-Err.refusal (c.in-Err.ensures.checks s c.args.operands.now (holds_table holds.table) held)))
+    (fixed_refused g.H.GcHeap.KIND s c.args.d c.new-ty.result c.args.operands.now c.in-Some.element (known g at s.table.types holds.table.holds.types) (set g after s holds) c.in-Err.refusal (c.in-Err.ensures.checks s c.args.operands.now (holds_table holds.table) (held g after s holds))))
 
 pub returns-in_default-try_from-clause-runs : goal.returns-in_default-try_from-clause-runs
 returns-in_default-try_from-clause-runs g c s holds =
-    let at = (goal.at.returns-in_default-try_from-clause-runs g c).After-operand_values in
-    let at_found = (goal.at.returns-in_default-try_from-clause-runs g c).In-Some-found in
+    let after = (goal.at.returns-in_default-try_from-clause-runs g c).After-check_operands in
+    let at = (goal.at.After-check_operands g after).After-any_unset in
     let declared = known g at s.table.types holds.table.holds.types in
-    let held : AllHeld c.args.store.now s c.args.operands.now c.as_slice-values.result.now =
-    subst (AllHeld c.args.store.now s c.args.operands.now) (sym c.as_slice-values.ensures.value) (operands_held g at_found c.args.store.now s (are_registers g at s holds)) in
-    let set = all_set c.args.store.now s c.args.operands.now c.as_slice-values.result.now held in
-    let checks = c.in_default-check_values.ensures.checks s c.args.operands.now (holds_table holds.table) held in
-    let count : length c.as_slice-values.result.now ≡ length c.args.operands.now = held_count c.args.store.now s c.args.operands.now c.as_slice-values.result.now held in
+    let checks = c.in_default-check_operands.ensures.checks s c.args.operands.now (holds_table holds.table) (held g after s holds) in
     subst (λ (ty : ℕ). RunsOne g.H.GcHeap.KIND c.args.store.now.alloc_counter (g.L.ResourceLimiter.limits c.args.limiter.now) (g.L.ResourceLimiter.limits c.args.limiter.now) s (Fixed c.args.d ty c.args.operands.now) (Ok (reply.Refused refusal.TooLarge)) c.args.store.now c.args.self.now) c.new-ty.ensures
     (refused_runs g.H.GcHeap.KIND c.args.store.now.alloc_counter (g.L.ResourceLimiter.limits c.args.limiter.now) s (Fixed c.args.d c.new-ty.result c.args.operands.now) refusal.TooLarge c.args.store.now c.args.self.now holds
-    (fixed_heap g.H.GcHeap.KIND s c.args.d c.new-ty.result c.args.operands.now c.in-Some.element declared set checks.0
-    ∙ many_refused g.H.GcHeap.KIND s c.new-ty.result (map (stored (element_of s.table.types c.new-ty.result)) (given_values s c.args.operands.now)) c.in-Some.element declared (omega (arith, c.in_default-try_from.ensures, count, length-map (given_values s c.args.operands.now) (stored (element_of s.table.types c.new-ty.result)), length-map c.args.operands.now (λ (v : Operand). given_value (given s v))))))
+    (fixed_heap g.H.GcHeap.KIND s c.args.d c.new-ty.result c.args.operands.now c.in-Some.element declared (set g after s holds) checks.0
+    ∙ many_refused g.H.GcHeap.KIND s c.new-ty.result (map (stored (element_of s.table.types c.new-ty.result)) (given_values s c.args.operands.now)) c.in-Some.element declared (omega (arith, c.in_default-try_from.ensures, length-map (given_values s c.args.operands.now) (stored (element_of s.table.types c.new-ty.result)), length-map c.args.operands.now (λ (v : Operand). given_value (given s v))))))
 
-pub place-requires : goal.place-requires
-place-requires g c =
-    elements_request g.H.GcHeap.KIND c.args.store.now c.new-ty.result c.in-Ok-try_from.len c.as_slice-values.result.now c.in-Some.element (known g (goal.at.place-requires g c).After-operand_values c.args.store.now.types refl) (sym c.in-Ok-try_from.ensures.1) c.in_default-check_values.ensures.stores
+-- what is left is up to the heap
+left : (g : given.Over) (c : After-give_values g) (s : State) → HoldsState g.H.GcHeap.KIND c.args.store.now c.args.self.now s → first_failing (tests g.H.GcHeap.KIND s (Fixed c.args.d c.new-ty.result c.args.operands.now)) ≡ first_failing (heap_tests g.H.GcHeap.KIND s (new_fixed s c.new-ty.result c.args.operands.now))
+left g c s holds =
+    let after = (goal.at.After-give_values g c).After-check_operands in
+    let at = (goal.at.After-check_operands g after).After-any_unset in
+    fixed_heap g.H.GcHeap.KIND s c.args.d c.new-ty.result c.args.operands.now c.in-Some.element (known g at s.table.types holds.table.holds.types) (set g after s holds)
+    (c.in_default-check_operands.ensures.checks s c.args.operands.now (holds_table holds.table) (held g after s holds)).0
+
+may : (g : given.Over) (c : After-give_values g) (s : State) → HoldsState g.H.GcHeap.KIND c.args.store.now c.args.self.now s → MayWant g.H.GcHeap.KIND s (Fixed c.args.d c.args.t c.args.operands.now)
+may g c s holds =
+    subst (λ (ty : ℕ). MayWant g.H.GcHeap.KIND s (Fixed c.args.d ty c.args.operands.now)) c.new-ty.ensures (room_may g.H.GcHeap.KIND s (Fixed c.args.d c.new-ty.result c.args.operands.now) (new_fixed s c.new-ty.result c.args.operands.now) refl (left g c s holds))
+
+pub returns-then-is_err-clause-runs : goal.returns-then-is_err-clause-runs
+returns-then-is_err-clause-runs g c s holds = record { wants = wants_nothing _ _ _ s _ _ _ _ (subst (λ (r : RunnerView). HoldsState g.H.GcHeap.KIND c.args.store.now r s) (sym c.self.view_is) holds) }
+
+pub returns-then-is_err-clause-cause : goal.returns-then-is_err-clause-cause
+returns-then-is_err-clause-cause g c s holds = may g (goal.at.returns-then-is_err-clause-cause g c).After-give_values s holds
+
+-- the values that are placed
+values_are : (g : given.Over) (c : After-as_slice g) → c.as_slice.result.now ≡ (set_operands c.self.inside.registers c.args.operands.now)
+values_are g c = c.as_slice.ensures.value ∙ succeeded c.give_values.result (sym c.is_err.ensures.value ∙ c.if-is_err.false) c.give_values.ensures
+
+pub place-requires-clause-can : goal.place-requires-clause-can
+place-requires-clause-can g c =
+    let placed = (goal.at.place-requires-clause-can g c).After-as_slice in
+    let at = (goal.at.place-requires-clause-can g c).After-any_unset in
+    elements_request g.H.GcHeap.KIND c.args.store.now c.new-ty.result c.in-Ok.len c.as_slice.result.now c.in-Some.element (known g at c.args.store.now.types refl)
+    (ap length (values_are g placed) ∙ length-map c.args.operands.now (set_operand c.self.inside.registers) ∙ sym c.in-Ok.ensures.1)
+    (subst (AllStorable g.H.GcHeap.KIND c.args.store.now (types_of.Elements c.in-Some.element)) (sym (values_are g placed)) c.in_default-check_operands.ensures.stores)
+
+pub place-requires-clause-plain : goal.place-requires-clause-plain
+place-requires-clause-plain g c =
+    subst AllPlain (sym (values_are g (goal.at.place-requires-clause-plain g c).After-as_slice)) c.in_default-check_operands.ensures.plain
 
 pub returns-clause-runs : goal.returns-clause-runs
 returns-clause-runs g c s holds =
-    let at = (goal.at.returns-clause-runs g c).After-operand_values in
-    let at_found = (goal.at.returns-clause-runs g c).In-Some-found in
-    let declared = known g at s.table.types holds.table.holds.types in
-    let held : AllHeld c.args.store.now s c.args.operands.now c.as_slice-values.result.now =
-    subst (AllHeld c.args.store.now s c.args.operands.now) (sym c.as_slice-values.ensures.value) (operands_held g at_found c.args.store.now s (are_registers g at s holds)) in
-    let set = all_set c.args.store.now s c.args.operands.now c.as_slice-values.result.now held in
-    let checks = c.in_default-check_values.ensures.checks s c.args.operands.now (holds_table holds.table) held in
-    subst (λ (ty : ℕ). RunsOne g.H.GcHeap.KIND c.args.store.now.alloc_counter (g.L.ResourceLimiter.limits c.args.limiter.now) (g.L.ResourceLimiter.limits c.place.new.limiter) s (Fixed c.args.d ty c.args.operands.now) c.place.result c.place.new.store c.place.new.self) c.new-ty.ensures
+    let placed = (goal.at.returns-clause-runs g c).After-as_slice in
+    let given = (goal.at.returns-clause-runs g c).After-give_values in
+    let after = (goal.at.After-give_values g given).After-check_operands in
+    let checks = c.in_default-check_operands.ensures.checks s c.args.operands.now (holds_table holds.table) (held g after s holds) in
+    let stand = subst (λ (raws : List RawValue). AllStand c.args.store.now s.table raws (given_values s c.args.operands.now)) (sym (values_are g placed)) checks.1 in
+    subst (λ (ty : ℕ). RunsOne g.H.GcHeap.KIND c.args.store.now.alloc_counter (g.L.ResourceLimiter.limits c.args.limiter.now) (g.L.ResourceLimiter.limits c.place.new.limiter) s (Fixed c.args.d ty c.args.operands.now) c.place.result c.place.new.store (with_registers c.place.new.registers (record { owned = c.self.inside.owned; marks = c.self.inside.marks.items }))) c.new-ty.ensures
     (runs_rest g.H.GcHeap.KIND c.args.store.now.alloc_counter (g.L.ResourceLimiter.limits c.args.limiter.now) (g.L.ResourceLimiter.limits c.place.new.limiter) s (Fixed c.args.d c.new-ty.result c.args.operands.now)
-    (heap_tests g.H.GcHeap.KIND s (new_fixed s c.new-ty.result c.args.operands.now)) c.place.result c.place.new.store c.place.new.self
-    (fixed_heap g.H.GcHeap.KIND s c.args.d c.new-ty.result c.args.operands.now c.in-Some.element declared set checks.0)
-    (c.place.ensures.runs s (λ (x : State). new_fixed x c.new-ty.result c.args.operands.now) holds (given_values s c.args.operands.now, (checks.1, refl))
-    (elements_plain g.H.GcHeap.KIND c.args.store.now c.args.self.now s holds (element_of s.table.types c.new-ty.result) c.args.operands.now)))
+    (heap_tests g.H.GcHeap.KIND s (new_fixed s c.new-ty.result c.args.operands.now)) c.place.result c.place.new.store (with_registers c.place.new.registers (record { owned = c.self.inside.owned; marks = c.self.inside.marks.items }))
+    (left g given s holds)
+    (c.place.ensures.runs s (record { owned = c.self.inside.owned; marks = c.self.inside.marks.items }) (λ (x : State). new_fixed x c.new-ty.result c.args.operands.now) (subst (λ (r : RunnerView). HoldsState g.H.GcHeap.KIND c.args.store.now r s) (sym c.self.view_is) holds) (given_values s c.args.operands.now, (stand, refl))))
+
+pub returns-clause-cause : goal.returns-clause-cause
+returns-clause-cause g c = on_any_err c.place.result (may g (goal.at.returns-clause-cause g c).After-give_values)

@@ -7,7 +7,7 @@ use Rattle.gc_store.specs.OwnedRoots.{MakesOwned}
 use Rattle.gc_script.specs.Slots.{RunnerView, register_at}
 use Rattle.gc_script.specs.State.{StandsOwned}
 use Rattle.gc_script.specs.Values.{FoundReference}
-use Rattle.gc_script.proofs.OwnGoes.{own_null, own_full, own_made}
+use Rattle.gc_script.proofs.OwnGoes.{own_may, own_null, own_full, own_made}
 use Rattle.gc_script.proofs.runner.Runner.own.Goals as goal
 
 pub returns-in-None-clause-goes : goal.returns-in-None-clause-goes
@@ -38,3 +38,13 @@ returns-in-Err-RootsFull-clause-goes g c s holds =
       marks = ap (λ (r : RunnerView). r.rest.marks) c.self.view_is;
     })
     (subst (λ (f : RootFault). MakesOwned g.H.GcHeap.KIND c.args.store.now s.table s.account c.in-Some.handle (Err f) c.own_root.new.self) c.in-Err-RootsFull.field-0-is (c.in-Err-RootsFull.ensures.owns s.table s.account holds.table))
+
+pub returns-then-is_err-clause-cause : goal.returns-then-is_err-clause-cause
+returns-then-is_err-clause-cause g c s holds =
+    own_may g.H.GcHeap.KIND c.args.store.now c.args.self.now s c.args.o c.args.r holds c.in-Ok.slot.0 c.in-Some.handle
+    (subst (λ (x : Option GcRootIndex). FoundReference c.args.store.now s c.args.r c.in-Ok.slot.0 x) c.in-Some.is (c.in-Ok.ensures s holds))
+
+pub returns-in-Err-own_root-clause-cause : goal.returns-in-Err-own_root-clause-cause
+returns-in-Err-own_root-clause-cause g c s holds =
+    own_may g.H.GcHeap.KIND c.args.store.now c.args.self.now s c.args.o c.args.r holds c.in-Ok.slot.0 c.in-Some.handle
+    (subst (λ (x : Option GcRootIndex). FoundReference c.args.store.now s c.args.r c.in-Ok.slot.0 x) c.in-Some.is (c.in-Ok.ensures s holds))

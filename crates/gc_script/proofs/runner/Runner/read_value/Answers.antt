@@ -1,4 +1,4 @@
-use Rattle.std.proofs.Common.{◌≡◌, Some, false, ap, ◌∙◌, subst}
+use Rattle.std.proofs.Common.{◌≡◌, Some, false, ap, ◌∙◌, subst, inl, inr, sym}
 use Rattle.std.specs.Prelude.{Err}
 use Rattle.gc_store.specs.declared.root.RootFault.{RootFault}
 use Rattle.gc_store.specs.Values.{ReadsValue}
@@ -6,9 +6,11 @@ use Rattle.gc_script.specs.Slots.{RunnerView, register_at}
 use Rattle.gc_script.specs.State.{State, HoldsState, Stands}
 use Rattle.gc_script.specs.Given.{given_register, is_unset}
 use Rattle.gc_script.specs.Values.{registered}
+use Rattle.gc_script.proofs.ResultLemmas.{failed}
+use Rattle.gc_script.proofs.WantLemmas.{new_register, fault_makes}
 use Rattle.gc_script.proofs.StandLemmas.{holds_table, register_held}
 use Rattle.gc_script.proofs.ReadLemmas.{register_with-same}
-use Rattle.gc_script.proofs.ValueReads.{can_read, no_object_read, past_read, value_there, full_read, was_read}
+use Rattle.gc_script.proofs.ValueReads.{can_read, no_object_read, past_read, value_there, full_read, was_read, read_may}
 use Rattle.gc_script.proofs.WriteLemmas.{is_set}
 use Rattle.gc_script.proofs.runner.Runner.read_value.Given as given
 use Rattle.gc_script.proofs.runner.Runner.read_value.Goals as goal
@@ -57,3 +59,18 @@ returns-in-Err-RootsFull-clause-goes g c s holds =
     c.read_value.new.self _ c.read_value.ensures.same (ap (λ (x : RunnerView). x.rest) c.self.view_is)
     (λ k. c.make_room.ensures.same k ∙ ap (λ (x : RunnerView). register_at x.registers k) c.self.view_is)
     told.0 told.1.0 told.1.1
+
+pub returns-then-is_err-clause-cause : goal.returns-then-is_err-clause-cause
+returns-then-is_err-clause-cause g c s holds =
+    let at = (goal.at.returns-then-is_err-clause-cause g c).After-find_object in
+    let found = c.in-Ok.ensures.finds s c.args.r (holds_table holds.table) (target_stands g at s holds) in
+    read_may g.H.GcHeap.KIND c.args.store.now c.args.self.now s c.args.wanted c.args.r c.args.i c.args.into holds (target_set g at s holds) c.in-Ok.object found c.if-i-object.false
+    (inr (new_register g.H.GcHeap.KIND c.args.store.now c.args.self.now _ s c.self.view_is holds c.args.into (failed c.make_room.result (sym c.is_err.ensures.value ∙ c.if-is_err.true) c.make_room.ensures.had_none)))
+
+pub returns-in-Err-read_value-clause-cause : goal.returns-in-Err-read_value-clause-cause
+returns-in-Err-read_value-clause-cause g c s holds =
+    let at = (goal.at.returns-in-Err-read_value-clause-cause g c).After-find_object in
+    let found = c.in-Ok.ensures.finds s c.args.r (holds_table holds.table) (target_stands g at s holds) in
+    let there = value_there g.H.GcHeap.KIND c.args.store.now c.args.self.now s c.args.wanted c.args.r c.args.i c.args.into holds (target_set g at s holds) c.in-Ok.object found c.if-i-object.false in
+    read_may g.H.GcHeap.KIND c.args.store.now c.args.self.now s c.args.wanted c.args.r c.args.i c.args.into holds (target_set g at s holds) c.in-Ok.object found c.if-i-object.false
+    (inl (fault_makes g.H.GcHeap.KIND s.table s.account there.0 c.in-Err-read_value.field-0 c.read_value.new.self (c.in-Err-read_value.ensures.reads s.table s.account there.0 holds.table there.1)))

@@ -1,8 +1,10 @@
-use Rattle.std.proofs.Common.{◌≡◌, true, sym, ◌∙◌, subst}
+use Rattle.std.proofs.Common.{◌≡◌, true, refl, sym, ◌∙◌, subst}
 use Rattle.std.specs.Prelude.{Ok}
 use Rattle.gc_commands.specs.declared.command.Command.{Command}
 use Rattle.gc_script.specs.Run.{RunsOne, asks_nothing}
 use Rattle.gc_script.specs.Built.{is_built}
+use Rattle.gc_script.proofs.ResultLemmas.{on_any_err}
+use Rattle.gc_script.proofs.WantLemmas.{may_as, host_may}
 use Rattle.gc_script.proofs.GoesLemmas.{unbuilt_runs, goes_runs, asks_none, asks_collect, others_ask}
 use Rattle.gc_script.proofs.runner.Runner.run_one.Goals as goal
 
@@ -35,6 +37,15 @@ returns-in_default g c =
       runs = λ s holds. goes_runs g.H.GcHeap.KIND c.args.store.now.alloc_counter (g.L.ResourceLimiter.limits c.args.limiter.now) s c.args.command.now c.run_unasking.result c.run_unasking.new.store c.run_unasking.new.self
           (asks_none c.args.command.now asks) (c.run_unasking.ensures.goes s holds);
       memory = c.run_unasking.ensures.memory;
+      cause = c.run_unasking.ensures.cause;
       kept = λ is. absurd (asks_collect c.args.command.now asks is);
       same = c.run_unasking.ensures.same;
     }
+
+pub returns-in-Host-clause-cause : goal.returns-in-Host-clause-cause
+returns-in-Host-clause-cause g c =
+    on_any_err c.make_host.result (λ s holds. may_as g.H.GcHeap.KIND s c.args.command.now _ c.in-Host.is (host_may g.H.GcHeap.KIND s c.in-Host.d c.in-Host.n))
+
+pub returns-in-Grow-clause-cause : goal.returns-in-Grow-clause-cause
+returns-in-Grow-clause-cause g c =
+    on_any_err c.grow.result (λ s holds. may_as g.H.GcHeap.KIND s c.args.command.now _ c.in-Grow.is (record { takes = refl; unrefused = tt }))

@@ -3,6 +3,8 @@ use Rattle.gc_commands.specs.declared.command.Command.TheVariants as command
 use Rattle.gc_script.specs.Given.{is_array, has_fields}
 use Rattle.gc_script.specs.Shapes.{shape}
 use Rattle.gc_script.specs.Steps.{tests, reading_tests}
+use Rattle.gc_script.proofs.ResultLemmas.{on_err, on_any_err}
+use Rattle.gc_script.proofs.WantLemmas.{may_as, small_may}
 use Rattle.gc_script.proofs.GoesLemmas.{goes_as}
 use Rattle.gc_script.proofs.TestLemmas.{goes_by}
 use Rattle.gc_script.proofs.runner.Runner.run_unasking.Goals as goal
@@ -20,3 +22,59 @@ returns-in-Elem-clause-goes g c s holds =
     goes_as g.H.GcHeap.KIND s c.args.command.now known c.read_value-in-Elem.result c.read_value-in-Elem.new.store c.read_value-in-Elem.new.self c.in-Elem.is
     (goes_by g.H.GcHeap.KIND s (shape known) (reading_tests is_array s c.in-Elem.r c.in-Elem.i) (tests g.H.GcHeap.KIND s known) c.read_value-in-Elem.result c.read_value-in-Elem.new.store c.read_value-in-Elem.new.self refl
     (c.read_value-in-Elem.ensures.goes s holds))
+
+pub returns-in-Struct-clause-cause : goal.returns-in-Struct-clause-cause
+returns-in-Struct-clause-cause g c =
+    on_any_err c.declare_struct.result (λ s holds. may_as g.H.GcHeap.KIND s c.args.command.now _ c.in-Struct.is (record { takes = refl; unrefused = tt }))
+
+pub returns-in-Array-clause-cause : goal.returns-in-Array-clause-cause
+returns-in-Array-clause-cause g c =
+    on_any_err c.declare_array.result (λ s holds. may_as g.H.GcHeap.KIND s c.args.command.now _ c.in-Array.is (record { takes = refl; unrefused = tt }))
+
+pub returns-in-Exn-clause-cause : goal.returns-in-Exn-clause-cause
+returns-in-Exn-clause-cause g c =
+    on_any_err c.declare_exn.result (λ s holds. may_as g.H.GcHeap.KIND s c.args.command.now _ c.in-Exn.is (record { takes = refl; unrefused = tt }))
+
+pub returns-in-Enter-clause-cause : goal.returns-in-Enter-clause-cause
+returns-in-Enter-clause-cause g c =
+    on_any_err c.enter.result (λ s holds. may_as g.H.GcHeap.KIND s c.args.command.now _ c.in-Enter.is (record { takes = refl; unrefused = tt }))
+
+pub returns-in-Push-clause-cause : goal.returns-in-Push-clause-cause
+returns-in-Push-clause-cause g c =
+    on_any_err c.push_frame.result (λ s holds. may_as g.H.GcHeap.KIND s c.args.command.now _ c.in-Push.is (record { takes = refl; unrefused = tt }))
+
+pub returns-in-I31-clause-cause : goal.returns-in-I31-clause-cause
+returns-in-I31-clause-cause g c =
+    on_any_err c.make_i31.result (λ s holds. may_as g.H.GcHeap.KIND s c.args.command.now _ c.in-I31.is (small_may g.H.GcHeap.KIND s c.in-I31.d c.in-I31.n))
+
+pub returns-in-ReadBytes-clause-cause : goal.returns-in-ReadBytes-clause-cause
+returns-in-ReadBytes-clause-cause g c =
+    on_err c.read_bytes.result (λ may s holds. may_as g.H.GcHeap.KIND s c.args.command.now _ c.in-ReadBytes.is (may s holds)) c.read_bytes.ensures.cause
+
+pub returns-in-Load-clause-cause : goal.returns-in-Load-clause-cause
+returns-in-Load-clause-cause g c =
+    on_err c.load_slot.result (λ may s holds. may_as g.H.GcHeap.KIND s c.args.command.now _ c.in-Load.is (may s holds)) c.load_slot.ensures.cause
+
+pub returns-in-GetGlobal-clause-cause : goal.returns-in-GetGlobal-clause-cause
+returns-in-GetGlobal-clause-cause g c =
+    on_err c.get_global.result (λ may s holds. may_as g.H.GcHeap.KIND s c.args.command.now _ c.in-GetGlobal.is (may s holds)) c.get_global.ensures.cause
+
+pub returns-in-Own-clause-cause : goal.returns-in-Own-clause-cause
+returns-in-Own-clause-cause g c =
+    on_err c.own.result (λ may s holds. may_as g.H.GcHeap.KIND s c.args.command.now _ c.in-Own.is (may s holds)) c.own.ensures.cause
+
+pub returns-in-Root-clause-cause : goal.returns-in-Root-clause-cause
+returns-in-Root-clause-cause g c =
+    on_err c.root.result (λ may s holds. may_as g.H.GcHeap.KIND s c.args.command.now _ c.in-Root.is (may s holds)) c.root.ensures.cause
+
+pub returns-in-Take-clause-cause : goal.returns-in-Take-clause-cause
+returns-in-Take-clause-cause g c =
+    on_err c.take.result (λ may s holds. may_as g.H.GcHeap.KIND s c.args.command.now _ c.in-Take.is (may s holds)) c.take.ensures.cause
+
+pub returns-in-Field-clause-cause : goal.returns-in-Field-clause-cause
+returns-in-Field-clause-cause g c =
+    on_err c.read_value.result (λ may s holds. may_as g.H.GcHeap.KIND s c.args.command.now _ c.in-Field.is (record { takes = (may s holds).0; unrefused = (may s holds).1 })) c.read_value.ensures.cause
+
+pub returns-in-Elem-clause-cause : goal.returns-in-Elem-clause-cause
+returns-in-Elem-clause-cause g c =
+    on_err c.read_value-in-Elem.result (λ may s holds. may_as g.H.GcHeap.KIND s c.args.command.now _ c.in-Elem.is (record { takes = (may s holds).0; unrefused = (may s holds).1 })) c.read_value-in-Elem.ensures.cause
