@@ -36,7 +36,7 @@ fn write_values<H: GcHeap, D: Drop>(
     for (index, value) in values.iter().enumerate() {
         owner.is_ready();
         let slot = slot_at(owner.types(), H::KIND, ty, index as u32);
-        let stored = stored_value(interned, owner.scoped(), owner.owned(), *value);
+        let stored = stored_value(interned, owner.scoped(), owner.owned(), value);
         write_slot(owner, gc_ref, &slot, stored);
     }
 }
@@ -146,7 +146,7 @@ fn write_same<H: GcHeap, D: Drop>(
     }
     owner.is_ready();
     let first = slot_at(owner.types(), H::KIND, ty, 0);
-    let stored = stored_value(interned, owner.scoped(), owner.owned(), value);
+    let stored = stored_value(interned, owner.scoped(), owner.owned(), &value);
     write_elements(owner, gc_ref, &first, count, stored);
 }
 

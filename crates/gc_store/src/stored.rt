@@ -5,6 +5,7 @@ ghost use Rattle.std.specs.Int.{bytes_low_first};
 ghost use Rattle.gc_types.specs.Layouts.{storage_width, value_width};
 ghost use Rattle.gc_model.specs.Forms.{top_form, type_form, storage_form};
 ghost use Rattle.gc_heap.specs.Access.{IsReadable};
+ghost use Rattle.gc_store.specs.declared.stored.Stored.TheVariants as kept;
 ghost use Rattle.gc_store.specs.Kept.{code_of, raw_form, KeptAs, IsKept, FitsForm, IsFound};
 ghost use Rattle.gc_store.specs.Words.{AreRising};
 ghost use Rattle.gc_store.specs.Stores.{ids_of};
@@ -44,14 +45,14 @@ pub(crate) fn stored_value(
     interned: &InternedValues,
     scoped: &[RootEntry],
     owned: &[OwnedEntry],
-    value: RawValue,
+    value: &RawValue,
 ) -> Stored
     requires rising { AreRising owned.now }
-    requires kept { IsKept (ids_of interned.now) (record { scoped = scoped.now; owned = owned.now }) value }
-    ensures kept { KeptAs (ids_of interned.now) (record { scoped = scoped.now; owned = owned.now }) value result }
-    ensures small { FitsForm (raw_form value) (code_of result) }
+    requires kept { IsKept (ids_of interned.now) (record { scoped = scoped.now; owned = owned.now }) value.now }
+    ensures kept { KeptAs (ids_of interned.now) (record { scoped = scoped.now; owned = owned.now }) value.now result }
+    ensures small { FitsForm (raw_form value.now) (code_of result) }
 {
-    match &value {
+    match value {
         RawValue::I32(number) => Stored::Number(u128::from(number.cast_unsigned())),
         RawValue::I64(number) => Stored::Number(u128::from(number.cast_unsigned())),
         RawValue::F32(bits) => Stored::Number(u128::from(*bits)),
@@ -76,6 +77,36 @@ pub(crate) fn stored_value(
     }
 }
 
+/// Writes the low bytes of a number, as many as the slot has, into a slot of a held object. Of the usual widths they are those
+/// of a smaller number, which is written as one.
+fn write_low_bytes<H: GcHeap, D: Drop>(
+    owner: &mut HeapOwner<H, D>,
+    gc_ref: &VMGcRef,
+    slot: &Slot,
+    number: u128,
+)
+    requires idle { owner.old.seen.idle ≡ true }
+    requires can { CanWriteSlot H.KIND owner.old.seen gc_ref.now (storage_slot slot.now) (kept.Number number) }
+    ensures { WritesAt H.KIND owner.old.seen owner.new.seen gc_ref.now slot.now.offset (bytes_low_first 0 (storage_width slot.now.storage) number) }
+{
+    owner.is_ready();
+    let width = slot.storage.width();
+    match width {
+        4 => {
+            let low = (number % 0x1_0000_0000) as u32;
+            owner.write_number(gc_ref, slot.offset, &low.to_le_bytes());
+        }
+        8 => {
+            let low = (number % 0x1_0000_0000_0000_0000) as u64;
+            owner.write_number(gc_ref, slot.offset, &low.to_le_bytes());
+        }
+        _ => {
+            let bytes = number.to_le_bytes();
+            owner.write_number(gc_ref, slot.offset, &bytes[..width as usize]);
+        }
+    }
+}
+
 /// Writes a slot of a held object.
 pub(crate) fn write_slot<H: GcHeap, D: Drop>(
     owner: &mut HeapOwner<H, D>,
@@ -89,10 +120,7 @@ pub(crate) fn write_slot<H: GcHeap, D: Drop>(
 {
     owner.is_ready();
     match stored {
-        Stored::Number(number) => {
-            let bytes = number.to_le_bytes();
-            owner.write_number(gc_ref, slot.offset, &bytes[..slot.storage.width() as usize]);
-        }
+        Stored::Number(number) => write_low_bytes(owner, gc_ref, slot, number),
         Stored::Ref(word) => owner.write_reference(gc_ref, slot.offset, word),
     }
 }
