@@ -22,6 +22,7 @@ use gc_types::VMSharedTypeIndex;
 const CHUNK: usize = 256;
 
 /// Writes each value into the slot of its index.
+#[inline(always)]
 fn write_values<H: GcHeap, D: Drop>(
     owner: &mut HeapOwner<H, D>,
     interned: &InternedValues,
@@ -170,6 +171,7 @@ fn write_bytes<H: GcHeap, D: Drop>(
 }
 
 /// Gives a new object of that request its values, and an exception its tag.
+#[inline(always)]
 pub(crate) fn fill<H: GcHeap, D: Drop>(
     owner: &mut HeapOwner<H, D>,
     interned: &InternedValues,

@@ -185,6 +185,7 @@ fn has_interned_kind(values: &[RawValue]) -> bool
 
 /// Makes room for those of the function values and continuations among these that aren't interned yet. Where there are
 /// none, as in most objects, nothing is counted.
+#[inline(always)]
 pub(crate) fn find_room(
     alloc: Global,
     interned: &mut InternedValues,
@@ -258,6 +259,7 @@ fn intern_value(interned: &mut InternedValues, value: &RawValue)
 }
 
 /// Interns the function values and continuations among these, for which there is room.
+#[inline(always)]
 pub(crate) fn intern_all(interned: &mut InternedValues, values: &[RawValue])
     requires { CanInternAll interned.old (raw_side_values values.now) }
     ensures { InternsAll (ids_of interned.old) (ids_of interned.new) (raw_side_values values.now) }

@@ -41,6 +41,7 @@ pub(crate) enum Found {
 
 /// What is kept of a value; of a function value or a continuation that is interned its number, of a reference the word that
 /// its root has now.
+#[inline(always)]
 pub(crate) fn stored_value(
     interned: &InternedValues,
     scoped: &[RootEntry],
@@ -79,6 +80,7 @@ pub(crate) fn stored_value(
 
 /// Writes the low bytes of a number, as many as the slot has, into a slot of a held object. Of the usual widths they are those
 /// of a smaller number, which is written as one.
+#[inline(always)]
 fn write_low_bytes<H: GcHeap, D: Drop>(
     owner: &mut HeapOwner<H, D>,
     gc_ref: &VMGcRef,
@@ -108,6 +110,7 @@ fn write_low_bytes<H: GcHeap, D: Drop>(
 }
 
 /// Writes a slot of a held object.
+#[inline(always)]
 pub(crate) fn write_slot<H: GcHeap, D: Drop>(
     owner: &mut HeapOwner<H, D>,
     gc_ref: &VMGcRef,
@@ -126,6 +129,7 @@ pub(crate) fn write_slot<H: GcHeap, D: Drop>(
 }
 
 /// What a word in a slot of the types under that one is.
+#[inline(always)]
 fn found_under(top: HeapTopType, word: u32) -> Found
     ensures { IsFound (top_form top) word result }
 {
@@ -139,6 +143,7 @@ fn found_under(top: HeapTopType, word: u32) -> Found
 }
 
 /// What lies at an offset of a held object, by its type.
+#[inline(always)]
 fn read_typed<H: GcHeap>(heap: &H, gc_ref: &VMGcRef, offset: u32, ty: ValType) -> Found
     requires sound { H.sound heap.now }
     requires inside { IsReadable H.KIND (H.seen heap.now) gc_ref.now offset (value_width ty) }
@@ -156,6 +161,7 @@ fn read_typed<H: GcHeap>(heap: &H, gc_ref: &VMGcRef, offset: u32, ty: ValType) -
 }
 
 /// What lies in a slot of a held object. Small integers are read as unsigned ones.
+#[inline(always)]
 pub(crate) fn read_slot<H: GcHeap>(heap: &H, gc_ref: &VMGcRef, slot: &Slot) -> Found
     requires sound { H.sound heap.now }
     requires inside { IsReadable H.KIND (H.seen heap.now) gc_ref.now slot.now.offset (storage_width slot.now.storage) }
