@@ -224,6 +224,7 @@ impl Roots {
     }
 
     /// Makes room for so many more scoped roots, here and in the list of a collection.
+    #[inline(always)]
     pub(crate) fn reserve(&mut self, additional: usize) -> Result<(), AllocError>
         ensures spare { Reserves additional self.old.spare self.new.spare result }
         ensures rest { self.new ≡ with_room self.new self.old }
