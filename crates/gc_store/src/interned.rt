@@ -246,6 +246,7 @@ fn intern_cont(conts: &mut ContRefTable, cont: u64)
 }
 
 /// Interns a value, for which there is room, where it is a function value or a continuation.
+#[inline(always)]
 fn intern_value(interned: &mut InternedValues, value: &RawValue)
     requires { CanInternAll interned.old (raw_side_values (value.now ∷ [])) }
     ensures interns { InternsAll (ids_of interned.old) (ids_of interned.new) (raw_side_values (value.now ∷ [])) }
