@@ -94,6 +94,10 @@ fn write_low_bytes<H: GcHeap, D: Drop>(
     owner.is_ready();
     let width = slot.storage.width();
     match width {
+        1 => {
+            let low = (number % 0x100) as u8;
+            owner.write_number(gc_ref, slot.offset, &low.to_le_bytes());
+        }
         4 => {
             let low = (number % 0x1_0000_0000) as u32;
             owner.write_number(gc_ref, slot.offset, &low.to_le_bytes());

@@ -10,7 +10,12 @@ use Rattle.gc_store.proofs.stored.write_low_bytes.Goals as goal
 pub write_number-requires-clause-inside : goal.write_number-requires-clause-inside
 write_number-requires-clause-inside g c =
     number_goes g.H.GcHeap.KIND c.args.owner.now.seen c.args.gc_ref.now (storage_slot c.args.slot.now) c.is_ready.ensures.can c.args.number c.requires.can _
-    (ap length c.to_le_bytes.ensures ∙ sym c.in-4.is ∙ c.width-width.ensures.value)
+    (ap length c.to_le_bytes.ensures ∙ sym c.in-1.is ∙ c.width-width.ensures.value)
+
+pub write_number-requires-in-4-clause-inside : goal.write_number-requires-in-4-clause-inside
+write_number-requires-in-4-clause-inside g c =
+    number_goes g.H.GcHeap.KIND c.args.owner.now.seen c.args.gc_ref.now (storage_slot c.args.slot.now) c.is_ready.ensures.can c.args.number c.requires.can _
+    (ap length c.to_le_bytes-in-4.ensures ∙ sym c.in-4.is ∙ c.width-width.ensures.value)
 
 pub write_number-requires-in-8-clause-inside : goal.write_number-requires-in-8-clause-inside
 write_number-requires-in-8-clause-inside g c =
