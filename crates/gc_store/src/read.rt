@@ -184,7 +184,8 @@ impl<H: GcHeap, D: Drop> Store<H, D> {
         if self.roots_full() {
             return Err(RootFault::RootsFull);
         }
-        if self.owner.reserve(1).is_err() {
+        let more = self.owner.roots_wanted();
+        if self.owner.reserve(more).is_err() {
             return Err(RootFault::Memory);
         }
         let generation = self.owner.generation();
