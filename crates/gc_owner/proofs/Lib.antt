@@ -21,3 +21,4 @@ pub mod FrameLemmas
 pub mod ListUse
 pub mod IncrementLemmas
 pub mod CollectedRoots
+mod NullCollected

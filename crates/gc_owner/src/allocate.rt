@@ -44,6 +44,7 @@ pub enum AllocateFault {
 }
 
 /// Allocates what is described in the heap, with no root.
+#[inline(always)]
 fn new_object<H: GcHeap>(
     heap: &mut H,
     types: &Types,
@@ -89,6 +90,7 @@ fn root_new(
 
 impl<H: GcHeap, D: Drop> HeapOwner<H, D> {
     /// Tries once to make an object with its root. `HeapOutOfMemory` says what it takes.
+    #[inline(always)]
     fn try_once(&mut self, description: &Description) -> Result<u32, AllocateFault>
         requires can { CanMake H.KIND self.old.seen description.now }
         ensures tried { (o : HeapObject) (size : ℕ) → Describes H.KIND self.old.seen description.now o size
@@ -153,6 +155,7 @@ impl<H: GcHeap, D: Drop> HeapOwner<H, D> {
     /// A heap without room collects or grows, by `should_collect_first`: it collects, tries again, and then
     /// grows by what is needed; or it grows, and collects only where that was refused. Its time is linear in
     /// the object's size, beside that of a collection and of new memory.
+    #[inline(always)]
     pub fn allocate<L: ResourceLimiter>(
         &mut self,
         limiter: &mut L,

@@ -1,6 +1,7 @@
 //! Collections from all roots.
 
 ghost use Rattle.std.specs.Prelude.{◌≡◌, None, true};
+ghost use Rattle.gc_types.specs.declared.kind.Layouts.TheVariants.{Null};
 ghost use Rattle.gc_heap.specs.Collection.{has_host, IsPartOf};
 ghost use Rattle.gc_owner.specs.RootColumns.{roots_of};
 ghost use Rattle.gc_owner.specs.Tracing.{IsCollectable};
@@ -8,9 +9,16 @@ ghost use Rattle.gc_owner.specs.Owners.{Collects, CollectsAll, CollectsRoots};
 
 use crate::owner::HeapOwner;
 use crate::roots::Roots;
-use gc_heap::{GcHeap, GcStoreTraceState};
+use gc_heap::{GcHeap, GcStoreTraceState, HeapKind};
 use gc_tables::ExternRefHostDataTable;
-use gc_types::Types;
+use gc_types::{Layouts, Types};
+
+/// Whether a heap of that kind keeps every object where it lies.
+fn keeps_all(kind: HeapKind) -> bool
+    ensures { result ≡ true → kind ≡ Null }
+{
+    matches!(kind, Layouts::Null)
+}
 
 /// Collects in a heap that has its memory, and answers how many bytes are allocated then.
 fn collect_in<H: GcHeap, D: Drop>(
@@ -30,6 +38,10 @@ fn collect_in<H: GcHeap, D: Drop>(
     ensures values { IsPartOf hosts.new.entries hosts.old.entries }
     ensures last { result ≡ (H.seen heap.new).allocated }
 {
+    // Nothing is freed or moved then, so the roots needn't be gone through.
+    if keeps_all(H::KIND) {
+        return heap.allocated_bytes();
+    }
     let mut trace = GcStoreTraceState {
         host_data_table: hosts,
         types,

@@ -39,6 +39,9 @@ const PENDING: RootPlace = RootPlace { number: 4 };
 /// The places that globals and the pending exception take in the list.
 const OTHER_PLACES: usize = GLOBAL_COUNT as usize + 1;
 
+/// For how many scoped roots room is made at once, where there is none.
+const ROOTS_AT_ONCE: usize = 16;
+
 /// A slot that holds nothing.
 const NOTHING: SlotEntry = SlotEntry {
     class: GcClass::Any,
@@ -223,7 +226,18 @@ impl Roots {
         self.generation
     }
 
+    /// What to reserve before a scoped root is pushed.
+    #[inline(always)]
+    pub(crate) fn roots_wanted(&self) -> usize
+        ensures some { 0 < result }
+        ensures room { 0 < self.now.spare → result ≡ 1 }
+    {
+        let _entries = &self.scoped;
+        if self.spare == 0 { ROOTS_AT_ONCE } else { 1 }
+    }
+
     /// Makes room for so many more scoped roots, here and in the list of a collection.
+    #[inline(always)]
     pub(crate) fn reserve(&mut self, additional: usize) -> Result<(), AllocError>
         ensures spare { Reserves additional self.old.spare self.new.spare result }
         ensures rest { self.new ≡ with_room self.new self.old }

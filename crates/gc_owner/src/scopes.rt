@@ -46,6 +46,17 @@ impl<H: GcHeap, D: Drop> HeapOwner<H, D> {
         self.roots.generation()
     }
 
+    /// What a caller that pushes one scoped root gives to `reserve`: 1 where there is room, and else as many as are made room
+    /// for at once.
+    #[inline(always)]
+    pub fn roots_wanted(&self) -> usize
+        ensures some { 0 < result }
+        ensures room { 0 < self.now.seen.roots.spare → result ≡ 1 }
+    {
+        let _heap = &self.heap;
+        self.roots.roots_wanted()
+    }
+
     /// Makes room: so many scoped roots can then be pushed, which takes no memory. Nothing but a push lowers how many
     /// can. An error is want of memory.
     pub fn reserve(&mut self, additional: usize) -> Result<(), AllocError>

@@ -8,7 +8,7 @@ use Rattle.std.proofs.lemmas.List.{append_assoc, take_more, take-append-drop}
 use Rattle.std.proofs.lemmas.List.Elements.{Contains-append_left, Contains-append_right}
 use Rattle.gc_tables.specs.SideTables.{SideTable}
 use Rattle.gc_model.specs.Values.{Value}
-use Rattle.gc_model.specs.SideValues.{IdsBy, InternedBy, InternedIds, SideValues, conts_full, functions_full, max_entries, passes_most, same_cont, same_function, side_values, with_each, with_side_values}
+use Rattle.gc_model.specs.SideValues.{IdsBy, InternedBy, InternedIds, SideValues, conts_full, functions_full, max_entries, no_side_values, passes_most, same_cont, same_function, side_values, with_each, with_side_values}
 use Rattle.gc_model.specs.Table.{Table}
 use Rattle.gc_model.specs.Stores.{StoreView}
 use Rattle.gc_model.proofs.Interned.{IsExact, all-given, conts_exact, functions_exact, ids_same, side-first, side_joined, side_same}
@@ -42,6 +42,21 @@ raw-first (raw.Func f) raws = refl
 raw-first (raw.Cont None) raws = refl
 raw-first (raw.Cont (Some c)) raws = refl
 raw-first (raw.Ref class handle) raws = refl
+
+-- where nothing is given there is room for it
+rooms_none : {A : Type 0} (same : A → A → Bool) (t : SideTable A) (xs : List A) → xs ≡ [] → MakesRoom same t t xs
+rooms_none same t xs none = record {
+  unchanged = refl;
+  has_room = λ known by.
+      let equal : length (with_each same xs known) ≡ length known = ap (λ ys. length (with_each same ys known)) none in
+      record { few = omega (arith, equal, by.few); room = omega (arith, equal) };
+}
+
+pub rooms_for_none : (t : InternedValues) (given : SideValues) → given ≡ no_side_values → MakesRooms t t given
+rooms_for_none t given none = record {
+  functions = rooms_none same_function t.functions given.funcs (ap (λ (s : SideValues). s.funcs) none);
+  conts = rooms_none same_cont t.conts given.conts (ap (λ (s : SideValues). s.conts) none);
+}
 
 joined_assoc : (a b c : SideValues) → side_joined (side_joined a b) c ≡ side_joined a (side_joined b c)
 joined_assoc a b c = side_same (side_joined (side_joined a b) c) (side_joined a (side_joined b c)) (append_assoc a.funcs b.funcs c.funcs) (append_assoc a.conts b.conts c.conts)

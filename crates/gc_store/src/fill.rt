@@ -18,10 +18,14 @@ use gc_owner::HeapOwner;
 use gc_refs::VMGcRef;
 use gc_types::VMSharedTypeIndex;
 
-/// How many bytes of equal elements are written at once: a multiple of each width.
+/// How many bytes the greatest number has: a multiple of each width.
+const BLOCK: usize = 16;
+
+/// How many bytes of equal elements are written at once: a multiple of a block's.
 const CHUNK: usize = 256;
 
 /// Writes each value into the slot of its index.
+#[inline(always)]
 fn write_values<H: GcHeap, D: Drop>(
     owner: &mut HeapOwner<H, D>,
     interned: &InternedValues,
@@ -36,20 +40,35 @@ fn write_values<H: GcHeap, D: Drop>(
     for (index, value) in values.iter().enumerate() {
         owner.is_ready();
         let slot = slot_at(owner.types(), H::KIND, ty, index as u32);
-        let stored = stored_value(interned, owner.scoped(), owner.owned(), *value);
+        let stored = stored_value(interned, owner.scoped(), owner.owned(), value);
         write_slot(owner, gc_ref, &slot, stored);
     }
 }
 
+/// The first bytes, as often as they go into a block.
+fn repeat_in_block(bytes: &[u8; BLOCK], width: usize) -> [u8; BLOCK]
+    requires { IsWidth width }
+    ensures size { length result ≡ 16 }
+    ensures same { (k : ℕ) → k < 16 → slice_index_or result k 0 ≡ slice_index_or bytes.now (k % width) 0 }
+{
+    let mut block = [0; BLOCK];
+    for at in 0..BLOCK {
+        block[at] = bytes[at % width];
+    }
+    block
+}
+
 /// The first bytes, over and over.
-fn repeat(bytes: &[u8; 16], width: usize) -> [u8; CHUNK]
+fn repeat(bytes: &[u8; BLOCK], width: usize) -> [u8; CHUNK]
     requires { IsWidth width }
     ensures size { length result ≡ 256 }
     ensures same { (k : ℕ) → k < 256 → slice_index_or result k 0 ≡ slice_index_or bytes.now (k % width) 0 }
 {
+    let block = repeat_in_block(bytes, width);
     let mut chunk = [0; CHUNK];
-    for at in 0..CHUNK {
-        chunk[at] = bytes[at % width];
+    for index in 0..CHUNK / BLOCK {
+        let at = BLOCK * index;
+        chunk[at..at + BLOCK].copy_from_slice(&block);
     }
     chunk
 }
@@ -146,7 +165,7 @@ fn write_same<H: GcHeap, D: Drop>(
     }
     owner.is_ready();
     let first = slot_at(owner.types(), H::KIND, ty, 0);
-    let stored = stored_value(interned, owner.scoped(), owner.owned(), value);
+    let stored = stored_value(interned, owner.scoped(), owner.owned(), &value);
     write_elements(owner, gc_ref, &first, count, stored);
 }
 
@@ -170,6 +189,7 @@ fn write_bytes<H: GcHeap, D: Drop>(
 }
 
 /// Gives a new object of that request its values, and an exception its tag.
+#[inline(always)]
 pub(crate) fn fill<H: GcHeap, D: Drop>(
     owner: &mut HeapOwner<H, D>,
     interned: &InternedValues,

@@ -1,6 +1,6 @@
 //! The function values and continuations that calls are given, and the numbers by which the heap has them.
 
-ghost use Rattle.std.specs.Prelude.{◌≡◌, ◌≤◌, ◌↔◌, ℕ, [], ◌∷◌, IfOk, IsOk, IsTrue, Option};
+ghost use Rattle.std.specs.Prelude.{◌≡◌, ◌≤◌, ◌↔◌, ℕ, [], ◌∷◌, IfOk, IsOk, IsTrue, Option, false};
 ghost use Rattle.gc_model.specs.SideValues.{IsContCode, IsIdCode, max_entries, no_ids, no_side_values, same_cont, same_function};
 ghost use Rattle.gc_store.specs.Interning.{AddsNew, CanIntern, CanInternAll, CountsNew, FindsPlaces, FindsRoom, Interns, InternsAll, InternsGiven, KeepsRoom, KeepsRooms, given_values};
 ghost use Rattle.gc_store.specs.Stores.{ids_of};
@@ -160,7 +160,32 @@ fn find_places(
     }
 }
 
-/// Makes room for those of the function values and continuations among these that aren't interned yet.
+/// Whether the value is a function value or a continuation, which are interned.
+fn is_interned_kind(value: &RawValue) -> bool
+    ensures { result ≡ false → raw_side_values (value.now ∷ []) ≡ no_side_values }
+{
+    match value {
+        RawValue::Func(_) => true,
+        RawValue::Cont(Some(_)) => true,
+        _ => false,
+    }
+}
+
+/// Whether a function value or a continuation is among these.
+fn has_interned_kind(values: &[RawValue]) -> bool
+    ensures { result ≡ false → raw_side_values values.now ≡ no_side_values }
+{
+    for value in values {
+        if is_interned_kind(value) {
+            return true;
+        }
+    }
+    false
+}
+
+/// Makes room for those of the function values and continuations among these that aren't interned yet. Where there are
+/// none, as in most objects, nothing is counted.
+#[inline(always)]
 pub(crate) fn find_room(
     alloc: Global,
     interned: &mut InternedValues,
@@ -168,6 +193,9 @@ pub(crate) fn find_room(
 ) -> Result<(), PlaceFault>
     ensures { FindsRoom interned.old interned.new (raw_side_values values.now) result }
 {
+    if !has_interned_kind(values) {
+        return Ok(());
+    }
     let functions = find_places(
         interned.functions.len(),
         count_new_functions(alloc, &interned.functions, values),
@@ -218,6 +246,7 @@ fn intern_cont(conts: &mut ContRefTable, cont: u64)
 }
 
 /// Interns a value, for which there is room, where it is a function value or a continuation.
+#[inline(always)]
 fn intern_value(interned: &mut InternedValues, value: &RawValue)
     requires { CanInternAll interned.old (raw_side_values (value.now ∷ [])) }
     ensures interns { InternsAll (ids_of interned.old) (ids_of interned.new) (raw_side_values (value.now ∷ [])) }
@@ -231,6 +260,7 @@ fn intern_value(interned: &mut InternedValues, value: &RawValue)
 }
 
 /// Interns the function values and continuations among these, for which there is room.
+#[inline(always)]
 pub(crate) fn intern_all(interned: &mut InternedValues, values: &[RawValue])
     requires { CanInternAll interned.old (raw_side_values values.now) }
     ensures { InternsAll (ids_of interned.old) (ids_of interned.new) (raw_side_values values.now) }

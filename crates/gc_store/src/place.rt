@@ -129,7 +129,8 @@ impl<H: GcHeap, D: Drop> Store<H, D> {
         if is_full {
             return Err(PlaceFault::RootsFull);
         }
-        if self.owner.reserve(1).is_err() {
+        let more = self.owner.roots_wanted();
+        if self.owner.reserve(more).is_err() {
             return Err(PlaceFault::Memory);
         }
         let is_due = count_allocation(&mut self.tries, self.config.alloc_counter);

@@ -68,6 +68,7 @@ fn tag_of<H: GcHeap>(heap: &H, gc_ref: &VMGcRef) -> Tag
 }
 
 /// What a held object is.
+#[inline(always)]
 fn describe_held<H: GcHeap>(heap: &H, gc_ref: &VMGcRef) -> RootedObject
     requires sound { H.sound heap.now }
     requires held { IsHeld (H.seen heap.now) gc_ref.now }
@@ -104,6 +105,7 @@ impl<H: GcHeap, D: Drop> Store<H, D> {
     }
 
     /// What the reference with that word is.
+    #[inline(always)]
     pub(crate) fn describe(&self, word: u32) -> RootedObject
         requires { IsRootWord D H.KIND self.now word }
         ensures { (t : Table D) (place : Placing) (r : Reference) → Holds H.KIND self.now t place → IsWord place r word → 0 < word
@@ -118,6 +120,7 @@ impl<H: GcHeap, D: Drop> Store<H, D> {
 
     /// What the handle's reference is. `WrongStore` where it is another store's handle, `Unrooted`
     /// where it isn't live.
+    #[inline(always)]
     pub fn object(&self, handle: GcRootIndex) -> Result<RootedObject, RootFault>
         ensures wrong_store { is_of_store self.now handle ≡ false → result ≡ Err RootFault.WrongStore }
         ensures live { (t : Table D) (r : Reference) → HoldsTable H.KIND self.now t → NamesReference self.now t handle r → TellsReference t r result }
@@ -181,7 +184,8 @@ impl<H: GcHeap, D: Drop> Store<H, D> {
         if self.roots_full() {
             return Err(RootFault::RootsFull);
         }
-        if self.owner.reserve(1).is_err() {
+        let more = self.owner.roots_wanted();
+        if self.owner.reserve(more).is_err() {
             return Err(RootFault::Memory);
         }
         let generation = self.owner.generation();

@@ -5,6 +5,7 @@ ghost use Rattle.std.specs.Int.{bytes_low_first};
 ghost use Rattle.gc_types.specs.Layouts.{storage_width, value_width};
 ghost use Rattle.gc_model.specs.Forms.{top_form, type_form, storage_form};
 ghost use Rattle.gc_heap.specs.Access.{IsReadable};
+ghost use Rattle.gc_store.specs.declared.stored.Stored.TheVariants as kept;
 ghost use Rattle.gc_store.specs.Kept.{code_of, raw_form, KeptAs, IsKept, FitsForm, IsFound};
 ghost use Rattle.gc_store.specs.Words.{AreRising};
 ghost use Rattle.gc_store.specs.Stores.{ids_of};
@@ -40,18 +41,19 @@ pub(crate) enum Found {
 
 /// What is kept of a value; of a function value or a continuation that is interned its number, of a reference the word that
 /// its root has now.
+#[inline(always)]
 pub(crate) fn stored_value(
     interned: &InternedValues,
     scoped: &[RootEntry],
     owned: &[OwnedEntry],
-    value: RawValue,
+    value: &RawValue,
 ) -> Stored
     requires rising { AreRising owned.now }
-    requires kept { IsKept (ids_of interned.now) (record { scoped = scoped.now; owned = owned.now }) value }
-    ensures kept { KeptAs (ids_of interned.now) (record { scoped = scoped.now; owned = owned.now }) value result }
-    ensures small { FitsForm (raw_form value) (code_of result) }
+    requires kept { IsKept (ids_of interned.now) (record { scoped = scoped.now; owned = owned.now }) value.now }
+    ensures kept { KeptAs (ids_of interned.now) (record { scoped = scoped.now; owned = owned.now }) value.now result }
+    ensures small { FitsForm (raw_form value.now) (code_of result) }
 {
-    match &value {
+    match value {
         RawValue::I32(number) => Stored::Number(u128::from(number.cast_unsigned())),
         RawValue::I64(number) => Stored::Number(u128::from(number.cast_unsigned())),
         RawValue::F32(bits) => Stored::Number(u128::from(*bits)),
@@ -76,7 +78,43 @@ pub(crate) fn stored_value(
     }
 }
 
+/// Writes the low bytes of a number, as many as the slot has, into a slot of a held object. Of the usual widths they are those
+/// of a smaller number, which is written as one.
+#[inline(always)]
+fn write_low_bytes<H: GcHeap, D: Drop>(
+    owner: &mut HeapOwner<H, D>,
+    gc_ref: &VMGcRef,
+    slot: &Slot,
+    number: u128,
+)
+    requires idle { owner.old.seen.idle ≡ true }
+    requires can { CanWriteSlot H.KIND owner.old.seen gc_ref.now (storage_slot slot.now) (kept.Number number) }
+    ensures { WritesAt H.KIND owner.old.seen owner.new.seen gc_ref.now slot.now.offset (bytes_low_first 0 (storage_width slot.now.storage) number) }
+{
+    owner.is_ready();
+    let width = slot.storage.width();
+    match width {
+        1 => {
+            let low = (number % 0x100) as u8;
+            owner.write_number(gc_ref, slot.offset, &low.to_le_bytes());
+        }
+        4 => {
+            let low = (number % 0x1_0000_0000) as u32;
+            owner.write_number(gc_ref, slot.offset, &low.to_le_bytes());
+        }
+        8 => {
+            let low = (number % 0x1_0000_0000_0000_0000) as u64;
+            owner.write_number(gc_ref, slot.offset, &low.to_le_bytes());
+        }
+        _ => {
+            let bytes = number.to_le_bytes();
+            owner.write_number(gc_ref, slot.offset, &bytes[..width as usize]);
+        }
+    }
+}
+
 /// Writes a slot of a held object.
+#[inline(always)]
 pub(crate) fn write_slot<H: GcHeap, D: Drop>(
     owner: &mut HeapOwner<H, D>,
     gc_ref: &VMGcRef,
@@ -89,15 +127,13 @@ pub(crate) fn write_slot<H: GcHeap, D: Drop>(
 {
     owner.is_ready();
     match stored {
-        Stored::Number(number) => {
-            let bytes = number.to_le_bytes();
-            owner.write_number(gc_ref, slot.offset, &bytes[..slot.storage.width() as usize]);
-        }
+        Stored::Number(number) => write_low_bytes(owner, gc_ref, slot, number),
         Stored::Ref(word) => owner.write_reference(gc_ref, slot.offset, word),
     }
 }
 
 /// What a word in a slot of the types under that one is.
+#[inline(always)]
 fn found_under(top: HeapTopType, word: u32) -> Found
     ensures { IsFound (top_form top) word result }
 {
@@ -111,6 +147,7 @@ fn found_under(top: HeapTopType, word: u32) -> Found
 }
 
 /// What lies at an offset of a held object, by its type.
+#[inline(always)]
 fn read_typed<H: GcHeap>(heap: &H, gc_ref: &VMGcRef, offset: u32, ty: ValType) -> Found
     requires sound { H.sound heap.now }
     requires inside { IsReadable H.KIND (H.seen heap.now) gc_ref.now offset (value_width ty) }
@@ -128,6 +165,7 @@ fn read_typed<H: GcHeap>(heap: &H, gc_ref: &VMGcRef, offset: u32, ty: ValType) -
 }
 
 /// What lies in a slot of a held object. Small integers are read as unsigned ones.
+#[inline(always)]
 pub(crate) fn read_slot<H: GcHeap>(heap: &H, gc_ref: &VMGcRef, slot: &Slot) -> Found
     requires sound { H.sound heap.now }
     requires inside { IsReadable H.KIND (H.seen heap.now) gc_ref.now slot.now.offset (storage_width slot.now.storage) }

@@ -53,6 +53,7 @@ fn owned_word(entries: &[OwnedEntry], number: u64) -> Result<u32, RootFault>
 }
 
 /// The word of the root that the slot and the generation of a handle name, among the scoped roots.
+#[inline(always)]
 fn slot_word(entries: &[RootEntry], slot: RootSlot, generation: u64) -> Result<u32, RootFault>
     ensures { result ≡ slot_word entries.now slot generation }
 {
@@ -67,6 +68,7 @@ fn slot_word(entries: &[RootEntry], slot: RootSlot, generation: u64) -> Result<u
 
 /// The word of the root that the slot and the generation of a handle name, among the scoped roots and the owned
 /// ones.
+#[inline(always)]
 pub(crate) fn word_at(
     entries: &[RootEntry],
     owned: &[OwnedEntry],

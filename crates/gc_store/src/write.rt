@@ -58,7 +58,7 @@ impl<H: GcHeap, D: Drop> Store<H, D> {
                     &self.interned,
                     self.owner.scoped(),
                     self.owner.owned(),
-                    value,
+                    &value,
                 );
                 write_slot(&mut self.owner, &gc_ref, &slot, stored);
                 Ok(())

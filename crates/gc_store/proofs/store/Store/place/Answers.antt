@@ -481,7 +481,7 @@ returns-in-Err-clause-places g c t a o holds is_asked =
 pub returns-in-Ok-clause-spare : goal.returns-in-Ok-clause-spare
 returns-in-Ok-clause-spare g c =
     let at = (goal.at.returns-in-Ok-clause-spare g c).After-fill in
-    let more = reserves_more 1 c.self.inside.owner.seen.roots.spare c.reserve.new.self.seen.roots.spare c.reserve.result c.reserve.ensures.spare in
+    let more = reserves_more c.roots_wanted-more.result c.self.inside.owner.seen.roots.spare c.reserve.new.self.seen.roots.spare c.reserve.result c.reserve.ensures.spare in
     let less = (keeps g (ok_at g at)).spare in
     let same = ap (λ (v : OwnerView g.row.D.Denot). v.roots.spare + length v.roots.scoped) (filled g at).rewrites.rest in
     let count = ap (λ (v : OwnerView g.row.D.Denot). length v.roots.scoped) c.reserve.ensures.rest in
@@ -491,7 +491,7 @@ returns-in-Ok-clause-spare g c =
 pub returns-in-Err-clause-spare : goal.returns-in-Err-clause-spare
 returns-in-Err-clause-spare g c =
     let fault = (goal.at.returns-in-Err-clause-spare g c).In-Err in
-    let more = reserves_more 1 c.self.inside.owner.seen.roots.spare c.reserve.new.self.seen.roots.spare c.reserve.result c.reserve.ensures.spare in
+    let more = reserves_more c.roots_wanted-more.result c.self.inside.owner.seen.roots.spare c.reserve.new.self.seen.roots.spare c.reserve.result c.reserve.ensures.spare in
     let less = (rest_kept g fault).spare in
     let count = ap (λ (v : OwnerView g.row.D.Denot). length v.roots.scoped) c.reserve.ensures.rest in
     let was = ap (λ (s : StoreView g.row.D.Denot). scoped_places s) c.self.view_is in
