@@ -1,6 +1,6 @@
 //! Writes the reply to a command.
 
-ghost use Rattle.std.specs.Prelude.{◌≡◌, ◌++◌, ◌≤◌, codes, IfOk, OnOk, string_bytes};
+ghost use Rattle.std.specs.Prelude.{◌≡◌, ℕ, List, ◌++◌, ◌≤◌, codes, IfOk, IfSome, OnOk, string_bytes};
 ghost use Rattle.gc_commands.specs.Text.{bool_text, refusal_text, text_of, value_text};
 ghost use Rattle.gc_commands.specs.Words.{bytes_text, hex_digits};
 
@@ -32,7 +32,31 @@ pub fn push_reply(text: &mut String, reply: &Reply) -> Result<(), AllocError>
         Reply::Capacity(n) => write!(text, "cap {n}"),
         Reply::Increments(n) => write!(text, "increments {n}"),
         Reply::Bytes(bytes) => push_byte_text(text, bytes.as_slice()),
-        Reply::Refused(refusal) => text.push_str(name_of(*refusal)),
+        Reply::Refused(refusal) => text.push_str(without_feed(refusal_line(*refusal))),
+    }
+}
+
+/// The line of a reply that tells no value, number or bytes, its line feed included: it takes no buffer to write it.
+/// None for other replies.
+pub fn fixed_line(reply: &Reply) -> Option<&'static str>
+    ensures { IfSome result (λ line. line.now ≡ text_of reply.now ++ codes "\n") }
+{
+    match reply {
+        Reply::Done => Some("ok\n"),
+        Reply::Same(true) => Some("true\n"),
+        Reply::Same(false) => Some("false\n"),
+        Reply::Refused(refusal) => Some(refusal_line(*refusal)),
+        _ => None,
+    }
+}
+
+/// A line without its line feed.
+fn without_feed(line: &str) -> &str
+    ensures { (front : List ℕ) → line.now ≡ front ++ codes "\n" → result.now ≡ front }
+{
+    match line.strip_suffix('\n') {
+        Some(front) => front,
+        None => line,
     }
 }
 
@@ -56,27 +80,27 @@ fn push_value(text: &mut String, value: &ReplyValue) -> Result<(), AllocError>
     }
 }
 
-/// The name of a refusal.
-fn name_of(refusal: Refusal) -> &'static str
-    ensures { result.now ≡ refusal_text refusal }
+/// The name of a refusal, with a line feed behind it.
+fn refusal_line(refusal: Refusal) -> &'static str
+    ensures { result.now ≡ refusal_text refusal ++ codes "\n" }
 {
     match refusal {
-        Refusal::BadLine => "BadLine",
-        Refusal::NoSuchName => "NoSuchName",
-        Refusal::Unrooted => "Unrooted",
-        Refusal::WrongKind => "WrongKind",
-        Refusal::BadType => "BadType",
-        Refusal::FieldCount => "FieldCount",
-        Refusal::TypeMismatch => "TypeMismatch",
-        Refusal::OutOfBounds => "OutOfBounds",
-        Refusal::Immutable => "Immutable",
-        Refusal::NotI8Array => "NotI8Array",
-        Refusal::LengthMismatch => "LengthMismatch",
-        Refusal::TooLarge => "TooLarge",
-        Refusal::RootsFull => "RootsFull",
-        Refusal::GcHeapOutOfMemory => "GcHeapOutOfMemory",
-        Refusal::GcHeapGrowthFailed => "GcHeapGrowthFailed",
-        Refusal::ThrownException => "ThrownException",
+        Refusal::BadLine => "BadLine\n",
+        Refusal::NoSuchName => "NoSuchName\n",
+        Refusal::Unrooted => "Unrooted\n",
+        Refusal::WrongKind => "WrongKind\n",
+        Refusal::BadType => "BadType\n",
+        Refusal::FieldCount => "FieldCount\n",
+        Refusal::TypeMismatch => "TypeMismatch\n",
+        Refusal::OutOfBounds => "OutOfBounds\n",
+        Refusal::Immutable => "Immutable\n",
+        Refusal::NotI8Array => "NotI8Array\n",
+        Refusal::LengthMismatch => "LengthMismatch\n",
+        Refusal::TooLarge => "TooLarge\n",
+        Refusal::RootsFull => "RootsFull\n",
+        Refusal::GcHeapOutOfMemory => "GcHeapOutOfMemory\n",
+        Refusal::GcHeapGrowthFailed => "GcHeapGrowthFailed\n",
+        Refusal::ThrownException => "ThrownException\n",
     }
 }
 
