@@ -1,6 +1,6 @@
 -- Plain decimals: which texts they are, and how they are read digit by digit.
 use Rattle.std.proofs.Common.{◌≡◌, ℕ, ℤ, pos, negsuc, suc, ◌+◌, ◌*◌, ◌<◌, ◌≤◌, ◌^◌, List, [], ◌∷◌, length, take, get_or, Result, Ok, Err, FitsSigned, of_z, to_z, to_z-of_z, rules, sym, ap, subst, ◌∙◌, inl, inr, ⊎_elim, arith}
-use Rattle.std.specs.Char.{digit_value}
+use Rattle.std.specs.Char.{IsNotAsciiDigit, digit_value}
 use Rattle.std.specs.Fmt.{decimal, signed_decimal}
 use Rattle.std.specs.Int.{IsInRange, w32, w64}
 use Rattle.std.specs.Result.{OkIff, result_ok}
@@ -44,22 +44,26 @@ spelled_all word bs i n plain same past all is small =
     spelled_by word n plain (subst (AllDigits 10) whole all) (is ∙ ap (digits_value 10) whole) small
 
 -- one more digit was read
-pub number_turn : (bs : List ℕ) (i v next : ℕ) → i < length bs → AllDigits 10 (take i bs) → v ≡ digits_value 10 (take i bs) → digit_value (get_or bs i 0) < 10 → next ≡ v * 10 + digit_value (get_or bs i 0)
+pub number_turn : (bs : List ℕ) (i v next : ℕ) → i < length bs → AllDigits 10 (take i bs) → v ≡ digits_value 10 (take i bs) → IsInRange 48 57 (get_or bs i 0) → next + 48 ≡ v * 10 + get_or bs i 0
     → AllDigits 10 (take (i + 1) bs) × (next ≡ digits_value 10 (take (i + 1) bs))
-number_turn bs i v next inside all is digit sum =
-    (digits_more 10 bs i inside all digit, sum ∙ ap (λ n. n * 10 + digit_value (get_or bs i 0)) is ∙ sym (digits_value_more 10 bs i inside))
+number_turn bs i v next inside all is range sum =
+    let value = digit_value_digit (get_or bs i 0) range in
+    let high = range.1 in
+    let more = digits_value_more 10 bs i inside in
+    (digits_more 10 bs i inside all (omega arith), omega arith)
 
 -- a text with what is no digit spells no number
-pub no_digit : (bs : List ℕ) (i n : ℕ) → i < length bs → 10 ≤ digit_value (get_or bs i 0) → n < 2 ^ 64 → bs ≡ decimal n → ⊥
+pub no_digit : (bs : List ℕ) (i n : ℕ) → i < length bs → IsNotAsciiDigit (get_or bs i 0) → n < 2 ^ 64 → bs ≡ decimal n → ⊥
 no_digit bs i n inside bad small e =
     let range = digit_at bs i (subst (AllDigits 10) (sym e) (digits_decimal own n small)) inside in
-    let value = digit_value_digit (get_or bs i 0) range in
+    let low = range.0 in
     let high = range.1 in
     omega arith
 
 -- nor does one whose first digits are too great a number already
-pub no_room : (bs : List ℕ) (i v n : ℕ) → i < length bs → v ≡ digits_value 10 (take i bs) → 2 ^ 64 ≤ v * 10 + digit_value (get_or bs i 0) → n < 2 ^ 64 → bs ≡ decimal n → ⊥
-no_room bs i v n inside is over small e =
+pub no_room : (bs : List ℕ) (i v d n : ℕ) → i < length bs → v ≡ digits_value 10 (take i bs) → IsInRange 48 57 (get_or bs i 0) → d + 48 ≤ get_or bs i 0 → 2 ^ 64 ≤ v * 10 + d → n < 2 ^ 64 → bs ≡ decimal n → ⊥
+no_room bs i v d n inside is range digit over small e =
+    let value = digit_value_digit (get_or bs i 0) range in
     let more = digits_value_more 10 bs i inside in
     let within = digits_value-take-le 10 bs (i + 1) (omega arith) in
     let all : digits_value 10 bs ≡ n = ap (digits_value 10) e ∙ digits_value-decimal own n small in

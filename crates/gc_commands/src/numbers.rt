@@ -2,8 +2,7 @@
 //!
 //! A reader answers None exactly where the word spells no number in its range.
 
-ghost use Rattle.std.specs.Prelude.{◌≡◌, ◌≤◌, ◌<◌, ◌^◌, ◌↔◌, FitsSigned, IsTrue, MatchOption};
-ghost use Rattle.std.specs.Char.{digit_value};
+ghost use Rattle.std.specs.Prelude.{◌≤◌, ◌<◌, ◌^◌, ◌↔◌, FitsSigned, IsTrue};
 ghost use Rattle.std.specs.Fmt.{decimal, signed_decimal};
 ghost use Rattle.std.specs.Int.{w32, w64};
 ghost use Rattle.gc_commands.specs.Reading.{IsPlain, Reads};
@@ -18,20 +17,12 @@ pub fn number(word: &str, most: u64) -> Option<u64>
     }
     let mut n: u64 = 0;
     for byte in word.as_bytes() {
-        let digit = digit_of(*byte)?;
-        n = n.checked_mul(10)?.checked_add(digit)?;
+        if !byte.is_ascii_digit() {
+            return None;
+        }
+        n = n.checked_mul(10)?.checked_add(u64::from(*byte - b'0'))?;
     }
     if n <= most { Some(n) } else { None }
-}
-
-/// The value of a decimal digit.
-fn digit_of(byte: u8) -> Option<u64>
-    ensures { MatchOption result (10 ≤ digit_value byte) (λ digit. (digit ≡ digit_value byte) × (digit < 10)) }
-{
-    match byte {
-        b'0'..=b'9' => Some(u64::from(byte - b'0')),
-        _ => None,
-    }
 }
 
 /// The register that a word spells, from 0 to 65535.

@@ -11,25 +11,32 @@ returns-then-not-is_plain c = λ n fits spelled. false≢true (c.if-not-is_plain
 pub loop-byte-init : goal.loop-byte-init
 loop-byte-init c = record { small = omega arith; digits = tt; value = refl }
 
-pub returns-in_err-digit : goal.returns-in_err-digit
-returns-in_err-digit c =
-    rw c.from_residual.ensures
-    (λ n fits spelled. no_digit c.as_bytes-byte-items.result.now c.loop-byte.byte-index n c.loop-byte-test.true c.in_err-digit.ensures (omega arith) (c.as_bytes-byte-items.ensures.value ∙ spelled))
+pub returns-then-not-is_ascii_digit : goal.returns-then-not-is_ascii_digit
+returns-then-not-is_ascii_digit c = λ n fits spelled. no_digit c.as_bytes-byte-items.result.now c.loop-byte.byte-index n c.loop-byte-test.true c.if-not-is_ascii_digit.ensures.cases (omega arith) (c.as_bytes-byte-items.ensures.value ∙ spelled)
 
 pub returns-in_err-checked_mul : goal.returns-in_err-checked_mul
 returns-in_err-checked_mul c =
-    rw c.from_residual-in_err-checked_mul.ensures
-    (λ n fits spelled. no_room c.as_bytes-byte-items.result.now c.loop-byte.byte-index c.loop-byte.n n c.loop-byte-test.true c.loop-byte.invariant.value (omega (arith, c.in_err-checked_mul.ensures)) (omega arith) (c.as_bytes-byte-items.ensures.value ∙ spelled))
+    rw c.from_residual.ensures
+    (λ n fits spelled.
+    let range = c.if-not-is_ascii_digit.ensures.cases in
+    let low = range.0 in
+    no_room c.as_bytes-byte-items.result.now c.loop-byte.byte-index c.loop-byte.n 0 n c.loop-byte-test.true c.loop-byte.invariant.value range (omega arith) (omega (arith, c.in_err-checked_mul.ensures)) (omega arith) (c.as_bytes-byte-items.ensures.value ∙ spelled))
 
 pub returns-in_err-n : goal.returns-in_err-n
 returns-in_err-n c =
     rw c.from_residual-in_err-n.ensures
-    (λ n fits spelled. no_room c.as_bytes-byte-items.result.now c.loop-byte.byte-index c.loop-byte.n n c.loop-byte-test.true c.loop-byte.invariant.value (omega (arith, c.in_ok-checked_mul.ensures, c.in_err-n.ensures, c.in_ok-digit.ensures)) (omega arith) (c.as_bytes-byte-items.ensures.value ∙ spelled))
+    (λ n fits spelled.
+    let range = c.if-not-is_ascii_digit.ensures.cases in
+    let low = range.0 in
+    no_room c.as_bytes-byte-items.result.now c.loop-byte.byte-index c.loop-byte.n c.from.result n c.loop-byte-test.true c.loop-byte.invariant.value range (omega (arith, c.from.ensures)) (omega (arith, c.in_ok-checked_mul.ensures, c.in_err-n.ensures, c.from.ensures)) (omega arith)
+    (c.as_bytes-byte-items.ensures.value ∙ spelled))
 
 pub loop-byte-preserved : goal.loop-byte-preserved
 loop-byte-preserved c =
-    let turned = number_turn c.as_bytes-byte-items.result.now c.loop-byte.byte-index c.loop-byte.n c.in_ok-n.n c.loop-byte-test.true c.loop-byte.invariant.digits c.loop-byte.invariant.value (subst (λ d. d < 10) c.in_ok-digit.ensures.0 c.in_ok-digit.ensures.1)
-    (c.in_ok-n.ensures.1 ∙ (λ i. c.in_ok-checked_mul.ensures.1 i + c.in_ok-digit.ensures.0 i)) in
+    let range = c.if-not-is_ascii_digit.ensures.cases in
+    let low = range.0 in
+    let turned = number_turn c.as_bytes-byte-items.result.now c.loop-byte.byte-index c.loop-byte.n c.in_ok-n.n c.loop-byte-test.true c.loop-byte.invariant.digits c.loop-byte.invariant.value range
+    (omega (arith, c.in_ok-n.ensures, c.in_ok-checked_mul.ensures, c.from.ensures)) in
     record { small = omega (arith, c.in_ok-n.ensures); digits = turned.0; value = turned.1 }
 
 pub returns-then-n-most : goal.returns-then-n-most
