@@ -1,5 +1,5 @@
 -- A line and its words: what spells a command is cut into the command's words, and joins them again.
-use Rattle.std.proofs.Common.{◌≡◌, ◌==◌, ℕ, suc, zero, ◌<◌, ◌≤◌, List, [], ◌∷◌, length, codes, refl, sym, ap, subst, ◌∙◌, arith, false, Some}
+use Rattle.std.proofs.Common.{◌≡◌, ◌==◌, ℕ, suc, zero, ◌<◌, ◌≤◌, List, [], ◌∷◌, ◌++◌, length, codes, refl, sym, ap, subst, ◌∙◌, arith, false, Option, None, Some, Bor, IfSome, MatchOption}
 use Rattle.std.specs.List.{All, join_with_byte, slice_split}
 use Rattle.std.specs.Str.{IsAscii, IsUtf8}
 use Rattle.std.proofs.lemmas.Bool.{ne_eqb}
@@ -15,6 +15,7 @@ use Rattle.gc_commands.specs.Spelling.{FitsCommand, IsCommandOf, Spells, max_lin
 use Rattle.gc_commands.proofs.FormLemmas.{has_form, words_by_form}
 use Rattle.gc_commands.proofs.GraphicLemmas.{AreWords, IsWord, word_text}
 use Rattle.gc_commands.proofs.ShapeLemmas.{operands_fit}
+use Rattle.gc_commands.proofs.WordLemmas.{ascii_behind}
 
 word_name : (f : Form) → IsWord (name_of f)
 word_name form.Struct = word_text (codes "struct") refl
@@ -55,10 +56,6 @@ ascii_joined (word ∷ []) all = ascii_word word all.0
 ascii_joined (word ∷ next ∷ words) all =
     IsAscii-append word (32 ∷ join_with_byte 32 (next ∷ words)) (ascii_word word all.0) (ascii_cons 32 (join_with_byte 32 (next ∷ words)) (omega arith) (ascii_joined (next ∷ words) all.1))
 
--- a line that spells a command is text
-pub text_of_spelled : (line : List ℕ) (c : Command) → Spells line c → IsUtf8 line
-text_of_spelled line c s = IsUtf8-from_ascii line (subst IsAscii (sym s.spelled) (ascii_joined (words_of c) (words_fit c s.fits)))
-
 -- the words of a command's spelling are those of the command
 pub words_of_spelling : (c : Command) → FitsCommand c → slice_split (λ b. b == 32) (spelling c) ≡ words_of c
 words_of_spelling c fits = cut_joined (words_of c) (words_fit c fits) (some_words c fits)
@@ -74,3 +71,8 @@ spells_of_words line c fits short words = record { fits = fits; short = short; s
 pub command_of_words : (line : List ℕ) (c : Command) → FitsCommand c → length line ≤ max_line → slice_split (λ b. b == 32) line ≡ words_of c → IsCommandOf line c
 command_of_words line command.Bad fits short words = absurd fits
 command_of_words line c fits short words = spells_of_words line c fits short words
+
+-- a line whose words behind the first one are no text
+pub no_text_behind : (line name : List ℕ) (behind : Option (Bor (List ℕ))) → MatchOption behind ⊥ (λ rest. IsUtf8 rest.now → ⊥) → IfSome behind (λ rest. line ≡ name ++ 32 ∷ rest.now) → (c : Command) → Spells line c → ⊥
+no_text_behind line name None none cut c s = none
+no_text_behind line name (Some rest) none cut c s = none (IsUtf8-from_ascii rest.now (ascii_behind name rest.now (subst IsAscii (sym s.spelled ∙ cut) (ascii_joined (words_of c) (words_fit c s.fits)))))

@@ -1,13 +1,16 @@
--- Plain decimals: which texts they are, and what `parse` makes of them.
-use Rattle.std.proofs.Common.{◌≡◌, ◌≢◌, ℕ, ℤ, pos, negsuc, suc, ◌<◌, ◌≤◌, ◌^◌, List, ◌∷◌, length, get_or, Result, Ok, Err, FitsSigned, of_z, to_z, to_z-of_z, rules, sym, ap, subst, ◌∙◌, inl, inr, ⊎_elim, arith}
+-- Plain decimals: which texts they are, and how they are read digit by digit.
+use Rattle.std.proofs.Common.{◌≡◌, ℕ, ℤ, pos, negsuc, suc, ◌+◌, ◌*◌, ◌<◌, ◌≤◌, ◌^◌, List, [], ◌∷◌, length, take, get_or, Result, Ok, Err, FitsSigned, of_z, to_z, to_z-of_z, rules, sym, ap, subst, ◌∙◌, inl, inr, ⊎_elim, arith}
+use Rattle.std.specs.Char.{IsNotAsciiDigit, digit_value}
 use Rattle.std.specs.Fmt.{decimal, signed_decimal}
 use Rattle.std.specs.Int.{IsInRange, w32, w64}
 use Rattle.std.specs.Result.{OkIff, result_ok}
-use Rattle.std.specs.Str.Parse.{AllDigits, ParsesUnsigned, digits_value}
+use Rattle.std.specs.Str.Parse.{AllDigits, digits_value}
 use Rattle.std.proofs.lemmas.Bool.{cases_lt}
-use Rattle.std.proofs.lemmas.Fmt.{decimal_digit, decimal_injective, decimal_nonempty, decimal-digits_value, digits_decimal, first_decimal, parse-decimal, signed_decimal_injective}
-use Rattle.std.proofs.lemmas.Result.{OkIff-at_ok}
-use Rattle.std.proofs.lemmas.Str.Parse.{IsNumeralModel, digit_at, numerals_by_value, parse_plain, tells_digits}
+use Rattle.std.proofs.lemmas.Fmt.{decimal_digit, decimal_injective, decimal_nonempty, decimal-digits_value, digits_decimal, digits_value-decimal, first_decimal, signed_decimal_injective}
+use Rattle.std.proofs.lemmas.Int.Digits.{digits_more, digits_value_more}
+use Rattle.std.proofs.lemmas.List.{take_all}
+use Rattle.std.proofs.lemmas.Str.{digit_value_digit}
+use Rattle.std.proofs.lemmas.Str.Parse.{IsNumeralModel, digit_at, digits_value-take-le, numerals_by_value, tells_digits}
 use Rattle.gc_commands.specs.Reading.{IsPlain, Reads}
 
 pub own : IsNumeralModel (AllDigits 10) (digits_value 10)
@@ -24,17 +27,47 @@ plain-decimal n small = ⊎_elim
     (λ more. inr (let low : 48 < get_or (decimal n) 0 0 = first_decimal n (omega arith) small in let high = first_digit n small in (omega arith, high.1)))
     (cases_lt n 1)
 
--- what `parse` reads of a text with no leading zero is the number that the text spells
-pub parsed : (bs : List ℕ) (n : ℕ) {E : Type 0} (r : Result ℕ E) → IsPlain bs → ParsesUnsigned 64 10 bs r → r ≡ Ok n → (n < 2 ^ 64) × (bs ≡ decimal n)
-parsed bs n r plain parses ok =
-    let no_plus : get_or bs 0 0 ≢ 43 = λ plus. ⊎_elim (λ zero. let first = ap (λ t. get_or t 0 0) zero in omega arith) (λ range. omega arith) plain in
-    let read = OkIff-at_ok r _ _ n (parse_plain own 64 bs r parses no_plus) ok in
-    let lone : get_or bs 0 0 ≡ 48 → length bs ≡ 1 = λ first. ⊎_elim (λ zero. ap length zero) (λ range. absurd (omega arith)) plain in
-    (let same = read.1 in let small = read.0.2 in omega arith, sym (decimal-digits_value own bs read.0.0 read.0.1 lone read.0.2) ∙ ap decimal (sym read.1))
+no_first : (bs : List ℕ) → 49 ≤ get_or bs 0 0 → 0 < length bs
+no_first [] low = absurd (omega arith)
+no_first (b ∷ bs) low = omega arith
 
--- where `parse` fails, the text spells no number
-pub unparsed : (bs : List ℕ) (n : ℕ) {E : Type 0} (r : Result ℕ E) (e : E) → ParsesUnsigned 64 10 bs r → r ≡ Err e → n < 2 ^ 64 → bs ≡ decimal n → ⊥
-unparsed bs n r e parses err small spelled = let ok = parse-decimal 64 n bs r small small spelled parses in cc
+-- digits with no leading zero are those of their value
+pub spelled_by : (bs : List ℕ) (n : ℕ) → IsPlain bs → AllDigits 10 bs → n ≡ digits_value 10 bs → n < 2 ^ 64 → bs ≡ decimal n
+spelled_by bs n plain all is small =
+    let lone : get_or bs 0 0 ≡ 48 → length bs ≡ 1 = λ first. ⊎_elim (λ zero. ap length zero) (λ range. absurd (omega arith)) plain in
+    let some : 0 < length bs = ⊎_elim (λ zero. let one = ap length zero in omega arith) (λ range. no_first bs range.0) plain in
+    sym (decimal-digits_value own bs all some lone (omega arith)) ∙ ap decimal (sym is)
+
+pub spelled_all : (word bs : List ℕ) (i n : ℕ) → IsPlain word → bs ≡ word → length bs ≤ i → AllDigits 10 (take i bs) → n ≡ digits_value 10 (take i bs) → n < 2 ^ 64 → word ≡ decimal n
+spelled_all word bs i n plain same past all is small =
+    let whole : take i bs ≡ word = take_all i bs past ∙ same in
+    spelled_by word n plain (subst (AllDigits 10) whole all) (is ∙ ap (digits_value 10) whole) small
+
+-- one more digit was read
+pub number_turn : (bs : List ℕ) (i v next : ℕ) → i < length bs → AllDigits 10 (take i bs) → v ≡ digits_value 10 (take i bs) → IsInRange 48 57 (get_or bs i 0) → next + 48 ≡ v * 10 + get_or bs i 0
+    → AllDigits 10 (take (i + 1) bs) × (next ≡ digits_value 10 (take (i + 1) bs))
+number_turn bs i v next inside all is range sum =
+    let value = digit_value_digit (get_or bs i 0) range in
+    let high = range.1 in
+    let more = digits_value_more 10 bs i inside in
+    (digits_more 10 bs i inside all (omega arith), omega arith)
+
+-- a text with what is no digit spells no number
+pub no_digit : (bs : List ℕ) (i n : ℕ) → i < length bs → IsNotAsciiDigit (get_or bs i 0) → n < 2 ^ 64 → bs ≡ decimal n → ⊥
+no_digit bs i n inside bad small e =
+    let range = digit_at bs i (subst (AllDigits 10) (sym e) (digits_decimal own n small)) inside in
+    let low = range.0 in
+    let high = range.1 in
+    omega arith
+
+-- nor does one whose first digits are too great a number already
+pub no_room : (bs : List ℕ) (i v d n : ℕ) → i < length bs → v ≡ digits_value 10 (take i bs) → IsInRange 48 57 (get_or bs i 0) → d + 48 ≤ get_or bs i 0 → 2 ^ 64 ≤ v * 10 + d → n < 2 ^ 64 → bs ≡ decimal n → ⊥
+no_room bs i v d n inside is range digit over small e =
+    let value = digit_value_digit (get_or bs i 0) range in
+    let more = digits_value_more 10 bs i inside in
+    let within = digits_value-take-le 10 bs (i + 1) (omega arith) in
+    let all : digits_value 10 bs ≡ n = ap (digits_value 10) e ∙ digits_value-decimal own n small in
+    omega arith
 
 -- no decimal begins with a dash
 pub no_dash : (n : ℕ) (rest : List ℕ) → n < 2 ^ 64 → decimal n ≡ 45 ∷ rest → ⊥

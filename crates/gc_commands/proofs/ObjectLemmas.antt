@@ -1,5 +1,5 @@
 -- What the readers of the commands with several parts need: where a part is none, the command is none.
-use Rattle.std.proofs.Common.{◌≡◌, ℕ, ◌<◌, ◌^◌, Bool, List, [], ◌∷◌, map, length, drop, get_or, Option, None, Some, Result, Ok, Err, IfOk, refl, sym, ap, subst, ◌∙◌, ◌⊎◌, inl, inr, arith}
+use Rattle.std.proofs.Common.{◌≡◌, ℕ, ◌<◌, ◌^◌, Bool, List, [], ◌∷◌, map, length, drop, get_or, Option, None, Some, refl, sym, ap, subst, ◌∙◌, ◌⊎◌, inl, inr, arith}
 use Rattle.std.specs.Fmt.{decimal}
 use Rattle.std.specs.List.{AllByRecursion}
 use Rattle.gc_commands.specs.declared.command.Command.{Command}
@@ -102,7 +102,3 @@ pub alone_read : (f : Form) (known : Command) (words : List (List ℕ)) (r : Opt
     → Reads (λ c. c ≡ known) (λ c. []) words r → Reads (IsOf f) operands_of words r
 alone_read f known words None of empty only none = λ c c_of e. none known refl (e ∙ ap operands_of (only c c_of) ∙ empty)
 alone_read f known words (Some c) of empty only read = (subst (IsOf f) (sym read.0) of, read.1 ∙ sym empty ∙ ap operands_of (sym read.0))
-
-pub result_read : {E : Type 0} (f : Form) (words rest : List (List ℕ)) (r : Result (Option Command) E) → words ≡ name_of f ∷ rest → IfOk r (λ c. Reads (IsOf f) operands_of rest c) → IfOk r (λ c. Reads FitsCommand words_of words c)
-result_read f words rest (Ok c) at read = command_read f words rest c at read
-result_read f words rest (Err e) at read = tt

@@ -1,8 +1,13 @@
 -- The words of a line, and the line of words.
-use Rattle.std.proofs.Common.{◌≡◌, ◌==◌, ℕ, ◌+◌, ◌<◌, Bool, true, false, cond, not, List, [], ◌∷◌, length, refl, sym, ap, ◌∙◌, arith, Option, Bor}
-use Rattle.std.specs.List.{slice_split, onto_first, position_or_len, before_first, after_first}
+use Rattle.std.proofs.Common.{◌≡◌, ◌==◌, ℕ, suc, ◌+◌, ◌<◌, ◌≤◌, Bool, true, false, cond, not, nat_lt, List, [], ◌∷◌, ◌++◌, length, take, drop, get_or, refl, sym, ap, ◌∙◌, arith, Option, None, Some, Bor, length-take-le, take-append-drop}
+use Rattle.std.specs.List.{slice_split, onto_first, position, position_or_len}
 use Rattle.std.specs.Option.{option_map_or}
-use Rattle.std.proofs.lemmas.List.Splits.{slice_split_first}
+use Rattle.std.specs.Str.{IsAscii}
+use Rattle.std.proofs.lemmas.Bool.{eqb-true, ltb-false}
+use Rattle.std.proofs.lemmas.List.{drop_more, get_or-take, get_or_default}
+use Rattle.std.proofs.lemmas.List.Quantifiers.{position-Some}
+use Rattle.std.proofs.lemmas.List.Splits.{slice_split_at}
+use Rattle.std.proofs.lemmas.List.Sums.{prefix_len-le-length}
 
 -- the words of a rest that may be gone
 abbrev pub words_left : Option (Bor (List ℕ)) → List (List ℕ)
@@ -19,8 +24,38 @@ pub one_word : (line : List ℕ) → position_or_len (λ b. b == 32) line ≡ le
 one_word [] e = refl
 one_word (b ∷ line) e = one_word_by b line (b == 32) (one_word line) e
 
+-- a line, cut at its first space
+pub cut_at : (line : List ℕ) (k : ℕ) → position (λ b. b == 32) line ≡ Some k → line ≡ take k line ++ 32 ∷ drop (k + 1) line
+cut_at line k found =
+    let first = position-Some (λ b. b == 32) line k 0 found in
+    let space : get_or line k 0 ≡ 32 = eqb-true (get_or line k 0) 32 first.1 in
+    sym (take-append-drop k line) ∙ ap (λ r. take k line ++ r) (drop_more line k 0 first.0 ∙ ap (λ b. b ∷ drop (k + 1) line) space)
+
 -- the first word and the words behind it
-pub first_word : (line word behind : List ℕ) → word ≡ before_first (λ b. b == 32) line → behind ≡ after_first (λ b. b == 32) line → position_or_len (λ b. b == 32) line < length line
-    → slice_split (λ b. b == 32) line ≡ word ∷ slice_split (λ b. b == 32) behind
-first_word line word behind first rest space =
-    slice_split_first (λ b. b == 32) line 0 space ∙ ap (λ w. w ∷ slice_split (λ b. b == 32) (after_first (λ b. b == 32) line)) (sym first) ∙ ap (λ r. word ∷ slice_split (λ b. b == 32) r) (sym rest)
+pub first_word : (line : List ℕ) (k : ℕ) → position (λ b. b == 32) line ≡ Some k → slice_split (λ b. b == 32) line ≡ take k line ∷ slice_split (λ b. b == 32) (drop (k + 1) line)
+first_word line k found =
+    let first = position-Some (λ b. b == 32) line k 0 found in
+    let within = first.0 in
+    let long : length (take k line) ≡ k = length-take-le k line (omega (arith, within)) in
+    ap (slice_split (λ b. b == 32)) (cut_at line k found) ∙ slice_split_at (λ b. b == 32) (take k line) 32 (drop (k + 1) line)
+    (λ j d inside.
+    let below : j < k = omega (arith, inside, long) in
+    sym (ap (λ b. b == 32) (get_or_default line j 0 d (omega (arith, below, within)) ∙ sym (get_or-take k line j d below))) ∙ first.2 j below) refl
+
+unfound_by : (k n : ℕ) (inside : Bool) → nat_lt k n ≡ inside → k ≤ n → cond inside (Some k) None ≡ None → k ≡ n
+unfound_by k n true e within none = cc
+unfound_by k n false e within none = let past = ltb-false k n e in omega arith
+
+-- a line in which no space was found
+pub no_space_found : (line : List ℕ) → position (λ b. b == 32) line ≡ None → slice_split (λ b. b == 32) line ≡ line ∷ []
+no_space_found line none =
+    let k = position_or_len (λ b. b == 32) line in
+    one_word line (unfound_by k (length line) (nat_lt k (length line)) refl (prefix_len-le-length (λ b. not (b == 32)) line) none)
+
+-- what stands behind the first space of ASCII is ASCII
+pub ascii_behind : (name rest : List ℕ) → IsAscii (name ++ 32 ∷ rest) → IsAscii rest
+ascii_behind [] rest all = λ i. all (suc i)
+ascii_behind (b ∷ name) rest all = ascii_behind name rest (λ i. all (suc i))
+
+pub space_at : (line : List ℕ) (k : ℕ) → position (λ b. b == 32) line ≡ Some k → (k < length line) × (get_or line k 0 ≡ 32)
+space_at line k found = let first = position-Some (λ b. b == 32) line k 0 found in (first.0, eqb-true (get_or line k 0) 32 first.1)

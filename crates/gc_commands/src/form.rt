@@ -46,7 +46,7 @@ pub enum Form {
 }
 
 /// The form that has this first word. A word is compared with those of its own length alone.
-pub(crate) fn form_of(word: &str) -> Option<Form>
+pub(crate) fn form_of(word: &[u8]) -> Option<Form>
     ensures { Reads (λ f. Unit {0}) name_of word.now result }
 {
     match word.len() {
@@ -60,86 +60,86 @@ pub(crate) fn form_of(word: &str) -> Option<Form>
 }
 
 /// The form whose first word has two letters.
-fn form_of_two(word: &str) -> Option<Form>
+fn form_of_two(word: &[u8]) -> Option<Form>
     requires { length word.now ≡ 2 }
     ensures { Reads (λ f. Unit {0}) name_of word.now result }
 {
     match word {
-        "eq" => Some(Form::Eq),
-        "gc" => Some(Form::Gc),
+        b"eq" => Some(Form::Eq),
+        b"gc" => Some(Form::Gc),
         _ => None,
     }
 }
 
 /// The form whose first word has three letters.
-fn form_of_three(word: &str) -> Option<Form>
+fn form_of_three(word: &[u8]) -> Option<Form>
     requires { length word.now ≡ 3 }
     ensures { Reads (λ f. Unit {0}) name_of word.now result }
 {
     match word {
-        "exn" => Some(Form::Exn),
-        "new" => Some(Form::New),
-        "i31" => Some(Form::I31),
-        "len" => Some(Form::Len),
-        "pop" => Some(Form::Pop),
-        "own" => Some(Form::Own),
-        "cap" => Some(Form::Cap),
+        b"exn" => Some(Form::Exn),
+        b"new" => Some(Form::New),
+        b"i31" => Some(Form::I31),
+        b"len" => Some(Form::Len),
+        b"pop" => Some(Form::Pop),
+        b"own" => Some(Form::Own),
+        b"cap" => Some(Form::Cap),
         _ => None,
     }
 }
 
 /// The form whose first word has four letters.
-fn form_of_four(word: &str) -> Option<Form>
+fn form_of_four(word: &[u8]) -> Option<Form>
     requires { length word.now ≡ 4 }
     ensures { Reads (λ f. Unit {0}) name_of word.now result }
 {
     match word {
-        "host" => Some(Form::Host),
-        "elem" => Some(Form::Elem),
-        "data" => Some(Form::HostNumber),
-        "setf" => Some(Form::SetField),
-        "sete" => Some(Form::SetElem),
-        "push" => Some(Form::Push),
-        "load" => Some(Form::Load),
-        "gset" => Some(Form::SetGlobal),
-        "gget" => Some(Form::GetGlobal),
-        "root" => Some(Form::Root),
-        "take" => Some(Form::Take),
-        "grow" => Some(Form::Grow),
+        b"host" => Some(Form::Host),
+        b"elem" => Some(Form::Elem),
+        b"data" => Some(Form::HostNumber),
+        b"setf" => Some(Form::SetField),
+        b"sete" => Some(Form::SetElem),
+        b"push" => Some(Form::Push),
+        b"load" => Some(Form::Load),
+        b"gset" => Some(Form::SetGlobal),
+        b"gget" => Some(Form::GetGlobal),
+        b"root" => Some(Form::Root),
+        b"take" => Some(Form::Take),
+        b"grow" => Some(Form::Grow),
         _ => None,
     }
 }
 
 /// The form whose first word has five letters.
-fn form_of_five(word: &str) -> Option<Form>
+fn form_of_five(word: &[u8]) -> Option<Form>
     requires { length word.now ≡ 5 }
     ensures { Reads (λ f. Unit {0}) name_of word.now result }
 {
     match word {
-        "array" => Some(Form::Array),
-        "fixed" => Some(Form::Fixed),
-        "bytes" => Some(Form::Bytes),
-        "field" => Some(Form::Field),
-        "enter" => Some(Form::Enter),
-        "leave" => Some(Form::Leave),
-        "store" => Some(Form::Store),
-        "throw" => Some(Form::Throw),
-        "gcinc" => Some(Form::GcInc),
+        b"array" => Some(Form::Array),
+        b"fixed" => Some(Form::Fixed),
+        b"bytes" => Some(Form::Bytes),
+        b"field" => Some(Form::Field),
+        b"enter" => Some(Form::Enter),
+        b"leave" => Some(Form::Leave),
+        b"store" => Some(Form::Store),
+        b"throw" => Some(Form::Throw),
+        b"gcinc" => Some(Form::GcInc),
         _ => None,
     }
 }
 
 /// The form whose first word has six letters.
-fn form_of_six(word: &str) -> Option<Form>
+fn form_of_six(word: &[u8]) -> Option<Form>
     requires { length word.now ≡ 6 }
     ensures { Reads (λ f. Unit {0}) name_of word.now result }
 {
     match word {
-        "struct" => Some(Form::Struct),
-        "newexn" => Some(Form::NewExn),
-        "newarr" => Some(Form::NewArr),
-        "unroot" => Some(Form::Unroot),
-        "gcdrop" => Some(Form::GcDrop),
+        b"struct" => Some(Form::Struct),
+        b"newexn" => Some(Form::NewExn),
+        b"newarr" => Some(Form::NewArr),
+        b"unroot" => Some(Form::Unroot),
+        b"gcdrop" => Some(Form::GcDrop),
         _ => None,
     }
 }

@@ -34,4 +34,4 @@ pub use numbers::number;
 pub use parse::{MAX_LINE, parse_line, spelling_is_unique};
 pub use reply::{ByteText, Refusal, Reply, ReplyValue};
 pub use spelled::push_declaration;
-pub use text::{push_reply, reply_text};
+pub use text::{fixed_line, push_reply, reply_text};

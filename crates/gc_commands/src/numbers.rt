@@ -15,9 +15,13 @@ pub fn number(word: &str, most: u64) -> Option<u64>
     if !is_plain(word) {
         return None;
     }
-    let Ok(n) = word.parse::<u64>() else {
-        return None;
-    };
+    let mut n: u64 = 0;
+    for byte in word.as_bytes() {
+        if !byte.is_ascii_digit() {
+            return None;
+        }
+        n = n.checked_mul(10)?.checked_add(u64::from(*byte - b'0'))?;
+    }
     if n <= most { Some(n) } else { None }
 }
 

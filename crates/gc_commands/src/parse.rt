@@ -3,10 +3,13 @@
 //! A line is cut into words, its first word says which form of command it is, and each form has a
 //! function that reads the words behind it.
 
-ghost use Rattle.std.specs.Prelude.{◌≡◌, ℕ, List, IfOk};
+ghost use Rattle.std.specs.Prelude.{◌≡◌, ◌==◌, [], IfOk, MatchOption};
+ghost use Rattle.std.specs.List.{slice_split};
+ghost use Rattle.std.specs.Option.{option_map_or};
+ghost use Rattle.std.specs.Str.{IsUtf8};
 ghost use Rattle.gc_commands.specs.declared.command.Command.{Command};
 ghost use Rattle.gc_commands.specs.Reading.{Reads};
-ghost use Rattle.gc_commands.specs.Spelling.{FitsCommand, IsCommandOf, IsOf, operands_of, spelling, words_of};
+ghost use Rattle.gc_commands.specs.Spelling.{FitsCommand, IsCommandOf, IsOf, operands_of, spelling};
 
 use crate::command::Command;
 use crate::declarations::{read_array, read_exn, read_struct};
@@ -17,7 +20,7 @@ use crate::plain::{
     read_host_number, read_i31, read_len, read_load, read_own, read_push, read_root, read_set_elem,
     read_set_field, read_set_global, read_store, read_take, read_throw, read_unroot,
 };
-use crate::words::Words;
+use crate::words::{Words, cut_name};
 use std::alloc::{AllocError, Global};
 
 /// A line may have this many bytes without its line feed.
@@ -33,26 +36,28 @@ pub fn parse_line(alloc: Global, line: &[u8]) -> Result<Command, AllocError>
     if line.len() > MAX_LINE {
         return Ok(Command::Bad);
     }
-    let Ok(text) = str::from_utf8(line) else {
+    let (name, behind) = cut_name(line);
+    let Some(form) = form_of(name) else {
         return Ok(Command::Bad);
     };
-    match read_command(alloc, &mut Words::of(text))? {
+    let Some(mut words) = words_behind(behind) else {
+        return Ok(Command::Bad);
+    };
+    match read_form(alloc, form, &mut words)? {
         Some(command) => Ok(command),
         None => Ok(Command::Bad),
     }
 }
 
-/// The command that the words spell.
-fn read_command(alloc: Global, words: &mut Words) -> Result<Option<Command>, AllocError>
-    ensures { IfOk result (λ command. Reads FitsCommand words_of words.old command) }
+/// The words behind the first one of a line; None where they are no text.
+fn words_behind(behind: Option<&[u8]>) -> Option<Words>
+    ensures { MatchOption result (MatchOption behind.entry ⊥ (λ rest. ¬ IsUtf8 rest.now))
+        (λ words. words ≡ option_map_or (λ rest. slice_split (λ b. b == 32) rest.now) behind.entry []) }
 {
-    let Some(word) = words.next() else {
-        return Ok(None);
-    };
-    let Some(form) = form_of(word) else {
-        return Ok(None);
-    };
-    read_form(alloc, form, words)
+    match behind {
+        Some(bytes) => Some(Words::of(str::from_utf8(bytes).ok()?)),
+        None => Some(Words::none()),
+    }
 }
 
 /// The command of a form that the words behind its name spell.

@@ -173,6 +173,8 @@ pub(crate) fn read_root(words: &mut Words) -> Option<Command>
 }
 
 /// A command behind whose name no word stands.
+// In place: else each call has room for two commands, which the caller clears whatever form it reads.
+#[inline(always)]
 pub(crate) fn read_alone(words: &mut Words, command: Command) -> Option<Command>
     ensures { Reads (λ c. c ≡ command) (λ c. []) words.old result }
 {

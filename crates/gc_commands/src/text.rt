@@ -1,11 +1,13 @@
 //! Writes the reply to a command.
 
-ghost use Rattle.std.specs.Prelude.{◌≡◌, ◌++◌, ◌≤◌, codes, IfOk, OnOk, string_bytes};
+ghost use Rattle.std.specs.Prelude.{◌≡◌, ℕ, List, ◌++◌, ◌≤◌, codes, IfOk, IfSome, OnOk, string_bytes};
+ghost use Rattle.std.specs.Fmt.{decimal, signed_decimal};
 ghost use Rattle.gc_commands.specs.Text.{bool_text, refusal_text, text_of, value_text};
 ghost use Rattle.gc_commands.specs.Words.{bytes_text, hex_digits};
 
 use crate::hex::{push_bytes, push_hex};
 use crate::reply::{Refusal, Reply, ReplyValue};
+use itoa::Buffer;
 use std::alloc::{AllocError, Global};
 
 /// The text of a reply, without its line feed.
@@ -23,16 +25,40 @@ pub fn push_reply(text: &mut String, reply: &Reply) -> Result<(), AllocError>
 {
     match reply {
         Reply::Done => text.push_str("ok"),
-        Reply::Declared(t) => write!(text, "type {t}"),
+        Reply::Declared(t) => push_number(text, "type ", u64::from(*t)),
         Reply::Value(value) => push_value(text, value),
-        Reply::Length(n) => write!(text, "len {n}"),
-        Reply::HostNumber(n) => write!(text, "data {n}"),
+        Reply::Length(n) => push_number(text, "len ", u64::from(*n)),
+        Reply::HostNumber(n) => push_number(text, "data ", *n),
         Reply::Same(same) => text.push_str(if *same { "true" } else { "false" }),
         Reply::Held { objects, hosts } => write!(text, "held {objects} {hosts}"),
-        Reply::Capacity(n) => write!(text, "cap {n}"),
-        Reply::Increments(n) => write!(text, "increments {n}"),
+        Reply::Capacity(n) => push_number(text, "cap ", *n),
+        Reply::Increments(n) => push_number(text, "increments ", *n),
         Reply::Bytes(bytes) => push_byte_text(text, bytes.as_slice()),
-        Reply::Refused(refusal) => text.push_str(name_of(*refusal)),
+        Reply::Refused(refusal) => text.push_str(without_feed(refusal_line(*refusal))),
+    }
+}
+
+/// The line of a reply that tells no value, number or bytes, its line feed included: it takes no buffer to write it.
+/// None for other replies.
+pub fn fixed_line(reply: &Reply) -> Option<&'static str>
+    ensures { IfSome result (λ line. line.now ≡ text_of reply.now ++ codes "\n") }
+{
+    match reply {
+        Reply::Done => Some("ok\n"),
+        Reply::Same(true) => Some("true\n"),
+        Reply::Same(false) => Some("false\n"),
+        Reply::Refused(refusal) => Some(refusal_line(*refusal)),
+        _ => None,
+    }
+}
+
+/// A line without its line feed.
+fn without_feed(line: &str) -> &str
+    ensures { (front : List ℕ) → line.now ≡ front ++ codes "\n" → result.now ≡ front }
+{
+    match line.strip_suffix('\n') {
+        Some(front) => front,
+        None => line,
     }
 }
 
@@ -41,42 +67,42 @@ fn push_value(text: &mut String, value: &ReplyValue) -> Result<(), AllocError>
     ensures { OnOk result (string_bytes text.new ≡ string_bytes text.old ++ value_text value.now) }
 {
     match value {
-        ReplyValue::I32(n) => write!(text, "i32 {n}"),
-        ReplyValue::I64(n) => write!(text, "i64 {n}"),
+        ReplyValue::I32(n) => push_signed(text, "i32 ", i64::from(*n)),
+        ReplyValue::I64(n) => push_signed(text, "i64 ", *n),
         ReplyValue::F32(bits) => push_digits(text, "f32 ", u128::from(*bits), 8),
         ReplyValue::F64(bits) => push_digits(text, "f64 ", u128::from(*bits), 16),
         ReplyValue::V128(bits) => push_digits(text, "v128 ", bits.as_u128(), 32),
         ReplyValue::Null => text.push_str("null"),
-        ReplyValue::I31(n) => write!(text, "i31 {n}"),
-        ReplyValue::Struct(t) => write!(text, "struct {t}"),
-        ReplyValue::Array(t) => write!(text, "array {t}"),
+        ReplyValue::I31(n) => push_number(text, "i31 ", u64::from(*n)),
+        ReplyValue::Struct(t) => push_number(text, "struct ", u64::from(*t)),
+        ReplyValue::Array(t) => push_number(text, "array ", u64::from(*t)),
         ReplyValue::Host => text.push_str("host"),
         ReplyValue::Exn(t, tag) => write!(text, "exn {t} {tag}"),
         ReplyValue::Opaque => text.push_str("opaque"),
     }
 }
 
-/// The name of a refusal.
-fn name_of(refusal: Refusal) -> &'static str
-    ensures { result.now ≡ refusal_text refusal }
+/// The name of a refusal, with a line feed behind it.
+fn refusal_line(refusal: Refusal) -> &'static str
+    ensures { result.now ≡ refusal_text refusal ++ codes "\n" }
 {
     match refusal {
-        Refusal::BadLine => "BadLine",
-        Refusal::NoSuchName => "NoSuchName",
-        Refusal::Unrooted => "Unrooted",
-        Refusal::WrongKind => "WrongKind",
-        Refusal::BadType => "BadType",
-        Refusal::FieldCount => "FieldCount",
-        Refusal::TypeMismatch => "TypeMismatch",
-        Refusal::OutOfBounds => "OutOfBounds",
-        Refusal::Immutable => "Immutable",
-        Refusal::NotI8Array => "NotI8Array",
-        Refusal::LengthMismatch => "LengthMismatch",
-        Refusal::TooLarge => "TooLarge",
-        Refusal::RootsFull => "RootsFull",
-        Refusal::GcHeapOutOfMemory => "GcHeapOutOfMemory",
-        Refusal::GcHeapGrowthFailed => "GcHeapGrowthFailed",
-        Refusal::ThrownException => "ThrownException",
+        Refusal::BadLine => "BadLine\n",
+        Refusal::NoSuchName => "NoSuchName\n",
+        Refusal::Unrooted => "Unrooted\n",
+        Refusal::WrongKind => "WrongKind\n",
+        Refusal::BadType => "BadType\n",
+        Refusal::FieldCount => "FieldCount\n",
+        Refusal::TypeMismatch => "TypeMismatch\n",
+        Refusal::OutOfBounds => "OutOfBounds\n",
+        Refusal::Immutable => "Immutable\n",
+        Refusal::NotI8Array => "NotI8Array\n",
+        Refusal::LengthMismatch => "LengthMismatch\n",
+        Refusal::TooLarge => "TooLarge\n",
+        Refusal::RootsFull => "RootsFull\n",
+        Refusal::GcHeapOutOfMemory => "GcHeapOutOfMemory\n",
+        Refusal::GcHeapGrowthFailed => "GcHeapGrowthFailed\n",
+        Refusal::ThrownException => "ThrownException\n",
     }
 }
 
@@ -86,6 +112,22 @@ fn push_byte_text(text: &mut String, bytes: &[u8]) -> Result<(), AllocError>
 {
     text.push_str("bytes ")?;
     push_bytes(text, bytes)
+}
+
+/// Appends a front, and a number behind it.
+fn push_number(text: &mut String, front: &str, number: u64) -> Result<(), AllocError>
+    ensures { OnOk result (string_bytes text.new ≡ string_bytes text.old ++ (front.now ++ decimal number)) }
+{
+    text.push_str(front)?;
+    text.push_str(Buffer::new().format(number))
+}
+
+/// Appends a front, and a number with its sign behind it.
+fn push_signed(text: &mut String, front: &str, number: i64) -> Result<(), AllocError>
+    ensures { OnOk result (string_bytes text.new ≡ string_bytes text.old ++ (front.now ++ signed_decimal number)) }
+{
+    text.push_str(front)?;
+    text.push_str(Buffer::new().format(number))
 }
 
 /// Appends a front, and so many hexadecimal digits of a number behind it.

@@ -1,8 +1,8 @@
 //! The words of a line, one after the other: of a command's line, and of any line of words with one space between two.
 
-ghost use Rattle.std.specs.Prelude.{◌≡◌, ◌==◌, ℕ, List, [], ◌∷◌, ◌++◌, Bool, true, false, MatchOption};
-ghost use Rattle.std.specs.Bool.{MatchBool};
+ghost use Rattle.std.specs.Prelude.{◌≡◌, ◌==◌, [], ◌∷◌, ◌++◌, IfSome, MatchOption, position};
 ghost use Rattle.std.specs.List.{slice_split};
+ghost use Rattle.std.specs.Option.{option_map_or};
 
 use std::marker::Model;
 
@@ -31,15 +31,22 @@ impl<'a> Words<'a> {
         Words { rest: Some(line) }
     }
 
+    /// No words.
+    pub(crate) fn none() -> Words<'a>
+        ensures { result ≡ [] }
+    {
+        Words { rest: None }
+    }
+
     /// Takes the next word; None where none is left.
     pub fn next(&mut self) -> Option<&'a str>
         ensures { MatchOption result ((self.old ≡ []) × (self.new ≡ [])) (λ word. self.old ≡ word.now ∷ self.new) }
     {
         let rest = self.rest?;
-        match rest.split_once(' ') {
-            Some((word, behind)) => {
-                self.rest = Some(behind);
-                Some(word)
+        match first_space(rest.as_bytes()) {
+            Some(at) => {
+                self.rest = Some(&rest[at + 1..]);
+                Some(&rest[..at])
             }
             None => {
                 self.rest = None;
@@ -63,4 +70,22 @@ impl<'a> Words<'a> {
     {
         Words { rest: self.rest }
     }
+}
+
+/// The first word of a line, and what stands behind the space that ends it; None where no space does.
+pub(crate) fn cut_name(line: &[u8]) -> (&[u8], Option<&[u8]>)
+    ensures words { slice_split (λ b. b == 32) line.now ≡ result.0.now ∷ option_map_or (λ rest. slice_split (λ b. b == 32) rest.now) result.1 [] }
+    ensures behind { IfSome result.1 (λ rest. line.now ≡ result.0.now ++ 32 ∷ rest.now) }
+{
+    match first_space(line) {
+        Some(at) => (&line[..at], Some(&line[at + 1..])),
+        None => (line, None),
+    }
+}
+
+/// Where the first space stands.
+fn first_space(bytes: &[u8]) -> Option<usize>
+    ensures { result ≡ position (λ b. b == 32) bytes.now }
+{
+    bytes.iter().position(|byte| *byte == b' ')
 }

@@ -8,7 +8,7 @@ use Rattle.std.proofs.lemmas.List.Sums.{fails_before_first, passes_at_first}
 use Rattle.gc_commands.specs.Spelling.{max_line}
 use Rattle.gc_script.specs.Lines.{line_feed, lines}
 use Rattle.gc_script.proofs.LineLemmas.{none_found}
-use Rattle.gc_script.specs.Cutting.{KeptLine, no_line, kept_of, longer, has_feed, IsCut, EndsLine, GoesOn, FeedsAll, no_pieces, line_ended, line_goes_on, EndsWhole, last_piece, GivesLines}
+use Rattle.gc_script.specs.Cutting.{BeginsWhole, KeptLine, no_line, kept_of, longer, has_feed, IsCut, EndsLine, GoesOn, FeedsAll, no_pieces, line_ended, line_goes_on, EndsWhole, last_piece, GivesLines}
 
 -- the place is that of the first line feed
 record IsFirstFeed (piece : List ℕ) (k : ℕ) : Type 0 where
@@ -27,20 +27,32 @@ first_by piece k true e found =
     })
 first_by piece k false e found = cc
 
--- a line feed was found
-pub ends_at : (piece : List ℕ) (k : ℕ) (old new : KeptLine) → position (λ b. b == 10) piece ≡ Some k → new ≡ longer old (take k piece) → EndsLine old new piece (k + 1)
-ends_at piece k old new found goes_on =
+-- a line feed was found, and the line before it
+pub whole_at : (piece : List ℕ) (k : ℕ) → position (λ b. b == 10) piece ≡ Some k → BeginsWhole (take k piece) piece
+whole_at piece k found =
     let first = first_by piece k (nat_lt (position_or_len (λ b. b == 10) piece) (length piece)) refl found in
     let within = first.high in
     let at : get_or piece k 0 ≡ 10 = eqb-true (get_or piece k 0) 10 first.at in
     let long : length (take k piece) ≡ k = length-take-le k piece (omega (arith, within)) in
     record {
-      bytes = take k piece;
-      cut = sym (take-append-drop k piece) ∙ ap (λ r. take k piece ++ r) (drop_more piece k 0 within ∙ ap (λ b. b ∷ drop (k + 1) piece) at);
-      taken = ap (λ n. n + 1) (sym long);
+      cut = sym (take-append-drop k piece) ∙ ap (λ r. take k piece ++ r) (drop_more piece k 0 within ∙ ap (λ b. b ∷ drop (k + 1) piece) at) ∙ ap (λ n. take k piece ++ line_feed ∷ drop (n + 1) piece) (sym long);
       plain = list_any_none (λ b. b == line_feed) (take k piece) (λ j d inside.
           let below : j < k = omega (arith, inside, long) in
           sym (ap (λ b. b == 10) (get_or_default piece j 0 d (omega (arith, below, within)) ∙ sym (get_or-take k piece j d below))) ∙ first.before j below);
+    }
+
+-- so a line ends there
+pub ends_at : (piece : List ℕ) (k : ℕ) (old new : KeptLine) → position (λ b. b == 10) piece ≡ Some k → new ≡ longer old (take k piece) → EndsLine old new piece (k + 1)
+ends_at piece k old new found goes_on =
+    let whole = whole_at piece k found in
+    let first = first_by piece k (nat_lt (position_or_len (λ b. b == 10) piece) (length piece)) refl found in
+    let within = first.high in
+    let long : length (take k piece) ≡ k = length-take-le k piece (omega (arith, within)) in
+    record {
+      bytes = take k piece;
+      cut = whole.cut ∙ ap (λ n. take k piece ++ line_feed ∷ drop (n + 1) piece) long;
+      taken = ap (λ n. n + 1) (sym long);
+      plain = whole.plain;
       goes_on = goes_on;
     }
 

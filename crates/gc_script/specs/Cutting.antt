@@ -30,6 +30,11 @@ pub record IsUnfinished (line : KeptLine) (bytes : List ℕ) : Type 0 where
   pub plain : has_feed bytes ≡ false
   pub kept_is : line ≡ kept_of bytes
 
+-- a piece begins with a line that a line feed ends there
+pub record BeginsWhole (line piece : List ℕ) : Type 0 where
+  pub cut : piece ≡ line ++ line_feed ∷ drop (length line + 1) piece
+  pub plain : has_feed line ≡ false
+
 -- The line goes on with all bytes up to the first line feed of the piece, and n bytes, that line feed among them, are
 -- taken.
 pub record EndsLine (old new : KeptLine) (piece : List ℕ) (n : ℕ) : Type 0 where

@@ -1,9 +1,9 @@
 //! Cuts bytes into lines as they come, in pieces of any length.
 
-ghost use Rattle.std.specs.Prelude.{◌≡◌, ◌≤◌, ◌==◌, ℕ, List, IfOk, OnErr, OnOk, length, position};
+ghost use Rattle.std.specs.Prelude.{◌≡◌, ◌≤◌, ◌==◌, ℕ, List, IfOk, IfSome, OnErr, OnOk, length, position};
 ghost use Rattle.std.specs.List.{concat};
 ghost use Rattle.gc_commands.specs.Spelling.{max_line};
-ghost use Rattle.gc_script.specs.Cutting.{Feeds, FeedsAll, GivesLines, KeptLine, longer, no_line};
+ghost use Rattle.gc_script.specs.Cutting.{BeginsWhole, Feeds, FeedsAll, GivesLines, KeptLine, longer, no_line};
 
 use gc_commands::MAX_LINE;
 use std::alloc::{AllocError, Global};
@@ -59,6 +59,19 @@ impl LineCutter {
                 Ok((piece.len(), false))
             }
         }
+    }
+
+    /// The first line of `piece`, without its line feed, where the cutter is at the start of a line and that one
+    /// ends in the piece: then it needs no `feed`, and is copied nowhere.
+    pub fn whole_line<'a>(&self, piece: &'a [u8]) -> Option<&'a [u8]>
+        ensures start { IfSome result (λ line. self.now ≡ no_line) }
+        ensures begins { IfSome result (λ line. BeginsWhole line.now piece.now) }
+    {
+        if self.is_long || self.held() > 0 {
+            return None;
+        }
+        let at = first_line_feed(piece)?;
+        Some(&piece[..at])
     }
 
     /// Puts bytes behind those of the line, as far as it may have them.

@@ -33,7 +33,7 @@ mod writes;
 pub use cutter::{LineCutter, pieces_give_lines};
 pub use gc_commands::{
     ByteText, Command, FieldWord, FieldWords, HeapWord, Operand, Operands, Refusal, Reply,
-    ReplyValue, StorageWord, ValueWord, parse_line, push_reply, reply_text,
+    ReplyValue, StorageWord, ValueWord, fixed_line, parse_line, push_reply, reply_text,
 };
 pub use runner::{RunError, Runner};
 pub use script::run_script;

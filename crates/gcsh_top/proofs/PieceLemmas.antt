@@ -1,33 +1,42 @@
 -- Pieces of an input, one after the other, whose lines are run as they end.
-use Rattle.std.proofs.Common.{◌≡◌, ◌==◌, ℕ, ◌<◌, ◌≤◌, Bool, true, false, List, [], ◌∷◌, ◌++◌, length, take, drop, Option, Result, Ok, Err, IfOk, inl, inr, refl, sym, ap, subst, ◌∙◌, append_assoc, append-nil, length-take, arith}
-use Rattle.std.proofs.lemmas.Bool.{ltb-false, or_right, false≢true}
+use Rattle.std.proofs.Common.{◌≡◌, ◌==◌, ℕ, ◌+◌, ◌<◌, ◌≤◌, Bool, true, false, List, [], ◌∷◌, ◌++◌, length, take, drop, Option, inl, inr, refl, sym, ap, subst, ◌∙◌, append_assoc, append-nil, length-take, arith}
+use Rattle.std.proofs.lemmas.Bool.{ltb-false, ltb-true, or_right, false≢true}
 use Rattle.std.proofs.lemmas.List.{drop_all, take_all}
 use Rattle.std.specs.Io.KnownBytes.{Keeps}
 use Rattle.gc_types.specs.declared.kind.Layouts.{Layouts}
 use Rattle.gc_commands.specs.declared.command.Command.{Command}
-use Rattle.gc_commands.specs.Spelling.{IsCommandOf, max_line}
+use Rattle.gc_commands.specs.Spelling.{Spells, max_line}
 use Rattle.gc_model.specs.Allocation.{Limits}
 use Rattle.gc_model.specs.Stores.{StoreView}
 use Rattle.gc_script.specs.Lines.{line_feed, lines}
 use Rattle.gc_script.specs.Slots.{RunnerView}
 use Rattle.gc_script.specs.State.{State, HoldsState}
-use Rattle.gc_script.specs.Cutting.{has_feed, EndsLine, EndsWhole, GoesOn, IsCut, IsUnfinished, KeptLine, kept_of, longer, no_line}
+use Rattle.gc_script.specs.Cutting.{BeginsWhole, has_feed, EndsLine, EndsWhole, GoesOn, IsCut, IsUnfinished, KeptLine, kept_of, longer, no_line}
 use Rattle.gcsh_top.specs.Runs.{BrokeOff, RanLine, RanLines, RanPiece, RanSome, StoppedPiece}
 use Rattle.gc_script.proofs.CutLemmas.{cut_of, ends_on, line_ends, line_unended, longer_kept, plain_both}
 use Rattle.gcsh_top.proofs.RunLemmas.{ran_kept, ran_none, ran_on, ran_one, some_on, stopped_first, unread}
 
--- a line of which all is kept is the command of what is kept
-pub short_command : {E : Type 0} (r : Result Command E) (kept : KeptLine) (is_long : Bool) (bytes : List ℕ) → is_long ≡ kept.is_long → is_long ≡ false → bytes ≡ kept.bytes → IfOk r (λ c. IsCommandOf bytes c)
-    → IfOk r (λ c. (line : List ℕ) → kept ≡ kept_of line → IsCommandOf line c)
-short_command (Err e) kept is_long bytes marked short are command = tt
-short_command (Ok c) kept is_long bytes marked short are command = λ line is.
-    let whole = take_all max_line line (ltb-false max_line (length line) (ap (λ (k : KeptLine). k.is_long) (sym is) ∙ sym marked ∙ short)) in
-    subst (λ (l : List ℕ). IsCommandOf l c) (are ∙ ap (λ (k : KeptLine). k.bytes) is ∙ whole) command
+-- a line of which all is kept
+pub kept_whole : (kept : KeptLine) (is_long : Bool) (bytes line : List ℕ) → is_long ≡ kept.is_long → is_long ≡ false → bytes ≡ kept.bytes → kept ≡ kept_of line → bytes ≡ line
+kept_whole kept is_long bytes line marked short are is =
+    are ∙ ap (λ (k : KeptLine). k.bytes) is ∙ take_all max_line line (ltb-false max_line (length line) (ap (λ (k : KeptLine). k.is_long) (sym is) ∙ sym marked ∙ short))
+
+-- a line that has more than is kept spells no command
+pub long_line : (kept : KeptLine) (is_long : Bool) (line : List ℕ) → is_long ≡ kept.is_long → is_long ≡ true → kept ≡ kept_of line → (c : Command) → Spells line c → ⊥
+long_line kept is_long line marked long is c s =
+    let over = ltb-true max_line (length line) (ap (λ (k : KeptLine). k.is_long) (sym is) ∙ sym marked ∙ long) in
+    let short = s.short in
+    omega arith
 
 -- bytes of which there are none
 pub no_bytes : (bytes : List ℕ) → length bytes ≡ 0 → bytes ≡ []
 no_bytes [] none = refl
 no_bytes (b ∷ bytes) none = absurd (omega (arith, none))
+
+-- a line of which nothing is kept is none
+pub nothing_kept : (m : ℕ) (bytes : List ℕ) → 0 < m → length (take m bytes) ≡ 0 → bytes ≡ []
+nothing_kept m [] some none = refl
+nothing_kept m (b ∷ bytes) some none = absurd (let long = length-take m (b ∷ bytes) in omega (arith, long, none, some))
 
 -- behind a whole line a line feed is among the bytes
 fed_inside : (before rest : List ℕ) → has_feed ((before ++ line_feed ∷ []) ++ rest) ≡ true
@@ -125,6 +134,23 @@ module _ (layouts : Layouts) (counter : Option ℕ) where
               (inl (stopped_first layouts counter now so_far.ran.after (ended ++ line_feed ∷ behind.whole) ended (lines behind.whole) store' slots' b c (line_ends ended behind.whole (plain_both so_far.tail fed.bytes so_far.unfinished.plain fed.plain)) broke));
         }
 
+    -- where nothing is kept, no bytes stand before the next ones
+    no_tail : line ≡ no_line → so_far.tail ≡ []
+    no_tail start = nothing_kept max_line so_far.tail (omega arith) (ap (λ (k : KeptLine). length k.bytes) (sym so_far.unfinished.kept_is ∙ start))
+
+    -- a line that the bytes left begin with was run
+    pub whole_more : (next : Limits) (l : List ℕ) (store' : StoreView ℕ) (slots' : RunnerView) (c : Option (List ℕ)) → line ≡ no_line → BeginsWhole l left → RanLine layouts counter now next so_far.ran.after l store' slots' b c
+        → Piecewise layouts counter limits next s bytes (drop (length l + 1) left) line old store' slots' a c
+    whole_more next l store' slots' c start begins did =
+        piece_more next (longer line l) line (length l + 1) store' slots' c start (record { bytes = l; cut = begins.cut; taken = refl; plain = begins.plain; goes_on = refl })
+        (subst (λ (t : List ℕ). RanLine layouts counter now next so_far.ran.after (t ++ l) store' slots' b c) (sym (no_tail start)) did)
+
+    -- it broke off
+    pub whole_broken : (l : List ℕ) (store' : StoreView ℕ) (slots' : RunnerView) (c : Option (List ℕ)) → line ≡ no_line → BeginsWhole l left → BrokeOff layouts counter now so_far.ran.after l store' slots' b c → StoppedPiece layouts counter limits s bytes old store' slots' a c
+    whole_broken l store' slots' c start begins broke =
+        piece_broken (longer line l) (length l + 1) store' slots' c (record { bytes = l; cut = begins.cut; taken = refl; plain = begins.plain; goes_on = refl })
+        (subst (λ (t : List ℕ). BrokeOff layouts counter now so_far.ran.after (t ++ l) store' slots' b c) (sym (no_tail start)) broke)
+
     -- no more was taken, for want of memory
     pub piece_unfed : StoppedPiece layouts counter limits s bytes old store slots a b
     piece_unfed =
@@ -208,11 +234,6 @@ module _ (layouts : Layouts) (counter : Option ℕ) where
     pieces_end_some store slots' c more =
         subst (λ (l : List ℕ). RanSome layouts counter limits s l old store slots' a c) (sym so_far.cut.parts)
         (some_on layouts counter limits now s so_far.whole so_far.rest old mid store slots slots' a b c so_far.cut.ends so_far.ran more)
-
--- a line of which nothing is kept is none
-pub nothing_kept : (m : ℕ) (bytes : List ℕ) → 0 < m → length (take m bytes) ≡ 0 → bytes ≡ []
-nothing_kept m [] some none = refl
-nothing_kept m (b ∷ bytes) some none = absurd (let long = length-take m (b ∷ bytes) in omega (arith, long, none, some))
 
 -- a last line that isn't empty
 pub last_line_of : (line : KeptLine) (bytes : List ℕ) → IsUnfinished line bytes → (length line.bytes ≡ 0 → ⊥) → lines bytes ≡ bytes ∷ []

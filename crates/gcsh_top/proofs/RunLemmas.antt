@@ -165,6 +165,13 @@ pub broke_from : {layouts : Layouts} {now : Limits} {s : State} {line : List ℕ
 broke_from {layouts} {now} {s} {line} {store} {slots} {a} {b} counter counter' same broke =
     subst (λ (k : Option ℕ). BrokeOff layouts k now s line store slots a b) same broke
 
+-- what was run of bytes, and broke off, was of the line that they are
+pub ran_as : {layouts : Layouts} {counter : Option ℕ} {now next : Limits} {s : State} {store : StoreView ℕ} {slots : RunnerView} {a b : Option (List ℕ)} (bytes line : List ℕ) → bytes ≡ line → RanLine layouts counter now next s bytes store slots a b → RanLine layouts counter now next s line store slots a b
+ran_as {layouts} {counter} {now} {next} {s} {store} {slots} {a} {b} bytes line same ran = subst (λ (l : List ℕ). RanLine layouts counter now next s l store slots a b) same ran
+
+pub broke_as : {layouts : Layouts} {counter : Option ℕ} {now : Limits} {s : State} {store : StoreView ℕ} {slots : RunnerView} {a b : Option (List ℕ)} (bytes line : List ℕ) → bytes ≡ line → BrokeOff layouts counter now s bytes store slots a b → BrokeOff layouts counter now s line store slots a b
+broke_as {layouts} {counter} {now} {s} {store} {slots} {a} {b} bytes line same broke = subst (λ (l : List ℕ). BrokeOff layouts counter now s l store slots a b) same broke
+
 -- no line of these was read, where there is one
 unread_by : (layouts : Layouts) (counter : Option ℕ) (limits : Limits) (s : State) (bytes : List ℕ) (ls : List (List ℕ)) (store : StoreView ℕ) (slots : RunnerView) (held : Option (List ℕ)) → lines bytes ≡ ls → HoldsState layouts store slots s → RanSome layouts counter limits s bytes store store slots held held
 unread_by layouts counter limits s bytes [] store slots held is holds = inr (limits, ran_none layouts counter limits s bytes store slots held is holds)

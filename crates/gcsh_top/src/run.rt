@@ -16,7 +16,9 @@ use crate::sink::Sink;
 use crate::status::Status;
 use crate::write::write_all;
 use gc_heap::GcHeap;
-use gc_script::{Command, LineCutter, Reply, RunError, Runner, parse_line, push_reply};
+use gc_script::{
+    Command, LineCutter, Refusal, Reply, RunError, Runner, fixed_line, parse_line, push_reply,
+};
 use gc_store::{ResourceLimiter, Store};
 use std::alloc::{AllocError, Global};
 use thiserror::Error;
@@ -60,28 +62,64 @@ fn write_reply<K: Sink>(text: &mut String, sink: &mut K, reply: &Reply) -> Resul
     ensures failed { IsErrOf result LineFault.Sink → Rose (K.tells sink.old).faults (K.tells sink.new).faults }
     ensures faults { (K.tells sink.old).faults ≤ (K.tells sink.new).faults }
 {
+    if let Some(line) = fixed_line(reply) {
+        return write_line(sink, line);
+    }
     text.clear();
     if push_reply(text, reply).is_err() || text.push_str("\n").is_err() {
         return Err(LineFault::Memory);
     }
-    match write_all(sink, text.as_bytes()) {
+    write_line(sink, text.as_str())
+}
+
+/// Writes a reply as it goes out, with its line feed.
+fn write_line<K: Sink>(sink: &mut K, line: &str) -> Result<(), LineFault>
+    ensures replied { OnOk result (Appends (K.tells sink.old).held (K.tells sink.new).held line.now) }
+    ensures part { OnErr result (TookPart (K.tells sink.old).held (K.tells sink.new).held line.now) }
+    ensures failed { IsErrOf result LineFault.Sink → Rose (K.tells sink.old).faults (K.tells sink.new).faults }
+    ensures faults { (K.tells sink.old).faults ≤ (K.tells sink.new).faults }
+{
+    match write_all(sink, line.as_bytes()) {
         Ok(()) => Ok(()),
         Err(_) => Err(LineFault::Sink),
     }
 }
 
-/// The command of a line of which that is kept.
-fn command_of(alloc: Global, kept: &LineCutter) -> Result<Command, AllocError>
-    ensures { IfOk result (λ command. (line : List ℕ) → kept.now ≡ kept_of line → IsCommandOf line command) }
+/// Runs a line, and writes its reply.
+fn run_line<H: GcHeap, L: ResourceLimiter, K: Sink>(
+    alloc: Global,
+    runner: &mut Runner,
+    store: &mut Store<H, u64>,
+    limiter: &mut L,
+    line: &[u8],
+    text: &mut String,
+    sink: &mut K,
+) -> Result<(), LineFault>
+    ensures ran { OnOk result ((s : State) → HoldsState H.KIND store.old runner.old s
+        → RanLine H.KIND store.old.alloc_counter (L.limits limiter.old) (L.limits limiter.new) s line.now store.new runner.new
+        (K.tells sink.old).held (K.tells sink.new).held) }
+    ensures broke_off { OnErr result ((s : State) → HoldsState H.KIND store.old runner.old s
+        → BrokeOff H.KIND store.old.alloc_counter (L.limits limiter.old) s line.now store.new runner.new
+        (K.tells sink.old).held (K.tells sink.new).held) }
+    ensures failed { IsErrOf result LineFault.Sink → Rose (K.tells sink.old).faults (K.tells sink.new).faults }
+    ensures faults { (K.tells sink.old).faults ≤ (K.tells sink.new).faults }
+    ensures same { IsSameStore store.old store.new }
 {
-    if kept.is_long() {
-        return Ok(Command::Bad);
+    let Ok(command) = parse_line(alloc, line) else {
+        return Err(LineFault::Memory);
+    };
+    // A line that is no command has the same reply everywhere, and changes nothing.
+    if let Command::Bad = command {
+        return write_reply(text, sink, &Reply::Refused(Refusal::BadLine));
     }
-    parse_line(alloc, kept.line())
+    match runner.run_one(store, limiter, &command) {
+        Ok(reply) => write_reply(text, sink, &reply),
+        Err(RunError::OutOfMemory) => Err(LineFault::Memory),
+    }
 }
 
 /// Runs the line of which that is kept, and writes its reply.
-fn run_line<H: GcHeap, L: ResourceLimiter, K: Sink>(
+fn run_kept<H: GcHeap, L: ResourceLimiter, K: Sink>(
     alloc: Global,
     runner: &mut Runner,
     store: &mut Store<H, u64>,
@@ -100,13 +138,10 @@ fn run_line<H: GcHeap, L: ResourceLimiter, K: Sink>(
     ensures faults { (K.tells sink.old).faults ≤ (K.tells sink.new).faults }
     ensures same { IsSameStore store.old store.new }
 {
-    let Ok(command) = command_of(alloc, kept) else {
-        return Err(LineFault::Memory);
-    };
-    match runner.run_one(store, limiter, &command) {
-        Ok(reply) => write_reply(text, sink, &reply),
-        Err(RunError::OutOfMemory) => Err(LineFault::Memory),
+    if kept.is_long() {
+        return write_reply(text, sink, &Reply::Refused(Refusal::BadLine));
     }
+    run_line(alloc, runner, store, limiter, kept.line(), text, sink)
 }
 
 /// Runs each line that ends in the next piece of an input, and writes its reply as soon as the line is
@@ -135,12 +170,18 @@ fn run_lines<H: GcHeap, L: ResourceLimiter, K: Sink>(
     let mut rest = piece;
     let mut replied = false;
     while !rest.is_empty() {
-        let (taken, is_ended) = cutter.feed(rest)?;
-        rest = &rest[taken..];
-        if is_ended {
-            run_line(alloc, runner, store, limiter, cutter, &mut text, sink)?;
-            cutter.clear();
+        if let Some(line) = cutter.whole_line(rest) {
+            run_line(alloc, runner, store, limiter, line, &mut text, sink)?;
+            rest = &rest[line.len() + 1..];
             replied = true;
+        } else {
+            let (taken, is_ended) = cutter.feed(rest)?;
+            rest = &rest[taken..];
+            if is_ended {
+                run_kept(alloc, runner, store, limiter, cutter, &mut text, sink)?;
+                cutter.clear();
+                replied = true;
+            }
         }
     }
     Ok(replied)
@@ -198,7 +239,7 @@ fn run_rest<H: GcHeap, L: ResourceLimiter, K: Sink>(
         return Ok(());
     }
     let mut text = String::new(alloc);
-    run_line(alloc, runner, store, limiter, cutter, &mut text, sink)
+    run_kept(alloc, runner, store, limiter, cutter, &mut text, sink)
 }
 
 /// Runs the last line of an input, and flushes.

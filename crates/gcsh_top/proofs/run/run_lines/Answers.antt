@@ -5,7 +5,7 @@ use Rattle.gc_script.proofs.StandLemmas.{same_twice}
 use Rattle.gc_script.proofs.ResultLemmas.{on_any_err}
 use Rattle.gc_script.specs.Cutting.{EndsLine, Feeds, GoesOn, has_feed}
 use Rattle.gcsh_top.proofs.RunLemmas.{broke_from, ran_from}
-use Rattle.gcsh_top.proofs.PieceLemmas.{line_kept, no_bytes, piece_broken, piece_end, piece_longer, piece_more, piece_start, piece_unfed}
+use Rattle.gcsh_top.proofs.PieceLemmas.{line_kept, no_bytes, piece_broken, piece_end, piece_longer, piece_more, piece_start, piece_unfed, whole_broken, whole_more}
 use Rattle.gcsh_top.proofs.run.run_lines.Goals as goal
 
 pub loop-rest-init : goal.loop-rest-init
@@ -17,19 +17,39 @@ loop-rest-init g c = record {
   same = record { engine = refl; number = refl; counter = refl };
 }
 
-pub returns-in_err-taken-clause-stopped : goal.returns-in_err-taken-clause-stopped
-returns-in_err-taken-clause-stopped g c =
-    on_any_err c.from_residual.result (λ bytes s unfinished holds. piece_unfed _ _ _ _ s (bytes ++ c.args.piece.now) c.loop-rest.rest.now _ _ _ _ _ _ (c.loop-rest.invariant.along bytes s unfinished holds))
-
 pub returns-in_err-run_line-clause-stopped : goal.returns-in_err-run_line-clause-stopped
 returns-in_err-run_line-clause-stopped g c =
-    on_any_err c.from_residual-in_err-run_line.result
+    on_any_err c.from_residual.result
+    (λ bytes s unfinished holds.
+    let so_far = c.loop-rest.invariant.along bytes s unfinished holds in
+    whole_broken _ _ _ _ s (bytes ++ c.args.piece.now) c.loop-rest.rest.now _ _ _ _ _ _ so_far c.in-Some.line.now _ _ _ c.in-Some.ensures.start c.in-Some.ensures.begins
+    (broke_from _ _ c.loop-rest.invariant.same.counter (c.in_err-run_line.ensures.broke_off so_far.ran.after so_far.ran.holds)))
+
+pub loop-rest-preserved-in-Some : goal.loop-rest-preserved-in-Some
+loop-rest-preserved-in-Some g c = rw take_rest (record {
+  along = λ bytes s unfinished holds.
+      let so_far = c.loop-rest.invariant.along bytes s unfinished holds in
+      whole_more _ _ _ _ s (bytes ++ c.args.piece.now) c.loop-rest.rest.now _ _ _ _ _ _ so_far _ c.in-Some.line.now _ _ _ c.in-Some.ensures.start c.in-Some.ensures.begins
+      (ran_from _ _ c.loop-rest.invariant.same.counter (c.in_ok-run_line.ensures.ran so_far.ran.after so_far.ran.holds));
+  unwritten = λ is. cc;
+  plain = λ is. cc;
+  faults = omega (arith, c.loop-rest.invariant.faults, c.run_line.ensures.faults);
+  same = same_twice _ _ _ c.loop-rest.invariant.same c.run_line.ensures.same;
+})
+
+pub returns-in_err-taken-clause-stopped : goal.returns-in_err-taken-clause-stopped
+returns-in_err-taken-clause-stopped g c =
+    on_any_err c.from_residual-in_err-taken.result (λ bytes s unfinished holds. piece_unfed _ _ _ _ s (bytes ++ c.args.piece.now) c.loop-rest.rest.now _ _ _ _ _ _ (c.loop-rest.invariant.along bytes s unfinished holds))
+
+pub returns-in_err-run_kept-clause-stopped : goal.returns-in_err-run_kept-clause-stopped
+returns-in_err-run_kept-clause-stopped g c =
+    on_any_err c.from_residual-in_err-run_kept.result
     (λ bytes s unfinished holds.
     let so_far = c.loop-rest.invariant.along bytes s unfinished holds in
     let fed : EndsLine c.loop-rest.cutter c.feed.new.self c.loop-rest.rest.now c.in_ok-taken.taken = subst (λ e. Feeds c.loop-rest.cutter c.feed.new.self c.loop-rest.rest.now c.in_ok-taken.taken e) c.if-is_ended.true c.in_ok-taken.ensures.fed in
     piece_broken _ _ _ _ s (bytes ++ c.args.piece.now) c.loop-rest.rest.now _ _ _ _ _ _ so_far c.feed.new.self c.in_ok-taken.taken _ _ _ fed
     (broke_from _ _ c.loop-rest.invariant.same.counter
-    (c.in_err-run_line.ensures.broke_off (so_far.tail ++ fed.bytes) so_far.ran.after (line_kept _ _ _ _ s (bytes ++ c.args.piece.now) c.loop-rest.rest.now _ _ _ _ _ _ so_far c.feed.new.self c.in_ok-taken.taken fed) so_far.ran.holds)))
+    (c.in_err-run_kept.ensures.broke_off (so_far.tail ++ fed.bytes) so_far.ran.after (line_kept _ _ _ _ s (bytes ++ c.args.piece.now) c.loop-rest.rest.now _ _ _ _ _ _ so_far c.feed.new.self c.in_ok-taken.taken fed) so_far.ran.holds)))
 
 pub loop-rest-preserved-then-is_ended : goal.loop-rest-preserved-then-is_ended
 loop-rest-preserved-then-is_ended g c = rw take_rest (record {
@@ -38,11 +58,11 @@ loop-rest-preserved-then-is_ended g c = rw take_rest (record {
       let fed : EndsLine c.loop-rest.cutter c.feed.new.self c.loop-rest.rest.now c.in_ok-taken.taken = subst (λ e. Feeds c.loop-rest.cutter c.feed.new.self c.loop-rest.rest.now c.in_ok-taken.taken e) c.if-is_ended.true c.in_ok-taken.ensures.fed in
       piece_more _ _ _ _ s (bytes ++ c.args.piece.now) c.loop-rest.rest.now _ _ _ _ _ _ so_far _ c.feed.new.self _ c.in_ok-taken.taken _ _ _ c.clear.ensures fed
       (ran_from _ _ c.loop-rest.invariant.same.counter
-      (c.in_ok-run_line.ensures.ran (so_far.tail ++ fed.bytes) so_far.ran.after (line_kept _ _ _ _ s (bytes ++ c.args.piece.now) c.loop-rest.rest.now _ _ _ _ _ _ so_far c.feed.new.self c.in_ok-taken.taken fed) so_far.ran.holds));
+      (c.in_ok-run_kept.ensures.ran (so_far.tail ++ fed.bytes) so_far.ran.after (line_kept _ _ _ _ s (bytes ++ c.args.piece.now) c.loop-rest.rest.now _ _ _ _ _ _ so_far c.feed.new.self c.in_ok-taken.taken fed) so_far.ran.holds));
   unwritten = λ is. cc;
   plain = λ is. cc;
-  faults = omega (arith, c.loop-rest.invariant.faults, c.run_line.ensures.faults);
-  same = same_twice _ _ _ c.loop-rest.invariant.same c.run_line.ensures.same;
+  faults = omega (arith, c.loop-rest.invariant.faults, c.run_kept.ensures.faults);
+  same = same_twice _ _ _ c.loop-rest.invariant.same c.run_kept.ensures.same;
 })
 
 pub loop-rest-preserved : goal.loop-rest-preserved

@@ -9,12 +9,12 @@ returns-then-held-eq0-clause-ran g c bytes s unfinished holds = ran_none _ _ _ s
 
 pub returns-clause-ran : goal.returns-clause-ran
 returns-clause-ran g c =
-    on_ok c.run_line.result
+    on_ok c.run_kept.result
     (λ ran bytes s unfinished holds. ran_one _ _ _ _ s bytes bytes _ _ _ _ _ (last_line_of c.args.cutter.now bytes unfinished (λ none. c.if-held-eq0.false (c.held.ensures.kept ∙ none))) (ran bytes s unfinished.kept_is holds))
-    c.run_line.ensures.ran
+    c.run_kept.ensures.ran
 
 pub returns-clause-stopped : goal.returns-clause-stopped
 returns-clause-stopped g c =
-    on_err c.run_line.result
+    on_err c.run_kept.result
     (λ broke bytes s unfinished holds. inl (stopped_first _ _ _ s bytes bytes [] _ _ _ _ (last_line_of c.args.cutter.now bytes unfinished (λ none. c.if-held-eq0.false (c.held.ensures.kept ∙ none))) (broke bytes s unfinished.kept_is holds)))
-    c.run_line.ensures.broke_off
+    c.run_kept.ensures.broke_off
