@@ -13,7 +13,7 @@ use gc_store::{Rooted, Store};
 use gc_types::Tag;
 
 /// The tag of the exceptions.
-const TAG: Tag = Tag {
+pub(crate) const TAG: Tag = Tag {
     instance: 3,
     index: 7,
 };

@@ -5,6 +5,7 @@ ghost use Rattle.gc_types.specs.declared.kind.VMGcKind.{VMGcKind};
 ghost use Rattle.gc_store.specs.Kinds.{NamesKind};
 
 use crate::fault::RunFault;
+use crate::gone_values::give_handle;
 use crate::setup::{BYTES, EXCEPTION, STRUCT};
 use crate::structs::new_struct;
 use gc_heap::GcHeap;
@@ -15,7 +16,11 @@ use gc_types::VMSharedTypeIndex;
 use std::fmt::Debug;
 
 /// Shows what a call refuses.
-fn tell<F: Debug + Drop>(rt: &impl Print, call: &str, refused: Option<F>) -> Result<(), RunFault> {
+pub(crate) fn tell<F: Debug + Drop>(
+    rt: &impl Print,
+    call: &str,
+    refused: Option<F>,
+) -> Result<(), RunFault> {
     match refused {
         Some(fault) => println!(rt; "{call}: {fault:?}")?,
         None => println!(rt; "{call}: done")?,
@@ -185,7 +190,8 @@ fn use_handle<H: GcHeap>(
     use_exception(rt, store, handle)?;
     ask_exception(rt, store, handle)?;
     use_host(rt, store, handle)?;
-    ask_any(rt, store, handle)
+    ask_any(rt, store, handle)?;
+    give_handle(rt, store, handle)
 }
 
 /// Each call on a handle of a scope that is left, and on one of another store.

@@ -9,6 +9,7 @@ mod exceptions;
 mod fault;
 mod functions;
 mod gone;
+mod gone_values;
 mod owned;
 mod references;
 mod scopes;
