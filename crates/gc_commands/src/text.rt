@@ -1,13 +1,11 @@
 //! Writes the reply to a command.
 
 ghost use Rattle.std.specs.Prelude.{◌≡◌, ℕ, List, ◌++◌, ◌≤◌, codes, IfOk, IfSome, OnOk, string_bytes};
-ghost use Rattle.std.specs.Fmt.{decimal, signed_decimal};
 ghost use Rattle.gc_commands.specs.Text.{bool_text, refusal_text, text_of, value_text};
 ghost use Rattle.gc_commands.specs.Words.{bytes_text, hex_digits};
 
 use crate::hex::{push_bytes, push_hex};
 use crate::reply::{Refusal, Reply, ReplyValue};
-use itoa::Buffer;
 use std::alloc::{AllocError, Global};
 
 /// The text of a reply, without its line feed.
@@ -25,14 +23,14 @@ pub fn push_reply(text: &mut String, reply: &Reply) -> Result<(), AllocError>
 {
     match reply {
         Reply::Done => text.push_str("ok"),
-        Reply::Declared(t) => push_number(text, "type ", u64::from(*t)),
+        Reply::Declared(t) => write!(text, "type {t}"),
         Reply::Value(value) => push_value(text, value),
-        Reply::Length(n) => push_number(text, "len ", u64::from(*n)),
-        Reply::HostNumber(n) => push_number(text, "data ", *n),
+        Reply::Length(n) => write!(text, "len {n}"),
+        Reply::HostNumber(n) => write!(text, "data {n}"),
         Reply::Same(same) => text.push_str(if *same { "true" } else { "false" }),
         Reply::Held { objects, hosts } => write!(text, "held {objects} {hosts}"),
-        Reply::Capacity(n) => push_number(text, "cap ", *n),
-        Reply::Increments(n) => push_number(text, "increments ", *n),
+        Reply::Capacity(n) => write!(text, "cap {n}"),
+        Reply::Increments(n) => write!(text, "increments {n}"),
         Reply::Bytes(bytes) => push_byte_text(text, bytes.as_slice()),
         Reply::Refused(refusal) => text.push_str(without_feed(refusal_line(*refusal))),
     }
@@ -67,15 +65,15 @@ fn push_value(text: &mut String, value: &ReplyValue) -> Result<(), AllocError>
     ensures { OnOk result (string_bytes text.new ≡ string_bytes text.old ++ value_text value.now) }
 {
     match value {
-        ReplyValue::I32(n) => push_signed(text, "i32 ", i64::from(*n)),
-        ReplyValue::I64(n) => push_signed(text, "i64 ", *n),
+        ReplyValue::I32(n) => write!(text, "i32 {n}"),
+        ReplyValue::I64(n) => write!(text, "i64 {n}"),
         ReplyValue::F32(bits) => push_digits(text, "f32 ", u128::from(*bits), 8),
         ReplyValue::F64(bits) => push_digits(text, "f64 ", u128::from(*bits), 16),
         ReplyValue::V128(bits) => push_digits(text, "v128 ", bits.as_u128(), 32),
         ReplyValue::Null => text.push_str("null"),
-        ReplyValue::I31(n) => push_number(text, "i31 ", u64::from(*n)),
-        ReplyValue::Struct(t) => push_number(text, "struct ", u64::from(*t)),
-        ReplyValue::Array(t) => push_number(text, "array ", u64::from(*t)),
+        ReplyValue::I31(n) => write!(text, "i31 {n}"),
+        ReplyValue::Struct(t) => write!(text, "struct {t}"),
+        ReplyValue::Array(t) => write!(text, "array {t}"),
         ReplyValue::Host => text.push_str("host"),
         ReplyValue::Exn(t, tag) => write!(text, "exn {t} {tag}"),
         ReplyValue::Opaque => text.push_str("opaque"),
@@ -112,22 +110,6 @@ fn push_byte_text(text: &mut String, bytes: &[u8]) -> Result<(), AllocError>
 {
     text.push_str("bytes ")?;
     push_bytes(text, bytes)
-}
-
-/// Appends a front, and a number behind it.
-fn push_number(text: &mut String, front: &str, number: u64) -> Result<(), AllocError>
-    ensures { OnOk result (string_bytes text.new ≡ string_bytes text.old ++ (front.now ++ decimal number)) }
-{
-    text.push_str(front)?;
-    text.push_str(Buffer::new().format(number))
-}
-
-/// Appends a front, and a number with its sign behind it.
-fn push_signed(text: &mut String, front: &str, number: i64) -> Result<(), AllocError>
-    ensures { OnOk result (string_bytes text.new ≡ string_bytes text.old ++ (front.now ++ signed_decimal number)) }
-{
-    text.push_str(front)?;
-    text.push_str(Buffer::new().format(number))
 }
 
 /// Appends a front, and so many hexadecimal digits of a number behind it.
