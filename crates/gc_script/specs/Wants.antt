@@ -12,7 +12,7 @@ use Rattle.gc_script.specs.Shapes.{value_in, frame_value, global_value}
 use Rattle.gc_script.specs.Steps.{tests, first_failing}
 use Rattle.gc_script.specs.Run.{takes_memory}
 
--- the refusals for want of room, which the store tells once the room of a register is made
+-- the refusals for want of room, which the store tells once the room of a register is made, or would be
 abbrev pub is_of_room : Refusal → Bool
 is_of_room refusal.TooLarge = true
 is_of_room refusal.RootsFull = true
@@ -32,7 +32,8 @@ IsNew s (Some d) = s.registers d ≡ None
 abbrev pub ReadTakes : State → Value → Option ℕ → Type 0
 ReadTakes s v into = (makes_root v ≡ true) ⊎ IsNew s into
 
--- what a command that isn't refused takes memory for
+-- What a command that isn't refused takes memory for. That a declaration is `BadType` is told by its effect and is no test; `grow` and `bytes` of a length count
+-- as taking some whatever their number is.
 abbrev pub TakesIn : State → Command → Type 0
 TakesIn s (Field r i into) = ReadTakes s (value_in s r i) into
 TakesIn s (Elem r i into) = ReadTakes s (value_in s r i) into

@@ -68,7 +68,8 @@ impl Runner {
     /// and `grow` may have collected and got the heap pages. It comes of no command that takes no memory:
     /// `len`, `data`, `setf`, `sete`, `eq`, `leave`, `pop`, `store`, `gset`, `unroot`, `throw`, `gc`, `gcinc`,
     /// `gcdrop`, `cap`, and those that are none; nor of one that a test refuses, but for `TooLarge` and `RootsFull`,
-    /// which the store tells once the register has its room. `field`, `elem`, `load` and `gget` take some where
+    /// which the store tells once the register has its room. A declaration may want some before it is found to be `BadType`,
+    /// as its layouts are made first. `field`, `elem`, `load` and `gget` take some where
     /// they make a root or their register was never set, and `take` where an exception is pending or it never was.
     /// The time is linear in the command's length and in the number of the register that it sets, beside
     /// that of a collection and of new memory, and for `leave` in the roots that it drops.
