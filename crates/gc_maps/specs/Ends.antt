@@ -42,7 +42,7 @@ EndsReading layouts most t Done (Err fault.RootsFull) new = Leaves layouts (λ u
 EndsReading layouts most t Done (Err (fault.HeapOutOfMemory f)) new = ⊥
 EndsReading layouts most t Done (Err fault.Memory) new = Leaves layouts (Pushes most t) new
 
--- a node was refused by the heap, behind the steps that came before it, where the store had come to such a table and account, and the limiter, which had
+-- an object of the kit was refused by the heap, behind the steps that came before it, where the store had come to such a table and account, and the limiter, which had
 -- lost no refusal, to such limits
 pub record LacksNode {D : Type 0} (layouts : Layouts) (counter : Option ℕ) (kit : Kit) (nodes most : ℕ) (t : Table D) (limits limits' : Limits) (need : ℕ) (new : StoreView D) : Type 0 where
   pub before : PolicyState D
