@@ -44,7 +44,7 @@ fn show_value<H: GcHeap, T: WasmTy>(
 }
 
 /// A handle of an array of another store.
-fn foreign(alloc: Global) -> Result<Rooted<ArrayRef>, RunFault> {
+pub(crate) fn foreign(alloc: Global) -> Result<Rooted<ArrayRef>, RunFault> {
     let config = HeapConfig::with_pages(1).ok_or(RunFault::Missing)?;
     let mut other = Store::<NullHeap, u64>::new(alloc, OTHER, NullHeap::new(alloc), config)?;
     declare_types(&mut other)?;

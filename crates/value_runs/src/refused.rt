@@ -1,23 +1,18 @@
 //! What is answered for handles that name nothing here: those of a scope that was left and of an owned root that was given
 //! up, and those of another store.
 
+use crate::asked::foreign;
 use crate::fault::RunFault;
 use crate::setup::new_array;
 use gc_heap::GcHeap;
 use gc_objects::ArrayRef;
 use gc_refs::ValRaw;
-use gc_store::{GcRootIndex, OwnedRooted, RootFault, Rooted, RootedGcRef, Store, StoreId};
+use gc_store::{OwnedRooted, RootFault, Rooted, RootedGcRef, Store};
 use gc_wasm_types::WasmTy;
 use std::hash::{FoldHasher, Hasher};
 
 /// A word that is stored over: that of a 31-bit number, so of no object.
 const OLD_WORD: u32 = 3;
-
-/// The id of another store than each of this program.
-const OTHER: StoreId = StoreId {
-    engine: 0,
-    number: 1,
-};
 
 /// The name of an answer.
 fn answer_name(answer: &Result<(), RootFault>) -> &'static str {
@@ -99,18 +94,14 @@ pub(crate) fn run_left<H: GcHeap>(
     show_scoped(rt, store, left)
 }
 
-/// A handle that is another store's, of what would be a root that stands here.
+/// A handle that is another store's, while a root stands at its place here.
 pub(crate) fn run_foreign<H: GcHeap>(
     rt: &impl Print,
     store: &mut Store<H, u64>,
 ) -> Result<(), RunFault> {
-    let own = new_array(store, &[])?.root_index();
-    let foreign = GcRootIndex {
-        store_id: OTHER,
-        generation: own.generation,
-        slot: own.slot,
-    };
-    show_scoped(rt, store, Rooted::from_gc_root_index(foreign))
+    new_array(store, &[])?;
+    let foreign = foreign(store.allocator())?;
+    show_scoped(rt, store, foreign)
 }
 
 /// An owned handle whose root is given up.
