@@ -151,7 +151,7 @@ module _ {H S D : Type 0} (k : Kind H S) (id : StoreId) (config : HeapConfig) (t
 
   -- A collection ends
 
-  collected_from : (old : StoreView D) (from w : OwnerView D) → WasStore k.layouts old from (store_of w) → Collects k.layouts from w → IsCollected k.layouts old (store_of w)
+  pub collected_from : (old : StoreView D) (from w : OwnerView D) → WasStore k.layouts old from (store_of w) → Collects k.layouts from w → IsCollected k.layouts old (store_of w)
   collected_from old from w was collects = record {
     kept = kept_collected k.layouts (store_of w) from w was.in_frames was.attached collects old was.shows;
     collects = λ t a limits made. store_collected k.layouts (store_of w) from w was.in_frames was.attached collects old was.shows t a limits;

@@ -1,16 +1,11 @@
 //! Collections, and what the heap holds.
 
-ghost use Rattle.std.specs.Prelude.{◌≡◌, ◌≤◌, ℕ, true, false, slice_get};
-ghost use Rattle.gc_model.specs.Allocation.{Limits};
+ghost use Rattle.std.specs.Prelude.{ℕ, slice_get};
 ghost use Rattle.gc_model.specs.Table.{Table};
 ghost use Rattle.gc_model.specs.Reach.{HasNumber, IsKept, IsHost};
-ghost use Rattle.gc_model.specs.Holds.{HoldsTable, HoldsKept};
-ghost use Rattle.gc_policy.specs.Accounts.{Account, HoldsAccount};
+ghost use Rattle.gc_model.specs.Holds.{HoldsKept};
 ghost use Rattle.gc_policy.specs.Collects.{HoldsNumber, HoldsHosts};
-ghost use Rattle.gc_store.specs.Expansion.{CollectsStore};
-ghost use Rattle.gc_policy.specs.Policy.{policy_state};
-ghost use Rattle.gc_store.specs.Settled.{IsSettled};
-ghost use Rattle.gc_store.specs.Stores.{IsSameStore};
+ghost use Rattle.gc_store.specs.Collectings.{IsCollected};
 
 use crate::store::Store;
 use gc_heap::GcHeap;
@@ -19,13 +14,7 @@ impl<H: GcHeap, D: Drop> Store<H, D> {
     /// Collects: a heap that frees holds exactly what the roots reach afterwards. Where no heap is made
     /// it does nothing. It takes no memory, and its time is linear in the roots and what they reach.
     pub fn gc(&mut self)
-        ensures kept { (t : Table D) → HoldsTable H.KIND self.old t → HoldsKept H.KIND self.new t }
-        ensures collects { (t : Table D) (a : Account) (limits : Limits) → self.old.heap.attached ≡ true → HoldsAccount H.KIND self.old t a
-            → CollectsStore H.KIND (policy_state t a limits) self.new }
-        ensures settled { self.old.heap.attached ≡ true → IsSettled H.KIND self.new }
-        ensures unmade { self.old.heap.attached ≡ false → self.new ≡ self.old }
-        ensures same { IsSameStore self.old self.new }
-        ensures spare { self.old.spare ≤ self.new.spare }
+        ensures { IsCollected H.KIND self.old self.new }
     {
         self.owner.is_ready();
         if self.owner.is_made() {

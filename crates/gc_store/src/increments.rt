@@ -1,17 +1,12 @@
 //! Collections that are done increment by increment.
 
-ghost use Rattle.std.specs.Prelude.{◌≡◌, ◌≤◌, ℕ, ◌-◌, ◌^◌, min, true, false};
+ghost use Rattle.std.specs.Prelude.{◌≡◌, ℕ, ◌-◌, ◌^◌, min, true};
 ghost use Rattle.gc_heap.specs.Collection.{Start, IsIncrements};
-ghost use Rattle.gc_model.specs.Allocation.{Limits};
 ghost use Rattle.gc_model.specs.Table.{Table};
-ghost use Rattle.gc_model.specs.Holds.{HoldsTable, HoldsKept};
+ghost use Rattle.gc_model.specs.Holds.{HoldsTable};
 ghost use Rattle.gc_owner.specs.Owners.{OwnerValue, Collects, IsEnded, IsUnderWay, kind_of};
-ghost use Rattle.gc_policy.specs.Accounts.{Account, HoldsAccount};
-ghost use Rattle.gc_policy.specs.Policy.{policy_state};
-ghost use Rattle.gc_store.specs.Expansion.{CollectsStore};
+ghost use Rattle.gc_store.specs.Collectings.{IsCollected};
 ghost use Rattle.gc_store.specs.IncrementCounts.{CountsIncrements, TakesIncrements};
-ghost use Rattle.gc_store.specs.Settled.{IsSettled};
-ghost use Rattle.gc_store.specs.Stores.{IsSameStore};
 
 use crate::store::Store;
 use gc_heap::{GcHeap, GcProgress};
@@ -62,14 +57,8 @@ impl<H: GcHeap, D: Drop> Store<H, D> {
     /// heap, and in a copying heap 3 and one more for each 16,384 objects that the roots reach; 0 where no heap is
     /// made. It takes no memory.
     pub fn gc_by_increments(&mut self) -> u64
-        ensures kept { (t : Table D) → HoldsTable H.KIND self.old t → HoldsKept H.KIND self.new t }
-        ensures collects { (t : Table D) (a : Account) (limits : Limits) → self.old.heap.attached ≡ true → HoldsAccount H.KIND self.old t a
-            → CollectsStore H.KIND (policy_state t a limits) self.new }
-        ensures settled { self.old.heap.attached ≡ true → IsSettled H.KIND self.new }
-        ensures unmade { self.old.heap.attached ≡ false → self.new ≡ self.old }
+        ensures collected { IsCollected H.KIND self.old self.new }
         ensures increments { (t : Table D) → HoldsTable H.KIND self.old t → TakesIncrements H.KIND t result }
-        ensures same { IsSameStore self.old self.new }
-        ensures spare { self.old.spare ≤ self.new.spare }
     {
         self.owner.is_ready();
         if self.owner.is_made() {
@@ -82,13 +71,7 @@ impl<H: GcHeap, D: Drop> Store<H, D> {
     /// Begins a collection and drops it after its first increment. It is then run to its end, so it collects as `gc`
     /// does. It takes no memory.
     pub fn gc_dropped(&mut self)
-        ensures kept { (t : Table D) → HoldsTable H.KIND self.old t → HoldsKept H.KIND self.new t }
-        ensures collects { (t : Table D) (a : Account) (limits : Limits) → self.old.heap.attached ≡ true → HoldsAccount H.KIND self.old t a
-            → CollectsStore H.KIND (policy_state t a limits) self.new }
-        ensures settled { self.old.heap.attached ≡ true → IsSettled H.KIND self.new }
-        ensures unmade { self.old.heap.attached ≡ false → self.new ≡ self.old }
-        ensures same { IsSameStore self.old self.new }
-        ensures spare { self.old.spare ≤ self.new.spare }
+        ensures { IsCollected H.KIND self.old self.new }
     {
         self.owner.is_ready();
         if self.owner.is_made() {

@@ -7,4 +7,4 @@ returns-then-turn-eq0 g c = record { keeps = collected_kept g.H.GcHeap.KIND c.ar
 pub returns-else-turn-eq0 : goal.returns-else-turn-eq0
 returns-else-turn-eq0 g c =
     let done = c.gc_by_increments in
-    record { keeps = collected_kept g.H.GcHeap.KIND c.args.store.now done.new.self done.ensures.same done.ensures.kept }
+    record { keeps = collected_kept g.H.GcHeap.KIND c.args.store.now done.new.self done.ensures.collected.same done.ensures.collected.kept }

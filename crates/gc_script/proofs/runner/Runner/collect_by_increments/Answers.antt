@@ -14,8 +14,8 @@ returns-clause-runs g c limits s holds =
     runs_rest g.H.GcHeap.KIND c.args.store.now.alloc_counter limits limits s GcInc [] (Ok answer) c.gc_by_increments.new.self c.args.self.now refl
     (collected g.H.GcHeap.KIND c.args.store.now.alloc_counter limits c.args.store.now c.gc_by_increments.new.self c.args.self.now s of_increments answer c.gc_by_increments.ensures.same holds
     (record { increments = c.gc_by_increments.result; shows = refl; takes = c.gc_by_increments.ensures.increments s.table (holds_table holds.table) })
-    (λ attached. c.gc_by_increments.ensures.collects s.table s.account limits attached holds.table)
-    c.gc_by_increments.ensures.unmade)
+    (λ attached. c.gc_by_increments.ensures.collected.collects s.table s.account limits attached holds.table)
+    c.gc_by_increments.ensures.collected.unmade)
 
 pub returns-clause-kept : goal.returns-clause-kept
-returns-clause-kept g c s holds = c.gc_by_increments.ensures.kept s.table (holds_table holds.table)
+returns-clause-kept g c s holds = c.gc_by_increments.ensures.collected.kept s.table (holds_table holds.table)

@@ -1,11 +1,11 @@
-use Rattle.std.proofs.Common.{◌≡◌, true, false, refl, sym, ◌∙◌, ap, subst}
+use Rattle.std.proofs.Common.{◌≡◌, true, refl, sym, ◌∙◌, ap, subst}
 use Rattle.gc_model.specs.Stores.{StoreView}
 use Rattle.gc_model.specs.Holds.{HoldsTable}
-use Rattle.gc_policy.proofs.CollectedStore.{unmade_kept}
+use Rattle.gc_owner.specs.Owners.{kind_of}
 use Rattle.gc_store.specs.Stores.{store_view, tables_of}
-use Rattle.gc_store.proofs.Settling.{settled}
-use Rattle.gc_store.proofs.CollectedStores.{sound_collected, kept_collected, store_collected}
+use Rattle.gc_store.proofs.CollectedStores.{sound_collected}
 use Rattle.gc_store.proofs.Incrementing.{takes_made, takes_none}
+use Rattle.gc_store.proofs.Suspending.{collected_from, nothing_collected}
 use Rattle.gc_store.proofs.store.Store.gc_by_increments.Given.{Over}
 use Rattle.gc_store.proofs.store.Store.gc_by_increments.Goals as goal
 use Rattle.gc_store.proofs.store.Store.gc_by_increments.Goals.{After-collect_by_increments}
@@ -21,28 +21,15 @@ pub invariant_of-self : goal.invariant_of-self
 invariant_of-self g c =
     sound_collected g.H.GcHeap.KIND (before g c) c.self.inside.owner.seen c.collect_by_increments.new.owner.seen c.is_ready.ensures.frames (attached g c) c.collect_by_increments.ensures.collects c.self.inside.slot_counts.items c.self.invariant
 
-pub returns-then-is_made-clause-kept : goal.returns-then-is_made-clause-kept
-returns-then-is_made-clause-kept g c =
-    let at = (goal.at.returns-then-is_made-clause-kept g c).After-collect_by_increments in
-    kept_collected g.H.GcHeap.KIND (before g at) c.self.inside.owner.seen c.collect_by_increments.new.owner.seen c.is_ready.ensures.frames (attached g at) c.collect_by_increments.ensures.collects c.args.self.now c.self.view_is
+pub returns-then-is_made-clause-collected : goal.returns-then-is_made-clause-collected
+returns-then-is_made-clause-collected g c =
+    let at = (goal.at.returns-then-is_made-clause-collected g c).After-collect_by_increments in
+    collected_from (kind_of g.H.GcHeap.KIND g.H.GcHeap.seen g.H.GcHeap.sound g.H.GcHeap.under_way) c.self.inside.id c.self.inside.config (tables_of c.self.inside.interned c.self.inside.asked) c.self.inside.tries c.args.self.now c.self.inside.owner.seen c.collect_by_increments.new.owner.seen
+    (record { shows = c.self.view_is; in_frames = c.is_ready.ensures.frames; is_heap = c.is_ready.ensures.heap; attached = attached g at }) c.collect_by_increments.ensures.collects
 
-pub returns-then-is_made-clause-collects : goal.returns-then-is_made-clause-collects
-returns-then-is_made-clause-collects g c = λ t a limits made.
-    let at = (goal.at.returns-then-is_made-clause-collects g c).After-collect_by_increments in
-    store_collected g.H.GcHeap.KIND (before g at) c.self.inside.owner.seen c.collect_by_increments.new.owner.seen c.is_ready.ensures.frames (attached g at) c.collect_by_increments.ensures.collects c.args.self.now c.self.view_is t a limits
-
-pub returns-then-is_made-clause-settled : goal.returns-then-is_made-clause-settled
-returns-then-is_made-clause-settled g c = λ made.
-    settled g.H.GcHeap.KIND c.self.inside.owner.seen c.collect_by_increments.new.owner.seen c.collect_by_increments.ensures.collects c.self.inside.id c.self.inside.config (tables_of c.self.inside.interned c.self.inside.asked) c.self.inside.tries c.is_ready.ensures.frames
-
-pub returns-else-is_made-clause-settled : goal.returns-else-is_made-clause-settled
-returns-else-is_made-clause-settled g c = λ made.
-    let unmade : c.args.self.now.heap.attached ≡ false = ap (λ (s : StoreView g.row.D.Denot). s.heap.attached) (sym c.self.view_is) ∙ sym c.is_made.ensures ∙ c.if-is_made.false in
-    absurd (cc)
-
-pub returns-else-is_made-clause-kept : goal.returns-else-is_made-clause-kept
-returns-else-is_made-clause-kept g c = λ t holds.
-    unmade_kept g.H.GcHeap.KIND c.args.self.now t (ap (λ (s : StoreView g.row.D.Denot). s.heap.attached) (sym c.self.view_is) ∙ sym c.is_made.ensures ∙ c.if-is_made.false) holds
+pub returns-else-is_made-clause-collected : goal.returns-else-is_made-clause-collected
+returns-else-is_made-clause-collected g c =
+    nothing_collected g.H.GcHeap.KIND c.args.self.now (ap (λ (s : StoreView g.row.D.Denot). s.heap.attached) (sym c.self.view_is) ∙ sym c.is_made.ensures ∙ c.if-is_made.false)
 
 pub returns-then-is_made-clause-increments : goal.returns-then-is_made-clause-increments
 returns-then-is_made-clause-increments g c = λ t holds.
