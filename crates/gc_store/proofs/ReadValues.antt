@@ -1,6 +1,6 @@
 -- A value as a read answers it.
 use Rattle.std.proofs.Common.{◌≡◌, ℕ, ℤ, ◌^◌, ◌<◌, true, Some, None, Ok, Err, sym, ap, ◌∙◌, refl, subst, arith}
-use Rattle.std.specs.Prelude.{Option, Result}
+use Rattle.std.specs.Prelude.{Option, Result, OnOk}
 use Rattle.std.specs.Int.{w32, w64, cast_signed, cast_unsigned}
 use Rattle.std.proofs.lemmas.Int.{of_z-to_z}
 use Rattle.gc_types.specs.declared.kind.Layouts.{Layouts}
@@ -23,6 +23,7 @@ use Rattle.gc_store.specs.declared.stored.Found.TheVariants as found
 use Rattle.gc_store.specs.Kept.{FoundStands}
 use Rattle.gc_store.specs.Handles.{PushesRoot}
 use Rattle.gc_store.specs.OwnedWords.{HoldsThere}
+use Rattle.gc_store.specs.RawWords.{PushesWord}
 use Rattle.gc_store.specs.Reading.{ReadsReference, reference_value}
 use Rattle.gc_store.specs.Values.{ReadsValue}
 
@@ -56,6 +57,23 @@ reads_refused layouts t a place class r word fault.WrongStore new is positive pu
 reads_refused layouts t a place class r word fault.Unrooted new is positive pushes = absurd pushes
 reads_refused layouts t a place class r word fault.RootsFull new is positive pushes = (makes_one place class r word is positive, (pushes.0, pushes.1))
 reads_refused layouts t a place class r word fault.Memory new is positive pushes = (makes_one place class r word is positive, pushes)
+
+-- What reading a reference answers and leaves is what a push of its word does
+same_handle : (class : GcClass) (h k : GcRootIndex) → raw.Ref class (Some h) ≡ raw.Ref class (Some k) → h ≡ k
+same_handle class h k e = grind (arith, e)
+
+pub pushes_word : {D : Type 0} (layouts : Layouts) (t : Table D) (place : Placing) (a : Account) (class : GcClass) (r : Reference) (answer : Result (Option GcRootIndex) RootFault) (new : StoreView D) → ReadsValue layouts t a (reference class r) (reference_value class answer) new
+    → OnOk answer (HoldsThere layouts new (after_read (reference class r) t) place a) → PushesWord layouts t place a r answer new
+pushes_word layouts t place a class null (Ok None) new reads there = (refl, there)
+pushes_word layouts t place a class (small n) (Ok None) new reads there = absurd (cc (reads.1.0))
+pushes_word layouts t place a class (at p) (Ok None) new reads there = absurd (cc (reads.1.0))
+pushes_word layouts t place a class null (Ok (Some h)) new reads there = absurd (cc (reads.1.0))
+pushes_word layouts t place a class (small n) (Ok (Some h)) new reads there = ((reads.0 refl, (same_handle class h _ reads.1.0, reads.1.1)), there)
+pushes_word layouts t place a class (at p) (Ok (Some h)) new reads there = ((reads.0 refl, (same_handle class h _ reads.1.0, reads.1.1)), there)
+pushes_word layouts t place a class r (Err fault.WrongStore) new reads there = absurd reads
+pushes_word layouts t place a class r (Err fault.Unrooted) new reads there = absurd reads
+pushes_word layouts t place a class r (Err fault.RootsFull) new reads there = reads.1
+pushes_word layouts t place a class r (Err fault.Memory) new reads there = reads.1
 
 -- What was found is read as it is
 

@@ -1,6 +1,6 @@
 //! What a handle names, and what lies in it.
 
-ghost use Rattle.std.specs.Prelude.{◌≡◌, ◌≤◌, ◌⊎◌, ◌<◌, ◌%◌, true, false, Some, Ok, Err, IfOk, OnOk, OnErr};
+ghost use Rattle.std.specs.Prelude.{◌≡◌, ◌↔◌, ◌≤◌, ◌⊎◌, ◌<◌, ◌%◌, true, false, Some, None, Ok, Err, IfOk, OnOk, OnErr};
 ghost use Rattle.std.specs.FinMap as finite;
 ghost use Rattle.gc_types.specs.declared.kind.VMGcKind.{VMGcKind};
 ghost use Rattle.gc_types.specs.declared.kind.VMGcKind.TheVariants.{ArrayRef, ExnRef};
@@ -227,6 +227,7 @@ impl<H: GcHeap, D: Drop> Store<H, D> {
         ensures reads { ReadsReference H.KIND self.old word result self.new }
         ensures there { (t : Table D) (place : Placing) (a : Account) (class : GcClass) (r : Reference) → HoldsThere H.KIND self.old t place a
             → IsWord place r word → OnOk result (HoldsThere H.KIND self.new (after_read (reference class r) t) place a) }
+        ensures null { IfOk result (λ found. (found ≡ None) ↔ (word ≡ 0)) }
         ensures err { OnErr result (self.new ≡ self.old) }
         ensures same { IsSameStore self.old self.new }
         ensures spare { scoped_places self.old ≤ scoped_places self.new }

@@ -50,13 +50,7 @@ impl<H: GcHeap, D: Drop> Store<H, D> {
         ensures spare { scoped_places self.old ≤ scoped_places self.new }
         ensures reserved { 0 < self.old.spare → result ≡ Err RootFault.Memory → ⊥ }
     {
-        if word == 0 {
-            return Ok(None);
-        }
-        match self.push_root(word) {
-            Ok(found) => Ok(Some(found)),
-            Err(fault) => Err(fault),
-        }
+        self.push_reference(word)
     }
 
     /// Makes an owned root for the reference with that word, and no scoped one; None exactly for 0.

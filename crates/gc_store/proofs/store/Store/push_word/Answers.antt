@@ -1,18 +1,7 @@
-use Rattle.std.proofs.Common.{subst, arith}
-use Rattle.gc_model.specs.Holds.{IsWord}
-use Rattle.gc_store.proofs.ReadValues.{null_word}
+use Rattle.gc_owner.specs.declared.entry.GcClass.TheVariants.{Any}
+use Rattle.gc_store.proofs.ReadValues.{pushes_word}
 use Rattle.gc_store.proofs.store.Store.push_word.Goals as goal
 
-pub push_root-requires : goal.push_root-requires
-push_root-requires g c = c.requires (omega (arith, c.if-word-eq0.false))
-
-pub returns-then-word-eq0-clause-pushes : goal.returns-then-word-eq0-clause-pushes
-returns-then-word-eq0-clause-pushes g c t place a r there is =
-    (null_word g.H.GcHeap.KIND c.args.self.now t place there.0 r (subst (IsWord place r) c.if-word-eq0.true is), there)
-
-pub returns-in-Ok-clause-pushes : goal.returns-in-Ok-clause-pushes
-returns-in-Ok-clause-pushes g c t place a r there is =
-    (c.in-Ok.ensures.pushes t place a r there.0 there.1 is, c.in-Ok.ensures.there t place a r there is)
-
-pub returns-in-Err-clause-pushes : goal.returns-in-Err-clause-pushes
-returns-in-Err-clause-pushes g c t place a r there is = c.in-Err.ensures.pushes t place a r there.0 there.1 is
+pub returns-clause-pushes : goal.returns-clause-pushes
+returns-clause-pushes g c t place a r there is =
+    pushes_word g.H.GcHeap.KIND t place a Any r c.push_reference.result c.push_reference.new.self (c.push_reference.ensures.reads t place a Any r there.0 there.1 is) (c.push_reference.ensures.there t place a Any r there is)
