@@ -35,7 +35,8 @@ fn write_values<H: GcHeap, D: Drop>(
 )
     requires idle { owner.old.seen.idle ≡ true }
     requires can { CanFill H.KIND owner.old.seen gc_ref.now ty (EachFits (ids_of interned.now) values.now) }
-    ensures { FillsNew H.KIND owner.old.seen owner.new.seen gc_ref.now ty (EachFits (ids_of interned.now) values.now) (EachStands (ids_of interned.now) values.now) }
+    ensures { FillsNew H.KIND owner.old.seen owner.new.seen gc_ref.now ty
+        (EachFits (ids_of interned.now) values.now) (EachStands (ids_of interned.now) values.now) }
 {
     for (index, value) in values.iter().enumerate() {
         owner.is_ready();
@@ -158,7 +159,8 @@ fn write_same<H: GcHeap, D: Drop>(
 )
     requires idle { owner.old.seen.idle ≡ true }
     requires can { CanFill H.KIND owner.old.seen gc_ref.now ty (SameFits (ids_of interned.now) value count) }
-    ensures { FillsNew H.KIND owner.old.seen owner.new.seen gc_ref.now ty (SameFits (ids_of interned.now) value count) (SameStands (ids_of interned.now) value) }
+    ensures { FillsNew H.KIND owner.old.seen owner.new.seen gc_ref.now ty
+        (SameFits (ids_of interned.now) value count) (SameStands (ids_of interned.now) value) }
 {
     if count == 0 {
         return;

@@ -228,8 +228,10 @@ impl<H: GcHeap, D: Drop> Store<H, D> {
         self.id
     }
 
-    /// The allocator that the store was made with.
-    pub fn allocator(&self) -> Global {
+    /// The allocator that the store was made with, which is the global one: there is no other.
+    pub fn allocator(&self) -> Global
+        ensures { (alloc : Global) → result ≡ alloc }
+    {
         *self.slot_counts.allocator()
     }
 
