@@ -17,7 +17,7 @@ use gc_heap::GcHeap;
 use std::hash::{Hash, Hasher};
 
 /// Feeds a hasher what a handle names. `WrongStore` where it is another store's, then `Unrooted` where it isn't live.
-fn hash_named<H: GcHeap, D: Drop, S: Hasher>(
+pub(crate) fn hash_named<H: GcHeap, D: Drop, S: Hasher>(
     store: &Store<H, D>,
     index: GcRootIndex,
     state: &mut S,
@@ -45,23 +45,6 @@ impl<T: GcRef> Rooted<T> {
     {
         self.root_index().hash(state);
     }
-
-    /// Feeds a hasher what the handle names: handles of the same reference feed it alike, as long as the heap doesn't
-    /// collect. `WrongStore` where it is another store's, then `Unrooted` where it isn't live. It takes no memory.
-    pub fn ref_hash<H: GcHeap, D: Drop, S: Hasher>(
-        &self,
-        store: &Store<H, D>,
-        state: &mut S,
-    ) -> Result<(), RootFault>
-        ensures wrong_store { is_of_store store.now self.now.index ≡ false → result ≡ Err RootFault.WrongStore }
-        ensures live { (t : Table D) (place : Placing) (r : Reference) → Holds H.KIND store.now t place → NamesReference store.now t self.now.index r
-            → HashesReference S.write place r state.old state.new result }
-        ensures gone { is_of_store store.now self.now.index ≡ true → (t : Table D) → HoldsTable H.KIND store.now t
-            → NamesNothing store.now t self.now.index → result ≡ Err RootFault.Unrooted }
-        ensures err { OnErr result (state.new ≡ state.old) }
-    {
-        hash_named(store, self.root_index(), state)
-    }
 }
 
 impl<T: GcRef> OwnedRooted<T> {
@@ -70,22 +53,6 @@ impl<T: GcRef> OwnedRooted<T> {
         ensures { state.new ≡ fold S.write state.old (⟦<GcRootIndex as Hash>⟧.hash_input self.now.index) }
     {
         self.root_index().hash(state);
-    }
-
-    /// Feeds a hasher what the handle names, as `Rooted::ref_hash` does.
-    pub fn ref_hash<H: GcHeap, D: Drop, S: Hasher>(
-        &self,
-        store: &Store<H, D>,
-        state: &mut S,
-    ) -> Result<(), RootFault>
-        ensures wrong_store { is_of_store store.now self.now.index ≡ false → result ≡ Err RootFault.WrongStore }
-        ensures live { (t : Table D) (place : Placing) (r : Reference) → Holds H.KIND store.now t place → NamesReference store.now t self.now.index r
-            → HashesReference S.write place r state.old state.new result }
-        ensures gone { is_of_store store.now self.now.index ≡ true → (t : Table D) → HoldsTable H.KIND store.now t
-            → NamesNothing store.now t self.now.index → result ≡ Err RootFault.Unrooted }
-        ensures err { OnErr result (state.new ≡ state.old) }
-    {
-        hash_named(store, self.root_index(), state)
     }
 }
 

@@ -28,6 +28,7 @@ pub mod owned;
 pub mod owned_rooted;
 pub mod pending;
 pub mod place;
+pub mod raw_value;
 pub mod read;
 pub mod request;
 pub mod root;

@@ -9,11 +9,13 @@ ghost use Rattle.gc_store.specs.Kinds.{IsScopedOfKind};
 ghost use Rattle.gc_store.specs.Marks.{is_exception, IsAnyOfKind, IsOfMark, FindsMarked};
 ghost use Rattle.gc_store.specs.Roots.{is_of_store, NamesReference, NamesNothing};
 
+use crate::hashes::hash_named;
 use crate::root::{GcRootIndex, RootFault, RootSlot, RootedObject};
 use crate::store::Store;
 use gc_heap::GcHeap;
 use gc_owner::GcClass;
 use gc_types::VMGcKind;
+use std::hash::Hasher;
 use std::marker::PhantomData;
 
 /// A type of references that handles are marked with: its class, and the kind of the objects that it is the
@@ -33,8 +35,13 @@ pub trait GcRef {
 
 /// A handle that names a root of a store.
 pub trait RootedGcRef<T: GcRef> {
-    ghost use Rattle.std.specs.Prelude.{◌≡◌};
+    ghost use Rattle.std.specs.Prelude.{◌≡◌, true, false, Err, OnErr};
+    ghost use Rattle.gc_model.specs.Values.{Reference};
+    ghost use Rattle.gc_model.specs.Table.{Table};
+    ghost use Rattle.gc_model.specs.Holds.{HoldsTable, Holds, Placing};
     ghost use Rattle.gc_store.specs.declared.root.GcRootIndex.{GcRootIndex};
+    ghost use Rattle.gc_store.specs.Hashes.{HashesReference};
+    ghost use Rattle.gc_store.specs.Roots.{is_of_store, NamesReference, NamesNothing};
 
     /// The root that it names.
     ghost index: { Self → GcRootIndex };
@@ -42,6 +49,23 @@ pub trait RootedGcRef<T: GcRef> {
     /// The root that it names.
     fn root_index(&self) -> GcRootIndex
         ensures { result ≡ index self.now };
+
+    /// Feeds a hasher what the handle names: handles of the same reference feed it alike, as long as the heap doesn't
+    /// collect. `WrongStore` where it is another store's, then `Unrooted` where it isn't live. It takes no memory.
+    final fn ref_hash<H: GcHeap, D: Drop, S: Hasher>(
+        &self,
+        store: &Store<H, D>,
+        state: &mut S,
+    ) -> Result<(), RootFault>
+        ensures wrong_store { is_of_store store.now (index self.now) ≡ false → result ≡ Err RootFault.WrongStore }
+        ensures live { (t : Table D) (place : Placing) (r : Reference) → Holds H.KIND store.now t place → NamesReference store.now t (index self.now) r
+            → HashesReference S.write place r state.old state.new result }
+        ensures gone { is_of_store store.now (index self.now) ≡ true → (t : Table D) → HoldsTable H.KIND store.now t
+            → NamesNothing store.now t (index self.now) → result ≡ Err RootFault.Unrooted }
+        ensures err { OnErr result (state.new ≡ state.old) }
+    {
+        hash_named(store, self.root_index(), state)
+    }
 }
 
 /// A handle of a scoped root. It is live as long as its scope isn't left.

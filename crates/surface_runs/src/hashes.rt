@@ -4,7 +4,7 @@ use crate::fault::RunFault;
 use crate::words::hash_of;
 use gc_heap::GcHeap;
 use gc_objects::ExternRef;
-use gc_store::{OwnedRooted, PageLimit, Rooted, Store};
+use gc_store::{OwnedRooted, PageLimit, Rooted, RootedGcRef, Store};
 use std::hash::{FoldHasher, Hasher};
 
 /// What a hasher has after the reference of an owned handle.
