@@ -1,6 +1,6 @@
 //! A walk that numbers objects, each behind those that it must have from the start.
 
-ghost use Rattle.std.specs.Prelude.{◌≡◌, ◌++◌, ◌∷◌, [], ◌<◌, ℕ, ◌-◌, ◌^◌, List, Option, Some, None, true, OnOk, IfOk, length, slice_get, slice_set};
+ghost use Rattle.std.specs.Prelude.{◌≡◌, ◌++◌, ◌+◌, ◌∷◌, [], ◌<◌, ℕ, ◌-◌, ◌^◌, List, Option, Some, None, true, OnOk, IfOk, length, slice_get, slice_set};
 ghost use Rattle.gc_types.specs.Declarations.{Declaration};
 ghost use Rattle.gc_model.specs.Stored.{value_type};
 ghost use Rattle.gc_image.specs.Well.{as_object};
@@ -104,6 +104,20 @@ fn wait(walk: &mut Walk, frame: Frame) -> Result<(), AllocError>
     walk.stack.extend_from_slice(&[frame])
 }
 
+/// Lets an object wait with its next index.
+fn wait_further(walk: &mut Walk, frame: Frame) -> Result<(), AllocError>
+    requires { frame.next < 2 ^ 64 - 1 }
+    ensures { OnOk result (parts walk.new ≡ waiting (parts walk.old) (record frame { next = frame.next + 1 })) }
+{
+    wait(
+        walk,
+        Frame {
+            object: frame.object,
+            next: frame.next + 1,
+        },
+    )
+}
+
 /// Looks at what the object that waits needs at its index: that is opened before it. False where that is open, so that
 /// objects need each other.
 fn look_at(walk: &mut Walk, frame: Frame, needed: usize) -> Result<bool, AllocError>
@@ -123,13 +137,7 @@ fn look_at(walk: &mut Walk, frame: Frame, needed: usize) -> Result<bool, AllocEr
         }
         Mark::Open => Ok(false),
         Mark::Numbered => {
-            wait(
-                walk,
-                Frame {
-                    object: frame.object,
-                    next: frame.next + 1,
-                },
-            )?;
+            wait_further(walk, frame)?;
             Ok(true)
         }
     }
@@ -155,13 +163,7 @@ fn step(
     match early_named(types, objects, frame.object, frame.next) {
         Some(needed) => look_at(walk, frame, needed),
         None => {
-            wait(
-                walk,
-                Frame {
-                    object: frame.object,
-                    next: frame.next + 1,
-                },
-            )?;
+            wait_further(walk, frame)?;
             Ok(true)
         }
     }

@@ -17,11 +17,11 @@ returns-in_ok-open-in-Unseen-clause-went c = λ early is needed.
     needed_opened early (parts c.args.walk.now) c.args.frame is (parts c.wait.new.walk) (parts c.open.new.walk) c.args.needed c.in_ok-wait-in-Unseen.ensures c.in_ok-open-in-Unseen.ensures
     (slice_get_read marks (length marks) c.args.needed c.index.result.now refl c.requires.below c.index.ensures ∙ ap Some c.in-Unseen.is) needed
 
-pub returns-in_ok-wait-in-Numbered-clause-went : goal.returns-in_ok-wait-in-Numbered-clause-went
-returns-in_ok-wait-in-Numbered-clause-went c = λ early is needed.
+pub returns-in_ok-wait_further-in-Numbered-clause-went : goal.returns-in_ok-wait_further-in-Numbered-clause-went
+returns-in_ok-wait_further-in-Numbered-clause-went c = λ early is needed.
     let marks = c.args.walk.now.marks.items in
     let there = slice_get_read marks (length marks) c.args.needed c.index.result.now refl c.requires.below c.index.ensures ∙ ap Some c.in-Numbered.is in
-    goes_past early (parts c.args.walk.now) c.args.frame is (parts c.wait-in-Numbered.new.walk) c.in_ok-wait-in-Numbered.ensures
+    goes_past early (parts c.args.walk.now) c.args.frame is (parts c.wait_further.new.walk) c.in_ok-wait_further-in-Numbered.ensures
     (λ y named. let both : Some c.args.needed ≡ Some y = sym needed ∙ named in same_numbered marks c.args.needed y both there)
 
 pub returns-in_ok-open-in-Unseen-clause-leads : goal.returns-in_ok-open-in-Unseen-clause-leads
@@ -30,8 +30,8 @@ returns-in_ok-open-in-Unseen-clause-leads c = λ early counts is needed low went
     step_opened early counts (parts c.args.walk.now) c.args.frame is (parts c.wait.new.walk) (parts c.open.new.walk) c.args.needed c.in_ok-wait-in-Unseen.ensures c.in_ok-open-in-Unseen.ensures low needed
     (slice_get_read marks (length marks) c.args.needed c.index.result.now refl c.requires.below c.index.ensures ∙ ap Some c.in-Unseen.is)
 
-pub returns-in_ok-wait-in-Numbered-clause-leads : goal.returns-in_ok-wait-in-Numbered-clause-leads
-returns-in_ok-wait-in-Numbered-clause-leads c = λ early counts is needed low went.
+pub returns-in_ok-wait_further-in-Numbered-clause-leads : goal.returns-in_ok-wait_further-in-Numbered-clause-leads
+returns-in_ok-wait_further-in-Numbered-clause-leads c = λ early counts is needed low went.
     let marks = c.args.walk.now.marks.items in
-    step_known early counts (parts c.args.walk.now) c.args.frame is (parts c.wait-in-Numbered.new.walk) c.args.needed c.in_ok-wait-in-Numbered.ensures low needed
+    step_known early counts (parts c.args.walk.now) c.args.frame is (parts c.wait_further.new.walk) c.args.needed c.in_ok-wait_further-in-Numbered.ensures low needed
     (slice_get_read marks (length marks) c.args.needed c.index.result.now refl c.requires.below c.index.ensures ∙ ap Some c.in-Numbered.is)
