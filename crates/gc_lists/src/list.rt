@@ -13,7 +13,7 @@ ghost use Rattle.gc_lists.specs.Versions.{ListOfStands, ListStands, StandsForLis
 
 use crate::fault::ListFault;
 use crate::kit::Kit;
-use crate::roots::{is_kit_of, is_version_of, keep, number_in, raw_handle, refused};
+use crate::roots::{is_kit_of, is_version_of, keep, number_in, refused};
 use crate::walk::{NEXT, NUMBER, walk};
 use gc_heap::GcHeap;
 use gc_store::laws::stores_hold_tables;
@@ -124,7 +124,7 @@ impl HeapList {
         }
         let scope = store.enter_gc_lifo_scope();
         match store.read_value(root, NEXT) {
-            Ok(value) => match raw_handle(&value) {
+            Ok(value) => match value.handle() {
                 Some(next) => match keep(store, scope, next) {
                     Ok(kept) => Ok(HeapList { root: Some(kept) }),
                     Err(fault) => Err(fault),

@@ -6,7 +6,6 @@ ghost use Rattle.gc_model.specs.Values.{Reference};
 ghost use Rattle.gc_policy.specs.Accounts.{Account, HoldsAccount};
 ghost use Rattle.gc_store.specs.Roots.{NamesReference, is_of_store};
 ghost use Rattle.gc_store.specs.Stores.{IsSameStore};
-ghost use Rattle.gc_store.specs.Values.{raw_handle};
 ghost use Rattle.gc_lists.specs.Answers.{KeepsRoot};
 ghost use Rattle.gc_lists.specs.Cells.{number_in};
 ghost use Rattle.gc_lists.specs.Faults.{refused};
@@ -47,35 +46,13 @@ pub fn is_version_of<H: GcHeap, D: Drop>(store: &Store<H, D>, version: Option<Gc
     }
 }
 
-/// The handle that a value is, where it is one.
-pub fn raw_handle(value: &RawValue) -> Option<GcRootIndex>
-    ensures { result ≡ raw_handle value.now }
-{
-    match value {
-        RawValue::I32(_) => None,
-        RawValue::I64(_) => None,
-        RawValue::F32(_) => None,
-        RawValue::F64(_) => None,
-        RawValue::V128(_) => None,
-        RawValue::Func(_) => None,
-        RawValue::Cont(_) => None,
-        RawValue::Ref(_, handle) => *handle,
-    }
-}
-
 /// The integer of 64 bits that a value is; 0 where it is none.
 pub fn number_in(value: &RawValue) -> i64
     ensures { result ≡ number_in value.now }
 {
     match value {
-        RawValue::I32(_) => 0,
         RawValue::I64(number) => *number,
-        RawValue::F32(_) => 0,
-        RawValue::F64(_) => 0,
-        RawValue::V128(_) => 0,
-        RawValue::Func(_) => 0,
-        RawValue::Cont(_) => 0,
-        RawValue::Ref(..) => 0,
+        _ => 0,
     }
 }
 

@@ -8,7 +8,7 @@ ghost use Rattle.gc_lists.specs.Progress.{IsCellIn, NamesCell, Steps, StopsWalk,
 ghost use Rattle.gc_lists.specs.Versions.{IsListIn, StandsForList};
 
 use crate::fault::ListFault;
-use crate::roots::{number_in, raw_handle, refused};
+use crate::roots::{number_in, refused};
 use gc_heap::GcHeap;
 use gc_store::{GcRootIndex, Store};
 use std::alloc::Global;
@@ -34,7 +34,7 @@ fn step<H: GcHeap, D: Drop>(
         Err(fault) => return Err(refused(fault)),
     };
     match store.read_value(cell, NEXT) {
-        Ok(value) => Ok((number, raw_handle(&value))),
+        Ok(value) => Ok((number, value.handle())),
         Err(fault) => Err(refused(fault)),
     }
 }

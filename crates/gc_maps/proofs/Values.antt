@@ -14,10 +14,10 @@ use Rattle.gc_store.specs.declared.root.RootFault.{RootFault}
 use Rattle.gc_store.specs.declared.root.RootFault.TheVariants as root
 use Rattle.gc_store.specs.Roots.{handle_of}
 use Rattle.gc_store.specs.Values.{ReadsValue, raw_handle}
-use Rattle.gc_lists.specs.Cells.{number_of}
+use Rattle.gc_lists.specs.Cells.{number_in, number_of}
 use Rattle.gc_lists.specs.Faults.{refused}
 use Rattle.gc_maps.specs.Ends.{EndsReading}
-use Rattle.gc_maps.specs.Parts.{long_in, int_in, NamesLink}
+use Rattle.gc_maps.specs.Parts.{int_in, NamesLink}
 use Rattle.gc_maps.proofs.Naming.{are_before, held_table, names_pushed}
 use Rattle.gc_maps.proofs.Growing.{pushes_none, pushes_one}
 
@@ -28,10 +28,10 @@ long_fits n = grind (arith, ints)
 int_fits : (n : ℕ) → SFits w32 (to_z w32 n)
 int_fits n = grind (arith, ints)
 
-pub long_is : (value : RawValue) (bits : ℕ) → (z : ℤ) × ((value ≡ raw.I64 z) × (bits ≡ number_bits w64 z)) → to_z w64 (of_z w64 (long_in value)) ≡ number_of bits
+pub long_is : (value : RawValue) (bits : ℕ) → (z : ℤ) × ((value ≡ raw.I64 z) × (bits ≡ number_bits w64 z)) → to_z w64 (of_z w64 (number_in value)) ≡ number_of bits
 long_is value bits read =
     let fits = long_fits (of_z w64 read.0) in
-    ap (λ (v : RawValue). to_z w64 (of_z w64 (long_in v))) read.1.0 ∙ sym (to_z-of_z w64 (to_z w64 (of_z w64 read.0)) fits) ∙ sym (ap (λ (n : ℕ). to_z w64 n) read.1.1)
+    ap (λ (v : RawValue). to_z w64 (of_z w64 (number_in v))) read.1.0 ∙ sym (to_z-of_z w64 (to_z w64 (of_z w64 read.0)) fits) ∙ sym (ap (λ (n : ℕ). to_z w64 n) read.1.1)
 
 small_int : (z : ℤ) (n : ℕ) → SFits w32 z → n < 2 ^ 31 → n ≡ of_z w32 z → z ≡ pos n
 small_int (pos m) n fits below e = ap pos (sym e)

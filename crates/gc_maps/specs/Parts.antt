@@ -16,17 +16,7 @@ use Rattle.gc_maps.specs.declared.part.Opened.{Opened}
 use Rattle.gc_maps.specs.Trees.{Tree, node, height}
 use Rattle.gc_maps.specs.Maps.{IsTree}
 
--- the number that a value is, where it is one
-abbrev pub long_in : RawValue → ℤ
-long_in (raw.I32 n) = pos 0
-long_in (raw.I64 n) = n
-long_in (raw.F32 n) = pos 0
-long_in (raw.F64 n) = pos 0
-long_in (raw.V128 n) = pos 0
-long_in (raw.Func f) = pos 0
-long_in (raw.Cont c) = pos 0
-long_in (raw.Ref class handle) = pos 0
-
+-- the integer of 32 bits that a value is that was read; 0 where it is none
 abbrev pub int_in : RawValue → ℤ
 int_in (raw.I32 n) = n
 int_in (raw.I64 n) = pos 0

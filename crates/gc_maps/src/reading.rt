@@ -9,13 +9,13 @@ ghost use Rattle.gc_store.specs.Roots.{CanRead, HasValue};
 ghost use Rattle.gc_store.specs.Stores.{IsSameStore};
 ghost use Rattle.gc_lists.specs.Cells.{number_of};
 ghost use Rattle.gc_maps.specs.Ends.{EndsReading};
-ghost use Rattle.gc_maps.specs.Parts.{long_in, int_in, NamesLink, RootIs, PartIs, NodeIs, OpenedIs, NodeIn, LowNodeIn, RootIn, node_of};
+ghost use Rattle.gc_maps.specs.Parts.{int_in, NamesLink, RootIs, PartIs, NodeIs, OpenedIs, NodeIn, LowNodeIn, RootIn, node_of};
 ghost use Rattle.gc_maps.specs.Trees.{Tree, height};
 
 use crate::part::{Node, Opened, Part};
 use gc_heap::GcHeap;
 use gc_lists::ListFault;
-use gc_lists::roots::{raw_handle, refused};
+use gc_lists::roots::{number_in, refused};
 use gc_store::{GcRootIndex, RawValue, Store};
 
 /// Where a node has its key, its value, its height and its children.
@@ -29,35 +29,13 @@ const LEFT: u32 = 3;
 
 const RIGHT: u32 = 4;
 
-/// The 64-bit integer that a value is; 0 where it is none.
-fn long_in(value: &RawValue) -> i64
-    ensures { result ≡ long_in value.now }
-{
-    match value {
-        RawValue::I32(_) => 0,
-        RawValue::I64(number) => *number,
-        RawValue::F32(_) => 0,
-        RawValue::F64(_) => 0,
-        RawValue::V128(_) => 0,
-        RawValue::Func(_) => 0,
-        RawValue::Cont(_) => 0,
-        RawValue::Ref(..) => 0,
-    }
-}
-
 /// The 32-bit integer that a value is; 0 where it is none.
 fn int_in(value: &RawValue) -> i32
     ensures { result ≡ int_in value.now }
 {
     match value {
         RawValue::I32(number) => *number,
-        RawValue::I64(_) => 0,
-        RawValue::F32(_) => 0,
-        RawValue::F64(_) => 0,
-        RawValue::V128(_) => 0,
-        RawValue::Func(_) => 0,
-        RawValue::Cont(_) => 0,
-        RawValue::Ref(..) => 0,
+        _ => 0,
     }
 }
 
@@ -73,7 +51,7 @@ pub(crate) fn read_long<H: GcHeap, D: Drop>(
     ensures same { IsSameStore store.old store.new }
 {
     match store.read_value(object, index) {
-        Ok(value) => long_in(&value),
+        Ok(value) => number_in(&value),
         Err(_) => 0,
     }
 }
@@ -107,7 +85,7 @@ pub(crate) fn read_link<H: GcHeap, D: Drop>(
     ensures same { IsSameStore store.old store.new }
 {
     match store.read_value(object, index) {
-        Ok(value) => Ok(raw_handle(&value)),
+        Ok(value) => Ok(value.handle()),
         Err(fault) => Err(refused(fault)),
     }
 }

@@ -5,7 +5,7 @@ ghost use Rattle.gc_model.specs.Holds.{Holds, Placing};
 ghost use Rattle.gc_model.specs.Table.{Table};
 ghost use Rattle.gc_model.specs.Values.{Reference};
 ghost use Rattle.gc_store.specs.Roots.{NamesReference};
-ghost use Rattle.gc_store.specs.Values.{IsLive, raw_handle};
+ghost use Rattle.gc_store.specs.Values.{IsLive};
 ghost use Rattle.gc_paths.specs.Faults.{refused};
 ghost use Rattle.gc_paths.specs.Parts.{parts};
 ghost use Rattle.gc_paths.specs.Taking.{TakesReference};
@@ -14,7 +14,7 @@ use crate::entry::{PathEntry, PathParent};
 use crate::fault::PathFault;
 use crate::report::Report;
 use gc_heap::GcHeap;
-use gc_store::{GcRootIndex, RawValue, RootFault, Store};
+use gc_store::{GcRootIndex, RootFault, Store};
 
 /// A store's refusal as one of these calls.
 pub(crate) fn refused(fault: RootFault) -> PathFault
@@ -25,22 +25,6 @@ pub(crate) fn refused(fault: RootFault) -> PathFault
         RootFault::Unrooted => PathFault::Unrooted,
         RootFault::RootsFull => PathFault::RootsFull,
         RootFault::Memory => PathFault::Memory,
-    }
-}
-
-/// The handle that a value is, where it is one.
-pub(crate) fn raw_handle(value: &RawValue) -> Option<GcRootIndex>
-    ensures { result ≡ raw_handle value.now }
-{
-    match value {
-        RawValue::I32(_) => None,
-        RawValue::I64(_) => None,
-        RawValue::F32(_) => None,
-        RawValue::F64(_) => None,
-        RawValue::V128(_) => None,
-        RawValue::Func(_) => None,
-        RawValue::Cont(_) => None,
-        RawValue::Ref(_, handle) => *handle,
     }
 }
 

@@ -18,7 +18,7 @@ ghost use Rattle.gc_paths.specs.Steps.{CanTake, CanTakeValue, IsReading};
 use crate::entry::PathParent;
 use crate::fault::PathFault;
 use crate::report::Report;
-use crate::taking::{raw_handle, refused, take};
+use crate::taking::{refused, take};
 use gc_heap::GcHeap;
 use gc_store::{GcRootIndex, RootedObject, Store};
 use gc_types::VMSharedTypeIndex;
@@ -79,7 +79,7 @@ fn take_value<H: GcHeap, D: Drop>(
 {
     let handle = report.handles[entry as usize];
     match store.read_value(handle, index) {
-        Ok(value) => match raw_handle(&value) {
+        Ok(value) => match value.handle() {
             Some(found) => {
                 let parent = PathParent::FromEntry { entry, index };
                 take(store, report, found, parent, length)

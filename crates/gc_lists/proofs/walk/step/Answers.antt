@@ -43,7 +43,7 @@ returns-in-Ok-read_value-clause-steps g c = λ t a xs holds names.
     steps_on g.H.GcHeap.KIND c.read_value.new.self t a (there.place, there.holds) names.number (cast_signed w64 (cast_unsigned w64 c.number_in-number.result))
     (back c.number_in-number.result (record { sfits = c.number_in-number.type_inv }) ∙ same)
     (subst (FitsSigned w64) (sym (back c.number_in-number.result (record { sfits = c.number_in-number.type_inv }))) (record { sfits = c.number_in-number.type_inv })) c.read_value-2.new.self
-    names.next names.rest c.in-Ok-read_value.value c.raw_handle.result names.after next_reads c.raw_handle.ensures
+    names.next names.rest c.in-Ok-read_value.value c.handle.result names.after next_reads c.handle.ensures
 
 pub returns-in-Err-read_value-clause-steps : goal.returns-in-Err-read_value-clause-steps
 returns-in-Err-read_value-clause-steps g c = λ t a xs holds names.

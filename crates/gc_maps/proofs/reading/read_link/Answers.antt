@@ -11,7 +11,7 @@ pub returns-in-Ok-clause-reads : goal.returns-in-Ok-clause-reads
 returns-in-Ok-clause-reads g c t a r holds has =
     let s = c.args.store.now in
     let new = c.read_value.new.self in
-    subst (λ (link : Option GcRootIndex). EndsReading g.H.GcHeap.KIND 1 t (IsLink g.H.GcHeap.KIND s t a holds new r) (Ok link) new) (sym c.raw_handle.ensures)
+    subst (λ (link : Option GcRootIndex). EndsReading g.H.GcHeap.KIND 1 t (IsLink g.H.GcHeap.KIND s t a holds new r) (Ok link) new) (sym c.handle.ensures)
     (link_read g.H.GcHeap.KIND s t a holds new r c.in-Ok.value (c.in-Ok.ensures.reads t a (reference Any r) holds has))
 
 pub returns-in-Err-clause-reads : goal.returns-in-Err-clause-reads

@@ -6,7 +6,7 @@ use Rattle.gc_maps.proofs.reading.read_long.Goals as goal
 pub returns-in-Ok-clause-reads : goal.returns-in-Ok-clause-reads
 returns-in-Ok-clause-reads g c t a bits holds has =
     let reads = c.in-Ok.ensures.reads t a (numeric i64 bits) holds has in
-    (ap (λ (z : ℤ). to_z w64 (of_z w64 z)) c.long_in.ensures ∙ long_is c.in-Ok.value bits reads.1.0, reads.1.1)
+    (ap (λ (z : ℤ). to_z w64 (of_z w64 z)) c.number_in.ensures ∙ long_is c.in-Ok.value bits reads.1.0, reads.1.1)
 
 pub returns-in-Err-clause-reads : goal.returns-in-Err-clause-reads
 returns-in-Err-clause-reads g c t a bits holds has =

@@ -41,7 +41,7 @@ take-requires g c =
     let has = has_value g.H.GcHeap.KIND can.basis can.told can.bound can.count c.args.store.now (parts c.args.report.now) can.progress c.args.entry can.object can.reading c.index-handle.result.now (handle_there g before) c.args.index c.requires.value c.requires.value_at in
     read_live g.H.GcHeap.KIND can.basis can.told can.bound can.count c.args.store.now (parts c.args.report.now) can.progress c.args.entry can.object can.reading c.index-handle.result.now (handle_there g before) c.args.index c.read_value.new.self c.in-Ok.ensures.same
     c.requires.value c.requires.value_at c.in-Ok.value (c.in-Ok.ensures.reads can.progress.holds.now can.basis.account c.requires.value (held g.H.GcHeap.KIND can.basis can.told can.bound can.count c.args.store.now (parts c.args.report.now) can.progress) has)
-    (c.in-Ok.ensures.there can.progress.holds.now can.basis.place can.basis.account c.requires.value can.progress.holds.there has) c.in-Some.found (sym c.raw_handle.ensures ∙ c.in-Some.is)
+    (c.in-Ok.ensures.there can.progress.holds.now can.basis.place can.basis.account c.requires.value can.progress.holds.there has) c.in-Some.found (sym c.handle.ensures ∙ c.in-Some.is)
 
 pub returns-in-Some-clause-takes : goal.returns-in-Some-clause-takes
 returns-in-Some-clause-takes g c b told bound count o v progress reading length_is value_at =
@@ -49,7 +49,7 @@ returns-in-Some-clause-takes g c b told bound count o v progress reading length_
     let has = has_value g.H.GcHeap.KIND b told bound count c.args.store.now (parts c.args.report.now) progress c.args.entry o reading c.index-handle.result.now (handle_there g before) c.args.index v value_at in
     read_taken g.H.GcHeap.KIND b told bound count c.args.store.now (parts c.args.report.now) progress c.args.entry o reading c.index-handle.result.now (handle_there g before) c.args.index c.read_value.new.self c.in-Ok.ensures.same
     v value_at c.in-Ok.value (c.in-Ok.ensures.reads progress.holds.now b.account v (held g.H.GcHeap.KIND b told bound count c.args.store.now (parts c.args.report.now) progress) has)
-    (c.in-Ok.ensures.there progress.holds.now b.place b.account v progress.holds.there has) c.in-Some.found (sym c.raw_handle.ensures ∙ c.in-Some.is)
+    (c.in-Ok.ensures.there progress.holds.now b.place b.account v progress.holds.there has) c.in-Some.found (sym c.handle.ensures ∙ c.in-Some.is)
     (parts c.take.new.report) c.take.result
     (subst (λ (n : ℕ). (t : Table g.row.D.Denot) (place : Placing) (q : Reference) → Holds g.H.GcHeap.KIND c.read_value.new.self t place → NamesReference c.read_value.new.self t c.in-Some.found q
     → TakesReference place q c.in-Some.found (parent.FromEntry c.args.entry c.args.index) n (parts c.args.report.now) (parts c.take.new.report) c.take.result) length_is c.take.ensures)
@@ -60,7 +60,7 @@ returns-in-None-clause-takes g c b told bound count o v progress reading length_
     let has = has_value g.H.GcHeap.KIND b told bound count c.args.store.now (parts c.args.report.now) progress c.args.entry o reading c.index-handle.result.now (handle_there g before) c.args.index v value_at in
     read_passed g.H.GcHeap.KIND b told bound count c.args.store.now (parts c.args.report.now) progress c.args.entry o reading c.index-handle.result.now (handle_there g before) c.args.index c.read_value.new.self c.in-Ok.ensures.same
     v value_at c.in-Ok.value (c.in-Ok.ensures.reads progress.holds.now b.account v (held g.H.GcHeap.KIND b told bound count c.args.store.now (parts c.args.report.now) progress) has)
-    (c.in-Ok.ensures.there progress.holds.now b.place b.account v progress.holds.there has) (sym c.raw_handle.ensures ∙ c.in-None.is)
+    (c.in-Ok.ensures.there progress.holds.now b.place b.account v progress.holds.there has) (sym c.handle.ensures ∙ c.in-None.is)
 
 pub returns-in-Err-clause-takes : goal.returns-in-Err-clause-takes
 returns-in-Err-clause-takes g c b told bound count o v progress reading length_is value_at =

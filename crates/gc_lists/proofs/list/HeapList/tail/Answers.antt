@@ -26,7 +26,7 @@ returns-in-Ok-keep-clause-tails g c = λ mine t a ty xs holds stands.
     (c.read_value.ensures.reads t a (reference Any names.next) holds (has_next c.args.store.now t c.in-Some.root xs names)) in
     let scope_is = c.enter_gc_lifo_scope-scope.ensures.table t (holds.place, holds.holds) in
     let read = read_some g.H.GcHeap.KIND c.args.store.now c.read_value.new.self c.keep.new.store t a ty (drop 1 xs) c.enter_gc_lifo_scope-scope.result scope_is (holds.place, holds.holds)
-    names.next c.in-Ok.value c.in-Some-raw_handle.next (no_small c.args.store.now t c.in-Some.root xs names) reads (sym c.raw_handle.ensures ∙ c.in-Some-raw_handle.is) in
+    names.next c.in-Ok.value c.in-Some-handle.next (no_small c.args.store.now t c.in-Some.root xs names) reads (sym c.handle.ensures ∙ c.in-Some-handle.is) in
     let rest = rest_of g.H.GcHeap.KIND c.args.store.now t (holds.place, holds.holds) c.in-Some.root ty xs names (of_first g.H.GcHeap.KIND c.args.store.now t (holds.place, holds.holds) c.in-Some.root c.args.self.now.root ty xs c.in-Some.is stands names) in
     tail_kept g.H.GcHeap.KIND c.args.store.now c.read_value.new.self c.keep.new.store t a ty (drop 1 xs) c.enter_gc_lifo_scope-scope.result scope_is (holds.place, holds.holds) names.next rest c.in-Ok-keep.kept
     (subst (λ (r : Result GcRootIndex ListFault). KeepsRoot g.H.GcHeap.KIND (push names.next t) a names.next (leave c.enter_gc_lifo_scope-scope.result) r c.keep.new.store) c.in-Ok-keep.is
@@ -39,7 +39,7 @@ returns-in-Err-keep-clause-tails g c = λ mine t a ty xs holds stands.
     (c.read_value.ensures.reads t a (reference Any names.next) holds (has_next c.args.store.now t c.in-Some.root xs names)) in
     let scope_is = c.enter_gc_lifo_scope-scope.ensures.table t (holds.place, holds.holds) in
     let read = read_some g.H.GcHeap.KIND c.args.store.now c.read_value.new.self c.keep.new.store t a ty (drop 1 xs) c.enter_gc_lifo_scope-scope.result scope_is (holds.place, holds.holds)
-    names.next c.in-Ok.value c.in-Some-raw_handle.next (no_small c.args.store.now t c.in-Some.root xs names) reads (sym c.raw_handle.ensures ∙ c.in-Some-raw_handle.is) in
+    names.next c.in-Ok.value c.in-Some-handle.next (no_small c.args.store.now t c.in-Some.root xs names) reads (sym c.handle.ensures ∙ c.in-Some-handle.is) in
     let rest = rest_of g.H.GcHeap.KIND c.args.store.now t (holds.place, holds.holds) c.in-Some.root ty xs names (of_first g.H.GcHeap.KIND c.args.store.now t (holds.place, holds.holds) c.in-Some.root c.args.self.now.root ty xs c.in-Some.is stands names) in
     tail_refused g.H.GcHeap.KIND c.args.store.now c.read_value.new.self c.keep.new.store t a ty xs c.enter_gc_lifo_scope-scope.result scope_is (holds.place, holds.holds) names.next c.in-Err-keep.fault
     (subst (λ (r : Result GcRootIndex ListFault). KeepsRoot g.H.GcHeap.KIND (push names.next t) a names.next (leave c.enter_gc_lifo_scope-scope.result) r c.keep.new.store) c.in-Err-keep.is
@@ -53,7 +53,7 @@ returns-in-None-clause-tails g c = λ mine t a ty xs holds stands.
     let rest = rest_of g.H.GcHeap.KIND c.args.store.now t (holds.place, holds.holds) c.in-Some.root ty xs names (of_first g.H.GcHeap.KIND c.args.store.now t (holds.place, holds.holds) c.in-Some.root c.args.self.now.root ty xs c.in-Some.is stands names) in
     subst (λ (v : Option GcRootIndex). AnswersVersion g.H.GcHeap.KIND t (ChangesRoots t) (AreNumbers ty (drop 1 xs)) v c.read_value.new.self) (sym c.empty-in-None.ensures)
     (read_none g.H.GcHeap.KIND c.args.store.now c.read_value.new.self c.read_value.new.self t a ty (drop 1 xs) c.enter_gc_lifo_scope-scope.result (c.enter_gc_lifo_scope-scope.ensures.table t (holds.place, holds.holds)) (holds.place, holds.holds)
-    names.next c.in-Ok.value (no_small c.args.store.now t c.in-Some.root xs names) reads (sym c.raw_handle.ensures ∙ c.in-None.is) rest)
+    names.next c.in-Ok.value (no_small c.args.store.now t c.in-Some.root xs names) reads (sym c.handle.ensures ∙ c.in-None.is) rest)
 
 pub returns-in-Err-clause-tails : goal.returns-in-Err-clause-tails
 returns-in-Err-clause-tails g c = λ mine t a ty xs holds stands.
