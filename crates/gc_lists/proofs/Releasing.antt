@@ -1,5 +1,5 @@
 -- A version is given up.
-use Rattle.std.proofs.Common.{◌≡◌, Bool, true, false, Option, Some, Result, Ok, Err, refl, sym, ap, ◌∙◌, subst}
+use Rattle.std.proofs.Common.{◌≡◌, Bool, true, false, Option, Some, Result, Ok, Err, MatchResult, sym, ap, ◌∙◌, subst}
 use Rattle.gc_types.specs.declared.kind.Layouts.{Layouts}
 use Rattle.gc_model.specs.Table.{Table}
 use Rattle.gc_model.specs.Stores.{StoreView}
@@ -24,6 +24,11 @@ module _ {D : Type 0} (layouts : Layouts) (s : StoreView D) (t : Table D) (a : A
   other_store fault.RootsFull by = absurd by
   other_store fault.Memory by = absurd by
 
-  pub was_handed_back : (result : Result Bool RootFault) (why : RootFault) → result ≡ Err why → ReleasesHandle layouts s t a handle result new → (is_version_of s version ≡ false) × (version ≡ version)
-  was_handed_back result why is releases =
-      (ap (is_version_of s) some ∙ other_store why (subst (λ (r : Result Bool RootFault). ReleasesHandle layouts s t a handle r new) is releases), refl)
+  pub was_handed_back : (result : Result Bool RootFault) (why : RootFault) → result ≡ Err why → ReleasesHandle layouts s t a handle result new → is_version_of s version ≡ false
+  was_handed_back result why is releases = ap (is_version_of s) some ∙ other_store why (subst (λ (r : Result Bool RootFault). ReleasesHandle layouts s t a handle r new) is releases)
+
+-- what is handed back has the root that it had
+pub same_root : {V : Type 0} (root_of : V → Option GcRootIndex) (version : V) (Done Other : Type 0) (result : Result (Unit {0}) V) → MatchResult result (λ done. Done) (λ back. Other × (back ≡ version))
+    → MatchResult result (λ done. Done) (λ back. Other × (root_of back ≡ root_of version))
+same_root root_of version Done Other (Ok done) told = told
+same_root root_of version Done Other (Err back) told = (told.0, ap root_of told.1)

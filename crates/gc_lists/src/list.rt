@@ -13,7 +13,7 @@ ghost use Rattle.gc_lists.specs.Versions.{ListOfStands, ListStands, StandsForLis
 
 use crate::fault::ListFault;
 use crate::kit::Kit;
-use crate::roots::{is_kit_of, is_version_of, keep, number_in, refused};
+use crate::roots::{give_up, is_kit_of, is_version_of, keep, number_in, refused};
 use crate::walk::{NEXT, NUMBER, walk};
 use gc_heap::GcHeap;
 use gc_store::laws::stores_hold_tables;
@@ -169,12 +169,6 @@ impl HeapList {
         ensures err { OnErr result (store.new ≡ store.old) }
         ensures same { IsSameStore store.old store.new }
     {
-        let Some(root) = self.root else {
-            return Ok(());
-        };
-        match store.release(root) {
-            Ok(_) => Ok(()),
-            Err(_) => Err(self),
-        }
+        give_up(store, self.root, self)
     }
 }

@@ -1,12 +1,12 @@
 //! The roots of versions, and what lies behind them: what lists and maps share.
 
-ghost use Rattle.std.specs.Prelude.{◌≡◌, false, true};
+ghost use Rattle.std.specs.Prelude.{◌≡◌, MatchResult, OnErr, false, true};
 ghost use Rattle.gc_model.specs.Table.{Table, leave};
 ghost use Rattle.gc_model.specs.Values.{Reference};
 ghost use Rattle.gc_policy.specs.Accounts.{Account, HoldsAccount};
 ghost use Rattle.gc_store.specs.Roots.{NamesReference, is_of_store};
 ghost use Rattle.gc_store.specs.Stores.{IsSameStore};
-ghost use Rattle.gc_lists.specs.Answers.{KeepsRoot};
+ghost use Rattle.gc_lists.specs.Answers.{KeepsRoot, Releases};
 ghost use Rattle.gc_lists.specs.Cells.{number_in};
 ghost use Rattle.gc_lists.specs.Faults.{refused};
 ghost use Rattle.gc_lists.specs.Kits.{is_kit_of};
@@ -71,5 +71,26 @@ pub fn keep<H: GcHeap, D: Drop>(
     match owned {
         Ok(root) => Ok(root),
         Err(fault) => Err(refused(fault)),
+    }
+}
+
+/// Gives up a version with that root, or an empty one. Where it is another store's, that value is handed back.
+pub fn give_up<H: GcHeap, D: Drop, V: Drop>(
+    store: &mut Store<H, D>,
+    root: Option<GcRootIndex>,
+    version: V,
+) -> Result<(), V>
+    ensures releases { (t : Table D) (a : Account) → HoldsAccount H.KIND store.old t a
+        → MatchResult result (λ done. (is_version_of store.old root ≡ true) × Releases H.KIND store.old t a root store.new)
+        (λ back. (is_version_of store.old root ≡ false) × (back ≡ version)) }
+    ensures err { OnErr result (store.new ≡ store.old) }
+    ensures same { IsSameStore store.old store.new }
+{
+    let Some(handle) = root else {
+        return Ok(());
+    };
+    match store.release(handle) {
+        Ok(_) => Ok(()),
+        Err(_) => Err(version),
     }
 }

@@ -25,7 +25,7 @@ use crate::part::Part;
 use crate::removing::take_out;
 use crate::ways::put;
 use gc_heap::GcHeap;
-use gc_lists::roots::{is_kit_of, is_version_of, keep};
+use gc_lists::roots::{give_up, is_kit_of, is_version_of, keep};
 use gc_lists::{Kit, ListFault};
 use gc_steps::Steps;
 use gc_store::{GcRootIndex, ResourceLimiter, Store};
@@ -180,13 +180,7 @@ impl HeapMap {
         ensures err { OnErr result (store.new ≡ store.old) }
         ensures same { IsSameStore store.old store.new }
     {
-        let Some(root) = self.root else {
-            return Ok(());
-        };
-        match store.release(root) {
-            Ok(_) => Ok(()),
-            Err(_) => Err(self),
-        }
+        give_up(store, self.root, self)
     }
 }
 

@@ -1,10 +1,6 @@
+use Rattle.gc_lists.specs.declared.list.HeapList.{HeapList}
+use Rattle.gc_lists.proofs.Releasing.{same_root}
 use Rattle.gc_lists.proofs.list.HeapList.release.Goals as goal
-use Rattle.gc_lists.proofs.Releasing.{was_released, was_handed_back}
 
-pub returns-in-Ok-clause-releases : goal.returns-in-Ok-clause-releases
-returns-in-Ok-clause-releases g c = λ t a holds.
-    was_released g.H.GcHeap.KIND c.args.store.now t a c.args.self.root c.in-Some.root c.release.new.self c.in-Some.is c.release.result c.in-Ok.field-0 c.in-Ok.is (c.release.ensures.releases t a holds)
-
-pub returns-in-Err-clause-releases : goal.returns-in-Err-clause-releases
-returns-in-Err-clause-releases g c = λ t a holds.
-    was_handed_back g.H.GcHeap.KIND c.args.store.now t a c.args.self.root c.in-Some.root c.release.new.self c.in-Some.is c.release.result c.in-Err.field-0 c.in-Err.is (c.release.ensures.releases t a holds)
+pub returns-clause-releases : goal.returns-clause-releases
+returns-clause-releases g c = λ t a holds. same_root (λ (version : HeapList). version.root) c.args.self _ _ c.give_up.result (c.give_up.ensures.releases t a holds)
