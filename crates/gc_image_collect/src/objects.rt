@@ -11,7 +11,6 @@ ghost use Rattle.gc_store.specs.Bytes.{CanCopyBytes};
 ghost use Rattle.gc_store.specs.Roots.{IsObject, NamesReference};
 ghost use Rattle.gc_store.specs.Stores.{IsSameStore};
 ghost use Rattle.gc_store.specs.Values.{IsLive};
-ghost use Rattle.gc_paths.specs.Objects.{CountsFields, CountsIn};
 ghost use Rattle.gc_paths.specs.Progress.{Basis, values_count};
 ghost use Rattle.gc_image_collect.specs.Parts.{parts};
 ghost use Rattle.gc_image_collect.specs.Progress.{AnswersPart, Ended, IsBegun, PassesRoom, Progress};
@@ -23,35 +22,10 @@ use crate::reading::take_values;
 use gc_commands::ByteText;
 use gc_heap::GcHeap;
 use gc_image::{ImageValue, ImageValues, ObjectLine};
+use gc_paths::count_in;
 use gc_store::{GcRootIndex, RootedObject, Store};
 use gc_types::VMSharedTypeIndex;
 use std::alloc::Global;
-
-/// How many fields a struct or exception type has.
-fn count_fields<H: GcHeap>(store: &Store<H, u64>, ty: VMSharedTypeIndex) -> u32
-    ensures { CountsFields store.now.types ty result }
-{
-    let types = store.types();
-    // A declared type has few fields, so that their number is a u32.
-    types.are_declared();
-    match types.fields_len(ty) {
-        Some(count) => count as u32,
-        None => 0,
-    }
-}
-
-/// How many values an object has.
-fn count_in<H: GcHeap>(store: &Store<H, u64>, object: &RootedObject) -> u32
-    ensures { CountsIn store.now.types object.now result }
-{
-    match object {
-        RootedObject::I31(_) => 0,
-        RootedObject::Struct(ty) => count_fields(store, *ty),
-        RootedObject::Array(_, len) => *len,
-        RootedObject::Host => 0,
-        RootedObject::Exn(ty, _) => count_fields(store, *ty),
-    }
-}
 
 /// The type and the length of an array whose elements are bytes.
 fn bytes_type<H: GcHeap>(

@@ -13,3 +13,4 @@ mod values;
 pub use entry::{PathEntry, PathParent};
 pub use fault::PathFault;
 pub use search::{Found, all_paths, find_paths};
+pub use values::count_in;

@@ -37,7 +37,7 @@ fn count_fields<H: GcHeap, D: Drop>(store: &Store<H, D>, ty: VMSharedTypeIndex) 
 }
 
 /// How many values an object has.
-fn count_in<H: GcHeap, D: Drop>(store: &Store<H, D>, object: &RootedObject) -> u32
+pub fn count_in<H: GcHeap, D: Drop>(store: &Store<H, D>, object: &RootedObject) -> u32
     ensures { CountsIn store.now.types object.now result }
 {
     match object {
