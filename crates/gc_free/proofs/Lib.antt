@@ -20,3 +20,4 @@ pub mod LawsOfRuns
 pub mod LawsOfCalls
 pub mod LawsOfCurrent
 pub mod Holding
+pub mod JoinedAt

@@ -21,6 +21,10 @@ apart_from freed runs = without (begins_at (end_of freed)) (without (ends_at fre
 abbrev pub joined : Run → List Run → Run
 joined freed runs = join_if_any (join_if_any freed (find (ends_at freed.place) runs)) (find (begins_at (end_of freed)) (without (ends_at freed.place) runs))
 
+-- the runs once the freed places are among them, apart from any current run
+abbrev pub merged : Run → List Run → List Run
+merged freed runs = insert_run (joined freed runs) (apart_from freed runs)
+
 -- the current run, which takes them in where they touch it
 abbrev pub current_after : Run → Option Run → List Run → Option Run
 current_after freed None runs = None
@@ -28,5 +32,5 @@ current_after freed (Some c) runs = cond (touches freed c) (Some (join (joined f
 
 -- the other runs, which they join where they don't touch the current one
 abbrev pub others_after : Run → Option Run → List Run → List Run
-others_after freed None runs = insert_run (joined freed runs) (apart_from freed runs)
-others_after freed (Some c) runs = cond (touches freed c) (apart_from freed runs) (insert_run (joined freed runs) (apart_from freed runs))
+others_after freed None runs = merged freed runs
+others_after freed (Some c) runs = cond (touches freed c) (apart_from freed runs) (merged freed runs)

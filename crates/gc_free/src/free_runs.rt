@@ -1,13 +1,15 @@
 //! The free runs other than the current one, in both orders.
 ghost use Rattle.std.specs.Prelude.{◌≡◌, ◌-◌, ◌^◌, ◌<◌, ◌≤◌, [], length, OnOk, IfSome, vec_len, vec_capacity, find, slice_index_or};
 ghost use Rattle.std.specs.Vec.{vec_ptr, SameBlock};
-ghost use Rattle.std.specs.List.{remove};
+ghost use Rattle.std.specs.List.{insert, remove};
 ghost use Rattle.std.specs.List.Sorted.{IsNonDecreasingBy};
 ghost use Rattle.gc_free.specs.Runs.{IsSpread, end_of, insert_by, insert_run, remove_by, begins_at, ends_at, without};
 ghost use Rattle.gc_free.specs.Orders.{key_of, count_below, shortest_fit, IsSearched, HasSearched};
+ghost use Rattle.gc_free.specs.Merged.{merged};
 ghost use Rattle.gc_free.specs.Ordered.{without_found};
 ghost use Rattle.gc_free.specs.TwoOrders.{AreTwoOrders};
 
+use crate::joining::join_at;
 use crate::key::{Key, Order};
 use crate::run::Run;
 use crate::search::count_before;
@@ -50,7 +52,12 @@ impl Model for FreeRuns {
 }
 
 /// Puts a run into an order that has room, with one search.
-fn insert_in_order<L: Ledger>(runs: &mut Vec<Run>, order: Order, run: Run, steps: &mut Steps<L>)
+pub(crate) fn insert_in_order<L: Ledger>(
+    runs: &mut Vec<Run>,
+    order: Order,
+    run: Run,
+    steps: &mut Steps<L>,
+)
     requires sorted { IsNonDecreasingBy (key_of order) runs.old.items }
     requires room { vec_len runs.old < vec_capacity runs.old }
     ensures items { runs.new.items ≡ insert_by (key_of order) run runs.old.items }
@@ -58,6 +65,16 @@ fn insert_in_order<L: Ledger>(runs: &mut Vec<Run>, order: Order, run: Run, steps
     ensures cost { IsSearched 1 (length runs.old.items) steps.old steps.new }
 {
     let at = count_before(runs, order, Key::new(order, run), steps);
+    put_at(runs, at, run);
+}
+
+/// Puts a run in at an index, where there is room.
+pub(crate) fn put_at(runs: &mut Vec<Run>, at: usize, run: Run)
+    requires within { at ≤ vec_len runs.old }
+    requires room { vec_len runs.old < vec_capacity runs.old }
+    ensures items { runs.new.items ≡ insert runs.old.items at run }
+    ensures in_place { SameBlock runs.old runs.new }
+{
     match runs.insert(at, run) {
         Ok(()) => {}
         Err(_) => unreachable!(),
@@ -78,7 +95,7 @@ fn remove_in_order<L: Ledger>(runs: &mut Vec<Run>, order: Order, run: Run, steps
 }
 
 /// Takes a run out of both orders, by its index in the order of places.
-fn remove_at<L: Ledger>(
+pub(crate) fn remove_at<L: Ledger>(
     by_place: &mut Vec<Run>,
     by_length: &mut Vec<Run>,
     at: usize,
@@ -133,6 +150,24 @@ impl FreeRuns {
     {
         insert_in_order(&mut self.by_place, Order::ByPlace, run, steps);
         insert_in_order(&mut self.by_length, Order::ByLength, run, steps);
+    }
+
+    /// Puts freed places in, as one run with those that they touch: with one search by place.
+    pub(crate) fn merge<L: Ledger>(&mut self, freed: Run, steps: &mut Steps<L>)
+        requires fits { end_of freed < 2 ^ 32 }
+        requires room { length (merged freed self.old.runs) ≤ self.old.room }
+        requires spread { IsSpread 0 (2 ^ 32 - 1) (merged freed self.old.runs) }
+        ensures runs { self.new.runs ≡ merged freed self.old.runs }
+        ensures room { self.new.room ≡ self.old.room }
+        ensures memory { self.new.memory ≡ self.old.memory }
+    {
+        let at = count_before(
+            &self.by_place,
+            Order::ByPlace,
+            Key::of_place(freed.place),
+            steps,
+        );
+        join_at(&mut self.by_place, &mut self.by_length, at, freed, steps);
     }
 
     /// Takes out the run that begins at a place.

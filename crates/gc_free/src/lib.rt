@@ -17,6 +17,7 @@ mod blocks;
 mod free_list;
 mod free_runs;
 mod held;
+mod joining;
 mod key;
 pub mod laws;
 mod layout;

@@ -45,12 +45,12 @@ pub(crate) fn set_free<L: Ledger>(
     ensures room { others.old.room ≤ others.new.room }
     ensures memory { others.new.memory ≡ others.old.memory }
 {
-    let whole = absorb(others, freed, steps);
     if let Some(run) = current {
         if freed.touches(run) {
+            let whole = absorb(others, freed, steps);
             return Some(whole.joined(run));
         }
     }
-    others.insert(whole, steps);
+    others.merge(freed, steps);
     current
 }
