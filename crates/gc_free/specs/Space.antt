@@ -1,5 +1,5 @@
 -- The space of a free list: its capacity, the held blocks and the current run. The free runs are what the blocks leave.
-use Rattle.std.specs.Prelude.{ℕ, ◌≡◌, ◌+◌, ◌-◌, ◌*◌, ◌/◌, ◌%◌, ◌^◌, ◌<◌, ◌==◌, ◌⊎◌, ◌||◌, ◌&&◌, nat_lt, nat_le, min, max, cond, Bool, Option, Some, None, List, [], ◌∷◌, find, MatchOption, refl}
+use Rattle.std.specs.Prelude.{ℕ, ◌≡◌, ◌+◌, ◌-◌, ◌*◌, ◌/◌, ◌%◌, ◌^◌, ◌<◌, ◌==◌, ◌⊎◌, ◌||◌, ◌&&◌, nat_lt, nat_le, min, max, cond, Bool, Option, Some, None, List, [], ◌∷◌, find, MatchOption, All, IsNone, IfSome, ◌↔◌, refl}
 use Rattle.std.specs.Coded.{Coded, code_by, coded×, coded_ℕ, coded_option}
 use Rattle.gc_free.specs.declared.run.Run.{Run}
 use Rattle.gc_free.specs.declared.run.TheConstants.{ALIGN}
@@ -69,6 +69,12 @@ take_from size s (Some c) = cond (nat_le size c.length) (taken_from size s c (So
 -- the placing rule
 abbrev pub take : ℕ → Space → Taken
 take size s = take_from size s s.current
+
+-- what a call for a block of a size may answer: the place by the rule, none exactly where no free run is long enough
+pub record IsTaken (size : ℕ) (s : Space) (answer : Option ℕ) : Type 0 where
+  pub place : answer ≡ (take size s).place
+  pub none : IsNone answer ↔ All (λ r. r.length < size) (free_runs s)
+  pub aligned : IfSome answer (λ p. p % ALIGN ≡ 0)
 
 -- MERGING
 

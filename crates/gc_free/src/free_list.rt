@@ -3,7 +3,7 @@ ghost use Rattle.std.specs.Prelude.{◌≡◌, ◌+◌, ◌-◌, ◌*◌, ◌%�
 ghost use Rattle.std.specs.Int.NonZero.{non_zero_u32_get};
 ghost use Rattle.gc_free.specs.Runs.{run};
 ghost use Rattle.gc_free.specs.Listed.{listed, current_at, run_length_at};
-ghost use Rattle.gc_free.specs.Space.{free_runs, new_space, take, give, grow, IsSound};
+ghost use Rattle.gc_free.specs.Space.{free_runs, new_space, take, give, grow, IsSound, IsTaken};
 
 use crate::blocks::FreeBlocks;
 use crate::free_runs::FreeRuns;
@@ -192,11 +192,8 @@ impl FreeList {
         requires counts { 0 < blank.parts }
         requires whole { alloc_size % ALIGN ≡ 0 }
         requires some { 0 < alloc_size }
-        ensures place { IfOk result (λ place.
-            option_map (λ p. non_zero_u32_get p) place ≡ (take alloc_size self.old.space).place) }
+        ensures taken { IfOk result (λ place. IsTaken alloc_size self.old.space (option_map (λ p. non_zero_u32_get p) place)) }
         ensures after { OnOk result (self.new.space ≡ (take alloc_size self.old.space).space) }
-        ensures none { IfOk result (λ place. IsNone place ↔ All (λ r. r.length < alloc_size) (free_runs self.old.space)) }
-        ensures aligned { IfOk result (λ place. IfSome place (λ p. non_zero_u32_get p % ALIGN ≡ 0)) }
         ensures err { OnErr result (self.new.space ≡ self.old.space) }
         ensures sound { IsSound self.new.space }
     {
