@@ -1,5 +1,5 @@
 -- The forms of commands: the first word of each, and which form a command has.
-use Rattle.std.specs.Prelude.{ℕ, List, codes, Option, None, Some}
+use Rattle.std.specs.Prelude.{ℕ, List, Bool, true, false, codes, Option, None, Some}
 use Rattle.gc_commands.specs.declared.command.Command.{Command}
 use Rattle.gc_commands.specs.declared.command.Command.TheVariants as command
 use Rattle.gc_commands.specs.declared.form.Form.{Form}
@@ -82,3 +82,13 @@ form_of command.GcDrop = Some form.GcDrop
 form_of command.GcInc = Some form.GcInc
 form_of (command.Grow n) = Some form.Grow
 form_of command.Cap = Some form.Cap
+
+-- the forms whose commands have a list
+abbrev pub has_list : Form → Bool
+has_list form.Struct = true
+has_list form.Exn = true
+has_list form.New = true
+has_list form.NewExn = true
+has_list form.Fixed = true
+has_list form.Bytes = true
+has_list _ = false

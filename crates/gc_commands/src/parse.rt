@@ -3,11 +3,12 @@
 //! A line is cut into words, its first word says which form of command it is, and each form has a
 //! function that reads the words behind it.
 
-ghost use Rattle.std.specs.Prelude.{◌≡◌, ◌==◌, [], IfOk, MatchOption};
+ghost use Rattle.std.specs.Prelude.{◌≡◌, ◌==◌, [], false, IfOk, MatchOption};
 ghost use Rattle.std.specs.List.{slice_split};
 ghost use Rattle.std.specs.Option.{option_map_or};
 ghost use Rattle.std.specs.Str.{IsUtf8};
 ghost use Rattle.gc_commands.specs.declared.command.Command.{Command};
+ghost use Rattle.gc_commands.specs.Forms.{has_list};
 ghost use Rattle.gc_commands.specs.Reading.{Reads};
 ghost use Rattle.gc_commands.specs.Spelling.{FitsCommand, IsCommandOf, IsOf, operands_of, spelling};
 
@@ -60,46 +61,59 @@ fn words_behind(behind: Option<&[u8]>) -> Option<Words>
     }
 }
 
-/// The command of a form that the words behind its name spell.
+/// The command of a form that the words behind its name spell. Only a list takes memory.
 fn read_form(alloc: Global, form: Form, words: &mut Words) -> Result<Option<Command>, AllocError>
     ensures { IfOk result (λ command. Reads (IsOf form) operands_of words.old command) }
 {
     match form {
         Form::Struct => read_struct(alloc, words),
-        Form::Array => Ok(read_array(words)),
         Form::Exn => read_exn(alloc, words),
         Form::New => read_new(alloc, words),
         Form::NewExn => read_new_exn(alloc, words),
-        Form::NewArr => Ok(read_new_arr(words)),
         Form::Fixed => read_fixed(alloc, words),
         Form::Bytes => read_bytes(alloc, words),
-        Form::Host => Ok(read_host(words)),
-        Form::I31 => Ok(read_i31(words)),
-        Form::Field => Ok(read_field(words)),
-        Form::Elem => Ok(read_elem(words)),
-        Form::Len => Ok(read_len(words)),
-        Form::HostNumber => Ok(read_host_number(words)),
-        Form::SetField => Ok(read_set_field(words)),
-        Form::SetElem => Ok(read_set_elem(words)),
-        Form::Eq => Ok(read_eq(words)),
-        Form::Enter => Ok(read_alone(words, Command::Enter)),
-        Form::Leave => Ok(read_alone(words, Command::Leave)),
-        Form::Push => Ok(read_push(words)),
-        Form::Pop => Ok(read_alone(words, Command::Pop)),
-        Form::Store => Ok(read_store(words)),
-        Form::Load => Ok(read_load(words)),
-        Form::SetGlobal => Ok(read_set_global(words)),
-        Form::GetGlobal => Ok(read_get_global(words)),
-        Form::Own => Ok(read_own(words)),
-        Form::Root => Ok(read_root(words)),
-        Form::Unroot => Ok(read_unroot(words)),
-        Form::Throw => Ok(read_throw(words)),
-        Form::Take => Ok(read_take(words)),
-        Form::Gc => Ok(read_alone(words, Command::Gc)),
-        Form::GcDrop => Ok(read_alone(words, Command::GcDrop)),
-        Form::GcInc => Ok(read_alone(words, Command::GcInc)),
-        Form::Grow => Ok(read_grow(words)),
-        Form::Cap => Ok(read_alone(words, Command::Cap)),
+        _ => Ok(read_listless(form, words)),
+    }
+}
+
+/// The command of a form without a list that the words behind its name spell.
+// Each arm is the answer as it is: an `Ok` around it would be one more room for a command in each arm, and all of
+// them are cleared whatever the form is.
+fn read_listless(form: Form, words: &mut Words) -> Option<Command>
+    requires { has_list form ≡ false }
+    ensures { Reads (IsOf form) operands_of words.old result }
+{
+    match form {
+        Form::Array => read_array(words),
+        Form::NewArr => read_new_arr(words),
+        Form::Host => read_host(words),
+        Form::I31 => read_i31(words),
+        Form::Field => read_field(words),
+        Form::Elem => read_elem(words),
+        Form::Len => read_len(words),
+        Form::HostNumber => read_host_number(words),
+        Form::SetField => read_set_field(words),
+        Form::SetElem => read_set_elem(words),
+        Form::Eq => read_eq(words),
+        Form::Enter => read_alone(words, Command::Enter),
+        Form::Leave => read_alone(words, Command::Leave),
+        Form::Push => read_push(words),
+        Form::Pop => read_alone(words, Command::Pop),
+        Form::Store => read_store(words),
+        Form::Load => read_load(words),
+        Form::SetGlobal => read_set_global(words),
+        Form::GetGlobal => read_get_global(words),
+        Form::Own => read_own(words),
+        Form::Root => read_root(words),
+        Form::Unroot => read_unroot(words),
+        Form::Throw => read_throw(words),
+        Form::Take => read_take(words),
+        Form::Gc => read_alone(words, Command::Gc),
+        Form::GcDrop => read_alone(words, Command::GcDrop),
+        Form::GcInc => read_alone(words, Command::GcInc),
+        Form::Grow => read_grow(words),
+        Form::Cap => read_alone(words, Command::Cap),
+        _ => unreachable!(),
     }
 }
 

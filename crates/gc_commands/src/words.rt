@@ -1,7 +1,7 @@
 //! The words of a line, one after the other: of a command's line, and of any line of words with one space between two.
 
-ghost use Rattle.std.specs.Prelude.{◌≡◌, ◌==◌, [], ◌∷◌, ◌++◌, IfSome, MatchOption, position};
-ghost use Rattle.std.specs.List.{slice_split};
+ghost use Rattle.std.specs.Prelude.{◌≡◌, ◌==◌, [], ◌∷◌, ◌++◌, IfSome, MatchOption, length, position};
+ghost use Rattle.std.specs.List.{count_by, slice_split};
 ghost use Rattle.std.specs.Option.{option_map_or};
 
 use std::marker::Model;
@@ -55,11 +55,12 @@ impl<'a> Words<'a> {
         }
     }
 
-    /// How many words are left, as far as room for what they spell is concerned: no clause says
-    /// that it is exact.
-    pub fn count(&self) -> usize {
+    /// How many words are left.
+    pub fn count(&self) -> usize
+        ensures { result ≡ length self.now }
+    {
         match self.rest {
-            Some(rest) => rest.as_bytes().iter().filter(|byte| **byte == b' ').count() + 1,
+            Some(rest) => count_spaces(rest.as_bytes()) + 1,
             None => 0,
         }
     }
@@ -88,4 +89,11 @@ fn first_space(bytes: &[u8]) -> Option<usize>
     ensures { result ≡ position (λ b. b == 32) bytes.now }
 {
     bytes.iter().position(|byte| *byte == b' ')
+}
+
+/// How many spaces there are.
+fn count_spaces(bytes: &[u8]) -> usize
+    ensures { result ≡ count_by (λ b. b == 32) bytes.now }
+{
+    bytes.iter().filter(|byte| **byte == b' ').count()
 }
