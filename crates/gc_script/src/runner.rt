@@ -1,11 +1,11 @@
 //! Running commands.
 
-ghost use Rattle.std.specs.Prelude.{◌≡◌, true, OnOk, OnErr};
+ghost use Rattle.std.specs.Prelude.{◌≡◌, false, true, Ok, OnOk, OnErr};
 ghost use Rattle.gc_model.specs.Holds.{HoldsKept};
 ghost use Rattle.gc_script.specs.Slots.{new_runner};
 ghost use Rattle.gc_script.specs.State.{State, HoldsState};
 ghost use Rattle.gc_script.specs.Shapes.{is_collection};
-ghost use Rattle.gc_script.specs.Run.{RunsOne, GoesOn, asks_nothing, TakesMemory};
+ghost use Rattle.gc_script.specs.Run.{RunsOne, GoesOn, asks_nothing, takes_memory, TakesMemory};
 ghost use Rattle.gc_script.specs.Wants.{MayWant};
 ghost use Rattle.gc_store.specs.Stores.{IsSameStore};
 
@@ -145,25 +145,39 @@ impl Runner {
                 self.read_value(store, Wanted::WithFields, *r, *i, *into)
             }
             Command::Elem { r, i, into } => self.read_value(store, Wanted::Array, *r, *i, *into),
-            Command::Len { r } => Ok(self.length(store, *r)),
-            Command::HostNumber { r } => Ok(self.host_number(store, *r)),
-            Command::SetField { r, i, value } => Ok(self.write_field(store, *r, *i, value)),
-            Command::SetElem { r, i, value } => Ok(self.write_element(store, *r, *i, value)),
-            Command::Eq { r, s } => Ok(self.compare(store, *r, *s)),
             Command::Enter => self.enter(store),
-            Command::Leave => Ok(self.leave(store)),
             Command::Push { slots } => self.push_frame(store, *slots),
-            Command::Pop => Ok(self.pop_frame(store)),
-            Command::Store { k, r } => Ok(self.store_slot(store, *k, *r)),
             Command::Load { k, d } => self.load_slot(store, *k, *d),
-            Command::SetGlobal { g, r } => Ok(self.set_global(store, *g, *r)),
             Command::GetGlobal { g, d } => self.get_global(store, *g, *d),
             Command::Own { o, r } => self.own(store, *o, *r),
             Command::Root { d, o } => self.root(store, *d, *o),
-            Command::Unroot { o } => Ok(self.unroot(store, *o)),
-            Command::Throw { r } => Ok(self.throw(store, *r)),
             Command::Take { d } => self.take(store, *d),
-            Command::Cap => Ok(self.capacity(store)),
+            _ => Ok(self.run_unfailing(store, command)),
+        }
+    }
+
+    /// Runs a command that asks no limiter, collects nothing and takes no memory.
+    // Each arm is the answer as it is: an `Ok` around it would be one more room for a reply in each arm, and all of them
+    // are cleared whatever the command is.
+    fn run_unfailing<H: GcHeap>(&mut self, store: &mut Store<H, u64>, command: &Command) -> Reply
+        requires asks { asks_nothing command.now ≡ true }
+        requires unfailing { takes_memory command.now ≡ false }
+        ensures goes { (s : State) → HoldsState H.KIND store.old self.old s → GoesOn H.KIND s command.now (Ok result) store.new self.new }
+        ensures same { IsSameStore store.old store.new }
+    {
+        match command {
+            Command::Len { r } => self.length(store, *r),
+            Command::HostNumber { r } => self.host_number(store, *r),
+            Command::SetField { r, i, value } => self.write_field(store, *r, *i, value),
+            Command::SetElem { r, i, value } => self.write_element(store, *r, *i, value),
+            Command::Eq { r, s } => self.compare(store, *r, *s),
+            Command::Leave => self.leave(store),
+            Command::Pop => self.pop_frame(store),
+            Command::Store { k, r } => self.store_slot(store, *k, *r),
+            Command::SetGlobal { g, r } => self.set_global(store, *g, *r),
+            Command::Unroot { o } => self.unroot(store, *o),
+            Command::Throw { r } => self.throw(store, *r),
+            Command::Cap => self.capacity(store),
             _ => unreachable!(),
         }
     }
