@@ -36,26 +36,60 @@ mod words;
 
 use crate::case::Cases;
 use crate::fault::CaseFault;
-use crate::row::row_of;
+use crate::row::{Row, row_of};
+use std::alloc::{AllocError, Global};
 use std::io;
 use std::io::{BufWriter, Write};
+
+/// Adds each row of a text with its answer.
+fn answer_rows(alloc: Global, text: &str, out: &mut String) -> Result<(), CaseFault> {
+    let mut cases = Cases::new(alloc)?;
+    for line in text.lines() {
+        if !line.is_empty() && !line.starts_with("//") {
+            answer_row(alloc, &mut cases, line, out)?;
+        }
+    }
+    Ok(())
+}
+
+/// Adds a row with its answer.
+fn answer_row(
+    alloc: Global,
+    cases: &mut Cases,
+    line: &str,
+    out: &mut String,
+) -> Result<(), AllocError> {
+    let row = row_of(alloc, line)?;
+    show_row(cases, line, &row, out)
+}
+
+/// Adds a row with its answer, or with why it has none.
+fn show_row(
+    cases: &mut Cases,
+    line: &str,
+    row: &Row<'_>,
+    out: &mut String,
+) -> Result<(), AllocError> {
+    write!(out, "{line}: ")?;
+    if let Err(fault) = cases.answer(row.words.as_slice(), row.numbers.as_slice(), out) {
+        write!(out, "{fault}")?;
+    }
+    out.push_str("\n")
+}
+
+/// What must be printed of a text.
+fn answers(alloc: Global, text: &str) -> Result<String, CaseFault> {
+    let mut out = String::new(alloc);
+    answer_rows(alloc, text, &mut out)?;
+    Ok(out)
+}
 
 fn main(rt: HostRuntime) -> Result<(), CaseFault> {
     let alloc = rt.alloc();
     let text = io::read_to_string(alloc, rt.reader())?;
+    let shown = answers(alloc, text.as_str())?;
     let mut out = BufWriter::new(alloc, io::writer(&rt))?;
-    let mut cases = Cases::new(alloc)?;
-    for line in text.lines() {
-        if line.is_empty() || line.starts_with("//") {
-            continue;
-        }
-        let row = row_of(alloc, line)?;
-        write!(out, "{line}: ")?;
-        if let Err(fault) = cases.answer(row.words.as_slice(), row.numbers.as_slice(), &mut out) {
-            write!(out, "{fault}")?;
-        }
-        writeln!(out)?;
-    }
+    out.write_all(shown.as_bytes())?;
     out.flush()?;
     Ok(())
 }

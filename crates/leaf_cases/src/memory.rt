@@ -3,19 +3,58 @@
 ghost use Rattle.std.specs.Prelude.{◌≡◌, ◌<◌, length, slice_set};
 
 use crate::fault::CaseFault;
-use crate::row::{bytes_of, low_u8, low_u32, low_u64};
+use crate::row::{ANY, bytes_of, firsts, low_u8, low_u32, low_u64, low_words, named};
 use gc_memory::memory::MAX_PAGES;
 use gc_memory::{HeapMemory, offsets};
 use gc_refs::VMGcHeader;
 use gc_types::{Layouts, VMGcKind, VMSharedTypeIndex};
-use std::alloc::Global;
-use std::io::Write;
+use std::alloc::{AllocError, Global};
 
 /// The kinds of heap, and their names.
 const HEAPS: [(Layouts, &str); 3] = [
     (Layouts::Null, "null"),
     (Layouts::Counting, "counting"),
     (Layouts::Copying, "copying"),
+];
+
+/// What is called of a memory.
+#[derive(Clone, Copy)]
+enum Call {
+    Bytes,
+    Header,
+    Word32,
+    Word64,
+    Size,
+    Put,
+    Grow,
+    Sets(Set),
+}
+
+/// What is written to a memory that is long enough.
+#[derive(Clone, Copy)]
+enum Set {
+    Move,
+    Zero,
+    Header,
+    Word32,
+    Word64,
+    First,
+}
+
+const CALLS: [(&str, usize, Call); 13] = [
+    ("bytes", 2, Call::Bytes),
+    ("header", 1, Call::Header),
+    ("word32", 1, Call::Word32),
+    ("word64", 1, Call::Word64),
+    ("size", 0, Call::Size),
+    ("put", ANY, Call::Put),
+    ("grow", 1, Call::Grow),
+    ("move", 3, Call::Sets(Set::Move)),
+    ("zero", 2, Call::Sets(Set::Zero)),
+    ("header", 2, Call::Sets(Set::Header)),
+    ("word32", 2, Call::Sets(Set::Word32)),
+    ("word64", 2, Call::Sets(Set::Word64)),
+    ("first", 1, Call::Sets(Set::First)),
 ];
 
 /// A memory of that many pages.
@@ -27,111 +66,146 @@ pub(crate) fn new_memory(alloc: Global, pages: u32) -> Result<HeapMemory, CaseFa
 }
 
 /// Writes the answer to a row on a memory.
-pub(crate) fn answer<W: Write + Drop>(
+pub(crate) fn answer(
     alloc: Global,
     memory: &mut HeapMemory,
     call: &str,
     numbers: &[u128],
-    out: &mut W,
+    out: &mut String,
 ) -> Result<(), CaseFault> {
-    match (call, numbers) {
-        ("bytes", &[at, count]) => show_bytes(memory, low_u32(at), low_u32(count), out),
-        ("header", &[at]) => show_header(memory, low_u32(at), out),
-        ("word32", &[at]) => show_u32(memory, low_u32(at), out),
-        ("word64", &[at]) => show_u64(memory, low_u32(at), out),
-        ("size", &[]) => show_size(memory, out),
-        _ => {
-            change(alloc, memory, call, numbers)?;
-            write!(out, "done")?;
-            Ok(())
-        }
-    }
-}
-
-/// Changes a memory.
-fn change(
-    alloc: Global,
-    memory: &mut HeapMemory,
-    call: &str,
-    numbers: &[u128],
-) -> Result<(), CaseFault> {
-    match (call, numbers) {
-        ("grow", &[pages]) => grow(memory, low_u32(pages)),
-        ("put", _) => put(alloc, memory, numbers),
-        ("move", &[from, to, count]) => {
-            move_bytes(memory, low_u32(from), low_u32(to), low_u32(count))
-        }
-        ("zero", &[at, count]) => fill_zero(memory, low_u32(at), low_u32(count)),
-        ("header", &[at, ty]) => put_header(memory, low_u32(at), low_u32(ty)),
-        ("word32", &[at, word]) => put_u32(memory, low_u32(at), low_u32(word)),
-        ("word64", &[at, word]) => put_u64(memory, low_u32(at), low_u64(word)),
-        ("first", &[value]) => change_first(memory, low_u8(value)),
-        _ => Err(CaseFault::BadCase),
-    }
-}
-
-/// Writes how large the memory is, and its first byte.
-fn show_size<W: Write + Drop>(memory: &HeapMemory, out: &mut W) -> Result<(), CaseFault> {
-    let (bytes, capacity) = (memory.byte_size(), memory.capacity());
-    write!(
-        out,
-        "{} pages, {bytes} bytes, capacity {capacity}",
-        memory.pages()
-    )?;
-    write!(out, ", first {:?}", memory.bytes().first())?;
+    let call = named(&CALLS, call, numbers.len())?;
+    let [at, count, _] = low_words(numbers);
+    let written = match call {
+        Call::Bytes => show_bytes(memory, at as usize, count as usize, out),
+        Call::Header => show_header(memory, at as usize, out),
+        Call::Word32 => show_u32(memory, at as usize, out),
+        Call::Word64 => show_u64(memory, at as usize, out),
+        Call::Size => show_size(memory, out),
+        Call::Put => return put(alloc, memory, numbers, out),
+        Call::Grow => return grow(memory, at, out),
+        Call::Sets(set) => return change(memory, set, numbers, out),
+    };
+    written?;
     Ok(())
 }
 
-fn grow(memory: &mut HeapMemory, pages: u32) -> Result<(), CaseFault> {
+/// Writes to a memory, and says that it is done.
+fn change(
+    memory: &mut HeapMemory,
+    set: Set,
+    numbers: &[u128],
+    out: &mut String,
+) -> Result<(), CaseFault> {
+    let [first, second, third] = firsts(numbers);
+    let at = low_u32(first) as usize;
+    let is_done = match set {
+        Set::Move => move_bytes(
+            memory,
+            at,
+            low_u32(second) as usize,
+            low_u32(third) as usize,
+        ),
+        Set::Zero => fill_zero(memory, at, low_u32(second) as usize),
+        Set::Header => put_header(memory, at, low_u32(second)),
+        Set::Word32 => put_u32(memory, at, low_u32(second)),
+        Set::Word64 => put_u64(memory, at, low_u64(second)),
+        Set::First => change_first(memory, low_u8(first)),
+    };
+    show_done(is_done, out)
+}
+
+/// Says that it is done, where it is.
+fn show_done(is_done: bool, out: &mut String) -> Result<(), CaseFault> {
+    if !is_done {
+        return Err(CaseFault::BadCase);
+    }
+    out.push_str("done")?;
+    Ok(())
+}
+
+/// Writes how large the memory is, and its first byte.
+fn show_size(memory: &HeapMemory, out: &mut String) -> Result<(), AllocError> {
+    let (pages, bytes) = (memory.pages(), memory.byte_size());
+    let capacity = memory.capacity();
+    let first = memory.bytes().first();
+    write!(
+        out,
+        "{pages} pages, {bytes} bytes, capacity {capacity}, first {first:?}"
+    )
+}
+
+/// Grows a memory, and says that it is done.
+fn grow(memory: &mut HeapMemory, pages: u32, out: &mut String) -> Result<(), CaseFault> {
     if pages > MAX_PAGES - memory.pages() {
         return Err(CaseFault::BadCase);
     }
     memory.grow(pages)?;
-    Ok(())
+    show_done(true, out)
 }
 
-fn put(alloc: Global, memory: &mut HeapMemory, numbers: &[u128]) -> Result<(), CaseFault> {
-    let (at, rest) = numbers.split_first().ok_or(CaseFault::BadCase)?;
+/// Writes bytes to a memory, of which the first number says where, and says that it is done.
+fn put(
+    alloc: Global,
+    memory: &mut HeapMemory,
+    numbers: &[u128],
+    out: &mut String,
+) -> Result<(), CaseFault> {
+    let Some((at, rest)) = numbers.split_first() else {
+        return Err(CaseFault::BadCase);
+    };
     let bytes = bytes_of(alloc, rest)?;
-    let at = low_u32(*at) as usize;
-    if bytes.len() > 100 || at + bytes.len() > memory.byte_size() {
-        return Err(CaseFault::BadCase);
-    }
-    memory.write_bytes(at, bytes.as_slice());
-    Ok(())
+    show_done(
+        put_bytes(memory, low_u32(*at) as usize, bytes.as_slice()),
+        out,
+    )
 }
 
-fn move_bytes(memory: &mut HeapMemory, from: u32, to: u32, count: u32) -> Result<(), CaseFault> {
-    let (from, to, count) = (from as usize, to as usize, count as usize);
-    if from + count > memory.byte_size() || to + count > memory.byte_size() {
-        return Err(CaseFault::BadCase);
+/// Writes bytes to a memory, where they are inside, and says whether they are.
+fn put_bytes(memory: &mut HeapMemory, at: usize, bytes: &[u8]) -> bool {
+    let size = memory.byte_size();
+    if at > size || bytes.len() > size - at {
+        return false;
+    }
+    memory.write_bytes(at, bytes);
+    true
+}
+
+/// Moves bytes, where both ranges are inside, and says whether they are.
+fn move_bytes(memory: &mut HeapMemory, from: usize, to: usize, count: usize) -> bool {
+    let size = memory.byte_size();
+    if count > size || from > size - count || to > size - count {
+        return false;
     }
     memory.move_bytes(from, to, count);
-    Ok(())
+    true
 }
 
-fn fill_zero(memory: &mut HeapMemory, at: u32, count: u32) -> Result<(), CaseFault> {
-    let (at, count) = (at as usize, count as usize);
-    if at + count > memory.byte_size() {
-        return Err(CaseFault::BadCase);
+/// Writes zeros, where they are inside, and says whether they are.
+fn fill_zero(memory: &mut HeapMemory, at: usize, count: usize) -> bool {
+    let size = memory.byte_size();
+    if at > size || count > size - at {
+        return false;
     }
     memory.fill_zero(at, count);
-    Ok(())
+    true
 }
 
-fn show_bytes<W: Write + Drop>(
+/// Writes the bytes of a range.
+fn show_bytes(
     memory: &HeapMemory,
-    at: u32,
-    count: u32,
-    out: &mut W,
-) -> Result<(), CaseFault> {
-    let (at, count) = (at as usize, count as usize);
-    if at + count > memory.byte_size() {
-        return Err(CaseFault::BadCase);
+    at: usize,
+    count: usize,
+    out: &mut String,
+) -> Result<(), AllocError> {
+    let size = memory.byte_size();
+    if at > size || count > size - at {
+        return out.push_str(OUTSIDE);
     }
-    write!(out, "{:?}", memory.slice(at, count))?;
-    Ok(())
+    write!(out, "{:?}", memory.slice(at, count))
 }
+
+/// What is read of bytes that aren't all in the memory.
+const OUTSIDE: &str = "outside";
 
 /// Sets the first byte of the bytes that are lent.
 fn set_first(memory: &mut HeapMemory, value: u8)
@@ -141,93 +215,92 @@ fn set_first(memory: &mut HeapMemory, value: u8)
     memory.bytes_mut()[0] = value;
 }
 
-/// Sets the first byte, where there is one.
-fn change_first(memory: &mut HeapMemory, value: u8) -> Result<(), CaseFault> {
+/// Sets the first byte, where there is one, and says whether there is.
+fn change_first(memory: &mut HeapMemory, value: u8) -> bool {
     if memory.byte_size() == 0 {
-        return Err(CaseFault::BadCase);
+        return false;
     }
     set_first(memory, value);
-    Ok(())
+    true
 }
 
-/// Writes the header of a struct of that type.
-fn put_header(memory: &mut HeapMemory, at: u32, ty: u32) -> Result<(), CaseFault> {
-    let at = at as usize;
-    if at + 8 > memory.byte_size() {
-        return Err(CaseFault::BadCase);
+/// Writes the header of a struct of that type, where it is inside, and says whether it is.
+fn put_header(memory: &mut HeapMemory, at: usize, ty: u32) -> bool {
+    let size = memory.byte_size();
+    if size < 8 || at > size - 8 {
+        return false;
     }
     let ty = VMSharedTypeIndex::new(ty);
     memory.write_header(at, VMGcHeader::from_kind_and_index(VMGcKind::StructRef, ty));
-    Ok(())
+    true
 }
 
 /// Writes the two words of the header at a place.
-fn show_header<W: Write + Drop>(
-    memory: &HeapMemory,
-    at: u32,
-    out: &mut W,
-) -> Result<(), CaseFault> {
-    let at = at as usize;
-    if at + 8 > memory.byte_size() {
-        return Err(CaseFault::BadCase);
+fn show_header(memory: &HeapMemory, at: usize, out: &mut String) -> Result<(), AllocError> {
+    let size = memory.byte_size();
+    if size < 8 || at > size - 8 {
+        return out.push_str(OUTSIDE);
     }
     let header = memory.read_header(at);
     let ty = header.type_index().as_u32();
-    write!(out, "{:x}, type {ty}", header.kind_word())?;
-    Ok(())
+    write!(out, "{:x}, type {ty}", header.kind_word())
 }
 
-fn put_u32(memory: &mut HeapMemory, at: u32, word: u32) -> Result<(), CaseFault> {
-    let at = at as usize;
-    if at + 4 > memory.byte_size() {
-        return Err(CaseFault::BadCase);
+/// Writes a word, where it is inside, and says whether it is.
+fn put_u32(memory: &mut HeapMemory, at: usize, word: u32) -> bool {
+    let size = memory.byte_size();
+    if size < 4 || at > size - 4 {
+        return false;
     }
     memory.write_u32(at, word);
-    Ok(())
+    true
 }
 
-fn show_u32<W: Write + Drop>(memory: &HeapMemory, at: u32, out: &mut W) -> Result<(), CaseFault> {
-    let at = at as usize;
-    if at + 4 > memory.byte_size() {
-        return Err(CaseFault::BadCase);
+/// Writes the word at a place.
+fn show_u32(memory: &HeapMemory, at: usize, out: &mut String) -> Result<(), AllocError> {
+    let size = memory.byte_size();
+    if size < 4 || at > size - 4 {
+        return out.push_str(OUTSIDE);
     }
-    write!(out, "{}", memory.read_u32(at))?;
-    Ok(())
+    write!(out, "{}", memory.read_u32(at))
 }
 
-fn put_u64(memory: &mut HeapMemory, at: u32, word: u64) -> Result<(), CaseFault> {
-    let at = at as usize;
-    if at + 8 > memory.byte_size() {
-        return Err(CaseFault::BadCase);
+/// Writes a word of 64 bits, where it is inside, and says whether it is.
+fn put_u64(memory: &mut HeapMemory, at: usize, word: u64) -> bool {
+    let size = memory.byte_size();
+    if size < 8 || at > size - 8 {
+        return false;
     }
     memory.write_u64(at, word);
-    Ok(())
+    true
 }
 
-fn show_u64<W: Write + Drop>(memory: &HeapMemory, at: u32, out: &mut W) -> Result<(), CaseFault> {
-    let at = at as usize;
-    if at + 8 > memory.byte_size() {
-        return Err(CaseFault::BadCase);
+/// Writes the word of 64 bits at a place.
+fn show_u64(memory: &HeapMemory, at: usize, out: &mut String) -> Result<(), AllocError> {
+    let size = memory.byte_size();
+    if size < 8 || at > size - 8 {
+        return out.push_str(OUTSIDE);
     }
-    write!(out, "{:x}", memory.read_u64(at))?;
-    Ok(())
+    write!(out, "{:x}", memory.read_u64(at))
 }
 
 /// Writes where the words of an object lie in each heap, and how large an external object is.
-pub(crate) fn show_offsets<W: Write + Drop>(out: &mut W) -> Result<(), CaseFault> {
-    write!(out, "length instance tag host size")?;
+pub(crate) fn show_offsets(out: &mut String) -> Result<(), AllocError> {
+    out.push_str("length instance tag host size")?;
     for (layouts, name) in HEAPS {
-        write!(out, "; {name} {}", offsets::array_length(layouts))?;
-        write!(out, " {}", offsets::exception_instance(layouts))?;
-        write!(out, " {}", offsets::exception_tag(layouts))?;
-        write!(out, " {}", offsets::host_id(layouts))?;
-        write!(out, " {}", offsets::external_size(layouts))?;
+        let (length, size) = (
+            offsets::array_length(layouts),
+            offsets::external_size(layouts),
+        );
+        let instance = offsets::exception_instance(layouts);
+        let (tag, host) = (offsets::exception_tag(layouts), offsets::host_id(layouts));
+        write!(out, "; {name} {length} {instance} {tag} {host} {size}")?;
     }
     Ok(())
 }
 
 /// Writes the size that an object of so many bytes keeps in each heap.
-pub(crate) fn show_stored<W: Write + Drop>(size: u32, out: &mut W) -> Result<(), CaseFault> {
+pub(crate) fn show_stored(size: u32, out: &mut String) -> Result<(), AllocError> {
     write!(out, "size {size}")?;
     for (layouts, name) in HEAPS {
         write!(out, "; {name} {}", offsets::stored_size(layouts, size))?;

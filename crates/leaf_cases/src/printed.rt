@@ -1,11 +1,10 @@
 //! References as they are printed.
 
-use crate::fault::CaseFault;
 use gc_refs::{
     Pointer, TypedGcRef, VMArrayRef, VMExnRef, VMExternRef, VMGcHeader, VMGcRef, VMStructRef,
 };
+use std::alloc::AllocError;
 use std::fmt;
-use std::io::Write;
 
 /// A word in lower-case digits.
 #[derive(Drop)]
@@ -38,30 +37,23 @@ impl<P: Pointer> fmt::Display for Placed<'_, P> {
 }
 
 /// Writes the texts of a word.
-pub(crate) fn show_word_texts<W: Write + Drop>(
-    gc_ref: &VMGcRef,
-    out: &mut W,
-) -> Result<(), CaseFault> {
-    write!(out, "{} {:#} ", Lower(gc_ref), Lower(gc_ref))?;
-    write!(out, "{} {:#} ", Upper(gc_ref), Upper(gc_ref))?;
-    write!(out, "{} {gc_ref:?}", Placed(gc_ref))?;
-    Ok(())
+pub(crate) fn show_word_texts(gc_ref: &VMGcRef, out: &mut String) -> Result<(), AllocError> {
+    let (lower, upper, placed) = (Lower(gc_ref), Upper(gc_ref), Placed(gc_ref));
+    write!(
+        out,
+        "{lower} {lower:#} {upper} {upper:#} {placed} {gc_ref:?}"
+    )
 }
 
 /// Writes the texts of references of each kind that have that word.
-pub(crate) fn show_kind_texts<W: Write + Drop>(
-    gc_ref: &VMGcRef,
-    out: &mut W,
-) -> Result<(), CaseFault> {
+pub(crate) fn show_kind_texts(gc_ref: &VMGcRef, out: &mut String) -> Result<(), AllocError> {
     let of_struct = VMStructRef::new_unchecked(gc_ref.unchecked_copy());
-    write!(out, "{} {of_struct:?}", Placed(&of_struct))?;
+    write!(out, "{} {of_struct:?}, ", Placed(&of_struct))?;
     let of_array = VMArrayRef::new_unchecked(gc_ref.unchecked_copy());
-    write!(out, ", {} {of_array:?}", Placed(&of_array))?;
+    write!(out, "{} {of_array:?}, ", Placed(&of_array))?;
     let of_exn = VMExnRef::new_unchecked(gc_ref.unchecked_copy());
-    write!(out, ", {} {of_exn:?}", Placed(&of_exn))?;
+    write!(out, "{} {of_exn:?}, ", Placed(&of_exn))?;
     let of_extern = VMExternRef::new_unchecked(gc_ref.unchecked_copy());
-    write!(out, ", {} {of_extern:?}", Placed(&of_extern))?;
     let typed: TypedGcRef<VMGcHeader> = TypedGcRef::new_unchecked(gc_ref.unchecked_copy());
-    write!(out, ", {typed:?}")?;
-    Ok(())
+    write!(out, "{} {of_extern:?}, {typed:?}", Placed(&of_extern))
 }

@@ -1,7 +1,7 @@
 //! What stands in a row.
 
 use crate::fault::CaseFault;
-use std::alloc::Global;
+use std::alloc::{AllocError, Global};
 
 /// The words of a row that are no numbers, and its numbers.
 #[derive(Drop)]
@@ -11,7 +11,7 @@ pub(crate) struct Row<'a> {
 }
 
 /// What stands in a row.
-pub(crate) fn row_of<'a>(alloc: Global, line: &'a str) -> Result<Row<'a>, CaseFault> {
+pub(crate) fn row_of<'a>(alloc: Global, line: &'a str) -> Result<Row<'a>, AllocError> {
     let mut words = Vec::new(alloc);
     let mut numbers = Vec::new(alloc);
     for word in line.split_whitespace() {
@@ -33,6 +33,38 @@ fn number_of(word: &str) -> Option<u128> {
         return Some(0u128.wrapping_sub(number));
     }
     word.parse().ok()
+}
+
+/// As many as there are.
+pub(crate) const ANY: usize = usize::MAX;
+
+/// What a name stands for before so many words or numbers, by a list of names and of how many each takes.
+pub(crate) fn named<T: Copy>(
+    names: &[(&str, usize, T)],
+    name: &str,
+    count: usize,
+) -> Result<T, CaseFault> {
+    for (known, takes, meant) in names {
+        if *known == name && (*takes == count || *takes == ANY) {
+            return Ok(*meant);
+        }
+    }
+    Err(CaseFault::BadCase)
+}
+
+/// The first three numbers; 0 for one that isn't there.
+pub(crate) fn firsts(numbers: &[u128]) -> [u128; 3] {
+    let mut first = [0; 3];
+    for (place, number) in first.iter_mut().zip(numbers) {
+        *place = *number;
+    }
+    first
+}
+
+/// The low 32 bits of each of the first three numbers.
+pub(crate) fn low_words(numbers: &[u128]) -> [u32; 3] {
+    let [first, second, third] = firsts(numbers);
+    [low_u32(first), low_u32(second), low_u32(third)]
 }
 
 /// The low 8 bits of a number.
@@ -76,7 +108,7 @@ pub(crate) fn low_i64(number: u128) -> i64 {
 }
 
 /// The bytes that numbers are.
-pub(crate) fn bytes_of(alloc: Global, numbers: &[u128]) -> Result<Vec<u8>, CaseFault> {
+pub(crate) fn bytes_of(alloc: Global, numbers: &[u128]) -> Result<Vec<u8>, AllocError> {
     let mut bytes = Vec::new(alloc);
     for number in numbers {
         bytes.push(low_u8(*number))?;

@@ -1,14 +1,57 @@
 //! The tables beside a heap.
 
 use crate::fault::CaseFault;
-use crate::row::{low_u32, low_u64};
+use crate::row::{firsts, low_u32, low_u64, low_words, named};
 use gc_tables::{
     ContRefTable, ExternRefHostDataId, ExternRefHostDataTable, FuncFault, FuncRefTable,
-    FuncRefTableId, Id, InternFault, SlabFault,
+    FuncRefTableId, HostFault, Id, InternFault, SlabFault,
 };
 use gc_types::{Func, TypeFault, Types, VMSharedTypeIndex};
-use std::alloc::Global;
-use std::io::Write;
+use std::alloc::{AllocError, Global};
+
+/// What is called of a table.
+#[derive(Clone, Copy)]
+enum Call {
+    Alloc,
+    Get,
+    GetTyped,
+    Set,
+    Free,
+    Len,
+    Intern,
+    None,
+    Id,
+    NoId,
+    Reserve,
+}
+
+const HOST_CALLS: [(&str, usize, Call); 5] = [
+    ("alloc", 1, Call::Alloc),
+    ("get", 1, Call::Get),
+    ("set", 2, Call::Set),
+    ("free", 1, Call::Free),
+    ("len", 0, Call::Len),
+];
+
+const FUNC_CALLS: [(&str, usize, Call); 8] = [
+    ("get", 1, Call::Get),
+    ("get", 2, Call::GetTyped),
+    ("intern", 2, Call::Intern),
+    ("none", 0, Call::None),
+    ("id", 2, Call::Id),
+    ("id", 0, Call::NoId),
+    ("reserve", 1, Call::Reserve),
+    ("len", 0, Call::Len),
+];
+
+const CONT_CALLS: [(&str, usize, Call); 6] = [
+    ("get", 1, Call::Get),
+    ("intern", 1, Call::Intern),
+    ("none", 0, Call::None),
+    ("id", 1, Call::Id),
+    ("reserve", 1, Call::Reserve),
+    ("len", 0, Call::Len),
+];
 
 /// A function type and its subtype.
 pub(crate) fn two_types(alloc: Global) -> Result<Types, TypeFault> {
@@ -19,46 +62,61 @@ pub(crate) fn two_types(alloc: Global) -> Result<Types, TypeFault> {
 }
 
 /// Writes the texts of faults that no row can come to.
-pub(crate) fn show_faults<W: Write + Drop>(out: &mut W) -> Result<(), CaseFault> {
-    write!(out, "{}, {}", InternFault::Full, InternFault::Memory)?;
+pub(crate) fn show_faults(out: &mut String) -> Result<(), AllocError> {
     let (full, memory) = (SlabFault::Full(1u32), SlabFault::Memory(1u32));
-    write!(out, ", {full}, {memory}")?;
-    write!(out, ", {}", FuncFault::BadFuncRefId)?;
-    Ok(())
+    let (interns, wants) = (InternFault::Full, InternFault::Memory);
+    let bad = FuncFault::BadFuncRefId;
+    write!(out, "{interns}, {wants}, {full}, {memory}, {bad}")
 }
 
 /// Writes which ids there are of a number: that of a slab's entry, a host value's and a function's; and the texts of the last two.
-pub(crate) fn show_ids<W: Write + Drop>(raw: u32, out: &mut W) -> Result<(), CaseFault> {
+pub(crate) fn show_ids(raw: u32, out: &mut String) -> Result<(), AllocError> {
     let id = Id::try_from_raw(raw).map(|id| id.into_raw());
     let host = ExternRefHostDataId::from_raw(raw);
     let func = FuncRefTableId::from_raw(raw);
-    write!(out, "{id:?} {:?} ", host.map(|id| id.into_raw()))?;
-    write!(out, "{:?}; {host:?} {func:?}", func.map(|id| id.into_raw()))?;
-    Ok(())
-}
-
-/// The id of a host value that a number is.
-fn host_id(number: u128) -> Result<ExternRefHostDataId, CaseFault> {
-    ExternRefHostDataId::from_raw(low_u32(number)).ok_or(CaseFault::BadCase)
+    let host_raw = host.map(|id| id.into_raw());
+    let func_raw = func.map(|id| id.into_raw());
+    write!(out, "{id:?} {host_raw:?} {func_raw:?}; {host:?} {func:?}")
 }
 
 /// Writes the answer to a row on host values.
-pub(crate) fn answer_host<W: Write + Drop>(
+pub(crate) fn answer_host(
     table: &mut ExternRefHostDataTable<u32>,
     call: &str,
     numbers: &[u128],
-    out: &mut W,
+    out: &mut String,
 ) -> Result<(), CaseFault> {
-    let shown = match (call, numbers) {
-        ("alloc", &[value]) => u64::from(table.alloc(low_u32(value))?.into_raw()),
-        ("get", &[id]) => u64::from(*table.get(host_id(id)?)?),
-        ("set", &[id, value]) => u64::from(set_host(table, host_id(id)?, low_u32(value))?),
-        ("free", &[id]) => u64::from(table.dealloc(host_id(id)?)?),
-        ("len", &[]) => table.len(),
+    let call = named(&HOST_CALLS, call, numbers.len())?;
+    let [number, value, _] = low_words(numbers);
+    let shown = match (call, ExternRefHostDataId::from_raw(number)) {
+        (Call::Alloc, _) => alloc_host(table, number),
+        (Call::Len, _) => Ok(table.len()),
+        (Call::Get, Some(id)) => get_host(table, id),
+        (Call::Set, Some(id)) => set_host(table, id, value),
+        (Call::Free, Some(id)) => free_host(table, id),
         _ => return Err(CaseFault::BadCase),
     };
-    write!(out, "{shown}")?;
+    match shown {
+        Ok(number) => write!(out, "{number}")?,
+        Err(fault) => write!(out, "{fault}")?,
+    }
     Ok(())
+}
+
+/// Adds a host value, and answers its id, or 0 where there is no room.
+fn alloc_host(table: &mut ExternRefHostDataTable<u32>, value: u32) -> Result<u64, HostFault> {
+    match table.alloc(value) {
+        Ok(id) => Ok(u64::from(id.into_raw())),
+        Err(_) => Ok(0),
+    }
+}
+
+/// The host value of an id.
+fn get_host(
+    table: &ExternRefHostDataTable<u32>,
+    id: ExternRefHostDataId,
+) -> Result<u64, HostFault> {
+    Ok(u64::from(*table.get(id)?))
 }
 
 /// Sets a host value, and answers what it was.
@@ -66,100 +124,118 @@ fn set_host(
     table: &mut ExternRefHostDataTable<u32>,
     id: ExternRefHostDataId,
     new: u32,
-) -> Result<u32, CaseFault> {
+) -> Result<u64, HostFault> {
     let value = table.get_mut(id)?;
     let before = *value;
     *value = new;
-    Ok(before)
+    Ok(u64::from(before))
 }
 
-/// The function of a number and the index of its type.
-fn func_of(number: u128, ty: u128) -> Option<Func> {
-    Func::new(low_u32(number), VMSharedTypeIndex::new(low_u32(ty)))
-}
-
-/// The id of a function that a number is.
-fn func_id(number: u128) -> Result<FuncRefTableId, CaseFault> {
-    FuncRefTableId::from_raw(low_u32(number)).ok_or(CaseFault::BadCase)
+/// Removes a host value, and answers what it was.
+fn free_host(
+    table: &mut ExternRefHostDataTable<u32>,
+    id: ExternRefHostDataId,
+) -> Result<u64, HostFault> {
+    Ok(u64::from(table.dealloc(id)?))
 }
 
 /// Writes a function: its number and its type.
-fn show_func<W: Write + Drop>(func: Option<Func>, out: &mut W) -> Result<(), CaseFault> {
-    match func {
-        Some(func) => write!(out, "{} of type {}", func.number, func.ty.as_u32())?,
-        None => write!(out, "none")?,
+fn show_func(told: Result<Option<Func>, FuncFault>, out: &mut String) -> Result<(), AllocError> {
+    match told {
+        Ok(Some(func)) => write!(out, "{} of type {}", func.number, func.ty.as_u32()),
+        Ok(None) => out.push_str("none"),
+        Err(fault) => write!(out, "{fault}"),
     }
-    Ok(())
 }
 
 /// Writes the answer to a row on functions.
-pub(crate) fn answer_func<W: Write + Drop>(
+pub(crate) fn answer_func(
     types: &Types,
     table: &mut FuncRefTable,
     call: &str,
     numbers: &[u128],
-    out: &mut W,
+    out: &mut String,
 ) -> Result<(), CaseFault> {
-    let shown = match (call, numbers) {
-        ("get", &[id]) => return show_func(table.get_untyped(func_id(id)?)?, out),
-        ("get", &[id, ty]) => {
-            let expected = VMSharedTypeIndex::new(low_u32(ty));
-            return show_func(table.get_typed(types, func_id(id)?, expected)?, out);
-        }
-        ("intern", &[number, ty]) => Some(table.intern(func_of(number, ty))?),
-        ("none", &[]) => Some(table.intern(None)?),
-        ("id", &[number, ty]) => table.id_of(func_of(number, ty)),
-        ("id", &[]) => table.id_of(None),
-        _ => return answer_sizes(table, call, numbers, out),
+    let call = named(&FUNC_CALLS, call, numbers.len())?;
+    let [number, index, _] = low_words(numbers);
+    let ty = VMSharedTypeIndex::new(index);
+    let written = match (call, FuncRefTableId::from_raw(number)) {
+        (Call::Get, Some(id)) => show_func(table.get_untyped(id), out),
+        (Call::GetTyped, Some(id)) => show_func(table.get_typed(types, id, ty), out),
+        (Call::Intern, _) => show_interned(table.intern(Func::new(number, ty)).ok(), out),
+        (Call::None, _) => show_interned(table.intern(None).ok(), out),
+        (Call::Id, _) => show_interned(table.id_of(Func::new(number, ty)), out),
+        (Call::NoId, _) => show_interned(table.id_of(None), out),
+        (Call::Reserve, _) => reserve_funcs(table, number as usize, out),
+        (Call::Len, _) => write!(out, "{}", table.len()),
+        _ => return Err(CaseFault::BadCase),
     };
-    write!(out, "{:?}", shown.map(|id| id.into_raw()))?;
+    written?;
     Ok(())
 }
 
-/// Makes room for functions, or writes how many there are.
-fn answer_sizes<W: Write + Drop>(
+/// Writes the id of a function, if it has one.
+fn show_interned(id: Option<FuncRefTableId>, out: &mut String) -> Result<(), AllocError> {
+    write!(out, "{:?}", id.map(|id| id.into_raw()))
+}
+
+/// Makes room for functions, and writes how many there are.
+fn reserve_funcs(
     table: &mut FuncRefTable,
-    call: &str,
-    numbers: &[u128],
-    out: &mut W,
-) -> Result<(), CaseFault> {
-    match (call, numbers) {
-        ("reserve", &[count]) => table.reserve(low_u32(count) as usize)?,
-        ("len", &[]) => {}
-        _ => return Err(CaseFault::BadCase),
-    }
-    write!(out, "{}", table.len())?;
-    Ok(())
+    count: usize,
+    out: &mut String,
+) -> Result<(), AllocError> {
+    table.reserve(count)?;
+    write!(out, "{}", table.len())
 }
 
 /// Writes the answer to a row on continuations.
-pub(crate) fn answer_cont<W: Write + Drop>(
+pub(crate) fn answer_cont(
     table: &mut ContRefTable,
     call: &str,
     numbers: &[u128],
-    out: &mut W,
+    out: &mut String,
 ) -> Result<(), CaseFault> {
-    match (call, numbers) {
-        ("get", &[raw]) => {
-            write!(out, "{:?}", table.get(low_u32(raw))?)?;
-            return Ok(());
-        }
-        ("id", &[cont]) => {
-            write!(out, "{:?}", table.id_of(low_u64(cont)))?;
-            return Ok(());
-        }
-        _ => {}
-    }
-    let shown = match (call, numbers) {
-        ("reserve", &[count]) => {
-            table.reserve(low_u32(count) as usize)?;
-            table.len()
-        }
-        ("none", &[]) => u64::from(table.intern(None)?),
-        ("intern", &[cont]) => u64::from(table.intern(Some(low_u64(cont)))?),
-        ("len", &[]) => table.len(),
-        _ => return Err(CaseFault::BadCase),
+    let call = named(&CONT_CALLS, call, numbers.len())?;
+    let [number, ..] = firsts(numbers);
+    let written = match call {
+        Call::Get => show_cont(table, low_u32(number), out),
+        Call::Id => write!(out, "{:?}", table.id_of(low_u64(number))),
+        Call::Intern => intern_cont(table, Some(low_u64(number)), out),
+        Call::None => intern_cont(table, None, out),
+        Call::Reserve => reserve_conts(table, low_u32(number) as usize, out),
+        _ => write!(out, "{}", table.len()),
     };
-    write!(out, "{shown}")?;
+    written?;
     Ok(())
+}
+
+/// Writes the continuation of a number, or that it names none.
+fn show_cont(table: &ContRefTable, raw: u32, out: &mut String) -> Result<(), AllocError> {
+    match table.get(raw) {
+        Ok(cont) => write!(out, "{cont:?}"),
+        Err(fault) => write!(out, "{fault}"),
+    }
+}
+
+/// Adds a continuation, and writes its number.
+fn intern_cont(
+    table: &mut ContRefTable,
+    cont: Option<u64>,
+    out: &mut String,
+) -> Result<(), AllocError> {
+    match table.intern(cont) {
+        Ok(number) => write!(out, "{number}"),
+        Err(fault) => write!(out, "{fault}"),
+    }
+}
+
+/// Makes room for continuations, and writes how many there are.
+fn reserve_conts(
+    table: &mut ContRefTable,
+    count: usize,
+    out: &mut String,
+) -> Result<(), AllocError> {
+    table.reserve(count)?;
+    write!(out, "{}", table.len())
 }

@@ -2,10 +2,13 @@
 
 use crate::fault::CaseFault;
 use crate::lent::write_twice;
-use crate::row::{bytes_of, low_i8, low_i16, low_i32, low_i64, low_u8, low_u16, low_u32, low_u64};
-use gc_refs::{V128, VMGcObjectData, VMGcObjectDataMut};
+use crate::row::{
+    ANY, bytes_of, firsts, low_i8, low_i16, low_i32, low_i64, low_u8, low_u16, low_u32, low_u64,
+    low_words, named,
+};
+use crate::values::{Scalar, WIDTHS, Width};
+use gc_refs::{DataFault, V128, VMGcObjectData, VMGcObjectDataMut};
 use std::alloc::Global;
-use std::io::Write;
 
 /// The offset of the first byte of a part.
 const FIRST: u32 = 12;
@@ -13,171 +16,215 @@ const FIRST: u32 = 12;
 /// A part has at most this many bytes.
 const MAX_PART: usize = 64;
 
+/// A view of the bytes.
+#[derive(Clone, Copy)]
+enum View {
+    Data,
+    Whole,
+    Part,
+    Twice,
+}
+
+const VIEWS: [(&str, usize, View); 4] = [
+    ("data", 1, View::Data),
+    ("whole", ANY, View::Whole),
+    ("part", ANY, View::Part),
+    ("twice", 0, View::Twice),
+];
+
+/// What is called of a view for writing.
+#[derive(Clone, Copy)]
+enum Call {
+    Read,
+    Write,
+    Fill,
+    Move,
+    Copy,
+}
+
+const CALLS: [(&str, usize, Call); 6] = [
+    ("read", 1, Call::Read),
+    ("read", 2, Call::Read),
+    ("write", 2, Call::Write),
+    ("fill", 3, Call::Fill),
+    ("move", 3, Call::Move),
+    ("copy", ANY, Call::Copy),
+];
+
+/// The number of a width at an offset of a view.
+macro_rules! read_number {
+    ($view:expr, $scalar:expr, $offset:expr) => {
+        match $scalar {
+            Scalar::U8 => $view.read_u8($offset)? as i128,
+            Scalar::U16 => $view.read_u16($offset)? as i128,
+            Scalar::U32 => $view.read_u32($offset)? as i128,
+            Scalar::U64 => $view.read_u64($offset)? as i128,
+            Scalar::I8 => $view.read_i8($offset)? as i128,
+            Scalar::I16 => $view.read_i16($offset)? as i128,
+            Scalar::I32 => $view.read_i32($offset)? as i128,
+            Scalar::I64 => $view.read_i64($offset)? as i128,
+        }
+    };
+}
+
 /// Writes the answer to a row on views of these bytes, and then the bytes.
-pub(crate) fn answer<W: Write + Drop>(
+pub(crate) fn answer(
     alloc: Global,
     bytes: &mut [u8],
     words: &[&str],
     numbers: &[u128],
-    out: &mut W,
+    out: &mut String,
 ) -> Result<(), CaseFault> {
-    let answered = match words {
-        ["data", call] => show_data(&VMGcObjectData::from_slice(&*bytes), call, numbers, out),
-        ["whole", call, width] => show_whole(bytes, call, width, numbers, out),
-        ["part", call, width] => show_part(bytes, call, width, numbers, out),
-        ["whole", "copy"] => copy_whole(alloc, bytes, numbers, out),
-        ["part", "copy"] => copy_part(alloc, bytes, numbers, out),
-        ["twice"] => show_twice(bytes, numbers, out),
-        _ => Err(CaseFault::BadCase),
-    };
-    if let Err(fault) = answered {
+    if let Err(fault) = answer_view(alloc, bytes, words, numbers, out) {
         write!(out, "{fault}")?;
     }
     write!(out, " {:?}", &*bytes)?;
     Ok(())
 }
 
-/// Writes what is read of a view.
-fn show_data<W: Write + Drop>(
-    view: &VMGcObjectData<'_>,
-    call: &str,
+/// Writes the answer to a row on a view.
+fn answer_view(
+    alloc: Global,
+    bytes: &mut [u8],
+    words: &[&str],
     numbers: &[u128],
-    out: &mut W,
+    out: &mut String,
 ) -> Result<(), CaseFault> {
-    match (call, numbers) {
-        ("slice", &[offset, len]) => {
-            write!(out, "{:?}", view.slice(low_u32(offset), low_u32(len))?)?;
+    let Some((view, rest)) = words.split_first() else {
+        return Err(CaseFault::BadCase);
+    };
+    match named(&VIEWS, view, rest.len())? {
+        View::Data => show_data(&VMGcObjectData::from_slice(&*bytes), rest, numbers, out),
+        View::Whole => {
+            let mut view = VMGcObjectDataMut::from_slice_mut(bytes);
+            answer_call(alloc, &mut view, rest, numbers, out)
         }
-        ("v128", &[offset]) => {
-            write!(out, "{}", view.read_v128(low_u32(offset))?.as_u128())?;
+        View::Part => show_part(alloc, bytes, rest, numbers, out),
+        View::Twice => show_twice(bytes, numbers, out),
+    }
+}
+
+/// Writes what is read of a view.
+fn show_data(
+    view: &VMGcObjectData<'_>,
+    words: &[&str],
+    numbers: &[u128],
+    out: &mut String,
+) -> Result<(), CaseFault> {
+    let [width] = words else {
+        return Err(CaseFault::BadCase);
+    };
+    let [offset, len, _] = low_words(numbers);
+    if *width == "slice" {
+        write!(out, "{:?}", view.slice(offset, len)?)?;
+    } else {
+        match named(&WIDTHS, width, numbers.len())? {
+            Width::Scalar(scalar) => write!(out, "{}", read_data(view, scalar, offset)?)?,
+            Width::Vector => write!(out, "{}", view.read_v128(offset)?.as_u128())?,
         }
-        (width, &[offset]) => write!(out, "{}", read_data(view, width, low_u32(offset))?)?,
-        _ => return Err(CaseFault::BadCase),
     }
     Ok(())
 }
 
 /// The number of that width at an offset.
-fn read_data(view: &VMGcObjectData<'_>, width: &str, offset: u32) -> Result<i128, CaseFault> {
-    match width {
-        "u8" => Ok(view.read_u8(offset)? as i128),
-        "u16" => Ok(view.read_u16(offset)? as i128),
-        "u32" => Ok(view.read_u32(offset)? as i128),
-        "u64" => Ok(view.read_u64(offset)? as i128),
-        "i8" => Ok(view.read_i8(offset)? as i128),
-        "i16" => Ok(view.read_i16(offset)? as i128),
-        "i32" => Ok(view.read_i32(offset)? as i128),
-        "i64" => Ok(view.read_i64(offset)? as i128),
-        _ => Err(CaseFault::BadCase),
-    }
-}
-
-/// Calls a view of the bytes.
-fn show_whole<W: Write + Drop>(
-    bytes: &mut [u8],
-    call: &str,
-    width: &str,
-    numbers: &[u128],
-    out: &mut W,
-) -> Result<(), CaseFault> {
-    let mut view = VMGcObjectDataMut::from_slice_mut(bytes);
-    show_call(&mut view, call, width, numbers, out)
+fn read_data(view: &VMGcObjectData<'_>, scalar: Scalar, offset: u32) -> Result<i128, DataFault> {
+    Ok(read_number!(view, scalar, offset))
 }
 
 /// Calls a view of the bytes as a part of an object.
-fn show_part<W: Write + Drop>(
+fn show_part(
+    alloc: Global,
     bytes: &mut [u8],
-    call: &str,
-    width: &str,
+    words: &[&str],
     numbers: &[u128],
-    out: &mut W,
+    out: &mut String,
 ) -> Result<(), CaseFault> {
     if bytes.len() > MAX_PART {
         return Err(CaseFault::BadCase);
     }
     let mut view = VMGcObjectDataMut::from_part(FIRST, bytes);
-    show_call(&mut view, call, width, numbers, out)
+    answer_call(alloc, &mut view, words, numbers, out)
 }
 
-/// Calls a view, and writes what it answers.
-fn show_call<W: Write + Drop>(
+/// Calls a view for writing, and writes what it answers.
+fn answer_call(
+    alloc: Global,
     view: &mut VMGcObjectDataMut<'_>,
-    call: &str,
-    width: &str,
+    words: &[&str],
     numbers: &[u128],
-    out: &mut W,
+    out: &mut String,
 ) -> Result<(), CaseFault> {
-    if call == "read" {
-        return show_read(view, width, numbers, out);
-    }
-    match (call, numbers) {
-        ("write", &[offset, number]) => write_number(view, width, low_u32(offset), number)?,
-        ("fill", &[offset, len, byte]) => fill(view, low_u32(offset), low_u32(len), low_u8(byte))?,
-        ("move", &[start, end, dest]) => {
-            view.copy_within(low_u32(start)..low_u32(end), low_u32(dest))?;
-        }
-        _ => return Err(CaseFault::BadCase),
-    }
-    write!(out, "done")?;
+    let Some((call, rest)) = words.split_first() else {
+        return Err(CaseFault::BadCase);
+    };
+    let width = rest.first().copied().unwrap_or("");
+    let [first, second, third] = low_words(numbers);
+    let done = match named(&CALLS, call, numbers.len())? {
+        Call::Read => return show_read(view, width, numbers, out),
+        Call::Copy => return copy(alloc, view, numbers, out),
+        Call::Write => write_number(view, named(&WIDTHS, width, 1)?, numbers),
+        Call::Fill => fill(view, first, second, low_u8(u128::from(third))),
+        Call::Move => view.copy_within(first..second, third),
+    };
+    done?;
+    out.push_str("done")?;
     Ok(())
 }
 
 /// Writes what is read of a view.
-fn show_read<W: Write + Drop>(
+fn show_read(
     view: &VMGcObjectDataMut<'_>,
     width: &str,
     numbers: &[u128],
-    out: &mut W,
+    out: &mut String,
 ) -> Result<(), CaseFault> {
-    match (width, numbers) {
-        ("slice", &[offset, len]) => {
-            write!(out, "{:?}", view.slice(low_u32(offset), low_u32(len))?)?;
+    let [offset, len, _] = low_words(numbers);
+    if width == "slice" {
+        write!(out, "{:?}", view.slice(offset, len)?)?;
+    } else {
+        match named(&WIDTHS, width, numbers.len())? {
+            Width::Scalar(scalar) => write!(out, "{}", read_mut(view, scalar, offset)?)?,
+            Width::Vector => write!(out, "{}", view.read_v128(offset)?.as_u128())?,
         }
-        ("v128", &[offset]) => {
-            write!(out, "{}", view.read_v128(low_u32(offset))?.as_u128())?;
-        }
-        (_, &[offset]) => write!(out, "{}", read_number(view, width, low_u32(offset))?)?,
-        _ => return Err(CaseFault::BadCase),
     }
     Ok(())
 }
 
-/// The number of that width at an offset.
-fn read_number(view: &VMGcObjectDataMut<'_>, width: &str, offset: u32) -> Result<i128, CaseFault> {
-    match width {
-        "u8" => Ok(view.read_u8(offset)? as i128),
-        "u16" => Ok(view.read_u16(offset)? as i128),
-        "u32" => Ok(view.read_u32(offset)? as i128),
-        "u64" => Ok(view.read_u64(offset)? as i128),
-        "i8" => Ok(view.read_i8(offset)? as i128),
-        "i16" => Ok(view.read_i16(offset)? as i128),
-        "i32" => Ok(view.read_i32(offset)? as i128),
-        "i64" => Ok(view.read_i64(offset)? as i128),
-        _ => Err(CaseFault::BadCase),
-    }
+/// The number of that width at an offset of a view for writing.
+fn read_mut(view: &VMGcObjectDataMut<'_>, scalar: Scalar, offset: u32) -> Result<i128, DataFault> {
+    Ok(read_number!(view, scalar, offset))
 }
 
 /// Writes a number of that width at an offset.
 fn write_number(
     view: &mut VMGcObjectDataMut<'_>,
-    width: &str,
+    width: Width,
+    numbers: &[u128],
+) -> Result<(), DataFault> {
+    let [offset, number, _] = firsts(numbers);
+    match width {
+        Width::Scalar(scalar) => write_scalar(view, scalar, low_u32(offset), number),
+        Width::Vector => view.write_v128(low_u32(offset), V128::from(number)),
+    }
+}
+
+/// Writes the low bits of a number at an offset.
+fn write_scalar(
+    view: &mut VMGcObjectDataMut<'_>,
+    scalar: Scalar,
     offset: u32,
     number: u128,
-) -> Result<(), CaseFault> {
-    let written = match width {
-        "u8" => view.write_u8(offset, low_u8(number)),
-        "u16" => view.write_u16(offset, low_u16(number)),
-        "u32" => view.write_u32(offset, low_u32(number)),
-        "u64" => view.write_u64(offset, low_u64(number)),
-        "i8" => view.write_i8(offset, low_i8(number)),
-        "i16" => view.write_i16(offset, low_i16(number)),
-        "i32" => view.write_i32(offset, low_i32(number)),
-        "i64" => view.write_i64(offset, low_i64(number)),
-        "v128" => view.write_v128(offset, V128::from(number)),
-        _ => return Err(CaseFault::BadCase),
-    };
-    written?;
-    Ok(())
+) -> Result<(), DataFault> {
+    match scalar {
+        Scalar::U8 => view.write_u8(offset, low_u8(number)),
+        Scalar::U16 => view.write_u16(offset, low_u16(number)),
+        Scalar::U32 => view.write_u32(offset, low_u32(number)),
+        Scalar::U64 => view.write_u64(offset, low_u64(number)),
+        Scalar::I8 => view.write_i8(offset, low_i8(number)),
+        Scalar::I16 => view.write_i16(offset, low_i16(number)),
+        Scalar::I32 => view.write_i32(offset, low_i32(number)),
+        Scalar::I64 => view.write_i64(offset, low_i64(number)),
+    }
 }
 
 /// Fills the bytes that are lent for writing.
@@ -186,56 +233,35 @@ fn fill(
     offset: u32,
     len: u32,
     byte: u8,
-) -> Result<(), CaseFault> {
+) -> Result<(), DataFault> {
     let lent = view.slice_mut(offset, len)?;
     lent.fill(byte);
     Ok(())
 }
 
-/// Copies bytes into a view.
-fn copy_whole<W: Write + Drop>(
+/// Copies bytes into a view; the first number is the offset.
+fn copy(
     alloc: Global,
-    bytes: &mut [u8],
+    view: &mut VMGcObjectDataMut<'_>,
     numbers: &[u128],
-    out: &mut W,
+    out: &mut String,
 ) -> Result<(), CaseFault> {
-    let (offset, rest) = numbers.split_first().ok_or(CaseFault::BadCase)?;
-    let src = bytes_of(alloc, rest)?;
-    let mut view = VMGcObjectDataMut::from_slice_mut(bytes);
-    view.copy_from_slice(low_u32(*offset), src.as_slice())?;
-    write!(out, "done")?;
-    Ok(())
-}
-
-/// Copies bytes into a view of a part.
-fn copy_part<W: Write + Drop>(
-    alloc: Global,
-    bytes: &mut [u8],
-    numbers: &[u128],
-    out: &mut W,
-) -> Result<(), CaseFault> {
-    let (offset, rest) = numbers.split_first().ok_or(CaseFault::BadCase)?;
-    let src = bytes_of(alloc, rest)?;
-    if bytes.len() > MAX_PART {
+    let Some((offset, rest)) = numbers.split_first() else {
         return Err(CaseFault::BadCase);
-    }
-    let mut view = VMGcObjectDataMut::from_part(FIRST, bytes);
+    };
+    let src = bytes_of(alloc, rest)?;
     view.copy_from_slice(low_u32(*offset), src.as_slice())?;
-    write!(out, "done")?;
+    out.push_str("done")?;
     Ok(())
 }
 
 /// Writes a number twice.
-fn show_twice<W: Write + Drop>(
-    bytes: &mut [u8],
-    numbers: &[u128],
-    out: &mut W,
-) -> Result<(), CaseFault> {
-    let number = numbers.first().ok_or(CaseFault::BadCase)?;
+fn show_twice(bytes: &mut [u8], numbers: &[u128], out: &mut String) -> Result<(), CaseFault> {
     if bytes.len() < 12 {
         return Err(CaseFault::BadCase);
     }
-    write_twice(bytes, low_u32(*number))?;
-    write!(out, "done")?;
+    let [number, ..] = low_words(numbers);
+    write_twice(bytes, number)?;
+    out.push_str("done")?;
     Ok(())
 }

@@ -1,83 +1,118 @@
 //! Words of references, and 31-bit numbers.
 
 use crate::fault::CaseFault;
-use crate::row::{low_i32, low_u32};
+use crate::row::{low_words, named};
 use gc_refs::laws::{
     discriminant_is_the_lowest_bit, equality_is_of_numbers, typed_equality_is_of_words,
 };
 use gc_refs::{I31, VMGcRef};
+use std::alloc::AllocError;
 use std::hash::{FoldHasher, Hash, Hasher};
-use std::io::Write;
 
-/// Writes the answer to a row on words.
-pub(crate) fn answer<W: Write + Drop>(
-    call: &str,
-    numbers: &[u128],
-    out: &mut W,
-) -> Result<(), CaseFault> {
-    match (call, numbers) {
-        ("unsigned", &[number]) => show_unsigned(low_u32(number), out),
-        ("signed", &[number]) => show_signed(low_i32(number), out),
-        ("number", &[number]) => show_word_of(low_u32(number), out),
-        ("is", &[word]) => show_word(&word_of(word)?, out),
-        ("copies", &[word]) => show_copies(&word_of(word)?, out),
-        ("hashes", &[word]) => show_hashes(&word_of(word)?, out),
-        ("constants", &[]) => show_constants(out),
-        _ => Err(CaseFault::BadCase),
-    }
+/// What is asked of a number or of a word.
+#[derive(Clone, Copy)]
+enum Call {
+    Unsigned,
+    Signed,
+    Number,
+    Constants,
+    Of(Word),
 }
 
-/// The reference of a word that isn't null.
-pub(crate) fn word_of(number: u128) -> Result<VMGcRef, CaseFault> {
-    VMGcRef::from_raw_u32(low_u32(number)).ok_or(CaseFault::BadCase)
+/// What is asked of a word that isn't null.
+#[derive(Clone, Copy)]
+enum Word {
+    Is,
+    Copies,
+    Hashes,
+}
+
+const CALLS: [(&str, usize, Call); 7] = [
+    ("unsigned", 1, Call::Unsigned),
+    ("signed", 1, Call::Signed),
+    ("number", 1, Call::Number),
+    ("constants", 0, Call::Constants),
+    ("is", 1, Call::Of(Word::Is)),
+    ("copies", 1, Call::Of(Word::Copies)),
+    ("hashes", 1, Call::Of(Word::Hashes)),
+];
+
+/// Writes the answer to a row on words.
+pub(crate) fn answer(call: &str, numbers: &[u128], out: &mut String) -> Result<(), CaseFault> {
+    let [number, ..] = low_words(numbers);
+    let written = match named(&CALLS, call, numbers.len())? {
+        Call::Unsigned => show_unsigned(number, out),
+        Call::Signed => show_signed(number.cast_signed(), out),
+        Call::Number => show_word_of(number, out),
+        Call::Constants => show_constants(out),
+        Call::Of(word) => return answer_word(word, number, out),
+    };
+    written?;
+    Ok(())
+}
+
+/// Writes the answer to a row on a word.
+fn answer_word(call: Word, raw: u32, out: &mut String) -> Result<(), CaseFault> {
+    let Some(gc_ref) = VMGcRef::from_raw_u32(raw) else {
+        return Err(CaseFault::BadCase);
+    };
+    let written = match call {
+        Word::Is => show_word(&gc_ref, out),
+        Word::Copies => show_copies(&gc_ref, out),
+        Word::Hashes => show_hashes(&gc_ref, out),
+    };
+    written?;
+    Ok(())
 }
 
 /// Writes whether an unsigned number fits, and what its low 31 bits are.
-fn show_unsigned<W: Write + Drop>(number: u32, out: &mut W) -> Result<(), CaseFault> {
-    let bits = I31::wrapping_u32(number).get_u32();
-    write!(out, "fits {}, bits {bits}", I31::new_u32(number).is_some())?;
-    Ok(())
+fn show_unsigned(number: u32, out: &mut String) -> Result<(), AllocError> {
+    let fits = I31::new_u32(number).is_some();
+    write!(
+        out,
+        "fits {fits}, bits {}",
+        I31::wrapping_u32(number).get_u32()
+    )
 }
 
 /// Writes whether a signed number fits, and what its low 31 bits are, as unsigned and as signed.
-fn show_signed<W: Write + Drop>(number: i32, out: &mut W) -> Result<(), CaseFault> {
+fn show_signed(number: i32, out: &mut String) -> Result<(), AllocError> {
+    let fits = I31::new_i32(number).is_some();
     let low = I31::wrapping_i32(number);
     let (bits, signed) = (low.get_u32(), low.get_i32());
-    write!(out, "fits {}", I31::new_i32(number).is_some())?;
-    write!(out, ", bits {bits}, signed {signed}, {low:?}")?;
-    Ok(())
+    write!(out, "fits {fits}, bits {bits}, signed {signed}, {low:?}")
 }
 
 /// Writes the bytes of the word of a 31-bit number.
-fn show_word_of<W: Write + Drop>(number: u32, out: &mut W) -> Result<(), CaseFault> {
+fn show_word_of(number: u32, out: &mut String) -> Result<(), AllocError> {
     let word = VMGcRef::from_i31(I31::wrapping_u32(number)).as_raw_u32();
-    write!(out, "{:?}", word.to_le_bytes().as_slice())?;
-    Ok(())
+    write!(out, "{:?}", word.to_le_bytes().as_slice())
 }
 
 /// Writes which number the word is, or which place.
-fn show_word<W: Write + Drop>(gc_ref: &VMGcRef, out: &mut W) -> Result<(), CaseFault> {
+fn show_word(gc_ref: &VMGcRef, out: &mut String) -> Result<(), AllocError> {
     match gc_ref.as_i31() {
-        Some(number) => write!(out, "number {}, ", number.get_u32())?,
-        None => write!(out, "no number, ")?,
+        Some(number) => write!(out, "number {}", number.get_u32())?,
+        None => out.push_str("no number")?,
     }
     let place = VMGcRef::from_heap_index(gc_ref.as_raw_non_zero_u32());
-    write!(out, "from a place {place:?}, ")?;
-    let index = gc_ref.heap_index()?;
-    write!(out, "place {}", index.get())?;
-    Ok(())
+    write!(out, ", from a place {place:?}, ")?;
+    match gc_ref.heap_index() {
+        Ok(index) => write!(out, "place {}", index.get()),
+        Err(fault) => write!(out, "{fault}"),
+    }
 }
 
 /// Writes whether what is made of the word again is the same.
-fn show_copies<W: Write + Drop>(gc_ref: &VMGcRef, out: &mut W) -> Result<(), CaseFault> {
+fn show_copies(gc_ref: &VMGcRef, out: &mut String) -> Result<(), AllocError> {
     let again = VMGcRef::from_raw_non_zero_u32(gc_ref.as_raw_non_zero_u32());
-    write!(out, "{}", again == gc_ref.unchecked_copy())?;
-    if gc_ref.is_i31() {
-        let number = gc_ref.unwrap_i31().get_u32();
-        let copy = gc_ref.copy_i31();
-        write!(out, ", number {number}, {}", copy == again)?;
+    let is_same = again == gc_ref.unchecked_copy();
+    if !gc_ref.is_i31() {
+        return write!(out, "{is_same}");
     }
-    Ok(())
+    let number = gc_ref.unwrap_i31().get_u32();
+    let is_copy = gc_ref.copy_i31() == again;
+    write!(out, "{is_same}, number {number}, {is_copy}")
 }
 
 /// What a hasher has after one value.
@@ -88,21 +123,20 @@ fn hash_of<T: Hash>(value: &T) -> u64 {
 }
 
 /// Writes whether equal words hash alike, and equal numbers.
-fn show_hashes<W: Write + Drop>(gc_ref: &VMGcRef, out: &mut W) -> Result<(), CaseFault> {
+fn show_hashes(gc_ref: &VMGcRef, out: &mut String) -> Result<(), AllocError> {
     equality_is_of_numbers();
     typed_equality_is_of_words::<u8>();
-    let copy = gc_ref.unchecked_copy();
-    write!(out, "{}", hash_of(gc_ref) == hash_of(&copy))?;
+    let words = hash_of(gc_ref) == hash_of(&gc_ref.unchecked_copy());
     let (signed, unsigned) = (I31::wrapping_i32(-1), I31::wrapping_u32(0x7FFF_FFFF));
-    write!(out, ", {}", hash_of(&signed) == hash_of(&unsigned))?;
-    Ok(())
+    let numbers = hash_of(&signed) == hash_of(&unsigned);
+    write!(out, "{words}, {numbers}")
 }
 
 /// Writes what 0 is, which number is the default, and the bit that tells numbers.
-fn show_constants<W: Write + Drop>(out: &mut W) -> Result<(), CaseFault> {
+fn show_constants(out: &mut String) -> Result<(), AllocError> {
     discriminant_is_the_lowest_bit();
-    write!(out, "null {}", VMGcRef::from_raw_u32(0).is_none())?;
-    write!(out, ", default {}", I31::default().get_u32())?;
-    write!(out, ", bit {}", VMGcRef::I31_REF_DISCRIMINANT)?;
-    Ok(())
+    let is_null = VMGcRef::from_raw_u32(0).is_none();
+    let default = I31::default().get_u32();
+    let bit = VMGcRef::I31_REF_DISCRIMINANT;
+    write!(out, "null {is_null}, default {default}, bit {bit}")
 }
