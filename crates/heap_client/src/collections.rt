@@ -122,29 +122,6 @@ fn finish_after_one<H: GcHeap, D: Drop, L: Ledger>(
     }
 }
 
-/// Does a whole collection of which nothing was done, counted.
-fn finish_counted<H: GcHeap, D: Drop, L: Ledger>(
-    heap: &mut H,
-    state: &mut H::State,
-    roots: &mut GcRootsList,
-    trace: &mut GcStoreTraceState<'_, D>,
-    blank: Blank,
-)
-    requires name { blank.name ≡ L.name }
-    requires parts { blank.parts ≡ L.parts }
-    requires some { 0 < blank.parts }
-    requires begun { IsBegun H.under_way (stage heap.old state.old roots.old.roots trace.old.types.now.declarations trace.old.host_data_table.now.entries) }
-    ensures sound { H.sound heap.new }
-    ensures collected { Finishes H.KIND H.under_way
-        (stage heap.old state.old roots.old.roots trace.old.types.now.declarations trace.old.host_data_table.now.entries)
-        (H.seen heap.new) roots.new.roots (has_host trace.new.host_data_table.now.entries) }
-    ensures hosts { trace.new.host_data_table.ghost_name ≡ trace.old.host_data_table.ghost_name }
-    ensures types { trace.new.types ≡ trace.old.types }
-{
-    let mut steps = Steps::<L>::new(blank);
-    collect_counted(heap, state, roots, trace, &mut steps);
-}
-
 /// Does a whole collection, counted.
 fn run_whole<H: GcHeap, D: Drop, L: Ledger>(
     heap: &mut H,
@@ -190,24 +167,22 @@ fn collect_dropped<H: GcHeap>(heap: &mut H, around: &mut Around) -> bool
 }
 
 /// Begins a collection, and does all of it by `collect_counted`.
-fn collect_begun<H: GcHeap>(heap: &mut H, around: &mut Around)
+fn collect_begun<H: GcHeap, L: Ledger>(heap: &mut H, around: &mut Around, blank: Blank)
+    requires name { blank.name ≡ L.name }
+    requires parts { blank.parts ≡ L.parts }
+    requires some { 0 < blank.parts }
     requires sound { H.sound heap.old }
     requires can { CanBegin H.KIND (H.seen heap.old) around.old }
     ensures sound { H.sound heap.new }
     ensures can { CanBegin H.KIND (H.seen heap.new) around.new }
 {
     let mut state = heap.begin();
+    let mut steps = Steps::<L>::new(blank);
     let mut trace = GcStoreTraceState {
         host_data_table: &mut around.hosts,
         types: &around.types,
     };
-    finish_counted::<H, u8, Brand>(
-        heap,
-        &mut state,
-        &mut around.roots,
-        &mut trace,
-        Blank::new(1),
-    );
+    collect_counted(heap, &mut state, &mut around.roots, &mut trace, &mut steps);
 }
 
 /// Does a collection by `run_counted`.
@@ -241,7 +216,7 @@ pub fn run_collections<H: GcHeap>(
     add(heap, &mut around, ty)?;
     let went_on = collect_dropped(heap, &mut around);
     let first = first_told(heap, &around);
-    collect_begun(heap, &mut around);
+    collect_begun::<H, Brand>(heap, &mut around, Blank::new(1));
     let second = first_told(heap, &around);
     collect_run(heap, &mut around);
     Ok(Kept {
