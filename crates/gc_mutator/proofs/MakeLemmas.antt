@@ -1,37 +1,27 @@
 -- Making objects: their layouts are such as heaps take, and with its root each leaves a heap in which a
 -- collection may begin.
-use Rattle.std.proofs.Common.{◌≡◌, ℕ, ◌+◌, ◌≤◌, ◌<◌, ◌^◌, Bool, true, false, List, [], ◌∷◌, length, map, get_or, Option, Some, None, Result, Ok, Err, OnOk, is_some, refl, sym, ap, subst, ◌∙◌, arith}
-use Rattle.std.specs.Prelude.{◌≢◌, All, slice_get, ◌↔◌, IsErrOf, is_err, option_map}
+use Rattle.std.proofs.Common.{◌≡◌, ℕ, ◌+◌, ◌<◌, ◌^◌, Bool, true, false, List, length, Some, None, Result, Ok, Err, OnOk, is_some, refl, sym, ap, subst, ◌∙◌, arith}
+use Rattle.std.specs.Prelude.{◌≢◌, ◌↔◌, IsErrOf, is_err}
 use Rattle.std.specs.FinMap.{FinMap, get, len, insert, remove, same_map, nat_cmp-IsAntisymmetric, gets}
 use Rattle.std.specs.Cmp.{nat_cmp_total}
 use Rattle.std.specs.Ordering.{nat_cmp}
 use Rattle.std.proofs.lemmas.Grind.{common_steps}
-use Rattle.std.proofs.lemmas.Option.{none-some}
-use Rattle.std.proofs.lemmas.List.Elements.{Contains-get_or}
 use Rattle.gc_types.specs.declared.kind.Layouts.{Layouts}
-use Rattle.gc_types.specs.declared.kind.Layouts.TheVariants.{Null, Counting, Copying}
 use Rattle.gc_types.specs.declared.kind.VMGcKind.TheVariants.{ArrayRef, ExternRef}
-use Rattle.gc_types.specs.declared.value.FieldType.{FieldType}
 use Rattle.gc_types.specs.declared.layout.GcStructLayout.{GcStructLayout}
 use Rattle.gc_types.specs.declared.layout.GcArrayLayout.{GcArrayLayout}
-use Rattle.gc_types.specs.Declarations.{Declaration, Shape, struct_of, array_of, exn_of, func_of, constant_field, elem_at}
-use Rattle.gc_types.specs.Layouts.{struct_base, exception_base, array_base, round_up, ref_offsets, field_layouts, fields_end, struct_layout, exn_layout, array_layout, shape_layout, declaration_layout, layout_at, array_layout_at}
+use Rattle.gc_types.specs.Declarations.{Declaration}
+use Rattle.gc_types.specs.Layouts.{layout_at, array_layout_at}
 use Rattle.gc_roots.specs.Roots.{Root}
 use Rattle.gc_view.specs.Heaps.{HeapObject, HeapView}
-use Rattle.gc_view.proofs.Layouts.{layout_low}
-use Rattle.gc_heap.specs.Objects.{first_offset, external}
-use Rattle.gc_heap.specs.References.{IsTraceable}
-use Rattle.gc_heap.specs.Rules.{LayoutTraces, ArrayTraces}
+use Rattle.gc_heap.specs.Objects.{external}
 use Rattle.gc_heap.specs.Content.{IsHeap}
-use Rattle.gc_heap.specs.Heap.{Allocated, exn_or_struct, layout_kind, new_struct, new_array, array_size}
+use Rattle.gc_heap.specs.Heap.{Allocated, exn_or_struct, new_struct, new_array, array_size}
 use Rattle.gc_heap.specs.Collection.{CanCollect, has_host}
 use Rattle.gc_heap.specs.declared.heap.HeapFault.{HeapFault}
 use Rattle.gc_heap.specs.declared.heap.HeapFault.TheVariants as heap_fault
 use Rattle.gc_heap.proofs.AddedLemmas.{start, IsBlank, OwnsHost, owns_none, owns_new, more_hosts, blank_struct, blank_array, blank_external}
 use Rattle.gc_heap.proofs.MadeLemmas.{can_collect_made}
-use Rattle.gc_heap.proofs.TakenLayouts.{taken_layout, taken_array}
-use Rattle.gc_heap.proofs.SpacedLemmas.{Spaced-in, spaced_fields, fields_from, aligned_fields, ref_width}
-use Rattle.gc_memory.proofs.ListLemmas.{contains_in}
 use Rattle.gc_tables.specs.declared.host_data.HostFault.{HostFault}
 use Rattle.gc_tables.specs.declared.slab.SlabFault.{SlabFault}
 use Rattle.gc_tables.specs.declared.host_data.HostFault.TheVariants as host_fault

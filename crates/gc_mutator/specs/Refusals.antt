@@ -19,23 +19,23 @@ RefusesRoot roots fault.Memory = length roots < max_roots
 RefusesRoot roots _ = ⊥
 
 -- a root stands and may be copied
-abbrev pub CanCopy : MutatorView → ℕ → Type 0
-CanCopy m index = (index < length m.roots) × (length m.roots < max_roots)
+abbrev pub CanCopy : List Root → ℕ → Type 0
+CanCopy roots index = (index < length roots) × (length roots < max_roots)
 
 -- why a root isn't copied
-abbrev pub RefusesCopy : MutatorView → ℕ → MutatorFault → Type 0
-RefusesCopy m index fault.NoRoot = length m.roots ≤ index
-RefusesCopy m index why = (index < length m.roots) × RefusesRoot m.roots why
+abbrev pub RefusesCopy : List Root → ℕ → MutatorFault → Type 0
+RefusesCopy roots index fault.NoRoot = length roots ≤ index
+RefusesCopy roots index why = (index < length roots) × RefusesRoot roots why
 
 -- null may be written to a field, and a root that may be copied
 abbrev pub CanBeSource : MutatorView → Option ℕ → Type 0
 CanBeSource m None = Unit {0}
-CanBeSource m (Some index) = CanCopy m index
+CanBeSource m (Some index) = CanCopy m.roots index
 
 -- why a root isn't written to a field, which takes no memory
 abbrev pub RefusesSource : MutatorView → Option ℕ → MutatorFault → Type 0
-RefusesSource m (Some index) fault.NoRoot = RefusesCopy m index fault.NoRoot
-RefusesSource m (Some index) fault.Full = RefusesCopy m index fault.Full
+RefusesSource m (Some index) fault.NoRoot = RefusesCopy m.roots index fault.NoRoot
+RefusesSource m (Some index) fault.Full = RefusesCopy m.roots index fault.Full
 RefusesSource m source _ = ⊥
 
 -- why nothing is done with the object that a root names: there is none, or it isn't such

@@ -35,6 +35,28 @@ pub(crate) fn make_room(roots: &mut GcRootsList) -> Result<(), MutatorFault>
     }
 }
 
+/// The word of a root that is to be copied, for which there is room then.
+fn word_to_copy(roots: &mut GcRootsList, index: usize) -> Result<VMGcRef, MutatorFault>
+    ensures word { IfOk result (λ word. (word ≡ (root_at roots.old.roots index).word) × (0 < word)) }
+    ensures roots { roots.new.roots ≡ roots.old.roots }
+    ensures room { OnOk result (0 < roots.new.spare) }
+    ensures can { OnOk result (CanCopy roots.old.roots index) }
+    ensures no_root { IsErrOf result MutatorFault.NoRoot ↔ (length roots.old.roots ≤ index) }
+    ensures why { IfErr result (RefusesCopy roots.old.roots index) }
+{
+    if index >= roots.len() {
+        return Err(MutatorFault::NoRoot);
+    }
+    match make_room(roots) {
+        Ok(()) => {
+            let word = roots.word_at(index);
+            let _present = word.as_raw_u32();
+            Ok(word)
+        }
+        Err(fault) => Err(fault),
+    }
+}
+
 /// The word of a root that was given up.
 fn gone() -> VMGcRef
     ensures { result ≡ gone_word }
@@ -49,23 +71,19 @@ impl<H: GcHeap> Mutator<H> {
         ensures copied { IfOk result (λ copy. (copy ≡ length self.old.roots)
             × (self.new ≡ with_root self.old (cloned self.old.heap (word_of self.old index)) false (word_of self.old index))) }
         ensures no_root { IsErrOf result MutatorFault.NoRoot ↔ (length self.old.roots ≤ index) }
-        ensures can { OnOk result (CanCopy self.old index) }
-        ensures why { IfErr result (RefusesCopy self.old index) }
+        ensures can { OnOk result (CanCopy self.old.roots index) }
+        ensures why { IfErr result (RefusesCopy self.old.roots index) }
         ensures err { OnErr result (self.new ≡ self.old) }
     {
-        if index >= self.roots.len() {
-            return Err(MutatorFault::NoRoot);
+        match word_to_copy(&mut self.roots, index) {
+            Ok(word) => {
+                let copy = self.heap.clone_gc_ref(&word);
+                let at = self.roots.len();
+                self.roots.add_vmgcref_root(OBJECT, copy);
+                Ok(at)
+            }
+            Err(fault) => Err(fault),
         }
-        match make_room(&mut self.roots) {
-            Ok(()) => {}
-            Err(fault) => return Err(fault),
-        }
-        let word = self.roots.word_at(index);
-        let _present = word.as_raw_u32();
-        let copy = self.heap.clone_gc_ref(&word);
-        let at = self.roots.len();
-        self.roots.add_vmgcref_root(OBJECT, copy);
-        Ok(at)
     }
 
     /// Makes a root that is a 31-bit number, the lowest 31 bits of the given one, and answers its index.
@@ -112,24 +130,20 @@ impl<H: GcHeap> Mutator<H> {
             × (self.new ≡ with_root self.old (exposed (cloned self.old.heap (word_of self.old index)) (word_of self.old index)) true
             (word_of self.old index))) }
         ensures no_root { IsErrOf result MutatorFault.NoRoot ↔ (length self.old.roots ≤ index) }
-        ensures can { OnOk result (CanCopy self.old index) }
-        ensures why { IfErr result (RefusesCopy self.old index) }
+        ensures can { OnOk result (CanCopy self.old.roots index) }
+        ensures why { IfErr result (RefusesCopy self.old.roots index) }
         ensures err { OnErr result (self.new ≡ self.old) }
     {
-        if index >= self.roots.len() {
-            return Err(MutatorFault::NoRoot);
+        match word_to_copy(&mut self.roots, index) {
+            Ok(word) => {
+                let copy = self.heap.clone_gc_ref(&word);
+                self.heap.expose_gc_ref_to_wasm(copy);
+                let at = self.roots.len();
+                self.roots.add_wasm_stack_root(OBJECT, word);
+                Ok(at)
+            }
+            Err(fault) => Err(fault),
         }
-        match make_room(&mut self.roots) {
-            Ok(()) => {}
-            Err(fault) => return Err(fault),
-        }
-        let word = self.roots.word_at(index);
-        let _present = word.as_raw_u32();
-        let copy = self.heap.clone_gc_ref(&word);
-        self.heap.expose_gc_ref_to_wasm(copy);
-        let at = self.roots.len();
-        self.roots.add_wasm_stack_root(OBJECT, word);
-        Ok(at)
     }
 
     /// Leaves a frame slot: it holds nothing from then on. The heap is not told. `NoRoot` exactly where

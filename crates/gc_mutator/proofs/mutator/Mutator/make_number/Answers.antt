@@ -1,4 +1,4 @@
-use Rattle.std.proofs.Common.{◌≡◌, ◌++◌, ◌∷◌, [], false, ap, ◌∙◌}
+use Rattle.std.proofs.Common.{◌++◌, ◌∷◌, [], false, ap, ◌∙◌}
 use Rattle.gc_refs.specs.Words.{i31_word}
 use Rattle.gc_roots.specs.Roots.{root}
 use Rattle.gc_heap.specs.Collection.{has_host}
